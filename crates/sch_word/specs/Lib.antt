@@ -1,0 +1,4 @@
+pub mod Memory
+pub mod Put
+pub mod Stops
+pub mod formers

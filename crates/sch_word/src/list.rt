@@ -1,0 +1,145 @@
+ghost use Rattle.std.specs.Prelude.{◌≡◌, [], ◌∷◌, ◌++◌, ◌<◌, length, slice_get, take, ◌↔◌, IsTrue, IfOk, OnOk, OnErr, OnSome, MatchOption};
+ghost use Rattle.std.specs.Option.{option_copied};
+
+use crate::mem::Mem;
+use std::alloc::Global;
+use std::marker::Model;
+
+/// A growing vector that contracts see as the list of its elements, so that two of them with the
+/// same elements are equal.
+#[derive(Debug, Drop)]
+pub struct List<T> {
+    items: Vec<T>,
+}
+
+/// A list of bytes.
+pub type Bytes = List<u8>;
+
+impl<T> Model for List<T> {
+    ghost use Rattle.std.specs.Coded.{coded_list};
+    ghost use Rattle.std.specs.Prelude as prelude;
+
+    ghost Value = { prelude.List T };
+
+    ghost coded = { coded_list T.code };
+
+    ghost view = { λ list. list.items.items };
+}
+
+impl<T> List<T> {
+    /// The empty list. It takes no memory.
+    pub fn new(alloc: Global) -> List<T>
+        ensures { result ≡ [] }
+    {
+        List {
+            items: Vec::new(alloc),
+        }
+    }
+
+    /// The elements of `items`, which are not copied.
+    pub fn from_vec(items: Vec<T>) -> List<T>
+        ensures { result ≡ items.items }
+    {
+        List { items }
+    }
+
+    /// The elements as a vector, which are not copied.
+    pub fn into_vec(self) -> Vec<T>
+        ensures { result.items ≡ self }
+    {
+        let List { items } = self;
+        items
+    }
+
+    /// Lends the elements.
+    pub fn as_slice(&self) -> &[T]
+        ensures { result.now ≡ self.now }
+    {
+        self.items.as_slice()
+    }
+
+    /// The number of elements.
+    pub fn len(&self) -> usize
+        ensures { result ≡ length self.now }
+    {
+        self.items.len()
+    }
+
+    pub fn is_empty(&self) -> bool
+        ensures { IsTrue result ↔ (self.now ≡ []) }
+    {
+        self.items.is_empty()
+    }
+
+    /// Lends the element with `at` elements before it.
+    pub fn get(&self, at: usize) -> Option<&T>
+        ensures value { option_copied result ≡ slice_get self.now at }
+        ensures within { OnSome result (at < length self.now) }
+    {
+        self.items.get(at)
+    }
+
+    /// Takes the last element away.
+    pub fn pop(&mut self) -> Option<T>
+        ensures { MatchOption result ((self.old ≡ []) × (self.new ≡ [])) (λ last. self.old ≡ self.new ++ last ∷ []) }
+    {
+        self.items.pop()
+    }
+}
+
+impl<T: Drop> List<T> {
+    /// Adds an element at the end. Want of memory leaves the list as it was.
+    pub fn push(&mut self, item: T) -> Result<(), Mem>
+        ensures ok { OnOk result (self.new ≡ self.old ++ item ∷ []) }
+        ensures err { OnErr result (self.new ≡ self.old) }
+    {
+        self.items.push(item)?;
+        Ok(())
+    }
+
+    /// Moves the elements of `more` to the end. Want of memory leaves the list as it was.
+    pub fn append(&mut self, more: List<T>) -> Result<(), Mem>
+        ensures { OnOk result (self.new ≡ self.old ++ more) }
+    {
+        let List { mut items } = more;
+        self.items.append(&mut items)?;
+        Ok(())
+    }
+}
+
+impl<T: Copy> List<T> {
+    /// A list with copies of `items`.
+    pub fn from_slice(alloc: Global, items: &[T]) -> Result<List<T>, Mem>
+        ensures { IfOk result (λ list. list ≡ items.now) }
+    {
+        let items = Vec::from_slice(alloc, items)?;
+        Ok(List { items })
+    }
+
+    /// Adds copies of `more` at the end. Want of memory leaves the list as it was.
+    pub fn extend_from_slice(&mut self, more: &[T]) -> Result<(), Mem>
+        ensures ok { OnOk result (self.new ≡ self.old ++ more.now) }
+        ensures err { OnErr result (self.new ≡ self.old) }
+    {
+        self.items.extend_from_slice(more)?;
+        Ok(())
+    }
+}
+
+#[cfg(test)]
+mod tests {
+    use super::*;
+    use std::test::Fail;
+
+    #[test]
+    fn grows(rt: HostRuntime) -> Result<(), Fail> {
+        let mut list = List::from_slice(rt.alloc(), &[1u8, 2])?;
+        list.push(3)?;
+        list.extend_from_slice(&[4])?;
+        let mut more = List::new(rt.alloc());
+        more.push(5)?;
+        list.append(more)?;
+        assert_eq!(rt; list.as_slice(), [1, 2, 3, 4, 5].as_slice());
+        Ok(())
+    }
+}

@@ -1,0 +1,19 @@
+use std::alloc::{AllocError, AllocFailed};
+use thiserror::Error;
+
+/// Want of memory, and nothing else.
+#[derive(Clone, Copy, Debug, PartialEq, Eq, Error)]
+#[error("out of memory")]
+pub struct Mem;
+
+impl From<AllocError> for Mem {
+    fn from(_cause: AllocError) -> Mem {
+        Mem
+    }
+}
+
+impl<T: Drop> From<AllocFailed<T>> for Mem {
+    fn from(_cause: AllocFailed<T>) -> Mem {
+        Mem
+    }
+}

@@ -1,0 +1,55 @@
+ghost use Rattle.std.specs.Prelude.{◌≡◌};
+ghost use Rattle.sch_word.specs.Stops.{status_of, text_of};
+
+/// The ten ways in which a program stops before its end.
+#[derive(Clone, Copy, Debug, PartialEq, Eq)]
+pub enum Stop {
+    WrongType,
+    OutOfRange,
+    NotProcedure,
+    WrongCount,
+    DivideByZero,
+    Overflow,
+    HeapLimit,
+    DepthLimit,
+    Unset,
+    OutputFailed,
+}
+
+impl Stop {
+    /// The exit status that names the stop, from 65 to 74.
+    pub fn status(self) -> u8
+        ensures { result ≡ status_of self }
+    {
+        match self {
+            Stop::WrongType => 65,
+            Stop::OutOfRange => 66,
+            Stop::NotProcedure => 67,
+            Stop::WrongCount => 68,
+            Stop::DivideByZero => 69,
+            Stop::Overflow => 70,
+            Stop::HeapLimit => 71,
+            Stop::DepthLimit => 72,
+            Stop::Unset => 73,
+            Stop::OutputFailed => 74,
+        }
+    }
+
+    /// The stop's text in a message, in ASCII.
+    pub fn text(self) -> &'static str
+        ensures { result.now ≡ text_of self }
+    {
+        match self {
+            Stop::WrongType => "wrong type",
+            Stop::OutOfRange => "out of range",
+            Stop::NotProcedure => "not a procedure",
+            Stop::WrongCount => "wrong argument count",
+            Stop::DivideByZero => "division by zero",
+            Stop::Overflow => "fixnum overflow",
+            Stop::HeapLimit => "heap limit",
+            Stop::DepthLimit => "depth limit",
+            Stop::Unset => "unset variable",
+            Stop::OutputFailed => "output failed",
+        }
+    }
+}
