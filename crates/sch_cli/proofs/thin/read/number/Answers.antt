@@ -1,0 +1,22 @@
+use Rattle.std.proofs.Common.{◌≡◌, ℕ, ◌<◌, ◌≤◌, ◌+◌, ◌-◌, ◌^◌, arith, slice_index_or, length}
+use Rattle.sch_cli.proofs.Reading.{power_le, power_lt}
+use Rattle.sch_cli.proofs.thin.read.number.Goals as goal
+
+pub overflow_mul-value : goal.overflow_mul-value
+overflow_mul-value c =
+    let p = power_lt c.loop-digit.digit-index (omega arith) in
+    let b = c.loop-digit.invariant.below in
+    omega arith
+
+pub overflow_add-value : goal.overflow_add-value
+overflow_add-value c =
+    let p = power_lt c.loop-digit.digit-index (omega arith) in
+    let b = c.loop-digit.invariant.below in
+    let d = c.type_inv.digits c.loop-digit.digit-index in
+    omega arith
+
+pub returns-clause-below : goal.returns-clause-below
+returns-clause-below c =
+    let p = power_le c.loop-digit.digit-index (omega arith) in
+    let b = c.loop-digit.invariant.below in
+    omega arith

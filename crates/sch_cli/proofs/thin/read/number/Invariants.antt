@@ -1,0 +1,9 @@
+use Rattle.std.proofs.Common.{◌≡◌, ◌<◌, ◌+◌, ◌^◌, ℕ, take}
+use Rattle.sch_cli.specs.Thin.{value_of}
+use Rattle.sch_cli.proofs.thin.read.number.Given as goal
+
+abbrev pub invariant-loop-digit : goal.invariant-loop-digit
+invariant-loop-digit l = record {
+  value : l.value ≡ value_of (take l.digit-index l.digits);
+  below : l.value < 10 ^ l.digit-index;
+}

@@ -1,0 +1,4 @@
+//! The one call that the program makes, with what it promises.
+#![tactic(auto)]
+
+mod thin;
