@@ -1,3 +1,6 @@
+ghost use Rattle.std.specs.Prelude.{◌≡◌, ◌+◌, ℕ, length};
+ghost use Rattle.sch_insn.specs.Spelling.{spelling, operand, sib, IsValid};
+
 /// An operand that may be a register or 8 bytes of memory. Registers have numbers: rax 0, rcx 1,
 /// rdx 2, rbx 3, rsp 4, rbp 5, rsi 6, rdi 7, and r8 to r15 theirs.
 ///
@@ -65,4 +68,70 @@ pub enum Insn {
     /// Jumps by a displacement where the condition of this number holds.
     JumpIf(u8, i32),
     Syscall,
+}
+
+impl Arg {
+    /// How many bytes the operand takes, from ModRM on.
+    fn length(self) -> usize
+        ensures { (r : ℕ) → result ≡ length (operand r self) }
+    {
+        match self {
+            Arg::Reg(_) => 1,
+            Arg::Base(b) => 1 + sib_length(b),
+            Arg::Base32(b, _) => 5 + sib_length(b),
+            Arg::Rip(_) => 5,
+        }
+    }
+}
+
+/// How many bytes SIB takes after ModRM with this base.
+fn sib_length(base: u8) -> usize
+    ensures { result ≡ length (sib base) }
+{
+    if base % 8 == 4 { 1 } else { 0 }
+}
+
+impl Insn {
+    /// The length of the instruction's spelling, in bytes.
+    pub fn length(&self) -> usize
+        requires valid { IsValid self.now }
+        ensures spelled { result ≡ length (spelling self.now) }
+    {
+        match *self {
+            Insn::MovWord(_, _) => 10,
+            Insn::MovNumber(m, _)
+            | Insn::AddNumber(m, _)
+            | Insn::OrNumber(m, _)
+            | Insn::AndNumber(m, _)
+            | Insn::SubNumber(m, _)
+            | Insn::XorNumber(m, _)
+            | Insn::CmpNumber(m, _) => 6 + m.length(),
+            Insn::Shl(m, _)
+            | Insn::Shr(m, _)
+            | Insn::Sar(m, _)
+            | Insn::LoadByte(_, m)
+            | Insn::Imul(_, m) => 3 + m.length(),
+            Insn::Neg(m) | Insn::Idiv(m) | Insn::JumpTo(m) => 2 + m.length(),
+            Insn::MovTo(m, _)
+            | Insn::MovFrom(_, m)
+            | Insn::StoreByte(m, _)
+            | Insn::Lea(_, m)
+            | Insn::AddTo(m, _)
+            | Insn::OrTo(m, _)
+            | Insn::AndTo(m, _)
+            | Insn::SubTo(m, _)
+            | Insn::XorTo(m, _)
+            | Insn::CmpTo(m, _)
+            | Insn::AddFrom(_, m)
+            | Insn::OrFrom(_, m)
+            | Insn::AndFrom(_, m)
+            | Insn::SubFrom(_, m)
+            | Insn::XorFrom(_, m)
+            | Insn::CmpFrom(_, m)
+            | Insn::TestTo(m, _) => 2 + m.length(),
+            Insn::Jump(_) => 5,
+            Insn::JumpIf(_, _) => 6,
+            Insn::Cqo | Insn::Syscall => 2,
+        }
+    }
 }

@@ -1,0 +1,5 @@
+pub mod Lists
+pub mod Reading
+pub mod Steps
+pub mod Growing
+pub mod Placing
