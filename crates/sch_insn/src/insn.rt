@@ -1,4 +1,4 @@
-ghost use Rattle.std.specs.Prelude.{◌≡◌, ◌+◌, ℕ, length};
+ghost use Rattle.std.specs.Prelude.{◌≡◌, ◌≤◌, ℕ, length};
 ghost use Rattle.sch_insn.specs.Spelling.{spelling, operand, sib, IsValid};
 
 /// An operand that may be a register or 8 bytes of memory. Registers have numbers: rax 0, rcx 1,
@@ -73,7 +73,8 @@ pub enum Insn {
 impl Arg {
     /// How many bytes the operand takes, from ModRM on.
     fn length(self) -> usize
-        ensures { (r : ℕ) → result ≡ length (operand r self) }
+        ensures spelled { (r : ℕ) → result ≡ length (operand r self) }
+        ensures short { result ≤ 6 }
     {
         match self {
             Arg::Reg(_) => 1,
@@ -86,7 +87,8 @@ impl Arg {
 
 /// How many bytes SIB takes after ModRM with this base.
 fn sib_length(base: u8) -> usize
-    ensures { result ≡ length (sib base) }
+    ensures spelled { result ≡ length (sib base) }
+    ensures short { result ≤ 1 }
 {
     if base % 8 == 4 { 1 } else { 0 }
 }
