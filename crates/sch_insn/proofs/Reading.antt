@@ -12,7 +12,7 @@ use Rattle.sch_insn.specs.declared.insn.Arg.TheVariants.{Reg, Base, Base32, Rip}
 use Rattle.sch_insn.specs.declared.insn.Insn.{Insn}
 use Rattle.sch_insn.specs.declared.insn.Insn.TheVariants.{MovTo, MovFrom, MovNumber, MovWord, StoreByte, LoadByte, Lea, AddTo, OrTo, AndTo, SubTo, XorTo, CmpTo, AddFrom, OrFrom, AndFrom, SubFrom, XorFrom, CmpFrom, AddNumber, OrNumber, AndNumber, SubNumber, XorNumber, CmpNumber, TestTo, Imul, Neg, Idiv, Cqo, Shl, Shr, Sar, Jump, JumpTo, JumpIf, Syscall}
 use Rattle.sch_insn.specs.Spelling.{four_bytes, eight_bytes, high_bit, modrm, sib, operand, wide, spelling, IsArg, in_memory, IsValid}
-use Rattle.sch_insn.specs.Decode.{when_some, number_of_4, number_of_8, sib_size, arg_of, operand_of, group_of, shift_kind, wide_of, narrow_of, long_of, word_of_form, full_of, rexed_of, after_15, decode}
+use Rattle.sch_insn.specs.Decode.{when_some, number_of_4, number_of_8, sib_size, arg_of, operand_of, count_of, wide_of, narrow_of, long_of, whole_word_of, full_of, rexed_of, escaped_of, decode}
 use Rattle.sch_insn.proofs.Lists.{drop_1}
 
 not_below : (a b : ℕ) → b ≤ a → nat_lt a b ≡ false
@@ -178,31 +178,32 @@ numbered i op d m n rest s e1 e2 e3 low h fits go =
     ∙ go
     ∙ sized i (size ∙ ap length (sym s))
 
-small_count : (k : ℕ) → k < 64 → nat_lt 63 k ≡ false
-small_count k h = grind (arith, nat_tests)
+not_above_63 : (k : ℕ) → k < 64 → nat_lt 63 k ≡ false
+not_above_63 k h = grind (arith, nat_tests)
 
-counted : (i : Insn) (d : ℕ) (m : Arg) (k : ℕ) (rest : List ℕ) → spelling i ≡ wide 193 d m ++ k ∷ [] → d < 16 → IsArg m → k < 64 → shift_kind d m k (length (operand d m) + 2 + 1) ≡ Some (i, length (operand d m) + 2 + 1) → decode (spelling i ++ rest) ≡ Some (i, length (spelling i))
-unfolding wide_of
-counted i d m k rest s low h small go =
-    let none : Option (Insn × ℕ) = None in
-    let n = length (operand d m) in
-    let size : n + 2 + 1 ≡ length (wide 193 d m ++ k ∷ []) = omega (arith, length-append (wide 193 d m) (k ∷ [])) in
+count_read : (k : ℕ) (rest : List ℕ) → k < 64 → count_of (k ∷ rest) ≡ Some k
+count_read k rest h =
+    let none : Option ℕ = None in
+    ap (λ b. cond b none (cond (nat_lt 63 k) none (Some k))) (some_bytes k rest)
+    ∙ ap (λ b. cond b none (Some k)) (not_above_63 k h)
+
+counted : (i : Insn) (d : ℕ) (m : Arg) (k : ℕ) (rest : List ℕ) → spelling i ≡ wide 193 d m ++ k ∷ [] → d < 16 → IsArg m → wide_of 193 d m (length (operand d m) + 2) (k ∷ rest) ≡ Some (i, length (operand d m) + 2 + 1) → decode (spelling i ++ rest) ≡ Some (i, length (spelling i))
+counted i d m k rest s low h go =
+    let size : length (operand d m) + 2 + 1 ≡ length (wide 193 d m ++ k ∷ []) = omega (arith, length-append (wide 193 d m) (k ∷ [])) in
     ap (λ l. decode (l ++ rest)) s
     ∙ ap decode (append_assoc (wide 193 d m) (k ∷ []) rest)
     ∙ wide_read 193 m d (k ∷ rest) refl refl refl h low
-    ∙ ap (λ b. cond b none (cond (nat_lt 63 k) none (shift_kind d m k (n + 2 + 1)))) (some_bytes k rest)
-    ∙ ap (λ b. cond b none (shift_kind d m k (n + 2 + 1))) (small_count k small)
     ∙ go
     ∙ sized i (size ∙ ap length (sym s))
 
-first_15 : (x : ℕ) (bs : List ℕ) → decode (15 ∷ x ∷ bs) ≡ after_15 (x ∷ bs)
-first_15 x bs = let none : Option (Insn × ℕ) = None in ap (λ b. cond b none (after_15 (x ∷ bs))) (some_bytes 15 (x ∷ bs))
+escape_read : (x : ℕ) (bs : List ℕ) → decode (15 ∷ x ∷ bs) ≡ escaped_of (x ∷ bs)
+escape_read x bs = let none : Option (Insn × ℕ) = None in ap (λ b. cond b none (escaped_of (x ∷ bs))) (some_bytes 15 (x ∷ bs))
 
 jump_op : (c : ℕ) → c < 16 → c ≢ 10 → c ≢ 11 → (((128 + c) / 16 == 8) && not (128 + c == 138) && not (128 + c == 139)) ≡ true
 jump_op c h a b = grind (arith, nat_tests)
 
 pub decode_spelling : (i : Insn) (rest : List ℕ) → IsValid i → decode (spelling i ++ rest) ≡ Some (i, length (spelling i))
-unfolding wide_of narrow_of long_of rexed_of after_15
+unfolding wide_of narrow_of long_of rexed_of escaped_of
 decode_spelling (AddTo m r) rest h = wide_read 1 m r rest refl refl refl h.0 h.1 ∙ sized (AddTo m r) (two (length (operand r m)))
 decode_spelling (OrTo m r) rest h = wide_read 9 m r rest refl refl refl h.0 h.1 ∙ sized (OrTo m r) (two (length (operand r m)))
 decode_spelling (AndTo m r) rest h = wide_read 33 m r rest refl refl refl h.0 h.1 ∙ sized (AndTo m r) (two (length (operand r m)))
@@ -219,16 +220,16 @@ decode_spelling (XorFrom r m) rest h = wide_read 51 m r rest refl refl refl h.0 
 decode_spelling (CmpFrom r m) rest h = wide_read 59 m r rest refl refl refl h.0 h.1 ∙ sized (CmpFrom r m) (two (length (operand r m)))
 decode_spelling (MovFrom r m) rest h = wide_read 139 m r rest refl refl refl h.0 h.1 ∙ sized (MovFrom r m) (two (length (operand r m)))
 decode_spelling (Lea r m) rest h = wide_read 141 m r rest refl refl refl h.0 h.1 ∙ ap (λ b. cond b (Some (Lea r m, length (operand r m) + 2)) None) h.2 ∙ sized (Lea r m) (two (length (operand r m)))
-decode_spelling (AddNumber m n) rest h = numbered (AddNumber m n) 129 0 m n rest refl refl refl refl (omega arith) h.0 h.1 (ap (λ o. when_some o (λ n. group_of 0 m n (length (operand 0 m) + 2 + 4))) (read32 n rest h.1))
-decode_spelling (OrNumber m n) rest h = numbered (OrNumber m n) 129 1 m n rest refl refl refl refl (omega arith) h.0 h.1 (ap (λ o. when_some o (λ n. group_of 1 m n (length (operand 1 m) + 2 + 4))) (read32 n rest h.1))
-decode_spelling (AndNumber m n) rest h = numbered (AndNumber m n) 129 4 m n rest refl refl refl refl (omega arith) h.0 h.1 (ap (λ o. when_some o (λ n. group_of 4 m n (length (operand 4 m) + 2 + 4))) (read32 n rest h.1))
-decode_spelling (SubNumber m n) rest h = numbered (SubNumber m n) 129 5 m n rest refl refl refl refl (omega arith) h.0 h.1 (ap (λ o. when_some o (λ n. group_of 5 m n (length (operand 5 m) + 2 + 4))) (read32 n rest h.1))
-decode_spelling (XorNumber m n) rest h = numbered (XorNumber m n) 129 6 m n rest refl refl refl refl (omega arith) h.0 h.1 (ap (λ o. when_some o (λ n. group_of 6 m n (length (operand 6 m) + 2 + 4))) (read32 n rest h.1))
-decode_spelling (CmpNumber m n) rest h = numbered (CmpNumber m n) 129 7 m n rest refl refl refl refl (omega arith) h.0 h.1 (ap (λ o. when_some o (λ n. group_of 7 m n (length (operand 7 m) + 2 + 4))) (read32 n rest h.1))
+decode_spelling (AddNumber m n) rest h = numbered (AddNumber m n) 129 0 m n rest refl refl refl refl (omega arith) h.0 h.1 (ap (λ o. when_some o (λ n. Some (AddNumber m n, length (operand 0 m) + 2 + 4))) (read32 n rest h.1))
+decode_spelling (OrNumber m n) rest h = numbered (OrNumber m n) 129 1 m n rest refl refl refl refl (omega arith) h.0 h.1 (ap (λ o. when_some o (λ n. Some (OrNumber m n, length (operand 1 m) + 2 + 4))) (read32 n rest h.1))
+decode_spelling (AndNumber m n) rest h = numbered (AndNumber m n) 129 4 m n rest refl refl refl refl (omega arith) h.0 h.1 (ap (λ o. when_some o (λ n. Some (AndNumber m n, length (operand 4 m) + 2 + 4))) (read32 n rest h.1))
+decode_spelling (SubNumber m n) rest h = numbered (SubNumber m n) 129 5 m n rest refl refl refl refl (omega arith) h.0 h.1 (ap (λ o. when_some o (λ n. Some (SubNumber m n, length (operand 5 m) + 2 + 4))) (read32 n rest h.1))
+decode_spelling (XorNumber m n) rest h = numbered (XorNumber m n) 129 6 m n rest refl refl refl refl (omega arith) h.0 h.1 (ap (λ o. when_some o (λ n. Some (XorNumber m n, length (operand 6 m) + 2 + 4))) (read32 n rest h.1))
+decode_spelling (CmpNumber m n) rest h = numbered (CmpNumber m n) 129 7 m n rest refl refl refl refl (omega arith) h.0 h.1 (ap (λ o. when_some o (λ n. Some (CmpNumber m n, length (operand 7 m) + 2 + 4))) (read32 n rest h.1))
 decode_spelling (MovNumber m n) rest h = numbered (MovNumber m n) 199 0 m n rest refl refl refl refl (omega arith) h.0 h.1 (ap (λ o. when_some o (λ n. Some (MovNumber m n, length (operand 0 m) + 2 + 4))) (read32 n rest h.1))
-decode_spelling (Shl m k) rest h = counted (Shl m k) 4 m k rest refl (omega arith) h.0 h.1 refl
-decode_spelling (Shr m k) rest h = counted (Shr m k) 5 m k rest refl (omega arith) h.0 h.1 refl
-decode_spelling (Sar m k) rest h = counted (Sar m k) 7 m k rest refl (omega arith) h.0 h.1 refl
+decode_spelling (Shl m k) rest h = counted (Shl m k) 4 m k rest refl (omega arith) h.0 (ap (λ o. when_some o (λ n. Some (Shl m n, length (operand 4 m) + 2 + 1))) (count_read k rest h.1))
+decode_spelling (Shr m k) rest h = counted (Shr m k) 5 m k rest refl (omega arith) h.0 (ap (λ o. when_some o (λ n. Some (Shr m n, length (operand 5 m) + 2 + 1))) (count_read k rest h.1))
+decode_spelling (Sar m k) rest h = counted (Sar m k) 7 m k rest refl (omega arith) h.0 (ap (λ o. when_some o (λ n. Some (Sar m n, length (operand 7 m) + 2 + 1))) (count_read k rest h.1))
 decode_spelling (Neg m) rest h = wide_read 247 m 3 rest refl refl refl h (omega arith) ∙ sized (Neg m) (two (length (operand 3 m)))
 decode_spelling (Idiv m) rest h = wide_read 247 m 7 rest refl refl refl h (omega arith) ∙ sized (Idiv m) (two (length (operand 7 m)))
 decode_spelling (Imul r m) rest h =
@@ -272,28 +273,28 @@ decode_spelling (MovWord r n) rest h =
     let other : Option (Insn × ℕ) = cond (op == 153) (cond (((0 / 8) == 0) && ((r / 8) == 0)) (Some (Cqo, 2)) None) (cond (op == 15) (long_of 0 (r / 8) bs) (when_some (operand_of 0 (r / 8) bs) (λ p. wide_of op p.0 p.1 (p.2 + 2) (drop (p.2 + 1) (op ∷ bs))))) in
     rex_read 1 0 (r / 8) (op ∷ bs) (omega arith) (omega arith) high
     ∙ full_read 0 (r / 8) op bs
-    ∙ ap (λ b. cond b (word_of_form 0 (8 * (r / 8) + op % 8) bs) other) (is (op / 8) 23 o)
+    ∙ ap (λ b. cond b (whole_word_of 0 (8 * (r / 8) + op % 8) bs) other) (is (op / 8) 23 o)
     ∙ ap (λ o. when_some o (λ n. Some (MovWord (8 * (r / 8) + op % 8) n, 10))) (read64 n rest h.1)
     ∙ ap (λ k. Some (MovWord k n, 10)) same
 decode_spelling Cqo rest h = rex_read 1 0 0 (153 ∷ rest) (omega arith) (omega arith) (omega arith) ∙ full_read 0 0 153 rest
 decode_spelling (Jump d) rest h =
     let none : Option (Insn × ℕ) = None in
-    ap (λ b. cond b none (when_some (number_of_4 (four_bytes d ++ rest)) (λ d. Some (Jump d, 5)))) (some_bytes 233 (four_bytes d ++ rest))
-    ∙ ap (λ o. when_some o (λ d. Some (Jump d, 5))) (read32 d rest h)
+    ap (λ b. cond b none (when_some (number_of_4 (four_bytes d ++ rest)) (λ d. Some (Jump d, 1 + 4)))) (some_bytes 233 (four_bytes d ++ rest))
+    ∙ ap (λ o. when_some o (λ d. Some (Jump d, 1 + 4))) (read32 d rest h)
 decode_spelling (JumpIf c d) rest h =
     let none : Option (Insn × ℕ) = None in
     let x = 128 + c in
     let bs = four_bytes d ++ rest in
     let five : x ≢ 5 = omega arith in
     let same : x % 16 ≡ c = omega (arith, h.0.0) in
-    let jump : Option (Insn × ℕ) = when_some (number_of_4 bs) (λ d. Some (JumpIf (x % 16) d, 6)) in
+    let jump : Option (Insn × ℕ) = when_some (number_of_4 bs) (λ d. Some (JumpIf (x % 16) d, 2 + 4)) in
     let test = (x / 16 == 8) && not (x == 138) && not (x == 139) in
-    first_15 x bs
+    escape_read x bs
     ∙ ap (λ b. cond b none (cond (x == 5) (Some (Syscall, 2)) (cond test jump none))) (some_bytes x bs)
     ∙ ap (λ b. cond b (Some (Syscall, 2)) (cond test jump none)) (not_eq x 5 five)
     ∙ ap (λ b. cond b jump none) (jump_op c h.0.0 h.0.1 h.0.2)
-    ∙ ap (λ o. when_some o (λ d. Some (JumpIf (x % 16) d, 6))) (read32 d rest h.1)
+    ∙ ap (λ o. when_some o (λ d. Some (JumpIf (x % 16) d, 2 + 4))) (read32 d rest h.1)
     ∙ ap (λ k. Some (JumpIf k d, 6)) same
 decode_spelling Syscall rest h =
     let none : Option (Insn × ℕ) = None in
-    first_15 5 rest ∙ ap (λ b. cond b none (Some (Syscall, 2))) (some_bytes 5 rest)
+    escape_read 5 rest ∙ ap (λ b. cond b none (Some (Syscall, 2))) (some_bytes 5 rest)

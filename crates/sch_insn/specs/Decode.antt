@@ -1,6 +1,6 @@
 -- Reading an instruction: the instruction that a list of bytes begins with, and how many bytes it
 -- takes. The laws of `spelling` say that this is its inverse.
-use Rattle.std.specs.Prelude.{ℕ, ◌+◌, ◌*◌, ◌/◌, ◌%◌, List, length, drop, ◌&&◌, not, nat_lt, ◌==◌, Option, Some, None, ℤ, if◌then◌else◌, slice_index}
+use Rattle.std.specs.Prelude.{Bool, ℕ, ◌+◌, ◌*◌, ◌/◌, ◌%◌, List, length, drop, ◌&&◌, not, nat_lt, ◌==◌, Option, Some, None, ℤ, if◌then◌else◌, slice_index}
 use Rattle.std.specs.Int.{w32, w64, cast_signed, from_le_bytes}
 use Rattle.sch_insn.specs.declared.insn.Arg.{Arg}
 use Rattle.sch_insn.specs.declared.insn.Arg.TheVariants.{Reg, Base, Base32, Rip}
@@ -41,25 +41,16 @@ operand_of r b bs =
     if nat_lt (length bs) 1 then None
     else when_some (arg_of (slice_index bs 0 / 64) b (slice_index bs 0 % 8) (drop 1 bs)) (λ p. Some (8 * r + slice_index bs 0 / 8 % 8, p.0, p.1 + 1))
 
-abbrev pub group_of : ℕ → Arg → ℤ → ℕ → Option (Insn × ℕ)
-group_of r m n k =
-    if r == 0 then Some (AddNumber m n, k)
-    else if r == 1 then Some (OrNumber m n, k)
-    else if r == 4 then Some (AndNumber m n, k)
-    else if r == 5 then Some (SubNumber m n, k)
-    else if r == 6 then Some (XorNumber m n, k)
-    else if r == 7 then Some (CmpNumber m n, k)
-    else None
+-- A count of a shift: one byte, below 64.
+abbrev pub count_of : List ℕ → Option ℕ
+count_of bs = if nat_lt (length bs) 1 then None else if nat_lt 63 (slice_index bs 0) then None else Some (slice_index bs 0)
 
-abbrev pub shift_kind : ℕ → Arg → ℕ → ℕ → Option (Insn × ℕ)
-shift_kind r m n k =
-    if r == 4 then Some (Shl m n, k)
-    else if r == 5 then Some (Shr m n, k)
-    else if r == 7 then Some (Sar m n, k)
-    else None
+-- A form that ends with a number of four bytes, or with a count, behind k bytes.
+abbrev pub with_number : (ℤ → Insn) → ℕ → List ℕ → Option (Insn × ℕ)
+with_number form k bs = when_some (number_of_4 bs) (λ n. Some (form n, k + 4))
 
-abbrev pub shift_of : ℕ → Arg → ℕ → List ℕ → Option (Insn × ℕ)
-shift_of r m k bs = if nat_lt (length bs) 1 then None else if nat_lt 63 (slice_index bs 0) then None else shift_kind r m (slice_index bs 0) (k + 1)
+abbrev pub with_count : (ℕ → Insn) → ℕ → List ℕ → Option (Insn × ℕ)
+with_count form k bs = when_some (count_of bs) (λ n. Some (form n, k + 1))
 
 -- The form of an opcode of one byte with W, where k bytes stand before its number.
 unfoldable pub wide_of : ℕ → ℕ → Arg → ℕ → List ℕ → Option (Insn × ℕ)
@@ -76,14 +67,22 @@ wide_of op r m k bs =
     else if op == 51 then Some (XorFrom r m, k)
     else if op == 57 then Some (CmpTo m r, k)
     else if op == 59 then Some (CmpFrom r m, k)
-    else if op == 129 then when_some (number_of_4 bs) (λ n. group_of r m n (k + 4))
+    else if (op == 129) && (r == 0) then with_number (AddNumber m) k bs
+    else if (op == 129) && (r == 1) then with_number (OrNumber m) k bs
+    else if (op == 129) && (r == 4) then with_number (AndNumber m) k bs
+    else if (op == 129) && (r == 5) then with_number (SubNumber m) k bs
+    else if (op == 129) && (r == 6) then with_number (XorNumber m) k bs
+    else if (op == 129) && (r == 7) then with_number (CmpNumber m) k bs
     else if op == 133 then Some (TestTo m r, k)
     else if op == 137 then Some (MovTo m r, k)
     else if op == 139 then Some (MovFrom r m, k)
-    else if op == 141 then (if in_memory m then Some (Lea r m, k) else None)
-    else if op == 193 then shift_of r m k bs
-    else if op == 199 then (if r == 0 then when_some (number_of_4 bs) (λ n. Some (MovNumber m n, k + 4)) else None)
-    else if op == 247 then (if r == 3 then Some (Neg m, k) else if r == 7 then Some (Idiv m, k) else None)
+    else if (op == 141) && in_memory m then Some (Lea r m, k)
+    else if (op == 193) && (r == 4) then with_count (Shl m) k bs
+    else if (op == 193) && (r == 5) then with_count (Shr m) k bs
+    else if (op == 193) && (r == 7) then with_count (Sar m) k bs
+    else if (op == 199) && (r == 0) then with_number (MovNumber m) k bs
+    else if (op == 247) && (r == 3) then Some (Neg m, k)
+    else if (op == 247) && (r == 7) then Some (Idiv m, k)
     else None
 
 -- The forms without W.
@@ -103,13 +102,14 @@ long_of r b bs =
     else if slice_index bs 0 == 175 then Some (Imul p.0 p.1, p.2 + 3)
     else None)
 
-abbrev pub word_of_form : ℕ → ℕ → List ℕ → Option (Insn × ℕ)
-word_of_form r register bs = if r == 0 then when_some (number_of_8 bs) (λ n. Some (MovWord register n, 10)) else None
+-- `mov` of a whole word into a register, whose low bits stand in the opcode. The bit R is 0.
+abbrev pub whole_word_of : ℕ → ℕ → List ℕ → Option (Insn × ℕ)
+whole_word_of r register bs = if r == 0 then when_some (number_of_8 bs) (λ n. Some (MovWord register n, 10)) else None
 
 -- What stands after REX with W.
 abbrev pub full_of : ℕ → ℕ → List ℕ → Option (Insn × ℕ)
 full_of r b bs =
-    if slice_index bs 0 / 8 == 23 then word_of_form r (8 * b + slice_index bs 0 % 8) (drop 1 bs)
+    if slice_index bs 0 / 8 == 23 then whole_word_of r (8 * b + slice_index bs 0 % 8) (drop 1 bs)
     else if slice_index bs 0 == 153 then (if (r == 0) && (b == 0) then Some (Cqo, 2) else None)
     else if slice_index bs 0 == 15 then long_of r b (drop 1 bs)
     else when_some (operand_of r b (drop 1 bs)) (λ p. wide_of (slice_index bs 0) p.0 p.1 (p.2 + 2) (drop (p.2 + 1) bs))
@@ -121,18 +121,22 @@ rexed_of w r b bs =
     else if w == 0 then narrow_of (slice_index bs 0) r b (drop 1 bs)
     else full_of r b bs
 
+-- Whether a byte after 0F is the opcode of a jump with a condition: 80 to 8F, but 8A and 8B.
+abbrev pub is_jump_if : ℕ → Bool
+is_jump_if op = (op / 16 == 8) && not (op == 138) && not (op == 139)
+
 -- What stands after a first byte 0F.
-unfoldable pub after_15 : List ℕ → Option (Insn × ℕ)
-after_15 bs =
+unfoldable pub escaped_of : List ℕ → Option (Insn × ℕ)
+escaped_of bs =
     if nat_lt (length bs) 1 then None
     else if slice_index bs 0 == 5 then Some (Syscall, 2)
-    else if (slice_index bs 0 / 16 == 8) && not (slice_index bs 0 == 138) && not (slice_index bs 0 == 139) then when_some (number_of_4 (drop 1 bs)) (λ d. Some (JumpIf (slice_index bs 0 % 16) d, 6))
+    else if is_jump_if (slice_index bs 0) then with_number (JumpIf (slice_index bs 0 % 16)) 2 (drop 1 bs)
     else None
 
 abbrev pub decode : List ℕ → Option (Insn × ℕ)
 decode bs =
     if nat_lt (length bs) 1 then None
     else if (slice_index bs 0 / 16 == 4) && (slice_index bs 0 / 2 % 2 == 0) then rexed_of (slice_index bs 0 / 8 % 2) (slice_index bs 0 / 4 % 2) (slice_index bs 0 % 2) (drop 1 bs)
-    else if slice_index bs 0 == 15 then after_15 (drop 1 bs)
-    else if slice_index bs 0 == 233 then when_some (number_of_4 (drop 1 bs)) (λ d. Some (Jump d, 5))
+    else if slice_index bs 0 == 15 then escaped_of (drop 1 bs)
+    else if slice_index bs 0 == 233 then with_number Jump 1 (drop 1 bs)
     else None
