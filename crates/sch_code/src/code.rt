@@ -1,0 +1,79 @@
+ghost use Rattle.std.specs.Prelude.{◌≡◌, ℕ, ◌+◌, ◌<◌, ◌≤◌, List, [], ◌∷◌, ◌++◌, length, take};
+ghost use Rattle.sch_insn.specs.Spelling.{four_bytes, eight_bytes};
+
+use std::marker::Model;
+
+/// A buffer of 16 bytes, more than any spelling has. Contracts see the bytes that were put into it.
+#[derive(Drop)]
+pub struct Code {
+    bytes: [u8; 16],
+    len: usize,
+}
+
+impl Model for Code {
+    ghost Value = { List ℕ };
+
+    ghost view = { λ c. take c.len c.bytes };
+
+    ghost invariant = { λ c. c.len ≤ 16 };
+}
+
+impl Code {
+    /// An empty buffer.
+    pub fn new() -> Code
+        ensures empty { result ≡ [] }
+    {
+        Code {
+            bytes: [0; 16],
+            len: 0,
+        }
+    }
+
+    /// The bytes that were put into the buffer.
+    pub fn bytes(&self) -> &[u8]
+        ensures all { result.now ≡ self.now }
+    {
+        &self.bytes[..self.len]
+    }
+
+    /// Forgets what the buffer has.
+    pub(crate) fn clear(&mut self)
+        ensures { self.new ≡ [] }
+    {
+        self.len = 0;
+    }
+
+    /// One more byte.
+    pub(crate) fn put(&mut self, byte: u8)
+        requires { length self.old < 16 }
+        ensures { self.new ≡ self.old ++ byte ∷ [] }
+    {
+        self.bytes[self.len] = byte;
+        self.len += 1;
+    }
+
+    fn put_all(&mut self, bytes: &[u8])
+        requires { length self.old + length bytes.now ≤ 16 }
+        ensures { self.new ≡ self.old ++ bytes.now }
+    {
+        for byte in bytes {
+            self.put(*byte);
+        }
+    }
+
+    /// Four bytes, the lowest first.
+    pub(crate) fn put_i32(&mut self, number: i32)
+        requires { length self.old ≤ 12 }
+        ensures { self.new ≡ self.old ++ four_bytes number }
+    {
+        self.put_all(&number.to_le_bytes());
+    }
+
+    /// Eight bytes, the lowest first.
+    pub(crate) fn put_i64(&mut self, number: i64)
+        requires { length self.old ≤ 8 }
+        ensures { self.new ≡ self.old ++ eight_bytes number }
+    {
+        self.put_all(&number.to_le_bytes());
+    }
+}

@@ -1,0 +1,127 @@
+-- The output only grows, and what is over stays over. So one run that has exited tells every bounded run.
+use Rattle.std.proofs.Common.{◌≡◌, ◌≢◌, ℕ, zero, suc, ◌+◌, ◌≤◌, List, [], ◌∷◌, ◌++◌, Bool, true, false, cond, Option, Some, None, refl, sym, ap, ◌∙◌, subst, ⊎_elim, arith, append_assoc, length, take, min, ◌==◌, ◌&&◌}
+use Rattle.std.specs.Prelude.{Result, Ok, Err}
+use Rattle.std.proofs.lemmas.List.{append-nil}
+use Rattle.std.proofs.lemmas.Bool.{cases_lt}
+use Rattle.sch_word.specs.Memory.{Segment}
+use Rattle.sch_word.specs.declared.answer.Answer.{Answer}
+use Rattle.sch_word.specs.declared.answer.Answer.TheVariants.{Took, Failed}
+use Rattle.sch_insn.specs.declared.insn.Insn.{Insn}
+use Rattle.sch_insn.specs.declared.insn.Insn.TheVariants.{Syscall}
+use Rattle.sch_insn.specs.declared.machine.StuckCause.{StuckCause}
+use Rattle.sch_insn.specs.Machine.{Core, State, with_place}
+use Rattle.sch_insn.specs.Step.{Progress, Runs, Exited, Stuck, act, kernel, write_row, piece_written, answered, moved, perform, fetch, fetched, step, go_on, mach}
+use Rattle.sch_insn.specs.Behaves.{Given, start, output_of, IsPrefix, Ending, Behaves}
+use Rattle.sch_insn.proofs.Steps.{Comes}
+
+pub prefix_same : (xs : List ℕ) → IsPrefix xs xs
+prefix_same xs = record { rest = []; whole = append-nil xs }
+
+pub prefix_then : (xs ys zs : List ℕ) → IsPrefix xs ys → IsPrefix ys zs → IsPrefix xs zs
+prefix_then xs ys zs p q = record { rest = p.rest ++ q.rest; whole = sym (append_assoc xs p.rest q.rest) ∙ ap (λ l. l ++ q.rest) p.whole ∙ q.whole }
+
+-- An output has grown to that of what the machine has come to.
+record Grows (output : List ℕ) (e : Progress) : Type 0 where
+  by : IsPrefix output (output_of e)
+
+moved_grows : (s : State) (r : Result Core StuckCause) → Grows s.output (moved s r)
+moved_grows s (Ok c) = record { by = prefix_same s.output }
+moved_grows s (Err cause) = record { by = prefix_same s.output }
+
+answered_grows : (s : State) (next : ℕ) (piece : List ℕ) (left : List Answer) → IsPrefix s.output (answered s next piece left).output
+answered_grows s next piece [] = record { rest = piece; whole = refl }
+answered_grows s next piece (Took k ∷ left) = record { rest = take (min k (length piece)) piece; whole = refl }
+answered_grows s next piece (Failed ∷ left) = record { rest = []; whole = refl }
+
+piece_grows : (s : State) (next n : ℕ) (o : Option (List ℕ)) → Grows s.output (piece_written s next n o)
+piece_grows s next n None = record { by = prefix_same s.output }
+piece_grows s next n (Some bs) = record { by = answered_grows s next (take n bs) s.answers }
+
+write_grows : (s : State) (next n : ℕ) → Grows s.output (write_row s next n)
+write_grows s next zero = record { by = record { rest = []; whole = refl } }
+write_grows s next (suc n) = piece_grows s next (suc n) _
+
+cond_grows : (b : Bool) (output : List ℕ) (x y : Progress) → Grows output x → Grows output y → Grows output (cond b x y)
+cond_grows true output x y p q = p
+cond_grows false output x y p q = q
+
+kernel_grows : (s : State) (next : ℕ) → Grows s.output (kernel s next)
+kernel_grows s next =
+    cond_grows (s.core.registers 0 == 60) s.output _ _ (record { by = prefix_same s.output })
+    (cond_grows ((s.core.registers 0 == 1) && (s.core.registers 7 == 1)) s.output _ _ (write_grows s next (s.core.registers 2)) (record { by = prefix_same s.output }))
+
+-- Only a call of the kernel has a row of its own; all other instructions leave the outside alone.
+perform_grows : (i : Insn) (next : ℕ) (s : State) → Grows s.output (perform i next s)
+perform_grows Syscall next s = kernel_grows s next
+perform_grows i next s = moved_grows s (act i (with_place next s.core))
+
+fetched_grows : (s : State) (o : Option (Insn × ℕ)) → Grows s.output (fetched s o)
+fetched_grows s None = record { by = prefix_same s.output }
+fetched_grows s (Some p) = perform_grows p.0 (s.core.place + p.1) s
+
+step_grows : (s : State) → Grows s.output (step s)
+step_grows s = fetched_grows s (fetch s.core.segments s.core.place)
+
+go_grows : (n : ℕ) (e : Progress) → ((s : State) → IsPrefix s.output (output_of (mach n s))) → IsPrefix (output_of e) (output_of (go_on e (mach n)))
+go_grows n (Runs s) h = h s
+go_grows n (Exited status output) h = prefix_same output
+go_grows n (Stuck cause s) h = prefix_same s.output
+
+pub mach_grows : (n : ℕ) (s : State) → IsPrefix s.output (output_of (mach n s))
+mach_grows zero s = prefix_same s.output
+mach_grows (suc n) s = prefix_then s.output (output_of (step s)) (output_of (mach (suc n) s)) (step_grows s).by (go_grows n (step s) (mach_grows n))
+
+go_more : (m n : ℕ) (e : Progress) → ((s : State) → IsPrefix (output_of (mach m s)) (output_of (mach n s))) → IsPrefix (output_of (go_on e (mach m))) (output_of (go_on e (mach n)))
+go_more m n (Runs s) h = h s
+go_more m n (Exited status output) h = prefix_same output
+go_more m n (Stuck cause s) h = prefix_same s.output
+
+-- In fewer steps the output is a prefix.
+pub more_grows : (m n : ℕ) (s : State) → m ≤ n → IsPrefix (output_of (mach m s)) (output_of (mach n s))
+more_grows zero n s le = mach_grows n s
+more_grows (suc m) zero s le = absurd (omega arith)
+more_grows (suc m) (suc n) s le = go_more m n (step s) (λ t. more_grows m n t (omega arith))
+
+abbrev pub IsOver : Progress → Type 0
+IsOver (Runs s) = ⊥
+IsOver (Exited status output) = Unit {0}
+IsOver (Stuck cause s) = Unit {0}
+
+go_stays : (m n : ℕ) (e o : Progress) → IsOver o → ((s : State) → mach m s ≡ o → mach n s ≡ o) → go_on e (mach m) ≡ o → go_on e (mach n) ≡ o
+go_stays m n (Runs s) o over h e = h s e
+go_stays m n (Exited status output) o over h e = e
+go_stays m n (Stuck cause s) o over h e = e
+
+-- What is over stays as it is.
+pub stays : (m n : ℕ) (s : State) (o : Progress) → IsOver o → m ≤ n → mach m s ≡ o → mach n s ≡ o
+stays zero n s o over le e = absurd (subst IsOver (sym e) over)
+stays (suc m) zero s o over le e = absurd (omega arith)
+stays (suc m) (suc n) s o over le e = go_stays m n (step s) o over (λ t. stays m n t o over (omega arith)) e
+
+-- A run that has exited has the output of each bounded run as a prefix.
+pub along_end : (s : State) (m status : ℕ) (output : List ℕ) → mach m s ≡ Exited status output → (n : ℕ) → IsPrefix (output_of (mach n s)) output
+along_end s m status output e n =
+    ⊎_elim
+    (λ lt. subst (λ o. IsPrefix (output_of (mach n s)) (output_of o)) e (more_grows n m s (omega arith)))
+    (λ le. subst (λ o. IsPrefix (output_of o) output) (sym (stays m n s (Exited status output) tt le e)) (prefix_same output))
+    (cases_lt n m)
+
+-- Where a run has exited, none is stuck.
+pub not_stuck : (s : State) (m status : ℕ) (output : List ℕ) → mach m s ≡ Exited status output → (n : ℕ) (cause : StuckCause) (t : State) → mach n s ≢ Stuck cause t
+not_stuck s m status output e n cause t f =
+    ⊎_elim
+    (λ lt. let h = sym (stays n m s (Stuck cause t) tt (omega arith) f) ∙ e in absurd cc)
+    (λ le. let h = sym f ∙ stays m n s (Exited status output) tt le e in absurd cc)
+    (cases_lt n m)
+
+-- A run that comes to an exit has exited in its number of steps.
+pub exited : (s : State) (status : ℕ) (output : List ℕ) (c : Comes s (Exited status output)) → mach (c.steps + 0) s ≡ Exited status output
+exited s status output c = c.reaches 0
+
+-- A memory behaves as said where its machine comes to the said exit for all given words and answers.
+pub behaves : (entry : ℕ) (segments : List Segment) (ending : List Answer → Ending) → ((g : Given) (answers : List Answer) → Comes (start entry segments g answers) (Exited (ending answers).status (ending answers).output)) → Behaves entry segments ending
+behaves entry segments ending h = record {
+  ends = λ g answers. let c = h g answers in (c.steps + 0, c.reaches 0);
+  along = λ g answers. let c = h g answers in along_end (start entry segments g answers) (c.steps + 0) (ending answers).status (ending answers).output (c.reaches 0);
+  never_stuck = λ g answers. let c = h g answers in not_stuck (start entry segments g answers) (c.steps + 0) (ending answers).status (ending answers).output (c.reaches 0);
+}

@@ -1,0 +1,7 @@
+pub mod Lists
+pub mod OnAnswer
+pub mod Reading
+pub mod Back
+pub mod Steps
+pub mod Growing
+pub mod Placing

@@ -1,0 +1,50 @@
+-- What a memory does when it is run: the words of a theorem on a compiled program.
+use Rattle.std.specs.Prelude.{◌≡◌, ◌≢◌, ℕ, ◌<◌, ◌^◌, List, [], ◌++◌, All}
+use Rattle.sch_word.specs.Memory.{Segment}
+use Rattle.sch_word.specs.declared.answer.Answer.{Answer}
+use Rattle.sch_insn.specs.declared.machine.Flags.{Flags}
+use Rattle.sch_insn.specs.declared.machine.StuckCause.{StuckCause}
+use Rattle.sch_insn.specs.Machine.{State}
+use Rattle.sch_insn.specs.Step.{Progress, Runs, Exited, Stuck, mach}
+
+-- What a machine is given beside its memory and the kernel's answers: any words in the registers, any
+-- flags, and any spare words.
+pub record Given : Type 0 where
+  pub registers : ℕ → ℕ
+  pub flags : Flags
+  pub spare : List ℕ
+  pub registers_fit : (r : ℕ) → registers r < 2 ^ 64
+  pub spare_fit : All (λ w. w < 2 ^ 64) spare
+
+-- The state in which a machine starts at an address.
+abbrev pub start : ℕ → List Segment → Given → List Answer → State
+start entry segments given answers =
+    record {
+      core = record { registers = given.registers; flags = given.flags; place = entry; segments = segments };
+      output = [];
+      answers = answers;
+      spare = given.spare;
+    }
+
+abbrev pub output_of : Progress → List ℕ
+output_of (Runs s) = s.output
+output_of (Exited status output) = output
+output_of (Stuck cause s) = s.output
+
+-- A prefix may be the whole.
+pub record IsPrefix (xs ys : List ℕ) : Type 0 where
+  pub rest : List ℕ
+  pub whole : xs ++ rest ≡ ys
+
+-- How a run ends: with a status and an output.
+pub record Ending : Type 0 where
+  pub status : ℕ
+  pub output : List ℕ
+
+-- For all given words and answers of the kernel, a memory that is entered at an address ends as `ending`
+-- says of the answers: some bounded run has exited so, the output of every bounded run is a prefix of
+-- that output, and none is stuck.
+pub record Behaves (entry : ℕ) (segments : List Segment) (ending : List Answer → Ending) : Type 0 where
+  pub ends : (g : Given) (answers : List Answer) → (n : ℕ) × (mach n (start entry segments g answers) ≡ Exited (ending answers).status (ending answers).output)
+  pub along : (g : Given) (answers : List Answer) (n : ℕ) → IsPrefix (output_of (mach n (start entry segments g answers))) (ending answers).output
+  pub never_stuck : (g : Given) (answers : List Answer) (n : ℕ) (cause : StuckCause) (s : State) → mach n (start entry segments g answers) ≢ Stuck cause s

@@ -1,0 +1,5 @@
+pub mod Spelling
+pub mod Decode
+pub mod Machine
+pub mod Step
+pub mod Behaves

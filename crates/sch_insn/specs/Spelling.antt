@@ -1,0 +1,143 @@
+-- The one spelling of each instruction, and which instructions there are.
+-- Source: Intel SDM, volume 2: section 2.1 (ModR/M and SIB), 2.2.1 (REX prefixes), and the opcode
+-- column of each mnemonic's page.
+use Rattle.std.specs.Prelude.{◌≡◌, ◌≢◌, ℕ, ◌+◌, ◌*◌, ◌/◌, ◌%◌, ◌<◌, List, [], ◌∷◌, ◌++◌, Bool, true, false, cond, ◌==◌, ℤ, FitsSigned}
+use Rattle.std.specs.Int.{w32, w64, cast_unsigned, to_le_bytes}
+use Rattle.sch_insn.specs.declared.insn.Arg.{Arg}
+use Rattle.sch_insn.specs.declared.insn.Arg.TheVariants.{Reg, Base, Base32, Rip}
+use Rattle.sch_insn.specs.declared.insn.Insn.{Insn}
+use Rattle.sch_insn.specs.declared.insn.Insn.TheVariants.{MovTo, MovFrom, MovNumber, MovWord, StoreByte, LoadByte, Lea, AddTo, OrTo, AndTo, SubTo, XorTo, CmpTo, AddFrom, OrFrom, AndFrom, SubFrom, XorFrom, CmpFrom, AddNumber, OrNumber, AndNumber, SubNumber, XorNumber, CmpNumber, TestTo, Imul, Neg, Idiv, Cqo, Shl, Shr, Sar, Jump, JumpTo, JumpIf, Syscall}
+
+-- A signed number in four bytes and in eight, the lowest byte first.
+abbrev pub four_bytes : ℤ → List ℕ
+four_bytes n = to_le_bytes w32 (cast_unsigned w32 n)
+
+abbrev pub eight_bytes : ℤ → List ℕ
+eight_bytes n = to_le_bytes w64 (cast_unsigned w64 n)
+
+-- The high bit of an operand's register number, which REX holds as its bit B.
+abbrev pub high_bit : Arg → ℕ
+high_bit (Reg r) = r / 8
+high_bit (Base b) = b / 8
+high_bit (Base32 b d) = b / 8
+high_bit (Rip d) = 0
+
+-- REX with the bit W, the register of the form (its high bit is R) and the operand. X is always 0.
+abbrev pub rex : ℕ → ℕ → Arg → ℕ
+rex w r m = 64 + 8 * w + 4 * (r / 8) + high_bit m
+
+-- ModRM: the mode, the low bits of the register of the form, the low bits of the operand's register.
+abbrev pub modrm : ℕ → ℕ → ℕ → ℕ
+modrm mode r b = 64 * mode + 8 * (r % 8) + b % 8
+
+-- SIB stands only where the low bits of the base are 100, and then it names that base and no index.
+abbrev pub sib : ℕ → List ℕ
+sib b = cond (b % 8 == 4) (36 ∷ []) []
+
+-- ModRM and what follows it. A row for the mode 01, with a displacement of one byte, would stand here.
+abbrev pub operand : ℕ → Arg → List ℕ
+operand r (Reg b) = modrm 3 r b ∷ []
+operand r (Base b) = modrm 0 r b ∷ sib b
+operand r (Base32 b d) = modrm 2 r b ∷ (sib b ++ four_bytes d)
+operand r (Rip d) = modrm 0 r 5 ∷ four_bytes d
+
+-- REX with W, one byte of opcode, and the operand.
+abbrev pub wide : ℕ → ℕ → Arg → List ℕ
+wide op r m = rex 1 r m ∷ op ∷ operand r m
+
+abbrev pub spelling : Insn → List ℕ
+spelling (MovTo m r) = wide 137 r m
+spelling (MovFrom r m) = wide 139 r m
+spelling (MovNumber m n) = wide 199 0 m ++ four_bytes n
+spelling (MovWord r n) = (72 + r / 8) ∷ (184 + r % 8) ∷ eight_bytes n
+spelling (StoreByte m r) = rex 0 r m ∷ 136 ∷ operand r m
+spelling (LoadByte r m) = rex 1 r m ∷ 15 ∷ 182 ∷ operand r m
+spelling (Lea r m) = wide 141 r m
+spelling (AddTo m r) = wide 1 r m
+spelling (OrTo m r) = wide 9 r m
+spelling (AndTo m r) = wide 33 r m
+spelling (SubTo m r) = wide 41 r m
+spelling (XorTo m r) = wide 49 r m
+spelling (CmpTo m r) = wide 57 r m
+spelling (AddFrom r m) = wide 3 r m
+spelling (OrFrom r m) = wide 11 r m
+spelling (AndFrom r m) = wide 35 r m
+spelling (SubFrom r m) = wide 43 r m
+spelling (XorFrom r m) = wide 51 r m
+spelling (CmpFrom r m) = wide 59 r m
+spelling (AddNumber m n) = wide 129 0 m ++ four_bytes n
+spelling (OrNumber m n) = wide 129 1 m ++ four_bytes n
+spelling (AndNumber m n) = wide 129 4 m ++ four_bytes n
+spelling (SubNumber m n) = wide 129 5 m ++ four_bytes n
+spelling (XorNumber m n) = wide 129 6 m ++ four_bytes n
+spelling (CmpNumber m n) = wide 129 7 m ++ four_bytes n
+spelling (TestTo m r) = wide 133 r m
+spelling (Imul r m) = rex 1 r m ∷ 15 ∷ 175 ∷ operand r m
+spelling (Neg m) = wide 247 3 m
+spelling (Idiv m) = wide 247 7 m
+spelling Cqo = 72 ∷ 153 ∷ []
+spelling (Shl m k) = wide 193 4 m ++ k ∷ []
+spelling (Shr m k) = wide 193 5 m ++ k ∷ []
+spelling (Sar m k) = wide 193 7 m ++ k ∷ []
+spelling (Jump d) = 233 ∷ four_bytes d
+spelling (JumpTo m) = rex 0 4 m ∷ 255 ∷ operand 4 m
+spelling (JumpIf c d) = 15 ∷ (128 + c) ∷ four_bytes d
+spelling Syscall = 15 ∷ 5 ∷ []
+
+-- The operands that there are. With the mode 00 the low bits 101 would mean an address from rip.
+abbrev pub IsArg : Arg → Type 0
+IsArg (Reg r) = r < 16
+IsArg (Base b) = (b < 16) × (b % 8 ≢ 5)
+IsArg (Base32 b d) = (b < 16) × FitsSigned w32 d
+IsArg (Rip d) = FitsSigned w32 d
+
+abbrev pub in_memory : Arg → Bool
+in_memory (Reg r) = false
+in_memory (Base b) = true
+in_memory (Base32 b d) = true
+in_memory (Rip d) = true
+
+-- The conditions: o 0, no 1, b 2, ae 3, e 4, ne 5, be 6, a 7, s 8, ns 9, l 12, ge 13, le 14, g 15.
+-- The numbers 10 and 11 read the parity flag, which the table leaves out.
+abbrev pub IsCondition : ℕ → Type 0
+IsCondition c = (c < 16) × (c ≢ 10) × (c ≢ 11)
+
+-- An instruction is valid where the table has its form with these numbers and this operand.
+abbrev pub IsValid : Insn → Type 0
+IsValid (MovTo m r) = IsArg m × (r < 16)
+IsValid (MovFrom r m) = IsArg m × (r < 16)
+IsValid (MovNumber m n) = IsArg m × FitsSigned w32 n
+IsValid (MovWord r n) = (r < 16) × FitsSigned w64 n
+IsValid (StoreByte m r) = IsArg m × (r < 16) × (in_memory m ≡ true)
+IsValid (LoadByte r m) = IsArg m × (r < 16) × (in_memory m ≡ true)
+IsValid (Lea r m) = IsArg m × (r < 16) × (in_memory m ≡ true)
+IsValid (AddTo m r) = IsArg m × (r < 16)
+IsValid (OrTo m r) = IsArg m × (r < 16)
+IsValid (AndTo m r) = IsArg m × (r < 16)
+IsValid (SubTo m r) = IsArg m × (r < 16)
+IsValid (XorTo m r) = IsArg m × (r < 16)
+IsValid (CmpTo m r) = IsArg m × (r < 16)
+IsValid (AddFrom r m) = IsArg m × (r < 16)
+IsValid (OrFrom r m) = IsArg m × (r < 16)
+IsValid (AndFrom r m) = IsArg m × (r < 16)
+IsValid (SubFrom r m) = IsArg m × (r < 16)
+IsValid (XorFrom r m) = IsArg m × (r < 16)
+IsValid (CmpFrom r m) = IsArg m × (r < 16)
+IsValid (AddNumber m n) = IsArg m × FitsSigned w32 n
+IsValid (OrNumber m n) = IsArg m × FitsSigned w32 n
+IsValid (AndNumber m n) = IsArg m × FitsSigned w32 n
+IsValid (SubNumber m n) = IsArg m × FitsSigned w32 n
+IsValid (XorNumber m n) = IsArg m × FitsSigned w32 n
+IsValid (CmpNumber m n) = IsArg m × FitsSigned w32 n
+IsValid (TestTo m r) = IsArg m × (r < 16)
+IsValid (Imul r m) = IsArg m × (r < 16)
+IsValid (Neg m) = IsArg m
+IsValid (Idiv m) = IsArg m
+IsValid Cqo = Unit {0}
+IsValid (Shl m k) = IsArg m × (k < 64)
+IsValid (Shr m k) = IsArg m × (k < 64)
+IsValid (Sar m k) = IsArg m × (k < 64)
+IsValid (Jump d) = FitsSigned w32 d
+IsValid (JumpTo m) = IsArg m
+IsValid (JumpIf c d) = IsCondition c × FitsSigned w32 d
+IsValid Syscall = Unit {0}

@@ -1,0 +1,185 @@
+-- What a machine does: one row for each instruction, and the rows of the kernel.
+-- Source: Intel SDM, volume 2, the pages of the mnemonics; Linux on x86-64, the calls `write` (1) and
+-- `exit` (60) (System V ABI, AMD64 supplement, appendix A.2).
+use Rattle.std.specs.Prelude.{ℕ, zero, suc, ◌+◌, ◌-◌, ◌*◌, ◌/◌, ◌%◌, ◌^◌, min, List, [], ◌∷◌, ◌++◌, length, take, Bool, cond, ◌&&◌, nat_lt, nat_le, ◌==◌, Option, Some, None, ℤ, Result, Ok, Err, bit_and, bit_or, bit_xor}
+use Rattle.sch_word.specs.Memory.{Segment}
+use Rattle.sch_word.specs.declared.answer.Answer.{Answer}
+use Rattle.sch_word.specs.declared.answer.Answer.TheVariants.{Took, Failed}
+use Rattle.sch_insn.specs.declared.insn.Arg.{Arg}
+use Rattle.sch_insn.specs.declared.insn.Insn.{Insn}
+use Rattle.sch_insn.specs.declared.insn.Insn.TheVariants.{MovTo, MovFrom, MovNumber, MovWord, StoreByte, LoadByte, Lea, AddTo, OrTo, AndTo, SubTo, XorTo, CmpTo, AddFrom, OrFrom, AndFrom, SubFrom, XorFrom, CmpFrom, AddNumber, OrNumber, AndNumber, SubNumber, XorNumber, CmpNumber, TestTo, Imul, Neg, Idiv, Cqo, Shl, Shr, Sar, Jump, JumpTo, JumpIf, Syscall}
+use Rattle.sch_insn.specs.declared.machine.StuckCause.{StuckCause}
+use Rattle.sch_insn.specs.declared.machine.StuckCause.TheVariants.{Fetch, Flag, Divide, Kernel}
+use Rattle.sch_insn.specs.Decode.{decode, when_some}
+use Rattle.sch_insn.specs.Machine.{Core, State, Computed, when_ok, with_register, with_flags, with_place, word, add64, is_negative, magnitude, differ, signed, bytes_from, byte_at, write_bytes, address_of, load, store, unknown_flags, sum_of, difference_of, bits_of, product_of, shifted, shift_right_signed, condition, set_register, head_or_0}
+
+-- What a machine has come to: it runs on; it has exited with a status and an output; or it is stuck in a
+-- state that has no row.
+pub data Progress : Type 0 where
+  Runs : (state : State) → Progress
+  Exited : (status : ℕ) (output : List ℕ) → Progress
+  Stuck : (cause : StuckCause) (state : State) → Progress
+
+-- ---- the shapes of the rows
+
+-- The operand becomes what is computed from its word.
+abbrev pub change : Core → Arg → (ℕ → Computed) → Result Core StuckCause
+change c m f = when_ok (load c m) (λ v. when_ok (store c m (f v).value) (λ d. Ok (with_flags (f v).flags d)))
+
+-- The register becomes what is computed from the operand's word.
+abbrev pub gather : Core → ℕ → Arg → (ℕ → Computed) → Result Core StuckCause
+gather c r m f = when_ok (load c m) (λ v. Ok (with_flags (f v).flags (with_register r (f v).value c)))
+
+-- Only the flags change.
+abbrev pub compare : Core → Arg → (ℕ → Computed) → Result Core StuckCause
+compare c m f = when_ok (load c m) (λ v. Ok (with_flags (f v).flags c))
+
+-- SDM, IDIV: rdx:rax by the divisor, truncated toward zero; the remainder has the sign of the dividend.
+abbrev pub is_quotient : Bool → ℕ → Bool
+is_quotient negative q = cond negative (nat_le q (2 ^ 63)) (nat_lt q (2 ^ 63))
+
+abbrev pub dividend_magnitude : Core → ℕ
+dividend_magnitude c =
+    let d = 2 ^ 64 * c.registers 2 + c.registers 0 in
+    cond (is_negative (c.registers 2)) (2 ^ 128 - d) d
+
+abbrev pub divided : Core → ℕ → ℕ → Bool → Core
+divided c q r negative = with_flags unknown_flags (with_register 2 (signed (is_negative (c.registers 2)) r) (with_register 0 (signed negative q) c))
+
+abbrev pub divide : Core → ℕ → Result Core StuckCause
+divide c v =
+    let q = dividend_magnitude c / magnitude v in
+    let negative = differ (is_negative (c.registers 2)) (is_negative v) in
+    cond (v == 0) (Err Divide)
+    (cond (is_quotient negative q) (Ok (divided c q (dividend_magnitude c % magnitude v) negative)) (Err Divide))
+
+-- SDM, CQO: rdx becomes the sign of rax in every bit.
+abbrev pub sign_word : ℕ → ℕ
+sign_word a = cond (is_negative a) (2 ^ 64 - 1) 0
+
+abbrev pub jump_if : Core → ℤ → Option Bool → Result Core StuckCause
+jump_if c d None = Err Flag
+jump_if c d (Some holds) = Ok (with_place (cond holds (add64 c.place (word d)) c.place) c)
+
+-- ---- the rows
+
+-- What an instruction does to a core whose place is already that of the next instruction. A call of the
+-- kernel has no row here: its rows are below.
+abbrev pub act : Insn → Core → Result Core StuckCause
+act (MovTo m r) c = store c m (c.registers r)
+act (MovFrom r m) c = when_ok (load c m) (λ v. Ok (with_register r v c))
+act (MovNumber m n) c = store c m (word n)
+act (MovWord r n) c = Ok (with_register r (word n) c)
+act (StoreByte m r) c = write_bytes c (address_of c m) (c.registers r % 256 ∷ [])
+act (LoadByte r m) c = when_ok (byte_at c.segments (address_of c m)) (λ v. Ok (with_register r v c))
+act (Lea r m) c = Ok (with_register r (address_of c m) c)
+act (AddTo m r) c = change c m (λ v. sum_of v (c.registers r))
+act (OrTo m r) c = change c m (λ v. bits_of (bit_or v (c.registers r)))
+act (AndTo m r) c = change c m (λ v. bits_of (bit_and v (c.registers r)))
+act (SubTo m r) c = change c m (λ v. difference_of v (c.registers r))
+act (XorTo m r) c = change c m (λ v. bits_of (bit_xor v (c.registers r)))
+act (CmpTo m r) c = compare c m (λ v. difference_of v (c.registers r))
+act (AddFrom r m) c = gather c r m (λ v. sum_of (c.registers r) v)
+act (OrFrom r m) c = gather c r m (λ v. bits_of (bit_or (c.registers r) v))
+act (AndFrom r m) c = gather c r m (λ v. bits_of (bit_and (c.registers r) v))
+act (SubFrom r m) c = gather c r m (λ v. difference_of (c.registers r) v)
+act (XorFrom r m) c = gather c r m (λ v. bits_of (bit_xor (c.registers r) v))
+act (CmpFrom r m) c = compare c m (λ v. difference_of (c.registers r) v)
+act (AddNumber m n) c = change c m (λ v. sum_of v (word n))
+act (OrNumber m n) c = change c m (λ v. bits_of (bit_or v (word n)))
+act (AndNumber m n) c = change c m (λ v. bits_of (bit_and v (word n)))
+act (SubNumber m n) c = change c m (λ v. difference_of v (word n))
+act (XorNumber m n) c = change c m (λ v. bits_of (bit_xor v (word n)))
+act (CmpNumber m n) c = compare c m (λ v. difference_of v (word n))
+act (TestTo m r) c = compare c m (λ v. bits_of (bit_and v (c.registers r)))
+act (Imul r m) c = gather c r m (λ v. product_of (c.registers r) v)
+act (Neg m) c = change c m (λ v. difference_of 0 v)
+act (Idiv m) c = when_ok (load c m) (divide c)
+act Cqo c = Ok (with_register 2 (sign_word (c.registers 0)) c)
+act (Shl m k) c = change c m (λ v. shifted (v * 2 ^ k % 2 ^ 64))
+act (Shr m k) c = change c m (λ v. shifted (v / 2 ^ k))
+act (Sar m k) c = change c m (λ v. shifted (shift_right_signed v k))
+act (Jump d) c = Ok (with_place (add64 c.place (word d)) c)
+act (JumpTo m) c = when_ok (load c m) (λ v. Ok (with_place v c))
+act (JumpIf n d) c = jump_if c d (condition c.flags n)
+act Syscall c = Err (Kernel (c.registers 0))
+
+-- ---- the kernel
+
+abbrev pub rest_of : {A : Type 0} → List A → List A
+rest_of [] = []
+rest_of (x ∷ xs) = xs
+
+-- After a write rax has the answer, rcx and r11 have the next two spare words, or 0, every flag is
+-- unknown, and the bytes taken have joined the output.
+abbrev pub after_write : State → ℕ → ℕ → List ℕ → List Answer → State
+after_write s next rax taken left =
+    record {
+      core = record {
+        registers = set_register (set_register (set_register s.core.registers 0 rax) 1 (head_or_0 s.spare)) 11 (head_or_0 (rest_of s.spare));
+        flags = unknown_flags;
+        place = next;
+        segments = s.core.segments;
+      };
+      output = s.output ++ taken;
+      answers = left;
+      spare = rest_of (rest_of s.spare);
+    }
+
+-- A piece against the next answer: as many bytes as it names, at most all; minus 5, which is an input or
+-- output error; and past the last answer the whole piece.
+abbrev pub answered : State → ℕ → List ℕ → List Answer → State
+answered s next piece [] = after_write s next (length piece) piece []
+answered s next piece (Took k ∷ left) = after_write s next (min k (length piece)) (take (min k (length piece)) piece) left
+answered s next piece (Failed ∷ left) = after_write s next (2 ^ 64 - 5) [] left
+
+abbrev pub piece_written : State → ℕ → ℕ → Option (List ℕ) → Progress
+piece_written s next n None = Stuck (Kernel (s.core.registers 0)) s
+piece_written s next n (Some bs) = Runs (answered s next (take n bs) s.answers)
+
+-- `write` of n bytes from rsi on. No bytes have to lie anywhere, and use no answer.
+abbrev pub write_row : State → ℕ → ℕ → Progress
+write_row s next zero = Runs (after_write s next 0 [] s.answers)
+write_row s next (suc n) = piece_written s next (suc n) (bytes_from (λ g. g.readable) s.core.segments (s.core.registers 6) (suc n))
+
+-- rax 60 exits with the low byte of rdi; rax 1 with rdi 1 writes; nothing else has a row.
+abbrev pub kernel : State → ℕ → Progress
+kernel s next =
+    cond (s.core.registers 0 == 60) (Exited (s.core.registers 7 % 256) s.output)
+    (cond ((s.core.registers 0 == 1) && (s.core.registers 7 == 1)) (write_row s next (s.core.registers 2))
+    (Stuck (Kernel (s.core.registers 0)) s))
+
+-- ---- steps
+
+abbrev pub with_core : State → Core → State
+with_core s c = record { core = c; output = s.output; answers = s.answers; spare = s.spare }
+
+abbrev pub moved : State → Result Core StuckCause → Progress
+moved s (Ok c) = Runs (with_core s c)
+moved s (Err cause) = Stuck cause s
+
+-- One instruction in a state, where `next` is the address after it.
+abbrev pub perform : Insn → ℕ → State → Progress
+perform Syscall next s = kernel s next
+perform i next s = moved s (act i (with_place next s.core))
+
+-- The instruction at an address, which lies in one executable segment, and its length.
+abbrev pub fetch : List Segment → ℕ → Option (Insn × ℕ)
+fetch gs p = when_some (bytes_from (λ g. g.executable) gs p 1) decode
+
+abbrev pub fetched : State → Option (Insn × ℕ) → Progress
+fetched s None = Stuck Fetch s
+fetched s (Some p) = perform p.0 (s.core.place + p.1) s
+
+abbrev pub step : State → Progress
+step s = fetched s (fetch s.core.segments s.core.place)
+
+abbrev pub go_on : Progress → (State → Progress) → Progress
+go_on (Runs s) f = f s
+go_on (Exited status output) f = Exited status output
+go_on (Stuck cause s) f = Stuck cause s
+
+-- The bounded run: what a machine has come to after at most n steps.
+abbrev pub mach : ℕ → State → Progress
+mach zero s = Runs s
+mach (suc n) s = go_on (step s) (mach n)

@@ -1,0 +1,9 @@
+//! The instructions of x86-64 that compiled programs use: what each one is, how it is spelled, and
+//! what a machine does on it.
+#![tactic(auto)]
+
+mod insn;
+mod machine;
+
+pub use insn::{Arg, Insn};
+pub use machine::{Flags, Regs, StuckCause};
