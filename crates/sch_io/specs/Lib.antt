@@ -1,0 +1,5 @@
+pub mod Answers
+pub mod Counters
+pub mod Files
+pub mod Puts
+pub mod Told
