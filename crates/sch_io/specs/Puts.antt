@@ -11,3 +11,7 @@ pub record Puts (piece : List ℕ) (answers : List Answer) (bytes bytes' : Optio
   pub adds : Tells bytes bytes' (λ before after. after ≡ before ++ (put piece answers).taken)
   pub uses : Tells left left' (λ before after. (answers ≡ before) × (after ≡ (put piece answers).left))
   pub ends : whole ≡ (put piece answers).whole
+
+-- The outlet has met a put of the piece, against some answers.
+abbrev pub HasPut : List ℕ → Option (List ℕ) → Option (List ℕ) → Option (List Answer) → Option (List Answer) → Bool → Type 0
+HasPut piece bytes bytes' left left' whole = (answers : List Answer) × Puts piece answers bytes bytes' left left' whole

@@ -3,8 +3,18 @@
 #![tactic(auto)]
 
 mod disk;
+mod host_disk;
+mod host_outlet;
+mod mem_outlet;
+mod null_outlet;
 mod outlet;
+mod put;
 
 pub use disk::{Disk, DiskRead, Failed};
+pub use host_disk::HostDisk;
+pub use host_outlet::StdOutlet;
+pub use mem_outlet::MemOutlet;
+pub use null_outlet::NullOutlet;
 pub use outlet::Outlet;
+pub use put::put_all;
 pub use sch_word::Answer;
