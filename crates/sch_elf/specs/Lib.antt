@@ -1,0 +1,4 @@
+pub mod Elf
+pub mod Layout
+pub mod Stands
+pub mod Writing

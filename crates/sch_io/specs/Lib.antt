@@ -1,0 +1,6 @@
+pub mod Answers
+pub mod Counters
+pub mod Files
+pub mod InMemory
+pub mod Puts
+pub mod Told
