@@ -1,2 +1,3 @@
 pub mod Thin
+pub mod ThinCode
 pub mod ThinForms

@@ -9,6 +9,7 @@ use Rattle.std.specs.Fmt.{signed_decimal}
 use Rattle.std.specs.List.{fold, list_all}
 use Rattle.sch_word.specs.declared.answer.Answer.{Answer}
 use Rattle.sch_word.specs.Put.{Put, put}
+use Rattle.sch_insn.specs.Behaves.{Ending}
 
 -- ---- the grammar
 
@@ -93,11 +94,6 @@ pub data IsThin : List ℕ → List (List ℕ) → Type 0 where
       Form piece text rest → IsThin rest pieces → IsThin text (piece ∷ pieces)
 
 -- ---- the meaning
-
--- How a program ended: what it put out, and its exit status.
-pub record Ending : Type 0 where
-  pub output : List ℕ
-  pub status : ℕ
 
 -- The pieces are put one after the other. The end is 0, or 74 at the first put that fails.
 abbrev pub puts : List (List ℕ) → List Answer → Ending
