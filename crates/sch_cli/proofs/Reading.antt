@@ -55,11 +55,11 @@ after-stops p (x ∷ xs) =
     (λ failed. λ byte more e. ap p (sym (first_same x byte xs more (sym (after-no p x xs failed) ∙ e))) ∙ failed)
     (by_test (p x))
 
-and_first : (a b : Bool) → IsTrue (a && b) → a ≡ true
+pub and_first : (a b : Bool) → IsTrue (a && b) → a ≡ true
 and_first true b e = refl
 and_first false b e = e
 
-and_second : (a b : Bool) → IsTrue (a && b) → b ≡ true
+pub and_second : (a b : Bool) → IsTrue (a && b) → b ≡ true
 and_second true b e = e
 and_second false b e = cc
 

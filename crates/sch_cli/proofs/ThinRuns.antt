@@ -141,7 +141,7 @@ front_at : (segments : List Segment) (p : ℕ) (a b : List Insn) → HasAt segme
 front_at segments p [] b h = tt
 front_at segments p (i ∷ a) b h = (h.0, front_at segments (p + length (spelling i)) a b h.1)
 
-length-pieces_code : (pieces : List (List ℕ)) (behind a : ℕ) → length (flat_map spelling (pieces_code behind a pieces)) ≡ 16 + 26 * length pieces
+pub length-pieces_code : (pieces : List (List ℕ)) (behind a : ℕ) → length (flat_map spelling (pieces_code behind a pieces)) ≡ 16 + 26 * length pieces
 length-pieces_code [] behind a = refl
 length-pieces_code (piece ∷ pieces) behind a = let more = length-pieces_code pieces (behind + 26) (a + length piece) in omega arith
 
@@ -162,17 +162,17 @@ program_behaves pieces small =
     let few = small.few in
     let short = small.short in
     let text = text_memory pieces in
-    let data = data_memory pieces in
-    let segments = text ∷ data ∷ [] in
+    let pool = data_memory pieces in
+    let segments = text ∷ pool ∷ [] in
     let tail = pieces_code 60 data_address pieces in
     let p : ℕ = text_address + 5 in
     let size : length text.bytes ≡ 81 + 26 * length pieces = let z = length-pieces_code pieces 60 data_address in let w = ap length (append-nil (flat_map spelling (program_code pieces))) in omega arith in
     let valid : AllValid (program_code pieces) = (fits_pos 60 (omega arith), both_valid write_loop tail write_loop_valid (pieces_valid pieces 60 data_address (omega arith) (omega arith))) in
-    let h : HasAt segments text_address (program_code pieces) = has_all [] (data ∷ []) text (program_code pieces) [] [] tt refl refl valid in
+    let h : HasAt segments text_address (program_code pieces) = has_all [] (pool ∷ []) text (program_code pieces) [] [] tt refl refl valid in
     let loop : HasAt segments p write_loop = front_at segments p write_loop tail h.1 in
     let code : HasAt segments (p + 60) tail = h.1.1.1.1.1.1.1.1.1.1.1.1.1 in
-    let apart : ApartFrom data (text ∷ []) = (inr (omega (arith, size)), tt) in
-    let stand : StandAt segments data_address pieces = stand_all (text ∷ []) data pieces [] data_address apart refl refl refl small.full in
+    let apart : ApartFrom pool (text ∷ []) = (inr (omega (arith, size)), tt) in
+    let stand : StandAt segments data_address pieces = stand_all (text ∷ []) pool pieces [] data_address apart refl refl refl small.full in
     behaves text_address segments (puts pieces)
     (λ g answers.
     let s0 = start text_address segments g answers in

@@ -2,6 +2,7 @@
 use Rattle.std.specs.Prelude.{ℕ, ◌+◌, ◌*◌, ◌^◌, ◌<◌, ◌≤◌, List, [], ◌∷◌, ◌++◌, length, true, false, ℤ, pos, negsuc}
 use Rattle.std.specs.List.{flat_map}
 use Rattle.sch_word.specs.Memory.{Segment}
+use Rattle.sch_elf.specs.declared.image.Segment as elf
 use Rattle.sch_insn.specs.Spelling.{spelling}
 use Rattle.sch_insn.specs.declared.insn.Arg.TheVariants.{Reg, Rip}
 use Rattle.sch_insn.specs.declared.insn.Insn.{Insn}
@@ -83,3 +84,10 @@ pub record IsSmall (pieces : List (List ℕ)) : Type 0 where
   pub full : AreFull pieces
   pub few : length pieces ≤ 2 ^ 20
   pub short : length (joined pieces) ≤ 20 * 2 ^ 20
+
+-- the segments of an image that holds the code and the pieces
+abbrev pub text_segment : List ℕ → elf.Segment
+text_segment bytes = record { address = text_address; read = true; write = false; execute = true; bytes = bytes; zeros = 0 }
+
+abbrev pub data_segment : List ℕ → elf.Segment
+data_segment bytes = record { address = data_address; read = true; write = true; execute = false; bytes = bytes; zeros = 0 }

@@ -1,4 +1,5 @@
 //! Thin programs: forms that print numbers and line feeds.
+mod assemble;
 mod read;
 
 /// One form of a thin program.
