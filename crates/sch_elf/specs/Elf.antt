@@ -1,6 +1,6 @@
 -- The headers of an ELF-64 file (ELF-64 Object File Format, version 1.5, "File header" and "Program
 -- header"; System V ABI, AMD64 supplement). Numbers have their lowest byte first.
-use Rattle.std.specs.Prelude.{◌≡◌, ℕ, zero, suc, ◌+◌, ◌*◌, ◌==◌, List, [], ◌∷◌, Bool, drop}
+use Rattle.std.specs.Prelude.{ℕ, zero, suc, ◌+◌, ◌*◌, ◌==◌, List, [], ◌∷◌, Bool, drop}
 use Rattle.byteorder.specs.Endian.{little_number}
 
 -- the number of so many bytes at a place

@@ -1,5 +1,5 @@
 -- The bytes of an image as they are written.
-use Rattle.std.specs.Prelude.{◌≡◌, ℕ, ◌+◌, ◌-◌, ◌*◌, ◌%◌, Bool, List, [], ◌∷◌, ◌++◌, length, replicate, if◌then◌else◌}
+use Rattle.std.specs.Prelude.{ℕ, ◌+◌, ◌-◌, ◌*◌, ◌%◌, List, [], ◌∷◌, ◌++◌, length, replicate, if◌then◌else◌}
 use Rattle.std.specs.List.{flat_map}
 use Rattle.byteorder.specs.Endian.{little_bytes}
 use Rattle.sch_elf.specs.Elf.{ProgramHeader}
@@ -45,7 +45,7 @@ load offset segment = record {
 
 -- the least offset from `end` on that equals the address modulo 4096
 abbrev pub offset_from : ℕ → ℕ → ℕ
-offset_from end address = end + (address + (4096 - end % 4096)) % 4096
+offset_from end address = end + (address % 4096 + (4096 - end % 4096)) % 4096
 
 -- the headers of the segments, whose bytes are placed from `end` on
 abbrev pub placed : ℕ → List Segment → List ProgramHeader
@@ -68,3 +68,8 @@ abbrev pub image_bytes : Image → List ℕ
 image_bytes image =
     file_header_bytes image.entry (length image.segments)
     ++ (flat_map program_header_bytes (placed (start image.segments) image.segments) ++ contents (start image.segments) image.segments)
+
+-- so many bytes are enough for the contents, gaps included
+abbrev pub need : List Segment → ℕ
+need [] = 0
+need (segment ∷ more) = 4096 + length segment.bytes + need more

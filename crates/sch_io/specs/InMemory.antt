@@ -1,8 +1,37 @@
--- What the outlet in memory tells.
-use Rattle.std.specs.Prelude.{ℕ, List, [], ◌∷◌, Option, Some, None, drop, min, if◌then◌else◌}
+-- What the disk and the outlet in memory tell.
+use Rattle.std.specs.Prelude.{◌≤◌, ◌<◌, ◌==◌, ℕ, List, [], ◌∷◌, Bool, Option, Some, None, drop, min, if◌then◌else◌}
+use Rattle.std.specs.List.{list_any}
 use Rattle.sch_word.specs.declared.answer.Answer.{Answer}
 use Rattle.sch_word.specs.declared.answer.Answer.TheVariants.{Took, Failed}
+use Rattle.sch_io.specs.Files.{Files}
+use Rattle.sch_io.specs.Stored.{files_of}
+use Rattle.sch_io.specs.declared.mem_disk.MemDisk.{MemDisk}
 use Rattle.sch_io.specs.declared.mem_outlet.MemOutlet.{MemOutlet}
+
+abbrev pub held_files : MemDisk → Files
+held_files disk = files_of disk.text.items disk.entries.items
+
+abbrev pub told_files : MemDisk → Option Files
+told_files disk = Some (held_files disk)
+
+-- the numbers of the calls that fail, from 0
+abbrev pub failing_calls : MemDisk → List ℕ
+failing_calls disk = disk.failing.items
+
+-- whether the next call fails by its number
+abbrev pub fails_next : MemDisk → Bool
+fails_next disk = list_any (λ number. number == disk.calls) disk.failing.items
+
+-- how many more bytes of names and contents, and how many more files, may be written
+abbrev pub bytes_left : MemDisk → ℕ
+bytes_left disk = disk.room
+
+abbrev pub files_left : MemDisk → ℕ
+files_left disk = disk.slots
+
+-- a write of so many bytes fits
+abbrev pub HasRoomFor : MemDisk → ℕ → Type 0
+HasRoomFor disk size = (size ≤ bytes_left disk) × (0 < files_left disk)
 
 abbrev pub told_bytes : MemOutlet → Option (List ℕ)
 told_bytes outlet = if outlet.tells then Some outlet.bytes.items else None

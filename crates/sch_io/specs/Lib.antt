@@ -3,4 +3,5 @@ pub mod Counters
 pub mod Files
 pub mod InMemory
 pub mod Puts
+pub mod Stored
 pub mod Told

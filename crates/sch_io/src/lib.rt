@@ -5,6 +5,7 @@
 mod disk;
 mod host_disk;
 mod host_outlet;
+mod mem_disk;
 mod mem_outlet;
 mod null_outlet;
 mod outlet;
@@ -13,6 +14,7 @@ mod put;
 pub use disk::{Disk, DiskRead, Failed};
 pub use host_disk::HostDisk;
 pub use host_outlet::StdOutlet;
+pub use mem_disk::MemDisk;
 pub use mem_outlet::MemOutlet;
 pub use null_outlet::NullOutlet;
 pub use outlet::Outlet;

@@ -1,0 +1,215 @@
+// A disk in memory.
+ghost use Rattle.std.specs.Prelude.{◌≡◌, ◌≤◌, ◌<◌, ◌+◌, ◌++◌, ◌↔◌, ◌⊎◌, [], ◌∷◌, ℕ, List, Some, None, map, length, vec_len, vec_capacity, All, IfOk, IfSome, IsSomeAnd, IsErr, IsErrOf, IsNone, IsOk, IsTrue, OnOk, OnErr};
+ghost use Rattle.std.specs.Option.{option_map};
+ghost use Rattle.std.specs.FinMap.{get, empty};
+ghost use Rattle.sch_io.specs.Counters.{Rose, raised};
+ghost use Rattle.sch_io.specs.Files.{Replaces, Spoils, written};
+ghost use Rattle.sch_io.specs.Stored.{LiesWithin, file_of, files_of};
+ghost use Rattle.sch_io.specs.Told.{Tells};
+
+use crate::disk::{Disk, DiskRead, Failed};
+use sch_word::{Bytes, Mem};
+use std::alloc::Global;
+
+// Where a file lies in the text: its name, and its bytes after it.
+#[derive(Clone, Copy)]
+struct Entry {
+    name_at: usize,
+    bytes_at: usize,
+    end: usize,
+}
+
+// So many files can be written at most.
+const MOST_WRITES: usize = 4096;
+
+/// A disk that holds its files in memory, and tells them. A read of a name that is not there fails, and
+/// so does a write for which there is no room. Some of its calls can be made to fail.
+#[derive(Drop)]
+pub struct MemDisk {
+    text: Vec<u8>,
+    entries: Vec<Entry>,
+    room: usize,
+    slots: usize,
+    failing: Vec<u64>,
+    calls: u64,
+    faults: u64,
+    ghost within: { All (LiesWithin text.items) entries.items },
+    ghost fits: { vec_len text + room ≤ vec_capacity text },
+    ghost has_slots: { vec_len entries + slots ≤ vec_capacity entries },
+}
+
+impl MemDisk {
+    ghost use Rattle.sch_io.specs.InMemory.{HasRoomFor, bytes_left, failing_calls, fails_next, held_files, told_files};
+
+    /// A disk with these files, of which a later one replaces an earlier one of its name, and with room
+    /// for `room` bytes of names and contents that are written. What a replaced file held is not given
+    /// back, and at most 4,096 files can be written. The calls with the numbers `failing` fail; they
+    /// are counted from 0.
+    pub fn new(
+        alloc: Global,
+        files: &[(Bytes, Bytes)],
+        room: u64,
+        failing: &[u64],
+    ) -> Result<MemDisk, Mem>
+        ensures files { IfOk result (λ disk. held_files disk ≡ written empty files.now) }
+        ensures room { IfOk result (λ disk. bytes_left disk ≡ room) }
+        ensures failing { IfOk result (λ disk. failing_calls disk ≡ failing.now) }
+        ensures counts { IfOk result (λ disk. (disk.calls ≡ 0) × (disk.faults ≡ 0)) }
+    {
+        let room = room as usize;
+        let slots = room.saturating_add(1).min(MOST_WRITES);
+        let mut text = Vec::new(alloc);
+        let mut entries = Vec::new(alloc);
+        for (name, bytes) in files {
+            append(&mut text, &mut entries, name.as_slice(), bytes.as_slice())?;
+        }
+        text.reserve(room)?;
+        entries.reserve(slots)?;
+        Ok(MemDisk {
+            text,
+            entries,
+            room,
+            slots,
+            failing: Vec::from_slice(alloc, failing)?,
+            calls: 0,
+            faults: 0,
+        })
+    }
+
+    // Counts a call, and says whether it fails by its number.
+    fn begin(&mut self) -> bool
+        ensures fails { result ≡ fails_next self.old }
+        ensures same { self.new ≡ record self.old { calls = raised self.old.calls } }
+    {
+        let fails = self.failing.contains(&self.calls);
+        self.calls = self.calls.saturating_add(1);
+        fails
+    }
+
+    fn fault(&mut self)
+        ensures same { self.new ≡ record self.old { faults = self.new.faults } }
+        ensures later { self.old.faults ≤ self.new.faults }
+        ensures rose { Rose self.old.faults self.new.faults }
+    {
+        self.faults = self.faults.saturating_add(1);
+    }
+
+    fn has_room(&self, name: &str, bytes: &[u8]) -> bool
+        ensures { IsTrue result ↔ HasRoomFor self.now (length name.now + length bytes.now) }
+    {
+        name.len() <= self.room && bytes.len() <= self.room - name.len() && 0 < self.slots
+    }
+}
+
+impl Disk for MemDisk {
+    ghost use Rattle.sch_io.specs.InMemory.{HasRoomFor, bytes_left, fails_next, held_files, told_files};
+
+    ghost files = { told_files };
+
+    ghost faults = { λ disk. disk.faults };
+
+    ghost calls = { λ disk. disk.calls };
+
+    fn read(&mut self, alloc: Global, name: &str, limit: u64) -> Result<Bytes, DiskRead>
+        ensures unchanged { Tells (told_files self.old) (told_files self.new) (λ before after. after ≡ before) }
+        ensures found { IfOk result (λ bytes. IfSome (told_files self.new) (λ all. get all name.now ≡ Some bytes)) }
+        ensures within { IfOk result (λ bytes. length bytes ≤ limit) }
+        ensures too_large { IsErrOf result DiskRead.TooLarge → IfSome (told_files self.new) (λ all. IsSomeAnd (get all name.now) (λ bytes. limit < length bytes)) }
+        ensures faults { self.old.faults ≤ self.new.faults }
+        ensures failed_only_where_faults_rose { IsErrOf result DiskRead.Failed → Rose self.old.faults self.new.faults }
+        ensures calls { self.new.calls ≡ raised self.old.calls }
+
+        // It fails exactly by its number and at a name that is not there.
+        ensures fails { IsTrue (fails_next self.old) → IsErrOf result DiskRead.Failed }
+        ensures absent { IsNone (get (held_files self.old) name.now) → IsErrOf result DiskRead.Failed }
+        ensures only { IsErrOf result DiskRead.Failed → IsTrue (fails_next self.old) ⊎ IsNone (get (held_files self.old) name.now) }
+    {
+        if self.begin() {
+            self.fault();
+            return Err(DiskRead::Failed);
+        }
+        let Some(entry) = find(&self.text, &self.entries, name.as_bytes()) else {
+            self.fault();
+            return Err(DiskRead::Failed);
+        };
+        let bytes = &self.text[entry.bytes_at..entry.end];
+        if bytes.len() as u64 > limit {
+            return Err(DiskRead::TooLarge);
+        }
+        match Bytes::from_slice(alloc, bytes) {
+            Ok(bytes) => Ok(bytes),
+            Err(Mem) => Err(DiskRead::Memory),
+        }
+    }
+
+    fn write(&mut self, name: &str, bytes: &[u8]) -> Result<(), Failed>
+        ensures ok { OnOk result (Tells (told_files self.old) (told_files self.new) (Replaces name.now bytes.now)) }
+        ensures err { OnErr result (Tells (told_files self.old) (told_files self.new) (Spoils name.now)) }
+        ensures faults { self.old.faults ≤ self.new.faults }
+        ensures failed_only_where_faults_rose { IsErr result → Rose self.old.faults self.new.faults }
+        ensures calls { self.new.calls ≡ raised self.old.calls }
+
+        // It fails exactly by its number and where there is no room.
+        ensures fails { IsTrue (fails_next self.old) → IsErr result }
+        ensures full { IsOk result → HasRoomFor self.old (length name.now + length bytes.now) }
+        ensures succeeds { HasRoomFor self.old (length name.now + length bytes.now) → IsErr result → IsTrue (fails_next self.old) }
+        ensures room { OnOk result (bytes_left self.new + (length name.now + length bytes.now) ≡ bytes_left self.old) }
+    {
+        if self.begin() {
+            self.fault();
+            return Err(Failed);
+        }
+        if !self.has_room(name, bytes) {
+            self.fault();
+            return Err(Failed);
+        }
+        if append(&mut self.text, &mut self.entries, name.as_bytes(), bytes).is_err() {
+            unreachable!();
+        }
+        self.room -= name.len() + bytes.len();
+        self.slots -= 1;
+        Ok(())
+    }
+}
+
+// The last entry of this name.
+fn find(text: &[u8], entries: &[Entry], name: &[u8]) -> Option<Entry>
+    requires { All (LiesWithin text.now) entries.now }
+    ensures within { IfSome result (LiesWithin text.now) }
+    ensures content { get (files_of text.now entries.now) name.now ≡ option_map (λ entry. (file_of text.now entry).1) result }
+{
+    let mut found = None;
+    for entry in entries {
+        if name == &text[entry.name_at..entry.bytes_at] {
+            found = Some(*entry);
+        }
+    }
+    found
+}
+
+// Adds a file at the end. It takes no memory where there is room.
+fn append(
+    text: &mut Vec<u8>,
+    entries: &mut Vec<Entry>,
+    name: &[u8],
+    bytes: &[u8],
+) -> Result<(), Mem>
+    requires { All (LiesWithin text.old.items) entries.old.items }
+    ensures added { OnOk result (map (file_of text.new.items) entries.new.items ≡ map (file_of text.old.items) entries.old.items ++ (name.now, bytes.now) ∷ []) }
+    ensures within { All (LiesWithin text.new.items) entries.new.items }
+    ensures len { OnOk result ((vec_len text.new ≡ vec_len text.old + (length name.now + length bytes.now)) × (vec_len entries.new ≡ vec_len entries.old + 1)) }
+    ensures capacity { (vec_capacity text.old ≤ vec_capacity text.new) × (vec_capacity entries.old ≤ vec_capacity entries.new) }
+    ensures succeeds { vec_len text.old + (length name.now + length bytes.now) ≤ vec_capacity text.old → vec_len entries.old < vec_capacity entries.old → IsOk result }
+{
+    let name_at = text.len();
+    text.extend_from_slice(name)?;
+    let bytes_at = text.len();
+    text.extend_from_slice(bytes)?;
+    let end = text.len();
+    entries.push(Entry {
+        name_at,
+        bytes_at,
+        end,
+    })?;
+    Ok(())
+}
