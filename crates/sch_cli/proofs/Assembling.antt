@@ -7,7 +7,7 @@ use Rattle.sch_elf.specs.Layout.{memory}
 use Rattle.sch_elf.specs.declared.image.Segment.{Segment}
 use Rattle.sch_elf.specs.declared.image.Image.{Image}
 use Rattle.sch_insn.specs.Spelling.{spelling}
-use Rattle.sch_cli.specs.declared.thin.Form.{Form}
+use Rattle.sch_cli.specs.declared.thin.form.Form.{Form}
 use Rattle.sch_cli.specs.ThinForms.{piece_of}
 use Rattle.sch_cli.specs.ThinCode.{exit_code, pieces_code, program_code, joined, data_address, text_memory, data_memory, text_segment, data_segment}
 use Rattle.sch_cli.proofs.ThinRuns.{length-pieces_code}

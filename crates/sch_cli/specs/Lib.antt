@@ -1,3 +1,6 @@
+pub mod Command
+pub mod Compiles
+pub mod Messages
 pub mod Thin
 pub mod ThinCode
 pub mod ThinForms

@@ -1,8 +1,8 @@
 -- The piece that a form prints.
 use Rattle.std.specs.Prelude.{◌≡◌, ℕ, List, [], ◌∷◌, ℤ}
 use Rattle.std.specs.Fmt.{signed_decimal}
-use Rattle.sch_cli.specs.declared.thin.Form.{Form}
-use Rattle.sch_cli.specs.declared.thin.Form.TheVariants.{Newline, Display}
+use Rattle.sch_cli.specs.declared.thin.form.Form.{Form}
+use Rattle.sch_cli.specs.declared.thin.form.Form.TheVariants.{Newline, Display}
 
 abbrev pub piece_of : Form → List ℕ
 piece_of Newline = 10 ∷ []

@@ -6,7 +6,7 @@ ghost use Rattle.sch_elf.specs.Layout.{memory};
 ghost use Rattle.sch_cli.specs.ThinCode.{write_loop, exit_code, piece_code, text_address, data_address, text_memory, data_memory, text_segment, data_segment, IsSmall};
 ghost use Rattle.sch_cli.specs.ThinForms.{piece_of};
 
-use crate::thin::Form;
+use crate::thin::form::Form;
 use itoa::Buffer;
 use sch_code::{Code, encode};
 use sch_elf::{Image, Segment};

@@ -7,7 +7,7 @@ ghost use Rattle.sch_cli.specs.Thin.{is_space, value_of, IsSolid, Space, Token, 
 ghost use Rattle.sch_cli.specs.Thin as thin;
 ghost use Rattle.sch_cli.specs.ThinForms.{piece_of, Shows};
 
-use crate::thin::Form;
+use crate::thin::form::Form;
 use sch_word::{List, Mem};
 use std::alloc::Global;
 

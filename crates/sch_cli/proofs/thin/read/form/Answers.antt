@@ -1,5 +1,5 @@
 use Rattle.std.proofs.Common.{◌≡◌, ℕ, List, Option, Some, None, Bor, MatchOption, codes, ℤ}
-use Rattle.sch_cli.specs.declared.thin.Form.{Form}
+use Rattle.sch_cli.specs.declared.thin.form.Form.{Form}
 use Rattle.sch_cli.specs.Thin as thin
 use Rattle.sch_cli.specs.Thin.{Token, Argument, newline}
 use Rattle.sch_cli.specs.ThinForms.{piece_of, Shows}
