@@ -5,4 +5,5 @@ pub mod Reading
 pub mod Saying
 pub mod Smallness
 pub mod ThinRuns
+pub mod Verdicts
 pub mod WriteLoop

@@ -7,11 +7,16 @@ pub record AreNames (source target : List ℕ) : Type 0 where
   pub target_some : target ≢ []
   pub different : source ≢ target
 
--- `compile NAME NAME2`: the source that is read, and the file that is written.
-pub record IsCompile (words : List (List ℕ)) (source target : List ℕ) : Type 0 where
-  pub are : words ≡ codes "compile" ∷ source ∷ target ∷ []
-  pub names : AreNames source target
+-- the words after the verb
+abbrev pub source_of : List (List ℕ) → List ℕ
+source_of (verb ∷ source ∷ more) = source
+source_of words = []
 
--- It is the only command.
-abbrev pub IsCommand : List (List ℕ) → Type 0
-IsCommand words = (source : List ℕ) × (target : List ℕ) × IsCompile words source target
+abbrev pub target_of : List (List ℕ) → List ℕ
+target_of (verb ∷ source ∷ target ∷ more) = target
+target_of words = []
+
+-- `compile NAME NAME2`, the only command: the source that is read, and the file that is written.
+pub record IsCommand (words : List (List ℕ)) : Type 0 where
+  pub are : words ≡ codes "compile" ∷ source_of words ∷ target_of words ∷ []
+  pub names : AreNames (source_of words) (target_of words)

@@ -1,5 +1,5 @@
 -- What `compile` promises of the source and the file that it writes.
-use Rattle.std.specs.Prelude.{◌≡◌, ◌<◌, ◌≤◌, ◌^◌, ℕ, List, length, IsSomeAnd, Some, Option}
+use Rattle.std.specs.Prelude.{◌≡◌, ◌⊎◌, ◌<◌, ◌≤◌, ◌^◌, ℕ, List, length, IsSomeAnd, Some, Option}
 use Rattle.std.specs.FinMap.{get}
 use Rattle.sch_io.specs.Files.{Files, Replaces}
 use Rattle.sch_io.specs.Told.{Tells}
@@ -26,6 +26,10 @@ pub data HasStatus : List ℕ → ℕ → Type 0 where
   too_long : (text : List ℕ) → source_limit < length text → HasStatus text 7
   not_built : (text : List ℕ) → length text ≤ source_limit → ((pieces : List (List ℕ)) → IsThin text pieces → ⊥) → HasStatus text 11
   built : (text : List ℕ) (pieces : List (List ℕ)) → length text ≤ source_limit → IsThin text pieces → HasStatus text 0
+
+-- a status that is a source's own
+abbrev pub IsVerdict : ℕ → Type 0
+IsVerdict status = (status ≡ 0) ⊎ (status ≡ 7) ⊎ (status ≡ 11)
 
 -- The source, where the disk tells it, is there and is so.
 abbrev pub Source : Option Files → Option Files → List ℕ → (List ℕ → Type 0) → Type 0

@@ -1,6 +1,6 @@
 // Reads the words of a command.
-ghost use Rattle.std.specs.Prelude.{◌≡◌, List, ℕ, map, MatchOption, IsTrue, ◌↔◌, string_bytes};
-ghost use Rattle.sch_cli.specs.Command.{AreNames, IsCommand, IsCompile};
+ghost use Rattle.std.specs.Prelude.{◌≡◌, List, ℕ, map, IfSome, MatchOption, IsTrue, ◌↔◌, string_bytes};
+ghost use Rattle.sch_cli.specs.Command.{AreNames, IsCommand, source_of, target_of};
 
 /// The two names of `compile`.
 #[derive(Clone, Copy)]
@@ -11,7 +11,8 @@ pub struct Names<'a> {
 
 /// The names in the words `compile NAME NAME2`, where they are this command.
 pub fn read_words<'a>(words: &'a [String]) -> Option<Names<'a>>
-    ensures { MatchOption result (¬ IsCommand (map string_bytes words.now)) (λ names. IsCompile (map string_bytes words.now) names.source.now names.target.now) }
+    ensures command { MatchOption result (¬ IsCommand (map string_bytes words.now)) (λ _. IsCommand (map string_bytes words.now)) }
+    ensures names { IfSome result (λ names. (names.source.now ≡ source_of (map string_bytes words.now)) × (names.target.now ≡ target_of (map string_bytes words.now))) }
 {
     let [verb, source, target] = words else {
         return None;

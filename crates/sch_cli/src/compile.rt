@@ -1,0 +1,70 @@
+// The verb `compile`.
+ghost use Rattle.std.specs.Prelude.{◌≡◌, ◌≢◌, ◌≤◌, ◌<◌, ◌+◌, ◌^◌, ◌⊎◌, IsErr};
+ghost use Rattle.sch_io.specs.Counters.{Rose};
+ghost use Rattle.sch_io.specs.Files.{Spoils};
+ghost use Rattle.sch_io.specs.Told.{Tells};
+ghost use Rattle.sch_cli.specs.Compiles.{Compiled, HasStatus, IsVerdict, Source};
+ghost use Rattle.sch_cli.specs.Messages.{Says, line_of};
+
+use crate::command::Names;
+use crate::message::say;
+use crate::thin::build;
+use sch_io::{Disk, DiskRead, Outlet};
+use std::alloc::Global;
+
+const SOURCE_LIMIT: u64 = 1 << 20;
+
+/// Reads the source, and writes the program that it means.
+pub fn compile<D: Disk, E: Outlet>(
+    alloc: Global,
+    source: &str,
+    target: &str,
+    disk: &mut D,
+    err: &mut E,
+) -> u8
+    ensures status { (result ≡ 2) ⊎ (result ≡ 3) ⊎ (result ≡ 10) ⊎ IsVerdict result }
+    ensures verdict { IsVerdict result → Source (D.files disk.old) (D.files disk.new) source.now (λ text. HasStatus text result) }
+    ensures compiled { result ≡ 0 → Tells (D.files disk.old) (D.files disk.new) (Compiled source.now target.now) }
+    ensures read_failed { result ≡ 2 → Rose (D.faults disk.old) (D.faults disk.new) }
+    ensures write_failed { result ≡ 3 → Rose (D.faults disk.old) (D.faults disk.new) }
+    ensures spoiled { result ≡ 3 → Tells (D.files disk.old) (D.files disk.new) (Spoils target.now) }
+    ensures unchanged { result ≢ 0 → result ≢ 3 → Tells (D.files disk.old) (D.files disk.new) (λ before after. after ≡ before) }
+
+    ensures calls { D.calls disk.old < 2 ^ 63 → D.calls disk.new ≤ D.calls disk.old + 2 }
+    ensures calls_at_3 { D.calls disk.old < 2 ^ 63 → result ≡ 3 → D.calls disk.new ≡ D.calls disk.old + 2 }
+    ensures calls_at_refusal { D.calls disk.old < 2 ^ 63 → result ≢ 0 → result ≢ 3 → D.calls disk.new ≤ D.calls disk.old + 1 }
+
+    ensures line { Says (line_of result source.now target.now) (E.bytes err.old) (E.bytes err.new) (E.faults err.old) (E.faults err.new) }
+{
+    let text = match disk.read(alloc, source, SOURCE_LIMIT) {
+        Ok(text) => text,
+        Err(DiskRead::Failed) => {
+            say(err, source, ": read failed\n");
+            return 2;
+        }
+        Err(DiskRead::TooLarge) => {
+            say(err, source, ": limit file\n");
+            return 7;
+        }
+        Err(DiskRead::Memory) => {
+            say(err, "", "out of memory\n");
+            return 10;
+        }
+    };
+    let file = match build(alloc, text.as_slice()) {
+        Ok(Some(file)) => file,
+        Ok(None) => {
+            say(err, source, ": not built\n");
+            return 11;
+        }
+        Err(_) => {
+            say(err, "", "out of memory\n");
+            return 10;
+        }
+    };
+    if disk.write(target, file.as_slice()).is_err() {
+        say(err, target, ": write failed\n");
+        return 3;
+    }
+    0
+}
