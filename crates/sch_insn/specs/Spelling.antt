@@ -141,3 +141,8 @@ IsValid (Jump d) = FitsSigned w32 d
 IsValid (JumpTo m) = IsArg m
 IsValid (JumpIf c d) = IsCondition c × FitsSigned w32 d
 IsValid Syscall = Unit {0}
+
+-- A list of bytes is the spelling of an instruction that there is.
+pub record Spells (i : Insn) (bs : List ℕ) : Type 0 where
+  pub valid : IsValid i
+  pub same : bs ≡ spelling i
