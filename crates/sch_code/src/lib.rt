@@ -8,3 +8,6 @@ mod encoding;
 pub use code::Code;
 pub use decoding::decode;
 pub use encoding::encode;
+
+#[cfg(test)]
+mod tests;

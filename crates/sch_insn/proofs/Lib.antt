@@ -6,3 +6,4 @@ pub mod PrefixCode
 pub mod Steps
 pub mod Growing
 pub mod Placing
+mod Rows
