@@ -1,11 +1,11 @@
 -- Spellings are a prefix code.
 use Rattle.std.specs.Prelude.{ℤ}
-use Rattle.std.proofs.Common.{◌≡◌, ℕ, ◌≤◌, ◌%◌, List, [], ◌∷◌, ◌++◌, length, take, Bool, true, false, cond, ◌==◌, Some, sym, ap, ◌∙◌, arith, length-append, append-nil}
+use Rattle.std.proofs.Common.{◌≡◌, ℕ, zero, suc, ◌≤◌, ◌%◌, List, [], ◌∷◌, ◌++◌, length, take, Bool, true, false, cond, ◌==◌, Some, sym, ap, ◌∙◌, arith, length-append, append-nil}
 use Rattle.sch_insn.specs.declared.insn.Arg.{Arg}
 use Rattle.sch_insn.specs.declared.insn.Arg.TheVariants.{Reg, Base, Base32, Rip}
 use Rattle.sch_insn.specs.declared.insn.Insn.{Insn}
 use Rattle.sch_insn.specs.declared.insn.Insn.TheVariants.{MovTo, MovFrom, MovNumber, MovWord, StoreByte, LoadByte, Lea, AddTo, OrTo, AndTo, SubTo, XorTo, CmpTo, AddFrom, OrFrom, AndFrom, SubFrom, XorFrom, CmpFrom, AddNumber, OrNumber, AndNumber, SubNumber, XorNumber, CmpNumber, TestTo, Imul, Neg, Idiv, Cqo, Shl, Shr, Sar, Jump, JumpTo, JumpIf, Syscall}
-use Rattle.sch_insn.specs.Spelling.{four_bytes, wide, sib, operand, spelling, Spells}
+use Rattle.sch_insn.specs.Spelling.{four_bytes, wide, sib, operand, spelling, Spells, AreBytes}
 use Rattle.sch_insn.specs.Decode.{decode}
 use Rattle.sch_insn.proofs.Reading.{decode_spelling}
 use Rattle.sch_insn.proofs.Back.{Bytes, decode_back}
@@ -103,8 +103,14 @@ spelling_short Syscall = omega arith
 pub spells_short : (i : Insn) (xs : List ℕ) → Spells i xs → length xs ≤ 15
 spells_short i xs a = omega (arith, ap length a.same, spelling_short i)
 
-pub was_spelled : (bs : List ℕ) (i : Insn) (n : ℕ) → Bytes bs → decode bs ≡ Some (i, n) → Spells i (take n bs)
-was_spelled bs i n h e = let s = (decode_back bs h).by (i, n) e in record { valid = s.is; same = s.same }
+-- Bytes, also where the answer past the end is 0.
+below : (bs : List ℕ) → AreBytes bs → Bytes bs
+below [] h k = omega arith
+below (b ∷ bs) h zero = h 0 0 (omega arith)
+below (b ∷ bs) h (suc k) = below bs (λ j d lt. h (suc j) d (omega arith)) k
 
-pub within : (bs : List ℕ) (i : Insn) (n : ℕ) → Bytes bs → decode bs ≡ Some (i, n) → n ≤ length bs
-within bs i n h e = ((decode_back bs h).by (i, n) e).within
+pub was_spelled : (bs : List ℕ) (i : Insn) (n : ℕ) → AreBytes bs → decode bs ≡ Some (i, n) → Spells i (take n bs)
+was_spelled bs i n h e = let s = (decode_back bs (below bs h)).by (i, n) e in record { valid = s.is; same = s.same }
+
+pub within : (bs : List ℕ) (i : Insn) (n : ℕ) → AreBytes bs → decode bs ≡ Some (i, n) → n ≤ length bs
+within bs i n h e = ((decode_back bs (below bs h)).by (i, n) e).within

@@ -1,9 +1,8 @@
 //! The laws of spelling, as the clauses of functions that do nothing.
 
 ghost use Rattle.std.specs.Prelude.{◌≡◌, ℕ, ◌<◌, ◌≤◌, List, [], ◌++◌, length, take, Some};
-ghost use Rattle.std.proofs.Common.{get_or};
 ghost use Rattle.sch_insn.specs.declared.insn.Insn.{Insn};
-ghost use Rattle.sch_insn.specs.Spelling.{spelling, IsValid, Spells};
+ghost use Rattle.sch_insn.specs.Spelling.{spelling, AreBytes, IsValid, Spells};
 ghost use Rattle.sch_insn.specs.Decode.{decode};
 
 /// Each instruction has one spelling, each list of bytes is the spelling of at most one instruction,
@@ -23,6 +22,6 @@ pub fn spellings_are_a_prefix_code()
 /// with its spelling.
 pub fn reading_inverts_spelling()
     ensures reads { (i : Insn) (rest : List ℕ) → IsValid i → decode (spelling i ++ rest) ≡ Some (i, length (spelling i)) }
-    ensures was_spelled { (bs : List ℕ) (i : Insn) (n : ℕ) → ((k : ℕ) → get_or bs k 0 < 256) → decode bs ≡ Some (i, n) → Spells i (take n bs) }
-    ensures within { (bs : List ℕ) (i : Insn) (n : ℕ) → ((k : ℕ) → get_or bs k 0 < 256) → decode bs ≡ Some (i, n) → n ≤ length bs }
+    ensures was_spelled { (bs : List ℕ) (i : Insn) (n : ℕ) → AreBytes bs → decode bs ≡ Some (i, n) → Spells i (take n bs) }
+    ensures within { (bs : List ℕ) (i : Insn) (n : ℕ) → AreBytes bs → decode bs ≡ Some (i, n) → n ≤ length bs }
 {}
