@@ -23,8 +23,11 @@ pub spelled : (bs : List ℕ) (o : Option (Insn × ℕ)) → Bytes bs → o ≡ 
 spelled bs None h e = tt
 spelled bs (Some p) h e = (spelt bs (Some p) h e).same
 
+pub found : (bs : List ℕ) (o : Option (Insn × ℕ)) → o ≡ decode bs → (i : Insn) (rest : List ℕ) → IsValid i → bs ≡ spelling i ++ rest → o ≡ Some (i, length (spelling i))
+found bs o e i rest v s = e ∙ ap decode s ∙ decode_spelling i rest v
+
 pub none : (bs : List ℕ) (o : Option (Insn × ℕ)) → o ≡ decode bs → o ≡ None → (i : Insn) (rest : List ℕ) → IsValid i → bs ≡ spelling i ++ rest → ⊥
 none bs o e n i rest v s =
-    let read : decode bs ≡ Some (i, length (spelling i)) = ap decode s ∙ decode_spelling i rest v in
-    let clash : None ≡ Some (i, length (spelling i)) = sym n ∙ e ∙ read in
+    let p : Insn × ℕ = (i, length (spelling i)) in
+    let clash : None ≡ Some p = sym n ∙ found bs o e i rest v s in
     absurd cc

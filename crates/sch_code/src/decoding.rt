@@ -1,4 +1,4 @@
-ghost use Rattle.std.specs.Prelude.{◌≡◌, ◌≢◌, ◌+◌, ◌++◌, ◌<◌, ◌≤◌, ℕ, List, length, take, IfSome};
+ghost use Rattle.std.specs.Prelude.{◌≡◌, ◌≢◌, ◌+◌, ◌++◌, ◌<◌, ◌≤◌, ℕ, List, length, take, IfSome, Some, None};
 ghost use Rattle.sch_insn.specs.declared.insn.Insn.{Insn};
 ghost use Rattle.sch_insn.specs.Spelling.{in_memory as in_memory_of, spelling, IsValid};
 ghost use Rattle.sch_insn.specs.Decode.{number_of_4, number_of_8, count_of, sib_size, arg_of, operand_of, wide_of, narrow_of, long_of, whole_word_of, rexed_of, escaped_of, is_jump_if as is_jump_if_of, decode as decode_of};
@@ -27,6 +27,7 @@ pub fn decode(bytes: &[u8]) -> Option<(Insn, usize)>
     ensures valid { IfSome result (λ p. IsValid p.0) }
     ensures within { IfSome result (λ p. p.1 ≤ length bytes.now) }
     ensures spelled { IfSome result (λ p. take p.1 bytes.now ≡ spelling p.0) }
+    ensures found { (i : Insn) (rest : List ℕ) → IsValid i → bytes.now ≡ spelling i ++ rest → result ≡ Some (i, length (spelling i)) }
     ensures none { result ≡ None → (i : Insn) (rest : List ℕ) → IsValid i → bytes.now ≢ spelling i ++ rest }
     // the same as an equation, for the machine, whose step reads by `decode`
     ensures read { result ≡ decode_of bytes.now }

@@ -117,7 +117,7 @@ abbrev pub or_access : {A : Type 0} → ℕ → Option A → Result A StuckCause
 or_access a None = Err (Access a)
 or_access a (Some x) = Ok x
 
--- The number in n bytes at an address: the lowest byte first.
+-- The word in the 8 bytes at an address, the lowest byte first, and the number in one byte.
 abbrev pub word_at : List Segment → ℕ → Result ℕ StuckCause
 word_at gs a = when_ok (or_access a (bytes_from (λ g. g.readable) gs a 8)) (λ bs. Ok (from_le_bytes w64 bs))
 
