@@ -2,7 +2,12 @@
 #![tactic(auto)]
 
 mod code;
+mod decoding;
 mod encoding;
 
 pub use code::Code;
+pub use decoding::decode;
 pub use encoding::encode;
+
+#[cfg(test)]
+mod tests;

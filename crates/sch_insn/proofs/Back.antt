@@ -1,4 +1,4 @@
--- What is read was spelled so.
+-- What is read was spelled so: where `decode` answers, the bytes begin with the spelling of its answer.
 use Rattle.std.proofs.Common.{◌≡◌, ◌≢◌, ℕ, zero, suc, ◌+◌, ◌*◌, ◌/◌, ◌%◌, ◌^◌, ◌<◌, ◌≤◌, List, [], ◌∷◌, ◌++◌, length, take, drop, get_or, Bool, true, false, cond, Some, None, refl, sym, ap, ◌∙◌, subst, arith, length-drop, append-nil, nat_lt, ◌==◌, ◌&&◌, lit<}
 use Rattle.std.specs.Prelude.{ℤ, not}
 use Rattle.std.specs.Int.{w32, w64, cast_signed, to_le_bytes, from_le_bytes}
@@ -24,6 +24,7 @@ is_not_eq : (n m : ℕ) → (n == m) ≡ false → n ≢ m
 is_not_eq n m h = grind (arith, nat_tests)
 
 -- ---- numbers
+-- Each element is below 256 (and the answer past the end is 0).
 abbrev pub Bytes : List ℕ → Type 0
 Bytes bs = (i : ℕ) → get_or bs i 0 < 256
 
@@ -47,22 +48,24 @@ small8 a b c d e f g k ha hb hc hd he hf hg hk (suc (suc zero)) = hc
 small8 a b c d e f g k ha hb hc hd he hf hg hk (suc (suc (suc zero))) = hd
 small8 a b c d e f g k ha hb hc hd he hf hg hk (suc (suc (suc (suc i)))) = small4 e f g k he hf hg hk i
 
+-- Four bytes are those of the number.
 record Number (bs : List ℕ) (d : ℤ) : Type 0 where
   pub long : 4 ≤ length bs
   pub same : take 4 bs ≡ four_bytes d
   pub fits : FitsSigned w32 d
 
-record Number64 (bs : List ℕ) (d : ℤ) : Type 0 where
+-- Eight bytes are those of the number.
+record NumberOf8 (bs : List ℕ) (d : ℤ) : Type 0 where
   pub long : 8 ≤ length bs
   pub same : take 8 bs ≡ eight_bytes d
   pub fits : FitsSigned w64 d
 
-number_back : (bs : List ℕ) → Bytes bs → OnAnswer (Number bs) (number_of_4 bs)
-number_back [] h = nothing
-number_back (a ∷ []) h = nothing
-number_back (a ∷ b ∷ []) h = nothing
-number_back (a ∷ b ∷ c ∷ []) h = nothing
-number_back (a ∷ b ∷ c ∷ f ∷ bs) h =
+number_of_4_back : (bs : List ℕ) → Bytes bs → OnAnswer (Number bs) (number_of_4 bs)
+number_of_4_back [] h = nothing
+number_of_4_back (a ∷ []) h = nothing
+number_of_4_back (a ∷ b ∷ []) h = nothing
+number_of_4_back (a ∷ b ∷ c ∷ []) h = nothing
+number_of_4_back (a ∷ b ∷ c ∷ f ∷ bs) h =
     let n = from_le_bytes w32 (a ∷ b ∷ c ∷ f ∷ []) in
     let ha = h 0 in let hb = h 1 in let hc = h 2 in let hf = h 3 in
     let low : n < 2 ^ 32 = omega arith in
@@ -72,16 +75,16 @@ number_back (a ∷ b ∷ c ∷ f ∷ bs) h =
       fits = sfits_to_z (record { fits = low });
     }))
 
-number64_back : (bs : List ℕ) → Bytes bs → OnAnswer (Number64 bs) (number_of_8 bs)
-number64_back [] h = nothing
-number64_back (a ∷ []) h = nothing
-number64_back (a ∷ b ∷ []) h = nothing
-number64_back (a ∷ b ∷ c ∷ []) h = nothing
-number64_back (a ∷ b ∷ c ∷ d ∷ []) h = nothing
-number64_back (a ∷ b ∷ c ∷ d ∷ e ∷ []) h = nothing
-number64_back (a ∷ b ∷ c ∷ d ∷ e ∷ f ∷ []) h = nothing
-number64_back (a ∷ b ∷ c ∷ d ∷ e ∷ f ∷ g ∷ []) h = nothing
-number64_back (a ∷ b ∷ c ∷ d ∷ e ∷ f ∷ g ∷ k ∷ bs) h =
+number_of_8_back : (bs : List ℕ) → Bytes bs → OnAnswer (NumberOf8 bs) (number_of_8 bs)
+number_of_8_back [] h = nothing
+number_of_8_back (a ∷ []) h = nothing
+number_of_8_back (a ∷ b ∷ []) h = nothing
+number_of_8_back (a ∷ b ∷ c ∷ []) h = nothing
+number_of_8_back (a ∷ b ∷ c ∷ d ∷ []) h = nothing
+number_of_8_back (a ∷ b ∷ c ∷ d ∷ e ∷ []) h = nothing
+number_of_8_back (a ∷ b ∷ c ∷ d ∷ e ∷ f ∷ []) h = nothing
+number_of_8_back (a ∷ b ∷ c ∷ d ∷ e ∷ f ∷ g ∷ []) h = nothing
+number_of_8_back (a ∷ b ∷ c ∷ d ∷ e ∷ f ∷ g ∷ k ∷ bs) h =
     let n = from_le_bytes w64 (a ∷ b ∷ c ∷ d ∷ e ∷ f ∷ g ∷ k ∷ []) in
     let h0 = h 0 in let h1 = h 1 in let h2 = h 2 in let h3 = h 3 in let h4 = h 4 in let h5 = h 5 in let h6 = h 6 in let h7 = h 7 in
     let low : n < 2 ^ 64 = omega arith in
@@ -92,6 +95,7 @@ number64_back (a ∷ b ∷ c ∷ d ∷ e ∷ f ∷ g ∷ k ∷ bs) h =
     }))
 
 -- ---- operands
+-- So many bytes are what SIB is after ModRM with these low bits.
 record Sib (low : ℕ) (bs : List ℕ) (n : ℕ) : Type 0 where
   pub within : n ≤ length bs
   pub same : take n bs ≡ cond (low == 4) (36 ∷ []) []
@@ -105,6 +109,7 @@ sib_back low (x ∷ bs) =
     (λ _. nothing)))
     (λ e. gives 0 (record { within = omega arith; same = ap (λ t. cond t (36 ∷ []) []) (sym e) }))
 
+-- With ModRM before them, so many bytes are the operand, whatever the register of the form is.
 record Read (mode low hi : ℕ) (bs : List ℕ) (p : Arg × ℕ) : Type 0 where
   pub within : p.1 ≤ length bs
   pub same : (r : ℕ) → (64 * mode + 8 * (r % 8) + low) ∷ take p.1 bs ≡ operand r p.0
@@ -123,7 +128,7 @@ arg_back mode high low bs hm hh hl h =
     (λ e. let m2 = is_eq mode 2 e in
     sequence (sib_size low bs) (λ n en. sequence (number_of_4 (drop n bs)) (λ d ed.
     let s = (sib_back low bs).by n en in
-    let num = (number_back (drop n bs) (dropped n bs h)).by d ed in
+    let num = (number_of_4_back (drop n bs) (dropped n bs h)).by d ed in
     let len = length-drop n bs in
     let in1 = s.within in
     let in2 = num.long in
@@ -140,7 +145,7 @@ arg_back mode high low bs hm hh hl h =
     branch (low == 5)
     (λ e. let l5 = is_eq low 5 e in branch (high == 0)
     (λ z. let h0 = is_eq high 0 z in sequence (number_of_4 bs) (λ d ed.
-    let num = (number_back bs h).by d ed in
+    let num = (number_of_4_back bs h).by d ed in
     gives (Rip d, 4) (record {
       within = num.long;
       same = λ r. let first : 64 * mode + 8 * (r % 8) + low ≡ modrm 0 r 5 = omega arith in ap (λ x. x ∷ take 4 bs) first ∙ ap (λ l. modrm 0 r 5 ∷ l) num.same;
@@ -158,6 +163,7 @@ arg_back mode high low bs hm hh hl h =
       high = hi;
     }))))))
 
+-- From ModRM on, so many bytes are the operand with the register, and REX has their high bits.
 record Operand (r b : ℕ) (bs : List ℕ) (p : ℕ × Arg × ℕ) : Type 0 where
   pub within : p.2 ≤ length bs
   pub same : take p.2 bs ≡ operand p.0 p.1
@@ -188,6 +194,7 @@ operand_back r b (x ∷ bs) hr hb h =
     })))
 
 -- ---- forms with W
+-- Behind the operand, `size` bytes make up the spelling of an instruction with W.
 record Form (op r : ℕ) (m : Arg) (k : ℕ) (bs : List ℕ) (p : Insn × ℕ) : Type 0 where
   pub size : ℕ
   pub total : p.1 ≡ k + size
@@ -195,6 +202,8 @@ record Form (op r : ℕ) (m : Arg) (k : ℕ) (bs : List ℕ) (p : Insn × ℕ) :
   pub same : spelling p.0 ≡ rex 1 r m ∷ op ∷ (operand r m ++ take size bs)
   pub is : IsValid p.0
 
+-- The kinds of rows: nothing more is asked; the register field is a digit of the opcode; a number or a
+-- count follows.
 plain : (i : Insn) (o op r k : ℕ) (m : Arg) (bs : List ℕ) → spelling i ≡ wide o r m → IsValid i → (op == o) ≡ true → OnAnswer (Form op r m k bs) (Some (i, k))
 plain i o op r k m bs e v t = gives (i, k) (record {
   size = 0;
@@ -209,7 +218,7 @@ digit i o d op r k m bs e v t = plain i o op r k m bs (e ∙ ap (λ n. wide o n 
 
 numbered : (form : ℤ → Insn) (o d op r k : ℕ) (m : Arg) (bs : List ℕ) → ((n : ℤ) → spelling (form n) ≡ wide o d m ++ four_bytes n) → ((n : ℤ) → FitsSigned w32 n → IsValid (form n)) → Bytes bs → ((op == o) ≡ true) × ((r == d) ≡ true) → OnAnswer (Form op r m k bs) (with_number form k bs)
 numbered form o d op r k m bs e v h t = sequence (number_of_4 bs) (λ n en.
-    let num = (number_back bs h).by n en in
+    let num = (number_of_4_back bs h).by n en in
     gives (form n, k + 4) (record {
       size = 4;
       total = refl;
@@ -241,6 +250,7 @@ both_true true true e = (refl, refl)
 both_true true false e = absurd cc
 both_true false t e = absurd cc
 
+-- One line for each row.
 wide_back : (op r : ℕ) (m : Arg) (k : ℕ) (bs : List ℕ) → IsArg m → r < 16 → Bytes bs → OnAnswer (Form op r m k bs) (wide_of op r m k bs)
 unfolding wide_of
 wide_back op r m k bs hm hr h =
@@ -275,6 +285,7 @@ wide_back op r m k bs hm hr h =
     nothing))))))))))))))))))))))))))))
 
 -- ---- whole instructions
+-- So many bytes are the spelling of an instruction that there is.
 pub record Spelt (bs : List ℕ) (p : Insn × ℕ) : Type 0 where
   pub within : p.1 ≤ length bs
   pub same : take p.1 bs ≡ spelling p.0
@@ -340,7 +351,7 @@ rexed_back w r b (op ∷ bs) hw hr hb h =
     branch (op / 8 == 23)
     (λ e. let o = is_eq (op / 8) 23 e in branch (r == 0)
     (λ z. let r0 = is_eq r 0 z in sequence (number_of_8 bs) (λ n en.
-    let num = (number64_back bs all).by n en in
+    let num = (number_of_8_back bs all).by n en in
     let in1 = num.long in
     let reg = 8 * b + op % 8 in
     let x0 : 64 + 8 * 1 + 4 * r + b ≡ 72 + reg / 8 = omega arith in
@@ -385,16 +396,16 @@ rexed_back w r b (op ∷ bs) hw hr hb h =
           };
     })))))))
 
-after_back : (bs : List ℕ) → Bytes bs → OnAnswer (Spelt (15 ∷ bs)) (escaped_of bs)
+escaped_back : (bs : List ℕ) → Bytes bs → OnAnswer (Spelt (15 ∷ bs)) (escaped_of bs)
 unfolding escaped_of
-after_back [] h = nothing
-after_back (x ∷ bs) h =
+escaped_back [] h = nothing
+escaped_back (x ∷ bs) h =
     let all = behind x bs h in
     branch (nat_lt (length (x ∷ bs)) 1) (λ _. nothing) (λ _. branch (x == 5)
     (λ e. gives (Syscall, 2) (record { within = omega arith; same = ap (λ z. 15 ∷ z ∷ []) (is_eq x 5 e); is = tt }))
     (λ _. branch ((x / 16 == 8) && not (x == 138) && not (x == 139))
     (λ e. sequence (number_of_4 bs) (λ d ed.
-    let num = (number_back bs all).by d ed in
+    let num = (number_of_4_back bs all).by d ed in
     let in1 = num.long in
     let t = both_true ((x / 16 == 8) && not (x == 138)) (not (x == 139)) e in
     let s = both_true (x / 16 == 8) (not (x == 138)) t.0 in
@@ -427,10 +438,10 @@ decode_back (x ∷ bs) h =
     let first : 64 + 8 * (x / 8 % 2) + 4 * (x / 4 % 2) + x % 2 ≡ x = omega arith in
     subst (λ z. OnAnswer (Spelt (z ∷ bs)) (rexed_of (x / 8 % 2) (x / 4 % 2) (x % 2) bs)) first (rexed_back (x / 8 % 2) (x / 4 % 2) (x % 2) bs (omega arith) (omega arith) (omega arith) all))
     (λ _. branch (x == 15)
-    (λ e. let o : 15 ≡ x = sym (is_eq x 15 e) in subst (λ z. OnAnswer (Spelt (z ∷ bs)) (escaped_of bs)) o (after_back bs all))
+    (λ e. let o : 15 ≡ x = sym (is_eq x 15 e) in subst (λ z. OnAnswer (Spelt (z ∷ bs)) (escaped_of bs)) o (escaped_back bs all))
     (λ _. branch (x == 233)
     (λ e. sequence (number_of_4 bs) (λ d ed.
-    let num = (number_back bs all).by d ed in
+    let num = (number_of_4_back bs all).by d ed in
     let in1 = num.long in
     gives (Jump d, 1 + 4) (record { within = omega arith; same = ap (λ z. z ∷ take 4 bs) (is_eq x 233 e) ∙ ap (λ l. 233 ∷ l) num.same; is = num.fits })))
     (λ _. nothing))))

@@ -1,4 +1,4 @@
--- What is spelled is read back.
+-- What is spelled is read back: `decode` of a spelling, whatever follows it, is its instruction.
 use Rattle.std.proofs.Common.{◌≡◌, ◌≢◌, ℕ, suc, ◌+◌, ◌*◌, ◌/◌, ◌%◌, ◌^◌, ◌<◌, ◌≤◌, List, [], ◌∷◌, ◌++◌, length, drop, Bool, true, false, cond, Option, Some, None, refl, sym, ap, ◌∙◌, arith, append_assoc, length-append, nat_lt, ◌==◌, ◌&&◌}
 use Rattle.std.specs.Prelude.{ℤ, not, slice_index}
 use Rattle.std.specs.Int.{w32, w64, cast_signed, cast_unsigned, from_le_bytes}
@@ -15,6 +15,7 @@ use Rattle.sch_insn.specs.Spelling.{four_bytes, eight_bytes, high_bit, modrm, si
 use Rattle.sch_insn.specs.Decode.{when_some, number_of_4, number_of_8, sib_size, arg_of, operand_of, count_of, wide_of, narrow_of, long_of, whole_word_of, full_of, rexed_of, escaped_of, decode}
 use Rattle.sch_insn.proofs.Lists.{drop_1}
 
+-- Tests of numbers, as `decode` makes them.
 not_below : (a b : ℕ) → b ≤ a → nat_lt a b ≡ false
 not_below a b h = grind (arith, nat_tests)
 
@@ -24,30 +25,32 @@ not_eq n m h = grind (arith, nat_tests)
 some_bytes : (x : ℕ) (bs : List ℕ) → nat_lt (length (x ∷ bs)) 1 ≡ false
 some_bytes x bs = not_below (length (x ∷ bs)) 1 (omega arith)
 
-low32 : (d : ℤ) → FitsSigned w32 d → cast_unsigned w32 d < 2 ^ 32
-low32 d fits = omega (arith, ints)
+-- Numbers: their bytes are read as the number.
+word_of_4 : (d : ℤ) → FitsSigned w32 d → cast_unsigned w32 d < 2 ^ 32
+word_of_4 d fits = omega (arith, ints)
 
-low64 : (d : ℤ) → FitsSigned w64 d → cast_unsigned w64 d < 2 ^ 64
-low64 d fits = omega (arith, ints)
+word_of_8 : (d : ℤ) → FitsSigned w64 d → cast_unsigned w64 d < 2 ^ 64
+word_of_8 d fits = omega (arith, ints)
 
-read32 : (d : ℤ) (rest : List ℕ) → FitsSigned w32 d → number_of_4 (four_bytes d ++ rest) ≡ Some d
-read32 d rest fits =
+number_of_4_read : (d : ℤ) (rest : List ℕ) → FitsSigned w32 d → number_of_4 (four_bytes d ++ rest) ≡ Some d
+number_of_4_read d rest fits =
     let n = cast_unsigned w32 d in
     let long : 4 ≤ length (four_bytes d ++ rest) = omega arith in
     let none : Option ℤ = None in
     ap (λ b. cond b none (Some (cast_signed w32 (from_le_bytes w32 (four_bytes d ++ rest))))) (not_below (length (four_bytes d ++ rest)) 4 long)
-    ∙ ap (λ m. Some (cast_signed w32 m)) (from_le_bytes-to_le_bytes_4 n (low32 d fits))
+    ∙ ap (λ m. Some (cast_signed w32 m)) (from_le_bytes-to_le_bytes_4 n (word_of_4 d fits))
     ∙ ap (λ z. Some z) (to_z-of_z w32 d fits)
 
-read64 : (d : ℤ) (rest : List ℕ) → FitsSigned w64 d → number_of_8 (eight_bytes d ++ rest) ≡ Some d
-read64 d rest fits =
+number_of_8_read : (d : ℤ) (rest : List ℕ) → FitsSigned w64 d → number_of_8 (eight_bytes d ++ rest) ≡ Some d
+number_of_8_read d rest fits =
     let n = cast_unsigned w64 d in
     let long : 8 ≤ length (eight_bytes d ++ rest) = omega arith in
     let none : Option ℤ = None in
     ap (λ b. cond b none (Some (cast_signed w64 (from_le_bytes w64 (eight_bytes d ++ rest))))) (not_below (length (eight_bytes d ++ rest)) 8 long)
-    ∙ ap (λ m. Some (cast_signed w64 m)) (from_le_bytes-to_le_bytes_8 n (low64 d fits))
+    ∙ ap (λ m. Some (cast_signed w64 m)) (from_le_bytes-to_le_bytes_8 n (word_of_8 d fits))
     ∙ ap (λ z. Some z) (to_z-of_z w64 d fits)
 
+-- SIB.
 abbrev sib_bytes : Bool → List ℕ
 sib_bytes t = cond t (36 ∷ []) []
 
@@ -61,6 +64,7 @@ sib_of false bs = refl
 sib_read : (b : ℕ) (bs : List ℕ) → sib_size (b % 8) (sib b ++ bs) ≡ Some (length (sib b))
 sib_read b bs = sib_of (b % 8 == 4) bs
 
+-- The parts of ModRM, and a register from its bits.
 mode_part : (mode r b : ℕ) → modrm mode r b / 64 ≡ mode
 mode_part mode r b = omega arith
 
@@ -70,35 +74,37 @@ low_part mode r b = omega arith
 reg_part : (mode r b : ℕ) → 8 * (r / 8) + modrm mode r b / 8 % 8 ≡ r
 reg_part mode r b = omega arith
 
-back : (r : ℕ) → 8 * (r / 8) + r % 8 ≡ r
-back r = omega arith
+register_again : (r : ℕ) → 8 * (r / 8) + r % 8 ≡ r
+register_again r = omega arith
 
-abbrev with_reg : ℕ → Arg × ℕ → Option (ℕ × Arg × ℕ)
-with_reg r p = Some (r, p.0, p.1 + 1)
+abbrev with_operand : ℕ → Arg × ℕ → Option (ℕ × Arg × ℕ)
+with_operand r p = Some (r, p.0, p.1 + 1)
 
-parts_read : (mode r b high : ℕ) (rest : List ℕ) → operand_of (r / 8) high (modrm mode r b ∷ rest) ≡ when_some (arg_of mode high (b % 8) rest) (with_reg r)
+-- ModRM is taken apart.
+parts_read : (mode r b high : ℕ) (rest : List ℕ) → operand_of (r / 8) high (modrm mode r b ∷ rest) ≡ when_some (arg_of mode high (b % 8) rest) (with_operand r)
 unfolding operand_of
 parts_read mode r b high rest =
     let x = modrm mode r b in
     let none : Option (ℕ × Arg × ℕ) = None in
-    ap (λ t. cond t none (when_some (arg_of (x / 64) high (x % 8) rest) (with_reg (8 * (r / 8) + x / 8 % 8)))) (some_bytes x rest)
-    ∙ ap (λ m. when_some (arg_of m high (x % 8) rest) (with_reg (8 * (r / 8) + x / 8 % 8))) (mode_part mode r b)
-    ∙ ap (λ m. when_some (arg_of mode high m rest) (with_reg (8 * (r / 8) + x / 8 % 8))) (low_part mode r b)
-    ∙ ap (λ n. when_some (arg_of mode high (b % 8) rest) (with_reg n)) (reg_part mode r b)
+    ap (λ t. cond t none (when_some (arg_of (x / 64) high (x % 8) rest) (with_operand (8 * (r / 8) + x / 8 % 8)))) (some_bytes x rest)
+    ∙ ap (λ m. when_some (arg_of m high (x % 8) rest) (with_operand (8 * (r / 8) + x / 8 % 8))) (mode_part mode r b)
+    ∙ ap (λ m. when_some (arg_of mode high m rest) (with_operand (8 * (r / 8) + x / 8 % 8))) (low_part mode r b)
+    ∙ ap (λ n. when_some (arg_of mode high (b % 8) rest) (with_operand n)) (reg_part mode r b)
 
-one : (n : ℕ) → n + 1 ≡ suc n
-one n = omega arith
+plus_1 : (n : ℕ) → n + 1 ≡ suc n
+plus_1 n = omega arith
 
+-- An operand is read as itself, with its register and its length.
 operand_read : (m : Arg) (r : ℕ) (rest : List ℕ) → IsArg m → operand_of (r / 8) (high_bit m) (operand r m ++ rest) ≡ Some (r, m, length (operand r m))
-operand_read (Reg b) r rest h = parts_read 3 r b (b / 8) rest ∙ ap (λ n. Some (r, Reg n, 1)) (back b)
+operand_read (Reg b) r rest h = parts_read 3 r b (b / 8) rest ∙ ap (λ n. Some (r, Reg n, 1)) (register_again b)
 operand_read (Base b) r rest h =
     let none : Option (Arg × ℕ) = None in
     let bs = sib b ++ rest in
     parts_read 0 r b (b / 8) bs
-    ∙ ap (λ t. when_some (cond t (cond ((b / 8) == 0) (when_some (number_of_4 bs) (λ d. Some (Rip d, 4))) none) (when_some (sib_size (b % 8) bs) (λ n. Some (Base (8 * (b / 8) + b % 8), n)))) (with_reg r)) (not_eq (b % 8) 5 h.1)
-    ∙ ap (λ o. when_some (when_some o (λ n. Some (Base (8 * (b / 8) + b % 8), n))) (with_reg r)) (sib_read b rest)
-    ∙ ap (λ n. Some (r, Base n, length (sib b) + 1)) (back b)
-    ∙ ap (λ n. Some (r, Base b, n)) (one (length (sib b)))
+    ∙ ap (λ t. when_some (cond t (cond ((b / 8) == 0) (when_some (number_of_4 bs) (λ d. Some (Rip d, 4))) none) (when_some (sib_size (b % 8) bs) (λ n. Some (Base (8 * (b / 8) + b % 8), n)))) (with_operand r)) (not_eq (b % 8) 5 h.1)
+    ∙ ap (λ o. when_some (when_some o (λ n. Some (Base (8 * (b / 8) + b % 8), n))) (with_operand r)) (sib_read b rest)
+    ∙ ap (λ n. Some (r, Base n, length (sib b) + 1)) (register_again b)
+    ∙ ap (λ n. Some (r, Base b, n)) (plus_1 (length (sib b)))
 operand_read (Base32 b d) r rest h =
     let bs = sib b ++ (four_bytes d ++ rest) in
     let far : ℕ → List ℕ → Option (Arg × ℕ) = λ n more. when_some (number_of_4 more) (λ d. Some (Base32 (8 * (b / 8) + b % 8) d, n + 4)) in
@@ -106,14 +112,14 @@ operand_read (Base32 b d) r rest h =
     let size : k + 4 + 1 ≡ length (operand r (Base32 b d)) = omega (arith, length-append (sib b) (four_bytes d)) in
     ap (λ l. operand_of (r / 8) (b / 8) (modrm 2 r b ∷ l)) (append_assoc (sib b) (four_bytes d) rest)
     ∙ parts_read 2 r b (b / 8) bs
-    ∙ ap (λ o. when_some (when_some o (λ n. far n (drop n bs))) (with_reg r)) (sib_read b (four_bytes d ++ rest))
-    ∙ ap (λ more. when_some (far k more) (with_reg r)) (drop_at (sib b) (four_bytes d ++ rest) k refl)
-    ∙ ap (λ o. when_some (when_some o (λ d. Some (Base32 (8 * (b / 8) + b % 8) d, k + 4))) (with_reg r)) (read32 d rest h.1)
-    ∙ ap (λ n. Some (r, Base32 n d, k + 4 + 1)) (back b)
+    ∙ ap (λ o. when_some (when_some o (λ n. far n (drop n bs))) (with_operand r)) (sib_read b (four_bytes d ++ rest))
+    ∙ ap (λ more. when_some (far k more) (with_operand r)) (drop_at (sib b) (four_bytes d ++ rest) k refl)
+    ∙ ap (λ o. when_some (when_some o (λ d. Some (Base32 (8 * (b / 8) + b % 8) d, k + 4))) (with_operand r)) (number_of_4_read d rest h.1)
+    ∙ ap (λ n. Some (r, Base32 n d, k + 4 + 1)) (register_again b)
     ∙ ap (λ n. Some (r, Base32 b d, n)) size
 operand_read (Rip d) r rest h =
     parts_read 0 r 5 0 (four_bytes d ++ rest)
-    ∙ ap (λ o. when_some (when_some o (λ d. Some (Rip d, 4))) (with_reg r)) (read32 d rest h)
+    ∙ ap (λ o. when_some (when_some o (λ d. Some (Rip d, 4))) (with_operand r)) (number_of_4_read d rest h)
 
 high_below : (m : Arg) → IsArg m → high_bit m < 2
 high_below (Reg b) h = omega arith
@@ -121,11 +127,12 @@ high_below (Base b) h = omega (arith, h.0)
 high_below (Base32 b d) h = omega (arith, h.0)
 high_below (Rip d) h = omega arith
 
-second : {A : Type 0} (a b c : Bool) (u v w : A) → a ≡ false → b ≡ true → c ≡ true → cond a u (cond (b && c) v w) ≡ v
-second a b c u v w p q r = rw (p, q, r) refl
+-- REX is read as its bits, and what follows is read with them.
+second_branch : {A : Type 0} (a b c : Bool) (u v w : A) → a ≡ false → b ≡ true → c ≡ true → cond a u (cond (b && c) v w) ≡ v
+second_branch a b c u v w p q r = rw (p, q, r) refl
 
-is : (n m : ℕ) → n ≡ m → (n == m) ≡ true
-is n m h = grind (arith, nat_tests)
+equal : (n m : ℕ) → n ≡ m → (n == m) ≡ true
+equal n m h = grind (arith, nat_tests)
 
 rex_read : (w r high : ℕ) (rest : List ℕ) → w < 2 → r < 16 → high < 2 → decode ((64 + 8 * w + 4 * (r / 8) + high) ∷ rest) ≡ rexed_of w (r / 8) high rest
 rex_read w r high rest hw hr hh =
@@ -135,7 +142,7 @@ rex_read w r high rest hw hr hh =
     let e1 : x / 8 % 2 ≡ w = omega arith in
     let e2 : x / 4 % 2 ≡ r / 8 = omega arith in
     let e3 : x % 2 ≡ high = omega arith in
-    second (nat_lt (length (x ∷ rest)) 1) (x / 16 == 4) (x / 2 % 2 == 0) _ _ _ (some_bytes x rest) (is (x / 16) 4 a) (is (x / 2 % 2) 0 m)
+    second_branch (nat_lt (length (x ∷ rest)) 1) (x / 16 == 4) (x / 2 % 2 == 0) _ _ _ (some_bytes x rest) (equal (x / 16) 4 a) (equal (x / 2 % 2) 0 m)
     ∙ ap (λ n. rexed_of n (x / 4 % 2) (x % 2) rest) e1
     ∙ ap (λ n. rexed_of w n (x % 2) rest) e2
     ∙ ap (λ n. rexed_of w (r / 8) n rest) e3
@@ -144,8 +151,9 @@ full_read : (r high op : ℕ) (rest : List ℕ) → rexed_of 1 r high (op ∷ re
 unfolding rexed_of
 full_read r high op rest = let none : Option (Insn × ℕ) = None in ap (λ b. cond b none (full_of r high (op ∷ rest))) (some_bytes op rest)
 
-last : {A : Type 0} (a b c : Bool) (u v w x : A) → a ≡ false → b ≡ false → c ≡ false → cond a u (cond b v (cond c w x)) ≡ x
-last a b c u v w x p q r = rw (p, q, r) refl
+-- The forms with W and an opcode of one byte.
+last_branch : {A : Type 0} (a b c : Bool) (u v w x : A) → a ≡ false → b ≡ false → c ≡ false → cond a u (cond b v (cond c w x)) ≡ x
+last_branch a b c u v w x p q r = rw (p, q, r) refl
 
 wide_read : (op : ℕ) (m : Arg) (r : ℕ) (rest : List ℕ) → (op / 8 == 23) ≡ false → (op == 153) ≡ false → (op == 15) ≡ false → IsArg m → r < 16 → decode (wide op r m ++ rest) ≡ wide_of op r m (length (operand r m) + 2) rest
 wide_read op m r rest e1 e2 e3 h hr =
@@ -153,7 +161,7 @@ wide_read op m r rest e1 e2 e3 h hr =
     let k = length (operand r m) in
     rex_read 1 r (high_bit m) (op ∷ bs) (omega arith) hr (high_below m h)
     ∙ full_read (r / 8) (high_bit m) op bs
-    ∙ last (op / 8 == 23) (op == 153) (op == 15) _ _ _ _ e1 e2 e3
+    ∙ last_branch (op / 8 == 23) (op == 153) (op == 15) _ _ _ _ e1 e2 e3
     ∙ ap (λ o. when_some o (λ p. wide_of op p.0 p.1 (p.2 + 2) (drop (p.2 + 1) (op ∷ bs)))) (operand_read m r rest h)
     ∙ ap (λ l. wide_of op r m (k + 2) l) (drop_1 k op bs ∙ drop_at (operand r m) rest k refl)
 
@@ -163,12 +171,14 @@ answer i n = Some (i, n)
 sized : (i : Insn) {a b : ℕ} → a ≡ b → answer i a ≡ answer i b
 sized i e = ap (answer i) e
 
-two : (n : ℕ) → n + 2 ≡ suc (suc n)
-two n = omega arith
+-- Lengths.
+plus_2 : (n : ℕ) → n + 2 ≡ suc (suc n)
+plus_2 n = omega arith
 
-three : (n : ℕ) → n + 3 ≡ suc (suc (suc n))
-three n = omega arith
+plus_3 : (n : ℕ) → n + 3 ≡ suc (suc (suc n))
+plus_3 n = omega arith
 
+-- A form that ends with a number of four bytes, and one that ends with a count.
 numbered : (i : Insn) (op d : ℕ) (m : Arg) (n : ℤ) (rest : List ℕ) → spelling i ≡ wide op d m ++ four_bytes n → (op / 8 == 23) ≡ false → (op == 153) ≡ false → (op == 15) ≡ false → d < 16 → IsArg m → FitsSigned w32 n → wide_of op d m (length (operand d m) + 2) (four_bytes n ++ rest) ≡ Some (i, length (operand d m) + 2 + 4) → decode (spelling i ++ rest) ≡ Some (i, length (spelling i))
 numbered i op d m n rest s e1 e2 e3 low h fits go =
     let size : length (operand d m) + 2 + 4 ≡ length (wide op d m ++ four_bytes n) = omega (arith, length-append (wide op d m) (four_bytes n)) in
@@ -196,42 +206,44 @@ counted i d m k rest s low h go =
     ∙ go
     ∙ sized i (size ∙ ap length (sym s))
 
+-- What begins with 0F.
 escape_read : (x : ℕ) (bs : List ℕ) → decode (15 ∷ x ∷ bs) ≡ escaped_of (x ∷ bs)
 escape_read x bs = let none : Option (Insn × ℕ) = None in ap (λ b. cond b none (escaped_of (x ∷ bs))) (some_bytes 15 (x ∷ bs))
 
 jump_op : (c : ℕ) → c < 16 → c ≢ 10 → c ≢ 11 → (((128 + c) / 16 == 8) && not (128 + c == 138) && not (128 + c == 139)) ≡ true
 jump_op c h a b = grind (arith, nat_tests)
 
+-- The law, one case for each form.
 pub decode_spelling : (i : Insn) (rest : List ℕ) → IsValid i → decode (spelling i ++ rest) ≡ Some (i, length (spelling i))
 unfolding wide_of narrow_of long_of rexed_of escaped_of
-decode_spelling (AddTo m r) rest h = wide_read 1 m r rest refl refl refl h.0 h.1 ∙ sized (AddTo m r) (two (length (operand r m)))
-decode_spelling (OrTo m r) rest h = wide_read 9 m r rest refl refl refl h.0 h.1 ∙ sized (OrTo m r) (two (length (operand r m)))
-decode_spelling (AndTo m r) rest h = wide_read 33 m r rest refl refl refl h.0 h.1 ∙ sized (AndTo m r) (two (length (operand r m)))
-decode_spelling (SubTo m r) rest h = wide_read 41 m r rest refl refl refl h.0 h.1 ∙ sized (SubTo m r) (two (length (operand r m)))
-decode_spelling (XorTo m r) rest h = wide_read 49 m r rest refl refl refl h.0 h.1 ∙ sized (XorTo m r) (two (length (operand r m)))
-decode_spelling (CmpTo m r) rest h = wide_read 57 m r rest refl refl refl h.0 h.1 ∙ sized (CmpTo m r) (two (length (operand r m)))
-decode_spelling (TestTo m r) rest h = wide_read 133 m r rest refl refl refl h.0 h.1 ∙ sized (TestTo m r) (two (length (operand r m)))
-decode_spelling (MovTo m r) rest h = wide_read 137 m r rest refl refl refl h.0 h.1 ∙ sized (MovTo m r) (two (length (operand r m)))
-decode_spelling (AddFrom r m) rest h = wide_read 3 m r rest refl refl refl h.0 h.1 ∙ sized (AddFrom r m) (two (length (operand r m)))
-decode_spelling (OrFrom r m) rest h = wide_read 11 m r rest refl refl refl h.0 h.1 ∙ sized (OrFrom r m) (two (length (operand r m)))
-decode_spelling (AndFrom r m) rest h = wide_read 35 m r rest refl refl refl h.0 h.1 ∙ sized (AndFrom r m) (two (length (operand r m)))
-decode_spelling (SubFrom r m) rest h = wide_read 43 m r rest refl refl refl h.0 h.1 ∙ sized (SubFrom r m) (two (length (operand r m)))
-decode_spelling (XorFrom r m) rest h = wide_read 51 m r rest refl refl refl h.0 h.1 ∙ sized (XorFrom r m) (two (length (operand r m)))
-decode_spelling (CmpFrom r m) rest h = wide_read 59 m r rest refl refl refl h.0 h.1 ∙ sized (CmpFrom r m) (two (length (operand r m)))
-decode_spelling (MovFrom r m) rest h = wide_read 139 m r rest refl refl refl h.0 h.1 ∙ sized (MovFrom r m) (two (length (operand r m)))
-decode_spelling (Lea r m) rest h = wide_read 141 m r rest refl refl refl h.0 h.1 ∙ ap (λ b. cond b (Some (Lea r m, length (operand r m) + 2)) None) h.2 ∙ sized (Lea r m) (two (length (operand r m)))
-decode_spelling (AddNumber m n) rest h = numbered (AddNumber m n) 129 0 m n rest refl refl refl refl (omega arith) h.0 h.1 (ap (λ o. when_some o (λ n. Some (AddNumber m n, length (operand 0 m) + 2 + 4))) (read32 n rest h.1))
-decode_spelling (OrNumber m n) rest h = numbered (OrNumber m n) 129 1 m n rest refl refl refl refl (omega arith) h.0 h.1 (ap (λ o. when_some o (λ n. Some (OrNumber m n, length (operand 1 m) + 2 + 4))) (read32 n rest h.1))
-decode_spelling (AndNumber m n) rest h = numbered (AndNumber m n) 129 4 m n rest refl refl refl refl (omega arith) h.0 h.1 (ap (λ o. when_some o (λ n. Some (AndNumber m n, length (operand 4 m) + 2 + 4))) (read32 n rest h.1))
-decode_spelling (SubNumber m n) rest h = numbered (SubNumber m n) 129 5 m n rest refl refl refl refl (omega arith) h.0 h.1 (ap (λ o. when_some o (λ n. Some (SubNumber m n, length (operand 5 m) + 2 + 4))) (read32 n rest h.1))
-decode_spelling (XorNumber m n) rest h = numbered (XorNumber m n) 129 6 m n rest refl refl refl refl (omega arith) h.0 h.1 (ap (λ o. when_some o (λ n. Some (XorNumber m n, length (operand 6 m) + 2 + 4))) (read32 n rest h.1))
-decode_spelling (CmpNumber m n) rest h = numbered (CmpNumber m n) 129 7 m n rest refl refl refl refl (omega arith) h.0 h.1 (ap (λ o. when_some o (λ n. Some (CmpNumber m n, length (operand 7 m) + 2 + 4))) (read32 n rest h.1))
-decode_spelling (MovNumber m n) rest h = numbered (MovNumber m n) 199 0 m n rest refl refl refl refl (omega arith) h.0 h.1 (ap (λ o. when_some o (λ n. Some (MovNumber m n, length (operand 0 m) + 2 + 4))) (read32 n rest h.1))
+decode_spelling (AddTo m r) rest h = wide_read 1 m r rest refl refl refl h.0 h.1 ∙ sized (AddTo m r) (plus_2 (length (operand r m)))
+decode_spelling (OrTo m r) rest h = wide_read 9 m r rest refl refl refl h.0 h.1 ∙ sized (OrTo m r) (plus_2 (length (operand r m)))
+decode_spelling (AndTo m r) rest h = wide_read 33 m r rest refl refl refl h.0 h.1 ∙ sized (AndTo m r) (plus_2 (length (operand r m)))
+decode_spelling (SubTo m r) rest h = wide_read 41 m r rest refl refl refl h.0 h.1 ∙ sized (SubTo m r) (plus_2 (length (operand r m)))
+decode_spelling (XorTo m r) rest h = wide_read 49 m r rest refl refl refl h.0 h.1 ∙ sized (XorTo m r) (plus_2 (length (operand r m)))
+decode_spelling (CmpTo m r) rest h = wide_read 57 m r rest refl refl refl h.0 h.1 ∙ sized (CmpTo m r) (plus_2 (length (operand r m)))
+decode_spelling (TestTo m r) rest h = wide_read 133 m r rest refl refl refl h.0 h.1 ∙ sized (TestTo m r) (plus_2 (length (operand r m)))
+decode_spelling (MovTo m r) rest h = wide_read 137 m r rest refl refl refl h.0 h.1 ∙ sized (MovTo m r) (plus_2 (length (operand r m)))
+decode_spelling (AddFrom r m) rest h = wide_read 3 m r rest refl refl refl h.0 h.1 ∙ sized (AddFrom r m) (plus_2 (length (operand r m)))
+decode_spelling (OrFrom r m) rest h = wide_read 11 m r rest refl refl refl h.0 h.1 ∙ sized (OrFrom r m) (plus_2 (length (operand r m)))
+decode_spelling (AndFrom r m) rest h = wide_read 35 m r rest refl refl refl h.0 h.1 ∙ sized (AndFrom r m) (plus_2 (length (operand r m)))
+decode_spelling (SubFrom r m) rest h = wide_read 43 m r rest refl refl refl h.0 h.1 ∙ sized (SubFrom r m) (plus_2 (length (operand r m)))
+decode_spelling (XorFrom r m) rest h = wide_read 51 m r rest refl refl refl h.0 h.1 ∙ sized (XorFrom r m) (plus_2 (length (operand r m)))
+decode_spelling (CmpFrom r m) rest h = wide_read 59 m r rest refl refl refl h.0 h.1 ∙ sized (CmpFrom r m) (plus_2 (length (operand r m)))
+decode_spelling (MovFrom r m) rest h = wide_read 139 m r rest refl refl refl h.0 h.1 ∙ sized (MovFrom r m) (plus_2 (length (operand r m)))
+decode_spelling (Lea r m) rest h = wide_read 141 m r rest refl refl refl h.0 h.1 ∙ ap (λ b. cond b (Some (Lea r m, length (operand r m) + 2)) None) h.2 ∙ sized (Lea r m) (plus_2 (length (operand r m)))
+decode_spelling (AddNumber m n) rest h = numbered (AddNumber m n) 129 0 m n rest refl refl refl refl (omega arith) h.0 h.1 (ap (λ o. when_some o (λ n. Some (AddNumber m n, length (operand 0 m) + 2 + 4))) (number_of_4_read n rest h.1))
+decode_spelling (OrNumber m n) rest h = numbered (OrNumber m n) 129 1 m n rest refl refl refl refl (omega arith) h.0 h.1 (ap (λ o. when_some o (λ n. Some (OrNumber m n, length (operand 1 m) + 2 + 4))) (number_of_4_read n rest h.1))
+decode_spelling (AndNumber m n) rest h = numbered (AndNumber m n) 129 4 m n rest refl refl refl refl (omega arith) h.0 h.1 (ap (λ o. when_some o (λ n. Some (AndNumber m n, length (operand 4 m) + 2 + 4))) (number_of_4_read n rest h.1))
+decode_spelling (SubNumber m n) rest h = numbered (SubNumber m n) 129 5 m n rest refl refl refl refl (omega arith) h.0 h.1 (ap (λ o. when_some o (λ n. Some (SubNumber m n, length (operand 5 m) + 2 + 4))) (number_of_4_read n rest h.1))
+decode_spelling (XorNumber m n) rest h = numbered (XorNumber m n) 129 6 m n rest refl refl refl refl (omega arith) h.0 h.1 (ap (λ o. when_some o (λ n. Some (XorNumber m n, length (operand 6 m) + 2 + 4))) (number_of_4_read n rest h.1))
+decode_spelling (CmpNumber m n) rest h = numbered (CmpNumber m n) 129 7 m n rest refl refl refl refl (omega arith) h.0 h.1 (ap (λ o. when_some o (λ n. Some (CmpNumber m n, length (operand 7 m) + 2 + 4))) (number_of_4_read n rest h.1))
+decode_spelling (MovNumber m n) rest h = numbered (MovNumber m n) 199 0 m n rest refl refl refl refl (omega arith) h.0 h.1 (ap (λ o. when_some o (λ n. Some (MovNumber m n, length (operand 0 m) + 2 + 4))) (number_of_4_read n rest h.1))
 decode_spelling (Shl m k) rest h = counted (Shl m k) 4 m k rest refl (omega arith) h.0 (ap (λ o. when_some o (λ n. Some (Shl m n, length (operand 4 m) + 2 + 1))) (count_read k rest h.1))
 decode_spelling (Shr m k) rest h = counted (Shr m k) 5 m k rest refl (omega arith) h.0 (ap (λ o. when_some o (λ n. Some (Shr m n, length (operand 5 m) + 2 + 1))) (count_read k rest h.1))
 decode_spelling (Sar m k) rest h = counted (Sar m k) 7 m k rest refl (omega arith) h.0 (ap (λ o. when_some o (λ n. Some (Sar m n, length (operand 7 m) + 2 + 1))) (count_read k rest h.1))
-decode_spelling (Neg m) rest h = wide_read 247 m 3 rest refl refl refl h (omega arith) ∙ sized (Neg m) (two (length (operand 3 m)))
-decode_spelling (Idiv m) rest h = wide_read 247 m 7 rest refl refl refl h (omega arith) ∙ sized (Idiv m) (two (length (operand 7 m)))
+decode_spelling (Neg m) rest h = wide_read 247 m 3 rest refl refl refl h (omega arith) ∙ sized (Neg m) (plus_2 (length (operand 3 m)))
+decode_spelling (Idiv m) rest h = wide_read 247 m 7 rest refl refl refl h (omega arith) ∙ sized (Idiv m) (plus_2 (length (operand 7 m)))
 decode_spelling (Imul r m) rest h =
     let bs = operand r m ++ rest in
     let none : Option (Insn × ℕ) = None in
@@ -239,7 +251,7 @@ decode_spelling (Imul r m) rest h =
     ∙ full_read (r / 8) (high_bit m) 15 (175 ∷ bs)
     ∙ ap (λ b. cond b none (when_some (operand_of (r / 8) (high_bit m) bs) (λ p. Some (Imul p.0 p.1, p.2 + 3)))) (some_bytes 175 bs)
     ∙ ap (λ o. when_some o (λ p. Some (Imul p.0 p.1, p.2 + 3))) (operand_read m r rest h.0)
-    ∙ sized (Imul r m) (three (length (operand r m)))
+    ∙ sized (Imul r m) (plus_3 (length (operand r m)))
 decode_spelling (LoadByte r m) rest h =
     let bs = operand r m ++ rest in
     let none : Option (Insn × ℕ) = None in
@@ -248,7 +260,7 @@ decode_spelling (LoadByte r m) rest h =
     ∙ ap (λ b. cond b none (when_some (operand_of (r / 8) (high_bit m) bs) (λ p. cond (in_memory p.1) (Some (LoadByte p.0 p.1, p.2 + 3)) none))) (some_bytes 182 bs)
     ∙ ap (λ o. when_some o (λ p. cond (in_memory p.1) (Some (LoadByte p.0 p.1, p.2 + 3)) none)) (operand_read m r rest h.0)
     ∙ ap (λ b. cond b (Some (LoadByte r m, length (operand r m) + 3)) none) h.2
-    ∙ sized (LoadByte r m) (three (length (operand r m)))
+    ∙ sized (LoadByte r m) (plus_3 (length (operand r m)))
 decode_spelling (StoreByte m r) rest h =
     let bs = operand r m ++ rest in
     let none : Option (Insn × ℕ) = None in
@@ -256,14 +268,14 @@ decode_spelling (StoreByte m r) rest h =
     ∙ ap (λ b. cond b none (when_some (operand_of (r / 8) (high_bit m) bs) (λ p. cond (in_memory p.1) (Some (StoreByte p.1 p.0, p.2 + 2)) none))) (some_bytes 136 bs)
     ∙ ap (λ o. when_some o (λ p. cond (in_memory p.1) (Some (StoreByte p.1 p.0, p.2 + 2)) none)) (operand_read m r rest h.0)
     ∙ ap (λ b. cond b (Some (StoreByte m r, length (operand r m) + 2)) none) h.2
-    ∙ sized (StoreByte m r) (two (length (operand r m)))
+    ∙ sized (StoreByte m r) (plus_2 (length (operand r m)))
 decode_spelling (JumpTo m) rest h =
     let bs = operand 4 m ++ rest in
     let none : Option (Insn × ℕ) = None in
     rex_read 0 4 (high_bit m) (255 ∷ bs) (omega arith) (omega arith) (high_below m h)
     ∙ ap (λ b. cond b none (when_some (operand_of (4 / 8) (high_bit m) bs) (λ p. cond (p.0 == 4) (Some (JumpTo p.1, p.2 + 2)) none))) (some_bytes 255 bs)
     ∙ ap (λ o. when_some o (λ p. cond (p.0 == 4) (Some (JumpTo p.1, p.2 + 2)) none)) (operand_read m 4 rest h)
-    ∙ sized (JumpTo m) (two (length (operand 4 m)))
+    ∙ sized (JumpTo m) (plus_2 (length (operand 4 m)))
 decode_spelling (MovWord r n) rest h =
     let op = 184 + r % 8 in
     let high : r / 8 < 2 = omega (arith, h.0) in
@@ -273,14 +285,14 @@ decode_spelling (MovWord r n) rest h =
     let other : Option (Insn × ℕ) = cond (op == 153) (cond (((0 / 8) == 0) && ((r / 8) == 0)) (Some (Cqo, 2)) None) (cond (op == 15) (long_of 0 (r / 8) bs) (when_some (operand_of 0 (r / 8) bs) (λ p. wide_of op p.0 p.1 (p.2 + 2) (drop (p.2 + 1) (op ∷ bs))))) in
     rex_read 1 0 (r / 8) (op ∷ bs) (omega arith) (omega arith) high
     ∙ full_read 0 (r / 8) op bs
-    ∙ ap (λ b. cond b (whole_word_of 0 (8 * (r / 8) + op % 8) bs) other) (is (op / 8) 23 o)
-    ∙ ap (λ o. when_some o (λ n. Some (MovWord (8 * (r / 8) + op % 8) n, 10))) (read64 n rest h.1)
+    ∙ ap (λ b. cond b (whole_word_of 0 (8 * (r / 8) + op % 8) bs) other) (equal (op / 8) 23 o)
+    ∙ ap (λ o. when_some o (λ n. Some (MovWord (8 * (r / 8) + op % 8) n, 10))) (number_of_8_read n rest h.1)
     ∙ ap (λ k. Some (MovWord k n, 10)) same
 decode_spelling Cqo rest h = rex_read 1 0 0 (153 ∷ rest) (omega arith) (omega arith) (omega arith) ∙ full_read 0 0 153 rest
 decode_spelling (Jump d) rest h =
     let none : Option (Insn × ℕ) = None in
     ap (λ b. cond b none (when_some (number_of_4 (four_bytes d ++ rest)) (λ d. Some (Jump d, 1 + 4)))) (some_bytes 233 (four_bytes d ++ rest))
-    ∙ ap (λ o. when_some o (λ d. Some (Jump d, 1 + 4))) (read32 d rest h)
+    ∙ ap (λ o. when_some o (λ d. Some (Jump d, 1 + 4))) (number_of_4_read d rest h)
 decode_spelling (JumpIf c d) rest h =
     let none : Option (Insn × ℕ) = None in
     let x = 128 + c in
@@ -293,7 +305,7 @@ decode_spelling (JumpIf c d) rest h =
     ∙ ap (λ b. cond b none (cond (x == 5) (Some (Syscall, 2)) (cond test jump none))) (some_bytes x bs)
     ∙ ap (λ b. cond b (Some (Syscall, 2)) (cond test jump none)) (not_eq x 5 five)
     ∙ ap (λ b. cond b jump none) (jump_op c h.0.0 h.0.1 h.0.2)
-    ∙ ap (λ o. when_some o (λ d. Some (JumpIf (x % 16) d, 2 + 4))) (read32 d rest h.1)
+    ∙ ap (λ o. when_some o (λ d. Some (JumpIf (x % 16) d, 2 + 4))) (number_of_4_read d rest h.1)
     ∙ ap (λ k. Some (JumpIf k d, 6)) same
 decode_spelling Syscall rest h =
     let none : Option (Insn × ℕ) = None in

@@ -1,13 +1,14 @@
 -- The state of a machine: registers, flags, the address of the next instruction and memory, and the
 -- outside: what it wrote, and what the kernel still has for it.
 -- Source: Intel SDM, volume 1, section 3.4 (basic program execution registers).
-use Rattle.std.specs.Prelude.{ℕ, ◌+◌, ◌-◌, ◌*◌, ◌/◌, ◌%◌, ◌^◌, List, [], ◌∷◌, ◌++◌, length, take, drop, Bool, true, false, cond, ◌&&◌, ◌||◌, not, nat_lt, nat_le, ◌==◌, Option, Some, None, ℤ, Result, Ok, Err, if◌then◌else◌}
+use Rattle.std.specs.Prelude.{slice_index, ℕ, ◌+◌, ◌-◌, ◌*◌, ◌/◌, ◌%◌, ◌^◌, List, [], ◌∷◌, ◌++◌, length, take, drop, Bool, true, false, cond, ◌&&◌, ◌||◌, not, nat_lt, nat_le, ◌==◌, Option, Some, None, ℤ, Result, Ok, Err, if◌then◌else◌}
 use Rattle.std.specs.Int.{w64, cast_unsigned, to_le_bytes, from_le_bytes}
 use Rattle.sch_word.specs.Memory.{Segment}
 use Rattle.sch_word.specs.declared.answer.Answer.{Answer}
 use Rattle.sch_insn.specs.declared.insn.Arg.{Arg}
 use Rattle.sch_insn.specs.declared.insn.Arg.TheVariants.{Reg, Base, Base32, Rip}
 use Rattle.sch_insn.specs.declared.machine.Flags.{Flags}
+use Rattle.sch_insn.specs.declared.machine.Regs.{Regs}
 use Rattle.sch_insn.specs.declared.machine.StuckCause.{StuckCause}
 use Rattle.sch_insn.specs.declared.machine.StuckCause.TheVariants.{Access}
 
@@ -48,6 +49,10 @@ with_place p c = record { registers = c.registers; flags = c.flags; place = p; s
 
 abbrev pub with_segments : List Segment → Core → Core
 with_segments gs c = record { registers = c.registers; flags = c.flags; place = c.place; segments = gs }
+
+-- The words of the type that a program keeps them in.
+abbrev pub registers_of : Regs → (ℕ → ℕ)
+registers_of r = λ k. slice_index r.words k
 
 -- ---- numbers of 64 bits
 
@@ -112,7 +117,7 @@ abbrev pub or_access : {A : Type 0} → ℕ → Option A → Result A StuckCause
 or_access a None = Err (Access a)
 or_access a (Some x) = Ok x
 
--- The number in n bytes at an address: the lowest byte first.
+-- The word in the 8 bytes at an address, the lowest byte first, and the number in one byte.
 abbrev pub word_at : List Segment → ℕ → Result ℕ StuckCause
 word_at gs a = when_ok (or_access a (bytes_from (λ g. g.readable) gs a 8)) (λ bs. Ok (from_le_bytes w64 bs))
 

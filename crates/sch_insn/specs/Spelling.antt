@@ -1,7 +1,7 @@
 -- The one spelling of each instruction, and which instructions there are.
 -- Source: Intel SDM, volume 2: section 2.1 (ModR/M and SIB), 2.2.1 (REX prefixes), and the opcode
 -- column of each mnemonic's page.
-use Rattle.std.specs.Prelude.{◌≡◌, ◌≢◌, ℕ, ◌+◌, ◌*◌, ◌/◌, ◌%◌, ◌<◌, List, [], ◌∷◌, ◌++◌, Bool, true, false, cond, ◌==◌, ℤ, FitsSigned}
+use Rattle.std.specs.Prelude.{◌≡◌, ◌≢◌, ℕ, ◌+◌, ◌*◌, ◌/◌, ◌%◌, ◌<◌, List, [], ◌∷◌, ◌++◌, Bool, true, false, cond, ◌==◌, ℤ, FitsSigned, All}
 use Rattle.std.specs.Int.{w32, w64, cast_unsigned, to_le_bytes}
 use Rattle.sch_insn.specs.declared.insn.Arg.{Arg}
 use Rattle.sch_insn.specs.declared.insn.Arg.TheVariants.{Reg, Base, Base32, Rip}
@@ -141,3 +141,12 @@ IsValid (Jump d) = FitsSigned w32 d
 IsValid (JumpTo m) = IsArg m
 IsValid (JumpIf c d) = IsCondition c × FitsSigned w32 d
 IsValid Syscall = Unit {0}
+
+-- A list of bytes is the spelling of an instruction that there is.
+pub record Spells (i : Insn) (bs : List ℕ) : Type 0 where
+  pub valid : IsValid i
+  pub same : bs ≡ spelling i
+
+-- Each element is a byte.
+abbrev pub AreBytes : List ℕ → Type 0
+AreBytes bs = All (λ b. b < 256) bs

@@ -167,6 +167,8 @@ perform i next s = moved s (act i (with_place next s.core))
 abbrev pub fetch : List Segment → ℕ → Option (Insn × ℕ)
 fetch gs p = when_some (bytes_from (λ g. g.executable) gs p 1) decode
 
+-- What stands behind the instruction is the next place. No segment of an image reaches beyond 2^47, so
+-- this sum never passes 64 bits.
 abbrev pub fetched : State → Option (Insn × ℕ) → Progress
 fetched s None = Stuck Fetch s
 fetched s (Some p) = perform p.0 (s.core.place + p.1) s

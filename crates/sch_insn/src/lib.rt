@@ -3,7 +3,9 @@
 #![tactic(auto)]
 
 mod insn;
+mod laws;
 mod machine;
 
 pub use insn::{Arg, Insn};
+pub use laws::{reading_inverts_spelling, spellings_are_a_prefix_code};
 pub use machine::{Flags, Regs, StuckCause};

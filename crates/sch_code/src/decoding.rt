@@ -1,0 +1,282 @@
+ghost use Rattle.std.specs.Prelude.{◌≡◌, ◌≢◌, ◌+◌, ◌++◌, ◌<◌, ◌≤◌, ℕ, List, length, take, IfSome, Some, None};
+ghost use Rattle.sch_insn.specs.declared.insn.Insn.{Insn};
+ghost use Rattle.sch_insn.specs.Spelling.{in_memory as in_memory_of, spelling, IsValid};
+ghost use Rattle.sch_insn.specs.Decode.{number_of_4, number_of_8, count_of, sib_size, arg_of, operand_of, wide_of, narrow_of, long_of, whole_word_of, rexed_of, escaped_of, is_jump_if as is_jump_if_of, decode as decode_of};
+
+use sch_insn::{Arg, Insn};
+
+/// One row for each form: its opcode, what else must hold, the instruction, and what is read after the
+/// operand, with its size. `$size` bytes stand before that.
+macro_rules! rows {
+    ($op:expr, $bytes:expr, $size:expr; {
+        $($code:pat $(if $test:expr)? => $insn:expr $(, $n:ident = $read:ident + $more:literal)?;)*
+    }) => {
+        match $op {
+            $($code $(if $test)? => {
+                $(let $n = $read($bytes)?;)?
+                Some(($insn, $size $(+ $more)?))
+            })*
+            _ => None,
+        }
+    };
+}
+
+/// The one instruction whose spelling the bytes begin with, and its length. None where they begin with
+/// no spelling.
+pub fn decode(bytes: &[u8]) -> Option<(Insn, usize)>
+    ensures valid { IfSome result (λ p. IsValid p.0) }
+    ensures within { IfSome result (λ p. p.1 ≤ length bytes.now) }
+    ensures spelled { IfSome result (λ p. take p.1 bytes.now ≡ spelling p.0) }
+    ensures found { (i : Insn) (rest : List ℕ) → IsValid i → bytes.now ≡ spelling i ++ rest → result ≡ Some (i, length (spelling i)) }
+    ensures none { result ≡ None → (i : Insn) (rest : List ℕ) → IsValid i → bytes.now ≢ spelling i ++ rest }
+    // the same as an equation, for the machine, whose step reads by `decode`
+    ensures read { result ≡ decode_of bytes.now }
+{
+    read(bytes)
+}
+
+fn read(bytes: &[u8]) -> Option<(Insn, usize)>
+    ensures { result ≡ decode_of bytes.now }
+{
+    if bytes.is_empty() {
+        return None;
+    }
+    let first = bytes[0];
+    if first / 16 == 4 && first / 2 % 2 == 0 {
+        return rexed(first / 8 % 2, first / 4 % 2, first % 2, &bytes[1..]);
+    }
+    if first == 0x0F {
+        return escaped(&bytes[1..]);
+    }
+    rows! { first, &bytes[1..], 1; {
+        0xE9 => Insn::Jump(d), d = number + 4;
+    } }
+}
+
+/// What stands after 0F.
+#[tactic(auto, unfolding(sch_insn::specs::Decode::escaped_of))]
+fn escaped(bytes: &[u8]) -> Option<(Insn, usize)>
+    ensures { result ≡ escaped_of bytes.now }
+{
+    if bytes.is_empty() {
+        return None;
+    }
+    let op = bytes[0];
+    rows! { op, &bytes[1..], 2; {
+        0x05 => Insn::Syscall;
+        _ if is_jump_if(op) => Insn::JumpIf(op % 16, d), d = number + 4;
+    } }
+}
+
+/// 80 to 8F, but 8A and 8B.
+fn is_jump_if(op: u8) -> bool
+    ensures { result ≡ is_jump_if_of op }
+{
+    op / 16 == 8 && op != 0x8A && op != 0x8B
+}
+
+/// What stands after REX with the bits W, R and B.
+#[tactic(auto, unfolding(sch_insn::specs::Decode::rexed_of))]
+fn rexed(w: u8, r: u8, b: u8, bytes: &[u8]) -> Option<(Insn, usize)>
+    requires r { r < 2 }
+    requires b { b < 2 }
+    ensures { result ≡ rexed_of w r b bytes.now }
+{
+    if bytes.is_empty() {
+        return None;
+    }
+    let op = bytes[0];
+    if w == 0 {
+        return narrow(op, r, b, &bytes[1..]);
+    }
+    if op / 8 == 23 {
+        return whole_word(r, 8 * b + op % 8, &bytes[1..]);
+    }
+    if op == 0x99 {
+        if r != 0 || b != 0 {
+            return None;
+        }
+        return Some((Insn::Cqo, 2));
+    }
+    if op == 0x0F {
+        return long(r, b, &bytes[1..]);
+    }
+    let (reg, m, size) = operand(r, b, &bytes[1..])?;
+    wide(op, reg, m, size + 2, &bytes[1 + size..])
+}
+
+fn whole_word(r: u8, register: u8, bytes: &[u8]) -> Option<(Insn, usize)>
+    ensures { result ≡ whole_word_of r register bytes.now }
+{
+    rows! { r, bytes, 2; {
+        0 => Insn::MovWord(register, n), n = number_of_8 + 8;
+    } }
+}
+
+/// The forms without W.
+#[tactic(auto, unfolding(sch_insn::specs::Decode::narrow_of))]
+fn narrow(op: u8, r: u8, b: u8, bytes: &[u8]) -> Option<(Insn, usize)>
+    requires r { r < 2 }
+    requires b { b < 2 }
+    ensures { result ≡ narrow_of op r b bytes.now }
+{
+    let (reg, m, size) = operand(r, b, bytes)?;
+    rows! { op, bytes, size + 2; {
+        0x88 if in_memory(m) => Insn::StoreByte(m, reg);
+        0xFF if reg == 4 => Insn::JumpTo(m);
+    } }
+}
+
+/// The forms with W and an opcode that begins with 0F.
+#[tactic(auto, unfolding(sch_insn::specs::Decode::long_of))]
+fn long(r: u8, b: u8, bytes: &[u8]) -> Option<(Insn, usize)>
+    requires r { r < 2 }
+    requires b { b < 2 }
+    ensures { result ≡ long_of r b bytes.now }
+{
+    if bytes.is_empty() {
+        return None;
+    }
+    let (reg, m, size) = operand(r, b, &bytes[1..])?;
+    rows! { bytes[0], bytes, size + 3; {
+        0xB6 if in_memory(m) => Insn::LoadByte(reg, m);
+        0xAF => Insn::Imul(reg, m);
+    } }
+}
+
+/// The forms with W and an opcode of one byte; `size` bytes stand before what follows the operand.
+#[tactic(auto, unfolding(sch_insn::specs::Decode::wide_of))]
+fn wide(op: u8, r: u8, m: Arg, size: usize, bytes: &[u8]) -> Option<(Insn, usize)>
+    requires { size < 100 }
+    ensures { result ≡ wide_of op r m size bytes.now }
+{
+    rows! { op, bytes, size; {
+        0x01 => Insn::AddTo(m, r);
+        0x03 => Insn::AddFrom(r, m);
+        0x09 => Insn::OrTo(m, r);
+        0x0B => Insn::OrFrom(r, m);
+        0x21 => Insn::AndTo(m, r);
+        0x23 => Insn::AndFrom(r, m);
+        0x29 => Insn::SubTo(m, r);
+        0x2B => Insn::SubFrom(r, m);
+        0x31 => Insn::XorTo(m, r);
+        0x33 => Insn::XorFrom(r, m);
+        0x39 => Insn::CmpTo(m, r);
+        0x3B => Insn::CmpFrom(r, m);
+        0x81 if r == 0 => Insn::AddNumber(m, n), n = number + 4;
+        0x81 if r == 1 => Insn::OrNumber(m, n), n = number + 4;
+        0x81 if r == 4 => Insn::AndNumber(m, n), n = number + 4;
+        0x81 if r == 5 => Insn::SubNumber(m, n), n = number + 4;
+        0x81 if r == 6 => Insn::XorNumber(m, n), n = number + 4;
+        0x81 if r == 7 => Insn::CmpNumber(m, n), n = number + 4;
+        0x85 => Insn::TestTo(m, r);
+        0x89 => Insn::MovTo(m, r);
+        0x8B => Insn::MovFrom(r, m);
+        0x8D if in_memory(m) => Insn::Lea(r, m);
+        0xC1 if r == 4 => Insn::Shl(m, k), k = count + 1;
+        0xC1 if r == 5 => Insn::Shr(m, k), k = count + 1;
+        0xC1 if r == 7 => Insn::Sar(m, k), k = count + 1;
+        0xC7 if r == 0 => Insn::MovNumber(m, n), n = number + 4;
+        0xF7 if r == 3 => Insn::Neg(m);
+        0xF7 if r == 7 => Insn::Idiv(m);
+    } }
+}
+
+fn in_memory(m: Arg) -> bool
+    ensures { result ≡ in_memory_of m }
+{
+    !matches!(m, Arg::Reg(_))
+}
+
+/// The register of the form, the operand, and the bytes that they take from ModRM on.
+#[tactic(auto, unfolding(sch_insn::specs::Decode::operand_of))]
+fn operand(r: u8, b: u8, bytes: &[u8]) -> Option<(u8, Arg, usize)>
+    requires r { r < 2 }
+    requires b { b < 2 }
+    ensures within { IfSome result (λ p. (p.2 ≤ length bytes.now) × (p.2 < 8)) }
+    ensures value { result ≡ operand_of r b bytes.now }
+{
+    if bytes.is_empty() {
+        return None;
+    }
+    let modrm = bytes[0];
+    let reg = 8 * r + modrm / 8 % 8;
+    let (m, size) = arg(modrm / 64, b, modrm % 8, &bytes[1..])?;
+    Some((reg, m, size + 1))
+}
+
+fn arg(mode: u8, high: u8, low: u8, bytes: &[u8]) -> Option<(Arg, usize)>
+    requires high { high < 2 }
+    requires low { low < 8 }
+    ensures within { IfSome result (λ p. (p.1 ≤ length bytes.now) × (p.1 < 7)) }
+    ensures value { result ≡ arg_of mode high low bytes.now }
+{
+    let register = 8 * high + low;
+    if mode == 3 {
+        return Some((Arg::Reg(register), 0));
+    }
+    if mode == 2 {
+        let size = sib(low, bytes)?;
+        let displacement = number(&bytes[size..])?;
+        return Some((Arg::Base32(register, displacement), size + 4));
+    }
+    if mode == 1 {
+        return None;
+    }
+    if low == 5 {
+        if high != 0 {
+            return None;
+        }
+        let displacement = number(bytes)?;
+        return Some((Arg::Rip(displacement), 4));
+    }
+    let size = sib(low, bytes)?;
+    Some((Arg::Base(register), size))
+}
+
+/// How many bytes SIB takes.
+fn sib(low: u8, bytes: &[u8]) -> Option<usize>
+    ensures within { IfSome result (λ n. (n ≤ length bytes.now) × (n < 2)) }
+    ensures value { result ≡ sib_size low bytes.now }
+{
+    if low != 4 {
+        return Some(0);
+    }
+    if bytes.is_empty() || bytes[0] != 0x24 {
+        return None;
+    }
+    Some(1)
+}
+
+/// Four bytes as a number.
+fn number(bytes: &[u8]) -> Option<i32>
+    ensures within { IfSome result (λ n. 4 ≤ length bytes.now) }
+    ensures value { result ≡ number_of_4 bytes.now }
+{
+    if bytes.len() < 4 {
+        return None;
+    }
+    Some(i32::from_le_bytes([bytes[0], bytes[1], bytes[2], bytes[3]]))
+}
+
+/// Eight bytes as a number.
+fn number_of_8(bytes: &[u8]) -> Option<i64>
+    ensures { result ≡ number_of_8 bytes.now }
+{
+    if bytes.len() < 8 {
+        return None;
+    }
+    Some(i64::from_le_bytes([
+        bytes[0], bytes[1], bytes[2], bytes[3], bytes[4], bytes[5], bytes[6], bytes[7],
+    ]))
+}
+
+/// A count of a shift.
+fn count(bytes: &[u8]) -> Option<u8>
+    ensures { result ≡ count_of bytes.now }
+{
+    if bytes.is_empty() || bytes[0] > 63 {
+        return None;
+    }
+    Some(bytes[0])
+}
