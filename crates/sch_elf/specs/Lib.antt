@@ -1,4 +1,5 @@
 pub mod Elf
 pub mod Layout
+pub mod Program
 pub mod Stands
 pub mod Writing

@@ -1,0 +1,80 @@
+// What no clause says: that calls succeed, and what the host does.
+use super::*;
+use sch_word::Bytes;
+use std::fs;
+use std::fs::{File, OpenOptions};
+use std::test::Fail;
+
+#[test]
+fn a_disk_in_memory_is_read_and_written(rt: HostRuntime) -> Result<(), Fail> {
+    let alloc = rt.alloc();
+    let file = (
+        Bytes::from_slice(alloc, b"a")?,
+        Bytes::from_slice(alloc, b"xyz")?,
+    );
+    let files = vec![in alloc; file]?;
+    let mut disk = MemDisk::new(alloc, &files, 10, &[4])?;
+    assert_eq!(rt; disk.read(alloc, "a", 3)?.as_slice(), b"xyz".as_slice());
+    assert!(rt; disk.read(alloc, "a", 2).is_err());
+    assert!(rt; disk.write("a", b"1234").is_ok());
+    assert_eq!(rt; disk.read(alloc, "a", 4)?.as_slice(), b"1234".as_slice());
+    assert!(rt; disk.write("b", b"").is_err(), "the call of number 4");
+    assert!(rt; disk.write("b", b"12345").is_err(), "six bytes for five");
+    assert!(rt; disk.write("b", b"1234").is_ok());
+    assert!(rt; disk.read(alloc, "c", 9).is_err());
+    Ok(())
+}
+
+#[test]
+fn an_outlet_in_memory_answers_by_its_plan(rt: HostRuntime) -> Result<(), Fail> {
+    let plan = [Answer::Took(1), Answer::Took(9), Answer::Failed];
+    let mut outlet = MemOutlet::new(rt.alloc(), &plan, 4)?;
+    assert!(rt; put_all(&mut outlet, b"abc"));
+    assert!(rt; !put_all(&mut outlet, b"d"));
+    assert_eq!(rt; outlet.taken(), b"abc".as_slice());
+    assert!(rt; put_all(&mut outlet, b"d"));
+    assert!(rt; !put_all(&mut outlet, b"e"), "no room is left");
+    assert!(rt; put_all(&mut NullOutlet::new(), b"abc"));
+    Ok(())
+}
+
+#[test]
+fn the_hosts_files_are_read_and_written(rt: HostRuntime) -> Result<(), Fail> {
+    let alloc = rt.alloc();
+    let mut disk = HostDisk::new(&rt);
+    assert!(rt; disk.write("io-test-file", b"xyz").is_ok());
+    assert_eq!(rt;
+        fs::read(&rt, "io-test-file")?.as_slice(),
+        b"xyz".as_slice()
+    );
+    assert_eq!(rt;
+        disk.read(alloc, "io-test-file", 3)?.as_slice(),
+        b"xyz".as_slice()
+    );
+    assert_eq!(rt;
+        disk.read(alloc, "io-test-file", 2).err(),
+        Some(DiskRead::TooLarge)
+    );
+    fs::remove_file(&rt, "io-test-file")?;
+    assert_eq!(rt;
+        disk.read(alloc, "io-test-file", 3).err(),
+        Some(DiskRead::Failed)
+    );
+    assert_eq!(rt; disk.write("/dev/full", b"xyz"), Err(Failed));
+    Ok(())
+}
+
+#[test]
+fn the_hosts_streams_take_bytes_and_may_fail(rt: HostRuntime) -> Result<(), Fail> {
+    let mut outlet = StdOutlet::new(File::create(&rt, "io-test-stream")?);
+    assert!(rt; put_all(&mut outlet, b"abc"));
+    assert_eq!(rt;
+        fs::read(&rt, "io-test-stream")?.as_slice(),
+        b"abc".as_slice()
+    );
+    fs::remove_file(&rt, "io-test-stream")?;
+    assert!(rt; put_all(&mut StdOutlet::new(rt.stdout()), b""));
+    let full = OpenOptions::new().write(true).open(&rt, "/dev/full")?;
+    assert!(rt; !put_all(&mut StdOutlet::new(full), b"abc"));
+    Ok(())
+}
