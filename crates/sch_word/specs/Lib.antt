@@ -1,7 +1,12 @@
+pub mod Charges
+pub mod Computation
 pub mod Fixnum
 pub mod Limits
 pub mod Memory
+pub mod PrimitiveRows
 pub mod Primitives
 pub mod Put
 pub mod Stops
+pub mod Store
+pub mod Values
 pub mod formers
