@@ -4,8 +4,8 @@ use Rattle.std.specs.Prelude.{ℕ, zero, suc, Bool, true, false, ◌&&◌, not, 
 use Rattle.std.specs.Fmt.{signed_decimal}
 use Rattle.sch_word.specs.declared.fix.TheConstants.{FIXNUM_MIN, FIXNUM_MAX}
 use Rattle.sch_word.specs.declared.stop.Stop.TheVariants.{WrongType, OutOfRange, DivideByZero, Overflow, OutputFailed}
-use Rattle.sch_word.specs.declared.prim.Prim.{Prim}
-use Rattle.sch_word.specs.declared.prim.Prim.TheVariants.{Eq, Eqv, IsBoolean, IsPair, IsNull, IsSymbol, IsInteger, IsChar, IsString, IsVector, IsProcedure, Cons, Car, Cdr, SetCar, SetCdr, Add, Subtract, Multiply, Quotient, Remainder, Modulo, Equal, Less, Greater, LessEqual, GreaterEqual, CharToInteger, IntegerToChar, MakeString, StringLength, StringRef, StringSet, MakeVector, VectorLength, VectorRef, VectorSet, Put, SymbolLength, SymbolRef}
+use Rattle.sch_word.specs.declared.primitive.Primitive.{Primitive}
+use Rattle.sch_word.specs.declared.primitive.Primitive.TheVariants.{Eq, Eqv, IsBoolean, IsPair, IsNull, IsSymbol, IsInteger, IsChar, IsString, IsVector, IsProcedure, Cons, Car, Cdr, SetCar, SetCdr, Add, Subtract, Multiply, Quotient, Remainder, Modulo, Equal, Less, Greater, LessEqual, GreaterEqual, CharToInteger, IntegerToChar, MakeString, StringLength, StringRef, StringSet, MakeVector, VectorLength, VectorRef, VectorSet, Put, SymbolLength, SymbolRef}
 use Rattle.sch_word.specs.Put as puts
 use Rattle.sch_word.specs.Values.{Value, fixnum, character, boolean, nil, unspecified, symbol, object, procedure, cell, Object, pair, vector, string, same_value}
 use Rattle.sch_word.specs.Store.{Store}
@@ -209,7 +209,7 @@ put_piece None t = stops WrongType t
 
 -- ## The rows
 
-abbrev pub primitive : Prim → List Value → Action Value
+abbrev pub primitive : Primitive → List Value → Action Value
 primitive Eq vs = binary vs (λ a b. gives (boolean (same_value a b)))
 primitive Eqv vs = binary vs (λ a b. gives (boolean (same_value a b)))
 primitive IsBoolean vs = unary vs (λ a. gives (boolean (is_boolean a)))

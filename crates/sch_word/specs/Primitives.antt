@@ -1,9 +1,9 @@
 -- The names of the primitives and how many operands each takes.
 use Rattle.std.specs.Prelude.{ℕ, List, codes}
-use Rattle.sch_word.specs.declared.prim.Prim.{Prim}
-use Rattle.sch_word.specs.declared.prim.Prim.TheVariants.{Eq, Eqv, IsBoolean, IsPair, IsNull, IsSymbol, IsInteger, IsChar, IsString, IsVector, IsProcedure, Cons, Car, Cdr, SetCar, SetCdr, Add, Subtract, Multiply, Quotient, Remainder, Modulo, Equal, Less, Greater, LessEqual, GreaterEqual, CharToInteger, IntegerToChar, MakeString, StringLength, StringRef, StringSet, MakeVector, VectorLength, VectorRef, VectorSet, Put, SymbolLength, SymbolRef}
+use Rattle.sch_word.specs.declared.primitive.Primitive.{Primitive}
+use Rattle.sch_word.specs.declared.primitive.Primitive.TheVariants.{Eq, Eqv, IsBoolean, IsPair, IsNull, IsSymbol, IsInteger, IsChar, IsString, IsVector, IsProcedure, Cons, Car, Cdr, SetCar, SetCdr, Add, Subtract, Multiply, Quotient, Remainder, Modulo, Equal, Less, Greater, LessEqual, GreaterEqual, CharToInteger, IntegerToChar, MakeString, StringLength, StringRef, StringSet, MakeVector, VectorLength, VectorRef, VectorSet, Put, SymbolLength, SymbolRef}
 
-abbrev pub name_of : Prim → List ℕ
+abbrev pub name_of : Primitive → List ℕ
 name_of Eq = codes "eq?"
 name_of Eqv = codes "eqv?"
 name_of IsBoolean = codes "boolean?"
@@ -45,7 +45,7 @@ name_of Put = codes "%put"
 name_of SymbolLength = codes "%symbol-length"
 name_of SymbolRef = codes "%symbol-ref"
 
-abbrev pub operands_of : Prim → ℕ
+abbrev pub operands_of : Primitive → ℕ
 operands_of Eq = 2
 operands_of Eqv = 2
 operands_of IsBoolean = 1

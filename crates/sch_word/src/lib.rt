@@ -9,7 +9,7 @@ mod limits;
 mod list;
 mod mem;
 mod place;
-mod prim;
+mod primitive;
 mod stop;
 
 pub use answer::Answer;
@@ -19,5 +19,5 @@ pub use limits::{Limits, MAX_DEPTH, MAX_HEAP, MIN_DEPTH, MIN_HEAP};
 pub use list::{Bytes, List};
 pub use mem::Mem;
 pub use place::Place;
-pub use prim::Prim;
+pub use primitive::{Prim, Primitive};
 pub use stop::Stop;
