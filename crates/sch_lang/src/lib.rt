@@ -3,4 +3,5 @@
 
 mod tree;
 
-pub use tree::{Exp, Lambda, Lit};
+pub use sch_word::Lit;
+pub use tree::{Exp, Lambda};

@@ -44,13 +44,3 @@ pub struct Lambda {
     pub rest: bool,
     pub body: Exp,
 }
-
-/// A literal (R5RS 4.1.2).
-#[derive(Debug, Drop)]
-pub enum Lit {
-    Constant(Const),
-    Text(Bytes),
-    /// The elements of a list, and what stands behind them, the empty list in a proper one.
-    List(List<Lit>, Box<Lit>),
-    Vector(List<Lit>),
-}

@@ -99,6 +99,14 @@ read_global g t = set_or_stop (slice_get t.globals g) t
 abbrev pub write_global : ℕ → Value → Action Value
 write_global g v t = gives unspecified (record t { globals = slice_set t.globals g (Some v) })
 
+-- a literal's value
+abbrev pub value_or_stop : Option Value → Action Value
+value_or_stop None t = stops Unset t
+value_or_stop (Some v) t = gives v t
+
+abbrev pub read_literal : ℕ → Action Value
+read_literal n t = value_or_stop (slice_get t.constants.literals n) t
+
 abbrev pub read_cell : {P : Type 0} → ℕ → Computation P Value
 read_cell c s = set_or_stop (slice_get s.cells c) s
 

@@ -2,10 +2,14 @@ pub mod Charges
 pub mod Computation
 pub mod Fixnum
 pub mod Limits
+pub mod LiteralView
+pub mod Literals
 pub mod Memory
+pub mod NumberSets
 pub mod PrimitiveRows
 pub mod Primitives
 pub mod Put
+pub mod Runs
 pub mod Stops
 pub mod Store
 pub mod Values
