@@ -27,7 +27,7 @@ procedure_bytes free = rounded (8 + 8 * free)
 
 -- charges bytes, or stop 71 where they would pass the limit
 abbrev pub charge : ℕ → Action Value
-charge bytes t = require (nat_le (t.charged + bytes) t.constants.heap) HeapLimit (gives unspecified) (record t { charged = t.charged + bytes })
+charge bytes t = require (nat_le (t.charged + bytes) t.constants.heap) HeapLimit (λ u. gives unspecified (record u { charged = u.charged + bytes })) t
 
 -- several charges, in their order
 abbrev pub charge_each : List ℕ → Action Value
