@@ -1,7 +1,9 @@
 pub mod Examples
 pub mod Meaning
 pub mod Measures
+pub mod ProgramView
 pub mod Run
+pub mod SourceView
 pub mod Tree
 pub mod Valid
 pub mod Variables

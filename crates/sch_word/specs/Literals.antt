@@ -16,6 +16,11 @@ mutual
     no_literals : Literals
     and_literal : Literal → Literals → Literals
 
+-- a list of literals, as a literal has it
+abbrev pub literals : List Literal → Literals
+literals [] = no_literals
+literals (l ∷ ls) = and_literal l (literals ls)
+
 abbrev pub count_literals : Literals → ℕ
 count_literals no_literals = 0
 count_literals (and_literal l ls) = suc (count_literals ls)
