@@ -1,1 +1,4 @@
 pub mod LiteralRows
+mod PrimitiveExamples
+pub mod SameStore
+pub mod Similar
