@@ -1,2 +1,4 @@
-pub mod Examples
+pub mod Empty
+mod Examples
+pub mod OwnOrders
 pub mod Rows

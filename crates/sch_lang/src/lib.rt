@@ -5,7 +5,7 @@ mod laws;
 mod program;
 mod tree;
 
-pub use laws::is_program_valid;
+pub use laws::{program_is_valid, run_needs_own_orders};
 pub use program::Program;
 pub use sch_word::Lit;
 pub use tree::{Exp, Lambda};

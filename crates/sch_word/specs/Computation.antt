@@ -191,20 +191,21 @@ depth_left true depth = Some depth
 depth_left false zero = None
 depth_left false (suc depth) = Some depth
 
-abbrev pub one_less : ℕ → ℕ
-one_less zero = zero
-one_less (suc n) = n
-
 abbrev pub some_left : ℕ → Action Value
 some_left zero t = spent t
 some_left (suc n) t = gives unspecified t
 
--- whether a procedure entry is left, and taking one
+-- whether a procedure entry is left
 abbrev pub entry_left : Action Value
 entry_left t = some_left t.entries t
 
+abbrev pub taken : ℕ → Action Value
+taken zero t = spent t
+taken (suc n) t = gives unspecified (record t { entries = n })
+
+-- takes a procedure entry
 abbrev pub take_entry : Action Value
-take_entry t = gives unspecified (record t { entries = one_less t.entries })
+take_entry t = taken t.entries t
 
 -- The checks of a call whose parts have values, in their order: its operator is a procedure, depth
 -- is left, an entry is left. The others are made in entering, where the procedure is known.
