@@ -1,5 +1,5 @@
 -- The plain data of a list of literals is the list of their data.
-use Rattle.std.proofs.Common.{◌≡◌, List, [], ◌∷◌, refl, sym, ap, ◌∙◌, map}
+use Rattle.std.proofs.Common.{◌≡◌, List, refl, sym, ap, ◌∙◌, map}
 use Rattle.sch_word.specs.declared.literal.Lit.{Lit, Row_of-Lit, end_of-Lit, more_of-Lit, items-the_row-Lit, items_hidden-the_row-Lit-0}
 use Rattle.sch_word.specs.declared.literal.Lit.TheBlock.{hidden-the_row-Lit-0}
 use Rattle.sch_word.specs.Literals.{and_literal, literals}

@@ -1,5 +1,5 @@
 -- Worked rows of the primitives, computed: an answer or a stop of each, and which check comes first.
-use Rattle.std.proofs.Common.{◌≡◌, refl, true, false, List, [], ◌∷◌, ◌++◌, pos, negsuc}
+use Rattle.std.proofs.Common.{◌≡◌, refl, true, false, [], ◌∷◌, ◌++◌, pos, negsuc}
 use Rattle.std.specs.Prelude.{codes, slice_set}
 use Rattle.std.specs.Fmt.{digits}
 use Rattle.sch_word.specs.declared.primitive.Primitive.TheVariants.{Add, Car, Cdr, CharToInteger, Cons, Eq, Equal, Eqv, Greater, GreaterEqual, IntegerToChar, IsBoolean, IsChar, IsInteger, IsNull, IsPair, IsProcedure, IsString, IsSymbol, IsVector, Less, LessEqual, MakeString, MakeVector, Modulo, Multiply, Put, Quotient, Remainder, SetCar, SetCdr, StringLength, StringRef, StringSet, Subtract, SymbolLength, SymbolRef, VectorLength, VectorRef, VectorSet}
@@ -7,7 +7,7 @@ use Rattle.sch_word.specs.declared.stop.Stop.TheVariants.{WrongType, OutOfRange,
 use Rattle.sch_word.specs.Values.{fixnum, character, boolean, nil, unspecified, symbol, object, procedure, pair, vector, string}
 use Rattle.sch_word.specs.Store.{Store}
 use Rattle.sch_word.specs.Computation.{gives, stops}
-use Rattle.sch_word.specs.Charges.{rounded, procedure_bytes, vector_bytes, string_bytes}
+use Rattle.sch_word.specs.Charges.{procedure_bytes, vector_bytes, string_bytes}
 use Rattle.sch_word.specs.PrimitiveRows.{primitive}
 
 -- a heap of 96 bytes; the pair (1), the vector #(1 2) and the string "abc"; and the symbol hl
@@ -19,7 +19,7 @@ store = record {
   charged = 0;
   output = [];
   answers = [];
-  entries = 0
+  entries = 0;
 }
 
 eq_objects_row : primitive Eq (object 2 ∷ object 2 ∷ []) store ≡ gives (boolean true) store

@@ -1,18 +1,18 @@
 -- Two languages whose states differ in their procedures alone, which are related one by one. Nothing
 -- has to be known of the states besides, so the world has one point.
-use Rattle.std.proofs.Common.{◌≡◌, ℕ, zero, suc, ◌+◌, ◌-◌, ◌≤◌, Bool, true, false, List, [], ◌∷◌, ◌++◌, length, take, drop, Option, Some, None, refl, sym, ap, ◌∙◌, arith, length-append}
-use Rattle.std.specs.Prelude.{slice_get, slice_set, nat_eq, nat_le}
+use Rattle.std.proofs.Common.{◌≡◌, ℕ, zero, suc, ◌≤◌, Bool, true, false, List, [], ◌∷◌, ◌++◌, length, take, drop, Option, Some, None, refl, ap, ◌∙◌, arith, length-append}
+use Rattle.std.specs.Prelude.{slice_get, nat_eq, nat_le}
 use Rattle.std.proofs.lemmas.Bool.{eqb-true, leb-true}
 use Rattle.std.proofs.lemmas.List.{length-take-le}
 use Rattle.sch_word.specs.declared.answer.Answer.{Answer}
 use Rattle.sch_word.specs.declared.stop.Stop.{Stop}
 use Rattle.sch_word.specs.declared.stop.Stop.TheVariants.{WrongCount}
-use Rattle.sch_word.specs.Values.{Value, fixnum, character, boolean, nil, unspecified, symbol, object, procedure, cell}
+use Rattle.sch_word.specs.Values.{Value, unspecified, procedure}
 use Rattle.sch_word.specs.Store.{Store}
-use Rattle.sch_word.specs.Computation.{Outcome, gives, stops, spent, State, Action, Computation, with_rest, in_store, on_value, after, require, set_or_stop, read_cell, write_cell, read_at, write_at, write_cells, new_procedure, new_group, new_fix, new_cells, some_each, numbers_from, procedures_from, callee, operands, depth_left, checked_call, call_with, entry_left, Enter}
+use Rattle.sch_word.specs.Computation.{Outcome, gives, stops, spent, State, Action, Computation, with_rest, in_store, on_value, after, require, set_or_stop, read_cell, write_cell, write_cells, new_procedure, new_group, new_fix, new_cells, numbers_from, procedures_from, callee, operands, depth_left, checked_call, call_with, entry_left, Enter}
 use Rattle.sch_word.specs.Charges.{new_list, fit}
 use Rattle.sch_word.specs.Runs.{seen, starting_state}
-use Rattle.sch_word.proofs.Similar.{Correspondence, Similar, SimilarOutcome, Same, SameOfLength, similar_gives, similar_stops, similar_after, similar_then}
+use Rattle.sch_word.proofs.Similar.{Correspondence, Similar, SimilarOutcome, Same, similar_gives, similar_stops, similar_after, similar_then}
 
 -- a promise on the value that an outcome over the store gives
 abbrev pub Gives : {V : Type 0} → (V → Type 0) → Outcome Store V → Type 0
@@ -39,7 +39,7 @@ fit_length zero true vs t = tt
 fit_length (suc required) true vs t =
     gives_require (λ ws. length ws ≡ suc required) (nat_le required (length vs)) WrongCount (after (new_list (drop required vs)) (λ list. gives (take required vs ++ list ∷ []))) t
     (λ enough. gives_on (λ ws. length ws ≡ suc required) (new_list (drop required vs) t) (λ list. gives (take required vs ++ list ∷ []))
-        (λ list u. with_list_length required vs list (leb-true required (length vs) enough)))
+    (λ list u. with_list_length required vs list (leb-true required (length vs) enough)))
 
 module _ {P Q : Type 0} (Becomes : P → Q → Type 0) where
   pub data Pairs : List P → List Q → Type 0 where
@@ -82,7 +82,7 @@ module _ {P Q : Type 0} (Becomes : P → Q → Type 0) where
     Grows = λ _ _. Unit {0};
     stays = λ _. tt;
     on = λ _ _ _ _ _. tt;
-    Related = λ _ s t. Alike s t
+    Related = λ _ s t. Alike s t;
   }
 
   -- the values keep a promise; the values are the same
@@ -127,7 +127,7 @@ module _ {P Q : Type 0} (Becomes : P → Q → Type 0) where
 
   pub same_new_procedure : {p : P} {q : Q} → Becomes p q → DoesSame (new_procedure p) (new_procedure q)
   same_new_procedure {p} {q} h = record {
-    from = λ w0 g s t r. rw (r.is, ← pairs_length r.pairs) (tt, _, _, tt, record { procedures = r.procedures ++ q ∷ []; pairs = pairs_append r.pairs (and_pair h no_pairs); is = refl }, refl, refl)
+    from = λ w0 g s t r. rw (r.is, ← pairs_length r.pairs) (tt, _, _, tt, record { procedures = r.procedures ++ q ∷ []; pairs = pairs_append r.pairs (and_pair h no_pairs); is = refl }, refl, refl);
   }
 
   procedures_length : (n m : ℕ) → length (procedures_from n m) ≡ m
@@ -140,14 +140,14 @@ module _ {P Q : Type 0} (Becomes : P → Q → Type 0) where
 
   pub keeps_new_cells : (m : ℕ) (contents : List (Option Value)) → length contents ≡ m → Keeps (λ ns ns'. (ns ≡ ns') × (length ns ≡ m)) (new_cells contents) (new_cells contents)
   keeps_new_cells m contents long = record {
-    from = λ w0 g s t r. rw r.is (tt, _, _, tt, record { procedures = r.procedures; pairs = r.pairs; is = refl }, (refl, numbers_length (length s.cells) contents ∙ long), refl)
+    from = λ w0 g s t r. rw r.is (tt, _, _, tt, record { procedures = r.procedures; pairs = r.pairs; is = refl }, (refl, numbers_length (length s.cells) contents ∙ long), refl);
   }
 
   pub keeps_new_group : (m : ℕ) {make : List Value → List P} {make' : List Value → List Q} → ((vs : List Value) → length vs ≡ m → Pairs (make vs) (make' vs)) → Keeps (λ vs vs'. (vs ≡ vs') × (length vs ≡ m)) (new_group m make) (new_group m make')
   keeps_new_group m {make} {make'} h = record {
     from = λ w0 g s t r.
         let vs = procedures_from (length s.procedures) m in
-        rw (r.is, ← pairs_length r.pairs) (tt, _, vs, tt, record { procedures = r.procedures ++ make' vs; pairs = pairs_append r.pairs (h vs (procedures_length (length s.procedures) m)); is = refl }, (refl, procedures_length (length s.procedures) m), refl)
+        rw (r.is, ← pairs_length r.pairs) (tt, _, vs, tt, record { procedures = r.procedures ++ make' vs; pairs = pairs_append r.pairs (h vs (procedures_length (length s.procedures) m)); is = refl }, (refl, procedures_length (length s.procedures) m), refl);
   }
 
   pub keeps_new_fix : (m : ℕ) {make : List ℕ → List P} {make' : List ℕ → List Q} → ((cs : List ℕ) → length cs ≡ m → Pairs (make cs) (make' cs)) → Keeps (λ cs cs'. (cs ≡ cs') × (length cs ≡ m)) (new_fix m make) (new_fix m make')
@@ -156,7 +156,7 @@ module _ {P Q : Type 0} (Becomes : P → Q → Type 0) where
         let vs = procedures_from (length s.procedures) m in
         let cs = numbers_from (length s.cells) vs in
         let long : length cs ≡ m = numbers_length (length s.cells) vs ∙ procedures_length (length s.procedures) m in
-        rw (r.is, ← pairs_length r.pairs) (tt, _, cs, tt, record { procedures = r.procedures ++ make' cs; pairs = pairs_append r.pairs (h cs long); is = refl }, (refl, long), refl)
+        rw (r.is, ← pairs_length r.pairs) (tt, _, cs, tt, record { procedures = r.procedures ++ make' cs; pairs = pairs_append r.pairs (h cs long); is = refl }, (refl, long), refl);
   }
 
   -- one after another, where both give the same value, with a promise on it
@@ -173,7 +173,7 @@ module _ {P Q : Type 0} (Becomes : P → Q → Type 0) where
     pub same_call : (tail : Bool) (depth : ℕ) (vs : List Value) → DoesSame (call_with enter tail depth vs) (call_with enter' tail depth vs)
     same_call tail depth vs = record {
       from = λ w0 g s t r.
-          rw r.is ((checked_call_same (pairs_callee r.pairs vs) (depth_left tail depth) (operands vs)).from tt tt s (with_procedures s r.procedures) (record { procedures = r.procedures; pairs = r.pairs; is = refl }))
+          rw r.is ((checked_call_same (pairs_callee r.pairs vs) (depth_left tail depth) (operands vs)).from tt tt s (with_procedures s r.procedures) (record { procedures = r.procedures; pairs = r.pairs; is = refl }));
     }
 
   -- what is seen of two runs from related starts is the same

@@ -1,6 +1,6 @@
 -- Two languages side by side: computations that do the same from related states. What a pass proves is
 -- stated by these words, and its proof is one lemma for each way to put computations together.
-use Rattle.std.proofs.Common.{◌≡◌, ℕ, zero, suc, Bool, true, false, List, [], ◌∷◌, length, Option, Some, None, refl, sym, ap, ◌∙◌}
+use Rattle.std.proofs.Common.{◌≡◌, ℕ, zero, suc, Bool, true, false, List, [], ◌∷◌, length, refl, ap, ◌∙◌}
 use Rattle.std.specs.Prelude.{slice_get, slice_set}
 use Rattle.std.proofs.lemmas.List.{length-set}
 use Rattle.sch_word.specs.declared.stop.Stop.{Stop}

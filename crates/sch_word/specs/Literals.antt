@@ -1,9 +1,9 @@
 -- Literals as plain data, and the objects that they are when a run starts (R5RS 4.1.2).
-use Rattle.std.specs.Prelude.{ℕ, zero, suc, ◌+◌, Bool, true, false, ◌&&◌, nat_lt, List, [], ◌∷◌, ◌++◌, length}
+use Rattle.std.specs.Prelude.{ℕ, suc, ◌+◌, Bool, true, ◌&&◌, nat_lt, List, [], ◌∷◌, ◌++◌, length}
 use Rattle.sch_word.specs.declared.constant.Const.{Const}
 use Rattle.sch_word.specs.declared.constant.Const.TheVariants.{Symbol}
 use Rattle.sch_word.specs.Values.{Value, object, constant_value, Object, vector, string}
-use Rattle.sch_word.specs.Charges.{linked, list_value}
+use Rattle.sch_word.specs.Charges.{linked}
 
 mutual
   pub data Literal : Type 0 where

@@ -1,5 +1,5 @@
 -- Finite sets of numbers, as lists without repeats.
-use Rattle.std.specs.Prelude.{ℕ, zero, suc, Bool, true, false, ◌||◌, nat_eq, List, [], ◌∷◌}
+use Rattle.std.specs.Prelude.{ℕ, Bool, true, false, ◌||◌, nat_eq, List, [], ◌∷◌}
 
 abbrev pub has : ℕ → List ℕ → Bool
 has x [] = false

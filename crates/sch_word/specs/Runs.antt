@@ -1,5 +1,5 @@
 -- How a run starts, and what is seen of it at its end.
-use Rattle.std.specs.Prelude.{ℕ, zero, suc, ◌+◌, ◌-◌, ◌≡◌, Bool, true, ◌&&◌, nat_le, nat_lt, List, [], ◌∷◌, length, Option, Some, None}
+use Rattle.std.specs.Prelude.{ℕ, ◌+◌, ◌-◌, Bool, true, ◌&&◌, nat_le, nat_lt, List, [], ◌∷◌, length, Option, Some, None}
 use Rattle.sch_word.specs.declared.answer.Answer.{Answer}
 use Rattle.sch_word.specs.Stops.{status_of}
 use Rattle.sch_word.specs.Values.{Value, procedure}
@@ -32,7 +32,7 @@ starting_store p heap answers entries = record {
   charged = 0;
   output = [];
   answers = answers;
-  entries = entries
+  entries = entries;
 }
 
 -- the state at the start; the library's procedures are the first ones
@@ -49,9 +49,9 @@ pub data End : Type 0 where
 -- what is seen of a run
 pub record Run : Type 0 where
   pub output : List ℕ
-  pub entries : ℕ     -- procedure entries taken
-  pub charged : ℕ     -- bytes charged to the heap
-  pub answers : ℕ     -- kernel answers used
+  pub entries : ℕ  -- procedure entries taken
+  pub charged : ℕ  -- bytes charged to the heap
+  pub answers : ℕ  -- kernel answers used
   pub end : End
 
 abbrev pub run_with : End → List Answer → ℕ → Store → Run
@@ -60,7 +60,7 @@ run_with end answers entries t = record {
   entries = entries - t.entries;
   charged = t.charged;
   answers = length answers - length t.answers;
-  end = end
+  end = end;
 }
 
 -- what is seen of an outcome, from a start with these answers and so many entries
