@@ -2,3 +2,4 @@ pub mod LiteralRows
 mod PrimitiveExamples
 pub mod SameStore
 pub mod Similar
+pub mod Steady

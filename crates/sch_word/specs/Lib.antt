@@ -1,6 +1,7 @@
 pub mod Charges
 pub mod Computation
 pub mod Fixnum
+pub mod Growth
 pub mod Limits
 pub mod LiteralView
 pub mod Literals
