@@ -1,3 +1,4 @@
+pub mod Ahead
 pub mod LiteralRows
 mod PrimitiveExamples
 pub mod SameStore

@@ -20,7 +20,7 @@ use Rattle.sch_word.specs.PrimitiveRows.{unary, binary, ternary, as_fixnum, as_c
 -- ## Growth
 
 -- where the output and the answers are as they were
-quiet : (s t : Store) → t.constants ≡ s.constants → t.output ≡ s.output → s.answers ≡ t.answers → s.charged ≤ t.charged → length s.objects ≤ length t.objects → t.entries ≤ s.entries → GrowsTo s t
+pub quiet : (s t : Store) → t.constants ≡ s.constants → t.output ≡ s.output → s.answers ≡ t.answers → s.charged ≤ t.charged → length s.objects ≤ length t.objects → t.entries ≤ s.entries → GrowsTo s t
 quiet s t constants output answers charged objects entries = record {
   constants = constants;
   written = [];
