@@ -1,4 +1,17 @@
+pub mod Charges
+pub mod Computation
+pub mod Fixnum
+pub mod Growth
+pub mod Limits
+pub mod LiteralView
+pub mod Literals
 pub mod Memory
+pub mod NumberSets
+pub mod PrimitiveRows
+pub mod Primitives
 pub mod Put
+pub mod Runs
 pub mod Stops
+pub mod Store
+pub mod Values
 pub mod formers

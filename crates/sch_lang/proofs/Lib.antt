@@ -1,0 +1,4 @@
+pub mod Empty
+mod Examples
+pub mod OwnOrders
+pub mod Rows

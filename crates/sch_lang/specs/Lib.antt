@@ -1,0 +1,11 @@
+pub mod Examples
+pub mod Laws
+pub mod Meaning
+pub mod Measures
+pub mod ProgramView
+pub mod Run
+pub mod SourceView
+pub mod Tree
+pub mod Valid
+pub mod Variables
+pub mod View

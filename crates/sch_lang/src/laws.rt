@@ -1,0 +1,42 @@
+//! Laws of the core language, as contracts of functions that do nothing.
+
+ghost use Rattle.std.specs.Prelude.{IsTrue};
+ghost use Rattle.sch_lang.specs.Laws.{NeedsOwnOrders};
+ghost use Rattle.sch_lang.specs.ProgramView.{source};
+ghost use Rattle.sch_lang.specs.Valid.{is_valid};
+
+use crate::program::Program;
+
+/// Every program is valid as a whole.
+pub fn program_is_valid(p: &Program)
+    ensures { IsTrue (is_valid (source p.now)) }
+{
+}
+
+/// A run depends on an order table at the program's own sites alone.
+pub fn run_needs_own_orders(p: &Program)
+    ensures { NeedsOwnOrders (source p.now) }
+{
+}
+
+#[cfg(test)]
+mod tests {
+    use super::*;
+    use sch_word::List;
+
+    #[test]
+    fn a_program_can_be_made(rt: HostRuntime) {
+        let alloc = rt.alloc();
+        let program = Program {
+            symbols: List::new(alloc),
+            literals: List::new(alloc),
+            globals: List::new(alloc),
+            library: List::new(alloc),
+            forms: List::new(alloc),
+            sites: List::new(alloc),
+        };
+        program_is_valid(&program);
+        run_needs_own_orders(&program);
+        assert!(rt; program.forms.is_empty());
+    }
+}

@@ -1,0 +1,11 @@
+//! The core language: its syntax, which programs are valid, and what a program does.
+#![tactic(auto)]
+
+mod laws;
+mod program;
+mod tree;
+
+pub use laws::{program_is_valid, run_needs_own_orders};
+pub use program::Program;
+pub use sch_word::Lit;
+pub use tree::{Exp, Lambda};

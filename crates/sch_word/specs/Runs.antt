@@ -1,0 +1,91 @@
+-- How a run starts, and what is seen of it at its end.
+use Rattle.std.specs.Prelude.{ℕ, ◌+◌, ◌-◌, Bool, true, ◌&&◌, nat_le, nat_lt, List, [], ◌∷◌, length, Option, Some, None}
+use Rattle.sch_word.specs.declared.answer.Answer.{Answer}
+use Rattle.sch_word.specs.Stops.{status_of}
+use Rattle.sch_word.specs.Values.{Value, procedure}
+use Rattle.sch_word.specs.Store.{Store}
+use Rattle.sch_word.specs.Computation.{Outcome, gives, stops, spent, State}
+use Rattle.sch_word.specs.Literals.{Literals, literal_values, objects_of_each, literals_size, literals_known}
+
+-- What stands ready when a program starts: the names of its symbols; its literals; and its globals,
+-- each with the library's procedure of that number, or unset.
+pub record Statics : Type 0 where
+  pub symbols : List (List ℕ)
+  pub literals : Literals
+  pub globals : List (Option ℕ)
+
+abbrev pub starting_value : Option ℕ → Option Value
+starting_value None = None
+starting_value (Some n) = Some (procedure n)
+
+abbrev pub starting_values : List (Option ℕ) → List (Option Value)
+starting_values [] = []
+starting_values (g ∷ gs) = starting_value g ∷ starting_values gs
+
+-- The store at the start: nothing is charged and nothing written, the literals are there. `heap` is
+-- the limit in bytes, `entries` how many procedure entries may be taken.
+abbrev pub starting_store : Statics → (heap : ℕ) → List Answer → (entries : ℕ) → Store
+starting_store p heap answers entries = record {
+  constants = record { heap = heap; symbols = p.symbols; literals = literal_values p.literals 0 };
+  globals = starting_values p.globals;
+  objects = objects_of_each p.literals 0;
+  charged = 0;
+  output = [];
+  answers = answers;
+  entries = entries;
+}
+
+-- the state at the start; the library's procedures are the first ones
+abbrev pub starting_state : {P : Type 0} → Store → List P → State P
+starting_state t library = record { cells = []; store = t; procedures = library }
+
+-- ## The end
+
+-- a run has ended with a status, 0 or a stop's, or goes on, where its entries were spent
+pub data End : Type 0 where
+  ended : (status : ℕ) → End
+  going : End
+
+-- what is seen of a run
+pub record Run : Type 0 where
+  pub output : List ℕ
+  pub entries : ℕ  -- procedure entries taken
+  pub charged : ℕ  -- bytes charged to the heap
+  pub answers : ℕ  -- kernel answers used
+  pub end : End
+
+abbrev pub run_with : End → List Answer → ℕ → Store → Run
+run_with end answers entries t = record {
+  output = t.output;
+  entries = entries - t.entries;
+  charged = t.charged;
+  answers = length answers - length t.answers;
+  end = end;
+}
+
+-- what is seen of an outcome, from a start with these answers and so many entries
+abbrev pub seen : {P V : Type 0} → List Answer → (entries : ℕ) → Outcome (State P) V → Run
+seen answers entries (gives v s) = run_with (ended 0) answers entries s.store
+seen answers entries (stops why s) = run_with (ended (status_of why)) answers entries s.store
+seen answers entries (spent s) = run_with going answers entries s.store
+
+-- ## Which statics are valid
+
+abbrev pub names_size : List (List ℕ) → ℕ
+names_size [] = 0
+names_size (name ∷ names) = 1 + length name + names_size names
+
+-- symbols, literals and globals in nodes and bytes; a symbol and a global are one node each
+abbrev pub statics_size : Statics → ℕ
+statics_size p = names_size p.symbols + literals_size p.literals + length p.globals
+
+abbrev pub library_known : ℕ → List (Option ℕ) → Bool
+library_known count [] = true
+library_known count (None ∷ gs) = library_known count gs
+library_known count (Some n ∷ gs) = nat_lt n count && library_known count gs
+
+-- they are few enough, and name symbols and library procedures that there are
+abbrev pub statics_valid : (library : ℕ) → Statics → Bool
+statics_valid library p =
+    nat_le (statics_size p) 29360128
+    && (literals_known (length p.symbols) p.literals && library_known library p.globals)
