@@ -1,13 +1,23 @@
 //! The words that every other crate shares: lists, the answers of a kernel, the named stops of a
-//! program, and the error that means want of memory.
+//! program, the error that means want of memory, fixnums, constants, primitives and limits.
 #![tactic(auto)]
 
 mod answer;
+mod constant;
+mod fix;
+mod limits;
 mod list;
 mod mem;
+mod place;
+mod prim;
 mod stop;
 
 pub use answer::Answer;
+pub use constant::Const;
+pub use fix::{FIXNUM_MAX, FIXNUM_MIN, Fix, fix_add, fix_mul, fix_sub};
+pub use limits::{Limits, MAX_DEPTH, MAX_HEAP, MIN_DEPTH, MIN_HEAP};
 pub use list::{Bytes, List};
 pub use mem::Mem;
+pub use place::Place;
+pub use prim::Prim;
 pub use stop::Stop;

@@ -1,0 +1,148 @@
+ghost use Rattle.std.specs.Prelude.{◌≡◌};
+ghost use Rattle.sch_word.specs.Primitives.{name_of, operands_of};
+
+/// A primitive: an operation that a program names and that is never a call.
+///
+/// Those whose names begin with `%` are the project's own and stand in the library's text alone. The
+/// others are procedures of R5RS, chapter 6, at one count of operands.
+#[derive(Clone, Copy, Debug, PartialEq, Eq)]
+pub enum Prim {
+    Eq,
+    Eqv,
+    IsBoolean,
+    IsPair,
+    IsNull,
+    IsSymbol,
+    IsInteger,
+    IsChar,
+    IsString,
+    IsVector,
+    IsProcedure,
+    Cons,
+    Car,
+    Cdr,
+    SetCar,
+    SetCdr,
+    Add,
+    Subtract,
+    Multiply,
+    Quotient,
+    Remainder,
+    Modulo,
+    Equal,
+    Less,
+    Greater,
+    LessEqual,
+    GreaterEqual,
+    CharToInteger,
+    IntegerToChar,
+    MakeString,
+    StringLength,
+    StringRef,
+    StringSet,
+    MakeVector,
+    VectorLength,
+    VectorRef,
+    VectorSet,
+    Put,
+    SymbolLength,
+    SymbolRef,
+}
+
+impl Prim {
+    /// The name of the primitive in a program's text, in ASCII.
+    pub fn name(self) -> &'static str
+        ensures { result.now ≡ name_of self }
+    {
+        match self {
+            Prim::Eq => "eq?",
+            Prim::Eqv => "eqv?",
+            Prim::IsBoolean => "boolean?",
+            Prim::IsPair => "pair?",
+            Prim::IsNull => "null?",
+            Prim::IsSymbol => "symbol?",
+            Prim::IsInteger => "integer?",
+            Prim::IsChar => "char?",
+            Prim::IsString => "string?",
+            Prim::IsVector => "vector?",
+            Prim::IsProcedure => "procedure?",
+            Prim::Cons => "cons",
+            Prim::Car => "car",
+            Prim::Cdr => "cdr",
+            Prim::SetCar => "set-car!",
+            Prim::SetCdr => "set-cdr!",
+            Prim::Add => "+",
+            Prim::Subtract => "-",
+            Prim::Multiply => "*",
+            Prim::Quotient => "quotient",
+            Prim::Remainder => "remainder",
+            Prim::Modulo => "modulo",
+            Prim::Equal => "=",
+            Prim::Less => "<",
+            Prim::Greater => ">",
+            Prim::LessEqual => "<=",
+            Prim::GreaterEqual => ">=",
+            Prim::CharToInteger => "char->integer",
+            Prim::IntegerToChar => "integer->char",
+            Prim::MakeString => "make-string",
+            Prim::StringLength => "string-length",
+            Prim::StringRef => "string-ref",
+            Prim::StringSet => "string-set!",
+            Prim::MakeVector => "make-vector",
+            Prim::VectorLength => "vector-length",
+            Prim::VectorRef => "vector-ref",
+            Prim::VectorSet => "vector-set!",
+            Prim::Put => "%put",
+            Prim::SymbolLength => "%symbol-length",
+            Prim::SymbolRef => "%symbol-ref",
+        }
+    }
+
+    /// How many operands the primitive takes.
+    pub fn operands(self) -> u32
+        ensures { result ≡ operands_of self }
+    {
+        match self {
+            Prim::Eq => 2,
+            Prim::Eqv => 2,
+            Prim::IsBoolean => 1,
+            Prim::IsPair => 1,
+            Prim::IsNull => 1,
+            Prim::IsSymbol => 1,
+            Prim::IsInteger => 1,
+            Prim::IsChar => 1,
+            Prim::IsString => 1,
+            Prim::IsVector => 1,
+            Prim::IsProcedure => 1,
+            Prim::Cons => 2,
+            Prim::Car => 1,
+            Prim::Cdr => 1,
+            Prim::SetCar => 2,
+            Prim::SetCdr => 2,
+            Prim::Add => 2,
+            Prim::Subtract => 2,
+            Prim::Multiply => 2,
+            Prim::Quotient => 2,
+            Prim::Remainder => 2,
+            Prim::Modulo => 2,
+            Prim::Equal => 2,
+            Prim::Less => 2,
+            Prim::Greater => 2,
+            Prim::LessEqual => 2,
+            Prim::GreaterEqual => 2,
+            Prim::CharToInteger => 1,
+            Prim::IntegerToChar => 1,
+            Prim::MakeString => 2,
+            Prim::StringLength => 1,
+            Prim::StringRef => 2,
+            Prim::StringSet => 3,
+            Prim::MakeVector => 2,
+            Prim::VectorLength => 1,
+            Prim::VectorRef => 2,
+            Prim::VectorSet => 3,
+            Prim::Put => 1,
+            Prim::SymbolLength => 1,
+            Prim::SymbolRef => 2,
+        }
+    }
+}
