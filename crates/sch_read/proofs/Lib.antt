@@ -1,0 +1,4 @@
+pub mod Completions
+pub mod Runs
+pub mod First
+pub mod Longest
