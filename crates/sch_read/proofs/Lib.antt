@@ -2,3 +2,5 @@ pub mod Completions
 pub mod Runs
 pub mod First
 pub mod Longest
+pub mod TreeLemmas
+pub mod StackLemmas

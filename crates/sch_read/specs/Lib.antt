@@ -8,3 +8,5 @@ pub mod Text
 pub mod Scan
 pub mod Machine
 pub mod Views
+pub mod TokenViews
+pub mod StateViews

@@ -1,6 +1,10 @@
-ghost use Rattle.std.specs.Prelude.{◌≡◌};
+ghost use Rattle.std.specs.Prelude.{◌≡◌, ⊤};
+ghost use Rattle.sch_read.specs.Fault.{Flawed};
+ghost use Rattle.sch_read.specs.StateViews.{Fails};
+ghost use Rattle.sch_read.specs.TokenViews.{flaw_of};
 ghost use Rattle.sch_read.specs.declared.error.ReadError.TheVariants.{Memory};
 
+use crate::token::Flaw;
 use sch_word::Mem;
 use thiserror::Error;
 
@@ -31,5 +35,16 @@ impl From<Mem> for ReadError {
 
     fn from(_cause: Mem) -> ReadError {
         ReadError::Memory
+    }
+}
+
+/// What is wrong with the token at that place.
+pub(crate) fn flawed(at: u32, flaw: Flaw) -> ReadError
+    ensures { Fails {X = ⊤} result (Err (Flawed at (flaw_of flaw))) }
+{
+    match flaw {
+        Flaw::Token => ReadError::BadToken(at),
+        Flaw::Number => ReadError::BadNumber(at),
+        Flaw::String => ReadError::BadString(at),
     }
 }

@@ -1,8 +1,12 @@
 //! The reader: the bytes of a text to its data, and data to bytes.
 #![tactic(auto)]
 
+
+mod build;
 mod datum;
 mod error;
+mod machine;
+mod token;
 
 pub use datum::{Datum, Node};
 pub use error::ReadError;
