@@ -10,3 +10,4 @@ pub mod Machine
 pub mod Views
 pub mod TokenViews
 pub mod StateViews
+pub mod Stages

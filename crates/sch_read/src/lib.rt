@@ -5,6 +5,8 @@
 mod build;
 mod datum;
 mod error;
+mod letters;
+mod lexeme;
 mod machine;
 mod token;
 
