@@ -4,3 +4,5 @@ pub mod First
 pub mod Longest
 pub mod TreeLemmas
 pub mod StackLemmas
+pub mod NumberLemmas
+pub mod TextLemmas

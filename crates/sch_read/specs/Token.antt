@@ -1,5 +1,5 @@
 -- The token that a lexeme is (R5RS 7.1.1). White space and comments are none.
-use Rattle.std.specs.Prelude.{◌==◌, ◌||◌, ◌&&◌, ◌+◌, ℕ, ℤ, Bool, true, false, List, [], ◌∷◌, if◌then◌else◌, codes, drop, nat_lt, slice_index, int_le}
+use Rattle.std.specs.Prelude.{◌==◌, ◌||◌, ◌&&◌, ◌+◌, ℕ, ℤ, Bool, true, false, List, [], ◌∷◌, if◌then◌else◌, codes, drop, nat_lt, not, slice_index, int_le}
 use Rattle.std.specs.List.{list_all}
 use Rattle.std.specs.Str.{bytes_eq}
 use Rattle.std.specs.Char.{digit_value, is_ascii_digit, to_ascii_lowercase}
@@ -30,9 +30,9 @@ abbrev pub is_number_like : List ℕ → Bool
 is_number_like word = has_base word || (is_ascii_digit (slice_index word 0)
     || (is_one_of (codes "+-.") (slice_index word 0) && is_ascii_digit (slice_index word 1)))
 
+-- at least one digit, and each of the base
 abbrev pub are_digits : ℕ → List ℕ → Bool
-are_digits base [] = false
-are_digits base (b ∷ bs) = list_all (λ c. nat_lt (digit_value c) base) (b ∷ bs)
+are_digits base ds = not (is_empty ds) && list_all (λ c. nat_lt (digit_value c) base) ds
 
 abbrev pub is_fixnum : ℤ → Bool
 is_fixnum z = int_le FIXNUM_MIN z && int_le z FIXNUM_MAX

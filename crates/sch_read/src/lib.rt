@@ -8,7 +8,10 @@ mod error;
 mod letters;
 mod lexeme;
 mod machine;
+mod number;
+mod text;
 mod token;
+mod word;
 
 pub use datum::{Datum, Node};
 pub use error::ReadError;
