@@ -6,3 +6,5 @@ pub mod TreeLemmas
 pub mod StackLemmas
 pub mod NumberLemmas
 pub mod TextLemmas
+pub mod ScanLemmas
+pub mod AnswerLemmas

@@ -11,3 +11,5 @@ pub mod Views
 pub mod TokenViews
 pub mod StateViews
 pub mod Stages
+pub mod Scanning
+pub mod Answer

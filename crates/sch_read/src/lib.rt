@@ -9,9 +9,11 @@ mod letters;
 mod lexeme;
 mod machine;
 mod number;
+mod read;
 mod text;
 mod token;
 mod word;
 
 pub use datum::{Datum, Node};
 pub use error::ReadError;
+pub use read::read_all;

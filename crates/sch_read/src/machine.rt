@@ -37,13 +37,15 @@ pub(crate) struct Reader {
 
 impl Reader {
     ghost use Rattle.sch_read.specs.Machine.{put, start, in_list, in_vector, in_tail, at_top, point, step};
-    ghost use Rattle.sch_read.specs.Grammar.{Open, with_tail, Datum as Tree, Data};
+    ghost use Rattle.sch_read.specs.Grammar.{none, Open, with_tail, Datum as Tree, Data};
     ghost use Rattle.sch_read.specs.Views.{tree_of, data_of};
     ghost use Rattle.sch_read.specs.StateViews.{state_of, stack_of, frame_of, StepsTo};
     ghost use Rattle.sch_read.specs.TokenViews.{token_of, opener_of};
 
     /// Nothing is read yet.
-    pub(crate) fn new(alloc: Global) -> Reader {
+    pub(crate) fn new(alloc: Global) -> Reader
+        ensures { state_of result ≡ record { spare = 1000; open_ = []; top = none } }
+    {
         Reader {
             alloc,
             spare: 1000,
@@ -204,7 +206,7 @@ impl Reader {
 
     /// A token.
     #[tactic(auto, using(crate::proofs::StackLemmas::stack_of_push))]
-    fn step(&mut self, at: u32, token: Token) -> Result<(), ReadError>
+    pub(crate) fn step(&mut self, at: u32, token: Token) -> Result<(), ReadError>
         ensures { StepsTo result (step self.old.spare (stack_of self.old.frames.items) (data_of self.old.top) (token_of at token)) (state_of self.new) }
     {
         match self.frames.pop() {
