@@ -1,5 +1,5 @@
 -- What the machine answers for a text, in the grammar's words.
-use Rattle.std.proofs.Common.{◌≡◌, Ok, Err, List, [], ℕ, refl, sym, ◌∙◌, subst}
+use Rattle.std.proofs.Common.{◌≡◌, Ok, Err, List, [], ℕ, ◌≤◌, ◌*◌, length, refl, sym, ◌∙◌, subst}
 use Rattle.std.specs.Prelude.{Result, IfOk, IfErr, MatchResult, IsErrAnd}
 use Rattle.sch_read.specs.Grammar.{Token, Data, Reads, none, bad_token, bad_number, bad_string}
 use Rattle.sch_read.specs.Fault.{Fault, Unclosed, StrayClose, DeepNesting, LiteralRange, Flawed, IsFirstFault, IsAccepted}
@@ -15,9 +15,12 @@ use Rattle.sch_read.specs.declared.error.ReadError.{ReadError}
 use Rattle.sch_read.specs.declared.error.ReadError.TheVariants as errors
 use Rattle.sch_read.proofs.Runs.{accepts-back, accepts-forth}
 use Rattle.sch_read.proofs.First.{first_fault, fault-one, fault-none}
+use Rattle.sch_read.specs.Valid.{AreValid, weights}
+use Rattle.sch_read.proofs.Weights.{spelled_weighs}
+use Rattle.sch_read.proofs.Validity.{spelled_valid}
 use Rattle.sch_read.proofs.Longest.{text-cuts, cuts-one}
 
-abbrev Answers : List ℕ → Result (List Datum) ReadError → Type 0
+abbrev pub Answers : List ℕ → Result (List Datum) ReadError → Type 0
 Answers text r = Gives data_of r (run levels [] none (scan 0 [] text))
 
 pub found_of : (text : List ℕ) (r : Result (List Datum) ReadError) → Answers text r → IfOk r (λ ds. Spells text (data_of ds))
@@ -75,3 +78,11 @@ only_fault_of text (Err (errors.BadNumber at)) h f has = fault-same text f (Flaw
 only_fault_of text (Err (errors.BadString at)) h f has = fault-same text f (Flawed at bad_string) has h
 only_fault_of text (Err (errors.DeepNesting at)) h f has = fault-same text f (DeepNesting at) has h
 only_fault_of text (Err (errors.LiteralRange at)) h f has = fault-same text f (LiteralRange at) has h
+
+pub valid_of : (text : List ℕ) (r : Result (List Datum) ReadError) → Answers text r → IfOk r (λ ds. AreValid (data_of ds))
+valid_of text (Ok ds) h = spelled_valid text (data_of ds) (found_of text (Ok ds) h)
+valid_of text (Err e) h = tt
+
+pub light_of : (text : List ℕ) (r : Result (List Datum) ReadError) → Answers text r → IfOk r (λ ds. weights (data_of ds) ≤ 7 * length text)
+light_of text (Ok ds) h = spelled_weighs text (data_of ds) (found_of text (Ok ds) h)
+light_of text (Err e) h = tt

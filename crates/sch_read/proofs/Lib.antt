@@ -8,3 +8,5 @@ pub mod NumberLemmas
 pub mod TextLemmas
 pub mod ScanLemmas
 pub mod AnswerLemmas
+pub mod Weights
+pub mod Validity

@@ -13,3 +13,4 @@ pub mod StateViews
 pub mod Stages
 pub mod Scanning
 pub mod Answer
+pub mod Valid

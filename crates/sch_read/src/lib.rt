@@ -17,3 +17,6 @@ mod word;
 pub use datum::{Datum, Node};
 pub use error::ReadError;
 pub use read::read_all;
+
+#[cfg(test)]
+mod tests;

@@ -1,12 +1,13 @@
 //! A text, byte after byte.
 
-ghost use Rattle.std.specs.Prelude.{◌≡◌, ◌+◌, ◌<◌, ◌≤◌, ◌^◌, [], ◌++◌, length, drop, IfOk, OnOk, IfErr, IsErrAnd, MatchResult};
+ghost use Rattle.std.specs.Prelude.{◌≡◌, ◌+◌, ◌*◌, ◌<◌, ◌≤◌, ◌^◌, [], ◌++◌, length, drop, IfOk, OnOk, IfErr, IsErrAnd, MatchResult};
 ghost use Rattle.sch_read.specs.Grammar.{Data, none};
 ghost use Rattle.sch_read.specs.Machine.{run, runs, finish, place_of};
 ghost use Rattle.sch_read.specs.Scan.{scan};
 ghost use Rattle.sch_read.specs.Token.{token_at};
 ghost use Rattle.sch_read.specs.Text.{levels, Spells, HasFault};
 ghost use Rattle.sch_read.specs.Fault.{Fault};
+ghost use Rattle.sch_read.specs.Valid.{AreValid, weights};
 ghost use Rattle.sch_read.specs.Answer.{IsErrorIn, IsErrorFor};
 ghost use Rattle.sch_read.specs.Views.{data_of};
 ghost use Rattle.sch_read.specs.StateViews.{state_of, stack_of, frame_of, Gives, Fails, Feeds};
@@ -130,6 +131,8 @@ pub fn read_all(alloc: Global, text: &[u8]) -> Result<List<Datum>, ReadError>
     ensures found { IfOk result (λ ds. Spells text.now (data_of ds)) }
     ensures only { (xs : Data) → Spells text.now xs → MatchResult result (λ ds. data_of ds ≡ xs) (λ e. e ≡ ReadError.Memory) }
     ensures fault { IfErr result (IsErrorIn text.now) }
+    ensures valid { IfOk result (λ ds. AreValid (data_of ds)) }
+    ensures light { IfOk result (λ ds. weights (data_of ds) ≤ 7 * length text.now) }
     ensures only_fault { (f : Fault) → HasFault text.now f → IsErrAnd result (λ e. IsErrorFor e f) }
 {
     read_text(alloc, text)

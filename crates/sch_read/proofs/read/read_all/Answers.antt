@@ -1,4 +1,4 @@
-use Rattle.sch_read.proofs.AnswerLemmas.{found_of, fault_of, only_of, only_fault_of}
+use Rattle.sch_read.proofs.AnswerLemmas.{found_of, fault_of, only_of, only_fault_of, valid_of, light_of}
 use Rattle.sch_read.proofs.read.read_all.Goals as goal
 
 pub returns-clause-found : goal.returns-clause-found
@@ -12,3 +12,9 @@ returns-clause-fault c = fault_of c.args.text.now c.read_text.result c.read_text
 
 pub returns-clause-only_fault : goal.returns-clause-only_fault
 returns-clause-only_fault c = only_fault_of c.args.text.now c.read_text.result c.read_text.ensures
+
+pub returns-clause-valid : goal.returns-clause-valid
+returns-clause-valid c = valid_of c.args.text.now c.read_text.result c.read_text.ensures
+
+pub returns-clause-light : goal.returns-clause-light
+returns-clause-light c = light_of c.args.text.now c.read_text.result c.read_text.ensures
