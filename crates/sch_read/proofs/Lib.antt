@@ -1,0 +1,12 @@
+pub mod Completions
+pub mod Runs
+pub mod First
+pub mod Longest
+pub mod TreeLemmas
+pub mod StackLemmas
+pub mod NumberLemmas
+pub mod TextLemmas
+pub mod ScanLemmas
+pub mod AnswerLemmas
+pub mod Weights
+pub mod Validity

@@ -1,0 +1,16 @@
+-- The trees of lists of data, one after another.
+use Rattle.std.proofs.Common.{◌≡◌, List, [], ◌∷◌, ◌++◌, refl, ap, ◌∙◌, ℕ, ◌<◌, length, Ok, arith}
+use Rattle.std.specs.Prelude.{map, reverse}
+use Rattle.std.proofs.lemmas.List.{map-append, reverse-append}
+use Rattle.sch_read.specs.Grammar.{Data, join, cons, none, one}
+use Rattle.sch_read.specs.Machine as machine
+use Rattle.sch_read.specs.Machine.{point}
+use Rattle.sch_read.specs.Views.{tree_of, data_of}
+use Rattle.sch_read.specs.declared.datum.Datum.{Datum}
+
+pub data_of_append : (xs ys : List Datum) → data_of (xs ++ ys) ≡ join (data_of xs) (data_of ys)
+data_of_append [] ys = refl
+data_of_append (x ∷ xs) ys = ap (cons (tree_of x)) (data_of_append xs ys)
+
+pub data_of_push : (xs : List Datum) (x : Datum) → data_of (xs ++ x ∷ []) ≡ join (data_of xs) (one (tree_of x))
+data_of_push xs x = data_of_append xs (x ∷ [])

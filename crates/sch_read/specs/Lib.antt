@@ -1,0 +1,16 @@
+pub mod Letters
+pub mod Lexeme
+pub mod Token
+pub mod Cut
+pub mod Grammar
+pub mod Fault
+pub mod Text
+pub mod Scan
+pub mod Machine
+pub mod Views
+pub mod TokenViews
+pub mod StateViews
+pub mod Stages
+pub mod Scanning
+pub mod Answer
+pub mod Valid

@@ -1,0 +1,52 @@
+-- What the stack of the code stands for, and what a step of the code answers.
+use Rattle.std.specs.Prelude.{◌≡◌, ℕ, List, Result, Ok, Err, map, reverse}
+use Rattle.sch_read.specs.Grammar.{Token, bad_token, bad_number, bad_string}
+use Rattle.sch_read.specs.Fault as fault
+use Rattle.sch_read.specs.Fault.{Fault}
+use Rattle.sch_read.specs.Machine as machine
+use Rattle.sch_read.specs.Machine.{State, runs}
+use Rattle.sch_read.specs.Views.{tree_of, data_of}
+use Rattle.sch_read.specs.declared.machine.Frame.{Frame}
+use Rattle.sch_read.specs.declared.machine.Frame.TheVariants.{Items, AfterDot, Tail, Elements, Waiting}
+use Rattle.sch_read.specs.declared.machine.Reader.{Reader}
+use Rattle.sch_read.specs.declared.error.ReadError.{ReadError}
+use Rattle.sch_read.specs.declared.error.ReadError.TheVariants as errors
+
+abbrev pub frame_of : Frame → machine.Frame
+frame_of (Items at ds) = machine.Items at (data_of ds)
+frame_of (AfterDot at ds) = machine.AfterDot at (data_of ds)
+frame_of (Tail at ds d) = machine.Tail at (data_of ds) (tree_of d)
+frame_of (Elements at ds) = machine.Elements at (data_of ds)
+frame_of (Waiting at) = machine.Waiting at
+
+-- the innermost first
+abbrev pub stack_of : List Frame → List machine.Frame
+stack_of fs = reverse (map frame_of fs)
+
+abbrev pub state_of : Reader → State
+state_of r = record { spare = r.spare; open_ = stack_of r.frames.items; top = data_of r.top }
+
+-- the answer is the fault that the error names; want of memory says nothing of it
+abbrev pub Fails : {X : Type 0} → ReadError → Result X Fault → Type 0
+Fails errors.Memory r = Unit {0}
+Fails (errors.Unclosed at) r = r ≡ Err (fault.Unclosed at)
+Fails (errors.StrayClose at) r = r ≡ Err (fault.StrayClose at)
+Fails (errors.BadToken at) r = r ≡ Err (fault.Flawed at bad_token)
+Fails (errors.BadNumber at) r = r ≡ Err (fault.Flawed at bad_number)
+Fails (errors.BadString at) r = r ≡ Err (fault.Flawed at bad_string)
+Fails (errors.DeepNesting at) r = r ≡ Err (fault.DeepNesting at)
+Fails (errors.LiteralRange at) r = r ≡ Err (fault.LiteralRange at)
+
+abbrev pub Gives : {A X : Type 0} → (A → X) → Result A ReadError → Result X Fault → Type 0
+Gives view (Ok a) r = r ≡ Ok (view a)
+Gives view (Err e) r = Fails e r
+
+-- a step of the code is that of the machine, and leaves its state
+abbrev pub StepsTo : {A : Type 0} → Result A ReadError → Result State Fault → State → Type 0
+StepsTo (Ok a) r s = r ≡ Ok s
+StepsTo (Err e) r s = Fails e r
+
+-- these tokens lead from old to new, or to the fault, whatever comes after them
+abbrev pub Feeds : {A : Type 0} → Result A ReadError → State → State → (List Token → List Token) → Type 0
+Feeds (Ok a) old new front = (ts : List Token) → runs old (front ts) ≡ runs new ts
+Feeds (Err e) old new front = (ts : List Token) → Fails e (runs old (front ts))

@@ -1,0 +1,29 @@
+-- What the values of the code stand for, in the grammar's words.
+use Rattle.std.specs.Prelude.{◌≡◌, ℕ, List, [], ◌∷◌, map, reverse, Option, Some, None}
+use Rattle.sch_read.specs.Grammar.{Data, atom, list, dotted, vector, none, cons, boolean, integer, character, text, symbol}
+use Rattle.sch_read.specs.Grammar as grammar
+use Rattle.sch_read.specs.Fault as fault
+use Rattle.sch_read.specs.declared.datum.Datum.{Datum, fold-Datum}
+use Rattle.sch_read.specs.declared.datum.Node.TheOpen.{Node-F}
+
+abbrev pub gather : List grammar.Datum → Data
+gather [] = none
+gather (d ∷ ds) = cons d (gather ds)
+
+-- one level, at a place
+abbrev pub node_view : {A : Type 0} → Node-F A grammar.Datum → ℕ → grammar.Datum
+node_view (Node-F.Boolean b) at = atom at (boolean b)
+node_view (Node-F.Integer z) at = atom at (integer z)
+node_view (Node-F.Character c) at = atom at (character c)
+node_view (Node-F.Text bs) at = atom at (text bs)
+node_view (Node-F.Symbol bs) at = atom at (symbol bs)
+node_view (Node-F.List ds None) at = list at (gather ds)
+node_view (Node-F.List ds (Some last)) at = dotted at (gather ds) last.value
+node_view (Node-F.Vector ds) at = vector at (gather ds)
+
+-- the tree of a datum, and the trees of a list of data
+abbrev pub tree_of : Datum → grammar.Datum
+tree_of = fold-Datum (ℕ → grammar.Datum) grammar.Datum node_view (λ d. d.node d.at)
+
+abbrev pub data_of : List Datum → Data
+data_of ds = gather (map tree_of ds)

@@ -1,0 +1,28 @@
+//! The bytes of a text by their use.
+
+ghost use Rattle.std.specs.Prelude.{◌≡◌};
+ghost use Rattle.sch_read.specs.Letters as letters;
+
+pub(crate) fn is_white(b: u8) -> bool
+    ensures { result ≡ letters.is_white b }
+{
+    b == b' ' || b == b'\t' || b == b'\n' || b == b'\r' || b == 12
+}
+
+pub(crate) fn is_delimiter(b: u8) -> bool
+    ensures { result ≡ letters.is_delimiter b }
+{
+    is_white(b) || b == b'(' || b == b')' || b == b'"' || b == b';'
+}
+
+pub(crate) fn is_initial(b: u8) -> bool
+    ensures { result ≡ letters.is_initial b }
+{
+    b.is_ascii_alphabetic() || b"!$%&*/:<=>?^_~".contains(&b)
+}
+
+pub(crate) fn is_subsequent(b: u8) -> bool
+    ensures { result ≡ letters.is_subsequent b }
+{
+    is_initial(b) || b.is_ascii_digit() || b"+-.@".contains(&b)
+}

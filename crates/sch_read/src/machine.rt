@@ -1,0 +1,237 @@
+//! Tokens one after another, with a stack of what is open.
+
+ghost use Rattle.std.specs.Prelude.{◌≡◌, ℕ, ◌+◌, ◌<◌, ◌≤◌, [], ◌∷◌, OnOk, vec_len};
+
+use crate::build::{elements, listed, plain, quote, tailed};
+use crate::datum::Datum;
+use crate::error::{ReadError, flawed};
+use crate::token::{Flaw, Opener, Token};
+
+use sch_word::{List, Mem};
+use std::alloc::Global;
+
+/// What is open, with its place and what was read of it.
+#[derive(Drop)]
+pub(crate) enum Frame {
+    /// A list with its items so far.
+    Items(u32, List<Datum>),
+    /// A list after its dot.
+    AfterDot(u32, List<Datum>),
+    /// A list with the datum after its dot.
+    Tail(u32, List<Datum>, Datum),
+    /// A vector with its elements so far.
+    Elements(u32, List<Datum>),
+    /// A quote that waits for its datum.
+    Waiting(u32),
+}
+
+/// The levels that may still be opened, what is open, the innermost last, and the data before.
+#[derive(Drop)]
+pub(crate) struct Reader {
+    pub(crate) alloc: Global,
+    pub(crate) spare: u32,
+    pub(crate) frames: Vec<Frame>,
+    pub(crate) top: List<Datum>,
+    ghost bounded: { spare + vec_len frames ≤ 1000 },
+}
+
+impl Reader {
+    ghost use Rattle.sch_read.specs.Machine.{put, start, in_list, in_vector, in_tail, at_top, point, step};
+    ghost use Rattle.sch_read.specs.Grammar.{none, Open, with_tail, Datum as Tree, Data};
+    ghost use Rattle.sch_read.specs.Views.{tree_of, data_of};
+    ghost use Rattle.sch_read.specs.StateViews.{state_of, stack_of, frame_of, StepsTo};
+    ghost use Rattle.sch_read.specs.TokenViews.{token_of, opener_of};
+
+    /// Nothing is read yet.
+    pub(crate) fn new(alloc: Global) -> Reader
+        ensures { state_of result ≡ record { spare = 1000; open_ = []; top = none } }
+    {
+        Reader {
+            alloc,
+            spare: 1000,
+            frames: Vec::new(alloc),
+            top: List::new(alloc),
+        }
+    }
+
+    /// A datum is whole: it goes into what is open.
+    #[tactic(auto, using(crate::proofs::TreeLemmas::data_of_push, crate::proofs::StackLemmas::stack_of_push))]
+    fn put(&mut self, d: Datum) -> Result<(), Mem>
+        ensures { OnOk result (state_of self.new ≡ put self.old.spare (tree_of d) (stack_of self.old.frames.items) (data_of self.old.top)) }
+    {
+        let mut d = d;
+        while let Some(frame) = self.frames.pop() {
+            match frame {
+                Frame::Items(at, mut items) => {
+                    items.push(d)?;
+                    self.frames.push(Frame::Items(at, items))?;
+                    return Ok(());
+                }
+                Frame::AfterDot(at, items) => {
+                    self.frames.push(Frame::Tail(at, items, d))?;
+                    return Ok(());
+                }
+                Frame::Tail(at, items, last) => {
+                    self.frames.push(Frame::Tail(at, items, last))?;
+                    return Ok(());
+                }
+                Frame::Elements(at, mut items) => {
+                    items.push(d)?;
+                    self.frames.push(Frame::Elements(at, items))?;
+                    return Ok(());
+                }
+                Frame::Waiting(at) => {
+                    d = quote(self.alloc, at, d)?;
+                    self.spare += 1;
+                }
+            }
+        }
+        self.top.push(d)?;
+        Ok(())
+    }
+
+    /// A token where a datum may begin.
+    #[tactic(auto, using(crate::proofs::StackLemmas::stack_of_push))]
+    fn start(&mut self, at: u32, token: Token) -> Result<(), ReadError>
+        ensures { StepsTo result (start self.old.spare (stack_of self.old.frames.items) (data_of self.old.top) (token_of at token)) (state_of self.new) }
+    {
+        match token {
+            Token::Plain(value) => {
+                self.put(plain(at, value))?;
+                Ok(())
+            }
+            Token::Open(opener) => self.enter(at, opener),
+            Token::Close => Err(ReadError::BadToken(at)),
+            Token::Dot => Err(ReadError::BadToken(at)),
+            Token::Huge => Err(ReadError::LiteralRange(at)),
+            Token::Bad(flaw) => Err(flawed(at, flaw)),
+        }
+    }
+
+    /// A level more, where one is left.
+    #[tactic(auto, using(crate::proofs::StackLemmas::stack_of_push))]
+    fn enter(&mut self, at: u32, opener: Opener) -> Result<(), ReadError>
+        ensures { StepsTo result (start self.old.spare (stack_of self.old.frames.items) (data_of self.old.top) (Open at (opener_of opener))) (state_of self.new) }
+    {
+        if self.spare == 0 {
+            return Err(ReadError::DeepNesting(at));
+        }
+        self.spare -= 1;
+        let frame = match opener {
+            Opener::Parenthesis => Frame::Items(at, List::new(self.alloc)),
+            Opener::HashParenthesis => Frame::Elements(at, List::new(self.alloc)),
+            Opener::QuoteMark => Frame::Waiting(at),
+        };
+        self.push(frame)?;
+        Ok(())
+    }
+
+    /// One more frame, the innermost.
+    fn push(&mut self, frame: Frame) -> Result<(), Mem>
+        requires { self.old.spare + vec_len self.old.frames < 1000 }
+        ensures { OnOk result (state_of self.new ≡ record (state_of self.old) { open_ = frame_of frame ∷ stack_of self.old.frames.items }) }
+    {
+        self.frames.push(frame)?;
+        Ok(())
+    }
+
+    /// A token in an open list.
+    #[tactic(auto, using(crate::proofs::StackLemmas::stack_of_push))]
+    fn in_list(&mut self, place: u32, items: List<Datum>, at: u32, token: Token) -> Result<(), ReadError>
+        requires { self.old.spare + vec_len self.old.frames < 1000 }
+        ensures { StepsTo result (in_list self.old.spare place (data_of items) (stack_of self.old.frames.items) (data_of self.old.top) (token_of at token)) (state_of self.new) }
+    {
+        match token {
+            Token::Close => {
+                self.spare += 1;
+                self.put(listed(place, items))?;
+                Ok(())
+            }
+            Token::Dot => self.point(place, items, at),
+            token => {
+                self.push(Frame::Items(place, items))?;
+                self.start(at, token)
+            }
+        }
+    }
+
+    /// The dot of a list.
+    #[tactic(auto, using(crate::proofs::StackLemmas::point_some))]
+    fn point(&mut self, place: u32, items: List<Datum>, at: u32) -> Result<(), ReadError>
+        requires { self.old.spare + vec_len self.old.frames < 1000 }
+        ensures { StepsTo result (point self.old.spare place (data_of items) (stack_of self.old.frames.items) (data_of self.old.top) at) (state_of self.new) }
+    {
+        if items.is_empty() {
+            return Err(ReadError::BadToken(at));
+        }
+        self.push(Frame::AfterDot(place, items))?;
+        Ok(())
+    }
+
+    /// A token in an open vector.
+    #[tactic(auto, using(crate::proofs::StackLemmas::stack_of_push))]
+    fn in_vector(&mut self, place: u32, items: List<Datum>, at: u32, token: Token) -> Result<(), ReadError>
+        requires { self.old.spare + vec_len self.old.frames < 1000 }
+        ensures { StepsTo result (in_vector self.old.spare place (data_of items) (stack_of self.old.frames.items) (data_of self.old.top) (token_of at token)) (state_of self.new) }
+    {
+        match token {
+            Token::Close => {
+                self.spare += 1;
+                self.put(elements(place, items))?;
+                Ok(())
+            }
+            token => {
+                self.push(Frame::Elements(place, items))?;
+                self.start(at, token)
+            }
+        }
+    }
+
+    /// A token after a dot's datum; `whole` is the list so far.
+    fn in_tail(&mut self, whole: Datum, at: u32, token: Token) -> Result<(), ReadError>
+        requires { self.old.spare + vec_len self.old.frames < 1000 }
+        ensures { (place : ℕ) (xs : Data) (last : Tree) → tree_of whole ≡ with_tail place xs last →
+            StepsTo result (in_tail self.old.spare place xs last (stack_of self.old.frames.items) (data_of self.old.top) (token_of at token)) (state_of self.new) }
+    {
+        match token {
+            Token::Close => {
+                self.spare += 1;
+                self.put(whole)?;
+                Ok(())
+            }
+            Token::Bad(flaw) => Err(flawed(at, flaw)),
+            _ => Err(ReadError::BadToken(at)),
+        }
+    }
+
+    /// A token.
+    #[tactic(auto, using(crate::proofs::StackLemmas::stack_of_push))]
+    pub(crate) fn step(&mut self, at: u32, token: Token) -> Result<(), ReadError>
+        ensures { StepsTo result (step self.old.spare (stack_of self.old.frames.items) (data_of self.old.top) (token_of at token)) (state_of self.new) }
+    {
+        match self.frames.pop() {
+            None => self.at_top(at, token),
+            Some(Frame::Items(place, items)) => self.in_list(place, items, at, token),
+            Some(Frame::Elements(place, items)) => self.in_vector(place, items, at, token),
+            Some(Frame::Tail(place, items, last)) => {
+                let whole = tailed(self.alloc, place, items, last)?;
+                self.in_tail(whole, at, token)
+            }
+            Some(frame) => {
+                self.push(frame)?;
+                self.start(at, token)
+            }
+        }
+    }
+
+    /// A token with nothing open.
+    fn at_top(&mut self, at: u32, token: Token) -> Result<(), ReadError>
+        requires { self.old.frames.items ≡ [] }
+        ensures { StepsTo result (at_top self.old.spare (data_of self.old.top) (token_of at token)) (state_of self.new) }
+    {
+        match token {
+            Token::Close => Err(ReadError::StrayClose(at)),
+            token => self.start(at, token),
+        }
+    }
+}

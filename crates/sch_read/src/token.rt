@@ -1,0 +1,45 @@
+//! Tokens, as the code keeps them.
+
+use sch_word::{Bytes, Fix};
+
+/// What is wrong with a token that is ill formed.
+#[derive(Clone, Copy, Drop)]
+pub(crate) enum Flaw {
+    Token,
+    Number,
+    String,
+}
+
+#[derive(Clone, Copy, Drop)]
+pub(crate) enum Opener {
+    Parenthesis,
+    HashParenthesis,
+    QuoteMark,
+}
+
+#[derive(Drop)]
+pub(crate) enum Atom {
+    Boolean(bool),
+    Integer(Fix),
+    Character(u8),
+    Text(Bytes),
+    Symbol(Bytes),
+}
+
+/// `Huge` is an integer that is no fixnum, `Bad` what is no token.
+#[derive(Drop)]
+pub(crate) enum Token {
+    Open(Opener),
+    Close,
+    Dot,
+    Plain(Atom),
+    Huge,
+    Bad(Flaw),
+}
+
+/// A token and its place; a bad one stands at its fault.
+#[derive(Drop)]
+pub(crate) struct Placed {
+    pub(crate) at: u32,
+    pub(crate) token: Token,
+}
