@@ -3,18 +3,21 @@ use Rattle.std.specs.Prelude.{◌≡◌, ℕ, List, [], ◌∷◌, ◌++◌, ◌
 use Rattle.sch_io.specs.Told.{Tells}
 use Rattle.sch_io.specs.Counters.{Rose}
 
+abbrev pub usage_line : List ℕ
+usage_line = codes "usage: schc VERB NAME [NAME2] [--listing F] [--heap N] [--depth N] [--steps N]\n"
+
+abbrev pub out_of_memory_line : List ℕ
+out_of_memory_line = codes "out of memory\n"
+
 -- the line for a status, where these are the names in the command
 abbrev pub line_of : ℕ → List ℕ → List ℕ → List ℕ
 line_of status source target =
     if status == 2 then source ++ codes ": read failed\n"
     else if status == 3 then target ++ codes ": write failed\n"
     else if status == 7 then source ++ codes ": limit file\n"
-    else if status == 10 then codes "out of memory\n"
+    else if status == 10 then out_of_memory_line
     else if status == 11 then source ++ codes ": not built\n"
     else []
-
-abbrev pub usage_line : List ℕ
-usage_line = codes "usage: schc VERB NAME [NAME2] [--listing F] [--heap N] [--depth N] [--steps N]\n"
 
 -- An outlet that tells has taken a prefix of the line, and the whole line where its faults did not rise.
 pub record Said (line before after : List ℕ) (faults faults' : ℕ) : Type 0 where

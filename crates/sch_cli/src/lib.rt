@@ -1,17 +1,19 @@
 //! The one call that the program makes, with what it promises.
 #![tactic(auto)]
 
-ghost use Rattle.std.specs.Prelude.{◌≡◌, ◌≢◌, ◌≤◌, ◌<◌, ◌+◌, ◌^◌, ◌⊎◌, map, string_bytes};
+ghost use Rattle.std.specs.Prelude.{◌≡◌, ◌≢◌, ◌≤◌, ◌<◌, ◌+◌, ◌^◌, ◌⊎◌, map, string_bytes, if◌then◌else◌, ◌==◌};
 ghost use Rattle.sch_io.specs.Counters.{Rose};
 ghost use Rattle.sch_io.specs.Files.{Spoils};
 ghost use Rattle.sch_io.specs.Told.{Tells};
 ghost use Rattle.sch_cli.specs.Command.{IsCommand, source_of, target_of};
 ghost use Rattle.sch_cli.specs.Compiles.{Compiled, HasStatus, IsVerdict, Source};
-ghost use Rattle.sch_cli.specs.Messages.{Says, line_of, usage_line};
+ghost use Rattle.sch_cli.specs.Messages.{Says, line_of, out_of_memory_line, usage_line};
 
 mod command;
 mod compile;
 mod message;
+#[cfg(test)]
+mod tests;
 mod thin;
 
 use command::read_words;
@@ -19,6 +21,10 @@ use compile::compile;
 use message::say;
 use sch_io::{Disk, Outlet};
 use std::alloc::Global;
+use std::io::{Error, ErrorKind};
+
+const USAGE: &str =
+    "usage: schc VERB NAME [NAME2] [--listing F] [--heap N] [--depth N] [--steps N]";
 
 /// Does what the program does, on the words after its name, and answers its exit status.
 ///
@@ -65,12 +71,22 @@ pub fn schc<D: Disk, O: Outlet, E: Outlet>(
     match read_words(words) {
         Some(names) => compile(alloc, names.source, names.target, disk, err),
         None => {
-            say(
-                err,
-                "usage: schc VERB NAME [NAME2] [--listing F] [--heap N] [--depth N] [--steps N]",
-                "\n",
-            );
+            say(err, USAGE, "\n");
             1
         }
     }
+}
+
+/// Answers for words that could not be taken from the host: 10 where there was no memory for them, and
+/// 1 where one is no text.
+pub fn report_words<E: Outlet>(error: &Error, err: &mut E) -> u8
+    ensures status { (result ≡ 1) ⊎ (result ≡ 10) }
+    ensures line { Says (if result == 1 then usage_line else out_of_memory_line) (E.bytes err.old) (E.bytes err.new) (E.faults err.old) (E.faults err.new) }
+{
+    if error.kind() == ErrorKind::OutOfMemory {
+        say(err, "", "out of memory\n");
+        return 10;
+    }
+    say(err, USAGE, "\n");
+    1
 }

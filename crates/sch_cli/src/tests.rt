@@ -1,0 +1,204 @@
+//! The program's call over a disk and outlets in memory.
+use crate::schc;
+use sch_io::{Disk, MemDisk, MemOutlet, NullOutlet};
+use sch_word::{Answer, Bytes};
+use std::alloc::Global;
+use std::test::Fail;
+
+// What a call answered, what the file `b` then holds, and what was said.
+#[derive(Drop)]
+struct Outcome {
+    status: u8,
+    target: Option<Bytes>,
+    said: Vec<u8>,
+}
+
+// Calls the program on a disk whose only file is `a`, where the calls of the disk with these numbers
+// fail, and the standard error answers by this plan.
+fn call(
+    alloc: Global,
+    words: &[&str],
+    source: &[u8],
+    failing: &[u64],
+    plan: &[Answer],
+) -> Result<Outcome, Fail> {
+    let mut all = Vec::new(alloc);
+    for word in words {
+        all.push(String::from_str(alloc, word)?)?;
+    }
+    let files = [(
+        Bytes::from_slice(alloc, b"a")?,
+        Bytes::from_slice(alloc, source)?,
+    )];
+    let mut disk = MemDisk::new(alloc, &files, 20_000, failing)?;
+    let mut out = NullOutlet::new();
+    let mut err = MemOutlet::new(alloc, plan, 1000)?;
+    let status = schc(alloc, all.as_slice(), &mut disk, &mut out, &mut err);
+    let said = Vec::from_slice(alloc, err.taken())?;
+    let target = disk.read(alloc, "b", 20_000).ok();
+    Ok(Outcome {
+        status,
+        target,
+        said,
+    })
+}
+
+fn compile(alloc: Global, source: &[u8]) -> Result<Outcome, Fail> {
+    call(alloc, &["compile", "a", "b"], source, &[], &[])
+}
+
+#[test]
+fn thin_texts_compile(rt: HostRuntime) -> Result<(), Fail> {
+    let texts: [&[u8]; 7] = [
+        b"",
+        b" \t\n\r\x0c",
+        b"(display -42)\n(newline)",
+        b"(display -0)",
+        b"(display 007)",
+        b"( display\t\n 999999999999999999 ) (\nnewline )",
+        b"(display -123456789012345678)(display 1)",
+    ];
+    for text in texts {
+        let outcome = compile(rt.alloc(), text)?;
+        assert_eq!(rt; outcome.status, 0);
+        assert_eq!(rt; outcome.said.as_slice(), [].as_slice());
+        assert!(rt; outcome.target.is_some());
+    }
+    Ok(())
+}
+
+#[test]
+fn other_texts_are_not_built(rt: HostRuntime) -> Result<(), Fail> {
+    let texts: [&[u8]; 14] = [
+        b"(display 1) x",
+        b"(display \"a\")",
+        b"(newlin)",
+        b"(display 1",
+        b"(display 1000000000000000000)",
+        b"(display1)",
+        b"(display - 1)",
+        b"(display +1)",
+        b"(display)",
+        b"(newline 1)",
+        b"(NEWLINE)",
+        b"; a comment",
+        b"(display 1)\x0b",
+        b"\xff",
+    ];
+    for text in texts {
+        let outcome = compile(rt.alloc(), text)?;
+        assert_eq!(rt; outcome.status, 11);
+        assert_eq!(rt; outcome.said.as_slice(), b"a: not built\n".as_slice());
+        assert!(rt; outcome.target.is_none());
+    }
+    Ok(())
+}
+
+// The places of the numbers are those of the ELF-64 header and program headers; the code is as GNU as
+// writes it.
+#[test]
+fn program_has_its_bytes(rt: HostRuntime) -> Result<(), Fail> {
+    let outcome = compile(rt.alloc(), b"(display -42)\n(newline)\n")?;
+    let file = outcome.target.ok_or("no file")?;
+    let file = file.as_slice();
+    assert_eq!(rt; file.len(), 0x2004);
+    let places: [(usize, &[u8]); 11] = [
+        (0, &[0x7f, b'E', b'L', b'F', 2, 1, 1, 0]),
+        (24, &[0, 0, 0x40, 0, 0, 0, 0, 0]),
+        (80, &[0, 0, 0x40, 0, 0, 0, 0, 0]),
+        (136, &[0, 0, 0, 0x10, 0, 0, 0, 0]),
+        (0x1000, &[0xe9, 60, 0, 0, 0]),
+        (
+            0x1015,
+            &[0x48, 0x81, 0xf8, 0, 0, 0, 0, 0x0f, 0x8e, 15, 0, 0, 0],
+        ),
+        (0x1041, &[0x48, 0xc7, 0xc6, 0, 0, 0, 0x10]),
+        (0x1048, &[0x48, 0xc7, 0xc2, 3, 0, 0, 0]),
+        (0x104f, &[0x4c, 0x8d, 0x3d, 5, 0, 0, 0]),
+        (0x1056, &[0xe9, 0xaa, 0xff, 0xff, 0xff]),
+        (0x2000, b"-42\n"),
+    ];
+    for (place, bytes) in places {
+        let (_, rest) = file.split_at_checked(place).ok_or("too short")?;
+        assert!(rt; rest.starts_with(bytes), "at {place}");
+    }
+    Ok(())
+}
+
+#[test]
+fn words_that_are_no_command(rt: HostRuntime) -> Result<(), Fail> {
+    let commands: [&[&str]; 8] = [
+        &[],
+        &["compile"],
+        &["compile", "a"],
+        &["compile", "a", "a"],
+        &["compile", "", "b"],
+        &["compile", "a", ""],
+        &["compile", "a", "b", "c"],
+        &["run", "a", "b"],
+    ];
+    for words in commands {
+        let outcome = call(rt.alloc(), words, b"", &[], &[])?;
+        assert_eq!(rt; outcome.status, 1);
+        assert_eq!(rt;
+            outcome.said.as_slice(),
+            b"usage: schc VERB NAME [NAME2] [--listing F] [--heap N] [--depth N] [--steps N]\n".as_slice()
+        );
+        assert!(rt; outcome.target.is_none());
+    }
+    Ok(())
+}
+
+#[test]
+fn a_disk_that_fails(rt: HostRuntime) -> Result<(), Fail> {
+    let absent = call(rt.alloc(), &["compile", "c", "b"], b"", &[], &[])?;
+    assert_eq!(rt; absent.status, 2);
+    assert_eq!(rt; absent.said.as_slice(), b"c: read failed\n".as_slice());
+    let read = call(rt.alloc(), &["compile", "a", "b"], b"", &[0], &[])?;
+    assert_eq!(rt; read.status, 2);
+    let write = call(rt.alloc(), &["compile", "a", "b"], b"", &[1], &[])?;
+    assert_eq!(rt; write.status, 3);
+    assert_eq!(rt; write.said.as_slice(), b"b: write failed\n".as_slice());
+    Ok(())
+}
+
+// The line goes on after a short write, and ends at one that fails.
+#[test]
+fn an_outlet_that_fails(rt: HostRuntime) -> Result<(), Fail> {
+    let words: [&str; 3] = ["compile", "c", "b"];
+    let short = call(
+        rt.alloc(),
+        &words,
+        b"",
+        &[],
+        &[Answer::Took(1), Answer::Took(3)],
+    )?;
+    assert_eq!(rt; short.status, 2);
+    assert_eq!(rt; short.said.as_slice(), b"c: read failed\n".as_slice());
+    let failed = call(
+        rt.alloc(),
+        &words,
+        b"",
+        &[],
+        &[Answer::Took(1), Answer::Took(3), Answer::Failed],
+    )?;
+    assert_eq!(rt; failed.status, 2);
+    assert_eq!(rt; failed.said.as_slice(), b"c: r".as_slice());
+    Ok(())
+}
+
+#[test]
+fn a_source_of_the_greatest_length(rt: HostRuntime) -> Result<(), Fail> {
+    let mut spaces = Vec::new(rt.alloc());
+    for _ in 0..1_048_576 {
+        spaces.push(b' ')?;
+    }
+    let outcome = compile(rt.alloc(), spaces.as_slice())?;
+    assert_eq!(rt; outcome.status, 0);
+    spaces.push(b' ')?;
+    let outcome = compile(rt.alloc(), spaces.as_slice())?;
+    assert_eq!(rt; outcome.status, 7);
+    assert_eq!(rt; outcome.said.as_slice(), b"a: limit file\n".as_slice());
+    assert!(rt; outcome.target.is_none());
+    Ok(())
+}
