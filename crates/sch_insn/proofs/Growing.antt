@@ -10,7 +10,7 @@ use Rattle.sch_insn.specs.declared.insn.Insn.{Insn}
 use Rattle.sch_insn.specs.declared.insn.Insn.TheVariants.{Syscall}
 use Rattle.sch_insn.specs.declared.machine.StuckCause.{StuckCause}
 use Rattle.sch_insn.specs.Machine.{Core, State, with_place}
-use Rattle.sch_insn.specs.Step.{Progress, Runs, Exited, Stuck, act, kernel, write_row, piece_written, answered, moved, perform, fetch, fetched, step, go_on, mach}
+use Rattle.sch_insn.specs.Step.{Progress, Runs, Exited, Stuck, act, kernel, write_row, piece_written, answered, moved, perform, fetch, fetched, step, go_on, standing, mach}
 use Rattle.sch_insn.specs.Behaves.{Given, start, output_of, IsPrefix, Ending, Behaves}
 use Rattle.sch_insn.proofs.Steps.{Comes}
 
@@ -67,8 +67,19 @@ go_grows n (Runs s) h = h s
 go_grows n (Exited status output) h = prefix_same output
 go_grows n (Stuck cause s) h = prefix_same s.output
 
+-- Where no step is left, what a machine has come to has grown as after its next step.
+standing_grows : (s : State) (e : Progress) → Grows s.output e → IsPrefix s.output (output_of (standing s e))
+standing_grows s (Runs t) g = prefix_same s.output
+standing_grows s (Exited status output) g = prefix_same s.output
+standing_grows s (Stuck cause t) g = g.by
+
+standing_before : (s : State) (e : Progress) (n : ℕ) → Grows s.output e → ((t : State) → IsPrefix t.output (output_of (mach n t))) → IsPrefix (output_of (standing s e)) (output_of (go_on e (mach n)))
+standing_before s (Runs t) n g h = prefix_then s.output t.output (output_of (mach n t)) g.by (h t)
+standing_before s (Exited status output) n g h = g.by
+standing_before s (Stuck cause t) n g h = prefix_same t.output
+
 pub mach_grows : (n : ℕ) (s : State) → IsPrefix s.output (output_of (mach n s))
-mach_grows zero s = prefix_same s.output
+mach_grows zero s = standing_grows s (step s) (step_grows s)
 mach_grows (suc n) s = prefix_then s.output (output_of (step s)) (output_of (mach (suc n) s)) (step_grows s).by (go_grows n (step s) (mach_grows n))
 
 go_more : (m n : ℕ) (e : Progress) → ((s : State) → IsPrefix (output_of (mach m s)) (output_of (mach n s))) → IsPrefix (output_of (go_on e (mach m))) (output_of (go_on e (mach n)))
@@ -78,7 +89,8 @@ go_more m n (Stuck cause s) h = prefix_same s.output
 
 -- In fewer steps the output is a prefix.
 pub more_grows : (m n : ℕ) (s : State) → m ≤ n → IsPrefix (output_of (mach m s)) (output_of (mach n s))
-more_grows zero n s le = mach_grows n s
+more_grows zero zero s le = prefix_same (output_of (mach zero s))
+more_grows zero (suc n) s le = standing_before s (step s) n (step_grows s) (mach_grows n)
 more_grows (suc m) zero s le = absurd (omega arith)
 more_grows (suc m) (suc n) s le = go_more m n (step s) (λ t. more_grows m n t (omega arith))
 
@@ -92,9 +104,15 @@ go_stays m n (Runs s) o over h e = h s e
 go_stays m n (Exited status output) o over h e = e
 go_stays m n (Stuck cause s) o over h e = e
 
+standing_stays : (s : State) (e o : Progress) (n : ℕ) → IsOver o → standing s e ≡ o → go_on e (mach n) ≡ o
+standing_stays s (Runs t) o n over e = absurd (subst IsOver (sym e) over)
+standing_stays s (Exited status output) o n over e = absurd (subst IsOver (sym e) over)
+standing_stays s (Stuck cause t) o n over e = e
+
 -- What is over stays as it is.
 pub stays : (m n : ℕ) (s : State) (o : Progress) → IsOver o → m ≤ n → mach m s ≡ o → mach n s ≡ o
-stays zero n s o over le e = absurd (subst IsOver (sym e) over)
+stays zero zero s o over le e = e
+stays zero (suc n) s o over le e = standing_stays s (step s) o n over e
 stays (suc m) zero s o over le e = absurd (omega arith)
 stays (suc m) (suc n) s o over le e = go_stays m n (step s) o over (λ t. stays m n t o over (omega arith)) e
 

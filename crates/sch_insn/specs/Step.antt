@@ -181,7 +181,13 @@ go_on (Runs s) f = f s
 go_on (Exited status output) f = Exited status output
 go_on (Stuck cause s) f = Stuck cause s
 
--- The bounded run: what a machine has come to after at most n steps.
+-- A state is stuck where it has no row, whether a step is tried or not.
+abbrev pub standing : State → Progress → Progress
+standing s (Runs t) = Runs s
+standing s (Exited status output) = Runs s
+standing s (Stuck cause t) = Stuck cause t
+
+-- The bounded run: what a machine has come to after at most n steps. It has exited, is stuck, or runs on.
 abbrev pub mach : ℕ → State → Progress
-mach zero s = Runs s
+mach zero s = standing s (step s)
 mach (suc n) s = go_on (step s) (mach n)
