@@ -16,7 +16,7 @@ empty = record {
   statics = record { symbols = []; literals = no_literals; globals = [] };
   library = no_lambdas;
   forms = no_expressions;
-  sites = []
+  sites = [];
 }
 
 pub empty_source : (symbols : List (List ℕ)) (literals : List Lit) (globals : List (Option ℕ)) (library : List Lambda) (forms : List Exp) (sites : List ℕ) → symbols ≡ [] → literals ≡ [] → globals ≡ [] → library ≡ [] → forms ≡ [] → sites ≡ [] → source_of symbols literals globals library forms sites ≡ empty
@@ -24,5 +24,5 @@ empty_source symbols literals globals library forms sites a b c d e f = λ i. re
   statics = record { symbols = a i; literals = (ap literals_of b ∙ literals_of_list []) i; globals = c i };
   library = (ap lambdas_of d ∙ lambdas_of_list []) i;
   forms = (ap expressions_of e ∙ expressions_of_list []) i;
-  sites = f i
+  sites = f i;
 }

@@ -1,12 +1,12 @@
 -- What the small programs do: what each prints, how it ends, how many entries it takes and how many
 -- bytes it is charged. Each statement is computed.
-use Rattle.std.proofs.Common.{◌≡◌, refl, ℕ, true, [], ◌∷◌, pos}
+use Rattle.std.proofs.Common.{◌≡◌, refl, true, [], ◌∷◌, pos}
 use Rattle.std.specs.Prelude.{codes}
 use Rattle.std.specs.Fmt.{digits}
 use Rattle.sch_word.specs.declared.answer.Answer.TheVariants.{Took, Failed}
 use Rattle.sch_word.specs.Runs.{ended}
 use Rattle.sch_lang.specs.Examples.{minus, plain_run, heap_run, ends, goes_on, assigned_formals, assigned_local, call_of_number, car_of_number, counter, divide_by_zero, divisions, endless, even_odd, library_call, loop_of, nested_literal, nested_nine, pairs, past_the_end, put_next, put_number, put_texts, recursive_inits, rest_list, sum_line, swap_thrice, two_orders, two_orders_table, two_procedures, unset_global, unset_init, written_literal, wrong_count}
-use Rattle.sch_lang.specs.Run.{run, is_order_table}
+use Rattle.sch_lang.specs.Run.{run}
 use Rattle.sch_lang.specs.Valid.{is_valid}
 
 sum_line_runs : plain_run sum_line 1 0 ≡ ends (51 ∷ 10 ∷ []) 0 0 0

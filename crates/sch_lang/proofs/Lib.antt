@@ -1,4 +1,5 @@
 pub mod Empty
 mod Examples
+pub mod MoreEntries
 pub mod OwnOrders
 pub mod Rows

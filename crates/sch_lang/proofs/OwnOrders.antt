@@ -1,19 +1,18 @@
 -- A run depends on an order table at the program's own sites alone.
-use Rattle.std.proofs.Common.{◌≡◌, ℕ, zero, suc, Bool, true, false, List, [], ◌∷◌, ◌++◌, length, Option, Some, None, refl, sym, ap, ◌∙◌}
+use Rattle.std.proofs.Common.{◌≡◌, ℕ, zero, suc, Bool, true, false, List, [], ◌∷◌, ◌++◌, length, Option, Some, None, refl, ap}
 use Rattle.std.specs.Prelude.{slice_get}
-use Rattle.sch_word.specs.declared.answer.Answer.{Answer}
-use Rattle.sch_word.specs.Values.{Value, unspecified, constant_value, is_true}
-use Rattle.sch_word.specs.Computation.{State, Computation, read_literal, read_global, write_global, read_cell, write_cell, some_each, unset_each, take_entry, all_values, call_with}
+use Rattle.sch_word.specs.Values.{Value, unspecified, is_true}
+use Rattle.sch_word.specs.Computation.{Computation, read_literal, read_global, write_global, some_each, unset_each, take_entry}
 use Rattle.sch_word.specs.Charges.{charge, charge_each, fit}
 use Rattle.sch_word.specs.PrimitiveRows.{primitive}
 use Rattle.sch_word.specs.Runs.{starting_store}
-use Rattle.sch_word.proofs.Similar.{Similar, EachSimilar, no_similar, and_similar, SameOfLength, similar_gives, similar_stops, similar_spent, similar_either, similar_after, similar_then, similar_all_values, similar_in_turn}
-use Rattle.sch_word.proofs.SameStore.{same_store, Pairs, no_pairs, and_pair, DoesSame, Keeps, same_in_store, keeps_in_store, same_read_cell, same_write_cell, same_write_cells, same_new_procedure, keeps_new_cells, keeps_new_fix, same_keeping, same_call, same_seen, fit_length}
+use Rattle.sch_word.proofs.Similar.{EachSimilar, no_similar, and_similar, similar_gives, similar_stops, similar_spent, similar_either, similar_then, similar_all_values, similar_in_turn}
+use Rattle.sch_word.proofs.SameStore.{same_store, Pairs, no_pairs, and_pair, DoesSame, same_in_store, keeps_in_store, same_read_cell, same_write_cell, same_write_cells, same_new_procedure, keeps_new_cells, keeps_new_fix, same_keeping, same_call, same_seen, fit_length}
 use Rattle.sch_lang.specs.Tree.{Expression, Expressions, Lambdas, constant, literal, local, global, set_local, set_global, define, branch, sequence, bind, fix, letrec, lambda, call, operation, no_expressions, and_expression, no_lambdas, and_lambda, count, count_lambdas, Source}
 use Rattle.sch_lang.specs.Variables.{cells_of}
-use Rattle.sch_lang.specs.Measures.{over, over_each, over_lambdas, site_here, sites_of}
+use Rattle.sch_lang.specs.Measures.{over, over_each, over_lambdas, site_here}
 use Rattle.sch_lang.specs.Meaning.{Closure, Enter, Orders, with_cell, onto, closures, lambda_bytes, lambdas_bytes, cells_bytes, evaluate, each, parts, enter}
-use Rattle.sch_lang.specs.Run.{order_at, run}
+use Rattle.sch_lang.specs.Run.{order_at}
 use Rattle.sch_lang.specs.Laws.{AgreeOn, NeedsOwnOrders}
 
 abbrev joined : List (ℕ × ℕ) → List (ℕ × ℕ) → List (ℕ × ℕ)
@@ -75,8 +74,8 @@ module _ (orders orders' : Orders) where
       evaluate_same (branch x y z) a environment depth tail =
           similar_then (same_store Becomes) (evaluate_same x (agree_left (sites x) (sites y ++ sites z) a) environment depth false)
           (λ _ _ v. similar_either (same_store Becomes) (is_true v)
-              (evaluate_same y (agree_left (sites y) (sites z) (agree_right (sites x) (sites y ++ sites z) a)) environment depth tail)
-              (evaluate_same z (agree_right (sites y) (sites z) (agree_right (sites x) (sites y ++ sites z) a)) environment depth tail))
+          (evaluate_same y (agree_left (sites y) (sites z) (agree_right (sites x) (sites y ++ sites z) a)) environment depth tail)
+          (evaluate_same z (agree_right (sites y) (sites z) (agree_right (sites x) (sites y ++ sites z) a)) environment depth tail))
       evaluate_same (sequence es) a environment depth tail = similar_in_turn (same_store Becomes) unspecified (parts_same es a environment depth tail)
       evaluate_same (bind site es e) a environment depth tail =
           rw (← a.0) (same_keeping Becomes (similar_all_values (same_store Becomes) (orders site) (each_same es (agree_left (sites_each es) (sites e) a.1) environment depth))
@@ -98,7 +97,7 @@ module _ (orders orders' : Orders) where
           (λ _ _ _. same_new_procedure Becomes (record { same = refl; agree = a }))
       evaluate_same (call site f es) a environment depth tail =
           rw (← a.0) (same_keeping Becomes (similar_all_values (same_store Becomes) (orders site)
-              (and_similar (evaluate_same f (agree_left (sites f) (sites_each es) a.1) environment depth false) (each_same es (agree_right (sites f) (sites_each es) a.1) environment depth)))
+          (and_similar (evaluate_same f (agree_left (sites f) (sites_each es) a.1) environment depth false) (each_same es (agree_right (sites f) (sites_each es) a.1) environment depth)))
           (λ vs _. same_call Becomes enter1 enter2 same_enter tail depth vs))
       evaluate_same (operation site which es) a environment depth tail =
           rw (← a.0) (same_keeping Becomes (similar_all_values (same_store Becomes) (orders site) (each_same es a.1 environment depth))
@@ -136,8 +135,8 @@ needs_own_orders p = record {
       let orders' = order_at table' in
       same_seen (Becomes orders orders') answers entries _ _
       (similar_in_turn (same_store (Becomes orders orders')) unspecified
-          (each_same orders orders' (enter orders entries) (enter orders' entries) (enter_same orders orders' entries) p.forms
-              (agree_right orders orders' (sites_lambdas p.library) (sites_each p.forms) a) [] depth))
+      (each_same orders orders' (enter orders entries) (enter orders' entries) (enter_same orders orders' entries) p.forms
+      (agree_right orders orders' (sites_lambdas p.library) (sites_each p.forms) a) [] depth))
       (starting_store p.statics heap answers entries) (closures p.library []) (closures p.library [])
-      (closures_become orders orders' p.library [] (agree_left orders orders' (sites_lambdas p.library) (sites_each p.forms) a))
+      (closures_become orders orders' p.library [] (agree_left orders orders' (sites_lambdas p.library) (sites_each p.forms) a));
 }

@@ -1,5 +1,5 @@
 -- The trees of a list of expressions are the list of their trees, and so for lambdas.
-use Rattle.std.proofs.Common.{◌≡◌, List, [], ◌∷◌, refl, sym, ap, ◌∙◌, map}
+use Rattle.std.proofs.Common.{◌≡◌, List, refl, sym, ap, ◌∙◌, map}
 use Rattle.sch_lang.specs.declared.tree.Exp.{Exp, Row_of-Exp, end_of-Exp, more_of-Exp, items-the_row-Exp, items_hidden-the_row-Exp-0, Row_of-Lambda, end_of-Lambda, more_of-Lambda, items-the_row-Lambda, items_hidden-the_row-Lambda-1}
 use Rattle.sch_lang.specs.declared.tree.Exp.TheBlock.{hidden-the_row-Exp-0, hidden-the_row-Lambda-1}
 use Rattle.sch_lang.specs.declared.tree.Lambda.{Lambda}

@@ -1,13 +1,12 @@
 -- Small programs as core trees; proofs/Examples.antt says what each of them does.
-use Rattle.std.specs.Prelude.{ℕ, zero, suc, ◌+◌, Bool, true, false, ℤ, pos, negsuc, List, [], ◌∷◌, ◌++◌, Option, Some, None, codes, replicate}
-use Rattle.sch_word.specs.declared.answer.Answer.{Answer}
+use Rattle.std.specs.Prelude.{ℕ, zero, suc, Bool, true, false, ℤ, pos, negsuc, List, [], ◌∷◌, Some, None, codes, replicate}
 use Rattle.sch_word.specs.declared.constant.Const.TheVariants.{Fixnum, Character, Boolean, Nil, Symbol}
 use Rattle.sch_word.specs.declared.primitive.Primitive.{Primitive}
 use Rattle.sch_word.specs.declared.primitive.Primitive.TheVariants.{Eq, Cons, Car, Cdr, SetCar, Add, Subtract, Quotient, Modulo, Equal, StringSet, MakeVector, VectorRef, Put, SymbolLength}
 use Rattle.sch_word.specs.Literals.{Literals, text, list, elements, no_literals, and_literal}
 use Rattle.sch_word.specs.Literals as literals
 use Rattle.sch_word.specs.Runs.{Run, ended, going}
-use Rattle.sch_lang.specs.Tree.{Expression, Expressions, Lambdas, constant, literal, local, global, set_local, set_global, define, branch, sequence, bind, fix, letrec, lambda, call, operation, no_lambdas, and_lambda, expressions, Source}
+use Rattle.sch_lang.specs.Tree.{Expression, constant, literal, local, global, set_local, set_global, define, branch, sequence, bind, fix, letrec, lambda, call, operation, no_lambdas, and_lambda, expressions, Source}
 use Rattle.sch_lang.specs.Run.{run}
 
 -- ## Ways to write a program
@@ -43,7 +42,7 @@ program globals sites forms = record {
   statics = record { symbols = []; literals = no_literals; globals = replicate globals None };
   library = no_lambdas;
   forms = expressions forms;
-  sites = sites
+  sites = sites;
 }
 
 -- ## Ways to run it
@@ -121,16 +120,16 @@ loop_of n = record {
   library = no_lambdas;
   forms = expressions
       (define 0 (function 1 (branch (two 0 Equal (local 0) (number (pos 0))) (put 1 (literal 0))
-          (apply 2 (global 0) (two 3 Subtract (local 0) (number (pos 1)) ∷ []))))
+      (apply 2 (global 0) (two 3 Subtract (local 0) (number (pos 1)) ∷ []))))
       ∷ apply 4 (global 0) (number (pos n) ∷ []) ∷ []);
-  sites = 2 ∷ 1 ∷ 2 ∷ 2 ∷ 2 ∷ []
+  sites = 2 ∷ 1 ∷ 2 ∷ 2 ∷ 2 ∷ [];
 }
 
 -- (define (d n) (if (= n 0) 0 (+ 1 (d (- n 1))))) (%put (d 9))
 abbrev pub nested_nine : Source
 nested_nine = program 1 (2 ∷ 2 ∷ 2 ∷ 2 ∷ 1 ∷ 2 ∷ [])
     (define 0 (function 1 (branch (two 0 Equal (local 0) (number (pos 0))) (number (pos 0))
-        (two 1 Add (number (pos 1)) (apply 2 (global 0) (two 3 Subtract (local 0) (number (pos 1)) ∷ [])))))
+    (two 1 Add (number (pos 1)) (apply 2 (global 0) (two 3 Subtract (local 0) (number (pos 1)) ∷ [])))))
     ∷ put 4 (apply 5 (global 0) (number (pos 9) ∷ [])) ∷ [])
 
 -- (define p (cons 1 2)) (define x 10) (define (f a b) a)
@@ -141,9 +140,9 @@ two_orders = program 3 (2 ∷ 1 ∷ 3 ∷ 2 ∷ 1 ∷ 2 ∷ [])
     ∷ define 1 (number (pos 10))
     ∷ define 2 (function 2 (local 1))
     ∷ put 1 (apply 2 (global 2)
-        (two 3 Add (global 1) (one 4 Car (global 0))
-        ∷ sequence (expressions (set_global 1 (number (pos 20)) ∷ two 5 SetCar (global 0) (number (pos 5)) ∷ number (pos 0) ∷ []))
-        ∷ []))
+    (two 3 Add (global 1) (one 4 Car (global 0))
+    ∷ sequence (expressions (set_global 1 (number (pos 20)) ∷ two 5 SetCar (global 0) (number (pos 5)) ∷ number (pos 0) ∷ []))
+    ∷ []))
     ∷ [])
 
 -- a table for it with this order of the call's operator and operands
@@ -154,7 +153,7 @@ two_orders_table order = (0 ∷ 1 ∷ []) ∷ (0 ∷ []) ∷ order ∷ (0 ∷ 1 
 abbrev pub swap_thrice : Source
 swap_thrice = program 1 (2 ∷ 1 ∷ 4 ∷ 2 ∷ 4 ∷ [])
     (define 0 (function 3 (branch (two 0 Equal (local 0) (number (pos 0))) (put 1 (local 2))
-        (apply 2 (global 0) (local 1 ∷ local 2 ∷ two 3 Subtract (local 0) (number (pos 1)) ∷ []))))
+    (apply 2 (global 0) (local 1 ∷ local 2 ∷ two 3 Subtract (local 0) (number (pos 1)) ∷ []))))
     ∷ apply 4 (global 0) (number (pos 1) ∷ number (pos 2) ∷ number (pos 3) ∷ []) ∷ [])
 
 -- (define (f) (f)) (f)
@@ -172,7 +171,7 @@ library_call = record {
   statics = record { symbols = []; literals = no_literals; globals = Some 0 ∷ [] };
   library = and_lambda (codes "car") 1 false (one 0 Car (local 0)) no_lambdas;
   forms = expressions (apply 1 (global 0) (number (pos 1) ∷ []) ∷ []);
-  sites = 1 ∷ 2 ∷ []
+  sites = 1 ∷ 2 ∷ [];
 }
 
 -- ## Variables
@@ -189,7 +188,7 @@ unset_global = program 1 (1 ∷ []) (put 0 (global 0) ∷ define 0 (number (pos 
 abbrev pub even_odd : ℕ → Source
 even_odd n = program 0 (1 ∷ 2 ∷ 2 ∷ 2 ∷ 2 ∷ 2 ∷ 2 ∷ 2 ∷ [])
     (fix (and_lambda [] 1 false (half 1 true (local 1)) (and_lambda [] 1 false (half 4 false (local 2)) no_lambdas))
-        (put 0 (apply 7 (local 1) (number (pos n) ∷ []))) ∷ [])
+    (put 0 (apply 7 (local 1) (number (pos n) ∷ []))) ∷ [])
   where
     half : (site : ℕ) → Bool → Expression → Expression
     half site answer other = branch (two site Equal (local 0) (number (pos 0))) (boolean answer)
@@ -199,7 +198,7 @@ even_odd n = program 0 (1 ∷ 2 ∷ 2 ∷ 2 ∷ 2 ∷ 2 ∷ 2 ∷ 2 ∷ [])
 abbrev pub assigned_local : Source
 assigned_local = program 0 (2 ∷ 1 ∷ 2 ∷ [])
     (bind 0 (expressions (number (pos 1) ∷ number (pos 2) ∷ []))
-        (sequence (expressions (set_local 1 (number (pos 5)) ∷ put 1 (two 2 Add (local 1) (local 0)) ∷ []))) ∷ [])
+    (sequence (expressions (set_local 1 (number (pos 5)) ∷ put 1 (two 2 Add (local 1) (local 0)) ∷ []))) ∷ [])
 
 -- (letrec ((a 7) (b (lambda () a))) (%put (b))) where a is assigned nowhere
 abbrev pub recursive_inits : Source
@@ -210,7 +209,7 @@ recursive_inits = program 0 (2 ∷ 1 ∷ 1 ∷ [])
 abbrev pub counter : Source
 counter = program 2 (1 ∷ 2 ∷ 1 ∷ 1 ∷ 1 ∷ 1 ∷ [])
     (define 0 (function 0 (bind 0 (expressions (number (pos 0) ∷ []))
-        (function 0 (sequence (expressions (set_local 0 (two 1 Add (local 0) (number (pos 1))) ∷ local 0 ∷ []))))))
+    (function 0 (sequence (expressions (set_local 0 (two 1 Add (local 0) (number (pos 1))) ∷ local 0 ∷ []))))))
     ∷ define 1 (apply 2 (global 0) [])
     ∷ apply 3 (global 1) []
     ∷ put 4 (apply 5 (global 1) []) ∷ [])
@@ -245,7 +244,7 @@ put_texts = record {
   statics = record { symbols = []; literals = and_literal (text (codes "abc")) (and_literal (text (codes "d")) no_literals); globals = [] };
   library = no_lambdas;
   forms = expressions (put 0 (literal 0) ∷ put 1 (literal 1) ∷ []);
-  sites = 1 ∷ 1 ∷ []
+  sites = 1 ∷ 1 ∷ [];
 }
 
 -- '((1 . 2) #(sym "x")), of which the parts are put: 2, sym, x, and the length of sym's name
@@ -256,7 +255,7 @@ nested_literal = record {
     literals = and_literal (list (and_literal (list (and_literal (literals.constant (Fixnum (pos 1))) no_literals) (literals.constant (Fixnum (pos 2))))
         (and_literal (elements (and_literal (literals.constant (Symbol 0)) (and_literal (text (codes "x")) no_literals))) no_literals))
         (literals.constant Nil)) no_literals;
-    globals = []
+    globals = [];
   };
   library = no_lambdas;
   forms = expressions
@@ -264,7 +263,7 @@ nested_literal = record {
       ∷ put 3 (two 4 VectorRef (one 5 Car (one 6 Cdr (literal 0))) (number (pos 0)))
       ∷ put 7 (two 8 VectorRef (one 9 Car (one 10 Cdr (literal 0))) (number (pos 1)))
       ∷ put 11 (one 12 SymbolLength (constant (Symbol 0))) ∷ []);
-  sites = 1 ∷ 1 ∷ 1 ∷ 1 ∷ 2 ∷ 1 ∷ 1 ∷ 1 ∷ 2 ∷ 1 ∷ 1 ∷ 1 ∷ 1 ∷ []
+  sites = 1 ∷ 1 ∷ 1 ∷ 1 ∷ 2 ∷ 1 ∷ 1 ∷ 1 ∷ 2 ∷ 1 ∷ 1 ∷ 1 ∷ 1 ∷ [];
 }
 
 -- a literal is one object, which keeps what is written to it: (define (f) "ab") (string-set! (f) 0 #\c) (%put (f))
@@ -276,5 +275,5 @@ written_literal = record {
       (define 0 (function 0 (literal 0))
       ∷ operation 0 StringSet (expressions (apply 1 (global 0) [] ∷ number (pos 0) ∷ constant (Character 99) ∷ []))
       ∷ put 2 (apply 3 (global 0) []) ∷ []);
-  sites = 3 ∷ 1 ∷ 1 ∷ 1 ∷ []
+  sites = 3 ∷ 1 ∷ 1 ∷ 1 ∷ [];
 }

@@ -1,7 +1,8 @@
 -- Laws of runs, in the words of the contracts that state them.
-use Rattle.std.specs.Prelude.{◌≡◌, ℕ, ◌++◌, List, [], ◌∷◌}
+use Rattle.std.specs.Prelude.{◌≡◌, ℕ, ◌+◌, ◌≤◌, ◌++◌, List, [], ◌∷◌}
 use Rattle.sch_word.specs.declared.answer.Answer.{Answer}
-use Rattle.sch_lang.specs.Tree.{Expression, Source}
+use Rattle.sch_word.specs.Runs.{Run, ended}
+use Rattle.sch_lang.specs.Tree.{Source}
 use Rattle.sch_lang.specs.Measures.{sites_of}
 use Rattle.sch_lang.specs.Meaning.{Orders}
 use Rattle.sch_lang.specs.Run.{order_at, run}
@@ -14,3 +15,17 @@ AgreeOn orders orders' (at ∷ more) = (orders at.0 ≡ orders' at.0) × AgreeOn
 -- a run depends on its order table at the program's own sites alone
 pub record NeedsOwnOrders (p : Source) : Type 0 where
   pub runs : (table table' : List (List ℕ)) → AgreeOn (order_at table) (order_at table') (sites_of p) → (heap depth : ℕ) (answers : List Answer) (entries : ℕ) → run p table heap depth answers entries ≡ run p table' heap depth answers entries
+
+-- a run that has come further: its output begins with the other's, and it has taken, charged and used
+-- no less
+pub record GoesFurther (a b : Run) : Type 0 where
+  pub written : List ℕ
+  pub output : b.output ≡ a.output ++ written
+  pub entries : a.entries ≤ b.entries
+  pub charged : a.charged ≤ b.charged
+  pub answers : a.answers ≤ b.answers
+
+-- more entries change nothing of a run that has ended, and let any other go further
+pub record MoreEntries (p : Source) : Type 0 where
+  pub ended_stays : (table : List (List ℕ)) (heap depth : ℕ) (answers : List Answer) (entries more status : ℕ) → (run p table heap depth answers entries).end ≡ ended status → run p table heap depth answers (entries + more) ≡ run p table heap depth answers entries
+  pub goes_further : (table : List (List ℕ)) (heap depth : ℕ) (answers : List Answer) (entries more : ℕ) → GoesFurther (run p table heap depth answers entries) (run p table heap depth answers (entries + more))

@@ -1,5 +1,5 @@
 -- What an expression does (R5RS 4.1, 4.2.2, 4.2.3 and 7.2, over an explicit store).
-use Rattle.std.specs.Prelude.{ℕ, zero, suc, Bool, true, false, List, [], ◌∷◌, ◌++◌, length, Option, Some, None, slice_get}
+use Rattle.std.specs.Prelude.{ℕ, zero, suc, Bool, true, false, List, [], ◌∷◌, length, Option, Some, None, slice_get}
 use Rattle.sch_word.specs.declared.stop.Stop.TheVariants.{Unset}
 use Rattle.sch_word.specs.Values.{Value, unspecified, constant_value, is_true}
 use Rattle.sch_word.specs.Computation as computation

@@ -12,5 +12,5 @@ source_of symbols literals globals library forms sites = record {
   statics = record { symbols = symbols; literals = literals_of literals; globals = globals };
   library = lambdas_of library;
   forms = expressions_of forms;
-  sites = sites
+  sites = sites;
 }

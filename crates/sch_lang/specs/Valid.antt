@@ -1,13 +1,13 @@
 -- Which programs are valid.
-use Rattle.std.specs.Prelude.{ℕ, zero, suc, ◌+◌, Bool, true, false, ◌&&◌, ◌||◌, not, nat_eq, nat_lt, nat_le, List, [], ◌∷◌, length, slice_get, Option, Some, None}
+use Rattle.std.specs.Prelude.{ℕ, zero, suc, ◌+◌, Bool, true, false, ◌&&◌, ◌||◌, not, nat_eq, nat_lt, nat_le, [], length, slice_get, Option, Some, None}
 use Rattle.std.specs.List.{list_all, count_by}
 use Rattle.sch_word.specs.Primitives.{operands_of}
 use Rattle.sch_word.specs.Literals.{count_literals, constant_known}
-use Rattle.sch_word.specs.Runs.{Statics, statics_valid}
+use Rattle.sch_word.specs.Runs.{statics_valid}
 use Rattle.sch_word.specs.Computation.{numbers_from}
 use Rattle.sch_lang.specs.Tree.{Expression, Expressions, Lambdas, constant, literal, local, global, set_local, set_global, define, branch, sequence, bind, fix, letrec, lambda, call, operation, no_expressions, and_expression, no_lambdas, and_lambda, count, count_lambdas, Source}
 use Rattle.sch_lang.specs.Variables.{free, outside, assigns, assigns_lambdas}
-use Rattle.sch_lang.specs.Measures.{every, over_source, levels_each, levels_lambdas, variables, body_variables, sites_of}
+use Rattle.sch_lang.specs.Measures.{over_source, levels_each, levels_lambdas, variables, body_variables, sites_of}
 
 -- ## Numbers in range
 
@@ -52,7 +52,7 @@ abbrev pub in_range : Source → Bool
 in_range p =
     lambdas_in_scope p.library 0 && (each_in_scope p.forms 0
     && over_source true (λ a b. a && b)
-        (named_here (length p.statics.symbols) (count_literals p.statics.literals) (length p.statics.globals)) p)
+    (named_here (length p.statics.symbols) (count_literals p.statics.literals) (length p.statics.globals)) p)
 
 -- ## Shape
 

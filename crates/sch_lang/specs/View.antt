@@ -1,5 +1,5 @@
 -- The plain tree of a value of the program's type.
-use Rattle.std.specs.Prelude.{ℕ, Bool, List, [], ◌∷◌, Option, map}
+use Rattle.std.specs.Prelude.{List}
 use Rattle.sch_lang.specs.declared.tree.Exp.{Exp, Constant, Literal, Local, Global, SetLocal', SetGlobal', Define', If', Seq, Seq', Let', Fix', Rec', Lambda', Call', Prim', Row_of-Exp, end_of-Exp, more_of-Exp, Row_of-Lambda, end_of-Lambda, more_of-Lambda}
 use Rattle.sch_lang.specs.declared.tree.Exp.TheBlock.{hidden-the_row-Lambda-1}
 use Rattle.sch_lang.specs.declared.tree.Lambda.{Lambda}

@@ -1,7 +1,7 @@
 //! Laws of the core language, as contracts of functions that do nothing.
 
 ghost use Rattle.std.specs.Prelude.{IsTrue};
-ghost use Rattle.sch_lang.specs.Laws.{NeedsOwnOrders};
+ghost use Rattle.sch_lang.specs.Laws.{MoreEntries, NeedsOwnOrders};
 ghost use Rattle.sch_lang.specs.ProgramView.{source};
 ghost use Rattle.sch_lang.specs.Valid.{is_valid};
 
@@ -10,14 +10,17 @@ use crate::program::Program;
 /// Every program is valid as a whole.
 pub fn program_is_valid(p: &Program)
     ensures { IsTrue (is_valid (source p.now)) }
-{
-}
+{}
 
 /// A run depends on an order table at the program's own sites alone.
 pub fn run_needs_own_orders(p: &Program)
     ensures { NeedsOwnOrders (source p.now) }
-{
-}
+{}
+
+/// More procedure entries change nothing of a run that has ended, and let any other go further.
+pub fn more_entries_change_no_end(p: &Program)
+    ensures { MoreEntries (source p.now) }
+{}
 
 #[cfg(test)]
 mod tests {
@@ -37,6 +40,7 @@ mod tests {
         };
         program_is_valid(&program);
         run_needs_own_orders(&program);
+        more_entries_change_no_end(&program);
         assert!(rt; program.forms.is_empty());
     }
 }

@@ -5,7 +5,7 @@ mod laws;
 mod program;
 mod tree;
 
-pub use laws::{program_is_valid, run_needs_own_orders};
+pub use laws::{more_entries_change_no_end, program_is_valid, run_needs_own_orders};
 pub use program::Program;
 pub use sch_word::Lit;
 pub use tree::{Exp, Lambda};

@@ -1,9 +1,9 @@
 -- One computation with more procedure entries than another: it does the same, and where the other's
 -- entries are spent it goes on from there, and its store only grows.
-use Rattle.std.proofs.Common.{◌≡◌, ℕ, zero, suc, ◌+◌, ◌-◌, ◌≤◌, Bool, true, false, List, [], ◌∷◌, ◌++◌, length, Option, Some, None, refl, sym, ap, subst, ◌∙◌, arith}
+use Rattle.std.proofs.Common.{◌≡◌, ℕ, zero, suc, ◌+◌, Bool, true, false, List, [], ◌∷◌, Option, Some, None, refl, sym, ap, subst, ◌∙◌, arith}
 use Rattle.std.specs.Prelude.{slice_get, slice_set}
 use Rattle.sch_word.specs.declared.stop.Stop.{Stop}
-use Rattle.sch_word.specs.Values.{Value, fixnum, character, boolean, nil, unspecified, symbol, object, procedure, cell}
+use Rattle.sch_word.specs.Values.{Value, unspecified}
 use Rattle.sch_word.specs.Store.{Store}
 use Rattle.sch_word.specs.Growth.{GrowsTo}
 use Rattle.sch_word.specs.Computation.{Outcome, gives, stops, spent, State, Action, Computation, with_rest, in_store, on_value, after, either, at_place, in_order, in_turn, blanks, all_values, set_or_stop, read_cell, write_cell, write_cells, new_procedure, new_fix, new_cells, callee, operands, depth_left, checked_call, call_with, some_left, entry_left, taken, take_entry, Enter}
@@ -195,7 +195,7 @@ module _ {P : Type 0} where
 
     pub ahead_in_store : {V : Type 0} {f : Action V} → Steady f → Ahead (in_store f) (in_store f)
     ahead_in_store {f = f} h = record {
-      from = λ s. rw (h.blind (more_than s.store.entries k) s.store) (with_rest_ahead s.cells s.procedures (f s.store) s.store.entries (entries_stay h s.store))
+      from = λ s. rw (h.blind (more_than s.store.entries k) s.store) (with_rest_ahead s.cells s.procedures (f s.store) s.store.entries (entries_stay h s.store));
     }
 
     pub data EachAhead : List (Computation P Value) → List (Computation P Value) → Type 0 where

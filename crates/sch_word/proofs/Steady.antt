@@ -1,6 +1,6 @@
 -- Steady actions: the store only grows, and how many entries are left is nothing to them. Every
 -- primitive and every charge is one.
-use Rattle.std.proofs.Common.{◌≡◌, ℕ, zero, suc, ◌+◌, ◌≤◌, Bool, true, false, ℤ, pos, negsuc, List, [], ◌∷◌, ◌++◌, length, take, drop, Option, Some, None, refl, sym, ap, ◌∙◌, arith, append_assoc, length-append}
+use Rattle.std.proofs.Common.{◌≡◌, ℕ, zero, suc, ◌+◌, ◌≤◌, Bool, true, false, ℤ, pos, negsuc, List, [], ◌∷◌, ◌++◌, length, drop, Option, Some, None, refl, sym, ap, ◌∙◌, arith, append_assoc, length-append}
 use Rattle.std.specs.Prelude.{slice_get, slice_set, nat_eq, nat_le, ◌+ℤ◌, ◌-ℤ◌, ◌*ℤ◌, int_div, int_rem, int_lt, int_le, ◌&&◌}
 use Rattle.std.proofs.lemmas.List.{append-nil, length-set}
 use Rattle.sch_word.specs.declared.answer.Answer.{Answer}
@@ -29,7 +29,7 @@ quiet s t constants output answers charged objects entries = record {
   answers = answers;
   charged = charged;
   objects = objects;
-  entries = entries
+  entries = entries;
 }
 
 pub grows_self : (s : Store) → GrowsTo s s
@@ -44,7 +44,7 @@ grows_on s t u g h = record {
   answers = g.answers ∙ (ap (λ l. g.used ++ l) h.answers ∙ sym (append_assoc g.used h.used u.answers));
   charged = omega (arith, g.charged, h.charged);
   objects = omega (arith, g.objects, h.objects);
-  entries = omega (arith, g.entries, h.entries)
+  entries = omega (arith, g.entries, h.entries);
 }
 
 -- the store of an outcome has grown from this one
@@ -88,7 +88,7 @@ module _ {V : Type 0} where
   pub steady_looking : {A : Type 0} (look : Store → A) (act : A → Action V) → ((n : ℕ) (t : Store) → look (with_entries n t) ≡ look t) → ((a : A) → Steady (act a)) → Steady (λ t. act (look t) t)
   steady_looking look act same h = record {
     grows = λ t. (h (look t)).grows t;
-    blind = λ n t. ap (λ a. act a (with_entries n t)) (same n t) ∙ (h (look t)).blind n t
+    blind = λ n t. ap (λ a. act a (with_entries n t)) (same n t) ∙ (h (look t)).blind n t;
   }
 
 module _ {V W : Type 0} where
@@ -105,7 +105,7 @@ module _ {V W : Type 0} where
   pub steady_after : {first : Action V} {next : V → Action W} → Steady first → ((v : V) → Steady (next v)) → Steady (after first next)
   steady_after {first} {next} f h = record {
     grows = λ t. grows_on_value t (first t) next (f.grows t) h;
-    blind = λ n t. ap (λ a. on_value a next) (f.blind n t) ∙ blind_on_value n (first t) next h
+    blind = λ n t. ap (λ a. on_value a next) (f.blind n t) ∙ blind_on_value n (first t) next h;
   }
 
 -- ## Charges and new objects
@@ -116,7 +116,7 @@ more_charged bytes u = gives unspecified (record u { charged = u.charged + bytes
 steady_more_charged : (bytes : ℕ) → Steady (more_charged bytes)
 steady_more_charged bytes = record {
   grows = λ t. quiet t (record t { charged = t.charged + bytes }) refl refl refl (omega arith) (omega arith) (omega arith);
-  blind = λ n t. refl
+  blind = λ n t. refl;
 }
 
 pub steady_charge : (bytes : ℕ) → Steady (charge bytes)
@@ -135,7 +135,7 @@ more_objects value objects t = gives (value (length t.objects)) (record t { obje
 steady_more_objects : (value : ℕ → Value) (objects : ℕ → List Object) → Steady (more_objects value objects)
 steady_more_objects value objects = record {
   grows = λ t. quiet t (record t { objects = t.objects ++ objects (length t.objects) }) refl refl refl (omega arith) (omega (arith, length-append t.objects (objects (length t.objects)))) (omega arith);
-  blind = λ n t. refl
+  blind = λ n t. refl;
 }
 
 pub steady_new_object : (o : Object) → Steady (new_object o)
@@ -166,7 +166,7 @@ steady_read_global g = steady_looking (λ t. slice_get t.globals g) set_or_stop 
 pub steady_write_global : (g : ℕ) (v : Value) → Steady (write_global g v)
 steady_write_global g v = record {
   grows = λ t. quiet t (record t { globals = slice_set t.globals g (Some v) }) refl refl refl (omega arith) (omega arith) (omega arith);
-  blind = λ n t. refl
+  blind = λ n t. refl;
 }
 
 steady_value_or_stop : (o : Option Value) → Steady (value_or_stop o)
@@ -263,7 +263,7 @@ steady_object_test test v = steady_looking (object_at v) (λ o. gives (boolean (
 steady_write_object : (v : Value) (o : Object) → Steady (write_object v o)
 steady_write_object (object k) o = record {
   grows = λ t. quiet t (record t { objects = slice_set t.objects k o }) refl refl refl (omega arith) (omega (arith, length-set t.objects k o)) (omega arith);
-  blind = λ n t. refl
+  blind = λ n t. refl;
 }
 steady_write_object _ o = steady_stops _
 
@@ -291,7 +291,7 @@ put_grows bytes t = record {
   answers = (put_uses bytes t.answers).1;
   charged = omega arith;
   objects = omega arith;
-  entries = omega arith
+  entries = omega arith;
 }
 
 whole_grows : (b : Bool) (s t : Store) → GrowsTo s t → OutcomeGrows {V = Value} s (require b OutputFailed (gives unspecified) t)
@@ -305,7 +305,7 @@ whole_blind false n t = refl
 steady_put_piece : (o : Option (List ℕ)) → Steady (put_piece o)
 steady_put_piece (Some bytes) = record {
   grows = λ t. whole_grows (puts.put bytes t.answers).whole t _ (put_grows bytes t);
-  blind = λ n t. whole_blind (puts.put bytes t.answers).whole n (record t { output = t.output ++ (puts.put bytes t.answers).taken; answers = (puts.put bytes t.answers).left })
+  blind = λ n t. whole_blind (puts.put bytes t.answers).whole n (record t { output = t.output ++ (puts.put bytes t.answers).taken; answers = (puts.put bytes t.answers).left });
 }
 steady_put_piece None = steady_stops _
 
