@@ -3,3 +3,5 @@ mod Examples
 pub mod MoreEntries
 pub mod OwnOrders
 pub mod Rows
+mod SizeExamples
+mod ValidExamples

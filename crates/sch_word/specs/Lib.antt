@@ -13,5 +13,6 @@ pub mod Put
 pub mod Runs
 pub mod Stops
 pub mod Store
+pub mod Tags
 pub mod Values
 pub mod formers

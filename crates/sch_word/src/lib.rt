@@ -12,6 +12,7 @@ mod mem;
 mod place;
 mod primitive;
 mod stop;
+mod tag;
 
 pub use answer::Answer;
 pub use constant::Const;
@@ -23,3 +24,4 @@ pub use mem::Mem;
 pub use place::Place;
 pub use primitive::{Prim, Primitive};
 pub use stop::Stop;
+pub use tag::{TAG_BITS, Tag};

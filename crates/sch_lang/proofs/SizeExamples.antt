@@ -1,0 +1,71 @@
+-- Sizes of the small programs, counted by hand and computed: the variables of the largest body, the
+-- size of the program, and its levels.
+use Rattle.std.proofs.Common.{◌≡◌, refl, ℕ, [], ◌∷◌, pos, true, false}
+use Rattle.sch_lang.specs.Tree.{Source, expressions, local, set_local, sequence, bind, call, letrec, global}
+use Rattle.sch_lang.specs.Measures.{most_variables, program_size, levels_each, sites_of}
+use Rattle.sch_lang.specs.Examples.{sum_line, loop_of, assigned_local, unset_init, counter, even_odd, rest_list, library_call, program, number, function, put, apply}
+
+-- the sum is an operand, and its operands are constants
+sum_line_variables : most_variables sum_line ≡ 1
+sum_line_variables = refl
+
+-- four nodes and two, and two forms
+sum_line_size : program_size sum_line ≡ 8
+sum_line_size = refl
+
+-- the formal, the operator of the call, and the difference
+loop_variables : most_variables (loop_of 7) ≡ 3
+loop_variables = refl
+
+-- fourteen nodes but for the definition and its lambda, these two, the lambda and its formal, two forms
+loop_size : program_size (loop_of 7) ≡ 20
+loop_size = refl
+
+-- the definition, the lambda, the test, the call, the difference, its operand
+loop_levels : levels_each (loop_of 7).forms ≡ 6
+loop_levels = refl
+
+-- x twice and y once, the part before the last, the sum, and the reference to x
+assigned_variables : most_variables assigned_local ≡ 6
+assigned_variables = refl
+
+-- two variables of a Rec, whose inits are no operands
+letrec_variables : most_variables unset_init ≡ 6
+letrec_variables = refl
+
+-- in the inner body: the part before the last, the value that is set, and n, which is free there
+counter_variables : most_variables counter ≡ 3
+counter_variables = refl
+
+counter_size : program_size counter ≡ 27
+counter_size = refl
+
+-- two variables of a Fix and the operand of the put; or in a body the formal, the operator, which is
+-- free there, and the difference
+fix_variables : most_variables (even_odd 6) ≡ 3
+fix_variables = refl
+
+-- nodes: one Fix, ten in each body, four; two variables bound; two lambdas, each with a formal and a
+-- free variable; one form
+fix_size : program_size (even_odd 6) ≡ 34
+fix_size = refl
+
+-- a library lambda counts with its formal: three, its body of two nodes, a form of three nodes
+library_size : program_size library_call ≡ 8
+library_size = refl
+
+-- the rest variable is a formal; in the form the operator counts
+rest_variables : most_variables rest_list ≡ 4
+rest_variables = refl
+
+-- (let ((x 1)) ((lambda (y) x) x)): the reference in the inner body is to a variable of another body
+abbrev outer_reference : Source
+outer_reference = program 0 (1 ∷ 2 ∷ []) (bind 0 (expressions (number (pos 1) ∷ [])) (apply 1 (function 1 (local 1)) (local 0 ∷ [])) ∷ [])
+
+-- x, and the lambda as operator; the operand is x itself
+outer_reference_variables : most_variables outer_reference ≡ 2
+outer_reference_variables = refl
+
+-- the sites of the loop in the order of the text, each with its parts
+loop_sites : sites_of (loop_of 7) ≡ (0, 2) ∷ (1, 1) ∷ (2, 2) ∷ (3, 2) ∷ (4, 2) ∷ []
+loop_sites = refl
