@@ -1,9 +1,9 @@
 -- Sizes of the small programs, counted by hand and computed: the variables of the largest body, the
 -- size of the program, and its levels.
-use Rattle.std.proofs.Common.{◌≡◌, refl, ℕ, [], ◌∷◌, pos, true, false}
-use Rattle.sch_lang.specs.Tree.{Source, expressions, local, set_local, sequence, bind, call, letrec, global}
+use Rattle.std.proofs.Common.{◌≡◌, refl, [], ◌∷◌, pos}
+use Rattle.sch_lang.specs.Tree.{Source, expressions, local, bind}
 use Rattle.sch_lang.specs.Measures.{most_variables, program_size, levels_each, sites_of}
-use Rattle.sch_lang.specs.Examples.{sum_line, loop_of, assigned_local, unset_init, counter, even_odd, rest_list, library_call, program, number, function, put, apply}
+use Rattle.sch_lang.specs.Examples.{sum_line, loop_of, assigned_local, unset_init, counter, even_odd, rest_list, library_call, program, number, function, apply}
 
 -- the sum is an operand, and its operands are constants
 sum_line_variables : most_variables sum_line ≡ 1

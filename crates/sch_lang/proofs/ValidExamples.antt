@@ -1,14 +1,14 @@
 -- Programs that are not valid, one for each reason, and tables that are no order tables.
-use Rattle.std.proofs.Common.{◌≡◌, refl, ℕ, zero, suc, [], ◌∷◌, List, pos, true, false, Some, None}
+use Rattle.std.proofs.Common.{◌≡◌, refl, ℕ, zero, suc, [], ◌∷◌, List, pos, true, false, Some}
 use Rattle.std.specs.Prelude.{replicate}
-use Rattle.sch_word.specs.declared.constant.Const.TheVariants.{Symbol, Fixnum}
+use Rattle.sch_word.specs.declared.constant.Const.TheVariants.{Symbol}
 use Rattle.sch_word.specs.declared.primitive.Primitive.TheVariants.{Car, Cons}
 use Rattle.sch_word.specs.Literals as literals
 use Rattle.sch_word.specs.Literals.{no_literals, and_literal}
-use Rattle.sch_lang.specs.Tree.{Expression, Source, expressions, constant, literal, local, global, set_local, sequence, bind, fix, lambda, letrec, no_lambdas, and_lambda, branch}
+use Rattle.sch_lang.specs.Tree.{Expression, Source, expressions, constant, literal, local, global, set_local, sequence, bind, fix, lambda, no_lambdas, and_lambda, branch}
 use Rattle.sch_lang.specs.Valid.{is_valid}
 use Rattle.sch_lang.specs.Run.{is_order_table}
-use Rattle.sch_lang.specs.Examples.{program, number, function, put, apply, one, two}
+use Rattle.sch_lang.specs.Examples.{program, number, function, apply, one, two}
 
 -- a variable that nothing binds
 unbound : is_valid (program 0 [] (local 0 ∷ [])) ≡ false
@@ -32,7 +32,7 @@ symbol_of_literal : is_valid (record {
   statics = record { symbols = []; literals = and_literal (literals.elements (and_literal (literals.constant (Symbol 0)) no_literals)) no_literals; globals = [] };
   library = no_lambdas;
   forms = expressions [];
-  sites = []
+  sites = [];
 }) ≡ false
 symbol_of_literal = refl
 
@@ -41,7 +41,7 @@ unknown_procedure : is_valid (record {
   statics = record { symbols = []; literals = no_literals; globals = Some 0 ∷ [] };
   library = no_lambdas;
   forms = expressions [];
-  sites = []
+  sites = [];
 }) ≡ false
 unknown_procedure = refl
 

@@ -1,4 +1,6 @@
 pub mod Ahead
+pub mod Fixnums
+pub mod LiteralObjects
 pub mod LiteralRows
 mod PrimitiveExamples
 pub mod SameStore

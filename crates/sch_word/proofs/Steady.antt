@@ -9,13 +9,14 @@ use Rattle.sch_word.specs.declared.stop.Stop.{Stop}
 use Rattle.sch_word.specs.declared.stop.Stop.TheVariants.{HeapLimit, OutputFailed}
 use Rattle.sch_word.specs.declared.primitive.Primitive.{Primitive}
 use Rattle.sch_word.specs.declared.primitive.Primitive.TheVariants.{Eq, Eqv, IsBoolean, IsPair, IsNull, IsSymbol, IsInteger, IsChar, IsString, IsVector, IsProcedure, Cons, Car, Cdr, SetCar, SetCdr, Add, Subtract, Multiply, Quotient, Remainder, Modulo, Equal, Less, Greater, LessEqual, GreaterEqual, CharToInteger, IntegerToChar, MakeString, StringLength, StringRef, StringSet, MakeVector, VectorLength, VectorRef, VectorSet, Put, SymbolLength, SymbolRef}
+use Rattle.sch_word.specs.Fixnum.{is_fixnum}
 use Rattle.sch_word.specs.Put as puts
 use Rattle.sch_word.specs.Values.{Value, fixnum, character, boolean, nil, unspecified, symbol, object, procedure, cell, Object, pair, vector, string}
 use Rattle.sch_word.specs.Store.{Store}
 use Rattle.sch_word.specs.Growth.{GrowsTo}
 use Rattle.sch_word.specs.Computation.{Outcome, gives, stops, spent, Action, on_value, after, require, set_or_stop, read_global, write_global, value_or_stop, read_literal}
 use Rattle.sch_word.specs.Charges.{charge, charge_each, new_object, charged_object, linked, list_value, new_list, fit}
-use Rattle.sch_word.specs.PrimitiveRows.{unary, binary, ternary, as_fixnum, as_character, name_or_stop, as_symbol, object_at, pair_or_stop, vector_or_stop, string_or_stop, as_pair, as_vector, as_string, in_range, as_length, result, is_fixnum, arithmetic, comparison, division, object_test, is_pair, is_vector, is_string, int_modulo, below, write_object, element, piece, put_piece, primitive}
+use Rattle.sch_word.specs.PrimitiveRows.{unary, binary, ternary, as_fixnum, as_character, name_or_stop, as_symbol, object_at, pair_or_stop, vector_or_stop, string_or_stop, as_pair, as_vector, as_string, in_range, as_length, fixnum_or_stop, arithmetic, comparison, division, object_test, is_pair, is_vector, is_string, int_modulo, below, write_object, element, piece, put_piece, primitive}
 
 -- ## Growth
 
@@ -245,17 +246,17 @@ steady_as_length : (n : ℤ) {next : ℕ → Action Value} → ((k : ℕ) → St
 steady_as_length (pos k) h = h k
 steady_as_length (negsuc k) h = steady_stops _
 
-steady_result : (n : ℤ) → Steady (result n)
-steady_result n = steady_require (is_fixnum n) _ (steady_gives _)
+steady_fixnum_or_stop : (n : ℤ) → Steady (fixnum_or_stop n)
+steady_fixnum_or_stop n = steady_require (is_fixnum n) _ (steady_gives _)
 
 steady_arithmetic : (f : ℤ → ℤ → ℤ) (a b : Value) → Steady (arithmetic f a b)
-steady_arithmetic f a b = steady_as_fixnum a (λ x. steady_as_fixnum b (λ y. steady_result (f x y)))
+steady_arithmetic f a b = steady_as_fixnum a (λ x. steady_as_fixnum b (λ y. steady_fixnum_or_stop (f x y)))
 
 steady_comparison : (f : ℤ → ℤ → Bool) (a b : Value) → Steady (comparison f a b)
 steady_comparison f a b = steady_as_fixnum a (λ x. steady_as_fixnum b (λ y. steady_gives _))
 
 steady_division : (f : ℤ → ℤ → ℤ) (a b : Value) → Steady (division f a b)
-steady_division f a b = steady_as_fixnum a (λ x. steady_as_fixnum b (λ y. steady_require _ _ (steady_result (f x y))))
+steady_division f a b = steady_as_fixnum a (λ x. steady_as_fixnum b (λ y. steady_require _ _ (steady_fixnum_or_stop (f x y))))
 
 steady_object_test : (test : Option Object → Bool) (v : Value) → Steady (object_test test v)
 steady_object_test test v = steady_looking (object_at v) (λ o. gives (boolean (test o))) (object_at_blind v) (λ o. steady_gives _)

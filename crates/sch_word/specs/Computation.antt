@@ -12,10 +12,6 @@ pub data Outcome (S V : Type 0) : Type 0 where
   stops : Stop → S → Outcome S V
   spent : S → Outcome S V
 
--- a computation over any states
-abbrev pub Step : Type 0 → Type 0 → Type 0
-Step S V = S → Outcome S V
-
 -- a computation over the store alone
 abbrev pub Action : Type 0 → Type 0
 Action V = Store → Outcome Store V

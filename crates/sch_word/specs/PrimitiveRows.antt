@@ -2,10 +2,10 @@
 -- from left to right, then range, then a zero divisor, then overflow, then the heap (R5RS 6).
 use Rattle.std.specs.Prelude.{ℕ, zero, suc, Bool, true, false, ◌&&◌, not, nat_lt, nat_eq, ℤ, pos, negsuc, ◌+ℤ◌, ◌-ℤ◌, ◌*ℤ◌, int_le, int_lt, int_div, int_rem, List, [], ◌∷◌, ◌++◌, length, Option, Some, None, slice_get, slice_set, slice_index, replicate, codes}
 use Rattle.std.specs.Fmt.{signed_decimal}
-use Rattle.sch_word.specs.declared.fix.TheConstants.{FIXNUM_MIN, FIXNUM_MAX}
 use Rattle.sch_word.specs.declared.stop.Stop.TheVariants.{WrongType, OutOfRange, DivideByZero, Overflow, OutputFailed}
 use Rattle.sch_word.specs.declared.primitive.Primitive.{Primitive}
 use Rattle.sch_word.specs.declared.primitive.Primitive.TheVariants.{Eq, Eqv, IsBoolean, IsPair, IsNull, IsSymbol, IsInteger, IsChar, IsString, IsVector, IsProcedure, Cons, Car, Cdr, SetCar, SetCdr, Add, Subtract, Multiply, Quotient, Remainder, Modulo, Equal, Less, Greater, LessEqual, GreaterEqual, CharToInteger, IntegerToChar, MakeString, StringLength, StringRef, StringSet, MakeVector, VectorLength, VectorRef, VectorSet, Put, SymbolLength, SymbolRef}
+use Rattle.sch_word.specs.Fixnum.{is_fixnum}
 use Rattle.sch_word.specs.Put as puts
 use Rattle.sch_word.specs.Values.{Value, fixnum, character, boolean, nil, unspecified, symbol, object, procedure, cell, Object, pair, vector, string, same_value}
 use Rattle.sch_word.specs.Store.{Store}
@@ -93,15 +93,12 @@ as_length (negsuc n) next = stops OutOfRange
 
 -- ## Answers
 
-abbrev pub is_fixnum : ℤ → Bool
-is_fixnum n = int_le FIXNUM_MIN n && int_le n FIXNUM_MAX
-
 -- a result, or stop 70 where it is no fixnum
-abbrev pub result : ℤ → Action Value
-result n = require (is_fixnum n) Overflow (gives (fixnum n))
+abbrev pub fixnum_or_stop : ℤ → Action Value
+fixnum_or_stop n = require (is_fixnum n) Overflow (gives (fixnum n))
 
 abbrev pub arithmetic : (ℤ → ℤ → ℤ) → Value → Value → Action Value
-arithmetic f a b = as_fixnum a (λ x. as_fixnum b (λ y. result (f x y)))
+arithmetic f a b = as_fixnum a (λ x. as_fixnum b (λ y. fixnum_or_stop (f x y)))
 
 abbrev pub comparison : (ℤ → ℤ → Bool) → Value → Value → Action Value
 comparison f a b = as_fixnum a (λ x. as_fixnum b (λ y. gives (boolean (f x y))))
@@ -111,7 +108,7 @@ is_zero (pos n) = nat_eq n 0
 is_zero (negsuc n) = false
 
 abbrev pub division : (ℤ → ℤ → ℤ) → Value → Value → Action Value
-division f a b = as_fixnum a (λ x. as_fixnum b (λ y. require (not (is_zero y)) DivideByZero (result (f x y))))
+division f a b = as_fixnum a (λ x. as_fixnum b (λ y. require (not (is_zero y)) DivideByZero (fixnum_or_stop (f x y))))
 
 -- the remainder, moved by the divisor where their signs differ (R5RS 6.2.5)
 abbrev pub int_modulo : ℤ → ℤ → ℤ
