@@ -5,7 +5,7 @@ use Rattle.std.specs.Prelude.{codes}
 use Rattle.std.specs.Fmt.{digits}
 use Rattle.sch_word.specs.declared.answer.Answer.TheVariants.{Took, Failed}
 use Rattle.sch_word.specs.Runs.{ended}
-use Rattle.sch_lang.specs.Examples.{minus, plain_run, heap_run, ends, goes_on, assigned_formals, assigned_local, call_of_number, car_of_number, counter, divide_by_zero, divisions, endless, even_odd, library_call, loop_of, nested_literal, nested_nine, pairs, past_the_end, put_next, put_number, put_texts, recursive_inits, rest_list, sum_line, swap_thrice, two_orders, two_orders_table, two_procedures, unset_global, unset_init, written_literal, wrong_count}
+use Rattle.sch_lang.specs.Examples.{minus, plain_run, heap_run, ends, goes_on, assigned_formals, assigned_local, call_of_number, car_of_number, counter, divide_by_zero, divisions, endless, even_odd, library_call, loop_of, nested_literal, nested_nine, pairs, past_the_end, put_next, put_number, put_texts, recursive_inits, right_then_wrong_count, rest_list, sum_line, swap_thrice, two_orders, two_orders_table, two_procedures, unset_global, unset_init, written_literal, wrong_count}
 use Rattle.sch_lang.specs.Run.{run}
 use Rattle.sch_lang.specs.Valid.{is_valid}
 
@@ -56,6 +56,15 @@ depth_before_count_runs = refl
 spent_before_count_runs : plain_run wrong_count 1 0 ≡ goes_on [] 0 16
 unfolding digits
 spent_before_count_runs = refl
+
+-- the entries are those of the whole run
+later_spent_runs : plain_run right_then_wrong_count 1 1 ≡ goes_on [] 1 32
+unfolding digits
+later_spent_runs = refl
+
+later_count_runs : plain_run right_then_wrong_count 1 2 ≡ ends [] 68 1 32
+unfolding digits
+later_count_runs = refl
 
 loop_runs : plain_run (loop_of 20) 1 21 ≡ ends (codes "ok") 0 21 16
 unfolding digits

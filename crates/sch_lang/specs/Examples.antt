@@ -113,6 +113,10 @@ call_of_number = program 0 (2 ∷ []) (apply 0 (number (pos 1)) (number (pos 2) 
 abbrev pub wrong_count : Source
 wrong_count = program 0 (1 ∷ []) (apply 0 (function 1 (local 0)) [] ∷ [])
 
+-- ((lambda () 1)) ((lambda (x) x))
+abbrev pub right_then_wrong_count : Source
+right_then_wrong_count = program 0 (1 ∷ 1 ∷ []) (apply 0 (function 0 (number (pos 1))) [] ∷ apply 1 (function 1 (local 0)) [] ∷ [])
+
 -- (define (loop i) (if (= i 0) (%put "ok") (loop (- i 1)))) (loop n)
 abbrev pub loop_of : ℕ → Source
 loop_of n = record {
