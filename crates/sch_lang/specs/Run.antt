@@ -4,7 +4,7 @@ use Rattle.std.specs.List.{list_all, count_by}
 use Rattle.sch_word.specs.declared.answer.Answer.{Answer}
 use Rattle.sch_word.specs.Values.{Value, unspecified}
 use Rattle.sch_word.specs.Computation.{Outcome, State, in_turn, numbers_from}
-use Rattle.sch_word.specs.Runs.{Run, seen, starting_store, starting_state}
+use Rattle.sch_word.specs.Runs.{Runs, seen, starting_store, starting_state}
 use Rattle.sch_lang.specs.Tree.{Source}
 use Rattle.sch_lang.specs.Meaning.{Closure, Orders, closures, each, enter}
 
@@ -39,5 +39,5 @@ outcome p table heap depth answers entries =
 
 -- the run under an order table, with limits of heap and depth, against the answers of a kernel and
 -- with at most so many procedure entries
-abbrev pub run : Source → List (List ℕ) → (heap depth : ℕ) → List Answer → (entries : ℕ) → Run
+abbrev pub run : Source → Runs
 run p table heap depth answers entries = seen answers entries (outcome p table heap depth answers entries)

@@ -3,6 +3,7 @@ pub mod Fixnums
 pub mod LiteralObjects
 pub mod LiteralRows
 mod PrimitiveExamples
+pub mod RunsAlike
 pub mod SameStore
 pub mod Similar
 pub mod Steady

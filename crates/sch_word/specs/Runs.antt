@@ -1,5 +1,5 @@
 -- How a run starts, and what is seen of it at its end.
-use Rattle.std.specs.Prelude.{ℕ, ◌+◌, ◌-◌, Bool, true, ◌&&◌, nat_le, nat_lt, List, [], ◌∷◌, length, Option, Some, None}
+use Rattle.std.specs.Prelude.{◌≡◌, ℕ, ◌+◌, ◌-◌, Bool, true, ◌&&◌, nat_le, nat_lt, List, [], ◌∷◌, length, Option, Some, None}
 use Rattle.sch_word.specs.declared.answer.Answer.{Answer}
 use Rattle.sch_word.specs.Stops.{status_of}
 use Rattle.sch_word.specs.Values.{Value, procedure}
@@ -68,6 +68,15 @@ abbrev pub seen : {P V : Type 0} → List Answer → (entries : ℕ) → Outcome
 seen answers entries (gives v s) = run_with (ended 0) answers entries s.store
 seen answers entries (stops why s) = run_with (ended (status_of why)) answers entries s.store
 seen answers entries (spent s) = run_with going answers entries s.store
+
+-- what is seen of a program's runs: under an order table, with limits of heap and depth, against the
+-- answers of a kernel, with at most so many procedure entries
+abbrev pub Runs : Type 0
+Runs = (table : List (List ℕ)) → (heap depth : ℕ) → (answers : List Answer) → (entries : ℕ) → Run
+
+-- two programs, in whatever languages, of which nothing different is ever seen
+pub record SameRuns (a b : Runs) : Type 0 where
+  pub same : (table : List (List ℕ)) (heap depth : ℕ) (answers : List Answer) (entries : ℕ) → a table heap depth answers entries ≡ b table heap depth answers entries
 
 -- ## Which statics are valid
 

@@ -1,4 +1,4 @@
-use Rattle.std.proofs.Common.{◌≡◌, ap}
+use Rattle.std.proofs.Common.{ap}
 use Rattle.sch_lang.specs.Valid.{in_range, shaped, within_limits, sites_once, statics_known}
 use Rattle.sch_lang.proofs.Empty.{empty_source}
 use Rattle.sch_lang.proofs.laws.tests.a_program_can_be_made.Goals as goal
