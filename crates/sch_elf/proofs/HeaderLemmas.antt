@@ -5,7 +5,9 @@ use Rattle.std.specs.List.{flat_map, AllByRecursion}
 use Rattle.std.proofs.Math.Seq.{drop-append_seam, drop-append-add}
 use Rattle.byteorder.specs.Endian.{little_number, little_bytes}
 use Rattle.byteorder.specs.Numbers.{little_number-reads_back}
-use Rattle.sch_elf.specs.Elf.{ProgramHeader, number, program_header, headers_from, is_load}
+use Rattle.sch_elf.specs.Elf.{program_header, headers_from, is_load}
+use Rattle.sch_elf.specs.Numbers.{number}
+use Rattle.sch_elf.specs.declared.header.ProgramHeader.{ProgramHeader}
 use Rattle.sch_elf.specs.Writing.{program_header_bytes}
 
 -- a number that was written is read back

@@ -7,7 +7,8 @@ use Rattle.std.proofs.lemmas.List.{get_or-take, length-replicate, length-take}
 use Rattle.std.proofs.lemmas.List.Elements.{recursion_from_All}
 use Rattle.std.proofs.lemmas.List.Sums.{sum_by-cons}
 use Rattle.std.proofs.lemmas.Grind.{common_steps}
-use Rattle.sch_elf.specs.Elf.{ProgramHeader, file_header, first_headers, header_place, headers_from, is_load, program_header}
+use Rattle.sch_elf.specs.Elf.{file_header, first_headers, header_place, headers_from, is_load, program_header}
+use Rattle.sch_elf.specs.declared.header.ProgramHeader.{ProgramHeader}
 use Rattle.sch_elf.specs.Layout.{AreApart, IsLaidOut, end_of, size_of}
 use Rattle.sch_elf.specs.Stands.{DoNotOverlap, IsForThisMachine, IsLoadable, IsSound, StandsFor, loads, segment_of}
 use Rattle.sch_elf.specs.Writing.{contents, file_header_bytes, image_bytes, load, need, offset_from, placed, program_header_bytes, start}
@@ -210,6 +211,12 @@ some_segment = record { address = 0; read = false; write = false; execute = fals
 some_header : ProgramHeader
 some_header = record { p_type = 0; p_flags = 0; p_offset = 0; p_vaddr = 0; p_paddr = 0; p_filesz = 0; p_memsz = 0; p_align = 0 }
 
+kept_of : (xs ys : List ProgramHeader) → xs ≡ ys → filter is_load xs ≡ filter is_load ys
+kept_of xs ys e = ap (filter is_load) e
+
+at_number : (xs ys : List ProgramHeader) (i : ℕ) → xs ≡ ys → get_or xs i some_header ≡ get_or ys i some_header
+at_number xs ys i e = ap (λ l. get_or l i some_header) e
+
 image_sound : (image : Image) (i : ℕ) → IsLaidOut image.segments → i < length image.segments → IsSound (image_bytes image) i
 image_sound image i laid lt =
     let ss = image.segments in
@@ -217,9 +224,9 @@ image_sound image i laid lt =
     let file : List ℕ = image_bytes image in
     let all : List ProgramHeader = placed (start ss) ss in
     let heads : headers_from file 64 n ≡ all = image_headers image laid in
-    let here : program_header file (64 + 56 * i) ≡ get_or all i some_header = header_at file n i 64 some_header lt ∙ ap (λ l. get_or l i some_header) heads in
+    let here : program_header file (64 + 56 * i) ≡ get_or all i some_header = header_at file n i 64 some_header lt ∙ at_number _ _ i heads in
     let before : headers_from file 64 i ≡ take i all = headers_before file n i 64 (omega arith) ∙ ap (take i) heads in
-    let earlier : filter is_load (headers_from file 64 i) ≡ take i all = ap (filter is_load) before ∙ all_kept all i (placed_loads ss (start ss)) in
+    let earlier : filter is_load (headers_from file 64 i) ≡ take i all = kept_of _ _ before ∙ all_kept all i (placed_loads ss (start ss)) in
     let size : start ss + length (contents (start ss) ss) ≤ length file = omega (arith, image_length image) in
     let kind : (get_or all i some_header).p_type ≡ 1 = ap (λ h. h.p_type) (placed_at ss (start ss) (length file) i some_header some_segment lt size).is in
     sound_of file i (get_or all i some_header) (take i all) here earlier (omega (arith, image_length image)) kind

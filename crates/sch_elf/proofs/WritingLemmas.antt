@@ -4,7 +4,7 @@ use Rattle.std.specs.Prelude.{replicate, sum_by}
 use Rattle.std.specs.List.{flat_map}
 use Rattle.std.proofs.lemmas.List.{length-replicate}
 use Rattle.std.proofs.lemmas.List.Sums.{sum_by-cons}
-use Rattle.sch_elf.specs.Elf.{ProgramHeader}
+use Rattle.sch_elf.specs.declared.header.ProgramHeader.{ProgramHeader}
 use Rattle.sch_elf.specs.Layout.{size_of}
 use Rattle.sch_elf.specs.Writing.{contents, file_header_bytes, image_bytes, load, need, offset_from, placed, program_header_bytes, start}
 use Rattle.sch_elf.specs.declared.image.Segment.{Segment}

@@ -1,6 +1,8 @@
 -- Which image the bytes of a file stand for.
 use Rattle.std.specs.Prelude.{◌≡◌, ◌≢◌, ◌≤◌, ◌<◌, ℕ, ◌+◌, ◌-◌, ◌/◌, ◌%◌, ◌^◌, ◌==◌, Bool, List, [], ◌∷◌, length, take, drop, map, filter, sum_by, All}
-use Rattle.sch_elf.specs.Elf.{FileHeader, ProgramHeader, file_header, program_header, header_place, first_headers, is_load}
+use Rattle.sch_elf.specs.Elf.{file_header, program_header, header_place, first_headers, is_load}
+use Rattle.sch_elf.specs.declared.header.ProgramHeader.{ProgramHeader}
+use Rattle.sch_elf.specs.declared.header.FileHeader.{FileHeader}
 use Rattle.sch_elf.specs.declared.image.Segment.{Segment}
 use Rattle.sch_elf.specs.declared.image.Image.{Image}
 

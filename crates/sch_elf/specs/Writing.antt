@@ -2,7 +2,7 @@
 use Rattle.std.specs.Prelude.{ℕ, ◌+◌, ◌-◌, ◌*◌, ◌%◌, List, [], ◌∷◌, ◌++◌, length, replicate, if◌then◌else◌}
 use Rattle.std.specs.List.{flat_map}
 use Rattle.byteorder.specs.Endian.{little_bytes}
-use Rattle.sch_elf.specs.Elf.{ProgramHeader}
+use Rattle.sch_elf.specs.declared.header.ProgramHeader.{ProgramHeader}
 use Rattle.sch_elf.specs.Layout.{size_of}
 use Rattle.sch_elf.specs.Stands.{identification}
 use Rattle.sch_elf.specs.declared.image.Segment.{Segment}

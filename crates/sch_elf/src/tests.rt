@@ -1,6 +1,7 @@
 // Files by the words of ELF-64, made by another program.
 use super::*;
-use sch_word::Bytes;
+use sch_word::{Bytes, Mem};
+use std::alloc::Global;
 use std::test::Fail;
 
 // the headers of a text of one byte and data of three bytes and five zeros
@@ -32,5 +33,68 @@ fn a_small_program_is_written(rt: HostRuntime) -> Result<(), Fail> {
     assert_eq!(rt; &file[8192..], [1, 2, 3].as_slice());
     let zeros = file[176..4096].iter().chain(file[4097..8192].iter());
     assert!(rt; zeros.copied().all(|byte| byte == 0));
+    Ok(())
+}
+
+// The file of `a_small_program_is_written`, with some bytes changed.
+fn changed(alloc: Global, changes: &[(usize, u8)]) -> Result<Vec<u8>, Mem> {
+    let text = Bytes::from_slice(alloc, &[0xC3])?;
+    let words = Bytes::from_slice(alloc, &[1, 2, 3])?;
+    let image = program_image(alloc, text, words, 5)?;
+    let mut file = write_image(alloc, &image)?.into_vec();
+    for (place, byte) in changes {
+        if *place < file.len() {
+            file[*place] = *byte;
+        }
+    }
+    Ok(file)
+}
+
+#[test]
+fn a_small_program_is_read(rt: HostRuntime) -> Result<(), Fail> {
+    let alloc = rt.alloc();
+    // what does not matter: bytes 7 to 15, e_shoff, other bits of p_flags, p_paddr, a third header of
+    // another type
+    for changes in [[(7, 3), (40, 1)], [(68, 0x0D), (88, 1)], [(56, 3), (15, 1)]] {
+        let file = changed(alloc, &changes)?;
+        let image = read_image(alloc, &file)?;
+        assert_eq!(rt; image.entry, 0x400000);
+        let segments = image.segments.as_slice();
+        assert_eq!(rt; segments.len(), 2);
+        assert_eq!(rt; segments[0].bytes.as_slice(), [0xC3].as_slice());
+        assert_eq!(rt; segments[1].bytes.as_slice(), [1, 2, 3].as_slice());
+        assert_eq!(rt; (segments[1].address, segments[1].zeros), (0x1000_0000, 5));
+        assert!(rt; segments[0].execute && !segments[0].write && segments[1].write);
+    }
+    Ok(())
+}
+
+#[test]
+fn the_first_test_that_fails_is_the_answer(rt: HostRuntime) -> Result<(), Fail> {
+    let alloc = rt.alloc();
+    assert_eq!(rt; read_image(alloc, &[0; 10]).err(), Some(ImageError::Short));
+    assert_eq!(rt;
+        read_image(alloc, &[b' '; 64]).err(),
+        Some(ImageError::NotElf)
+    );
+    for (changes, error) in [
+        ([(0, 0x7E), (16, 3)], ImageError::NotElf),
+        ([(16, 3), (64, 2)], ImageError::NotThisMachine),
+        ([(18, 3), (64, 2)], ImageError::NotThisMachine),
+        ([(56, 0), (57, 0)], ImageError::NotThisMachine),
+        ([(56, 17), (64, 2)], ImageError::NotThisMachine),
+        ([(64, 2), (163, 0xC0)], ImageError::BadSegment(0)),
+        ([(120, 3), (163, 0xC0)], ImageError::BadSegment(1)),
+        ([(96, 2), (120, 3)], ImageError::BadSegment(0)),
+        ([(72, 1), (0, 0x7F)], ImageError::BadSegment(0)),
+        ([(129, 0x30), (0, 0x7F)], ImageError::BadSegment(1)),
+        ([(141, 0x80), (0, 0x7F)], ImageError::BadSegment(1)),
+        ([(138, 0x40), (139, 0)], ImageError::BadSegment(1)),
+        ([(32, 0), (33, 0x20)], ImageError::BadSegment(0)),
+        ([(163, 0xC0), (0, 0x7F)], ImageError::TooLarge),
+    ] {
+        let file = changed(alloc, &changes)?;
+        assert_eq!(rt; read_image(alloc, &file).err(), Some(error), "{changes:?}");
+    }
     Ok(())
 }
