@@ -1,10 +1,9 @@
 -- What stands when the loop over the forms is at its end.
-use Rattle.std.proofs.Common.{◌≡◌, ℕ, ◌+◌, ◌*◌, ◌≤◌, ◌^◌, List, [], ◌∷◌, ◌++◌, length, drop, map, refl, sym, ap, ◌∙◌, arith, Result, Ok, Err, IfOk}
+use Rattle.std.proofs.Common.{◌≡◌, ℕ, ◌+◌, ◌*◌, ◌≤◌, List, [], ◌∷◌, ◌++◌, length, drop, map, sym, ap, ◌∙◌, arith, Result, Ok, Err, IfOk}
 use Rattle.std.specs.List.{flat_map}
 use Rattle.std.proofs.lemmas.List.{drop_all, append-nil}
 use Rattle.sch_word.specs.declared.mem.Mem.{Mem}
 use Rattle.sch_elf.specs.Layout.{memory}
-use Rattle.sch_elf.specs.declared.image.Segment.{Segment}
 use Rattle.sch_elf.specs.declared.image.Image.{Image}
 use Rattle.sch_insn.specs.Spelling.{spelling}
 use Rattle.sch_cli.specs.declared.thin.form.Form.{Form}

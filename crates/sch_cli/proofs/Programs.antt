@@ -1,6 +1,5 @@
 -- The file of an assembled thin program.
 use Rattle.std.proofs.Common.{◌≡◌, ℕ, List, [], ◌∷◌, sym, subst}
-use Rattle.sch_word.specs.Memory as words
 use Rattle.sch_elf.specs.declared.image.Image.{Image}
 use Rattle.sch_elf.specs.Stands.{StandsFor}
 use Rattle.sch_elf.specs.Layout.{memory}

@@ -1,7 +1,7 @@
 -- The grammar of thin texts is read from the left in one way.
-use Rattle.std.proofs.Common.{◌≡◌, ◌≢◌, ℕ, zero, suc, ◌+◌, ◌-◌, ◌*◌, ◌<◌, ◌≤◌, ◌^◌, List, [], ◌∷◌, ◌++◌, length, drop, take, Bool, true, false, cond, refl, sym, ap, ◌∙◌, subst, arith, IsTrue, add_assoc, append_assoc, codes, ◌⊎◌, inl, inr, ⊎_elim, ◌&&◌, lit<, Bor, Option, Some, None, MatchOption, MatchBool, get_or, length-append, ◌==◌}
+use Rattle.std.proofs.Common.{◌≡◌, ◌≢◌, ℕ, suc, ◌+◌, ◌<◌, ◌≤◌, ◌^◌, List, [], ◌∷◌, ◌++◌, length, drop, take, Bool, true, false, cond, refl, sym, ap, ◌∙◌, subst, arith, IsTrue, append_assoc, codes, ◌⊎◌, inl, inr, ⊎_elim, ◌&&◌, lit<, Bor, Option, Some, None, MatchOption, MatchBool, length-append, ◌==◌}
 use Rattle.std.specs.Prelude.{ℤ, pos, neg_ℤ}
-use Rattle.std.specs.List.{fold, list_all, prefix_len, take_while}
+use Rattle.std.specs.List.{list_all, prefix_len}
 use Rattle.std.specs.Fmt.{signed_decimal}
 use Rattle.std.proofs.lemmas.Bool.Decides.{nat_tests}
 use Rattle.std.specs.Char.{is_ascii_digit}
@@ -10,7 +10,7 @@ use Rattle.std.proofs.lemmas.List.Folds.{length-prefix_len}
 use Rattle.std.proofs.Math.Nat.{pow-le-pow_right}
 use Rattle.std.proofs.Math.Seq.{drop-append_seam, take-append_seam}
 use Rattle.sch_cli.specs.ThinForms.{Shows}
-use Rattle.sch_cli.specs.Thin.{Reads, Then, Word, Spaces, Space, Token, Stops, is_space, value_of, IsSolid, Digits, Integer, plain, minus, NewlineForm, Argument, DisplayForm, Form, newline, display, IsThin, ends, goes_on}
+use Rattle.sch_cli.specs.Thin.{Then, Word, Spaces, Space, Token, Stops, is_space, value_of, IsSolid, Digits, Integer, plain, minus, Argument, Form, newline, display, IsThin, ends, goes_on}
 
 -- ---- the longest run of bytes that pass a test
 

@@ -1,11 +1,11 @@
 -- A line in two parts.
-use Rattle.std.proofs.Common.{◌≡◌, ℕ, ◌+◌, ◌≤◌, List, [], ◌++◌, length, take, Bool, true, false, Option, Some, None, refl, sym, ap, ◌∙◌, arith, append_assoc, IsTrue, ◌<◌, ⊎_elim}
+use Rattle.std.proofs.Common.{◌≡◌, ℕ, ◌+◌, ◌≤◌, List, ◌++◌, length, take, Bool, true, false, Option, Some, None, refl, sym, ap, ◌∙◌, arith, append_assoc, IsTrue, ⊎_elim}
 use Rattle.std.proofs.lemmas.Bool.{cases_lt}
 use Rattle.std.proofs.lemmas.List.{take-append-le, take_all}
 use Rattle.std.proofs.Math.Seq.{take-append_seam, take-append-add}
 use Rattle.sch_io.specs.Told.{Tells}
 use Rattle.sch_io.specs.Counters.{Rose}
-use Rattle.sch_cli.specs.Messages.{Said, Says}
+use Rattle.sch_cli.specs.Messages.{Says}
 
 -- any number of bytes of the first part
 taken_first : (subject text : List ℕ) (k : ℕ) → (n : ℕ) × (take n (subject ++ text) ≡ take k subject)

@@ -1,13 +1,13 @@
 -- The program of a thin text of at most 2^20 bytes fits its place.
-use Rattle.std.proofs.Common.{◌≡◌, ℕ, zero, suc, ◌+◌, ◌-◌, ◌*◌, ◌<◌, ◌≤◌, ◌^◌, List, [], ◌∷◌, ◌++◌, length, Bool, true, false, refl, sym, ap, ◌∙◌, subst, arith, IsTrue, ◌&&◌, length-append}
-use Rattle.std.specs.Prelude.{ℤ, pos, negsuc, neg_ℤ}
+use Rattle.std.proofs.Common.{◌≡◌, ℕ, zero, suc, ◌+◌, ◌-◌, ◌*◌, ◌<◌, ◌≤◌, ◌^◌, List, [], ◌∷◌, length, true, sym, ap, ◌∙◌, subst, arith, IsTrue, length-append}
+use Rattle.std.specs.Prelude.{ℤ, pos, neg_ℤ}
 use Rattle.std.specs.Char.{is_ascii_digit}
-use Rattle.std.specs.Fmt.{decimal, signed_decimal}
+use Rattle.std.specs.Fmt.{signed_decimal}
 use Rattle.std.specs.List.{fold, list_all}
 use Rattle.std.proofs.lemmas.Bool.Decides.{nat_tests}
 use Rattle.std.proofs.lemmas.Fmt.{decimal_nonempty, length-decimal-le}
 use Rattle.std.proofs.Math.Nat.{mul-le-mul_right, mul_comm, mul_assoc, pow-succ'}
-use Rattle.sch_cli.specs.Thin.{value_of, Digits, Integer, plain, minus, Form, newline, display, IsThin, ends, goes_on}
+use Rattle.sch_cli.specs.Thin.{Digits, Integer, plain, minus, Form, newline, display, IsThin, ends, goes_on}
 use Rattle.sch_cli.specs.ThinCode.{IsSmall, AreFull, joined}
 use Rattle.sch_cli.proofs.Reading.{power_le, form_shorter, and_first, and_second}
 

@@ -1,6 +1,6 @@
 -- The code of a thin program does what its pieces mean.
-use Rattle.std.proofs.Common.{◌≡◌, ℕ, zero, suc, ◌+◌, ◌-◌, ◌*◌, ◌<◌, ◌≤◌, ◌^◌, List, [], ◌∷◌, ◌++◌, length, take, drop, Bool, true, false, cond, Option, Some, None, refl, sym, ap, ◌∙◌, subst, arith, append_assoc, length-append, lit<, inr}
-use Rattle.std.specs.Prelude.{ℤ, pos, negsuc}
+use Rattle.std.proofs.Common.{◌≡◌, ℕ, ◌+◌, ◌*◌, ◌<◌, ◌^◌, List, [], ◌∷◌, ◌++◌, length, Bool, true, false, cond, refl, sym, ap, ◌∙◌, subst, arith, append_assoc, length-append, lit<, inr}
+use Rattle.std.specs.Prelude.{pos, negsuc}
 use Rattle.std.specs.Int.{w32}
 use Rattle.std.specs.Int.RustNames.{FitsSigned}
 use Rattle.std.specs.List.{flat_map}
@@ -10,18 +10,18 @@ use Rattle.sch_word.specs.Put.{Put, put}
 use Rattle.sch_word.specs.declared.answer.Answer.{Answer}
 use Rattle.sch_insn.specs.declared.insn.Arg.TheVariants.{Reg, Rip}
 use Rattle.sch_insn.specs.declared.insn.Insn.{Insn}
-use Rattle.sch_insn.specs.declared.insn.Insn.TheVariants.{MovNumber, Lea, AddTo, SubTo, CmpNumber, Jump, JumpTo, JumpIf, Syscall}
+use Rattle.sch_insn.specs.declared.insn.Insn.TheVariants.{MovNumber, Lea, Jump, Syscall}
 use Rattle.sch_insn.specs.declared.machine.Flags.{Flags}
-use Rattle.sch_insn.specs.Spelling.{spelling, IsValid}
+use Rattle.sch_insn.specs.Spelling.{spelling}
 use Rattle.sch_insn.specs.Machine.{State, set_register, word, add64}
 use Rattle.sch_insn.specs.Step.{Runs, Exited}
-use Rattle.sch_insn.specs.Behaves.{Given, Ending, Behaves, start}
+use Rattle.sch_insn.specs.Behaves.{Ending, Behaves, start}
 use Rattle.sch_insn.proofs.Steps.{Comes, then, next, ends, HasAt}
 use Rattle.sch_insn.proofs.Placing.{HasBytes, AllValid, ApartFrom, has_all, has_bytes}
 use Rattle.sch_insn.proofs.Growing.{behaves}
 use Rattle.sch_cli.specs.Thin.{puts}
-use Rattle.sch_cli.specs.ThinCode.{write_loop, exit_code, piece_code, pieces_code, program_code, data_address, text_address, joined, text_memory, data_memory, IsSmall, AreFull}
-use Rattle.sch_cli.proofs.WriteLoop.{at, Returns, Outcome, writes}
+use Rattle.sch_cli.specs.ThinCode.{write_loop, exit_code, pieces_code, program_code, data_address, text_address, joined, text_memory, data_memory, IsSmall, AreFull}
+use Rattle.sch_cli.proofs.WriteLoop.{at, Outcome, writes}
 
 -- Each piece stands in memory, one after the other, and none is empty.
 abbrev pub StandAt : List Segment → ℕ → List (List ℕ) → Type 0

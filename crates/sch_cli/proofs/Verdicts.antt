@@ -1,8 +1,8 @@
 -- What a disk that tells says of the source.
-use Rattle.std.proofs.Common.{◌≡◌, ℕ, List, ◌<◌, ◌≤◌, ◌^◌, length, Option, Some, None, IfSome, sym, subst, refl, ap, ◌∙◌, Result, Ok, Err}
+use Rattle.std.proofs.Common.{◌≡◌, ℕ, List, ◌<◌, ◌≤◌, length, Option, Some, None, IfSome, sym, subst, ap, ◌∙◌, Result, Ok, Err}
 use Rattle.std.specs.Prelude.{IsSomeAnd, OnOk, OnErr}
 use Rattle.std.specs.FinMap.{get}
-use Rattle.sch_io.specs.Files.{Files, Replaces}
+use Rattle.sch_io.specs.Files.{Files}
 use Rattle.sch_io.specs.Told.{Tells}
 use Rattle.sch_cli.specs.Compiles.{Source, HasStatus, too_long, not_built, built, source_limit, IsProgram}
 use Rattle.sch_cli.specs.Thin.{IsThin}

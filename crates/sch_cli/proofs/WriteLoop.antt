@@ -1,6 +1,6 @@
 -- The write loop puts a piece, whatever the kernel answers.
-use Rattle.std.proofs.Common.{◌≡◌, ◌≢◌, ℕ, zero, suc, ◌+◌, ◌-◌, ◌*◌, ◌/◌, ◌%◌, ◌^◌, ◌<◌, ◌≤◌, min, List, [], ◌∷◌, ◌++◌, length, take, drop, Bool, true, false, cond, Option, Some, None, refl, sym, ap, ◌∙◌, subst, ⊎_elim, arith, append_assoc, length-drop, nat_lt, nat_le, ◌==◌, ◌&&◌, ◌||◌}
-use Rattle.std.specs.Prelude.{ℤ, pos, negsuc, not}
+use Rattle.std.proofs.Common.{◌≡◌, ℕ, zero, suc, ◌+◌, ◌-◌, ◌^◌, ◌<◌, ◌≤◌, min, List, [], ◌∷◌, ◌++◌, length, take, drop, Bool, true, false, cond, Some, refl, sym, ap, ◌∙◌, subst, ⊎_elim, arith, append_assoc, length-drop, ◌==◌, ◌&&◌, ◌||◌}
+use Rattle.std.specs.Prelude.{pos, negsuc, not}
 use Rattle.std.proofs.lemmas.Bool.{cases_lt}
 use Rattle.std.proofs.lemmas.Bool.Decides.{nat_tests}
 use Rattle.std.proofs.lemmas.List.{drop_all, append-nil, take_all}
@@ -9,11 +9,11 @@ use Rattle.sch_word.specs.Memory.{Segment}
 use Rattle.sch_word.specs.Put.{put}
 use Rattle.sch_word.specs.declared.answer.Answer.{Answer}
 use Rattle.sch_word.specs.declared.answer.Answer.TheVariants.{Took, Failed}
-use Rattle.sch_insn.specs.declared.insn.Arg.TheVariants.{Reg, Rip}
-use Rattle.sch_insn.specs.declared.insn.Insn.TheVariants.{MovNumber, Lea, AddTo, SubTo, CmpNumber, Jump, JumpTo, JumpIf, Syscall}
+use Rattle.sch_insn.specs.declared.insn.Arg.TheVariants.{Reg}
+use Rattle.sch_insn.specs.declared.insn.Insn.TheVariants.{MovNumber, AddTo, SubTo, CmpNumber, JumpTo, JumpIf, Syscall}
 use Rattle.sch_insn.specs.declared.machine.Flags.{Flags}
 use Rattle.sch_insn.specs.Machine.{State, set_register, word, add64, sub64, is_negative, differ, difference_of, sum_of, condition, test_of, unknown_flags, head_or_0}
-use Rattle.sch_insn.specs.Step.{Progress, Runs, Exited, answered, after_write, rest_of, jump_if, moved}
+use Rattle.sch_insn.specs.Step.{Runs, Exited, answered, after_write, rest_of, jump_if, moved}
 use Rattle.sch_insn.proofs.Steps.{Comes, then, next, ends, HasAt}
 use Rattle.sch_insn.proofs.Placing.{HasBytes, has_later, write_answered}
 use Rattle.sch_cli.specs.ThinCode.{write_loop}

@@ -1,5 +1,5 @@
 -- What `compile` promises of the source and the file that it writes.
-use Rattle.std.specs.Prelude.{◌≡◌, ◌⊎◌, ◌<◌, ◌≤◌, ◌^◌, ℕ, List, length, IsSomeAnd, Some, Option}
+use Rattle.std.specs.Prelude.{◌≡◌, ◌⊎◌, ◌<◌, ◌≤◌, ◌^◌, ℕ, List, length, IsSomeAnd, Option}
 use Rattle.std.specs.FinMap.{get}
 use Rattle.sch_io.specs.Files.{Files, Replaces}
 use Rattle.sch_io.specs.Told.{Tells}

@@ -1,5 +1,5 @@
 -- The line on the standard error for each status.
-use Rattle.std.specs.Prelude.{◌≡◌, ℕ, List, [], ◌∷◌, ◌++◌, ◌==◌, codes, take, if◌then◌else◌, Option}
+use Rattle.std.specs.Prelude.{◌≡◌, ℕ, List, [], ◌++◌, ◌==◌, codes, take, if◌then◌else◌, Option}
 use Rattle.sch_io.specs.Told.{Tells}
 use Rattle.sch_io.specs.Counters.{Rose}
 

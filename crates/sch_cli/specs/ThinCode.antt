@@ -1,5 +1,5 @@
 -- The code of a thin program: a write loop, and for each piece four instructions that call it.
-use Rattle.std.specs.Prelude.{ℕ, ◌+◌, ◌*◌, ◌^◌, ◌<◌, ◌≤◌, List, [], ◌∷◌, ◌++◌, length, true, false, ℤ, pos, negsuc}
+use Rattle.std.specs.Prelude.{ℕ, ◌+◌, ◌*◌, ◌^◌, ◌<◌, ◌≤◌, List, [], ◌∷◌, ◌++◌, length, true, false, pos, negsuc}
 use Rattle.std.specs.List.{flat_map}
 use Rattle.sch_word.specs.Memory.{Segment}
 use Rattle.sch_elf.specs.declared.image.Segment as elf

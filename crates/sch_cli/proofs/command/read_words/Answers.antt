@@ -1,4 +1,4 @@
-use Rattle.std.proofs.Common.{◌≡◌, ◌∙◌, sym, ap, ℕ, List, [], ◌∷◌, map, codes, rules, length, ◌≤◌, ◌<◌, get_or, arith, refl, subst}
+use Rattle.std.proofs.Common.{◌≡◌, ◌∙◌, sym, ap, ℕ, List, [], ◌∷◌, map, codes, rules, length, ◌≤◌, ◌<◌, get_or, arith, subst}
 use Rattle.std.specs.Prelude.{string_bytes}
 use Rattle.sch_cli.specs.Command.{AreNames, IsCommand, source_of, target_of}
 use Rattle.sch_cli.proofs.command.read_words.Goals as goal

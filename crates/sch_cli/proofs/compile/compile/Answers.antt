@@ -1,4 +1,4 @@
-use Rattle.std.proofs.Common.{◌≡◌, ap, Err}
+use Rattle.std.proofs.Common.{ap, Err}
 use Rattle.sch_io.specs.Files.{Replaces, Spoils}
 use Rattle.sch_cli.proofs.Verdicts.{source_too_long, source_read, told_same, told_either, is_built, is_not_built}
 use Rattle.sch_cli.proofs.compile.compile.Goals as goal

@@ -1,4 +1,4 @@
-use Rattle.std.proofs.Common.{◌≡◌, ◌+◌, ◌*◌, ◌++◌, take, drop, length, map}
+use Rattle.std.proofs.Common.{◌≡◌, ◌+◌, ◌*◌, ◌++◌, drop, length, map}
 use Rattle.std.specs.List.{flat_map}
 use Rattle.sch_insn.specs.Spelling.{spelling}
 use Rattle.sch_cli.specs.ThinCode.{program_code, pieces_code, joined, data_address}

@@ -1,4 +1,4 @@
-use Rattle.std.proofs.Common.{◌≡◌, ap, ◌∙◌, ◌+◌, ◌++◌}
+use Rattle.std.proofs.Common.{ap, ◌∙◌, ◌+◌, ◌++◌}
 use Rattle.std.specs.Prelude.{pos, negsuc}
 use Rattle.sch_insn.specs.declared.insn.Arg.TheVariants.{Reg, Rip}
 use Rattle.sch_insn.specs.declared.insn.Insn.TheVariants.{MovNumber, Lea, Jump}

@@ -1,8 +1,7 @@
-use Rattle.std.proofs.Common.{◌≡◌, ◌≤◌, sym, subst, ap, ℕ, List, length, ◌∙◌, arith, take, drop, inl, inr, IsTrue, ◌<◌}
-use Rattle.std.specs.List.{prefix_len, list_all}
+use Rattle.std.proofs.Common.{sym, subst, ap, ◌∙◌, arith, take, inl, inr, IsTrue}
+use Rattle.std.specs.List.{list_all}
 use Rattle.std.specs.Char.{is_ascii_digit}
 use Rattle.std.proofs.lemmas.List.Sums.{prefix_len-le-length}
-use Rattle.sch_cli.specs.Thin.{Digits, value_of}
 use Rattle.sch_cli.proofs.Reading.{not_digits, list_all-run, digits_are}
 use Rattle.sch_cli.proofs.thin.read.digits.Goals as goal
 use Rattle.sch_cli.proofs.thin.read.digits.Goals.{then-count-lt1-via-then-count-lt1, then-count-lt1-via-else-count-lt1+then-count-gt18}

@@ -1,4 +1,4 @@
-use Rattle.std.proofs.Common.{◌≡◌, ℕ, List, Option, Some, None, Bor, MatchOption, codes, ℤ}
+use Rattle.std.proofs.Common.{ℕ, List, Option, Some, None, Bor, MatchOption, codes, ℤ}
 use Rattle.sch_cli.specs.declared.thin.form.Form.{Form}
 use Rattle.sch_cli.specs.Thin as thin
 use Rattle.sch_cli.specs.Thin.{Token, Argument, newline}

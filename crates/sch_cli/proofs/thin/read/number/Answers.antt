@@ -1,4 +1,4 @@
-use Rattle.std.proofs.Common.{◌≡◌, ℕ, ◌<◌, ◌≤◌, ◌+◌, ◌-◌, ◌^◌, arith, slice_index_or, length}
+use Rattle.std.proofs.Common.{arith}
 use Rattle.sch_cli.proofs.Reading.{power_le, power_lt}
 use Rattle.sch_cli.proofs.thin.read.number.Goals as goal
 

@@ -1,4 +1,4 @@
-use Rattle.std.proofs.Common.{◌≡◌, ◌<◌, ◌+◌, ◌^◌, ℕ, take}
+use Rattle.std.proofs.Common.{◌≡◌, ◌<◌, ◌^◌, take}
 use Rattle.sch_cli.specs.Thin.{value_of}
 use Rattle.sch_cli.proofs.thin.read.number.Given as goal
 

@@ -1,4 +1,4 @@
-use Rattle.std.proofs.Common.{◌≡◌, ◌∙◌, sym, ap, map, [], ◌∷◌, ◌++◌}
+use Rattle.std.proofs.Common.{◌∙◌, sym, ap, map, [], ◌∷◌}
 use Rattle.std.proofs.lemmas.List.{map-append}
 use Rattle.sch_cli.specs.ThinForms.{piece_of}
 use Rattle.sch_cli.proofs.Reading.{reads_more, reads_all, reads_not, is_none_left, is_some_left}

@@ -1,8 +1,6 @@
-use Rattle.std.proofs.Common.{◌≡◌, sym, subst, ℕ, List, MatchOption, ◌≢◌, ◌++◌, ◌∙◌, drop}
-use Rattle.std.specs.List.{prefix_len}
 use Rattle.std.proofs.lemmas.Bool.Decides.{Decides-eqb}
 use Rattle.std.proofs.lemmas.Slice.Eq.{strip_prefix_is}
-use Rattle.sch_cli.proofs.Reading.{after, tokens_from}
+use Rattle.sch_cli.proofs.Reading.{tokens_from}
 use Rattle.sch_cli.proofs.thin.read.token.Goals as goal
 
 pub returns : goal.returns
