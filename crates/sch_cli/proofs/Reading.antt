@@ -10,7 +10,8 @@ use Rattle.std.proofs.lemmas.List.Folds.{length-prefix_len}
 use Rattle.std.proofs.Math.Nat.{pow-le-pow_right}
 use Rattle.std.proofs.Math.Seq.{drop-append_seam, take-append_seam}
 use Rattle.sch_cli.specs.ThinForms.{Shows}
-use Rattle.sch_cli.specs.Thin.{Then, Word, Spaces, Space, Token, Stops, is_space, value_of, IsSolid, Digits, Integer, plain, minus, Argument, Form, newline, display, IsThin, ends, goes_on}
+use Rattle.sch_cli.specs.Numbers.{value_of}
+use Rattle.sch_cli.specs.Thin.{Then, Word, Spaces, Space, Token, Stops, is_space, IsSolid, Digits, Integer, plain, minus, Argument, Form, newline, display, IsThin, ends, goes_on}
 
 -- ---- the longest run of bytes that pass a test
 
@@ -173,8 +174,11 @@ not_digits text count e h value rest d =
 pub power_le : (n : ℕ) → n ≤ 18 → 10 ^ n ≤ 10 ^ 18
 power_le n l = pow-le-pow_right {n = 10} (lit< tt) l
 
-pub power_lt : (n : ℕ) → n < 18 → 10 ^ n ≤ 10 ^ 17
-power_lt n l = pow-le-pow_right {n = 10} (lit< tt) (let k : n ≤ 17 = omega arith in k)
+pub power_within : (n m : ℕ) → n ≤ m → 10 ^ n ≤ 10 ^ m
+power_within n m l = pow-le-pow_right {n = 10} (lit< tt) l
+
+pub power_lt : (n : ℕ) → n < 19 → 10 ^ n ≤ 10 ^ 18
+power_lt n l = power_le n (let k : n ≤ 18 = omega arith in k)
 
 -- what is stripped of the word, after the white space
 pub tokens_from : (word text skipped : List ℕ) (stripped : Option (Bor (List ℕ))) → IsSolid word → skipped ≡ after is_space text →

@@ -1,22 +1,59 @@
 -- The words that are a command.
-use Rattle.std.specs.Prelude.{◌≡◌, ◌≢◌, ℕ, List, [], ◌∷◌, codes}
+use Rattle.std.specs.Prelude.{ℕ, ◌^◌, List, [], ◌∷◌, codes, Bool, true, false, not, ◌&&◌, Option, Some, None, if◌then◌else◌}
+use Rattle.std.specs.Str.{bytes_eq}
+use Rattle.sch_cli.specs.Numbers.{is_steps, value_of}
+
+-- `compile` reads a source and writes a target; `run` compiles a source and runs it; `step` runs an
+-- image, of at most so many steps.
+pub data Command : Type 0 where
+  compile : (source target : List ℕ) → Command
+  run : (source : List ℕ) → (steps : ℕ) → Command
+  step : (image : List ℕ) → (steps : ℕ) → Command
+
+abbrev pub is_name : List ℕ → Bool
+is_name [] = false
+is_name (byte ∷ bytes) = true
 
 -- two different names that are not empty
-pub record AreNames (source target : List ℕ) : Type 0 where
-  pub source_some : source ≢ []
-  pub target_some : target ≢ []
-  pub different : source ≢ target
+abbrev pub are_names : List ℕ → List ℕ → Bool
+are_names source target = is_name source && is_name target && not (bytes_eq source target)
 
--- the words after the verb
-abbrev pub source_of : List (List ℕ) → List ℕ
-source_of (verb ∷ source ∷ more) = source
-source_of words = []
+-- the steps where none are given
+abbrev pub default_steps : ℕ
+default_steps = 10 ^ 9
 
-abbrev pub target_of : List (List ℕ) → List ℕ
-target_of (verb ∷ source ∷ target ∷ more) = target
-target_of words = []
+-- the steps in what follows a name: nothing, or `--steps N`
+abbrev pub steps_in : List (List ℕ) → Option ℕ
+steps_in [] = Some default_steps
+steps_in (option ∷ digits ∷ []) = if bytes_eq option (codes "--steps") && is_steps digits then Some (value_of digits) else None
+steps_in _ = None
 
--- `compile NAME NAME2`, the only command: the source that is read, and the file that is written.
-pub record IsCommand (words : List (List ℕ)) : Type 0 where
-  pub are : words ≡ codes "compile" ∷ source_of words ∷ target_of words ∷ []
-  pub names : AreNames (source_of words) (target_of words)
+abbrev pub compile_of : List ℕ → List (List ℕ) → Option Command
+compile_of source (target ∷ []) = if are_names source target then Some (compile source target) else None
+compile_of source _ = None
+
+abbrev pub with_steps : (ℕ → Command) → Bool → Option ℕ → Option Command
+with_steps make true (Some steps) = Some (make steps)
+with_steps make named steps = None
+
+-- The command of the words: `compile NAME NAME2`, `run NAME [--steps N]` or `step NAME [--steps N]`.
+abbrev pub command : List (List ℕ) → Option Command
+command (verb ∷ name ∷ rest) =
+    if bytes_eq verb (codes "compile") then compile_of name rest
+    else if bytes_eq verb (codes "run") then with_steps (run name) (is_name name) (steps_in rest)
+    else if bytes_eq verb (codes "step") then with_steps (step name) (is_name name) (steps_in rest)
+    else None
+command _ = None
+
+-- what holds of the names and steps of a verb, where the words are its command
+abbrev pub IfCompile : Option Command → ((source target : List ℕ) → Type 0) → Type 0
+IfCompile (Some (compile source target)) P = P source target
+IfCompile _ P = Unit {0}
+
+abbrev pub IfRun : Option Command → ((source : List ℕ) → (steps : ℕ) → Type 0) → Type 0
+IfRun (Some (run source steps)) P = P source steps
+IfRun _ P = Unit {0}
+
+abbrev pub IfStep : Option Command → ((image : List ℕ) → (steps : ℕ) → Type 0) → Type 0
+IfStep (Some (step image steps)) P = P image steps
+IfStep _ P = Unit {0}

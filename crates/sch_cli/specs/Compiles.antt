@@ -1,7 +1,8 @@
 -- What `compile` promises of the source and the file that it writes.
-use Rattle.std.specs.Prelude.{◌≡◌, ◌⊎◌, ◌<◌, ◌≤◌, ◌^◌, ℕ, List, length, IsSomeAnd, Option}
+use Rattle.std.specs.Prelude.{◌≡◌, ◌≢◌, ◌⊎◌, ◌<◌, ◌≤◌, ◌+◌, ◌^◌, ℕ, List, length, IsSomeAnd, Option}
 use Rattle.std.specs.FinMap.{get}
-use Rattle.sch_io.specs.Files.{Files, Replaces}
+use Rattle.sch_io.specs.Files.{Files, Replaces, Spoils}
+use Rattle.sch_io.specs.Counters.{Rose}
 use Rattle.sch_io.specs.Told.{Tells}
 use Rattle.sch_elf.specs.declared.image.Image.{Image}
 use Rattle.sch_elf.specs.Stands.{StandsFor}
@@ -40,3 +41,20 @@ abbrev pub Compiled : List ℕ → List ℕ → Files → Files → Type 0
 Compiled source target before after =
     IsSomeAnd (get before source) (λ text. (pieces : List (List ℕ)) × (file : List ℕ) ×
     IsThin text pieces × IsProgram file pieces × Replaces target file before after)
+
+-- How `compile` ends, by what is seen of the disk's files, faults and calls before and after.
+pub record EndsCompile (source target : List ℕ) (status : ℕ) (files files' : Option Files) (faults faults' calls calls' : ℕ) : Type 0 where
+  -- 0, 7 and 11 are the source's own status; at 0 the target holds its program
+  pub statuses : (status ≡ 2) ⊎ (status ≡ 3) ⊎ (status ≡ 10) ⊎ IsVerdict status
+  pub verdict : IsVerdict status → Source files files' source (λ text. HasStatus text status)
+  pub compiled : status ≡ 0 → Tells files files' (Compiled source target)
+  -- 2 and 3 come only where the disk failed in the read or in the write
+  pub read_failed : status ≡ 2 → Rose faults faults'
+  pub write_failed : status ≡ 3 → Rose faults faults'
+  -- a refusal changes no file, and a failed write only the target
+  pub spoiled : status ≡ 3 → Tells files files' (Spoils target)
+  pub unchanged : status ≢ 0 → status ≢ 3 → Tells files files' (λ before after. after ≡ before)
+  -- there is no room for a call on another file
+  pub calls_most : calls < 2 ^ 63 → calls' ≤ calls + 2
+  pub calls_at_failed_write : calls < 2 ^ 63 → status ≡ 3 → calls' ≡ calls + 2
+  pub calls_at_refusal : calls < 2 ^ 63 → status ≢ 0 → status ≢ 3 → calls' ≤ calls + 1

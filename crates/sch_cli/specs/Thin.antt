@@ -6,10 +6,11 @@
 use Rattle.std.specs.Prelude.{◌≡◌, ℕ, ◌+◌, ◌-◌, ◌*◌, ◌≤◌, List, [], ◌∷◌, ◌++◌, length, codes, Bool, false, ◌||◌, ◌==◌, IsTrue, ℤ, pos, neg_ℤ, if◌then◌else◌}
 use Rattle.std.specs.Char.{is_ascii_digit}
 use Rattle.std.specs.Fmt.{signed_decimal}
-use Rattle.std.specs.List.{fold, list_all}
+use Rattle.std.specs.List.{list_all}
 use Rattle.sch_word.specs.declared.answer.Answer.{Answer}
 use Rattle.sch_word.specs.Put.{put}
 use Rattle.sch_insn.specs.Behaves.{Ending}
+use Rattle.sch_cli.specs.Numbers.{value_of}
 
 -- ---- the grammar
 
@@ -49,10 +50,6 @@ Token word = Then Spaces (Word word)
 -- the text does not begin with a byte that passes
 abbrev pub Stops : (ℕ → Bool) → List ℕ → Type 0
 Stops passes text = (byte : ℕ) (more : List ℕ) → text ≡ byte ∷ more → passes byte ≡ false
-
--- the number that decimal digits stand for
-abbrev pub value_of : List ℕ → ℕ
-value_of digits = fold (λ value digit. 10 * value + (digit - 48)) 0 digits
 
 -- From 1 to 18 decimal digits, after which no digit follows.
 pub record Digits (value : ℕ) (text rest : List ℕ) : Type 0 where

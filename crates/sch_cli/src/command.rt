@@ -1,39 +1,124 @@
 // Reads the words of a command.
-ghost use Rattle.std.specs.Prelude.{◌≡◌, List, ℕ, map, IfSome, MatchOption, IsTrue, ◌↔◌, string_bytes};
-ghost use Rattle.sch_cli.specs.Command.{AreNames, IsCommand, source_of, target_of};
+ghost use Rattle.std.specs.Prelude.{◌≡◌, ◌<◌, ◌≤◌, ◌^◌, List, ℕ, map, length, IsTrue, Some, None, string_bytes, if◌then◌else◌};
+ghost use Rattle.std.specs.Char.{is_ascii_digit};
+ghost use Rattle.std.specs.List.{list_all};
+ghost use Rattle.std.specs.Option.{option_map};
+ghost use Rattle.sch_cli.specs.Command.{are_names, command, compile_of, is_name, run, step, steps_in, with_steps};
+ghost use Rattle.sch_cli.specs.CommandView.{command_of};
+ghost use Rattle.sch_cli.specs.Numbers.{is_steps, value_of};
 
-/// The two names of `compile`.
+use crate::number::number;
+
+/// A command: the names are those in the words.
 #[derive(Clone, Copy)]
-pub struct Names<'a> {
-    pub source: &'a str,
-    pub target: &'a str,
+pub enum Command<'a> {
+    Compile { source: &'a str, target: &'a str },
+    Run { source: &'a str, steps: u64 },
+    Step { image: &'a str, steps: u64 },
 }
 
-/// The names in the words `compile NAME NAME2`, where they are this command.
-pub fn read_words<'a>(words: &'a [String]) -> Option<Names<'a>>
-    ensures command { MatchOption result (¬ IsCommand (map string_bytes words.now)) (λ _. IsCommand (map string_bytes words.now)) }
-    ensures names { IfSome result (λ names. (names.source.now ≡ source_of (map string_bytes words.now)) × (names.target.now ≡ target_of (map string_bytes words.now))) }
+const DEFAULT_STEPS: u64 = 1_000_000_000;
+const MOST_STEPS: u64 = 1_000_000_000_000_000_000;
+
+/// The command that the words are, if they are one.
+pub fn read_words<'a>(words: &'a [String]) -> Option<Command<'a>>
+    ensures { command (map string_bytes words.now) ≡ option_map command_of result }
 {
-    let [verb, source, target] = words else {
+    let [verb, name, rest @ ..] = words else {
         return None;
     };
-    if verb.as_str() != "compile" {
+    if verb.as_str() == "compile" {
+        return read_compile(name, rest);
+    }
+    if verb.as_str() == "run" {
+        return read_run(name, rest);
+    }
+    if verb.as_str() == "step" {
+        return read_step(name, rest);
+    }
+    None
+}
+
+fn read_compile<'a>(source: &'a String, rest: &'a [String]) -> Option<Command<'a>>
+    ensures { compile_of (string_bytes source.now) (map string_bytes rest.now) ≡ option_map command_of result }
+{
+    let [target] = rest else {
+        return None;
+    };
+    if !are_admitted(source.as_str(), target.as_str()) {
         return None;
     }
-    let names = Names {
+    Some(Command::Compile {
         source: source.as_str(),
         target: target.as_str(),
-    };
-    if are_admitted(names) {
-        Some(names)
-    } else {
-        None
-    }
+    })
 }
 
 // Whether the names are different and not empty.
-fn are_admitted(names: Names) -> bool
-    ensures { IsTrue result ↔ AreNames names.entry.source.now names.entry.target.now }
+fn are_admitted(source: &str, target: &str) -> bool
+    ensures { result ≡ are_names source.now target.now }
 {
-    !names.source.is_empty() && !names.target.is_empty() && names.source != names.target
+    !source.is_empty() && !target.is_empty() && source != target
+}
+
+fn read_run<'a>(source: &'a String, rest: &'a [String]) -> Option<Command<'a>>
+    ensures { with_steps (run (string_bytes source.now)) (is_name (string_bytes source.now)) (steps_in (map string_bytes rest.now)) ≡ option_map command_of result }
+{
+    if source.as_str().is_empty() {
+        return None;
+    }
+    let Some(steps) = read_steps(rest) else {
+        return None;
+    };
+    Some(Command::Run {
+        source: source.as_str(),
+        steps,
+    })
+}
+
+fn read_step<'a>(image: &'a String, rest: &'a [String]) -> Option<Command<'a>>
+    ensures { with_steps (step (string_bytes image.now)) (is_name (string_bytes image.now)) (steps_in (map string_bytes rest.now)) ≡ option_map command_of result }
+{
+    if image.as_str().is_empty() {
+        return None;
+    }
+    let Some(steps) = read_steps(rest) else {
+        return None;
+    };
+    Some(Command::Step {
+        image: image.as_str(),
+        steps,
+    })
+}
+
+// The steps in the words after a name.
+fn read_steps(rest: &[String]) -> Option<u64>
+    ensures { result ≡ steps_in (map string_bytes rest.now) }
+{
+    if rest.is_empty() {
+        return Some(DEFAULT_STEPS);
+    }
+    let [option, digits] = rest else {
+        return None;
+    };
+    if option.as_str() != "--steps" {
+        return None;
+    }
+    read_count(digits.as_str().as_bytes())
+}
+
+fn read_count(digits: &[u8]) -> Option<u64>
+    ensures { result ≡ (if is_steps digits.now then Some (value_of digits.now) else None) }
+{
+    if digits.is_empty() || digits.len() > 19 || !are_digits(digits) {
+        return None;
+    }
+    let count = number(digits);
+    if count > MOST_STEPS { None } else { Some(count) }
+}
+
+fn are_digits(text: &[u8]) -> bool
+    ensures { result ≡ list_all is_ascii_digit text.now }
+{
+    text.iter().all(|byte| byte.is_ascii_digit())
 }

@@ -6,7 +6,6 @@ ghost use Rattle.sch_io.specs.Told.{Tells};
 ghost use Rattle.sch_cli.specs.Compiles.{Compiled, HasStatus, IsVerdict, Source};
 ghost use Rattle.sch_cli.specs.Messages.{Says, line_of};
 
-use crate::command::Names;
 use crate::message::say;
 use crate::thin::build;
 use sch_io::{Disk, DiskRead, Outlet};

@@ -12,11 +12,12 @@ ghost use Rattle.sch_cli.specs.Messages.{Says, line_of, out_of_memory_line, usag
 mod command;
 mod compile;
 mod message;
+mod number;
 #[cfg(test)]
 mod tests;
 mod thin;
 
-use command::read_words;
+use command::{Command, read_words};
 use compile::compile;
 use message::say;
 use sch_io::{Disk, Outlet};
@@ -69,7 +70,8 @@ pub fn schc<D: Disk, O: Outlet, E: Outlet>(
 {
     let _ = out;
     match read_words(words) {
-        Some(names) => compile(alloc, names.source, names.target, disk, err),
+        Some(Command::Compile { source, target }) => compile(alloc, source, target, disk, err),
+        Some(_) => 1,
         None => {
             say(err, USAGE, "\n");
             1

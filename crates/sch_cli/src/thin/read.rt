@@ -3,10 +3,11 @@ ghost use Rattle.std.specs.Prelude.{◌≡◌, ℕ, ◌<◌, ◌≤◌, ◌^◌,
 ghost use Rattle.std.specs.List.{list_all, prefix_len};
 ghost use Rattle.std.specs.Fmt.{signed_decimal};
 ghost use Rattle.std.specs.Char.{is_ascii_digit};
-ghost use Rattle.sch_cli.specs.Thin.{is_space, value_of, IsSolid, Space, Token, Digits, Integer, Argument, IsThin};
+ghost use Rattle.sch_cli.specs.Thin.{is_space, IsSolid, Space, Token, Digits, Integer, Argument, IsThin};
 ghost use Rattle.sch_cli.specs.Thin as thin;
 ghost use Rattle.sch_cli.specs.ThinForms.{piece_of, Shows};
 
+use crate::number::number;
 use crate::thin::form::Form;
 use sch_word::{List, Mem};
 use std::alloc::Global;
@@ -77,19 +78,6 @@ fn count_digits(text: &[u8]) -> usize
         count += 1;
     }
     count
-}
-
-fn number(digits: &[u8]) -> u64
-    requires few { length digits.now ≤ 18 }
-    requires are_digits { IsTrue (list_all is_ascii_digit digits.now) }
-    ensures value { result ≡ value_of digits.now }
-    ensures below { result < 10 ^ 18 }
-{
-    let mut value = 0;
-    for digit in digits {
-        value = 10 * value + (*digit - b'0') as u64;
-    }
-    value
 }
 
 // Whether a minus sign stands at the head of the text, and what follows it.

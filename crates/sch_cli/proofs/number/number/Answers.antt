@@ -1,6 +1,6 @@
-use Rattle.std.proofs.Common.{arith}
-use Rattle.sch_cli.proofs.Reading.{power_le, power_lt}
-use Rattle.sch_cli.proofs.thin.read.number.Goals as goal
+use Rattle.std.proofs.Common.{arith, length}
+use Rattle.sch_cli.proofs.Reading.{power_lt, power_within}
+use Rattle.sch_cli.proofs.number.number.Goals as goal
 
 pub overflow_mul-value : goal.overflow_mul-value
 overflow_mul-value c =
@@ -17,6 +17,6 @@ overflow_add-value c =
 
 pub returns-clause-below : goal.returns-clause-below
 returns-clause-below c =
-    let p = power_le c.loop-digit.digit-index (omega arith) in
+    let p = power_within c.loop-digit.digit-index (length c.args.digits.now) (omega arith) in
     let b = c.loop-digit.invariant.below in
     omega arith

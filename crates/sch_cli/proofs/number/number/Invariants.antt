@@ -1,6 +1,6 @@
 use Rattle.std.proofs.Common.{◌≡◌, ◌<◌, ◌^◌, take}
-use Rattle.sch_cli.specs.Thin.{value_of}
-use Rattle.sch_cli.proofs.thin.read.number.Given as goal
+use Rattle.sch_cli.specs.Numbers.{value_of}
+use Rattle.sch_cli.proofs.number.number.Given as goal
 
 abbrev pub invariant-loop-digit : goal.invariant-loop-digit
 invariant-loop-digit l = record {
