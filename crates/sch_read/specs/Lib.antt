@@ -14,3 +14,4 @@ pub mod Stages
 pub mod Scanning
 pub mod Answer
 pub mod Valid
+pub mod Printed

@@ -9,6 +9,7 @@ mod letters;
 mod lexeme;
 mod machine;
 mod number;
+mod printing;
 mod read;
 mod text;
 mod token;
@@ -16,6 +17,7 @@ mod word;
 
 pub use datum::{Datum, Node};
 pub use error::ReadError;
+pub use printing::print;
 pub use read::read_all;
 
 #[cfg(test)]
