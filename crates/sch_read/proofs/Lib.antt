@@ -10,3 +10,5 @@ pub mod ScanLemmas
 pub mod AnswerLemmas
 pub mod Weights
 pub mod Validity
+pub mod AtomTexts
+pub mod NameTexts

@@ -71,11 +71,11 @@ part-front : (part : List ℕ) (b : ℕ) (ys : List ℕ) → is_lexeme (part ++ 
 part-front [] b ys h = lexeme-front b [] ys h
 part-front (p ∷ ps) b ys h = lexeme-front p (ps ++ b ∷ []) ys (ap (λ v. is_lexeme (p ∷ v)) (append_assoc ps (b ∷ []) ys) ∙ h)
 
-end-longest : (part : List ℕ) → IsLongest part []
+pub end-longest : (part : List ℕ) → IsLongest part []
 end-longest part [] others e h = refl
 end-longest part (m ∷ ms) others e h = cc
 
-byte-longest : (part : List ℕ) (b : ℕ) (bs : List ℕ) → is_lexeme (part ++ b ∷ []) ≡ false → IsLongest part (b ∷ bs)
+pub byte-longest : (part : List ℕ) (b : ℕ) (bs : List ℕ) → is_lexeme (part ++ b ∷ []) ≡ false → IsLongest part (b ∷ bs)
 byte-longest part b bs fails [] others e h = refl
 byte-longest part b bs fails (m ∷ ms) others e h =
     let same : m ≡ b = cc in

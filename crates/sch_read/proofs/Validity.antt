@@ -30,25 +30,25 @@ lower-cases c = go (cases_lt c 65) (cases_lt c 91)
 lower-twice : (c : ℕ) → to_ascii_lowercase (to_ascii_lowercase c) ≡ to_ascii_lowercase c
 lower-twice c = grind (arith, nat_tests)
 
-and-parts : (a b : Bool) → a && b ≡ true → (a ≡ true) × (b ≡ true)
+pub and-parts : (a b : Bool) → a && b ≡ true → (a ≡ true) × (b ≡ true)
 and-parts true b h = (refl, h)
 and-parts false b h = cc
 
-and-whole : (a b : Bool) → a ≡ true → b ≡ true → a && b ≡ true
+pub and-whole : (a b : Bool) → a ≡ true → b ≡ true → a && b ≡ true
 and-whole a b h k = ap (λ t. t && b) h ∙ k
 
-or-parts : (a b : Bool) → a || b ≡ true → (a ≡ true) ⊎ (b ≡ true)
+pub or-parts : (a b : Bool) → a || b ≡ true → (a ≡ true) ⊎ (b ≡ true)
 or-parts true b h = inl refl
 or-parts false b h = inr h
 
-or-left : (a b : Bool) → a ≡ true → a || b ≡ true
+pub or-left : (a b : Bool) → a ≡ true → a || b ≡ true
 or-left a b h = ap (λ t. t || b) h
 
 or-right : (a b : Bool) → b ≡ true → a || b ≡ true
 or-right true b h = refl
 or-right false b h = h
 
-same-bytes : (xs ys : List ℕ) → bytes_eq xs ys ≡ true → xs ≡ ys
+pub same-bytes : (xs ys : List ℕ) → bytes_eq xs ys ≡ true → xs ≡ ys
 same-bytes xs ys e = (bytes_eq-Decides xs ys).0 e
 
 initial-lower : (c : ℕ) → is_initial c ≡ true → is_initial (to_ascii_lowercase c) ≡ true
