@@ -12,3 +12,4 @@ pub mod Weights
 pub mod Validity
 pub mod AtomTexts
 pub mod NameTexts
+pub mod IntegerTexts

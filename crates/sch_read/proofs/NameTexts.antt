@@ -44,14 +44,14 @@ same-self : (c : ℕ) → (c == c) ≡ false → ⊥
 same-self c h = let holds = eq-eqb c c refl in cc
 
 -- the word begins with another byte than the text
-other-start : (b c : ℕ) (bs cs : List ℕ) → (b == c) ≡ false → bytes_eq (b ∷ bs) (c ∷ cs) ≡ false
+pub other-start : (b c : ℕ) (bs cs : List ℕ) → (b == c) ≡ false → bytes_eq (b ∷ bs) (c ∷ cs) ≡ false
 other-start b c bs cs h = is-false (bytes_eq (b ∷ bs) (c ∷ cs)) (λ e.
     let same = same-bytes (b ∷ bs) (c ∷ cs) e in
     let first : b ≡ c = cc in
     let P : ℕ → Type 0 = λ v. (v == c) ≡ false in
     same-self c (subst P first h))
 
-taken : {A : Type 0} (t : Bool) (x y : A) → t ≡ true → (if t then x else y) ≡ x
+pub taken : {A : Type 0} (t : Bool) (x y : A) → t ≡ true → (if t then x else y) ≡ x
 taken true x y h = refl
 taken false x y h = cc
 
