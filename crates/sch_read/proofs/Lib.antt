@@ -13,3 +13,4 @@ pub mod Validity
 pub mod AtomTexts
 pub mod NameTexts
 pub mod IntegerTexts
+pub mod RoundTrip

@@ -15,3 +15,4 @@ pub mod Scanning
 pub mod Answer
 pub mod Valid
 pub mod Printed
+pub mod Shape
