@@ -1,7 +1,9 @@
 -- The text of a datum (R5RS 6.6.3, `write`). A quote is written as the list that it means.
-use Rattle.std.specs.Prelude.{◌==◌, ◌||◌, ◌++◌, ℕ, Bool, true, false, List, [], ◌∷◌, if◌then◌else◌, codes}
+use Rattle.std.specs.Prelude.{◌≡◌, ◌==◌, ◌||◌, ◌++◌, ℕ, Bool, true, false, List, [], ◌∷◌, if◌then◌else◌, codes}
 use Rattle.std.specs.Fmt.{signed_decimal}
-use Rattle.sch_read.specs.Grammar.{Atom, boolean, integer, character, text, symbol, Datum, Data, atom, list, dotted, vector, none, cons}
+use Rattle.sch_read.specs.Grammar.{Atom, boolean, integer, character, text, symbol, Datum, Data, atom, list, dotted, vector, none, cons, one}
+use Rattle.sch_read.specs.Text.{Spells}
+use Rattle.sch_read.specs.Shape.{without_places}
 
 -- space and line feed have names
 abbrev pub character_name : ℕ → List ℕ
@@ -34,3 +36,7 @@ abbrev mutual
   pub more_text : Data → List ℕ
   more_text none = []
   more_text (cons x xs) = codes " " ++ datum_text x ++ more_text xs
+
+-- the text spells the datum, apart from places
+abbrev pub IsTextOf : Datum → List ℕ → Type 0
+IsTextOf d bytes = (x : Datum) × Spells bytes (one x) × (without_places x ≡ without_places d)

@@ -1,9 +1,13 @@
 //! Data to text.
 
-ghost use Rattle.std.specs.Prelude.{◌≡◌, ◌++◌, IfOk, OnOk, codes, if◌then◌else◌};
+ghost use Rattle.std.specs.Prelude.{◌≡◌, ◌++◌, ◌≤◌, true, IfOk, OnOk, codes, if◌then◌else◌};
 ghost use Rattle.std.specs.Fmt.{signed_decimal};
 ghost use Rattle.std.specs.String.{string_bytes};
-ghost use Rattle.sch_read.specs.Printed.{datum_text, items_text, more_text, escaped_text, character_name};
+ghost use Rattle.sch_read.specs.Printed.{datum_text, items_text, escaped_text, character_name, IsTextOf};
+ghost use Rattle.sch_read.specs.Shape.{depth, HasFixnums, HaveFixnums};
+ghost use Rattle.sch_read.specs.Text.{levels};
+ghost use Rattle.sch_read.specs.Token.{is_fixnum};
+ghost use Rattle.sch_read.specs.Valid.{IsValid};
 ghost use Rattle.sch_read.specs.Views.{tree_of, data_of};
 
 use crate::datum::{Datum, Node};
@@ -13,6 +17,7 @@ use std::alloc::Global;
 /// The text of a datum, as `write` gives it.
 pub fn print(alloc: Global, d: &Datum) -> Result<Bytes, Mem>
     ensures text { IfOk result (λ t. t ≡ datum_text (tree_of d.now)) }
+    ensures again { IsValid (tree_of d.now) → depth (tree_of d.now) ≤ levels → IfOk result (IsTextOf (tree_of d.now)) }
 {
     let mut out = List::new(alloc);
     write_datum(alloc, &mut out, d)?;
@@ -27,9 +32,12 @@ fn integer_text(alloc: Global, number: Fix) -> Result<String, Mem>
     Ok(text)
 }
 
+#[tactic(auto, using(crate::proofs::NumberLemmas::fixnum_test))]
 fn write_integer(alloc: Global, out: &mut Bytes, number: Fix) -> Result<(), Mem>
-    ensures { OnOk result (out.new ≡ out.old ++ signed_decimal number) }
+    ensures text { OnOk result (out.new ≡ out.old ++ signed_decimal number) }
+    ensures fixnum { OnOk result (is_fixnum number ≡ true) }
 {
+    let _value = number.get();
     let text = integer_text(alloc, number)?;
     out.extend_from_slice(text.as_bytes())?;
     Ok(())
@@ -82,7 +90,8 @@ fn write_text(out: &mut Bytes, text: &[u8]) -> Result<(), Mem>
 
 #[cycle(write)]
 fn write_datum(alloc: Global, out: &mut Bytes, d: &Datum) -> Result<(), Mem>
-    ensures { OnOk result (out.new ≡ out.old ++ datum_text (tree_of d.now)) }
+    ensures text { OnOk result (out.new ≡ out.old ++ datum_text (tree_of d.now)) }
+    ensures fixnums { OnOk result (HasFixnums (tree_of d.now)) }
 {
     match &d.node {
         Node::Boolean(truth) => write_boolean(out, *truth),
@@ -115,7 +124,8 @@ fn write_datum(alloc: Global, out: &mut Bytes, d: &Datum) -> Result<(), Mem>
 
 #[cycle(write)]
 fn write_items(alloc: Global, out: &mut Bytes, items: &[Datum]) -> Result<(), Mem>
-    ensures { OnOk result (out.new ≡ out.old ++ items_text (data_of items.now)) }
+    ensures text { OnOk result (out.new ≡ out.old ++ items_text (data_of items.now)) }
+    ensures fixnums { OnOk result (HaveFixnums (data_of items.now)) }
 {
     if items.is_empty() {
         return Ok(());
