@@ -4,7 +4,7 @@ use Rattle.std.specs.Prelude.{Result, IsOkAnd, IfOk}
 use Rattle.std.proofs.lemmas.List.{append-nil}
 use Rattle.sch_read.specs.Grammar.{Token, Open, Close, Dot, Plain, Huge, Bad, Opener, parenthesis, hash_parenthesis, quote_mark, Flaw, bad_token, Atom, boolean, Datum, Data, atom, list, dotted, vector, none, cons, join, one, quoted, with_tail, ReadsOne, ReadsMany, Reads, plain, end, more}
 use Rattle.sch_read.specs.Fault.{Fault, Unclosed, StrayClose, DeepNesting, LiteralRange, Flawed, Mark, list_mark, quote_mark_, place, settled, closed, mark_of, opened, open_after, IsInnermost, Begins, IsAccepted, TakesAtom, IsFaultOf, CannotFollow, IsCutShort, IsFirstFault}
-use Rattle.sch_read.specs.Machine.{Frame, Items, AfterDot, Tail, Elements, Waiting, State, put, opened_frame, start, step, run, and_then, at_top, in_list, in_tail, in_vector, point, finish, place_of}
+use Rattle.sch_read.specs.Machine.{Frame, Items, AfterDot, Tail, Elements, Waiting, State, put, shut, opened_frame, start, step, run, and_then, at_top, in_list, in_tail, in_vector, point, finish, place_of}
 use Rattle.sch_read.proofs.Completions.{TopGets, Closes, Points, Ends, Shuts, Quotes, Fills, Gets, Completes, Goes, HeadTakes, IsSound, put-sound, step-forth, step-back, join-none}
 use Rattle.sch_read.proofs.Runs.{step-sound, done-forth}
 
@@ -102,6 +102,14 @@ put-marks (Tail at xs last ∷ fs) n top d = refl
 put-marks (Elements at xs ∷ fs) n top d = refl
 put-marks (Waiting at ∷ fs) n top d = put-marks fs (suc n) top (quoted at d)
 
+shut-marks : (fs : List Frame) (n at : ℕ) (xs : Data) (last : Datum) (top : Data) → marks (shut n at xs last fs top).open_ ≡ settled (marks fs)
+shut-marks [] n at xs last top = refl
+shut-marks (Items p ys ∷ fs) n at xs last top = refl
+shut-marks (AfterDot p ys ∷ fs) n at xs last top = refl
+shut-marks (Tail p ys d ∷ fs) n at xs last top = refl
+shut-marks (Elements p ys ∷ fs) n at xs last top = refl
+shut-marks (Waiting p ∷ fs) n at xs last top = put-marks (Waiting p ∷ fs) (suc n) top (with_tail at xs last)
+
 start-marks : (n : ℕ) (fs : List Frame) (top : Data) (t : Token) → IfOk (start n fs top t) (λ s. marks s.open_ ≡ opened (marks fs) t)
 start-marks n fs top (Plain at a) = put-marks fs n top (atom at a)
 start-marks zero fs top (Open at o) = tt
@@ -128,7 +136,7 @@ step-marks n (Items at xs ∷ fs) top (Plain p a) = start-marks n (Items at xs �
 step-marks n (Items at xs ∷ fs) top (Huge p) = tt
 step-marks n (Items at xs ∷ fs) top (Bad p f) = tt
 step-marks n (AfterDot at xs ∷ fs) top t = start-marks n (AfterDot at xs ∷ fs) top t
-step-marks n (Tail at xs last ∷ fs) top (Close p) = put-marks fs (suc n) top (with_tail at xs last)
+step-marks n (Tail at xs last ∷ fs) top (Close p) = shut-marks fs n at xs last top
 step-marks n (Tail at xs last ∷ fs) top (Open p o) = tt
 step-marks n (Tail at xs last ∷ fs) top (Dot p) = tt
 step-marks n (Tail at xs last ∷ fs) top (Plain p a) = tt

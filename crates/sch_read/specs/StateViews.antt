@@ -15,7 +15,7 @@ use Rattle.sch_read.specs.declared.error.ReadError.TheVariants as errors
 abbrev pub frame_of : Frame → machine.Frame
 frame_of (Items at ds) = machine.Items at (data_of ds)
 frame_of (AfterDot at ds) = machine.AfterDot at (data_of ds)
-frame_of (Tail at ds d) = machine.Tail at (data_of ds) (tree_of d)
+frame_of (Tail at ds d) = machine.Tail at (data_of (reverse ds)) (tree_of d)
 frame_of (Elements at ds) = machine.Elements at (data_of ds)
 frame_of (Waiting at) = machine.Waiting at
 
