@@ -1,16 +1,15 @@
 -- The text of an atom is one lexeme, and the token of it is the atom.
-use Rattle.std.proofs.Common.{◌≡◌, ◌≢◌, ◌≤◌, ◌<◌, ◌+◌, ◌-◌, ◌^◌, ◌⊎◌, inl, inr, ℕ, suc, List, [], ◌∷◌, ◌++◌, refl, sym, ◌∙◌, ap, subst, arith, Bool, true, false, append_assoc, eqb-true}
-use Rattle.std.specs.Prelude.{◌==◌, ◌||◌, ◌&&◌, not, if◌then◌else◌, map, drop, codes, ℤ, pos, negsuc, nat_lt, slice_index}
+use Rattle.std.proofs.Common.{◌≡◌, ◌⊎◌, inl, inr, ℕ, List, [], ◌∷◌, ◌++◌, refl, sym, ◌∙◌, ap, arith, Bool, true, false, append_assoc, eqb-true}
+use Rattle.std.specs.Prelude.{◌==◌, ◌||◌, ◌&&◌, not, if◌then◌else◌, codes}
 use Rattle.std.specs.List.{list_all}
 use Rattle.std.proofs.lemmas.Bool.Decides.{nat_tests}
-use Rattle.std.specs.Char.{is_ascii_alphabetic, is_ascii_digit, digit_value}
-use Rattle.sch_read.specs.Letters.{folded, is_one_of, is_white, is_delimiter, is_word_byte, is_initial, is_subsequent}
-use Rattle.sch_read.specs.Lexeme.{is_empty, is_string_rest, is_escape_rest, is_lexeme, IsLongest}
-use Rattle.sch_read.specs.Grammar.{Token, Plain, Atom, boolean, integer, character, text, symbol}
-use Rattle.sch_read.specs.Token.{token_at, word_at, is_identifier}
-use Rattle.sch_read.specs.Printed.{atom_text, escaped_text, character_name}
+use Rattle.std.specs.Char.{is_ascii_alphabetic, is_ascii_digit}
+use Rattle.sch_read.specs.Letters.{is_one_of, is_white, is_delimiter, is_word_byte, is_initial, is_subsequent}
+use Rattle.sch_read.specs.Lexeme.{is_lexeme, IsLongest}
+use Rattle.sch_read.specs.Grammar.{Plain, Atom}
+use Rattle.sch_read.specs.Token.{token_at, word_at}
 use Rattle.sch_read.proofs.Longest.{end-longest, byte-longest}
-use Rattle.sch_read.proofs.Validity.{and-parts, and-whole, or-parts, or-left, same-bytes}
+use Rattle.sch_read.proofs.Validity.{and-parts, or-parts}
 
 -- the rest begins with a delimiter, if at all
 abbrev pub IsBroken : List ℕ → Type 0
@@ -58,6 +57,7 @@ word-subsequent b h = go (or-parts (is_initial b) _ h)
     last : (is_ascii_digit b ≡ true) ⊎ (is_one_of (codes "+-.@") b ≡ true) → is_word_byte b ≡ true
     last (inl e) = (and-parts (is_word_byte b) _ (plain-digit b e)).0
     last (inr e) = one-of-all is_word_byte (codes "+-.@") b e refl
+
     go : (is_initial b ≡ true) ⊎ (is_ascii_digit b || is_one_of (codes "+-.@") b ≡ true) → is_word_byte b ≡ true
     go (inl e) = (and-parts (is_word_byte b) _ (and-parts (is_plain b) _ (name-initial b e)).0).0
     go (inr e) = last (or-parts (is_ascii_digit b) _ e)

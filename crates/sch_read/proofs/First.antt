@@ -2,10 +2,10 @@
 use Rattle.std.proofs.Common.{◌≡◌, ◌⊎◌, ℕ, zero, suc, List, [], ◌∷◌, ◌++◌, refl, sym, ◌∙◌, ap, subst, inl, inr, Ok, Err, append_assoc, true}
 use Rattle.std.specs.Prelude.{Result, IsOkAnd, IfOk}
 use Rattle.std.proofs.lemmas.List.{append-nil}
-use Rattle.sch_read.specs.Grammar.{Token, Open, Close, Dot, Plain, Huge, Bad, Opener, parenthesis, hash_parenthesis, quote_mark, Flaw, bad_token, Atom, boolean, Datum, Data, atom, list, dotted, vector, none, cons, join, one, quoted, with_tail, ReadsOne, ReadsMany, Reads, plain, end, more}
-use Rattle.sch_read.specs.Fault.{Fault, Unclosed, StrayClose, DeepNesting, LiteralRange, Flawed, Mark, list_mark, quote_mark_, place, settled, closed, mark_of, opened, open_after, IsInnermost, Begins, IsAccepted, TakesAtom, IsFaultOf, CannotFollow, IsCutShort, IsFirstFault}
-use Rattle.sch_read.specs.Machine.{Frame, Items, AfterDot, Tail, Elements, Waiting, State, put, shut, opened_frame, start, step, run, and_then, at_top, in_list, in_tail, in_vector, point, finish, place_of}
-use Rattle.sch_read.proofs.Completions.{TopGets, Closes, Points, Ends, Shuts, Quotes, Fills, Gets, Completes, Goes, HeadTakes, IsSound, put-sound, step-forth, step-back, join-none}
+use Rattle.sch_read.specs.Grammar.{Token, Open, Close, Dot, Plain, Huge, Bad, parenthesis, hash_parenthesis, quote_mark, Atom, boolean, Datum, Data, atom, list, vector, none, cons, join, one, quoted, with_tail, Reads, plain, end}
+use Rattle.sch_read.specs.Fault.{Fault, Unclosed, Mark, list_mark, quote_mark_, settled, opened, open_after, IsInnermost, Begins, IsAccepted, TakesAtom, IsFaultOf, CannotFollow, IsFirstFault}
+use Rattle.sch_read.specs.Machine.{Frame, Items, AfterDot, Tail, Elements, Waiting, State, put, shut, start, step, run, and_then, finish, place_of}
+use Rattle.sch_read.proofs.Completions.{Gets, Completes, Goes, HeadTakes, IsSound, put-sound, step-forth, step-back, join-none}
 use Rattle.sch_read.proofs.Runs.{step-sound, done-forth}
 
 -- what is got may be completed
@@ -322,6 +322,7 @@ parted {A} (x ∷ xs) ys (u ∷ us) vs h = go (parted xs ys us vs (cc))
   where
     same : x ≡ u
     same = cc
+
     go : ((m : List A) × (us ≡ xs ++ m) × (ys ≡ m ++ vs)) ⊎ ((m : List A) × (xs ≡ us ++ m) × (vs ≡ m ++ ys)) →
         ((m : List A) × (u ∷ us ≡ (x ∷ xs) ++ m) × (ys ≡ m ++ vs)) ⊎ ((m : List A) × (x ∷ xs ≡ (u ∷ us) ++ m) × (vs ≡ m ++ ys))
     go (inl (m, p, q)) = inl (m, (let s = same in cc), q)

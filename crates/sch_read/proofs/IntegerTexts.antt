@@ -1,19 +1,18 @@
 -- Integers are read back.
-use Rattle.std.proofs.Common.{◌≡◌, ◌+◌, ◌^◌, ◌<◌, ◌⊎◌, inl, inr, ℕ, suc, List, [], ◌∷◌, ◌++◌, length, refl, sym, ◌∙◌, ap, subst, arith, Bool, true, false}
-use Rattle.std.specs.Prelude.{◌==◌, ◌||◌, ◌&&◌, not, if◌then◌else◌, drop, codes, ℤ, pos, negsuc, neg_ℤ, nat_lt, slice_index, decimal, cond}
+use Rattle.std.proofs.Common.{◌≡◌, ◌^◌, ◌<◌, ℕ, suc, List, [], ◌∷◌, length, refl, ◌∙◌, ap, arith, true, false}
+use Rattle.std.specs.Prelude.{◌==◌, ◌||◌, ◌&&◌, drop, codes, ℤ, pos, negsuc, neg_ℤ, nat_lt, slice_index, decimal, cond}
 use Rattle.std.specs.List.{list_all}
 use Rattle.std.specs.Char.{is_ascii_digit, digit_value, to_ascii_lowercase}
 use Rattle.std.specs.Str.{bytes_eq}
-use Rattle.std.specs.Str.Parse.{AllDigits, digits_value, without_leading_sign, without_leading_plus, starts_with_minus, signed_digits_value}
+use Rattle.std.specs.Str.Parse.{AllDigits, digits_value, without_leading_sign, signed_digits_value}
 use Rattle.std.proofs.lemmas.Fmt.{decimal_is_IsNumeral}
 use Rattle.std.proofs.lemmas.Bool.Decides.{nat_tests}
 use Rattle.sch_read.specs.Letters.{is_one_of, is_word_byte}
-use Rattle.sch_read.specs.Lexeme.{is_empty}
-use Rattle.sch_read.specs.Grammar.{Token, Plain, Huge, Bad, bad_number, Atom, integer}
-use Rattle.sch_read.specs.Token.{word_at, number_at, integer_at, is_fixnum, are_digits, base_of, numeral_of, is_character, is_number_like, has_base}
+use Rattle.sch_read.specs.Grammar.{integer}
+use Rattle.sch_read.specs.Token.{word_at, number_at, integer_at, is_fixnum, are_digits, numeral_of, is_character, is_number_like, has_base}
 use Rattle.sch_read.specs.Printed.{atom_text}
 use Rattle.sch_read.proofs.Validity.{and-parts, and-whole, or-left}
-use Rattle.sch_read.proofs.AtomTexts.{IsAtomText, is_plain, plain-digit, skip, word-atom, no-mark}
+use Rattle.sch_read.proofs.AtomTexts.{IsAtomText, plain-digit, skip, word-atom, no-mark}
 use Rattle.sch_read.proofs.NameTexts.{other-start, taken}
 
 digit-is : (c : ℕ) → digit_value c < 10 → is_ascii_digit c ≡ true

@@ -1,17 +1,16 @@
 -- Booleans, characters, symbols and strings are read back.
-use Rattle.std.proofs.Common.{◌≡◌, ◌≢◌, ◌+◌, ◌⊎◌, inl, inr, ℕ, List, [], ◌∷◌, ◌++◌, refl, sym, ◌∙◌, ap, subst, arith, Bool, true, false, append_assoc, eqb-true, eq-eqb}
-use Rattle.std.specs.Prelude.{◌==◌, ◌||◌, ◌&&◌, not, if◌then◌else◌, map, drop, codes, slice_index}
+use Rattle.std.proofs.Common.{◌≡◌, ◌+◌, ◌⊎◌, inl, inr, ℕ, List, [], ◌∷◌, ◌++◌, refl, sym, ◌∙◌, ap, subst, Bool, true, false, append_assoc, eqb-true, eq-eqb}
+use Rattle.std.specs.Prelude.{◌==◌, ◌||◌, ◌&&◌, not, if◌then◌else◌, codes, slice_index}
 use Rattle.std.specs.List.{list_all}
 use Rattle.std.specs.Char.{is_ascii_digit, to_ascii_lowercase}
 use Rattle.std.specs.Str.{bytes_eq}
-use Rattle.std.proofs.lemmas.Slice.Eq.{bytes_eq-Decides}
 use Rattle.sch_read.specs.Letters.{folded, is_one_of, is_word_byte, is_initial, is_subsequent}
-use Rattle.sch_read.specs.Lexeme.{is_empty, is_string_rest, is_escape_rest, is_lexeme, IsLongest}
-use Rattle.sch_read.specs.Grammar.{Token, Plain, Dot, Bad, bad_token, Open, hash_parenthesis, Atom, boolean, character, text, symbol}
-use Rattle.sch_read.specs.Token.{token_at, word_at, name_at, number_at, character_at, base_of, numeral_of, is_identifier, is_character, is_number_like, has_base, Content, Whole, with_byte, content, escape_content, is_escape, escaped, string_of}
-use Rattle.sch_read.specs.Printed.{atom_text, escaped_text, character_name}
+use Rattle.sch_read.specs.Lexeme.{is_string_rest, is_lexeme}
+use Rattle.sch_read.specs.Grammar.{Plain, boolean, character, text, symbol}
+use Rattle.sch_read.specs.Token.{word_at, is_identifier, is_character, is_number_like, has_base, Whole, with_byte, content, is_escape, escaped, string_of}
+use Rattle.sch_read.specs.Printed.{atom_text, escaped_text}
 use Rattle.sch_read.proofs.Validity.{and-parts, or-parts, same-bytes}
-use Rattle.sch_read.proofs.AtomTexts.{IsBroken, IsAtomText, is_plain, begins_name, name-initial, word-subsequent, not-parts, is-false, both-false, skip, tail-atom, word-atom, no-mark, or-none}
+use Rattle.sch_read.proofs.AtomTexts.{IsAtomText, is_plain, begins_name, name-initial, word-subsequent, not-parts, is-false, both-false, skip, tail-atom, word-atom, no-mark, or-none}
 
 pub boolean-text : (b : Bool) → IsAtomText (boolean b) (atom_text (boolean b))
 boolean-text true = tail-atom (codes "#t") [] (boolean true) (λ bs. refl) refl (λ at. refl)
@@ -28,6 +27,7 @@ character-text c = space (c == 32) refl
         let P : ℕ → Type 0 = λ v. CharacterText v (codes "newline") in
         subst P (sym (eqb-true c 10 e)) (tail-atom (codes "#\\n") (codes "ewline") (character 10) (λ bs. refl) refl (λ at. refl))
     line false e = tail-atom (35 ∷ 92 ∷ c ∷ []) [] (character c) (λ bs. refl) refl (λ at. refl)
+
     space : (t : Bool) → (c == 32) ≡ t → CharacterText c (if t then codes "space" else (if c == 10 then codes "newline" else c ∷ []))
     space true e =
         let P : ℕ → Type 0 = λ v. CharacterText v (codes "space") in
@@ -90,6 +90,7 @@ peculiar-text w h = go (or-parts (bytes_eq w (codes "+")) _ h)
     last : (bytes_eq w (codes "-") ≡ true) ⊎ (bytes_eq w (codes "...") ≡ true) → IsAtomText (symbol w) w
     last (inl e) = let Q : List ℕ → Type 0 = λ v. IsAtomText (symbol v) v in subst Q (sym (same-bytes w (codes "-") e)) (word-atom 45 [] (symbol (codes "-")) refl refl (λ at. refl))
     last (inr e) = let Q : List ℕ → Type 0 = λ v. IsAtomText (symbol v) v in subst Q (sym (same-bytes w (codes "...") e)) (word-atom 46 (codes "..") (symbol (codes "...")) refl refl (λ at. refl))
+
     go : (bytes_eq w (codes "+") ≡ true) ⊎ (bytes_eq w (codes "-") || bytes_eq w (codes "...") ≡ true) → IsAtomText (symbol w) w
     go (inl e) = let Q : List ℕ → Type 0 = λ v. IsAtomText (symbol v) v in subst Q (sym (same-bytes w (codes "+") e)) (word-atom 43 [] (symbol (codes "+")) refl refl (λ at. refl))
     go (inr e) = last (or-parts (bytes_eq w (codes "-")) _ e)

@@ -1,6 +1,6 @@
 -- A number that is capped at each digit is the whole number capped, and the cap is no fixnum.
 use Rattle.std.proofs.Common.{◌≡◌, ℕ, ◌+◌, ◌-◌, ◌*◌, ◌^◌, ◌<◌, ◌≤◌, ◌⊎◌, inl, inr, min, arith, sym, ◌∙◌, ap, Bool, true, false, List, refl, T}
-use Rattle.std.specs.Prelude.{ℤ, pos, negsuc, neg_ℤ, cond, int_le, ◌&&◌, if◌then◌else◌}
+use Rattle.std.specs.Prelude.{ℤ, pos, neg_ℤ, cond, int_le, ◌&&◌, if◌then◌else◌}
 use Rattle.sch_word.specs.Fixnum.{IsFixnum}
 use Rattle.sch_word.specs.declared.fix.TheConstants.{FIXNUM_MIN, FIXNUM_MAX}
 use Rattle.std.specs.Str.Parse.{digits_value, starts_with_minus, without_leading_sign, signed_digits_value}

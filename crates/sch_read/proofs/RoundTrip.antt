@@ -1,10 +1,9 @@
 -- The text of a valid datum spells the datum, apart from places.
-use Rattle.std.proofs.Common.{◌≡◌, ◌≢◌, ◌+◌, ◌≤◌, ℕ, zero, suc, max, List, [], ◌∷◌, ◌++◌, length, refl, sym, ◌∙◌, ap, subst, arith, Bool, true, false, append_assoc, length-append}
+use Rattle.std.proofs.Common.{◌≡◌, ◌≢◌, ◌+◌, ◌≤◌, ℕ, zero, suc, List, [], ◌∷◌, ◌++◌, length, refl, sym, ◌∙◌, ap, subst, arith, append_assoc, length-append}
 use Rattle.std.specs.Prelude.{codes}
 use Rattle.std.proofs.lemmas.List.{append-nil}
 use Rattle.sch_read.specs.Lexeme.{is_empty, is_lexeme, IsLongest}
-use Rattle.sch_read.specs.Grammar.{Token, Open, Close, Dot, Plain, parenthesis, hash_parenthesis, Atom, boolean, integer, character, text, symbol, Datum, Data, atom, list, dotted, vector, none, cons, one, with_tail, ReadsOne, ReadsMany, Reads, plain, listed, pointed, elements, end, more}
-use Rattle.sch_read.specs.Token.{token_at}
+use Rattle.sch_read.specs.Grammar.{Token, Open, Close, Dot, Plain, parenthesis, hash_parenthesis, Atom, boolean, integer, character, text, symbol, Datum, Data, atom, list, dotted, vector, none, cons, one, with_tail, ReadsOne, ReadsMany, plain, listed, pointed, elements, end, more}
 use Rattle.sch_read.specs.Cut.{Cuts, nothing, lexeme}
 use Rattle.sch_read.specs.Text.{levels, Spells}
 use Rattle.sch_read.specs.Valid.{IsValidAtom, IsNoList, IsValid, AreValid}
@@ -72,9 +71,13 @@ spell-list n at p xs items rest ts broken c =
     let place : at + length (datum_text (list p xs)) ≡ at + 1 + length I + 1 = omega arith in
     let shut = cut-close (at + 1 + length I) rest ts (cut-at _ _ rest ts place c) in
     let i = items (41 ∷ rest) (Close (at + 1 + length I) ∷ ts) refl shut in
-    let whole : 40 ∷ (I ++ 41 ∷ rest) ≡ datum_text (list p xs) ++ rest = ap (λ v. 40 ∷ v) (sym (append_assoc I (41 ∷ []) rest)) in
-    (Open at parenthesis ∷ i.0, list at i.1, cut-of at _ _ (Open at parenthesis ∷ i.0) whole (cut-open at (I ++ 41 ∷ rest) i.0 i.2),
-    listed n at (at + 1 + length I) i.0 i.1 ts i.3, ap (list 0) i.4)
+    let whole : 40 ∷ (I ++ 41 ∷ rest) ≡ datum_text (list p xs) ++ rest = ap (λ v. 40 ∷ v) (sym (append_assoc I (41 ∷ []) rest)) in (
+      Open at parenthesis ∷ i.0,
+      list at i.1,
+      cut-of at _ _ (Open at parenthesis ∷ i.0) whole (cut-open at (I ++ 41 ∷ rest) i.0 i.2),
+      listed n at (at + 1 + length I) i.0 i.1 ts i.3,
+      ap (list 0) i.4,
+    )
 
 spell-vector : (n at p : ℕ) (xs : Data) → AllSpelled n (at + 2) (items_text xs) xs → Spelled (suc n) at (datum_text (vector p xs)) (vector p xs)
 spell-vector n at p xs items rest ts broken c =
@@ -83,9 +86,13 @@ spell-vector n at p xs items rest ts broken c =
     let place : at + length (datum_text (vector p xs)) ≡ at + 2 + length I + 1 = omega arith in
     let shut = cut-close (at + 2 + length I) rest ts (cut-at _ _ rest ts place c) in
     let i = items (41 ∷ rest) (Close (at + 2 + length I) ∷ ts) refl shut in
-    let whole : 35 ∷ 40 ∷ (I ++ 41 ∷ rest) ≡ datum_text (vector p xs) ++ rest = ap (λ v. 35 ∷ 40 ∷ v) (sym (append_assoc I (41 ∷ []) rest)) in
-    (Open at hash_parenthesis ∷ i.0, vector at i.1, cut-of at _ _ (Open at hash_parenthesis ∷ i.0) whole (cut-vector at (I ++ 41 ∷ rest) i.0 i.2),
-    elements n at (at + 2 + length I) i.0 i.1 ts i.3, ap (vector 0) i.4)
+    let whole : 35 ∷ 40 ∷ (I ++ 41 ∷ rest) ≡ datum_text (vector p xs) ++ rest = ap (λ v. 35 ∷ 40 ∷ v) (sym (append_assoc I (41 ∷ []) rest)) in (
+      Open at hash_parenthesis ∷ i.0,
+      vector at i.1,
+      cut-of at _ _ (Open at hash_parenthesis ∷ i.0) whole (cut-vector at (I ++ 41 ∷ rest) i.0 i.2),
+      elements n at (at + 2 + length I) i.0 i.1 ts i.3,
+      ap (vector 0) i.4,
+    )
 
 -- a tail that is no list stays one
 tail-same : (at : ℕ) (ys : Data) (z last : Datum) → IsNoList last → without_places z ≡ without_places last → with_tail at ys z ≡ dotted at ys z
@@ -105,9 +112,11 @@ point-read : (n at dot shut : ℕ) (us vs : List Token) (ys xs : Data) (z last :
     (x : Datum) × ReadsOne (suc n) (Open at parenthesis ∷ us) x ts × (without_places x ≡ dotted 0 (all_without_places xs) (without_places last))
 point-read n at dot shut us vs none none z last ts some h r q e k = absurd (some refl)
 point-read n at dot shut us vs none (cons x xs) z last ts some h r q e k = cc
-point-read n at dot shut us vs (cons y ys) xs z last ts some h r q e k =
-    (with_tail at (cons y ys) z, pointed n at dot shut us vs y ys z ts r q,
-    ap without_places (tail-same at (cons y ys) z last h k) ∙ ap (λ v. dotted 0 v (without_places z)) e ∙ ap (dotted 0 (all_without_places xs)) k)
+point-read n at dot shut us vs (cons y ys) xs z last ts some h r q e k = (
+  with_tail at (cons y ys) z,
+  pointed n at dot shut us vs y ys z ts r q,
+  ap without_places (tail-same at (cons y ys) z last h k) ∙ ap (λ v. dotted 0 v (without_places z)) e ∙ ap (dotted 0 (all_without_places xs)) k,
+)
 
 spell-dotted : (n at p : ℕ) (xs : Data) (last : Datum) → xs ≢ none → IsNoList last → AllSpelled n (at + 1) (items_text xs) xs →
     ((q : ℕ) → Spelled n q (datum_text last) last) → Spelled (suc n) at (datum_text (dotted p xs last)) (dotted p xs last)
@@ -116,7 +125,7 @@ spell-dotted n at p xs last some h items tail rest ts broken c =
     let L = datum_text last in
     let q = at + 1 + length I in
     let whole : 40 ∷ (I ++ 32 ∷ 46 ∷ 32 ∷ (L ++ 41 ∷ rest)) ≡ datum_text (dotted p xs last) ++ rest =
-        ap (λ v. 40 ∷ v) (sym (append_assoc ((I ++ codes " . ") ++ L) (41 ∷ []) rest ∙ append_assoc (I ++ codes " . ") L (41 ∷ rest) ∙ append_assoc I (codes " . ") (L ++ 41 ∷ rest))) in
+    ap (λ v. 40 ∷ v) (sym (append_assoc ((I ++ codes " . ") ++ L) (41 ∷ []) rest ∙ append_assoc (I ++ codes " . ") L (41 ∷ rest) ∙ append_assoc I (codes " . ") (L ++ 41 ∷ rest))) in
     let long = length-append ((I ++ codes " . ") ++ L) (41 ∷ []) in
     let middle = length-append (I ++ codes " . ") L in
     let front = length-append I (codes " . ") in
@@ -142,9 +151,13 @@ spell-cons n at x xs head rests rest ts broken c =
     let long = length-append T M in
     let place : at + length (T ++ M) ≡ at + length T + length M = omega arith in
     let m = rests (at + length T) rest ts broken (cut-at _ _ rest ts place c) in
-    let h = head (M ++ rest) m.0 (more-broken xs rest broken) m.2 in
-    (h.0, cons h.1 m.1, cut-of at _ _ h.0 (sym (append_assoc T M rest)) h.2, more n h.0 m.0 h.1 m.1 ts h.3 m.3,
-    ap (λ v. cons v (all_without_places m.1)) h.4 ∙ ap (cons (without_places x)) m.4)
+    let h = head (M ++ rest) m.0 (more-broken xs rest broken) m.2 in (
+      h.0,
+      cons h.1 m.1,
+      cut-of at _ _ h.0 (sym (append_assoc T M rest)) h.2,
+      more n h.0 m.0 h.1 m.1 ts h.3 m.3,
+      ap (λ v. cons v (all_without_places m.1)) h.4 ∙ ap (cons (without_places x)) m.4,
+    )
 
 spell-space : (n at : ℕ) (x : Datum) (xs : Data) → AllSpelled n (at + 1) (items_text (cons x xs)) (cons x xs) → AllSpelled n at (more_text (cons x xs)) (cons x xs)
 spell-space n at x xs items rest ts broken c =

@@ -1,7 +1,7 @@
 -- What the machine answers with Ok is what the grammar says.
-use Rattle.std.proofs.Common.{◌≡◌, ◌⊎◌, ℕ, zero, suc, List, [], ◌∷◌, refl, sym, ◌∙◌, ap, subst, inl, inr, Ok, Err}
+use Rattle.std.proofs.Common.{◌≡◌, ℕ, zero, suc, List, [], ◌∷◌, refl, sym, ◌∙◌, ap, subst, inl, inr, Ok, Err}
 use Rattle.std.specs.Prelude.{Result, IsOkAnd, IfOk}
-use Rattle.sch_read.specs.Grammar.{Token, Open, Close, Dot, Plain, Huge, Bad, Opener, parenthesis, hash_parenthesis, quote_mark, Datum, Data, atom, list, vector, none, cons, with_tail, ReadsOne, ReadsMany, Reads, plain, end, more}
+use Rattle.sch_read.specs.Grammar.{Token, Open, Close, Dot, Plain, Huge, Bad, parenthesis, hash_parenthesis, quote_mark, Datum, Data, atom, list, vector, none, cons, ReadsOne, ReadsMany, Reads, end, more}
 use Rattle.sch_read.specs.Fault.{Fault}
 use Rattle.sch_read.specs.Machine.{Frame, Items, AfterDot, Tail, Elements, Waiting, State, start, step, run, and_then, point, finish}
 use Rattle.sch_read.specs.Grammar.{join}

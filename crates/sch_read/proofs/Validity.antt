@@ -1,12 +1,12 @@
 -- What a text spells is valid.
-use Rattle.std.proofs.Common.{◌≡◌, ◌≢◌, ◌≤◌, ◌<◌, ◌+◌, ◌⊎◌, inl, inr, ℕ, List, [], ◌∷◌, ◌++◌, refl, sym, ◌∙◌, ap, subst, arith, Bool, true, false}
-use Rattle.std.specs.Prelude.{◌==◌, ◌||◌, ◌&&◌, if◌then◌else◌, map, drop, codes}
+use Rattle.std.proofs.Common.{◌≡◌, ◌≤◌, ◌<◌, ◌+◌, ◌⊎◌, inl, inr, ℕ, List, [], ◌∷◌, ◌++◌, refl, sym, ◌∙◌, ap, subst, arith, Bool, true, false}
+use Rattle.std.specs.Prelude.{◌==◌, ◌||◌, ◌&&◌, if◌then◌else◌, drop, codes}
 use Rattle.std.specs.List.{list_all}
 use Rattle.std.proofs.lemmas.Bool.{cases_lt}
 use Rattle.std.proofs.lemmas.Bool.Decides.{nat_tests}
-use Rattle.std.specs.Char.{to_ascii_lowercase, is_ascii_alphabetic, is_ascii_digit}
+use Rattle.std.specs.Char.{to_ascii_lowercase, is_ascii_alphabetic}
 use Rattle.std.specs.Str.{bytes_eq}
-use Rattle.sch_read.specs.Letters.{folded, is_one_of, is_initial, is_subsequent}
+use Rattle.sch_read.specs.Letters.{folded, is_initial, is_subsequent}
 use Rattle.std.proofs.lemmas.Slice.Eq.{bytes_eq-Decides}
 use Rattle.std.specs.Str.Parse.{without_leading_sign, signed_digits_value}
 use Rattle.std.proofs.Common.{length}
@@ -16,7 +16,7 @@ use Rattle.sch_read.specs.Token.{is_identifier, token_at, word_at, name_at, numb
 use Rattle.sch_read.specs.Grammar.{Token, Open, Close, Dot, Plain, Huge, Bad, parenthesis, hash_parenthesis, quote_mark, bad_token, bad_number, boolean, integer, character, symbol, Datum, Data, atom, list, dotted, vector, none, cons, join, with_tail, ReadsOne, ReadsMany, plain, listed, pointed, elements, quotes, end, more}
 use Rattle.sch_read.specs.Cut.{Cuts, nothing, lexeme}
 use Rattle.sch_read.specs.Text.{levels, Spells}
-use Rattle.sch_read.specs.Valid.{IsValidAtom, IsNoList, IsValid, AreValid}
+use Rattle.sch_read.specs.Valid.{IsValidAtom, IsValid, AreValid}
 
 -- a letter's lower case is a letter, and no other byte changes
 lower-cases : (c : ℕ) → (to_ascii_lowercase c ≡ c) ⊎ (is_ascii_alphabetic (to_ascii_lowercase c) ≡ true)
@@ -81,6 +81,7 @@ peculiar-folded w h = go (or-parts (bytes_eq w (codes "+")) _ h)
     last : (bytes_eq w (codes "-") ≡ true) ⊎ (bytes_eq w (codes "...") ≡ true) → is_identifier (folded w) ≡ true
     last (inl e) = ap (λ v. is_identifier (folded v)) (same-bytes w (codes "-") e)
     last (inr e) = ap (λ v. is_identifier (folded v)) (same-bytes w (codes "...") e)
+
     go : (bytes_eq w (codes "+") ≡ true) ⊎ (bytes_eq w (codes "-") || bytes_eq w (codes "...") ≡ true) → is_identifier (folded w) ≡ true
     go (inl e) = ap (λ v. is_identifier (folded v)) (same-bytes w (codes "+") e)
     go (inr e) = last (or-parts (bytes_eq w (codes "-")) _ e)

@@ -1,6 +1,6 @@
 -- The first fault of tokens that are not accepted, by what can follow.
-use Rattle.std.specs.Prelude.{◌≡◌, ◌⊎◌, ℕ, suc, List, [], ◌∷◌, ◌++◌}
-use Rattle.sch_read.specs.Grammar.{Token, Open, Close, Dot, Plain, Huge, Bad, Opener, parenthesis, hash_parenthesis, quote_mark, Flaw, bad_token, Atom, Datum, Data, Reads}
+use Rattle.std.specs.Prelude.{◌≡◌, ◌⊎◌, ℕ, List, [], ◌∷◌, ◌++◌}
+use Rattle.sch_read.specs.Grammar.{Token, Open, Close, Dot, Plain, Huge, Bad, Opener, parenthesis, hash_parenthesis, quote_mark, Flaw, bad_token, Atom, Data, Reads}
 
 -- a fault and its place; a Flawed one is a bad token, number or string
 pub data Fault : Type 0 where

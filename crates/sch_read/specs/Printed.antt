@@ -1,5 +1,5 @@
 -- The text of a datum (R5RS 6.6.3, `write`). A quote is written as the list that it means.
-use Rattle.std.specs.Prelude.{◌≡◌, ◌==◌, ◌||◌, ◌++◌, ℕ, Bool, true, false, List, [], ◌∷◌, if◌then◌else◌, codes}
+use Rattle.std.specs.Prelude.{◌≡◌, ◌==◌, ◌||◌, ◌++◌, ℕ, List, [], ◌∷◌, if◌then◌else◌, codes}
 use Rattle.std.specs.Fmt.{signed_decimal}
 use Rattle.sch_read.specs.Grammar.{Atom, boolean, integer, character, text, symbol, Datum, Data, atom, list, dotted, vector, none, cons, one}
 use Rattle.sch_read.specs.Text.{Spells}

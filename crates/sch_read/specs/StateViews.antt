@@ -1,5 +1,5 @@
 -- What the stack of the code stands for, and what a step of the code answers.
-use Rattle.std.specs.Prelude.{◌≡◌, ℕ, List, Result, Ok, Err, map, reverse}
+use Rattle.std.specs.Prelude.{◌≡◌, List, Result, Ok, Err, map, reverse}
 use Rattle.sch_read.specs.Grammar.{Token, bad_token, bad_number, bad_string}
 use Rattle.sch_read.specs.Fault as fault
 use Rattle.sch_read.specs.Fault.{Fault}

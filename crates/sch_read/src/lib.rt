@@ -1,7 +1,6 @@
 //! The reader: the bytes of a text to its data, and data to bytes.
 #![tactic(auto)]
 
-
 mod build;
 mod datum;
 mod error;

@@ -6,7 +6,6 @@ use crate::build::{elements, listed, plain, poured, quote, tailed, turned};
 use crate::datum::Datum;
 use crate::error::{ReadError, flawed};
 use crate::token::{Flaw, Opener, Token};
-
 use sch_word::{List, Mem};
 use std::alloc::Global;
 
@@ -138,7 +137,13 @@ impl Reader {
 
     /// A token in an open list.
     #[tactic(auto, using(crate::proofs::StackLemmas::stack_of_push))]
-    fn in_list(&mut self, place: u32, items: List<Datum>, at: u32, token: Token) -> Result<(), ReadError>
+    fn in_list(
+        &mut self,
+        place: u32,
+        items: List<Datum>,
+        at: u32,
+        token: Token,
+    ) -> Result<(), ReadError>
         requires { self.old.spare + vec_len self.old.frames < 1000 }
         ensures { StepsTo result (in_list self.old.spare place (data_of items) (stack_of self.old.frames.items) (data_of self.old.top) (token_of at token)) (state_of self.new) }
     {
@@ -171,7 +176,13 @@ impl Reader {
 
     /// A token in an open vector.
     #[tactic(auto, using(crate::proofs::StackLemmas::stack_of_push))]
-    fn in_vector(&mut self, place: u32, items: List<Datum>, at: u32, token: Token) -> Result<(), ReadError>
+    fn in_vector(
+        &mut self,
+        place: u32,
+        items: List<Datum>,
+        at: u32,
+        token: Token,
+    ) -> Result<(), ReadError>
         requires { self.old.spare + vec_len self.old.frames < 1000 }
         ensures { StepsTo result (in_vector self.old.spare place (data_of items) (stack_of self.old.frames.items) (data_of self.old.top) (token_of at token)) (state_of self.new) }
     {
@@ -189,7 +200,14 @@ impl Reader {
     }
 
     /// A token after a dot's datum; the items of the list are turned round.
-    fn in_tail(&mut self, place: u32, items: List<Datum>, last: Datum, at: u32, token: Token) -> Result<(), ReadError>
+    fn in_tail(
+        &mut self,
+        place: u32,
+        items: List<Datum>,
+        last: Datum,
+        at: u32,
+        token: Token,
+    ) -> Result<(), ReadError>
         requires { self.old.spare + vec_len self.old.frames < 1000 }
         ensures { StepsTo result (in_tail self.old.spare place (data_of (reverse items)) (tree_of last) (stack_of self.old.frames.items) (data_of self.old.top) (token_of at token)) (state_of self.new) }
     {

@@ -92,14 +92,18 @@ fn refuses_the_first_fault(rt: HostRuntime) -> Result<(), Fail> {
 
 #[test]
 fn reads_what_it_prints(rt: HostRuntime) -> Result<(), Fail> {
-    let rows: [(&[u8], &[u8]); 12] = [
+    let rows: [(&[u8], &[u8]); 13] = [
         (b"", b""),
         (b" ; only a comment", b""),
         (b"'ABC", b"(quote abc)\n"),
         (b"'(1 . (2 . ()))", b"(quote (1 2))\n"),
         (b"#(a \"b\\\\\")", b"#(a \"b\\\\\")\n"),
         (b"(a . (b c)) (a . (b . c))", b"(a b c)\n(a b . c)\n"),
-        (b"#\\a #\\space #\\NEWLINE #\\( #\\;", b"#\\a\n#\\space\n#\\newline\n#\\(\n#\\;\n"),
+        (b"(a b . (c . (d e . ((f) . g))))", b"(a b c d e (f) . g)\n"),
+        (
+            b"#\\a #\\space #\\NEWLINE #\\( #\\;",
+            b"#\\a\n#\\space\n#\\newline\n#\\(\n#\\;\n",
+        ),
         (b"#xFf #b-101 #o17 #d9 +5 -0", b"255\n-5\n15\n9\n5\n0\n"),
         (b"-1152921504606846976", b"-1152921504606846976\n"),
         (b"\"a\\n\\t\\\"\"", b"\"a\n\t\\\"\"\n"),
@@ -120,6 +124,9 @@ fn reads_a_thousand_levels(rt: HostRuntime) -> Result<(), Fail> {
     let out = rewritten(alloc, deep.as_slice())?;
     assert_eq!(rt; out.len(), 2001);
     let deeper = nested(alloc, 1001)?;
-    assert_eq!(rt; refusal(alloc, deeper.as_slice()), Some(ReadError::DeepNesting(1000)));
+    assert_eq!(rt;
+        refusal(alloc, deeper.as_slice()),
+        Some(ReadError::DeepNesting(1000))
+    );
     Ok(())
 }
