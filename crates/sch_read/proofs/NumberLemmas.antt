@@ -8,7 +8,8 @@ use Rattle.std.proofs.Math.Nat.{mul-le-mul_left}
 use Rattle.std.proofs.lemmas.Bool.{cases_lt}
 use Rattle.std.proofs.lemmas.Bool.Decides.{nat_tests}
 use Rattle.sch_read.specs.Grammar.{Plain, Huge, Bad, bad_number, integer}
-use Rattle.sch_read.specs.Token.{is_fixnum, integer_at, are_digits, number_at}
+use Rattle.sch_read.specs.Token.{integer_at, are_digits, number_at}
+use Rattle.sch_word.specs.Fixnum.{is_fixnum}
 
 pub capped_step : (v base d most : ℕ) → 1 ≤ base → min (min (min v most * base) most + d) most ≡ min (v * base + d) most
 capped_step v base d most h =

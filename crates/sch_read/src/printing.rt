@@ -6,7 +6,7 @@ ghost use Rattle.std.specs.String.{string_bytes};
 ghost use Rattle.sch_read.specs.Printed.{datum_text, items_text, escaped_text, character_name, IsTextOf};
 ghost use Rattle.sch_read.specs.Shape.{depth, HasFixnums, HaveFixnums};
 ghost use Rattle.sch_read.specs.Text.{levels};
-ghost use Rattle.sch_read.specs.Token.{is_fixnum};
+ghost use Rattle.sch_word.specs.Fixnum.{is_fixnum};
 ghost use Rattle.sch_read.specs.Valid.{IsValid};
 ghost use Rattle.sch_read.specs.Views.{tree_of, data_of};
 
