@@ -3,7 +3,7 @@ use Rattle.std.proofs.Common.{◌≡◌, ◌⊎◌, ℕ, zero, suc, List, [], �
 use Rattle.std.specs.Prelude.{Result, IsOkAnd, IfOk}
 use Rattle.std.proofs.lemmas.List.{append-nil}
 use Rattle.sch_read.specs.Grammar.{Token, Open, Close, Dot, Plain, Huge, Bad, parenthesis, hash_parenthesis, quote_mark, Atom, boolean, Datum, Data, atom, list, vector, none, cons, join, one, quoted, with_tail, Reads, plain, end}
-use Rattle.sch_read.specs.Fault.{Fault, Unclosed, Mark, list_mark, quote_mark_, settled, opened, open_after, IsInnermost, Begins, IsAccepted, TakesAtom, IsFaultOf, CannotFollow, IsFirstFault}
+use Rattle.sch_read.specs.Fault.{Fault, Unclosed, Mark, open_list, open_quote, settled, opened, open_after, IsInnermost, Begins, IsAccepted, TakesAtom, IsFaultOf, CannotFollow, IsFirstFault}
 use Rattle.sch_read.specs.Machine.{Frame, Items, AfterDot, Tail, Elements, Waiting, State, put, shut, start, step, run, and_then, finish, place_of}
 use Rattle.sch_read.proofs.Completions.{Gets, Completes, Goes, HeadTakes, IsSound, put-sound, step-forth, step-back, join-none}
 use Rattle.sch_read.proofs.Runs.{step-sound, done-forth}
@@ -88,11 +88,11 @@ pub record Stops (C : List Token → Data → Type 0) (ts : List Token) (f : Fau
 
 abbrev pub marks : List Frame → List Mark
 marks [] = []
-marks (Items at xs ∷ fs) = list_mark at ∷ marks fs
-marks (AfterDot at xs ∷ fs) = list_mark at ∷ marks fs
-marks (Tail at xs last ∷ fs) = list_mark at ∷ marks fs
-marks (Elements at xs ∷ fs) = list_mark at ∷ marks fs
-marks (Waiting at ∷ fs) = quote_mark_ at ∷ marks fs
+marks (Items at xs ∷ fs) = open_list at ∷ marks fs
+marks (AfterDot at xs ∷ fs) = open_list at ∷ marks fs
+marks (Tail at xs last ∷ fs) = open_list at ∷ marks fs
+marks (Elements at xs ∷ fs) = open_list at ∷ marks fs
+marks (Waiting at ∷ fs) = open_quote at ∷ marks fs
 
 put-marks : (fs : List Frame) (n : ℕ) (top : Data) (d : Datum) → marks (put n d fs top).open_ ≡ settled (marks fs)
 put-marks [] n top d = refl
