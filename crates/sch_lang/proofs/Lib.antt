@@ -5,3 +5,4 @@ pub mod OwnOrders
 pub mod Rows
 mod SizeExamples
 mod ValidExamples
+pub mod SitesInOrder

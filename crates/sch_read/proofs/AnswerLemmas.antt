@@ -1,9 +1,8 @@
 -- What the machine answers for a text, in the grammar's words.
-use Rattle.std.proofs.Common.{◌≡◌, Ok, Err, List, [], ℕ, ◌≤◌, ◌*◌, length, refl, sym, ◌∙◌, subst}
+use Rattle.std.proofs.Common.{◌≡◌, Ok, Err, List, [], ℕ, ◌≤◌, ◌*◌, length, refl, subst}
 use Rattle.std.specs.Prelude.{Result, IfOk, IfErr, MatchResult, IsErrAnd}
 use Rattle.sch_read.specs.Grammar.{Token, Data, Reads, none, bad_token, bad_number, bad_string}
-use Rattle.sch_read.specs.Fault.{Fault, Unclosed, StrayClose, DeepNesting, LiteralRange, Flawed, IsFirstFault, IsAccepted}
-use Rattle.sch_read.specs.Cut.{Cuts}
+use Rattle.sch_read.specs.Fault.{Fault, Unclosed, StrayClose, DeepNesting, LiteralRange, Flawed, IsFirstFault}
 use Rattle.sch_read.specs.Machine.{run}
 use Rattle.sch_read.specs.Scan.{scan}
 use Rattle.sch_read.specs.Text.{levels, Spells, HasFault}

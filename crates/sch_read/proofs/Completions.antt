@@ -1,9 +1,8 @@
 -- What completes a state of the machine, in the grammar's words, and that a step keeps it.
-use Rattle.std.proofs.Common.{◌≡◌, ◌⊎◌, ℕ, zero, suc, List, [], ◌∷◌, refl, sym, ◌∙◌, ap, subst, inl, inr, Ok, Err}
-use Rattle.std.specs.Prelude.{Result, IsOkAnd}
-use Rattle.sch_read.specs.Grammar.{Token, Open, Close, Dot, Plain, Huge, Bad, Opener, parenthesis, hash_parenthesis, quote_mark, Atom, Datum, Data, atom, list, dotted, vector, none, cons, join, one, quoted, with_tail, ReadsOne, ReadsMany, Reads, plain, listed, pointed, elements, quotes, end, more}
-use Rattle.sch_read.specs.Fault.{Fault}
-use Rattle.sch_read.specs.Machine.{Frame, Items, AfterDot, Tail, Elements, Waiting, State, put, start, step, at_top, in_list, in_tail, in_vector, point}
+use Rattle.std.proofs.Common.{◌≡◌, ◌⊎◌, ℕ, zero, suc, List, [], ◌∷◌, refl, sym, ◌∙◌, ap, subst, inl, inr}
+use Rattle.std.specs.Prelude.{IsOkAnd}
+use Rattle.sch_read.specs.Grammar.{Token, Open, Close, Dot, Plain, Huge, Bad, parenthesis, hash_parenthesis, quote_mark, Datum, Data, atom, list, dotted, vector, none, cons, join, one, quoted, with_tail, ReadsOne, ReadsMany, Reads, plain, listed, pointed, elements, quotes, end, more}
+use Rattle.sch_read.specs.Machine.{Frame, Items, AfterDot, Tail, Elements, Waiting, State, put, shut, start, step, at_top, in_list, in_tail, in_vector, point}
 
 pub join-none : (xs : Data) → join xs none ≡ xs
 join-none none = refl
@@ -184,13 +183,30 @@ points-forth n at xs fs top (Plain _ _) ts d rest out none dot vs last e x all r
 points-forth n at xs fs top (Huge _) ts d rest out none dot vs last e x all r s q i g = elim r [ ]
 points-forth n at xs fs top (Bad _ _) ts d rest out none dot vs last e x all r s q i g = elim r [ ]
 
+-- a list in the tail of a list is more of that list
+tail-in-tail : (p : ℕ) (ys : Data) (at : ℕ) (xs : Data) (last : Datum) → with_tail p ys (with_tail at xs last) ≡ with_tail p (join ys xs) last
+tail-in-tail p ys at xs (atom q a) = refl
+tail-in-tail p ys at xs (list q zs) = ap (list p) (sym (join-assoc ys xs zs))
+tail-in-tail p ys at xs (dotted q zs z) = ap (λ v. dotted p v z) (sym (join-assoc ys xs zs))
+tail-in-tail p ys at xs (vector q zs) = refl
+
+shut-goes : (fs : List Frame) (n at : ℕ) (xs : Data) (last : Datum) (top : Data) (ts : List Token) (out : Data) →
+    Gets (suc n) fs top (with_tail at xs last) ts out → Goes ts out (shut n at xs last fs top)
+shut-goes [] n at xs last top ts out g = put-goes [] (suc n) top (with_tail at xs last) ts out g
+shut-goes (Items p ys ∷ fs) n at xs last top ts out g = put-goes (Items p ys ∷ fs) (suc n) top (with_tail at xs last) ts out g
+shut-goes (AfterDot p ys ∷ fs) n at xs last top ts out (e, us, s, g) =
+    (e, us, record { end_ = s.end_; next = s.next; is = s.is ∙ tail-in-tail p ys at xs last }, g)
+shut-goes (Tail p ys d ∷ fs) n at xs last top ts out g = put-goes (Tail p ys d ∷ fs) (suc n) top (with_tail at xs last) ts out g
+shut-goes (Elements p ys ∷ fs) n at xs last top ts out g = put-goes (Elements p ys ∷ fs) (suc n) top (with_tail at xs last) ts out g
+shut-goes (Waiting p ∷ fs) n at xs last top ts out g = put-goes (Waiting p ∷ fs) (suc n) top (with_tail at xs last) ts out g
+
 shuts-forth : (n at : ℕ) (xs : Data) (last : Datum) (fs : List Frame) (top : Data) (t : Token) (ts : List Token) (d : Datum) (rest : List Token) (out : Data) (e : ℕ) →
     t ∷ ts ≡ Close e ∷ rest → d ≡ with_tail at xs last → Gets (suc n) fs top d rest out → IsOkAnd (in_tail n at xs last fs top t) (Goes ts out)
 shuts-forth n at xs last fs top (Close p) ts d rest out e h i g =
     let same : rest ≡ ts = cc in
     let P : Datum → Type 0 = λ v. Gets (suc n) fs top v rest out in
     let Q : List Token → Type 0 = λ v. Gets (suc n) fs top (with_tail at xs last) v out in
-    put-goes fs (suc n) top (with_tail at xs last) ts out (subst Q same (subst P i g))
+    shut-goes fs n at xs last top ts out (subst Q same (subst P i g))
 shuts-forth n at xs last fs top (Open p o) ts d rest out e h i g = cc
 shuts-forth n at xs last fs top (Dot p) ts d rest out e h i g = cc
 shuts-forth n at xs last fs top (Plain p a) ts d rest out e h i g = cc
@@ -233,6 +249,16 @@ put-back (Tail at xs last ∷ fs) n top d ts out t s g = absurd t
 put-back (Elements at xs ∷ fs) n top d ts out t s g = g
 put-back (Waiting at ∷ fs) n top d ts out t s g = put-back fs (suc n) top (quoted at d) ts out s.0 s.1 g
 
+pub shut-back : (fs : List Frame) (n at : ℕ) (xs : Data) (last : Datum) (top : Data) (ts : List Token) (out : Data) → HeadTakes fs → IsSound fs →
+    Goes ts out (shut n at xs last fs top) → Gets (suc n) fs top (with_tail at xs last) ts out
+shut-back [] n at xs last top ts out t s g = put-back [] (suc n) top (with_tail at xs last) ts out t s g
+shut-back (Items p ys ∷ fs) n at xs last top ts out t s g = put-back (Items p ys ∷ fs) (suc n) top (with_tail at xs last) ts out t s g
+shut-back (AfterDot p ys ∷ fs) n at xs last top ts out t s (e, us, c, g) =
+    (e, us, record { end_ = c.end_; next = c.next; is = c.is ∙ sym (tail-in-tail p ys at xs last) }, g)
+shut-back (Tail p ys d ∷ fs) n at xs last top ts out t s g = absurd t
+shut-back (Elements p ys ∷ fs) n at xs last top ts out t s g = put-back (Elements p ys ∷ fs) (suc n) top (with_tail at xs last) ts out t s g
+shut-back (Waiting p ∷ fs) n at xs last top ts out t s g = put-back (Waiting p ∷ fs) (suc n) top (with_tail at xs last) ts out t s g
+
 pub put-sound : (fs : List Frame) (n : ℕ) (top : Data) (d : Datum) → HeadTakes fs → IsSound fs → IsSound (put n d fs top).open_
 put-sound [] n top d t s = tt
 put-sound (Items at xs ∷ fs) n top d t s = s
@@ -240,6 +266,14 @@ put-sound (AfterDot at xs ∷ fs) n top d t s = s
 put-sound (Tail at xs last ∷ fs) n top d t s = s
 put-sound (Elements at xs ∷ fs) n top d t s = s
 put-sound (Waiting at ∷ fs) n top d t s = put-sound fs (suc n) top (quoted at d) s.0 s.1
+
+pub shut-sound : (fs : List Frame) (n at : ℕ) (xs : Data) (last : Datum) (top : Data) → HeadTakes fs → IsSound fs → IsSound (shut n at xs last fs top).open_
+shut-sound [] n at xs last top t s = put-sound [] (suc n) top (with_tail at xs last) t s
+shut-sound (Items p ys ∷ fs) n at xs last top t s = put-sound (Items p ys ∷ fs) (suc n) top (with_tail at xs last) t s
+shut-sound (AfterDot p ys ∷ fs) n at xs last top t s = s
+shut-sound (Tail p ys d ∷ fs) n at xs last top t s = absurd t
+shut-sound (Elements p ys ∷ fs) n at xs last top t s = put-sound (Elements p ys ∷ fs) (suc n) top (with_tail at xs last) t s
+shut-sound (Waiting p ∷ fs) n at xs last top t s = put-sound (Waiting p ∷ fs) (suc n) top (with_tail at xs last) t s
 
 pub start-back : (n : ℕ) (fs : List Frame) (top : Data) (t : Token) (ts : List Token) (out : Data) → HeadTakes fs → IsSound fs →
     IsOkAnd (start n fs top t) (Goes ts out) → (d : Datum) × (us : List Token) × ReadsOne n (t ∷ ts) d us × Gets n fs top d us out
@@ -312,7 +346,7 @@ step-back n (AfterDot at xs ∷ fs) top t ts out s g = go (start-back n (AfterDo
         let Q : List Token → Type 0 = λ v. ReadsOne n (t ∷ ts) x v in
         (d, rest, record { last = x; end_ = c.end_; reads = subst Q c.next r; is = c.is }, g')
 step-back n (Tail at xs last ∷ fs) top (Close p) ts out s g =
-    (with_tail at xs last, ts, record { end_ = p; next = refl; is = refl }, put-back fs (suc n) top (with_tail at xs last) ts out s.0 s.1 g)
+    (with_tail at xs last, ts, record { end_ = p; next = refl; is = refl }, shut-back fs n at xs last top ts out s.0 s.1 g)
 step-back n (Tail at xs last ∷ fs) top (Open p o) ts out s g = absurd g
 step-back n (Tail at xs last ∷ fs) top (Dot p) ts out s g = absurd g
 step-back n (Tail at xs last ∷ fs) top (Plain p a) ts out s g = absurd g

@@ -2,10 +2,10 @@
 use Rattle.std.proofs.Common.{◌≡◌, ◌⊎◌, ℕ, zero, suc, List, [], ◌∷◌, ◌++◌, refl, sym, ◌∙◌, ap, subst, inl, inr, Ok, Err, append_assoc, true}
 use Rattle.std.specs.Prelude.{Result, IsOkAnd, IfOk}
 use Rattle.std.proofs.lemmas.List.{append-nil}
-use Rattle.sch_read.specs.Grammar.{Token, Open, Close, Dot, Plain, Huge, Bad, Opener, parenthesis, hash_parenthesis, quote_mark, Flaw, bad_token, Atom, boolean, Datum, Data, atom, list, dotted, vector, none, cons, join, one, quoted, with_tail, ReadsOne, ReadsMany, Reads, plain, end, more}
-use Rattle.sch_read.specs.Fault.{Fault, Unclosed, StrayClose, DeepNesting, LiteralRange, Flawed, Mark, list_mark, quote_mark_, place, settled, closed, mark_of, opened, open_after, IsInnermost, Begins, IsAccepted, TakesAtom, IsFaultOf, CannotFollow, IsCutShort, IsFirstFault}
-use Rattle.sch_read.specs.Machine.{Frame, Items, AfterDot, Tail, Elements, Waiting, State, put, opened_frame, start, step, run, and_then, at_top, in_list, in_tail, in_vector, point, finish, place_of}
-use Rattle.sch_read.proofs.Completions.{TopGets, Closes, Points, Ends, Shuts, Quotes, Fills, Gets, Completes, Goes, HeadTakes, IsSound, put-sound, step-forth, step-back, join-none}
+use Rattle.sch_read.specs.Grammar.{Token, Open, Close, Dot, Plain, Huge, Bad, parenthesis, hash_parenthesis, quote_mark, Atom, boolean, Datum, Data, atom, list, vector, none, cons, join, one, quoted, with_tail, Reads, plain, end}
+use Rattle.sch_read.specs.Fault.{Fault, Unclosed, Mark, open_list, open_quote, settled, opened, open_after, IsInnermost, Begins, IsAccepted, TakesAtom, IsFaultOf, CannotFollow, IsFirstFault}
+use Rattle.sch_read.specs.Machine.{Frame, Items, AfterDot, Tail, Elements, Waiting, State, put, shut, start, step, run, and_then, finish, place_of}
+use Rattle.sch_read.proofs.Completions.{Gets, Completes, Goes, HeadTakes, IsSound, put-sound, step-forth, step-back, join-none}
 use Rattle.sch_read.proofs.Runs.{step-sound, done-forth}
 
 -- what is got may be completed
@@ -88,11 +88,11 @@ pub record Stops (C : List Token → Data → Type 0) (ts : List Token) (f : Fau
 
 abbrev pub marks : List Frame → List Mark
 marks [] = []
-marks (Items at xs ∷ fs) = list_mark at ∷ marks fs
-marks (AfterDot at xs ∷ fs) = list_mark at ∷ marks fs
-marks (Tail at xs last ∷ fs) = list_mark at ∷ marks fs
-marks (Elements at xs ∷ fs) = list_mark at ∷ marks fs
-marks (Waiting at ∷ fs) = quote_mark_ at ∷ marks fs
+marks (Items at xs ∷ fs) = open_list at ∷ marks fs
+marks (AfterDot at xs ∷ fs) = open_list at ∷ marks fs
+marks (Tail at xs last ∷ fs) = open_list at ∷ marks fs
+marks (Elements at xs ∷ fs) = open_list at ∷ marks fs
+marks (Waiting at ∷ fs) = open_quote at ∷ marks fs
 
 put-marks : (fs : List Frame) (n : ℕ) (top : Data) (d : Datum) → marks (put n d fs top).open_ ≡ settled (marks fs)
 put-marks [] n top d = refl
@@ -101,6 +101,14 @@ put-marks (AfterDot at xs ∷ fs) n top d = refl
 put-marks (Tail at xs last ∷ fs) n top d = refl
 put-marks (Elements at xs ∷ fs) n top d = refl
 put-marks (Waiting at ∷ fs) n top d = put-marks fs (suc n) top (quoted at d)
+
+shut-marks : (fs : List Frame) (n at : ℕ) (xs : Data) (last : Datum) (top : Data) → marks (shut n at xs last fs top).open_ ≡ settled (marks fs)
+shut-marks [] n at xs last top = refl
+shut-marks (Items p ys ∷ fs) n at xs last top = refl
+shut-marks (AfterDot p ys ∷ fs) n at xs last top = refl
+shut-marks (Tail p ys d ∷ fs) n at xs last top = refl
+shut-marks (Elements p ys ∷ fs) n at xs last top = refl
+shut-marks (Waiting p ∷ fs) n at xs last top = put-marks (Waiting p ∷ fs) (suc n) top (with_tail at xs last)
 
 start-marks : (n : ℕ) (fs : List Frame) (top : Data) (t : Token) → IfOk (start n fs top t) (λ s. marks s.open_ ≡ opened (marks fs) t)
 start-marks n fs top (Plain at a) = put-marks fs n top (atom at a)
@@ -128,7 +136,7 @@ step-marks n (Items at xs ∷ fs) top (Plain p a) = start-marks n (Items at xs �
 step-marks n (Items at xs ∷ fs) top (Huge p) = tt
 step-marks n (Items at xs ∷ fs) top (Bad p f) = tt
 step-marks n (AfterDot at xs ∷ fs) top t = start-marks n (AfterDot at xs ∷ fs) top t
-step-marks n (Tail at xs last ∷ fs) top (Close p) = put-marks fs (suc n) top (with_tail at xs last)
+step-marks n (Tail at xs last ∷ fs) top (Close p) = shut-marks fs n at xs last top
 step-marks n (Tail at xs last ∷ fs) top (Open p o) = tt
 step-marks n (Tail at xs last ∷ fs) top (Dot p) = tt
 step-marks n (Tail at xs last ∷ fs) top (Plain p a) = tt
@@ -314,6 +322,7 @@ parted {A} (x ∷ xs) ys (u ∷ us) vs h = go (parted xs ys us vs (cc))
   where
     same : x ≡ u
     same = cc
+
     go : ((m : List A) × (us ≡ xs ++ m) × (ys ≡ m ++ vs)) ⊎ ((m : List A) × (xs ≡ us ++ m) × (vs ≡ m ++ ys)) →
         ((m : List A) × (u ∷ us ≡ (x ∷ xs) ++ m) × (ys ≡ m ++ vs)) ⊎ ((m : List A) × (x ∷ xs ≡ (u ∷ us) ++ m) × (vs ≡ m ++ ys))
     go (inl (m, p, q)) = inl (m, (let s = same in cc), q)

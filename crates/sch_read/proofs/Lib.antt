@@ -10,3 +10,7 @@ pub mod ScanLemmas
 pub mod AnswerLemmas
 pub mod Weights
 pub mod Validity
+pub mod AtomTexts
+pub mod NameTexts
+pub mod IntegerTexts
+pub mod RoundTrip

@@ -1,11 +1,11 @@
 -- The code's cut is the one by the longest match, and there is one such cut.
-use Rattle.std.proofs.Common.{◌≡◌, ◌≢◌, ◌⊎◌, ℕ, ◌+◌, List, [], ◌∷◌, ◌++◌, refl, sym, ◌∙◌, ap, subst, inl, inr, append_assoc, Bool, true, false, length}
+use Rattle.std.proofs.Common.{◌≡◌, ◌⊎◌, ℕ, ◌+◌, List, [], ◌∷◌, ◌++◌, refl, sym, ◌∙◌, ap, subst, inl, inr, append_assoc, Bool, true, false, length}
 use Rattle.std.specs.Prelude.{◌==◌, ◌&&◌, ◌||◌, not, if◌then◌else◌}
 use Rattle.std.specs.List.{list_all}
 use Rattle.std.proofs.lemmas.List.{append-nil}
 use Rattle.sch_read.specs.Grammar.{Token}
 use Rattle.sch_read.specs.Letters.{is_delimiter, is_word_byte}
-use Rattle.sch_read.specs.Lexeme.{is_empty, is_string_rest, is_escape_rest, is_character_rest, is_hash_rest, is_comment_rest, is_lexeme, IsLongest}
+use Rattle.sch_read.specs.Lexeme.{is_empty, is_string_rest, is_escape_rest, is_character_rest, is_hash_rest, is_lexeme, IsLongest}
 use Rattle.sch_read.specs.Token.{token_at}
 use Rattle.sch_read.specs.Cut.{Cuts, nothing, lexeme}
 use Rattle.sch_read.specs.Scan.{scan}
@@ -71,11 +71,11 @@ part-front : (part : List ℕ) (b : ℕ) (ys : List ℕ) → is_lexeme (part ++ 
 part-front [] b ys h = lexeme-front b [] ys h
 part-front (p ∷ ps) b ys h = lexeme-front p (ps ++ b ∷ []) ys (ap (λ v. is_lexeme (p ∷ v)) (append_assoc ps (b ∷ []) ys) ∙ h)
 
-end-longest : (part : List ℕ) → IsLongest part []
+pub end-longest : (part : List ℕ) → IsLongest part []
 end-longest part [] others e h = refl
 end-longest part (m ∷ ms) others e h = cc
 
-byte-longest : (part : List ℕ) (b : ℕ) (bs : List ℕ) → is_lexeme (part ++ b ∷ []) ≡ false → IsLongest part (b ∷ bs)
+pub byte-longest : (part : List ℕ) (b : ℕ) (bs : List ℕ) → is_lexeme (part ++ b ∷ []) ≡ false → IsLongest part (b ∷ bs)
 byte-longest part b bs fails [] others e h = refl
 byte-longest part b bs fails (m ∷ ms) others e h =
     let same : m ≡ b = cc in

@@ -1,11 +1,11 @@
 -- What the machine answers with Ok is what the grammar says.
-use Rattle.std.proofs.Common.{◌≡◌, ◌⊎◌, ℕ, zero, suc, List, [], ◌∷◌, refl, sym, ◌∙◌, ap, subst, inl, inr, Ok, Err}
+use Rattle.std.proofs.Common.{◌≡◌, ℕ, zero, suc, List, [], ◌∷◌, refl, sym, ◌∙◌, ap, subst, inl, inr, Ok, Err}
 use Rattle.std.specs.Prelude.{Result, IsOkAnd, IfOk}
-use Rattle.sch_read.specs.Grammar.{Token, Open, Close, Dot, Plain, Huge, Bad, Opener, parenthesis, hash_parenthesis, quote_mark, Datum, Data, atom, list, vector, none, cons, with_tail, ReadsOne, ReadsMany, Reads, plain, end, more}
+use Rattle.sch_read.specs.Grammar.{Token, Open, Close, Dot, Plain, Huge, Bad, parenthesis, hash_parenthesis, quote_mark, Datum, Data, atom, list, vector, none, cons, ReadsOne, ReadsMany, Reads, end, more}
 use Rattle.sch_read.specs.Fault.{Fault}
 use Rattle.sch_read.specs.Machine.{Frame, Items, AfterDot, Tail, Elements, Waiting, State, start, step, run, and_then, point, finish}
 use Rattle.sch_read.specs.Grammar.{join}
-use Rattle.sch_read.proofs.Completions.{Completes, Goes, HeadTakes, IsSound, put-sound, step-forth, step-back, join-none}
+use Rattle.sch_read.proofs.Completions.{Completes, Goes, HeadTakes, IsSound, put-sound, shut-sound, step-forth, step-back, join-none}
 
 nothing-many : (n : ℕ) (ds : Data) (t : Token) (rest : List Token) → ReadsMany n [] ds (t ∷ rest) → ⊥
 nothing-many n ds t rest (more _ _ us x xs _ r q) = elim r [ ]
@@ -65,7 +65,7 @@ step-sound n (Items at xs ∷ fs) top (Plain p a) s = start-sound n (Items at xs
 step-sound n (Items at xs ∷ fs) top (Huge p) s = tt
 step-sound n (Items at xs ∷ fs) top (Bad p f) s = tt
 step-sound n (AfterDot at xs ∷ fs) top t s = start-sound n (AfterDot at xs ∷ fs) top t tt s
-step-sound n (Tail at xs last ∷ fs) top (Close p) s = put-sound fs (suc n) top (with_tail at xs last) s.0 s.1
+step-sound n (Tail at xs last ∷ fs) top (Close p) s = shut-sound fs n at xs last top s.0 s.1
 step-sound n (Tail at xs last ∷ fs) top (Open p o) s = tt
 step-sound n (Tail at xs last ∷ fs) top (Dot p) s = tt
 step-sound n (Tail at xs last ∷ fs) top (Plain p a) s = tt

@@ -1,13 +1,9 @@
 -- One more byte of a text.
-use Rattle.std.proofs.Common.{◌≡◌, ℕ, ◌+◌, ◌-◌, ◌<◌, ◌≤◌, List, [], ◌∷◌, ◌++◌, length, take, drop, get_or, refl, ap, sym, ◌∙◌, subst, arith, add-one, drop-cons, Bool, true, false, length-drop, get_or-drop, append_assoc, length-take}
+use Rattle.std.proofs.Common.{◌≡◌, ℕ, ◌+◌, ◌-◌, ◌<◌, ◌≤◌, List, [], ◌∷◌, ◌++◌, length, take, drop, get_or, refl, ap, sym, ◌∙◌, subst, arith, add-one, drop-cons, Bool, true, false, length-drop, append_assoc}
 use Rattle.std.specs.Prelude.{slice_range, Some, None, if◌then◌else◌}
 use Rattle.std.proofs.lemmas.Grind.{common_steps}
 use Rattle.std.proofs.lemmas.List.{take_more, append-nil}
-use Rattle.std.specs.Prelude.{Result, Ok, Err, OnOk, IfErr}
 use Rattle.sch_read.specs.Grammar.{Token}
-use Rattle.sch_read.specs.Machine.{State, runs}
-use Rattle.sch_read.specs.StateViews.{Feeds, Fails}
-use Rattle.sch_read.specs.declared.error.ReadError.{ReadError}
 use Rattle.sch_read.specs.Lexeme.{is_lexeme}
 use Rattle.sch_read.specs.Token.{token_at}
 use Rattle.sch_read.specs.Scan.{scan}

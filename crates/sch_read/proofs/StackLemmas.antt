@@ -1,12 +1,13 @@
 -- The stack, whose innermost frame is the last.
-use Rattle.std.proofs.Common.{◌≡◌, List, [], ◌∷◌, ◌++◌, refl, ap, ◌∙◌, ℕ, ◌<◌, length, Ok, arith}
+use Rattle.std.proofs.Common.{◌≡◌, List, [], ◌∷◌, ◌++◌, refl, ap, ◌∙◌, ℕ, Ok}
 use Rattle.std.specs.Prelude.{map, reverse}
-use Rattle.std.proofs.lemmas.List.{map-append, reverse-append}
-use Rattle.sch_read.specs.Grammar.{Data}
+use Rattle.std.proofs.lemmas.List.{map-append, reverse-append, reverse-reverse}
+use Rattle.sch_read.specs.Grammar.{Data, join}
 use Rattle.sch_read.specs.Machine as machine
 use Rattle.sch_read.specs.Machine.{point}
 use Rattle.sch_read.specs.Views.{data_of}
 use Rattle.sch_read.specs.StateViews.{stack_of, frame_of}
+use Rattle.sch_read.proofs.TreeLemmas.{data_of_append}
 use Rattle.sch_read.specs.declared.datum.Datum.{Datum}
 use Rattle.sch_read.specs.declared.machine.Frame.{Frame}
 
@@ -18,3 +19,7 @@ pub point_some : (items : List Datum) (n at : ℕ) (fs : List machine.Frame) (to
     point n at (data_of items) fs top p ≡ Ok (record { spare = n; open_ = machine.AfterDot at (data_of items) ∷ fs; top = top })
 point_some [] n at fs top p h = absurd (h refl)
 point_some (x ∷ xs) n at fs top p h = refl
+
+-- data in reverse behind data in reverse
+pub poured_data : (before items : List Datum) → data_of (reverse (items ++ reverse before)) ≡ join (data_of before) (data_of (reverse items))
+poured_data before items = ap data_of (reverse-append items (reverse before) ∙ ap (λ v. v ++ reverse items) (reverse-reverse before)) ∙ data_of_append before (reverse items)

@@ -1,10 +1,6 @@
 -- The trees of lists of data, one after another.
-use Rattle.std.proofs.Common.{◌≡◌, List, [], ◌∷◌, ◌++◌, refl, ap, ◌∙◌, ℕ, ◌<◌, length, Ok, arith}
-use Rattle.std.specs.Prelude.{map, reverse}
-use Rattle.std.proofs.lemmas.List.{map-append, reverse-append}
-use Rattle.sch_read.specs.Grammar.{Data, join, cons, none, one}
-use Rattle.sch_read.specs.Machine as machine
-use Rattle.sch_read.specs.Machine.{point}
+use Rattle.std.proofs.Common.{◌≡◌, List, [], ◌∷◌, ◌++◌, refl, ap}
+use Rattle.sch_read.specs.Grammar.{join, cons, one}
 use Rattle.sch_read.specs.Views.{tree_of, data_of}
 use Rattle.sch_read.specs.declared.datum.Datum.{Datum}
 

@@ -1,22 +1,23 @@
 -- What a text spells is valid.
-use Rattle.std.proofs.Common.{◌≡◌, ◌≢◌, ◌≤◌, ◌<◌, ◌+◌, ◌⊎◌, inl, inr, ℕ, List, [], ◌∷◌, ◌++◌, refl, sym, ◌∙◌, ap, subst, arith, Bool, true, false}
-use Rattle.std.specs.Prelude.{◌==◌, ◌||◌, ◌&&◌, if◌then◌else◌, map, drop, codes}
+use Rattle.std.proofs.Common.{◌≡◌, ◌≤◌, ◌<◌, ◌+◌, ◌⊎◌, inl, inr, ℕ, List, [], ◌∷◌, ◌++◌, refl, sym, ◌∙◌, ap, subst, arith, Bool, true, false}
+use Rattle.std.specs.Prelude.{◌==◌, ◌||◌, ◌&&◌, if◌then◌else◌, drop, codes}
 use Rattle.std.specs.List.{list_all}
 use Rattle.std.proofs.lemmas.Bool.{cases_lt}
 use Rattle.std.proofs.lemmas.Bool.Decides.{nat_tests}
-use Rattle.std.specs.Char.{to_ascii_lowercase, is_ascii_alphabetic, is_ascii_digit}
+use Rattle.std.specs.Char.{to_ascii_lowercase, is_ascii_alphabetic}
 use Rattle.std.specs.Str.{bytes_eq}
-use Rattle.sch_read.specs.Letters.{folded, is_one_of, is_initial, is_subsequent}
+use Rattle.sch_read.specs.Letters.{folded, is_initial, is_subsequent}
 use Rattle.std.proofs.lemmas.Slice.Eq.{bytes_eq-Decides}
 use Rattle.std.specs.Str.Parse.{without_leading_sign, signed_digits_value}
 use Rattle.std.proofs.Common.{length}
 use Rattle.sch_read.specs.Letters.{is_white}
 use Rattle.sch_read.specs.Lexeme.{is_empty}
-use Rattle.sch_read.specs.Token.{is_identifier, token_at, word_at, name_at, number_at, integer_at, character_at, string_at, string_of, Content, Whole, Unended, NoEscape, content, is_number_like, is_character, is_fixnum, are_digits, base_of, numeral_of}
+use Rattle.sch_read.specs.Token.{is_identifier, token_at, word_at, name_at, number_at, integer_at, character_at, string_at, string_of, Content, Whole, Unended, NoEscape, content, is_number_like, is_character, are_digits, base_of, numeral_of}
+use Rattle.sch_word.specs.Fixnum.{is_fixnum}
 use Rattle.sch_read.specs.Grammar.{Token, Open, Close, Dot, Plain, Huge, Bad, parenthesis, hash_parenthesis, quote_mark, bad_token, bad_number, boolean, integer, character, symbol, Datum, Data, atom, list, dotted, vector, none, cons, join, with_tail, ReadsOne, ReadsMany, plain, listed, pointed, elements, quotes, end, more}
 use Rattle.sch_read.specs.Cut.{Cuts, nothing, lexeme}
 use Rattle.sch_read.specs.Text.{levels, Spells}
-use Rattle.sch_read.specs.Valid.{IsValidAtom, IsNoList, IsValid, AreValid}
+use Rattle.sch_read.specs.Valid.{IsValidAtom, IsValid, AreValid}
 
 -- a letter's lower case is a letter, and no other byte changes
 lower-cases : (c : ℕ) → (to_ascii_lowercase c ≡ c) ⊎ (is_ascii_alphabetic (to_ascii_lowercase c) ≡ true)
@@ -30,25 +31,25 @@ lower-cases c = go (cases_lt c 65) (cases_lt c 91)
 lower-twice : (c : ℕ) → to_ascii_lowercase (to_ascii_lowercase c) ≡ to_ascii_lowercase c
 lower-twice c = grind (arith, nat_tests)
 
-and-parts : (a b : Bool) → a && b ≡ true → (a ≡ true) × (b ≡ true)
+pub and-parts : (a b : Bool) → a && b ≡ true → (a ≡ true) × (b ≡ true)
 and-parts true b h = (refl, h)
 and-parts false b h = cc
 
-and-whole : (a b : Bool) → a ≡ true → b ≡ true → a && b ≡ true
+pub and-whole : (a b : Bool) → a ≡ true → b ≡ true → a && b ≡ true
 and-whole a b h k = ap (λ t. t && b) h ∙ k
 
-or-parts : (a b : Bool) → a || b ≡ true → (a ≡ true) ⊎ (b ≡ true)
+pub or-parts : (a b : Bool) → a || b ≡ true → (a ≡ true) ⊎ (b ≡ true)
 or-parts true b h = inl refl
 or-parts false b h = inr h
 
-or-left : (a b : Bool) → a ≡ true → a || b ≡ true
+pub or-left : (a b : Bool) → a ≡ true → a || b ≡ true
 or-left a b h = ap (λ t. t || b) h
 
 or-right : (a b : Bool) → b ≡ true → a || b ≡ true
 or-right true b h = refl
 or-right false b h = h
 
-same-bytes : (xs ys : List ℕ) → bytes_eq xs ys ≡ true → xs ≡ ys
+pub same-bytes : (xs ys : List ℕ) → bytes_eq xs ys ≡ true → xs ≡ ys
 same-bytes xs ys e = (bytes_eq-Decides xs ys).0 e
 
 initial-lower : (c : ℕ) → is_initial c ≡ true → is_initial (to_ascii_lowercase c) ≡ true
@@ -81,6 +82,7 @@ peculiar-folded w h = go (or-parts (bytes_eq w (codes "+")) _ h)
     last : (bytes_eq w (codes "-") ≡ true) ⊎ (bytes_eq w (codes "...") ≡ true) → is_identifier (folded w) ≡ true
     last (inl e) = ap (λ v. is_identifier (folded v)) (same-bytes w (codes "-") e)
     last (inr e) = ap (λ v. is_identifier (folded v)) (same-bytes w (codes "...") e)
+
     go : (bytes_eq w (codes "+") ≡ true) ⊎ (bytes_eq w (codes "-") || bytes_eq w (codes "...") ≡ true) → is_identifier (folded w) ≡ true
     go (inl e) = ap (λ v. is_identifier (folded v)) (same-bytes w (codes "+") e)
     go (inr e) = last (or-parts (bytes_eq w (codes "-")) _ e)

@@ -1,12 +1,11 @@
 -- Data weigh at most seven times the bytes of their text.
-use Rattle.std.proofs.Common.{◌≡◌, ◌≤◌, ◌<◌, ◌+◌, ◌*◌, ℕ, suc, List, [], ◌∷◌, ◌++◌, length, refl, sym, ◌∙◌, ap, subst, arith, Bool, true, false, length-append}
-use Rattle.std.specs.Prelude.{◌==◌, ◌||◌, ◌&&◌, if◌then◌else◌, map, drop, codes}
-use Rattle.std.proofs.lemmas.Grind.{common_steps}
-use Rattle.std.specs.Char.{to_ascii_lowercase}
+use Rattle.std.proofs.Common.{◌≡◌, ◌≤◌, ◌+◌, ◌*◌, ℕ, suc, List, [], ◌∷◌, ◌++◌, length, refl, ◌∙◌, ap, arith, Bool, true, false, length-append}
+use Rattle.std.specs.Prelude.{◌==◌, ◌||◌, if◌then◌else◌, drop, codes}
 use Rattle.std.specs.Str.{bytes_eq}
-use Rattle.sch_read.specs.Grammar.{Token, Open, Close, Dot, Plain, Huge, Bad, parenthesis, hash_parenthesis, quote_mark, bad_token, bad_number, bad_string, Atom, boolean, integer, character, text, symbol, Datum, Data, atom, list, dotted, vector, none, cons, join, one, quoted, with_tail, ReadsOne, ReadsMany, Reads, plain, listed, pointed, elements, quotes, end, more}
+use Rattle.sch_read.specs.Grammar.{Token, Open, Close, Dot, Plain, Huge, Bad, parenthesis, hash_parenthesis, quote_mark, bad_token, bad_number, boolean, integer, character, symbol, Datum, Data, atom, list, dotted, vector, none, cons, join, with_tail, ReadsOne, ReadsMany, plain, listed, pointed, elements, quotes, end, more}
 use Rattle.sch_read.specs.Letters.{folded, is_white}
-use Rattle.sch_read.specs.Token.{token_at, word_at, name_at, number_at, integer_at, character_at, string_at, string_of, Content, Whole, Unended, NoEscape, with_byte, content, escape_content, escaped, is_escape, is_number_like, is_character, is_identifier, is_fixnum, are_digits, base_of, numeral_of}
+use Rattle.sch_read.specs.Token.{token_at, word_at, name_at, number_at, integer_at, character_at, string_at, string_of, Content, Whole, Unended, NoEscape, with_byte, content, escape_content, escaped, is_escape, is_number_like, is_character, is_identifier, are_digits, base_of, numeral_of}
+use Rattle.sch_word.specs.Fixnum.{is_fixnum}
 use Rattle.std.specs.Str.Parse.{without_leading_sign, signed_digits_value}
 use Rattle.sch_read.specs.Lexeme.{is_empty}
 use Rattle.sch_read.specs.Cut.{Cuts, nothing, lexeme}

@@ -1,6 +1,6 @@
 -- The first fault of tokens that are not accepted, by what can follow.
-use Rattle.std.specs.Prelude.{◌≡◌, ◌⊎◌, ℕ, suc, List, [], ◌∷◌, ◌++◌}
-use Rattle.sch_read.specs.Grammar.{Token, Open, Close, Dot, Plain, Huge, Bad, Opener, parenthesis, hash_parenthesis, quote_mark, Flaw, bad_token, Atom, Datum, Data, Reads}
+use Rattle.std.specs.Prelude.{◌≡◌, ◌⊎◌, ℕ, List, [], ◌∷◌, ◌++◌}
+use Rattle.sch_read.specs.Grammar.{Token, Open, Close, Dot, Plain, Huge, Bad, Opener, parenthesis, hash_parenthesis, quote_mark, Flaw, bad_token, Atom, Data, Reads}
 
 -- a fault and its place; a Flawed one is a bad token, number or string
 pub data Fault : Type 0 where
@@ -44,27 +44,27 @@ pub record CannotFollow (n : ℕ) (ts : List Token) (f : Fault) : Type 0 where
 
 -- what is open: a list or a vector, or a quote that waits for its datum, by its place
 pub data Mark : Type 0 where
-  list_mark : ℕ → Mark
-  quote_mark_ : ℕ → Mark
+  open_list : ℕ → Mark
+  open_quote : ℕ → Mark
 
 abbrev pub place : Mark → ℕ
-place (list_mark p) = p
-place (quote_mark_ p) = p
+place (open_list p) = p
+place (open_quote p) = p
 
 -- a datum is whole, and so are the quotes that waited for it
 abbrev pub settled : List Mark → List Mark
 settled [] = []
-settled (list_mark p ∷ ms) = list_mark p ∷ ms
-settled (quote_mark_ p ∷ ms) = settled ms
+settled (open_list p ∷ ms) = open_list p ∷ ms
+settled (open_quote p ∷ ms) = settled ms
 
 abbrev pub closed : List Mark → List Mark
 closed [] = []
 closed (m ∷ ms) = settled ms
 
 abbrev pub mark_of : ℕ → Opener → Mark
-mark_of p parenthesis = list_mark p
-mark_of p hash_parenthesis = list_mark p
-mark_of p quote_mark = quote_mark_ p
+mark_of p parenthesis = open_list p
+mark_of p hash_parenthesis = open_list p
+mark_of p quote_mark = open_quote p
 
 -- what is open after one more token, the innermost first
 abbrev pub opened : List Mark → Token → List Mark

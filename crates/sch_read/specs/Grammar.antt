@@ -1,5 +1,5 @@
 -- Tokens, data, and the tokens that spell data (R5RS 7.1.2).
-use Rattle.std.specs.Prelude.{◌≡◌, ℕ, ℤ, Bool, suc, List, [], ◌∷◌, codes}
+use Rattle.std.specs.Prelude.{ℕ, ℤ, Bool, suc, List, [], ◌∷◌, codes}
 
 pub data Atom : Type 0 where
   boolean : Bool → Atom

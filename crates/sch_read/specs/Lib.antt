@@ -14,3 +14,5 @@ pub mod Stages
 pub mod Scanning
 pub mod Answer
 pub mod Valid
+pub mod Printed
+pub mod Shape

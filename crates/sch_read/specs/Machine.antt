@@ -59,8 +59,17 @@ in_list n at xs fs top (Close p) = Ok (put (suc n) (list at xs) fs top)
 in_list n at xs fs top (Dot p) = point n at xs fs top p
 in_list n at xs fs top t = start n (Items at xs ∷ fs) top t
 
+-- a list with its datum after the dot closes; behind the dot of another list it is more of that list
+abbrev pub shut : ℕ → ℕ → Data → Datum → List Frame → Data → State
+shut n at xs last [] top = put (suc n) (with_tail at xs last) [] top
+shut n at xs last (Items p ys ∷ fs) top = put (suc n) (with_tail at xs last) (Items p ys ∷ fs) top
+shut n at xs last (AfterDot p ys ∷ fs) top = record { spare = suc n; open_ = Tail p (join ys xs) last ∷ fs; top = top }
+shut n at xs last (Tail p ys d ∷ fs) top = put (suc n) (with_tail at xs last) (Tail p ys d ∷ fs) top
+shut n at xs last (Elements p ys ∷ fs) top = put (suc n) (with_tail at xs last) (Elements p ys ∷ fs) top
+shut n at xs last (Waiting p ∷ fs) top = put (suc n) (with_tail at xs last) (Waiting p ∷ fs) top
+
 abbrev pub in_tail : ℕ → ℕ → Data → Datum → List Frame → Data → Token → Result State Fault
-in_tail n at xs last fs top (Close p) = Ok (put (suc n) (with_tail at xs last) fs top)
+in_tail n at xs last fs top (Close p) = Ok (shut n at xs last fs top)
 in_tail n at xs last fs top (Open p o) = Err (Flawed p bad_token)
 in_tail n at xs last fs top (Dot p) = Err (Flawed p bad_token)
 in_tail n at xs last fs top (Plain p a) = Err (Flawed p bad_token)

@@ -1,5 +1,5 @@
 -- What the stack of the code stands for, and what a step of the code answers.
-use Rattle.std.specs.Prelude.{◌≡◌, ℕ, List, Result, Ok, Err, map, reverse}
+use Rattle.std.specs.Prelude.{◌≡◌, List, Result, Ok, Err, map, reverse}
 use Rattle.sch_read.specs.Grammar.{Token, bad_token, bad_number, bad_string}
 use Rattle.sch_read.specs.Fault as fault
 use Rattle.sch_read.specs.Fault.{Fault}
@@ -15,7 +15,7 @@ use Rattle.sch_read.specs.declared.error.ReadError.TheVariants as errors
 abbrev pub frame_of : Frame → machine.Frame
 frame_of (Items at ds) = machine.Items at (data_of ds)
 frame_of (AfterDot at ds) = machine.AfterDot at (data_of ds)
-frame_of (Tail at ds d) = machine.Tail at (data_of ds) (tree_of d)
+frame_of (Tail at ds d) = machine.Tail at (data_of (reverse ds)) (tree_of d)
 frame_of (Elements at ds) = machine.Elements at (data_of ds)
 frame_of (Waiting at) = machine.Waiting at
 

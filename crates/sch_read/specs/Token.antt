@@ -1,10 +1,10 @@
 -- The token that a lexeme is (R5RS 7.1.1). White space and comments are none.
-use Rattle.std.specs.Prelude.{◌==◌, ◌||◌, ◌&&◌, ◌+◌, ℕ, ℤ, Bool, true, false, List, [], ◌∷◌, if◌then◌else◌, codes, drop, nat_lt, not, slice_index, int_le}
+use Rattle.std.specs.Prelude.{◌==◌, ◌||◌, ◌&&◌, ◌+◌, ℕ, ℤ, Bool, true, false, List, [], ◌∷◌, if◌then◌else◌, codes, drop, nat_lt, not, slice_index}
 use Rattle.std.specs.List.{list_all}
 use Rattle.std.specs.Str.{bytes_eq}
 use Rattle.std.specs.Char.{digit_value, is_ascii_digit, to_ascii_lowercase}
 use Rattle.std.specs.Str.Parse.{without_leading_sign, signed_digits_value}
-use Rattle.sch_word.specs.declared.fix.TheConstants.{FIXNUM_MIN, FIXNUM_MAX}
+use Rattle.sch_word.specs.Fixnum.{is_fixnum}
 use Rattle.sch_read.specs.Letters.{is_white, is_one_of, folded, is_initial, is_subsequent}
 use Rattle.sch_read.specs.Lexeme.{is_empty}
 use Rattle.sch_read.specs.Grammar.{Token, Open, Close, Dot, Plain, Huge, Bad, parenthesis, hash_parenthesis, quote_mark, bad_token, bad_number, bad_string, boolean, integer, character, text, symbol}
@@ -33,9 +33,6 @@ is_number_like word = has_base word || (is_ascii_digit (slice_index word 0)
 -- at least one digit, and each of the base
 abbrev pub are_digits : ℕ → List ℕ → Bool
 are_digits base ds = not (is_empty ds) && list_all (λ c. nat_lt (digit_value c) base) ds
-
-abbrev pub is_fixnum : ℤ → Bool
-is_fixnum z = int_le FIXNUM_MIN z && int_le z FIXNUM_MAX
 
 abbrev pub integer_at : ℕ → ℤ → Token
 integer_at at z = if is_fixnum z then Plain at (integer z) else Huge at

@@ -1,8 +1,7 @@
 -- What the values of the code stand for, in the grammar's words.
-use Rattle.std.specs.Prelude.{◌≡◌, ℕ, List, [], ◌∷◌, map, reverse, Option, Some, None}
+use Rattle.std.specs.Prelude.{ℕ, List, [], ◌∷◌, map, Some, None}
 use Rattle.sch_read.specs.Grammar.{Data, atom, list, dotted, vector, none, cons, boolean, integer, character, text, symbol}
 use Rattle.sch_read.specs.Grammar as grammar
-use Rattle.sch_read.specs.Fault as fault
 use Rattle.sch_read.specs.declared.datum.Datum.{Datum, fold-Datum}
 use Rattle.sch_read.specs.declared.datum.Node.TheOpen.{Node-F}
 

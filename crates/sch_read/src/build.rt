@@ -1,6 +1,6 @@
 //! The data of what was read.
 
-ghost use Rattle.std.specs.Prelude.{◌≡◌, IfOk};
+ghost use Rattle.std.specs.Prelude.{◌≡◌, ◌++◌, IfOk, reverse};
 ghost use Rattle.sch_read.specs.Grammar.{atom, list, dotted, vector, quoted, with_tail, symbol};
 ghost use Rattle.sch_read.specs.TokenViews.{atom_of};
 ghost use Rattle.sch_read.specs.Views.{tree_of, data_of};
@@ -75,4 +75,25 @@ pub(crate) fn tailed(alloc: Global, at: u32, items: List<Datum>, last: Datum) ->
             Ok(pointed(at, items, tail))
         }
     }
+}
+
+/// The data in reverse.
+pub(crate) fn turned(items: List<Datum>) -> List<Datum>
+    ensures { result ≡ reverse items }
+{
+    let mut items = items.into_vec();
+    items.reverse();
+    List::from_vec(items)
+}
+
+/// The data of `before`, the last first, behind those of `onto`.
+pub(crate) fn poured(before: List<Datum>, onto: List<Datum>) -> Result<List<Datum>, Mem>
+    ensures { IfOk result (λ items. items ≡ onto ++ reverse before) }
+{
+    let mut before = before;
+    let mut onto = onto;
+    'each: while let Some(d) = before.pop() {
+        onto.push(d)?;
+    }
+    Ok(onto)
 }

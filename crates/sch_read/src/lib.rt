@@ -1,7 +1,6 @@
 //! The reader: the bytes of a text to its data, and data to bytes.
 #![tactic(auto)]
 
-
 mod build;
 mod datum;
 mod error;
@@ -9,6 +8,7 @@ mod letters;
 mod lexeme;
 mod machine;
 mod number;
+mod printing;
 mod read;
 mod text;
 mod token;
@@ -16,6 +16,7 @@ mod word;
 
 pub use datum::{Datum, Node};
 pub use error::ReadError;
+pub use printing::print;
 pub use read::read_all;
 
 #[cfg(test)]

@@ -1,12 +1,11 @@
 //! Tokens one after another, with a stack of what is open.
 
-ghost use Rattle.std.specs.Prelude.{◌≡◌, ℕ, ◌+◌, ◌<◌, ◌≤◌, [], ◌∷◌, OnOk, vec_len};
+ghost use Rattle.std.specs.Prelude.{◌≡◌, ◌+◌, ◌<◌, ◌≤◌, [], ◌∷◌, OnOk, reverse, vec_len};
 
-use crate::build::{elements, listed, plain, quote, tailed};
+use crate::build::{elements, listed, plain, poured, quote, tailed, turned};
 use crate::datum::Datum;
 use crate::error::{ReadError, flawed};
 use crate::token::{Flaw, Opener, Token};
-
 use sch_word::{List, Mem};
 use std::alloc::Global;
 
@@ -17,7 +16,8 @@ pub(crate) enum Frame {
     Items(u32, List<Datum>),
     /// A list after its dot.
     AfterDot(u32, List<Datum>),
-    /// A list with the datum after its dot.
+    /// A list with the datum after its dot. Its items stand in reverse, so that those of a list whose
+    /// tail it is can be added in front of them at no cost for those that are there.
     Tail(u32, List<Datum>, Datum),
     /// A vector with its elements so far.
     Elements(u32, List<Datum>),
@@ -36,8 +36,8 @@ pub(crate) struct Reader {
 }
 
 impl Reader {
-    ghost use Rattle.sch_read.specs.Machine.{put, start, in_list, in_vector, in_tail, at_top, point, step};
-    ghost use Rattle.sch_read.specs.Grammar.{none, Open, with_tail, Datum as Tree, Data};
+    ghost use Rattle.sch_read.specs.Machine.{put, shut, start, in_list, in_vector, in_tail, at_top, point, step};
+    ghost use Rattle.sch_read.specs.Grammar.{none, Open};
     ghost use Rattle.sch_read.specs.Views.{tree_of, data_of};
     ghost use Rattle.sch_read.specs.StateViews.{state_of, stack_of, frame_of, StepsTo};
     ghost use Rattle.sch_read.specs.TokenViews.{token_of, opener_of};
@@ -68,7 +68,7 @@ impl Reader {
                     return Ok(());
                 }
                 Frame::AfterDot(at, items) => {
-                    self.frames.push(Frame::Tail(at, items, d))?;
+                    self.frames.push(Frame::Tail(at, turned(items), d))?;
                     return Ok(());
                 }
                 Frame::Tail(at, items, last) => {
@@ -137,7 +137,13 @@ impl Reader {
 
     /// A token in an open list.
     #[tactic(auto, using(crate::proofs::StackLemmas::stack_of_push))]
-    fn in_list(&mut self, place: u32, items: List<Datum>, at: u32, token: Token) -> Result<(), ReadError>
+    fn in_list(
+        &mut self,
+        place: u32,
+        items: List<Datum>,
+        at: u32,
+        token: Token,
+    ) -> Result<(), ReadError>
         requires { self.old.spare + vec_len self.old.frames < 1000 }
         ensures { StepsTo result (in_list self.old.spare place (data_of items) (stack_of self.old.frames.items) (data_of self.old.top) (token_of at token)) (state_of self.new) }
     {
@@ -170,7 +176,13 @@ impl Reader {
 
     /// A token in an open vector.
     #[tactic(auto, using(crate::proofs::StackLemmas::stack_of_push))]
-    fn in_vector(&mut self, place: u32, items: List<Datum>, at: u32, token: Token) -> Result<(), ReadError>
+    fn in_vector(
+        &mut self,
+        place: u32,
+        items: List<Datum>,
+        at: u32,
+        token: Token,
+    ) -> Result<(), ReadError>
         requires { self.old.spare + vec_len self.old.frames < 1000 }
         ensures { StepsTo result (in_vector self.old.spare place (data_of items) (stack_of self.old.frames.items) (data_of self.old.top) (token_of at token)) (state_of self.new) }
     {
@@ -187,20 +199,51 @@ impl Reader {
         }
     }
 
-    /// A token after a dot's datum; `whole` is the list so far.
-    fn in_tail(&mut self, whole: Datum, at: u32, token: Token) -> Result<(), ReadError>
+    /// A token after a dot's datum; the items of the list are turned round.
+    fn in_tail(
+        &mut self,
+        place: u32,
+        items: List<Datum>,
+        last: Datum,
+        at: u32,
+        token: Token,
+    ) -> Result<(), ReadError>
         requires { self.old.spare + vec_len self.old.frames < 1000 }
-        ensures { (place : ℕ) (xs : Data) (last : Tree) → tree_of whole ≡ with_tail place xs last →
-            StepsTo result (in_tail self.old.spare place xs last (stack_of self.old.frames.items) (data_of self.old.top) (token_of at token)) (state_of self.new) }
+        ensures { StepsTo result (in_tail self.old.spare place (data_of (reverse items)) (tree_of last) (stack_of self.old.frames.items) (data_of self.old.top) (token_of at token)) (state_of self.new) }
     {
         match token {
             Token::Close => {
-                self.spare += 1;
-                self.put(whole)?;
+                self.shut(place, items, last)?;
                 Ok(())
             }
             Token::Bad(flaw) => Err(flawed(at, flaw)),
             _ => Err(ReadError::BadToken(at)),
+        }
+    }
+
+    /// A list with its datum after the dot closes; its items are turned round. Where the list stands
+    /// behind another dot, it is more of the list with that dot.
+    #[tactic(auto, using(crate::proofs::StackLemmas::stack_of_push, crate::proofs::StackLemmas::poured_data))]
+    fn shut(&mut self, place: u32, items: List<Datum>, last: Datum) -> Result<(), Mem>
+        requires { self.old.spare + vec_len self.old.frames < 1000 }
+        ensures { OnOk result (state_of self.new ≡ shut self.old.spare place (data_of (reverse items)) (tree_of last) (stack_of self.old.frames.items) (data_of self.old.top)) }
+    {
+        self.spare += 1;
+        match self.frames.pop() {
+            Some(Frame::AfterDot(at, before)) => {
+                let items = poured(before, items)?;
+                self.frames.push(Frame::Tail(at, items, last))?;
+                Ok(())
+            }
+            Some(frame) => {
+                self.frames.push(frame)?;
+                let whole = tailed(self.alloc, place, turned(items), last)?;
+                self.put(whole)
+            }
+            None => {
+                let whole = tailed(self.alloc, place, turned(items), last)?;
+                self.put(whole)
+            }
         }
     }
 
@@ -213,10 +256,7 @@ impl Reader {
             None => self.at_top(at, token),
             Some(Frame::Items(place, items)) => self.in_list(place, items, at, token),
             Some(Frame::Elements(place, items)) => self.in_vector(place, items, at, token),
-            Some(Frame::Tail(place, items, last)) => {
-                let whole = tailed(self.alloc, place, items, last)?;
-                self.in_tail(whole, at, token)
-            }
+            Some(Frame::Tail(place, items, last)) => self.in_tail(place, items, last, at, token),
             Some(frame) => {
                 self.push(frame)?;
                 self.start(at, token)

@@ -121,7 +121,9 @@ fn magnitude(base: u8, digits: &[u8]) -> u64
 {
     let mut number: u64 = 0;
     for b in digits {
-        number = number.saturating_mul(u64::from(base)).saturating_add(u64::from(digit_value(*b)));
+        number = number
+            .saturating_mul(u64::from(base))
+            .saturating_add(u64::from(digit_value(*b)));
     }
     number
 }

@@ -1,4 +1,5 @@
-use crate::{ReadError, read_all};
+use crate::{Datum, ReadError, print, read_all};
+use sch_word::{List, Mem};
 use std::alloc::Global;
 use std::test::Fail;
 
@@ -13,9 +14,37 @@ fn refusal(alloc: Global, text: &[u8]) -> Option<ReadError> {
     }
 }
 
+// The data of the text, each printed with a line feed after it.
+fn rewritten(alloc: Global, text: &[u8]) -> Result<List<u8>, ReadError> {
+    let mut out = List::new(alloc);
+    if text.len() < 4_294_967_296 {
+        for d in read_all(alloc, text)?.into_vec() {
+            out.append(print(alloc, &d)?)?;
+            out.push(b'\n')?;
+        }
+    }
+    Ok(out)
+}
+
+// A text many times over.
+fn repeated(alloc: Global, text: &[u8], times: u32) -> Result<List<u8>, Mem> {
+    let mut out = List::new(alloc);
+    for _ in 0..times {
+        out.extend_from_slice(text)?;
+    }
+    Ok(out)
+}
+
+// A list in lists, as many levels as that.
+fn nested(alloc: Global, levels: u32) -> Result<List<u8>, Mem> {
+    let mut out = repeated(alloc, b"(", levels)?;
+    out.append(repeated(alloc, b")", levels)?)?;
+    Ok(out)
+}
+
 #[test]
 fn refuses_each_at_its_place(rt: HostRuntime) -> Result<(), Fail> {
-    let rows: [(&[u8], ReadError); 22] = [
+    let rows: [(&[u8], ReadError); 14] = [
         (b"'", ReadError::Unclosed(0)),
         (b"'(", ReadError::Unclosed(1)),
         (b"')", ReadError::BadToken(1)),
@@ -30,6 +59,16 @@ fn refuses_each_at_its_place(rt: HostRuntime) -> Result<(), Fail> {
         (b"+5a", ReadError::BadNumber(0)),
         (b"\"abc", ReadError::BadString(0)),
         (b"1 ]", ReadError::BadToken(2)),
+    ];
+    for (text, error) in rows {
+        assert_eq!(rt; refusal(rt.alloc(), text), Some(error));
+    }
+    Ok(())
+}
+
+#[test]
+fn refuses_the_first_fault(rt: HostRuntime) -> Result<(), Fail> {
+    let rows: [(&[u8], ReadError); 14] = [
         (b"(display (list 1 2", ReadError::Unclosed(9)),
         (b")", ReadError::StrayClose(0)),
         (b"(a . b c)", ReadError::BadToken(7)),
@@ -38,9 +77,56 @@ fn refuses_each_at_its_place(rt: HostRuntime) -> Result<(), Fail> {
         (b"\"a\\q", ReadError::BadString(2)),
         (b"\"a\\", ReadError::BadString(0)),
         (b"(display 1152921504606846976)", ReadError::LiteralRange(9)),
+        (b"-1152921504606846977", ReadError::LiteralRange(0)),
+        (b"(a . b 1152921504606846976)", ReadError::BadToken(7)),
+        (b"(a . b 1.5)", ReadError::BadNumber(7)),
+        (b"#(a . b)", ReadError::BadToken(4)),
+        (b"1.5 )", ReadError::BadNumber(0)),
+        (b"(') 1.5", ReadError::BadToken(2)),
     ];
     for (text, error) in rows {
         assert_eq!(rt; refusal(rt.alloc(), text), Some(error));
     }
+    Ok(())
+}
+
+#[test]
+fn reads_what_it_prints(rt: HostRuntime) -> Result<(), Fail> {
+    let rows: [(&[u8], &[u8]); 13] = [
+        (b"", b""),
+        (b" ; only a comment", b""),
+        (b"'ABC", b"(quote abc)\n"),
+        (b"'(1 . (2 . ()))", b"(quote (1 2))\n"),
+        (b"#(a \"b\\\\\")", b"#(a \"b\\\\\")\n"),
+        (b"(a . (b c)) (a . (b . c))", b"(a b c)\n(a b . c)\n"),
+        (b"(a b . (c . (d e . ((f) . g))))", b"(a b c d e (f) . g)\n"),
+        (
+            b"#\\a #\\space #\\NEWLINE #\\( #\\;",
+            b"#\\a\n#\\space\n#\\newline\n#\\(\n#\\;\n",
+        ),
+        (b"#xFf #b-101 #o17 #d9 +5 -0", b"255\n-5\n15\n9\n5\n0\n"),
+        (b"-1152921504606846976", b"-1152921504606846976\n"),
+        (b"\"a\\n\\t\\\"\"", b"\"a\n\t\\\"\"\n"),
+        (b"+ - ... #T #f", b"+\n-\n...\n#t\n#f\n"),
+        (b"(a)b;(\n#()c", b"(a)\nb\n#()\nc\n"),
+    ];
+    for (text, printed) in rows {
+        let out = rewritten(rt.alloc(), text)?;
+        assert_eq!(rt; out.as_slice(), printed);
+    }
+    Ok(())
+}
+
+#[test]
+fn reads_a_thousand_levels(rt: HostRuntime) -> Result<(), Fail> {
+    let alloc = rt.alloc();
+    let deep = nested(alloc, 1000)?;
+    let out = rewritten(alloc, deep.as_slice())?;
+    assert_eq!(rt; out.len(), 2001);
+    let deeper = nested(alloc, 1001)?;
+    assert_eq!(rt;
+        refusal(alloc, deeper.as_slice()),
+        Some(ReadError::DeepNesting(1000))
+    );
     Ok(())
 }

@@ -1,6 +1,5 @@
-use Rattle.std.proofs.Common.{◌≡◌, ◌+◌, ◌-◌, ◌*◌, ◌^◌, ◌<◌, length, min, take, rules, arith}
+use Rattle.std.proofs.Common.{◌-◌, ◌^◌, ◌<◌, length, take, arith}
 use Rattle.std.specs.Str.Parse.{digits_value}
-use Rattle.std.specs.Char.{digit_value}
 use Rattle.std.proofs.lemmas.Int.Digits.{digits_value_more}
 use Rattle.sch_read.proofs.NumberLemmas.{capped_step}
 use Rattle.sch_read.proofs.number.magnitude.Goals as goal

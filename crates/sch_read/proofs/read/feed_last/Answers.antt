@@ -1,4 +1,4 @@
-use Rattle.std.proofs.Common.{◌≡◌, ap, ◌∙◌, rules, [], ◌++◌, length}
+use Rattle.std.proofs.Common.{ap, ◌∙◌, rules, [], ◌++◌, length}
 use Rattle.std.specs.Prelude.{slice_range}
 use Rattle.sch_read.specs.Machine.{runs}
 use Rattle.sch_read.specs.Token.{token_at}

@@ -1,7 +1,4 @@
-use Rattle.std.proofs.Common.{◌≡◌, ap, ◌∙◌, get_or, List, ℕ, rules, ◌∷◌}
-use Rattle.std.specs.Prelude.{Some, None}
-use Rattle.sch_read.specs.Lexeme.{is_lexeme}
-use Rattle.sch_read.specs.Stages.{GoesOn, can_follow}
+use Rattle.std.proofs.Common.{ap, ◌∙◌}
 use Rattle.sch_read.specs.Machine.{runs}
 use Rattle.sch_read.specs.StateViews.{state_of}
 use Rattle.sch_read.proofs.ScanLemmas.{met_more, left_more, met_next, left_next}

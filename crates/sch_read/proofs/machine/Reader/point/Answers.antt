@@ -1,5 +1,5 @@
 use Rattle.std.proofs.Common.{◌≡◌, [], ◌∷◌, rules, ap, ◌∙◌, sym, Ok}
-use Rattle.sch_read.specs.Machine.{point, AfterDot}
+use Rattle.sch_read.specs.Machine.{AfterDot}
 use Rattle.sch_read.specs.Views.{data_of}
 use Rattle.sch_read.specs.StateViews.{state_of, stack_of}
 use Rattle.sch_read.proofs.StackLemmas.{point_some}
