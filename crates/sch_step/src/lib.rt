@@ -1,0 +1,15 @@
+//! A machine that steps: the table of instructions, run.
+#![tactic(auto)]
+
+mod division;
+mod ends;
+mod flags;
+mod kernel;
+mod machine;
+mod obstacles;
+mod processor;
+mod rows;
+mod segment;
+
+pub use ends::{RunEnd, StepEnd, Stuck};
+pub use machine::{Machine, run, step};
