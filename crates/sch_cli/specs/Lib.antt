@@ -1,8 +1,10 @@
 pub mod Command
 pub mod CommandView
 pub mod Compiles
+pub mod Executes
 pub mod Messages
 pub mod Numbers
+pub mod Steps
 pub mod Thin
 pub mod ThinCode
 pub mod ThinForms

@@ -1,6 +1,8 @@
 -- The line on the standard error for each status.
 use Rattle.std.specs.Prelude.{◌≡◌, ℕ, List, [], ◌++◌, ◌==◌, codes, take, if◌then◌else◌, Option}
 use Rattle.sch_io.specs.Told.{Tells}
+use Rattle.sch_insn.specs.declared.machine.StuckCause.{StuckCause}
+use Rattle.sch_elf.specs.declared.error.ImageError.{ImageError}
 use Rattle.sch_io.specs.Counters.{Rose}
 
 abbrev pub usage_line : List ℕ
@@ -26,3 +28,18 @@ pub record Said (line before after : List ℕ) (faults faults' : ℕ) : Type 0 w
 
 abbrev pub Says : List ℕ → Option (List ℕ) → Option (List ℕ) → ℕ → ℕ → Type 0
 Says line bytes bytes' faults faults' = Tells bytes bytes' (λ before after. Said line before after faults faults')
+
+abbrev pub spent_line : List ℕ
+spent_line = codes "steps spent\n"
+
+abbrev pub stop_line : ℕ → List ℕ
+stop_line status = []
+
+abbrev pub exit_line : List ℕ → ℕ → List ℕ
+exit_line name status = []
+
+abbrev pub stuck_line : List ℕ → ℕ → StuckCause → List ℕ
+stuck_line name at cause = []
+
+abbrev pub refusal_line : List ℕ → ImageError → List ℕ
+refusal_line name error = []

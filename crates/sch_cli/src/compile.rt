@@ -11,7 +11,7 @@ use crate::thin::build;
 use sch_io::{Disk, DiskRead, Outlet};
 use std::alloc::Global;
 
-const SOURCE_LIMIT: u64 = 1 << 20;
+pub const SOURCE_LIMIT: u64 = 1 << 20;
 
 /// Reads the source, and writes the program that it means.
 pub fn compile<D: Disk, E: Outlet>(

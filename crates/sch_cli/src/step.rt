@@ -1,0 +1,59 @@
+// The verb `step`.
+ghost use Rattle.std.specs.Prelude.{◌≡◌, ◌≤◌, ◌<◌, ◌+◌, ◌^◌, ℕ, List};
+ghost use Rattle.sch_cli.specs.Messages.{Says};
+ghost use Rattle.sch_cli.specs.Steps.{EndsStep, ReadsOnly, seen};
+
+use crate::execute::execute;
+use crate::message::{say, say_image_error};
+use sch_elf::{ImageError, read_image};
+use sch_io::{Disk, DiskRead, Outlet};
+use std::alloc::Global;
+
+const IMAGE_LIMIT: u64 = 134_217_728;
+
+/// Reads an image and runs it.
+pub fn step<D: Disk, O: Outlet, E: Outlet>(
+    alloc: Global,
+    name: &str,
+    steps: u64,
+    disk: &mut D,
+    out: &mut O,
+    err: &mut E,
+) -> u8
+    ensures reads { ReadsOnly result (D.files disk.old) (D.files disk.new) (D.faults disk.old) (D.faults disk.new) (D.calls disk.old) (D.calls disk.new) }
+    ensures ends { (line : List ℕ) × Says line (E.bytes err.old) (E.bytes err.new) (E.faults err.old) (E.faults err.new) × EndsStep name.now steps result (seen (D.files disk.old) (D.files disk.new) (O.bytes out.old) (O.bytes out.new) (O.left out.old) (O.left out.new) (O.faults out.old) (O.faults out.new) line) }
+{
+    let file = match disk.read(alloc, name, IMAGE_LIMIT) {
+        Ok(file) => file,
+        Err(DiskRead::Failed) => {
+            say(err, name, ": read failed\n");
+            return 2;
+        }
+        Err(DiskRead::TooLarge) => {
+            say(err, name, ": limit file\n");
+            return 7;
+        }
+        Err(DiskRead::Memory) => {
+            say(err, "", "out of memory\n");
+            return 10;
+        }
+    };
+    let image = match read_image(alloc, file.as_slice()) {
+        Ok(image) => image,
+        Err(ImageError::Memory) => {
+            say(err, "", "out of memory\n");
+            return 10;
+        }
+        Err(error) => {
+            say_image_error(err, name, error);
+            return 8;
+        }
+    };
+    match execute(alloc, name, &image, steps, out, err) {
+        Ok(status) => status,
+        Err(_) => {
+            say(err, "", "out of memory\n");
+            10
+        }
+    }
+}
