@@ -5,6 +5,7 @@ pub mod Executes
 pub mod Messages
 pub mod Numbers
 pub mod Steps
+pub mod Stopped
 pub mod Thin
 pub mod ThinCode
 pub mod ThinForms
