@@ -11,8 +11,11 @@ ghost use Rattle.sch_cli.specs.Messages.{Says, line_of, out_of_memory_line, usag
 
 mod command;
 mod compile;
+mod execute;
 mod message;
 mod number;
+mod run;
+mod step;
 #[cfg(test)]
 mod tests;
 mod thin;
