@@ -67,9 +67,11 @@ pub joined_split : (xs : List (Bor (List ℕ))) (i : ℕ) (d : Bor (List ℕ)) �
 unfolding flat
 joined_split xs i d lt =
     let cut : take (i + 1) xs ++ drop (i + 1) xs ≡ xs = take-append-drop (i + 1) xs in
-    let rest : List ℕ = flat (drop (i + 1) xs) in
-    (rest, joined-flat xs ∙ ap flat (sym cut) ∙ flat-append (take (i + 1) xs) (drop (i + 1) xs)
-        ∙ ap (λ t. t ++ rest) (sym (joined-flat (take (i + 1) xs)) ∙ joined_more xs i d lt) ∙ append_assoc (joined (take i xs)) (get_or xs i d).now rest)
+    let rest : List ℕ = flat (drop (i + 1) xs) in (
+      rest,
+      joined-flat xs ∙ ap flat (sym cut) ∙ flat-append (take (i + 1) xs) (drop (i + 1) xs)
+          ∙ ap (λ t. t ++ rest) (sym (joined-flat (take (i + 1) xs)) ∙ joined_more xs i d lt) ∙ append_assoc (joined (take i xs)) (get_or xs i d).now rest,
+    )
 
 pub says_whole : (line : List ℕ) (b0 b1 : Option (List ℕ)) (f0 f1 : ℕ) → Tells b0 b1 (λ before after. after ≡ before ++ line) → Says line b0 b1 f0 f1
 says_whole line b0 None f0 f1 all = tt
@@ -88,7 +90,10 @@ says_part line done piece rest None (Some b) (Some c) f0 f1 f2 e first front ros
 says_part line done piece rest (Some a) (Some b) (Some c) f0 f1 f2 e first front rose low =
     let t = taken_first piece rest front.0 in
     record {
-      prefix = (length done + t.0, front.1 ∙ ap (λ l. l ++ take front.0 piece) first ∙ append_assoc a done (take front.0 piece)
-          ∙ ap (λ l. a ++ (done ++ l)) (sym t.1) ∙ ap (λ l. a ++ l) (sym (take-append-add done (piece ++ rest) t.0)) ∙ ap (λ l. a ++ take (length done + t.0) l) (sym e));
+      prefix = (
+        length done + t.0,
+        front.1 ∙ ap (λ l. l ++ take front.0 piece) first ∙ append_assoc a done (take front.0 piece)
+            ∙ ap (λ l. a ++ (done ++ l)) (sym t.1) ∙ ap (λ l. a ++ l) (sym (take-append-add done (piece ++ rest) t.0)) ∙ ap (λ l. a ++ take (length done + t.0) l) (sym e),
+      );
       whole = λ calm. absurd (calm (omega arith));
     }

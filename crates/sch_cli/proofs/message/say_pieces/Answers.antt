@@ -1,9 +1,9 @@
-use Rattle.std.proofs.Common.{◌≡◌, ◌≤◌, ◌<◌, ◌++◌, ◌+◌, ℕ, List, [], length, get_or, take, arith, sym, subst}
+use Rattle.std.proofs.Common.{◌≡◌, ◌++◌, ℕ, List, [], get_or, take, arith, sym, subst}
 use Rattle.std.specs.Borrow.{Bor}
 use Rattle.std.proofs.lemmas.List.{take_all}
 use Rattle.sch_io.specs.Told.{Tells}
 use Rattle.sch_io.proofs.PutLemmas.{bytes_then}
-use Rattle.sch_cli.specs.Messages.{Says, joined}
+use Rattle.sch_cli.specs.Messages.{joined}
 use Rattle.sch_cli.proofs.Saying.{joined_more, joined_split, says_part, says_whole}
 use Rattle.sch_cli.proofs.message.say_pieces.Goals as goal
 
@@ -17,10 +17,11 @@ loop-piece-preserved g c =
     let b1 = g.E.Outlet.bytes c.loop-piece.err in
     let b2 = g.E.Outlet.bytes c.put_all.new.out in
     let all = c.args.pieces.now in
-    let i = c.loop-piece.piece-index in
-    (subst (λ l. Tells b0 b2 (λ before after. after ≡ before ++ l)) (sym (joined_more all i no_piece c.loop-piece-test.true))
-        (bytes_then b0 b1 b2 (joined (take i all)) (get_or all i no_piece).now c.loop-piece.invariant.0 (c.put_all.ensures.whole c.if-not-put_all.false)),
-    omega (arith, c.put_all.ensures.faults))
+    let i = c.loop-piece.piece-index in (
+      subst (λ l. Tells b0 b2 (λ before after. after ≡ before ++ l)) (sym (joined_more all i no_piece c.loop-piece-test.true))
+          (bytes_then b0 b1 b2 (joined (take i all)) (get_or all i no_piece).now c.loop-piece.invariant.0 (c.put_all.ensures.whole c.if-not-put_all.false)),
+      omega (arith, c.put_all.ensures.faults),
+    )
 
 pub returns-then-not-put_all-clause-line : goal.returns-then-not-put_all-clause-line
 returns-then-not-put_all-clause-line g c =
