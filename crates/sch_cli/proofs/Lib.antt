@@ -1,7 +1,9 @@
 pub mod Appends
 pub mod Assembling
+pub mod Executing
 pub mod Programs
 pub mod Reading
+pub mod Running
 pub mod Saying
 pub mod Smallness
 pub mod ThinRuns

@@ -28,7 +28,7 @@ abbrev pub StandAt : List Segment → ℕ → List (List ℕ) → Type 0
 StandAt segments a [] = Unit {0}
 StandAt segments a (piece ∷ pieces) = (0 < length piece) × HasBytes segments a piece × StandAt segments (a + length piece) pieces
 
-abbrev ending_after : Put → Ending → Ending
+abbrev pub ending_after : Put → Ending → Ending
 ending_after this rest = cond this.whole (record { status = rest.status; output = this.taken ++ rest.output }) (record { status = 74; output = this.taken })
 
 module _ (segments : List Segment) (p : ℕ) (has : HasAt segments p write_loop) (low : p < 2 ^ 32) where
