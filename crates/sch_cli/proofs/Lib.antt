@@ -1,5 +1,6 @@
 pub mod Appends
 pub mod Assembling
+pub mod Ending
 pub mod Executing
 pub mod Programs
 pub mod Reading

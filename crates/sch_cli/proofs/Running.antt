@@ -93,6 +93,7 @@ named_as_it_is status (inr f) other e = subst (λ n. status_after (Exited n []) 
 -- how it ends, by what a bounded run has come to
 ended : (image : Image) (pieces : List (List ℕ)) (behaves : Behaves image.entry (memory image.segments) (puts pieces)) (steps : ℕ) (answers : List Answer) (p : Progress) →
     mach steps (started image answers) ≡ p → EndsAs pieces answers (status_after p) (output_of p)
+unfolding zeros status_of_exit
 ended image pieces behaves steps answers (Runs s) is = record {
   spent = λ _. subst (λ q. IsPrefix (output_of q) (puts pieces answers).output) is (behaves.along zeros answers steps);
   status_is = λ not. absurd (not refl);

@@ -6,6 +6,7 @@ use Rattle.sch_io.specs.Counters.{Rose}
 use Rattle.sch_io.specs.Files.{Files}
 use Rattle.sch_io.specs.Told.{Tells}
 use Rattle.sch_elf.specs.declared.error.ImageError.{ImageError}
+use Rattle.sch_elf.specs.declared.error.ImageError.TheVariants.{Memory}
 use Rattle.sch_elf.specs.declared.image.Image.{Image}
 use Rattle.sch_elf.specs.Refused.{IsRefused}
 use Rattle.sch_elf.specs.Stands.{StandsFor}
@@ -27,6 +28,11 @@ Holds before after name bytes = Tells before after (λ files _. get files name �
 -- an outlet that tells has taken nothing
 abbrev pub TookNothing : Option (List ℕ) → Option (List ℕ) → Type 0
 TookNothing before after = Tells before after (λ b a. a ≡ b)
+
+-- the status for a file that stands for no image
+abbrev pub refusal_status : ImageError → ℕ
+refusal_status Memory = 10
+refusal_status error = 8
 
 -- What is seen of the disk, of the standard output and of the line that was said, before and after.
 pub record Seen : Type 0 where
@@ -71,7 +77,7 @@ pub data EndsStep (name : List ℕ) (steps status : ℕ) (seen : Seen) : Type 0 
   too_long : status ≡ 7 → Source seen.files seen.files_after name (λ file. image_limit < length file) →
       TookNothing seen.bytes seen.bytes_after → seen.line ≡ line_of 7 name name → EndsStep name steps status seen
   no_memory : status ≡ 10 → TookNothing seen.bytes seen.bytes_after → seen.line ≡ line_of 10 name name → EndsStep name steps status seen
-  refused : (file : List ℕ) (error : ImageError) → status ≡ 8 → Holds seen.files seen.files_after name file → length file ≤ image_limit →
+  refused : (file : List ℕ) (error : ImageError) → status ≡ refusal_status error → Holds seen.files seen.files_after name file → length file ≤ image_limit →
       IsRefused file error → TookNothing seen.bytes seen.bytes_after → seen.line ≡ refusal_line name error → EndsStep name steps status seen
   stepped : (file : List ℕ) (image : Image) → Holds seen.files seen.files_after name file → length file ≤ image_limit → StandsFor file image →
       Ran name image steps status seen → EndsStep name steps status seen

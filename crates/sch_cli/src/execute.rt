@@ -1,5 +1,5 @@
 // Runs an image over an outlet.
-ghost use Rattle.std.specs.Prelude.{◌≡◌, ◌≤◌, ◌==◌, [], ℕ, List, IfOk, OnErr, if◌then◌else◌};
+ghost use Rattle.std.specs.Prelude.{◌≡◌, ◌≢◌, ◌≤◌, ◌==◌, [], ℕ, List, IfOk, OnErr, if◌then◌else◌};
 ghost use Rattle.sch_cli.specs.Executes.{Executes, exit_line_at, is_named, line_at, status_at};
 ghost use Rattle.sch_cli.specs.Messages.{Says};
 
@@ -21,6 +21,7 @@ pub fn execute<O: Outlet, E: Outlet>(
     err: &mut E,
 ) -> Result<u8, Mem>
     ensures ok { IfOk result (λ status. (line : List ℕ) × Says line (E.bytes err.old) (E.bytes err.new) (E.faults err.old) (E.faults err.new) × Executes name.now image.now steps status (O.bytes out.old) (O.bytes out.new) (O.left out.old) (O.left out.new) (O.faults out.old) (O.faults out.new) line) }
+    ensures no_usage { IfOk result (λ status. status ≢ 1) }
     ensures out { OnErr result (out.new ≡ out.old) }
     ensures err { OnErr result (err.new ≡ err.old) }
 {
@@ -31,6 +32,7 @@ pub fn execute<O: Outlet, E: Outlet>(
 
 fn report<E: Outlet>(err: &mut E, name: &str, end: RunEnd) -> u8
     ensures status { result ≡ status_at end }
+    ensures no_usage { result ≢ 1 }
     ensures line { Says (line_at name.now end) (E.bytes err.old) (E.bytes err.new) (E.faults err.old) (E.faults err.new) }
 {
     match end {
@@ -48,6 +50,7 @@ fn report<E: Outlet>(err: &mut E, name: &str, end: RunEnd) -> u8
 
 fn report_exit<E: Outlet>(err: &mut E, name: &str, status: u8) -> u8
     ensures status { result ≡ (if is_named status then status else 8) }
+    ensures no_usage { result ≢ 1 }
     ensures line { Says (exit_line_at name.now status) (E.bytes err.old) (E.bytes err.new) (E.faults err.old) (E.faults err.new) }
 {
     if status == 0 {

@@ -1,13 +1,11 @@
 //! The one call that the program makes, with what it promises.
 #![tactic(auto)]
 
-ghost use Rattle.std.specs.Prelude.{◌≡◌, ◌≢◌, ◌≤◌, ◌<◌, ◌+◌, ◌^◌, ◌⊎◌, map, string_bytes, if◌then◌else◌, ◌==◌};
-ghost use Rattle.sch_io.specs.Counters.{Rose};
-ghost use Rattle.sch_io.specs.Files.{Spoils};
-ghost use Rattle.sch_io.specs.Told.{Tells};
-ghost use Rattle.sch_cli.specs.Command.{IsCommand, source_of, target_of};
-ghost use Rattle.sch_cli.specs.Compiles.{Compiled, HasStatus, IsVerdict, Source};
+ghost use Rattle.std.specs.Prelude.{◌≡◌, ◌≢◌, ◌⊎◌, List, ℕ, None, map, string_bytes, if◌then◌else◌, ◌==◌};
+ghost use Rattle.sch_cli.specs.Command.{IfCompile, IfRun, IfStep, command};
+ghost use Rattle.sch_cli.specs.Compiles.{EndsCompile};
 ghost use Rattle.sch_cli.specs.Messages.{Says, line_of, out_of_memory_line, usage_line};
+ghost use Rattle.sch_cli.specs.Steps.{EndsRun, EndsStep, ReadsOnly, seen};
 
 mod command;
 mod compile;
@@ -23,9 +21,11 @@ mod thin;
 use command::{Command, read_words};
 use compile::compile;
 use message::say;
+use run::run;
 use sch_io::{Disk, Outlet};
 use std::alloc::Global;
 use std::io::{Error, ErrorKind};
+use step::step;
 
 const USAGE: &str =
     "usage: schc VERB NAME [NAME2] [--listing F] [--heap N] [--depth N] [--steps N]";
@@ -33,9 +33,14 @@ const USAGE: &str =
 /// Does what the program does, on the words after its name, and answers its exit status.
 ///
 /// `compile NAME NAME2` reads the source NAME and writes NAME2, an executable that does what the source
-/// means: 0. The other statuses, each with its line on `err`: 1 the words are no command, 2 NAME was
-/// not read, 3 NAME2 was not written, 7 NAME is longer than 1,048,576 bytes, 10 there was no memory,
-/// 11 NAME is no text that can be compiled today.
+/// means: 0. `run NAME` compiles the source and runs its image, `step NAME` runs the image NAME, both of at
+/// most 1,000,000,000 steps or of those in `--steps N`; what the image writes goes to `out`.
+///
+/// The other statuses, each with its line on `err`: 1 the words are no command, 2 NAME was not read,
+/// 3 NAME2 was not written, 7 NAME is longer than 1,048,576 bytes (an image: 134,217,728), 8 NAME stands
+/// for no image, or its image got stuck or exited with a status of no stop, 9 the steps were spent,
+/// 10 there was no memory, 11 NAME is no text that can be compiled today, 65 to 74 the image ended with
+/// this stop.
 pub fn schc<D: Disk, O: Outlet, E: Outlet>(
     alloc: Global,
     words: &[String],
@@ -43,38 +48,28 @@ pub fn schc<D: Disk, O: Outlet, E: Outlet>(
     out: &mut O,
     err: &mut E,
 ) -> u8
-    ensures status { (result ≡ 1) ⊎ (result ≡ 2) ⊎ (result ≡ 3) ⊎ (result ≡ 10) ⊎ IsVerdict result }
-
     // 1 comes exactly where the words are no command.
-    ensures usage { result ≡ 1 → ¬ IsCommand (map string_bytes words.now) }
-    ensures command { result ≢ 1 → IsCommand (map string_bytes words.now) }
-
-    // 0, 7 and 11 are the source's own status. At 0 the target holds its program.
-    ensures verdict { IsVerdict result → Source (D.files disk.old) (D.files disk.new) (source_of (map string_bytes words.now)) (λ text. HasStatus text result) }
-    ensures compiled { result ≡ 0 → Tells (D.files disk.old) (D.files disk.new) (Compiled (source_of (map string_bytes words.now)) (target_of (map string_bytes words.now))) }
-
-    // 2 and 3 come only where the disk failed in the read or in the write.
-    ensures read_failed { result ≡ 2 → Rose (D.faults disk.old) (D.faults disk.new) }
-    ensures write_failed { result ≡ 3 → Rose (D.faults disk.old) (D.faults disk.new) }
-
-    // A refusal changes no file, and a failed write only the target.
-    ensures spoiled { result ≡ 3 → Tells (D.files disk.old) (D.files disk.new) (Spoils (target_of (map string_bytes words.now))) }
-    ensures unchanged { result ≢ 0 → result ≢ 3 → Tells (D.files disk.old) (D.files disk.new) (λ before after. after ≡ before) }
-
-    // There is no room for a call on another file.
-    ensures untouched { result ≡ 1 → disk.new ≡ disk.old }
-    ensures calls { D.calls disk.old < 2 ^ 63 → D.calls disk.new ≤ D.calls disk.old + 2 }
-    ensures calls_at_3 { D.calls disk.old < 2 ^ 63 → result ≡ 3 → D.calls disk.new ≡ D.calls disk.old + 2 }
-    ensures calls_at_refusal { D.calls disk.old < 2 ^ 63 → result ≢ 0 → result ≢ 3 → D.calls disk.new ≤ D.calls disk.old + 1 }
-
-    ensures out { out.new ≡ out.old }
+    ensures usage { result ≡ 1 → command (map string_bytes words.now) ≡ None }
+    ensures command { result ≢ 1 → command (map string_bytes words.now) ≢ None }
     ensures usage_line { result ≡ 1 → Says usage_line (E.bytes err.old) (E.bytes err.new) (E.faults err.old) (E.faults err.new) }
-    ensures line { result ≢ 1 → Says (line_of result (source_of (map string_bytes words.now)) (target_of (map string_bytes words.now))) (E.bytes err.old) (E.bytes err.new) (E.faults err.old) (E.faults err.new) }
+    ensures disk_at_1 { result ≡ 1 → disk.new ≡ disk.old }
+    ensures out_at_1 { result ≡ 1 → out.new ≡ out.old }
+
+    // Compiling ends by its causes, with the line for its status, and writes nothing on `out`.
+    ensures compile { IfCompile (command (map string_bytes words.now)) (λ source target. EndsCompile source target result (D.files disk.old) (D.files disk.new) (D.faults disk.old) (D.faults disk.new) (D.calls disk.old) (D.calls disk.new)) }
+    ensures compile_line { IfCompile (command (map string_bytes words.now)) (λ source target. Says (line_of result source target) (E.bytes err.old) (E.bytes err.new) (E.faults err.old) (E.faults err.new)) }
+    ensures compile_out { IfCompile (command (map string_bytes words.now)) (λ source target. out.new ≡ out.old) }
+
+    // A source that is run ends as it means, and an image as the machine does, with a line that says so.
+    ensures run { IfRun (command (map string_bytes words.now)) (λ source steps. ReadsOnly result (D.files disk.old) (D.files disk.new) (D.faults disk.old) (D.faults disk.new) (D.calls disk.old) (D.calls disk.new)) }
+    ensures run_ends { IfRun (command (map string_bytes words.now)) (λ source steps. (line : List ℕ) × Says line (E.bytes err.old) (E.bytes err.new) (E.faults err.old) (E.faults err.new) × EndsRun source steps result (seen (D.files disk.old) (D.files disk.new) (O.bytes out.old) (O.bytes out.new) (O.left out.old) (O.left out.new) (O.faults out.old) (O.faults out.new) line)) }
+    ensures step { IfStep (command (map string_bytes words.now)) (λ image steps. ReadsOnly result (D.files disk.old) (D.files disk.new) (D.faults disk.old) (D.faults disk.new) (D.calls disk.old) (D.calls disk.new)) }
+    ensures step_ends { IfStep (command (map string_bytes words.now)) (λ image steps. (line : List ℕ) × Says line (E.bytes err.old) (E.bytes err.new) (E.faults err.old) (E.faults err.new) × EndsStep image steps result (seen (D.files disk.old) (D.files disk.new) (O.bytes out.old) (O.bytes out.new) (O.left out.old) (O.left out.new) (O.faults out.old) (O.faults out.new) line)) }
 {
-    let _ = out;
     match read_words(words) {
         Some(Command::Compile { source, target }) => compile(alloc, source, target, disk, err),
-        Some(_) => 1,
+        Some(Command::Run { source, steps }) => run(alloc, source, steps, disk, out, err),
+        Some(Command::Step { image, steps }) => step(alloc, image, steps, disk, out, err),
         None => {
             say(err, USAGE, "\n");
             1

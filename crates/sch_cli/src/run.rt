@@ -1,5 +1,5 @@
 // The verb `run`.
-ghost use Rattle.std.specs.Prelude.{◌≡◌, ◌≤◌, ◌<◌, ◌+◌, ◌^◌, ℕ, List};
+ghost use Rattle.std.specs.Prelude.{◌≡◌, ◌≢◌, ◌≤◌, ◌<◌, ◌+◌, ◌^◌, ℕ, List};
 ghost use Rattle.sch_cli.specs.Messages.{Says};
 ghost use Rattle.sch_cli.specs.Steps.{EndsRun, ReadsOnly, seen};
 
@@ -19,6 +19,7 @@ pub fn run<D: Disk, O: Outlet, E: Outlet>(
     out: &mut O,
     err: &mut E,
 ) -> u8
+    ensures no_usage { result ≢ 1 }
     ensures reads { ReadsOnly result (D.files disk.old) (D.files disk.new) (D.faults disk.old) (D.faults disk.new) (D.calls disk.old) (D.calls disk.new) }
     ensures ends { (line : List ℕ) × Says line (E.bytes err.old) (E.bytes err.new) (E.faults err.old) (E.faults err.new) × EndsRun source.now steps result (seen (D.files disk.old) (D.files disk.new) (O.bytes out.old) (O.bytes out.new) (O.left out.old) (O.left out.new) (O.faults out.old) (O.faults out.new) line) }
 {

@@ -1,7 +1,7 @@
 // The verb `step`.
-ghost use Rattle.std.specs.Prelude.{◌≡◌, ◌≤◌, ◌<◌, ◌+◌, ◌^◌, ℕ, List};
-ghost use Rattle.sch_cli.specs.Messages.{Says};
-ghost use Rattle.sch_cli.specs.Steps.{EndsStep, ReadsOnly, seen};
+ghost use Rattle.std.specs.Prelude.{◌≡◌, ◌≢◌, ◌≤◌, ◌<◌, ◌+◌, ◌^◌, ℕ, List};
+ghost use Rattle.sch_cli.specs.Messages.{Says, refusal_line};
+ghost use Rattle.sch_cli.specs.Steps.{EndsStep, ReadsOnly, refusal_status, seen};
 
 use crate::execute::execute;
 use crate::message::{say, say_image_error};
@@ -20,6 +20,7 @@ pub fn step<D: Disk, O: Outlet, E: Outlet>(
     out: &mut O,
     err: &mut E,
 ) -> u8
+    ensures no_usage { result ≢ 1 }
     ensures reads { ReadsOnly result (D.files disk.old) (D.files disk.new) (D.faults disk.old) (D.faults disk.new) (D.calls disk.old) (D.calls disk.new) }
     ensures ends { (line : List ℕ) × Says line (E.bytes err.old) (E.bytes err.new) (E.faults err.old) (E.faults err.new) × EndsStep name.now steps result (seen (D.files disk.old) (D.files disk.new) (O.bytes out.old) (O.bytes out.new) (O.left out.old) (O.left out.new) (O.faults out.old) (O.faults out.new) line) }
 {
@@ -40,14 +41,7 @@ pub fn step<D: Disk, O: Outlet, E: Outlet>(
     };
     let image = match read_image(alloc, file.as_slice()) {
         Ok(image) => image,
-        Err(ImageError::Memory) => {
-            say(err, "", "out of memory\n");
-            return 10;
-        }
-        Err(error) => {
-            say_image_error(err, name, error);
-            return 8;
-        }
+        Err(error) => return refuse(err, name, error),
     };
     match execute(alloc, name, &image, steps, out, err) {
         Ok(status) => status,
@@ -55,5 +49,18 @@ pub fn step<D: Disk, O: Outlet, E: Outlet>(
             say(err, "", "out of memory\n");
             10
         }
+    }
+}
+
+// Says why a file stands for no image.
+fn refuse<E: Outlet>(err: &mut E, name: &str, error: ImageError) -> u8
+    ensures status { result ≡ refusal_status error }
+    ensures no_usage { result ≢ 1 }
+    ensures line { Says (refusal_line name.now error) (E.bytes err.old) (E.bytes err.new) (E.faults err.old) (E.faults err.new) }
+{
+    say_image_error(err, name, error);
+    match error {
+        ImageError::Memory => 10,
+        _ => 8,
     }
 }
