@@ -38,20 +38,19 @@ compare c m f = when_ok (load c m) (λ v. Ok (with_flags (f v).flags c))
 abbrev pub is_quotient : Bool → ℕ → Bool
 is_quotient negative q = cond negative (nat_le q (2 ^ 63)) (nat_lt q (2 ^ 63))
 
-abbrev pub dividend_magnitude : Core → ℕ
-dividend_magnitude c =
-    let d = 2 ^ 64 * c.registers 2 + c.registers 0 in
-    cond (is_negative (c.registers 2)) (2 ^ 128 - d) d
+abbrev pub dividend_magnitude : ℕ → ℕ → ℕ
+dividend_magnitude high low = cond (is_negative high) (2 ^ 128 - (2 ^ 64 * high + low)) (2 ^ 64 * high + low)
 
-abbrev pub divided : Core → ℕ → ℕ → Bool → Core
-divided c q r negative = with_flags unknown_flags (with_register 2 (signed (is_negative (c.registers 2)) r) (with_register 0 (signed negative q) c))
+abbrev pub quotient_of : ℕ → ℕ → ℕ → Result (ℕ × ℕ) StuckCause
+quotient_of high low v =
+    let q = dividend_magnitude high low / magnitude v in
+    let r = dividend_magnitude high low % magnitude v in
+    let negative = differ (is_negative high) (is_negative v) in
+    cond (v == 0) (Err Divide)
+    (cond (is_quotient negative q) (Ok (signed negative q, signed (is_negative high) r)) (Err Divide))
 
 abbrev pub divide : Core → ℕ → Result Core StuckCause
-divide c v =
-    let q = dividend_magnitude c / magnitude v in
-    let negative = differ (is_negative (c.registers 2)) (is_negative v) in
-    cond (v == 0) (Err Divide)
-    (cond (is_quotient negative q) (Ok (divided c q (dividend_magnitude c % magnitude v) negative)) (Err Divide))
+divide c v = when_ok (quotient_of (c.registers 2) (c.registers 0) v) (λ p. Ok (with_flags unknown_flags (with_register 2 p.1 (with_register 0 p.0 c))))
 
 -- SDM, CQO: rdx becomes the sign of rax in every bit.
 abbrev pub sign_word : ℕ → ℕ

@@ -1,0 +1,60 @@
+-- The kernel's rows at a state without spare words.
+use Rattle.std.proofs.Common.{◌≡◌, ℕ, zero, suc, ◌+◌, ◌<◌, List, [], ◌∷◌, ◌++◌, length, take, min, Bool, true, false, cond, Option, Some, None, refl, sym, ap, ◌∙◌, subst, arith, append-nil, ◌%◌, ◌==◌, ◌&&◌}
+use Rattle.std.proofs.lemmas.List.{take-length}
+use Rattle.sch_word.specs.declared.answer.Answer.{Answer}
+use Rattle.sch_word.specs.declared.answer.Answer.TheVariants.{Took, Failed}
+use Rattle.sch_io.specs.Answers.{AnswersNext, taken}
+use Rattle.sch_insn.specs.declared.machine.StuckCause.TheVariants.{Kernel}
+use Rattle.sch_insn.specs.Machine.{Core, with_register, unknown_flags, bytes_from}
+use Rattle.sch_insn.specs.Step.{Progress, Runs, Exited, Stuck, kernel, write_row, piece_written, answered}
+use Rattle.sch_step.specs.Kernel.{rax_of, written_core}
+use Rattle.sch_step.specs.Run.{state_of}
+
+pub exits : (c : Core) (next : ℕ) (b : List ℕ) (k : List Answer) → (c.registers 0 == 60) ≡ true → kernel (state_of c b k) next ≡ Exited (c.registers 7 % 256) b
+exits c next b k e = ap (λ t. cond t (Exited (c.registers 7 % 256) b) (cond ((c.registers 0 == 1) && (c.registers 7 == 1)) (write_row (state_of c b k) next (c.registers 2)) (Stuck (Kernel (c.registers 0)) (state_of c b k)))) e
+
+pub no_row : (c : Core) (next : ℕ) (b : List ℕ) (k : List Answer) → (c.registers 0 == 60) ≡ false → ((c.registers 0 == 1) && (c.registers 7 == 1)) ≡ false → kernel (state_of c b k) next ≡ Stuck (Kernel (c.registers 0)) (state_of c b k)
+no_row c next b k e f =
+    ap (λ t. cond t (Exited (c.registers 7 % 256) b) (cond ((c.registers 0 == 1) && (c.registers 7 == 1)) (write_row (state_of c b k) next (c.registers 2)) (Stuck (Kernel (c.registers 0)) (state_of c b k)))) e
+    ∙ ap (λ t. cond t (write_row (state_of c b k) next (c.registers 2)) (Stuck (Kernel (c.registers 0)) (state_of c b k))) f
+
+pub writes : (c : Core) (next : ℕ) (b : List ℕ) (k : List Answer) → c.registers 0 ≡ 1 → c.registers 7 ≡ 1 → kernel (state_of c b k) next ≡ write_row (state_of c b k) next (c.registers 2)
+writes c next b k e f =
+    ap (λ r. cond (r == 60) (Exited (c.registers 7 % 256) b) (cond ((r == 1) && (c.registers 7 == 1)) (write_row (state_of c b k) next (c.registers 2)) (Stuck (Kernel (c.registers 0)) (state_of c b k)))) e
+    ∙ ap (λ r. cond (r == 1) (write_row (state_of c b k) next (c.registers 2)) (Stuck (Kernel (c.registers 0)) (state_of c b k))) f
+
+pub empty : (c : Core) (next : ℕ) (b : List ℕ) (k : List Answer) → c.registers 2 ≡ 0 → write_row (state_of c b k) next (c.registers 2) ≡ Runs (state_of (written_core c next 0) b k)
+unfolding written_core
+empty c next b k e = ap (write_row (state_of c b k) next) e ∙ ap (λ b'. Runs (state_of (written_core c next 0) b' k)) (append-nil b)
+
+pub shut : (c : Core) (next n : ℕ) (b : List ℕ) (k : List Answer) → c.registers 2 ≡ n → 0 < n → bytes_from (λ g. g.readable) c.segments (c.registers 6) n ≡ None → write_row (state_of c b k) next (c.registers 2) ≡ Stuck (Kernel (c.registers 0)) (state_of c b k)
+shut c next zero b k e some f = absurd (omega (arith, some))
+shut c next (suc n) b k e some f = ap (write_row (state_of c b k) next) e ∙ ap (piece_written (state_of c b k) next (suc n)) f
+
+after : (c : Core) (next : ℕ) (b : List ℕ) (piece : List ℕ) (a : Answer) (x y : List Answer) → AnswersNext (length piece) a x y → answered (state_of c b x) next piece x ≡ state_of (written_core c next (rax_of a)) (b ++ taken a piece) y
+unfolding written_core
+after c next b piece a [] y h =
+    subst (λ z. answered (state_of c b []) next piece [] ≡ state_of (written_core c next (rax_of a)) (b ++ taken a piece) z) (sym h.1)
+    (subst (λ z. answered (state_of c b []) next piece [] ≡ state_of (written_core c next (rax_of z)) (b ++ taken z piece) []) (sym h.0)
+    (ap (λ l. state_of (written_core c next (length piece)) (b ++ l) []) (sym (take-length piece))))
+after c next b piece a (Took k ∷ rest) y h =
+    subst (λ z. answered (state_of c b (Took k ∷ rest)) next piece (Took k ∷ rest) ≡ state_of (written_core c next (rax_of a)) (b ++ taken a piece) z) (sym h.1)
+    (subst (λ z. answered (state_of c b (Took k ∷ rest)) next piece (Took k ∷ rest) ≡ state_of (written_core c next (rax_of z)) (b ++ taken z piece) rest) (sym h.0) refl)
+after c next b piece a (Failed ∷ rest) y h =
+    subst (λ z. answered (state_of c b (Failed ∷ rest)) next piece (Failed ∷ rest) ≡ state_of (written_core c next (rax_of a)) (b ++ taken a piece) z) (sym h.1)
+    (subst (λ z. answered (state_of c b (Failed ∷ rest)) next piece (Failed ∷ rest) ≡ state_of (written_core c next (rax_of z)) (b ++ taken z piece) rest) (sym h.0) refl)
+
+pub wrote : (c : Core) (next n : ℕ) (b bs : List ℕ) (a : Answer) (x y : List Answer) → c.registers 2 ≡ n → 0 < n → bytes_from (λ g. g.readable) c.segments (c.registers 6) n ≡ Some bs → AnswersNext (length (take n bs)) a x y → write_row (state_of c b x) next (c.registers 2) ≡ Runs (state_of (written_core c next (rax_of a)) (b ++ taken a (take n bs)) y)
+wrote c next zero b bs a x y e some f h = absurd (omega (arith, some))
+wrote c next (suc n) b bs a x y e some f h =
+    ap (write_row (state_of c b x) next) e
+    ∙ ap (piece_written (state_of c b x) next (suc n)) f
+    ∙ ap Runs (after c next b (take (suc n) bs) a x y h)
+
+-- The registers after a write, one after the other.
+abbrev afterwards : Core → ℕ → Core
+afterwards c next = record { registers = c.registers; flags = unknown_flags; place = next; segments = c.segments }
+
+pub written : (c c1 c2 c3 : Core) (next rax : ℕ) → c1 ≡ with_register 0 rax c → c2 ≡ with_register 1 0 c1 → c3 ≡ with_register 11 0 c2 → afterwards c3 next ≡ written_core c next rax
+unfolding written_core
+written c c1 c2 c3 next rax e1 e2 e3 = ap (λ t. afterwards t next) (e3 ∙ ap (with_register 11 0) (e2 ∙ ap (with_register 1 0) e1))

@@ -1,0 +1,99 @@
+-- What is done over an outlet, put together.
+use Rattle.std.proofs.Common.{◌≡◌, ℕ, zero, suc, ◌+◌, ◌-◌, ◌<◌, ◌≤◌, ◌^◌, List, [], ◌∷◌, ◌++◌, length, take, min, get_or, Option, Some, None, refl, sym, ap, ◌∙◌, subst, arith, append_assoc, append-nil}
+use Rattle.std.specs.Prelude.{All}
+use Rattle.sch_word.specs.declared.answer.Answer.{Answer}
+use Rattle.sch_word.specs.declared.answer.Answer.TheVariants.{Took, Failed}
+use Rattle.sch_io.specs.Told.{Tells}
+use Rattle.sch_io.specs.Counters.{Rose}
+use Rattle.sch_io.specs.Answers.{AnswersNext, IsWithin, IsRefusal, taken}
+use Rattle.sch_step.specs.Run.{Does, TakesNothing}
+
+told_still : {A : Type 0} (o : Option A) (R : A → A → Type 0) → ((a : A) → R a a) → Tells o o R
+told_still None R h = tt
+told_still (Some a) R h = h a
+
+told_weaker : {A : Type 0} (o n : Option A) (R S : A → A → Type 0) → ((a b : A) → R a b → S a b) → Tells o n R → Tells o n S
+told_weaker o None R S f h = tt
+told_weaker None (Some b) R S f h = h
+told_weaker (Some a) (Some b) R S f h = f a b h
+
+told_then : {A : Type 0} (o m n : Option A) (R S T : A → A → Type 0) → ((a b c : A) → R a b → S b c → T a c) → Tells o m R → Tells m n S → Tells o n T
+told_then o m None R S T f h k = tt
+told_then o None (Some c) R S T f h k = absurd k
+told_then None (Some b) (Some c) R S T f h k = h
+told_then (Some a) (Some b) (Some c) R S T f h k = f a b c h k
+
+-- Nothing goes out.
+pub quiet : (P : List ℕ → List Answer → List ℕ → List Answer → Type 0) (bytes : Option (List ℕ)) (left : Option (List Answer)) (faults : ℕ) → ((b : List ℕ) (k : List Answer) → P b k b k) → Does P bytes bytes left left faults faults
+quiet P bytes left faults h = record {
+  took = [];
+  given = [];
+  untold = λ b more. subst (λ b'. P b more b' more) (sym (append-nil b)) (h b more);
+  told = told_still left (λ x y. (b : List ℕ) → P b x (b ++ []) y) (λ x b. subst (λ b'. P b x b' x) (sym (append-nil b)) (h b x));
+  bytes_told = told_still bytes (λ x y. y ≡ x ++ []) (λ x. sym (append-nil x));
+  faults = omega arith;
+  refused = λ k d l. absurd (omega (arith, l));
+}
+
+first_answer : (a : Answer) (n : ℕ) (more : List Answer) → IsWithin a n → AnswersNext n a (a ∷ more) more
+first_answer (Took k) n more h = let e : k ≡ min k n = omega (arith, h) in (ap Took e, refl)
+first_answer Failed n more h = (refl, refl)
+
+refusal : (a : Answer) (n : ℕ) → 0 < n → TakesNothing a → IsRefusal a n
+refusal (Took zero) n some h = (refl, some)
+refusal (Took (suc k)) n some h = absurd h
+refusal Failed n some h = tt
+
+-- One piece goes out and is answered.
+pub loud : (P : List ℕ → List Answer → List ℕ → List Answer → Type 0) (piece : List ℕ) (a : Answer) (ob nb : Option (List ℕ)) (ol nl : Option (List Answer)) (of nf : ℕ) → 0 < length piece → ((b : List ℕ) (x y : List Answer) → AnswersNext (length piece) a x y → P b x (b ++ taken a piece) y) → IsWithin a (length piece) → Tells ob nb (λ x y. y ≡ x ++ taken a piece) → Tells ol nl (AnswersNext (length piece) a) → of ≤ nf → (IsRefusal a (length piece) → Rose of nf) → Does P ob nb ol nl of nf
+loud P piece a ob nb ol nl of nf some h within bytes left faults refused = record {
+  took = taken a piece;
+  given = a ∷ [];
+  untold = λ b more. h b (a ∷ more) more (first_answer a (length piece) more within);
+  told = told_weaker ol nl (AnswersNext (length piece) a) (λ x y. (b : List ℕ) → P b x (b ++ taken a piece) y) (λ x y n b. h b x y n) left;
+  bytes_told = bytes;
+  faults = faults;
+  refused = λ k d l. one k d l;
+}
+  where
+    one : (k : ℕ) (d : Answer) → k < 1 → TakesNothing (get_or (a ∷ []) k d) → Rose of nf
+    one zero d l t = refused (refusal a (length piece) some t)
+    one (suc k) d l t = absurd (omega (arith, l))
+
+rose_later : (a b c : ℕ) → Rose a b → b ≤ c → Rose a c
+rose_later a b c r l = omega (arith, r, l)
+
+rose_earlier : (a b c : ℕ) → a ≤ b → Rose b c → Rose a c
+rose_earlier a b c l r = omega (arith, r, l)
+
+-- One thing was done, and then another.
+pub then : (P Q R : List ℕ → List Answer → List ℕ → List Answer → Type 0) (ob mb nb : Option (List ℕ)) (ol ml nl : Option (List Answer)) (of mf nf : ℕ) → ((b : List ℕ) (k : List Answer) (b' : List ℕ) (k' : List Answer) (b'' : List ℕ) (k'' : List Answer) → P b k b' k' → Q b' k' b'' k'' → R b k b'' k'') → Does P ob mb ol ml of mf → Does Q mb nb ml nl mf nf → Does R ob nb ol nl of nf
+then P Q R ob mb nb ol ml nl of mf nf f p q = record {
+  took = p.took ++ q.took;
+  given = p.given ++ q.given;
+  untold = λ b more.
+      subst (λ k. R b k (b ++ (p.took ++ q.took)) more) (sym (append_assoc p.given q.given more))
+      (subst (λ b'. R b (p.given ++ (q.given ++ more)) b' more) (append_assoc b p.took q.took)
+      (f b (p.given ++ (q.given ++ more)) (b ++ p.took) (q.given ++ more) ((b ++ p.took) ++ q.took) more (p.untold b (q.given ++ more)) (q.untold (b ++ p.took) more)));
+  told = told_then ol ml nl (λ x y. (b : List ℕ) → P b x (b ++ p.took) y) (λ x y. (b : List ℕ) → Q b x (b ++ q.took) y) (λ x y. (b : List ℕ) → R b x (b ++ (p.took ++ q.took)) y)
+      (λ x y z g h b. subst (λ b'. R b x b' z) (append_assoc b p.took q.took) (f b x (b ++ p.took) y ((b ++ p.took) ++ q.took) z (g b) (h (b ++ p.took)))) p.told q.told;
+  bytes_told = told_then ob mb nb (λ x y. y ≡ x ++ p.took) (λ x y. y ≡ x ++ q.took) (λ x y. y ≡ x ++ (p.took ++ q.took)) (λ x y z e g. g ∙ ap (λ l. l ++ q.took) e ∙ append_assoc x p.took q.took) p.bytes_told q.bytes_told;
+  faults = let a = p.faults in let b = q.faults in omega arith;
+  refused = both p.given q.given (λ k d l t. rose_later of mf nf (p.refused k d l t) q.faults) (λ k d l t. rose_earlier of mf nf p.faults (q.refused k d l t));
+}
+  where
+    both : (xs ys : List Answer) → All (λ a. TakesNothing a → Rose of nf) xs → All (λ a. TakesNothing a → Rose of nf) ys → All (λ a. TakesNothing a → Rose of nf) (xs ++ ys)
+    both [] ys h g = g
+    both (x ∷ xs) ys h g zero d l = h zero d (omega arith)
+    both (x ∷ xs) ys h g (suc k) d l = both xs ys (λ j d m. h (suc j) d (omega (arith, m))) g k d (omega (arith, l))
+
+pub weaker : (P Q : List ℕ → List Answer → List ℕ → List Answer → Type 0) (ob nb : Option (List ℕ)) (ol nl : Option (List Answer)) (of nf : ℕ) → ((b : List ℕ) (k : List Answer) (b' : List ℕ) (k' : List Answer) → P b k b' k' → Q b k b' k') → Does P ob nb ol nl of nf → Does Q ob nb ol nl of nf
+weaker P Q ob nb ol nl of nf f p = record {
+  took = p.took;
+  given = p.given;
+  untold = λ b more. f b (p.given ++ more) (b ++ p.took) more (p.untold b more);
+  told = told_weaker ol nl (λ x y. (b : List ℕ) → P b x (b ++ p.took) y) (λ x y. (b : List ℕ) → Q b x (b ++ p.took) y) (λ x y g b. f b x (b ++ p.took) y (g b)) p.told;
+  bytes_told = p.bytes_told;
+  faults = p.faults;
+  refused = p.refused;
+}

@@ -1,0 +1,4 @@
+pub mod Layout
+pub mod View
+pub mod Kernel
+pub mod Run

@@ -1,0 +1,30 @@
+-- A processor of the program as a core of the definitions.
+use Rattle.std.specs.Prelude.{ℕ, Bool, Option, Some, None, Result, Ok, Err}
+use Rattle.sch_insn.specs.declared.machine.Flags.{Flags}
+use Rattle.sch_insn.specs.declared.machine.StuckCause.{StuckCause}
+use Rattle.sch_insn.specs.Machine.{Core, registers_of, with_place, unknown_flags, sum_of, difference_of, bits_of, product_of}
+use Rattle.sch_step.specs.declared.flags.LastFlags.{LastFlags}
+use Rattle.sch_step.specs.declared.flags.LastFlags.TheVariants.{Unknown, Sum, Difference, Bits, Product}
+use Rattle.sch_step.specs.declared.processor.Processor.{Processor}
+use Rattle.sch_step.specs.Layout.{segments_of}
+
+-- The flags that an operation has left, from its operands or its result.
+abbrev pub flags_of : LastFlags → Flags
+flags_of Unknown = unknown_flags
+flags_of (Sum a b) = (sum_of a b).flags
+flags_of (Difference a b) = (difference_of a b).flags
+flags_of (Bits r) = (bits_of r).flags
+flags_of (Product a b) = (product_of a b).flags
+
+abbrev pub core_of : Processor → Core
+core_of m = record { registers = registers_of m.regs; flags = flags_of m.flags; place = m.at; segments = segments_of m.segments }
+
+-- The core after a row that says where it goes on, or why it is stuck.
+abbrev pub gone_on : Result ℕ StuckCause → Core → Result Core StuckCause
+gone_on (Ok place) c = Ok (with_place place c)
+gone_on (Err cause) c = Err cause
+
+-- The core after a change that was made, or why it was not.
+abbrev pub changed : Result Unit StuckCause → Core → Result Core StuckCause
+changed (Ok done) c = Ok c
+changed (Err cause) c = Err cause

@@ -1,0 +1,24 @@
+use sch_insn::StuckCause;
+
+/// Where a machine is stuck, and why.
+#[derive(Clone, Copy, Debug, PartialEq, Eq)]
+pub struct Stuck {
+    pub at: u64,
+    pub cause: StuckCause,
+}
+
+/// How a step ended.
+#[derive(Clone, Copy, Debug, PartialEq, Eq)]
+pub enum StepEnd {
+    Ran,
+    Exited(u8),
+    Stuck(Stuck),
+}
+
+/// How a run ended.
+#[derive(Clone, Copy, Debug, PartialEq, Eq)]
+pub enum RunEnd {
+    Exited(u8),
+    Spent,
+    Stuck(Stuck),
+}

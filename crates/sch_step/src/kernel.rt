@@ -1,0 +1,124 @@
+ghost use Rattle.std.specs.Prelude.{◌≡◌, ◌+◌, ◌<◌, ◌≤◌, ◌^◌, ℕ, List, length, take, option_map, IfSome};
+ghost use Rattle.sch_insn.specs.Spelling.{IsValid};
+ghost use Rattle.sch_insn.specs.Machine.{bytes_from, with_place};
+ghost use Rattle.sch_insn.specs.Step.{act as act_of, moved};
+ghost use Rattle.sch_word.specs.declared.answer.Answer.{Answer};
+ghost use Rattle.sch_step.specs.Kernel.{written_core, rax_of as rax_of_answer};
+ghost use Rattle.sch_step.specs.declared.ends.StepEnd.TheVariants as step_end;
+
+use crate::ends::{StepEnd, Stuck};
+use crate::flags::LastFlags;
+use crate::processor::Processor;
+use sch_insn::{Insn, StuckCause};
+use sch_io::Outlet;
+use sch_word::Answer;
+
+impl Processor {
+    ghost use Rattle.sch_step.specs.View.{core_of};
+    ghost use Rattle.sch_step.specs.Run.{state_of, reached, Does, KernelTo, PerformsTo, StepsTo};
+
+    /// After a write: rax has the answer, rcx and r11 have no spare words, and no flag is known.
+    fn after_write(&mut self, next: u64, rax: u64)
+        ensures { core_of self.new ≡ written_core (core_of self.old) next rax }
+    {
+        self.set_reg(0, rax);
+        self.set_reg(1, 0);
+        self.set_reg(11, 0);
+        self.flags = LastFlags::Unknown;
+        self.at = next;
+    }
+
+    fn stuck(&self, cause: StuckCause) -> StepEnd
+        ensures { result ≡ step_end.Stuck (record { at = (core_of self.now).place; cause = cause }) }
+    {
+        StepEnd::Stuck(Stuck { at: self.at, cause })
+    }
+
+    /// The bytes of a write that the machine asks for, where they may be read.
+    fn piece(&self) -> Option<&[u8]>
+        requires some { 0 < (core_of self.now).registers 2 }
+        ensures found { option_map (λ piece. piece.now) result ≡ option_map (take ((core_of self.now).registers 2)) (bytes_from (λ g. g.readable) (core_of self.now).segments ((core_of self.now).registers 6) ((core_of self.now).registers 2)) }
+        ensures size { IfSome result (λ piece. length piece.now ≡ (core_of self.now).registers 2) }
+    {
+        let n = self.reg(2);
+        let bytes = self.bytes_from(self.reg(6), n)?;
+        Some(&bytes[..n as usize])
+    }
+
+    /// A write to standard output of so many bytes, more than none.
+    fn write<O: Outlet>(&mut self, out: &mut O, next: u64) -> StepEnd
+        requires call { (core_of self.old).registers 0 ≡ 1 }
+        requires output { (core_of self.old).registers 7 ≡ 1 }
+        requires some { 0 < (core_of self.old).registers 2 }
+        ensures { Does (KernelTo next result (core_of self.old) (core_of self.new)) (O.bytes out.old) (O.bytes out.new) (O.left out.old) (O.left out.new) (O.faults out.old) (O.faults out.new) }
+    {
+        let answer = match self.piece() {
+            Some(piece) => out.write(piece),
+            None => return self.stuck(StuckCause::Kernel(self.reg(0))),
+        };
+        self.after_write(next, rax_of(answer));
+        StepEnd::Ran
+    }
+
+    /// The kernel's rows.
+    fn kernel<O: Outlet>(&mut self, out: &mut O, next: u64) -> StepEnd
+        ensures { Does (KernelTo next result (core_of self.old) (core_of self.new)) (O.bytes out.old) (O.bytes out.new) (O.left out.old) (O.left out.new) (O.faults out.old) (O.faults out.new) }
+    {
+        if self.reg(0) == 60 {
+            return StepEnd::Exited((self.reg(7) % 256) as u8);
+        }
+        if self.reg(0) != 1 || self.reg(7) != 1 {
+            return self.stuck(StuckCause::Kernel(self.reg(0)));
+        }
+        if self.reg(2) == 0 {
+            self.after_write(next, 0);
+            return StepEnd::Ran;
+        }
+        self.write(out, next)
+    }
+
+    /// An instruction that is no call of the kernel.
+    fn go(&mut self, insn: &Insn, next: u64) -> StepEnd
+        requires valid { IsValid insn.now }
+        ensures { (bytes : List ℕ) (answers : List Answer) → moved (state_of (core_of self.old) bytes answers) (act_of insn.now (with_place next (core_of self.old))) ≡ reached result (core_of self.new) bytes answers }
+    {
+        match self.act(insn, next) {
+            Ok(place) => {
+                self.at = place;
+                StepEnd::Ran
+            }
+            Err(cause) => self.stuck(cause),
+        }
+    }
+
+    fn perform<O: Outlet>(&mut self, insn: &Insn, size: usize, out: &mut O) -> StepEnd
+        requires valid { IsValid insn.now }
+        requires low { (core_of self.old).place + size ≤ 2 ^ 47 }
+        ensures { Does (PerformsTo insn.now ((core_of self.old).place + size) result (core_of self.old) (core_of self.new)) (O.bytes out.old) (O.bytes out.new) (O.left out.old) (O.left out.new) (O.faults out.old) (O.faults out.new) }
+    {
+        let next = self.at + size as u64;
+        match insn {
+            Insn::Syscall => self.kernel(out, next),
+            _ => self.go(insn, next),
+        }
+    }
+
+    /// One step.
+    pub(crate) fn step<O: Outlet>(&mut self, out: &mut O) -> StepEnd
+        ensures { Does (StepsTo result (core_of self.old) (core_of self.new)) (O.bytes out.old) (O.bytes out.new) (O.left out.old) (O.left out.new) (O.faults out.old) (O.faults out.new) }
+    {
+        match self.fetch() {
+            Some((insn, size)) => self.perform(&insn, size, out),
+            None => self.stuck(StuckCause::Fetch),
+        }
+    }
+}
+
+fn rax_of(answer: Answer) -> u64
+    ensures { result ≡ rax_of_answer answer }
+{
+    match answer {
+        Answer::Took(k) => k as u64,
+        Answer::Failed => 0xFFFF_FFFF_FFFF_FFFB,
+    }
+}

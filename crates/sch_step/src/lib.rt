@@ -1,0 +1,12 @@
+//! A machine that steps: the table of instructions, run.
+#![tactic(auto)]
+
+mod division;
+mod ends;
+mod flags;
+mod kernel;
+mod processor;
+mod rows;
+mod segment;
+
+pub use ends::{RunEnd, StepEnd, Stuck};

@@ -1,0 +1,402 @@
+ghost use Rattle.std.specs.Prelude.{◌≡◌, ◌+◌, ◌*◌, ◌/◌, ◌%◌, ◌<◌, ◌≤◌, ◌^◌, ◌∷◌, [], OnErr, Ok, bit_and, bit_or, bit_xor};
+ghost use Rattle.sch_insn.specs.Spelling.{IsArg, IsValid};
+ghost use Rattle.sch_insn.specs.Machine.{when_ok, with_register, with_flags, with_place, byte_at, write_bytes, address_of, load as load_of, store as store_of, sum_of, difference_of, bits_of, product_of, shifted, shift_right_signed as shift_right_signed_of, condition as condition_of};
+ghost use Rattle.sch_insn.specs.Step.{act as act_of, change, gather, compare, divide, sign_word, jump_if};
+
+use crate::division::divided;
+use crate::flags::{LastFlags, is_negative};
+use crate::processor::{Processor, word_of};
+use sch_insn::{Arg, Insn, StuckCause};
+
+/// One row for each form: the call that does it.
+macro_rules! rows {
+    ($insn:expr, $this:ident, $next:ident; {
+        $($form:pat => $call:ident($($arg:expr),*);)*
+    } {
+        $($jump:pat => $answer:expr;)*
+    }) => {
+        match $insn {
+            $($form => $this.$call($($arg,)* $next),)*
+            $($jump => $answer,)*
+        }
+    };
+}
+
+impl Processor {
+    ghost use Rattle.sch_step.specs.View.{core_of, gone_on, flags_of};
+
+    /// What an instruction does, and the place where it goes on, where the next instruction has the
+    /// address `next`. A call of the kernel is not done here.
+    pub(crate) fn act(&mut self, insn: &Insn, next: u64) -> Result<u64, StuckCause>
+        requires valid { IsValid insn.now }
+        ensures value { gone_on result (core_of self.new) ≡ act_of insn.now (with_place next (core_of self.old)) }
+        ensures same { OnErr result (core_of self.new ≡ core_of self.old) }
+    {
+        rows! { insn, self, next; {
+            Insn::MovTo(m, r) => mov_to(m, self.reg(*r));
+            Insn::MovFrom(r, m) => mov_from(*r, m);
+            Insn::MovNumber(m, n) => mov_to(m, word_of(*n));
+            Insn::MovWord(r, n) => set(*r, n.cast_unsigned());
+            Insn::StoreByte(m, r) => store_byte(m, *r);
+            Insn::LoadByte(r, m) => load_byte(*r, m);
+            Insn::Lea(r, m) => set(*r, self.address(m, next));
+            Insn::AddTo(m, r) => add_to(m, self.reg(*r));
+            Insn::OrTo(m, r) => or_to(m, self.reg(*r));
+            Insn::AndTo(m, r) => and_to(m, self.reg(*r));
+            Insn::SubTo(m, r) => sub_to(m, self.reg(*r));
+            Insn::XorTo(m, r) => xor_to(m, self.reg(*r));
+            Insn::CmpTo(m, r) => cmp_to(m, self.reg(*r));
+            Insn::AddFrom(r, m) => add_from(*r, m);
+            Insn::OrFrom(r, m) => or_from(*r, m);
+            Insn::AndFrom(r, m) => and_from(*r, m);
+            Insn::SubFrom(r, m) => sub_from(*r, m);
+            Insn::XorFrom(r, m) => xor_from(*r, m);
+            Insn::CmpFrom(r, m) => cmp_from(self.reg(*r), m);
+            Insn::AddNumber(m, n) => add_to(m, word_of(*n));
+            Insn::OrNumber(m, n) => or_to(m, word_of(*n));
+            Insn::AndNumber(m, n) => and_to(m, word_of(*n));
+            Insn::SubNumber(m, n) => sub_to(m, word_of(*n));
+            Insn::XorNumber(m, n) => xor_to(m, word_of(*n));
+            Insn::CmpNumber(m, n) => cmp_to(m, word_of(*n));
+            Insn::TestTo(m, r) => test_to(m, self.reg(*r));
+            Insn::Imul(r, m) => imul(*r, m);
+            Insn::Neg(m) => neg(m);
+            Insn::Idiv(m) => idiv(m);
+            Insn::Cqo => cqo();
+            Insn::Shl(m, k) => shl(m, *k);
+            Insn::Shr(m, k) => shr(m, *k);
+            Insn::Sar(m, k) => sar(m, *k);
+            Insn::JumpIf(c, d) => jump_if(*c, *d);
+        } {
+            Insn::Jump(d) => Ok(next.wrapping_add(word_of(*d)));
+            Insn::JumpTo(m) => self.load(m, next);
+            Insn::Syscall => Err(StuckCause::Kernel(self.reg(0)));
+        } }
+    }
+
+    /// `mov` into an operand.
+    fn mov_to(&mut self, m: &Arg, value: u64, next: u64) -> Result<u64, StuckCause>
+        requires arg { IsArg m.now }
+        ensures value { gone_on result (core_of self.new) ≡ store_of (with_place next (core_of self.old)) m.now value }
+        ensures same { OnErr result (core_of self.new ≡ core_of self.old) }
+    {
+        self.store(m, value, next)?;
+        Ok(next)
+    }
+
+    /// `mov` from an operand.
+    fn mov_from(&mut self, r: u8, m: &Arg, next: u64) -> Result<u64, StuckCause>
+        requires arg { IsArg m.now }
+        requires reg { r < 16 }
+        ensures value { gone_on result (core_of self.new) ≡ when_ok (load_of (with_place next (core_of self.old)) m.now) (λ v. Ok (with_register r v (with_place next (core_of self.old)))) }
+        ensures same { OnErr result (core_of self.new ≡ core_of self.old) }
+    {
+        let value = self.load(m, next)?;
+        self.set_reg(r, value);
+        Ok(next)
+    }
+
+    /// A register becomes a word.
+    fn set(&mut self, r: u8, value: u64, next: u64) -> Result<u64, StuckCause>
+        requires reg { r < 16 }
+        ensures value { gone_on result (core_of self.new) ≡ Ok (with_register r value (with_place next (core_of self.old))) }
+        ensures same { OnErr result (core_of self.new ≡ core_of self.old) }
+    {
+        self.set_reg(r, value);
+        Ok(next)
+    }
+
+    /// `movb` into memory.
+    fn store_byte(&mut self, m: &Arg, r: u8, next: u64) -> Result<u64, StuckCause>
+        requires arg { IsArg m.now }
+        requires reg { r < 16 }
+        ensures value { gone_on result (core_of self.new) ≡ write_bytes (with_place next (core_of self.old)) (address_of (with_place next (core_of self.old)) m.now) ((core_of self.old).registers r % 256 ∷ []) }
+        ensures same { OnErr result (core_of self.new ≡ core_of self.old) }
+    {
+        let address = self.address(m, next);
+        let value = (self.reg(r) % 256) as u8;
+        self.set_byte(address, value)?;
+        Ok(next)
+    }
+
+    /// `movzx` from memory.
+    fn load_byte(&mut self, r: u8, m: &Arg, next: u64) -> Result<u64, StuckCause>
+        requires arg { IsArg m.now }
+        requires reg { r < 16 }
+        ensures value { gone_on result (core_of self.new) ≡ when_ok (byte_at (core_of self.old).segments (address_of (with_place next (core_of self.old)) m.now)) (λ v. Ok (with_register r v (with_place next (core_of self.old)))) }
+        ensures same { OnErr result (core_of self.new ≡ core_of self.old) }
+    {
+        let value = self.byte(self.address(m, next))?;
+        self.set_reg(r, value);
+        Ok(next)
+    }
+
+    /// Puts a result into an operand, and sets the flags.
+    fn put_back(&mut self, m: &Arg, value: u64, flags: LastFlags, next: u64) -> Result<u64, StuckCause>
+        requires arg { IsArg m.now }
+        ensures value { gone_on result (core_of self.new) ≡ when_ok (store_of (with_place next (core_of self.old)) m.now value) (λ d. Ok (with_flags (flags_of flags) d)) }
+        ensures same { OnErr result (core_of self.new ≡ core_of self.old) }
+    {
+        self.store(m, value, next)?;
+        self.set_flags(flags);
+        Ok(next)
+    }
+
+    /// Puts a result into a register, and sets the flags.
+    fn put_in(&mut self, r: u8, value: u64, flags: LastFlags, next: u64) -> Result<u64, StuckCause>
+        requires reg { r < 16 }
+        ensures value { gone_on result (core_of self.new) ≡ Ok (with_flags (flags_of flags) (with_register r value (with_place next (core_of self.old)))) }
+        ensures same { OnErr result (core_of self.new ≡ core_of self.old) }
+    {
+        self.set_reg(r, value);
+        self.set_flags(flags);
+        Ok(next)
+    }
+
+    /// `add` of a word to an operand.
+    fn add_to(&mut self, m: &Arg, b: u64, next: u64) -> Result<u64, StuckCause>
+        requires arg { IsArg m.now }
+        ensures value { gone_on result (core_of self.new) ≡ change (with_place next (core_of self.old)) m.now (λ v. sum_of v b) }
+        ensures same { OnErr result (core_of self.new ≡ core_of self.old) }
+    {
+        let a = self.load(m, next)?;
+        self.put_back(m, a.wrapping_add(b), LastFlags::Sum(a, b), next)
+    }
+
+    /// `sub` of a word to an operand.
+    fn sub_to(&mut self, m: &Arg, b: u64, next: u64) -> Result<u64, StuckCause>
+        requires arg { IsArg m.now }
+        ensures value { gone_on result (core_of self.new) ≡ change (with_place next (core_of self.old)) m.now (λ v. difference_of v b) }
+        ensures same { OnErr result (core_of self.new ≡ core_of self.old) }
+    {
+        let a = self.load(m, next)?;
+        self.put_back(m, a.wrapping_sub(b), LastFlags::Difference(a, b), next)
+    }
+
+    /// `or` of a word to an operand.
+    fn or_to(&mut self, m: &Arg, b: u64, next: u64) -> Result<u64, StuckCause>
+        requires arg { IsArg m.now }
+        ensures value { gone_on result (core_of self.new) ≡ change (with_place next (core_of self.old)) m.now (λ v. bits_of (bit_or v b)) }
+        ensures same { OnErr result (core_of self.new ≡ core_of self.old) }
+    {
+        let a = self.load(m, next)?;
+        self.put_back(m, a | b, LastFlags::Bits(a | b), next)
+    }
+
+    /// `and` of a word to an operand.
+    fn and_to(&mut self, m: &Arg, b: u64, next: u64) -> Result<u64, StuckCause>
+        requires arg { IsArg m.now }
+        ensures value { gone_on result (core_of self.new) ≡ change (with_place next (core_of self.old)) m.now (λ v. bits_of (bit_and v b)) }
+        ensures same { OnErr result (core_of self.new ≡ core_of self.old) }
+    {
+        let a = self.load(m, next)?;
+        self.put_back(m, a & b, LastFlags::Bits(a & b), next)
+    }
+
+    /// `xor` of a word to an operand.
+    fn xor_to(&mut self, m: &Arg, b: u64, next: u64) -> Result<u64, StuckCause>
+        requires arg { IsArg m.now }
+        ensures value { gone_on result (core_of self.new) ≡ change (with_place next (core_of self.old)) m.now (λ v. bits_of (bit_xor v b)) }
+        ensures same { OnErr result (core_of self.new ≡ core_of self.old) }
+    {
+        let a = self.load(m, next)?;
+        self.put_back(m, a ^ b, LastFlags::Bits(a ^ b), next)
+    }
+
+    /// `add` of an operand to a register.
+    fn add_from(&mut self, r: u8, m: &Arg, next: u64) -> Result<u64, StuckCause>
+        requires arg { IsArg m.now }
+        requires reg { r < 16 }
+        ensures value { gone_on result (core_of self.new) ≡ gather (with_place next (core_of self.old)) r m.now (λ v. sum_of ((core_of self.old).registers r) v) }
+        ensures same { OnErr result (core_of self.new ≡ core_of self.old) }
+    {
+        let a = self.reg(r);
+        let b = self.load(m, next)?;
+        self.put_in(r, a.wrapping_add(b), LastFlags::Sum(a, b), next)
+    }
+
+    /// `sub` of an operand to a register.
+    fn sub_from(&mut self, r: u8, m: &Arg, next: u64) -> Result<u64, StuckCause>
+        requires arg { IsArg m.now }
+        requires reg { r < 16 }
+        ensures value { gone_on result (core_of self.new) ≡ gather (with_place next (core_of self.old)) r m.now (λ v. difference_of ((core_of self.old).registers r) v) }
+        ensures same { OnErr result (core_of self.new ≡ core_of self.old) }
+    {
+        let a = self.reg(r);
+        let b = self.load(m, next)?;
+        self.put_in(r, a.wrapping_sub(b), LastFlags::Difference(a, b), next)
+    }
+
+    /// `or` of an operand to a register.
+    fn or_from(&mut self, r: u8, m: &Arg, next: u64) -> Result<u64, StuckCause>
+        requires arg { IsArg m.now }
+        requires reg { r < 16 }
+        ensures value { gone_on result (core_of self.new) ≡ gather (with_place next (core_of self.old)) r m.now (λ v. bits_of (bit_or ((core_of self.old).registers r) v)) }
+        ensures same { OnErr result (core_of self.new ≡ core_of self.old) }
+    {
+        let a = self.reg(r);
+        let b = self.load(m, next)?;
+        self.put_in(r, a | b, LastFlags::Bits(a | b), next)
+    }
+
+    /// `and` of an operand to a register.
+    fn and_from(&mut self, r: u8, m: &Arg, next: u64) -> Result<u64, StuckCause>
+        requires arg { IsArg m.now }
+        requires reg { r < 16 }
+        ensures value { gone_on result (core_of self.new) ≡ gather (with_place next (core_of self.old)) r m.now (λ v. bits_of (bit_and ((core_of self.old).registers r) v)) }
+        ensures same { OnErr result (core_of self.new ≡ core_of self.old) }
+    {
+        let a = self.reg(r);
+        let b = self.load(m, next)?;
+        self.put_in(r, a & b, LastFlags::Bits(a & b), next)
+    }
+
+    /// `xor` of an operand to a register.
+    fn xor_from(&mut self, r: u8, m: &Arg, next: u64) -> Result<u64, StuckCause>
+        requires arg { IsArg m.now }
+        requires reg { r < 16 }
+        ensures value { gone_on result (core_of self.new) ≡ gather (with_place next (core_of self.old)) r m.now (λ v. bits_of (bit_xor ((core_of self.old).registers r) v)) }
+        ensures same { OnErr result (core_of self.new ≡ core_of self.old) }
+    {
+        let a = self.reg(r);
+        let b = self.load(m, next)?;
+        self.put_in(r, a ^ b, LastFlags::Bits(a ^ b), next)
+    }
+
+    /// `imul` of an operand to a register.
+    fn imul(&mut self, r: u8, m: &Arg, next: u64) -> Result<u64, StuckCause>
+        requires arg { IsArg m.now }
+        requires reg { r < 16 }
+        ensures value { gone_on result (core_of self.new) ≡ gather (with_place next (core_of self.old)) r m.now (λ v. product_of ((core_of self.old).registers r) v) }
+        ensures same { OnErr result (core_of self.new ≡ core_of self.old) }
+    {
+        let a = self.reg(r);
+        let b = self.load(m, next)?;
+        self.put_in(r, a.wrapping_mul(b), LastFlags::Product(a, b), next)
+    }
+
+    /// `cmp` of an operand with a word.
+    fn cmp_to(&mut self, m: &Arg, b: u64, next: u64) -> Result<u64, StuckCause>
+        requires arg { IsArg m.now }
+        ensures value { gone_on result (core_of self.new) ≡ compare (with_place next (core_of self.old)) m.now (λ v. difference_of v b) }
+        ensures same { OnErr result (core_of self.new ≡ core_of self.old) }
+    {
+        let a = self.load(m, next)?;
+        self.set_flags(LastFlags::Difference(a, b));
+        Ok(next)
+    }
+
+    /// `cmp` of a word with an operand.
+    fn cmp_from(&mut self, a: u64, m: &Arg, next: u64) -> Result<u64, StuckCause>
+        requires arg { IsArg m.now }
+        ensures value { gone_on result (core_of self.new) ≡ compare (with_place next (core_of self.old)) m.now (λ v. difference_of a v) }
+        ensures same { OnErr result (core_of self.new ≡ core_of self.old) }
+    {
+        let b = self.load(m, next)?;
+        self.set_flags(LastFlags::Difference(a, b));
+        Ok(next)
+    }
+
+    /// `test` of an operand with a word.
+    fn test_to(&mut self, m: &Arg, b: u64, next: u64) -> Result<u64, StuckCause>
+        requires arg { IsArg m.now }
+        ensures value { gone_on result (core_of self.new) ≡ compare (with_place next (core_of self.old)) m.now (λ v. bits_of (bit_and v b)) }
+        ensures same { OnErr result (core_of self.new ≡ core_of self.old) }
+    {
+        let a = self.load(m, next)?;
+        self.set_flags(LastFlags::Bits(a & b));
+        Ok(next)
+    }
+
+    /// `neg` of an operand.
+    fn neg(&mut self, m: &Arg, next: u64) -> Result<u64, StuckCause>
+        requires arg { IsArg m.now }
+        ensures value { gone_on result (core_of self.new) ≡ change (with_place next (core_of self.old)) m.now (λ v. difference_of 0 v) }
+        ensures same { OnErr result (core_of self.new ≡ core_of self.old) }
+    {
+        let a = self.load(m, next)?;
+        let zero: u64 = 0;
+        self.put_back(m, zero.wrapping_sub(a), LastFlags::Difference(0, a), next)
+    }
+
+    /// `shl` of an operand.
+    fn shl(&mut self, m: &Arg, k: u8, next: u64) -> Result<u64, StuckCause>
+        requires arg { IsArg m.now }
+        requires count { k < 64 }
+        ensures value { gone_on result (core_of self.new) ≡ change (with_place next (core_of self.old)) m.now (λ v. shifted (v * 2 ^ k % 2 ^ 64)) }
+        ensures same { OnErr result (core_of self.new ≡ core_of self.old) }
+    {
+        let a = self.load(m, next)?;
+        self.put_back(m, a << k, LastFlags::Unknown, next)
+    }
+
+    /// `shr` of an operand.
+    fn shr(&mut self, m: &Arg, k: u8, next: u64) -> Result<u64, StuckCause>
+        requires arg { IsArg m.now }
+        requires count { k < 64 }
+        ensures value { gone_on result (core_of self.new) ≡ change (with_place next (core_of self.old)) m.now (λ v. shifted (v / 2 ^ k)) }
+        ensures same { OnErr result (core_of self.new ≡ core_of self.old) }
+    {
+        let a = self.load(m, next)?;
+        self.put_back(m, a >> k, LastFlags::Unknown, next)
+    }
+
+    /// `sar` of an operand.
+    fn sar(&mut self, m: &Arg, k: u8, next: u64) -> Result<u64, StuckCause>
+        requires arg { IsArg m.now }
+        requires count { k < 64 }
+        ensures value { gone_on result (core_of self.new) ≡ change (with_place next (core_of self.old)) m.now (λ v. shifted (shift_right_signed_of v k)) }
+        ensures same { OnErr result (core_of self.new ≡ core_of self.old) }
+    {
+        let a = self.load(m, next)?;
+        self.put_back(m, shift_right_signed(a, k), LastFlags::Unknown, next)
+    }
+
+    /// `cqo`.
+    fn cqo(&mut self, next: u64) -> Result<u64, StuckCause>
+        ensures value { gone_on result (core_of self.new) ≡ Ok (with_register 2 (sign_word ((core_of self.old).registers 0)) (with_place next (core_of self.old))) }
+        ensures same { OnErr result (core_of self.new ≡ core_of self.old) }
+    {
+        let value = if is_negative(self.reg(0)) { u64::MAX } else { 0 };
+        self.set_reg(2, value);
+        Ok(next)
+    }
+
+    /// `idiv` by an operand.
+    fn idiv(&mut self, m: &Arg, next: u64) -> Result<u64, StuckCause>
+        requires arg { IsArg m.now }
+        ensures value { gone_on result (core_of self.new) ≡ when_ok (load_of (with_place next (core_of self.old)) m.now) (divide (with_place next (core_of self.old))) }
+        ensures same { OnErr result (core_of self.new ≡ core_of self.old) }
+    {
+        let v = self.load(m, next)?;
+        let (quotient, remainder) = divided(self.reg(2), self.reg(0), v)?;
+        self.set_reg(0, quotient);
+        self.set_reg(2, remainder);
+        self.set_flags(LastFlags::Unknown);
+        Ok(next)
+    }
+
+    /// A jump where a condition holds.
+    fn jump_if(&mut self, c: u8, d: i32, next: u64) -> Result<u64, StuckCause>
+        ensures value { gone_on result (core_of self.new) ≡ jump_if (with_place next (core_of self.old)) d (condition_of (core_of self.old).flags c) }
+        ensures same { OnErr result (core_of self.new ≡ core_of self.old) }
+    {
+        match self.flags.condition(c) {
+            None => Err(StuckCause::Flag),
+            Some(true) => Ok(next.wrapping_add(word_of(d))),
+            Some(false) => Ok(next),
+        }
+    }
+}
+
+/// A word shifted right, the sign shifted in.
+fn shift_right_signed(a: u64, k: u8) -> u64
+    requires { k < 64 }
+    ensures { result ≡ shift_right_signed_of a k }
+{
+    if is_negative(a) {
+        u64::MAX - ((u64::MAX - a) >> k)
+    } else {
+        a >> k
+    }
+}
