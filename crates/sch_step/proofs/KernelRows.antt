@@ -1,6 +1,6 @@
 -- The kernel's rows at a state without spare words.
-use Rattle.std.proofs.Common.{◌≡◌, ℕ, zero, suc, ◌+◌, ◌<◌, List, [], ◌∷◌, ◌++◌, length, take, min, Bool, true, false, cond, Option, Some, None, refl, sym, ap, ◌∙◌, subst, arith, append-nil, ◌%◌, ◌==◌, ◌&&◌}
-use Rattle.std.proofs.lemmas.List.{take-length}
+use Rattle.std.proofs.Common.{◌≡◌, ◌≢◌, ℕ, zero, suc, ◌+◌, ◌<◌, List, [], ◌∷◌, ◌++◌, length, take, min, Bool, true, false, cond, Option, Some, None, refl, sym, ap, ◌∙◌, subst, arith, append-nil, ◌%◌, ◌==◌, ◌&&◌}
+use Rattle.std.proofs.lemmas.Bool.Decides.{nat_tests}
 use Rattle.sch_word.specs.declared.answer.Answer.{Answer}
 use Rattle.sch_word.specs.declared.answer.Answer.TheVariants.{Took, Failed}
 use Rattle.sch_io.specs.Answers.{AnswersNext, taken}
@@ -10,18 +10,33 @@ use Rattle.sch_insn.specs.Step.{Progress, Runs, Exited, Stuck, kernel, write_row
 use Rattle.sch_step.specs.Kernel.{rax_of, written_core}
 use Rattle.sch_step.specs.Run.{state_of}
 
-pub exits : (c : Core) (next : ℕ) (b : List ℕ) (k : List Answer) → (c.registers 0 == 60) ≡ true → kernel (state_of c b k) next ≡ Exited (c.registers 7 % 256) b
-exits c next b k e = ap (λ t. cond t (Exited (c.registers 7 % 256) b) (cond ((c.registers 0 == 1) && (c.registers 7 == 1)) (write_row (state_of c b k) next (c.registers 2)) (Stuck (Kernel (c.registers 0)) (state_of c b k)))) e
+abbrev by_call : Core → ℕ → List ℕ → List Answer → ℕ → Progress
+by_call c next b k rax = cond (rax == 60) (Exited (c.registers 7 % 256) b) (cond ((rax == 1) && (c.registers 7 == 1)) (write_row (state_of c b k) next (c.registers 2)) (Stuck (Kernel (c.registers 0)) (state_of c b k)))
 
-pub no_row : (c : Core) (next : ℕ) (b : List ℕ) (k : List Answer) → (c.registers 0 == 60) ≡ false → ((c.registers 0 == 1) && (c.registers 7 == 1)) ≡ false → kernel (state_of c b k) next ≡ Stuck (Kernel (c.registers 0)) (state_of c b k)
+is_eq : (n m : ℕ) → (n == m) ≡ true → n ≡ m
+is_eq n m h = grind (arith, nat_tests)
+
+not_eq : (n m : ℕ) → n ≢ m → (n == m) ≡ false
+not_eq n m h = grind (arith, nat_tests)
+
+first_true : (s t : Bool) → (s && t) ≡ true → s ≡ true
+first_true true t e = refl
+first_true false t e = absurd cc
+
+pub exits : (c : Core) (next : ℕ) (b : List ℕ) (k : List Answer) → c.registers 0 ≡ 60 → kernel (state_of c b k) next ≡ Exited (c.registers 7 % 256) b
+exits c next b k e = ap (by_call c next b k) e
+
+pub no_row : (c : Core) (next : ℕ) (b : List ℕ) (k : List Answer) → c.registers 0 ≢ 60 → ((c.registers 0 == 1) && (c.registers 7 == 1)) ≡ false → kernel (state_of c b k) next ≡ Stuck (Kernel (c.registers 0)) (state_of c b k)
 no_row c next b k e f =
-    ap (λ t. cond t (Exited (c.registers 7 % 256) b) (cond ((c.registers 0 == 1) && (c.registers 7 == 1)) (write_row (state_of c b k) next (c.registers 2)) (Stuck (Kernel (c.registers 0)) (state_of c b k)))) e
+    ap (λ t. cond t (Exited (c.registers 7 % 256) b) (cond ((c.registers 0 == 1) && (c.registers 7 == 1)) (write_row (state_of c b k) next (c.registers 2)) (Stuck (Kernel (c.registers 0)) (state_of c b k)))) (not_eq (c.registers 0) 60 e)
     ∙ ap (λ t. cond t (write_row (state_of c b k) next (c.registers 2)) (Stuck (Kernel (c.registers 0)) (state_of c b k))) f
 
-pub writes : (c : Core) (next : ℕ) (b : List ℕ) (k : List Answer) → c.registers 0 ≡ 1 → c.registers 7 ≡ 1 → kernel (state_of c b k) next ≡ write_row (state_of c b k) next (c.registers 2)
-writes c next b k e f =
-    ap (λ r. cond (r == 60) (Exited (c.registers 7 % 256) b) (cond ((r == 1) && (c.registers 7 == 1)) (write_row (state_of c b k) next (c.registers 2)) (Stuck (Kernel (c.registers 0)) (state_of c b k)))) e
-    ∙ ap (λ r. cond (r == 1) (write_row (state_of c b k) next (c.registers 2)) (Stuck (Kernel (c.registers 0)) (state_of c b k))) f
+pub writes : (c : Core) (next : ℕ) (b : List ℕ) (k : List Answer) → ((c.registers 0 == 1) && (c.registers 7 == 1)) ≡ true → kernel (state_of c b k) next ≡ write_row (state_of c b k) next (c.registers 2)
+writes c next b k e =
+    let one = is_eq (c.registers 0) 1 (first_true (c.registers 0 == 1) (c.registers 7 == 1) e) in
+    let other : c.registers 0 ≢ 60 = omega (arith, one) in
+    ap (λ t. cond t (Exited (c.registers 7 % 256) b) (cond ((c.registers 0 == 1) && (c.registers 7 == 1)) (write_row (state_of c b k) next (c.registers 2)) (Stuck (Kernel (c.registers 0)) (state_of c b k)))) (not_eq (c.registers 0) 60 other)
+    ∙ ap (λ t. cond t (write_row (state_of c b k) next (c.registers 2)) (Stuck (Kernel (c.registers 0)) (state_of c b k))) e
 
 pub empty : (c : Core) (next : ℕ) (b : List ℕ) (k : List Answer) → c.registers 2 ≡ 0 → write_row (state_of c b k) next (c.registers 2) ≡ Runs (state_of (written_core c next 0) b k)
 unfolding written_core
@@ -30,6 +45,10 @@ empty c next b k e = ap (write_row (state_of c b k) next) e ∙ ap (λ b'. Runs 
 pub shut : (c : Core) (next n : ℕ) (b : List ℕ) (k : List Answer) → c.registers 2 ≡ n → 0 < n → bytes_from (λ g. g.readable) c.segments (c.registers 6) n ≡ None → write_row (state_of c b k) next (c.registers 2) ≡ Stuck (Kernel (c.registers 0)) (state_of c b k)
 shut c next zero b k e some f = absurd (omega (arith, some))
 shut c next (suc n) b k e some f = ap (write_row (state_of c b k) next) e ∙ ap (piece_written (state_of c b k) next (suc n)) f
+
+take-length : (xs : List ℕ) → take (length xs) xs ≡ xs
+take-length [] = refl
+take-length (x ∷ xs) = ap (λ l. x ∷ l) (take-length xs)
 
 after : (c : Core) (next : ℕ) (b : List ℕ) (piece : List ℕ) (a : Answer) (x y : List Answer) → AnswersNext (length piece) a x y → answered (state_of c b x) next piece x ≡ state_of (written_core c next (rax_of a)) (b ++ taken a piece) y
 unfolding written_core

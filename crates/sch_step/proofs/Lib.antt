@@ -1,3 +1,5 @@
 pub mod Memory
 pub mod Outlets
 pub mod KernelRows
+pub mod Stepping
+pub mod Running

@@ -3,6 +3,7 @@ use Rattle.std.proofs.Common.{◌≡◌, ℕ, zero, suc, ◌+◌, ◌-◌, ◌<�
 use Rattle.std.proofs.lemmas.Bool.Decides.{nat_tests}
 use Rattle.std.proofs.lemmas.List.{length-take-le, map-set, length-map, length-set}
 use Rattle.std.specs.Prelude.{map, Result, Ok, Err}
+use Rattle.std.specs.Result.{result_err}
 use Rattle.sch_word.specs.Memory as words
 use Rattle.sch_insn.specs.declared.machine.StuckCause.{StuckCause}
 use Rattle.sch_insn.specs.declared.machine.StuckCause.TheVariants.{Access}
@@ -111,6 +112,22 @@ written c items i a x y ys p some laid l e is w made =
 
 pub not_written : (c : Core) (a : ℕ) (ys : List ℕ) → stored c.segments a ys ≡ None → write_bytes c a ys ≡ Err (Access a)
 not_written c a ys e = ap (λ o. when_ok (or_access a o) (λ gs. Ok (with_segments gs c))) e
+
+-- Where a place is found, any so many bytes may be written there.
+pub may_write : (c : Core) (items : List Segment) (i a n : ℕ) (ys : List ℕ) → c.segments ≡ map segment_of items → length ys ≡ n → 0 < n → IsLaidOut (map segment_of items) → i < length items → holds (segment_at (map segment_of items) i) a n ≡ true → (segment_at (map segment_of items) i).writable ≡ true → result_err (write_bytes c a ys) ≡ None
+may_write c items i a n ys p size z laid l e w =
+    let within : i < length (map segment_of items) = omega (arith, l, length-map items segment_of) in
+    let some : 0 < length ys = omega (arith, size, z) in
+    let here : holds (segment_at (map segment_of items) i) a (length ys) ≡ true = subst (λ k. holds (segment_at (map segment_of items) i) a k ≡ true) (sym size) e in
+    let none : Option (List words.Segment) = None in
+    let g = segment_at (map segment_of items) i in
+    let store : Option (List words.Segment) → Result Core StuckCause = λ o. when_ok (or_access a o) (λ gs. Ok (with_segments gs c)) in
+    ap (λ gs. result_err (store (stored gs a ys))) p
+    ∙ ap (λ o. result_err (store o)) (stores (map segment_of items) i a ys some laid within here)
+    ∙ ap (λ b. result_err (store (cond b (Some (set (map segment_of items) i (with_bytes g (put_bytes g.bytes (a - g.address) ys)))) none))) w
+
+pub may_not_write : (c : Core) (a : ℕ) (ys : List ℕ) → stored c.segments a ys ≡ None → result_err (write_bytes c a ys) ≡ Some (Access a)
+may_not_write c a ys e = ap result_err (not_written c a ys e)
 
 -- ---- segments stay laid out
 

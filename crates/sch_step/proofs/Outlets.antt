@@ -83,7 +83,7 @@ then P Q R ob mb nb ol ml nl of mf nf f p q = record {
 }
   where
     both : (xs ys : List Answer) → All (λ a. TakesNothing a → Rose of nf) xs → All (λ a. TakesNothing a → Rose of nf) ys → All (λ a. TakesNothing a → Rose of nf) (xs ++ ys)
-    both [] ys h g = g
+    both [] ys h g k d l = g k d l
     both (x ∷ xs) ys h g zero d l = h zero d (omega arith)
     both (x ∷ xs) ys h g (suc k) d l = both xs ys (λ j d m. h (suc j) d (omega (arith, m))) g k d (omega (arith, l))
 

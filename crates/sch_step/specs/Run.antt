@@ -5,6 +5,7 @@ use Rattle.sch_word.specs.declared.answer.Answer.TheVariants.{Took, Failed}
 use Rattle.sch_io.specs.Told.{Tells}
 use Rattle.sch_io.specs.Counters.{Rose}
 use Rattle.sch_insn.specs.declared.insn.Insn.{Insn}
+use Rattle.sch_insn.specs.declared.machine.StuckCause.{StuckCause}
 use Rattle.sch_insn.specs.Machine.{Core, State}
 use Rattle.sch_insn.specs.Step.{Progress, Runs, Exited, Stuck, kernel, perform, step, mach, go_on}
 use Rattle.sch_step.specs.declared.ends.StepEnd.{StepEnd}
@@ -55,3 +56,19 @@ StepsTo end c d = λ bytes answers bytes' answers'. step (state_of c bytes answe
 
 abbrev pub PerformsTo : Insn → ℕ → StepEnd → Core → Core → (List ℕ → List Answer → List ℕ → List Answer → Type 0)
 PerformsTo i next end c d = λ bytes answers bytes' answers'. perform i next (state_of c bytes answers) ≡ reached end d bytes' answers'
+
+-- The address of a stuck machine is that of the instruction that has no row.
+abbrev pub IsAt : StepEnd → ℕ → Type 0
+IsAt step_end.Ran place = Unit {0}
+IsAt (step_end.Exited status) place = Unit {0}
+IsAt (step_end.Stuck stuck) place = stuck.at ≡ place
+
+abbrev pub IsRunAt : RunEnd → ℕ → Type 0
+IsRunAt run_end.Spent place = Unit {0}
+IsRunAt (run_end.Exited status) place = Unit {0}
+IsRunAt (run_end.Stuck stuck) place = stuck.at ≡ place
+
+-- What is seen of a state where no step is left: that it has a row, or why it has none.
+abbrev pub looked : Option StuckCause → Core → List ℕ → List Answer → Progress
+looked None c bytes answers = Runs (state_of c bytes answers)
+looked (Some cause) c bytes answers = Stuck cause (state_of c bytes answers)

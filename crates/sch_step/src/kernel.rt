@@ -1,7 +1,7 @@
-ghost use Rattle.std.specs.Prelude.{◌≡◌, ◌+◌, ◌<◌, ◌≤◌, ◌^◌, ℕ, List, length, take, option_map, IfSome};
+ghost use Rattle.std.specs.Prelude.{◌≡◌, ◌+◌, ◌==◌, ◌&&◌, true, ◌<◌, ◌≤◌, ◌^◌, ℕ, List, length, take, option_map, IfSome};
 ghost use Rattle.sch_insn.specs.Spelling.{IsValid};
 ghost use Rattle.sch_insn.specs.Machine.{bytes_from, with_place};
-ghost use Rattle.sch_insn.specs.Step.{act as act_of, moved};
+ghost use Rattle.sch_insn.specs.Step.{act as act_of, moved, kernel as kernel_of, perform, step as step_of, standing};
 ghost use Rattle.sch_word.specs.declared.answer.Answer.{Answer};
 ghost use Rattle.sch_step.specs.Kernel.{written_core, rax_of as rax_of_answer};
 ghost use Rattle.sch_step.specs.declared.ends.StepEnd.TheVariants as step_end;
@@ -15,7 +15,7 @@ use sch_word::Answer;
 
 impl Processor {
     ghost use Rattle.sch_step.specs.View.{core_of};
-    ghost use Rattle.sch_step.specs.Run.{state_of, reached, Does, KernelTo, PerformsTo, StepsTo};
+    ghost use Rattle.sch_step.specs.Run.{state_of, reached, looked, Does, IsAt, KernelTo, PerformsTo, StepsTo};
 
     /// After a write: rax has the answer, rcx and r11 have no spare words, and no flag is known.
     fn after_write(&mut self, next: u64, rax: u64)
@@ -45,12 +45,19 @@ impl Processor {
         Some(&bytes[..n as usize])
     }
 
+    /// The call is a write to standard output.
+    fn asks_to_write(&self) -> bool
+        ensures { result ≡ (((core_of self.now).registers 0 == 1) && ((core_of self.now).registers 7 == 1)) }
+    {
+        self.reg(0) == 1 && self.reg(7) == 1
+    }
+
     /// A write to standard output of so many bytes, more than none.
     fn write<O: Outlet>(&mut self, out: &mut O, next: u64) -> StepEnd
-        requires call { (core_of self.old).registers 0 ≡ 1 }
-        requires output { (core_of self.old).registers 7 ≡ 1 }
+        requires call { (((core_of self.old).registers 0 == 1) && ((core_of self.old).registers 7 == 1)) ≡ true }
         requires some { 0 < (core_of self.old).registers 2 }
-        ensures { Does (KernelTo next result (core_of self.old) (core_of self.new)) (O.bytes out.old) (O.bytes out.new) (O.left out.old) (O.left out.new) (O.faults out.old) (O.faults out.new) }
+        ensures at { IsAt result (core_of self.new).place }
+        ensures did { Does (KernelTo next result (core_of self.old) (core_of self.new)) (O.bytes out.old) (O.bytes out.new) (O.left out.old) (O.left out.new) (O.faults out.old) (O.faults out.new) }
     {
         let answer = match self.piece() {
             Some(piece) => out.write(piece),
@@ -62,12 +69,13 @@ impl Processor {
 
     /// The kernel's rows.
     fn kernel<O: Outlet>(&mut self, out: &mut O, next: u64) -> StepEnd
-        ensures { Does (KernelTo next result (core_of self.old) (core_of self.new)) (O.bytes out.old) (O.bytes out.new) (O.left out.old) (O.left out.new) (O.faults out.old) (O.faults out.new) }
+        ensures at { IsAt result (core_of self.new).place }
+        ensures did { Does (KernelTo next result (core_of self.old) (core_of self.new)) (O.bytes out.old) (O.bytes out.new) (O.left out.old) (O.left out.new) (O.faults out.old) (O.faults out.new) }
     {
         if self.reg(0) == 60 {
             return StepEnd::Exited((self.reg(7) % 256) as u8);
         }
-        if self.reg(0) != 1 || self.reg(7) != 1 {
+        if !self.asks_to_write() {
             return self.stuck(StuckCause::Kernel(self.reg(0)));
         }
         if self.reg(2) == 0 {
@@ -80,7 +88,8 @@ impl Processor {
     /// An instruction that is no call of the kernel.
     fn go(&mut self, insn: &Insn, next: u64) -> StepEnd
         requires valid { IsValid insn.now }
-        ensures { (bytes : List ℕ) (answers : List Answer) → moved (state_of (core_of self.old) bytes answers) (act_of insn.now (with_place next (core_of self.old))) ≡ reached result (core_of self.new) bytes answers }
+        ensures at { IsAt result (core_of self.new).place }
+        ensures went { (bytes : List ℕ) (answers : List Answer) → moved (state_of (core_of self.old) bytes answers) (act_of insn.now (with_place next (core_of self.old))) ≡ reached result (core_of self.new) bytes answers }
     {
         match self.act(insn, next) {
             Ok(place) => {
@@ -94,7 +103,8 @@ impl Processor {
     fn perform<O: Outlet>(&mut self, insn: &Insn, size: usize, out: &mut O) -> StepEnd
         requires valid { IsValid insn.now }
         requires low { (core_of self.old).place + size ≤ 2 ^ 47 }
-        ensures { Does (PerformsTo insn.now ((core_of self.old).place + size) result (core_of self.old) (core_of self.new)) (O.bytes out.old) (O.bytes out.new) (O.left out.old) (O.left out.new) (O.faults out.old) (O.faults out.new) }
+        ensures at { IsAt result (core_of self.new).place }
+        ensures did { Does (PerformsTo insn.now ((core_of self.old).place + size) result (core_of self.old) (core_of self.new)) (O.bytes out.old) (O.bytes out.new) (O.left out.old) (O.left out.new) (O.faults out.old) (O.faults out.new) }
     {
         let next = self.at + size as u64;
         match insn {
@@ -105,11 +115,54 @@ impl Processor {
 
     /// One step.
     pub(crate) fn step<O: Outlet>(&mut self, out: &mut O) -> StepEnd
-        ensures { Does (StepsTo result (core_of self.old) (core_of self.new)) (O.bytes out.old) (O.bytes out.new) (O.left out.old) (O.left out.new) (O.faults out.old) (O.faults out.new) }
+        ensures at { IsAt result (core_of self.new).place }
+        ensures did { Does (StepsTo result (core_of self.old) (core_of self.new)) (O.bytes out.old) (O.bytes out.new) (O.left out.old) (O.left out.new) (O.faults out.old) (O.faults out.new) }
     {
         match self.fetch() {
             Some((insn, size)) => self.perform(&insn, size, out),
             None => self.stuck(StuckCause::Fetch),
+        }
+    }
+
+    /// Why the kernel has no row for the call that the machine makes.
+    fn refused(&self) -> Option<StuckCause>
+        ensures { (next : ℕ) (bytes : List ℕ) (answers : List Answer) → standing (state_of (core_of self.now) bytes answers) (kernel_of (state_of (core_of self.now) bytes answers) next) ≡ looked result (core_of self.now) bytes answers }
+    {
+        if self.reg(0) == 60 {
+            return None;
+        }
+        if !self.asks_to_write() {
+            return Some(StuckCause::Kernel(self.reg(0)));
+        }
+        if self.reg(2) == 0 {
+            return None;
+        }
+        match self.piece() {
+            Some(_) => None,
+            None => Some(StuckCause::Kernel(self.reg(0))),
+        }
+    }
+
+    fn obstacle_to(&self, insn: &Insn, size: usize) -> Option<StuckCause>
+        requires valid { IsValid insn.now }
+        requires low { (core_of self.now).place + size ≤ 2 ^ 47 }
+        ensures { (bytes : List ℕ) (answers : List Answer) → standing (state_of (core_of self.now) bytes answers) (perform insn.now ((core_of self.now).place + size) (state_of (core_of self.now) bytes answers)) ≡ looked result (core_of self.now) bytes answers }
+    {
+        let next = self.at + size as u64;
+        match insn {
+            Insn::Syscall => self.refused(),
+            _ => self.obstacle(insn, next),
+        }
+    }
+
+    /// Why the processor has no row, where it has none.
+    pub(crate) fn look(&mut self) -> Option<StuckCause>
+        ensures same { core_of self.new ≡ core_of self.old }
+        ensures looked { (bytes : List ℕ) (answers : List Answer) → standing (state_of (core_of self.old) bytes answers) (step_of (state_of (core_of self.old) bytes answers)) ≡ looked result (core_of self.old) bytes answers }
+    {
+        match self.fetch() {
+            Some((insn, size)) => self.obstacle_to(&insn, size),
+            None => Some(StuckCause::Fetch),
         }
     }
 }

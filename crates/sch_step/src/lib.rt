@@ -5,8 +5,11 @@ mod division;
 mod ends;
 mod flags;
 mod kernel;
+mod machine;
+mod obstacles;
 mod processor;
 mod rows;
 mod segment;
 
 pub use ends::{RunEnd, StepEnd, Stuck};
+pub use machine::{Machine, run, step};

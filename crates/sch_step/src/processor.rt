@@ -128,7 +128,7 @@ impl Processor {
     }
 
     /// Where so many bytes may be written: the index of their segment, and their place in it.
-    fn place_to_write(&self, address: u64, n: u64) -> Option<usize>
+    pub(crate) fn place_to_write(&self, address: u64, n: u64) -> Option<usize>
         ensures within { IfSome result (λ i. i < length self.now.segments.items) }
         ensures some { IfSome result (λ i. holds (segment_at (segments_of self.now.segments) i) address n ≡ true) }
         ensures writable { IfSome result (λ i. (segment_at (segments_of self.now.segments) i).writable ≡ true) }

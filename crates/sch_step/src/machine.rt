@@ -1,0 +1,77 @@
+ghost use Rattle.std.specs.Prelude.{◌≡◌, ◌+◌, ℕ, List};
+ghost use Rattle.sch_word.specs.declared.answer.Answer.{Answer};
+ghost use Rattle.sch_insn.specs.Step.{go_on, mach};
+ghost use Rattle.sch_step.specs.Run.{Does, IsAt, IsRunAt, finished};
+ghost use Rattle.sch_step.specs.Machine.{core_of, standing_of, resting, at_rest, MachineSteps, MachineRuns};
+
+use crate::ends::{RunEnd, StepEnd, Stuck};
+use crate::processor::Processor;
+use sch_io::Outlet;
+
+/// A machine, which runs until it exits. It has no spare words: after a call of the kernel rcx and r11
+/// are 0.
+#[derive(Drop)]
+pub struct Machine {
+    pub(crate) processor: Processor,
+    pub(crate) exited: Option<u8>,
+}
+
+impl Machine {
+    /// The address of the instruction that comes next.
+    pub fn at(&self) -> u64
+        ensures { result ≡ (core_of self.now).place }
+    {
+        self.processor.at
+    }
+}
+
+/// One step. A machine that has exited or is stuck answers the same again, changes nothing and writes
+/// nothing.
+pub fn step<O: Outlet>(m: &mut Machine, out: &mut O) -> StepEnd
+    ensures at { IsAt result (core_of m.new).place }
+    ensures stands { (bytes : List ℕ) (answers : List Answer) → standing_of m.new bytes answers ≡ resting result (core_of m.new) bytes answers }
+    ensures did { Does (MachineSteps result m.old m.new) (O.bytes out.old) (O.bytes out.new) (O.left out.old) (O.left out.new) (O.faults out.old) (O.faults out.new) }
+{
+    if let Some(status) = m.exited {
+        return StepEnd::Exited(status);
+    }
+    let end = m.processor.step(out);
+    if let StepEnd::Exited(status) = end {
+        m.exited = Some(status);
+    }
+    end
+}
+
+/// At most so many steps. Spent comes exactly after that many steps without an end.
+pub fn run<O: Outlet>(m: &mut Machine, out: &mut O, steps: u64) -> RunEnd
+    ensures at { IsRunAt result (core_of m.new).place }
+    ensures stands { (bytes : List ℕ) (answers : List Answer) → standing_of m.new bytes answers ≡ at_rest result (core_of m.new) bytes answers }
+    ensures did { Does (MachineRuns steps result m.old m.new) (O.bytes out.old) (O.bytes out.new) (O.left out.old) (O.left out.new) (O.faults out.old) (O.faults out.new) }
+{
+    for i in 0..steps {
+        match step(m, out) {
+            StepEnd::Ran => {}
+            StepEnd::Exited(status) => return RunEnd::Exited(status),
+            StepEnd::Stuck(stuck) => return RunEnd::Stuck(stuck),
+        }
+    }
+    rest(m)
+}
+
+/// Where a machine stands when no step is left.
+fn rest(m: &mut Machine) -> RunEnd
+    ensures at { IsRunAt result (core_of m.new).place }
+    ensures stands { (bytes : List ℕ) (answers : List Answer) → standing_of m.new bytes answers ≡ at_rest result (core_of m.new) bytes answers }
+    ensures rested { (bytes : List ℕ) (answers : List Answer) → go_on (standing_of m.old bytes answers) (mach 0) ≡ finished result (core_of m.new) bytes answers }
+{
+    if let Some(status) = m.exited {
+        return RunEnd::Exited(status);
+    }
+    match m.processor.look() {
+        Some(cause) => RunEnd::Stuck(Stuck {
+            at: m.processor.at,
+            cause,
+        }),
+        None => RunEnd::Spent,
+    }
+}
