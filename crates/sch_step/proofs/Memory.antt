@@ -1,5 +1,5 @@
 -- Which segment serves: where segments lie apart, any one that holds the bytes is the first that does.
-use Rattle.std.proofs.Common.{◌≡◌, ℕ, zero, suc, ◌+◌, ◌-◌, ◌<◌, ◌≤◌, ◌^◌, List, [], ◌∷◌, ◌++◌, length, take, drop, get_or, set, subst, length-append, length-drop, Bool, true, false, cond, Option, Some, None, refl, sym, ap, ◌∙◌, arith, nat_le, ◌&&◌}
+use Rattle.std.proofs.Common.{◌≡◌, ℕ, zero, suc, ◌+◌, ◌-◌, ◌<◌, ◌≤◌, List, [], ◌∷◌, ◌++◌, length, take, drop, get_or, set, subst, length-append, length-drop, Bool, true, false, cond, Option, Some, None, refl, sym, ap, ◌∙◌, arith, nat_le, ◌&&◌}
 use Rattle.std.proofs.lemmas.Bool.Decides.{nat_tests}
 use Rattle.std.proofs.lemmas.List.{length-take-le, map-set, length-map, length-set}
 use Rattle.std.specs.Prelude.{map, Result, Ok, Err}
@@ -9,7 +9,7 @@ use Rattle.sch_insn.specs.declared.machine.StuckCause.{StuckCause}
 use Rattle.sch_insn.specs.declared.machine.StuckCause.TheVariants.{Access}
 use Rattle.sch_insn.specs.Machine.{Core, holds, bytes_from, put_bytes, with_bytes, behind_segment, stored, or_access, when_ok, with_segments, write_bytes}
 use Rattle.sch_step.specs.declared.segment.Segment.{Segment}
-use Rattle.sch_step.specs.Layout.{segment_of, nowhere, segment_at, IsLaidOut, NoneHolds}
+use Rattle.sch_step.specs.Layout.{segment_of, segment_at, IsLaidOut, NoneHolds}
 
 behind : (g : words.Segment) (gs : List words.Segment) → IsLaidOut (g ∷ gs) → IsLaidOut gs
 behind g gs h = record {
@@ -149,6 +149,7 @@ same_shape gs i y ea es = record { count = length-set gs i y; address = λ j. ad
     addresses (g ∷ gs) zero (suc j) e = refl
     addresses (g ∷ gs) (suc i) zero e = refl
     addresses (g ∷ gs) (suc i) (suc j) e = addresses gs i j e
+
     sizes : (gs : List words.Segment) (i j : ℕ) → length y.bytes ≡ length (segment_at gs i).bytes → length (segment_at (set gs i y) j).bytes ≡ length (segment_at gs j).bytes
     sizes [] i j e = refl
     sizes (g ∷ gs) zero zero e = e

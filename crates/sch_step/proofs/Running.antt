@@ -1,5 +1,5 @@
 -- Steps and runs of a machine, put together.
-use Rattle.std.proofs.Common.{◌≡◌, ◌≢◌, ℕ, zero, suc, ◌+◌, ◌-◌, ◌<◌, ◌≤◌, List, Option, Some, None, refl, sym, ap, ◌∙◌, arith}
+use Rattle.std.proofs.Common.{◌≡◌, ◌≢◌, ℕ, suc, ◌+◌, ◌-◌, ◌<◌, List, Option, Some, refl, sym, ap, ◌∙◌, arith}
 use Rattle.std.specs.Prelude.{Result, Ok, Err}
 use Rattle.std.specs.Result.{result_err}
 use Rattle.sch_word.specs.declared.answer.Answer.{Answer}
@@ -43,26 +43,26 @@ pub comes_next : (i : ℕ) (old cur new : Machine) (ob mb nb : Option (List ℕ)
 comes_next i old cur new ob mb nb ol ml nl of mf nf h p q =
     then (MachineComes i old cur) (MachineSteps step_end.Ran cur new) (MachineComes (i + 1) old new) ob mb nb ol ml nl of mf nf
     (λ b k b' k' b'' k'' c s n.
-      let e : n + (i + 1) ≡ suc n + i = omega arith in
-      ap (λ j. go_on (standing_of old b k) (mach j)) e ∙ c (suc n) ∙ go_suc (standing_of cur b' k') n ∙ ap (λ x. go_on x (mach n)) (s ∙ sym (h b'' k'')))
+    let e : n + (i + 1) ≡ suc n + i = omega arith in
+    ap (λ j. go_on (standing_of old b k) (mach j)) e ∙ c (suc n) ∙ go_suc (standing_of cur b' k') n ∙ ap (λ x. go_on x (mach n)) (s ∙ sym (h b'' k'')))
     p q
 
 pub run_exits : (i steps status : ℕ) (old cur new : Machine) (ob mb nb : Option (List ℕ)) (ol ml nl : Option (List Answer)) (of mf nf : ℕ) → i < steps → Does (MachineComes i old cur) ob mb ol ml of mf → Does (MachineSteps (step_end.Exited status) cur new) mb nb ml nl mf nf → Does (MachineRuns steps (run_end.Exited status) old new) ob nb ol nl of nf
 run_exits i steps status old cur new ob mb nb ol ml nl of mf nf l p q =
     then (MachineComes i old cur) (MachineSteps (step_end.Exited status) cur new) (MachineRuns steps (run_end.Exited status) old new) ob mb nb ol ml nl of mf nf
     (λ b k b' k' b'' k'' c s.
-      let n = steps - (i + 1) in
-      let e : steps ≡ suc n + i = omega (arith, l) in
-      ap (λ j. go_on (standing_of old b k) (mach j)) e ∙ c (suc n) ∙ go_suc (standing_of cur b' k') n ∙ ap (λ x. go_on x (mach n)) s)
+    let n = steps - (i + 1) in
+    let e : steps ≡ suc n + i = omega (arith, l) in
+    ap (λ j. go_on (standing_of old b k) (mach j)) e ∙ c (suc n) ∙ go_suc (standing_of cur b' k') n ∙ ap (λ x. go_on x (mach n)) s)
     p q
 
 pub run_stuck : (i steps : ℕ) (stuck : StuckAt) (old cur new : Machine) (ob mb nb : Option (List ℕ)) (ol ml nl : Option (List Answer)) (of mf nf : ℕ) → i < steps → Does (MachineComes i old cur) ob mb ol ml of mf → Does (MachineSteps (step_end.Stuck stuck) cur new) mb nb ml nl mf nf → Does (MachineRuns steps (run_end.Stuck stuck) old new) ob nb ol nl of nf
 run_stuck i steps stuck old cur new ob mb nb ol ml nl of mf nf l p q =
     then (MachineComes i old cur) (MachineSteps (step_end.Stuck stuck) cur new) (MachineRuns steps (run_end.Stuck stuck) old new) ob mb nb ol ml nl of mf nf
     (λ b k b' k' b'' k'' c s.
-      let n = steps - (i + 1) in
-      let e : steps ≡ suc n + i = omega (arith, l) in
-      ap (λ j. go_on (standing_of old b k) (mach j)) e ∙ c (suc n) ∙ go_suc (standing_of cur b' k') n ∙ ap (λ x. go_on x (mach n)) s)
+    let n = steps - (i + 1) in
+    let e : steps ≡ suc n + i = omega (arith, l) in
+    ap (λ j. go_on (standing_of old b k) (mach j)) e ∙ c (suc n) ∙ go_suc (standing_of cur b' k') n ∙ ap (λ x. go_on x (mach n)) s)
     p q
 
 pub run_rests : (steps : ℕ) (end : RunEnd) (old cur new : Machine) (ob nb : Option (List ℕ)) (ol nl : Option (List Answer)) (of nf : ℕ) → ((b : List ℕ) (k : List Answer) → go_on (standing_of cur b k) (mach 0) ≡ finished end (core_of new) b k) → Does (MachineComes steps old cur) ob nb ol nl of nf → Does (MachineRuns steps end old new) ob nb ol nl of nf

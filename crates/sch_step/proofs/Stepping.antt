@@ -1,22 +1,21 @@
 -- Steps of a processor over an outlet, from what its calls say.
-use Rattle.std.proofs.Common.{◌≡◌, ◌≢◌, ℕ, zero, suc, ◌+◌, ◌<◌, ◌≤◌, List, [], ◌∷◌, ◌++◌, length, take, Bool, true, false, cond, Option, Some, None, refl, sym, ap, ◌∙◌, subst, arith, ◌%◌, ◌==◌, ◌&&◌}
-use Rattle.std.specs.Prelude.{option_map, Result, Ok, Err}
+use Rattle.std.proofs.Common.{◌≡◌, ◌≢◌, ℕ, ◌+◌, ◌<◌, ◌≤◌, List, ◌++◌, length, take, true, Option, Some, None, refl, sym, ap, ◌∙◌, subst, ◌%◌, ◌==◌, ◌&&◌}
+use Rattle.std.specs.Prelude.{option_map}
 use Rattle.sch_word.specs.declared.answer.Answer.{Answer}
 use Rattle.sch_io.specs.Told.{Tells}
 use Rattle.sch_io.specs.Counters.{Rose}
 use Rattle.sch_io.specs.Answers.{AnswersNext, IsWithin, IsRefusal, taken}
 use Rattle.sch_insn.specs.declared.insn.Insn.{Insn}
-use Rattle.sch_insn.specs.declared.insn.Insn.TheVariants.{MovTo, MovFrom, MovNumber, MovWord, StoreByte, LoadByte, Lea, AddTo, OrTo, AndTo, SubTo, XorTo, CmpTo, AddFrom, OrFrom, AndFrom, SubFrom, XorFrom, CmpFrom, AddNumber, OrNumber, AndNumber, SubNumber, XorNumber, CmpNumber, TestTo, Imul, Neg, Idiv, Cqo, Shl, Shr, Sar, Jump, JumpTo, JumpIf, Syscall}
-use Rattle.sch_insn.specs.declared.machine.StuckCause.{StuckCause}
+use Rattle.sch_insn.specs.declared.insn.Insn.TheVariants.{Syscall}
 use Rattle.sch_insn.specs.declared.machine.StuckCause.TheVariants.{Fetch, Kernel}
 use Rattle.sch_insn.specs.Machine.{Core, bytes_from, with_place}
-use Rattle.sch_insn.specs.Step.{Progress, Runs, Exited, Stuck, kernel, write_row, act, moved, perform, fetch, fetched, step}
+use Rattle.sch_insn.specs.Step.{Runs, Exited, Stuck, kernel, act, moved, perform, fetch, fetched}
 use Rattle.sch_step.specs.declared.ends.StepEnd.{StepEnd}
 use Rattle.sch_step.specs.declared.ends.StepEnd.TheVariants as step_end
 use Rattle.sch_step.specs.Kernel.{rax_of, written_core}
 use Rattle.sch_step.specs.Run.{state_of, reached, Does, KernelTo, PerformsTo, StepsTo}
 use Rattle.sch_step.proofs.Outlets.{quiet, loud, weaker}
-use Rattle.sch_step.proofs.KernelRows.{exits, no_row, writes, empty, shut, wrote}
+use Rattle.sch_step.proofs.KernelRows.{exits, writes, empty, shut, wrote}
 
 pub none_found : {A : Type 0} (f : A → List ℕ) (o : Option A) (n : ℕ) (x : Option (List ℕ)) → o ≡ None → option_map f o ≡ option_map (take n) x → x ≡ None
 none_found f o n None e h = refl
@@ -47,13 +46,13 @@ pub write_does : (c d : Core) (next n rax : ℕ) (piece bs : List ℕ) (a : Answ
 write_does c d next n rax piece bs a ob nb ol nl of nf e r w size some f p full within bytes left faults refused =
     subst (λ x. Does (KernelTo next step_end.Ran c x) ob nb ol nl of nf) (sym (e ∙ ap (written_core c next) r))
     (loud (KernelTo next step_end.Ran c (written_core c next (rax_of a))) piece a ob nb ol nl of nf full
-      (λ b x y h. writes c next b x w
-        ∙ wrote c next n b bs a x y size some f (subst (λ l. AnswersNext (length l) a x y) p h)
-        ∙ ap (λ l. Runs (state_of (written_core c next (rax_of a)) (b ++ taken a l) y)) (sym p))
-      within bytes left faults refused)
+    (λ b x y h. writes c next b x w
+    ∙ wrote c next n b bs a x y size some f (subst (λ l. AnswersNext (length l) a x y) p h)
+    ∙ ap (λ l. Runs (state_of (written_core c next (rax_of a)) (b ++ taken a l) y)) (sym p))
+    within bytes left faults refused)
 
 -- An instruction that is no call of the kernel.
-performs : (i : Insn) (next : ℕ) (c : Core) (b : List ℕ) (k : List Answer) → i ≢ Syscall → perform i next (state_of c b k) ≡ moved (state_of c b k) (act i (with_place next c))
+pub performs : (i : Insn) (next : ℕ) (c : Core) (b : List ℕ) (k : List Answer) → i ≢ Syscall → perform i next (state_of c b k) ≡ moved (state_of c b k) (act i (with_place next c))
 performs Syscall next c b k n = absurd (n refl)
 performs i next c b k n = refl
 

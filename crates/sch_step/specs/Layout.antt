@@ -1,5 +1,5 @@
 -- How the memory of a machine lies: no two segments hold the same byte, and none ends behind 2^47.
-use Rattle.std.specs.Prelude.{◌≡◌, ℕ, ◌+◌, ◌<◌, ◌≤◌, ◌^◌, List, [], length, map, Bool, true, false, Vec}
+use Rattle.std.specs.Prelude.{◌≡◌, ℕ, ◌+◌, ◌<◌, ◌≤◌, ◌^◌, List, [], length, map, true, false, Vec}
 use Rattle.std.proofs.Common.{get_or}
 use Rattle.std.specs.declared.alloc.Global.{Global}
 use Rattle.sch_word.specs.Memory as words

@@ -1,9 +1,8 @@
 -- A machine of the program, as what a machine has come to.
 use Rattle.std.specs.Prelude.{◌≡◌, ℕ, ◌+◌, List, Option, Some, None}
 use Rattle.sch_word.specs.declared.answer.Answer.{Answer}
-use Rattle.sch_insn.specs.declared.machine.StuckCause.{StuckCause}
 use Rattle.sch_insn.specs.Machine.{Core}
-use Rattle.sch_insn.specs.Step.{Progress, Runs, Exited, Stuck, step, mach, go_on, standing}
+use Rattle.sch_insn.specs.Step.{Progress, Runs, Exited, step, mach, go_on}
 use Rattle.sch_step.specs.declared.ends.StepEnd.{StepEnd}
 use Rattle.sch_step.specs.declared.ends.StepEnd.TheVariants as step_end
 use Rattle.sch_step.specs.declared.ends.RunEnd.{RunEnd}

@@ -1,5 +1,5 @@
 -- What a machine does over an outlet, which may tell what it takes and which answers it holds, or not.
-use Rattle.std.specs.Prelude.{◌≡◌, ℕ, zero, suc, ◌+◌, ◌≤◌, List, [], ◌∷◌, ◌++◌, Option, Some, None, All}
+use Rattle.std.specs.Prelude.{◌≡◌, ℕ, zero, suc, ◌≤◌, List, [], ◌++◌, Option, Some, None, All}
 use Rattle.sch_word.specs.declared.answer.Answer.{Answer}
 use Rattle.sch_word.specs.declared.answer.Answer.TheVariants.{Took, Failed}
 use Rattle.sch_io.specs.Told.{Tells}
@@ -7,7 +7,7 @@ use Rattle.sch_io.specs.Counters.{Rose}
 use Rattle.sch_insn.specs.declared.insn.Insn.{Insn}
 use Rattle.sch_insn.specs.declared.machine.StuckCause.{StuckCause}
 use Rattle.sch_insn.specs.Machine.{Core, State}
-use Rattle.sch_insn.specs.Step.{Progress, Runs, Exited, Stuck, kernel, perform, step, mach, go_on}
+use Rattle.sch_insn.specs.Step.{Progress, Runs, Exited, Stuck, kernel, perform, step}
 use Rattle.sch_step.specs.declared.ends.StepEnd.{StepEnd}
 use Rattle.sch_step.specs.declared.ends.StepEnd.TheVariants as step_end
 use Rattle.sch_step.specs.declared.ends.RunEnd.{RunEnd}

@@ -1,5 +1,5 @@
 -- A processor of the program as a core of the definitions.
-use Rattle.std.specs.Prelude.{ℕ, Bool, Option, Some, None, Result, Ok, Err}
+use Rattle.std.specs.Prelude.{ℕ, Result, Ok, Err}
 use Rattle.sch_insn.specs.declared.machine.Flags.{Flags}
 use Rattle.sch_insn.specs.declared.machine.StuckCause.{StuckCause}
 use Rattle.sch_insn.specs.Machine.{Core, registers_of, with_place, unknown_flags, sum_of, difference_of, bits_of, product_of}

@@ -88,9 +88,7 @@ impl Processor {
         ensures { result ≡ word_at (core_of self.now).segments address }
     {
         match self.bytes_from(address, 8) {
-            Some(b) => Ok(u64::from_le_bytes([
-                b[0], b[1], b[2], b[3], b[4], b[5], b[6], b[7],
-            ])),
+            Some(b) => Ok(u64::from_le_bytes([b[0], b[1], b[2], b[3], b[4], b[5], b[6], b[7]])),
             None => Err(StuckCause::Access(address)),
         }
     }

@@ -132,7 +132,13 @@ impl Processor {
     }
 
     /// Puts a result into an operand, and sets the flags.
-    fn put_back(&mut self, m: &Arg, value: u64, flags: LastFlags, next: u64) -> Result<u64, StuckCause>
+    fn put_back(
+        &mut self,
+        m: &Arg,
+        value: u64,
+        flags: LastFlags,
+        next: u64,
+    ) -> Result<u64, StuckCause>
         requires arg { IsArg m.now }
         ensures value { gone_on result (core_of self.new) ≡ when_ok (store_of (with_place next (core_of self.old)) m.now value) (λ d. Ok (with_flags (flags_of flags) d)) }
         ensures same { OnErr result (core_of self.new ≡ core_of self.old) }
@@ -357,7 +363,11 @@ impl Processor {
         ensures value { gone_on result (core_of self.new) ≡ Ok (with_register 2 (sign_word ((core_of self.old).registers 0)) (with_place next (core_of self.old))) }
         ensures same { OnErr result (core_of self.new ≡ core_of self.old) }
     {
-        let value = if is_negative(self.reg(0)) { u64::MAX } else { 0 };
+        let value = if is_negative(self.reg(0)) {
+            u64::MAX
+        } else {
+            0
+        };
         self.set_reg(2, value);
         Ok(next)
     }

@@ -1,4 +1,4 @@
-use Rattle.std.proofs.Common.{refl, sym, subst, arith, ◌<◌}
+use Rattle.std.proofs.Common.{refl, sym}
 use Rattle.sch_insn.specs.Machine.{with_place}
 use Rattle.sch_step.proofs.Memory.{may_write, may_not_write}
 use Rattle.sch_step.specs.View.{core_of}

@@ -12,4 +12,3 @@ returns-then-not-asks_to_write-clause-did g c = stuck_does (core_of c.args.self.
 
 pub returns-then-reg-eq0-clause-did : goal.returns-then-reg-eq0-clause-did
 returns-then-reg-eq0-clause-did g c = empty_does (core_of c.args.self.now) (core_of c.after_write.new.self) c.args.next (g.O.Outlet.bytes c.args.out.now) (g.O.Outlet.left c.args.out.now) (g.O.Outlet.faults c.args.out.now) c.after_write.ensures (sym c.asks_to_write.ensures ∙ c.if-not-asks_to_write.false) (sym c.reg-2.ensures ∙ c.if-reg-eq0.true)
-

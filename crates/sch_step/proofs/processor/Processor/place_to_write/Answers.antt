@@ -1,4 +1,3 @@
-use Rattle.std.proofs.Common.{◌≡◌}
 use Rattle.sch_step.proofs.Memory.{no_place, shut_place}
 use Rattle.sch_step.proofs.processor.Processor.place_to_write.Goals as goal
 

@@ -1,4 +1,4 @@
-use Rattle.std.proofs.Common.{[], ◌∷◌, arith, refl, sym}
+use Rattle.std.proofs.Common.{arith, refl, sym}
 use Rattle.std.specs.Int.{w64, to_le_bytes}
 use Rattle.sch_insn.specs.Machine.{with_place}
 use Rattle.sch_step.specs.View.{core_of}
