@@ -3,3 +3,4 @@ pub mod Outlets
 pub mod KernelRows
 pub mod Stepping
 pub mod Running
+pub mod ImageMemory

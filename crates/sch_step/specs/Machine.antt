@@ -1,7 +1,8 @@
 -- A machine of the program, as what a machine has come to.
 use Rattle.std.specs.Prelude.{◌≡◌, ℕ, ◌+◌, List, Option, Some, None}
 use Rattle.sch_word.specs.declared.answer.Answer.{Answer}
-use Rattle.sch_insn.specs.Machine.{Core}
+use Rattle.sch_word.specs.Memory.{Segment}
+use Rattle.sch_insn.specs.Machine.{Core, unknown_flags}
 use Rattle.sch_insn.specs.Step.{Progress, Runs, Exited, step, mach, go_on}
 use Rattle.sch_step.specs.declared.ends.StepEnd.{StepEnd}
 use Rattle.sch_step.specs.declared.ends.StepEnd.TheVariants as step_end
@@ -44,3 +45,7 @@ MachineRuns steps end old new = λ bytes answers bytes' answers'. go_on (standin
 -- After so many steps the machine stands where the other does, for whatever follows.
 abbrev pub MachineComes : ℕ → Machine → Machine → (List ℕ → List Answer → List ℕ → List Answer → Type 0)
 MachineComes steps old new = λ bytes answers bytes' answers'. (n : ℕ) → go_on (standing_of old bytes answers) (mach (n + steps)) ≡ go_on (standing_of new bytes' answers') (mach n)
+
+-- The core that a memory starts with when it is entered at an address: all registers 0, no flag known.
+abbrev pub loaded : ℕ → List Segment → Core
+loaded entry segments = record { registers = λ k. 0; flags = unknown_flags; place = entry; segments = segments }

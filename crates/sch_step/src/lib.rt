@@ -5,6 +5,7 @@ mod division;
 mod ends;
 mod flags;
 mod kernel;
+mod loading;
 mod machine;
 mod obstacles;
 mod processor;
@@ -12,4 +13,5 @@ mod rows;
 mod segment;
 
 pub use ends::{RunEnd, StepEnd, Stuck};
+pub use loading::load;
 pub use machine::{Machine, run, step};
