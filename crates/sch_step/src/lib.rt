@@ -15,3 +15,6 @@ mod segment;
 pub use ends::{RunEnd, StepEnd, Stuck};
 pub use loading::load;
 pub use machine::{Machine, run, step};
+
+#[cfg(test)]
+mod tests;
