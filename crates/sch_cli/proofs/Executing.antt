@@ -1,12 +1,12 @@
 -- A bounded run of the machine that an image was loaded into is what was executed.
-use Rattle.std.proofs.Common.{◌≡◌, ℕ, List, [], ◌∷◌, ◌++◌, Option, Some, None, refl, sym, ap, ◌∙◌, subst}
+use Rattle.std.proofs.Common.{◌≡◌, ℕ, List, [], ◌++◌, Option, Some, None, refl, sym, ap, ◌∙◌, subst}
 use Rattle.std.proofs.lemmas.List.{append-nil}
 use Rattle.sch_word.specs.declared.answer.Answer.{Answer}
 use Rattle.sch_io.specs.Told.{Tells}
 use Rattle.sch_elf.specs.declared.image.Image.{Image}
 use Rattle.sch_elf.specs.Layout.{memory}
-use Rattle.sch_insn.specs.Machine.{Core, State}
-use Rattle.sch_insn.specs.Step.{Progress, Runs, Exited, Stuck, go_on, mach}
+use Rattle.sch_insn.specs.Machine.{Core}
+use Rattle.sch_insn.specs.Step.{Runs, go_on, mach}
 use Rattle.sch_insn.specs.Behaves.{output_of}
 use Rattle.sch_step.specs.Run.{Does, IsRunAt, finished, state_of}
 use Rattle.sch_step.specs.Machine.{MachineRuns, loaded, standing_of, core_of}
@@ -55,7 +55,7 @@ pub executes : (name : List ℕ) (image : Image) (steps : ℕ) (old new : Machin
     Executes name image steps (status_at end) bytes bytes' left left' faults faults' (line_at name end)
 executes name image steps old new end bytes bytes' left left' faults faults' starts at did =
     let of : (answers rest : List Answer) → MachineRuns steps end old new [] answers did.took rest → Reaches name image steps answers (status_at end) did.took (line_at name end) =
-        λ answers rest runs. reaches name image steps answers rest end (core_of new) did.took at (from_start image steps old new end answers rest did.took starts runs) in
+    λ answers rest runs. reaches name image steps answers rest end (core_of new) did.took at (from_start image steps old new end answers rest did.took starts runs) in
     record {
       output = did.took;
       given = did.given;

@@ -1,10 +1,10 @@
 -- An image that behaves as a thin text means ends so when it is executed.
-use Rattle.std.proofs.Common.{◌≡◌, ◌≢◌, ℕ, zero, suc, ◌≤◌, ◌<◌, ◌⊎◌, inl, inr, List, [], ◌∷◌, ◌++◌, Bool, true, false, Option, Some, None, refl, sym, ap, ◌∙◌, subst, ⊎_elim, arith, take, drop, cond, length}
+use Rattle.std.proofs.Common.{◌≡◌, ℕ, zero, suc, ◌⊎◌, inl, inr, List, [], ◌∷◌, Bool, true, false, refl, sym, ap, ◌∙◌, subst, ⊎_elim, arith, drop}
 use Rattle.std.specs.Prelude.{All}
 use Rattle.std.proofs.lemmas.Bool.{cases_lt}
 use Rattle.sch_word.specs.declared.answer.Answer.{Answer}
 use Rattle.sch_word.specs.declared.answer.Answer.TheVariants.{Took, Failed}
-use Rattle.sch_word.specs.Put.{Put, put}
+use Rattle.sch_word.specs.Put.{put}
 use Rattle.sch_elf.specs.declared.image.Image.{Image}
 use Rattle.sch_elf.specs.Layout.{memory}
 use Rattle.sch_io.specs.Counters.{Rose}
@@ -13,7 +13,7 @@ use Rattle.sch_insn.specs.Step.{Progress, Runs, Exited, Stuck, mach}
 use Rattle.sch_insn.specs.Behaves.{Behaves, Ending, Given, IsPrefix, output_of}
 use Rattle.sch_insn.proofs.Growing.{stays}
 use Rattle.sch_step.specs.Run.{TakesNothing}
-use Rattle.sch_cli.specs.Executes.{Executes, Reaches, started, status_after, is_named}
+use Rattle.sch_cli.specs.Executes.{Reaches, started, status_after}
 use Rattle.sch_cli.specs.Steps.{EndsAs, Ran, RunsThin, Seen}
 use Rattle.sch_cli.specs.Thin.{puts}
 use Rattle.sch_cli.proofs.ThinRuns.{ending_after}

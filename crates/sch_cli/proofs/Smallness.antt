@@ -7,7 +7,6 @@ use Rattle.std.specs.List.{fold, list_all}
 use Rattle.std.proofs.lemmas.Bool.Decides.{nat_tests}
 use Rattle.std.proofs.lemmas.Fmt.{decimal_nonempty, length-decimal-le}
 use Rattle.std.proofs.Math.Nat.{mul-le-mul_right, mul_comm, mul_assoc, pow-succ'}
-use Rattle.sch_cli.specs.Numbers.{value_of}
 use Rattle.sch_cli.specs.Thin.{Digits, Integer, plain, minus, Form, newline, display, IsThin, ends, goes_on}
 use Rattle.sch_cli.specs.ThinCode.{IsSmall, AreFull, joined}
 use Rattle.sch_cli.proofs.Reading.{power_le, form_shorter, and_first, and_second}

@@ -1,5 +1,5 @@
 -- What it is to run an image over an outlet, of at most so many steps.
-use Rattle.std.specs.Prelude.{◌≡◌, ◌≢◌, ◌++◌, ◌==◌, ◌||◌, ◌&&◌, ℕ, List, [], ◌∷◌, Bool, nat_le, Option, All, if◌then◌else◌}
+use Rattle.std.specs.Prelude.{◌≡◌, ◌++◌, ◌==◌, ◌||◌, ◌&&◌, ℕ, List, [], Bool, nat_le, Option, All, if◌then◌else◌}
 use Rattle.sch_word.specs.declared.answer.Answer.{Answer}
 use Rattle.sch_io.specs.Counters.{Rose}
 use Rattle.sch_io.specs.Told.{Tells}
@@ -12,7 +12,7 @@ use Rattle.sch_step.specs.Run.{TakesNothing}
 use Rattle.sch_step.specs.declared.ends.RunEnd.{RunEnd}
 use Rattle.sch_step.specs.declared.ends.RunEnd.TheVariants as run_end
 use Rattle.sch_step.specs.declared.ends.RunEnd.TheVariants.{Spent}
-use Rattle.sch_cli.specs.Messages.{Says, spent_line, stop_line, exit_line, stuck_line}
+use Rattle.sch_cli.specs.Messages.{spent_line, stop_line, exit_line, stuck_line}
 
 -- The machine of an image at its start: every register is 0, the flags are unknown, and there are no
 -- spare words.

@@ -3,7 +3,7 @@
 -- A thin text is a list of forms `(newline)` and `(display I)`. I is an optional `-` and 1 to 18
 -- decimal digits. White space may stand before and after each parenthesis, name and integer, and at
 -- least one byte of it stands between `display` and I. There are no comments.
-use Rattle.std.specs.Prelude.{◌≡◌, ℕ, ◌+◌, ◌-◌, ◌*◌, ◌≤◌, List, [], ◌∷◌, ◌++◌, length, codes, Bool, false, ◌||◌, ◌==◌, IsTrue, ℤ, pos, neg_ℤ, if◌then◌else◌}
+use Rattle.std.specs.Prelude.{◌≡◌, ℕ, ◌≤◌, List, [], ◌∷◌, ◌++◌, length, codes, Bool, false, ◌||◌, ◌==◌, IsTrue, ℤ, pos, neg_ℤ, if◌then◌else◌}
 use Rattle.std.specs.Char.{is_ascii_digit}
 use Rattle.std.specs.Fmt.{signed_decimal}
 use Rattle.std.specs.List.{list_all}

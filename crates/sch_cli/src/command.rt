@@ -18,6 +18,7 @@ pub enum Command<'a> {
 }
 
 const DEFAULT_STEPS: u64 = 1_000_000_000;
+
 const MOST_STEPS: u64 = 1_000_000_000_000_000_000;
 
 /// The command that the words are, if they are one.
@@ -114,7 +115,11 @@ fn read_count(digits: &[u8]) -> Option<u64>
         return None;
     }
     let count = number(digits);
-    if count > MOST_STEPS { None } else { Some(count) }
+    if count > MOST_STEPS {
+        None
+    } else {
+        Some(count)
+    }
 }
 
 fn are_digits(text: &[u8]) -> bool

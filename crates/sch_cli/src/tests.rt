@@ -1,5 +1,8 @@
 //! The program's call over a disk and outlets in memory.
+ghost use Rattle.std.specs.Prelude.{◌≤◌, length};
+
 use crate::schc;
+use sch_elf::{program_image, write_image};
 use sch_io::{Disk, MemDisk, MemOutlet, NullOutlet};
 use sch_word::{Answer, Bytes};
 use std::alloc::Global;
@@ -127,7 +130,7 @@ fn program_has_its_bytes(rt: HostRuntime) -> Result<(), Fail> {
 
 #[test]
 fn words_that_are_no_command(rt: HostRuntime) -> Result<(), Fail> {
-    let commands: [&[&str]; 8] = [
+    let commands: [&[&str]; 14] = [
         &[],
         &["compile"],
         &["compile", "a"],
@@ -135,7 +138,13 @@ fn words_that_are_no_command(rt: HostRuntime) -> Result<(), Fail> {
         &["compile", "", "b"],
         &["compile", "a", ""],
         &["compile", "a", "b", "c"],
+        &["run"],
         &["run", "a", "b"],
+        &["run", "a", "--heap", "4097"],
+        &["run", "a", "--steps", "1000000000000000001"],
+        &["run", "a", "--steps", "1x"],
+        &["step", "a", "--depth", "1"],
+        &["step", ""],
     ];
     for words in commands {
         let outcome = call(rt.alloc(), words, b"", &[], &[])?;
@@ -200,5 +209,169 @@ fn a_source_of_the_greatest_length(rt: HostRuntime) -> Result<(), Fail> {
     assert_eq!(rt; outcome.status, 7);
     assert_eq!(rt; outcome.said.as_slice(), b"a: limit file\n".as_slice());
     assert!(rt; outcome.target.is_none());
+    Ok(())
+}
+
+// What a verb answered that runs something, what was printed, and what was said.
+#[derive(Drop)]
+struct Ending {
+    status: u8,
+    printed: Vec<u8>,
+    said: Vec<u8>,
+}
+
+// Calls the program on a disk whose only file is `a`, over an outlet that answers by this plan.
+fn perform(alloc: Global, words: &[&str], file: &[u8], plan: &[Answer]) -> Result<Ending, Fail> {
+    let mut all = Vec::new(alloc);
+    for word in words {
+        all.push(String::from_str(alloc, word)?)?;
+    }
+    let files = [(
+        Bytes::from_slice(alloc, b"a")?,
+        Bytes::from_slice(alloc, file)?,
+    )];
+    let mut disk = MemDisk::new(alloc, &files, 0, &[])?;
+    let mut out = MemOutlet::new(alloc, plan, 1000)?;
+    let mut err = MemOutlet::new(alloc, &[], 1000)?;
+    let status = schc(alloc, all.as_slice(), &mut disk, &mut out, &mut err);
+    let printed = Vec::from_slice(alloc, out.taken())?;
+    let said = Vec::from_slice(alloc, err.taken())?;
+    Ok(Ending {
+        status,
+        printed,
+        said,
+    })
+}
+
+#[test]
+fn sources_run(rt: HostRuntime) -> Result<(), Fail> {
+    let source = b"(display -42)(newline)";
+    let whole = perform(rt.alloc(), &["run", "a"], source, &[])?;
+    assert_eq!(rt; whole.status, 0);
+    assert_eq!(rt; whole.printed.as_slice(), b"-42\n".as_slice());
+    assert_eq!(rt; whole.said.as_slice(), [].as_slice());
+    let empty = perform(rt.alloc(), &["run", "a"], b"", &[])?;
+    assert_eq!(rt; empty.status, 0);
+    assert_eq!(rt; empty.printed.as_slice(), [].as_slice());
+    let spent = perform(rt.alloc(), &["run", "a", "--steps", "0"], source, &[])?;
+    assert_eq!(rt; spent.status, 9);
+    assert_eq!(rt; spent.said.as_slice(), b"steps spent\n".as_slice());
+    let absent = perform(rt.alloc(), &["run", "c"], source, &[])?;
+    assert_eq!(rt; absent.status, 2);
+    assert_eq!(rt; absent.said.as_slice(), b"c: read failed\n".as_slice());
+    let other = perform(rt.alloc(), &["run", "a"], b"(f)", &[])?;
+    assert_eq!(rt; other.status, 11);
+    assert_eq!(rt; other.said.as_slice(), b"a: not built\n".as_slice());
+    Ok(())
+}
+
+#[test]
+fn a_source_whose_output_fails(rt: HostRuntime) -> Result<(), Fail> {
+    let plan = [Answer::Took(1), Answer::Took(1), Answer::Failed];
+    let failed = perform(rt.alloc(), &["run", "a"], b"(display 123)", &plan)?;
+    assert_eq!(rt; failed.status, 74);
+    assert_eq!(rt; failed.printed.as_slice(), b"12".as_slice());
+    assert_eq!(rt;
+        failed.said.as_slice(),
+        b"stop 74: output failed\n".as_slice()
+    );
+    Ok(())
+}
+
+#[test]
+fn compiled_images_step(rt: HostRuntime) -> Result<(), Fail> {
+    let sources: [(&[u8], &[u8]); 2] = [(b"", b""), (b"(display 7)(newline)", b"7\n")];
+    for (source, printed) in sources {
+        let image = compile(rt.alloc(), source)?.target.ok_or("no file")?;
+        let outcome = perform(rt.alloc(), &["step", "a"], image.as_slice(), &[])?;
+        assert_eq!(rt; outcome.status, 0);
+        assert_eq!(rt; outcome.printed.as_slice(), printed);
+        assert_eq!(rt; outcome.said.as_slice(), [].as_slice());
+    }
+    Ok(())
+}
+
+// The file of an image with this text.
+fn image(alloc: Global, text: &[u8]) -> Result<Bytes, Fail>
+    requires { length text.now ≤ 1000 }
+{
+    let text = Bytes::from_slice(alloc, text)?;
+    let image = program_image(alloc, text, Bytes::new(alloc), 0)?;
+    Ok(write_image(alloc, &image)?)
+}
+
+fn exit_with(status: u8) -> [u8; 16] {
+    [
+        0x48, 0xC7, 0xC0, 60, 0, 0, 0, 0x48, 0xC7, 0xC7, status, 0, 0, 0, 0x0F, 0x05,
+    ]
+}
+
+#[test]
+fn images_end(rt: HostRuntime) -> Result<(), Fail> {
+    let endings: [(u8, u8, &[u8]); 6] = [
+        (0, 0, b""),
+        (65, 65, b"stop 65: wrong type\n"),
+        (74, 74, b"stop 74: output failed\n"),
+        (64, 8, b"a: exit status 64\n"),
+        (75, 8, b"a: exit status 75\n"),
+        (1, 8, b"a: exit status 1\n"),
+    ];
+    for (exit, status, said) in endings {
+        let file = image(rt.alloc(), &exit_with(exit))?;
+        let outcome = perform(rt.alloc(), &["step", "a"], file.as_slice(), &[])?;
+        assert_eq!(rt; outcome.status, status);
+        assert_eq!(rt; outcome.said.as_slice(), said);
+    }
+    let file = image(rt.alloc(), &exit_with(0))?;
+    let spent = perform(
+        rt.alloc(),
+        &["step", "a", "--steps", "2"],
+        file.as_slice(),
+        &[],
+    )?;
+    assert_eq!(rt; spent.status, 9);
+    let done = perform(
+        rt.alloc(),
+        &["step", "a", "--steps", "3"],
+        file.as_slice(),
+        &[],
+    )?;
+    assert_eq!(rt; done.status, 0);
+    Ok(())
+}
+
+#[test]
+fn images_get_stuck(rt: HostRuntime) -> Result<(), Fail> {
+    let texts: [(&[u8], &[u8]); 5] = [
+        (&[0xC3], b"a: stuck at 00400000: fetch\n"),
+        (
+            &[0x48, 0x8B, 0x83, 0, 0, 0, 0],
+            b"a: stuck at 00400000: access\n",
+        ),
+        (&[0x0F, 0x84, 0, 0, 0, 0], b"a: stuck at 00400000: flag\n"),
+        (
+            &[0x48, 0x99, 0x48, 0xF7, 0xF9],
+            b"a: stuck at 00400002: divide\n",
+        ),
+        (&[0x0F, 0x05], b"a: stuck at 00400000: kernel\n"),
+    ];
+    for (text, said) in texts {
+        let file = image(rt.alloc(), text)?;
+        let outcome = perform(rt.alloc(), &["step", "a"], file.as_slice(), &[])?;
+        assert_eq!(rt; outcome.status, 8);
+        assert_eq!(rt; outcome.said.as_slice(), said);
+    }
+    Ok(())
+}
+
+#[test]
+fn files_that_are_no_image(rt: HostRuntime) -> Result<(), Fail> {
+    let files: [(&[u8], &[u8]); 2] = [(&[0; 10], b"a: short\n"), (&[b' '; 64], b"a: not ELF\n")];
+    for (file, said) in files {
+        let outcome = perform(rt.alloc(), &["step", "a"], file, &[])?;
+        assert_eq!(rt; outcome.status, 8);
+        assert_eq!(rt; outcome.said.as_slice(), said);
+        assert_eq!(rt; outcome.printed.as_slice(), [].as_slice());
+    }
     Ok(())
 }

@@ -9,9 +9,8 @@ mod assemble;
 mod form;
 mod read;
 
-pub use form::Form;
-
 use assemble::assemble;
+pub use form::Form;
 use read::read;
 use sch_elf::{Image, write_image};
 use sch_word::{Bytes, Mem};

@@ -9,13 +9,12 @@ use Rattle.sch_cli.proofs.step.step.Goals as goal
 pub returns-in-Err-TooLarge-clause-ends : goal.returns-in-Err-TooLarge-clause-ends
 returns-in-Err-TooLarge-clause-ends g c =
     let r = c.in-Err-TooLarge.ensures in
-    let name = c.args.name.now in
-    (
+    let name = c.args.name.now in (
       line_of 7 name name,
       c.say-in-Err-TooLarge.ensures.line,
       too_long refl
-      (longer image_limit (g.D.Disk.files c.args.disk.now) (g.D.Disk.files c.read.new.self) name r.unchanged (r.too_large (ap Err c.in-Err-TooLarge.field-0-is)))
-      (took_nothing (g.O.Outlet.bytes c.args.out.now)) refl,
+          (longer image_limit (g.D.Disk.files c.args.disk.now) (g.D.Disk.files c.read.new.self) name r.unchanged (r.too_large (ap Err c.in-Err-TooLarge.field-0-is)))
+          (took_nothing (g.O.Outlet.bytes c.args.out.now)) refl,
     )
 
 pub returns-in-Err-clause-reads : goal.returns-in-Err-clause-reads
@@ -28,14 +27,13 @@ pub returns-in-Err-clause-ends : goal.returns-in-Err-clause-ends
 returns-in-Err-clause-ends g c =
     let r = c.in-Ok.ensures in
     let name = c.args.name.now in
-    let file = c.in-Ok.file in
-    (
+    let file = c.in-Ok.file in (
       refusal_line name c.in-Err.error,
       c.refuse.ensures.line,
       refused file c.in-Err.error c.refuse.ensures.status
-      (holds (g.D.Disk.files c.args.disk.now) (g.D.Disk.files c.read.new.self) name file r.unchanged r.found) r.within
-      (subst (λ bytes. IsRefused bytes c.in-Err.error) c.as_slice.ensures c.in-Err.ensures.refused)
-      (took_nothing (g.O.Outlet.bytes c.args.out.now)) refl,
+          (holds (g.D.Disk.files c.args.disk.now) (g.D.Disk.files c.read.new.self) name file r.unchanged r.found) r.within
+          (subst (λ bytes. IsRefused bytes c.in-Err.error) c.as_slice.ensures c.in-Err.ensures.refused)
+          (took_nothing (g.O.Outlet.bytes c.args.out.now)) refl,
     )
 
 pub returns-in-Ok-execute-clause-reads : goal.returns-in-Ok-execute-clause-reads
@@ -51,11 +49,10 @@ returns-in-Ok-execute-clause-ends g c =
     let r = c.in-Ok.ensures in
     let name = c.args.name.now in
     let file = c.in-Ok.file in
-    let e = c.in-Ok-execute.ensures.ok in
-    (
+    let e = c.in-Ok-execute.ensures.ok in (
       e.0,
       e.1,
       stepped file c.in-Ok-read_image.image
-      (holds (g.D.Disk.files c.args.disk.now) (g.D.Disk.files c.read.new.self) name file r.unchanged r.found) r.within
-      (subst (λ bytes. StandsFor bytes c.in-Ok-read_image.image) c.as_slice.ensures c.in-Ok-read_image.ensures.stands) e.2,
+          (holds (g.D.Disk.files c.args.disk.now) (g.D.Disk.files c.read.new.self) name file r.unchanged r.found) r.within
+          (subst (λ bytes. StandsFor bytes c.in-Ok-read_image.image) c.as_slice.ensures c.in-Ok-read_image.ensures.stands) e.2,
     )

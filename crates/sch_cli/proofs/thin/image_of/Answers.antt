@@ -1,4 +1,4 @@
-use Rattle.std.proofs.Common.{◌≡◌, map, subst, sym}
+use Rattle.std.proofs.Common.{map, subst, sym}
 use Rattle.sch_cli.specs.Thin.{IsThin}
 use Rattle.sch_cli.specs.ThinForms.{piece_of}
 use Rattle.sch_cli.proofs.Smallness.{thin_small}
