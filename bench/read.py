@@ -1,0 +1,93 @@
+#!/usr/bin/env python3
+"""Reads the deepest and the longest flat texts of 64 KiB and 1 MiB with the reader, and prints times,
+their ratio, and peak memory.
+
+Builds the program of bench/read in a copy of the repository at its first use, which takes minutes.
+Run by hand:  bench/read.py [RUNS]
+"""
+import os
+import shutil
+import subprocess
+import sys
+import tempfile
+import time
+
+TOP = os.path.dirname(os.path.dirname(os.path.abspath(__file__)))
+COPY = os.path.join(tempfile.gettempdir(), "schc-bench-read")
+CRATE = os.path.join(COPY, "crates", "bench_read")
+PROGRAM = os.path.join(CRATE, "out", "bench_read")
+SIZES = (64 << 10, 1 << 20)
+
+
+def deepest(size):
+    """Lists of 1,000 levels, one after the other."""
+    one = b"(" * 1000 + b")" * 1000
+    return (one * (size // len(one))).ljust(size)
+
+
+def dotted(size):
+    """999 tails, each behind the dot of the one before, and then one long list."""
+    front, back = b"(a . " * 999 + b"(", b")" * 1000
+    return front + b"1 " * ((size - len(front) - len(back)) // 2) + back
+
+
+def flat(size):
+    return b"(" + b"1 " * (size // 2 - 1) + b")"
+
+
+def string(size):
+    return b'"' + b"a" * (size - 2) + b'"'
+
+
+def comment(size):
+    return b";".ljust(size)
+
+
+TEXTS = {"deepest": deepest, "tails": dotted, "longest list": flat, "longest string": string, "comment": comment}
+
+
+def build():
+    if os.path.exists(PROGRAM):
+        return
+    print("building the program in", COPY, file=sys.stderr)
+    shutil.copytree(TOP, COPY, ignore=shutil.ignore_patterns("out", ".git"), dirs_exist_ok=True)
+    os.makedirs(os.path.join(CRATE, "src"), exist_ok=True)
+    shutil.copy(os.path.join(TOP, "bench", "read", "main.rt"), os.path.join(CRATE, "src", "main.rt"))
+    with open(os.path.join(COPY, "crates.txt"), "a") as file:
+        file.write("bench_read: sch_word sch_io sch_read\n")
+    # Without a file the program ends with 1, so the build is judged by the program that it leaves.
+    subprocess.run(["rt", "run"], cwd=CRATE, stdin=subprocess.DEVNULL, check=False)
+    if not os.path.exists(PROGRAM):
+        sys.exit("the program was not built")
+
+
+def read_once(folder):
+    """Seconds and peak kilobytes of one run."""
+    begin = time.perf_counter()
+    child = subprocess.Popen([PROGRAM], cwd=folder)
+    _, status, usage = os.wait4(child.pid, 0)
+    seconds = time.perf_counter() - begin
+    if status != 0:
+        sys.exit(f"{PROGRAM} ended with {os.waitstatus_to_exitcode(status)}")
+    return seconds, usage.ru_maxrss
+
+
+def main():
+    runs = int(sys.argv[1]) if len(sys.argv) > 1 else 15
+    build()
+    print(f"{os.cpu_count()} processors, least of {runs} runs")
+    with tempfile.TemporaryDirectory() as folder:
+        for name, make in TEXTS.items():
+            least = []
+            for size in SIZES:
+                with open(os.path.join(folder, "text"), "wb") as file:
+                    file.write(make(size))
+                measured = [read_once(folder) for _ in range(runs)]
+                seconds, peak = min(m[0] for m in measured), max(m[1] for m in measured)
+                least.append(seconds)
+                print(f"{name:16} {size:8} bytes: {1000 * seconds:8.2f} ms, {peak / 1024:6.1f} MiB")
+            print(f"{name:16} 1 MiB takes {least[1] / least[0]:.1f} times as long as 64 KiB")
+
+
+if __name__ == "__main__":
+    main()

@@ -1,0 +1,116 @@
+#!/usr/bin/env python3
+"""Steps loops of 100,000,000 instructions with `schc step` and with a C interpreter, in turn.
+
+Prints instructions a second for each, and their ratio; and how long an image with 256 MiB of zeros takes
+to load. Run by hand, after the program was built:  bench/step.py [RUNS]
+"""
+import os
+import struct
+import subprocess
+import sys
+import tempfile
+import time
+
+TOP = os.path.dirname(os.path.dirname(os.path.abspath(__file__)))
+PROGRAM = os.path.join(TOP, "crates", "schc", "out", "schc")
+INSTRUCTIONS = 100_000_000
+TEXT, DATA = 0x400000, 0x10000000
+RAX, RCX, RDX, RBX, RBP, RSI, RDI, R9 = 0, 1, 2, 3, 5, 6, 7, 9
+
+
+def i32(n):
+    return struct.pack("<i", n)
+
+
+def register(reg, rm):
+    return bytes([0xC0 | (reg & 7) << 3 | rm & 7])
+
+
+def memory(reg, base, displacement):
+    """A base with a displacement of 32 bits; no base here has the low bits 100."""
+    return bytes([0x80 | (reg & 7) << 3 | base & 7]) + i32(displacement)
+
+
+def wide(opcode, reg, rm, operand):
+    return bytes([0x48 | (reg >> 3) << 2 | rm >> 3, *opcode]) + operand
+
+
+def rr(opcode, reg, rm):
+    return wide([opcode], reg, rm, register(reg, rm))
+
+
+def rm(opcode, reg, base, displacement):
+    return wide([opcode], reg, base, memory(reg, base, displacement))
+
+
+def number(which, rm_, n):
+    return wide([0x81], which, rm_, register(which, rm_)) + i32(n)
+
+
+LOOPS = {
+    "registers": [
+        rr(0x01, RCX, RAX), rr(0x31, RAX, RBX), rm(0x8D, RDX, RBX, 8), rr(0x89, RDX, RSI),
+        rr(0x29, RSI, R9), rr(0x85, RAX, RAX), number(7, RBX, 1000), number(0, R9, 7),
+    ],
+    "memory": [
+        rm(0x8B, RAX, RBP, 8), rm(0x01, RAX, RBP, 16), rm(0x89, RCX, RBP, 0), rm(0x3B, RAX, RBP, 24),
+        wide([0x0F, 0xB6], RBX, RBP, memory(RBX, RBP, 3)), bytes([0x40, 0x88]) + memory(RBX, RBP, 40),
+        wide([0x81], 5, RBP, memory(5, RBP, 48)) + i32(3), wide([0xC7], 0, RBP, memory(0, RBP, 56)) + i32(9),
+    ],
+    "all forms": [
+        rr(0x89, RCX, RAX), b"\x48\x99", number(1, RSI, 5), wide([0xF7], 7, RSI, register(7, RSI)),
+        wide([0x0F, 0xAF], RAX, RSI, register(RAX, RSI)), wide([0xF7], 3, RAX, register(3, RAX)),
+        wide([0xC1], 4, RAX, register(4, RAX)) + b"\x03", wide([0xC1], 7, RAX, register(7, RAX)) + b"\x02",
+        rr(0x09, RAX, RBX), rr(0x23, RBX, RAX), rm(0x33, RBX, RBP, 8), b"\x48\xb8" + struct.pack("<q", 1 << 40),
+    ],
+}
+
+
+def image(text, data, zeros=0):
+    header = b"\x7fELF\x02\x01\x01" + bytes(9) + struct.pack("<HHIQQQIHHHHHH", 2, 62, 1, TEXT, 64, 0, 0, 64, 56, 2, 0, 0, 0)
+    header += struct.pack("<IIQQQQQQ", 1, 5, 4096, TEXT, TEXT, len(text), len(text), 4096)
+    header += struct.pack("<IIQQQQQQ", 1, 6, 8192, DATA, DATA, len(data), len(data) + zeros, 4096)
+    return header.ljust(4096, b"\0") + text.ljust(4096, b"\0") + data
+
+
+def program(body):
+    """The body round after round, until so many instructions are done, and an exit."""
+    rounds = INSTRUCTIONS // (len(body) + 2)
+    setup = wide([0xC7], 0, RBP, register(0, RBP)) + i32(DATA) + wide([0xC7], 0, RCX, register(0, RCX)) + i32(rounds)
+    loop = b"".join(body) + number(5, RCX, 1)
+    back = b"\x0f\x85" + i32(-(len(loop) + 6))
+    end = wide([0xC7], 0, RAX, register(0, RAX)) + i32(60) + wide([0xC7], 0, RDI, register(0, RDI)) + i32(0) + b"\x0f\x05"
+    return image(setup + loop + back + end, bytes(4096))
+
+
+def seconds(command):
+    begin = time.perf_counter()
+    status = subprocess.run(command, check=False).returncode
+    if status != 0:
+        sys.exit(f"{command} ended with {status}")
+    return time.perf_counter() - begin
+
+
+def main():
+    runs = int(sys.argv[1]) if len(sys.argv) > 1 else 3
+    print(f"{os.cpu_count()} processors, least of {runs} runs in turn")
+    with tempfile.TemporaryDirectory() as folder:
+        reference, path = os.path.join(folder, "step"), os.path.join(folder, "image")
+        subprocess.run(["gcc", "-O2", "-o", reference, os.path.join(TOP, "bench", "step.c")], check=True)
+        for name, body in LOOPS.items():
+            with open(path, "wb") as file:
+                file.write(program(body))
+            ours, theirs = [], []
+            for _ in range(runs):
+                ours.append(seconds([PROGRAM, "step", path]))
+                theirs.append(seconds([reference, path, "1000000000"]))
+            speed, other = INSTRUCTIONS / min(ours) / 1e6, INSTRUCTIONS / min(theirs) / 1e6
+            print(f"{name:10} schc step {speed:7.1f} M/s, C {other:7.1f} M/s: {speed / other:.2f} times as fast")
+        with open(path, "wb") as file:
+            exit_text = b"\x48\xc7\xc0" + i32(60) + b"\x48\xc7\xc7" + i32(0) + b"\x0f\x05"
+            file.write(image(exit_text, bytes(16), 256 << 20))
+        print(f"256 MiB of zeros: {1000 * min(seconds([PROGRAM, 'step', path]) for _ in range(runs)):.0f} ms to load and exit")
+
+
+if __name__ == "__main__":
+    main()
