@@ -1,0 +1,11 @@
+pub mod Words
+pub mod Operations
+pub mod FaultOrder
+pub mod Draft
+pub mod DraftView
+pub mod Scope
+pub mod Definitions
+pub mod Combined
+pub mod Expands
+pub mod Faults
+pub mod Builds
