@@ -1,5 +1,5 @@
 -- A datum without faults has one draft, and one with a fault has none.
-use Rattle.std.proofs.Common.{◌≡◌, ◌⊎◌, inl, inr, ◌≤◌, ◌+◌, ℕ, ℤ, zero, suc, Bool, true, false, cond, ◌&&◌, not, List, [], ◌∷◌, Option, Some, None, nat_le, refl, sym, ◌∙◌, ap, subst, arith}
+use Rattle.std.proofs.Common.{◌≡◌, ◌⊎◌, inl, inr, ◌≤◌, ◌+◌, ℕ, ℤ, zero, suc, Bool, true, false, cond, ◌&&◌, not, List, [], ◌∷◌, ◌++◌, Option, Some, None, nat_le, refl, sym, ◌∙◌, ap, subst, arith}
 use Rattle.std.proofs.lemmas.Bool.{leb-true, leb-false}
 use Rattle.std.proofs.lemmas.Bool.Decides.{nat_tests}
 use Rattle.sch_word.specs.declared.constant.Const.TheVariants.{Fixnum, Character, Boolean, Nil, Unspecified}
@@ -15,14 +15,14 @@ use Rattle.sch_core.specs.declared.fault.Fault.{Fault}
 use Rattle.sch_core.specs.declared.fault.Fault.TheVariants.{Unbuilt, BadForm, Unbound, Operands, Core}
 use Rattle.sch_core.specs.Words.{keyword_of}
 use Rattle.sch_core.specs.Draft.{Draft, Drafts, constant, local, global, branch, sequence, bind, operation, no_drafts, and_draft}
-use Rattle.sch_core.specs.Scope.{Scope, find, is_among, Head, form, operating, calling, head_of, by_head, how_many, place, with_bindings, is_new, are_bindings}
+use Rattle.sch_core.specs.Scope.{Scope, find, is_among, Head, form, operating, calling, head_of, by_head, how_many, place, with_bindings, are_bindings}
 use Rattle.sch_core.specs.Definitions.{is_definition, are_definitions}
 use Rattle.sch_core.specs.Combined.{combined, own_depth, whole_depth}
 use Rattle.sch_core.specs.Expands.{nothing, IsLevel, AreFew, let_is_shaped}
 use Rattle.sch_core.specs.Expands as ex
 use Rattle.sch_core.specs.Expands.{Expands, FormExpands, EachExpands, InitsExpand, PartsExpand}
-use Rattle.sch_core.specs.Faults.{IsIn, level_faults, operand_faults, name_faults, chain_faults, own_faults, misuse, quote_faults, HasFault, FormHasFault, AnyHasFault, InitHasFault, PartHasFault}
-use Rattle.sch_core.specs.Builds.{variable, quotation, built, built_form, built_each, built_inits, built_parts}
+use Rattle.sch_core.specs.Faults.{IsIn, level_faults, operand_faults, name_faults, chain_faults, own_faults, misuse, quoted_faults, quote_faults, HasFault, FormHasFault, AnyHasFault, InitHasFault, PartHasFault}
+use Rattle.sch_core.specs.Builds.{variable, quoted, quotation, built, built_form, built_each, built_inits, built_parts}
 
 abbrev pub Free : (Fault → Type 0) → Type 0
 Free F = (f : Fault) → F f → ⊥
@@ -121,9 +121,9 @@ own_level Newline n m l = l
 cons_none : {x : Datum} {xs : Data} → cons x xs ≡ none → ⊥
 cons_none e = cc
 
-rest_new : (b c : Bool) → cond b c false ≡ true → c ≡ true
-rest_new true c e = e
-rest_new false c e = absurd (false_true e)
+rest_new : (b c : Bool) → cond b false c ≡ true → c ≡ true
+rest_new false c e = e
+rest_new true c e = absurd (false_true e)
 
 both : (a b : Bool) → (a && b) ≡ true → a ≡ true
 both true b e = refl
@@ -240,6 +240,18 @@ module _ (globals : List (List ℕ)) where
   head_expands n s t at q x xs (operating o) e h g r = operation_expands n s t at q x xs o _ e h r
   head_expands n s t at q x xs calling e h g r = absurd (h _ refl)
 
+  quoted_expands : (n : ℕ) (s : Scope) (t : Position) (at : ℕ) (d : Datum) → Free (λ f. IsIn f (quoted_faults d n at)) → FormExpands globals Quote n s t (cons d none) (quoted d)
+  quoted_expands n s t at (atom q (boolean b)) h = ex.quote_boolean n s t q b (level_free n at _ refl h)
+  quoted_expands n s t at (atom q (integer b)) h = ex.quote_integer n s t q b (level_free n at _ refl h)
+  quoted_expands n s t at (atom q (character b)) h = ex.quote_character n s t q b (level_free n at _ refl h)
+  quoted_expands n s t at (list q none) h = ex.quote_nil n s t q (level_free n at _ refl h)
+  quoted_expands n s t at _ h = absurd (h _ (inl refl))
+
+  quote_expands : (n : ℕ) (s : Scope) (t : Position) (at : ℕ) (xs : Data) → Free (λ f. IsIn f (quote_faults xs n at)) → FormExpands globals Quote n s t xs (quotation xs)
+  quote_expands n s t at none h = absurd (h _ (inl refl))
+  quote_expands n s t at (cons d none) h = quoted_expands n s t at d h
+  quote_expands n s t at (cons d (cons e es)) h = absurd (h _ (inl refl))
+
   let_expands : (at n : ℕ) (s : Scope) (t : Position) (q : ℕ) (bs : Data) (e : Datum) (es : Data) (is : Drafts) (b : Draft) →
       Free (λ f. cond (let_is_shaped s bs (cons e es))
             (IsIn f (operand_faults at (how_many bs)) ⊎ cond (nat_le n most_levels)
@@ -277,11 +289,7 @@ module _ (globals : List (List ℕ)) where
     expands n s t (vector at xs) h = absurd (h _ refl)
 
     form_expands : (k : Keyword) (at n : ℕ) (s : Scope) (t : Position) (xs : Data) → Free (FormHasFault globals k at n s t xs) → FormExpands globals k n s t xs (built_form globals k n s t xs)
-    form_expands Quote at n s t (cons (atom q (boolean b)) none) h = ex.quote_boolean n s t q b (level_free n at _ refl h)
-    form_expands Quote at n s t (cons (atom q (integer b)) none) h = ex.quote_integer n s t q b (level_free n at _ refl h)
-    form_expands Quote at n s t (cons (atom q (character b)) none) h = ex.quote_character n s t q b (level_free n at _ refl h)
-    form_expands Quote at n s t (cons (list q none) none) h = ex.quote_nil n s t q (level_free n at _ refl h)
-    form_expands Quote at n s t (cons d none) h = absurd (h _ (inl refl))
+    form_expands Quote at n s t xs h = quote_expands n s t at xs h
     form_expands If at n s t (cons a (cons b (cons c none))) h =
         let g = chosen (λ f. HasFault globals (n + 1) s Test a f ⊎ (HasFault globals (n + 1) s t b f ⊎ HasFault globals (n + 1) s t c f)) (Core at) (nat_le n most_levels) refl h in
         rw g.0 (ex.if_both n s t a b c _ _ _ g.0 (expands (n + 1) s Test a (λ f i. g.1 f (inl i))) (expands (n + 1) s t b (λ f i. g.1 f (inr (inl i)))) (expands (n + 1) s t c (λ f i. g.1 f (inr (inr i)))))
@@ -301,10 +309,10 @@ module _ (globals : List (List ℕ)) where
     each_expands n s none h = ex.no_operand n s
     each_expands n s (cons e es) h = ex.and_operand n s e es _ _ (expands n s Value e (λ f i. h f (inl i))) (each_expands n s es (λ f i. h f (inr i)))
 
-    inits_expand : (n : ℕ) (s : Scope) (seen : Scope) (xs : Data) → are_bindings seen xs ≡ true → Free (InitHasFault globals n s xs) → InitsExpand globals n s xs (built_inits globals n s xs)
+    inits_expand : (n : ℕ) (s : Scope) (seen : List (List ℕ)) (xs : Data) → are_bindings seen xs ≡ true → Free (InitHasFault globals n s xs) → InitsExpand globals n s xs (built_inits globals n s xs)
     inits_expand n s seen none e h = ex.no_init n s
     inits_expand n s seen (cons (list at (cons (atom q (symbol v)) (cons i none))) bs) e h =
-        ex.and_init n s at q v i bs _ _ (expands n s Value i (λ f j. h f (inl j))) (inits_expand n s (Some v ∷ seen) bs (rest_new (is_new v seen) _ e) (λ f j. h f (inr j)))
+        ex.and_init n s at q v i bs _ _ (expands n s Value i (λ f j. h f (inl j))) (inits_expand n s (seen ++ v ∷ []) bs (rest_new (is_among v seen) _ e) (λ f j. h f (inr j)))
     inits_expand n s seen _ e h = absurd (false_true e)
 
     parts_expand : (n : ℕ) (s : Scope) (t : Position) (xs : Data) → (xs ≡ none → ⊥) → Free (PartHasFault globals n s t xs) → PartsExpand globals n s t xs (built_parts globals n s t xs)

@@ -90,7 +90,7 @@ module _ (globals : List (List ℕ)) where
     best n s t (vector at xs) o = one_new (BadForm at) o
 
     form_best : (k : Keyword) (at n : ℕ) (s : Scope) (t : Position) (xs : Data) (o : Option Fault) → Best (FormHasFault globals k at n s t xs) o (least_form globals k at n s t xs o)
-    form_best Quote at n s t (cons d none) o = all_new (quote_faults d n at) o
+    form_best Quote at n s t xs o = all_new (quote_faults xs n at) o
     form_best If at n s t (cons a (cons b (cons c none))) o =
         cond_best (nat_le n most_levels) (and_then (best (n + 1) s Test a o) (and_then (best (n + 1) s t b _) (best (n + 1) s t c _))) (one_new (Core at) o)
     form_best If at n s t (cons a (cons b none)) o =
@@ -115,7 +115,7 @@ module _ (globals : List (List ℕ)) where
     each_best n s (cons e es) o = and_then (best n s Value e o) (each_best n s es _)
 
     inits_best : (n : ℕ) (s : Scope) (bs : Data) (o : Option Fault) → Best (InitHasFault globals n s bs) o (least_inits globals n s bs o)
-    inits_best n s (cons (list at (cons v (cons i none))) bs) o = and_then (best n s Value i o) (inits_best n s bs _)
+    inits_best n s (cons (list at (cons (atom q (symbol v)) (cons i none))) bs) o = and_then (best n s Value i o) (inits_best n s bs _)
     inits_best n s _ o = none_new o
 
     parts_best : (n : ℕ) (s : Scope) (t : Position) (xs : Data) (o : Option Fault) → Best (PartHasFault globals n s t xs) o (least_parts globals n s t xs o)

@@ -24,12 +24,17 @@ abbrev pub variable : Option ℕ → List ℕ → Draft
 variable (Some k) x = local k
 variable None x = global x
 
-abbrev pub quotation : Datum → Draft
-quotation (atom q (boolean b)) = constant (Boolean b)
-quotation (atom q (integer z)) = constant (Fixnum z)
-quotation (atom q (character c)) = constant (Character c)
-quotation (list q none) = constant Nil
-quotation _ = nothing
+abbrev pub quoted : Datum → Draft
+quoted (atom q (boolean b)) = constant (Boolean b)
+quoted (atom q (integer z)) = constant (Fixnum z)
+quoted (atom q (character c)) = constant (Character c)
+quoted (list q none) = constant Nil
+quoted _ = nothing
+
+abbrev pub quotation : Data → Draft
+quotation none = nothing
+quotation (cons d none) = quoted d
+quotation (cons d (cons e es)) = nothing
 
 module _ (globals : List (List ℕ)) where
   abbrev mutual
@@ -45,7 +50,7 @@ module _ (globals : List (List ℕ)) where
     built n s t _ = nothing
 
     pub built_form : Keyword → (level : ℕ) → Scope → Position → Data → Draft
-    built_form Quote n s t (cons d none) = quotation d
+    built_form Quote n s t xs = quotation xs
     built_form If n s t (cons a (cons b (cons c none))) =
         cond (nat_le n most_levels) (branch (built (n + 1) s Test a) (built (n + 1) s t b) (built (n + 1) s t c)) nothing
     built_form If n s t (cons a (cons b none)) =
@@ -67,7 +72,7 @@ module _ (globals : List (List ℕ)) where
     built_each n s (cons e es) = and_draft (built n s Value e) (built_each n s es)
 
     pub built_inits : (level : ℕ) → Scope → Data → Drafts
-    built_inits n s (cons (list at (cons v (cons i none))) bs) = and_draft (built n s Value i) (built_inits n s bs)
+    built_inits n s (cons (list at (cons (atom q (symbol v)) (cons i none))) bs) = and_draft (built n s Value i) (built_inits n s bs)
     built_inits n s _ = no_drafts
 
     pub built_parts : (level : ℕ) → Scope → Position → Data → Drafts
@@ -95,7 +100,7 @@ module _ (globals : List (List ℕ)) where
     least n s t (vector at xs) o = noted (BadForm at) o
 
     pub least_form : Keyword → (at level : ℕ) → Scope → Position → Data → Option Fault → Option Fault
-    least_form Quote at n s t (cons d none) o = all_noted (quote_faults d n at) o
+    least_form Quote at n s t xs o = all_noted (quote_faults xs n at) o
     least_form If at n s t (cons a (cons b (cons c none))) o =
         cond (nat_le n most_levels) (least (n + 1) s t c (least (n + 1) s t b (least (n + 1) s Test a o))) (noted (Core at) o)
     least_form If at n s t (cons a (cons b none)) o =
@@ -120,10 +125,34 @@ module _ (globals : List (List ℕ)) where
     least_each n s (cons e es) o = least_each n s es (least n s Value e o)
 
     pub least_inits : (level : ℕ) → Scope → Data → Option Fault → Option Fault
-    least_inits n s (cons (list at (cons v (cons i none))) bs) o = least_inits n s bs (least n s Value i o)
+    least_inits n s (cons (list at (cons (atom q (symbol v)) (cons i none))) bs) o = least_inits n s bs (least n s Value i o)
     least_inits n s _ o = o
 
     pub least_parts : (level : ℕ) → Scope → Position → Data → Option Fault → Option Fault
     least_parts n s t none o = o
     least_parts n s t (cons e none) o = least n s t e o
     least_parts n s t (cons e (cons e' es)) o = least_parts n s t (cons e' es) (least n s Value e o)
+
+  -- an operation, and what is neither a list nor a symbol
+  abbrev pub built_operation : Operation → (level : ℕ) → Scope → Data → Draft
+  built_operation o n s xs =
+      cond (nat_le (n + whole_depth o (how_many xs)) most_levels) (combined o (how_many xs) (built_each (n + 1) s xs)) nothing
+
+  abbrev pub least_operation : Operation → (at level : ℕ) → Scope → Data → Option Fault → Option Fault
+  least_operation p at n s xs o =
+      cond (nat_le (n + own_depth p (how_many xs)) most_levels)
+          (least_each (n + 1) s xs (all_noted (own_faults p n at xs) (all_noted (operand_faults at (how_many xs)) o)))
+          (all_noted (own_faults p n at xs) (all_noted (operand_faults at (how_many xs)) o))
+
+abbrev pub built_other : Datum → Draft
+built_other (atom at (boolean b)) = constant (Boolean b)
+built_other (atom at (integer z)) = constant (Fixnum z)
+built_other (atom at (character c)) = constant (Character c)
+built_other _ = nothing
+
+abbrev pub least_other : (level : ℕ) → Datum → Option Fault → Option Fault
+least_other n (atom at (boolean b)) o = all_noted (level_faults n at) o
+least_other n (atom at (integer z)) o = all_noted (level_faults n at) o
+least_other n (atom at (character c)) o = all_noted (level_faults n at) o
+least_other n (atom at (text bs)) o = noted (Unbuilt at) o
+least_other n d o = noted (BadForm (place d)) o

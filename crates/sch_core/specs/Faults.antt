@@ -63,13 +63,18 @@ misuse Letrec at = Unbuilt at
 misuse Do at = Unbuilt at
 misuse _ at = BadForm at
 
--- what is wrong with a quotation
-abbrev pub quote_faults : Datum → (level at : ℕ) → List Fault
-quote_faults (atom q (boolean b)) n at = level_faults n at
-quote_faults (atom q (integer z)) n at = level_faults n at
-quote_faults (atom q (character c)) n at = level_faults n at
-quote_faults (list q none) n at = level_faults n at
-quote_faults _ n at = Unbuilt at ∷ []
+-- what is wrong with a quotation of a datum, and of these data, of which there must be one
+abbrev pub quoted_faults : Datum → (level at : ℕ) → List Fault
+quoted_faults (atom q (boolean b)) n at = level_faults n at
+quoted_faults (atom q (integer z)) n at = level_faults n at
+quoted_faults (atom q (character c)) n at = level_faults n at
+quoted_faults (list q none) n at = level_faults n at
+quoted_faults _ n at = Unbuilt at ∷ []
+
+abbrev pub quote_faults : Data → (level at : ℕ) → List Fault
+quote_faults none n at = BadForm at ∷ []
+quote_faults (cons d none) n at = quoted_faults d n at
+quote_faults (cons d (cons e es)) n at = BadForm at ∷ []
 
 module _ (globals : List (List ℕ)) where
   abbrev mutual
@@ -91,7 +96,7 @@ module _ (globals : List (List ℕ)) where
     HasFault n s t (vector at xs) f = f ≡ BadForm at
 
     pub FormHasFault : Keyword → (at level : ℕ) → Scope → Position → Data → Fault → Type 0
-    FormHasFault Quote at n s t (cons d none) f = IsIn f (quote_faults d n at)
+    FormHasFault Quote at n s t xs f = IsIn f (quote_faults xs n at)
     FormHasFault If at n s t (cons a (cons b (cons c none))) f =
         cond (nat_le n most_levels) (HasFault (n + 1) s Test a f ⊎ (HasFault (n + 1) s t b f ⊎ HasFault (n + 1) s t c f)) (f ≡ Core at)
     FormHasFault If at n s t (cons a (cons b none)) f =
@@ -114,7 +119,7 @@ module _ (globals : List (List ℕ)) where
     AnyHasFault n s (cons e es) f = HasFault n s Value e f ⊎ AnyHasFault n s es f
 
     pub InitHasFault : (level : ℕ) → Scope → Data → Fault → Type 0
-    InitHasFault n s (cons (list at (cons v (cons i none))) bs) f = HasFault n s Value i f ⊎ InitHasFault n s bs f
+    InitHasFault n s (cons (list at (cons (atom q (symbol v)) (cons i none))) bs) f = HasFault n s Value i f ⊎ InitHasFault n s bs f
     InitHasFault n s _ f = ⊥
 
     pub PartHasFault : (level : ℕ) → Scope → Position → Data → Fault → Type 0

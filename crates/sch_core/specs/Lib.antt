@@ -9,3 +9,8 @@ pub mod Combined
 pub mod Expands
 pub mod Faults
 pub mod Builds
+pub mod NamesView
+pub mod HeadView
+pub mod Shapes
+pub mod LetKinds
+pub mod Following

@@ -1,5 +1,5 @@
 -- What a name means where it stands.
-use Rattle.std.specs.Prelude.{ℕ, zero, suc, Bool, true, false, cond, List, [], ◌∷◌, Option, Some, None}
+use Rattle.std.specs.Prelude.{ℕ, zero, suc, Bool, true, false, cond, List, [], ◌∷◌, ◌++◌, Option, Some, None}
 use Rattle.std.specs.Str.{bytes_eq}
 use Rattle.sch_read.specs.Grammar.{Datum, Data, atom, list, dotted, vector, none, cons, symbol}
 use Rattle.sch_core.specs.declared.word.Keyword.{Keyword}
@@ -67,17 +67,12 @@ place (vector at xs) = at
 
 -- the scope inside the bindings `((v i)..)`: the last one is nearest
 abbrev pub with_bindings : Data → Scope → Scope
-with_bindings (cons (list at (cons (atom q (symbol x)) rest)) bs) s = with_bindings bs (Some x ∷ s)
+with_bindings (cons (list at (cons (atom q (symbol x)) (cons i none))) bs) s = with_bindings bs (Some x ∷ s)
 with_bindings _ s = s
 
 -- `((v i)..)` with distinct names, none of which is among those seen
-abbrev pub is_new : List ℕ → Scope → Bool
-is_new x [] = true
-is_new x (None ∷ s) = is_new x s
-is_new x (Some y ∷ s) = cond (bytes_eq x y) false (is_new x s)
-
-abbrev pub are_bindings : Scope → Data → Bool
+abbrev pub are_bindings : List (List ℕ) → Data → Bool
 are_bindings seen none = true
 are_bindings seen (cons (list at (cons (atom q (symbol x)) (cons i none))) bs) =
-    cond (is_new x seen) (are_bindings (Some x ∷ seen) bs) false
+    cond (is_among x seen) false (are_bindings (seen ++ x ∷ []) bs)
 are_bindings seen _ = false

@@ -1,7 +1,14 @@
 //! The expander: data to a program of the core language.
 #![tactic(auto)]
 
+mod combine;
 mod draft;
 mod fault;
+mod names;
+mod notes;
 mod operation;
+mod parts;
+mod quotation;
+mod scope;
+mod shape;
 mod word;

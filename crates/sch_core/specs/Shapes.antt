@@ -1,0 +1,22 @@
+-- Shapes of data.
+use Rattle.std.specs.Prelude.{ℕ}
+use Rattle.sch_read.specs.Grammar.{Datum, Data, atom, list, dotted, vector, none, cons, symbol}
+
+abbrev pub IsNoSymbol : Datum → Type 0
+IsNoSymbol (atom at (symbol x)) = ⊥
+IsNoSymbol _ = Unit {0}
+
+-- no list without a dot
+abbrev pub IsNoList : Datum → Type 0
+IsNoList (list at xs) = ⊥
+IsNoList _ = Unit {0}
+
+-- not of the shape `(v i)`
+abbrev pub IsNoBinding : Datum → Type 0
+IsNoBinding (list at (cons (atom q (symbol x)) (cons i none))) = ⊥
+IsNoBinding _ = Unit {0}
+
+-- the first datum of a list that has one
+abbrev pub first : Datum → Datum
+first (list at (cons x xs)) = x
+first d = d
