@@ -1,5 +1,5 @@
 -- What loops over data have built, and what is left.
-use Rattle.std.proofs.Common.{◌≡◌, ℕ, zero, suc, ◌+◌, ◌<◌, ◌≤◌, List, [], ◌∷◌, ◌++◌, length, map, drop, false, get_or, nat_eq, refl, sym, ap, ◌∙◌, arith, add-one, drop-cons, Option, None, Some}
+use Rattle.std.proofs.Common.{◌≡◌, ℕ, zero, suc, ◌+◌, ◌<◌, ◌≤◌, List, [], ◌∷◌, ◌++◌, length, map, drop, cond, false, get_or, nat_eq, refl, sym, ap, ◌∙◌, arith, add-one, drop-cons, Option, None, Some}
 use Rattle.std.proofs.lemmas.List.{drop_all, map-append}
 use Rattle.std.proofs.lemmas.Bool.Decides.{nat_tests}
 use Rattle.sch_read.specs.declared.datum.Datum.{Datum}
@@ -11,7 +11,12 @@ use Rattle.sch_core.specs.Draft as plain
 use Rattle.sch_core.specs.Draft.{Drafts, drafts, no_drafts, and_draft}
 use Rattle.sch_core.specs.DraftView.{draft_of, drafts_of}
 use Rattle.sch_core.specs.Following.{and_then}
-use Rattle.sch_core.proofs.Steps.{is_none}
+use Rattle.sch_read.specs.Grammar as grammar
+use Rattle.sch_core.specs.declared.word.Position.{Position}
+use Rattle.sch_core.specs.declared.word.Position.TheVariants.{Value}
+use Rattle.sch_core.specs.Scope.{Scope}
+use Rattle.sch_core.specs.Builds.{built, built_each, built_inits, built_parts, least, least_each, least_inits, least_parts}
+use Rattle.sch_core.proofs.Steps.{is_none, part_made, part_least}
 use Rattle.sch_read.specs.Valid.{weight, weights}
 use Rattle.sch_core.specs.Scope.{how_many}
 
@@ -77,3 +82,38 @@ last_is [] i l = absurd (omega arith)
 last_is (x ∷ []) zero l = refl
 last_is (x ∷ y ∷ xs) zero l = sym (eq_below 1 (length (x ∷ y ∷ xs)) (omega arith))
 last_is (x ∷ xs) (suc i) l = last_is xs i (omega arith) ∙ sym (eq_next i (length xs))
+
+-- ## Operands, inits and parts
+
+module _ (g : List (List ℕ)) (n : ℕ) (s : Scope) (items : List Datum) (all : List Draft) (i : ℕ) (d : Datum) (q : Draft) (r : Drafts) (l : i < length items) (e : d ≡ get_or items i d) where
+  pub each_made : draft_of q ≡ built g n s Value (tree_of d) → and_then (map draft_of all) (built_each g n s (data_of (drop i items))) ≡ r →
+      and_then (map draft_of (all ++ q ∷ [])) (built_each g n s (data_of (drop (i + 1) items))) ≡ r
+  each_made h k = next_made (built_each g n s) items all i d q r l e (ap (λ x. and_draft x (built_each g n s (data_of (drop (suc i) items)))) (sym h)) k
+
+  pub inits_made : {p m : ℕ} {x : List ℕ} {init : grammar.Datum} → tree_of d ≡ grammar.list p (cons (grammar.atom m (grammar.symbol x)) (cons init none)) → draft_of q ≡ built g n s Value init →
+      and_then (map draft_of all) (built_inits g n s (data_of (drop i items))) ≡ r → and_then (map draft_of (all ++ q ∷ [])) (built_inits g n s (data_of (drop (i + 1) items))) ≡ r
+  inits_made b h k = next_made (built_inits g n s) items all i d q r l e
+      (ap (λ x. built_inits g n s (cons x (data_of (drop (suc i) items)))) b ∙ ap (λ x. and_draft x (built_inits g n s (data_of (drop (suc i) items)))) (sym h)) k
+
+  pub parts_made : (t p : Position) → p ≡ cond (nat_eq (i + 1) (length items)) t Value → draft_of q ≡ built g n s p (tree_of d) →
+      and_then (map draft_of all) (built_parts g n s t (data_of (drop i items))) ≡ r → and_then (map draft_of (all ++ q ∷ [])) (built_parts g n s t (data_of (drop (i + 1) items))) ≡ r
+  parts_made t p w h k =
+      let v : p ≡ cond (is_none (data_of (drop (suc i) items))) t Value = w ∙ ap (λ b. cond b t Value) (sym (last_is items i l)) in
+      next_made (built_parts g n s t) items all i d q r l e
+          (part_made g n s t (tree_of d) (data_of (drop (suc i) items)) ∙ ap (λ x. and_draft x (built_parts g n s t (data_of (drop (suc i) items)))) (ap (λ y. built g n s y (tree_of d)) (sym v) ∙ sym h)) k
+
+module _ (g : List (List ℕ)) (n : ℕ) (s : Scope) (items : List Datum) (i : ℕ) (d : Datum) (o o' r : Option Fault) (l : i < length items) (e : d ≡ get_or items i d) where
+  pub each_least_made : o' ≡ least g n s Value (tree_of d) o → least_each g n s (data_of (drop i items)) o ≡ r → least_each g n s (data_of (drop (i + 1) items)) o' ≡ r
+  each_least_made h k = next_least (least_each g n s) items i d o o' r l e (ap (least_each g n s (data_of (drop (suc i) items))) (sym h)) k
+
+  pub inits_least_made : {p m : ℕ} {x : List ℕ} {init : grammar.Datum} → tree_of d ≡ grammar.list p (cons (grammar.atom m (grammar.symbol x)) (cons init none)) → o' ≡ least g n s Value init o →
+      least_inits g n s (data_of (drop i items)) o ≡ r → least_inits g n s (data_of (drop (i + 1) items)) o' ≡ r
+  inits_least_made b h k = next_least (least_inits g n s) items i d o o' r l e
+      (ap (λ x. least_inits g n s (cons x (data_of (drop (suc i) items))) o) b ∙ ap (least_inits g n s (data_of (drop (suc i) items))) (sym h)) k
+
+  pub parts_least_made : (t p : Position) → p ≡ cond (nat_eq (i + 1) (length items)) t Value → o' ≡ least g n s p (tree_of d) o →
+      least_parts g n s t (data_of (drop i items)) o ≡ r → least_parts g n s t (data_of (drop (i + 1) items)) o' ≡ r
+  parts_least_made t p w h k =
+      let v : p ≡ cond (is_none (data_of (drop (suc i) items))) t Value = w ∙ ap (λ b. cond b t Value) (sym (last_is items i l)) in
+      next_least (least_parts g n s t) items i d o o' r l e
+          (part_least g n s t (tree_of d) (data_of (drop (suc i) items)) o ∙ ap (least_parts g n s t (data_of (drop (suc i) items))) (ap (λ y. least g n s y (tree_of d) o) (sym v) ∙ sym h)) k

@@ -85,9 +85,10 @@ module _ (g : List (List ℕ)) (n : ℕ) (s : Scope) (t : Position) where
       h ∙ rw (a ∙ ap (λ z. cons z r) a' ∙ ap (cons (list p bs)) a'', d', l', c, q, v, w, j, i, m, a'') refl
 
   pub let_plain_least : (at : ℕ) {xs r es bs : Data} {b e : Datum} {p m : ℕ} {k : LetKind} → xs ≡ cons b r → b ≡ list p bs → r ≡ cons e es → k ≡ let_kind (reverse s) bs e r →
-      (k ≡ Bad → ⊥) → (k ≡ Defining → ⊥) → Deeper n 0 m → (s1 s2 s3 : Scope) → s1 ≡ s → s2 ≡ s1 → reverse s3 ≡ with_bindings bs (reverse s2) → (o o1 o2 o3 : Option Fault) →
-      o1 ≡ all_noted (operand_faults at (how_many bs)) o → o2 ≡ least_inits g m (reverse s1) bs o1 → o3 ≡ least_form g Begin at m (reverse s3) t r o2 → o3 ≡ least_form g Let at n (reverse s) t xs o
-  let_plain_least at {xs} {r} {es} {bs} {b} {e} {p} a a' a'' k x y (l, m) s1 s2 s3 i j w o o1 o2 o3 h q v =
+      (k ≡ Bad → ⊥) → (k ≡ Defining → ⊥) → Deeper n 0 m → (s1 s2 s3 : Scope) → s1 ≡ s → s2 ≡ s1 → reverse s3 ≡ with_bindings bs (reverse s2) → (o o1 o2 o3 : Option Fault) (c : ℕ) → c ≡ how_many bs →
+      o1 ≡ all_noted (operand_faults at c) o → o2 ≡ least_inits g m (reverse s1) bs o1 → o3 ≡ least_form g Begin at m (reverse s3) t r o2 → o3 ≡ least_form g Let at n (reverse s) t xs o
+  let_plain_least at {xs} {r} {es} {bs} {b} {e} {p} a a' a'' k x y (l, m) s1 s2 s3 i j w o o1 o2 o3 c' z h' q v =
+      let h = h' ∙ ap (λ u. all_noted (operand_faults at u) o) z in
       let l' = here n l in
       let f = plain_kind _ _ k x y in
       let d = f.0 in
@@ -106,9 +107,10 @@ module _ (g : List (List ℕ)) (n : ℕ) (s : Scope) (t : Position) where
       h ∙ rw (a ∙ ap (λ z. cons z r) a' ∙ ap (cons (list p bs)) a'', d', l', c) refl
 
   pub let_defining_least : (at : ℕ) {xs r es bs : Data} {b e : Datum} {p m q : ℕ} {k : LetKind} → xs ≡ cons b r → b ≡ list p bs → r ≡ cons e es → k ≡ let_kind (reverse s) bs e r →
-      k ≡ Defining → Deeper n 0 m → (s1 : Scope) → s1 ≡ s → (o o1 o2 o3 : Option Fault) →
-      o1 ≡ all_noted (operand_faults at (how_many bs)) o → o2 ≡ least_inits g m (reverse s1) bs o1 → q ≡ place e → o3 ≡ noted (Unbuilt q) o2 → o3 ≡ least_form g Let at n (reverse s) t xs o
-  let_defining_least at {xs} {r} {es} {bs} {b} {e} {p} a a' a'' k x (l, m) s1 i o o1 o2 o3 h q j v =
+      k ≡ Defining → Deeper n 0 m → (s1 : Scope) → s1 ≡ s → (o o1 o2 o3 : Option Fault) (c : ℕ) → c ≡ how_many bs →
+      o1 ≡ all_noted (operand_faults at c) o → o2 ≡ least_inits g m (reverse s1) bs o1 → q ≡ place e → o3 ≡ noted (Unbuilt q) o2 → o3 ≡ least_form g Let at n (reverse s) t xs o
+  let_defining_least at {xs} {r} {es} {bs} {b} {e} {p} a a' a'' k x (l, m) s1 i o o1 o2 o3 c' z h' q j v =
+      let h = h' ∙ ap (λ u. all_noted (operand_faults at u) o) z in
       let l' = here n l in
       let f = defining_kind _ _ k x in
       let d = f.0 in

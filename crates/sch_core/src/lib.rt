@@ -11,4 +11,5 @@ mod parts;
 mod quotation;
 mod scope;
 mod shape;
+mod walk;
 mod word;
