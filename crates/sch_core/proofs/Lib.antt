@@ -5,3 +5,5 @@ pub mod NameLemmas
 pub mod Joining
 pub mod Loops
 pub mod Steps
+pub mod TopAgree
+pub mod TopSteps

@@ -14,3 +14,4 @@ pub mod HeadView
 pub mod Shapes
 pub mod LetKinds
 pub mod Following
+pub mod Forms

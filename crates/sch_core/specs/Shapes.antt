@@ -1,6 +1,9 @@
 -- Shapes of data.
-use Rattle.std.specs.Prelude.{ℕ}
+use Rattle.std.specs.Prelude.{◌≡◌, ℕ, List, Some}
 use Rattle.sch_read.specs.Grammar.{Datum, Data, atom, list, dotted, vector, none, cons, symbol}
+use Rattle.sch_core.specs.declared.word.Keyword.{Keyword}
+use Rattle.sch_core.specs.Words.{keyword_of}
+use Rattle.sch_core.specs.Scope.{place}
 
 abbrev pub IsNoSymbol : Datum → Type 0
 IsNoSymbol (atom at (symbol x)) = ⊥
@@ -20,3 +23,10 @@ IsNoBinding _ = Unit {0}
 abbrev pub first : Datum → Datum
 first (list at (cons x xs)) = x
 first d = d
+
+-- a list that begins with a keyword, and what follows it
+pub record IsHeaded (d : Datum) (k : Keyword) (xs : Data) : Type 0 where
+  pub name_place : ℕ
+  pub name : List ℕ
+  pub shape : d ≡ list (place d) (cons (atom name_place (symbol name)) xs)
+  pub word : keyword_of name ≡ Some k

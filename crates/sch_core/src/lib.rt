@@ -11,5 +11,6 @@ mod parts;
 mod quotation;
 mod scope;
 mod shape;
+mod text;
 mod walk;
 mod word;
