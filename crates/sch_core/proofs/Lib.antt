@@ -7,3 +7,4 @@ pub mod Loops
 pub mod Steps
 pub mod TopAgree
 pub mod TopSteps
+pub mod Top

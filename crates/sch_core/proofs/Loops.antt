@@ -37,7 +37,7 @@ pub and_then_more : (es : List plain.Draft) (e : plain.Draft) (rest : Drafts) �
 and_then_more [] e rest = refl
 and_then_more (a ∷ es) e rest = ap (and_draft a) (and_then_more es e rest)
 
-next_is : (items : List Datum) (i : ℕ) (d : Datum) → i < length items → d ≡ get_or items i d → drop i items ≡ d ∷ drop (suc i) items
+pub next_is : (items : List Datum) (i : ℕ) (d : Datum) → i < length items → d ≡ get_or items i d → drop i items ≡ d ∷ drop (suc i) items
 next_is items i d l e = drop-cons items i d l ∙ ap (λ a. a ∷ drop (suc i) items) (sym e)
 
 pub next_made : (F : Data → Drafts) (items : List Datum) (all : List Draft) (i : ℕ) (d : Datum) (q : Draft) (r : Drafts) → i < length items → d ≡ get_or items i d →

@@ -15,3 +15,4 @@ pub mod Shapes
 pub mod LetKinds
 pub mod Following
 pub mod Forms
+pub mod Answer

@@ -1,8 +1,10 @@
 //! The expander: data to a program of the core language.
 #![tactic(auto)]
 
+mod forms;
 mod combine;
 mod draft;
+mod error;
 mod fault;
 mod names;
 mod notes;
@@ -14,3 +16,6 @@ mod shape;
 mod text;
 mod walk;
 mod word;
+
+pub use forms::check;
+pub use error::{CoreError, Kind};
