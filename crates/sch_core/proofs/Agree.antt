@@ -1,8 +1,7 @@
 -- A datum without faults has one draft, and one with a fault has none.
-use Rattle.std.proofs.Common.{◌≡◌, ◌⊎◌, inl, inr, ◌≤◌, ◌+◌, ℕ, ℤ, zero, suc, Bool, true, false, cond, ◌&&◌, not, List, [], ◌∷◌, ◌++◌, Option, Some, None, nat_le, refl, sym, ◌∙◌, ap, subst, arith}
-use Rattle.std.proofs.lemmas.Bool.{leb-true, leb-false}
+use Rattle.std.proofs.Common.{◌≡◌, ◌⊎◌, inl, inr, ◌≤◌, ◌+◌, ℕ, suc, Bool, true, false, cond, ◌&&◌, List, [], ◌∷◌, ◌++◌, Option, Some, None, nat_le, refl, ap, arith}
+use Rattle.std.proofs.lemmas.Bool.{leb-true}
 use Rattle.std.proofs.lemmas.Bool.Decides.{nat_tests}
-use Rattle.sch_word.specs.declared.constant.Const.TheVariants.{Fixnum, Character, Boolean, Nil, Unspecified}
 use Rattle.sch_lang.specs.Valid.{most_levels, most_operands}
 use Rattle.sch_read.specs.Grammar.{Datum, Data, atom, list, dotted, vector, none, cons, boolean, integer, character, text, symbol}
 use Rattle.sch_core.specs.declared.word.Keyword.{Keyword}
@@ -12,16 +11,16 @@ use Rattle.sch_core.specs.declared.word.Position.TheVariants.{Value, Test}
 use Rattle.sch_core.specs.declared.operation.Operation.{Operation}
 use Rattle.sch_core.specs.declared.operation.Operation.TheVariants.{Exact, Unit, UnitAnd, Nested, Chained, Newline}
 use Rattle.sch_core.specs.declared.fault.Fault.{Fault}
-use Rattle.sch_core.specs.declared.fault.Fault.TheVariants.{Unbuilt, BadForm, Unbound, Operands, Core}
+use Rattle.sch_core.specs.declared.fault.Fault.TheVariants.{Unbuilt, BadForm, Operands, Core}
 use Rattle.sch_core.specs.Words.{keyword_of}
-use Rattle.sch_core.specs.Draft.{Draft, Drafts, constant, local, global, branch, sequence, bind, operation, no_drafts, and_draft}
+use Rattle.sch_core.specs.Draft.{Draft, Drafts, bind, and_draft}
 use Rattle.sch_core.specs.Scope.{Scope, find, is_among, Head, form, operating, calling, head_of, by_head, how_many, place, with_bindings, are_bindings}
-use Rattle.sch_core.specs.Definitions.{is_definition, are_definitions}
+use Rattle.sch_core.specs.Definitions.{is_definition}
 use Rattle.sch_core.specs.Combined.{combined, own_depth, whole_depth}
 use Rattle.sch_core.specs.Expands.{nothing, IsLevel, AreFew, let_is_shaped}
 use Rattle.sch_core.specs.Expands as ex
 use Rattle.sch_core.specs.Expands.{Expands, FormExpands, EachExpands, InitsExpand, PartsExpand}
-use Rattle.sch_core.specs.Faults.{IsIn, level_faults, operand_faults, name_faults, chain_faults, own_faults, misuse, quoted_faults, quote_faults, HasFault, FormHasFault, AnyHasFault, InitHasFault, PartHasFault}
+use Rattle.sch_core.specs.Faults.{IsIn, level_faults, operand_faults, name_faults, chain_faults, own_faults, quoted_faults, quote_faults, HasFault, FormHasFault, AnyHasFault, InitHasFault, PartHasFault}
 use Rattle.sch_core.specs.Builds.{variable, quoted, quotation, built, built_form, built_each, built_inits, built_parts}
 
 abbrev pub Free : (Fault → Type 0) → Type 0
@@ -176,8 +175,10 @@ module _ (globals : List (List ℕ)) where
     clean (ex.a_form n s t at q x xs k e h r) f i = let j = rw h at i in clean_form at r f j
     clean (ex.an_operation n s t at q x xs o es h w l r) f i =
         let j = rw h at i in
-        elim j [ inl j ↦ few_clean at (how_many xs) w f j
-          | inr j ↦ elim j [ inl j ↦ own_clean o n at xs l f j | inr j ↦ clean_each r f (either _ _ j) ] ]
+        elim j [
+          | inl j ↦ few_clean at (how_many xs) w f j
+          | inr j ↦ elim j [ inl j ↦ own_clean o n at xs l f j | inr j ↦ clean_each r f (either _ _ j) ]
+        ]
 
     clean_form : {k : Keyword} {n : ℕ} {s : Scope} {t : Position} {xs : Data} {e : Draft} (at : ℕ) → FormExpands globals k n s t xs e → Free (FormHasFault globals k at n s t xs)
     clean_form at (ex.quote_boolean n s t q b l) f i = level_clean n at l f i
@@ -189,8 +190,10 @@ module _ (globals : List (List ℕ)) where
     clean_form at (ex.if_one n s t a b x y l p q) f i = let j = rw l at i in elim j [ inl j ↦ clean p f j | inr j ↦ clean q f j ]
     clean_form at (ex.lets n s t q bs e es is b h d w l p r) f i =
         let j = rw (h, l, d) at i in
-        elim j [ inl j ↦ few_clean at (how_many bs) w f j
-          | inr j ↦ elim j [ inl j ↦ clean_inits p f j | inr j ↦ clean_form at r f j ] ]
+        elim j [
+          | inl j ↦ few_clean at (how_many bs) w f j
+          | inr j ↦ elim j [ inl j ↦ clean_inits p f j | inr j ↦ clean_form at r f j ]
+        ]
     clean_form at (ex.begin_one n s t e x p) f i = clean p f i
     clean_form at (ex.begin_more n s t e e' es x xs l p q) f i =
         let j = rw l at i in elim j [ inl j ↦ clean p f j | inr j ↦ clean_parts q f j ]
@@ -217,7 +220,7 @@ module _ (globals : List (List ℕ)) where
   operation_expands : (n : ℕ) (s : Scope) (t : Position) (at q : ℕ) (x : List ℕ) (xs : Data) (o : Operation) (es : Drafts) →
       head_of globals s x (how_many xs) ≡ operating o →
       Free (λ f. IsIn f (operand_faults at (how_many xs)) ⊎ (IsIn f (own_faults o n at xs)
-                ⊎ cond (nat_le (n + own_depth o (how_many xs)) most_levels) (AnyHasFault globals (n + 1) s xs f) ⊥)) →
+      ⊎ cond (nat_le (n + own_depth o (how_many xs)) most_levels) (AnyHasFault globals (n + 1) s xs f) ⊥)) →
       (Free (AnyHasFault globals (n + 1) s xs) → EachExpands globals (n + 1) s xs es) →
       Expands globals n s t (list at (cons (atom q (symbol x)) xs)) (cond (nat_le (n + whole_depth o (how_many xs)) most_levels) (combined o (how_many xs) es) nothing)
   operation_expands n s t at q x xs o es e h r =
@@ -229,13 +232,13 @@ module _ (globals : List (List ℕ)) where
 
   head_expands : (n : ℕ) (s : Scope) (t : Position) (at q : ℕ) (x : List ℕ) (xs : Data) (h : Head) → head_of globals s x (how_many xs) ≡ h →
       Free (λ f. by_head h (λ k. FormHasFault globals k at n s t xs f)
-          (λ o. IsIn f (operand_faults at (how_many xs)) ⊎ (IsIn f (own_faults o n at xs)
-                ⊎ cond (nat_le (n + own_depth o (how_many xs)) most_levels) (AnyHasFault globals (n + 1) s xs f) ⊥)) (f ≡ Unbuilt at)) →
+      (λ o. IsIn f (operand_faults at (how_many xs)) ⊎ (IsIn f (own_faults o n at xs)
+      ⊎ cond (nat_le (n + own_depth o (how_many xs)) most_levels) (AnyHasFault globals (n + 1) s xs f) ⊥)) (f ≡ Unbuilt at)) →
       ((k : Keyword) → Free (FormHasFault globals k at n s t xs) → FormExpands globals k n s t xs (built_form globals k n s t xs)) →
       (Free (AnyHasFault globals (n + 1) s xs) → EachExpands globals (n + 1) s xs (built_each globals (n + 1) s xs)) →
       Expands globals n s t (list at (cons (atom q (symbol x)) xs))
-          (by_head h (λ k. built_form globals k n s t xs)
-              (λ o. cond (nat_le (n + whole_depth o (how_many xs)) most_levels) (combined o (how_many xs) (built_each globals (n + 1) s xs)) nothing) nothing)
+      (by_head h (λ k. built_form globals k n s t xs)
+      (λ o. cond (nat_le (n + whole_depth o (how_many xs)) most_levels) (combined o (how_many xs) (built_each globals (n + 1) s xs)) nothing) nothing)
   head_expands n s t at q x xs (form k) e h g r = ex.a_form n s t at q x xs k _ e (g k h)
   head_expands n s t at q x xs (operating o) e h g r = operation_expands n s t at q x xs o _ e h r
   head_expands n s t at q x xs calling e h g r = absurd (h _ refl)
@@ -254,23 +257,23 @@ module _ (globals : List (List ℕ)) where
 
   let_expands : (at n : ℕ) (s : Scope) (t : Position) (q : ℕ) (bs : Data) (e : Datum) (es : Data) (is : Drafts) (b : Draft) →
       Free (λ f. cond (let_is_shaped s bs (cons e es))
-            (IsIn f (operand_faults at (how_many bs)) ⊎ cond (nat_le n most_levels)
-                (InitHasFault globals (n + 1) s bs f ⊎ cond (is_definition (with_bindings bs s) e) (f ≡ Unbuilt (place e))
-                    (FormHasFault globals Begin at (n + 1) (with_bindings bs s) t (cons e es) f))
-                (f ≡ Core at))
-            (f ≡ BadForm at)) →
+      (IsIn f (operand_faults at (how_many bs)) ⊎ cond (nat_le n most_levels)
+      (InitHasFault globals (n + 1) s bs f ⊎ cond (is_definition (with_bindings bs s) e) (f ≡ Unbuilt (place e))
+      (FormHasFault globals Begin at (n + 1) (with_bindings bs s) t (cons e es) f))
+      (f ≡ Core at))
+      (f ≡ BadForm at)) →
       (are_bindings [] bs ≡ true → Free (InitHasFault globals (n + 1) s bs) → InitsExpand globals (n + 1) s bs is) →
       (Free (FormHasFault globals Begin at (n + 1) (with_bindings bs s) t (cons e es)) → FormExpands globals Begin (n + 1) (with_bindings bs s) t (cons e es) b) →
       FormExpands globals Let n s t (cons (list q bs) (cons e es))
-          (cond (let_is_shaped s bs (cons e es)) (cond (nat_le n most_levels) (cond (is_definition (with_bindings bs s) e) nothing (bind is b)) nothing) nothing)
+      (cond (let_is_shaped s bs (cons e es)) (cond (nat_le n most_levels) (cond (is_definition (with_bindings bs s) e) nothing (bind is b)) nothing) nothing)
   let_expands at n s t q bs e es is b h r r' =
       let g = chosen (λ f. IsIn f (operand_faults at (how_many bs)) ⊎ cond (nat_le n most_levels)
-                (InitHasFault globals (n + 1) s bs f ⊎ cond (is_definition (with_bindings bs s) e) (f ≡ Unbuilt (place e))
-                    (FormHasFault globals Begin at (n + 1) (with_bindings bs s) t (cons e es) f))
-                (f ≡ Core at)) (BadForm at) (let_is_shaped s bs (cons e es)) refl h in
+      (InitHasFault globals (n + 1) s bs f ⊎ cond (is_definition (with_bindings bs s) e) (f ≡ Unbuilt (place e))
+      (FormHasFault globals Begin at (n + 1) (with_bindings bs s) t (cons e es) f))
+      (f ≡ Core at)) (BadForm at) (let_is_shaped s bs (cons e es)) refl h in
       let w = few_free at (how_many bs) _ refl (λ f i. g.1 f (inl i)) in
       let k = chosen (λ f. InitHasFault globals (n + 1) s bs f ⊎ cond (is_definition (with_bindings bs s) e) (f ≡ Unbuilt (place e)) (FormHasFault globals Begin at (n + 1) (with_bindings bs s) t (cons e es) f))
-          (Core at) (nat_le n most_levels) refl (λ f i. g.1 f (inr i)) in
+      (Core at) (nat_le n most_levels) refl (λ f i. g.1 f (inr i)) in
       let m = not_chosen (FormHasFault globals Begin at (n + 1) (with_bindings bs s) t (cons e es)) (Unbuilt (place e)) (is_definition (with_bindings bs s) e) refl (λ f i. k.1 f (inr i)) in
       rw (g.0, k.0, m.0) (ex.lets n s t q bs e es is b g.0 m.0 w k.0 (r (both _ _ g.0) (λ f i. k.1 f (inl i))) (r' m.1))
 

@@ -1,7 +1,7 @@
 -- The fault that is found is the least.
-use Rattle.std.proofs.Common.{◌≡◌, ◌⊎◌, inl, inr, ◌≤◌, ◌+◌, ℕ, zero, suc, Bool, true, false, cond, List, [], ◌∷◌, Option, Some, None, nat_le, refl, sym, ◌∙◌, ap, subst, arith}
+use Rattle.std.proofs.Common.{◌≡◌, ◌⊎◌, inl, inr, ◌≤◌, ◌+◌, ℕ, Bool, true, false, cond, List, [], ◌∷◌, Option, Some, None, nat_le, refl, sym, arith}
 use Rattle.std.proofs.lemmas.Bool.{leb-true, leb-false}
-use Rattle.sch_lang.specs.Valid.{most_levels, most_operands}
+use Rattle.sch_lang.specs.Valid.{most_levels}
 use Rattle.sch_read.specs.Grammar.{Datum, Data, atom, list, dotted, vector, none, cons, boolean, integer, character, text, symbol}
 use Rattle.sch_core.specs.declared.word.Keyword.{Keyword}
 use Rattle.sch_core.specs.declared.word.Keyword.TheVariants.{Quote, If, Let, Begin}
@@ -82,9 +82,9 @@ module _ (globals : List (List ℕ)) where
     best n s t (list at none) o = one_new (BadForm at) o
     best n s t (list at (cons (atom q (symbol x)) xs)) o =
         head_best (head_of globals s x (how_many xs)) o _ _ _ (λ k. form_best k at n s t xs o)
-            (λ p. and_then (all_new (operand_faults at (how_many xs)) o) (and_then (all_new (own_faults p n at xs) _)
-                (cond_best (nat_le (n + own_depth p (how_many xs)) most_levels) (each_best (n + 1) s xs _) (none_new _))))
-            (one_new (Unbuilt at) o)
+        (λ p. and_then (all_new (operand_faults at (how_many xs)) o) (and_then (all_new (own_faults p n at xs) _)
+        (cond_best (nat_le (n + own_depth p (how_many xs)) most_levels) (each_best (n + 1) s xs _) (none_new _))))
+        (one_new (Unbuilt at) o)
     best n s t (list at (cons g xs)) o = one_new (Unbuilt at) o
     best n s t (dotted at xs x) o = one_new (BadForm at) o
     best n s t (vector at xs) o = one_new (BadForm at) o
@@ -98,13 +98,13 @@ module _ (globals : List (List ℕ)) where
     form_best Let at n s t (cons (atom q (symbol x)) es) o = one_new (Unbuilt at) o
     form_best Let at n s t (cons (list q bs) (cons e es)) o =
         cond_best (let_is_shaped s bs (cons e es))
-            (and_then (all_new (operand_faults at (how_many bs)) o)
-                (cond_best (nat_le n most_levels)
-                    (and_then (inits_best (n + 1) s bs _)
-                        (cond_best (is_definition (with_bindings bs s) e) (one_new (Unbuilt (place e)) _)
-                            (form_best Begin at (n + 1) (with_bindings bs s) t (cons e es) _)))
-                    (one_new (Core at) _)))
-            (one_new (BadForm at) o)
+        (and_then (all_new (operand_faults at (how_many bs)) o)
+        (cond_best (nat_le n most_levels)
+        (and_then (inits_best (n + 1) s bs _)
+        (cond_best (is_definition (with_bindings bs s) e) (one_new (Unbuilt (place e)) _)
+        (form_best Begin at (n + 1) (with_bindings bs s) t (cons e es) _)))
+        (one_new (Core at) _)))
+        (one_new (BadForm at) o)
     form_best Begin at n s t (cons e none) o = best n s t e o
     form_best Begin at n s t (cons e (cons e' es)) o =
         cond_best (nat_le n most_levels) (and_then (best (n + 1) s Value e o) (parts_best (n + 1) s t (cons e' es) _)) (one_new (Core at) o)

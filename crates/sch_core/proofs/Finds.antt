@@ -1,8 +1,7 @@
 -- Look-ups, step by step.
-use Rattle.std.proofs.Common.{◌≡◌, ℕ, zero, suc, ◌+◌, ◌-◌, ◌<◌, ◌≤◌, Bool, true, false, cond, List, [], ◌∷◌, length, reverse, drop, get_or, Option, Some, None, refl, sym, ◌∙◌, ap, subst, arith, add-one, drop-cons}
+use Rattle.std.proofs.Common.{◌≡◌, ℕ, suc, ◌+◌, ◌-◌, ◌<◌, ◌≤◌, true, false, List, ◌∷◌, length, reverse, drop, get_or, Option, Some, None, refl, sym, ◌∙◌, ap, arith, add-one, drop-cons}
 use Rattle.std.proofs.lemmas.List.{drop_all, get_or-reverse, length-reverse}
-use Rattle.std.specs.Str.{bytes_eq}
-use Rattle.sch_core.specs.Scope.{Scope, find, is_among, is_named, farther}
+use Rattle.sch_core.specs.Scope.{Scope, find, is_named, farther}
 
 abbrev pub further : ℕ → Option ℕ → Option ℕ
 further k None = None
@@ -15,7 +14,6 @@ further_zero (Some n) = ap Some (omega arith)
 further_suc : (k : ℕ) (o : Option ℕ) → further k (farther o) ≡ further (k + 1) o
 further_suc k None = refl
 further_suc k (Some n) = ap Some (omega arith)
-
 
 pub find_start : (s : Scope) (x : List ℕ) → further 0 (find (drop 0 s) x) ≡ find s x
 find_start s x = further_zero _

@@ -1,5 +1,5 @@
 -- Operands that are joined, step by step.
-use Rattle.std.proofs.Common.{◌≡◌, ◌+◌, ◌-◌, ◌<◌, ◌≤◌, ℕ, zero, suc, true, false, refl, sym, ap, ◌∙◌, arith, add-one}
+use Rattle.std.proofs.Common.{◌≡◌, ◌+◌, ◌-◌, ◌<◌, ◌≤◌, ℕ, zero, suc, false, refl, ap, ◌∙◌, arith, add-one}
 use Rattle.sch_word.specs.declared.constant.Const.TheVariants.{Boolean}
 use Rattle.sch_word.specs.declared.primitive.Primitive.{Primitive}
 use Rattle.sch_core.specs.Draft.{Draft, constant, local, branch, operation}

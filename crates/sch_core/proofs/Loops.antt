@@ -1,5 +1,5 @@
 -- What loops over data have built, and what is left.
-use Rattle.std.proofs.Common.{◌≡◌, ℕ, zero, suc, ◌+◌, ◌<◌, ◌≤◌, List, [], ◌∷◌, ◌++◌, length, map, drop, cond, false, get_or, nat_eq, refl, sym, ap, ◌∙◌, arith, add-one, drop-cons, Option, None, Some}
+use Rattle.std.proofs.Common.{◌≡◌, ℕ, zero, suc, ◌+◌, ◌<◌, ◌≤◌, List, [], ◌∷◌, ◌++◌, length, map, drop, cond, false, get_or, nat_eq, refl, sym, ap, ◌∙◌, arith, add-one, drop-cons, Option}
 use Rattle.std.proofs.lemmas.List.{drop_all, map-append}
 use Rattle.std.proofs.lemmas.Bool.Decides.{nat_tests}
 use Rattle.sch_read.specs.declared.datum.Datum.{Datum}
@@ -100,7 +100,7 @@ module _ (g : List (List ℕ)) (n : ℕ) (s : Scope) (items : List Datum) (all :
   parts_made t p w h k =
       let v : p ≡ cond (is_none (data_of (drop (suc i) items))) t Value = w ∙ ap (λ b. cond b t Value) (sym (last_is items i l)) in
       next_made (built_parts g n s t) items all i d q r l e
-          (part_made g n s t (tree_of d) (data_of (drop (suc i) items)) ∙ ap (λ x. and_draft x (built_parts g n s t (data_of (drop (suc i) items)))) (ap (λ y. built g n s y (tree_of d)) (sym v) ∙ sym h)) k
+      (part_made g n s t (tree_of d) (data_of (drop (suc i) items)) ∙ ap (λ x. and_draft x (built_parts g n s t (data_of (drop (suc i) items)))) (ap (λ y. built g n s y (tree_of d)) (sym v) ∙ sym h)) k
 
 module _ (g : List (List ℕ)) (n : ℕ) (s : Scope) (items : List Datum) (i : ℕ) (d : Datum) (o o' r : Option Fault) (l : i < length items) (e : d ≡ get_or items i d) where
   pub each_least_made : o' ≡ least g n s Value (tree_of d) o → least_each g n s (data_of (drop i items)) o ≡ r → least_each g n s (data_of (drop (i + 1) items)) o' ≡ r
@@ -116,4 +116,4 @@ module _ (g : List (List ℕ)) (n : ℕ) (s : Scope) (items : List Datum) (i : �
   parts_least_made t p w h k =
       let v : p ≡ cond (is_none (data_of (drop (suc i) items))) t Value = w ∙ ap (λ b. cond b t Value) (sym (last_is items i l)) in
       next_least (least_parts g n s t) items i d o o' r l e
-          (part_least g n s t (tree_of d) (data_of (drop (suc i) items)) o ∙ ap (least_parts g n s t (data_of (drop (suc i) items))) (ap (λ y. least g n s y (tree_of d) o) (sym v) ∙ sym h)) k
+      (part_least g n s t (tree_of d) (data_of (drop (suc i) items)) o ∙ ap (least_parts g n s t (data_of (drop (suc i) items))) (ap (λ y. least g n s y (tree_of d) o) (sym v) ∙ sym h)) k

@@ -1,5 +1,5 @@
 -- The steps of the walk, over plain values.
-use Rattle.std.proofs.Common.{◌≡◌, ℕ, zero, suc, ◌+◌, ◌<◌, ◌≤◌, Bool, true, false, cond, List, [], ◌∷◌, ◌++◌, Option, Some, None, length, map, reverse, drop, take, nat_le, refl, ap, ◌∙◌, sym, subst, arith, add-one, drop-cons}
+use Rattle.std.proofs.Common.{◌≡◌, ℕ, ◌+◌, Bool, true, false, cond, List, Option, Some, None, length, reverse, take, nat_le, refl, ap, ◌∙◌, sym, arith}
 use Rattle.sch_lang.specs.Valid.{most_levels}
 use Rattle.sch_read.specs.Grammar.{Datum, Data, atom, list, dotted, vector, none, cons, boolean, integer, character, text, symbol}
 use Rattle.sch_core.specs.declared.word.Keyword.{Keyword}
@@ -14,15 +14,15 @@ use Rattle.sch_core.specs.declared.shape.LetKind.TheVariants.{Bad, Defining, Pla
 use Rattle.sch_core.specs.declared.scope.Head as code
 use Rattle.sch_core.specs.Words.{keyword_of}
 use Rattle.sch_core.specs.Draft.{Draft, Drafts, branch, sequence, bind, no_drafts, and_draft}
-use Rattle.sch_core.specs.Scope.{Scope, Head, form, operating, calling, head_of, find, place, how_many, with_bindings}
-use Rattle.sch_core.specs.Definitions.{is_definition, are_definitions, defining}
-use Rattle.sch_core.specs.Expands.{nothing, let_is_shaped}
+use Rattle.sch_core.specs.Scope.{Scope, form, operating, head_of, find, place, how_many, with_bindings}
+use Rattle.sch_core.specs.Definitions.{is_definition, are_definitions}
+use Rattle.sch_core.specs.Expands.{nothing}
 use Rattle.sch_core.specs.FaultOrder.{noted, all_noted}
 use Rattle.sch_core.specs.Faults.{operand_faults}
 use Rattle.sch_core.specs.LetKinds.{let_kind}
 use Rattle.sch_core.specs.HeadView.{head_view}
 use Rattle.sch_core.specs.Shapes.{IsNoBinding}
-use Rattle.sch_core.specs.Builds.{built, built_form, built_operation, built_each, built_inits, built_parts, least, least_form, least_operation, least_each, least_inits, least_parts}
+use Rattle.sch_core.specs.Builds.{built, built_form, built_operation, built_inits, built_parts, least, least_form, least_operation, least_inits, least_parts}
 
 pub definition_begins : (s : Scope) (d : Datum) {xs ys : Data} {o : Datum} {x : List ℕ} {p q : ℕ} → d ≡ list p xs → xs ≡ cons o ys → o ≡ atom q (symbol x) →
     find s x ≡ None → keyword_of x ≡ Some Begin → is_definition s d ≡ are_definitions s ys

@@ -1,5 +1,5 @@
 -- A whole text.
-use Rattle.std.proofs.Common.{◌≡◌, ℕ, List, [], ◌++◌, Option, Some, None, map, refl, sym, ◌∙◌, ap, subst}
+use Rattle.std.proofs.Common.{◌≡◌, ℕ, List, [], ◌++◌, Option, Some, None, map, sym, ◌∙◌, ap}
 use Rattle.sch_read.specs.Grammar.{Data}
 use Rattle.sch_core.specs.declared.fault.Fault.{Fault}
 use Rattle.sch_core.specs.declared.draft.Draft as code

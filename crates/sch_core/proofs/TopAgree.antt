@@ -1,6 +1,6 @@
 -- A text without faults has one list of drafts, and one with a fault has none.
-use Rattle.std.proofs.Common.{◌≡◌, ◌⊎◌, inl, inr, ◌≤◌, ℕ, Bool, true, false, cond, List, [], ◌∷◌, ◌++◌, Option, Some, None, refl, sym, ◌∙◌, ap, subst, arith}
-use Rattle.sch_read.specs.Grammar.{Datum, Data, atom, list, dotted, vector, none, cons, boolean, integer, character, text, symbol}
+use Rattle.std.proofs.Common.{◌≡◌, inl, inr, ℕ, true, false, List, [], ◌∷◌, Option, Some, None, refl, sym, ◌∙◌, ap}
+use Rattle.sch_read.specs.Grammar.{Datum, Data, atom, list, dotted, none, cons, symbol}
 use Rattle.sch_core.specs.declared.word.Keyword.{Keyword}
 use Rattle.sch_core.specs.declared.word.Keyword.TheVariants as word
 use Rattle.sch_core.specs.declared.word.Position.TheVariants.{Value}
@@ -8,10 +8,8 @@ use Rattle.sch_core.specs.declared.fault.Fault.{Fault}
 use Rattle.sch_core.specs.declared.fault.Fault.TheVariants.{Unbuilt, BadForm, KeywordDefined}
 use Rattle.sch_core.specs.Words.{keyword_of}
 use Rattle.sch_core.specs.Draft.{Draft, define}
-use Rattle.sch_core.specs.FaultOrder.{rank, noted}
-use Rattle.sch_core.specs.Expands.{Expands}
 use Rattle.sch_core.specs.Faults.{HasFault}
-use Rattle.sch_core.specs.Builds.{built, least}
+use Rattle.sch_core.specs.Builds.{built}
 use Rattle.sch_core.specs.Forms.{by_word, word_of, unless_keyword, globals_of, TopExpands, FormsExpand, ValueHasFault, DefineHasFault, TopHasFault, SomeHasFault, built_value, built_define, least_value, least_define, built_top, built_forms, least_top, least_forms, TextExpands, IsFaultOf}
 use Rattle.sch_core.specs.Forms as fo
 use Rattle.sch_core.proofs.Best.{Best, and_then, none_new, one_new, best, none_some}

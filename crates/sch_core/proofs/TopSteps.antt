@@ -1,5 +1,5 @@
 -- The steps over top-level forms, over plain values.
-use Rattle.std.proofs.Common.{◌≡◌, ℕ, zero, suc, ◌+◌, ◌<◌, ◌≤◌, Bool, true, false, cond, List, [], ◌∷◌, ◌++◌, Option, Some, None, length, map, reverse, drop, get_or, refl, ap, ◌∙◌, sym, subst, arith, add-one, drop-cons}
+use Rattle.std.proofs.Common.{◌≡◌, ℕ, suc, ◌+◌, ◌<◌, cond, List, [], ◌∷◌, ◌++◌, Option, Some, None, length, drop, get_or, refl, ap, ◌∙◌, sym, add-one}
 use Rattle.sch_read.specs.Grammar.{Datum, Data, atom, list, dotted, vector, none, cons, boolean, integer, character, text, symbol}
 use Rattle.sch_core.specs.declared.word.Keyword.{Keyword}
 use Rattle.sch_core.specs.declared.word.Keyword.TheVariants as word
@@ -9,9 +9,8 @@ use Rattle.sch_core.specs.Words.{keyword_of}
 use Rattle.sch_core.specs.FaultOrder.{noted}
 use Rattle.sch_core.specs.Scope.{place}
 use Rattle.sch_core.specs.Shapes.{IsNoSymbol, IsNoList, IsHeaded}
-use Rattle.sch_core.specs.Forms.{ValueHasFault, built_value, least_value, unless_keyword, by_word, word_of, first_name, head_name, named, named_if, defined_name, defined_by, defined, firsts, is_listed, built_define, built_top, built_forms, least_define, least_top, least_forms}
+use Rattle.sch_core.specs.Forms.{built_value, least_value, by_word, word_of, first_name, head_name, named_if, defined_name, defined_by, defined, firsts, is_listed, built_define, built_top, built_forms, least_define, least_top, least_forms}
 use Rattle.sch_core.specs.Builds.{built, least}
-use Rattle.sch_core.specs.Draft.{Draft}
 use Rattle.sch_core.specs.NamesView.{with_name}
 use Rattle.sch_read.specs.declared.datum.Datum as code
 use Rattle.sch_read.specs.Views.{tree_of, data_of}

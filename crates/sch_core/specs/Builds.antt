@@ -1,8 +1,8 @@
 -- The draft that is built for a datum, and the least fault, form by form. Both compute; they agree with
 -- the relation and the faults.
-use Rattle.std.specs.Prelude.{ℕ, zero, suc, ◌+◌, Bool, true, false, cond, List, [], ◌∷◌, Option, Some, None, nat_le}
-use Rattle.sch_word.specs.declared.constant.Const.TheVariants.{Fixnum, Character, Boolean, Nil, Unspecified}
-use Rattle.sch_lang.specs.Valid.{most_levels, most_operands}
+use Rattle.std.specs.Prelude.{ℕ, ◌+◌, cond, List, Option, Some, None, nat_le}
+use Rattle.sch_word.specs.declared.constant.Const.TheVariants.{Fixnum, Character, Boolean, Nil}
+use Rattle.sch_lang.specs.Valid.{most_levels}
 use Rattle.sch_read.specs.Grammar.{Datum, Data, atom, list, dotted, vector, none, cons, boolean, integer, character, text, symbol}
 use Rattle.sch_core.specs.declared.word.Keyword.{Keyword}
 use Rattle.sch_core.specs.declared.word.Keyword.TheVariants.{Quote, If, Let, Begin}
@@ -45,8 +45,8 @@ module _ (globals : List (List ℕ)) where
     built n s t (atom at (symbol x)) = variable (find s x) x
     built n s t (list at (cons (atom q (symbol x)) xs)) =
         by_head (head_of globals s x (how_many xs)) (λ k. built_form k n s t xs)
-            (λ o. cond (nat_le (n + whole_depth o (how_many xs)) most_levels) (combined o (how_many xs) (built_each (n + 1) s xs)) nothing)
-            nothing
+        (λ o. cond (nat_le (n + whole_depth o (how_many xs)) most_levels) (combined o (how_many xs) (built_each (n + 1) s xs)) nothing)
+        nothing
     built n s t _ = nothing
 
     pub built_form : Keyword → (level : ℕ) → Scope → Position → Data → Draft
@@ -57,11 +57,11 @@ module _ (globals : List (List ℕ)) where
         cond (nat_le (n + 1) most_levels) (branch (built (n + 1) s Test a) (built (n + 1) s t b) nothing) nothing
     built_form Let n s t (cons (list q bs) (cons e es)) =
         cond (let_is_shaped s bs (cons e es))
-            (cond (nat_le n most_levels)
-                (cond (is_definition (with_bindings bs s) e) nothing
-                    (bind (built_inits (n + 1) s bs) (built_form Begin (n + 1) (with_bindings bs s) t (cons e es))))
-                nothing)
-            nothing
+        (cond (nat_le n most_levels)
+        (cond (is_definition (with_bindings bs s) e) nothing
+        (bind (built_inits (n + 1) s bs) (built_form Begin (n + 1) (with_bindings bs s) t (cons e es))))
+        nothing)
+        nothing
     built_form Begin n s t (cons e none) = built n s t e
     built_form Begin n s t (cons e (cons e' es)) =
         cond (nat_le n most_levels) (sequence (and_draft (built (n + 1) s Value e) (built_parts (n + 1) s t (cons e' es)))) nothing
@@ -91,10 +91,10 @@ module _ (globals : List (List ℕ)) where
     least n s t (list at none) o = noted (BadForm at) o
     least n s t (list at (cons (atom q (symbol x)) xs)) o =
         by_head (head_of globals s x (how_many xs)) (λ k. least_form k at n s t xs o)
-            (λ p. cond (nat_le (n + own_depth p (how_many xs)) most_levels)
-                (least_each (n + 1) s xs (all_noted (own_faults p n at xs) (all_noted (operand_faults at (how_many xs)) o)))
-                (all_noted (own_faults p n at xs) (all_noted (operand_faults at (how_many xs)) o)))
-            (noted (Unbuilt at) o)
+        (λ p. cond (nat_le (n + own_depth p (how_many xs)) most_levels)
+        (least_each (n + 1) s xs (all_noted (own_faults p n at xs) (all_noted (operand_faults at (how_many xs)) o)))
+        (all_noted (own_faults p n at xs) (all_noted (operand_faults at (how_many xs)) o)))
+        (noted (Unbuilt at) o)
     least n s t (list at (cons g xs)) o = noted (Unbuilt at) o
     least n s t (dotted at xs x) o = noted (BadForm at) o
     least n s t (vector at xs) o = noted (BadForm at) o
@@ -108,13 +108,13 @@ module _ (globals : List (List ℕ)) where
     least_form Let at n s t (cons (atom q (symbol x)) es) o = noted (Unbuilt at) o
     least_form Let at n s t (cons (list q bs) (cons e es)) o =
         cond (let_is_shaped s bs (cons e es))
-            (cond (nat_le n most_levels)
-                (cond (is_definition (with_bindings bs s) e)
-                    (noted (Unbuilt (place e)) (least_inits (n + 1) s bs (all_noted (operand_faults at (how_many bs)) o)))
-                    (least_form Begin at (n + 1) (with_bindings bs s) t (cons e es)
-                        (least_inits (n + 1) s bs (all_noted (operand_faults at (how_many bs)) o))))
-                (noted (Core at) (all_noted (operand_faults at (how_many bs)) o)))
-            (noted (BadForm at) o)
+        (cond (nat_le n most_levels)
+        (cond (is_definition (with_bindings bs s) e)
+        (noted (Unbuilt (place e)) (least_inits (n + 1) s bs (all_noted (operand_faults at (how_many bs)) o)))
+        (least_form Begin at (n + 1) (with_bindings bs s) t (cons e es)
+        (least_inits (n + 1) s bs (all_noted (operand_faults at (how_many bs)) o))))
+        (noted (Core at) (all_noted (operand_faults at (how_many bs)) o)))
+        (noted (BadForm at) o)
     least_form Begin at n s t (cons e none) o = least n s t e o
     least_form Begin at n s t (cons e (cons e' es)) o =
         cond (nat_le n most_levels) (least_parts (n + 1) s t (cons e' es) (least (n + 1) s Value e o)) (noted (Core at) o)
@@ -141,8 +141,8 @@ module _ (globals : List (List ℕ)) where
   abbrev pub least_operation : Operation → (at level : ℕ) → Scope → Data → Option Fault → Option Fault
   least_operation p at n s xs o =
       cond (nat_le (n + own_depth p (how_many xs)) most_levels)
-          (least_each (n + 1) s xs (all_noted (own_faults p n at xs) (all_noted (operand_faults at (how_many xs)) o)))
-          (all_noted (own_faults p n at xs) (all_noted (operand_faults at (how_many xs)) o))
+      (least_each (n + 1) s xs (all_noted (own_faults p n at xs) (all_noted (operand_faults at (how_many xs)) o)))
+      (all_noted (own_faults p n at xs) (all_noted (operand_faults at (how_many xs)) o))
 
 abbrev pub built_other : Datum → Draft
 built_other (atom at (boolean b)) = constant (Boolean b)

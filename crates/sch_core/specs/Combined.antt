@@ -1,6 +1,6 @@
 -- What an operation makes of its operands' expressions (R5RS 6.2.5): one row for each.
-use Rattle.std.specs.Prelude.{ℕ, zero, suc, ◌+◌, true, false, List}
-use Rattle.sch_word.specs.declared.constant.Const.TheVariants.{Fixnum, Character, Boolean, Unspecified}
+use Rattle.std.specs.Prelude.{ℕ, zero, suc, ◌+◌, true, false}
+use Rattle.sch_word.specs.declared.constant.Const.TheVariants.{Fixnum, Character, Boolean}
 use Rattle.sch_word.specs.declared.primitive.Primitive.{Primitive}
 use Rattle.sch_word.specs.declared.primitive.Primitive.TheVariants.{Put}
 use Rattle.sch_core.specs.declared.operation.Operation.{Operation}

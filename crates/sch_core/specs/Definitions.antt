@@ -1,6 +1,6 @@
 -- Which parts of a body are definitions (R5RS 5.2.2).
-use Rattle.std.specs.Prelude.{ℕ, Bool, true, false, ◌&&◌, List, Option, Some, None}
-use Rattle.sch_read.specs.Grammar.{Datum, Data, atom, list, dotted, vector, none, cons, symbol}
+use Rattle.std.specs.Prelude.{ℕ, Bool, true, false, ◌&&◌, Option, Some, None}
+use Rattle.sch_read.specs.Grammar.{Datum, Data, atom, list, none, cons, symbol}
 use Rattle.sch_core.specs.declared.word.Keyword.{Keyword}
 use Rattle.sch_core.specs.declared.word.Keyword.TheVariants.{Define, Begin}
 use Rattle.sch_core.specs.Words.{keyword_of}

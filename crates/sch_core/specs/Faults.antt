@@ -1,5 +1,5 @@
 -- The faults of data, and the one that is answered.
-use Rattle.std.specs.Prelude.{◌≡◌, ◌⊎◌, ◌≤◌, ℕ, zero, suc, ◌+◌, Bool, true, false, cond, List, [], ◌∷◌, Option, Some, None, nat_le}
+use Rattle.std.specs.Prelude.{◌≡◌, ◌⊎◌, ℕ, ◌+◌, Bool, true, false, cond, List, [], ◌∷◌, Option, Some, None, nat_le}
 use Rattle.sch_lang.specs.Valid.{most_levels, most_operands}
 use Rattle.sch_read.specs.Grammar.{Datum, Data, atom, list, dotted, vector, none, cons, boolean, integer, character, text, symbol}
 use Rattle.sch_core.specs.declared.word.Keyword.{Keyword}
@@ -15,7 +15,6 @@ use Rattle.sch_core.specs.Scope.{Scope, find, is_among, head_of, by_head, how_ma
 use Rattle.sch_core.specs.Definitions.{is_definition}
 use Rattle.sch_core.specs.Combined.{own_depth}
 use Rattle.sch_core.specs.Expands.{let_is_shaped}
-use Rattle.sch_core.specs.FaultOrder.{rank}
 
 abbrev pub IsIn : Fault → List Fault → Type 0
 IsIn f [] = ⊥
@@ -88,9 +87,9 @@ module _ (globals : List (List ℕ)) where
     HasFault n s t (list at none) f = f ≡ BadForm at
     HasFault n s t (list at (cons (atom q (symbol x)) xs)) f =
         by_head (head_of globals s x (how_many xs)) (λ k. FormHasFault k at n s t xs f)
-            (λ o. IsIn f (operand_faults at (how_many xs)) ⊎ (IsIn f (own_faults o n at xs)
-                ⊎ cond (nat_le (n + own_depth o (how_many xs)) most_levels) (AnyHasFault (n + 1) s xs f) ⊥))
-            (f ≡ Unbuilt at)
+        (λ o. IsIn f (operand_faults at (how_many xs)) ⊎ (IsIn f (own_faults o n at xs)
+        ⊎ cond (nat_le (n + own_depth o (how_many xs)) most_levels) (AnyHasFault (n + 1) s xs f) ⊥))
+        (f ≡ Unbuilt at)
     HasFault n s t (list at (cons g xs)) f = f ≡ Unbuilt at
     HasFault n s t (dotted at xs x) f = f ≡ BadForm at
     HasFault n s t (vector at xs) f = f ≡ BadForm at
@@ -104,11 +103,11 @@ module _ (globals : List (List ℕ)) where
     FormHasFault Let at n s t (cons (atom q (symbol x)) es) f = f ≡ Unbuilt at
     FormHasFault Let at n s t (cons (list q bs) (cons e es)) f =
         cond (let_is_shaped s bs (cons e es))
-            (IsIn f (operand_faults at (how_many bs)) ⊎ cond (nat_le n most_levels)
-                (InitHasFault (n + 1) s bs f ⊎ cond (is_definition (with_bindings bs s) e) (f ≡ Unbuilt (place e))
-                    (FormHasFault Begin at (n + 1) (with_bindings bs s) t (cons e es) f))
-                (f ≡ Core at))
-            (f ≡ BadForm at)
+        (IsIn f (operand_faults at (how_many bs)) ⊎ cond (nat_le n most_levels)
+        (InitHasFault (n + 1) s bs f ⊎ cond (is_definition (with_bindings bs s) e) (f ≡ Unbuilt (place e))
+        (FormHasFault Begin at (n + 1) (with_bindings bs s) t (cons e es) f))
+        (f ≡ Core at))
+        (f ≡ BadForm at)
     FormHasFault Begin at n s t (cons e none) f = HasFault n s t e f
     FormHasFault Begin at n s t (cons e (cons e' es)) f =
         cond (nat_le n most_levels) (HasFault (n + 1) s Value e f ⊎ PartHasFault (n + 1) s t (cons e' es) f) (f ≡ Core at)

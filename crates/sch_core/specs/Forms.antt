@@ -1,6 +1,6 @@
 -- The top-level forms of a text (R5RS 5.1 and 5.2), and their faults.
-use Rattle.std.specs.Prelude.{◌≡◌, ◌⊎◌, ◌≤◌, ℕ, Bool, true, false, cond, List, [], ◌∷◌, ◌++◌, Option, Some, None}
-use Rattle.sch_read.specs.Grammar.{Datum, Data, atom, list, dotted, vector, none, cons, boolean, integer, character, text, symbol}
+use Rattle.std.specs.Prelude.{◌≡◌, ◌⊎◌, ◌≤◌, ℕ, Bool, true, false, List, [], ◌∷◌, ◌++◌, Option, Some, None}
+use Rattle.sch_read.specs.Grammar.{Datum, Data, atom, list, dotted, none, cons, symbol}
 use Rattle.sch_core.specs.declared.word.Keyword.{Keyword}
 use Rattle.sch_core.specs.declared.word.Keyword.TheVariants.{Define, Begin}
 use Rattle.sch_core.specs.declared.word.Position.TheVariants.{Value}
@@ -8,7 +8,6 @@ use Rattle.sch_core.specs.declared.fault.Fault.{Fault}
 use Rattle.sch_core.specs.declared.fault.Fault.TheVariants.{Unbuilt, BadForm, KeywordDefined}
 use Rattle.sch_core.specs.Words.{keyword_of}
 use Rattle.sch_core.specs.Draft.{Draft, define}
-use Rattle.sch_core.specs.Scope.{is_among}
 use Rattle.sch_core.specs.NamesView.{with_name}
 use Rattle.sch_core.specs.FaultOrder.{rank, noted}
 use Rattle.sch_core.specs.Expands.{Expands}
@@ -80,12 +79,12 @@ module _ (globals : List (List ℕ)) where
     -- the forms that a datum at top level is
     pub data TopExpands : Datum → List Draft → Type 0 where
       a_definition : (at p q : ℕ) (w v : List ℕ) (e : Datum) (x : Draft) → keyword_of w ≡ Some Define → keyword_of v ≡ None →
-        Expands globals 2 [] Value e x →
-        TopExpands (list at (cons (atom q (symbol w)) (cons (atom p (symbol v)) (cons e none)))) (define v x ∷ [])
+          Expands globals 2 [] Value e x →
+          TopExpands (list at (cons (atom q (symbol w)) (cons (atom p (symbol v)) (cons e none)))) (define v x ∷ [])
       a_beginning : (at q : ℕ) (w : List ℕ) (xs : Data) (es : List Draft) → keyword_of w ≡ Some Begin → FormsExpand xs es →
-        TopExpands (list at (cons (atom q (symbol w)) xs)) es
+          TopExpands (list at (cons (atom q (symbol w)) xs)) es
       an_expression : (d : Datum) (x : Draft) → by_word (word_of d) false false true ≡ true → Expands globals 1 [] Value d x →
-        TopExpands d (x ∷ [])
+          TopExpands d (x ∷ [])
 
     pub data FormsExpand : Data → List Draft → Type 0 where
       no_form : FormsExpand none []

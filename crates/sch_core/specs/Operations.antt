@@ -1,7 +1,7 @@
 -- Which combinations are operations: the primitives' names, each with the counts of operands that it
 -- admits (R5RS 6.2.5, 6.1, 6.3). `display` and `newline` of R5RS 6.6.3 stand among them, as a put,
 -- as long as the library has no text.
-use Rattle.std.specs.Prelude.{ℕ, zero, suc, ℤ, pos, Bool, cond, nat_eq, List, Option, Some, None, if◌then◌else◌, codes}
+use Rattle.std.specs.Prelude.{ℕ, zero, suc, ℤ, pos, cond, nat_eq, List, Option, Some, None, if◌then◌else◌, codes}
 use Rattle.std.specs.Str.{bytes_eq}
 use Rattle.sch_word.specs.declared.primitive.Primitive.{Primitive}
 use Rattle.sch_word.specs.declared.primitive.Primitive.TheVariants.{Eq, Eqv, IsBoolean, IsNull, IsInteger, IsChar, IsProcedure, Add, Subtract, Multiply, Quotient, Remainder, Modulo, Equal, Less, Greater, LessEqual, GreaterEqual, CharToInteger, IntegerToChar, Put}

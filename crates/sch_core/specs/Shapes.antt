@@ -1,6 +1,6 @@
 -- Shapes of data.
 use Rattle.std.specs.Prelude.{◌≡◌, ℕ, List, Some}
-use Rattle.sch_read.specs.Grammar.{Datum, Data, atom, list, dotted, vector, none, cons, symbol}
+use Rattle.sch_read.specs.Grammar.{Datum, Data, atom, list, none, cons, symbol}
 use Rattle.sch_core.specs.declared.word.Keyword.{Keyword}
 use Rattle.sch_core.specs.Words.{keyword_of}
 use Rattle.sch_core.specs.Scope.{place}

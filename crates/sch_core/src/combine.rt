@@ -117,7 +117,12 @@ fn chain(alloc: Global, p: Primitive, count: u32) -> Result<Draft, Mem>
 }
 
 /// What an operation makes of its operands, of which there are `count`.
-pub(crate) fn combine(alloc: Global, o: Operation, count: usize, operands: List<Draft>) -> Result<Draft, Mem>
+pub(crate) fn combine(
+    alloc: Global,
+    o: Operation,
+    count: usize,
+    operands: List<Draft>,
+) -> Result<Draft, Mem>
     ensures { IfOk result (λ e. draft_of e ≡ combined o count (drafts_of operands)) }
 {
     let bound = match u32::try_from(count) {

@@ -1,11 +1,11 @@
 //! The expander: data to a program of the core language.
 #![tactic(auto)]
 
-mod forms;
 mod combine;
 mod draft;
 mod error;
 mod fault;
+mod forms;
 mod names;
 mod notes;
 mod operation;
@@ -17,5 +17,8 @@ mod text;
 mod walk;
 mod word;
 
-pub use forms::check;
 pub use error::{CoreError, Kind};
+pub use forms::check;
+
+#[cfg(test)]
+mod tests;

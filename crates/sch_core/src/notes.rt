@@ -26,6 +26,7 @@ use sch_word::{Bytes, Const, List, Mem};
 use std::alloc::Global;
 
 const MOST_LEVELS: u32 = 2000;
+
 const MOST_OPERANDS: usize = 200;
 
 /// Whether nodes so many levels below a level lie within the limit.
@@ -63,7 +64,15 @@ pub(crate) fn note_operands(at: u32, count: usize, fault: &mut Option<Fault>)
 }
 
 /// What is wrong with a name as a variable.
-pub(crate) fn note_name(alloc: Global, globals: &Names, scope: &[Option<Bytes>], level: u32, at: u32, x: &[u8], fault: &mut Option<Fault>) -> Result<(), Mem>
+pub(crate) fn note_name(
+    alloc: Global,
+    globals: &Names,
+    scope: &[Option<Bytes>],
+    level: u32,
+    at: u32,
+    x: &[u8],
+    fault: &mut Option<Fault>,
+) -> Result<(), Mem>
     ensures { OnOk result (fault.new ≡ all_noted (name_faults (find (reverse scope.now) x.now) (keyword_of x.now) (is_among x.now (names_of globals.now)) level at x.now) fault.old) }
 {
     if let Some(_) = find(scope, x) {
@@ -189,7 +198,13 @@ fn note_chain(level: u32, at: u32, items: &[Datum], fault: &mut Option<Fault>)
 }
 
 /// The levels of the nodes that an operation makes itself.
-pub(crate) fn note_own(o: Operation, level: u32, at: u32, items: &[Datum], fault: &mut Option<Fault>)
+pub(crate) fn note_own(
+    o: Operation,
+    level: u32,
+    at: u32,
+    items: &[Datum],
+    fault: &mut Option<Fault>,
+)
     ensures { fault.new ≡ all_noted (own_faults o level at (data_of items.now)) fault.old }
 {
     match o {

@@ -45,9 +45,7 @@ pub(crate) fn items_of(d: &Datum) -> Option<&[Datum]>
 
 /// The name and the init of a binding.
 pub(crate) fn binding_of(d: &Datum) -> Option<(&[u8], &Datum)>
-    ensures {
-        MatchOption result (IsNoBinding (tree_of d.now)) (λ p. tree_of d.now ≡ list (place (tree_of d.now)) (cons (atom (place (first (tree_of d.now))) (symbol p.0.now)) (cons (tree_of p.1.now) none)))
-    }
+    ensures { MatchOption result (IsNoBinding (tree_of d.now)) (λ p. tree_of d.now ≡ list (place (tree_of d.now)) (cons (atom (place (first (tree_of d.now))) (symbol p.0.now)) (cons (tree_of p.1.now) none))) }
 {
     let items = items_of(d)?;
     let (v, others) = split(items)?;

@@ -101,7 +101,13 @@ pub(crate) enum LetKind {
 }
 
 /// The kind of a `let` whose body begins with `first`.
-pub(crate) fn let_kind(alloc: Global, scope: &mut Scope, bindings: &[Datum], first: &Datum, body: &[Datum]) -> Result<LetKind, Mem>
+pub(crate) fn let_kind(
+    alloc: Global,
+    scope: &mut Scope,
+    bindings: &[Datum],
+    first: &Datum,
+    body: &[Datum],
+) -> Result<LetKind, Mem>
     ensures kind { IfOk result (λ k. k ≡ let_kind (reverse scope.old.items) (data_of bindings.now) (tree_of first.now) (data_of body.now)) }
     ensures scope { OnOk result (scope.new.items ≡ scope.old.items) }
 {

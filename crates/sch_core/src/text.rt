@@ -149,7 +149,13 @@ fn collect(alloc: Global, items: &[Datum], names: &mut Names) -> Result<(), Mem>
 }
 
 /// Adds one form that is an expression.
-fn read_expression(alloc: Global, globals: &Names, d: &Datum, all: &mut List<Draft>, fault: &mut Option<Fault>) -> Result<(), Mem>
+fn read_expression(
+    alloc: Global,
+    globals: &Names,
+    d: &Datum,
+    all: &mut List<Draft>,
+    fault: &mut Option<Fault>,
+) -> Result<(), Mem>
     ensures made { OnOk result (map draft_of all.new ≡ map draft_of all.old ++ built (names_of globals.now) 1 [] Value (tree_of d.now) ∷ []) }
     ensures fault { OnOk result (fault.new ≡ least (names_of globals.now) 1 [] Value (tree_of d.now) fault.old) }
 {
@@ -160,7 +166,15 @@ fn read_expression(alloc: Global, globals: &Names, d: &Datum, all: &mut List<Dra
 }
 
 /// The definition of a variable of this name, by what follows the name.
-fn read_value(alloc: Global, globals: &Names, at: u32, v: &[u8], items: &[Datum], all: &mut List<Draft>, fault: &mut Option<Fault>) -> Result<(), Mem>
+fn read_value(
+    alloc: Global,
+    globals: &Names,
+    at: u32,
+    v: &[u8],
+    items: &[Datum],
+    all: &mut List<Draft>,
+    fault: &mut Option<Fault>,
+) -> Result<(), Mem>
     ensures made { OnOk result (map draft_of all.new ≡ map draft_of all.old ++ built_value (names_of globals.now) v.now (data_of items.now)) }
     ensures fault { OnOk result (fault.new ≡ least_value (names_of globals.now) at (data_of items.now) fault.old) }
 {
@@ -188,7 +202,14 @@ fn definition(alloc: Global, v: &[u8], value: Draft) -> Result<Draft, Mem>
 }
 
 /// A definition, by what follows its word.
-fn read_define(alloc: Global, globals: &Names, at: u32, items: &[Datum], all: &mut List<Draft>, fault: &mut Option<Fault>) -> Result<(), Mem>
+fn read_define(
+    alloc: Global,
+    globals: &Names,
+    at: u32,
+    items: &[Datum],
+    all: &mut List<Draft>,
+    fault: &mut Option<Fault>,
+) -> Result<(), Mem>
     ensures made { OnOk result (map draft_of all.new ≡ map draft_of all.old ++ built_define (names_of globals.now) (data_of items.now)) }
     ensures fault { OnOk result (fault.new ≡ least_define (names_of globals.now) at (data_of items.now) fault.old) }
 {
@@ -221,7 +242,13 @@ fn note_target(at: u32, listed: bool, fault: &mut Option<Fault>)
 
 /// Adds the forms that a datum at top level is.
 #[cycle(forms)]
-fn read_form(alloc: Global, globals: &Names, d: &Datum, all: &mut List<Draft>, fault: &mut Option<Fault>) -> Result<(), Mem>
+fn read_form(
+    alloc: Global,
+    globals: &Names,
+    d: &Datum,
+    all: &mut List<Draft>,
+    fault: &mut Option<Fault>,
+) -> Result<(), Mem>
     ensures made { OnOk result (map draft_of all.new ≡ map draft_of all.old ++ built_top (names_of globals.now) (tree_of d.now)) }
     ensures fault { OnOk result (fault.new ≡ least_top (names_of globals.now) (tree_of d.now) fault.old) }
 {
@@ -237,7 +264,13 @@ fn read_form(alloc: Global, globals: &Names, d: &Datum, all: &mut List<Draft>, f
 
 /// Adds the forms that data at top level are.
 #[cycle(forms)]
-fn read_forms(alloc: Global, globals: &Names, items: &[Datum], all: &mut List<Draft>, fault: &mut Option<Fault>) -> Result<(), Mem>
+fn read_forms(
+    alloc: Global,
+    globals: &Names,
+    items: &[Datum],
+    all: &mut List<Draft>,
+    fault: &mut Option<Fault>,
+) -> Result<(), Mem>
     ensures made { OnOk result (map draft_of all.new ≡ map draft_of all.old ++ built_forms (names_of globals.now) (data_of items.now)) }
     ensures fault { OnOk result (fault.new ≡ least_forms (names_of globals.now) (data_of items.now) fault.old) }
 {

@@ -13,7 +13,10 @@ use crate::combine::{bind, branch, combine, sequence};
 use crate::draft::Draft;
 use crate::fault::{Fault, note};
 use crate::names::Names;
-use crate::notes::{bad, deeper, is_level, misused, note_name, note_operands, note_own, nothing, own_depth, too_deep, unbuilt, whole_depth};
+use crate::notes::{
+    bad, deeper, is_level, misused, note_name, note_operands, note_own, nothing, own_depth,
+    too_deep, unbuilt, whole_depth,
+};
 use crate::operation::Operation;
 use crate::parts::{binding_of, count, items_of, name_of, place_of, split};
 use crate::quotation::{read_other, read_quote};
@@ -25,7 +28,16 @@ use sch_word::{List, Mem};
 use std::alloc::Global;
 
 /// A variable.
-fn read_name(alloc: Global, globals: &Names, level: u32, position: Position, at: u32, x: &[u8], scope: &Scope, fault: &mut Option<Fault>) -> Result<Draft, Mem>
+fn read_name(
+    alloc: Global,
+    globals: &Names,
+    level: u32,
+    position: Position,
+    at: u32,
+    x: &[u8],
+    scope: &Scope,
+    fault: &mut Option<Fault>,
+) -> Result<Draft, Mem>
     ensures made { IfOk result (λ e. draft_of e ≡ built (names_of globals.now) level (reverse scope.now.items) position (atom at (symbol x.now))) }
     ensures fault { OnOk result (fault.new ≡ least (names_of globals.now) level (reverse scope.now.items) position (atom at (symbol x.now)) fault.old) }
 {
@@ -42,23 +54,58 @@ fn part_position(is_last: bool, position: Position) -> Position
 
 /// The draft of a datum, and the least fault so far.
 #[cycle(reading)]
-pub(crate) fn read(alloc: Global, globals: &Names, d: &Datum, level: u32, position: Position, scope: &mut Scope, fault: &mut Option<Fault>) -> Result<Draft, Mem>
+pub(crate) fn read(
+    alloc: Global,
+    globals: &Names,
+    d: &Datum,
+    level: u32,
+    position: Position,
+    scope: &mut Scope,
+    fault: &mut Option<Fault>,
+) -> Result<Draft, Mem>
     ensures made { IfOk result (λ e. draft_of e ≡ built (names_of globals.now) level (reverse scope.old.items) position (tree_of d.now)) }
     ensures fault { OnOk result (fault.new ≡ least (names_of globals.now) level (reverse scope.old.items) position (tree_of d.now) fault.old) }
     ensures scope { OnOk result (scope.new.items ≡ scope.old.items) }
 {
     if let Some(items) = items_of(d) {
-        return read_list(alloc, globals, place_of(d), items, level, position, scope, fault);
+        return read_list(
+            alloc,
+            globals,
+            place_of(d),
+            items,
+            level,
+            position,
+            scope,
+            fault,
+        );
     }
     if let Some(x) = name_of(d) {
-        return read_name(alloc, globals, level, position, place_of(d), x, scope, fault);
+        return read_name(
+            alloc,
+            globals,
+            level,
+            position,
+            place_of(d),
+            x,
+            scope,
+            fault,
+        );
     }
     Ok(read_other(d, level, fault))
 }
 
 /// A list: a form, an operation or a call.
 #[cycle(reading)]
-fn read_list(alloc: Global, globals: &Names, at: u32, items: &[Datum], level: u32, position: Position, scope: &mut Scope, fault: &mut Option<Fault>) -> Result<Draft, Mem>
+fn read_list(
+    alloc: Global,
+    globals: &Names,
+    at: u32,
+    items: &[Datum],
+    level: u32,
+    position: Position,
+    scope: &mut Scope,
+    fault: &mut Option<Fault>,
+) -> Result<Draft, Mem>
     ensures made { IfOk result (λ e. draft_of e ≡ built (names_of globals.now) level (reverse scope.old.items) position (list at (data_of items.now))) }
     ensures fault { OnOk result (fault.new ≡ least (names_of globals.now) level (reverse scope.old.items) position (list at (data_of items.now)) fault.old) }
     ensures scope { OnOk result (scope.new.items ≡ scope.old.items) }
@@ -78,7 +125,16 @@ fn read_list(alloc: Global, globals: &Names, at: u32, items: &[Datum], level: u3
 
 /// An operation.
 #[cycle(reading)]
-fn read_operation(alloc: Global, globals: &Names, o: Operation, at: u32, items: &[Datum], level: u32, scope: &mut Scope, fault: &mut Option<Fault>) -> Result<Draft, Mem>
+fn read_operation(
+    alloc: Global,
+    globals: &Names,
+    o: Operation,
+    at: u32,
+    items: &[Datum],
+    level: u32,
+    scope: &mut Scope,
+    fault: &mut Option<Fault>,
+) -> Result<Draft, Mem>
     ensures made { IfOk result (λ e. draft_of e ≡ built_operation (names_of globals.now) o level (reverse scope.old.items) (data_of items.now)) }
     ensures fault { OnOk result (fault.new ≡ least_operation (names_of globals.now) o at level (reverse scope.old.items) (data_of items.now) fault.old) }
     ensures scope { OnOk result (scope.new.items ≡ scope.old.items) }
@@ -99,7 +155,17 @@ fn read_operation(alloc: Global, globals: &Names, o: Operation, at: u32, items: 
 
 /// A form of a keyword.
 #[cycle(reading)]
-fn read_form(alloc: Global, globals: &Names, k: Keyword, at: u32, items: &[Datum], level: u32, position: Position, scope: &mut Scope, fault: &mut Option<Fault>) -> Result<Draft, Mem>
+fn read_form(
+    alloc: Global,
+    globals: &Names,
+    k: Keyword,
+    at: u32,
+    items: &[Datum],
+    level: u32,
+    position: Position,
+    scope: &mut Scope,
+    fault: &mut Option<Fault>,
+) -> Result<Draft, Mem>
     ensures made { IfOk result (λ e. draft_of e ≡ built_form (names_of globals.now) k level (reverse scope.old.items) position (data_of items.now)) }
     ensures fault { OnOk result (fault.new ≡ least_form (names_of globals.now) k at level (reverse scope.old.items) position (data_of items.now) fault.old) }
     ensures scope { OnOk result (scope.new.items ≡ scope.old.items) }
@@ -115,7 +181,16 @@ fn read_form(alloc: Global, globals: &Names, k: Keyword, at: u32, items: &[Datum
 
 /// A choice.
 #[cycle(reading)]
-fn read_if(alloc: Global, globals: &Names, at: u32, items: &[Datum], level: u32, position: Position, scope: &mut Scope, fault: &mut Option<Fault>) -> Result<Draft, Mem>
+fn read_if(
+    alloc: Global,
+    globals: &Names,
+    at: u32,
+    items: &[Datum],
+    level: u32,
+    position: Position,
+    scope: &mut Scope,
+    fault: &mut Option<Fault>,
+) -> Result<Draft, Mem>
     ensures made { IfOk result (λ e. draft_of e ≡ built_form (names_of globals.now) If level (reverse scope.old.items) position (data_of items.now)) }
     ensures fault { OnOk result (fault.new ≡ least_form (names_of globals.now) If at level (reverse scope.old.items) position (data_of items.now) fault.old) }
     ensures scope { OnOk result (scope.new.items ≡ scope.old.items) }
@@ -150,7 +225,16 @@ fn read_if(alloc: Global, globals: &Names, at: u32, items: &[Datum], level: u32,
 
 /// One expression after another.
 #[cycle(reading)]
-fn read_begin(alloc: Global, globals: &Names, at: u32, items: &[Datum], level: u32, position: Position, scope: &mut Scope, fault: &mut Option<Fault>) -> Result<Draft, Mem>
+fn read_begin(
+    alloc: Global,
+    globals: &Names,
+    at: u32,
+    items: &[Datum],
+    level: u32,
+    position: Position,
+    scope: &mut Scope,
+    fault: &mut Option<Fault>,
+) -> Result<Draft, Mem>
     ensures made { IfOk result (λ e. draft_of e ≡ built_form (names_of globals.now) Begin level (reverse scope.old.items) position (data_of items.now)) }
     ensures fault { OnOk result (fault.new ≡ least_form (names_of globals.now) Begin at level (reverse scope.old.items) position (data_of items.now) fault.old) }
     ensures scope { OnOk result (scope.new.items ≡ scope.old.items) }
@@ -170,7 +254,16 @@ fn read_begin(alloc: Global, globals: &Names, at: u32, items: &[Datum], level: u
 
 /// A `let`.
 #[cycle(reading)]
-fn read_let(alloc: Global, globals: &Names, at: u32, items: &[Datum], level: u32, position: Position, scope: &mut Scope, fault: &mut Option<Fault>) -> Result<Draft, Mem>
+fn read_let(
+    alloc: Global,
+    globals: &Names,
+    at: u32,
+    items: &[Datum],
+    level: u32,
+    position: Position,
+    scope: &mut Scope,
+    fault: &mut Option<Fault>,
+) -> Result<Draft, Mem>
     ensures made { IfOk result (λ e. draft_of e ≡ built_form (names_of globals.now) Let level (reverse scope.old.items) position (data_of items.now)) }
     ensures fault { OnOk result (fault.new ≡ least_form (names_of globals.now) Let at level (reverse scope.old.items) position (data_of items.now) fault.old) }
     ensures scope { OnOk result (scope.new.items ≡ scope.old.items) }
@@ -209,7 +302,14 @@ fn read_let(alloc: Global, globals: &Names, at: u32, items: &[Datum], level: u32
 
 /// Operands, each for its value.
 #[cycle(reading)]
-fn read_each(alloc: Global, globals: &Names, items: &[Datum], level: u32, scope: &mut Scope, fault: &mut Option<Fault>) -> Result<List<Draft>, Mem>
+fn read_each(
+    alloc: Global,
+    globals: &Names,
+    items: &[Datum],
+    level: u32,
+    scope: &mut Scope,
+    fault: &mut Option<Fault>,
+) -> Result<List<Draft>, Mem>
     ensures made { IfOk result (λ es. drafts_of es ≡ built_each (names_of globals.now) level (reverse scope.old.items) (data_of items.now)) }
     ensures fault { OnOk result (fault.new ≡ least_each (names_of globals.now) level (reverse scope.old.items) (data_of items.now) fault.old) }
     ensures scope { OnOk result (scope.new.items ≡ scope.old.items) }
@@ -224,7 +324,14 @@ fn read_each(alloc: Global, globals: &Names, items: &[Datum], level: u32, scope:
 
 /// The inits of bindings.
 #[cycle(reading)]
-fn read_inits(alloc: Global, globals: &Names, items: &[Datum], level: u32, scope: &mut Scope, fault: &mut Option<Fault>) -> Result<List<Draft>, Mem>
+fn read_inits(
+    alloc: Global,
+    globals: &Names,
+    items: &[Datum],
+    level: u32,
+    scope: &mut Scope,
+    fault: &mut Option<Fault>,
+) -> Result<List<Draft>, Mem>
     ensures made { IfOk result (λ es. drafts_of es ≡ built_inits (names_of globals.now) level (reverse scope.old.items) (data_of items.now)) }
     ensures fault { OnOk result (fault.new ≡ least_inits (names_of globals.now) level (reverse scope.old.items) (data_of items.now) fault.old) }
     ensures scope { OnOk result (scope.new.items ≡ scope.old.items) }
@@ -242,7 +349,15 @@ fn read_inits(alloc: Global, globals: &Names, items: &[Datum], level: u32, scope
 
 /// Parts of a sequence, the last of them in its position.
 #[cycle(reading)]
-fn read_parts(alloc: Global, globals: &Names, items: &[Datum], level: u32, position: Position, scope: &mut Scope, fault: &mut Option<Fault>) -> Result<List<Draft>, Mem>
+fn read_parts(
+    alloc: Global,
+    globals: &Names,
+    items: &[Datum],
+    level: u32,
+    position: Position,
+    scope: &mut Scope,
+    fault: &mut Option<Fault>,
+) -> Result<List<Draft>, Mem>
     ensures made { IfOk result (λ es. drafts_of es ≡ built_parts (names_of globals.now) level (reverse scope.old.items) position (data_of items.now)) }
     ensures fault { OnOk result (fault.new ≡ least_parts (names_of globals.now) level (reverse scope.old.items) position (data_of items.now) fault.old) }
     ensures scope { OnOk result (scope.new.items ≡ scope.old.items) }

@@ -13,7 +13,7 @@ is_definition-are_definitions-requires t c =
 pub is_definition-returns-in-Some-Begin : goal.is_definition-returns-in-Some-Begin
 is_definition-returns-in-Some-Begin t c =
     c.are_definitions.ensures ∙ sym (definition_begins _ _ c.in-Some.ensures c.in-Some-split.ensures c.in-Some-name_of.ensures (sym c.find.ensures ∙ c.in_default-find.is)
-        (sym c.keyword_of.ensures ∙ c.in-Some-Begin.is ∙ ap Some c.in-Some-Begin.field-0-is))
+    (sym c.keyword_of.ensures ∙ c.in-Some-Begin.is ∙ ap Some c.in-Some-Begin.field-0-is))
 
 pub are_definitions-is_definition-requires : goal.are_definitions-is_definition-requires
 are_definitions-is_definition-requires t c =

@@ -7,5 +7,5 @@ abbrev pub invariant-loop-d : goal.invariant-loop-d
 invariant-loop-d l = record {
   bound : with_bindings (data_of (drop l.d-index l.items)) (reverse l.scope.items) ≡ with_bindings (data_of l.items) (reverse l.initial.scope.items);
   kept : take (length l.initial.scope.items) l.scope.items ≡ l.initial.scope.items;
-  longer : length l.initial.scope.items ≤ length l.scope.items
+  longer : length l.initial.scope.items ≤ length l.scope.items;
 }

@@ -1,7 +1,7 @@
 use Rattle.std.proofs.Common.{arith}
 use Rattle.sch_core.proofs.Loops.{lighter}
 use Rattle.sch_core.specs.NamesView.{names_of}
-use Rattle.sch_core.proofs.TopSteps.{top_other, least_other_top, top_none, least_none}
+use Rattle.sch_core.proofs.TopSteps.{top_none, least_none}
 use Rattle.sch_core.proofs.text.+forms.Goals as goal
 
 pub read_forms-read_form-requires : goal.read_forms-read_form-requires

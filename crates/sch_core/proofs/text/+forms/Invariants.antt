@@ -9,7 +9,7 @@ use Rattle.sch_core.proofs.text.+forms.Given as goal
 abbrev pub invariant-read_forms-loop-d : goal.invariant-read_forms-loop-d
 invariant-read_forms-loop-d l = record {
   made : map draft_of l.all ++ built_forms (names_of l.globals) (data_of (drop l.d-index l.items)) ≡ map draft_of l.initial.all ++ built_forms (names_of l.globals) (data_of l.items);
-  fault : least_forms (names_of l.globals) (data_of (drop l.d-index l.items)) l.fault ≡ least_forms (names_of l.globals) (data_of l.items) l.initial.fault
+  fault : least_forms (names_of l.globals) (data_of (drop l.d-index l.items)) l.fault ≡ least_forms (names_of l.globals) (data_of l.items) l.initial.fault;
 }
 
 abbrev pub decreases-read_form : goal.decreases-read_form

@@ -1,36 +1,30 @@
-use Rattle.std.proofs.Common.{◌≡◌, ◌++◌, ◌∷◌, [], ◌∙◌, ◌+◌, ◌<◌, ℕ, cond, drop, rules, refl, sym, ap, arith, add-one, reverse, length, map, nat_eq}
-use Rattle.sch_read.specs.Grammar.{list, atom, symbol, none, cons, Data}
-use Rattle.sch_read.specs.Valid.{weight, weights}
-use Rattle.sch_read.specs.Views.{tree_of, data_of}
-use Rattle.sch_core.specs.declared.word.Position.TheVariants.{Value}
-use Rattle.sch_core.specs.Draft.{and_draft}
-use Rattle.sch_core.specs.DraftView.{draft_of, drafts_of}
+use Rattle.std.proofs.Common.{◌≡◌, ◌∙◌, rules, refl, ap, arith, reverse, length}
+use Rattle.sch_read.specs.Valid.{weight}
 use Rattle.sch_core.specs.NamesView.{names_of}
-use Rattle.sch_core.specs.Scope.{form, operating}
-use Rattle.sch_core.specs.Builds.{built, built_each, built_inits, built_parts, least, least_each, least_inits, least_parts}
+use Rattle.sch_core.specs.Builds.{built_each, built_inits, built_parts}
 use Rattle.sch_core.proofs.Loops.{lighter, end_made, stop_made, each_made, each_least_made, inits_made, inits_least_made, parts_made, parts_least_made}
-use Rattle.sch_core.proofs.Steps.{if_one, if_one_least, if_both, if_both_least, begin_more, begin_more_least, let_plain, let_plain_least, let_defining, let_defining_least, list_form, list_form_least, list_operation, list_operation_least, head_is, no_binding, part_made, part_least, take_back}
+use Rattle.sch_core.proofs.Steps.{if_one, if_one_least, if_both, if_both_least, begin_more, begin_more_least, let_plain, let_plain_least, let_defining, let_defining_least, list_form, list_form_least, list_operation, list_operation_least, head_is, no_binding, take_back}
 use Rattle.sch_core.proofs.walk.+reading.Goals as goal
 
 pub read_if-returns-in_default-split-2-clause-made : goal.read_if-returns-in_default-split-2-clause-made
 read_if-returns-in_default-split-2-clause-made t c =
     if_one _ _ _ _ c.in-Some.ensures c.in-Some-split.ensures c.in_default-split-2.ensures c.in-Some-deeper.ensures _ c.in_ok-a.ensures.scope
-        c.in_ok-made.ensures c.in_ok-a.ensures.made c.in_ok-b.ensures.made c.nothing.ensures
+    c.in_ok-made.ensures c.in_ok-a.ensures.made c.in_ok-b.ensures.made c.nothing.ensures
 
 pub read_if-returns-in_default-split-2-clause-fault : goal.read_if-returns-in_default-split-2-clause-fault
 read_if-returns-in_default-split-2-clause-fault t c =
     if_one_least _ _ _ _ _ c.in-Some.ensures c.in-Some-split.ensures c.in_default-split-2.ensures c.in-Some-deeper.ensures _ c.in_ok-a.ensures.scope _ _ _
-        c.in_ok-a.ensures.fault c.in_ok-b.ensures.fault
+    c.in_ok-a.ensures.fault c.in_ok-b.ensures.fault
 
 pub read_if-returns-clause-made : goal.read_if-returns-clause-made
 read_if-returns-clause-made t c =
     if_both _ _ _ _ c.in-Some.ensures c.in-Some-split.ensures c.in-Some-split-2.ensures c.in_default-split-3.ensures c.in-Some-deeper-2.ensures _ _ c.in_ok-a-2.ensures.scope c.in_ok-b-2.ensures.scope
-        c.in_ok-made-2.ensures c.in_ok-a-2.ensures.made c.in_ok-b-2.ensures.made c.in_ok-c.ensures.made
+    c.in_ok-made-2.ensures c.in_ok-a-2.ensures.made c.in_ok-b-2.ensures.made c.in_ok-c.ensures.made
 
 pub read_if-returns-clause-fault : goal.read_if-returns-clause-fault
 read_if-returns-clause-fault t c =
     if_both_least _ _ _ _ _ c.in-Some.ensures c.in-Some-split.ensures c.in-Some-split-2.ensures c.in_default-split-3.ensures c.in-Some-deeper-2.ensures _ _ c.in_ok-a-2.ensures.scope c.in_ok-b-2.ensures.scope _ _ _ _
-        c.in_ok-a-2.ensures.fault c.in_ok-b-2.ensures.fault c.in_ok-c.ensures.fault
+    c.in_ok-a-2.ensures.fault c.in_ok-b-2.ensures.fault c.in_ok-c.ensures.fault
 
 pub read_begin-returns-in_default-split-clause-made : goal.read_begin-returns-in_default-split-clause-made
 read_begin-returns-in_default-split-clause-made t c = rw (c.in-Some.ensures, c.in_default-split.ensures) c.read.ensures.made
@@ -94,7 +88,7 @@ read_inits-read-requires t c =
 pub read_inits-returns-in_default-clause-made : goal.read_inits-returns-in_default-clause-made
 read_inits-returns-in_default-clause-made t c =
     stop_made (built_inits (names_of c.args.globals.now) c.args.level (reverse c.loop-d.scope.items)) c.args.items.now c.loop-d.all c.loop-d.d-index c.d-item.result _ c.loop-d-test.true c.d-item.is
-        (no_binding _ _ _ _ _ c.in_default.ensures) c.loop-d.invariant.made
+    (no_binding _ _ _ _ _ c.in_default.ensures) c.loop-d.invariant.made
 
 pub read_inits-returns-clause-made : goal.read_inits-returns-clause-made
 read_inits-returns-clause-made t c = end_made (built_inits (names_of c.args.globals.now) c.args.level (reverse c.loop-d.scope.items)) c.args.items.now c.loop-d.all c.loop-d.d-index _ c.loop-d-test.false refl c.loop-d.invariant.made

@@ -1,4 +1,4 @@
-use Rattle.std.proofs.Common.{◌∙◌, ap, map, sym}
+use Rattle.std.proofs.Common.{◌∙◌, ap, map}
 use Rattle.sch_core.proofs.NameLemmas.{inserted}
 use Rattle.sch_core.proofs.names.Names.insert.Goals as goal
 
