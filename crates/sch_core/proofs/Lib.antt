@@ -8,3 +8,4 @@ pub mod Steps
 pub mod TopAgree
 pub mod TopSteps
 pub mod Top
+pub mod NumberLemmas

@@ -16,3 +16,4 @@ pub mod LetKinds
 pub mod Following
 pub mod Forms
 pub mod Answer
+pub mod Numbered
