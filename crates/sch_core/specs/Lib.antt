@@ -17,3 +17,4 @@ pub mod Following
 pub mod Forms
 pub mod Answer
 pub mod Numbered
+pub mod Laws

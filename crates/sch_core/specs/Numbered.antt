@@ -74,5 +74,5 @@ program_of es =
       statics = record { symbols = []; literals = no_literals; globals = unset globals };
       library = no_lambdas;
       forms = numbered_each globals (drafts es) 0;
-      sites = widths_of_each (drafts es)
+      sites = widths_of_each (drafts es);
     }

@@ -6,6 +6,7 @@ mod draft;
 mod error;
 mod fault;
 mod forms;
+mod laws;
 mod names;
 mod notes;
 mod operation;
@@ -19,6 +20,7 @@ mod word;
 
 pub use error::{CoreError, Kind};
 pub use forms::check;
+pub use laws::{expansion_is_unique, fault_or_expansion};
 
 #[cfg(test)]
 mod tests;
