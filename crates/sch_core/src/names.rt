@@ -1,8 +1,9 @@
 //! Tables of names.
 
-ghost use Rattle.std.specs.Prelude.{◌≡◌, [], OnOk};
+ghost use Rattle.std.specs.Prelude.{◌≡◌, [], OnOk, IfOk};
 ghost use Rattle.sch_core.specs.Scope.{is_among};
 ghost use Rattle.sch_core.specs.NamesView.{names_of, with_name};
+ghost use Rattle.sch_core.specs.Numbered.{number_of};
 
 use indexmap::IndexSet;
 use sch_word::Mem;
@@ -38,5 +39,15 @@ impl Names {
         let name = Vec::from_slice(alloc, x)?;
         self.set.insert_full(name)?;
         Ok(())
+    }
+
+    /// The number of a name, which is added at the end if it is new.
+    pub(crate) fn number(&mut self, alloc: Global, x: &[u8]) -> Result<usize, Mem>
+        ensures names { OnOk result (names_of self.new ≡ with_name x.now (names_of self.old)) }
+        ensures index { IfOk result (λ n. n ≡ number_of x.now (names_of self.old)) }
+    {
+        let name = Vec::from_slice(alloc, x)?;
+        let (index, _) = self.set.insert_full(name)?;
+        Ok(index)
     }
 }
