@@ -1,0 +1,11 @@
+pub mod Best
+pub mod Agree
+pub mod Finds
+pub mod NameLemmas
+pub mod Joining
+pub mod Loops
+pub mod Steps
+pub mod TopAgree
+pub mod TopSteps
+pub mod Top
+pub mod NumberLemmas

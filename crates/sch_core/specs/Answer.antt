@@ -1,0 +1,25 @@
+-- What the expansion of data answers.
+use Rattle.std.specs.Prelude.{◌≡◌}
+use Rattle.sch_read.specs.Grammar.{Data}
+use Rattle.sch_core.specs.declared.fault.Fault.{Fault}
+use Rattle.sch_core.specs.declared.fault.Fault.TheVariants as fault
+use Rattle.sch_core.specs.declared.error.CoreError.{CoreError}
+use Rattle.sch_core.specs.declared.error.CoreError.TheVariants as errors
+use Rattle.sch_core.specs.declared.error.Kind.TheVariants as kinds
+use Rattle.sch_core.specs.Forms.{IsFaultOf}
+
+-- the error names the fault
+abbrev pub IsErrorFor : CoreError → Fault → Type 0
+IsErrorFor errors.Memory f = ⊥
+IsErrorFor (errors.BadForm at) f = f ≡ fault.BadForm at
+IsErrorFor (errors.Unbound at name) f = f ≡ fault.Unbound at name
+IsErrorFor (errors.KeywordDefined at) f = f ≡ fault.KeywordDefined at
+IsErrorFor (errors.Unbuilt at) f = f ≡ fault.Unbuilt at
+IsErrorFor (errors.Limit kinds.Operands at) f = f ≡ fault.Operands at
+IsErrorFor (errors.Limit kinds.Core at) f = f ≡ fault.Core at
+IsErrorFor (errors.Limit _ at) f = ⊥
+
+-- the error is want of memory, or names the fault of the data
+abbrev pub IsErrorIn : Data → CoreError → Type 0
+IsErrorIn items errors.Memory = Unit {0}
+IsErrorIn items e = (f : Fault) × IsErrorFor e f × IsFaultOf items f

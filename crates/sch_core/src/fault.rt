@@ -1,0 +1,43 @@
+//! Faults, and the least of them.
+
+ghost use Rattle.std.specs.Prelude.{◌≡◌, ◌<◌, ◌^◌, ◌*◌, ◌+◌};
+ghost use Rattle.sch_core.specs.FaultOrder.{rank, noted};
+
+use sch_word::Bytes;
+
+/// Why a list of data has no program, with the place.
+#[derive(Debug, Drop)]
+pub(crate) enum Fault {
+    Unbuilt(u32),
+    KeywordDefined(u32),
+    BadForm(u32),
+    Unbound(u32, Bytes),
+    Operands(u32),
+    Core(u32),
+}
+
+/// The order of faults.
+fn rank(f: &Fault) -> u64
+    ensures { result ≡ rank f.now }
+{
+    match f {
+        Fault::Unbuilt(at) => *at as u64 * 6,
+        Fault::KeywordDefined(at) => *at as u64 * 6 + 1,
+        Fault::BadForm(at) => *at as u64 * 6 + 2,
+        Fault::Unbound(at, _) => *at as u64 * 6 + 3,
+        Fault::Operands(at) => *at as u64 * 6 + 4,
+        Fault::Core(at) => *at as u64 * 6 + 5,
+    }
+}
+
+/// One more fault: the least stays, and of two equals the first.
+pub(crate) fn note(so_far: &mut Option<Fault>, f: Fault)
+    ensures { so_far.new ≡ noted f so_far.old }
+{
+    if let Some(g) = so_far {
+        if rank(g) <= rank(&f) {
+            return;
+        }
+    }
+    *so_far = Some(f);
+}

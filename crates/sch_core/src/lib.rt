@@ -1,0 +1,26 @@
+//! The expander: data to a program of the core language.
+#![tactic(auto)]
+
+mod combine;
+mod draft;
+mod error;
+mod fault;
+mod forms;
+mod laws;
+mod names;
+mod notes;
+mod operation;
+mod parts;
+mod quotation;
+mod scope;
+mod shape;
+mod text;
+mod walk;
+mod word;
+
+pub use error::{CoreError, Kind};
+pub use forms::check;
+pub use laws::{expansion_is_unique, fault_or_expansion};
+
+#[cfg(test)]
+mod tests;

@@ -1,0 +1,53 @@
+//! Tables of names.
+
+ghost use Rattle.std.specs.Prelude.{◌≡◌, [], OnOk, IfOk};
+ghost use Rattle.sch_core.specs.Scope.{is_among};
+ghost use Rattle.sch_core.specs.NamesView.{names_of, with_name};
+ghost use Rattle.sch_core.specs.Numbered.{number_of};
+
+use indexmap::IndexSet;
+use sch_word::Mem;
+use std::alloc::Global;
+
+/// Names in the order of their first occurrences, each with its number.
+#[derive(Drop)]
+pub(crate) struct Names {
+    set: IndexSet<Vec<u8>>,
+}
+
+impl Names {
+    pub(crate) fn new(alloc: Global) -> Names
+        ensures { names_of result ≡ [] }
+    {
+        Names {
+            set: IndexSet::new(alloc),
+        }
+    }
+
+    /// Whether the name is among them.
+    #[tactic(auto, using(crate::proofs::NameLemmas::among))]
+    pub(crate) fn contains(&self, x: &[u8]) -> bool
+        ensures { result ≡ is_among x.now (names_of self.now) }
+    {
+        self.set.contains(x)
+    }
+
+    /// One more name, if it is new.
+    pub(crate) fn insert(&mut self, alloc: Global, x: &[u8]) -> Result<(), Mem>
+        ensures { OnOk result (names_of self.new ≡ with_name x.now (names_of self.old)) }
+    {
+        let name = Vec::from_slice(alloc, x)?;
+        self.set.insert_full(name)?;
+        Ok(())
+    }
+
+    /// The number of a name, which is added at the end if it is new.
+    pub(crate) fn number(&mut self, alloc: Global, x: &[u8]) -> Result<usize, Mem>
+        ensures names { OnOk result (names_of self.new ≡ with_name x.now (names_of self.old)) }
+        ensures index { IfOk result (λ n. n ≡ number_of x.now (names_of self.old)) }
+    {
+        let name = Vec::from_slice(alloc, x)?;
+        let (index, _) = self.set.insert_full(name)?;
+        Ok(index)
+    }
+}

@@ -1,0 +1,129 @@
+//! The shapes of bodies and bindings.
+
+ghost use Rattle.std.specs.Prelude.{◌≡◌, [], ◌∷◌, ◌++◌, ◌≤◌, cond, true, false, reverse, length, take, drop, IfOk, OnOk};
+ghost use Rattle.sch_read.specs.Grammar.{none, cons};
+ghost use Rattle.sch_read.specs.Views.{tree_of, data_of};
+ghost use Rattle.sch_core.specs.Definitions.{is_definition, are_definitions};
+ghost use Rattle.sch_core.specs.Expands.{let_is_shaped};
+ghost use Rattle.sch_core.specs.NamesView.{names_of};
+ghost use Rattle.sch_core.specs.Scope.{are_bindings, with_bindings};
+ghost use Rattle.sch_core.specs.LetKinds.{let_kind};
+
+use crate::names::Names;
+use crate::parts::{binding_of, items_of, name_of, split};
+use crate::scope::{Scope, find};
+use crate::word::{Keyword, keyword_of};
+use sch_read::Datum;
+use sch_word::{Bytes, List, Mem};
+use std::alloc::Global;
+
+/// Whether a part of a body is a definition.
+#[cycle(defining)]
+pub(crate) fn is_definition(scope: &[Option<Bytes>], d: &Datum) -> bool
+    ensures { result ≡ is_definition (reverse scope.now) (tree_of d.now) }
+{
+    let Some(items) = items_of(d) else {
+        return false;
+    };
+    let Some((operator, others)) = split(items) else {
+        return false;
+    };
+    let Some(x) = name_of(operator) else {
+        return false;
+    };
+    if let Some(_) = find(scope, x) {
+        return false;
+    }
+    match keyword_of(x) {
+        Some(Keyword::Define) => true,
+        Some(Keyword::Begin) => are_definitions(scope, others),
+        _ => false,
+    }
+}
+
+/// Whether all data are definitions.
+#[cycle(defining)]
+fn are_definitions(scope: &[Option<Bytes>], items: &[Datum]) -> bool
+    ensures { result ≡ are_definitions (reverse scope.now) (data_of items.now) }
+{
+    for d in items {
+        if !is_definition(scope, d) {
+            return false;
+        }
+    }
+    true
+}
+
+/// Whether data are bindings of distinct names.
+fn are_bindings(alloc: Global, items: &[Datum]) -> Result<bool, Mem>
+    ensures { IfOk result (λ b. b ≡ are_bindings [] (data_of items.now)) }
+{
+    let mut seen = Names::new(alloc);
+    for d in items {
+        match binding_of(d) {
+            None => return Ok(false),
+            Some((x, _)) => {
+                if seen.contains(x) {
+                    return Ok(false);
+                }
+                seen.insert(alloc, x)?;
+            }
+        }
+    }
+    Ok(true)
+}
+
+/// Adds the names of bindings to a scope.
+pub(crate) fn add_bindings(alloc: Global, scope: &mut Scope, items: &[Datum]) -> Result<(), Mem>
+    ensures bound { OnOk result (reverse scope.new.items ≡ with_bindings (data_of items.now) (reverse scope.old.items)) }
+    ensures kept { OnOk result (take (length scope.old.items) scope.new.items ≡ scope.old.items) }
+{
+    for d in items {
+        match binding_of(d) {
+            None => return Ok(()),
+            Some((x, _)) => {
+                let name = List::from_slice(alloc, x)?;
+                scope.push(Some(name))?;
+            }
+        }
+    }
+    Ok(())
+}
+
+/// What a `let` is by its bindings and its body.
+#[derive(Clone, Copy, Debug, Drop)]
+pub(crate) enum LetKind {
+    /// Its bindings are badly formed, or no expression stands in its body.
+    Bad,
+    /// Its body begins with a definition.
+    Defining,
+    Plain,
+}
+
+/// The kind of a `let` whose body begins with `first`.
+pub(crate) fn let_kind(
+    alloc: Global,
+    scope: &mut Scope,
+    bindings: &[Datum],
+    first: &Datum,
+    body: &[Datum],
+) -> Result<LetKind, Mem>
+    ensures kind { IfOk result (λ k. k ≡ let_kind (reverse scope.old.items) (data_of bindings.now) (tree_of first.now) (data_of body.now)) }
+    ensures scope { OnOk result (scope.new.items ≡ scope.old.items) }
+{
+    if !are_bindings(alloc, bindings)? {
+        return Ok(LetKind::Bad);
+    }
+    let depth = scope.len();
+    add_bindings(alloc, scope, bindings)?;
+    let only = are_definitions(scope.as_slice(), body);
+    let defines = is_definition(scope.as_slice(), first);
+    scope.truncate(depth);
+    if only {
+        Ok(LetKind::Bad)
+    } else if defines {
+        Ok(LetKind::Defining)
+    } else {
+        Ok(LetKind::Plain)
+    }
+}
