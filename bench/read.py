@@ -10,13 +10,13 @@ import shutil
 import subprocess
 import sys
 import tempfile
-import time
+
+import measure
 
 TOP = os.path.dirname(os.path.dirname(os.path.abspath(__file__)))
 COPY = os.path.join(tempfile.gettempdir(), "schc-bench-read")
 CRATE = os.path.join(COPY, "crates", "bench_read")
 PROGRAM = os.path.join(CRATE, "out", "bench_read")
-SIZES = (64 << 10, 1 << 20)
 
 
 def deepest(size):
@@ -61,32 +61,10 @@ def build():
         sys.exit("the program was not built")
 
 
-def read_once(folder):
-    """Seconds and peak kilobytes of one run."""
-    begin = time.perf_counter()
-    child = subprocess.Popen([PROGRAM], cwd=folder)
-    _, status, usage = os.wait4(child.pid, 0)
-    seconds = time.perf_counter() - begin
-    if status != 0:
-        sys.exit(f"{PROGRAM} ended with {os.waitstatus_to_exitcode(status)}")
-    return seconds, usage.ru_maxrss
-
-
 def main():
-    runs = int(sys.argv[1]) if len(sys.argv) > 1 else 15
     build()
-    print(f"{os.cpu_count()} processors, least of {runs} runs")
     with tempfile.TemporaryDirectory() as folder:
-        for name, make in TEXTS.items():
-            least = []
-            for size in SIZES:
-                with open(os.path.join(folder, "text"), "wb") as file:
-                    file.write(make(size))
-                measured = [read_once(folder) for _ in range(runs)]
-                seconds, peak = min(m[0] for m in measured), max(m[1] for m in measured)
-                least.append(seconds)
-                print(f"{name:16} {size:8} bytes: {1000 * seconds:8.2f} ms, {peak / 1024:6.1f} MiB")
-            print(f"{name:16} 1 MiB takes {least[1] / least[0]:.1f} times as long as 64 KiB")
+        measure.table(TEXTS, os.path.join(folder, "text"), [PROGRAM], folder)
 
 
 if __name__ == "__main__":
