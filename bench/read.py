@@ -2,7 +2,7 @@
 """Reads the deepest and the longest flat texts of 64 KiB and 1 MiB with the reader, and prints times,
 their ratio, and peak memory.
 
-Builds the program of bench/read in a copy of the repository at its first use, which takes minutes.
+Builds a small program over the reader in a copy of the repository at its first use, which takes minutes.
 Run by hand:  bench/read.py [RUNS]
 """
 import os
@@ -17,6 +17,26 @@ TOP = os.path.dirname(os.path.dirname(os.path.abspath(__file__)))
 COPY = os.path.join(tempfile.gettempdir(), "schc-bench-read")
 CRATE = os.path.join(COPY, "crates", "bench_read")
 PROGRAM = os.path.join(CRATE, "out", "bench_read")
+
+MAIN = """\
+//! Reads the data of the file `text`: 0, or 1 where it has a fault or there is no such file.
+#![tactic(auto)]
+
+use sch_io::{Disk, HostDisk};
+use sch_read::read_all;
+use std::process::ExitCode;
+
+fn main(rt: HostRuntime) -> ExitCode {
+    let mut disk = HostDisk::new(&rt);
+    let Ok(text) = disk.read(rt.alloc(), "text", 1 << 24) else {
+        return ExitCode::from(1);
+    };
+    match read_all(rt.alloc(), text.as_slice()) {
+        Ok(_data) => ExitCode::from(0),
+        Err(_) => ExitCode::from(1),
+    }
+}
+"""
 
 
 def deepest(size):
@@ -52,7 +72,8 @@ def build():
     print("building the program in", COPY, file=sys.stderr)
     shutil.copytree(TOP, COPY, ignore=shutil.ignore_patterns("out", ".git"), dirs_exist_ok=True)
     os.makedirs(os.path.join(CRATE, "src"), exist_ok=True)
-    shutil.copy(os.path.join(TOP, "bench", "read", "main.rt"), os.path.join(CRATE, "src", "main.rt"))
+    with open(os.path.join(CRATE, "src", "main.rt"), "w") as file:
+        file.write(MAIN)
     with open(os.path.join(COPY, "crates.txt"), "a") as file:
         file.write("bench_read: sch_word sch_io sch_read\n")
     # Without a file the program ends with 1, so the build is judged by the program that it leaves.
