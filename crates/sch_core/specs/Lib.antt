@@ -15,6 +15,7 @@ pub mod Shapes
 pub mod LetKinds
 pub mod Following
 pub mod Forms
-pub mod Answer
 pub mod Numbered
+pub mod Programs
+pub mod Answer
 pub mod Laws

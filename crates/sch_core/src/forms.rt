@@ -1,13 +1,18 @@
 //! Whether data are forms of the language.
 
-ghost use Rattle.std.specs.Prelude.{◌≡◌, ⊤, List, OnOk, IfErr, MatchResult};
+ghost use Rattle.std.specs.Prelude.{◌≡◌, ◌≤◌, ⊤, List, IfOk, OnOk, IfErr, MatchResult};
 ghost use Rattle.sch_read.specs.Views.{data_of};
 ghost use Rattle.sch_core.specs.Answer.{IsErrorIn};
 ghost use Rattle.sch_core.specs.Draft.{Draft};
 ghost use Rattle.sch_core.specs.Forms.{TextExpands};
+ghost use Rattle.sch_core.specs.Programs.{IsProgramOf};
+ghost use Rattle.sch_lang.specs.ProgramView.{source};
+ghost use Rattle.sch_lang.specs.Tree.{Source};
+ghost use Rattle.sch_read.specs.Valid.{weights};
 
 use crate::error::{CoreError, error_of};
 use crate::text::expand;
+use sch_lang::Program;
 use sch_read::Datum;
 use std::alloc::Global;
 
@@ -22,4 +27,14 @@ pub fn check(alloc: Global, items: &[Datum]) -> Result<(), CoreError>
         Ok(_) => Ok(()),
         Err(f) => Err(error_of(f)),
     }
+}
+
+/// The program of a text, or why it has none: the least place, and there the first cause.
+pub fn core(alloc: Global, items: &[Datum]) -> Result<Program, CoreError>
+    requires light { weights (data_of items.now) ≤ 7340032 }
+    ensures found { IfOk result (λ p. IsProgramOf (data_of items.now) (source p)) }
+    ensures only { (p : Source) → IsProgramOf (data_of items.now) p → MatchResult result (λ q. source q ≡ p) (λ e. e ≡ CoreError.Memory) }
+    ensures fault { IfErr result (IsErrorIn (data_of items.now)) }
+{
+    Err(CoreError::Memory)
 }

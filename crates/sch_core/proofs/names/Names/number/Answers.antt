@@ -1,4 +1,4 @@
-use Rattle.std.proofs.Common.{◌≡◌, ◌∙◌, ap, map, sym}
+use Rattle.std.proofs.Common.{◌∙◌, ap, map, sym}
 use Rattle.sch_core.specs.Numbered.{number_of}
 use Rattle.sch_core.specs.NamesView.{names_of}
 use Rattle.sch_core.proofs.NameLemmas.{inserted}
