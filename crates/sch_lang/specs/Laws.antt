@@ -1,7 +1,7 @@
 -- Laws of runs, in the words of the contracts that state them.
 use Rattle.std.specs.Prelude.{◌≡◌, ℕ, ◌+◌, ◌≤◌, ◌++◌, List, [], ◌∷◌}
 use Rattle.sch_word.specs.declared.answer.Answer.{Answer}
-use Rattle.sch_word.specs.Runs.{Run, ended}
+use Rattle.sch_word.specs.Runs.{Run, ended, going}
 use Rattle.sch_lang.specs.Tree.{Source}
 use Rattle.sch_lang.specs.Measures.{sites_of}
 use Rattle.sch_lang.specs.Meaning.{Orders}
@@ -29,3 +29,7 @@ pub record GoesFurther (a b : Run) : Type 0 where
 pub record MoreEntries (p : Source) : Type 0 where
   pub ended_stays : (table : List (List ℕ)) (heap depth : ℕ) (answers : List Answer) (entries more status : ℕ) → (run p table heap depth answers entries).end ≡ ended status → run p table heap depth answers (entries + more) ≡ run p table heap depth answers entries
   pub goes_further : (table : List (List ℕ)) (heap depth : ℕ) (answers : List Answer) (entries more : ℕ) → GoesFurther (run p table heap depth answers entries) (run p table heap depth answers (entries + more))
+
+-- a run goes on only where all its entries are taken
+pub record GoesOnWhenSpent (p : Source) : Type 0 where
+  pub all_taken : (table : List (List ℕ)) (heap depth : ℕ) (answers : List Answer) (entries : ℕ) → (run p table heap depth answers entries).end ≡ going → (run p table heap depth answers entries).entries ≡ entries

@@ -1,7 +1,7 @@
 //! Laws of the core language, as contracts of functions that do nothing.
 
 ghost use Rattle.std.specs.Prelude.{IsTrue};
-ghost use Rattle.sch_lang.specs.Laws.{MoreEntries, NeedsOwnOrders};
+ghost use Rattle.sch_lang.specs.Laws.{GoesOnWhenSpent, MoreEntries, NeedsOwnOrders};
 ghost use Rattle.sch_lang.specs.ProgramView.{source};
 ghost use Rattle.sch_lang.specs.Valid.{is_valid};
 
@@ -20,6 +20,12 @@ pub fn run_needs_own_orders(p: &Program)
 /// More procedure entries change nothing of a run that has ended, and let any other go further.
 pub fn more_entries_change_no_end(p: &Program)
     ensures { MoreEntries (source p.now) }
+{}
+
+/// A run goes on only where it has taken all the procedure entries that it was given, so what ends it is
+/// never the nesting that bounds the evaluator.
+pub fn run_goes_on_when_spent(p: &Program)
+    ensures { GoesOnWhenSpent (source p.now) }
 {}
 
 #[cfg(test)]
@@ -41,6 +47,7 @@ mod tests {
         program_is_valid(&program);
         run_needs_own_orders(&program);
         more_entries_change_no_end(&program);
+        run_goes_on_when_spent(&program);
         assert!(rt; program.forms.is_empty());
     }
 }
