@@ -1,5 +1,6 @@
 pub mod Empty
 mod Examples
+mod Loop
 pub mod MoreEntries
 pub mod OwnOrders
 pub mod Rows
