@@ -253,10 +253,10 @@ counter_valid = refl
 two_procedures_valid : is_valid two_procedures ≡ true
 two_procedures_valid = refl
 
-pairs_valid : is_valid (pairs 20) ≡ true
+pairs_valid : is_valid (pairs 257) ≡ true
 pairs_valid = refl
 
-assigned_formals_valid : is_valid (assigned_formals 20) ≡ true
+assigned_formals_valid : is_valid (assigned_formals 256) ≡ true
 assigned_formals_valid = refl
 
 put_texts_valid : is_valid put_texts ≡ true

@@ -1,6 +1,7 @@
 pub mod Empty
 mod Examples
 pub mod Lasting
+mod Loop
 pub mod MoreEntries
 pub mod OwnOrders
 pub mod Rows
