@@ -9,3 +9,9 @@ pub mod TopAgree
 pub mod TopSteps
 pub mod Top
 pub mod NumberLemmas
+pub mod ValiditySites
+pub mod ValiditySound
+pub mod ValidityOperations
+pub mod ValiditySoundness
+pub mod ValidityNodes
+pub mod ValidityNames
