@@ -15,3 +15,6 @@ pub mod ValidityOperations
 pub mod ValiditySoundness
 pub mod ValidityNodes
 pub mod ValidityNames
+pub mod ValidityLevels
+pub mod ValiditySizes
+pub mod ValidityCounts
