@@ -18,3 +18,4 @@ pub mod ValidityNames
 pub mod ValidityLevels
 pub mod ValiditySizes
 pub mod ValidityCounts
+pub mod Validity

@@ -125,7 +125,7 @@ module _ (globals : List (List ℕ)) where
     places_text (fo.and_form d ds es fs p q) =
         omega (arith, length-append (places_of d) (form_places ds), length-append es fs, places_top p, places_text q)
 
-count_drafts : (es : List Draft) → count (drafts es) ≡ length es
+pub count_drafts : (es : List Draft) → count (drafts es) ≡ length es
 count_drafts [] = refl
 count_drafts (e ∷ es) = ap suc (count_drafts es)
 

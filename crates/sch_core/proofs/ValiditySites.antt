@@ -41,9 +41,6 @@ module _ (globals : List (List ℕ)) where
         (joined (n + 1) (widths_of_each es) (widths e) _ _ (sites_each es (n + 1)) (sites e (n + 1 + length (widths_of_each es))))
     sites (operation p es) n = headed n _ _ (widths_of_each es) _ (count_numbered es (n + 1)) (sites_each es (n + 1))
 
-    sites_each : (es : Drafts) (n : ℕ) → over_each [] (λ a b. a ++ b) site_here (numbered_each globals es n) ≡ order.numbered n (widths_of_each es)
+    pub sites_each : (es : Drafts) (n : ℕ) → over_each [] (λ a b. a ++ b) site_here (numbered_each globals es n) ≡ order.numbered n (widths_of_each es)
     sites_each no_drafts n = refl
     sites_each (and_draft e es) n = joined n (widths e) (widths_of_each es) _ _ (sites e n) (sites_each es (n + length (widths e)))
-
-pub sites_once_in : (es : List Draft) → sites_once (program_of es) ≡ true
-sites_once_in es = sites_in_order (program_of es) (sites_each (firsts [] (global_names_of_each (drafts es))) (drafts es) 0)
