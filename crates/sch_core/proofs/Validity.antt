@@ -9,7 +9,7 @@ use Rattle.sch_read.specs.Grammar.{Data}
 use Rattle.sch_read.specs.Valid.{weights}
 use Rattle.sch_core.specs.Draft.{Draft, drafts}
 use Rattle.sch_core.specs.Forms.{firsts, globals_of, TextExpands}
-use Rattle.sch_core.specs.Numbered.{global_names_of_each, numbered_each, unset, program_of}
+use Rattle.sch_core.specs.Numbered.{global_names_of_each, unset, program_of}
 use Rattle.sch_core.specs.Programs.{form_places, first_crowded}
 use Rattle.sch_core.specs.Sizes.{nodes_and_bound}
 use Rattle.sch_core.proofs.ValiditySites.{count_numbered, sites_each}

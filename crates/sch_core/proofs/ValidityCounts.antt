@@ -1,22 +1,21 @@
 -- How many names the drafts of a text have, by the weight of its data, and how many forms.
-use Rattle.std.proofs.Common.{◌≡◌, ◌<◌, ◌≤◌, ℕ, zero, suc, ◌+◌, Bool, true, false, cond, ◌&&◌, List, [], ◌∷◌, ◌++◌, length, Option, Some, None, refl, ap, ◌∙◌, subst, sym, arith, length-append, nat_le}
-use Rattle.std.proofs.lemmas.Bool.{and_from}
+use Rattle.std.proofs.Common.{◌≡◌, ◌≤◌, ℕ, zero, suc, ◌+◌, Bool, true, false, cond, ◌&&◌, List, [], ◌∷◌, ◌++◌, length, Option, Some, None, refl, ap, arith, length-append, nat_le}
 use Rattle.sch_word.specs.declared.primitive.Primitive.{Primitive}
 use Rattle.sch_lang.specs.Tree as tree
 use Rattle.sch_lang.specs.Tree.{Expression, Expressions, no_expressions, and_expression}
 use Rattle.sch_lang.specs.Measures.{variables}
 use Rattle.sch_lang.specs.Valid.{forms_fit, most_body_variables}
-use Rattle.sch_read.specs.Grammar.{Datum, Data, atom, list, dotted, vector, none, cons, symbol}
+use Rattle.sch_read.specs.Grammar.{Datum, Data, atom, list, cons, symbol}
 use Rattle.sch_read.specs.Valid.{weight, weights}
 use Rattle.sch_core.specs.declared.word.Keyword.{Keyword}
 use Rattle.sch_core.specs.declared.word.Keyword.TheVariants as word
 use Rattle.sch_core.specs.declared.word.Position.{Position}
 use Rattle.sch_core.specs.declared.operation.Operation.{Operation}
 use Rattle.sch_core.specs.declared.operation.Operation.TheVariants.{Exact, Unit, UnitAnd, Nested, Chained, Newline}
-use Rattle.sch_core.specs.Draft.{Draft, Drafts, constant, local, global, define, branch, sequence, bind, operation, no_drafts, and_draft, drafts, count}
+use Rattle.sch_core.specs.Draft.{Draft, Drafts, drafts, count}
 use Rattle.sch_core.specs.Scope.{Scope, how_many}
 use Rattle.sch_core.specs.Words.{keyword_of}
-use Rattle.sch_core.specs.Numbered.{global_names, global_names_of_each, numbered, numbered_each}
+use Rattle.sch_core.specs.Numbered.{global_names, global_names_of_each}
 use Rattle.sch_core.specs.Combined.{nested, nest, chained, chain, combined}
 use Rattle.sch_core.specs.Expands.{Expands, FormExpands, EachExpands, InitsExpand, PartsExpand}
 use Rattle.sch_core.specs.Expands as ex

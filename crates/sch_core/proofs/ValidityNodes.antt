@@ -1,14 +1,11 @@
 -- Each node of a sound draft, once it has its numbers, has the shape and the parts that it may have.
-use Rattle.std.proofs.Common.{◌≡◌, ◌<◌, ◌≤◌, ℕ, zero, suc, ◌+◌, Bool, true, ◌&&◌, List, [], ◌∷◌, length, refl, ap, ◌∙◌, subst, sym, arith, nat_le}
-use Rattle.std.specs.Prelude.{nat_eq, nat_lt}
+use Rattle.std.proofs.Common.{◌≡◌, ◌≤◌, ℕ, ◌+◌, true, ◌&&◌, List, length, refl, ◌∙◌, subst, sym, arith}
 use Rattle.std.proofs.lemmas.Bool.{and_from}
 use Rattle.std.proofs.Common.{eq-eqb, lt-ltb, le-leb}
 use Rattle.sch_word.specs.declared.primitive.Primitive.{Primitive}
-use Rattle.sch_word.specs.declared.primitive.Primitive.TheVariants as primitive
 use Rattle.sch_word.specs.Primitives.{operands_of}
-use Rattle.sch_lang.specs.Tree as tree
 use Rattle.sch_lang.specs.Measures.{over, over_each}
-use Rattle.sch_lang.specs.Valid.{in_scope, each_in_scope, shaped_here, fits_here, most_operands}
+use Rattle.sch_lang.specs.Valid.{in_scope, each_in_scope, shaped_here, fits_here}
 use Rattle.sch_core.specs.Draft.{Draft, Drafts, constant, local, global, define, branch, sequence, bind, operation, no_drafts, and_draft, count}
 use Rattle.sch_core.specs.Numbered.{widths, widths_of_each, numbered, numbered_each}
 use Rattle.sch_core.proofs.ValiditySound.{Sound, AreSound}

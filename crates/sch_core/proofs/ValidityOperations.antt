@@ -1,5 +1,5 @@
 -- With how many operands a name is an operation, and what the operation makes of them.
-use Rattle.std.proofs.Common.{◌≡◌, ◌≢◌, ◌<◌, ◌≤◌, ℕ, zero, suc, ◌+◌, Bool, true, false, cond, List, Option, Some, None, if◌then◌else◌, codes, refl, subst, arith}
+use Rattle.std.proofs.Common.{◌≡◌, ◌<◌, ℕ, zero, suc, Bool, true, false, cond, List, Option, Some, None, if◌then◌else◌, codes, refl, subst, arith}
 use Rattle.std.specs.Prelude.{nat_eq}
 use Rattle.std.specs.Str.{bytes_eq}
 use Rattle.std.proofs.lemmas.Bool.{eqb-true}
@@ -10,7 +10,7 @@ use Rattle.sch_core.specs.declared.word.Keyword.{Keyword}
 use Rattle.sch_core.specs.declared.operation.Operation.{Operation}
 use Rattle.sch_core.specs.declared.operation.Operation.TheVariants.{Exact, Unit, UnitAnd, Nested, Chained, Newline}
 use Rattle.sch_core.specs.Operations.{exactly, arithmetic, comparison, number_operation, operation_of}
-use Rattle.sch_core.specs.Scope.{Scope, find, is_among, Head, form, operating, calling, free_head, head, head_of}
+use Rattle.sch_core.specs.Scope.{Scope, find, is_among, operating, head, head_of}
 use Rattle.sch_core.specs.Words.{keyword_of}
 
 abbrev pub Admits : Operation → ℕ → Type 0

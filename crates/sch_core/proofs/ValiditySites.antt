@@ -1,13 +1,11 @@
 -- The sites of a numbered draft stand in the order of the text, from the first number on.
-use Rattle.std.proofs.Common.{◌≡◌, ℕ, suc, ◌+◌, List, [], ◌∷◌, ◌++◌, length, refl, sym, true, ap, ◌∙◌, arith}
+use Rattle.std.proofs.Common.{◌≡◌, ℕ, suc, ◌+◌, List, [], ◌∷◌, ◌++◌, length, refl, sym, ap, ◌∙◌, arith}
 use Rattle.sch_lang.specs.Tree as tree
-use Rattle.sch_lang.specs.Measures.{over, over_each, site_here, sites_of}
-use Rattle.sch_lang.specs.Valid.{sites_once}
+use Rattle.sch_lang.specs.Measures.{over, over_each, site_here}
 use Rattle.sch_lang.proofs.SitesInOrder as order
 use Rattle.sch_lang.proofs.SitesInOrder.{sites_in_order}
-use Rattle.sch_core.specs.Draft.{Draft, Drafts, constant, local, global, define, branch, sequence, bind, operation, no_drafts, and_draft, drafts, count}
-use Rattle.sch_core.specs.Forms.{firsts}
-use Rattle.sch_core.specs.Numbered.{widths, widths_of_each, numbered, numbered_each, global_names_of_each, program_of}
+use Rattle.sch_core.specs.Draft.{Draft, Drafts, constant, local, global, define, branch, sequence, bind, operation, no_drafts, and_draft, count}
+use Rattle.sch_core.specs.Numbered.{widths, widths_of_each, numbered, numbered_each}
 
 pub listed_split : (n : ℕ) (a b : List ℕ) → order.numbered n (a ++ b) ≡ order.numbered n a ++ order.numbered (n + length a) b
 listed_split n [] b = ap (λ m. order.numbered m b) (omega arith)

@@ -1,9 +1,8 @@
 -- How large the drafts of a text are, by the weight of its data.
-use Rattle.std.proofs.Common.{◌≡◌, ◌<◌, ◌≤◌, ℕ, zero, suc, ◌+◌, ◌*◌, true, List, [], ◌∷◌, ◌++◌, length, refl, ap, ◌∙◌, subst, sym, arith, length-append}
+use Rattle.std.proofs.Common.{◌≡◌, ◌≤◌, ℕ, zero, suc, ◌+◌, ◌*◌, List, [], ◌∷◌, ◌++◌, length, refl, arith}
 use Rattle.sch_word.specs.declared.primitive.Primitive.{Primitive}
-use Rattle.sch_lang.specs.Tree as tree
 use Rattle.sch_lang.specs.Measures.{over, over_each}
-use Rattle.sch_read.specs.Grammar.{Datum, Data, atom, list, dotted, vector}
+use Rattle.sch_read.specs.Grammar.{Datum, Data}
 use Rattle.sch_read.specs.Valid.{weight, weights}
 use Rattle.sch_core.specs.declared.word.Keyword.{Keyword}
 use Rattle.sch_core.specs.declared.word.Position.{Position}
@@ -19,7 +18,6 @@ use Rattle.sch_core.specs.Forms.{TopExpands, FormsExpand}
 use Rattle.sch_core.specs.Forms as fo
 use Rattle.sch_core.specs.Sizes.{node_and_bound}
 use Rattle.sch_core.proofs.ValiditySites.{count_numbered}
-use Rattle.sch_core.proofs.ValidityOperations.{Admits, operation_admits}
 use Rattle.sch_core.proofs.ValiditySoundness.{each_count}
 
 -- the nodes and the bound variables of a draft

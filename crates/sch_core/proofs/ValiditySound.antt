@@ -1,6 +1,6 @@
 -- What holds of each draft that stands for a datum: its variables are bound, and its parts are as many
 -- as a node may have.
-use Rattle.std.proofs.Common.{◌≡◌, ◌≢◌, ◌<◌, ◌≤◌, ℕ, zero, suc, ◌+◌, true, List, [], ◌∷◌, ◌++◌}
+use Rattle.std.proofs.Common.{◌≡◌, ◌<◌, ◌≤◌, ℕ, ◌+◌, true, List, [], ◌∷◌, ◌++◌}
 use Rattle.sch_word.specs.Literals.{constant_known}
 use Rattle.sch_word.specs.Primitives.{operands_of}
 use Rattle.sch_core.specs.Draft.{Draft, Drafts, constant, local, global, define, branch, sequence, bind, operation, no_drafts, and_draft, drafts, count}

@@ -1,9 +1,8 @@
 -- Each draft that stands for a datum is sound.
-use Rattle.std.proofs.Common.{◌≡◌, ◌<◌, ◌≤◌, ℕ, zero, suc, ◌+◌, Bool, true, false, cond, List, [], ◌∷◌, ◌++◌, length, Option, Some, None, refl, sym, ap, ◌∙◌, subst, arith, nat_le}
+use Rattle.std.proofs.Common.{◌≡◌, ◌<◌, ◌≤◌, ℕ, zero, suc, ◌+◌, Bool, true, false, cond, List, [], ◌∷◌, length, Option, Some, None, refl, sym, ap, ◌∙◌, subst, arith}
 use Rattle.std.proofs.lemmas.Bool.{leb-true}
 use Rattle.sch_word.specs.declared.primitive.Primitive.{Primitive}
 use Rattle.sch_word.specs.Primitives.{operands_of}
-use Rattle.sch_lang.specs.Valid.{most_operands}
 use Rattle.sch_read.specs.Grammar.{Datum, Data}
 use Rattle.sch_core.specs.declared.word.Keyword.{Keyword}
 use Rattle.sch_core.specs.declared.word.Position.{Position}
