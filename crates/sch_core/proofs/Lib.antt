@@ -9,3 +9,13 @@ pub mod TopAgree
 pub mod TopSteps
 pub mod Top
 pub mod NumberLemmas
+pub mod ValiditySites
+pub mod ValiditySound
+pub mod ValidityOperations
+pub mod ValiditySoundness
+pub mod ValidityNodes
+pub mod ValidityNames
+pub mod ValidityLevels
+pub mod ValiditySizes
+pub mod ValidityCounts
+pub mod Validity

@@ -19,3 +19,4 @@ pub mod Numbered
 pub mod Programs
 pub mod Answer
 pub mod Laws
+pub mod Sizes
