@@ -14,3 +14,4 @@ pub mod AtomTexts
 pub mod NameTexts
 pub mod IntegerTexts
 pub mod RoundTrip
+pub mod Effort

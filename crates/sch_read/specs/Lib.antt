@@ -16,3 +16,4 @@ pub mod Answer
 pub mod Valid
 pub mod Printed
 pub mod Shape
+pub mod Effort
