@@ -1,5 +1,5 @@
 -- The effort of letting data go falls.
-use Rattle.std.proofs.Common.{◌≡◌, ◌+◌, ◌*◌, ◌<◌, ◌≤◌, ◌++◌, ℕ, suc, List, [], ◌∷◌, refl, arith}
+use Rattle.std.proofs.Common.{◌≡◌, ◌+◌, ◌*◌, ◌<◌, ◌≤◌, ◌++◌, ℕ, suc, List, [], ◌∷◌, arith}
 use Rattle.std.proofs.lemmas.Nat.{mul-le}
 use Rattle.sch_read.specs.Valid.{weight, weights}
 use Rattle.sch_read.specs.Views.{tree_of, data_of}

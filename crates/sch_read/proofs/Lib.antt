@@ -15,3 +15,4 @@ pub mod NameTexts
 pub mod IntegerTexts
 pub mod RoundTrip
 pub mod Effort
+pub mod Tasks

@@ -17,3 +17,4 @@ pub mod Valid
 pub mod Printed
 pub mod Shape
 pub mod Effort
+pub mod Tasks

@@ -59,9 +59,12 @@ fn opened(d: Datum, rest: Vec<Datum>) -> (Option<Datum>, Vec<Datum>)
     }
 }
 
-// The rest and a datum's parts together. Where neither is empty, the rest becomes a datum that stands
-// in the place of the first part, and that part is next.
-fn joined(rest: Vec<Datum>, items: Vec<Datum>, last: Option<Box<Datum>>) -> (Option<Datum>, Vec<Datum>)
+// The rest and a datum's parts together.
+fn joined(
+    rest: Vec<Datum>,
+    items: Vec<Datum>,
+    last: Option<Box<Datum>>,
+) -> (Option<Datum>, Vec<Datum>)
     ensures less { effort (weight_next result.0) (weights (data_of result.1.items)) < effort (1 + weights (data_of items.items) + weight_last last) (weights (data_of rest.items)) }
     ensures none { IfNone result.0 (result.1.items ≡ []) }
 {
@@ -76,7 +79,13 @@ fn joined(rest: Vec<Datum>, items: Vec<Datum>, last: Option<Box<Datum>>) -> (Opt
     }
 }
 
-fn swapped(rest: Vec<Datum>, items: Vec<Datum>, last: Option<Box<Datum>>) -> (Option<Datum>, Vec<Datum>)
+// The rest becomes a datum that stands in the place of the first part, and that part is next. So the
+// parts, which are untouched below, come to an end before the rest is taken up again.
+fn swapped(
+    rest: Vec<Datum>,
+    items: Vec<Datum>,
+    last: Option<Box<Datum>>,
+) -> (Option<Datum>, Vec<Datum>)
     requires { 0 < length items.items }
     ensures less { effort (weight_next result.0) (weights (data_of result.1.items)) < effort (1 + weights (data_of items.items) + weight_last last) (weights (data_of rest.items)) }
     ensures some { IsSome result.0 }
