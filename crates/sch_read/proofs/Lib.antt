@@ -14,3 +14,5 @@ pub mod AtomTexts
 pub mod NameTexts
 pub mod IntegerTexts
 pub mod RoundTrip
+pub mod Effort
+pub mod Tasks

@@ -16,3 +16,5 @@ pub mod Answer
 pub mod Valid
 pub mod Printed
 pub mod Shape
+pub mod Effort
+pub mod Tasks

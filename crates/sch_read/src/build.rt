@@ -60,7 +60,7 @@ pub(crate) fn quote(alloc: Global, at: u32, d: Datum) -> Result<Datum, Mem>
 pub(crate) fn tailed(alloc: Global, at: u32, items: List<Datum>, last: Datum) -> Result<Datum, Mem>
     ensures { IfOk result (λ d. tree_of d ≡ with_tail at (data_of items) (tree_of last)) }
 {
-    let Datum { at: place, node } = last;
+    let (place, node) = last.into_parts();
     let mut items = items;
     match node {
         Node::List(more, tail) => {

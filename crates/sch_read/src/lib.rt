@@ -10,6 +10,7 @@ mod machine;
 mod number;
 mod printing;
 mod read;
+mod release;
 mod text;
 mod token;
 mod word;

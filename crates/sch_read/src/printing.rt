@@ -1,13 +1,14 @@
 //! Data to text.
 
-ghost use Rattle.std.specs.Prelude.{◌≡◌, ◌++◌, ◌≤◌, true, IfOk, OnOk, codes, if◌then◌else◌};
+ghost use Rattle.std.specs.Prelude.{◌≡◌, ◌+◌, ◌*◌, ◌<◌, ◌++◌, ◌≤◌, true, IfOk, OnOk, codes, if◌then◌else◌};
 ghost use Rattle.std.specs.Fmt.{signed_decimal};
 ghost use Rattle.std.specs.String.{string_bytes};
-ghost use Rattle.sch_read.specs.Printed.{datum_text, items_text, escaped_text, character_name, IsTextOf};
+ghost use Rattle.sch_read.specs.Printed.{datum_text, items_text, more_text, escaped_text, character_name, IsTextOf};
 ghost use Rattle.sch_read.specs.Shape.{depth, HasFixnums, HaveFixnums};
+ghost use Rattle.sch_read.specs.Tasks.{task_text, tasks_text, TaskHasFixnums, TasksHaveFixnums, task_load, tasks_load, Came};
 ghost use Rattle.sch_read.specs.Text.{levels};
 ghost use Rattle.sch_word.specs.Fixnum.{is_fixnum};
-ghost use Rattle.sch_read.specs.Valid.{IsValid};
+ghost use Rattle.sch_read.specs.Valid.{IsValid, weight, weights};
 ghost use Rattle.sch_read.specs.Views.{tree_of, data_of};
 
 use crate::datum::{Datum, Node};
@@ -88,10 +89,62 @@ fn write_text(out: &mut Bytes, text: &[u8]) -> Result<(), Mem>
     Ok(())
 }
 
-#[cycle(write)]
+/// What is still to be written of a datum that was begun.
+#[derive(Clone, Copy)]
+pub(crate) enum Task<'a> {
+    /// A datum.
+    One(&'a Datum),
+    /// Items, each after a space.
+    More(&'a [Datum]),
+    /// The datum after a dot.
+    Dotted(&'a Datum),
+    /// The end of a list or a vector.
+    Close,
+}
+
 fn write_datum(alloc: Global, out: &mut Bytes, d: &Datum) -> Result<(), Mem>
     ensures text { OnOk result (out.new ≡ out.old ++ datum_text (tree_of d.now)) }
     ensures fixnums { OnOk result (HasFixnums (tree_of d.now)) }
+{
+    let mut tasks = Vec::new(alloc);
+    tasks.push(Task::One(d))?;
+    'each: while let Some(task) = tasks.pop() {
+        write_task(alloc, out, &mut tasks, task)?;
+    }
+    Ok(())
+}
+
+fn write_task<'a>(
+    alloc: Global,
+    out: &mut Bytes,
+    tasks: &mut Vec<Task<'a>>,
+    task: Task<'a>,
+) -> Result<(), Mem>
+    ensures text { OnOk result (out.new ++ tasks_text tasks.new.items ≡ out.old ++ (task_text task.entry ++ tasks_text tasks.old.items)) }
+    ensures fixnums { OnOk result (TasksHaveFixnums tasks.new.items → TaskHasFixnums task.entry × TasksHaveFixnums tasks.old.items) }
+    ensures less { OnOk result (tasks_load tasks.new.items < task_load task.entry + tasks_load tasks.old.items) }
+{
+    match task {
+        Task::One(d) => write_one(alloc, out, tasks, d),
+        Task::More(items) => write_more(out, tasks, items),
+        Task::Dotted(d) => {
+            out.extend_from_slice(b" . ")?;
+            tasks.push(Task::One(d))?;
+            Ok(())
+        }
+        Task::Close => out.push(b')'),
+    }
+}
+
+fn write_one<'a>(
+    alloc: Global,
+    out: &mut Bytes,
+    tasks: &mut Vec<Task<'a>>,
+    d: &'a Datum,
+) -> Result<(), Mem>
+    ensures text { OnOk result (out.new ++ tasks_text tasks.new.items ≡ out.old ++ (datum_text (tree_of d.now) ++ tasks_text tasks.old.items)) }
+    ensures fixnums { OnOk result (TasksHaveFixnums tasks.new.items → HasFixnums (tree_of d.now) × TasksHaveFixnums tasks.old.items) }
+    ensures less { OnOk result (tasks_load tasks.new.items + 2 ≤ 6 * weight (tree_of d.now) + tasks_load tasks.old.items) }
 {
     match &d.node {
         Node::Boolean(truth) => write_boolean(out, *truth),
@@ -101,39 +154,45 @@ fn write_datum(alloc: Global, out: &mut Bytes, d: &Datum) -> Result<(), Mem>
         Node::Symbol(name) => out.extend_from_slice(name.as_slice()),
         Node::List(items, None) => {
             out.push(b'(')?;
-            write_items(alloc, out, items.as_slice())?;
-            out.push(b')')?;
+            tasks.push(Task::Close)?;
+            push_items(tasks, items.as_slice())?;
             Ok(())
         }
         Node::List(items, Some(last)) => {
             out.push(b'(')?;
-            write_items(alloc, out, items.as_slice())?;
-            out.extend_from_slice(b" . ")?;
-            write_datum(alloc, out, last)?;
-            out.push(b')')?;
+            tasks.push(Task::Close)?;
+            tasks.push(Task::Dotted(last))?;
+            push_items(tasks, items.as_slice())?;
             Ok(())
         }
         Node::Vector(items) => {
             out.extend_from_slice(b"#(")?;
-            write_items(alloc, out, items.as_slice())?;
-            out.push(b')')?;
+            tasks.push(Task::Close)?;
+            push_items(tasks, items.as_slice())?;
             Ok(())
         }
     }
 }
 
-#[cycle(write)]
-fn write_items(alloc: Global, out: &mut Bytes, items: &[Datum]) -> Result<(), Mem>
-    ensures text { OnOk result (out.new ≡ out.old ++ items_text (data_of items.now)) }
-    ensures fixnums { OnOk result (HaveFixnums (data_of items.now)) }
+fn write_more<'a>(out: &mut Bytes, tasks: &mut Vec<Task<'a>>, items: &'a [Datum]) -> Result<(), Mem>
+    ensures text { OnOk result (out.new ++ tasks_text tasks.new.items ≡ out.old ++ (more_text (data_of items.now) ++ tasks_text tasks.old.items)) }
+    ensures fixnums { OnOk result (TasksHaveFixnums tasks.new.items → HaveFixnums (data_of items.now) × TasksHaveFixnums tasks.old.items) }
+    ensures load { OnOk result (tasks_load tasks.new.items ≤ 6 * weights (data_of items.now) + tasks_load tasks.old.items) }
 {
-    if items.is_empty() {
-        return Ok(());
-    }
-    write_datum(alloc, out, &items[0])?;
-    for i in 1..items.len() {
+    if !items.is_empty() {
         out.push(b' ')?;
-        write_datum(alloc, out, &items[i])?;
+        push_items(tasks, items)?;
+    }
+    Ok(())
+}
+
+// The first item is the next task.
+fn push_items<'a>(tasks: &mut Vec<Task<'a>>, items: &'a [Datum]) -> Result<(), Mem>
+    ensures { OnOk result (Came (items_text (data_of items.now)) (HaveFixnums (data_of items.now)) (6 * weights (data_of items.now)) tasks.old.items tasks.new.items) }
+{
+    if let Some((first, rest)) = items.split_first() {
+        tasks.push(Task::More(rest))?;
+        tasks.push(Task::One(first))?;
     }
     Ok(())
 }

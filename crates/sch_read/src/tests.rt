@@ -1,4 +1,4 @@
-use crate::{Datum, ReadError, print, read_all};
+use crate::{Datum, Node, ReadError, print, read_all};
 use sch_word::{List, Mem};
 use std::alloc::Global;
 use std::test::Fail;
@@ -40,6 +40,28 @@ fn nested(alloc: Global, levels: u32) -> Result<List<u8>, Mem> {
     let mut out = repeated(alloc, b"(", levels)?;
     out.append(repeated(alloc, b")", levels)?)?;
     Ok(out)
+}
+
+fn truth() -> Datum {
+    let node = Node::Boolean(true);
+    Datum { at: 0, node }
+}
+
+// A datum behind `#t` in a list, after its dot, or in a vector.
+fn deeper(alloc: Global, d: Datum, kind: u32) -> Result<Datum, Mem> {
+    let mut items = List::new(alloc);
+    items.push(truth())?;
+    if kind == 0 {
+        let node = Node::List(items, Some(Box::new(alloc, d)?));
+        return Ok(Datum { at: 0, node });
+    }
+    items.push(d)?;
+    let node = if kind == 1 {
+        Node::List(items, None)
+    } else {
+        Node::Vector(items)
+    };
+    Ok(Datum { at: 0, node })
 }
 
 #[test]
@@ -128,5 +150,16 @@ fn reads_a_thousand_levels(rt: HostRuntime) -> Result<(), Fail> {
         refusal(alloc, deeper.as_slice()),
         Some(ReadError::DeepNesting(1000))
     );
+    Ok(())
+}
+
+#[test]
+fn prints_and_lets_go_of_very_deep_data(rt: HostRuntime) -> Result<(), Fail> {
+    let alloc = rt.alloc();
+    let mut d = truth();
+    for level in 0..300_000u32 {
+        d = deeper(alloc, d, level % 3)?;
+    }
+    assert_eq!(rt; print(alloc, &d)?.len(), 100_000 * 18 + 2);
     Ok(())
 }
