@@ -9,3 +9,5 @@ pub mod TopAgree
 pub mod TopSteps
 pub mod Top
 pub mod NumberLemmas
+pub mod Numbering
+pub mod DraftViews

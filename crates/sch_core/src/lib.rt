@@ -9,6 +9,7 @@ mod forms;
 mod laws;
 mod names;
 mod notes;
+mod number;
 mod operation;
 mod parts;
 mod quotation;
