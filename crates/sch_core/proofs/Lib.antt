@@ -11,3 +11,4 @@ pub mod Top
 pub mod NumberLemmas
 pub mod Numbering
 pub mod DraftViews
+pub mod PlaceSteps

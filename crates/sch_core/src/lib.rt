@@ -2,6 +2,7 @@
 #![tactic(auto)]
 
 mod combine;
+mod crowd;
 mod draft;
 mod error;
 mod fault;
@@ -12,6 +13,7 @@ mod notes;
 mod number;
 mod operation;
 mod parts;
+mod places;
 mod quotation;
 mod scope;
 mod shape;
