@@ -12,3 +12,13 @@ pub mod NumberLemmas
 pub mod Numbering
 pub mod DraftViews
 pub mod PlaceSteps
+pub mod ValiditySites
+pub mod ValiditySound
+pub mod ValidityOperations
+pub mod ValiditySoundness
+pub mod ValidityNodes
+pub mod ValidityNames
+pub mod ValidityLevels
+pub mod ValiditySizes
+pub mod ValidityCounts
+pub mod Validity

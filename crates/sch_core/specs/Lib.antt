@@ -20,3 +20,4 @@ pub mod Counted
 pub mod Programs
 pub mod Answer
 pub mod Laws
+pub mod Sizes
