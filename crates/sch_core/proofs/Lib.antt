@@ -22,3 +22,5 @@ pub mod ValidityLevels
 pub mod ValiditySizes
 pub mod ValidityCounts
 pub mod Validity
+pub mod Crowding
+pub mod CrowdSteps

@@ -1,7 +1,8 @@
 //! The variables that forms have, of which one has at most 1,000.
 
-ghost use Rattle.std.specs.Prelude.{◌≡◌, ◌+◌, ◌<◌, ◌≤◌, cond, map, MatchOption};
+ghost use Rattle.std.specs.Prelude.{◌≡◌, ◌+◌, ◌<◌, ◌≤◌, cond, map, nat_le, MatchOption};
 ghost use Rattle.sch_lang.specs.Measures.{one_unless};
+ghost use Rattle.sch_lang.specs.Valid.{most_body_variables};
 ghost use Rattle.sch_core.specs.Counted.{is_simple, variables_of, variables_of_each, variables_of_operands, variables_of_parts};
 ghost use Rattle.sch_core.specs.DraftView.{draft_of, drafts_of};
 ghost use Rattle.sch_core.specs.Numbered.{program_of};
@@ -22,6 +23,13 @@ fn is_simple(e: &Draft, bound: usize) -> bool
     }
 }
 
+/// What is left of `left` variables without so many, if there are enough.
+fn less(left: usize, taken: usize) -> Option<usize>
+    ensures { MatchOption result (left < taken) (λ rest. rest + taken ≡ left) }
+{
+    left.checked_sub(taken)
+}
+
 /// What is left of `left` variables once a draft that is to have a value has a variable for it, if any.
 fn after_value(e: &Draft, bound: usize, left: usize) -> Option<usize>
     ensures { MatchOption result (left < one_unless (is_simple (draft_of e.now) bound)) (λ rest. rest + one_unless (is_simple (draft_of e.now) bound) ≡ left) }
@@ -29,7 +37,7 @@ fn after_value(e: &Draft, bound: usize, left: usize) -> Option<usize>
     if is_simple(e, bound) {
         return Some(left);
     }
-    left.checked_sub(1)
+    less(left, 1)
 }
 
 /// The same at a part of a sequence: the last needs none.
@@ -66,8 +74,9 @@ fn after(e: &Draft, bound: usize, left: usize) -> Option<usize>
         Draft::Seq(es) => after_parts(es.as_slice(), bound, left),
         Draft::Let(es, e) => {
             let left = after_each(es.as_slice(), bound, left)?;
-            let left = left.checked_sub(es.len())?;
-            let rest = after(e, bound + es.len(), left)?;
+            let width = es.len();
+            let left = less(left, width)?;
+            let rest = after(e, bound + width, left)?;
             Some(rest)
         }
         Draft::Prim(_, es) => after_operands(es.as_slice(), bound, left),
@@ -110,10 +119,21 @@ fn after_parts(es: &[Draft], bound: usize, left: usize) -> Option<usize>
     let mut rest = left;
     let n = es.len();
     for i in 0..n {
-        let next = after_part(i + 1 == n, &es[i], bound, rest)?;
-        rest = after(&es[i], bound, next)?;
+        let e = &es[i];
+        let next = after_part(i + 1 == n, e, bound, rest)?;
+        rest = after(e, bound, next)?;
     }
     Some(rest)
+}
+
+/// Whether a form has few enough variables.
+fn fits(e: &Draft) -> bool
+    ensures { result ≡ nat_le (variables_of (draft_of e.now) 0) most_body_variables }
+{
+    match after(e, 0, MOST_VARIABLES) {
+        Some(_) => true,
+        None => false,
+    }
 }
 
 /// The place of the first form that has too many variables.
@@ -122,7 +142,7 @@ pub(crate) fn first_crowded(places: &[u32], es: &[Draft]) -> Option<u32>
 {
     let n = places.len().min(es.len());
     for i in 0..n {
-        if after(&es[i], 0, MOST_VARIABLES).is_none() {
+        if !fits(&es[i]) {
             return Some(places[i]);
         }
     }
