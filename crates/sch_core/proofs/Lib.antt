@@ -24,3 +24,5 @@ pub mod ValidityCounts
 pub mod Validity
 pub mod Crowding
 pub mod CrowdSteps
+pub mod Assembling
+pub mod Answering

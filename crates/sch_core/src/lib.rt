@@ -1,6 +1,7 @@
 //! The expander: data to a program of the core language.
 #![tactic(auto)]
 
+mod assembly;
 mod combine;
 mod crowd;
 mod draft;

@@ -1,6 +1,6 @@
 //! Tables of names.
 
-ghost use Rattle.std.specs.Prelude.{◌≡◌, [], OnOk};
+ghost use Rattle.std.specs.Prelude.{◌≡◌, [], length, OnOk};
 ghost use Rattle.sch_core.specs.Scope.{is_among};
 ghost use Rattle.sch_core.specs.NamesView.{names_of, with_name};
 ghost use Rattle.sch_core.specs.Numbered.{number_of};
@@ -22,6 +22,13 @@ impl Names {
         Names {
             set: IndexSet::new(alloc),
         }
+    }
+
+    /// How many names there are.
+    pub(crate) fn len(&self) -> usize
+        ensures { result ≡ length (names_of self.now) }
+    {
+        self.set.len()
     }
 
     /// Whether the name is among them.
