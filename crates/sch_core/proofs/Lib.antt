@@ -9,6 +9,9 @@ pub mod TopAgree
 pub mod TopSteps
 pub mod Top
 pub mod NumberLemmas
+pub mod Numbering
+pub mod DraftViews
+pub mod PlaceSteps
 pub mod ValiditySites
 pub mod ValiditySound
 pub mod ValidityOperations
@@ -19,3 +22,7 @@ pub mod ValidityLevels
 pub mod ValiditySizes
 pub mod ValidityCounts
 pub mod Validity
+pub mod Crowding
+pub mod CrowdSteps
+pub mod Assembling
+pub mod Answering

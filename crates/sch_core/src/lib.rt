@@ -1,7 +1,9 @@
 //! The expander: data to a program of the core language.
 #![tactic(auto)]
 
+mod assembly;
 mod combine;
+mod crowd;
 mod draft;
 mod error;
 mod fault;
@@ -9,8 +11,10 @@ mod forms;
 mod laws;
 mod names;
 mod notes;
+mod number;
 mod operation;
 mod parts;
+mod places;
 mod quotation;
 mod scope;
 mod shape;
@@ -19,7 +23,7 @@ mod walk;
 mod word;
 
 pub use error::{CoreError, Kind};
-pub use forms::{check, core};
+pub use forms::core;
 pub use laws::{expansion_is_unique, fault_or_expansion};
 
 #[cfg(test)]
