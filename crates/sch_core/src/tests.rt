@@ -97,8 +97,7 @@ fn counts_operands(rt: HostRuntime) -> Result<(), Fail> {
 // How many globals the program of a text has, the number of parts of each site, and the forms.
 fn printed(alloc: Global, text: &[u8]) -> Result<String, Fail> {
     match program_of(alloc, text) {
-        Ok(program) => Ok(format!(
-            in alloc;
+        Ok(program) => Ok(format!(in alloc;
             "{} {:?} {:?}",
             program.globals.len(),
             program.sites.as_slice(),
@@ -157,7 +156,10 @@ fn counts_variables(rt: HostRuntime) -> Result<(), Fail> {
         (b"(let ((x 1)) 1)", (8, 17)),
     ];
     for (body, expected) in rows {
-        assert_eq!(rt; cause(rt.alloc(), crowded(rt.alloc(), body)?.as_slice()), expected);
+        assert_eq!(rt;
+            cause(rt.alloc(), crowded(rt.alloc(), body)?.as_slice()),
+            expected
+        );
     }
     Ok(())
 }
