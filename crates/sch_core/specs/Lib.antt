@@ -16,6 +16,8 @@ pub mod LetKinds
 pub mod Following
 pub mod Forms
 pub mod Numbered
+pub mod Counted
 pub mod Programs
 pub mod Answer
 pub mod Laws
+pub mod Sizes

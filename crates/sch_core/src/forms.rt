@@ -10,10 +10,14 @@ ghost use Rattle.sch_lang.specs.ProgramView.{source};
 ghost use Rattle.sch_lang.specs.Tree.{Source};
 ghost use Rattle.sch_read.specs.Valid.{weights};
 
-use crate::error::{CoreError, error_of};
+use crate::assembly::assemble;
+use crate::crowd::first_crowded;
+use crate::error::{CoreError, Kind, error_of};
+use crate::places::place_forms;
 use crate::text::expand;
 use sch_lang::Program;
 use sch_read::Datum;
+use sch_word::List;
 use std::alloc::Global;
 
 /// Whether each top-level datum of a text stands for an expression of the core language, or the fault
@@ -36,5 +40,15 @@ pub fn core(alloc: Global, items: &[Datum]) -> Result<Program, CoreError>
     ensures only { (p : Source) → IsProgramOf (data_of items.now) p → MatchResult result (λ q. source q ≡ p) (λ e. e ≡ CoreError.Memory) }
     ensures fault { IfErr result (IsErrorIn (data_of items.now)) }
 {
-    Err(CoreError::Memory)
+    let drafts = match expand(alloc, items)? {
+        Ok(drafts) => drafts,
+        Err(f) => return Err(error_of(f)),
+    };
+    let mut places = List::new(alloc);
+    place_forms(items, &mut places)?;
+    if let Some(at) = first_crowded(places.as_slice(), drafts.as_slice()) {
+        return Err(CoreError::Limit(Kind::Variables, at));
+    }
+    let program = assemble(alloc, drafts.as_slice())?;
+    Ok(program)
 }

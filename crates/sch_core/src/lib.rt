@@ -1,7 +1,9 @@
 //! The expander: data to a program of the core language.
 #![tactic(auto)]
 
+mod assembly;
 mod combine;
+mod crowd;
 mod draft;
 mod error;
 mod fault;
@@ -9,8 +11,10 @@ mod forms;
 mod laws;
 mod names;
 mod notes;
+mod number;
 mod operation;
 mod parts;
+mod places;
 mod quotation;
 mod scope;
 mod shape;

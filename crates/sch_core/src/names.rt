@@ -1,6 +1,6 @@
 //! Tables of names.
 
-ghost use Rattle.std.specs.Prelude.{◌≡◌, [], OnOk, IfOk};
+ghost use Rattle.std.specs.Prelude.{◌≡◌, [], length, OnOk};
 ghost use Rattle.sch_core.specs.Scope.{is_among};
 ghost use Rattle.sch_core.specs.NamesView.{names_of, with_name};
 ghost use Rattle.sch_core.specs.Numbered.{number_of};
@@ -24,6 +24,13 @@ impl Names {
         }
     }
 
+    /// How many names there are.
+    pub(crate) fn len(&self) -> usize
+        ensures { result ≡ length (names_of self.now) }
+    {
+        self.set.len()
+    }
+
     /// Whether the name is among them.
     #[tactic(auto, using(crate::proofs::NameLemmas::among))]
     pub(crate) fn contains(&self, x: &[u8]) -> bool
@@ -41,13 +48,13 @@ impl Names {
         Ok(())
     }
 
-    /// The number of a name, which is added at the end if it is new.
-    pub(crate) fn number(&mut self, alloc: Global, x: &[u8]) -> Result<usize, Mem>
-        ensures names { OnOk result (names_of self.new ≡ with_name x.now (names_of self.old)) }
-        ensures index { IfOk result (λ n. n ≡ number_of x.now (names_of self.old)) }
+    /// The number of a name: how many there are before it.
+    pub(crate) fn number(&self, x: &[u8]) -> usize
+        ensures { result ≡ number_of x.now (names_of self.now) }
     {
-        let name = Vec::from_slice(alloc, x)?;
-        let (index, _) = self.set.insert_full(name)?;
-        Ok(index)
+        match self.set.get_index_of(x) {
+            Some(index) => index,
+            None => self.set.len(),
+        }
     }
 }

@@ -25,7 +25,7 @@ use sch_word::{List, Mem};
 use std::alloc::Global;
 
 /// The word at the head of a form, and what follows it.
-fn headed(d: &Datum) -> Option<(Keyword, &[Datum])>
+pub(crate) fn headed(d: &Datum) -> Option<(Keyword, &[Datum])>
     ensures { MatchOption result (word_of (tree_of d.now) ≡ None) (λ p. IsHeaded (tree_of d.now) p.0 (data_of p.1.now)) }
 {
     let Some(items) = items_of(d) else {

@@ -1,14 +1,9 @@
-use Rattle.std.proofs.Common.{◌∙◌, ap, map, sym}
-use Rattle.sch_core.specs.Numbered.{number_of}
-use Rattle.sch_core.specs.NamesView.{names_of}
-use Rattle.sch_core.proofs.NameLemmas.{inserted}
-use Rattle.sch_core.proofs.NumberLemmas.{position_is}
+use Rattle.std.proofs.Common.{◌∙◌, sym}
+use Rattle.sch_core.proofs.NumberLemmas.{found, missing}
 use Rattle.sch_core.proofs.names.Names.number.Goals as goal
 
-pub returns-clause-names : goal.returns-clause-names
-returns-clause-names c = ap (map (λ k. k.items)) c.in_ok-index.ensures.keys ∙ inserted c.args.x.now _ c.args.self.now.set.keys c.in_ok-name.ensures.items
+pub returns-in-Some : goal.returns-in-Some
+returns-in-Some c = found c.args.x.now c.args.self.now.set.keys _ (sym c.get_index_of.ensures.index ∙ c.in-Some.is)
 
-pub returns-clause-index : goal.returns-clause-index
-returns-clause-index c =
-    c.in_ok-index.ensures.index ∙ sym (position_is c.in_ok-name.name.items c.args.self.now.set.keys)
-    ∙ ap (λ y. number_of y (names_of c.args.self.now)) c.in_ok-name.ensures.items
+pub returns-in-None : goal.returns-in-None
+returns-in-None c = c.len.ensures.len ∙ missing c.args.x.now c.args.self.now.set.keys (sym c.get_index_of.ensures.index ∙ c.in-None.is)

@@ -1,0 +1,25 @@
+use Rattle.std.proofs.Common.{◌≡◌, map}
+use Rattle.sch_lang.specs.SourceView.{source_of}
+use Rattle.sch_core.specs.DraftView.{draft_of}
+use Rattle.sch_core.specs.NamesView.{names_of}
+use Rattle.sch_core.specs.Numbered.{program_of}
+use Rattle.sch_core.proofs.Assembling.{assembled, ranged, formed, limited, sited, ready}
+use Rattle.sch_core.proofs.assembly.assemble.Goals as goal
+
+pub invariant_of-result : goal.invariant_of-result
+invariant_of-result c =
+    let e : source_of c.new.result c.new-2.result c.in_ok-globals.globals c.new-3.result c.in_ok-forms.forms c.number_each.new.sites ≡ program_of (map draft_of c.args.es.now) =
+    assembled (map draft_of c.args.es.now) (names_of c.new-names.result) (names_of c.name_globals_of_each.new.names) c.new-sites.result c.new.result c.new-2.result c.in_ok-globals.globals c.new-3.result c.in_ok-forms.forms c.number_each.new.sites
+    c.new-names.ensures c.in_ok-name_globals_of_each.ensures c.new-sites.ensures c.new.ensures c.new-2.ensures c.in_ok-globals.ensures c.new-3.ensures c.in_ok-forms.ensures.made c.in_ok-forms.ensures.sites in
+    record {
+      numbered = ranged _ _ e c.requires.valid;
+      formed = formed _ _ e c.requires.valid;
+      limited = limited _ _ e c.requires.valid;
+      sited = sited _ _ e c.requires.valid;
+      ready = ready _ _ e c.requires.valid;
+    }
+
+pub returns : goal.returns
+returns c =
+    assembled (map draft_of c.args.es.now) (names_of c.new-names.result) (names_of c.name_globals_of_each.new.names) c.new-sites.result c.new.result c.new-2.result c.in_ok-globals.globals c.new-3.result c.in_ok-forms.forms c.number_each.new.sites
+    c.new-names.ensures c.in_ok-name_globals_of_each.ensures c.new-sites.ensures c.new.ensures c.new-2.ensures c.in_ok-globals.ensures c.new-3.ensures c.in_ok-forms.ensures.made c.in_ok-forms.ensures.sites
