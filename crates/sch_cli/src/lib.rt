@@ -20,6 +20,8 @@ mod refusal;
 mod run;
 mod source;
 mod step;
+#[cfg(test)]
+mod tests;
 
 use command::{Command, read_words};
 use compile::compile;
