@@ -1,7 +1,7 @@
 #!/usr/bin/env python3
-"""Compiles thin texts of 64 KiB and 1 MiB, and prints times, their ratio, and peak memory.
+"""Compiles texts of 64 KiB and 1 MiB, and prints times, their ratio, and peak memory.
 
-Run by hand, after the program was built:  bench/thin.py [RUNS]
+Run by hand, after the program was built:  bench/compile.py [RUNS]
 """
 import os
 import tempfile
@@ -20,7 +20,8 @@ def forms(form):
 TEXTS = {
     "(newline)": forms(b"(newline)"),
     "(display -7)\\n": forms(b"(display -7)\n"),
-    "18 digits": forms(b"(display 123456789012345678)"),
+    "(display 1)": forms(b"(display 1)"),
+    "19 digits": forms(b"(display 1123456789012345678)"),
 }
 
 
