@@ -1,38 +1,36 @@
--- An image that behaves as a thin text means ends so when it is executed.
-use Rattle.std.proofs.Common.{◌≡◌, ℕ, zero, suc, ◌⊎◌, inl, inr, List, [], ◌∷◌, Bool, true, false, refl, sym, ap, ◌∙◌, subst, ⊎_elim, arith, drop}
+-- An image that does what a core program means ends so when it is executed.
+use Rattle.std.proofs.Common.{◌≡◌, ℕ, zero, suc, List, [], ◌∷◌, Bool, true, false, refl, sym, ap, ◌∙◌, subst, arith, drop, if◌then◌else◌}
 use Rattle.std.specs.Prelude.{All}
-use Rattle.std.proofs.lemmas.Bool.{cases_lt}
 use Rattle.sch_word.specs.declared.answer.Answer.{Answer}
 use Rattle.sch_word.specs.declared.answer.Answer.TheVariants.{Took, Failed}
+use Rattle.sch_word.specs.declared.stop.Stop.{Stop}
+use Rattle.sch_word.specs.declared.stop.Stop.TheVariants.{WrongType, OutOfRange, NotProcedure, WrongCount, DivideByZero, Overflow, HeapLimit, DepthLimit, Unset, OutputFailed}
+use Rattle.sch_word.specs.Computation.{Outcome, State as states, gives, stops, spent}
 use Rattle.sch_word.specs.Put.{put}
+use Rattle.sch_word.specs.Runs.{End, ended, going}
+use Rattle.sch_word.specs.Runs.{seen as observed}
+use Rattle.sch_word.specs.Stops.{status_of}
+use Rattle.sch_word.specs.Values.{Value}
 use Rattle.sch_elf.specs.declared.image.Image.{Image}
 use Rattle.sch_elf.specs.Layout.{memory}
 use Rattle.sch_io.specs.Counters.{Rose}
-use Rattle.sch_insn.specs.Machine.{State, unknown_flags}
+use Rattle.sch_insn.specs.Machine.{unknown_flags}
 use Rattle.sch_insn.specs.Step.{Progress, Runs, Exited, Stuck, mach}
-use Rattle.sch_insn.specs.Behaves.{Behaves, Ending, Given, IsPrefix, output_of}
-use Rattle.sch_insn.proofs.Growing.{stays}
+use Rattle.sch_insn.specs.Behaves.{Ending, Given, IsPrefix, output_of}
+use Rattle.sch_lang.specs.Tree as tree
+use Rattle.sch_lang.specs.Meaning.{Closure}
+use Rattle.sch_lang.specs.Run.{outcome}
 use Rattle.sch_step.specs.Run.{TakesNothing}
-use Rattle.sch_cli.specs.Executes.{Reaches, started, status_after}
-use Rattle.sch_cli.specs.Steps.{EndsAs, Ran, RunsThin, Seen}
-use Rattle.sch_cli.specs.Thin.{puts}
-use Rattle.sch_cli.proofs.ThinRuns.{ending_after}
+use Rattle.sch_cli.specs.Builds.{IsImageOf}
+use Rattle.sch_cli.specs.Executes.{Reaches, started, status_after, is_named}
+use Rattle.sch_cli.specs.Headline.{Follows, default_depth, default_heap, identity_orders, run_of}
+use Rattle.sch_cli.specs.Pieces.{puts}
+use Rattle.sch_cli.specs.Steps.{EndsAs, Ran, RunsProgram, Seen}
+use Rattle.sch_cli.proofs.Following.{follows}
+use Rattle.sch_cli.proofs.PieceRuns.{ending_after}
 use Rattle.sch_cli.proofs.Executing.{related}
 
--- ---- the meaning of a thin text ends with 0, or with 74 after an answer that takes nothing
-
-abbrev Named : ℕ → Type 0
-Named status = (status ≡ 0) ⊎ (status ≡ 74)
-
-next_named : (whole : Bool) (taken : List ℕ) (left : List Answer) (rest : Ending) → Named rest.status → Named (ending_after (record { taken = taken; left = left; whole = whole }) rest).status
-next_named true taken left rest named = named
-next_named false taken left rest named = inr refl
-
-ends_named : (pieces : List (List ℕ)) (answers : List Answer) → Named (puts pieces answers).status
-ends_named [] answers = inl refl
-ends_named (piece ∷ pieces) answers =
-    let this = put piece answers in
-    next_named this.whole this.taken this.left (puts pieces this.left) (ends_named pieces this.left)
+-- ---- puts end with 74 only after an answer that takes nothing
 
 module _ (R : Type 0) where
   -- an answer that takes nothing gives R
@@ -67,66 +65,80 @@ module _ (R : Type 0) where
       let this = put piece answers in
       next_gives this.whole this.taken this.left (puts pieces this.left) (cut_gives piece answers h) (failed_gives pieces this.left (left_gives piece answers h)) is
 
--- ---- an image that behaves so
+-- ---- a run ends with 0 or a stop's status
+
+stop_named : (why : Stop) → is_named (status_of why) ≡ true
+stop_named WrongType = refl
+stop_named OutOfRange = refl
+stop_named NotProcedure = refl
+stop_named WrongCount = refl
+stop_named DivideByZero = refl
+stop_named Overflow = refl
+stop_named HeapLimit = refl
+stop_named DepthLimit = refl
+stop_named Unset = refl
+stop_named OutputFailed = refl
+
+status_of_end : End → ℕ
+status_of_end (ended status) = status
+status_of_end going = 0
+
+seen_named : (answers : List Answer) (entries : ℕ) (o : Outcome (states Closure) Value) (status : ℕ) → (observed answers entries o).end ≡ ended status → is_named status ≡ true
+unfolding status_of_end
+seen_named answers entries (gives v s) status is = subst (λ n. is_named n ≡ true) (ap status_of_end is) refl
+seen_named answers entries (stops why s) status is = subst (λ n. is_named n ≡ true) (ap status_of_end is) (stop_named why)
+seen_named answers entries (spent s) status is = absurd cc
+
+run_named : (p : tree.Source) (table : List (List ℕ)) (answers : List Answer) (entries status : ℕ) → (run_of p table answers entries).end ≡ ended status → is_named status ≡ true
+run_named p table answers entries status is = seen_named answers entries (outcome p table default_heap default_depth answers entries) status is
+
+-- ---- an image that does what the program means
 
 -- what a machine is given that starts with registers that are 0
 zeros : Given
 zeros = record { registers = λ r. 0; flags = unknown_flags; spare = []; registers_fit = λ r. omega arith; spare_fit = λ k d lt. absurd (omega arith) }
 
-status_of_exit : Progress → ℕ
-status_of_exit (Runs s) = 0
-status_of_exit (Exited status output) = status
-status_of_exit (Stuck cause s) = 0
+named_status : (status : ℕ) (output : List ℕ) → is_named status ≡ true → status_after (Exited status output) ≡ status
+named_status status output e = ap (λ b. if b then status else 8) e
 
--- what has exited in some number of steps has exited so in any other
-one_exit : (m n : ℕ) (s : State) (status status' : ℕ) (output output' : List ℕ) → mach m s ≡ Exited status output → mach n s ≡ Exited status' output' → Exited status output ≡ Exited status' output'
-one_exit m n s status status' output output' one other =
-    ⊎_elim
-    (λ lt. sym (stays m n s (Exited status output) tt (omega arith) one) ∙ other)
-    (λ le. sym one ∙ stays n m s (Exited status' output') tt le other)
-    (cases_lt m n)
+module _ (image : Image) (p : tree.Source) (does : Follows image.entry (memory image.segments) p (identity_orders p.sites)) where
+  -- how it ends, by what a bounded run has come to
+  ends : (steps : ℕ) (answers : List Answer) (q : Progress) → mach steps (started image answers) ≡ q → EndsAs p steps answers (status_after q) (output_of q)
+  unfolding zeros
+  ends steps answers (Runs s) is = record {
+    spent = λ _. subst (λ q. IsPrefix (output_of q) (run_of p (identity_orders p.sites) answers steps).output) is (does.covered zeros answers steps).output;
+    status_is = λ not. absurd (not refl);
+    output_is = λ not. absurd (not refl);
+  }
+  ends steps answers (Exited status output) is =
+      let end = (does.covered zeros answers steps).end status output is in
+      let named = named_status status output (run_named p (identity_orders p.sites) answers steps status end.0) in
+      record {
+        spent = λ _. subst (λ q. IsPrefix (output_of q) (run_of p (identity_orders p.sites) answers steps).output) is (does.covered zeros answers steps).output;
+        status_is = λ not. end.0 ∙ ap ended (sym named);
+        output_is = λ not. end.1;
+      }
+  ends steps answers (Stuck cause s) is = absurd (does.never_stuck zeros answers steps cause s is)
 
-named_as_it_is : (status : ℕ) → Named status → (if_named : ℕ) → status_after (Exited status []) ≡ if_named → status ≡ if_named
-named_as_it_is status (inl z) other e = subst (λ n. status_after (Exited n []) ≡ other → n ≡ other) (sym z) (λ e. e) e
-named_as_it_is status (inr f) other e = subst (λ n. status_after (Exited n []) ≡ other → n ≡ other) (sym f) (λ e. e) e
+  ends_as : (name : List ℕ) (steps : ℕ) (answers : List Answer) (status : ℕ) (output line : List ℕ) → Reaches name image steps answers status output line → EndsAs p steps answers status output
+  ends_as name steps answers status output line r =
+      subst (λ n. EndsAs p steps answers n output) r.status_is
+      (subst (λ o. EndsAs p steps answers (status_after (mach steps (started image answers))) o) r.output_is
+      (ends steps answers (mach steps (started image answers)) refl))
 
--- how it ends, by what a bounded run has come to
-ended : (image : Image) (pieces : List (List ℕ)) (behaves : Behaves image.entry (memory image.segments) (puts pieces)) (steps : ℕ) (answers : List Answer) (p : Progress) →
-    mach steps (started image answers) ≡ p → EndsAs pieces answers (status_after p) (output_of p)
-unfolding zeros status_of_exit
-ended image pieces behaves steps answers (Runs s) is = record {
-  spent = λ _. subst (λ q. IsPrefix (output_of q) (puts pieces answers).output) is (behaves.along zeros answers steps);
-  status_is = λ not. absurd (not refl);
-  output_is = λ not. absurd (not refl);
-}
-ended image pieces behaves steps answers (Exited status output) is =
-    let end = behaves.ends zeros answers in
-    let same : Exited status output ≡ Exited (puts pieces answers).status (puts pieces answers).output = one_exit steps end.0 (started image answers) status (puts pieces answers).status output (puts pieces answers).output is end.1 in
-    let status_same : status ≡ (puts pieces answers).status = ap status_of_exit same in
-    record {
-      spent = λ _. subst (λ q. IsPrefix (output_of q) (puts pieces answers).output) is (behaves.along zeros answers steps);
-      status_is = λ not. named_as_it_is (puts pieces answers).status (ends_named pieces answers) (status_after (Exited status output)) (ap (λ n. status_after (Exited n [])) (sym status_same));
-      output_is = λ not. sym (ap output_of same);
-    }
-ended image pieces behaves steps answers (Stuck cause s) is = absurd (behaves.never_stuck zeros answers steps cause s is)
-
-ends_as : (name : List ℕ) (image : Image) (pieces : List (List ℕ)) (behaves : Behaves image.entry (memory image.segments) (puts pieces)) (steps : ℕ) (answers : List Answer) (status : ℕ) (output line : List ℕ) →
-    Reaches name image steps answers status output line → EndsAs pieces answers status output
-ends_as name image pieces behaves steps answers status output line r =
-    subst (λ n. EndsAs pieces answers n output) r.status_is
-    (subst (λ o. EndsAs pieces answers (status_after (mach steps (started image answers))) o) r.output_is
-    (ended image pieces behaves steps answers (mach steps (started image answers)) refl))
-
-pub runs_thin : (name : List ℕ) (image : Image) (pieces : List (List ℕ)) (steps status : ℕ) (seen : Seen) → Behaves image.entry (memory image.segments) (puts pieces) →
-    Ran name image steps status seen → RunsThin name pieces steps status seen
-runs_thin name image pieces steps status seen behaves ran =
-    let given = ends_as name image pieces behaves steps ran.given status ran.output seen.line ran.under_given in
+pub runs_program : (name text : List ℕ) (image : Image) (steps status : ℕ) (seen : Seen) (made : IsImageOf text image) → Ran name image steps status seen → RunsProgram name made.program steps status seen
+unfolding status_of_end
+runs_program name text image steps status seen made ran =
+    let p = made.program in
+    let does = follows image.entry (memory image.segments) p made.pieces made.prints made.behaves in
+    let given = ends_as image p does name steps ran.given status ran.output seen.line ran.under_given in
     record {
       image = image;
-      behaves = behaves;
+      follows = does;
       ran = ran;
       under_given = given;
-      under_left = related seen.left seen.left_after (λ before after. Reaches name image steps before status ran.output seen.line) (λ before after. EndsAs pieces before status ran.output)
-          (λ before after r. ends_as name image pieces behaves steps before status ran.output seen.line r) ran.under_left;
-      output_failed = λ is. failed_gives (Rose seen.faults seen.faults_after) pieces ran.given ran.refused (given.status_is (λ nine. absurd (omega arith)) ∙ is);
+      under_left = related seen.left seen.left_after (λ before after. Reaches name image steps before status ran.output seen.line) (λ before after. EndsAs p steps before status ran.output)
+          (λ before after r. ends_as image p does name steps before status ran.output seen.line r) ran.under_left;
+      output_failed = λ is. failed_gives (Rose seen.faults seen.faults_after) made.pieces ran.given ran.refused
+          (ap status_of_end (sym (made.prints.end ran.given steps) ∙ given.status_is (λ nine. absurd (omega arith))) ∙ is);
     }

@@ -16,7 +16,7 @@ use Rattle.sch_insn.specs.Machine.{State, set_register, word, add64, sub64, is_n
 use Rattle.sch_insn.specs.Step.{Runs, Exited, answered, after_write, rest_of, jump_if, moved}
 use Rattle.sch_insn.proofs.Steps.{Comes, then, next, ends, HasAt}
 use Rattle.sch_insn.proofs.Placing.{HasBytes, has_later, write_answered}
-use Rattle.sch_cli.specs.ThinCode.{write_loop}
+use Rattle.sch_cli.specs.PieceCode.{write_loop}
 
 -- a state, by its parts
 abbrev pub at : (ℕ → ℕ) → Flags → ℕ → List Segment → List ℕ → List Answer → List ℕ → State

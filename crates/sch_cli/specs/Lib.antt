@@ -1,11 +1,13 @@
+pub mod Builds
 pub mod Command
 pub mod CommandView
 pub mod Compiles
 pub mod Executes
+pub mod Headline
 pub mod Messages
 pub mod Numbers
+pub mod PieceCode
+pub mod Pieces
+pub mod Refusals
 pub mod Steps
 pub mod Stopped
-pub mod Thin
-pub mod ThinCode
-pub mod ThinForms

@@ -17,14 +17,14 @@ usage_line = codes "usage: schc VERB NAME [NAME2] [--listing F] [--heap N] [--de
 abbrev pub out_of_memory_line : List ℕ
 out_of_memory_line = codes "out of memory\n"
 
--- the line for a status, where these are the names in the command
+-- The line for a status that tells all there is to say, where these are the names in the command. At 7 it
+-- is that of a file that is too long.
 abbrev pub line_of : ℕ → List ℕ → List ℕ → List ℕ
 line_of status source target =
     if status == 2 then source ++ codes ": read failed\n"
     else if status == 3 then target ++ codes ": write failed\n"
     else if status == 7 then source ++ codes ": limit file\n"
     else if status == 10 then out_of_memory_line
-    else if status == 11 then source ++ codes ": not built\n"
     else []
 
 abbrev pub spent_line : List ℕ

@@ -1,5 +1,5 @@
 -- How the verbs `run` and `step` end, each by its cause.
-use Rattle.std.specs.Prelude.{◌≡◌, ◌≢◌, ◌≤◌, ◌<◌, ◌+◌, ◌^◌, ℕ, List, length, Option, Some}
+use Rattle.std.specs.Prelude.{◌≡◌, ◌≢◌, ◌≤◌, ◌<◌, ◌+◌, ◌^◌, ℕ, List, length, Option, Some, None}
 use Rattle.std.specs.FinMap.{get}
 use Rattle.sch_word.specs.declared.answer.Answer.{Answer}
 use Rattle.sch_io.specs.Counters.{Rose}
@@ -11,11 +11,17 @@ use Rattle.sch_elf.specs.declared.image.Image.{Image}
 use Rattle.sch_elf.specs.Refused.{IsRefused}
 use Rattle.sch_elf.specs.Stands.{StandsFor}
 use Rattle.sch_elf.specs.Layout.{memory}
-use Rattle.sch_insn.specs.Behaves.{Behaves, IsPrefix}
-use Rattle.sch_cli.specs.Compiles.{Source, source_limit}
+use Rattle.sch_insn.specs.Behaves.{IsPrefix}
+use Rattle.sch_lang.specs.Tree as tree
+use Rattle.sch_word.specs.Runs.{ended}
+use Rattle.sch_cli.specs.declared.refusal.Refusal.{Refusal}
+use Rattle.sch_cli.specs.Compiles.{Source}
 use Rattle.sch_cli.specs.Executes.{Executes}
+use Rattle.sch_cli.specs.Headline.{Follows, identity_orders, run_of}
 use Rattle.sch_cli.specs.Messages.{line_of, refusal_line}
-use Rattle.sch_cli.specs.Thin.{IsThin, puts}
+use Rattle.sch_cli.specs.Pieces.{first_other}
+use Rattle.sch_cli.specs.Refusals.{source_limit, Means, refused_status, refused_line}
+use Rattle.sch_cli.specs.Refusals as refusals
 
 -- how many bytes an image's file may have: 128 MiB
 abbrev pub image_limit : ℕ
@@ -82,30 +88,28 @@ pub data EndsStep (name : List ℕ) (steps status : ℕ) (seen : Seen) : Type 0 
   stepped : (file : List ℕ) (image : Image) → Holds seen.files seen.files_after name file → length file ≤ image_limit → StandsFor file image →
       Ran name image steps status seen → EndsStep name steps status seen
 
--- Under these answers of the kernel a program of these pieces ends so: with the status and the output of
--- its meaning, or its steps are spent and it has put out a prefix of that.
-pub record EndsAs (pieces : List (List ℕ)) (answers : List Answer) (status : ℕ) (output : List ℕ) : Type 0 where
-  pub spent : status ≡ 9 → IsPrefix output (puts pieces answers).output
-  pub status_is : status ≢ 9 → (puts pieces answers).status ≡ status
-  pub output_is : status ≢ 9 → (puts pieces answers).output ≡ output
+-- Under these answers of the kernel the run of a core program, with the default limits and at most so
+-- many procedure entries, ends so: with this status and this output, or the machine's steps are spent
+-- and it has put out a prefix of the run's output.
+pub record EndsAs (p : tree.Source) (steps : ℕ) (answers : List Answer) (status : ℕ) (output : List ℕ) : Type 0 where
+  pub spent : status ≡ 9 → IsPrefix output (run_of p (identity_orders p.sites) answers steps).output
+  pub status_is : status ≢ 9 → (run_of p (identity_orders p.sites) answers steps).end ≡ ended status
+  pub output_is : status ≢ 9 → (run_of p (identity_orders p.sites) answers steps).output ≡ output
 
--- A thin text was run: an image that behaves as it means was executed, and ended as it means.
-pub record RunsThin (name : List ℕ) (pieces : List (List ℕ)) (steps status : ℕ) (seen : Seen) : Type 0 where
+-- A core program was run: an image that does what it means was executed, and ended as it means.
+pub record RunsProgram (name : List ℕ) (p : tree.Source) (steps status : ℕ) (seen : Seen) : Type 0 where
   pub image : Image
-  pub behaves : Behaves image.entry (memory image.segments) (puts pieces)
+  pub follows : Follows image.entry (memory image.segments) p (identity_orders p.sites)
   pub ran : Ran name image steps status seen
-  pub under_given : EndsAs pieces ran.given status ran.output
-  pub under_left : Tells seen.left seen.left_after (λ before after. EndsAs pieces before status ran.output)
+  pub under_given : EndsAs p steps ran.given status ran.output
+  pub under_left : Tells seen.left seen.left_after (λ before after. EndsAs p steps before status ran.output)
   pub output_failed : status ≡ 74 → Rose seen.faults seen.faults_after
 
--- `run NAME`: the source was not read, or is too long; or it is no text that can be compiled today; or
--- it is, and its program was run.
+-- `run NAME`: the source was not read; or it is refused; or it is none of these, and its program was run.
 pub data EndsRun (name : List ℕ) (steps status : ℕ) (seen : Seen) : Type 0 where
   not_read : status ≡ 2 → TookNothing seen.bytes seen.bytes_after → seen.line ≡ line_of 2 name name → EndsRun name steps status seen
-  too_long : status ≡ 7 → Source seen.files seen.files_after name (λ text. source_limit < length text) →
-      TookNothing seen.bytes seen.bytes_after → seen.line ≡ line_of 7 name name → EndsRun name steps status seen
   no_memory : status ≡ 10 → TookNothing seen.bytes seen.bytes_after → seen.line ≡ line_of 10 name name → EndsRun name steps status seen
-  not_built : (text : List ℕ) → status ≡ 11 → Holds seen.files seen.files_after name text → length text ≤ source_limit →
-      ((pieces : List (List ℕ)) → IsThin text pieces → ⊥) → TookNothing seen.bytes seen.bytes_after → seen.line ≡ line_of 11 name name → EndsRun name steps status seen
-  ran : (text : List ℕ) (pieces : List (List ℕ)) → Holds seen.files seen.files_after name text → length text ≤ source_limit → IsThin text pieces →
-      RunsThin name pieces steps status seen → EndsRun name steps status seen
+  refused : (refusal : Refusal) → status ≡ refused_status refusal → Source seen.files seen.files_after name (λ text. refusals.IsRefused text refusal) →
+      TookNothing seen.bytes seen.bytes_after → seen.line ≡ refused_line name refusal → EndsRun name steps status seen
+  ran : (text : List ℕ) (p : tree.Source) (means : Means text p) → Holds seen.files seen.files_after name text → length text ≤ source_limit → first_other means.items ≡ None →
+      RunsProgram name p steps status seen → EndsRun name steps status seen

@@ -1,13 +1,14 @@
 // The verb `compile`.
-ghost use Rattle.std.specs.Prelude.{◌≡◌, ◌≢◌, ◌≤◌, ◌<◌, ◌+◌, ◌^◌, ◌⊎◌, IsErr};
+ghost use Rattle.std.specs.Prelude.{◌≡◌, ◌≢◌, ◌≤◌, ◌<◌, ◌+◌, ◌^◌, ◌⊎◌, ℕ, List};
 ghost use Rattle.sch_io.specs.Counters.{Rose};
 ghost use Rattle.sch_io.specs.Files.{Spoils};
 ghost use Rattle.sch_io.specs.Told.{Tells};
-ghost use Rattle.sch_cli.specs.Compiles.{Compiled, HasStatus, IsVerdict, Source};
-ghost use Rattle.sch_cli.specs.Messages.{Says, line_of};
+ghost use Rattle.sch_cli.specs.Compiles.{Compiled, IsSaid, IsVerdict};
+ghost use Rattle.sch_cli.specs.Messages.{Says};
 
+use crate::build::build;
 use crate::message::say;
-use crate::thin::build;
+use crate::refusal::{Refusal, refuse};
 use sch_io::{Disk, DiskRead, Outlet};
 use std::alloc::Global;
 
@@ -22,7 +23,7 @@ pub fn compile<D: Disk, E: Outlet>(
     err: &mut E,
 ) -> u8
     ensures status { (result ≡ 2) ⊎ (result ≡ 3) ⊎ (result ≡ 10) ⊎ IsVerdict result }
-    ensures verdict { IsVerdict result → Source (D.files disk.old) (D.files disk.new) source.now (λ text. HasStatus text result) }
+    ensures said { (line : List ℕ) × Says line (E.bytes err.old) (E.bytes err.new) (E.faults err.old) (E.faults err.new) × IsSaid source.now target.now result (D.files disk.old) (D.files disk.new) line }
     ensures compiled { result ≡ 0 → Tells (D.files disk.old) (D.files disk.new) (Compiled source.now target.now) }
     ensures read_failed { result ≡ 2 → Rose (D.faults disk.old) (D.faults disk.new) }
     ensures write_failed { result ≡ 3 → Rose (D.faults disk.old) (D.faults disk.new) }
@@ -32,8 +33,6 @@ pub fn compile<D: Disk, E: Outlet>(
     ensures calls { D.calls disk.old < 2 ^ 63 → D.calls disk.new ≤ D.calls disk.old + 2 }
     ensures calls_at_3 { D.calls disk.old < 2 ^ 63 → result ≡ 3 → D.calls disk.new ≡ D.calls disk.old + 2 }
     ensures calls_at_refusal { D.calls disk.old < 2 ^ 63 → result ≢ 0 → result ≢ 3 → D.calls disk.new ≤ D.calls disk.old + 1 }
-
-    ensures line { Says (line_of result source.now target.now) (E.bytes err.old) (E.bytes err.new) (E.faults err.old) (E.faults err.new) }
 {
     let text = match disk.read(alloc, source, SOURCE_LIMIT) {
         Ok(text) => text,
@@ -41,29 +40,18 @@ pub fn compile<D: Disk, E: Outlet>(
             say(err, source, ": read failed\n");
             return 2;
         }
-        Err(DiskRead::TooLarge) => {
-            say(err, source, ": limit file\n");
-            return 7;
-        }
-        Err(DiskRead::Memory) => {
-            say(err, "", "out of memory\n");
-            return 10;
-        }
+        Err(DiskRead::TooLarge) => return refuse(err, source, &Refusal::TooLong),
+        Err(DiskRead::Memory) => return refuse(err, source, &Refusal::Memory),
     };
     let file = match build(alloc, text.as_slice()) {
-        Ok(Some(file)) => file,
-        Ok(None) => {
-            say(err, source, ": not built\n");
-            return 11;
-        }
-        Err(_) => {
-            say(err, "", "out of memory\n");
-            return 10;
-        }
+        Ok(file) => file,
+        Err(refusal) => return refuse(err, source, &refusal),
     };
-    if disk.write(target, file.as_slice()).is_err() {
-        say(err, target, ": write failed\n");
-        return 3;
+    match disk.write(target, file.as_slice()) {
+        Ok(()) => 0,
+        Err(_) => {
+            say(err, target, ": write failed\n");
+            3
+        }
     }
-    0
 }

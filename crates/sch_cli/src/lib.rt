@@ -4,19 +4,24 @@
 ghost use Rattle.std.specs.Prelude.{◌≡◌, ◌≢◌, ◌⊎◌, List, ℕ, None, map, string_bytes, if◌then◌else◌, ◌==◌};
 ghost use Rattle.sch_cli.specs.Command.{IfCompile, IfRun, IfStep, command};
 ghost use Rattle.sch_cli.specs.Compiles.{EndsCompile};
-ghost use Rattle.sch_cli.specs.Messages.{Says, line_of, out_of_memory_line, usage_line};
+ghost use Rattle.sch_cli.specs.Messages.{Says, out_of_memory_line, usage_line};
 ghost use Rattle.sch_cli.specs.Steps.{EndsRun, EndsStep, ReadsOnly, seen};
 
+mod assemble;
+mod build;
 mod command;
 mod compile;
 mod execute;
 mod message;
 mod number;
+mod piece;
+mod pieces;
+mod refusal;
 mod run;
+mod source;
 mod step;
 #[cfg(test)]
 mod tests;
-mod thin;
 
 use command::{Command, read_words};
 use compile::compile;
@@ -37,10 +42,11 @@ const USAGE: &str =
 /// most 1,000,000,000 steps or of those in `--steps N`; what the image writes goes to `out`.
 ///
 /// The other statuses, each with its line on `err`: 1 the words are no command, 2 NAME was not read,
-/// 3 NAME2 was not written, 7 NAME is longer than 1,048,576 bytes (an image: 134,217,728), 8 NAME stands
-/// for no image, or its image got stuck or exited with a status of no stop, 9 the steps were spent,
-/// 10 there was no memory, 11 NAME is no text that can be compiled today, 65 to 74 the image ended with
-/// this stop.
+/// 3 NAME2 was not written, 4 NAME is not accepted by the reader, 5 it has a bad form or defines a
+/// keyword, 6 it has an unbound variable, 7 it passes a limit, as that of 1,048,576 bytes (an image:
+/// 134,217,728), 8 NAME stands for no image, or its image got stuck or exited with a status of no stop,
+/// 9 the steps were spent, 10 there was no memory, 11 a form of NAME cannot be compiled today, 65 to 74
+/// the image ended with this stop.
 pub fn schc<D: Disk, O: Outlet, E: Outlet>(
     alloc: Global,
     words: &[String],
@@ -55,9 +61,8 @@ pub fn schc<D: Disk, O: Outlet, E: Outlet>(
     ensures disk_at_1 { result ≡ 1 → disk.new ≡ disk.old }
     ensures out_at_1 { result ≡ 1 → out.new ≡ out.old }
 
-    // Compiling ends by its causes, with the line for its status, and writes nothing on `out`.
-    ensures compile { IfCompile (command (map string_bytes words.now)) (λ source target. EndsCompile source target result (D.files disk.old) (D.files disk.new) (D.faults disk.old) (D.faults disk.new) (D.calls disk.old) (D.calls disk.new)) }
-    ensures compile_line { IfCompile (command (map string_bytes words.now)) (λ source target. Says (line_of result source target) (E.bytes err.old) (E.bytes err.new) (E.faults err.old) (E.faults err.new)) }
+    // Compiling ends by its causes, with the line that says the cause, and writes nothing on `out`.
+    ensures compile { IfCompile (command (map string_bytes words.now)) (λ source target. (line : List ℕ) × Says line (E.bytes err.old) (E.bytes err.new) (E.faults err.old) (E.faults err.new) × EndsCompile source target result (D.files disk.old) (D.files disk.new) (D.faults disk.old) (D.faults disk.new) (D.calls disk.old) (D.calls disk.new) line) }
     ensures compile_out { IfCompile (command (map string_bytes words.now)) (λ source target. out.new ≡ out.old) }
 
     // A source that is run ends as it means, and an image as the machine does, with a line that says so.

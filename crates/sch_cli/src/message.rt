@@ -1,6 +1,7 @@
 // Writes the lines on the standard error.
 ghost use Rattle.std.specs.Prelude.{◌≡◌, ◌≤◌, ◌<◌, ◌++◌, codes, length};
 ghost use Rattle.sch_cli.specs.Messages.{Says, exit_line, hexadecimal_digit, hexadecimal_digits, cause_text, joined, refusal_line, spent_line, stop_line, stuck_line};
+ghost use Rattle.sch_cli.specs.Refusals.{place_line};
 ghost use Rattle.sch_cli.specs.Stopped.{stop_of};
 
 use itoa::Buffer;
@@ -29,6 +30,40 @@ pub fn say_pieces<E: Outlet>(err: &mut E, pieces: &[&[u8]])
             return;
         }
     }
+}
+
+/// The line of a fault at a place of a source, with what the fault names.
+pub fn say_at<E: Outlet>(err: &mut E, name: &str, at: u32, what: &str, subject: &[u8])
+    ensures line { Says (place_line name.now at what.now subject.now) (E.bytes err.old) (E.bytes err.new) (E.faults err.old) (E.faults err.new) }
+    ensures faults { E.faults err.old ≤ E.faults err.new }
+{
+    let mut buffer = Buffer::new();
+    let digits = buffer.format(at).as_bytes();
+    say_fault(err, name, digits, what, subject);
+}
+
+fn say_fault<'a, E: Outlet>(
+    err: &mut E,
+    name: &str,
+    digits: &'a [u8],
+    what: &str,
+    subject: &'a [u8],
+)
+    ensures line { Says (name.now ++ (codes ": byte " ++ (digits.now ++ (codes ": " ++ (what.now ++ (subject.now ++ codes "\n")))))) (E.bytes err.old) (E.bytes err.new) (E.faults err.old) (E.faults err.new) }
+    ensures faults { E.faults err.old ≤ E.faults err.new }
+{
+    say_pieces(
+        err,
+        &[
+            name.as_bytes(),
+            ": byte ".as_bytes(),
+            digits,
+            ": ".as_bytes(),
+            what.as_bytes(),
+            subject,
+            "\n".as_bytes(),
+        ],
+    );
 }
 
 /// The line of a run whose steps were spent.

@@ -3,10 +3,11 @@ ghost use Rattle.std.specs.Prelude.{◌≡◌, ◌≢◌, ◌≤◌, ◌<◌, �
 ghost use Rattle.sch_cli.specs.Messages.{Says};
 ghost use Rattle.sch_cli.specs.Steps.{EndsRun, ReadsOnly, seen};
 
+use crate::build::image_of;
 use crate::compile::SOURCE_LIMIT;
 use crate::execute::execute;
 use crate::message::say;
-use crate::thin::image_of;
+use crate::refusal::{Refusal, refuse};
 use sch_io::{Disk, DiskRead, Outlet};
 use std::alloc::Global;
 
@@ -29,31 +30,15 @@ pub fn run<D: Disk, O: Outlet, E: Outlet>(
             say(err, source, ": read failed\n");
             return 2;
         }
-        Err(DiskRead::TooLarge) => {
-            say(err, source, ": limit file\n");
-            return 7;
-        }
-        Err(DiskRead::Memory) => {
-            say(err, "", "out of memory\n");
-            return 10;
-        }
+        Err(DiskRead::TooLarge) => return refuse(err, source, &Refusal::TooLong),
+        Err(DiskRead::Memory) => return refuse(err, source, &Refusal::Memory),
     };
     let image = match image_of(alloc, text.as_slice()) {
-        Ok(Some(image)) => image,
-        Ok(None) => {
-            say(err, source, ": not built\n");
-            return 11;
-        }
-        Err(_) => {
-            say(err, "", "out of memory\n");
-            return 10;
-        }
+        Ok(image) => image,
+        Err(refusal) => return refuse(err, source, &refusal),
     };
     match execute(alloc, source, &image, steps, out, err) {
         Ok(status) => status,
-        Err(_) => {
-            say(err, "", "out of memory\n");
-            10
-        }
+        Err(_) => refuse(err, source, &Refusal::Memory),
     }
 }

@@ -51,15 +51,16 @@ fn compile(alloc: Global, source: &[u8]) -> Result<Outcome, Fail> {
 }
 
 #[test]
-fn thin_texts_compile(rt: HostRuntime) -> Result<(), Fail> {
-    let texts: [&[u8]; 7] = [
+fn texts_that_compile(rt: HostRuntime) -> Result<(), Fail> {
+    let texts: [&[u8]; 8] = [
         b"",
         b" \t\n\r\x0c",
+        b"; a comment",
         b"(display -42)\n(newline)",
-        b"(display -0)",
-        b"(display 007)",
-        b"( display\t\n 999999999999999999 ) (\nnewline )",
-        b"(display -123456789012345678)(display 1)",
+        b"(DISPLAY 007)(display +1)(display -0)",
+        b"( display\t\n 1152921504606846975 ) (\nNewline )",
+        b"(display -1152921504606846976)(display #\\space)",
+        b"(display #t)(display #f)",
     ];
     for text in texts {
         let outcome = compile(rt.alloc(), text)?;
@@ -71,29 +72,65 @@ fn thin_texts_compile(rt: HostRuntime) -> Result<(), Fail> {
 }
 
 #[test]
-fn other_texts_are_not_built(rt: HostRuntime) -> Result<(), Fail> {
-    let texts: [&[u8]; 14] = [
-        b"(display 1) x",
-        b"(display \"a\")",
-        b"(newlin)",
-        b"(display 1",
-        b"(display 1000000000000000000)",
-        b"(display1)",
-        b"(display - 1)",
-        b"(display +1)",
-        b"(display)",
-        b"(newline 1)",
-        b"(NEWLINE)",
-        b"; a comment",
-        b"(display 1)\x0b",
-        b"\xff",
+fn texts_that_are_refused(rt: HostRuntime) -> Result<(), Fail> {
+    let rows: [(&[u8], u8, &[u8]); 18] = [
+        (b"(display (list 1 2", 4, b"a: byte 9: unclosed\n"),
+        (b"(display 1", 4, b"a: byte 0: unclosed\n"),
+        (b")", 4, b"a: byte 0: stray close\n"),
+        (b"(a . b c)", 4, b"a: byte 7: bad token\n"),
+        (b"1.5", 4, b"a: byte 0: bad number\n"),
+        (b"\"a\\q\"", 4, b"a: byte 2: bad string\n"),
+        (b"(define if 1)", 5, b"a: byte 0: keyword defined\n"),
+        (b"(if)", 5, b"a: byte 0: bad form\n"),
+        (b"(display 1) x", 6, b"a: byte 12: unbound x\n"),
+        (
+            b"(display 1152921504606846976)",
+            7,
+            b"a: byte 9: limit literal\n",
+        ),
+        (b"(display \"a\")", 11, b"a: byte 9: not built\n"),
+        (b"(newlin)", 11, b"a: byte 0: not built\n"),
+        (b"(begin (newline))", 11, b"a: byte 0: not built\n"),
+        (b"(define x 1)", 11, b"a: byte 0: not built\n"),
+        (b"(display 1)(display (+))1", 11, b"a: byte 11: not built\n"),
+        (b"(display 1)2 3", 11, b"a: byte 11: not built\n"),
+        (b"(display '1)", 11, b"a: byte 0: not built\n"),
+        (b"(display)", 11, b"a: byte 0: not built\n"),
     ];
-    for text in texts {
-        let outcome = compile(rt.alloc(), text)?;
-        assert_eq!(rt; outcome.status, 11);
-        assert_eq!(rt; outcome.said.as_slice(), b"a: not built\n".as_slice());
+    for (source, status, said) in rows {
+        let outcome = compile(rt.alloc(), source)?;
+        assert_eq!(rt; outcome.status, status);
+        assert_eq!(rt; outcome.said.as_slice(), said);
         assert!(rt; outcome.target.is_none());
     }
+    Ok(())
+}
+
+// A thousand levels of parentheses are the most, and 200 operands.
+#[test]
+fn texts_past_a_limit(rt: HostRuntime) -> Result<(), Fail> {
+    let mut deep = Vec::new(rt.alloc());
+    for _ in 0..1001 {
+        deep.push(b'(')?;
+    }
+    let outcome = compile(rt.alloc(), deep.as_slice())?;
+    assert_eq!(rt; outcome.status, 7);
+    assert_eq!(rt;
+        outcome.said.as_slice(),
+        b"a: byte 1000: limit nesting\n".as_slice()
+    );
+    let mut wide = Vec::new(rt.alloc());
+    wide.extend_from_slice(b"(+")?;
+    for _ in 0..201 {
+        wide.extend_from_slice(b" 1")?;
+    }
+    wide.push(b')')?;
+    let outcome = compile(rt.alloc(), wide.as_slice())?;
+    assert_eq!(rt; outcome.status, 7);
+    assert_eq!(rt;
+        outcome.said.as_slice(),
+        b"a: byte 0: limit operands\n".as_slice()
+    );
     Ok(())
 }
 
@@ -261,7 +298,10 @@ fn sources_run(rt: HostRuntime) -> Result<(), Fail> {
     assert_eq!(rt; absent.said.as_slice(), b"c: read failed\n".as_slice());
     let other = perform(rt.alloc(), &["run", "a"], b"(f)", &[])?;
     assert_eq!(rt; other.status, 11);
-    assert_eq!(rt; other.said.as_slice(), b"a: not built\n".as_slice());
+    assert_eq!(rt; other.said.as_slice(), b"a: byte 0: not built\n".as_slice());
+    let faulty = perform(rt.alloc(), &["run", "a"], b"(newline) x", &[])?;
+    assert_eq!(rt; faulty.status, 6);
+    assert_eq!(rt; faulty.printed.as_slice(), [].as_slice());
     Ok(())
 }
 
@@ -280,7 +320,13 @@ fn a_source_whose_output_fails(rt: HostRuntime) -> Result<(), Fail> {
 
 #[test]
 fn compiled_images_step(rt: HostRuntime) -> Result<(), Fail> {
-    let sources: [(&[u8], &[u8]); 2] = [(b"", b""), (b"(display 7)(newline)", b"7\n")];
+    let sources: [(&[u8], &[u8]); 5] = [
+        (b"", b""),
+        (b"(display 7)(newline)", b"7\n"),
+        (b"(display #t)(display #\\a)(newline)", b"#ta\n"),
+        (b"(display -1152921504606846976)", b"-1152921504606846976"),
+        (b"(display 1152921504606846975)", b"1152921504606846975"),
+    ];
     for (source, printed) in sources {
         let image = compile(rt.alloc(), source)?.target.ok_or("no file")?;
         let outcome = perform(rt.alloc(), &["step", "a"], image.as_slice(), &[])?;

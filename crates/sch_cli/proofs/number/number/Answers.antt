@@ -1,5 +1,5 @@
 use Rattle.std.proofs.Common.{arith, length}
-use Rattle.sch_cli.proofs.Reading.{power_lt, power_within}
+use Rattle.sch_cli.proofs.Powers.{power_lt, power_within}
 use Rattle.sch_cli.proofs.number.number.Goals as goal
 
 pub overflow_mul-value : goal.overflow_mul-value

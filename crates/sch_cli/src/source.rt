@@ -1,0 +1,37 @@
+// Reads and expands a source.
+ghost use Rattle.std.specs.Prelude.{◌≡◌, ◌≤◌, length, IfOk, IfErr, MatchResult};
+ghost use Rattle.sch_lang.specs.ProgramView.{source};
+ghost use Rattle.sch_lang.specs.Tree as tree;
+ghost use Rattle.sch_read.specs.Text.{Spells};
+ghost use Rattle.sch_read.specs.Valid.{weights};
+ghost use Rattle.sch_read.specs.Views.{data_of};
+ghost use Rattle.sch_core.specs.Programs.{IsProgramOf};
+ghost use Rattle.sch_cli.specs.Refusals.{IsRefused, source_limit};
+
+use crate::refusal::Refusal;
+use sch_core::core;
+use sch_lang::Program;
+use sch_read::{Datum, read_all};
+use sch_word::List;
+use std::alloc::Global;
+
+/// The data of a source, and their core program.
+#[derive(Drop)]
+pub struct Source {
+    pub items: List<Datum>,
+    pub program: Program,
+}
+
+/// Reads a text and expands it.
+pub fn read(alloc: Global, text: &[u8]) -> Result<Source, Refusal>
+    requires { length text.now ≤ source_limit }
+    ensures spells { IfOk result (λ made. Spells text.now (data_of made.items)) }
+    ensures program { IfOk result (λ made. IsProgramOf (data_of made.items) (source made.program)) }
+    ensures only { IfOk result (λ made. (p : tree.Source) → IsProgramOf (data_of made.items) p → source made.program ≡ p) }
+    ensures light { IfOk result (λ made. weights (data_of made.items) ≤ 7340032) }
+    ensures refused { IfErr result (IsRefused text.now) }
+{
+    let items = read_all(alloc, text)?;
+    let program = core(alloc, items.as_slice())?;
+    Ok(Source { items, program })
+}

@@ -1,6 +1,0 @@
-/// One form of a thin program.
-#[derive(Clone, Copy, Debug, PartialEq, Eq)]
-pub enum Form {
-    Newline,
-    Display(i64),
-}
