@@ -1,5 +1,5 @@
 -- The program of drafts, from the parts that were made.
-use Rattle.std.proofs.Common.{◌≡◌, ℕ, Bool, true, false, List, [], ◌∷◌, ◌++◌, length, map, replicate, Option, None, refl, ap, ◌∙◌, ◌&&◌}
+use Rattle.std.proofs.Common.{◌≡◌, ℕ, Bool, true, false, List, [], ◌∷◌, ◌++◌, length, replicate, Option, None, refl, ap, ◌∙◌, ◌&&◌}
 use Rattle.sch_word.specs.declared.literal.Lit.{Lit}
 use Rattle.sch_word.specs.LiteralView.{literals_of}
 use Rattle.sch_word.proofs.LiteralRows.{literals_of_list}

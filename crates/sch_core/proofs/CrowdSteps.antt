@@ -1,5 +1,5 @@
 -- The steps of the walk that counts variables, over plain values.
-use Rattle.std.proofs.Common.{◌≡◌, ℕ, zero, suc, ◌+◌, ◌<◌, ◌≤◌, Bool, true, false, cond, nat_lt, nat_eq, nat_le, List, [], ◌∷◌, length, drop, get_or, drop-cons, min, ◌⊎◌, inl, inr, Option, Some, None, MatchOption, refl, ap, sym, ◌∙◌, map, arith, add-one}
+use Rattle.std.proofs.Common.{◌≡◌, ℕ, zero, suc, ◌+◌, ◌<◌, ◌≤◌, Bool, true, false, cond, nat_eq, nat_le, List, [], ◌∷◌, length, drop, get_or, drop-cons, min, ◌⊎◌, inl, inr, Option, Some, None, MatchOption, refl, ap, sym, ◌∙◌, arith, add-one}
 use Rattle.std.proofs.lemmas.List.{drop_all}
 use Rattle.std.proofs.lemmas.Bool.Decides.{nat_tests}
 use Rattle.sch_lang.specs.Measures.{one_unless}
@@ -9,7 +9,7 @@ use Rattle.sch_core.specs.Draft.{Draft, Drafts, bind, no_drafts, and_draft, draf
 use Rattle.sch_core.specs.DraftView.{draft_of, drafts_of}
 use Rattle.sch_core.specs.Counted.{is_simple, variables_of, variables_of_each, variables_of_operands, variables_of_parts}
 use Rattle.sch_core.specs.Forms.{firsts}
-use Rattle.sch_core.specs.Numbered.{global_names_of_each, numbered, numbered_each, widths, program_of}
+use Rattle.sch_core.specs.Numbered.{global_names_of_each, numbered_each, widths, program_of}
 use Rattle.sch_core.specs.Programs.{first_crowded}
 use Rattle.sch_core.proofs.Numbering.{next_draft}
 use Rattle.sch_core.proofs.Crowding.{counted}

@@ -1,15 +1,12 @@
 -- The variables of forms, over plain values.
-use Rattle.std.proofs.Common.{◌≡◌, ℕ, zero, suc, ◌+◌, ◌<◌, ◌≤◌, Bool, true, false, cond, not, nat_lt, nat_eq, nat_le, List, [], ◌∷◌, length, drop, get_or, slice_get, Option, Some, None, MatchOption, refl, ap, sym, ◌∙◌, map, arith, add-one}
-use Rattle.std.proofs.lemmas.List.{drop_all}
+use Rattle.std.proofs.Common.{◌≡◌, ℕ, zero, suc, ◌+◌, Bool, true, false, not, nat_lt, List, [], ◌∷◌, length, slice_get, refl, ap, sym, ◌∙◌, arith}
 use Rattle.std.proofs.lemmas.Bool.{or_from}
 use Rattle.std.proofs.lemmas.Bool.Decides.{nat_tests}
 use Rattle.sch_lang.specs.Tree as tree
 use Rattle.sch_lang.specs.Tree.{Expression, Expressions}
 use Rattle.sch_lang.specs.Measures.{once_or_not, counts_nothing, one_unless, onto_assigned, onto_all, twice_if, bound_count, variables, variables_each, variables_operands, variables_parts}
 use Rattle.sch_lang.specs.Variables.{assigns, assigns_each}
-use Rattle.sch_core.specs.declared.draft.Draft as code
-use Rattle.sch_core.specs.Draft.{Draft, Drafts, constant, local, global, define, branch, sequence, bind, operation, no_drafts, and_draft, drafts, count}
-use Rattle.sch_core.specs.DraftView.{draft_of, drafts_of}
+use Rattle.sch_core.specs.Draft.{Draft, Drafts, constant, local, global, define, branch, sequence, bind, operation, no_drafts, and_draft, count}
 use Rattle.sch_core.specs.Numbered.{numbered, numbered_each, widths, widths_of_each}
 use Rattle.sch_core.specs.Counted.{is_simple, variables_of, variables_of_each, variables_of_operands, variables_of_parts}
 use Rattle.sch_core.proofs.ValiditySites.{count_numbered}

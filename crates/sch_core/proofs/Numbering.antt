@@ -1,5 +1,5 @@
 -- The steps of the walks that name globals and number drafts, over plain values.
-use Rattle.std.proofs.Common.{◌≡◌, ℕ, suc, ◌+◌, ◌<◌, ◌≤◌, List, [], ◌∷◌, ◌++◌, length, drop, get_or, refl, ap, sym, ◌∙◌, map, arith, add-one, append_assoc, length-append, drop-cons}
+use Rattle.std.proofs.Common.{◌≡◌, ℕ, suc, ◌+◌, ◌<◌, ◌≤◌, List, [], ◌∷◌, ◌++◌, length, drop, get_or, refl, ap, sym, ◌∙◌, map, add-one, append_assoc, length-append, drop-cons}
 use Rattle.std.proofs.lemmas.List.{drop_all, map-append}
 use Rattle.sch_word.specs.declared.primitive.Primitive.{Primitive}
 use Rattle.sch_lang.specs.Tree as tree
@@ -8,7 +8,7 @@ use Rattle.sch_lang.specs.declared.tree.Exp.{Exp}
 use Rattle.sch_lang.specs.View.{expression, expressions_of}
 use Rattle.sch_lang.proofs.Rows.{expressions_of_list}
 use Rattle.sch_core.specs.declared.draft.Draft as code
-use Rattle.sch_core.specs.Draft.{Draft, Drafts, branch, bind, operation, no_drafts, and_draft, drafts, count}
+use Rattle.sch_core.specs.Draft.{Draft, Drafts, branch, bind, operation, count}
 use Rattle.sch_core.specs.DraftView.{draft_of, drafts_of}
 use Rattle.sch_core.specs.Forms.{firsts}
 use Rattle.sch_core.specs.Numbered.{global_names, global_names_of_each, numbered, numbered_each, widths, widths_of_each}

@@ -1,5 +1,5 @@
 -- The places of top-level forms.
-use Rattle.std.proofs.Common.{◌≡◌, ℕ, suc, ◌+◌, ◌<◌, List, [], ◌∷◌, ◌++◌, Some, None, length, drop, get_or, refl, ap, ◌∙◌, sym, add-one, append_assoc}
+use Rattle.std.proofs.Common.{◌≡◌, ℕ, suc, ◌+◌, ◌<◌, List, [], ◌∷◌, ◌++◌, Some, None, length, drop, get_or, refl, ap, ◌∙◌, add-one, append_assoc}
 use Rattle.sch_read.specs.Grammar.{Datum, Data, atom, list, dotted, vector, none, cons, boolean, integer, character, text, symbol}
 use Rattle.sch_read.specs.declared.datum.Datum as code
 use Rattle.sch_read.specs.Views.{tree_of, data_of}
@@ -10,7 +10,6 @@ use Rattle.sch_core.specs.Scope.{place}
 use Rattle.sch_core.specs.Forms.{by_word, word_of}
 use Rattle.sch_core.specs.Programs.{places_of, form_places}
 use Rattle.sch_core.proofs.Loops.{next_is}
-
 
 pub places_headed : {d : Datum} {k : Keyword} {xs : Data} → IsHeaded d k xs → places_of d ≡ by_word (Some k) (place d ∷ []) (form_places xs) (place d ∷ [])
 places_headed {d} {k} {xs} h = ap places_of h.shape ∙ ap (λ w. by_word w (place d ∷ []) (form_places xs) (place d ∷ [])) h.word

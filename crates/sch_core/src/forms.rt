@@ -1,11 +1,10 @@
-//! Whether data are forms of the language.
+//! The program of a text.
 
-ghost use Rattle.std.specs.Prelude.{◌≡◌, ◌≤◌, ⊤, List, IfOk, OnOk, IfErr, MatchResult};
+ghost use Rattle.std.specs.Prelude.{◌≡◌, ◌≤◌, ◌*◌, IfOk, IfErr, MatchResult};
 ghost use Rattle.sch_read.specs.Views.{data_of};
 ghost use Rattle.sch_core.specs.Answer.{IsErrorIn};
-ghost use Rattle.sch_core.specs.Draft.{Draft};
-ghost use Rattle.sch_core.specs.Forms.{TextExpands};
 ghost use Rattle.sch_core.specs.Programs.{IsProgramOf};
+ghost use Rattle.sch_core.specs.Sizes.{nodes_and_bound};
 ghost use Rattle.sch_lang.specs.ProgramView.{source};
 ghost use Rattle.sch_lang.specs.Tree.{Source};
 ghost use Rattle.sch_read.specs.Valid.{weights};
@@ -20,23 +19,11 @@ use sch_read::Datum;
 use sch_word::List;
 use std::alloc::Global;
 
-/// Whether each top-level datum of a text stands for an expression of the core language, or the fault
-/// of the text: the least place, and there the first cause.
-pub fn check(alloc: Global, items: &[Datum]) -> Result<(), CoreError>
-    ensures found { OnOk result ((es : List Draft) × TextExpands (data_of items.now) es) }
-    ensures only { (es : List Draft) → TextExpands (data_of items.now) es → MatchResult result (λ _. ⊤) (λ e. e ≡ CoreError.Memory) }
-    ensures fault { IfErr result (IsErrorIn (data_of items.now)) }
-{
-    match expand(alloc, items)? {
-        Ok(_) => Ok(()),
-        Err(f) => Err(error_of(f)),
-    }
-}
-
 /// The program of a text, or why it has none: the least place, and there the first cause.
 pub fn core(alloc: Global, items: &[Datum]) -> Result<Program, CoreError>
     requires light { weights (data_of items.now) ≤ 7340032 }
     ensures found { IfOk result (λ p. IsProgramOf (data_of items.now) (source p)) }
+    ensures size { IfOk result (λ p. nodes_and_bound (source p) ≤ 16 * weights (data_of items.now)) }
     ensures only { (p : Source) → IsProgramOf (data_of items.now) p → MatchResult result (λ q. source q ≡ p) (λ e. e ≡ CoreError.Memory) }
     ensures fault { IfErr result (IsErrorIn (data_of items.now)) }
 {

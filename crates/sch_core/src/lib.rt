@@ -23,7 +23,7 @@ mod walk;
 mod word;
 
 pub use error::{CoreError, Kind};
-pub use forms::{check, core};
+pub use forms::core;
 pub use laws::{expansion_is_unique, fault_or_expansion};
 
 #[cfg(test)]

@@ -110,12 +110,7 @@ fn operation(site: u32, p: Primitive, operands: List<Exp>) -> Exp
 
 /// The expression of a draft, whose sites follow those that there are.
 #[cycle(numbering)]
-fn number(
-    alloc: Global,
-    globals: &Names,
-    e: &Draft,
-    sites: &mut List<u32>,
-) -> Result<Exp, Mem>
+fn number(alloc: Global, globals: &Names, e: &Draft, sites: &mut List<u32>) -> Result<Exp, Mem>
     ensures made { IfOk result (λ q. expression q ≡ numbered (names_of globals.now) (draft_of e.now) (length sites.old)) }
     ensures sites { OnOk result (sites.new ≡ sites.old ++ widths (draft_of e.now)) }
 {

@@ -1,33 +1,35 @@
-use crate::{CoreError, Kind, check};
+use crate::{CoreError, Kind, core};
+use sch_lang::Program;
 use sch_read::read_all;
 use std::alloc::Global;
 use std::test::Fail;
 
-// Why the forms of a text are refused, and where.
-fn refusal(alloc: Global, text: &[u8]) -> Option<CoreError> {
-    if text.len() >= 4_294_967_296 {
-        return None;
+// The longest text that is read.
+const MOST_BYTES: usize = 1_048_576;
+
+// The program of a text, or why it has none.
+fn program_of(alloc: Global, text: &[u8]) -> Result<Program, CoreError> {
+    if text.len() > MOST_BYTES {
+        return Err(CoreError::Memory);
     }
     match read_all(alloc, text) {
-        Ok(items) => match check(alloc, items.as_slice()) {
-            Ok(()) => None,
-            Err(error) => Some(error),
-        },
-        Err(_) => Some(CoreError::Memory),
+        Ok(items) => core(alloc, items.as_slice()),
+        Err(_) => Err(CoreError::Memory),
     }
 }
 
 // The number of a cause, and its place.
 fn cause(alloc: Global, text: &[u8]) -> (u8, u32) {
-    match refusal(alloc, text) {
-        None => (0, 0),
-        Some(CoreError::BadForm(at)) => (1, at),
-        Some(CoreError::Unbound(at, _)) => (2, at),
-        Some(CoreError::KeywordDefined(at)) => (3, at),
-        Some(CoreError::Limit(Kind::Operands, at)) => (4, at),
-        Some(CoreError::Limit(_, at)) => (5, at),
-        Some(CoreError::Unbuilt(at)) => (6, at),
-        Some(CoreError::Memory) => (7, 0),
+    match program_of(alloc, text) {
+        Ok(_) => (0, 0),
+        Err(CoreError::BadForm(at)) => (1, at),
+        Err(CoreError::Unbound(at, _)) => (2, at),
+        Err(CoreError::KeywordDefined(at)) => (3, at),
+        Err(CoreError::Limit(Kind::Operands, at)) => (4, at),
+        Err(CoreError::Limit(Kind::Variables, at)) => (8, at),
+        Err(CoreError::Limit(_, at)) => (5, at),
+        Err(CoreError::Unbuilt(at)) => (6, at),
+        Err(CoreError::Memory) => (7, 0),
     }
 }
 
@@ -89,5 +91,75 @@ fn counts_operands(rt: HostRuntime) -> Result<(), Fail> {
     text.pop();
     text.extend_from_slice(b" 1)")?;
     assert_eq!(rt; cause(rt.alloc(), text.as_slice()), (4, 0));
+    Ok(())
+}
+
+// How many globals the program of a text has, the number of parts of each site, and the forms.
+fn printed(alloc: Global, text: &[u8]) -> Result<String, Fail> {
+    match program_of(alloc, text) {
+        Ok(program) => Ok(format!(in alloc;
+            "{} {:?} {:?}",
+            program.globals.len(),
+            program.sites.as_slice(),
+            program.forms.as_slice()
+        )?),
+        Err(_) => Ok(format!(in alloc; "none")?),
+    }
+}
+
+#[test]
+fn numbers_globals_and_sites(rt: HostRuntime) -> Result<(), Fail> {
+    let rows: [(&[u8], &str); 3] = [
+        (b"", "0 [] []"),
+        (
+            b"(display (+ b (* a 2)))(define a #t)(begin (define b a))",
+            "2 [1, 2, 2] [Prim(0, Put, List { items: [Prim(1, Add, List { items: [Global(0), Prim(2, Multiply, List { items: [Global(1), Constant(Fixnum(Fix { value: 2 }))] })] })] }), Define(1, Constant(Boolean(true))), Define(0, Global(1))]",
+        ),
+        (
+            b"(if (let ((x (- y)) (z #f)) (< z x)) '() (newline))(define y #\\a)",
+            "1 [2, 2, 2, 1] [If(Let(0, List { items: [Prim(1, Subtract, List { items: [Constant(Fixnum(Fix { value: 0 })), Global(0)] }), Constant(Boolean(false))] }, Prim(2, Less, List { items: [Local(0), Local(1)] })), Constant(Nil), Prim(3, Put, List { items: [Constant(Character(10))] })), Define(0, Constant(Character(97)))]",
+        ),
+    ];
+    for (text, expected) in rows {
+        assert_eq!(rt; printed(rt.alloc(), text)?.as_str(), expected);
+    }
+    Ok(())
+}
+
+// A part of a form at top level with this body inside the bindings of 1,000 variables.
+fn crowded(alloc: Global, body: &[u8]) -> Result<Vec<u8>, Fail> {
+    let mut text = Vec::new(alloc);
+    text.extend_from_slice(b"1 (begin (begin) ")?;
+    for _ in 0..5 {
+        text.extend_from_slice(b"(let (")?;
+        for k in 0..200u8 {
+            text.extend_from_slice(b"(v")?;
+            text.push(b'0' + k / 100)?;
+            text.push(b'0' + k / 10 % 10)?;
+            text.push(b'0' + k % 10)?;
+            text.extend_from_slice(b" 1)")?;
+        }
+        text.extend_from_slice(b") ")?;
+    }
+    text.extend_from_slice(body)?;
+    text.extend_from_slice(b")))))) 2")?;
+    Ok(text)
+}
+
+#[test]
+fn counts_variables(rt: HostRuntime) -> Result<(), Fail> {
+    let rows: [(&[u8], (u8, u32)); 5] = [
+        (b"v000", (0, 0)),
+        (b"(+ v000 v199)", (0, 0)),
+        (b"(begin v000 1)", (0, 0)),
+        (b"(display (newline))", (8, 17)),
+        (b"(let ((x 1)) 1)", (8, 17)),
+    ];
+    for (body, expected) in rows {
+        assert_eq!(rt;
+            cause(rt.alloc(), crowded(rt.alloc(), body)?.as_slice()),
+            expected
+        );
+    }
     Ok(())
 }

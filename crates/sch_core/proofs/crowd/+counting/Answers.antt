@@ -1,7 +1,6 @@
 use Rattle.std.proofs.Common.{arith, refl}
 use Rattle.sch_core.proofs.DraftViews.{bind_view}
 use Rattle.sch_core.proofs.Numbering.{width_is}
-use Rattle.sch_core.specs.DraftView.{draft_of, drafts_of}
 use Rattle.sch_core.specs.Counted.{variables_of_parts}
 use Rattle.sch_core.proofs.CrowdSteps.{none_of, bind_short, bind_body_short, bind_rest, part_taken, taken_short, next_taken, two_taken, second_short, first_short}
 use Rattle.sch_core.proofs.crowd.+counting.Goals as goal

@@ -1,4 +1,4 @@
-use Rattle.std.proofs.Common.{◌≡◌, map, not, false, true, sym, ◌∙◌, rules}
+use Rattle.std.proofs.Common.{◌≡◌, map, false, true, sym, ◌∙◌, rules}
 use Rattle.sch_core.specs.DraftView.{draft_of}
 use Rattle.sch_core.proofs.CrowdSteps.{crowded_program, crowded_here, crowded_later, none_crowded}
 use Rattle.sch_core.proofs.crowd.first_crowded.Goals as goal

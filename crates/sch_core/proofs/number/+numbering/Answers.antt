@@ -6,7 +6,7 @@ use Rattle.sch_core.proofs.number.+numbering.Goals as goal
 pub number-returns-in_ok-made-in-Let-clause-sites : goal.number-returns-in_ok-made-in-Let-clause-sites
 number-returns-in_ok-made-in-Let-clause-sites t c =
     bind_sites c.args.sites.now c.new_site.new.sites c.number_each-in-Let.new.sites c.number-in-Let.new.sites c.len.result (bind_view _ _ c.in-Let.is c.as_slice-in-Let.ensures c.deref-in-Let.ensures) (width_is _ c.len.ensures c.as_slice-in-Let.ensures)
-     c.in_ok-site-in-Let.ensures.sites c.in_ok-inits-in-Let.ensures.sites c.in_ok-body-in-Let.ensures.sites
+    c.in_ok-site-in-Let.ensures.sites c.in_ok-inits-in-Let.ensures.sites c.in_ok-body-in-Let.ensures.sites
 
 pub number-returns-in_ok-operands-in-Prim-clause-made : goal.number-returns-in_ok-operands-in-Prim-clause-made
 number-returns-in_ok-operands-in-Prim-clause-made t c =
@@ -15,7 +15,7 @@ number-returns-in_ok-operands-in-Prim-clause-made t c =
 pub number-returns-in_ok-operands-in-Prim-clause-sites : goal.number-returns-in_ok-operands-in-Prim-clause-sites
 number-returns-in_ok-operands-in-Prim-clause-sites t c =
     operation_sites c.args.sites.now c.new_site-in-Prim.new.sites c.number_each-in-Prim.new.sites c.len-in-Prim.result (operation_view _ _ c.in-Prim.is c.as_slice-in-Prim.ensures) (width_is _ c.len-in-Prim.ensures c.as_slice-in-Prim.ensures)
-     c.in_ok-site-in-Prim.ensures.sites c.in_ok-operands-in-Prim.ensures.sites
+    c.in_ok-site-in-Prim.ensures.sites c.in_ok-operands-in-Prim.ensures.sites
 
 pub number_each-loop-e-preserved : goal.number_each-loop-e-preserved
 number_each-loop-e-preserved t c =
