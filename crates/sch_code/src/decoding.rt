@@ -1,4 +1,4 @@
-ghost use Rattle.std.specs.Prelude.{◌≡◌, ◌≢◌, ◌+◌, ◌++◌, ◌<◌, ◌≤◌, ℕ, List, length, take, IfSome, Some, None};
+ghost use Rattle.std.specs.Prelude.{◌≡◌, ◌≢◌, ◌+◌, ◌++◌, ◌<◌, ◌≤◌, ℕ, List, length, take, drop, IfSome, Some, None};
 ghost use Rattle.sch_insn.specs.declared.insn.Insn.{Insn};
 ghost use Rattle.sch_insn.specs.Spelling.{in_memory as in_memory_of, spelling, IsValid};
 ghost use Rattle.sch_insn.specs.Decode.{number_of_4, number_of_8, count_of, sib_size, arg_of, operand_of, wide_of, narrow_of, long_of, whole_word_of, rexed_of, escaped_of, is_jump_if as is_jump_if_of, decode as decode_of};
@@ -102,7 +102,7 @@ fn rexed(w: u8, r: u8, b: u8, bytes: &[u8]) -> Option<(Insn, usize)>
         return long(r, b, &bytes[1..]);
     }
     let (reg, m, size) = operand(r, b, &bytes[1..])?;
-    wide(op, reg, m, size + 2, &bytes[1 + size..])
+    wide(op, reg, m, size, bytes)
 }
 
 fn whole_word(r: u8, register: u8, bytes: &[u8]) -> Option<(Insn, usize)>
@@ -144,13 +144,13 @@ fn long(r: u8, b: u8, bytes: &[u8]) -> Option<(Insn, usize)>
     } }
 }
 
-/// The forms with W and an opcode of one byte; `size` bytes stand before what follows the operand.
+/// The forms with W and an opcode of one byte, behind which the operand takes `size` bytes.
 #[tactic(auto, unfolding(sch_insn::specs::Decode::wide_of))]
 fn wide(op: u8, r: u8, m: Arg, size: usize, bytes: &[u8]) -> Option<(Insn, usize)>
-    requires { size < 100 }
-    ensures { result ≡ wide_of op r m size bytes.now }
+    requires { size + 1 ≤ length bytes.now }
+    ensures { result ≡ wide_of op r m (size + 2) (drop (size + 1) bytes.now) }
 {
-    rows! { op, bytes, size; {
+    rows! { op, &bytes[size + 1..], size + 2; {
         0x01 => Insn::AddTo(m, r);
         0x03 => Insn::AddFrom(r, m);
         0x09 => Insn::OrTo(m, r);

@@ -42,6 +42,16 @@ impl Processor {
         if hint < self.segments.len() && self.holds_at(hint, address, n) {
             return Some(hint);
         }
+        self.search(address, n)
+    }
+
+    /// A segment that holds these bytes, where there is no hint.
+    #[inline(never)]
+    fn search(&self, address: u64, n: u64) -> Option<usize>
+        ensures within { IfSome result (λ i. i < length self.now.segments.items) }
+        ensures some { IfSome result (λ i. holds (segment_at (segments_of self.now.segments) i) address n ≡ true) }
+        ensures none { result ≡ None → NoneHolds (segments_of self.now.segments) address n }
+    {
         for i in 0..self.segments.len() {
             if self.holds_at(i, address, n) {
                 return Some(i);

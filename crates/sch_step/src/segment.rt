@@ -20,7 +20,11 @@ impl Segment {
         ensures { result ≡ holds (segment_of self.now) address n }
     {
         let len = self.bytes.len() as u64;
-        address >= self.address && len >= n && address - self.address <= len - n
+        if address < self.address {
+            return false;
+        }
+        let place = address - self.address;
+        place <= len && n <= len - place
     }
 
     /// The bytes from a place on.
