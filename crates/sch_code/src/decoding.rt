@@ -23,6 +23,7 @@ macro_rules! rows {
 
 /// The one instruction whose spelling the bytes begin with, and its length. None where they begin with
 /// no spelling.
+#[inline(always)]
 pub fn decode(bytes: &[u8]) -> Option<(Insn, usize)>
     ensures valid { IfSome result (λ p. IsValid p.0) }
     ensures within { IfSome result (λ p. p.1 ≤ length bytes.now) }
@@ -35,6 +36,7 @@ pub fn decode(bytes: &[u8]) -> Option<(Insn, usize)>
     read(bytes)
 }
 
+#[inline(always)]
 fn read(bytes: &[u8]) -> Option<(Insn, usize)>
     ensures { result ≡ decode_of bytes.now }
 {
@@ -55,6 +57,7 @@ fn read(bytes: &[u8]) -> Option<(Insn, usize)>
 
 /// What stands after 0F.
 #[tactic(auto, unfolding(sch_insn::specs::Decode::escaped_of))]
+#[inline(always)]
 fn escaped(bytes: &[u8]) -> Option<(Insn, usize)>
     ensures { result ≡ escaped_of bytes.now }
 {
@@ -77,6 +80,7 @@ fn is_jump_if(op: u8) -> bool
 
 /// What stands after REX with the bits W, R and B.
 #[tactic(auto, unfolding(sch_insn::specs::Decode::rexed_of))]
+#[inline(always)]
 fn rexed(w: u8, r: u8, b: u8, bytes: &[u8]) -> Option<(Insn, usize)>
     requires r { r < 2 }
     requires b { b < 2 }
@@ -146,6 +150,7 @@ fn long(r: u8, b: u8, bytes: &[u8]) -> Option<(Insn, usize)>
 
 /// The forms with W and an opcode of one byte, behind which the operand takes `size` bytes.
 #[tactic(auto, unfolding(sch_insn::specs::Decode::wide_of))]
+#[inline(always)]
 fn wide(op: u8, r: u8, m: Arg, size: usize, bytes: &[u8]) -> Option<(Insn, usize)>
     requires { size + 1 ≤ length bytes.now }
     ensures { result ≡ wide_of op r m (size + 2) (drop (size + 1) bytes.now) }
@@ -190,6 +195,7 @@ fn in_memory(m: Arg) -> bool
 
 /// The register of the form, the operand, and the bytes that they take from ModRM on.
 #[tactic(auto, unfolding(sch_insn::specs::Decode::operand_of))]
+#[inline(always)]
 fn operand(r: u8, b: u8, bytes: &[u8]) -> Option<(u8, Arg, usize)>
     requires r { r < 2 }
     requires b { b < 2 }
@@ -205,6 +211,7 @@ fn operand(r: u8, b: u8, bytes: &[u8]) -> Option<(u8, Arg, usize)>
     Some((reg, m, size + 1))
 }
 
+#[inline(always)]
 fn arg(mode: u8, high: u8, low: u8, bytes: &[u8]) -> Option<(Arg, usize)>
     requires high { high < 2 }
     requires low { low < 8 }
@@ -235,6 +242,7 @@ fn arg(mode: u8, high: u8, low: u8, bytes: &[u8]) -> Option<(Arg, usize)>
 }
 
 /// How many bytes SIB takes.
+#[inline(always)]
 fn sib(low: u8, bytes: &[u8]) -> Option<usize>
     ensures within { IfSome result (λ n. (n ≤ length bytes.now) × (n < 2)) }
     ensures value { result ≡ sib_size low bytes.now }
@@ -249,6 +257,7 @@ fn sib(low: u8, bytes: &[u8]) -> Option<usize>
 }
 
 /// Four bytes as a number.
+#[inline(always)]
 fn number(bytes: &[u8]) -> Option<i32>
     ensures within { IfSome result (λ n. 4 ≤ length bytes.now) }
     ensures value { result ≡ number_of_4 bytes.now }
