@@ -1,15 +1,15 @@
 #!/usr/bin/env python3
 """Steps loops of 100,000,000 instructions with `schc step` and with a C interpreter, in turn.
 
-Prints instructions a second for each, and their ratio; and how long an image with 256 MiB of zeros takes
-to load. Run by hand, after the program was built:  bench/step.py [RUNS]
+Prints instructions a second of processor time for each, and their ratio; and how long an image with
+256 MiB of zeros takes to load. Run by hand, after the program was built:  bench/step.py [RUNS]
 """
 import os
+import resource
 import struct
 import subprocess
 import sys
 import tempfile
-import time
 
 TOP = os.path.dirname(os.path.dirname(os.path.abspath(__file__)))
 PROGRAM = os.path.join(TOP, "crates", "schc", "out", "schc")
@@ -84,11 +84,13 @@ def program(body):
 
 
 def seconds(command):
-    begin = time.perf_counter()
+    """The processor time that the command takes, which other work on the machine changes least."""
+    before = resource.getrusage(resource.RUSAGE_CHILDREN)
     status = subprocess.run(command, check=False).returncode
     if status != 0:
         sys.exit(f"{command} ended with {status}")
-    return time.perf_counter() - begin
+    after = resource.getrusage(resource.RUSAGE_CHILDREN)
+    return after.ru_utime - before.ru_utime + after.ru_stime - before.ru_stime
 
 
 def main():

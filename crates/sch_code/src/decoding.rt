@@ -1,4 +1,4 @@
-ghost use Rattle.std.specs.Prelude.{◌≡◌, ◌≢◌, ◌+◌, ◌++◌, ◌<◌, ◌≤◌, ℕ, List, length, take, IfSome, Some, None};
+ghost use Rattle.std.specs.Prelude.{◌≡◌, ◌≢◌, ◌+◌, ◌++◌, ◌<◌, ◌≤◌, ℕ, List, length, take, drop, IfSome, Some, None};
 ghost use Rattle.sch_insn.specs.declared.insn.Insn.{Insn};
 ghost use Rattle.sch_insn.specs.Spelling.{in_memory as in_memory_of, spelling, IsValid};
 ghost use Rattle.sch_insn.specs.Decode.{number_of_4, number_of_8, count_of, sib_size, arg_of, operand_of, wide_of, narrow_of, long_of, whole_word_of, rexed_of, escaped_of, is_jump_if as is_jump_if_of, decode as decode_of};
@@ -23,6 +23,7 @@ macro_rules! rows {
 
 /// The one instruction whose spelling the bytes begin with, and its length. None where they begin with
 /// no spelling.
+#[inline(always)]
 pub fn decode(bytes: &[u8]) -> Option<(Insn, usize)>
     ensures valid { IfSome result (λ p. IsValid p.0) }
     ensures within { IfSome result (λ p. p.1 ≤ length bytes.now) }
@@ -35,6 +36,7 @@ pub fn decode(bytes: &[u8]) -> Option<(Insn, usize)>
     read(bytes)
 }
 
+#[inline(always)]
 fn read(bytes: &[u8]) -> Option<(Insn, usize)>
     ensures { result ≡ decode_of bytes.now }
 {
@@ -55,6 +57,7 @@ fn read(bytes: &[u8]) -> Option<(Insn, usize)>
 
 /// What stands after 0F.
 #[tactic(auto, unfolding(sch_insn::specs::Decode::escaped_of))]
+#[inline(always)]
 fn escaped(bytes: &[u8]) -> Option<(Insn, usize)>
     ensures { result ≡ escaped_of bytes.now }
 {
@@ -77,6 +80,7 @@ fn is_jump_if(op: u8) -> bool
 
 /// What stands after REX with the bits W, R and B.
 #[tactic(auto, unfolding(sch_insn::specs::Decode::rexed_of))]
+#[inline(always)]
 fn rexed(w: u8, r: u8, b: u8, bytes: &[u8]) -> Option<(Insn, usize)>
     requires r { r < 2 }
     requires b { b < 2 }
@@ -102,7 +106,7 @@ fn rexed(w: u8, r: u8, b: u8, bytes: &[u8]) -> Option<(Insn, usize)>
         return long(r, b, &bytes[1..]);
     }
     let (reg, m, size) = operand(r, b, &bytes[1..])?;
-    wide(op, reg, m, size + 2, &bytes[1 + size..])
+    wide(op, reg, m, size, bytes)
 }
 
 fn whole_word(r: u8, register: u8, bytes: &[u8]) -> Option<(Insn, usize)>
@@ -144,13 +148,14 @@ fn long(r: u8, b: u8, bytes: &[u8]) -> Option<(Insn, usize)>
     } }
 }
 
-/// The forms with W and an opcode of one byte; `size` bytes stand before what follows the operand.
+/// The forms with W and an opcode of one byte, behind which the operand takes `size` bytes.
 #[tactic(auto, unfolding(sch_insn::specs::Decode::wide_of))]
+#[inline(always)]
 fn wide(op: u8, r: u8, m: Arg, size: usize, bytes: &[u8]) -> Option<(Insn, usize)>
-    requires { size < 100 }
-    ensures { result ≡ wide_of op r m size bytes.now }
+    requires { size + 1 ≤ length bytes.now }
+    ensures { result ≡ wide_of op r m (size + 2) (drop (size + 1) bytes.now) }
 {
-    rows! { op, bytes, size; {
+    rows! { op, &bytes[size + 1..], size + 2; {
         0x01 => Insn::AddTo(m, r);
         0x03 => Insn::AddFrom(r, m);
         0x09 => Insn::OrTo(m, r);
@@ -190,6 +195,7 @@ fn in_memory(m: Arg) -> bool
 
 /// The register of the form, the operand, and the bytes that they take from ModRM on.
 #[tactic(auto, unfolding(sch_insn::specs::Decode::operand_of))]
+#[inline(always)]
 fn operand(r: u8, b: u8, bytes: &[u8]) -> Option<(u8, Arg, usize)>
     requires r { r < 2 }
     requires b { b < 2 }
@@ -205,6 +211,7 @@ fn operand(r: u8, b: u8, bytes: &[u8]) -> Option<(u8, Arg, usize)>
     Some((reg, m, size + 1))
 }
 
+#[inline(always)]
 fn arg(mode: u8, high: u8, low: u8, bytes: &[u8]) -> Option<(Arg, usize)>
     requires high { high < 2 }
     requires low { low < 8 }
@@ -235,6 +242,7 @@ fn arg(mode: u8, high: u8, low: u8, bytes: &[u8]) -> Option<(Arg, usize)>
 }
 
 /// How many bytes SIB takes.
+#[inline(always)]
 fn sib(low: u8, bytes: &[u8]) -> Option<usize>
     ensures within { IfSome result (λ n. (n ≤ length bytes.now) × (n < 2)) }
     ensures value { result ≡ sib_size low bytes.now }
@@ -249,6 +257,7 @@ fn sib(low: u8, bytes: &[u8]) -> Option<usize>
 }
 
 /// Four bytes as a number.
+#[inline(always)]
 fn number(bytes: &[u8]) -> Option<i32>
     ensures within { IfSome result (λ n. 4 ≤ length bytes.now) }
     ensures value { result ≡ number_of_4 bytes.now }

@@ -1,4 +1,4 @@
-ghost use Rattle.std.specs.Prelude.{◌≡◌, ◌+◌, ◌*◌, ◌<◌, ◌≤◌, ◌^◌, true};
+ghost use Rattle.std.specs.Prelude.{◌≡◌, ◌+◌, ◌*◌, ◌/◌, ◌%◌, ◌<◌, ◌≤◌, ◌^◌, true};
 ghost use Rattle.sch_insn.specs.Machine.{signed as signed_of};
 ghost use Rattle.sch_insn.specs.Step.{dividend_magnitude, is_quotient as is_quotient_of, quotient_of};
 
@@ -14,17 +14,31 @@ pub(crate) fn divided(high: u64, low: u64, divisor: u64) -> Result<(u64, u64), S
         return Err(StuckCause::Divide);
     }
     let dividend = dividend(high, low);
-    let magnitude = magnitude(divisor) as u128;
-    let quotient = dividend / magnitude;
-    let remainder = dividend % magnitude;
+    let (quotient, remainder) = divided_magnitudes(dividend, magnitude(divisor));
     let negative = is_negative(high) != is_negative(divisor);
     if !is_quotient(negative, quotient) {
         return Err(StuckCause::Divide);
     }
     Ok((
         signed(negative, quotient as u64),
-        signed(is_negative(high), remainder as u64),
+        signed(is_negative(high), remainder),
     ))
+}
+
+/// The quotient and the remainder of absolute values. A dividend of one word takes one division of words.
+fn divided_magnitudes(dividend: u128, divisor: u64) -> (u128, u64)
+    requires { 0 < divisor }
+    ensures quotient { result.0 ≡ dividend / divisor }
+    ensures remainder { result.1 ≡ dividend % divisor }
+{
+    if dividend <= u64::MAX as u128 {
+        let word = dividend as u64;
+        return ((word / divisor) as u128, word % divisor);
+    }
+    (
+        dividend / divisor as u128,
+        (dividend % divisor as u128) as u64,
+    )
 }
 
 /// The absolute value of the dividend.

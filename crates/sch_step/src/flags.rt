@@ -16,6 +16,7 @@ impl LastFlags {
 
     /// Whether the condition of this number holds, where the flags that it reads are known.
     #[tactic(auto, unfolding(sch_insn::specs::Machine::test_of))]
+    #[inline(always)]
     pub(crate) fn condition(self, c: u8) -> Option<bool>
         ensures { result ≡ condition_of (flags_of self) c }
     {
@@ -30,6 +31,7 @@ impl LastFlags {
     }
 }
 
+#[inline(always)]
 pub(crate) fn is_negative(a: u64) -> bool
     ensures { result ≡ is_negative a }
 {
@@ -37,6 +39,7 @@ pub(crate) fn is_negative(a: u64) -> bool
 }
 
 #[tactic(auto, unfolding(sch_insn::specs::Machine::test_of))]
+#[inline(always)]
 fn after_sum(a: u64, b: u64, test: u8) -> Option<bool>
     ensures { result ≡ test_of (sum_of a b).flags test }
 {
@@ -57,6 +60,7 @@ fn after_sum(a: u64, b: u64, test: u8) -> Option<bool>
 }
 
 #[tactic(auto, unfolding(sch_insn::specs::Machine::test_of))]
+#[inline(always)]
 fn after_difference(a: u64, b: u64, test: u8) -> Option<bool>
     ensures { result ≡ test_of (difference_of a b).flags test }
 {
@@ -77,6 +81,7 @@ fn after_difference(a: u64, b: u64, test: u8) -> Option<bool>
 }
 
 #[tactic(auto, unfolding(sch_insn::specs::Machine::test_of))]
+#[inline(always)]
 fn after_bits(r: u64, test: u8) -> Option<bool>
     ensures { result ≡ test_of (bits_of r).flags test }
 {
@@ -94,6 +99,7 @@ fn after_bits(r: u64, test: u8) -> Option<bool>
 }
 
 #[tactic(auto, unfolding(sch_insn::specs::Machine::test_of))]
+#[inline(always)]
 fn after_product(a: u64, b: u64, test: u8) -> Option<bool>
     ensures { result ≡ test_of (product_of a b).flags test }
 {
@@ -104,6 +110,7 @@ fn after_product(a: u64, b: u64, test: u8) -> Option<bool>
 }
 
 /// The absolute value of a signed word.
+#[inline(always)]
 pub(crate) fn magnitude(a: u64) -> u64
     ensures value { result ≡ magnitude a }
     ensures some { 0 < a → 0 < result }
@@ -113,6 +120,7 @@ pub(crate) fn magnitude(a: u64) -> u64
 }
 
 /// Whether the product of two words, read as signed numbers, is a word.
+#[inline(always)]
 fn product_fits(a: u64, b: u64) -> bool
     ensures { result ≡ product_fits a b }
 {

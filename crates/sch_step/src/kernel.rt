@@ -28,6 +28,7 @@ impl Processor {
         self.at = next;
     }
 
+    #[inline(always)]
     fn stuck(&self, cause: StuckCause) -> StepEnd
         ensures { result ≡ step_end.Stuck (record { at = (core_of self.now).place; cause = cause }) }
     {
@@ -86,6 +87,7 @@ impl Processor {
     }
 
     /// An instruction that is no call of the kernel.
+    #[inline(always)]
     fn go(&mut self, insn: &Insn, next: u64) -> StepEnd
         requires valid { IsValid insn.now }
         ensures at { IsAt result (core_of self.new).place }
@@ -100,6 +102,7 @@ impl Processor {
         }
     }
 
+    #[inline(always)]
     fn perform<O: Outlet>(&mut self, insn: &Insn, size: usize, out: &mut O) -> StepEnd
         requires valid { IsValid insn.now }
         requires low { (core_of self.old).place + size ≤ 2 ^ 47 }
@@ -114,6 +117,7 @@ impl Processor {
     }
 
     /// One step.
+    #[inline(always)]
     pub(crate) fn step<O: Outlet>(&mut self, out: &mut O) -> StepEnd
         ensures at { IsAt result (core_of self.new).place }
         ensures did { Does (StepsTo result (core_of self.old) (core_of self.new)) (O.bytes out.old) (O.bytes out.new) (O.left out.old) (O.left out.new) (O.faults out.old) (O.faults out.new) }

@@ -1,4 +1,6 @@
-//! A machine that steps: the table of instructions, run.
+//! A machine that steps: the table of instructions, run. What each step passes through is marked as
+//! inline, here and in the decoder, so that a run is one function of the processor; `bench/step.py`
+//! measures it.
 #![tactic(auto)]
 
 mod division;

@@ -21,6 +21,8 @@ pub fn load(alloc: Global, image: &Image) -> Result<Machine, Mem>
     ensures starts { IfOk result (λ m. (bytes : List ℕ) (answers : List Answer) → standing_of m bytes answers ≡ Runs (state_of (loaded image.now.entry (memory image.now.segments)) bytes answers)) }
 {
     let segments = load_segments(alloc, image)?;
+    // Where operands are looked for first: what is written lies last in an image.
+    let data = segments.len().saturating_sub(1);
     Ok(Machine {
         processor: Processor {
             regs: Regs { words: [0; 16] },
@@ -28,7 +30,7 @@ pub fn load(alloc: Global, image: &Image) -> Result<Machine, Mem>
             at: image.entry,
             segments,
             code: 0,
-            data: 0,
+            data,
         },
         exited: None,
     })

@@ -27,6 +27,7 @@ impl Machine {
 
 /// One step. A machine that has exited or is stuck answers the same again, changes nothing and writes
 /// nothing.
+#[inline(always)]
 pub fn step<O: Outlet>(m: &mut Machine, out: &mut O) -> StepEnd
     ensures at { IsAt result (core_of m.new).place }
     ensures stands { (bytes : List ℕ) (answers : List Answer) → standing_of m.new bytes answers ≡ resting result (core_of m.new) bytes answers }

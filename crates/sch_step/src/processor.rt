@@ -26,6 +26,7 @@ pub struct Processor {
 impl Processor {
     ghost use Rattle.sch_step.specs.View.{core_of, gone_on, changed, flags_of};
 
+    #[inline(always)]
     fn holds_at(&self, i: usize, address: u64, n: u64) -> bool
         requires { i < vec_len self.now.segments }
         ensures { result ≡ holds (segment_at (segments_of self.now.segments) i) address n }
@@ -34,6 +35,7 @@ impl Processor {
     }
 
     /// A segment that holds these bytes; the hint is looked at first.
+    #[inline(always)]
     pub(crate) fn find(&self, hint: usize, address: u64, n: u64) -> Option<usize>
         ensures within { IfSome result (λ i. i < length self.now.segments.items) }
         ensures some { IfSome result (λ i. holds (segment_at (segments_of self.now.segments) i) address n ≡ true) }
@@ -42,6 +44,16 @@ impl Processor {
         if hint < self.segments.len() && self.holds_at(hint, address, n) {
             return Some(hint);
         }
+        self.search(address, n)
+    }
+
+    /// A segment that holds these bytes, where there is no hint.
+    #[inline(never)]
+    fn search(&self, address: u64, n: u64) -> Option<usize>
+        ensures within { IfSome result (λ i. i < length self.now.segments.items) }
+        ensures some { IfSome result (λ i. holds (segment_at (segments_of self.now.segments) i) address n ≡ true) }
+        ensures none { result ≡ None → NoneHolds (segments_of self.now.segments) address n }
+    {
         for i in 0..self.segments.len() {
             if self.holds_at(i, address, n) {
                 return Some(i);
@@ -50,6 +62,7 @@ impl Processor {
         None
     }
 
+    #[inline(always)]
     pub(crate) fn reg(&self, r: u8) -> u64
         requires { r < 16 }
         ensures { result ≡ (core_of self.now).registers r }
@@ -57,6 +70,7 @@ impl Processor {
         self.regs.words[r as usize]
     }
 
+    #[inline(always)]
     pub(crate) fn set_reg(&mut self, r: u8, value: u64)
         requires { r < 16 }
         ensures { core_of self.new ≡ with_register r value (core_of self.old) }
@@ -64,6 +78,7 @@ impl Processor {
         self.regs.words[r as usize] = value;
     }
 
+    #[inline(always)]
     pub(crate) fn set_flags(&mut self, flags: LastFlags)
         ensures { core_of self.new ≡ with_flags (flags_of flags) (core_of self.old) }
     {
@@ -71,6 +86,7 @@ impl Processor {
     }
 
     /// The bytes from an address on, to the end of their segment, where so many of them may be read.
+    #[inline(always)]
     pub(crate) fn bytes_from(&self, address: u64, n: u64) -> Option<&[u8]>
         requires some { 0 < n }
         ensures found { option_map (λ bytes. bytes.now) result ≡ bytes_from (λ g. g.readable) (core_of self.now).segments address n }
@@ -84,6 +100,7 @@ impl Processor {
         Some(s.tail((address - s.address) as usize))
     }
 
+    #[inline(always)]
     fn word(&self, address: u64) -> Result<u64, StuckCause>
         ensures { result ≡ word_at (core_of self.now).segments address }
     {
@@ -93,6 +110,7 @@ impl Processor {
         }
     }
 
+    #[inline(always)]
     pub(crate) fn byte(&self, address: u64) -> Result<u64, StuckCause>
         ensures { result ≡ byte_at (core_of self.now).segments address }
     {
@@ -102,6 +120,7 @@ impl Processor {
         }
     }
 
+    #[inline(always)]
     pub(crate) fn address(&self, m: &Arg, next: u64) -> u64
         requires { IsArg m.now }
         ensures { result ≡ address_of (with_place next (core_of self.now)) m.now }
@@ -115,6 +134,7 @@ impl Processor {
     }
 
     /// The word in an operand, where the next instruction has the address `next`.
+    #[inline(always)]
     pub(crate) fn load(&self, m: &Arg, next: u64) -> Result<u64, StuckCause>
         requires { IsArg m.now }
         ensures { result ≡ load_of (with_place next (core_of self.now)) m.now }
@@ -126,6 +146,7 @@ impl Processor {
     }
 
     /// Where so many bytes may be written: the index of their segment, and their place in it.
+    #[inline(always)]
     pub(crate) fn place_to_write(&self, address: u64, n: u64) -> Option<usize>
         ensures within { IfSome result (λ i. i < length self.now.segments.items) }
         ensures some { IfSome result (λ i. holds (segment_at (segments_of self.now.segments) i) address n ≡ true) }
@@ -139,6 +160,7 @@ impl Processor {
         Some(i)
     }
 
+    #[inline(always)]
     fn set_word(&mut self, address: u64, value: u64) -> Result<(), StuckCause>
         ensures value { (place : ℕ) → changed result (with_place place (core_of self.new)) ≡ write_bytes (with_place place (core_of self.old)) address (to_le_bytes w64 value) }
         ensures same { OnErr result (core_of self.new ≡ core_of self.old) }
@@ -153,6 +175,7 @@ impl Processor {
         Ok(())
     }
 
+    #[inline(always)]
     pub(crate) fn set_byte(&mut self, address: u64, value: u8) -> Result<(), StuckCause>
         ensures value { (place : ℕ) → changed result (with_place place (core_of self.new)) ≡ write_bytes (with_place place (core_of self.old)) address (value ∷ []) }
         ensures same { OnErr result (core_of self.new ≡ core_of self.old) }
@@ -168,6 +191,7 @@ impl Processor {
     }
 
     /// Puts a word into an operand, where the next instruction has the address `next`.
+    #[inline(always)]
     pub(crate) fn store(&mut self, m: &Arg, value: u64, next: u64) -> Result<(), StuckCause>
         requires { IsArg m.now }
         ensures value { changed result (with_place next (core_of self.new)) ≡ store_of (with_place next (core_of self.old)) m.now value }
@@ -186,6 +210,7 @@ impl Processor {
     }
 
     /// The instruction that comes next, and its length.
+    #[inline(always)]
     pub(crate) fn fetch(&mut self) -> Option<(Insn, usize)>
         ensures value { result ≡ fetch_of (core_of self.old).segments (core_of self.old).place }
         ensures same { core_of self.new ≡ core_of self.old }
@@ -203,6 +228,7 @@ impl Processor {
 }
 
 /// The word of a signed number.
+#[inline(always)]
 pub(crate) fn word_of(n: i32) -> u64
     ensures { result ≡ word_of n }
 {

@@ -75,6 +75,7 @@ impl Processor {
     }
 
     /// `mov` into an operand.
+    #[inline(always)]
     fn mov_to(&mut self, m: &Arg, value: u64, next: u64) -> Result<u64, StuckCause>
         requires arg { IsArg m.now }
         ensures value { gone_on result (core_of self.new) ≡ store_of (with_place next (core_of self.old)) m.now value }
@@ -85,6 +86,7 @@ impl Processor {
     }
 
     /// `mov` from an operand.
+    #[inline(always)]
     fn mov_from(&mut self, r: u8, m: &Arg, next: u64) -> Result<u64, StuckCause>
         requires arg { IsArg m.now }
         requires reg { r < 16 }
@@ -97,6 +99,7 @@ impl Processor {
     }
 
     /// A register becomes a word.
+    #[inline(always)]
     fn set(&mut self, r: u8, value: u64, next: u64) -> Result<u64, StuckCause>
         requires reg { r < 16 }
         ensures value { gone_on result (core_of self.new) ≡ Ok (with_register r value (with_place next (core_of self.old))) }
@@ -107,6 +110,7 @@ impl Processor {
     }
 
     /// `movb` into memory.
+    #[inline(always)]
     fn store_byte(&mut self, m: &Arg, r: u8, next: u64) -> Result<u64, StuckCause>
         requires arg { IsArg m.now }
         requires reg { r < 16 }
@@ -120,6 +124,7 @@ impl Processor {
     }
 
     /// `movzx` from memory.
+    #[inline(always)]
     fn load_byte(&mut self, r: u8, m: &Arg, next: u64) -> Result<u64, StuckCause>
         requires arg { IsArg m.now }
         requires reg { r < 16 }
@@ -132,6 +137,7 @@ impl Processor {
     }
 
     /// Puts a result into an operand, and sets the flags.
+    #[inline(always)]
     fn put_back(
         &mut self,
         m: &Arg,
@@ -149,6 +155,7 @@ impl Processor {
     }
 
     /// Puts a result into a register, and sets the flags.
+    #[inline(always)]
     fn put_in(&mut self, r: u8, value: u64, flags: LastFlags, next: u64) -> Result<u64, StuckCause>
         requires reg { r < 16 }
         ensures value { gone_on result (core_of self.new) ≡ Ok (with_flags (flags_of flags) (with_register r value (with_place next (core_of self.old)))) }
@@ -160,6 +167,7 @@ impl Processor {
     }
 
     /// `add` of a word to an operand.
+    #[inline(always)]
     fn add_to(&mut self, m: &Arg, b: u64, next: u64) -> Result<u64, StuckCause>
         requires arg { IsArg m.now }
         ensures value { gone_on result (core_of self.new) ≡ change (with_place next (core_of self.old)) m.now (λ v. sum_of v b) }
@@ -170,6 +178,7 @@ impl Processor {
     }
 
     /// `sub` of a word to an operand.
+    #[inline(always)]
     fn sub_to(&mut self, m: &Arg, b: u64, next: u64) -> Result<u64, StuckCause>
         requires arg { IsArg m.now }
         ensures value { gone_on result (core_of self.new) ≡ change (with_place next (core_of self.old)) m.now (λ v. difference_of v b) }
@@ -180,6 +189,7 @@ impl Processor {
     }
 
     /// `or` of a word to an operand.
+    #[inline(always)]
     fn or_to(&mut self, m: &Arg, b: u64, next: u64) -> Result<u64, StuckCause>
         requires arg { IsArg m.now }
         ensures value { gone_on result (core_of self.new) ≡ change (with_place next (core_of self.old)) m.now (λ v. bits_of (bit_or v b)) }
@@ -190,6 +200,7 @@ impl Processor {
     }
 
     /// `and` of a word to an operand.
+    #[inline(always)]
     fn and_to(&mut self, m: &Arg, b: u64, next: u64) -> Result<u64, StuckCause>
         requires arg { IsArg m.now }
         ensures value { gone_on result (core_of self.new) ≡ change (with_place next (core_of self.old)) m.now (λ v. bits_of (bit_and v b)) }
@@ -200,6 +211,7 @@ impl Processor {
     }
 
     /// `xor` of a word to an operand.
+    #[inline(always)]
     fn xor_to(&mut self, m: &Arg, b: u64, next: u64) -> Result<u64, StuckCause>
         requires arg { IsArg m.now }
         ensures value { gone_on result (core_of self.new) ≡ change (with_place next (core_of self.old)) m.now (λ v. bits_of (bit_xor v b)) }
@@ -210,6 +222,7 @@ impl Processor {
     }
 
     /// `add` of an operand to a register.
+    #[inline(always)]
     fn add_from(&mut self, r: u8, m: &Arg, next: u64) -> Result<u64, StuckCause>
         requires arg { IsArg m.now }
         requires reg { r < 16 }
@@ -222,6 +235,7 @@ impl Processor {
     }
 
     /// `sub` of an operand to a register.
+    #[inline(always)]
     fn sub_from(&mut self, r: u8, m: &Arg, next: u64) -> Result<u64, StuckCause>
         requires arg { IsArg m.now }
         requires reg { r < 16 }
@@ -234,6 +248,7 @@ impl Processor {
     }
 
     /// `or` of an operand to a register.
+    #[inline(always)]
     fn or_from(&mut self, r: u8, m: &Arg, next: u64) -> Result<u64, StuckCause>
         requires arg { IsArg m.now }
         requires reg { r < 16 }
@@ -246,6 +261,7 @@ impl Processor {
     }
 
     /// `and` of an operand to a register.
+    #[inline(always)]
     fn and_from(&mut self, r: u8, m: &Arg, next: u64) -> Result<u64, StuckCause>
         requires arg { IsArg m.now }
         requires reg { r < 16 }
@@ -258,6 +274,7 @@ impl Processor {
     }
 
     /// `xor` of an operand to a register.
+    #[inline(always)]
     fn xor_from(&mut self, r: u8, m: &Arg, next: u64) -> Result<u64, StuckCause>
         requires arg { IsArg m.now }
         requires reg { r < 16 }
@@ -270,6 +287,7 @@ impl Processor {
     }
 
     /// `imul` of an operand to a register.
+    #[inline(always)]
     fn imul(&mut self, r: u8, m: &Arg, next: u64) -> Result<u64, StuckCause>
         requires arg { IsArg m.now }
         requires reg { r < 16 }
@@ -282,6 +300,7 @@ impl Processor {
     }
 
     /// `cmp` of an operand with a word.
+    #[inline(always)]
     fn cmp_to(&mut self, m: &Arg, b: u64, next: u64) -> Result<u64, StuckCause>
         requires arg { IsArg m.now }
         ensures value { gone_on result (core_of self.new) ≡ compare (with_place next (core_of self.old)) m.now (λ v. difference_of v b) }
@@ -293,6 +312,7 @@ impl Processor {
     }
 
     /// `cmp` of a word with an operand.
+    #[inline(always)]
     fn cmp_from(&mut self, a: u64, m: &Arg, next: u64) -> Result<u64, StuckCause>
         requires arg { IsArg m.now }
         ensures value { gone_on result (core_of self.new) ≡ compare (with_place next (core_of self.old)) m.now (λ v. difference_of a v) }
@@ -304,6 +324,7 @@ impl Processor {
     }
 
     /// `test` of an operand with a word.
+    #[inline(always)]
     fn test_to(&mut self, m: &Arg, b: u64, next: u64) -> Result<u64, StuckCause>
         requires arg { IsArg m.now }
         ensures value { gone_on result (core_of self.new) ≡ compare (with_place next (core_of self.old)) m.now (λ v. bits_of (bit_and v b)) }
@@ -315,6 +336,7 @@ impl Processor {
     }
 
     /// `neg` of an operand.
+    #[inline(always)]
     fn neg(&mut self, m: &Arg, next: u64) -> Result<u64, StuckCause>
         requires arg { IsArg m.now }
         ensures value { gone_on result (core_of self.new) ≡ change (with_place next (core_of self.old)) m.now (λ v. difference_of 0 v) }
@@ -326,6 +348,7 @@ impl Processor {
     }
 
     /// `shl` of an operand.
+    #[inline(always)]
     fn shl(&mut self, m: &Arg, k: u8, next: u64) -> Result<u64, StuckCause>
         requires arg { IsArg m.now }
         requires count { k < 64 }
@@ -337,6 +360,7 @@ impl Processor {
     }
 
     /// `shr` of an operand.
+    #[inline(always)]
     fn shr(&mut self, m: &Arg, k: u8, next: u64) -> Result<u64, StuckCause>
         requires arg { IsArg m.now }
         requires count { k < 64 }
@@ -348,6 +372,7 @@ impl Processor {
     }
 
     /// `sar` of an operand.
+    #[inline(always)]
     fn sar(&mut self, m: &Arg, k: u8, next: u64) -> Result<u64, StuckCause>
         requires arg { IsArg m.now }
         requires count { k < 64 }
@@ -359,6 +384,7 @@ impl Processor {
     }
 
     /// `cqo`.
+    #[inline(always)]
     fn cqo(&mut self, next: u64) -> Result<u64, StuckCause>
         ensures value { gone_on result (core_of self.new) ≡ Ok (with_register 2 (sign_word ((core_of self.old).registers 0)) (with_place next (core_of self.old))) }
         ensures same { OnErr result (core_of self.new ≡ core_of self.old) }
@@ -373,6 +399,7 @@ impl Processor {
     }
 
     /// `idiv` by an operand.
+    #[inline(always)]
     fn idiv(&mut self, m: &Arg, next: u64) -> Result<u64, StuckCause>
         requires arg { IsArg m.now }
         ensures value { gone_on result (core_of self.new) ≡ when_ok (load_of (with_place next (core_of self.old)) m.now) (divide (with_place next (core_of self.old))) }
@@ -387,6 +414,7 @@ impl Processor {
     }
 
     /// A jump where a condition holds.
+    #[inline(always)]
     fn jump_if(&mut self, c: u8, d: i32, next: u64) -> Result<u64, StuckCause>
         ensures value { gone_on result (core_of self.new) ≡ jump_if (with_place next (core_of self.old)) d (condition_of (core_of self.old).flags c) }
         ensures same { OnErr result (core_of self.new ≡ core_of self.old) }
@@ -400,6 +428,7 @@ impl Processor {
 }
 
 /// A word shifted right, the sign shifted in.
+#[inline(always)]
 fn shift_right_signed(a: u64, k: u8) -> u64
     requires { k < 64 }
     ensures { result ≡ shift_right_signed_of a k }

@@ -16,14 +16,20 @@ impl Segment {
     ghost use Rattle.sch_step.specs.Layout.{segment_of};
 
     /// Whether so many bytes from an address on lie in the segment.
+    #[inline(always)]
     pub(crate) fn holds(&self, address: u64, n: u64) -> bool
         ensures { result ≡ holds (segment_of self.now) address n }
     {
         let len = self.bytes.len() as u64;
-        address >= self.address && len >= n && address - self.address <= len - n
+        if address < self.address {
+            return false;
+        }
+        let place = address - self.address;
+        place <= len && n <= len - place
     }
 
     /// The bytes from a place on.
+    #[inline(always)]
     pub(crate) fn tail(&self, k: usize) -> &[u8]
         requires { k ≤ vec_len self.now.bytes }
         ensures { result.now ≡ drop k self.now.bytes.items }
@@ -32,6 +38,7 @@ impl Segment {
     }
 
     /// Puts a word at a place.
+    #[inline(always)]
     pub(crate) fn put_word(&mut self, k: usize, value: u64)
         requires { k + 8 ≤ vec_len self.old.bytes }
         ensures { segment_of self.new ≡ with_bytes (segment_of self.old) (put_bytes self.old.bytes.items k (to_le_bytes w64 value)) }
@@ -41,6 +48,7 @@ impl Segment {
     }
 
     /// Puts a byte at a place.
+    #[inline(always)]
     pub(crate) fn put_byte(&mut self, k: usize, value: u8)
         requires { k < vec_len self.old.bytes }
         ensures { segment_of self.new ≡ with_bytes (segment_of self.old) (put_bytes self.old.bytes.items k (value ∷ [])) }
