@@ -10,7 +10,8 @@ use Rattle.sch_word.specs.Fixnum.{IsFixnum}
 use Rattle.sch_read.specs.declared.datum.Datum.{Datum}
 use Rattle.sch_read.specs.Views.{tree_of, data_of}
 use Rattle.sch_cli.specs.declared.piece.Piece.{Piece}
-use Rattle.sch_cli.specs.Pieces.{AreShort, IsShort, bytes_of, first_other, other_at, piece_of, pieces_in, place, with_piece}
+use Rattle.sch_core.specs.Scope.{place}
+use Rattle.sch_cli.specs.Pieces.{AreShort, IsShort, bytes_of, first_other, other_at, piece_of, pieces_in, with_piece}
 
 module _ (items : List Datum) (i : ℕ) (d : Datum) (p : Piece) (d0 : Datum) (within : i < length items) (is : d ≡ get_or items i d0) (prints : Some p ≡ piece_of (tree_of d)) where
   at_item : {A : Type 0} (F : List Datum → A) → F (drop i items) ≡ F (d ∷ drop (i + 1) items)

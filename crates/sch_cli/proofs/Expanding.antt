@@ -17,7 +17,8 @@ use Rattle.sch_core.specs.Numbered.{numbered_each, program_of, global_names_of_e
 use Rattle.sch_core.specs.Programs.{IsProgramOf, first_crowded, form_places, places_of}
 use Rattle.sch_cli.specs.declared.piece.Piece.{Piece}
 use Rattle.sch_cli.specs.declared.piece.Piece.TheVariants.{Number, Character, Boolean}
-use Rattle.sch_cli.specs.Pieces.{piece_of, displayed, new_line, first_other, other_at, pieces_in, place, with_piece}
+use Rattle.sch_core.specs.Scope.{place}
+use Rattle.sch_cli.specs.Pieces.{piece_of, displayed, new_line, first_other, other_at, pieces_in, with_piece}
 
 abbrev pub constant_of : Piece → Const
 constant_of (Number z) = const.Fixnum z

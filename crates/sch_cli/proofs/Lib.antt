@@ -12,5 +12,6 @@ pub mod Programs
 pub mod Running
 pub mod Saying
 pub mod Smallness
+pub mod OneStatus
 pub mod Verdicts
 pub mod WriteLoop

@@ -4,6 +4,7 @@ pub mod CommandView
 pub mod Compiles
 pub mod Executes
 pub mod Headline
+pub mod Laws
 pub mod Messages
 pub mod Numbers
 pub mod PieceCode

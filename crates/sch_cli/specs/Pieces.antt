@@ -8,7 +8,8 @@ use Rattle.std.specs.Str.{bytes_eq}
 use Rattle.sch_word.specs.declared.answer.Answer.{Answer}
 use Rattle.sch_word.specs.Put.{put}
 use Rattle.sch_insn.specs.Behaves.{Ending}
-use Rattle.sch_read.specs.Grammar.{Datum, Data, atom, list, dotted, vector, none, cons, boolean, integer, character, symbol}
+use Rattle.sch_read.specs.Grammar.{Datum, Data, atom, list, none, cons, boolean, integer, character, symbol}
+use Rattle.sch_core.specs.Scope.{place}
 use Rattle.sch_cli.specs.declared.piece.Piece.{Piece}
 use Rattle.sch_cli.specs.declared.piece.Piece.TheVariants.{Number, Character, Boolean}
 
@@ -42,12 +43,6 @@ combination _ = None
 abbrev pub piece_of : Datum → Option Piece
 piece_of (list at xs) = combination xs
 piece_of _ = None
-
-abbrev pub place : Datum → ℕ
-place (atom at a) = at
-place (list at xs) = at
-place (dotted at xs x) = at
-place (vector at xs) = at
 
 abbrev pub other_at : Option Piece → ℕ → Option ℕ → Option ℕ
 other_at None at rest = Some at

@@ -12,6 +12,7 @@ mod build;
 mod command;
 mod compile;
 mod execute;
+mod laws;
 mod message;
 mod number;
 mod piece;
@@ -25,6 +26,7 @@ mod tests;
 
 use command::{Command, read_words};
 use compile::compile;
+pub use laws::a_source_has_one_status;
 use message::say;
 use run::run;
 use sch_io::{Disk, Outlet};
