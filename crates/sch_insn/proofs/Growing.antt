@@ -11,8 +11,8 @@ use Rattle.sch_insn.specs.declared.insn.Insn.TheVariants.{Syscall}
 use Rattle.sch_insn.specs.declared.machine.StuckCause.{StuckCause}
 use Rattle.sch_insn.specs.Machine.{Core, State, with_place}
 use Rattle.sch_insn.specs.Step.{Progress, Runs, Exited, Stuck, act, kernel, write_row, piece_written, answered, moved, perform, fetch, fetched, step, go_on, standing, mach}
-use Rattle.sch_insn.specs.Behaves.{Given, start, output_of, IsPrefix, Ending, Behaves}
-use Rattle.sch_insn.proofs.Steps.{Comes}
+use Rattle.sch_insn.specs.Behaves.{Given, start, output_of, exit_of, IsPrefix, Ending, Behaves}
+use Rattle.sch_insn.proofs.Steps.{Exits}
 
 pub prefix_same : (xs : List ℕ) → IsPrefix xs xs
 prefix_same xs = record { rest = []; whole = append-nil xs }
@@ -64,18 +64,18 @@ step_grows s = fetched_grows s (fetch s.core.segments s.core.place)
 
 go_grows : (n : ℕ) (e : Progress) → ((s : State) → IsPrefix s.output (output_of (mach n s))) → IsPrefix (output_of e) (output_of (go_on e (mach n)))
 go_grows n (Runs s) h = h s
-go_grows n (Exited status output) h = prefix_same output
+go_grows n (Exited status s) h = prefix_same s.output
 go_grows n (Stuck cause s) h = prefix_same s.output
 
 -- Where no step is left, what a machine has come to has grown as after its next step.
 standing_grows : (s : State) (e : Progress) → Grows s.output e → IsPrefix s.output (output_of (standing s e))
 standing_grows s (Runs t) g = prefix_same s.output
-standing_grows s (Exited status output) g = prefix_same s.output
+standing_grows s (Exited status t) g = prefix_same s.output
 standing_grows s (Stuck cause t) g = g.by
 
 standing_before : (s : State) (e : Progress) (n : ℕ) → Grows s.output e → ((t : State) → IsPrefix t.output (output_of (mach n t))) → IsPrefix (output_of (standing s e)) (output_of (go_on e (mach n)))
 standing_before s (Runs t) n g h = prefix_then s.output t.output (output_of (mach n t)) g.by (h t)
-standing_before s (Exited status output) n g h = g.by
+standing_before s (Exited status t) n g h = g.by
 standing_before s (Stuck cause t) n g h = prefix_same t.output
 
 pub mach_grows : (n : ℕ) (s : State) → IsPrefix s.output (output_of (mach n s))
@@ -84,7 +84,7 @@ mach_grows (suc n) s = prefix_then s.output (output_of (step s)) (output_of (mac
 
 go_more : (m n : ℕ) (e : Progress) → ((s : State) → IsPrefix (output_of (mach m s)) (output_of (mach n s))) → IsPrefix (output_of (go_on e (mach m))) (output_of (go_on e (mach n)))
 go_more m n (Runs s) h = h s
-go_more m n (Exited status output) h = prefix_same output
+go_more m n (Exited status s) h = prefix_same s.output
 go_more m n (Stuck cause s) h = prefix_same s.output
 
 -- In fewer steps the output is a prefix.
@@ -96,17 +96,17 @@ more_grows (suc m) (suc n) s le = go_more m n (step s) (λ t. more_grows m n t (
 
 abbrev pub IsOver : Progress → Type 0
 IsOver (Runs s) = ⊥
-IsOver (Exited status output) = Unit {0}
+IsOver (Exited status s) = Unit {0}
 IsOver (Stuck cause s) = Unit {0}
 
 go_stays : (m n : ℕ) (e o : Progress) → IsOver o → ((s : State) → mach m s ≡ o → mach n s ≡ o) → go_on e (mach m) ≡ o → go_on e (mach n) ≡ o
 go_stays m n (Runs s) o over h e = h s e
-go_stays m n (Exited status output) o over h e = e
+go_stays m n (Exited status s) o over h e = e
 go_stays m n (Stuck cause s) o over h e = e
 
 standing_stays : (s : State) (e o : Progress) (n : ℕ) → IsOver o → standing s e ≡ o → go_on e (mach n) ≡ o
 standing_stays s (Runs t) o n over e = absurd (subst IsOver (sym e) over)
-standing_stays s (Exited status output) o n over e = absurd (subst IsOver (sym e) over)
+standing_stays s (Exited status t) o n over e = absurd (subst IsOver (sym e) over)
 standing_stays s (Stuck cause t) o n over e = e
 
 -- What is over stays as it is.
@@ -117,29 +117,25 @@ stays (suc m) zero s o over le e = absurd (omega arith)
 stays (suc m) (suc n) s o over le e = go_stays m n (step s) o over (λ t. stays m n t o over (omega arith)) e
 
 -- A run that has exited has the output of each bounded run as a prefix.
-pub along_end : (s : State) (m status : ℕ) (output : List ℕ) → mach m s ≡ Exited status output → (n : ℕ) → IsPrefix (output_of (mach n s)) output
-along_end s m status output e n =
+pub along_end : (s t : State) (m status : ℕ) → mach m s ≡ Exited status t → (n : ℕ) → IsPrefix (output_of (mach n s)) t.output
+along_end s t m status e n =
     ⊎_elim
     (λ lt. subst (λ o. IsPrefix (output_of (mach n s)) (output_of o)) e (more_grows n m s (omega arith)))
-    (λ le. subst (λ o. IsPrefix (output_of o) output) (sym (stays m n s (Exited status output) tt le e)) (prefix_same output))
+    (λ le. subst (λ o. IsPrefix (output_of o) t.output) (sym (stays m n s (Exited status t) tt le e)) (prefix_same t.output))
     (cases_lt n m)
 
 -- Where a run has exited, none is stuck.
-pub not_stuck : (s : State) (m status : ℕ) (output : List ℕ) → mach m s ≡ Exited status output → (n : ℕ) (cause : StuckCause) (t : State) → mach n s ≢ Stuck cause t
-not_stuck s m status output e n cause t f =
+pub not_stuck : (s t : State) (m status : ℕ) → mach m s ≡ Exited status t → (n : ℕ) (cause : StuckCause) (u : State) → mach n s ≢ Stuck cause u
+not_stuck s t m status e n cause u f =
     ⊎_elim
-    (λ lt. let h = sym (stays n m s (Stuck cause t) tt (omega arith) f) ∙ e in absurd cc)
-    (λ le. let h = sym f ∙ stays m n s (Exited status output) tt le e in absurd cc)
+    (λ lt. let h = sym (stays n m s (Stuck cause u) tt (omega arith) f) ∙ e in absurd cc)
+    (λ le. let h = sym f ∙ stays m n s (Exited status t) tt le e in absurd cc)
     (cases_lt n m)
 
--- A run that comes to an exit has exited in its number of steps.
-pub exited : (s : State) (status : ℕ) (output : List ℕ) (c : Comes s (Exited status output)) → mach (c.steps + 0) s ≡ Exited status output
-exited s status output c = c.reaches 0
-
 -- A memory behaves as said where its machine comes to the said exit for all given words and answers.
-pub behaves : (entry : ℕ) (segments : List Segment) (ending : List Answer → Ending) → ((g : Given) (answers : List Answer) → Comes (start entry segments g answers) (Exited (ending answers).status (ending answers).output)) → Behaves entry segments ending
+pub behaves : (entry : ℕ) (segments : List Segment) (ending : List Answer → Ending) → ((g : Given) (answers : List Answer) → Exits (start entry segments g answers) (ending answers).status (ending answers).output) → Behaves entry segments ending
 behaves entry segments ending h = record {
-  ends = λ g answers. let c = h g answers in (c.steps + 0, c.reaches 0);
-  along = λ g answers. let c = h g answers in along_end (start entry segments g answers) (c.steps + 0) (ending answers).status (ending answers).output (c.reaches 0);
-  never_stuck = λ g answers. let c = h g answers in not_stuck (start entry segments g answers) (c.steps + 0) (ending answers).status (ending answers).output (c.reaches 0);
+  ends = λ g answers. let e = h g answers in (e.comes.steps + 0, ap exit_of (e.comes.reaches 0) ∙ ap (λ o. Some ((ending answers).status, o)) e.output_is);
+  along = λ g answers n. let e = h g answers in subst (IsPrefix (output_of (mach n (start entry segments g answers)))) e.output_is (along_end (start entry segments g answers) e.last (e.comes.steps + 0) (ending answers).status (e.comes.reaches 0) n);
+  never_stuck = λ g answers. let e = h g answers in not_stuck (start entry segments g answers) e.last (e.comes.steps + 0) (ending answers).status (e.comes.reaches 0);
 }

@@ -13,6 +13,7 @@ use Rattle.sch_insn.specs.Spelling.{spelling}
 use Rattle.sch_insn.specs.Decode.{operand_of, wide_of, narrow_of, long_of, rexed_of, escaped_of, decode}
 use Rattle.sch_insn.specs.Machine.{Core, State, Computed, sum_of, difference_of, bits_of, product_of, shift_right_signed, unknown_flags, test_of, condition}
 use Rattle.sch_insn.specs.Step.{Progress, Runs, Exited, Stuck, divide, mach}
+use Rattle.sch_insn.specs.Behaves.{exit_of}
 
 -- A word with the flags OF, SF, ZF and CF.
 abbrev flagged : ℕ → Bool → Bool → Bool → Bool → Computed
@@ -201,14 +202,9 @@ begun bytes answers =
       spare = [];
     }
 
-abbrev status_and_output : Progress → Option (ℕ × List ℕ)
-status_and_output (Runs s) = None
-status_and_output (Exited status output) = Some (status, output)
-status_and_output (Stuck cause s) = None
-
 abbrev cause_and_place : Progress → Option (StuckCause × ℕ)
 cause_and_place (Runs s) = None
-cause_and_place (Exited status output) = None
+cause_and_place (Exited status s) = None
 cause_and_place (Stuck cause s) = Some (cause, s.core.place)
 
 abbrev exits_with : ℕ → List ℕ → Option (ℕ × List ℕ)
@@ -226,12 +222,12 @@ abbrev writing : List ℕ
 writing = 72 ∷ 199 ∷ 192 ∷ 1 ∷ 0 ∷ 0 ∷ 0 ∷ 72 ∷ 199 ∷ 199 ∷ 1 ∷ 0 ∷ 0 ∷ 0 ∷ 72 ∷ 141 ∷ 53 ∷ 21 ∷ 0 ∷ 0 ∷ 0 ∷ 72 ∷ 199 ∷ 194 ∷ 2 ∷ 0 ∷ 0 ∷ 0 ∷ 15 ∷ 5 ∷ 72 ∷ 137 ∷ 199 ∷ 72 ∷ 199 ∷ 192 ∷ 60 ∷ 0 ∷ 0 ∷ 0 ∷ 15 ∷ 5 ∷ 72 ∷ 105 ∷ []
 
 runs :
-    (status_and_output (mach 3 (begun exiting [])) ≡ exits_with 7 [])
-    × (status_and_output (mach 9 (begun exiting [])) ≡ exits_with 7 [])
-    × (status_and_output (mach 8 (begun writing [])) ≡ exits_with 2 (72 ∷ 105 ∷ []))
-    × (status_and_output (mach 8 (begun writing (Took 1 ∷ []))) ≡ exits_with 1 (72 ∷ []))
-    × (status_and_output (mach 8 (begun writing (Took 9 ∷ []))) ≡ exits_with 2 (72 ∷ 105 ∷ []))
-    × (status_and_output (mach 8 (begun writing (Failed ∷ []))) ≡ exits_with 251 [])
+    (exit_of (mach 3 (begun exiting [])) ≡ exits_with 7 [])
+    × (exit_of (mach 9 (begun exiting [])) ≡ exits_with 7 [])
+    × (exit_of (mach 8 (begun writing [])) ≡ exits_with 2 (72 ∷ 105 ∷ []))
+    × (exit_of (mach 8 (begun writing (Took 1 ∷ []))) ≡ exits_with 1 (72 ∷ []))
+    × (exit_of (mach 8 (begun writing (Took 9 ∷ []))) ≡ exits_with 2 (72 ∷ 105 ∷ []))
+    × (exit_of (mach 8 (begun writing (Failed ∷ []))) ≡ exits_with 251 [])
     × (cause_and_place (mach 1 (begun (195 ∷ []) [])) ≡ stuck_at Fetch 4194304)
     × (cause_and_place (mach 2 (begun (72 ∷ 199 ∷ 192 ∷ 60 ∷ 0 ∷ 0 ∷ 0 ∷ []) [])) ≡ stuck_at Fetch 4194311)
     × (cause_and_place (mach 1 (begun (15 ∷ 140 ∷ 5 ∷ 0 ∷ 0 ∷ 0 ∷ []) [])) ≡ stuck_at Flag 4194304)

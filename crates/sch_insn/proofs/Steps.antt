@@ -4,7 +4,7 @@ use Rattle.sch_word.specs.Memory.{Segment}
 use Rattle.sch_insn.specs.declared.insn.Insn.{Insn}
 use Rattle.sch_insn.specs.Spelling.{spelling}
 use Rattle.sch_insn.specs.Machine.{State}
-use Rattle.sch_insn.specs.Step.{Progress, Runs, perform, fetch, fetched, step, go_on, mach}
+use Rattle.sch_insn.specs.Step.{Progress, Runs, Exited, perform, fetch, fetched, step, go_on, mach}
 
 -- In this number of steps the machine comes from a state to what is said, and goes on from there.
 pub record Comes (s : State) (e : Progress) : Type 0 where
@@ -16,6 +16,12 @@ pub record ComesWithin (least most : ℕ) (s : State) (e : Progress) : Type 0 wh
   pub comes : Comes s e
   pub at_least : least ≤ comes.steps
   pub at_most : comes.steps ≤ most
+
+-- The machine comes to an exit with this status, after this output.
+pub record Exits (s : State) (status : ℕ) (output : List ℕ) : Type 0 where
+  pub last : State
+  pub comes : Comes s (Exited status last)
+  pub output_is : last.output ≡ output
 
 -- Nothing has to happen.
 pub here : (s : State) → Comes s (Runs s)
@@ -92,3 +98,13 @@ ends_within s i e h a = record { comes = ends s i e h a; at_least = omega arith;
 
 pub wider : (a b k l : ℕ) (s : State) (e : Progress) → ComesWithin a b s e → k ≤ a → b ≤ l → ComesWithin k l s e
 wider a b k l s e c low high = let h = c.at_least in let m = c.at_most in record { comes = c.comes; at_least = omega arith; at_most = omega arith }
+
+pub then_exits : (s s' : State) (status : ℕ) (output : List ℕ) → Comes s (Runs s') → Exits s' status output → Exits s status output
+then_exits s s' status output c e = record { last = e.last; comes = then s s' (Exited status e.last) c e.comes; output_is = e.output_is }
+
+pub next_exits : (s : State) (i : Insn) (s' : State) (status : ℕ) (output : List ℕ) → StandsAt s.core.segments s.core.place i → perform i (s.core.place + length (spelling i)) s ≡ Runs s' → Exits s' status output → Exits s status output
+next_exits s i s' status output h a e = record { last = e.last; comes = next s i s' (Exited status e.last) h a e.comes; output_is = e.output_is }
+
+-- The call of the kernel that exits.
+pub exits_here : (s : State) (i : Insn) (status : ℕ) → StandsAt s.core.segments s.core.place i → perform i (s.core.place + length (spelling i)) s ≡ Exited status s → Exits s status s.output
+exits_here s i status h a = record { last = s; comes = ends s i (Exited status s) h a; output_is = refl }

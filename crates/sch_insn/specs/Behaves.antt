@@ -1,5 +1,5 @@
 -- What a memory does when it is run: the words of a theorem on a compiled program.
-use Rattle.std.specs.Prelude.{◌≡◌, ◌≢◌, ℕ, ◌<◌, ◌^◌, List, [], ◌++◌, All}
+use Rattle.std.specs.Prelude.{◌≡◌, ◌≢◌, ℕ, ◌<◌, ◌^◌, List, [], ◌++◌, Option, Some, None, All}
 use Rattle.sch_word.specs.Memory.{Segment}
 use Rattle.sch_word.specs.declared.answer.Answer.{Answer}
 use Rattle.sch_insn.specs.declared.machine.Flags.{Flags}
@@ -28,8 +28,14 @@ start entry segments given answers =
 
 abbrev pub output_of : Progress → List ℕ
 output_of (Runs s) = s.output
-output_of (Exited status output) = output
+output_of (Exited status s) = s.output
 output_of (Stuck cause s) = s.output
+
+-- The status with which it has exited, and the output after which it did.
+abbrev pub exit_of : Progress → Option (ℕ × List ℕ)
+exit_of (Runs s) = None
+exit_of (Exited status s) = Some (status, s.output)
+exit_of (Stuck cause s) = None
 
 -- A prefix may be the whole.
 pub record IsPrefix (xs ys : List ℕ) : Type 0 where
@@ -45,6 +51,6 @@ pub record Ending : Type 0 where
 -- says of the answers: some bounded run has exited so, the output of every bounded run is a prefix of
 -- that output, and none is stuck.
 pub record Behaves (entry : ℕ) (segments : List Segment) (ending : List Answer → Ending) : Type 0 where
-  pub ends : (g : Given) (answers : List Answer) → (n : ℕ) × (mach n (start entry segments g answers) ≡ Exited (ending answers).status (ending answers).output)
+  pub ends : (g : Given) (answers : List Answer) → (n : ℕ) × (exit_of (mach n (start entry segments g answers)) ≡ Some ((ending answers).status, (ending answers).output))
   pub along : (g : Given) (answers : List Answer) (n : ℕ) → IsPrefix (output_of (mach n (start entry segments g answers))) (ending answers).output
   pub never_stuck : (g : Given) (answers : List Answer) (n : ℕ) (cause : StuckCause) (s : State) → mach n (start entry segments g answers) ≢ Stuck cause s

@@ -13,11 +13,11 @@ use Rattle.sch_insn.specs.declared.machine.StuckCause.TheVariants.{Fetch, Flag, 
 use Rattle.sch_insn.specs.Decode.{decode, when_some}
 use Rattle.sch_insn.specs.Machine.{Core, State, Computed, when_ok, with_register, with_flags, with_place, word, add64, is_negative, magnitude, differ, signed, bytes_from, byte_at, write_bytes, address_of, load, store, unknown_flags, sum_of, difference_of, bits_of, product_of, shifted, shift_right_signed, condition, set_register, head_or_0}
 
--- What a machine has come to: it runs on; it has exited with a status and an output; or it is stuck in a
--- state that has no row.
+-- What a machine has come to: it runs on; it has exited with a status, from a state that stays as it was;
+-- or it is stuck in a state that has no row.
 pub data Progress : Type 0 where
   Runs : (state : State) → Progress
-  Exited : (status : ℕ) (output : List ℕ) → Progress
+  Exited : (status : ℕ) (state : State) → Progress
   Stuck : (cause : StuckCause) (state : State) → Progress
 
 -- ---- the shapes of the rows
@@ -144,7 +144,7 @@ write_row s next (suc n) = piece_written s next (suc n) (bytes_from (λ g. g.rea
 -- rax 60 exits with the low byte of rdi; rax 1 with rdi 1 writes; nothing else has a row.
 abbrev pub kernel : State → ℕ → Progress
 kernel s next =
-    cond (s.core.registers 0 == 60) (Exited (s.core.registers 7 % 256) s.output)
+    cond (s.core.registers 0 == 60) (Exited (s.core.registers 7 % 256) s)
     (cond ((s.core.registers 0 == 1) && (s.core.registers 7 == 1)) (write_row s next (s.core.registers 2))
     (Stuck (Kernel (s.core.registers 0)) s))
 
@@ -177,13 +177,13 @@ step s = fetched s (fetch s.core.segments s.core.place)
 
 abbrev pub go_on : Progress → (State → Progress) → Progress
 go_on (Runs s) f = f s
-go_on (Exited status output) f = Exited status output
+go_on (Exited status s) f = Exited status s
 go_on (Stuck cause s) f = Stuck cause s
 
 -- A state is stuck where it has no row, whether a step is tried or not.
 abbrev pub standing : State → Progress → Progress
 standing s (Runs t) = Runs s
-standing s (Exited status output) = Runs s
+standing s (Exited status t) = Runs s
 standing s (Stuck cause t) = Stuck cause t
 
 -- The bounded run: what a machine has come to after at most n steps. It has exited, is stuck, or runs on.
