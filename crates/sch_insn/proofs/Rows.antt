@@ -1,18 +1,18 @@
 -- The definitions on worked values: what an x86-64 processor gave for them, the bytes of instructions,
 -- and small runs.
-use Rattle.std.proofs.Common.{◌≡◌, ℕ, List, [], ◌∷◌, Bool, true, false, cond, ◌==◌, Option, Some, None, refl}
+use Rattle.std.proofs.Common.{◌≡◌, ℕ, List, [], ◌∷◌, ◌++◌, Bool, true, false, cond, ◌==◌, Option, Some, None, refl}
 use Rattle.std.specs.Prelude.{pos, negsuc, bit_and, bit_or, bit_xor, Result, Ok, Err}
 use Rattle.sch_word.specs.declared.answer.Answer.{Answer}
 use Rattle.sch_word.specs.declared.answer.Answer.TheVariants.{Took, Failed}
 use Rattle.sch_insn.specs.declared.insn.Arg.TheVariants.{Reg, Base, Base32, Rip}
 use Rattle.sch_insn.specs.declared.insn.Insn.{Insn}
-use Rattle.sch_insn.specs.declared.insn.Insn.TheVariants.{MovTo, MovNumber, MovWord, StoreByte, LoadByte, Lea, SubTo, AddNumber, Idiv, JumpTo, JumpIf}
+use Rattle.sch_insn.specs.declared.insn.Insn.TheVariants.{MovTo, MovNumber, MovWord, StoreByte, LoadByte, Lea, SubTo, AddNumber, Idiv, Shl, Shr, Sar, JumpTo, JumpIf}
 use Rattle.sch_insn.specs.declared.machine.StuckCause.{StuckCause}
 use Rattle.sch_insn.specs.declared.machine.StuckCause.TheVariants.{Fetch, Access, Flag, Divide, Kernel}
 use Rattle.sch_insn.specs.Spelling.{spelling}
 use Rattle.sch_insn.specs.Decode.{operand_of, wide_of, narrow_of, long_of, rexed_of, escaped_of, decode}
-use Rattle.sch_insn.specs.Machine.{Core, State, Computed, sum_of, difference_of, bits_of, product_of, shift_right_signed, unknown_flags, test_of, condition}
-use Rattle.sch_insn.specs.Step.{Progress, Runs, Exited, Stuck, divide, mach}
+use Rattle.sch_insn.specs.Machine.{Core, State, Computed, sum_of, difference_of, bits_of, product_of, shifted, shift_right_signed, unknown_flags, test_of, condition}
+use Rattle.sch_insn.specs.Step.{Progress, Runs, Exited, Stuck, act, divide, mach}
 use Rattle.sch_insn.specs.Behaves.{exit_of}
 
 -- A word with the flags OF, SF, ZF and CF.
@@ -131,7 +131,7 @@ quotients :
     × (divide (dividend 18446744073709551615 9223372036854775808) 18446744073709551615 ≡ Err Divide)
 quotients = (refl, refl, refl, refl, refl, refl, refl, refl, refl, refl, refl, refl)
 
--- After `cmp` of a and b the conditions compare them, without a sign (2 to 7) and with one (12 to 15).
+-- After `cmp` of a and b the conditions compare them, without a sign (2, 3, 6 and 7) and with one (12 to 15).
 conditions :
     (condition (difference_of 1 2).flags 2 ≡ Some true)
     × (condition (difference_of 1 2).flags 5 ≡ Some true)
@@ -159,6 +159,66 @@ conditions :
     × (condition (difference_of 9223372036854775808 1).flags 15 ≡ Some false)
 unfolding test_of
 conditions = (refl, refl, refl, refl, refl, refl, refl, refl, refl, refl, refl, refl, refl, refl, refl, refl, refl, refl, refl, refl, refl, refl, refl, refl)
+
+-- The conditions that read other flags or two of them: overflow (0, 1), zero (4, 5), carry or zero (6, 7),
+-- sign (8, 9); and 13 and 14 beside 12 and 15.
+more_conditions :
+    (condition (difference_of 1 2).flags 0 ≡ Some false)
+    × (condition (difference_of 1 2).flags 1 ≡ Some true)
+    × (condition (difference_of 1 2).flags 3 ≡ Some false)
+    × (condition (difference_of 1 2).flags 4 ≡ Some false)
+    × (condition (difference_of 1 2).flags 6 ≡ Some true)
+    × (condition (difference_of 1 2).flags 7 ≡ Some false)
+    × (condition (difference_of 1 2).flags 8 ≡ Some true)
+    × (condition (difference_of 1 2).flags 9 ≡ Some false)
+    × (condition (difference_of 1 2).flags 13 ≡ Some false)
+    × (condition (difference_of 1 2).flags 14 ≡ Some true)
+    × (condition (difference_of 2 1).flags 6 ≡ Some false)
+    × (condition (difference_of 2 1).flags 7 ≡ Some true)
+    × (condition (difference_of 2 1).flags 14 ≡ Some false)
+    × (condition (difference_of 5 5).flags 4 ≡ Some true)
+    × (condition (difference_of 5 5).flags 6 ≡ Some true)
+    × (condition (difference_of 5 5).flags 7 ≡ Some false)
+    × (condition (difference_of 5 5).flags 8 ≡ Some false)
+    × (condition (difference_of 5 5).flags 13 ≡ Some true)
+    × (condition (difference_of 5 5).flags 14 ≡ Some true)
+    × (condition (difference_of 9223372036854775808 1).flags 0 ≡ Some true)
+    × (condition (difference_of 9223372036854775808 1).flags 1 ≡ Some false)
+    × (condition (difference_of 9223372036854775808 1).flags 8 ≡ Some false)
+unfolding test_of
+more_conditions = (refl, refl, refl, refl, refl, refl, refl, refl, refl, refl, refl, refl, refl, refl, refl, refl, refl, refl, refl, refl, refl, refl)
+
+abbrev no_answer : Option Bool
+no_answer = None
+
+-- After `imul` overflow and carry are known alone; after a shift no flag is. No condition number is 10 or 11.
+unknown_conditions :
+    (condition (product_of 2 2).flags 0 ≡ Some false)
+    × (condition (product_of 2 2).flags 2 ≡ Some false)
+    × (condition (product_of 2 2).flags 4 ≡ no_answer)
+    × (condition (product_of 2 2).flags 6 ≡ no_answer)
+    × (condition (product_of 2 2).flags 8 ≡ no_answer)
+    × (condition (product_of 2 2).flags 12 ≡ no_answer)
+    × (condition (shifted 1).flags 0 ≡ no_answer)
+    × (condition (shifted 1).flags 3 ≡ no_answer)
+    × (condition (shifted 1).flags 5 ≡ no_answer)
+    × (condition (difference_of 1 2).flags 10 ≡ no_answer)
+    × (condition (difference_of 1 2).flags 11 ≡ no_answer)
+unfolding test_of
+unknown_conditions = (refl, refl, refl, refl, refl, refl, refl, refl, refl, refl, refl)
+
+abbrev word_left : Result Core StuckCause → Option ℕ
+word_left (Ok c) = Some (c.registers 0)
+word_left (Err cause) = None
+
+shifts :
+    (word_left (act (Shl (Reg 0) 4) (dividend 0 1152921504606846977)) ≡ Some 16)
+    × (word_left (act (Shl (Reg 0) 0) (dividend 0 7)) ≡ Some 7)
+    × (word_left (act (Shl (Reg 0) 63) (dividend 0 3)) ≡ Some 9223372036854775808)
+    × (word_left (act (Shr (Reg 0) 3) (dividend 0 18446744073709551615)) ≡ Some 2305843009213693951)
+    × (word_left (act (Shr (Reg 0) 63) (dividend 0 9223372036854775808)) ≡ Some 1)
+    × (word_left (act (Sar (Reg 0) 3) (dividend 0 18446744073709551608)) ≡ Some 18446744073709551615)
+shifts = (refl, refl, refl, refl, refl, refl)
 
 bytes_of_instructions :
     (spelling (MovNumber (Reg 0) (pos 60)) ≡ 72 ∷ 199 ∷ 192 ∷ 60 ∷ 0 ∷ 0 ∷ 0 ∷ [])
@@ -220,6 +280,29 @@ exiting = 72 ∷ 199 ∷ 192 ∷ 60 ∷ 0 ∷ 0 ∷ 0 ∷ 72 ∷ 199 ∷ 199 ∷
 -- mov rax, 1; mov rdi, 1; lea rsi, [rip+21]; mov rdx, 2; syscall; mov rdi, rax; mov rax, 60; syscall; "Hi"
 abbrev writing : List ℕ
 writing = 72 ∷ 199 ∷ 192 ∷ 1 ∷ 0 ∷ 0 ∷ 0 ∷ 72 ∷ 199 ∷ 199 ∷ 1 ∷ 0 ∷ 0 ∷ 0 ∷ 72 ∷ 141 ∷ 53 ∷ 21 ∷ 0 ∷ 0 ∷ 0 ∷ 72 ∷ 199 ∷ 194 ∷ 2 ∷ 0 ∷ 0 ∷ 0 ∷ 15 ∷ 5 ∷ 72 ∷ 137 ∷ 199 ∷ 72 ∷ 199 ∷ 192 ∷ 60 ∷ 0 ∷ 0 ∷ 0 ∷ 15 ∷ 5 ∷ 72 ∷ 105 ∷ []
+
+-- mov rax, 1; mov rdi, 1; mov rdx, 0; syscall; mov rdi, REGISTER; mov rax, 60; syscall
+abbrev exiting_with : List ℕ → List ℕ
+exiting_with register = 72 ∷ 199 ∷ 192 ∷ 1 ∷ 0 ∷ 0 ∷ 0 ∷ 72 ∷ 199 ∷ 199 ∷ 1 ∷ 0 ∷ 0 ∷ 0 ∷ 72 ∷ 199 ∷ 194 ∷ 0 ∷ 0 ∷ 0 ∷ 0 ∷ 15 ∷ 5 ∷ register ++ 72 ∷ 199 ∷ 192 ∷ 60 ∷ 0 ∷ 0 ∷ 0 ∷ 15 ∷ 5 ∷ []
+
+-- The same text with these spare words.
+abbrev with_spare : List ℕ → State → State
+with_spare words s = record { core = s.core; output = s.output; answers = s.answers; spare = words }
+
+abbrev answers_left : Progress → Option (List Answer)
+answers_left (Runs s) = None
+answers_left (Exited status s) = Some s.answers
+answers_left (Stuck cause s) = None
+
+-- A write of no bytes uses no answer, and puts two spare words into rcx and r11, or 0 where there is none.
+writes_of_nothing :
+    (exit_of (mach 7 (begun (exiting_with (72 ∷ 137 ∷ 199 ∷ [])) (Took 1 ∷ []))) ≡ exits_with 0 [])
+    × (answers_left (mach 7 (begun (exiting_with (72 ∷ 137 ∷ 199 ∷ [])) (Took 1 ∷ []))) ≡ Some (Took 1 ∷ []))
+    × (exit_of (mach 7 (with_spare (5 ∷ 9 ∷ 3 ∷ []) (begun (exiting_with (72 ∷ 137 ∷ 207 ∷ [])) []))) ≡ exits_with 5 [])
+    × (exit_of (mach 7 (with_spare (5 ∷ 9 ∷ 3 ∷ []) (begun (exiting_with (76 ∷ 137 ∷ 223 ∷ [])) []))) ≡ exits_with 9 [])
+    × (exit_of (mach 7 (with_spare (5 ∷ []) (begun (exiting_with (76 ∷ 137 ∷ 223 ∷ [])) []))) ≡ exits_with 0 [])
+unfolding operand_of wide_of narrow_of long_of rexed_of escaped_of test_of
+writes_of_nothing = (refl, refl, refl, refl, refl)
 
 runs :
     (exit_of (mach 3 (begun exiting [])) ≡ exits_with 7 [])
