@@ -34,7 +34,7 @@ not_two status false is two = absurd cc
 
 after_is_not_two : (p : Progress) → status_after p ≢ 2
 after_is_not_two (Runs s) two = absurd cc
-after_is_not_two (Exited status output) two = not_two status (is_named status) refl two
+after_is_not_two (Exited status s) two = not_two status (is_named status) refl two
 after_is_not_two (Stuck cause s) two = absurd cc
 
 refusal_is_not_two : (error : ImageError) → refusal_status error ≢ 2

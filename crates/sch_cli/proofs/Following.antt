@@ -1,51 +1,59 @@
 -- An image that puts the pieces which a core program prints does what the program means.
-use Rattle.std.proofs.Common.{◌≡◌, ℕ, ⊎_elim, List, [], sym, ap, ◌∙◌, subst, arith}
+use Rattle.std.proofs.Common.{◌≡◌, ℕ, ⊎_elim, List, [], Some, refl, sym, ap, ◌∙◌, subst, arith}
 use Rattle.std.proofs.lemmas.Bool.{cases_lt}
 use Rattle.std.proofs.lemmas.List.{append-nil}
 use Rattle.sch_word.specs.Memory.{Segment}
 use Rattle.sch_word.specs.Runs.{Run, End, ended}
 use Rattle.sch_insn.specs.Machine.{State}
 use Rattle.sch_insn.specs.Step.{Progress, Runs, Exited, Stuck, mach}
-use Rattle.sch_insn.specs.Behaves.{Behaves, Ending, IsPrefix, output_of, start}
-use Rattle.sch_insn.proofs.Growing.{stays}
+use Rattle.sch_insn.specs.Behaves.{Behaves, Ending, IsPrefix, output_of, exit_of, start}
+use Rattle.sch_insn.proofs.Growing.{IsOver, stays}
 use Rattle.sch_lang.specs.Tree as tree
 use Rattle.sch_lang.specs.Run.{in_text_order}
 use Rattle.sch_cli.specs.Builds.{Prints}
 use Rattle.sch_cli.specs.Headline.{Covers, Follows, Reaches, run_of}
 use Rattle.sch_cli.specs.Pieces.{puts}
 
-status_of_exit : Progress → ℕ
-status_of_exit (Runs s) = 0
-status_of_exit (Exited status output) = status
-status_of_exit (Stuck cause s) = 0
+some_same : (x y : ℕ × List ℕ) → Some x ≡ Some y → x ≡ y
+some_same x y e = cc
+
+exit_output : (q : Progress) (x : ℕ × List ℕ) → exit_of q ≡ Some x → output_of q ≡ x.1
+exit_output (Runs s) x e = absurd cc
+exit_output (Exited status s) x e = ap (λ y. y.1) (some_same (status, s.output) x e)
+exit_output (Stuck cause s) x e = absurd cc
 
 status_of_end : End → ℕ
 status_of_end (ended status) = status
 status_of_end _ = 0
 
+exit_over : (q : Progress) (x : ℕ × List ℕ) → exit_of q ≡ Some x → IsOver q
+exit_over (Runs s) x e = absurd cc
+exit_over (Exited status s) x e = tt
+exit_over (Stuck cause s) x e = tt
+
 -- what has exited in some number of steps has exited so in any other
-pub one_exit : (m n : ℕ) (s : State) (status status' : ℕ) (output output' : List ℕ) → mach m s ≡ Exited status output → mach n s ≡ Exited status' output' → Exited status output ≡ Exited status' output'
-one_exit m n s status status' output output' one other =
-    ⊎_elim
-    (λ lt. sym (stays m n s (Exited status output) tt (omega arith) one) ∙ other)
-    (λ le. sym one ∙ stays n m s (Exited status' output') tt le other)
-    (cases_lt m n)
+pub one_exit : (m n : ℕ) (s : State) (x y : ℕ × List ℕ) → exit_of (mach m s) ≡ Some x → exit_of (mach n s) ≡ Some y → x ≡ y
+one_exit m n s x y one other =
+    some_same x y
+    (⊎_elim
+    (λ lt. sym one ∙ ap exit_of (sym (stays m n s (mach m s) (exit_over (mach m s) x one) (omega arith) refl)) ∙ other)
+    (λ le. sym one ∙ ap exit_of (stays n m s (mach n s) (exit_over (mach n s) y other) le refl) ∙ other)
+    (cases_lt m n))
 
 module _ (r : Run) (e : Ending) (output_is : r.output ≡ e.output) (end_is : r.end ≡ ended e.status) where
-  pub reaches : (machine : Progress) → machine ≡ Exited e.status e.output → Reaches machine r
+  pub reaches : (machine : Progress) → exit_of machine ≡ Some (e.status, e.output) → Reaches machine r
   unfolding status_of_end
   reaches machine exited = record {
-    output = record { rest = []; whole = append-nil r.output ∙ output_is ∙ sym (ap output_of exited) };
-    end = λ status is. let same : e.status ≡ status = ap status_of_end (sym end_is ∙ is) in exited ∙ ap (λ n. Exited n e.output) same ∙ ap (Exited status) (sym output_is);
+    output = record { rest = []; whole = append-nil r.output ∙ output_is ∙ sym (exit_output machine (e.status, e.output) exited) };
+    end = λ status is. let same : e.status ≡ status = ap status_of_end (sym end_is ∙ is) in exited ∙ ap (λ n. Some (n, e.output)) same ∙ ap (λ o. Some (status, o)) (sym output_is);
   }
 
-  pub covers : (s : State) (m n : ℕ) → mach n s ≡ Exited e.status e.output → IsPrefix (output_of (mach m s)) e.output → Covers r (mach m s)
-  unfolding status_of_exit
+  pub covers : (s : State) (m n : ℕ) → exit_of (mach n s) ≡ Some (e.status, e.output) → IsPrefix (output_of (mach m s)) e.output → Covers r (mach m s)
   covers s m n exited prefix = record {
     output = subst (IsPrefix (output_of (mach m s))) (sym output_is) prefix;
     end = λ status output is.
-        let same : Exited e.status e.output ≡ Exited status output = one_exit n m s e.status status e.output output exited is in
-        (end_is ∙ ap (λ p. ended (status_of_exit p)) same, output_is ∙ ap output_of same);
+        let same = one_exit n m s (e.status, e.output) (status, output) exited is in
+        (end_is ∙ ap (λ x. ended x.0) same, output_is ∙ ap (λ x. x.1) same);
   }
 
 pub follows : (entry : ℕ) (segments : List Segment) (p : tree.Source) (pieces : List (List ℕ)) → Prints p pieces → Behaves entry segments (puts pieces) → Follows entry segments p (in_text_order p.sites)

@@ -14,9 +14,9 @@ use Rattle.sch_insn.specs.declared.insn.Insn.TheVariants.{MovNumber, Lea, Jump, 
 use Rattle.sch_insn.specs.declared.machine.Flags.{Flags}
 use Rattle.sch_insn.specs.Spelling.{spelling}
 use Rattle.sch_insn.specs.Machine.{State, set_register, word, add64}
-use Rattle.sch_insn.specs.Step.{Runs, Exited}
+use Rattle.sch_insn.specs.Step.{Runs}
 use Rattle.sch_insn.specs.Behaves.{Ending, Behaves, start}
-use Rattle.sch_insn.proofs.Steps.{Comes, then, next, ends, HasAt}
+use Rattle.sch_insn.proofs.Steps.{Exits, then_exits, next_exits, exits_here, HasAt}
 use Rattle.sch_insn.proofs.Placing.{HasBytes, AllValid, ApartFrom, has_all, has_bytes}
 use Rattle.sch_insn.proofs.Growing.{behaves}
 use Rattle.sch_cli.specs.Pieces.{puts}
@@ -32,28 +32,28 @@ abbrev pub ending_after : Put → Ending → Ending
 ending_after this rest = cond this.whole (record { status = rest.status; output = this.taken ++ rest.output }) (record { status = 74; output = this.taken })
 
 module _ (segments : List Segment) (p : ℕ) (has : HasAt segments p write_loop) (low : p < 2 ^ 32) where
-  exits : (registers : ℕ → ℕ) (flags : Flags) (q : ℕ) (output : List ℕ) (answers : List Answer) (spare : List ℕ) → HasAt segments q exit_code → Comes (at registers flags q segments output answers spare) (Exited 0 output)
+  exits : (registers : ℕ → ℕ) (flags : Flags) (q : ℕ) (output : List ℕ) (answers : List Answer) (spare : List ℕ) → HasAt segments q exit_code → Exits (at registers flags q segments output answers spare) 0 output
   exits registers flags q output answers spare h =
       let s0 = at registers flags q segments output answers spare in
       let s1 = at (set_register registers 0 60) flags (q + 7) segments output answers spare in
       let s2 = at (set_register (set_register registers 0 60) 7 0) flags (q + 7 + 7) segments output answers spare in
-      next s0 (MovNumber (Reg 0) (pos 60)) s1 _ h.0 refl
-      (next s1 (MovNumber (Reg 7) (pos 0)) s2 _ h.1.0 refl
-      (ends s2 Syscall (Exited 0 output) h.1.1.0 refl))
+      next_exits s0 (MovNumber (Reg 0) (pos 60)) s1 0 output h.0 refl
+      (next_exits s1 (MovNumber (Reg 7) (pos 0)) s2 0 output h.1.0 refl
+      (exits_here s2 Syscall 0 h.1.1.0 refl))
 
   -- after a whole put the rest follows, and else the program is at its end
   goes_on : (whole : Bool) (s : State) (return : ℕ) (output taken : List ℕ) (left : List Answer) (rest : Ending) → Outcome whole s return segments (output ++ taken) left →
-      ((registers : ℕ → ℕ) (flags : Flags) (spare : List ℕ) → Comes (at registers flags return segments (output ++ taken) left spare) (Exited rest.status ((output ++ taken) ++ rest.output))) →
-      Comes s (Exited (ending_after (record { taken = taken; left = left; whole = whole }) rest).status (output ++ (ending_after (record { taken = taken; left = left; whole = whole }) rest).output))
+      ((registers : ℕ → ℕ) (flags : Flags) (spare : List ℕ) → Exits (at registers flags return segments (output ++ taken) left spare) rest.status ((output ++ taken) ++ rest.output)) →
+      Exits s (ending_after (record { taken = taken; left = left; whole = whole }) rest).status (output ++ (ending_after (record { taken = taken; left = left; whole = whole }) rest).output)
   goes_on true s return output taken left rest o f =
-      subst (λ l. Comes s (Exited rest.status l)) (append_assoc output taken rest.output) (then s _ _ o.comes (f o.registers o.flags o.spare))
+      subst (Exits s rest.status) (append_assoc output taken rest.output) (then_exits s _ rest.status _ o.comes (f o.registers o.flags o.spare))
   goes_on false s return output taken left rest o f = o
 
   pub pieces_run : (pieces : List (List ℕ)) (behind a : ℕ) (registers : ℕ → ℕ) (flags : Flags) (output : List ℕ) (answers : List Answer) (spare : List ℕ) →
       HasAt segments (p + behind) (pieces_code behind a pieces) → StandAt segments a pieces → behind + 26 * length pieces < 2 ^ 30 → a + length (joined pieces) < 2 ^ 31 →
-      Comes (at registers flags (p + behind) segments output answers spare) (Exited (puts pieces answers).status (output ++ (puts pieces answers).output))
+      Exits (at registers flags (p + behind) segments output answers spare) (puts pieces answers).status (output ++ (puts pieces answers).output)
   pieces_run [] behind a registers flags output answers spare h stand few short =
-      subst (λ l. Comes (at registers flags (p + behind) segments output answers spare) (Exited 0 l)) (sym (append-nil output)) (exits registers flags (p + behind) output answers spare h)
+      subst (Exits (at registers flags (p + behind) segments output answers spare) 0) (sym (append-nil output)) (exits registers flags (p + behind) output answers spare h)
   pieces_run (piece ∷ pieces) behind a registers flags output answers spare h stand few short =
       let n = length piece in
       let q = p + behind in
@@ -76,10 +76,13 @@ module _ (segments : List Segment) (p : ℕ) (has : HasAt segments p write_loop)
       let o = writes segments p has (omega arith) answers r3 flags output spare piece (p + (behind + 26)) stand.0 (omega arith) refl refl stand.1 in
       let c = goes_on this.whole s4 (p + (behind + 26)) output this.taken this.left (puts pieces this.left) o
       (λ r f w. pieces_run pieces (behind + 26) (a + n) r f (output ++ this.taken) this.left w rest stand.2 (omega arith) (omega arith)) in
-      next s0 (MovNumber (Reg 6) (pos a)) s1 _ h.0 (ap (λ v. Runs (at (set_register registers 6 v) flags (q + 7) segments output answers spare)) word_a)
-      (next s1 (MovNumber (Reg 2) (pos n)) s2 _ h.1.0 (ap (λ v. Runs (at (set_register r1 2 v) flags (q + 7 + 7) segments output answers spare)) word_n)
-      (next s2 (Lea 15 (Rip (pos 5))) s3 _ h.1.1.0 (ap (λ z. Runs (at (set_register r2 15 z) flags (q + 7 + 7 + 7) segments output answers spare)) return)
-      (next s3 (Jump (negsuc (behind + 25))) s4 _ h.1.1.1.0 (ap (λ z. Runs (at r3 flags z segments output answers spare)) loop) c)))
+      let ends = puts (piece ∷ pieces) answers in
+      let status = ends.status in
+      let all = output ++ ends.output in
+      next_exits s0 (MovNumber (Reg 6) (pos a)) s1 status all h.0 (ap (λ v. Runs (at (set_register registers 6 v) flags (q + 7) segments output answers spare)) word_a)
+      (next_exits s1 (MovNumber (Reg 2) (pos n)) s2 status all h.1.0 (ap (λ v. Runs (at (set_register r1 2 v) flags (q + 7 + 7) segments output answers spare)) word_n)
+      (next_exits s2 (Lea 15 (Rip (pos 5))) s3 status all h.1.1.0 (ap (λ z. Runs (at (set_register r2 15 z) flags (q + 7 + 7 + 7) segments output answers spare)) return)
+      (next_exits s3 (Jump (negsuc (behind + 25))) s4 status all h.1.1.1.0 (ap (λ z. Runs (at r3 flags z segments output answers spare)) loop) c)))
 
 -- ---- the whole program
 
@@ -177,5 +180,5 @@ program_behaves pieces small =
     (λ g answers.
     let s0 = start text_address segments g answers in
     let s1 = at g.registers g.flags (p + 60) segments [] answers g.spare in
-    next s0 (Jump (pos 60)) s1 (Exited (puts pieces answers).status (puts pieces answers).output) h.0 refl
+    next_exits s0 (Jump (pos 60)) s1 (puts pieces answers).status (puts pieces answers).output h.0 refl
     (pieces_run segments p loop (omega arith) pieces 60 data_address g.registers g.flags [] answers g.spare code stand (omega arith) (omega arith)))

@@ -14,9 +14,9 @@ use Rattle.sch_word.specs.Values.{Value}
 use Rattle.sch_elf.specs.declared.image.Image.{Image}
 use Rattle.sch_elf.specs.Layout.{memory}
 use Rattle.sch_io.specs.Counters.{Rose}
-use Rattle.sch_insn.specs.Machine.{unknown_flags}
+use Rattle.sch_insn.specs.Machine.{unknown_flags, State as MachineState}
 use Rattle.sch_insn.specs.Step.{Progress, Runs, Exited, Stuck, mach}
-use Rattle.sch_insn.specs.Behaves.{Ending, Given, IsPrefix, output_of}
+use Rattle.sch_insn.specs.Behaves.{Ending, Given, IsPrefix, output_of, exit_of}
 use Rattle.sch_lang.specs.Tree as tree
 use Rattle.sch_lang.specs.Meaning.{Closure}
 use Rattle.sch_lang.specs.Run.{outcome, in_text_order}
@@ -98,8 +98,8 @@ run_named p table answers entries status is = seen_named answers entries (outcom
 zeros : Given
 zeros = record { registers = λ r. 0; flags = unknown_flags; spare = []; registers_fit = λ r. omega arith; spare_fit = λ k d lt. absurd (omega arith) }
 
-named_status : (status : ℕ) (output : List ℕ) → is_named status ≡ true → status_after (Exited status output) ≡ status
-named_status status output e = ap (λ b. if b then status else 8) e
+named_status : (status : ℕ) (s : MachineState) → is_named status ≡ true → status_after (Exited status s) ≡ status
+named_status status s e = ap (λ b. if b then status else 8) e
 
 module _ (image : Image) (p : tree.Source) (does : Follows image.entry (memory image.segments) p (in_text_order p.sites)) where
   -- how it ends, by what a bounded run has come to
@@ -110,9 +110,9 @@ module _ (image : Image) (p : tree.Source) (does : Follows image.entry (memory i
     status_is = λ not. absurd (not refl);
     output_is = λ not. absurd (not refl);
   }
-  ends steps answers (Exited status output) is =
-      let end = (does.covered zeros answers steps).end status output is in
-      let named = named_status status output (run_named p (in_text_order p.sites) answers steps status end.0) in
+  ends steps answers (Exited status s) is =
+      let end = (does.covered zeros answers steps).end status s.output (ap exit_of is) in
+      let named = named_status status s (run_named p (in_text_order p.sites) answers steps status end.0) in
       record {
         spent = λ _. subst (λ q. IsPrefix (output_of q) (run_of p (in_text_order p.sites) answers steps).output) is (does.covered zeros answers steps).output;
         status_is = λ not. end.0 ∙ ap ended (sym named);

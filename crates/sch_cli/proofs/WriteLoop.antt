@@ -13,8 +13,8 @@ use Rattle.sch_insn.specs.declared.insn.Arg.TheVariants.{Reg}
 use Rattle.sch_insn.specs.declared.insn.Insn.TheVariants.{MovNumber, AddTo, SubTo, CmpNumber, JumpTo, JumpIf, Syscall}
 use Rattle.sch_insn.specs.declared.machine.Flags.{Flags}
 use Rattle.sch_insn.specs.Machine.{State, set_register, word, add64, sub64, is_negative, differ, difference_of, sum_of, condition, test_of, unknown_flags, head_or_0}
-use Rattle.sch_insn.specs.Step.{Runs, Exited, answered, after_write, rest_of, jump_if, moved}
-use Rattle.sch_insn.proofs.Steps.{Comes, then, next, ends, HasAt}
+use Rattle.sch_insn.specs.Step.{Runs, answered, after_write, rest_of, jump_if, moved}
+use Rattle.sch_insn.proofs.Steps.{Comes, Exits, then, then_exits, next, next_exits, ends, exits_here, HasAt}
 use Rattle.sch_insn.proofs.Placing.{HasBytes, has_later, write_answered}
 use Rattle.sch_cli.specs.PieceCode.{write_loop}
 
@@ -69,12 +69,12 @@ pub record Returns (s : State) (return : ℕ) (segments : List Segment) (output 
 -- A put has led to where it is whole or not.
 abbrev pub Outcome : Bool → State → ℕ → List Segment → List ℕ → List Answer → Type 0
 Outcome true s return segments output left = Returns s return segments output left
-Outcome false s return segments output left = Comes s (Exited 74 output)
+Outcome false s return segments output left = Exits s 74 output
 
 -- what follows a run
 continued : (whole : Bool) (s t : State) (return : ℕ) (segments : List Segment) (output : List ℕ) (left : List Answer) → Comes s (Runs t) → Outcome whole t return segments output left → Outcome whole s return segments output left
 continued true s t return segments output left c o = record { registers = o.registers; flags = o.flags; spare = o.spare; comes = then s t _ c o.comes }
-continued false s t return segments output left c o = then s t _ c o
+continued false s t return segments output left c o = then_exits s t 74 output c o
 
 module _ (segments : List Segment) (p : ℕ) (has : HasAt segments p write_loop) (low : p < 2 ^ 63) where
   -- where the kernel's answer is looked at
@@ -147,7 +147,7 @@ module _ (segments : List Segment) (p : ℕ) (has : HasAt segments p write_loop)
 
   -- after a write that took nothing or failed the program exits with 74
   gives_up : (registers : ℕ → ℕ) (flags : Flags) (output : List ℕ) (answers : List Answer) (spare : List ℕ) → condition (difference_of (registers 0) 0).flags 14 ≡ Some true →
-      Comes (at registers flags answer_place segments output answers spare) (Exited 74 output)
+      Exits (at registers flags answer_place segments output answers spare) 74 output
   gives_up registers flags output answers spare taken =
       let f1 = (difference_of (registers 0) 0).flags in
       let here = answer_place + 7 + 6 in
@@ -160,13 +160,13 @@ module _ (segments : List Segment) (p : ℕ) (has : HasAt segments p write_loop)
       let c4 = at (set_register (set_register registers 0 60) 7 74) f1 (exit + 7 + 7) segments output answers spare in
       let h3 = has.1.1.1 in
       let h9 = h3.1.1.1.1.1.1 in
-      next c0 (CmpNumber (Reg 0) (pos 0)) c1 _ h3.0 refl
-      (next c1 (JumpIf 14 (pos 15)) c2 _ h3.1.0
+      next_exits c0 (CmpNumber (Reg 0) (pos 0)) c1 74 output h3.0 refl
+      (next_exits c1 (JumpIf 14 (pos 15)) c2 74 output h3.1.0
       (ap (λ o. moved c1 (jump_if (at registers f1 here segments output answers spare).core (pos 15) o)) taken
       ∙ ap (λ n. Runs (at registers f1 n segments output answers spare)) far)
-      (next c2 (MovNumber (Reg 0) (pos 60)) c3 _ h9.0 refl
-      (next c3 (MovNumber (Reg 7) (pos 74)) c4 _ h9.1.0 refl
-      (ends c4 Syscall (Exited 74 output) h9.1.1.0 refl))))
+      (next_exits c2 (MovNumber (Reg 0) (pos 60)) c3 74 output h9.0 refl
+      (next_exits c3 (MovNumber (Reg 7) (pos 74)) c4 74 output h9.1.0 refl
+      (exits_here c4 Syscall 74 h9.1.1.0 refl))))
 
   -- the kernel took the whole piece
   all_taken : (registers : ℕ → ℕ) (flags : Flags) (output : List ℕ) (answers : List Answer) (spare piece : List ℕ) (return : ℕ) (left : List Answer) → 0 < length piece → length piece < 2 ^ 63 →
@@ -205,14 +205,14 @@ module _ (segments : List Segment) (p : ℕ) (has : HasAt segments p write_loop)
   -- the kernel took nothing
   none_taken : (registers : ℕ → ℕ) (flags : Flags) (output : List ℕ) (answers : List Answer) (spare piece : List ℕ) (left : List Answer) (m : ℕ) → 0 < length piece →
       registers 2 ≡ length piece → HasBytes segments (registers 6) piece → ((s : State) (q : ℕ) → answered s q piece answers ≡ after_write s q m [] left) →
-      condition (difference_of m 0).flags 14 ≡ Some true → Comes (at registers flags p segments output answers spare) (Exited 74 (output ++ []))
+      condition (difference_of m 0).flags 14 ≡ Some true → Exits (at registers flags p segments output answers spare) 74 (output ++ [])
   none_taken registers flags output answers spare piece left m some size bytes answer failed =
       let s0 = at registers flags p segments output answers spare in
       let s2 = at (asked registers) flags (p + 7 + 7) segments output answers spare in
       let rest = rest_of (rest_of spare) in
       let s3 = at (answer_registers registers spare m) unknown_flags answer_place segments (output ++ []) left rest in
       let to_answer : Comes s0 (Runs s3) = subst (λ s. Comes s0 (Runs s)) (answer s2 answer_place) (asks registers flags output answers spare piece some size bytes) in
-      then s0 s3 _ to_answer (gives_up (answer_registers registers spare m) unknown_flags (output ++ []) left rest failed)
+      then_exits s0 s3 74 (output ++ []) to_answer (gives_up (answer_registers registers spare m) unknown_flags (output ++ []) left rest failed)
 
   -- the loop puts the piece at rsi, rdx bytes long, and returns to r15
   pub writes : (answers : List Answer) (registers : ℕ → ℕ) (flags : Flags) (output spare piece : List ℕ) (return : ℕ) → 0 < length piece → registers 6 + length piece < 2 ^ 63 →

@@ -32,7 +32,7 @@ is_named status = status == 0 || (nat_le 65 status && nat_le status 74)
 -- for a state without a row, 9 where the steps are spent.
 abbrev pub status_after : Progress → ℕ
 status_after (Runs s) = 9
-status_after (Exited status output) = if is_named status then status else 8
+status_after (Exited status s) = if is_named status then status else 8
 status_after (Stuck cause s) = 8
 
 -- the line for an exit
@@ -42,7 +42,7 @@ exit_line_at name status = if status == 0 then [] else if is_named status then s
 -- the line that says so
 abbrev pub line_after : List ℕ → Progress → List ℕ
 line_after name (Runs s) = spent_line
-line_after name (Exited status output) = exit_line_at name status
+line_after name (Exited status s) = exit_line_at name status
 line_after name (Stuck cause s) = stuck_line name s.core.place cause
 
 -- Under these answers of the kernel the image comes to this status, has written these bytes, and this

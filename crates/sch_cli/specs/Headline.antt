@@ -1,12 +1,12 @@
 -- What it is for an image to do what a core program means.
-use Rattle.std.specs.Prelude.{◌≡◌, ◌≢◌, ℕ, List, IsTrue}
+use Rattle.std.specs.Prelude.{◌≡◌, ◌≢◌, ℕ, List, Some, IsTrue}
 use Rattle.sch_word.specs.declared.answer.Answer.{Answer}
 use Rattle.sch_word.specs.Memory.{Segment}
 use Rattle.sch_word.specs.Runs.{Run, ended}
 use Rattle.sch_insn.specs.declared.machine.StuckCause.{StuckCause}
 use Rattle.sch_insn.specs.Machine.{State}
-use Rattle.sch_insn.specs.Step.{Progress, Exited, Stuck, mach}
-use Rattle.sch_insn.specs.Behaves.{Given, IsPrefix, start, output_of}
+use Rattle.sch_insn.specs.Step.{Progress, Stuck, mach}
+use Rattle.sch_insn.specs.Behaves.{Given, IsPrefix, start, output_of, exit_of}
 use Rattle.sch_elf.specs.declared.image.Image.{Image}
 use Rattle.sch_elf.specs.Layout.{memory}
 use Rattle.sch_elf.specs.Stands.{StandsFor}
@@ -29,12 +29,12 @@ run_of p table answers entries = run p table default_heap default_depth answers 
 -- where the run has ended the machine has exited with the same status and the same output.
 pub record Reaches (machine : Progress) (r : Run) : Type 0 where
   pub output : IsPrefix r.output (output_of machine)
-  pub end : (status : ℕ) → r.end ≡ ended status → machine ≡ Exited status r.output
+  pub end : (status : ℕ) → r.end ≡ ended status → exit_of machine ≡ Some (status, r.output)
 
 -- The run is as far as the machine, or farther.
 pub record Covers (r : Run) (machine : Progress) : Type 0 where
   pub output : IsPrefix (output_of machine) r.output
-  pub end : (status : ℕ) (output : List ℕ) → machine ≡ Exited status output → (r.end ≡ ended status) × (r.output ≡ output)
+  pub end : (status : ℕ) (output : List ℕ) → exit_of machine ≡ Some (status, output) → (r.end ≡ ended status) × (r.output ≡ output)
 
 -- A memory that is entered at an address does what a core program means under an order table, whatever
 -- words it is given and whatever the kernel answers. The table has one permutation for each site.
