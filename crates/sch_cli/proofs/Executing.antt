@@ -8,7 +8,7 @@ use Rattle.sch_elf.specs.Layout.{memory}
 use Rattle.sch_insn.specs.Machine.{Core}
 use Rattle.sch_insn.specs.Step.{Runs, go_on, mach}
 use Rattle.sch_insn.specs.Behaves.{output_of}
-use Rattle.sch_step.specs.Run.{Does, IsRunAt, finished, state_of}
+use Rattle.sch_step.specs.Run.{Does, IsRunAt, reached_by_run, state_of}
 use Rattle.sch_step.specs.Machine.{MachineRuns, loaded, standing_of, core_of}
 use Rattle.sch_step.specs.declared.machine.Machine.{Machine}
 use Rattle.sch_step.specs.declared.ends.RunEnd.{RunEnd}
@@ -21,23 +21,23 @@ related before None P Q f t = tt
 related None (Some a) P Q f t = absurd t
 related (Some b) (Some a) P Q f t = f b a t
 
-status_same : (end : RunEnd) (core : Core) (output : List ℕ) (answers : List Answer) → status_after (finished end core output answers) ≡ status_at end
+status_same : (end : RunEnd) (core : Core) (output : List ℕ) (answers : List Answer) → status_after (reached_by_run end core output answers) ≡ status_at end
 status_same run_end.Spent core output answers = refl
 status_same (run_end.Exited status) core output answers = refl
 status_same (run_end.Stuck stuck) core output answers = refl
 
-output_same : (end : RunEnd) (core : Core) (output : List ℕ) (answers : List Answer) → output_of (finished end core output answers) ≡ output
+output_same : (end : RunEnd) (core : Core) (output : List ℕ) (answers : List Answer) → output_of (reached_by_run end core output answers) ≡ output
 output_same run_end.Spent core output answers = refl
 output_same (run_end.Exited status) core output answers = refl
 output_same (run_end.Stuck stuck) core output answers = refl
 
-line_same : (name : List ℕ) (end : RunEnd) (core : Core) (output : List ℕ) (answers : List Answer) → IsRunAt end core.place → line_after name (finished end core output answers) ≡ line_at name end
+line_same : (name : List ℕ) (end : RunEnd) (core : Core) (output : List ℕ) (answers : List Answer) → IsRunAt end core.place → line_after name (reached_by_run end core output answers) ≡ line_at name end
 line_same name run_end.Spent core output answers at = refl
 line_same name (run_end.Exited status) core output answers at = refl
 line_same name (run_end.Stuck stuck) core output answers at = ap (λ place. stuck_line name place stuck.cause) (sym at)
 
 reaches : (name : List ℕ) (image : Image) (steps : ℕ) (answers left : List Answer) (end : RunEnd) (core : Core) (output : List ℕ) → IsRunAt end core.place →
-    mach steps (started image answers) ≡ finished end core output left → Reaches name image steps answers (status_at end) output (line_at name end)
+    mach steps (started image answers) ≡ reached_by_run end core output left → Reaches name image steps answers (status_at end) output (line_at name end)
 reaches name image steps answers left end core output at is = record {
   status_is = ap status_after is ∙ status_same end core output left;
   output_is = ap output_of is ∙ output_same end core output left;
@@ -46,7 +46,7 @@ reaches name image steps answers left end core output at is = record {
 
 from_start : (image : Image) (steps : ℕ) (old new : Machine) (end : RunEnd) (answers left : List Answer) (output : List ℕ) →
     ((bytes : List ℕ) (answers : List Answer) → standing_of old bytes answers ≡ Runs (state_of (loaded image.entry (memory image.segments)) bytes answers)) →
-    MachineRuns steps end old new [] answers output left → mach steps (started image answers) ≡ finished end (core_of new) output left
+    MachineRuns steps end old new [] answers output left → mach steps (started image answers) ≡ reached_by_run end (core_of new) output left
 from_start image steps old new end answers left output starts runs = sym (ap (λ p. go_on p (mach steps)) (starts [] answers)) ∙ runs
 
 pub executes : (name : List ℕ) (image : Image) (steps : ℕ) (old new : Machine) (end : RunEnd) (bytes bytes' : Option (List ℕ)) (left left' : Option (List Answer)) (faults faults' : ℕ) →

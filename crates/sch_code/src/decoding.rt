@@ -97,10 +97,9 @@ fn rexed(w: u8, r: u8, b: u8, bytes: &[u8]) -> Option<(Insn, usize)>
         return whole_word(r, 8 * b + op % 8, &bytes[1..]);
     }
     if op == 0x99 {
-        if r != 0 || b != 0 {
-            return None;
-        }
-        return Some((Insn::Cqo, 2));
+        return rows! { op, bytes, 2; {
+            0x99 if r == 0 && b == 0 => Insn::Cqo;
+        } };
     }
     if op == 0x0F {
         return long(r, b, &bytes[1..]);

@@ -10,7 +10,8 @@ use Rattle.sch_elf.specs.declared.image.Image.{Image}
 abbrev pub identification : List ℕ
 identification = 127 ∷ 69 ∷ 76 ∷ 70 ∷ 2 ∷ 1 ∷ 1 ∷ []
 
--- ET_EXEC for EM_X86_64, with the header sizes of ELF-64 and 1 to 16 program headers
+-- ET_EXEC for EM_X86_64, of version 1 and without flags, with the header sizes of ELF-64 and 1 to 16
+-- program headers
 pub record IsForThisMachine (header : FileHeader) : Type 0 where
   pub executable : header.e_type ≡ 2
   pub machine : header.e_machine ≡ 62

@@ -14,8 +14,8 @@ pub enum ImageError {
     /// The first seven bytes are not those of ELF-64 with the lowest byte first.
     #[error("not ELF")]
     NotElf,
-    /// It is no executable for x86-64, or its header sizes are not those of ELF-64, or it has no
-    /// program headers or more than 16.
+    /// It is no executable for x86-64, or its version is not 1, or it has flags, or its header sizes are
+    /// not those of ELF-64, or it has no program headers or more than 16.
     #[error("wrong machine")]
     NotThisMachine,
     /// The program header of this number is not sound; those before it are.

@@ -53,8 +53,8 @@ impl FileHeader {
         }
     }
 
-    /// Whether this is ET_EXEC for EM_X86_64, with the header sizes of ELF-64 and 1 to 16 program
-    /// headers.
+    /// Whether this is ET_EXEC for EM_X86_64, of version 1 and without flags, with the header sizes of
+    /// ELF-64 and 1 to 16 program headers.
     pub fn is_for_this_machine(&self) -> bool
         ensures { IsTrue result ↔ IsForThisMachine self.now }
     {

@@ -62,8 +62,8 @@ jump_if c d (Some holds) = Ok (with_place (cond holds (add64 c.place (word d)) c
 
 -- ---- the rows
 
--- What an instruction does to a core whose place is already that of the next instruction. A call of the
--- kernel has no row here: its rows are below.
+-- What an instruction does to a core whose place is already that of the next instruction. The rows of a
+-- call of the kernel are below; its case here is never reached: `perform` answers the call of the kernel.
 abbrev pub act : Insn → Core → Result Core StuckCause
 act (MovTo m r) c = store c m (c.registers r)
 act (MovFrom r m) c = when_ok (load c m) (λ v. Ok (with_register r v c))

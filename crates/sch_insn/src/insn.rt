@@ -1,8 +1,9 @@
 ghost use Rattle.std.specs.Prelude.{◌≡◌, ◌≤◌, ℕ, length};
 ghost use Rattle.sch_insn.specs.Spelling.{spelling, operand, sib, IsValid};
 
-/// An operand that may be a register or 8 bytes of memory. Registers have numbers: rax 0, rcx 1,
-/// rdx 2, rbx 3, rsp 4, rbp 5, rsi 6, rdi 7, and r8 to r15 theirs.
+/// An operand that may be a register or a place in memory. There it is 8 bytes, under `movb` and `movzx`
+/// one byte, and under `lea` the address alone: no byte is touched. Registers have numbers: rax 0,
+/// rcx 1, rdx 2, rbx 3, rsp 4, rbp 5, rsi 6, rdi 7, and r8 to r15 theirs.
 ///
 /// Source: Intel SDM, volume 2, section 2.1.5 (ModR/M and SIB bytes) and 2.2.1.6 (RIP-relative
 /// addressing).

@@ -13,7 +13,7 @@ use Rattle.sch_step.specs.declared.ends.StepEnd.TheVariants as step_end
 use Rattle.sch_step.specs.declared.ends.RunEnd.{RunEnd}
 use Rattle.sch_step.specs.declared.ends.RunEnd.TheVariants as run_end
 use Rattle.sch_step.specs.declared.machine.Machine.{Machine}
-use Rattle.sch_step.specs.Run.{state_of, finished, looked, Does}
+use Rattle.sch_step.specs.Run.{state_of, reached_by_run, looked, Does}
 use Rattle.sch_step.specs.Machine.{core_of, stands, standing_of, MachineSteps, MachineRuns, MachineComes}
 use Rattle.sch_step.proofs.Outlets.{quiet, then, weaker}
 use Rattle.sch_step.proofs.Stepping.{performs}
@@ -33,7 +33,7 @@ exited_does m status ob ol of e = quiet (MachineSteps (step_end.Exited status) m
 -- One step more of a bounded run is a step first.
 go_suc : (e : Progress) (n : ℕ) → go_on e (mach (suc n)) ≡ go_on (go_on e step) (mach n)
 go_suc (Runs s) n = refl
-go_suc (Exited status output) n = refl
+go_suc (Exited status s) n = refl
 go_suc (Stuck cause s) n = refl
 
 pub comes_first : (m : Machine) (ob : Option (List ℕ)) (ol : Option (List Answer)) (of : ℕ) → Does (MachineComes 0 m m) ob ob ol ol of of
@@ -65,7 +65,7 @@ run_stuck i steps stuck old cur new ob mb nb ol ml nl of mf nf l p q =
     ap (λ j. go_on (standing_of old b k) (mach j)) e ∙ c (suc n) ∙ go_suc (standing_of cur b' k') n ∙ ap (λ x. go_on x (mach n)) s)
     p q
 
-pub run_rests : (steps : ℕ) (end : RunEnd) (old cur new : Machine) (ob nb : Option (List ℕ)) (ol nl : Option (List Answer)) (of nf : ℕ) → ((b : List ℕ) (k : List Answer) → go_on (standing_of cur b k) (mach 0) ≡ finished end (core_of new) b k) → Does (MachineComes steps old cur) ob nb ol nl of nf → Does (MachineRuns steps end old new) ob nb ol nl of nf
+pub run_rests : (steps : ℕ) (end : RunEnd) (old cur new : Machine) (ob nb : Option (List ℕ)) (ol nl : Option (List Answer)) (of nf : ℕ) → ((b : List ℕ) (k : List Answer) → go_on (standing_of cur b k) (mach 0) ≡ reached_by_run end (core_of new) b k) → Does (MachineComes steps old cur) ob nb ol nl of nf → Does (MachineRuns steps end old new) ob nb ol nl of nf
 run_rests steps end old cur new ob nb ol nl of nf h p =
     weaker (MachineComes steps old cur) (MachineRuns steps end old new) ob nb ol nl of nf
     (λ b k b' k' c. let e : steps ≡ 0 + steps = omega arith in ap (λ j. go_on (standing_of old b k) (mach j)) e ∙ c 0 ∙ h b' k')

@@ -13,7 +13,7 @@ use Rattle.sch_insn.specs.Step.{Runs, Exited, Stuck, kernel, act, moved, perform
 use Rattle.sch_step.specs.declared.ends.StepEnd.{StepEnd}
 use Rattle.sch_step.specs.declared.ends.StepEnd.TheVariants as step_end
 use Rattle.sch_step.specs.Kernel.{rax_of, written_core}
-use Rattle.sch_step.specs.Run.{state_of, reached, Does, KernelTo, PerformsTo, StepsTo}
+use Rattle.sch_step.specs.Run.{state_of, reached_by_step, Does, KernelTo, PerformsTo, StepsTo}
 use Rattle.sch_step.proofs.Outlets.{quiet, loud, weaker}
 use Rattle.sch_step.proofs.KernelRows.{exits, writes, empty, shut, wrote}
 
@@ -26,7 +26,7 @@ one_found f o s n None e h = let clash : Some (f s) ≡ None = sym (ap (option_m
 one_found f o s n (Some bs) e h = let same : Some (f s) ≡ Some (take n bs) = sym (ap (option_map f) e) ∙ h in let e' : f s ≡ take n bs = cc in (bs, refl, e')
 
 pub exit_does : (c : Core) (next rdi : ℕ) (rax : ℕ) (ob : Option (List ℕ)) (ol : Option (List Answer)) (of : ℕ) → rax ≡ 60 → rax ≡ c.registers 0 → rdi ≡ c.registers 7 → Does (KernelTo next (step_end.Exited (rdi % 256)) c c) ob ob ol ol of of
-exit_does c next rdi rax ob ol of e a d = quiet (KernelTo next (step_end.Exited (rdi % 256)) c c) ob ol of (λ b k. exits c next b k (sym a ∙ e) ∙ ap (λ r. Exited (r % 256) b) (sym d))
+exit_does c next rdi rax ob ol of e a d = quiet (KernelTo next (step_end.Exited (rdi % 256)) c c) ob ol of (λ b k. exits c next b k (sym a ∙ e) ∙ ap (λ r. Exited (r % 256) (state_of c b k)) (sym d))
 
 -- A processor that has no row is stuck, and nothing goes out.
 pub stuck_does : (c : Core) (next place rax : ℕ) (end : StepEnd) (ob : Option (List ℕ)) (ol : Option (List Answer)) (of : ℕ) → end ≡ step_end.Stuck (record { at = place; cause = Kernel rax }) → rax ≡ c.registers 0 → ((b : List ℕ) (k : List Answer) → kernel (state_of c b k) next ≡ Stuck (Kernel (c.registers 0)) (state_of c b k)) → Does (KernelTo next end c c) ob ob ol ol of of
@@ -56,7 +56,7 @@ pub performs : (i : Insn) (next : ℕ) (c : Core) (b : List ℕ) (k : List Answe
 performs Syscall next c b k n = absurd (n refl)
 performs i next c b k n = refl
 
-pub go_does : (i : Insn) (next : ℕ) (end : StepEnd) (c d : Core) (ob : Option (List ℕ)) (ol : Option (List Answer)) (of : ℕ) → i ≢ Syscall → ((b : List ℕ) (k : List Answer) → moved (state_of c b k) (act i (with_place next c)) ≡ reached end d b k) → Does (PerformsTo i next end c d) ob ob ol ol of of
+pub go_does : (i : Insn) (next : ℕ) (end : StepEnd) (c d : Core) (ob : Option (List ℕ)) (ol : Option (List Answer)) (of : ℕ) → i ≢ Syscall → ((b : List ℕ) (k : List Answer) → moved (state_of c b k) (act i (with_place next c)) ≡ reached_by_step end d b k) → Does (PerformsTo i next end c d) ob ob ol ol of of
 go_does i next end c d ob ol of n h = quiet (PerformsTo i next end c d) ob ol of (λ b k. performs i next c b k n ∙ h b k)
 
 pub no_fetch_does : (c d : Core) (place : ℕ) (end : StepEnd) (ob : Option (List ℕ)) (ol : Option (List Answer)) (of : ℕ) → d ≡ c → end ≡ step_end.Stuck (record { at = place; cause = Fetch }) → fetch c.segments c.place ≡ None → Does (StepsTo end c d) ob ob ol ol of of

@@ -10,7 +10,7 @@ use Rattle.sch_step.specs.declared.ends.RunEnd.{RunEnd}
 use Rattle.sch_step.specs.declared.ends.RunEnd.TheVariants as run_end
 use Rattle.sch_step.specs.declared.machine.Machine.{Machine}
 use Rattle.sch_step.specs.View as view
-use Rattle.sch_step.specs.Run.{state_of, reached, finished}
+use Rattle.sch_step.specs.Run.{state_of, reached_by_step, reached_by_run}
 
 abbrev pub core_of : Machine → Core
 core_of m = view.core_of m.processor
@@ -18,29 +18,29 @@ core_of m = view.core_of m.processor
 -- A machine that has exited with a status, or one that has not.
 abbrev pub stands : Option ℕ → Core → List ℕ → List Answer → Progress
 stands None c bytes answers = Runs (state_of c bytes answers)
-stands (Some status) c bytes answers = Exited status bytes
+stands (Some status) c bytes answers = Exited status (state_of c bytes answers)
 
 abbrev pub standing_of : Machine → List ℕ → List Answer → Progress
 standing_of m bytes answers = stands m.exited (core_of m) bytes answers
 
 -- Where a machine stands after a step, and after a run. One that is stuck stands where it was.
-abbrev pub resting : StepEnd → Core → List ℕ → List Answer → Progress
-resting step_end.Ran c bytes answers = Runs (state_of c bytes answers)
-resting (step_end.Exited status) c bytes answers = Exited status bytes
-resting (step_end.Stuck stuck) c bytes answers = Runs (state_of c bytes answers)
+abbrev pub left_by_step : StepEnd → Core → List ℕ → List Answer → Progress
+left_by_step step_end.Ran c bytes answers = Runs (state_of c bytes answers)
+left_by_step (step_end.Exited status) c bytes answers = Exited status (state_of c bytes answers)
+left_by_step (step_end.Stuck stuck) c bytes answers = Runs (state_of c bytes answers)
 
-abbrev pub at_rest : RunEnd → Core → List ℕ → List Answer → Progress
-at_rest run_end.Spent c bytes answers = Runs (state_of c bytes answers)
-at_rest (run_end.Exited status) c bytes answers = Exited status bytes
-at_rest (run_end.Stuck stuck) c bytes answers = Runs (state_of c bytes answers)
+abbrev pub left_by_run : RunEnd → Core → List ℕ → List Answer → Progress
+left_by_run run_end.Spent c bytes answers = Runs (state_of c bytes answers)
+left_by_run (run_end.Exited status) c bytes answers = Exited status (state_of c bytes answers)
+left_by_run (run_end.Stuck stuck) c bytes answers = Runs (state_of c bytes answers)
 
 -- A machine that has exited stays so; any other makes one step.
 abbrev pub MachineSteps : StepEnd → Machine → Machine → (List ℕ → List Answer → List ℕ → List Answer → Type 0)
-MachineSteps end old new = λ bytes answers bytes' answers'. go_on (standing_of old bytes answers) step ≡ reached end (core_of new) bytes' answers'
+MachineSteps end old new = λ bytes answers bytes' answers'. go_on (standing_of old bytes answers) step ≡ reached_by_step end (core_of new) bytes' answers'
 
 -- The same for a bounded run.
 abbrev pub MachineRuns : ℕ → RunEnd → Machine → Machine → (List ℕ → List Answer → List ℕ → List Answer → Type 0)
-MachineRuns steps end old new = λ bytes answers bytes' answers'. go_on (standing_of old bytes answers) (mach steps) ≡ finished end (core_of new) bytes' answers'
+MachineRuns steps end old new = λ bytes answers bytes' answers'. go_on (standing_of old bytes answers) (mach steps) ≡ reached_by_run end (core_of new) bytes' answers'
 
 -- After so many steps the machine stands where the other does, for whatever follows.
 abbrev pub MachineComes : ℕ → Machine → Machine → (List ℕ → List Answer → List ℕ → List Answer → Type 0)

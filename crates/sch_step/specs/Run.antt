@@ -17,16 +17,17 @@ use Rattle.sch_step.specs.declared.ends.RunEnd.TheVariants as run_end
 abbrev pub state_of : Core → List ℕ → List Answer → State
 state_of c bytes answers = record { core = c; output = bytes; answers = answers; spare = [] }
 
--- What a machine has come to at the end of a step, and at the end of a run.
-abbrev pub reached : StepEnd → Core → List ℕ → List Answer → Progress
-reached step_end.Ran c bytes answers = Runs (state_of c bytes answers)
-reached (step_end.Exited status) c bytes answers = Exited status bytes
-reached (step_end.Stuck stuck) c bytes answers = Stuck stuck.cause (state_of c bytes answers)
+-- What a machine has come to at the end of a step, and at the end of a run, with the core, the bytes and
+-- the answers that there are then.
+abbrev pub reached_by_step : StepEnd → Core → List ℕ → List Answer → Progress
+reached_by_step step_end.Ran c bytes answers = Runs (state_of c bytes answers)
+reached_by_step (step_end.Exited status) c bytes answers = Exited status (state_of c bytes answers)
+reached_by_step (step_end.Stuck stuck) c bytes answers = Stuck stuck.cause (state_of c bytes answers)
 
-abbrev pub finished : RunEnd → Core → List ℕ → List Answer → Progress
-finished run_end.Spent c bytes answers = Runs (state_of c bytes answers)
-finished (run_end.Exited status) c bytes answers = Exited status bytes
-finished (run_end.Stuck stuck) c bytes answers = Stuck stuck.cause (state_of c bytes answers)
+abbrev pub reached_by_run : RunEnd → Core → List ℕ → List Answer → Progress
+reached_by_run run_end.Spent c bytes answers = Runs (state_of c bytes answers)
+reached_by_run (run_end.Exited status) c bytes answers = Exited status (state_of c bytes answers)
+reached_by_run (run_end.Stuck stuck) c bytes answers = Stuck stuck.cause (state_of c bytes answers)
 
 -- An answer that takes nothing.
 abbrev pub TakesNothing : Answer → Type 0
@@ -49,13 +50,13 @@ pub record Does (P : List ℕ → List Answer → List ℕ → List Answer → T
   pub refused : All (λ answer. TakesNothing answer → Rose old_faults new_faults) given
 
 abbrev pub KernelTo : ℕ → StepEnd → Core → Core → (List ℕ → List Answer → List ℕ → List Answer → Type 0)
-KernelTo next end c d = λ bytes answers bytes' answers'. kernel (state_of c bytes answers) next ≡ reached end d bytes' answers'
+KernelTo next end c d = λ bytes answers bytes' answers'. kernel (state_of c bytes answers) next ≡ reached_by_step end d bytes' answers'
 
 abbrev pub StepsTo : StepEnd → Core → Core → (List ℕ → List Answer → List ℕ → List Answer → Type 0)
-StepsTo end c d = λ bytes answers bytes' answers'. step (state_of c bytes answers) ≡ reached end d bytes' answers'
+StepsTo end c d = λ bytes answers bytes' answers'. step (state_of c bytes answers) ≡ reached_by_step end d bytes' answers'
 
 abbrev pub PerformsTo : Insn → ℕ → StepEnd → Core → Core → (List ℕ → List Answer → List ℕ → List Answer → Type 0)
-PerformsTo i next end c d = λ bytes answers bytes' answers'. perform i next (state_of c bytes answers) ≡ reached end d bytes' answers'
+PerformsTo i next end c d = λ bytes answers bytes' answers'. perform i next (state_of c bytes answers) ≡ reached_by_step end d bytes' answers'
 
 -- The address of a stuck machine is that of the instruction that has no row.
 abbrev pub IsAt : StepEnd → ℕ → Type 0

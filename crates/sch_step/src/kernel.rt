@@ -15,7 +15,7 @@ use sch_word::Answer;
 
 impl Processor {
     ghost use Rattle.sch_step.specs.View.{core_of};
-    ghost use Rattle.sch_step.specs.Run.{state_of, reached, looked, Does, IsAt, KernelTo, PerformsTo, StepsTo};
+    ghost use Rattle.sch_step.specs.Run.{state_of, reached_by_step, looked, Does, IsAt, KernelTo, PerformsTo, StepsTo};
 
     /// After a write: rax has the answer, rcx and r11 have no spare words, and no flag is known.
     fn after_write(&mut self, next: u64, rax: u64)
@@ -91,7 +91,7 @@ impl Processor {
     fn go(&mut self, insn: &Insn, next: u64) -> StepEnd
         requires valid { IsValid insn.now }
         ensures at { IsAt result (core_of self.new).place }
-        ensures went { (bytes : List ℕ) (answers : List Answer) → moved (state_of (core_of self.old) bytes answers) (act_of insn.now (with_place next (core_of self.old))) ≡ reached result (core_of self.new) bytes answers }
+        ensures went { (bytes : List ℕ) (answers : List Answer) → moved (state_of (core_of self.old) bytes answers) (act_of insn.now (with_place next (core_of self.old))) ≡ reached_by_step result (core_of self.new) bytes answers }
     {
         match self.act(insn, next) {
             Ok(place) => {

@@ -1,8 +1,8 @@
 ghost use Rattle.std.specs.Prelude.{◌≡◌, ◌+◌, ℕ, List};
 ghost use Rattle.sch_word.specs.declared.answer.Answer.{Answer};
 ghost use Rattle.sch_insn.specs.Step.{go_on, mach};
-ghost use Rattle.sch_step.specs.Run.{Does, IsAt, IsRunAt, finished};
-ghost use Rattle.sch_step.specs.Machine.{core_of, standing_of, resting, at_rest, MachineSteps, MachineRuns};
+ghost use Rattle.sch_step.specs.Run.{Does, IsAt, IsRunAt, reached_by_run};
+ghost use Rattle.sch_step.specs.Machine.{core_of, standing_of, left_by_step, left_by_run, MachineSteps, MachineRuns};
 
 use crate::ends::{RunEnd, StepEnd, Stuck};
 use crate::processor::Processor;
@@ -30,7 +30,7 @@ impl Machine {
 #[inline(always)]
 pub fn step<O: Outlet>(m: &mut Machine, out: &mut O) -> StepEnd
     ensures at { IsAt result (core_of m.new).place }
-    ensures stands { (bytes : List ℕ) (answers : List Answer) → standing_of m.new bytes answers ≡ resting result (core_of m.new) bytes answers }
+    ensures stands { (bytes : List ℕ) (answers : List Answer) → standing_of m.new bytes answers ≡ left_by_step result (core_of m.new) bytes answers }
     ensures did { Does (MachineSteps result m.old m.new) (O.bytes out.old) (O.bytes out.new) (O.left out.old) (O.left out.new) (O.faults out.old) (O.faults out.new) }
 {
     if let Some(status) = m.exited {
@@ -46,7 +46,7 @@ pub fn step<O: Outlet>(m: &mut Machine, out: &mut O) -> StepEnd
 /// At most so many steps. Spent comes exactly after that many steps without an end.
 pub fn run<O: Outlet>(m: &mut Machine, out: &mut O, steps: u64) -> RunEnd
     ensures at { IsRunAt result (core_of m.new).place }
-    ensures stands { (bytes : List ℕ) (answers : List Answer) → standing_of m.new bytes answers ≡ at_rest result (core_of m.new) bytes answers }
+    ensures stands { (bytes : List ℕ) (answers : List Answer) → standing_of m.new bytes answers ≡ left_by_run result (core_of m.new) bytes answers }
     ensures did { Does (MachineRuns steps result m.old m.new) (O.bytes out.old) (O.bytes out.new) (O.left out.old) (O.left out.new) (O.faults out.old) (O.faults out.new) }
 {
     for i in 0..steps {
@@ -62,8 +62,8 @@ pub fn run<O: Outlet>(m: &mut Machine, out: &mut O, steps: u64) -> RunEnd
 /// Where a machine stands when no step is left.
 fn rest(m: &mut Machine) -> RunEnd
     ensures at { IsRunAt result (core_of m.new).place }
-    ensures stands { (bytes : List ℕ) (answers : List Answer) → standing_of m.new bytes answers ≡ at_rest result (core_of m.new) bytes answers }
-    ensures rested { (bytes : List ℕ) (answers : List Answer) → go_on (standing_of m.old bytes answers) (mach 0) ≡ finished result (core_of m.new) bytes answers }
+    ensures stands { (bytes : List ℕ) (answers : List Answer) → standing_of m.new bytes answers ≡ left_by_run result (core_of m.new) bytes answers }
+    ensures rested { (bytes : List ℕ) (answers : List Answer) → go_on (standing_of m.old bytes answers) (mach 0) ≡ reached_by_run result (core_of m.new) bytes answers }
 {
     if let Some(status) = m.exited {
         return RunEnd::Exited(status);

@@ -99,6 +99,7 @@ impl Processor {
                 Some(_) => None,
                 None => Some(StuckCause::Flag),
             },
+            // never reached: `obstacle_to` answers the call of the kernel
             Insn::Syscall => Some(StuckCause::Kernel(self.reg(0))),
             Insn::MovWord(_, _) | Insn::Lea(_, _) | Insn::Cqo | Insn::Jump(_) => None,
         }

@@ -70,6 +70,7 @@ impl Processor {
         } {
             Insn::Jump(d) => Ok(next.wrapping_add(word_of(*d)));
             Insn::JumpTo(m) => self.load(m, next);
+            // never reached: `perform` answers the call of the kernel
             Insn::Syscall => Err(StuckCause::Kernel(self.reg(0)));
         } }
     }
