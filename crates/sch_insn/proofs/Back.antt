@@ -1,5 +1,5 @@
 -- What is read was spelled so: where `decode` answers, the bytes begin with the spelling of its answer.
-use Rattle.std.proofs.Common.{◌≡◌, ◌≢◌, ℕ, zero, suc, ◌+◌, ◌*◌, ◌/◌, ◌%◌, ◌^◌, ◌<◌, ◌≤◌, List, [], ◌∷◌, ◌++◌, length, take, drop, get_or, Bool, true, false, cond, Some, None, refl, sym, ap, ◌∙◌, subst, arith, length-drop, append-nil, nat_lt, ◌==◌, ◌&&◌, lit<}
+use Rattle.std.proofs.Common.{◌≡◌, ℕ, zero, suc, ◌+◌, ◌*◌, ◌/◌, ◌%◌, ◌^◌, ◌<◌, ◌≤◌, List, [], ◌∷◌, ◌++◌, length, take, drop, get_or, Bool, true, false, cond, Some, None, refl, sym, ap, ◌∙◌, subst, arith, length-drop, append-nil, nat_lt, ◌==◌, ◌&&◌, lit<}
 use Rattle.std.specs.Prelude.{ℤ, not}
 use Rattle.std.specs.Int.{w32, w64, cast_signed, to_le_bytes, from_le_bytes}
 use Rattle.std.specs.Int.RustNames.{FitsSigned}
@@ -7,6 +7,7 @@ use Rattle.std.proofs.lemmas.List.{get_or-drop}
 use Rattle.std.proofs.lemmas.Nat.{le_bytes_4, le_bytes_8}
 use Rattle.std.proofs.lemmas.Int.{of_z-to_z}
 use Rattle.std.proofs.Math.Facts.{sfits_to_z}
+use Rattle.std.proofs.lemmas.Bool.{eqb-true, eqb-false}
 use Rattle.std.proofs.lemmas.Bool.Decides.{nat_tests}
 use Rattle.sch_insn.specs.declared.insn.Arg.{Arg}
 use Rattle.sch_insn.specs.declared.insn.Arg.TheVariants.{Reg, Base, Base32, Rip}
@@ -16,12 +17,6 @@ use Rattle.sch_insn.specs.Spelling.{four_bytes, eight_bytes, high_bit, rex, wide
 use Rattle.sch_insn.specs.Decode.{when_some, number_of_4, number_of_8, sib_size, arg_of, operand_of, with_number, with_count, wide_of, narrow_of, long_of, full_of, rexed_of, escaped_of, decode}
 use Rattle.sch_insn.proofs.Lists.{take_1, take_2, take_3, drop_1, take-add}
 use Rattle.sch_insn.proofs.OnAnswer.{OnAnswer, nothing, gives, branch, sequence}
-
-is_eq : (n m : ℕ) → (n == m) ≡ true → n ≡ m
-is_eq n m h = grind (arith, nat_tests)
-
-is_not_eq : (n m : ℕ) → (n == m) ≡ false → n ≢ m
-is_not_eq n m h = grind (arith, nat_tests)
 
 -- ---- numbers
 -- Each element is below 256 (and the answer past the end is 0).
@@ -105,7 +100,7 @@ sib_back low [] = branch (low == 4) (λ _. nothing) (λ e. gives 0 (record { wit
 sib_back low (x ∷ bs) =
     branch (low == 4)
     (λ e. branch (nat_lt (length (x ∷ bs)) 1) (λ _. nothing) (λ _. branch (x == 36)
-    (λ z. gives 1 (record { within = omega arith; same = ap (λ y. y ∷ []) (is_eq x 36 z) ∙ ap (λ t. cond t (36 ∷ []) []) (sym e) }))
+    (λ z. gives 1 (record { within = omega arith; same = ap (λ y. y ∷ []) (eqb-true x 36 z) ∙ ap (λ t. cond t (36 ∷ []) []) (sym e) }))
     (λ _. nothing)))
     (λ e. gives 0 (record { within = omega arith; same = ap (λ t. cond t (36 ∷ []) []) (sym e) }))
 
@@ -123,9 +118,9 @@ arg_back mode high low bs hm hh hl h =
     let bb : b < 16 = omega arith in
     let hi : b / 8 ≡ high = omega arith in
     branch (mode == 3)
-    (λ e. let m3 = is_eq mode 3 e in gives (Reg b, 0) (record { within = omega arith; same = λ r. ap (λ x. x ∷ []) (omega arith); is = bb; high = hi }))
+    (λ e. let m3 = eqb-true mode 3 e in gives (Reg b, 0) (record { within = omega arith; same = λ r. ap (λ x. x ∷ []) (omega arith); is = bb; high = hi }))
     (λ e3. branch (mode == 2)
-    (λ e. let m2 = is_eq mode 2 e in
+    (λ e. let m2 = eqb-true mode 2 e in
     sequence (sib_size low bs) (λ n en. sequence (number_of_4 (drop n bs)) (λ d ed.
     let s = (sib_back low bs).by n en in
     let num = (number_of_4_back (drop n bs) (dropped n bs h)).by d ed in
@@ -140,11 +135,11 @@ arg_back mode high low bs hm hh hl h =
       high = hi;
     }))))
     (λ e2. branch (mode == 1) (λ _. nothing) (λ e1.
-    let n3 = is_not_eq mode 3 e3 in let n2 = is_not_eq mode 2 e2 in let n1 = is_not_eq mode 1 e1 in
+    let n3 = eqb-false mode 3 e3 in let n2 = eqb-false mode 2 e2 in let n1 = eqb-false mode 1 e1 in
     let m0 : mode ≡ 0 = omega arith in
     branch (low == 5)
-    (λ e. let l5 = is_eq low 5 e in branch (high == 0)
-    (λ z. let h0 = is_eq high 0 z in sequence (number_of_4 bs) (λ d ed.
+    (λ e. let l5 = eqb-true low 5 e in branch (high == 0)
+    (λ z. let h0 = eqb-true high 0 z in sequence (number_of_4 bs) (λ d ed.
     let num = (number_of_4_back bs h).by d ed in
     gives (Rip d, 4) (record {
       within = num.long;
@@ -153,7 +148,7 @@ arg_back mode high low bs hm hh hl h =
       high = sym h0;
     })))
     (λ _. nothing))
-    (λ e. let l5 = is_not_eq low 5 e in sequence (sib_size low bs) (λ n en.
+    (λ e. let l5 = eqb-false low 5 e in sequence (sib_size low bs) (λ n en.
     let s = (sib_back low bs).by n en in
     let bytes : take n bs ≡ sib b = s.same ∙ ap (λ z. cond (z == 4) (36 ∷ []) []) lo in
     gives (Base b, n) (record {
@@ -209,12 +204,12 @@ plain i o op r k m bs e v t = gives (i, k) (record {
   size = 0;
   total = omega arith;
   within = omega arith;
-  same = e ∙ ap (λ z. rex 1 r m ∷ z ∷ operand r m) (sym (is_eq op o t)) ∙ ap (λ l. rex 1 r m ∷ op ∷ l) (sym (append-nil (operand r m)));
+  same = e ∙ ap (λ z. rex 1 r m ∷ z ∷ operand r m) (sym (eqb-true op o t)) ∙ ap (λ l. rex 1 r m ∷ op ∷ l) (sym (append-nil (operand r m)));
   is = v;
 })
 
 digit : (i : Insn) (o d op r k : ℕ) (m : Arg) (bs : List ℕ) → spelling i ≡ wide o d m → IsValid i → ((op == o) ≡ true) × ((r == d) ≡ true) → OnAnswer (Form op r m k bs) (Some (i, k))
-digit i o d op r k m bs e v t = plain i o op r k m bs (e ∙ ap (λ n. wide o n m) (sym (is_eq r d t.1))) v t.0
+digit i o d op r k m bs e v t = plain i o op r k m bs (e ∙ ap (λ n. wide o n m) (sym (eqb-true r d t.1))) v t.0
 
 numbered : (form : ℤ → Insn) (o d op r k : ℕ) (m : Arg) (bs : List ℕ) → ((n : ℤ) → spelling (form n) ≡ wide o d m ++ four_bytes n) → ((n : ℤ) → FitsSigned w32 n → IsValid (form n)) → Bytes bs → ((op == o) ≡ true) × ((r == d) ≡ true) → OnAnswer (Form op r m k bs) (with_number form k bs)
 numbered form o d op r k m bs e v h t = sequence (number_of_4 bs) (λ n en.
@@ -223,7 +218,7 @@ numbered form o d op r k m bs e v h t = sequence (number_of_4 bs) (λ n en.
       size = 4;
       total = refl;
       within = num.long;
-      same = e n ∙ ap (λ x. wide x d m ++ four_bytes n) (sym (is_eq op o t.0)) ∙ ap (λ x. wide op x m ++ four_bytes n) (sym (is_eq r d t.1)) ∙ ap (λ l. wide op r m ++ l) (sym num.same);
+      same = e n ∙ ap (λ x. wide x d m ++ four_bytes n) (sym (eqb-true op o t.0)) ∙ ap (λ x. wide op x m ++ four_bytes n) (sym (eqb-true r d t.1)) ∙ ap (λ l. wide op r m ++ l) (sym num.same);
       is = v n num.fits;
     }))
 
@@ -241,7 +236,7 @@ counted form o d op r k m (x ∷ bs) e v t = count (nat_lt (length (x ∷ bs)) 1
       size = 1;
       total = refl;
       within = omega arith;
-      same = e x ∙ ap (λ y. wide y d m ++ x ∷ []) (sym (is_eq op o t.0)) ∙ ap (λ y. wide op y m ++ x ∷ []) (sym (is_eq r d t.1));
+      same = e x ∙ ap (λ y. wide y d m ++ x ∷ []) (sym (eqb-true op o t.0)) ∙ ap (λ y. wide op y m ++ x ∷ []) (sym (eqb-true r d t.1));
       is = v x (not_over x s);
     })
 
@@ -305,14 +300,14 @@ narrow_back op r b bs hr hb h = sequence (operand_of r b bs) (λ p ep.
     (λ e. let t = both_true (op == 136) (in_memory p.1) e in
     gives (StoreByte p.1 p.0, p.2 + 2) (record {
       within = omega arith;
-      same = take_2 p.2 (64 + 8 * 0 + 4 * r + b) op bs ∙ ap (λ z. z ∷ op ∷ take p.2 bs) first ∙ ap (λ z. rex 0 p.0 p.1 ∷ z ∷ take p.2 bs) (is_eq op 136 t.0) ∙ ap (λ l. rex 0 p.0 p.1 ∷ 136 ∷ l) q.same;
+      same = take_2 p.2 (64 + 8 * 0 + 4 * r + b) op bs ∙ ap (λ z. z ∷ op ∷ take p.2 bs) first ∙ ap (λ z. rex 0 p.0 p.1 ∷ z ∷ take p.2 bs) (eqb-true op 136 t.0) ∙ ap (λ l. rex 0 p.0 p.1 ∷ 136 ∷ l) q.same;
       is = (q.is, q.low, t.1);
     }))
     (λ _. branch ((op == 255) && (p.0 == 4))
     (λ e. let t = both_true (op == 255) (p.0 == 4) e in
     gives (JumpTo p.1, p.2 + 2) (record {
       within = omega arith;
-      same = take_2 p.2 (64 + 8 * 0 + 4 * r + b) op bs ∙ ap (λ z. z ∷ op ∷ take p.2 bs) first ∙ ap (λ z. rex 0 p.0 p.1 ∷ z ∷ take p.2 bs) (is_eq op 255 t.0) ∙ ap (λ l. rex 0 p.0 p.1 ∷ 255 ∷ l) q.same ∙ ap (λ z. rex 0 z p.1 ∷ 255 ∷ operand z p.1) (is_eq p.0 4 t.1);
+      same = take_2 p.2 (64 + 8 * 0 + 4 * r + b) op bs ∙ ap (λ z. z ∷ op ∷ take p.2 bs) first ∙ ap (λ z. rex 0 p.0 p.1 ∷ z ∷ take p.2 bs) (eqb-true op 255 t.0) ∙ ap (λ l. rex 0 p.0 p.1 ∷ 255 ∷ l) q.same ∙ ap (λ z. rex 0 z p.1 ∷ 255 ∷ operand z p.1) (eqb-true p.0 4 t.1);
       is = q.is;
     }))
     (λ _. nothing)))
@@ -328,13 +323,13 @@ long_back r b (x ∷ bs) hr hb h = branch (nat_lt (length (x ∷ bs)) 1) (λ _. 
     (λ e. let t = both_true (x == 182) (in_memory p.1) e in
     gives (LoadByte p.0 p.1, p.2 + 3) (record {
       within = omega arith;
-      same = take_3 p.2 (64 + 8 * 1 + 4 * r + b) 15 x bs ∙ ap (λ z. z ∷ 15 ∷ x ∷ take p.2 bs) first ∙ ap (λ z. rex 1 p.0 p.1 ∷ 15 ∷ z ∷ take p.2 bs) (is_eq x 182 t.0) ∙ ap (λ l. rex 1 p.0 p.1 ∷ 15 ∷ 182 ∷ l) q.same;
+      same = take_3 p.2 (64 + 8 * 1 + 4 * r + b) 15 x bs ∙ ap (λ z. z ∷ 15 ∷ x ∷ take p.2 bs) first ∙ ap (λ z. rex 1 p.0 p.1 ∷ 15 ∷ z ∷ take p.2 bs) (eqb-true x 182 t.0) ∙ ap (λ l. rex 1 p.0 p.1 ∷ 15 ∷ 182 ∷ l) q.same;
       is = (q.is, q.low, t.1);
     }))
     (λ _. branch (x == 175)
     (λ e. gives (Imul p.0 p.1, p.2 + 3) (record {
       within = omega arith;
-      same = take_3 p.2 (64 + 8 * 1 + 4 * r + b) 15 x bs ∙ ap (λ z. z ∷ 15 ∷ x ∷ take p.2 bs) first ∙ ap (λ z. rex 1 p.0 p.1 ∷ 15 ∷ z ∷ take p.2 bs) (is_eq x 175 e) ∙ ap (λ l. rex 1 p.0 p.1 ∷ 15 ∷ 175 ∷ l) q.same;
+      same = take_3 p.2 (64 + 8 * 1 + 4 * r + b) 15 x bs ∙ ap (λ z. z ∷ 15 ∷ x ∷ take p.2 bs) first ∙ ap (λ z. rex 1 p.0 p.1 ∷ 15 ∷ z ∷ take p.2 bs) (eqb-true x 175 e) ∙ ap (λ l. rex 1 p.0 p.1 ∷ 15 ∷ 175 ∷ l) q.same;
       is = (q.is, q.low);
     }))
     (λ _. nothing))))
@@ -345,12 +340,12 @@ rexed_back w r b [] hw hr hb h = nothing
 rexed_back w r b (op ∷ bs) hw hr hb h =
     let all = behind op bs h in
     branch (nat_lt (length (op ∷ bs)) 1) (λ _. nothing) (λ _. branch (w == 0)
-    (λ e. let z : 0 ≡ w = sym (is_eq w 0 e) in subst (λ w. OnAnswer (Spelt ((64 + 8 * w + 4 * r + b) ∷ op ∷ bs)) (narrow_of op r b bs)) z (narrow_back op r b bs hr hb all))
-    (λ e0. let n0 = is_not_eq w 0 e0 in let one : 1 ≡ w = omega arith in
+    (λ e. let z : 0 ≡ w = sym (eqb-true w 0 e) in subst (λ w. OnAnswer (Spelt ((64 + 8 * w + 4 * r + b) ∷ op ∷ bs)) (narrow_of op r b bs)) z (narrow_back op r b bs hr hb all))
+    (λ e0. let n0 = eqb-false w 0 e0 in let one : 1 ≡ w = omega arith in
     subst (λ w. OnAnswer (Spelt ((64 + 8 * w + 4 * r + b) ∷ op ∷ bs)) (full_of r b (op ∷ bs))) one (
     branch (op / 8 == 23)
-    (λ e. let o = is_eq (op / 8) 23 e in branch (r == 0)
-    (λ z. let r0 = is_eq r 0 z in sequence (number_of_8 bs) (λ n en.
+    (λ e. let o = eqb-true (op / 8) 23 e in branch (r == 0)
+    (λ z. let r0 = eqb-true r 0 z in sequence (number_of_8 bs) (λ n en.
     let num = (number_of_8_back bs all).by n en in
     let in1 = num.long in
     let reg = 8 * b + op % 8 in
@@ -365,12 +360,12 @@ rexed_back w r b (op ∷ bs) hw hr hb h =
     (λ _. branch (op == 153)
     (λ e. branch ((r == 0) && (b == 0))
     (λ z. let t = both_true (r == 0) (b == 0) z in
-    let r0 = is_eq r 0 t.0 in let b0 = is_eq b 0 t.1 in
+    let r0 = eqb-true r 0 t.0 in let b0 = eqb-true b 0 t.1 in
     let x0 : 64 + 8 * 1 + 4 * r + b ≡ 72 = omega arith in
-    gives (Cqo, 2) (record { within = omega arith; same = ap (λ z. z ∷ op ∷ []) x0 ∙ ap (λ z. 72 ∷ z ∷ []) (is_eq op 153 e); is = tt }))
+    gives (Cqo, 2) (record { within = omega arith; same = ap (λ z. z ∷ op ∷ []) x0 ∙ ap (λ z. 72 ∷ z ∷ []) (eqb-true op 153 e); is = tt }))
     (λ _. nothing))
     (λ _. branch (op == 15)
-    (λ e. let o : 15 ≡ op = sym (is_eq op 15 e) in subst (λ z. OnAnswer (Spelt ((64 + 8 * 1 + 4 * r + b) ∷ z ∷ bs)) (long_of r b bs)) o (long_back r b bs hr hb all))
+    (λ e. let o : 15 ≡ op = sym (eqb-true op 15 e) in subst (λ z. OnAnswer (Spelt ((64 + 8 * 1 + 4 * r + b) ∷ z ∷ bs)) (long_of r b bs)) o (long_back r b bs hr hb all))
     (λ _. sequence (operand_of r b bs) (λ p ep.
     let q = (operand_back r b bs hr hb all).by p ep in
     let first = rex_was 1 r b p.0 p.1 q.reg q.high in
@@ -402,18 +397,18 @@ escaped_back [] h = nothing
 escaped_back (x ∷ bs) h =
     let all = behind x bs h in
     branch (nat_lt (length (x ∷ bs)) 1) (λ _. nothing) (λ _. branch (x == 5)
-    (λ e. gives (Syscall, 2) (record { within = omega arith; same = ap (λ z. 15 ∷ z ∷ []) (is_eq x 5 e); is = tt }))
+    (λ e. gives (Syscall, 2) (record { within = omega arith; same = ap (λ z. 15 ∷ z ∷ []) (eqb-true x 5 e); is = tt }))
     (λ _. branch ((x / 16 == 8) && not (x == 138) && not (x == 139))
     (λ e. sequence (number_of_4 bs) (λ d ed.
     let num = (number_of_4_back bs all).by d ed in
     let in1 = num.long in
     let t = both_true ((x / 16 == 8) && not (x == 138)) (not (x == 139)) e in
     let s = both_true (x / 16 == 8) (not (x == 138)) t.0 in
-    let o = is_eq (x / 16) 8 s.0 in
+    let o = eqb-true (x / 16) 8 s.0 in
     let n1 = not_was (x == 138) s.1 in
     let n2 = not_was (x == 139) t.1 in
-    let a = is_not_eq x 138 n1 in
-    let b = is_not_eq x 139 n2 in
+    let a = eqb-false x 138 n1 in
+    let b = eqb-false x 139 n2 in
     let x1 : x ≡ 128 + x % 16 = omega arith in
     gives (JumpIf (x % 16) d, 2 + 4) (record {
       within = omega arith;
@@ -433,15 +428,15 @@ decode_back (x ∷ bs) h =
     let small = h 0 in
     branch (nat_lt (length (x ∷ bs)) 1) (λ _. nothing) (λ _. branch ((x / 16 == 4) && (x / 2 % 2 == 0))
     (λ e. let t = both_true (x / 16 == 4) (x / 2 % 2 == 0) e in
-    let a = is_eq (x / 16) 4 t.0 in
-    let b = is_eq (x / 2 % 2) 0 t.1 in
+    let a = eqb-true (x / 16) 4 t.0 in
+    let b = eqb-true (x / 2 % 2) 0 t.1 in
     let first : 64 + 8 * (x / 8 % 2) + 4 * (x / 4 % 2) + x % 2 ≡ x = omega arith in
     subst (λ z. OnAnswer (Spelt (z ∷ bs)) (rexed_of (x / 8 % 2) (x / 4 % 2) (x % 2) bs)) first (rexed_back (x / 8 % 2) (x / 4 % 2) (x % 2) bs (omega arith) (omega arith) (omega arith) all))
     (λ _. branch (x == 15)
-    (λ e. let o : 15 ≡ x = sym (is_eq x 15 e) in subst (λ z. OnAnswer (Spelt (z ∷ bs)) (escaped_of bs)) o (escaped_back bs all))
+    (λ e. let o : 15 ≡ x = sym (eqb-true x 15 e) in subst (λ z. OnAnswer (Spelt (z ∷ bs)) (escaped_of bs)) o (escaped_back bs all))
     (λ _. branch (x == 233)
     (λ e. sequence (number_of_4 bs) (λ d ed.
     let num = (number_of_4_back bs all).by d ed in
     let in1 = num.long in
-    gives (Jump d, 1 + 4) (record { within = omega arith; same = ap (λ z. z ∷ take 4 bs) (is_eq x 233 e) ∙ ap (λ l. 233 ∷ l) num.same; is = num.fits })))
+    gives (Jump d, 1 + 4) (record { within = omega arith; same = ap (λ z. z ∷ take 4 bs) (eqb-true x 233 e) ∙ ap (λ l. 233 ∷ l) num.same; is = num.fits })))
     (λ _. nothing))))

@@ -6,6 +6,7 @@ use Rattle.std.specs.Int.RustNames.{FitsSigned}
 use Rattle.std.proofs.lemmas.List.{drop_at}
 use Rattle.std.proofs.lemmas.Nat.{from_le_bytes-to_le_bytes_4, from_le_bytes-to_le_bytes_8}
 use Rattle.std.proofs.lemmas.Int.{to_z-of_z, ints}
+use Rattle.std.proofs.lemmas.Bool.{ne_eqb, eq-eqb}
 use Rattle.std.proofs.lemmas.Bool.Decides.{nat_tests}
 use Rattle.sch_insn.specs.declared.insn.Arg.{Arg}
 use Rattle.sch_insn.specs.declared.insn.Arg.TheVariants.{Reg, Base, Base32, Rip}
@@ -18,9 +19,6 @@ use Rattle.sch_insn.proofs.Lists.{drop_1}
 -- Tests of numbers, as `decode` makes them.
 not_below : (a b : ℕ) → b ≤ a → nat_lt a b ≡ false
 not_below a b h = grind (arith, nat_tests)
-
-not_eq : (n m : ℕ) → n ≢ m → (n == m) ≡ false
-not_eq n m h = grind (arith, nat_tests)
 
 some_bytes : (x : ℕ) (bs : List ℕ) → nat_lt (length (x ∷ bs)) 1 ≡ false
 some_bytes x bs = not_below (length (x ∷ bs)) 1 (omega arith)
@@ -101,7 +99,7 @@ operand_read (Base b) r rest h =
     let none : Option (Arg × ℕ) = None in
     let bs = sib b ++ rest in
     parts_read 0 r b (b / 8) bs
-    ∙ ap (λ t. when_some (cond t (cond ((b / 8) == 0) (when_some (number_of_4 bs) (λ d. Some (Rip d, 4))) none) (when_some (sib_size (b % 8) bs) (λ n. Some (Base (8 * (b / 8) + b % 8), n)))) (with_operand r)) (not_eq (b % 8) 5 h.1)
+    ∙ ap (λ t. when_some (cond t (cond ((b / 8) == 0) (when_some (number_of_4 bs) (λ d. Some (Rip d, 4))) none) (when_some (sib_size (b % 8) bs) (λ n. Some (Base (8 * (b / 8) + b % 8), n)))) (with_operand r)) (ne_eqb (b % 8) 5 h.1)
     ∙ ap (λ o. when_some (when_some o (λ n. Some (Base (8 * (b / 8) + b % 8), n))) (with_operand r)) (sib_read b rest)
     ∙ ap (λ n. Some (r, Base n, length (sib b) + 1)) (register_again b)
     ∙ ap (λ n. Some (r, Base b, n)) (plus_1 (length (sib b)))
@@ -131,9 +129,6 @@ high_below (Rip d) h = omega arith
 second_branch : {A : Type 0} (a b c : Bool) (u v w : A) → a ≡ false → b ≡ true → c ≡ true → cond a u (cond (b && c) v w) ≡ v
 second_branch a b c u v w p q r = rw (p, q, r) refl
 
-equal : (n m : ℕ) → n ≡ m → (n == m) ≡ true
-equal n m h = grind (arith, nat_tests)
-
 rex_read : (w r high : ℕ) (rest : List ℕ) → w < 2 → r < 16 → high < 2 → decode ((64 + 8 * w + 4 * (r / 8) + high) ∷ rest) ≡ rexed_of w (r / 8) high rest
 rex_read w r high rest hw hr hh =
     let x = 64 + 8 * w + 4 * (r / 8) + high in
@@ -142,7 +137,7 @@ rex_read w r high rest hw hr hh =
     let e1 : x / 8 % 2 ≡ w = omega arith in
     let e2 : x / 4 % 2 ≡ r / 8 = omega arith in
     let e3 : x % 2 ≡ high = omega arith in
-    second_branch (nat_lt (length (x ∷ rest)) 1) (x / 16 == 4) (x / 2 % 2 == 0) _ _ _ (some_bytes x rest) (equal (x / 16) 4 a) (equal (x / 2 % 2) 0 m)
+    second_branch (nat_lt (length (x ∷ rest)) 1) (x / 16 == 4) (x / 2 % 2 == 0) _ _ _ (some_bytes x rest) (eq-eqb (x / 16) 4 a) (eq-eqb (x / 2 % 2) 0 m)
     ∙ ap (λ n. rexed_of n (x / 4 % 2) (x % 2) rest) e1
     ∙ ap (λ n. rexed_of w n (x % 2) rest) e2
     ∙ ap (λ n. rexed_of w (r / 8) n rest) e3
@@ -285,7 +280,7 @@ decode_spelling (MovWord r n) rest h =
     let other : Option (Insn × ℕ) = cond (op == 153) (cond (((0 / 8) == 0) && ((r / 8) == 0)) (Some (Cqo, 2)) None) (cond (op == 15) (long_of 0 (r / 8) bs) (when_some (operand_of 0 (r / 8) bs) (λ p. wide_of op p.0 p.1 (p.2 + 2) (drop (p.2 + 1) (op ∷ bs))))) in
     rex_read 1 0 (r / 8) (op ∷ bs) (omega arith) (omega arith) high
     ∙ full_read 0 (r / 8) op bs
-    ∙ ap (λ b. cond b (whole_word_of 0 (8 * (r / 8) + op % 8) bs) other) (equal (op / 8) 23 o)
+    ∙ ap (λ b. cond b (whole_word_of 0 (8 * (r / 8) + op % 8) bs) other) (eq-eqb (op / 8) 23 o)
     ∙ ap (λ o. when_some o (λ n. Some (MovWord (8 * (r / 8) + op % 8) n, 10))) (number_of_8_read n rest h.1)
     ∙ ap (λ k. Some (MovWord k n, 10)) same
 decode_spelling Cqo rest h = rex_read 1 0 0 (153 ∷ rest) (omega arith) (omega arith) (omega arith) ∙ full_read 0 0 153 rest
@@ -303,7 +298,7 @@ decode_spelling (JumpIf c d) rest h =
     let test = (x / 16 == 8) && not (x == 138) && not (x == 139) in
     escape_read x bs
     ∙ ap (λ b. cond b none (cond (x == 5) (Some (Syscall, 2)) (cond test jump none))) (some_bytes x bs)
-    ∙ ap (λ b. cond b (Some (Syscall, 2)) (cond test jump none)) (not_eq x 5 five)
+    ∙ ap (λ b. cond b (Some (Syscall, 2)) (cond test jump none)) (ne_eqb x 5 five)
     ∙ ap (λ b. cond b jump none) (jump_op c h.0.0 h.0.1 h.0.2)
     ∙ ap (λ o. when_some o (λ d. Some (JumpIf (x % 16) d, 2 + 4))) (number_of_4_read d rest h.1)
     ∙ ap (λ k. Some (JumpIf k d, 6)) same

@@ -1,6 +1,6 @@
 -- The kernel's rows at a state without spare words.
 use Rattle.std.proofs.Common.{◌≡◌, ◌≢◌, ℕ, zero, suc, ◌<◌, List, [], ◌∷◌, ◌++◌, length, take, Bool, true, false, cond, Some, None, refl, sym, ap, ◌∙◌, subst, arith, append-nil, ◌%◌, ◌==◌, ◌&&◌}
-use Rattle.std.proofs.lemmas.Bool.Decides.{nat_tests}
+use Rattle.std.proofs.lemmas.Bool.{eqb-true, ne_eqb}
 use Rattle.sch_word.specs.declared.answer.Answer.{Answer}
 use Rattle.sch_word.specs.declared.answer.Answer.TheVariants.{Took, Failed}
 use Rattle.sch_io.specs.Answers.{AnswersNext, taken}
@@ -13,12 +13,6 @@ use Rattle.sch_step.specs.Run.{state_of}
 abbrev by_call : Core → ℕ → List ℕ → List Answer → ℕ → Progress
 by_call c next b k rax = cond (rax == 60) (Exited (c.registers 7 % 256) (state_of c b k)) (cond ((rax == 1) && (c.registers 7 == 1)) (write_row (state_of c b k) next (c.registers 2)) (Stuck (Kernel (c.registers 0)) (state_of c b k)))
 
-is_eq : (n m : ℕ) → (n == m) ≡ true → n ≡ m
-is_eq n m h = grind (arith, nat_tests)
-
-not_eq : (n m : ℕ) → n ≢ m → (n == m) ≡ false
-not_eq n m h = grind (arith, nat_tests)
-
 first_true : (s t : Bool) → (s && t) ≡ true → s ≡ true
 first_true true t e = refl
 first_true false t e = absurd cc
@@ -28,14 +22,14 @@ exits c next b k e = ap (by_call c next b k) e
 
 pub no_row : (c : Core) (next : ℕ) (b : List ℕ) (k : List Answer) → c.registers 0 ≢ 60 → ((c.registers 0 == 1) && (c.registers 7 == 1)) ≡ false → kernel (state_of c b k) next ≡ Stuck (Kernel (c.registers 0)) (state_of c b k)
 no_row c next b k e f =
-    ap (λ t. cond t (Exited (c.registers 7 % 256) (state_of c b k)) (cond ((c.registers 0 == 1) && (c.registers 7 == 1)) (write_row (state_of c b k) next (c.registers 2)) (Stuck (Kernel (c.registers 0)) (state_of c b k)))) (not_eq (c.registers 0) 60 e)
+    ap (λ t. cond t (Exited (c.registers 7 % 256) (state_of c b k)) (cond ((c.registers 0 == 1) && (c.registers 7 == 1)) (write_row (state_of c b k) next (c.registers 2)) (Stuck (Kernel (c.registers 0)) (state_of c b k)))) (ne_eqb (c.registers 0) 60 e)
     ∙ ap (λ t. cond t (write_row (state_of c b k) next (c.registers 2)) (Stuck (Kernel (c.registers 0)) (state_of c b k))) f
 
 pub writes : (c : Core) (next : ℕ) (b : List ℕ) (k : List Answer) → ((c.registers 0 == 1) && (c.registers 7 == 1)) ≡ true → kernel (state_of c b k) next ≡ write_row (state_of c b k) next (c.registers 2)
 writes c next b k e =
-    let one = is_eq (c.registers 0) 1 (first_true (c.registers 0 == 1) (c.registers 7 == 1) e) in
+    let one = eqb-true (c.registers 0) 1 (first_true (c.registers 0 == 1) (c.registers 7 == 1) e) in
     let other : c.registers 0 ≢ 60 = omega (arith, one) in
-    ap (λ t. cond t (Exited (c.registers 7 % 256) (state_of c b k)) (cond ((c.registers 0 == 1) && (c.registers 7 == 1)) (write_row (state_of c b k) next (c.registers 2)) (Stuck (Kernel (c.registers 0)) (state_of c b k)))) (not_eq (c.registers 0) 60 other)
+    ap (λ t. cond t (Exited (c.registers 7 % 256) (state_of c b k)) (cond ((c.registers 0 == 1) && (c.registers 7 == 1)) (write_row (state_of c b k) next (c.registers 2)) (Stuck (Kernel (c.registers 0)) (state_of c b k)))) (ne_eqb (c.registers 0) 60 other)
     ∙ ap (λ t. cond t (write_row (state_of c b k) next (c.registers 2)) (Stuck (Kernel (c.registers 0)) (state_of c b k))) e
 
 pub empty : (c : Core) (next : ℕ) (b : List ℕ) (k : List Answer) → c.registers 2 ≡ 0 → write_row (state_of c b k) next (c.registers 2) ≡ Runs (state_of (written_core c next 0) b k)

@@ -12,7 +12,7 @@ told_still : {A : Type 0} (o : Option A) (R : A → A → Type 0) → ((a : A) �
 told_still None R h = tt
 told_still (Some a) R h = h a
 
-told_weaker : {A : Type 0} (o n : Option A) (R S : A → A → Type 0) → ((a b : A) → R a b → S a b) → Tells o n R → Tells o n S
+pub told_weaker : {A : Type 0} (o n : Option A) (R S : A → A → Type 0) → ((a b : A) → R a b → S a b) → Tells o n R → Tells o n S
 told_weaker o None R S f h = tt
 told_weaker None (Some b) R S f h = h
 told_weaker (Some a) (Some b) R S f h = f a b h
