@@ -14,13 +14,20 @@ held_files disk = files_of disk.text.items disk.entries.items
 abbrev pub told_files : MemDisk → Option Files
 told_files disk = Some (held_files disk)
 
+-- how many calls it has had, and how often it has failed
+abbrev pub calls_had : MemDisk → ℕ
+calls_had disk = disk.calls
+
+abbrev pub faults_had : MemDisk → ℕ
+faults_had disk = disk.faults
+
 -- the numbers of the calls that fail, from 0
 abbrev pub failing_calls : MemDisk → List ℕ
 failing_calls disk = disk.failing.items
 
 -- whether the next call fails by its number, which is how many calls came before it
 abbrev pub fails_next : MemDisk → Bool
-fails_next disk = list_any (λ number. number == disk.calls) (failing_calls disk)
+fails_next disk = list_any (λ number. number == calls_had disk) (failing_calls disk)
 
 -- how many more bytes of names and contents may be written
 abbrev pub bytes_left : MemDisk → ℕ

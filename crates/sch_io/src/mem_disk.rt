@@ -39,7 +39,7 @@ pub struct MemDisk {
 }
 
 impl MemDisk {
-    ghost use Rattle.sch_io.specs.InMemory.{LacksRoomFor, SameRoom, bytes_left, writes_left, failing_calls, fails_next, held_files, told_files};
+    ghost use Rattle.sch_io.specs.InMemory.{LacksRoomFor, SameRoom, bytes_left, writes_left, calls_had, faults_had, failing_calls, fails_next, held_files, told_files};
 
     /// A disk with these files, of which a later one replaces an earlier one of its name, and with room
     /// for `room` bytes of names and contents in 4,096 writes. What a replaced file held is not given
@@ -54,7 +54,7 @@ impl MemDisk {
         ensures room { IfOk result (λ disk. bytes_left disk ≡ room) }
         ensures writes { IfOk result (λ disk. writes_left disk ≡ 4096) }
         ensures failing { IfOk result (λ disk. failing_calls disk ≡ failing.now) }
-        ensures counts { IfOk result (λ disk. (disk.calls ≡ 0) × (disk.faults ≡ 0)) }
+        ensures counts { IfOk result (λ disk. (calls_had disk ≡ 0) × (faults_had disk ≡ 0)) }
     {
         let room = room as usize;
         let mut text = Vec::new(alloc);
@@ -86,9 +86,8 @@ impl MemDisk {
     }
 
     fn fault(&mut self)
-        ensures same { self.new ≡ record self.old { faults = self.new.faults } }
+        ensures same { self.new ≡ record self.old { faults = raised self.old.faults } }
         ensures later { self.old.faults ≤ self.new.faults }
-        ensures rose { Rose self.old.faults self.new.faults }
     {
         self.faults = self.faults.saturating_add(1);
     }
@@ -101,27 +100,30 @@ impl MemDisk {
 }
 
 impl Disk for MemDisk {
-    ghost use Rattle.sch_io.specs.InMemory.{LacksRoomFor, SameRoom, bytes_left, writes_left, failing_calls, fails_next, held_files, told_files};
+    ghost use Rattle.sch_io.specs.InMemory.{LacksRoomFor, SameRoom, bytes_left, writes_left, calls_had, faults_had, failing_calls, fails_next, held_files, told_files};
 
     ghost files = { told_files };
 
-    ghost faults = { λ disk. disk.faults };
+    ghost faults = { faults_had };
 
-    ghost calls = { λ disk. disk.calls };
+    ghost calls = { calls_had };
 
     fn read(&mut self, alloc: Global, name: &str, limit: u64) -> Result<Bytes, DiskRead>
         ensures unchanged { Tells (told_files self.old) (told_files self.new) (λ before after. after ≡ before) }
         ensures found { IfOk result (λ bytes. IfSome (told_files self.new) (λ all. get all name.now ≡ Some bytes)) }
         ensures within { IfOk result (λ bytes. length bytes ≤ limit) }
         ensures too_large { IsErrOf result DiskRead.TooLarge → IfSome (told_files self.new) (λ all. IsSomeAnd (get all name.now) (λ bytes. limit < length bytes)) }
-        ensures faults { self.old.faults ≤ self.new.faults }
-        ensures failed_only_where_faults_rose { IsErrOf result DiskRead.Failed → Rose self.old.faults self.new.faults }
-        ensures calls { self.new.calls ≡ raised self.old.calls }
+        ensures faults { faults_had self.old ≤ faults_had self.new }
+        ensures failed_only_where_faults_rose { IsErrOf result DiskRead.Failed → Rose (faults_had self.old) (faults_had self.new) }
+        ensures calls { calls_had self.new ≡ raised (calls_had self.old) }
 
         // It fails exactly by its number and at a name that is not there.
         ensures failed { IsErrOf result DiskRead.Failed ↔ (IsTrue (fails_next self.old) ⊎ IsNone (get (held_files self.old) name.now)) }
 
-        // It takes no room, and the same later calls are to fail.
+        // A failure is one fault, and nothing else is. It takes no room, and the same later calls are
+        // to fail.
+        ensures one_fault { IsErrOf result DiskRead.Failed → faults_had self.new ≡ raised (faults_had self.old) }
+        ensures no_fault { ¬ IsErrOf result DiskRead.Failed → faults_had self.new ≡ faults_had self.old }
         ensures room { SameRoom self.old self.new }
         ensures failing { failing_calls self.new ≡ failing_calls self.old }
     {
@@ -146,15 +148,17 @@ impl Disk for MemDisk {
     fn write(&mut self, name: &str, bytes: &[u8]) -> Result<(), Failed>
         ensures ok { OnOk result (Tells (told_files self.old) (told_files self.new) (Replaces name.now bytes.now)) }
         ensures err { OnErr result (Tells (told_files self.old) (told_files self.new) (Spoils name.now)) }
-        ensures faults { self.old.faults ≤ self.new.faults }
-        ensures failed_only_where_faults_rose { IsErr result → Rose self.old.faults self.new.faults }
-        ensures calls { self.new.calls ≡ raised self.old.calls }
+        ensures faults { faults_had self.old ≤ faults_had self.new }
+        ensures failed_only_where_faults_rose { IsErr result → Rose (faults_had self.old) (faults_had self.new) }
+        ensures calls { calls_had self.new ≡ raised (calls_had self.old) }
 
         // It fails exactly by its number and where there is no room.
         ensures failed { IsErr result ↔ (IsTrue (fails_next self.old) ⊎ LacksRoomFor self.old (length name.now + length bytes.now)) }
 
-        // A success takes room, a failure takes none and changes no file, and the same later calls
-        // are to fail.
+        // A failure is one fault, changes no file and takes no room. A success is no fault and takes
+        // room. The same later calls are to fail.
+        ensures one_fault { OnErr result (faults_had self.new ≡ raised (faults_had self.old)) }
+        ensures no_fault { OnOk result (faults_had self.new ≡ faults_had self.old) }
         ensures bytes { OnOk result (bytes_left self.new + (length name.now + length bytes.now) ≡ bytes_left self.old) }
         ensures writes { OnOk result (writes_left self.new + 1 ≡ writes_left self.old) }
         ensures room { OnErr result (SameRoom self.old self.new) }

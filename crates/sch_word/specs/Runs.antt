@@ -93,8 +93,8 @@ library_known count [] = true
 library_known count (None ∷ gs) = library_known count gs
 library_known count (Some n ∷ gs) = nat_lt n count && library_known count gs
 
--- How many nodes and bytes the statics of a program may have. The items of a source have 7 * 2 ^ 20 at
--- most, and this is four times as many.
+-- How many nodes and bytes the statics of a program may have: four times what the items of a source
+-- weigh at most, which is 7 * 2 ^ 20.
 abbrev pub most_statics : ℕ
 most_statics = 29360128
 
