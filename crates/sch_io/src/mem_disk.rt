@@ -120,8 +120,8 @@ impl Disk for MemDisk {
         // It fails exactly by its number and at a name that is not there.
         ensures failed { IsErrOf result DiskRead.Failed ↔ (IsTrue (fails_next self.old) ⊎ IsNone (get (held_files self.old) name.now)) }
 
-        // A failure is one fault, and nothing else is. It takes no room, and the same later calls are
-        // to fail.
+        // A failure is one fault, and no other read is one. A read takes no room, and the same later
+        // calls are to fail.
         ensures one_fault { IsErrOf result DiskRead.Failed → faults_had self.new ≡ raised (faults_had self.old) }
         ensures no_fault { ¬ IsErrOf result DiskRead.Failed → faults_had self.new ≡ faults_had self.old }
         ensures room { SameRoom self.old self.new }

@@ -30,12 +30,12 @@ found_of text (Err e) h = tt
 fault-has : (text : List ℕ) (f : Fault) → run levels [] none (scan 0 [] text) ≡ Err f → HasFault text f
 fault-has text f h = (scan 0 [] text, text-cuts text, first_fault levels (scan 0 [] text) f h)
 
--- the machine has failed with the fault that the error names, so what follows of it holds of that fault
+-- what follows where the machine answers with a fault holds of the fault that the error names
 of_named : {X : Type 0} (o : Option Fault) (r : Result X Fault) (P : Fault → Type 0) → IfSome o (λ f. r ≡ Err f) → ((f : Fault) → r ≡ Err f → P f) → IfSome o P
 of_named None r P h follows = tt
 of_named (Some f) r P h follows = follows f h
 
--- an error that comes where the machine has not failed names no fault
+-- an error that names no fault is want of memory
 unnamed : (e : ReadError) → IfSome (named e) (λ f. ⊥) → e ≡ errors.Memory
 unnamed errors.Memory h = refl
 unnamed e h = absurd h
