@@ -1,5 +1,5 @@
 -- What the disk and the outlet in memory tell.
-use Rattle.std.specs.Prelude.{◌≤◌, ◌<◌, ◌==◌, ℕ, List, [], ◌∷◌, Bool, Option, Some, None, drop, min, if◌then◌else◌}
+use Rattle.std.specs.Prelude.{◌≡◌, ◌<◌, ◌==◌, ◌⊎◌, ℕ, List, [], ◌∷◌, Bool, Option, Some, None, drop, min, if◌then◌else◌}
 use Rattle.std.specs.List.{list_any}
 use Rattle.sch_word.specs.declared.answer.Answer.{Answer}
 use Rattle.sch_word.specs.declared.answer.Answer.TheVariants.{Took, Failed}
@@ -14,24 +14,36 @@ held_files disk = files_of disk.text.items disk.entries.items
 abbrev pub told_files : MemDisk → Option Files
 told_files disk = Some (held_files disk)
 
+-- how many calls it has had, and how often it has failed
+abbrev pub calls_had : MemDisk → ℕ
+calls_had disk = disk.calls
+
+abbrev pub faults_had : MemDisk → ℕ
+faults_had disk = disk.faults
+
 -- the numbers of the calls that fail, from 0
 abbrev pub failing_calls : MemDisk → List ℕ
 failing_calls disk = disk.failing.items
 
--- whether the next call fails by its number
+-- whether the next call fails by its number, which is how many calls came before it
 abbrev pub fails_next : MemDisk → Bool
-fails_next disk = list_any (λ number. number == disk.calls) disk.failing.items
+fails_next disk = list_any (λ number. number == calls_had disk) (failing_calls disk)
 
--- how many more bytes of names and contents, and how many more files, may be written
+-- how many more bytes of names and contents may be written
 abbrev pub bytes_left : MemDisk → ℕ
 bytes_left disk = disk.room
 
-abbrev pub files_left : MemDisk → ℕ
-files_left disk = disk.slots
+-- how many more writes are taken
+abbrev pub writes_left : MemDisk → ℕ
+writes_left disk = disk.slots
 
--- a write of so many bytes fits
-abbrev pub HasRoomFor : MemDisk → ℕ → Type 0
-HasRoomFor disk size = (size ≤ bytes_left disk) × (0 < files_left disk)
+-- a write of so many bytes does not fit
+abbrev pub LacksRoomFor : MemDisk → ℕ → Type 0
+LacksRoomFor disk size = (bytes_left disk < size) ⊎ (writes_left disk ≡ 0)
+
+-- the room that is left is the same
+abbrev pub SameRoom : MemDisk → MemDisk → Type 0
+SameRoom before after = (bytes_left after ≡ bytes_left before) × (writes_left after ≡ writes_left before)
 
 abbrev pub told_bytes : MemOutlet → Option (List ℕ)
 told_bytes outlet = if outlet.tells then Some outlet.bytes.items else None

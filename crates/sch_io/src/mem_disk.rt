@@ -19,7 +19,7 @@ struct Entry {
     end: usize,
 }
 
-// So many files can be written at most.
+// So many writes are taken at most.
 const MOST_WRITES: usize = 4096;
 
 /// A disk that holds its files in memory, and tells them. A read of a name that is not there fails, and
@@ -39,12 +39,11 @@ pub struct MemDisk {
 }
 
 impl MemDisk {
-    ghost use Rattle.sch_io.specs.InMemory.{HasRoomFor, bytes_left, failing_calls, fails_next, held_files, told_files};
+    ghost use Rattle.sch_io.specs.InMemory.{LacksRoomFor, SameRoom, bytes_left, writes_left, calls_had, faults_had, failing_calls, fails_next, held_files, told_files};
 
     /// A disk with these files, of which a later one replaces an earlier one of its name, and with room
-    /// for `room` bytes of names and contents that are written. What a replaced file held is not given
-    /// back, and at most 4,096 files can be written. The calls with the numbers `failing` fail; they
-    /// are counted from 0.
+    /// for `room` bytes of names and contents in 4,096 writes. What a replaced file held is not given
+    /// back. The calls with the numbers `failing` fail; they are counted from 0.
     pub fn new(
         alloc: Global,
         files: &[(Bytes, Bytes)],
@@ -53,23 +52,23 @@ impl MemDisk {
     ) -> Result<MemDisk, Mem>
         ensures files { IfOk result (λ disk. held_files disk ≡ written empty files.now) }
         ensures room { IfOk result (λ disk. bytes_left disk ≡ room) }
+        ensures writes { IfOk result (λ disk. writes_left disk ≡ 4096) }
         ensures failing { IfOk result (λ disk. failing_calls disk ≡ failing.now) }
-        ensures counts { IfOk result (λ disk. (disk.calls ≡ 0) × (disk.faults ≡ 0)) }
+        ensures counts { IfOk result (λ disk. (calls_had disk ≡ 0) × (faults_had disk ≡ 0)) }
     {
         let room = room as usize;
-        let slots = room.saturating_add(1).min(MOST_WRITES);
         let mut text = Vec::new(alloc);
         let mut entries = Vec::new(alloc);
         for (name, bytes) in files {
             append(&mut text, &mut entries, name.as_slice(), bytes.as_slice())?;
         }
         text.reserve(room)?;
-        entries.reserve(slots)?;
+        entries.reserve(MOST_WRITES)?;
         Ok(MemDisk {
             text,
             entries,
             room,
-            slots,
+            slots: MOST_WRITES,
             failing: Vec::from_slice(alloc, failing)?,
             calls: 0,
             faults: 0,
@@ -87,42 +86,46 @@ impl MemDisk {
     }
 
     fn fault(&mut self)
-        ensures same { self.new ≡ record self.old { faults = self.new.faults } }
+        ensures same { self.new ≡ record self.old { faults = raised self.old.faults } }
         ensures later { self.old.faults ≤ self.new.faults }
-        ensures rose { Rose self.old.faults self.new.faults }
     {
         self.faults = self.faults.saturating_add(1);
     }
 
-    fn has_room(&self, name: &str, bytes: &[u8]) -> bool
-        ensures { IsTrue result ↔ HasRoomFor self.now (length name.now + length bytes.now) }
+    fn lacks_room(&self, name: &str, bytes: &[u8]) -> bool
+        ensures { IsTrue result ↔ LacksRoomFor self.now (length name.now + length bytes.now) }
     {
-        name.len() <= self.room && bytes.len() <= self.room - name.len() && 0 < self.slots
+        self.room < name.len() || self.room - name.len() < bytes.len() || self.slots == 0
     }
 }
 
 impl Disk for MemDisk {
-    ghost use Rattle.sch_io.specs.InMemory.{HasRoomFor, bytes_left, fails_next, held_files, told_files};
+    ghost use Rattle.sch_io.specs.InMemory.{LacksRoomFor, SameRoom, bytes_left, writes_left, calls_had, faults_had, failing_calls, fails_next, held_files, told_files};
 
     ghost files = { told_files };
 
-    ghost faults = { λ disk. disk.faults };
+    ghost faults = { faults_had };
 
-    ghost calls = { λ disk. disk.calls };
+    ghost calls = { calls_had };
 
     fn read(&mut self, alloc: Global, name: &str, limit: u64) -> Result<Bytes, DiskRead>
         ensures unchanged { Tells (told_files self.old) (told_files self.new) (λ before after. after ≡ before) }
         ensures found { IfOk result (λ bytes. IfSome (told_files self.new) (λ all. get all name.now ≡ Some bytes)) }
         ensures within { IfOk result (λ bytes. length bytes ≤ limit) }
         ensures too_large { IsErrOf result DiskRead.TooLarge → IfSome (told_files self.new) (λ all. IsSomeAnd (get all name.now) (λ bytes. limit < length bytes)) }
-        ensures faults { self.old.faults ≤ self.new.faults }
-        ensures failed_only_where_faults_rose { IsErrOf result DiskRead.Failed → Rose self.old.faults self.new.faults }
-        ensures calls { self.new.calls ≡ raised self.old.calls }
+        ensures faults { faults_had self.old ≤ faults_had self.new }
+        ensures failed_only_where_faults_rose { IsErrOf result DiskRead.Failed → Rose (faults_had self.old) (faults_had self.new) }
+        ensures calls { calls_had self.new ≡ raised (calls_had self.old) }
 
         // It fails exactly by its number and at a name that is not there.
-        ensures fails { IsTrue (fails_next self.old) → IsErrOf result DiskRead.Failed }
-        ensures absent { IsNone (get (held_files self.old) name.now) → IsErrOf result DiskRead.Failed }
-        ensures only { IsErrOf result DiskRead.Failed → IsTrue (fails_next self.old) ⊎ IsNone (get (held_files self.old) name.now) }
+        ensures failed { IsErrOf result DiskRead.Failed ↔ (IsTrue (fails_next self.old) ⊎ IsNone (get (held_files self.old) name.now)) }
+
+        // A failure is one fault, and no other read is one. A read takes no room, and the same later
+        // calls are to fail.
+        ensures one_fault { IsErrOf result DiskRead.Failed → faults_had self.new ≡ raised (faults_had self.old) }
+        ensures no_fault { ¬ IsErrOf result DiskRead.Failed → faults_had self.new ≡ faults_had self.old }
+        ensures room { SameRoom self.old self.new }
+        ensures failing { failing_calls self.new ≡ failing_calls self.old }
     {
         if self.begin() {
             self.fault();
@@ -145,21 +148,28 @@ impl Disk for MemDisk {
     fn write(&mut self, name: &str, bytes: &[u8]) -> Result<(), Failed>
         ensures ok { OnOk result (Tells (told_files self.old) (told_files self.new) (Replaces name.now bytes.now)) }
         ensures err { OnErr result (Tells (told_files self.old) (told_files self.new) (Spoils name.now)) }
-        ensures faults { self.old.faults ≤ self.new.faults }
-        ensures failed_only_where_faults_rose { IsErr result → Rose self.old.faults self.new.faults }
-        ensures calls { self.new.calls ≡ raised self.old.calls }
+        ensures faults { faults_had self.old ≤ faults_had self.new }
+        ensures failed_only_where_faults_rose { IsErr result → Rose (faults_had self.old) (faults_had self.new) }
+        ensures calls { calls_had self.new ≡ raised (calls_had self.old) }
 
         // It fails exactly by its number and where there is no room.
-        ensures fails { IsTrue (fails_next self.old) → IsErr result }
-        ensures full { IsOk result → HasRoomFor self.old (length name.now + length bytes.now) }
-        ensures succeeds { HasRoomFor self.old (length name.now + length bytes.now) → IsErr result → IsTrue (fails_next self.old) }
-        ensures room { OnOk result (bytes_left self.new + (length name.now + length bytes.now) ≡ bytes_left self.old) }
+        ensures failed { IsErr result ↔ (IsTrue (fails_next self.old) ⊎ LacksRoomFor self.old (length name.now + length bytes.now)) }
+
+        // A failure is one fault, changes no file and takes no room. A success is no fault and takes
+        // room. The same later calls are to fail.
+        ensures one_fault { OnErr result (faults_had self.new ≡ raised (faults_had self.old)) }
+        ensures no_fault { OnOk result (faults_had self.new ≡ faults_had self.old) }
+        ensures bytes { OnOk result (bytes_left self.new + (length name.now + length bytes.now) ≡ bytes_left self.old) }
+        ensures writes { OnOk result (writes_left self.new + 1 ≡ writes_left self.old) }
+        ensures room { OnErr result (SameRoom self.old self.new) }
+        ensures kept { OnErr result (held_files self.new ≡ held_files self.old) }
+        ensures failing { failing_calls self.new ≡ failing_calls self.old }
     {
         if self.begin() {
             self.fault();
             return Err(Failed);
         }
-        if !self.has_room(name, bytes) {
+        if self.lacks_room(name, bytes) {
             self.fault();
             return Err(Failed);
         }

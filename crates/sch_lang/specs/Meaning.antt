@@ -38,10 +38,11 @@ abbrev pub closures : Lambdas → List ℕ → List Closure
 closures no_lambdas environment = []
 closures (and_lambda name formals rest e ls) environment = record { formals = formals; rest = rest; body = e; environment = environment } ∷ closures ls environment
 
--- what the procedures of a group are charged, in the order of the text
+-- what a procedure of so many formals and this body is charged
 abbrev pub lambda_bytes : ℕ → Expression → ℕ
 lambda_bytes formals e = procedure_bytes (length (outside formals (free e)))
 
+-- what the procedures of a group are charged, in the order of the text
 abbrev pub lambdas_bytes : Lambdas → List ℕ
 lambdas_bytes no_lambdas = []
 lambdas_bytes (and_lambda name formals rest e ls) = lambda_bytes formals e ∷ lambdas_bytes ls

@@ -1,9 +1,10 @@
 -- What the machine answers for a text, in the grammar's words.
-use Rattle.std.proofs.Common.{◌≡◌, Ok, Err, List, [], ℕ, ◌≤◌, ◌*◌, length, refl, subst}
-use Rattle.std.specs.Prelude.{Result, IfOk, IfErr, MatchResult, IsErrAnd}
-use Rattle.sch_read.specs.Grammar.{Token, Data, Reads, none, bad_token, bad_number, bad_string}
-use Rattle.sch_read.specs.Fault.{Fault, Unclosed, StrayClose, DeepNesting, LiteralRange, Flawed, IsFirstFault}
+use Rattle.std.proofs.Common.{◌≡◌, Ok, Err, Some, None, List, [], ℕ, ◌≤◌, ◌*◌, length, refl, subst}
+use Rattle.std.specs.Prelude.{Option, Result, IfSome, IfOk, IfErr, MatchResult, IsErrAnd}
+use Rattle.sch_read.specs.Grammar.{Token, Data, Reads, none}
+use Rattle.sch_read.specs.Fault.{Fault, IsFirstFault}
 use Rattle.sch_read.specs.Machine.{run}
+use Rattle.sch_read.specs.Named.{named}
 use Rattle.sch_read.specs.Scan.{scan}
 use Rattle.sch_read.specs.Text.{levels, Spells, HasFault}
 use Rattle.sch_read.specs.Views.{data_of}
@@ -29,16 +30,19 @@ found_of text (Err e) h = tt
 fault-has : (text : List ℕ) (f : Fault) → run levels [] none (scan 0 [] text) ≡ Err f → HasFault text f
 fault-has text f h = (scan 0 [] text, text-cuts text, first_fault levels (scan 0 [] text) f h)
 
+-- what follows where the machine answers with a fault holds of the fault that the error names
+of_named : {X : Type 0} (o : Option Fault) (r : Result X Fault) (P : Fault → Type 0) → IfSome o (λ f. r ≡ Err f) → ((f : Fault) → r ≡ Err f → P f) → IfSome o P
+of_named None r P h follows = tt
+of_named (Some f) r P h follows = follows f h
+
+-- an error that names no fault is want of memory
+unnamed : (e : ReadError) → IfSome (named e) (λ f. ⊥) → e ≡ errors.Memory
+unnamed errors.Memory h = refl
+unnamed e h = absurd h
+
 pub fault_of : (text : List ℕ) (r : Result (List Datum) ReadError) → Answers text r → IfErr r (IsErrorIn text)
 fault_of text (Ok ds) h = tt
-fault_of text (Err errors.Memory) h = tt
-fault_of text (Err (errors.Unclosed at)) h = fault-has text (Unclosed at) h
-fault_of text (Err (errors.StrayClose at)) h = fault-has text (StrayClose at) h
-fault_of text (Err (errors.BadToken at)) h = fault-has text (Flawed at bad_token) h
-fault_of text (Err (errors.BadNumber at)) h = fault-has text (Flawed at bad_number) h
-fault_of text (Err (errors.BadString at)) h = fault-has text (Flawed at bad_string) h
-fault_of text (Err (errors.DeepNesting at)) h = fault-has text (DeepNesting at) h
-fault_of text (Err (errors.LiteralRange at)) h = fault-has text (LiteralRange at) h
+fault_of text (Err e) h = of_named (named e) (run levels [] none (scan 0 [] text)) (HasFault text) h (fault-has text)
 
 spells-run : (text : List ℕ) (xs : Data) → Spells text xs → run levels [] none (scan 0 [] text) ≡ Ok xs
 spells-run text xs (us, cut, reads) =
@@ -49,14 +53,7 @@ spells-run text xs (us, cut, reads) =
 pub only_of : (text : List ℕ) (r : Result (List Datum) ReadError) → Answers text r → (xs : Data) → Spells text xs →
     MatchResult r (λ ds. data_of ds ≡ xs) (λ e. e ≡ errors.Memory)
 only_of text (Ok ds) h xs s = let e = spells-run text xs s in cc
-only_of text (Err errors.Memory) h xs s = refl
-only_of text (Err (errors.Unclosed at)) h xs s = let e = spells-run text xs s in cc
-only_of text (Err (errors.StrayClose at)) h xs s = let e = spells-run text xs s in cc
-only_of text (Err (errors.BadToken at)) h xs s = let e = spells-run text xs s in cc
-only_of text (Err (errors.BadNumber at)) h xs s = let e = spells-run text xs s in cc
-only_of text (Err (errors.BadString at)) h xs s = let e = spells-run text xs s in cc
-only_of text (Err (errors.DeepNesting at)) h xs s = let e = spells-run text xs s in cc
-only_of text (Err (errors.LiteralRange at)) h xs s = let e = spells-run text xs s in cc
+only_of text (Err e) h xs s = let ok = spells-run text xs s in unnamed e (of_named (named e) (run levels [] none (scan 0 [] text)) (λ f. ⊥) h (λ f failed. cc))
 
 fault-tokens : (text : List ℕ) (f : Fault) → HasFault text f → IsFirstFault levels (scan 0 [] text) f
 fault-tokens text f (us, cut, first) =
@@ -69,14 +66,7 @@ fault-same text f g has h = fault-one levels (scan 0 [] text) f g (fault-tokens 
 
 pub only_fault_of : (text : List ℕ) (r : Result (List Datum) ReadError) → Answers text r → (f : Fault) → HasFault text f → IsErrAnd r (λ e. IsErrorFor e f)
 only_fault_of text (Ok ds) h f has = fault-none levels (scan 0 [] text) f (data_of ds, accepts-back levels (scan 0 [] text) (data_of ds) h) (fault-tokens text f has)
-only_fault_of text (Err errors.Memory) h f has = tt
-only_fault_of text (Err (errors.Unclosed at)) h f has = fault-same text f (Unclosed at) has h
-only_fault_of text (Err (errors.StrayClose at)) h f has = fault-same text f (StrayClose at) has h
-only_fault_of text (Err (errors.BadToken at)) h f has = fault-same text f (Flawed at bad_token) has h
-only_fault_of text (Err (errors.BadNumber at)) h f has = fault-same text f (Flawed at bad_number) has h
-only_fault_of text (Err (errors.BadString at)) h f has = fault-same text f (Flawed at bad_string) has h
-only_fault_of text (Err (errors.DeepNesting at)) h f has = fault-same text f (DeepNesting at) has h
-only_fault_of text (Err (errors.LiteralRange at)) h f has = fault-same text f (LiteralRange at) has h
+only_fault_of text (Err e) h f has = of_named (named e) (run levels [] none (scan 0 [] text)) (λ g. f ≡ g) h (λ g. fault-same text f g has)
 
 pub valid_of : (text : List ℕ) (r : Result (List Datum) ReadError) → Answers text r → IfOk r (λ ds. AreValid (data_of ds))
 valid_of text (Ok ds) h = spelled_valid text (data_of ds) (found_of text (Ok ds) h)

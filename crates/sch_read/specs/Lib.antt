@@ -4,6 +4,7 @@ pub mod Token
 pub mod Cut
 pub mod Grammar
 pub mod Fault
+pub mod Named
 pub mod Text
 pub mod Scan
 pub mod Machine

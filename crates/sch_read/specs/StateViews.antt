@@ -1,8 +1,8 @@
 -- What the stack of the code stands for, and what a step of the code answers.
-use Rattle.std.specs.Prelude.{◌≡◌, List, Result, Ok, Err, map, reverse}
-use Rattle.sch_read.specs.Grammar.{Token, bad_token, bad_number, bad_string}
-use Rattle.sch_read.specs.Fault as fault
+use Rattle.std.specs.Prelude.{◌≡◌, List, Result, Ok, Err, IfSome, map, reverse}
+use Rattle.sch_read.specs.Grammar.{Token}
 use Rattle.sch_read.specs.Fault.{Fault}
+use Rattle.sch_read.specs.Named.{named}
 use Rattle.sch_read.specs.Machine as machine
 use Rattle.sch_read.specs.Machine.{State, runs}
 use Rattle.sch_read.specs.Views.{tree_of, data_of}
@@ -10,7 +10,6 @@ use Rattle.sch_read.specs.declared.machine.Frame.{Frame}
 use Rattle.sch_read.specs.declared.machine.Frame.TheVariants.{Items, AfterDot, Tail, Elements, Waiting}
 use Rattle.sch_read.specs.declared.machine.Reader.{Reader}
 use Rattle.sch_read.specs.declared.error.ReadError.{ReadError}
-use Rattle.sch_read.specs.declared.error.ReadError.TheVariants as errors
 
 abbrev pub frame_of : Frame → machine.Frame
 frame_of (Items at ds) = machine.Items at (data_of ds)
@@ -28,14 +27,7 @@ state_of r = record { spare = r.spare; open_ = stack_of r.frames.items; top = da
 
 -- the answer is the fault that the error names; want of memory says nothing of it
 abbrev pub Fails : {X : Type 0} → ReadError → Result X Fault → Type 0
-Fails errors.Memory r = Unit {0}
-Fails (errors.Unclosed at) r = r ≡ Err (fault.Unclosed at)
-Fails (errors.StrayClose at) r = r ≡ Err (fault.StrayClose at)
-Fails (errors.BadToken at) r = r ≡ Err (fault.Flawed at bad_token)
-Fails (errors.BadNumber at) r = r ≡ Err (fault.Flawed at bad_number)
-Fails (errors.BadString at) r = r ≡ Err (fault.Flawed at bad_string)
-Fails (errors.DeepNesting at) r = r ≡ Err (fault.DeepNesting at)
-Fails (errors.LiteralRange at) r = r ≡ Err (fault.LiteralRange at)
+Fails e r = IfSome (named e) (λ f. r ≡ Err f)
 
 abbrev pub Gives : {A X : Type 0} → (A → X) → Result A ReadError → Result X Fault → Type 0
 Gives view (Ok a) r = r ≡ Ok (view a)

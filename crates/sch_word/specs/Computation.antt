@@ -2,8 +2,8 @@
 -- stops by name, or has spent its procedure entries, each with the state that it leaves.
 use Rattle.std.specs.Prelude.{ℕ, zero, suc, Bool, true, false, List, [], ◌∷◌, ◌++◌, length, Option, Some, None, slice_get, slice_set}
 use Rattle.sch_word.specs.declared.stop.Stop.{Stop}
-use Rattle.sch_word.specs.declared.stop.Stop.TheVariants.{WrongType, NotProcedure, DepthLimit, Unset}
-use Rattle.sch_word.specs.Values.{Value, unspecified, procedure, cell}
+use Rattle.sch_word.specs.declared.stop.Stop.TheVariants.{NotProcedure, DepthLimit, Unset}
+use Rattle.sch_word.specs.Values.{Value, unspecified, procedure}
 use Rattle.sch_word.specs.Store.{Store}
 
 -- what a computation over the states S ends with
@@ -108,15 +108,6 @@ read_cell c s = set_or_stop (slice_get s.cells c) s
 
 abbrev pub write_cell : {P : Type 0} → ℕ → Value → Computation P Value
 write_cell c v s = gives unspecified (record s { cells = slice_set s.cells c (Some v) })
-
--- the cell whose number a value is
-abbrev pub read_at : {P : Type 0} → Value → Computation P Value
-read_at (cell c) = read_cell c
-read_at _ = stops WrongType
-
-abbrev pub write_at : {P : Type 0} → Value → Value → Computation P Value
-write_at (cell c) v = write_cell c v
-write_at _ v = stops WrongType
 
 -- these values into these cells, in order
 abbrev pub write_cells : {P : Type 0} → List ℕ → List Value → Computation P Value

@@ -93,8 +93,13 @@ library_known count [] = true
 library_known count (None ∷ gs) = library_known count gs
 library_known count (Some n ∷ gs) = nat_lt n count && library_known count gs
 
+-- How many nodes and bytes the statics of a program may have: four times what the items of a source
+-- weigh at most, which is 7 * 2 ^ 20.
+abbrev pub most_statics : ℕ
+most_statics = 29360128
+
 -- they are few enough, and name symbols and library procedures that there are
 abbrev pub statics_valid : (library : ℕ) → Statics → Bool
 statics_valid library p =
-    nat_le (statics_size p) 29360128
+    nat_le (statics_size p) most_statics
     && (literals_known (length p.symbols) p.literals && library_known library p.globals)

@@ -99,7 +99,8 @@ impl<T: Drop> List<T> {
 
     /// Moves the elements of `more` to the end. Want of memory leaves the list as it was.
     pub fn append(&mut self, more: List<T>) -> Result<(), Mem>
-        ensures { OnOk result (self.new ≡ self.old ++ more) }
+        ensures ok { OnOk result (self.new ≡ self.old ++ more) }
+        ensures err { OnErr result (self.new ≡ self.old) }
     {
         let List { mut items } = more;
         self.items.append(&mut items)?;
