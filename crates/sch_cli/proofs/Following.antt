@@ -9,8 +9,9 @@ use Rattle.sch_insn.specs.Step.{Progress, Runs, Exited, Stuck, mach}
 use Rattle.sch_insn.specs.Behaves.{Behaves, Ending, IsPrefix, output_of, start}
 use Rattle.sch_insn.proofs.Growing.{stays}
 use Rattle.sch_lang.specs.Tree as tree
+use Rattle.sch_lang.specs.Run.{in_text_order}
 use Rattle.sch_cli.specs.Builds.{Prints}
-use Rattle.sch_cli.specs.Headline.{Covers, Follows, Reaches, identity_orders, run_of}
+use Rattle.sch_cli.specs.Headline.{Covers, Follows, Reaches, run_of}
 use Rattle.sch_cli.specs.Pieces.{puts}
 
 status_of_exit : Progress → ℕ
@@ -47,14 +48,14 @@ module _ (r : Run) (e : Ending) (output_is : r.output ≡ e.output) (end_is : r.
         (end_is ∙ ap (λ p. ended (status_of_exit p)) same, output_is ∙ ap output_of same);
   }
 
-pub follows : (entry : ℕ) (segments : List Segment) (p : tree.Source) (pieces : List (List ℕ)) → Prints p pieces → Behaves entry segments (puts pieces) → Follows entry segments p (identity_orders p.sites)
+pub follows : (entry : ℕ) (segments : List Segment) (p : tree.Source) (pieces : List (List ℕ)) → Prints p pieces → Behaves entry segments (puts pieces) → Follows entry segments p (in_text_order p.sites)
 follows entry segments p pieces prints behaves = record {
   reaches = λ g answers n.
       let end = behaves.ends g answers in
-      (end.0, reaches (run_of p (identity_orders p.sites) answers n) (puts pieces answers) (prints.output answers n) (prints.end answers n) (mach end.0 (start entry segments g answers)) end.1);
+      (end.0, reaches (run_of p (in_text_order p.sites) answers n) (puts pieces answers) (prints.output answers n) (prints.end answers n) (mach end.0 (start entry segments g answers)) end.1);
   covered = λ g answers m.
       let end = behaves.ends g answers in
-      covers (run_of p (identity_orders p.sites) answers m) (puts pieces answers) (prints.output answers m) (prints.end answers m) (start entry segments g answers) m end.0 end.1 (behaves.along g answers m);
+      covers (run_of p (in_text_order p.sites) answers m) (puts pieces answers) (prints.output answers m) (prints.end answers m) (start entry segments g answers) m end.0 end.1 (behaves.along g answers m);
   never_stuck = behaves.never_stuck;
   orders = prints.orders;
 }

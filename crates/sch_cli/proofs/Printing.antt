@@ -11,7 +11,7 @@ use Rattle.sch_word.specs.PrimitiveRows.{piece, wrote, put_piece}
 use Rattle.sch_word.specs.Runs.{ended, seen, starting_store}
 use Rattle.sch_insn.specs.Behaves.{Ending}
 use Rattle.sch_lang.specs.Meaning.{Closure, Orders, Enter, each, enter}
-use Rattle.sch_lang.specs.Run.{order_at, outcome, is_order_table}
+use Rattle.sch_lang.specs.Run.{order_at, outcome, is_order_table, in_text_order}
 use Rattle.sch_lang.specs.Tree.{Source}
 use Rattle.sch_core.specs.Draft.{drafts}
 use Rattle.sch_core.specs.Forms.{firsts}
@@ -19,7 +19,7 @@ use Rattle.sch_core.specs.Numbered.{numbered_each, program_of, global_names_of_e
 use Rattle.sch_cli.specs.declared.piece.Piece.{Piece}
 use Rattle.sch_cli.specs.declared.piece.Piece.TheVariants.{Number, Character, Boolean}
 use Rattle.sch_cli.specs.Builds.{Prints}
-use Rattle.sch_cli.specs.Headline.{default_heap, default_depth, identity_orders}
+use Rattle.sch_cli.specs.Headline.{default_heap, default_depth}
 use Rattle.sch_cli.specs.Pieces.{bytes_of, puts}
 use Rattle.sch_cli.proofs.Expanding.{constant_of, put_of}
 use Rattle.sch_cli.proofs.PieceRuns.{ending_after}
@@ -76,12 +76,12 @@ module _ (orders : Orders) (enter : Enter) (globals : List (List ℕ)) (depth : 
 -- ---- the orders
 
 -- each site has one operand
-order_is : (ps : List Piece) (k : ℕ) → k < length ps → order_at (identity_orders (widths_of_each (drafts (map put_of ps)))) k ≡ 0 ∷ []
+order_is : (ps : List Piece) (k : ℕ) → k < length ps → order_at (in_text_order (widths_of_each (drafts (map put_of ps)))) k ≡ 0 ∷ []
 order_is [] k lt = absurd (omega arith)
 order_is (p ∷ ps) zero lt = refl
 order_is (p ∷ ps) (suc k) lt = order_is ps k (omega arith)
 
-orders_fit : (ps : List Piece) → is_order_table (widths_of_each (drafts (map put_of ps))) (identity_orders (widths_of_each (drafts (map put_of ps)))) ≡ true
+orders_fit : (ps : List Piece) → is_order_table (widths_of_each (drafts (map put_of ps))) (in_text_order (widths_of_each (drafts (map put_of ps)))) ≡ true
 orders_fit [] = refl
 orders_fit (p ∷ ps) = orders_fit ps
 
@@ -101,9 +101,9 @@ module _ (ps : List Piece) where
   abbrev program : Source
   program = program_of (map put_of ps)
 
-  runs : (answers : List Answer) (entries : ℕ) → Ends (outcome program (identity_orders program.sites) default_heap default_depth answers entries) (puts (map bytes_of ps) answers).output (puts (map bytes_of ps) answers).status
+  runs : (answers : List Answer) (entries : ℕ) → Ends (outcome program (in_text_order program.sites) default_heap default_depth answers entries) (puts (map bytes_of ps) answers).output (puts (map bytes_of ps) answers).status
   runs answers entries =
-      let orders = order_at (identity_orders program.sites) in
+      let orders = order_at (in_text_order program.sites) in
       run_from orders (enter orders entries) (firsts [] (global_names_of_each (drafts (map put_of ps)))) default_depth ps 0 (starting_store program.statics default_heap answers entries) unspecified
       (λ k lt. subst (λ m. orders m ≡ 0 ∷ []) (let z : k ≡ 0 + k = omega arith in z) (order_is ps k lt))
 

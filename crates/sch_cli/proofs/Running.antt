@@ -19,11 +19,11 @@ use Rattle.sch_insn.specs.Step.{Progress, Runs, Exited, Stuck, mach}
 use Rattle.sch_insn.specs.Behaves.{Ending, Given, IsPrefix, output_of}
 use Rattle.sch_lang.specs.Tree as tree
 use Rattle.sch_lang.specs.Meaning.{Closure}
-use Rattle.sch_lang.specs.Run.{outcome}
+use Rattle.sch_lang.specs.Run.{outcome, in_text_order}
 use Rattle.sch_step.specs.Run.{TakesNothing}
 use Rattle.sch_cli.specs.Builds.{IsImageOf}
 use Rattle.sch_cli.specs.Executes.{Reaches, started, status_after, is_named}
-use Rattle.sch_cli.specs.Headline.{Follows, default_depth, default_heap, identity_orders, run_of}
+use Rattle.sch_cli.specs.Headline.{Follows, default_depth, default_heap, run_of}
 use Rattle.sch_cli.specs.Pieces.{puts}
 use Rattle.sch_cli.specs.Steps.{EndsAs, Ran, RunsProgram, Seen}
 use Rattle.sch_cli.proofs.Following.{follows}
@@ -101,20 +101,20 @@ zeros = record { registers = λ r. 0; flags = unknown_flags; spare = []; registe
 named_status : (status : ℕ) (output : List ℕ) → is_named status ≡ true → status_after (Exited status output) ≡ status
 named_status status output e = ap (λ b. if b then status else 8) e
 
-module _ (image : Image) (p : tree.Source) (does : Follows image.entry (memory image.segments) p (identity_orders p.sites)) where
+module _ (image : Image) (p : tree.Source) (does : Follows image.entry (memory image.segments) p (in_text_order p.sites)) where
   -- how it ends, by what a bounded run has come to
   ends : (steps : ℕ) (answers : List Answer) (q : Progress) → mach steps (started image answers) ≡ q → EndsAs p steps answers (status_after q) (output_of q)
   unfolding zeros
   ends steps answers (Runs s) is = record {
-    spent = λ _. subst (λ q. IsPrefix (output_of q) (run_of p (identity_orders p.sites) answers steps).output) is (does.covered zeros answers steps).output;
+    spent = λ _. subst (λ q. IsPrefix (output_of q) (run_of p (in_text_order p.sites) answers steps).output) is (does.covered zeros answers steps).output;
     status_is = λ not. absurd (not refl);
     output_is = λ not. absurd (not refl);
   }
   ends steps answers (Exited status output) is =
       let end = (does.covered zeros answers steps).end status output is in
-      let named = named_status status output (run_named p (identity_orders p.sites) answers steps status end.0) in
+      let named = named_status status output (run_named p (in_text_order p.sites) answers steps status end.0) in
       record {
-        spent = λ _. subst (λ q. IsPrefix (output_of q) (run_of p (identity_orders p.sites) answers steps).output) is (does.covered zeros answers steps).output;
+        spent = λ _. subst (λ q. IsPrefix (output_of q) (run_of p (in_text_order p.sites) answers steps).output) is (does.covered zeros answers steps).output;
         status_is = λ not. end.0 ∙ ap ended (sym named);
         output_is = λ not. end.1;
       }

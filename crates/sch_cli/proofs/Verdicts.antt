@@ -10,7 +10,8 @@ use Rattle.sch_cli.specs.declared.refusal.Refusal.TheVariants as refusals
 use Rattle.sch_cli.specs.Builds.{IsFileOf}
 use Rattle.sch_cli.specs.Compiles.{Compiled, Source, HasStatus, IsSaid, IsVerdict, refused, built, done, not_read, not_written, refusal}
 use Rattle.sch_lang.specs.Tree as tree
-use Rattle.sch_cli.specs.Headline.{IsProgram, identity_orders}
+use Rattle.sch_lang.specs.Run.{in_text_order}
+use Rattle.sch_cli.specs.Headline.{IsProgram}
 use Rattle.sch_cli.specs.Messages.{Says}
 use Rattle.sch_cli.specs.Refusals.{IsRefused, Means, refused_line, refused_status, source_limit}
 
@@ -92,7 +93,7 @@ built_said source target text file before middle after same told found small mad
 }
 
 abbrev CompiledText : List ℕ → Files → Files → List ℕ → Type 0
-CompiledText target all all' text = (p : tree.Source) × (file : List ℕ) × Means text p × IsProgram file p (identity_orders p.sites) × Replaces target file all all'
+CompiledText target all all' text = (p : tree.Source) × (file : List ℕ) × Means text p × IsProgram file p (in_text_order p.sites) × Replaces target file all all'
 
 replaced : (all all' : Files) (source target text file : List ℕ) → get all source ≡ Some text → IsFileOf text file → Replaces target file all all' → Compiled source target all all'
 replaced all all' source target text file found made writes =

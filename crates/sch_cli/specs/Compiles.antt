@@ -5,8 +5,9 @@ use Rattle.sch_io.specs.Files.{Files, Replaces, Spoils}
 use Rattle.sch_io.specs.Counters.{Rose}
 use Rattle.sch_io.specs.Told.{Tells}
 use Rattle.sch_lang.specs.Tree as tree
+use Rattle.sch_lang.specs.Run.{in_text_order}
 use Rattle.sch_cli.specs.declared.refusal.Refusal.{Refusal}
-use Rattle.sch_cli.specs.Headline.{IsProgram, identity_orders}
+use Rattle.sch_cli.specs.Headline.{IsProgram}
 use Rattle.sch_cli.specs.Pieces.{first_other}
 use Rattle.sch_cli.specs.Refusals.{source_limit, Means, IsRefused, refused_status, refused_line}
 
@@ -42,7 +43,7 @@ pub record IsSaid (source target : List ℕ) (status : ℕ) (files files' : Opti
 abbrev pub Compiled : List ℕ → List ℕ → Files → Files → Type 0
 Compiled source target before after =
     IsSomeAnd (get before source) (λ text. (p : tree.Source) × (file : List ℕ) ×
-    Means text p × IsProgram file p (identity_orders p.sites) × Replaces target file before after)
+    Means text p × IsProgram file p (in_text_order p.sites) × Replaces target file before after)
 
 -- How `compile` ends, by what is seen of the disk's files, faults and calls before and after, and by the
 -- line that is said.

@@ -1,5 +1,5 @@
 -- What it is for an image to do what a core program means.
-use Rattle.std.specs.Prelude.{◌≡◌, ◌≢◌, ℕ, zero, suc, List, [], ◌∷◌, IsTrue}
+use Rattle.std.specs.Prelude.{◌≡◌, ◌≢◌, ℕ, List, IsTrue}
 use Rattle.sch_word.specs.declared.answer.Answer.{Answer}
 use Rattle.sch_word.specs.Memory.{Segment}
 use Rattle.sch_word.specs.Runs.{Run, ended}
@@ -50,13 +50,3 @@ pub record IsProgram (file : List ℕ) (p : tree.Source) (table : List (List ℕ
   pub image : Image
   pub stands : StandsFor file image
   pub follows : Follows image.entry (memory image.segments) p table
-
--- ---- the order that the compiler chooses: from left to right at each site
-
-abbrev pub counting : (from count : ℕ) → List ℕ
-counting from zero = []
-counting from (suc count) = from ∷ counting (suc from) count
-
-abbrev pub identity_orders : (sites : List ℕ) → List (List ℕ)
-identity_orders [] = []
-identity_orders (width ∷ sites) = counting 0 width ∷ identity_orders sites

@@ -13,11 +13,12 @@ use Rattle.sch_elf.specs.Stands.{StandsFor}
 use Rattle.sch_elf.specs.Layout.{memory}
 use Rattle.sch_insn.specs.Behaves.{IsPrefix}
 use Rattle.sch_lang.specs.Tree as tree
+use Rattle.sch_lang.specs.Run.{in_text_order}
 use Rattle.sch_word.specs.Runs.{ended}
 use Rattle.sch_cli.specs.declared.refusal.Refusal.{Refusal}
 use Rattle.sch_cli.specs.Compiles.{Source}
 use Rattle.sch_cli.specs.Executes.{Executes}
-use Rattle.sch_cli.specs.Headline.{Follows, identity_orders, run_of}
+use Rattle.sch_cli.specs.Headline.{Follows, run_of}
 use Rattle.sch_cli.specs.Messages.{line_of, refusal_line}
 use Rattle.sch_cli.specs.Pieces.{first_other}
 use Rattle.sch_cli.specs.Refusals.{source_limit, Means, refused_status, refused_line}
@@ -92,14 +93,14 @@ pub data EndsStep (name : List ℕ) (steps status : ℕ) (seen : Seen) : Type 0 
 -- many procedure entries, ends so: with this status and this output, or the machine's steps are spent
 -- and it has put out a prefix of the run's output.
 pub record EndsAs (p : tree.Source) (steps : ℕ) (answers : List Answer) (status : ℕ) (output : List ℕ) : Type 0 where
-  pub spent : status ≡ 9 → IsPrefix output (run_of p (identity_orders p.sites) answers steps).output
-  pub status_is : status ≢ 9 → (run_of p (identity_orders p.sites) answers steps).end ≡ ended status
-  pub output_is : status ≢ 9 → (run_of p (identity_orders p.sites) answers steps).output ≡ output
+  pub spent : status ≡ 9 → IsPrefix output (run_of p (in_text_order p.sites) answers steps).output
+  pub status_is : status ≢ 9 → (run_of p (in_text_order p.sites) answers steps).end ≡ ended status
+  pub output_is : status ≢ 9 → (run_of p (in_text_order p.sites) answers steps).output ≡ output
 
 -- A core program was run: an image that does what it means was executed, and ended as it means.
 pub record RunsProgram (name : List ℕ) (p : tree.Source) (steps status : ℕ) (seen : Seen) : Type 0 where
   pub image : Image
-  pub follows : Follows image.entry (memory image.segments) p (identity_orders p.sites)
+  pub follows : Follows image.entry (memory image.segments) p (in_text_order p.sites)
   pub ran : Ran name image steps status seen
   pub under_given : EndsAs p steps ran.given status ran.output
   pub under_left : Tells seen.left seen.left_after (λ before after. EndsAs p steps before status ran.output)

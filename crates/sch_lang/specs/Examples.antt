@@ -7,7 +7,7 @@ use Rattle.sch_word.specs.Literals.{Literals, text, list, elements, no_literals,
 use Rattle.sch_word.specs.Literals as literals
 use Rattle.sch_word.specs.Runs.{Run, ended, going}
 use Rattle.sch_lang.specs.Tree.{Expression, constant, literal, local, global, set_local, set_global, define, branch, sequence, bind, fix, letrec, lambda, call, operation, no_lambdas, and_lambda, expressions, Source}
-use Rattle.sch_lang.specs.Run.{run}
+use Rattle.sch_lang.specs.Run.{run, in_text_order}
 
 -- ## Ways to write a program
 
@@ -46,15 +46,6 @@ program globals sites forms = record {
 }
 
 -- ## Ways to run it
-
-abbrev pub counting : (from count : ℕ) → List ℕ
-counting from zero = []
-counting from (suc count) = from ∷ counting (suc from) count
-
--- every site from left to right
-abbrev pub in_text_order : (sites : List ℕ) → List (List ℕ)
-in_text_order [] = []
-in_text_order (width ∷ sites) = counting 0 width ∷ in_text_order sites
 
 -- in the order of the text, with a heap of 4,096 bytes and a kernel that takes all
 abbrev pub plain_run : Source → (depth entries : ℕ) → Run

@@ -1,5 +1,5 @@
 -- What is seen of a program's run.
-use Rattle.std.specs.Prelude.{ℕ, Bool, true, false, ◌&&◌, nat_eq, List, [], ◌∷◌, length, Option, Some, None, slice_get}
+use Rattle.std.specs.Prelude.{ℕ, zero, suc, Bool, true, false, ◌&&◌, nat_eq, List, [], ◌∷◌, length, Option, Some, None, slice_get}
 use Rattle.std.specs.List.{list_all, count_by}
 use Rattle.sch_word.specs.declared.answer.Answer.{Answer}
 use Rattle.sch_word.specs.Values.{Value, unspecified}
@@ -28,6 +28,15 @@ abbrev pub is_order_table : (sites : List ℕ) → List (List ℕ) → Bool
 is_order_table [] [] = true
 is_order_table (width ∷ sites) (order ∷ table) = is_permutation width order && is_order_table sites table
 is_order_table _ _ = false
+
+abbrev pub counting : (from count : ℕ) → List ℕ
+counting from zero = []
+counting from (suc count) = from ∷ counting (suc from) count
+
+-- every site from left to right, as the text has its operands
+abbrev pub in_text_order : (sites : List ℕ) → List (List ℕ)
+in_text_order [] = []
+in_text_order (width ∷ sites) = counting 0 width ∷ in_text_order sites
 
 -- ## Runs
 
