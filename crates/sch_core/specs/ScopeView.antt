@@ -1,5 +1,6 @@
 -- What a contract sees of a scope, and what its table says.
 use Rattle.std.specs.Prelude.{◌≡◌, ℕ, cond, List, [], ◌∷◌, map, reverse, length, Option, Some, None, Vec}
+use Rattle.std.specs.Option.{option_flatten}
 use Rattle.std.specs.Str.{bytes_eq}
 use Rattle.indexmap.specs.IndexMap.{get_by}
 use Rattle.sch_core.specs.Scope.{Scope}
@@ -23,11 +24,7 @@ abbrev pub AreShadows : List Binding → Type 0
 AreShadows [] = Unit {0}
 AreShadows (b ∷ bs) = (b.shadowed ≡ farther_than b.name.items bs) × AreShadows bs
 
--- a name that is not in the table is not bound
-abbrev pub if_bound : Option (Option ℕ) → Option ℕ
-if_bound None = None
-if_bound (Some n) = n
-
+-- the table has for each name where its nearest variable stands; one that is not bound has none
 pub record IsTabled (s : Inside) : Type 0 where
-  pub nearest : (x : List ℕ) → if_bound (get_by (λ k. bytes_eq x k.items) s.nearest) ≡ farther_than x (reverse s.bound.items)
+  pub nearest : (x : List ℕ) → option_flatten (get_by (λ k. bytes_eq x k.items) s.nearest) ≡ farther_than x (reverse s.bound.items)
   pub shadows : AreShadows (reverse s.bound.items)

@@ -67,9 +67,9 @@ impl Scope {
     pub(crate) fn find(&self, x: &[u8]) -> Option<usize>
         ensures { result ≡ find self.now x.now }
     {
-        match self.nearest.get(x) {
-            Some(Some(farther)) => Some(self.bound.len() - 1 - *farther),
-            _ => None,
+        match self.nearest.get(x).copied().flatten() {
+            Some(farther) => Some(self.bound.len() - 1 - farther),
+            None => None,
         }
     }
 
@@ -81,10 +81,7 @@ impl Scope {
         let key = Vec::from_slice(alloc, x)?;
         let depth = self.bound.len();
         self.bound.reserve(1)?;
-        let shadowed = match self.nearest.insert(key, Some(depth))? {
-            Some(farther) => farther,
-            None => None,
-        };
+        let shadowed = self.nearest.insert(key, Some(depth))?.flatten();
         self.bound.push(Binding { name, shadowed })?;
         Ok(())
     }
