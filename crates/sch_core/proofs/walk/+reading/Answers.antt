@@ -1,4 +1,4 @@
-use Rattle.std.proofs.Common.{◌≡◌, ◌∙◌, rules, refl, ap, arith, length}
+use Rattle.std.proofs.Common.{◌∙◌, refl, ap, arith}
 use Rattle.sch_read.specs.Valid.{weight}
 use Rattle.sch_core.specs.NamesView.{names_of}
 use Rattle.sch_core.specs.Builds.{built_each, built_inits, built_parts}
@@ -42,22 +42,22 @@ read_begin-returns-clause-fault t c =
 
 pub read_list-returns-in-Form-clause-made : goal.read_list-returns-in-Form-clause-made
 read_list-returns-in-Form-clause-made t c =
-    let h = head_is _ _ _ _ _ _ _ c.head_of.ensures c.count.ensures c.in-Form.is in
+    let h = head_is (names_of c.args.globals.now) c.args.scope.now c.in-Some-name_of.x.now _ _ _ _ c.head_of.ensures c.count.ensures c.in-Form.is in
     rw (list_form (names_of c.args.globals.now) c.args.level c.args.scope.now c.args.position c.args.at c.in-Some.ensures c.in-Some-name_of.ensures h) c.read_form.ensures.made
 
 pub read_list-returns-in-Form-clause-fault : goal.read_list-returns-in-Form-clause-fault
 read_list-returns-in-Form-clause-fault t c =
-    let h = head_is _ _ _ _ _ _ _ c.head_of.ensures c.count.ensures c.in-Form.is in
+    let h = head_is (names_of c.args.globals.now) c.args.scope.now c.in-Some-name_of.x.now _ _ _ _ c.head_of.ensures c.count.ensures c.in-Form.is in
     rw (list_form_least (names_of c.args.globals.now) c.args.level c.args.scope.now c.args.position c.args.at c.in-Some.ensures c.in-Some-name_of.ensures h _) c.read_form.ensures.fault
 
 pub read_list-returns-in-Operating-clause-made : goal.read_list-returns-in-Operating-clause-made
 read_list-returns-in-Operating-clause-made t c =
-    let h = head_is _ _ _ _ _ _ _ c.head_of.ensures c.count.ensures c.in-Operating.is in
+    let h = head_is (names_of c.args.globals.now) c.args.scope.now c.in-Some-name_of.x.now _ _ _ _ c.head_of.ensures c.count.ensures c.in-Operating.is in
     rw (list_operation (names_of c.args.globals.now) c.args.level c.args.scope.now c.args.position c.args.at c.in-Some.ensures c.in-Some-name_of.ensures h) c.read_operation.ensures.made
 
 pub read_list-returns-in-Operating-clause-fault : goal.read_list-returns-in-Operating-clause-fault
 read_list-returns-in-Operating-clause-fault t c =
-    let h = head_is _ _ _ _ _ _ _ c.head_of.ensures c.count.ensures c.in-Operating.is in
+    let h = head_is (names_of c.args.globals.now) c.args.scope.now c.in-Some-name_of.x.now _ _ _ _ c.head_of.ensures c.count.ensures c.in-Operating.is in
     rw (list_operation_least (names_of c.args.globals.now) c.args.level c.args.scope.now c.args.position c.args.at c.in-Some.ensures c.in-Some-name_of.ensures h _) c.read_operation.ensures.fault
 
 pub read_each-read-requires : goal.read_each-read-requires
@@ -135,11 +135,10 @@ read_let-returns-in-Defining t c =
 
 pub read_let-returns : goal.read_let-returns
 read_let-returns t c =
-    let depth : c.depth.result ≡ length c.read_inits.new.scope = search rules in
     record {
       made = let_plain (names_of c.args.globals.now) c.args.level c.args.scope.now c.args.position c.in-Some.ensures c.in-Some-items_of.ensures c.in-Some-split.ensures c.in_ok-kind.ensures.kind c.in_default-kind.not-Bad c.in_default-kind-2.not-Defining
           c.in-Some-deeper.ensures _ _ c.add_bindings.new.scope c.in_ok-kind.ensures.scope c.in_ok-inits.ensures.scope c.in_ok-add_bindings.ensures.bound c.in_ok-made.ensures c.in_ok-inits.ensures.made c.in_ok-body.ensures.made;
       fault = let_plain_least (names_of c.args.globals.now) c.args.level c.args.scope.now c.args.position c.args.at c.in-Some.ensures c.in-Some-items_of.ensures c.in-Some-split.ensures c.in_ok-kind.ensures.kind c.in_default-kind.not-Bad c.in_default-kind-2.not-Defining
           c.in-Some-deeper.ensures _ _ c.add_bindings.new.scope c.in_ok-kind.ensures.scope c.in_ok-inits.ensures.scope c.in_ok-add_bindings.ensures.bound _ _ _ _ _ c.count.ensures c.note_operands.ensures c.in_ok-inits.ensures.fault c.in_ok-body.ensures.fault;
-      scope = left _ _ _ _ _ _ (c.in_ok-inits.ensures.scope ∙ c.in_ok-kind.ensures.scope) c.in_ok-add_bindings.ensures.kept c.in_ok-body.ensures.scope depth c.leave.ensures;
+      scope = left _ _ _ _ _ _ (c.in_ok-inits.ensures.scope ∙ c.in_ok-kind.ensures.scope) c.in_ok-add_bindings.ensures.kept c.in_ok-body.ensures.scope c.depth-depth.ensures c.leave.ensures;
     }

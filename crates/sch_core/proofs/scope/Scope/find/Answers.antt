@@ -1,4 +1,4 @@
-use Rattle.std.proofs.Common.{◌≡◌, ◌-◌, length, arith, ap, sym, ◌∙◌, Some}
+use Rattle.std.proofs.Common.{◌-◌, arith, ap, sym, ◌∙◌, Some}
 use Rattle.std.specs.Option.{option_flatten}
 use Rattle.sch_core.specs.Scope.{find}
 use Rattle.sch_core.proofs.Tabling.{tabled_found, tabled_missing}
