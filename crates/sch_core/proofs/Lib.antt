@@ -1,6 +1,6 @@
 pub mod Best
 pub mod Agree
-pub mod Finds
+pub mod Tabling
 pub mod NameLemmas
 pub mod Joining
 pub mod Loops

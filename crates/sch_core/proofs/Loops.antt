@@ -1,5 +1,5 @@
 -- What loops over data have built, and what is left.
-use Rattle.std.proofs.Common.{◌≡◌, ℕ, zero, suc, ◌+◌, ◌<◌, ◌≤◌, List, [], ◌∷◌, ◌++◌, length, map, drop, cond, false, get_or, nat_eq, refl, sym, ap, ◌∙◌, arith, add-one, drop-cons, Option}
+use Rattle.std.proofs.Common.{◌≡◌, ℕ, zero, suc, ◌+◌, ◌<◌, ◌≤◌, List, [], ◌∷◌, ◌++◌, length, map, drop, cond, false, get_or, nat_eq, refl, sym, ap, ◌∙◌, arith, add-one, drop-cons, Option, Some}
 use Rattle.std.proofs.lemmas.List.{drop_all, map-append}
 use Rattle.std.proofs.lemmas.Bool.Decides.{nat_tests}
 use Rattle.sch_read.specs.declared.datum.Datum.{Datum}
@@ -14,7 +14,7 @@ use Rattle.sch_core.specs.Following.{and_then}
 use Rattle.sch_read.specs.Grammar as grammar
 use Rattle.sch_core.specs.declared.word.Position.{Position}
 use Rattle.sch_core.specs.declared.word.Position.TheVariants.{Value}
-use Rattle.sch_core.specs.Scope.{Scope}
+use Rattle.sch_core.specs.Scope.{Scope, with_bindings}
 use Rattle.sch_core.specs.Builds.{built, built_each, built_inits, built_parts, least, least_each, least_inits, least_parts}
 use Rattle.sch_core.proofs.Steps.{is_none, part_made, part_least}
 use Rattle.sch_read.specs.Valid.{weight, weights}
@@ -39,6 +39,14 @@ and_then_more (a ∷ es) e rest = ap (and_draft a) (and_then_more es e rest)
 
 pub next_is : (items : List Datum) (i : ℕ) (d : Datum) → i < length items → d ≡ get_or items i d → drop i items ≡ d ∷ drop (suc i) items
 next_is items i d l e = drop-cons items i d l ∙ ap (λ a. a ∷ drop (suc i) items) (sym e)
+
+-- one binding more
+pub bound_next : (items : List Datum) (i : ℕ) (d : Datum) (s s' r : Scope) (x : List ℕ) {p q : ℕ} {init : grammar.Datum} → i < length items → d ≡ get_or items i d →
+    tree_of d ≡ grammar.list p (cons (grammar.atom q (grammar.symbol x)) (cons init none)) → s' ≡ Some x ∷ s → with_bindings (data_of (drop i items)) s ≡ r → with_bindings (data_of (drop (i + 1) items)) s' ≡ r
+bound_next items i d s s' r x l e shape more k =
+    let n = next_is items i d l e in
+    let k' = rw (n, shape) at k in
+    rw (add-one, more) k'
 
 pub next_made : (F : Data → Drafts) (items : List Datum) (all : List Draft) (i : ℕ) (d : Datum) (q : Draft) (r : Drafts) → i < length items → d ≡ get_or items i d →
     F (cons (tree_of d) (data_of (drop (suc i) items))) ≡ and_draft (draft_of q) (F (data_of (drop (suc i) items))) →

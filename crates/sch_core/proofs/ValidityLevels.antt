@@ -1,5 +1,5 @@
 -- The drafts of a text lie within the limit on levels.
-use Rattle.std.proofs.Common.{◌≡◌, ◌<◌, ◌≤◌, ℕ, zero, suc, ◌+◌, ◌-◌, List, [], ◌∷◌, ◌++◌, length, refl, ap, arith}
+use Rattle.std.proofs.Common.{◌≡◌, ◌<◌, ◌≤◌, ℕ, zero, suc, ◌+◌, ◌-◌, List, [], ◌∷◌, ◌++◌, length, refl, ap, ◌∙◌, arith}
 use Rattle.std.specs.Prelude.{max}
 use Rattle.std.proofs.lemmas.Bool.{leb-true}
 use Rattle.sch_word.specs.declared.primitive.Primitive.{Primitive}
@@ -9,7 +9,7 @@ use Rattle.sch_core.specs.declared.word.Keyword.{Keyword}
 use Rattle.sch_core.specs.declared.word.Position.{Position}
 use Rattle.sch_core.specs.declared.operation.Operation.{Operation}
 use Rattle.sch_core.specs.declared.operation.Operation.TheVariants.{Exact, Unit, UnitAnd, Nested, Chained, Newline}
-use Rattle.sch_core.specs.Draft.{Draft, Drafts, constant, local, global, define, branch, sequence, bind, operation, no_drafts, and_draft, drafts}
+use Rattle.sch_core.specs.Draft.{Draft, Drafts, constant, local, global, define, branch, sequence, bind, operation, no_drafts, and_draft, drafts, count}
 use Rattle.sch_core.specs.Scope.{Scope, how_many}
 use Rattle.sch_core.specs.Numbered.{widths, widths_of_each, numbered, numbered_each}
 use Rattle.sch_core.specs.Combined.{nested, nest, chained, chain, combined, whole_depth}
@@ -58,30 +58,43 @@ module _ (globals : List (List ℕ)) where
 
 -- ## Operations
 
-nested_levels : (p : Primitive) (k j : ℕ) → levels (nested p k j) ≤ k + 1
-nested_levels p zero j = omega arith
+nested_levels : (p : Primitive) (k j : ℕ) → levels (nested p k j) ≡ k + 1
+nested_levels p zero j = refl
 nested_levels p (suc k) j = omega (arith, nested_levels p k (j + 1))
 
-nest_levels : (p : Primitive) (n : ℕ) → 0 < n → levels (nest p n) ≤ n
+nest_levels : (p : Primitive) (n : ℕ) → 0 < n → levels (nest p n) ≡ n
 nest_levels p zero h = absurd (omega (arith, h))
 nest_levels p (suc k) h = omega (arith, nested_levels p k 0)
 
-chained_levels : (p : Primitive) (j : ℕ) → levels (chained p j) ≤ j + 1
-chained_levels p zero = omega arith
-chained_levels p (suc zero) = omega arith
+chained_levels : (p : Primitive) (j : ℕ) → levels (chained p j) ≡ j + 1
+chained_levels p zero = refl
+chained_levels p (suc zero) = refl
 chained_levels p (suc (suc j)) = omega (arith, chained_levels p (suc j))
 
-chain_levels : (p : Primitive) (n : ℕ) → 0 < n → levels (chain p n) ≤ n
+chain_levels : (p : Primitive) (n : ℕ) → 0 < n → levels (chain p n) ≡ n
 chain_levels p zero h = absurd (omega (arith, h))
 chain_levels p (suc j) h = omega (arith, chained_levels p j)
 
-combined_levels : (o : Operation) (n m : ℕ) (es : Drafts) → Admits o m → n + whole_depth o m ≤ 2000 → levels_each es ≤ 2001 - (n + 1) → levels (combined o m es) ≤ 2001 - n
-combined_levels (Exact p) n m es a l h = omega (arith, l, h)
-combined_levels (Unit p) n m es a l h = omega (arith, l, h)
-combined_levels (UnitAnd p) n m es a l h = omega (arith, l, h)
-combined_levels (Nested p) n m es a l h = omega (arith, l, h, nest_levels p m (omega (arith, a.0)))
-combined_levels (Chained p) n m es a l h = omega (arith, l, h, chain_levels p m (omega (arith, a.0)))
-combined_levels Newline n m es a l h = omega (arith, l, h)
+none_levels : (es : Drafts) → count es ≡ 0 → levels_each es ≡ 0
+none_levels no_drafts e = refl
+none_levels (and_draft x es) e = absurd cc
+
+-- The depth that is told of an operation is exactly that of the nodes which it makes.
+pub combined_levels : (o : Operation) (m : ℕ) (es : Drafts) → Admits o m → count es ≡ m → levels (combined o m es) ≡ 1 + max (whole_depth o m) (levels_each es)
+combined_levels (Exact p) m es a c = omega arith
+combined_levels (Unit p) m es a c = omega (arith, none_levels es (c ∙ a))
+combined_levels (UnitAnd p) m es a c = refl
+combined_levels (Nested p) m es a c = omega (arith, nest_levels p m (omega (arith, a.0)))
+combined_levels (Chained p) m es a c = omega (arith, chain_levels p m (omega (arith, a.0)))
+combined_levels Newline m es a c = omega (arith, none_levels es (c ∙ a))
+
+combined_within : (o : Operation) (n m : ℕ) (es : Drafts) → Admits o m → n + whole_depth o m ≤ 2000 → levels_each es ≤ 2001 - (n + 1) → levels (combined o m es) ≤ 2001 - n
+combined_within (Exact p) n m es a l h = omega (arith, l, h)
+combined_within (Unit p) n m es a l h = omega (arith, l, h)
+combined_within (UnitAnd p) n m es a l h = omega (arith, l, h)
+combined_within (Nested p) n m es a l h = omega (arith, l, h, nest_levels p m (omega (arith, a.0)))
+combined_within (Chained p) n m es a l h = omega (arith, l, h, chain_levels p m (omega (arith, a.0)))
+combined_within Newline n m es a l h = omega (arith, l, h)
 
 -- ## Data
 
@@ -98,7 +111,7 @@ module _ (globals : List (List ℕ)) where
     level (ex.a_global n s t at x e w d l) = omega (arith, within n l)
     level (ex.a_form n s t at q x xs k e h r) = level_form r
     level (ex.an_operation n s t at q x xs o es h w l r) =
-        combined_levels o n (how_many xs) es (operation_admits globals s x (how_many xs) o h) (within _ l) (level_each r)
+        combined_within o n (how_many xs) es (operation_admits globals s x (how_many xs) o h) (within _ l) (level_each r)
 
     level_form : {k : Keyword} {n : ℕ} {s : Scope} {t : Position} {xs : Data} {e : Draft} → FormExpands globals k n s t xs e → levels e ≤ 2001 - n
     level_form (ex.quote_boolean n s t q b l) = omega (arith, within n l)

@@ -4,6 +4,7 @@ pub mod FaultOrder
 pub mod Draft
 pub mod DraftView
 pub mod Scope
+pub mod ScopeView
 pub mod Definitions
 pub mod Combined
 pub mod Expands

@@ -53,7 +53,7 @@ fn after_part(is_last: bool, e: &Draft, bound: usize, left: usize) -> Option<usi
 /// What is left of `left` variables once a draft has its own, if there are enough.
 #[cycle(counting)]
 fn after(e: &Draft, bound: usize, left: usize) -> Option<usize>
-    requires { bound + left ≤ 1000 }
+    requires { bound + left ≤ most_body_variables }
     ensures { MatchOption result (left < variables_of (draft_of e.now) bound) (λ rest. rest + variables_of (draft_of e.now) bound ≡ left) }
 {
     match e {
@@ -86,7 +86,7 @@ fn after(e: &Draft, bound: usize, left: usize) -> Option<usize>
 /// The same for the inits of a binding.
 #[cycle(counting)]
 fn after_each(es: &[Draft], bound: usize, left: usize) -> Option<usize>
-    requires { bound + left ≤ 1000 }
+    requires { bound + left ≤ most_body_variables }
     ensures { MatchOption result (left < variables_of_each (drafts_of es.now) bound) (λ rest. rest + variables_of_each (drafts_of es.now) bound ≡ left) }
 {
     let mut rest = left;
@@ -99,7 +99,7 @@ fn after_each(es: &[Draft], bound: usize, left: usize) -> Option<usize>
 /// The same for operands.
 #[cycle(counting)]
 fn after_operands(es: &[Draft], bound: usize, left: usize) -> Option<usize>
-    requires { bound + left ≤ 1000 }
+    requires { bound + left ≤ most_body_variables }
     ensures { MatchOption result (left < variables_of_operands (drafts_of es.now) bound) (λ rest. rest + variables_of_operands (drafts_of es.now) bound ≡ left) }
 {
     let mut rest = left;
@@ -113,7 +113,7 @@ fn after_operands(es: &[Draft], bound: usize, left: usize) -> Option<usize>
 /// The same for the parts of a sequence.
 #[cycle(counting)]
 fn after_parts(es: &[Draft], bound: usize, left: usize) -> Option<usize>
-    requires { bound + left ≤ 1000 }
+    requires { bound + left ≤ most_body_variables }
     ensures { MatchOption result (left < variables_of_parts (drafts_of es.now) bound) (λ rest. rest + variables_of_parts (drafts_of es.now) bound ≡ left) }
 {
     let mut rest = left;

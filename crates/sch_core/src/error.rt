@@ -41,7 +41,7 @@ pub enum CoreError {
     #[error("out of memory")]
     Memory,
     /// A form that is not built yet.
-    #[error("byte {0}: unbuilt")]
+    #[error("byte {0}: not built")]
     Unbuilt(u32),
 }
 

@@ -12,6 +12,7 @@ ghost use Rattle.sch_read.specs.Valid.{weights};
 use crate::assembly::assemble;
 use crate::crowd::first_crowded;
 use crate::error::{CoreError, Kind, error_of};
+use crate::nesting::is_walkable;
 use crate::places::place_forms;
 use crate::text::expand;
 use sch_lang::Program;
@@ -19,7 +20,8 @@ use sch_read::Datum;
 use sch_word::List;
 use std::alloc::Global;
 
-/// The program of a text, or why it has none: the least place, and there the first cause.
+/// The program of a text, or why it has none: the least place, and there the first cause. Data of more
+/// than 4,000 levels of lists are want of memory.
 pub fn core(alloc: Global, items: &[Datum]) -> Result<Program, CoreError>
     requires light { weights (data_of items.now) ≤ 7340032 }
     ensures found { IfOk result (λ p. IsProgramOf (data_of items.now) (source p)) }
@@ -27,6 +29,9 @@ pub fn core(alloc: Global, items: &[Datum]) -> Result<Program, CoreError>
     ensures only { (p : Source) → IsProgramOf (data_of items.now) p → MatchResult result (λ q. source q ≡ p) (λ e. e ≡ CoreError.Memory) }
     ensures fault { IfErr result (IsErrorIn (data_of items.now)) }
 {
+    if !is_walkable(items) {
+        return Err(CoreError::Memory);
+    }
     let drafts = match expand(alloc, items)? {
         Ok(drafts) => drafts,
         Err(f) => return Err(error_of(f)),

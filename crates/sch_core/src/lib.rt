@@ -10,6 +10,7 @@ mod fault;
 mod forms;
 mod laws;
 mod names;
+mod nesting;
 mod notes;
 mod number;
 mod operation;

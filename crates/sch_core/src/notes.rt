@@ -1,6 +1,6 @@
 //! Faults that are noted.
 
-ghost use Rattle.std.specs.Prelude.{◌≡◌, ◌+◌, ◌<◌, ◌≤◌, true, false, reverse, length, nat_le, MatchOption, OnOk};
+ghost use Rattle.std.specs.Prelude.{◌≡◌, ◌+◌, ◌<◌, ◌≤◌, true, false, length, nat_le, MatchOption, OnOk};
 ghost use Rattle.sch_lang.specs.Valid.{most_levels, most_operands};
 ghost use Rattle.sch_read.specs.Grammar.{none, cons};
 ghost use Rattle.sch_read.specs.Views.{tree_of, data_of};
@@ -19,10 +19,10 @@ use crate::fault::{Fault, note};
 use crate::names::Names;
 use crate::operation::Operation;
 use crate::parts::{count, place_of, split};
-use crate::scope::find;
+use crate::scope::Scope;
 use crate::word::{Keyword, keyword_of};
 use sch_read::Datum;
-use sch_word::{Bytes, Const, List, Mem};
+use sch_word::{Const, List, Mem};
 use std::alloc::Global;
 
 const MOST_LEVELS: u32 = 2000;
@@ -67,15 +67,15 @@ pub(crate) fn note_operands(at: u32, count: usize, fault: &mut Option<Fault>)
 pub(crate) fn note_name(
     alloc: Global,
     globals: &Names,
-    scope: &[Option<Bytes>],
+    scope: &Scope,
     level: u32,
     at: u32,
     x: &[u8],
     fault: &mut Option<Fault>,
 ) -> Result<(), Mem>
-    ensures { OnOk result (fault.new ≡ all_noted (name_faults (find (reverse scope.now) x.now) (keyword_of x.now) (is_among x.now (names_of globals.now)) level at x.now) fault.old) }
+    ensures { OnOk result (fault.new ≡ all_noted (name_faults (find scope.now x.now) (keyword_of x.now) (is_among x.now (names_of globals.now)) level at x.now) fault.old) }
 {
-    if let Some(_) = find(scope, x) {
+    if let Some(_) = scope.find(x) {
         note_level(level, 0, at, fault);
         return Ok(());
     }

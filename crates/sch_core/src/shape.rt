@@ -1,6 +1,6 @@
 //! The shapes of bodies and bindings.
 
-ghost use Rattle.std.specs.Prelude.{◌≡◌, [], ◌∷◌, ◌++◌, ◌≤◌, cond, true, false, reverse, length, take, drop, IfOk, OnOk};
+ghost use Rattle.std.specs.Prelude.{◌≡◌, [], ◌∷◌, ◌++◌, ◌≤◌, ◌-◌, cond, true, false, length, drop, IfOk, OnOk};
 ghost use Rattle.sch_read.specs.Grammar.{none, cons};
 ghost use Rattle.sch_read.specs.Views.{tree_of, data_of};
 ghost use Rattle.sch_core.specs.Definitions.{is_definition, are_definitions};
@@ -11,16 +11,16 @@ ghost use Rattle.sch_core.specs.LetKinds.{let_kind};
 
 use crate::names::Names;
 use crate::parts::{binding_of, items_of, name_of, split};
-use crate::scope::{Scope, find};
+use crate::scope::Scope;
 use crate::word::{Keyword, keyword_of};
 use sch_read::Datum;
-use sch_word::{Bytes, List, Mem};
+use sch_word::Mem;
 use std::alloc::Global;
 
 /// Whether a part of a body is a definition.
 #[cycle(defining)]
-pub(crate) fn is_definition(scope: &[Option<Bytes>], d: &Datum) -> bool
-    ensures { result ≡ is_definition (reverse scope.now) (tree_of d.now) }
+pub(crate) fn is_definition(scope: &Scope, d: &Datum) -> bool
+    ensures { result ≡ is_definition scope.now (tree_of d.now) }
 {
     let Some(items) = items_of(d) else {
         return false;
@@ -31,7 +31,7 @@ pub(crate) fn is_definition(scope: &[Option<Bytes>], d: &Datum) -> bool
     let Some(x) = name_of(operator) else {
         return false;
     };
-    if let Some(_) = find(scope, x) {
+    if let Some(_) = scope.find(x) {
         return false;
     }
     match keyword_of(x) {
@@ -43,8 +43,8 @@ pub(crate) fn is_definition(scope: &[Option<Bytes>], d: &Datum) -> bool
 
 /// Whether all data are definitions.
 #[cycle(defining)]
-fn are_definitions(scope: &[Option<Bytes>], items: &[Datum]) -> bool
-    ensures { result ≡ are_definitions (reverse scope.now) (data_of items.now) }
+fn are_definitions(scope: &Scope, items: &[Datum]) -> bool
+    ensures { result ≡ are_definitions scope.now (data_of items.now) }
 {
     for d in items {
         if !is_definition(scope, d) {
@@ -75,15 +75,14 @@ fn are_bindings(alloc: Global, items: &[Datum]) -> Result<bool, Mem>
 
 /// Adds the names of bindings to a scope.
 pub(crate) fn add_bindings(alloc: Global, scope: &mut Scope, items: &[Datum]) -> Result<(), Mem>
-    ensures bound { OnOk result (reverse scope.new.items ≡ with_bindings (data_of items.now) (reverse scope.old.items)) }
-    ensures kept { OnOk result (take (length scope.old.items) scope.new.items ≡ scope.old.items) }
+    ensures bound { OnOk result (scope.new ≡ with_bindings (data_of items.now) scope.old) }
+    ensures kept { OnOk result (drop (length scope.new - length scope.old) scope.new ≡ scope.old) }
 {
     for d in items {
         match binding_of(d) {
             None => return Ok(()),
             Some((x, _)) => {
-                let name = List::from_slice(alloc, x)?;
-                scope.push(Some(name))?;
+                scope.bind(alloc, x)?;
             }
         }
     }
@@ -108,17 +107,17 @@ pub(crate) fn let_kind(
     first: &Datum,
     body: &[Datum],
 ) -> Result<LetKind, Mem>
-    ensures kind { IfOk result (λ k. k ≡ let_kind (reverse scope.old.items) (data_of bindings.now) (tree_of first.now) (data_of body.now)) }
-    ensures scope { OnOk result (scope.new.items ≡ scope.old.items) }
+    ensures kind { IfOk result (λ k. k ≡ let_kind scope.old (data_of bindings.now) (tree_of first.now) (data_of body.now)) }
+    ensures scope { OnOk result (scope.new ≡ scope.old) }
 {
     if !are_bindings(alloc, bindings)? {
         return Ok(LetKind::Bad);
     }
-    let depth = scope.len();
+    let depth = scope.depth();
     add_bindings(alloc, scope, bindings)?;
-    let only = are_definitions(scope.as_slice(), body);
-    let defines = is_definition(scope.as_slice(), first);
-    scope.truncate(depth);
+    let only = are_definitions(scope, body);
+    let defines = is_definition(scope, first);
+    scope.leave(depth);
     if only {
         Ok(LetKind::Bad)
     } else if defines {

@@ -1,6 +1,11 @@
+ghost use Rattle.std.specs.Prelude.{◌≡◌, ◌+◌, ◌*◌, IfOk};
+ghost use Rattle.sch_read.specs.Valid.{weight};
+ghost use Rattle.sch_read.specs.Views.{tree_of};
+
 use crate::{CoreError, Kind, core};
 use sch_lang::Program;
-use sch_read::read_all;
+use sch_read::{Datum, Node, read_all};
+use sch_word::{List, Mem};
 use std::alloc::Global;
 use std::test::Fail;
 
@@ -35,7 +40,7 @@ fn cause(alloc: Global, text: &[u8]) -> (u8, u32) {
 
 #[test]
 fn refuses_each_at_its_place(rt: HostRuntime) -> Result<(), Fail> {
-    let rows: [(&[u8], (u8, u32)); 30] = [
+    let rows: [(&[u8], (u8, u32)); 32] = [
         (b"", (0, 0)),
         (b"(display 1)(newline)(display #\\a)", (0, 0)),
         (
@@ -48,6 +53,8 @@ fn refuses_each_at_its_place(rt: HostRuntime) -> Result<(), Fail> {
             (0, 0),
         ),
         (b"(let ((if 1) (display 2)) if)", (0, 0)),
+        (b"(let ((if 1)) (let ((if 2)) if) (if 1 2 3))", (6, 32)),
+        (b"(let ((x 1)) (let ((x 2)) x) x) x", (2, 32)),
         (b"(let ((if 1)) (if 1 2 3))", (6, 14)),
         (b"(let ((display 1)) (display 2))", (6, 19)),
         (b"(display 1) (define display 2)", (6, 0)),
@@ -161,5 +168,37 @@ fn counts_variables(rt: HostRuntime) -> Result<(), Fail> {
             expected
         );
     }
+    Ok(())
+}
+
+// A boolean in so many `begin`s.
+fn in_beginnings(alloc: Global, levels: u32) -> Result<Datum, Mem>
+    ensures { IfOk result (λ d. weight (tree_of d) ≡ 1 + 7 * levels) }
+{
+    let node = Node::Boolean(true);
+    let mut d = Datum { at: 0, node };
+    for _ in 0..levels {
+        let node = Node::Symbol(List::from_slice(alloc, b"begin")?);
+        let mut items = List::new(alloc);
+        items.push(Datum { at: 0, node })?;
+        items.push(d)?;
+        let node = Node::List(items, None);
+        d = Datum { at: 0, node };
+    }
+    Ok(d)
+}
+
+// Whether a boolean in so many `begin`s is expanded.
+fn is_expanded(alloc: Global, levels: u32) -> Result<bool, Mem> {
+    let mut items = List::new(alloc);
+    items.push(in_beginnings(alloc, levels.min(1_000_000))?)?;
+    Ok(core(alloc, items.as_slice()).is_ok())
+}
+
+#[test]
+fn very_deep_data_are_want_of_memory(rt: HostRuntime) -> Result<(), Fail> {
+    assert_eq!(rt; is_expanded(rt.alloc(), 4_000)?, true);
+    assert_eq!(rt; is_expanded(rt.alloc(), 4_001)?, false);
+    assert_eq!(rt; is_expanded(rt.alloc(), 300_000)?, false);
     Ok(())
 }

@@ -1,6 +1,6 @@
 //! The top-level forms of a text.
 
-ghost use Rattle.std.specs.Prelude.{◌≡◌, ◌++◌, [], ◌∷◌, None, Some, cond, map, reverse, IfOk, OnOk, MatchOption, MatchResult};
+ghost use Rattle.std.specs.Prelude.{◌≡◌, ◌++◌, [], ◌∷◌, None, Some, cond, map, IfOk, OnOk, MatchOption, MatchResult};
 ghost use Rattle.sch_read.specs.Grammar.{none, cons, list, Data};
 ghost use Rattle.sch_read.specs.Views.{tree_of, data_of};
 ghost use Rattle.sch_core.specs.Draft.{define};
@@ -18,6 +18,7 @@ use crate::draft::Draft;
 use crate::fault::{Fault, note};
 use crate::names::Names;
 use crate::parts::{items_of, name_of, place_of, split};
+use crate::scope::Scope;
 use crate::walk::read;
 use crate::word::{Keyword, Position, keyword_of};
 use sch_read::{Datum, Node};
@@ -159,7 +160,7 @@ fn read_expression(
     ensures made { OnOk result (map draft_of all.new ≡ map draft_of all.old ++ built (names_of globals.now) 1 [] Value (tree_of d.now) ∷ []) }
     ensures fault { OnOk result (fault.new ≡ least (names_of globals.now) 1 [] Value (tree_of d.now) fault.old) }
 {
-    let mut scope = Vec::new(alloc);
+    let mut scope = Scope::new(alloc);
     let e = read(alloc, globals, d, 1, Position::Value, &mut scope, fault)?;
     all.push(e)?;
     Ok(())
@@ -186,7 +187,7 @@ fn read_value(
         note(fault, Fault::BadForm(at));
         return Ok(());
     }
-    let mut scope = Vec::new(alloc);
+    let mut scope = Scope::new(alloc);
     let value = read(alloc, globals, e, 2, Position::Value, &mut scope, fault)?;
     let definition = definition(alloc, v, value)?;
     all.push(definition)?;

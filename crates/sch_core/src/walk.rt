@@ -1,6 +1,6 @@
 //! From data to drafts.
 
-ghost use Rattle.std.specs.Prelude.{◌≡◌, [], ◌∷◌, ◌++◌, ◌+◌, cond, reverse, length, map, IfOk, OnOk};
+ghost use Rattle.std.specs.Prelude.{◌≡◌, [], ◌∷◌, ◌++◌, ◌+◌, cond, length, map, IfOk, OnOk};
 ghost use Rattle.sch_read.specs.Grammar.{none, cons, list, atom, symbol};
 ghost use Rattle.sch_read.specs.Views.{tree_of, data_of};
 ghost use Rattle.sch_core.specs.declared.word.Keyword.TheVariants.{If, Let, Begin};
@@ -38,11 +38,11 @@ fn read_name(
     scope: &Scope,
     fault: &mut Option<Fault>,
 ) -> Result<Draft, Mem>
-    ensures made { IfOk result (λ e. draft_of e ≡ built (names_of globals.now) level (reverse scope.now.items) position (atom at (symbol x.now))) }
-    ensures fault { OnOk result (fault.new ≡ least (names_of globals.now) level (reverse scope.now.items) position (atom at (symbol x.now)) fault.old) }
+    ensures made { IfOk result (λ e. draft_of e ≡ built (names_of globals.now) level scope.now position (atom at (symbol x.now))) }
+    ensures fault { OnOk result (fault.new ≡ least (names_of globals.now) level scope.now position (atom at (symbol x.now)) fault.old) }
 {
-    note_name(alloc, globals, scope.as_slice(), level, at, x, fault)?;
-    variable(alloc, scope.as_slice(), x)
+    note_name(alloc, globals, scope, level, at, x, fault)?;
+    variable(alloc, scope, x)
 }
 
 /// The position of a part of a sequence.
@@ -63,9 +63,9 @@ pub(crate) fn read(
     scope: &mut Scope,
     fault: &mut Option<Fault>,
 ) -> Result<Draft, Mem>
-    ensures made { IfOk result (λ e. draft_of e ≡ built (names_of globals.now) level (reverse scope.old.items) position (tree_of d.now)) }
-    ensures fault { OnOk result (fault.new ≡ least (names_of globals.now) level (reverse scope.old.items) position (tree_of d.now) fault.old) }
-    ensures scope { OnOk result (scope.new.items ≡ scope.old.items) }
+    ensures made { IfOk result (λ e. draft_of e ≡ built (names_of globals.now) level scope.old position (tree_of d.now)) }
+    ensures fault { OnOk result (fault.new ≡ least (names_of globals.now) level scope.old position (tree_of d.now) fault.old) }
+    ensures scope { OnOk result (scope.new ≡ scope.old) }
 {
     if let Some(items) = items_of(d) {
         return read_list(
@@ -106,9 +106,9 @@ fn read_list(
     scope: &mut Scope,
     fault: &mut Option<Fault>,
 ) -> Result<Draft, Mem>
-    ensures made { IfOk result (λ e. draft_of e ≡ built (names_of globals.now) level (reverse scope.old.items) position (list at (data_of items.now))) }
-    ensures fault { OnOk result (fault.new ≡ least (names_of globals.now) level (reverse scope.old.items) position (list at (data_of items.now)) fault.old) }
-    ensures scope { OnOk result (scope.new.items ≡ scope.old.items) }
+    ensures made { IfOk result (λ e. draft_of e ≡ built (names_of globals.now) level scope.old position (list at (data_of items.now))) }
+    ensures fault { OnOk result (fault.new ≡ least (names_of globals.now) level scope.old position (list at (data_of items.now)) fault.old) }
+    ensures scope { OnOk result (scope.new ≡ scope.old) }
 {
     let Some((operator, others)) = split(items) else {
         return Ok(bad(at, fault));
@@ -116,7 +116,7 @@ fn read_list(
     let Some(x) = name_of(operator) else {
         return Ok(unbuilt(at, fault));
     };
-    match head_of(globals, scope.as_slice(), x, count(others)) {
+    match head_of(globals, scope, x, count(others)) {
         Head::Form(k) => read_form(alloc, globals, k, at, others, level, position, scope, fault),
         Head::Operating(o) => read_operation(alloc, globals, o, at, others, level, scope, fault),
         Head::Calling => Ok(unbuilt(at, fault)),
@@ -135,9 +135,9 @@ fn read_operation(
     scope: &mut Scope,
     fault: &mut Option<Fault>,
 ) -> Result<Draft, Mem>
-    ensures made { IfOk result (λ e. draft_of e ≡ built_operation (names_of globals.now) o level (reverse scope.old.items) (data_of items.now)) }
-    ensures fault { OnOk result (fault.new ≡ least_operation (names_of globals.now) o at level (reverse scope.old.items) (data_of items.now) fault.old) }
-    ensures scope { OnOk result (scope.new.items ≡ scope.old.items) }
+    ensures made { IfOk result (λ e. draft_of e ≡ built_operation (names_of globals.now) o level scope.old (data_of items.now)) }
+    ensures fault { OnOk result (fault.new ≡ least_operation (names_of globals.now) o at level scope.old (data_of items.now) fault.old) }
+    ensures scope { OnOk result (scope.new ≡ scope.old) }
 {
     let n = count(items);
     note_operands(at, n, fault);
@@ -166,9 +166,9 @@ fn read_form(
     scope: &mut Scope,
     fault: &mut Option<Fault>,
 ) -> Result<Draft, Mem>
-    ensures made { IfOk result (λ e. draft_of e ≡ built_form (names_of globals.now) k level (reverse scope.old.items) position (data_of items.now)) }
-    ensures fault { OnOk result (fault.new ≡ least_form (names_of globals.now) k at level (reverse scope.old.items) position (data_of items.now) fault.old) }
-    ensures scope { OnOk result (scope.new.items ≡ scope.old.items) }
+    ensures made { IfOk result (λ e. draft_of e ≡ built_form (names_of globals.now) k level scope.old position (data_of items.now)) }
+    ensures fault { OnOk result (fault.new ≡ least_form (names_of globals.now) k at level scope.old position (data_of items.now) fault.old) }
+    ensures scope { OnOk result (scope.new ≡ scope.old) }
 {
     match k {
         Keyword::Quote => Ok(read_quote(items, level, at, fault)),
@@ -191,9 +191,9 @@ fn read_if(
     scope: &mut Scope,
     fault: &mut Option<Fault>,
 ) -> Result<Draft, Mem>
-    ensures made { IfOk result (λ e. draft_of e ≡ built_form (names_of globals.now) If level (reverse scope.old.items) position (data_of items.now)) }
-    ensures fault { OnOk result (fault.new ≡ least_form (names_of globals.now) If at level (reverse scope.old.items) position (data_of items.now) fault.old) }
-    ensures scope { OnOk result (scope.new.items ≡ scope.old.items) }
+    ensures made { IfOk result (λ e. draft_of e ≡ built_form (names_of globals.now) If level scope.old position (data_of items.now)) }
+    ensures fault { OnOk result (fault.new ≡ least_form (names_of globals.now) If at level scope.old position (data_of items.now) fault.old) }
+    ensures scope { OnOk result (scope.new ≡ scope.old) }
 {
     let Some((a, others)) = split(items) else {
         return Ok(bad(at, fault));
@@ -235,9 +235,9 @@ fn read_begin(
     scope: &mut Scope,
     fault: &mut Option<Fault>,
 ) -> Result<Draft, Mem>
-    ensures made { IfOk result (λ e. draft_of e ≡ built_form (names_of globals.now) Begin level (reverse scope.old.items) position (data_of items.now)) }
-    ensures fault { OnOk result (fault.new ≡ least_form (names_of globals.now) Begin at level (reverse scope.old.items) position (data_of items.now) fault.old) }
-    ensures scope { OnOk result (scope.new.items ≡ scope.old.items) }
+    ensures made { IfOk result (λ e. draft_of e ≡ built_form (names_of globals.now) Begin level scope.old position (data_of items.now)) }
+    ensures fault { OnOk result (fault.new ≡ least_form (names_of globals.now) Begin at level scope.old position (data_of items.now) fault.old) }
+    ensures scope { OnOk result (scope.new ≡ scope.old) }
 {
     let Some((e, others)) = split(items) else {
         return Ok(bad(at, fault));
@@ -264,9 +264,9 @@ fn read_let(
     scope: &mut Scope,
     fault: &mut Option<Fault>,
 ) -> Result<Draft, Mem>
-    ensures made { IfOk result (λ e. draft_of e ≡ built_form (names_of globals.now) Let level (reverse scope.old.items) position (data_of items.now)) }
-    ensures fault { OnOk result (fault.new ≡ least_form (names_of globals.now) Let at level (reverse scope.old.items) position (data_of items.now) fault.old) }
-    ensures scope { OnOk result (scope.new.items ≡ scope.old.items) }
+    ensures made { IfOk result (λ e. draft_of e ≡ built_form (names_of globals.now) Let level scope.old position (data_of items.now)) }
+    ensures fault { OnOk result (fault.new ≡ least_form (names_of globals.now) Let at level scope.old position (data_of items.now) fault.old) }
+    ensures scope { OnOk result (scope.new ≡ scope.old) }
 {
     let Some((bindings, body)) = split(items) else {
         return Ok(bad(at, fault));
@@ -292,10 +292,10 @@ fn read_let(
     if let LetKind::Defining = kind {
         return Ok(unbuilt(place_of(first), fault));
     }
-    let depth = scope.len();
+    let depth = scope.depth();
     add_bindings(alloc, scope, bound)?;
     let body = read_begin(alloc, globals, at, body, next, position, scope, fault)?;
-    scope.truncate(depth);
+    scope.leave(depth);
     let made = bind(alloc, inits, body)?;
     Ok(made)
 }
@@ -310,9 +310,9 @@ fn read_each(
     scope: &mut Scope,
     fault: &mut Option<Fault>,
 ) -> Result<List<Draft>, Mem>
-    ensures made { IfOk result (λ es. drafts_of es ≡ built_each (names_of globals.now) level (reverse scope.old.items) (data_of items.now)) }
-    ensures fault { OnOk result (fault.new ≡ least_each (names_of globals.now) level (reverse scope.old.items) (data_of items.now) fault.old) }
-    ensures scope { OnOk result (scope.new.items ≡ scope.old.items) }
+    ensures made { IfOk result (λ es. drafts_of es ≡ built_each (names_of globals.now) level scope.old (data_of items.now)) }
+    ensures fault { OnOk result (fault.new ≡ least_each (names_of globals.now) level scope.old (data_of items.now) fault.old) }
+    ensures scope { OnOk result (scope.new ≡ scope.old) }
 {
     let mut all = List::new(alloc);
     for d in items {
@@ -332,9 +332,9 @@ fn read_inits(
     scope: &mut Scope,
     fault: &mut Option<Fault>,
 ) -> Result<List<Draft>, Mem>
-    ensures made { IfOk result (λ es. drafts_of es ≡ built_inits (names_of globals.now) level (reverse scope.old.items) (data_of items.now)) }
-    ensures fault { OnOk result (fault.new ≡ least_inits (names_of globals.now) level (reverse scope.old.items) (data_of items.now) fault.old) }
-    ensures scope { OnOk result (scope.new.items ≡ scope.old.items) }
+    ensures made { IfOk result (λ es. drafts_of es ≡ built_inits (names_of globals.now) level scope.old (data_of items.now)) }
+    ensures fault { OnOk result (fault.new ≡ least_inits (names_of globals.now) level scope.old (data_of items.now) fault.old) }
+    ensures scope { OnOk result (scope.new ≡ scope.old) }
 {
     let mut all = List::new(alloc);
     for d in items {
@@ -358,9 +358,9 @@ fn read_parts(
     scope: &mut Scope,
     fault: &mut Option<Fault>,
 ) -> Result<List<Draft>, Mem>
-    ensures made { IfOk result (λ es. drafts_of es ≡ built_parts (names_of globals.now) level (reverse scope.old.items) position (data_of items.now)) }
-    ensures fault { OnOk result (fault.new ≡ least_parts (names_of globals.now) level (reverse scope.old.items) position (data_of items.now) fault.old) }
-    ensures scope { OnOk result (scope.new.items ≡ scope.old.items) }
+    ensures made { IfOk result (λ es. drafts_of es ≡ built_parts (names_of globals.now) level scope.old position (data_of items.now)) }
+    ensures fault { OnOk result (fault.new ≡ least_parts (names_of globals.now) level scope.old position (data_of items.now) fault.old) }
+    ensures scope { OnOk result (scope.new ≡ scope.old) }
 {
     let mut all = List::new(alloc);
     let n = items.len();

@@ -1,4 +1,4 @@
-use Rattle.std.proofs.Common.{◌≡◌, ◌+◌, ◌*◌, reverse, map, drop}
+use Rattle.std.proofs.Common.{◌≡◌, ◌+◌, ◌*◌, map, drop}
 use Rattle.sch_read.specs.Valid.{weight, weights}
 use Rattle.sch_read.specs.Views.{tree_of, data_of}
 use Rattle.sch_core.specs.DraftView.{draft_of}
@@ -9,23 +9,23 @@ use Rattle.sch_core.proofs.walk.+reading.Given as goal
 
 abbrev pub invariant-read_each-loop-d : goal.invariant-read_each-loop-d
 invariant-read_each-loop-d l = record {
-  made : and_then (map draft_of l.all) (built_each (names_of l.globals) l.level (reverse l.scope.items) (data_of (drop l.d-index l.items))) ≡ built_each (names_of l.globals) l.level (reverse l.initial.scope.items) (data_of l.items);
-  fault : least_each (names_of l.globals) l.level (reverse l.scope.items) (data_of (drop l.d-index l.items)) l.fault ≡ least_each (names_of l.globals) l.level (reverse l.initial.scope.items) (data_of l.items) l.initial.fault;
-  scope : l.scope.items ≡ l.initial.scope.items;
+  made : and_then (map draft_of l.all) (built_each (names_of l.globals) l.level l.scope (data_of (drop l.d-index l.items))) ≡ built_each (names_of l.globals) l.level l.initial.scope (data_of l.items);
+  fault : least_each (names_of l.globals) l.level l.scope (data_of (drop l.d-index l.items)) l.fault ≡ least_each (names_of l.globals) l.level l.initial.scope (data_of l.items) l.initial.fault;
+  scope : l.scope ≡ l.initial.scope;
 }
 
 abbrev pub invariant-read_inits-loop-d : goal.invariant-read_inits-loop-d
 invariant-read_inits-loop-d l = record {
-  made : and_then (map draft_of l.all) (built_inits (names_of l.globals) l.level (reverse l.scope.items) (data_of (drop l.d-index l.items))) ≡ built_inits (names_of l.globals) l.level (reverse l.initial.scope.items) (data_of l.items);
-  fault : least_inits (names_of l.globals) l.level (reverse l.scope.items) (data_of (drop l.d-index l.items)) l.fault ≡ least_inits (names_of l.globals) l.level (reverse l.initial.scope.items) (data_of l.items) l.initial.fault;
-  scope : l.scope.items ≡ l.initial.scope.items;
+  made : and_then (map draft_of l.all) (built_inits (names_of l.globals) l.level l.scope (data_of (drop l.d-index l.items))) ≡ built_inits (names_of l.globals) l.level l.initial.scope (data_of l.items);
+  fault : least_inits (names_of l.globals) l.level l.scope (data_of (drop l.d-index l.items)) l.fault ≡ least_inits (names_of l.globals) l.level l.initial.scope (data_of l.items) l.initial.fault;
+  scope : l.scope ≡ l.initial.scope;
 }
 
 abbrev pub invariant-read_parts-loop-i : goal.invariant-read_parts-loop-i
 invariant-read_parts-loop-i l = record {
-  made : and_then (map draft_of l.all) (built_parts (names_of l.globals) l.level (reverse l.scope.items) l.position (data_of (drop l.i l.items))) ≡ built_parts (names_of l.globals) l.level (reverse l.initial.scope.items) l.position (data_of l.items);
-  fault : least_parts (names_of l.globals) l.level (reverse l.scope.items) l.position (data_of (drop l.i l.items)) l.fault ≡ least_parts (names_of l.globals) l.level (reverse l.initial.scope.items) l.position (data_of l.items) l.initial.fault;
-  scope : l.scope.items ≡ l.initial.scope.items;
+  made : and_then (map draft_of l.all) (built_parts (names_of l.globals) l.level l.scope l.position (data_of (drop l.i l.items))) ≡ built_parts (names_of l.globals) l.level l.initial.scope l.position (data_of l.items);
+  fault : least_parts (names_of l.globals) l.level l.scope l.position (data_of (drop l.i l.items)) l.fault ≡ least_parts (names_of l.globals) l.level l.initial.scope l.position (data_of l.items) l.initial.fault;
+  scope : l.scope ≡ l.initial.scope;
 }
 
 abbrev pub decreases-read : goal.decreases-read
