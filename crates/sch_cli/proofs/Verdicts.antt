@@ -84,11 +84,16 @@ says_nothing None faults = tt
 says_nothing (Some b) faults = record { prefix = (0, sym (append-nil b)); whole = λ _. sym (append-nil b) }
 
 -- a source that has a program
+pub has_program : (source text file : List ℕ) (before middle after : Option Files) → Same before middle → Tells middle after (λ b a. Unit {0}) → IfSome middle (λ all. get all source ≡ Some text) →
+    length text ≤ source_limit → IsFileOf text file → Source before after source (λ text. HasStatus source text 0 [])
+has_program source text file before middle after same told found small made =
+    is_so before middle after source text (λ text. HasStatus source text 0 []) same told found (built made.program made.means small made.all)
+
 pub built_said : (source target text file : List ℕ) (before middle after : Option Files) → Same before middle → Tells middle after (λ b a. Unit {0}) → IfSome middle (λ all. get all source ≡ Some text) →
     length text ≤ source_limit → IsFileOf text file → IsSaid source target 0 before after []
 built_said source target text file before middle after same told found small made = record {
   has_line = done;
-  verdict = λ _. is_so before middle after source text (λ text. HasStatus source text 0 []) same told found (built made.program made.means small made.all);
+  verdict = λ _. has_program source text file before middle after same told found small made;
 }
 
 abbrev CompiledText : List ℕ → Files → Files → List ℕ → Type 0

@@ -51,13 +51,15 @@ pub record EndsCompile (source target : List ℕ) (status : ℕ) (files files' :
   -- 0, 4 to 7 and 11 are the source's own status; at 0 the target holds its program
   pub statuses : (status ≡ 2) ⊎ (status ≡ 3) ⊎ (status ≡ 10) ⊎ IsVerdict status
   pub compiled : status ≡ 0 → Tells files files' (Compiled source target)
-  -- 2 and 3 come only where the disk failed in the read or in the write
+  -- 2 and 3 come only where the disk failed, and 3 only where the source is one that compiles
   pub read_failed : status ≡ 2 → Rose faults faults'
   pub write_failed : status ≡ 3 → Rose faults faults'
+  pub written_for : status ≡ 3 → Source files files' source (λ text. HasStatus source text 0 [])
   -- a refusal changes no file, and a failed write only the target
   pub spoiled : status ≡ 3 → Tells files files' (Spoils target)
   pub unchanged : status ≢ 0 → status ≢ 3 → Tells files files' (λ before after. after ≡ before)
   -- there is no room for a call on another file
   pub calls_most : calls < 2 ^ 63 → calls' ≤ calls + 2
+  pub calls_at_failed_read : calls < 2 ^ 63 → status ≡ 2 → calls' ≡ calls + 1
   pub calls_at_failed_write : calls < 2 ^ 63 → status ≡ 3 → calls' ≡ calls + 2
   pub calls_at_refusal : calls < 2 ^ 63 → status ≢ 0 → status ≢ 3 → calls' ≤ calls + 1

@@ -4,7 +4,7 @@ ghost use Rattle.sch_cli.specs.Messages.{Says, refusal_line};
 ghost use Rattle.sch_cli.specs.Steps.{EndsStep, ReadsOnly, refusal_status, seen};
 
 use crate::execute::execute;
-use crate::message::{say, say_image_error};
+use crate::message::{say, say_image_error, say_out_of_memory};
 use sch_elf::{ImageError, read_image};
 use sch_io::{Disk, DiskRead, Outlet};
 use std::alloc::Global;
@@ -35,7 +35,7 @@ pub fn step<D: Disk, O: Outlet, E: Outlet>(
             return 7;
         }
         Err(DiskRead::Memory) => {
-            say(err, "", "out of memory\n");
+            say_out_of_memory(err);
             return 10;
         }
     };
@@ -46,7 +46,7 @@ pub fn step<D: Disk, O: Outlet, E: Outlet>(
     match execute(alloc, name, &image, steps, out, err) {
         Ok(status) => status,
         Err(_) => {
-            say(err, "", "out of memory\n");
+            say_out_of_memory(err);
             10
         }
     }
