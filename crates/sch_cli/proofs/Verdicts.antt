@@ -1,5 +1,5 @@
 -- What a disk that tells says of the source.
-use Rattle.std.proofs.Common.{◌≡◌, ℕ, List, [], ◌++◌, codes, ◌<◌, ◌≤◌, length, Option, Some, None, IfSome, inl, inr, sym, subst, ap, ◌∙◌}
+use Rattle.std.proofs.Common.{◌≡◌, ℕ, List, [], ◌<◌, ◌≤◌, length, Option, Some, None, IfSome, inl, inr, sym, subst, ap, ◌∙◌}
 use Rattle.std.specs.Prelude.{IsSomeAnd}
 use Rattle.std.specs.FinMap.{get}
 use Rattle.std.proofs.lemmas.List.{append-nil}
@@ -11,7 +11,7 @@ use Rattle.sch_cli.specs.Builds.{IsFileOf}
 use Rattle.sch_cli.specs.Compiles.{Compiled, Source, HasStatus, IsSaid, IsVerdict, refused, built, done, not_read, not_written, refusal}
 use Rattle.sch_lang.specs.Tree as tree
 use Rattle.sch_cli.specs.Headline.{IsProgram, identity_orders}
-use Rattle.sch_cli.specs.Messages.{Says}
+use Rattle.sch_cli.specs.Messages.{Says, read_failed_line, write_failed_line}
 use Rattle.sch_cli.specs.Refusals.{IsRefused, Means, refused_line, refused_status, source_limit}
 
 abbrev pub Same : Option Files → Option Files → Type 0
@@ -73,10 +73,10 @@ no_memory_said source target status before after is = subst (λ n. IsSaid source
     (record { has_line = refusal refusals.Memory; verdict = λ v. absurd (no_verdict_10 v) })
 
 -- the disk failed
-pub not_read_said : (source target : List ℕ) (before after : Option Files) → IsSaid source target 2 before after (source ++ codes ": read failed\n")
+pub not_read_said : (source target : List ℕ) (before after : Option Files) → IsSaid source target 2 before after (read_failed_line source)
 not_read_said source target before after = record { has_line = not_read; verdict = λ v. absurd (no_verdict_2 v) }
 
-pub not_written_said : (source target : List ℕ) (before after : Option Files) → IsSaid source target 3 before after (target ++ codes ": write failed\n")
+pub not_written_said : (source target : List ℕ) (before after : Option Files) → IsSaid source target 3 before after (write_failed_line target)
 not_written_said source target before after = record { has_line = not_written; verdict = λ v. absurd (no_verdict_3 v) }
 
 pub says_nothing : (bytes : Option (List ℕ)) (faults : ℕ) → Says [] bytes bytes faults faults

@@ -1,5 +1,5 @@
 -- What `compile` promises of the source and the file that it writes.
-use Rattle.std.specs.Prelude.{◌≡◌, ◌≢◌, ◌⊎◌, ◌<◌, ◌≤◌, ◌+◌, ◌^◌, ℕ, List, [], ◌++◌, codes, length, IsSomeAnd, Option, None}
+use Rattle.std.specs.Prelude.{◌≡◌, ◌≢◌, ◌⊎◌, ◌<◌, ◌≤◌, ◌+◌, ◌^◌, ℕ, List, [], length, IsSomeAnd, Option, None}
 use Rattle.std.specs.FinMap.{get}
 use Rattle.sch_io.specs.Files.{Files, Replaces, Spoils}
 use Rattle.sch_io.specs.Counters.{Rose}
@@ -7,6 +7,7 @@ use Rattle.sch_io.specs.Told.{Tells}
 use Rattle.sch_lang.specs.Tree as tree
 use Rattle.sch_cli.specs.declared.refusal.Refusal.{Refusal}
 use Rattle.sch_cli.specs.Headline.{IsProgram, identity_orders}
+use Rattle.sch_cli.specs.Messages.{read_failed_line, write_failed_line}
 use Rattle.sch_cli.specs.Pieces.{first_other}
 use Rattle.sch_cli.specs.Refusals.{source_limit, Means, IsRefused, refused_status, refused_line}
 
@@ -24,8 +25,8 @@ IsVerdict status = (status ≡ 0) ⊎ (status ≡ 4) ⊎ (status ≡ 5) ⊎ (sta
 -- refused that of some cause with this status.
 pub data HasLine (source target : List ℕ) : ℕ → List ℕ → Type 0 where
   done : HasLine source target 0 []
-  not_read : HasLine source target 2 (source ++ codes ": read failed\n")
-  not_written : HasLine source target 3 (target ++ codes ": write failed\n")
+  not_read : HasLine source target 2 (read_failed_line source)
+  not_written : HasLine source target 3 (write_failed_line target)
   refusal : (r : Refusal) → HasLine source target (refused_status r) (refused_line source r)
 
 -- The source, where the disk tells it, is there and is so.
