@@ -11,7 +11,7 @@ use Rattle.sch_elf.specs.declared.error.ImageError.TheVariants.{Short, NotElf, N
 use Rattle.sch_insn.specs.Step.{Progress, Runs, Exited, Stuck, mach}
 use Rattle.sch_cli.specs.Compiles.{Source}
 use Rattle.sch_cli.specs.Executes.{Executes, is_named, started, status_after}
-use Rattle.sch_cli.specs.Steps.{Holds, ReadsOnly, TookNothing, refusal_status}
+use Rattle.sch_cli.specs.Steps.{Holds, ReadsOnly, TookNothing, image_error_status}
 use Rattle.sch_cli.proofs.Verdicts.{Same}
 
 pub longer : (limit : ℕ) (before after : Option Files) (name : List ℕ) → Same before after → IfSome after (λ all. IsSomeAnd (get all name) (λ text. limit < length text)) → Source before after name (λ text. limit < length text)
@@ -37,7 +37,7 @@ after_is_not_two (Runs s) two = absurd cc
 after_is_not_two (Exited status s) two = not_two status (is_named status) refl two
 after_is_not_two (Stuck cause s) two = absurd cc
 
-refusal_is_not_two : (error : ImageError) → refusal_status error ≢ 2
+refusal_is_not_two : (error : ImageError) → image_error_status error ≢ 2
 refusal_is_not_two Short two = absurd cc
 refusal_is_not_two NotElf two = absurd cc
 refusal_is_not_two NotThisMachine two = absurd cc
@@ -60,6 +60,6 @@ pub executed_reads_only : (name : List ℕ) (image : Image) (steps status : ℕ)
 executed_reads_only name image steps status bytes bytes' left left' out out' line files files' faults faults' calls calls' e same is =
     reads_only status files files' faults faults' calls calls' same is (λ two. after_is_not_two (mach steps (started image e.given)) (e.under_given.status_is ∙ two))
 
-pub refused_reads_only : (error : ImageError) (status : ℕ) (files files' : Option Files) (faults faults' calls calls' : ℕ) → status ≡ refusal_status error → Same files files' → calls' ≡ raised calls → ReadsOnly status files files' faults faults' calls calls'
+pub refused_reads_only : (error : ImageError) (status : ℕ) (files files' : Option Files) (faults faults' calls calls' : ℕ) → status ≡ image_error_status error → Same files files' → calls' ≡ raised calls → ReadsOnly status files files' faults faults' calls calls'
 refused_reads_only error status files files' faults faults' calls calls' of same is =
     reads_only status files files' faults faults' calls calls' same is (λ two. refusal_is_not_two error (sym of ∙ two))

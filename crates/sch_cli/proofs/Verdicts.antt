@@ -1,5 +1,5 @@
 -- What a disk that tells says of the source.
-use Rattle.std.proofs.Common.{◌≡◌, ℕ, List, [], ◌++◌, codes, ◌<◌, ◌≤◌, length, Option, Some, None, IfSome, inl, inr, sym, subst, ap, ◌∙◌}
+use Rattle.std.proofs.Common.{◌≡◌, ℕ, List, [], ◌<◌, ◌≤◌, length, Option, Some, None, IfSome, inl, inr, sym, subst, ap, ◌∙◌}
 use Rattle.std.specs.Prelude.{IsSomeAnd}
 use Rattle.std.specs.FinMap.{get}
 use Rattle.std.proofs.lemmas.List.{append-nil}
@@ -12,7 +12,7 @@ use Rattle.sch_cli.specs.Compiles.{Compiled, Source, HasStatus, IsSaid, IsVerdic
 use Rattle.sch_lang.specs.Tree as tree
 use Rattle.sch_lang.specs.Run.{in_text_order}
 use Rattle.sch_cli.specs.Headline.{IsProgram}
-use Rattle.sch_cli.specs.Messages.{Says}
+use Rattle.sch_cli.specs.Messages.{Says, read_failed_line, write_failed_line}
 use Rattle.sch_cli.specs.Refusals.{IsRefused, Means, refused_line, refused_status, source_limit}
 
 abbrev pub Same : Option Files → Option Files → Type 0
@@ -74,10 +74,10 @@ no_memory_said source target status before after is = subst (λ n. IsSaid source
     (record { has_line = refusal refusals.Memory; verdict = λ v. absurd (no_verdict_10 v) })
 
 -- the disk failed
-pub not_read_said : (source target : List ℕ) (before after : Option Files) → IsSaid source target 2 before after (source ++ codes ": read failed\n")
+pub not_read_said : (source target : List ℕ) (before after : Option Files) → IsSaid source target 2 before after (read_failed_line source)
 not_read_said source target before after = record { has_line = not_read; verdict = λ v. absurd (no_verdict_2 v) }
 
-pub not_written_said : (source target : List ℕ) (before after : Option Files) → IsSaid source target 3 before after (target ++ codes ": write failed\n")
+pub not_written_said : (source target : List ℕ) (before after : Option Files) → IsSaid source target 3 before after (write_failed_line target)
 not_written_said source target before after = record { has_line = not_written; verdict = λ v. absurd (no_verdict_3 v) }
 
 pub says_nothing : (bytes : Option (List ℕ)) (faults : ℕ) → Says [] bytes bytes faults faults
@@ -85,11 +85,16 @@ says_nothing None faults = tt
 says_nothing (Some b) faults = record { prefix = (0, sym (append-nil b)); whole = λ _. sym (append-nil b) }
 
 -- a source that has a program
+pub has_program : (source text file : List ℕ) (before middle after : Option Files) → Same before middle → Tells middle after (λ b a. Unit {0}) → IfSome middle (λ all. get all source ≡ Some text) →
+    length text ≤ source_limit → IsFileOf text file → Source before after source (λ text. HasStatus source text 0 [])
+has_program source text file before middle after same told found small made =
+    is_so before middle after source text (λ text. HasStatus source text 0 []) same told found (built made.program made.means small made.all)
+
 pub built_said : (source target text file : List ℕ) (before middle after : Option Files) → Same before middle → Tells middle after (λ b a. Unit {0}) → IfSome middle (λ all. get all source ≡ Some text) →
     length text ≤ source_limit → IsFileOf text file → IsSaid source target 0 before after []
 built_said source target text file before middle after same told found small made = record {
   has_line = done;
-  verdict = λ _. is_so before middle after source text (λ text. HasStatus source text 0 []) same told found (built made.program made.means small made.all);
+  verdict = λ _. has_program source text file before middle after same told found small made;
 }
 
 abbrev CompiledText : List ℕ → Files → Files → List ℕ → Type 0

@@ -1,5 +1,5 @@
 -- What `compile` promises of the source and the file that it writes.
-use Rattle.std.specs.Prelude.{◌≡◌, ◌≢◌, ◌⊎◌, ◌<◌, ◌≤◌, ◌+◌, ◌^◌, ℕ, List, [], ◌++◌, codes, length, IsSomeAnd, Option, None}
+use Rattle.std.specs.Prelude.{◌≡◌, ◌≢◌, ◌⊎◌, ◌<◌, ◌≤◌, ◌+◌, ◌^◌, ℕ, List, [], length, IsSomeAnd, Option, None}
 use Rattle.std.specs.FinMap.{get}
 use Rattle.sch_io.specs.Files.{Files, Replaces, Spoils}
 use Rattle.sch_io.specs.Counters.{Rose}
@@ -8,6 +8,7 @@ use Rattle.sch_lang.specs.Tree as tree
 use Rattle.sch_lang.specs.Run.{in_text_order}
 use Rattle.sch_cli.specs.declared.refusal.Refusal.{Refusal}
 use Rattle.sch_cli.specs.Headline.{IsProgram}
+use Rattle.sch_cli.specs.Messages.{read_failed_line, write_failed_line}
 use Rattle.sch_cli.specs.Pieces.{first_other}
 use Rattle.sch_cli.specs.Refusals.{source_limit, Means, IsRefused, refused_status, refused_line}
 
@@ -25,8 +26,8 @@ IsVerdict status = (status ≡ 0) ⊎ (status ≡ 4) ⊎ (status ≡ 5) ⊎ (sta
 -- refused that of some cause with this status.
 pub data HasLine (source target : List ℕ) : ℕ → List ℕ → Type 0 where
   done : HasLine source target 0 []
-  not_read : HasLine source target 2 (source ++ codes ": read failed\n")
-  not_written : HasLine source target 3 (target ++ codes ": write failed\n")
+  not_read : HasLine source target 2 (read_failed_line source)
+  not_written : HasLine source target 3 (write_failed_line target)
   refusal : (r : Refusal) → HasLine source target (refused_status r) (refused_line source r)
 
 -- The source, where the disk tells it, is there and is so.
@@ -52,13 +53,15 @@ pub record EndsCompile (source target : List ℕ) (status : ℕ) (files files' :
   -- 0, 4 to 7 and 11 are the source's own status; at 0 the target holds its program
   pub statuses : (status ≡ 2) ⊎ (status ≡ 3) ⊎ (status ≡ 10) ⊎ IsVerdict status
   pub compiled : status ≡ 0 → Tells files files' (Compiled source target)
-  -- 2 and 3 come only where the disk failed in the read or in the write
+  -- 2 and 3 come only where the disk failed, and 3 only where the source is one that compiles
   pub read_failed : status ≡ 2 → Rose faults faults'
   pub write_failed : status ≡ 3 → Rose faults faults'
+  pub written_for : status ≡ 3 → Source files files' source (λ text. HasStatus source text 0 [])
   -- a refusal changes no file, and a failed write only the target
   pub spoiled : status ≡ 3 → Tells files files' (Spoils target)
   pub unchanged : status ≢ 0 → status ≢ 3 → Tells files files' (λ before after. after ≡ before)
   -- there is no room for a call on another file
   pub calls_most : calls < 2 ^ 63 → calls' ≤ calls + 2
+  pub calls_at_failed_read : calls < 2 ^ 63 → status ≡ 2 → calls' ≡ calls + 1
   pub calls_at_failed_write : calls < 2 ^ 63 → status ≡ 3 → calls' ≡ calls + 2
   pub calls_at_refusal : calls < 2 ^ 63 → status ≢ 0 → status ≢ 3 → calls' ≤ calls + 1

@@ -1,5 +1,5 @@
 -- The line on the standard error for each status.
-use Rattle.std.specs.Prelude.{◌≡◌, ℕ, zero, suc, ◌+◌, ◌/◌, ◌%◌, ◌^◌, nat_lt, List, [], ◌∷◌, ◌++◌, ◌==◌, codes, take, if◌then◌else◌, Option}
+use Rattle.std.specs.Prelude.{◌≡◌, ℕ, zero, suc, ◌+◌, ◌/◌, ◌%◌, ◌^◌, nat_lt, List, [], ◌∷◌, ◌++◌, codes, take, if◌then◌else◌, Option}
 use Rattle.std.specs.Borrow.{Bor}
 use Rattle.std.specs.Fmt.{decimal}
 use Rattle.sch_word.specs.Stops.{text_of}
@@ -17,15 +17,17 @@ usage_line = codes "usage: schc VERB NAME [NAME2] [--listing F] [--heap N] [--de
 abbrev pub out_of_memory_line : List ℕ
 out_of_memory_line = codes "out of memory\n"
 
--- The line for a status that tells all there is to say, where these are the names in the command. At 7 it
--- is that of a file that is too long.
-abbrev pub line_of : ℕ → List ℕ → List ℕ → List ℕ
-line_of status source target =
-    if status == 2 then source ++ codes ": read failed\n"
-    else if status == 3 then target ++ codes ": write failed\n"
-    else if status == 7 then source ++ codes ": limit file\n"
-    else if status == 10 then out_of_memory_line
-    else []
+-- a file that was not read
+abbrev pub read_failed_line : List ℕ → List ℕ
+read_failed_line name = name ++ codes ": read failed\n"
+
+-- a file that was not written
+abbrev pub write_failed_line : List ℕ → List ℕ
+write_failed_line name = name ++ codes ": write failed\n"
+
+-- a file that is longer than it may be
+abbrev pub too_long_line : List ℕ → List ℕ
+too_long_line name = name ++ codes ": limit file\n"
 
 abbrev pub spent_line : List ℕ
 spent_line = codes "steps spent\n"
@@ -62,13 +64,13 @@ abbrev pub stuck_line : List ℕ → ℕ → StuckCause → List ℕ
 stuck_line name address cause = name ++ (codes ": stuck at " ++ (hexadecimal address ++ (codes ": " ++ (cause_text cause ++ codes "\n"))))
 
 -- a file that stands for no image
-abbrev pub refusal_line : List ℕ → ImageError → List ℕ
-refusal_line name Short = name ++ codes ": short\n"
-refusal_line name NotElf = name ++ codes ": not ELF\n"
-refusal_line name NotThisMachine = name ++ codes ": wrong machine\n"
-refusal_line name (BadSegment index) = name ++ (codes ": segment " ++ (decimal index ++ codes "\n"))
-refusal_line name TooLarge = name ++ codes ": too large\n"
-refusal_line name Memory = out_of_memory_line
+abbrev pub image_error_line : List ℕ → ImageError → List ℕ
+image_error_line name Short = name ++ codes ": short\n"
+image_error_line name NotElf = name ++ codes ": not ELF\n"
+image_error_line name NotThisMachine = name ++ codes ": wrong machine\n"
+image_error_line name (BadSegment index) = name ++ (codes ": segment " ++ (decimal index ++ codes "\n"))
+image_error_line name TooLarge = name ++ codes ": too large\n"
+image_error_line name Memory = out_of_memory_line
 
 -- An outlet that tells has taken a prefix of the line, and the whole line where its faults did not rise.
 pub record Said (line before after : List ℕ) (faults faults' : ℕ) : Type 0 where

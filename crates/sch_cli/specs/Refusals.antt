@@ -15,7 +15,7 @@ use Rattle.sch_core.specs.declared.error.Kind.{Kind}
 use Rattle.sch_core.specs.declared.error.Kind.TheVariants.{Operands, Core, Variables, Free}
 use Rattle.sch_cli.specs.declared.refusal.Refusal.{Refusal}
 use Rattle.sch_cli.specs.declared.refusal.Refusal.TheVariants as refusal
-use Rattle.sch_cli.specs.Messages.{out_of_memory_line}
+use Rattle.sch_cli.specs.Messages.{out_of_memory_line, too_long_line}
 use Rattle.sch_cli.specs.Pieces.{first_other}
 
 -- how many bytes a source may have
@@ -96,7 +96,7 @@ core_line name core.Memory = out_of_memory_line
 core_line name (core.Unbuilt at) = place_line name at (codes "not built") []
 
 abbrev pub refused_line : List ℕ → Refusal → List ℕ
-refused_line name refusal.TooLong = name ++ codes ": limit file\n"
+refused_line name refusal.TooLong = too_long_line name
 refused_line name (refusal.Unread error) = read_line name error
 refused_line name (refusal.Unexpanded error) = core_line name error
 refused_line name (refusal.NotBuilt at) = place_line name at (codes "not built") []

@@ -19,7 +19,7 @@ use Rattle.sch_cli.specs.declared.refusal.Refusal.{Refusal}
 use Rattle.sch_cli.specs.Compiles.{Source}
 use Rattle.sch_cli.specs.Executes.{Executes}
 use Rattle.sch_cli.specs.Headline.{Follows, run_of}
-use Rattle.sch_cli.specs.Messages.{line_of, refusal_line}
+use Rattle.sch_cli.specs.Messages.{out_of_memory_line, read_failed_line, too_long_line, image_error_line}
 use Rattle.sch_cli.specs.Pieces.{first_other}
 use Rattle.sch_cli.specs.Refusals.{source_limit, Means, refused_status, refused_line}
 use Rattle.sch_cli.specs.Refusals as refusals
@@ -37,9 +37,9 @@ abbrev pub TookNothing : Option (List ℕ) → Option (List ℕ) → Type 0
 TookNothing before after = Tells before after (λ b a. a ≡ b)
 
 -- the status for a file that stands for no image
-abbrev pub refusal_status : ImageError → ℕ
-refusal_status Memory = 10
-refusal_status error = 8
+abbrev pub image_error_status : ImageError → ℕ
+image_error_status Memory = 10
+image_error_status error = 8
 
 -- What is seen of the disk, of the standard output and of the line that was said, before and after.
 pub record Seen : Type 0 where
@@ -80,12 +80,12 @@ Ran name image steps status seen =
 -- `step NAME`: the file was not read, or is too long; or its bytes stand for no image; or they stand for
 -- an image, which was run.
 pub data EndsStep (name : List ℕ) (steps status : ℕ) (seen : Seen) : Type 0 where
-  not_read : status ≡ 2 → TookNothing seen.bytes seen.bytes_after → seen.line ≡ line_of 2 name name → EndsStep name steps status seen
+  not_read : status ≡ 2 → TookNothing seen.bytes seen.bytes_after → seen.line ≡ read_failed_line name → EndsStep name steps status seen
   too_long : status ≡ 7 → Source seen.files seen.files_after name (λ file. image_limit < length file) →
-      TookNothing seen.bytes seen.bytes_after → seen.line ≡ line_of 7 name name → EndsStep name steps status seen
-  no_memory : status ≡ 10 → TookNothing seen.bytes seen.bytes_after → seen.line ≡ line_of 10 name name → EndsStep name steps status seen
-  refused : (file : List ℕ) (error : ImageError) → status ≡ refusal_status error → Holds seen.files seen.files_after name file → length file ≤ image_limit →
-      IsRefused file error → TookNothing seen.bytes seen.bytes_after → seen.line ≡ refusal_line name error → EndsStep name steps status seen
+      TookNothing seen.bytes seen.bytes_after → seen.line ≡ too_long_line name → EndsStep name steps status seen
+  no_memory : status ≡ 10 → TookNothing seen.bytes seen.bytes_after → seen.line ≡ out_of_memory_line → EndsStep name steps status seen
+  refused : (file : List ℕ) (error : ImageError) → status ≡ image_error_status error → Holds seen.files seen.files_after name file → length file ≤ image_limit →
+      IsRefused file error → TookNothing seen.bytes seen.bytes_after → seen.line ≡ image_error_line name error → EndsStep name steps status seen
   stepped : (file : List ℕ) (image : Image) → Holds seen.files seen.files_after name file → length file ≤ image_limit → StandsFor file image →
       Ran name image steps status seen → EndsStep name steps status seen
 
@@ -108,8 +108,8 @@ pub record RunsProgram (name : List ℕ) (p : tree.Source) (steps status : ℕ) 
 
 -- `run NAME`: the source was not read; or it is refused; or it is none of these, and its program was run.
 pub data EndsRun (name : List ℕ) (steps status : ℕ) (seen : Seen) : Type 0 where
-  not_read : status ≡ 2 → TookNothing seen.bytes seen.bytes_after → seen.line ≡ line_of 2 name name → EndsRun name steps status seen
-  no_memory : status ≡ 10 → TookNothing seen.bytes seen.bytes_after → seen.line ≡ line_of 10 name name → EndsRun name steps status seen
+  not_read : status ≡ 2 → TookNothing seen.bytes seen.bytes_after → seen.line ≡ read_failed_line name → EndsRun name steps status seen
+  no_memory : status ≡ 10 → TookNothing seen.bytes seen.bytes_after → seen.line ≡ out_of_memory_line → EndsRun name steps status seen
   refused : (refusal : Refusal) → status ≡ refused_status refusal → Source seen.files seen.files_after name (λ text. refusals.IsRefused text refusal) →
       TookNothing seen.bytes seen.bytes_after → seen.line ≡ refused_line name refusal → EndsRun name steps status seen
   ran : (text : List ℕ) (p : tree.Source) (means : Means text p) → Holds seen.files seen.files_after name text → length text ≤ source_limit → first_other means.items ≡ None →

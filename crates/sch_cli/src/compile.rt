@@ -1,18 +1,17 @@
 // The verb `compile`.
-ghost use Rattle.std.specs.Prelude.{◌≡◌, ◌≢◌, ◌≤◌, ◌<◌, ◌+◌, ◌^◌, ◌⊎◌, ℕ, List};
+ghost use Rattle.std.specs.Prelude.{◌≡◌, ◌≢◌, ◌≤◌, ◌<◌, ◌+◌, ◌^◌, ◌⊎◌, ℕ, List, []};
 ghost use Rattle.sch_io.specs.Counters.{Rose};
 ghost use Rattle.sch_io.specs.Files.{Spoils};
 ghost use Rattle.sch_io.specs.Told.{Tells};
-ghost use Rattle.sch_cli.specs.Compiles.{Compiled, IsSaid, IsVerdict};
+ghost use Rattle.sch_cli.specs.Compiles.{Compiled, HasStatus, IsSaid, IsVerdict, Source};
 ghost use Rattle.sch_cli.specs.Messages.{Says};
 
 use crate::build::build;
 use crate::message::say;
 use crate::refusal::{Refusal, refuse};
+use crate::source::SOURCE_LIMIT;
 use sch_io::{Disk, DiskRead, Outlet};
 use std::alloc::Global;
-
-pub const SOURCE_LIMIT: u64 = 1 << 20;
 
 /// Reads the source, and writes the program that it means.
 pub fn compile<D: Disk, E: Outlet>(
@@ -27,10 +26,12 @@ pub fn compile<D: Disk, E: Outlet>(
     ensures compiled { result ≡ 0 → Tells (D.files disk.old) (D.files disk.new) (Compiled source.now target.now) }
     ensures read_failed { result ≡ 2 → Rose (D.faults disk.old) (D.faults disk.new) }
     ensures write_failed { result ≡ 3 → Rose (D.faults disk.old) (D.faults disk.new) }
+    ensures written_for { result ≡ 3 → Source (D.files disk.old) (D.files disk.new) source.now (λ text. HasStatus source.now text 0 []) }
     ensures spoiled { result ≡ 3 → Tells (D.files disk.old) (D.files disk.new) (Spoils target.now) }
     ensures unchanged { result ≢ 0 → result ≢ 3 → Tells (D.files disk.old) (D.files disk.new) (λ before after. after ≡ before) }
 
     ensures calls { D.calls disk.old < 2 ^ 63 → D.calls disk.new ≤ D.calls disk.old + 2 }
+    ensures calls_at_2 { D.calls disk.old < 2 ^ 63 → result ≡ 2 → D.calls disk.new ≡ D.calls disk.old + 1 }
     ensures calls_at_3 { D.calls disk.old < 2 ^ 63 → result ≡ 3 → D.calls disk.new ≡ D.calls disk.old + 2 }
     ensures calls_at_refusal { D.calls disk.old < 2 ^ 63 → result ≢ 0 → result ≢ 3 → D.calls disk.new ≤ D.calls disk.old + 1 }
 {

@@ -3,8 +3,8 @@
 ghost use Rattle.std.specs.Prelude.{List, ℕ};
 ghost use Rattle.sch_cli.specs.Laws.{HasOneStatus};
 
-/// The causes of the statuses 0, 4 to 7 and 11 exclude one another: a source has one of them, and one
-/// line. So each comes exactly where its cause is there.
+/// The causes of the statuses 0, 4 to 7 and 11 exclude one another: a source has at most one
+/// of them, and at most one line, but that of an unbound variable.
 pub fn a_source_has_one_status()
     ensures { (name text : List ℕ) → HasOneStatus name text }
 {}

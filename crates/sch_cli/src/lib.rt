@@ -2,6 +2,7 @@
 #![tactic(auto)]
 
 ghost use Rattle.std.specs.Prelude.{◌≡◌, ◌≢◌, ◌⊎◌, List, ℕ, None, map, string_bytes, if◌then◌else◌, ◌==◌};
+ghost use Rattle.std.specs.IoError.{error_kind};
 ghost use Rattle.sch_cli.specs.Command.{IfCompile, IfRun, IfStep, command};
 ghost use Rattle.sch_cli.specs.Compiles.{EndsCompile};
 ghost use Rattle.sch_cli.specs.Messages.{Says, out_of_memory_line, usage_line};
@@ -27,7 +28,7 @@ mod tests;
 use command::{Command, read_words};
 use compile::compile;
 pub use laws::a_source_has_one_status;
-use message::say;
+use message::{say, say_out_of_memory};
 use run::run;
 use sch_io::{Disk, Outlet};
 use std::alloc::Global;
@@ -88,10 +89,12 @@ pub fn schc<D: Disk, O: Outlet, E: Outlet>(
 /// 1 where one is no text.
 pub fn report_words<E: Outlet>(error: &Error, err: &mut E) -> u8
     ensures status { (result ≡ 1) ⊎ (result ≡ 10) }
+    ensures no_memory { error_kind error.now ≡ ErrorKind.OutOfMemory → result ≡ 10 }
+    ensures no_text { error_kind error.now ≢ ErrorKind.OutOfMemory → result ≡ 1 }
     ensures line { Says (if result == 1 then usage_line else out_of_memory_line) (E.bytes err.old) (E.bytes err.new) (E.faults err.old) (E.faults err.new) }
 {
     if error.kind() == ErrorKind::OutOfMemory {
-        say(err, "", "out of memory\n");
+        say_out_of_memory(err);
         return 10;
     }
     say(err, USAGE, "\n");

@@ -1,6 +1,6 @@
 // Writes the lines on the standard error.
 ghost use Rattle.std.specs.Prelude.{◌≡◌, ◌≤◌, ◌<◌, ◌++◌, codes, length};
-ghost use Rattle.sch_cli.specs.Messages.{Says, exit_line, hexadecimal_digit, hexadecimal_digits, cause_text, joined, refusal_line, spent_line, stop_line, stuck_line};
+ghost use Rattle.sch_cli.specs.Messages.{Says, exit_line, hexadecimal_digit, hexadecimal_digits, cause_text, joined, out_of_memory_line, image_error_line, spent_line, stop_line, stuck_line};
 ghost use Rattle.sch_cli.specs.Refusals.{place_line};
 ghost use Rattle.sch_cli.specs.Stopped.{stop_of};
 
@@ -64,6 +64,14 @@ fn say_fault<'a, E: Outlet>(
             "\n".as_bytes(),
         ],
     );
+}
+
+/// The line where there was no memory.
+pub fn say_out_of_memory<E: Outlet>(err: &mut E)
+    ensures line { Says out_of_memory_line (E.bytes err.old) (E.bytes err.new) (E.faults err.old) (E.faults err.new) }
+    ensures faults { E.faults err.old ≤ E.faults err.new }
+{
+    say_pieces(err, &["out of memory\n".as_bytes()]);
 }
 
 /// The line of a run whose steps were spent.
@@ -134,7 +142,7 @@ fn stop_at(status: u8) -> Stop
 
 /// The line of a file that stands for no image.
 pub fn say_image_error<E: Outlet>(err: &mut E, name: &str, error: ImageError)
-    ensures line { Says (refusal_line name.now error) (E.bytes err.old) (E.bytes err.new) (E.faults err.old) (E.faults err.new) }
+    ensures line { Says (image_error_line name.now error) (E.bytes err.old) (E.bytes err.new) (E.faults err.old) (E.faults err.new) }
     ensures faults { E.faults err.old ≤ E.faults err.new }
 {
     match error {
@@ -143,12 +151,12 @@ pub fn say_image_error<E: Outlet>(err: &mut E, name: &str, error: ImageError)
         ImageError::NotThisMachine => say(err, name, ": wrong machine\n"),
         ImageError::BadSegment(index) => say_segment(err, name, index),
         ImageError::TooLarge => say(err, name, ": too large\n"),
-        ImageError::Memory => say_pieces(err, &["out of memory\n".as_bytes()]),
+        ImageError::Memory => say_out_of_memory(err),
     }
 }
 
 fn say_segment<E: Outlet>(err: &mut E, name: &str, index: u16)
-    ensures line { Says (refusal_line name.now (ImageError.BadSegment index)) (E.bytes err.old) (E.bytes err.new) (E.faults err.old) (E.faults err.new) }
+    ensures line { Says (image_error_line name.now (ImageError.BadSegment index)) (E.bytes err.old) (E.bytes err.new) (E.faults err.old) (E.faults err.new) }
     ensures faults { E.faults err.old ≤ E.faults err.new }
 {
     let mut buffer = Buffer::new();

@@ -6,7 +6,7 @@ ghost use Rattle.sch_cli.specs.Messages.{Says};
 ghost use Rattle.sch_cli.specs.Refusals.{core_line, core_status, limit_text, place_line, read_line, read_status, refused_line, refused_status};
 ghost use Rattle.sch_cli.specs.declared.refusal.Refusal.TheVariants as refusal;
 
-use crate::message::{say, say_at};
+use crate::message::{say, say_at, say_out_of_memory};
 use sch_core::{CoreError, Kind};
 use sch_io::Outlet;
 use sch_read::ReadError;
@@ -115,7 +115,7 @@ fn say_refusal<E: Outlet>(err: &mut E, name: &str, refusal: &Refusal)
         Refusal::Unread(error) => say_read_error(err, name, *error),
         Refusal::Unexpanded(error) => say_core_error(err, name, error),
         Refusal::NotBuilt(at) => say_at(err, name, *at, "not built", b""),
-        Refusal::Memory => say(err, "", "out of memory\n"),
+        Refusal::Memory => say_out_of_memory(err),
     }
 }
 
@@ -131,7 +131,7 @@ fn say_read_error<E: Outlet>(err: &mut E, name: &str, error: ReadError)
         ReadError::BadString(at) => say_at(err, name, at, "bad string", b""),
         ReadError::DeepNesting(at) => say_at(err, name, at, "limit nesting", b""),
         ReadError::LiteralRange(at) => say_at(err, name, at, "limit literal", b""),
-        ReadError::Memory => say(err, "", "out of memory\n"),
+        ReadError::Memory => say_out_of_memory(err),
     }
 }
 
@@ -144,7 +144,7 @@ fn say_core_error<E: Outlet>(err: &mut E, name: &str, error: &CoreError)
         CoreError::KeywordDefined(at) => say_at(err, name, *at, "keyword defined", b""),
         CoreError::Unbound(at, unbound) => say_at(err, name, *at, "unbound ", unbound.as_slice()),
         CoreError::Limit(kind, at) => say_at(err, name, *at, limit_text(*kind), b""),
-        CoreError::Memory => say(err, "", "out of memory\n"),
+        CoreError::Memory => say_out_of_memory(err),
         CoreError::Unbuilt(at) => say_at(err, name, *at, "not built", b""),
     }
 }

@@ -4,10 +4,10 @@ ghost use Rattle.sch_cli.specs.Messages.{Says};
 ghost use Rattle.sch_cli.specs.Steps.{EndsRun, ReadsOnly, seen};
 
 use crate::build::image_of;
-use crate::compile::SOURCE_LIMIT;
 use crate::execute::execute;
 use crate::message::say;
 use crate::refusal::{Refusal, refuse};
+use crate::source::SOURCE_LIMIT;
 use sch_io::{Disk, DiskRead, Outlet};
 use std::alloc::Global;
 

@@ -15,6 +15,9 @@ use sch_read::{Datum, read_all};
 use sch_word::List;
 use std::alloc::Global;
 
+/// How many bytes a source may have.
+pub const SOURCE_LIMIT: u64 = 1 << 20;
+
 /// The data of a source, and their core program.
 #[derive(Drop)]
 pub struct Source {

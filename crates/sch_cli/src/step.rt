@@ -1,10 +1,10 @@
 // The verb `step`.
 ghost use Rattle.std.specs.Prelude.{◌≡◌, ◌≢◌, ◌≤◌, ◌<◌, ◌+◌, ◌^◌, ℕ, List};
-ghost use Rattle.sch_cli.specs.Messages.{Says, refusal_line};
-ghost use Rattle.sch_cli.specs.Steps.{EndsStep, ReadsOnly, refusal_status, seen};
+ghost use Rattle.sch_cli.specs.Messages.{Says, image_error_line};
+ghost use Rattle.sch_cli.specs.Steps.{EndsStep, ReadsOnly, image_error_status, seen};
 
 use crate::execute::execute;
-use crate::message::{say, say_image_error};
+use crate::message::{say, say_image_error, say_out_of_memory};
 use sch_elf::{ImageError, read_image};
 use sch_io::{Disk, DiskRead, Outlet};
 use std::alloc::Global;
@@ -35,7 +35,7 @@ pub fn step<D: Disk, O: Outlet, E: Outlet>(
             return 7;
         }
         Err(DiskRead::Memory) => {
-            say(err, "", "out of memory\n");
+            say_out_of_memory(err);
             return 10;
         }
     };
@@ -46,7 +46,7 @@ pub fn step<D: Disk, O: Outlet, E: Outlet>(
     match execute(alloc, name, &image, steps, out, err) {
         Ok(status) => status,
         Err(_) => {
-            say(err, "", "out of memory\n");
+            say_out_of_memory(err);
             10
         }
     }
@@ -54,9 +54,9 @@ pub fn step<D: Disk, O: Outlet, E: Outlet>(
 
 // Says why a file stands for no image.
 fn refuse<E: Outlet>(err: &mut E, name: &str, error: ImageError) -> u8
-    ensures status { result ≡ refusal_status error }
+    ensures status { result ≡ image_error_status error }
     ensures no_usage { result ≢ 1 }
-    ensures line { Says (refusal_line name.now error) (E.bytes err.old) (E.bytes err.new) (E.faults err.old) (E.faults err.new) }
+    ensures line { Says (image_error_line name.now error) (E.bytes err.old) (E.bytes err.new) (E.faults err.old) (E.faults err.new) }
 {
     say_image_error(err, name, error);
     match error {

@@ -320,9 +320,10 @@ fn a_source_whose_output_fails(rt: HostRuntime) -> Result<(), Fail> {
 
 #[test]
 fn compiled_images_step(rt: HostRuntime) -> Result<(), Fail> {
-    let sources: [(&[u8], &[u8]); 5] = [
+    let sources: [(&[u8], &[u8]); 6] = [
         (b"", b""),
         (b"(display 7)(newline)", b"7\n"),
+        (b"(display 007)(display -0)", b"70"),
         (b"(display #t)(display #\\a)(newline)", b"#ta\n"),
         (b"(display -1152921504606846976)", b"-1152921504606846976"),
         (b"(display 1152921504606846975)", b"1152921504606846975"),

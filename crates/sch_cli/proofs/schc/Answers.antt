@@ -17,9 +17,11 @@ returns-in-Some-Compile-clause-compile g c =
         compiled = k.compiled;
         read_failed = k.read_failed;
         write_failed = k.write_failed;
+        written_for = k.written_for;
         spoiled = k.spoiled;
         unchanged = k.unchanged;
         calls_most = k.calls;
+        calls_at_failed_read = k.calls_at_2;
         calls_at_failed_write = k.calls_at_3;
         calls_at_refusal = k.calls_at_refusal;
       },

@@ -1,14 +1,15 @@
-use Rattle.std.proofs.Common.{ap, subst, sym, Err, ◌++◌, [], codes}
-use Rattle.sch_io.specs.Files.{Replaces}
+use Rattle.std.proofs.Common.{ap, subst, sym, Err, []}
+use Rattle.sch_io.specs.Files.{Replaces, Spoils}
 use Rattle.sch_cli.specs.Builds.{IsFileOf}
 use Rattle.sch_cli.specs.declared.refusal.Refusal.TheVariants as refusals
+use Rattle.sch_cli.specs.Messages.{read_failed_line, write_failed_line}
 use Rattle.sch_cli.specs.Refusals.{IsRefused, refused_line}
-use Rattle.sch_cli.proofs.Verdicts.{longer_source, refused_said, no_memory_said, not_read_said, not_written_said, says_nothing, built_said, is_compiled, is_so, told, told_same}
+use Rattle.sch_cli.proofs.Verdicts.{longer_source, refused_said, no_memory_said, not_read_said, not_written_said, says_nothing, built_said, has_program, is_compiled, is_so, told, told_same}
 use Rattle.sch_cli.proofs.compile.compile.Goals as goal
 
 pub returns-in-Err-Failed-clause-said : goal.returns-in-Err-Failed-clause-said
 returns-in-Err-Failed-clause-said g c =
-    (c.args.source.now ++ codes ": read failed\n", c.say.ensures.line, not_read_said c.args.source.now c.args.target.now (g.D.Disk.files c.args.disk.now) (g.D.Disk.files c.read.new.self))
+    (read_failed_line c.args.source.now, c.say.ensures.line, not_read_said c.args.source.now c.args.target.now (g.D.Disk.files c.args.disk.now) (g.D.Disk.files c.read.new.self))
 
 pub returns-in-Err-TooLarge-clause-said : goal.returns-in-Err-TooLarge-clause-said
 returns-in-Err-TooLarge-clause-said g c =
@@ -62,4 +63,13 @@ returns-in-Ok-write-clause-compiled g c = λ _.
 
 pub returns-clause-said : goal.returns-clause-said
 returns-clause-said g c =
-    (c.args.target.now ++ codes ": write failed\n", c.say-in-Err-write.ensures.line, not_written_said c.args.source.now c.args.target.now (g.D.Disk.files c.args.disk.now) (g.D.Disk.files c.write.new.self))
+    (write_failed_line c.args.target.now, c.say-in-Err-write.ensures.line, not_written_said c.args.source.now c.args.target.now (g.D.Disk.files c.args.disk.now) (g.D.Disk.files c.write.new.self))
+
+pub returns-clause-written_for : goal.returns-clause-written_for
+returns-clause-written_for g c = λ _.
+    let r = c.in-Ok.ensures in
+    let middle = g.D.Disk.files c.read.new.self in
+    let after = g.D.Disk.files c.write.new.self in
+    has_program c.args.source.now c.in-Ok.text c.in-Ok-build.file (g.D.Disk.files c.args.disk.now) middle after r.unchanged
+    (told middle after (Spoils c.args.target.now) c.in-Err-write.ensures.err) r.found r.within
+    (subst (λ text. IsFileOf text c.in-Ok-build.file) c.as_slice.ensures c.in-Ok-build.ensures.made)

@@ -1,7 +1,7 @@
 use Rattle.std.proofs.Common.{ap, refl, subst, Err}
 use Rattle.sch_cli.specs.declared.refusal.Refusal.TheVariants as refusals
 use Rattle.sch_cli.specs.Builds.{IsImageOf}
-use Rattle.sch_cli.specs.Messages.{line_of}
+use Rattle.sch_cli.specs.Messages.{out_of_memory_line}
 use Rattle.sch_cli.specs.Refusals.{IsRefused, refused_line}
 use Rattle.sch_cli.specs.Steps.{no_memory, refused, ran, seen}
 use Rattle.sch_cli.proofs.Ending.{holds, took_nothing}
@@ -22,7 +22,7 @@ returns-in-Err-TooLarge-clause-ends g c =
 
 pub returns-in-Err-Memory-clause-ends : goal.returns-in-Err-Memory-clause-ends
 returns-in-Err-Memory-clause-ends g c =
-    (line_of 10 c.args.source.now c.args.source.now, c.refuse-in-Err-Memory.ensures.line, no_memory c.refuse-in-Err-Memory.ensures.status (took_nothing (g.O.Outlet.bytes c.args.out.now)) refl)
+    (out_of_memory_line, c.refuse-in-Err-Memory.ensures.line, no_memory c.refuse-in-Err-Memory.ensures.status (took_nothing (g.O.Outlet.bytes c.args.out.now)) refl)
 
 pub returns-in-Err-clause-ends : goal.returns-in-Err-clause-ends
 returns-in-Err-clause-ends g c =

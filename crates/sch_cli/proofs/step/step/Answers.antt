@@ -1,7 +1,7 @@
 use Rattle.std.proofs.Common.{ap, refl, subst, Err}
 use Rattle.sch_elf.specs.Refused.{IsRefused}
 use Rattle.sch_elf.specs.Stands.{StandsFor}
-use Rattle.sch_cli.specs.Messages.{line_of, refusal_line}
+use Rattle.sch_cli.specs.Messages.{too_long_line, image_error_line}
 use Rattle.sch_cli.specs.Steps.{too_long, refused, stepped, image_limit}
 use Rattle.sch_cli.proofs.Ending.{holds, longer, took_nothing, executed_reads_only, refused_reads_only}
 use Rattle.sch_cli.proofs.step.step.Goals as goal
@@ -10,7 +10,7 @@ pub returns-in-Err-TooLarge-clause-ends : goal.returns-in-Err-TooLarge-clause-en
 returns-in-Err-TooLarge-clause-ends g c =
     let r = c.in-Err-TooLarge.ensures in
     let name = c.args.name.now in (
-      line_of 7 name name,
+      too_long_line name,
       c.say-in-Err-TooLarge.ensures.line,
       too_long refl
           (longer image_limit (g.D.Disk.files c.args.disk.now) (g.D.Disk.files c.read.new.self) name r.unchanged (r.too_large (ap Err c.in-Err-TooLarge.field-0-is)))
@@ -28,7 +28,7 @@ returns-in-Err-clause-ends g c =
     let r = c.in-Ok.ensures in
     let name = c.args.name.now in
     let file = c.in-Ok.file in (
-      refusal_line name c.in-Err.error,
+      image_error_line name c.in-Err.error,
       c.refuse.ensures.line,
       refused file c.in-Err.error c.refuse.ensures.status
           (holds (g.D.Disk.files c.args.disk.now) (g.D.Disk.files c.read.new.self) name file r.unchanged r.found) r.within
