@@ -1,6 +1,7 @@
 ghost use Rattle.std.specs.Prelude.{◌≡◌, ◌+◌, ◌*◌, IfOk};
+ghost use Rattle.sch_read.specs.Grammar.{atom, list, symbol};
 ghost use Rattle.sch_read.specs.Valid.{weight};
-ghost use Rattle.sch_read.specs.Views.{tree_of};
+ghost use Rattle.sch_read.specs.Views.{tree_of, data_of};
 
 use crate::{CoreError, Kind, core};
 use sch_lang::Program;
@@ -171,34 +172,48 @@ fn counts_variables(rt: HostRuntime) -> Result<(), Fail> {
     Ok(())
 }
 
-// A boolean in so many `begin`s.
+fn word(at: u32, name: List<u8>) -> Datum
+    ensures { tree_of result ≡ atom at (symbol name) }
+{
+    let node = Node::Symbol(name);
+    Datum { at, node }
+}
+
+fn listed(at: u32, items: List<Datum>) -> Datum
+    ensures { tree_of result ≡ list at (data_of items) }
+{
+    let node = Node::List(items, None);
+    Datum { at, node }
+}
+
+// An empty list in so many `begin`s.
 fn in_beginnings(alloc: Global, levels: u32) -> Result<Datum, Mem>
     ensures { IfOk result (λ d. weight (tree_of d) ≡ 1 + 7 * levels) }
 {
-    let node = Node::Boolean(true);
-    let mut d = Datum { at: 0, node };
-    for _ in 0..levels {
-        let node = Node::Symbol(List::from_slice(alloc, b"begin")?);
+    let mut d = listed(0, List::new(alloc));
+    for at in 0..levels {
         let mut items = List::new(alloc);
-        items.push(Datum { at: 0, node })?;
+        items.push(word(at, List::from_slice(alloc, b"begin")?))?;
         items.push(d)?;
-        let node = Node::List(items, None);
-        d = Datum { at: 0, node };
+        d = listed(at, items);
     }
     Ok(d)
 }
 
-// Whether a boolean in so many `begin`s is expanded.
-fn is_expanded(alloc: Global, levels: u32) -> Result<bool, Mem> {
+// Whether the data are walked: an empty list in so many `begin`s is a bad form.
+fn is_walked(alloc: Global, levels: u32) -> Result<bool, Mem> {
     let mut items = List::new(alloc);
     items.push(in_beginnings(alloc, levels.min(1_000_000))?)?;
-    Ok(core(alloc, items.as_slice()).is_ok())
+    match core(alloc, items.as_slice()) {
+        Err(CoreError::BadForm(0)) => Ok(true),
+        _ => Ok(false),
+    }
 }
 
 #[test]
 fn very_deep_data_are_want_of_memory(rt: HostRuntime) -> Result<(), Fail> {
-    assert_eq!(rt; is_expanded(rt.alloc(), 4_000)?, true);
-    assert_eq!(rt; is_expanded(rt.alloc(), 4_001)?, false);
-    assert_eq!(rt; is_expanded(rt.alloc(), 300_000)?, false);
+    assert_eq!(rt; is_walked(rt.alloc(), 3_999)?, true);
+    assert_eq!(rt; is_walked(rt.alloc(), 4_000)?, false);
+    assert_eq!(rt; is_walked(rt.alloc(), 300_000)?, false);
     Ok(())
 }
