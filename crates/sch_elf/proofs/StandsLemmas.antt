@@ -81,6 +81,13 @@ placed_total (s ∷ ss) end =
 congruent : (end address : ℕ) → offset_from end address % 4096 ≡ address % 4096
 congruent end address = omega arith
 
+-- it is none before the end, and the least of those
+not_before : (end address : ℕ) → end ≤ offset_from end address
+not_before end address = omega arith
+
+least_of_all : (end address other : ℕ) → end ≤ other → other % 4096 ≡ address % 4096 → offset_from end address ≤ other
+least_of_all end address other behind equal = omega (arith, behind, equal)
+
 -- where the header of a number lies, and what it says
 record IsAt (total : ℕ) (s : Segment) (h : ProgramHeader) : Type 0 where
   offset : ℕ
