@@ -25,10 +25,28 @@ TEXTS = {
 }
 
 
+def variables(size):
+    """A text that binds as many variables as fit in half of it, 200 in each `let`, and uses them all over
+    in the other half. It is refused, since a form has at most 1,000, but only after every name was sought."""
+    lets, names = [], []
+    while sum(map(len, lets)) < size // 2 - 2000:
+        more = [b"v%05d" % k for k in range(len(names), len(names) + 200)]
+        lets.append(b"(let (" + b"".join(b"(%s 1)" % name for name in more) + b")")
+        names += more
+    front, back = b"".join(lets) + b"(begin", b")" * (len(lets) + 1)
+    uses = (size - len(front) - len(back)) // 7
+    return (front + b"".join(b" " + names[k * 7919 % len(names)] for k in range(uses)) + back).ljust(size)
+
+
+LIMIT_STATUS = 7
+
+
 def main():
     with tempfile.TemporaryDirectory() as folder:
         source, target = os.path.join(folder, "source"), os.path.join(folder, "target")
-        measure.table(TEXTS, source, [PROGRAM, "compile", source, target], folder)
+        words = [PROGRAM, "compile", source, target]
+        measure.table(TEXTS, source, words, folder)
+        measure.table({"variables": variables}, source, words, folder, LIMIT_STATUS)
 
 
 if __name__ == "__main__":

@@ -7,13 +7,13 @@ import time
 SIZES = (64 << 10, 1 << 20)
 
 
-def once(words, folder=None):
-    """Seconds and peak kilobytes of one run, which must end with 0."""
+def once(words, folder=None, wanted=0):
+    """Seconds and peak kilobytes of one run, which must end with the status that is wanted."""
     begin = time.perf_counter()
-    child = subprocess.Popen(words, cwd=folder)
+    child = subprocess.Popen(words, cwd=folder, stderr=subprocess.DEVNULL if wanted else None)
     _, status, usage = os.wait4(child.pid, 0)
     seconds = time.perf_counter() - begin
-    if status != 0:
+    if os.waitstatus_to_exitcode(status) != wanted:
         sys.exit(f"{words[0]} ended with {os.waitstatus_to_exitcode(status)}")
     return seconds, usage.ru_maxrss
 
@@ -22,7 +22,7 @@ def runs_wanted():
     return int(sys.argv[1]) if len(sys.argv) > 1 else 15
 
 
-def table(texts, path, words, folder):
+def table(texts, path, words, folder, wanted=0):
     """Writes each kind of text in both sizes to a file, runs the words over it, and prints a line for
     each size and one for how the time grows."""
     runs = runs_wanted()
@@ -32,7 +32,7 @@ def table(texts, path, words, folder):
         for size in SIZES:
             with open(path, "wb") as file:
                 file.write(make(size))
-            measured = [once(words, folder) for _ in range(runs)]
+            measured = [once(words, folder, wanted) for _ in range(runs)]
             seconds, peak = min(m[0] for m in measured), max(m[1] for m in measured)
             least.append(seconds)
             print(f"{name:16} {size:8} bytes: {1000 * seconds:8.2f} ms, {peak / 1024:6.1f} MiB")
