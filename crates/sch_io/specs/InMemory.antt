@@ -51,6 +51,10 @@ told_bytes outlet = if outlet.tells then Some outlet.bytes.items else None
 abbrev pub told_left : MemOutlet → Option (List Answer)
 told_left outlet = if outlet.tells then Some (drop outlet.next outlet.plan.items) else None
 
+-- how often it has failed or taken nothing
+abbrev pub faults_met : MemOutlet → ℕ
+faults_met outlet = outlet.faults
+
 -- how many more bytes it has room for
 abbrev pub room_left : MemOutlet → ℕ
 room_left outlet = outlet.room

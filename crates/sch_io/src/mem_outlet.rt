@@ -23,14 +23,14 @@ pub struct MemOutlet {
 }
 
 impl MemOutlet {
-    ghost use Rattle.sch_io.specs.InMemory.{room_left, told_bytes, told_left};
+    ghost use Rattle.sch_io.specs.InMemory.{faults_met, room_left, told_bytes, told_left};
 
     /// An outlet that answers by `plan` and then takes whole pieces, with room for `room` bytes.
     pub fn new(alloc: Global, plan: &[Answer], room: usize) -> Result<MemOutlet, Mem>
         ensures bytes { IfOk result (λ outlet. told_bytes outlet ≡ Some []) }
         ensures left { IfOk result (λ outlet. told_left outlet ≡ Some plan.now) }
         ensures room { IfOk result (λ outlet. room_left outlet ≡ room) }
-        ensures faults { IfOk result (λ outlet. outlet.faults ≡ 0) }
+        ensures faults { IfOk result (λ outlet. faults_met outlet ≡ 0) }
     {
         Ok(MemOutlet {
             bytes: Vec::with_capacity(alloc, room)?,
@@ -91,20 +91,24 @@ impl MemOutlet {
 }
 
 impl Outlet for MemOutlet {
-    ghost use Rattle.sch_io.specs.InMemory.{next_count, room_left, told_bytes, told_left};
+    ghost use Rattle.sch_io.specs.InMemory.{faults_met, next_count, room_left, told_bytes, told_left};
 
     ghost bytes = { told_bytes };
 
     ghost left = { told_left };
 
-    ghost faults = { λ outlet. outlet.faults };
+    ghost faults = { faults_met };
 
     fn write(&mut self, piece: &[u8]) -> Answer
         ensures within { IsWithin result (length piece.now) }
         ensures bytes { Tells (told_bytes self.old) (told_bytes self.new) (λ before after. after ≡ before ++ taken result piece.now) }
         ensures left { Tells (told_left self.old) (told_left self.new) (AnswersNext (length piece.now) result) }
-        ensures faults { self.old.faults ≤ self.new.faults }
-        ensures refused_only_where_faults_rose { IsRefusal result (length piece.now) → Rose self.old.faults self.new.faults }
+        ensures faults { faults_met self.old ≤ faults_met self.new }
+        ensures refused_only_where_faults_rose { IsRefusal result (length piece.now) → Rose (faults_met self.old) (faults_met self.new) }
+
+        // A refusal is one fault, and no other answer is one.
+        ensures one_fault { IsRefusal result (length piece.now) → faults_met self.new ≡ raised (faults_met self.old) }
+        ensures no_fault { ¬ IsRefusal result (length piece.now) → faults_met self.new ≡ faults_met self.old }
 
         // It tells on as long as there is room.
         ensures room { room_left self.new + length (taken result piece.now) ≡ room_left self.old }
