@@ -18,9 +18,12 @@ pub struct HostDisk<'a, R> {
 }
 
 impl<'a, R: Files> HostDisk<'a, R> {
+    ghost use Rattle.sch_io.specs.OnHost.{calls_made, calls_failed};
+
+    /// A disk that has had no call.
     pub fn new(host: &'a R) -> HostDisk<'a, R>
-        ensures calls { result.calls ≡ 0 }
-        ensures faults { result.faults ≡ 0 }
+        ensures calls { calls_made result ≡ 0 }
+        ensures faults { calls_failed result ≡ 0 }
     {
         HostDisk {
             host,
@@ -59,11 +62,13 @@ impl<'a, R: Files> HostDisk<'a, R> {
 }
 
 impl<'a, R: Files> Disk for HostDisk<'a, R> {
+    ghost use Rattle.sch_io.specs.OnHost.{calls_made, calls_failed};
+
     ghost files = { λ _. None };
 
-    ghost faults = { λ disk. disk.faults };
+    ghost faults = { calls_failed };
 
-    ghost calls = { λ disk. disk.calls };
+    ghost calls = { calls_made };
 
     fn read(&mut self, alloc: Global, name: &str, limit: u64) -> Result<Bytes, DiskRead> {
         self.begin();

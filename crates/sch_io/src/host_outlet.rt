@@ -14,8 +14,11 @@ pub struct StdOutlet<W> {
 }
 
 impl<W> StdOutlet<W> {
+    ghost use Rattle.sch_io.specs.OnHost.{writes_failed};
+
+    /// An outlet that has failed in no write.
     pub fn new(stream: W) -> StdOutlet<W>
-        ensures { result.faults ≡ 0 }
+        ensures { writes_failed result ≡ 0 }
     {
         StdOutlet { stream, faults: 0 }
     }
@@ -29,11 +32,13 @@ impl<W> StdOutlet<W> {
 }
 
 impl<W: Write> Outlet for StdOutlet<W> {
+    ghost use Rattle.sch_io.specs.OnHost.{writes_failed};
+
     ghost bytes = { λ _. None };
 
     ghost left = { λ _. None };
 
-    ghost faults = { λ outlet. outlet.faults };
+    ghost faults = { writes_failed };
 
     fn write(&mut self, piece: &[u8]) -> Answer {
         match self.stream.write(piece) {
