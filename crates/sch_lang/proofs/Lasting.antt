@@ -10,9 +10,9 @@ use Rattle.sch_word.specs.Fixnum.{is_fixnum}
 use Rattle.sch_word.specs.Put as puts
 use Rattle.sch_word.specs.Values.{Value, fixnum, character, boolean, unspecified, symbol, object, Object, pair, vector, string}
 use Rattle.sch_word.specs.Store.{Store}
-use Rattle.sch_word.specs.Computation.{Outcome, gives, stops, spent, Action, on_value, after, require, set_or_stop, read_global, write_global, value_or_stop, read_literal}
+use Rattle.sch_word.specs.Computation.{Outcome, gives, stops, spent, Action, on_value, after, require, set_or_stop, read_global, write_global, known_value, read_literal}
 use Rattle.sch_word.specs.Charges.{charge, charge_each, new_object, charged_object, new_list, fit}
-use Rattle.sch_word.specs.PrimitiveRows.{unary, binary, ternary, as_fixnum, as_character, name_or_stop, as_symbol, object_at, pair_or_stop, vector_or_stop, string_or_stop, as_pair, as_vector, as_string, in_range, as_length, fixnum_or_stop, arithmetic, comparison, division, object_test, is_pair, is_vector, is_string, int_modulo, below, write_object, element, piece, put_piece, primitive}
+use Rattle.sch_word.specs.PrimitiveRows.{unary, binary, ternary, as_fixnum, as_character, known_name, as_symbol, object_at, pair_or_stop, vector_or_stop, string_or_stop, as_pair, as_vector, as_string, in_range, as_length, fixnum_or_stop, arithmetic, comparison, division, object_test, is_pair, is_vector, is_string, int_modulo, below, write_object, element, piece, put_piece, primitive}
 
 -- an outcome that is not spent, and leaves at most so many entries
 abbrev pub Lasts : {V : Type 0} → ℕ → Outcome Store V → Type 0
@@ -96,12 +96,12 @@ lasting_read_global g = record { from = λ t. (lasting_set_or_stop (slice_get t.
 pub lasting_write_global : (g : ℕ) (v : Value) → Lasting (write_global g v)
 lasting_write_global g v = record { from = λ t. omega arith }
 
-lasting_value_or_stop : (o : Option Value) → Lasting (value_or_stop o)
-lasting_value_or_stop None = lasting_stops _
-lasting_value_or_stop (Some v) = lasting_gives v
+lasting_known_value : (o : Option Value) → Lasting (known_value o)
+lasting_known_value None = lasting_stops _
+lasting_known_value (Some v) = lasting_gives v
 
 pub lasting_read_literal : (k : ℕ) → Lasting (read_literal k)
-lasting_read_literal k = record { from = λ t. (lasting_value_or_stop (slice_get t.constants.literals k)).from t }
+lasting_read_literal k = record { from = λ t. (lasting_known_value (slice_get t.constants.literals k)).from t }
 
 -- ## The parts of primitives
 
@@ -131,12 +131,12 @@ lasting_as_character : (v : Value) {next : ℕ → Action Value} → ((byte : �
 lasting_as_character (character byte) h = h byte
 lasting_as_character _ h = lasting_stops _
 
-lasting_name_or_stop : {next : List ℕ → Action Value} → ((name : List ℕ) → Lasting (next name)) → (o : Option (List ℕ)) → Lasting (name_or_stop o next)
-lasting_name_or_stop h (Some name) = h name
-lasting_name_or_stop h None = lasting_stops _
+lasting_known_name : {next : List ℕ → Action Value} → ((name : List ℕ) → Lasting (next name)) → (o : Option (List ℕ)) → Lasting (known_name o next)
+lasting_known_name h (Some name) = h name
+lasting_known_name h None = lasting_stops _
 
 lasting_as_symbol : (v : Value) {next : List ℕ → Action Value} → ((name : List ℕ) → Lasting (next name)) → Lasting (as_symbol v next)
-lasting_as_symbol (symbol n) {next} h = lasting_looking (λ t. slice_get t.constants.symbols n) (λ o. name_or_stop o next) (lasting_name_or_stop h)
+lasting_as_symbol (symbol n) {next} h = lasting_looking (λ t. slice_get t.constants.symbols n) (λ o. known_name o next) (lasting_known_name h)
 lasting_as_symbol _ h = lasting_stops _
 
 lasting_pair_or_stop : {next : Value → Value → Action Value} → ((a d : Value) → Lasting (next a d)) → (o : Option Object) → Lasting (pair_or_stop o next)

@@ -61,7 +61,7 @@ module _ (orders : Orders) (enter1 : Enter) (enter_grows : (p : Closure) (vs : L
         grows_after (steady_grows (steady_charge (lambda_bytes formals e))) (λ _. grows_new_procedure _)
     evaluate_grows (call site f es) environment depth tail =
         grows_after (grows_all_values (orders site) (and_growth (evaluate_grows f environment depth false) (each_grows es environment depth)))
-        (λ vs. grows_call enter1 enter_grows tail depth vs)
+        (λ vs. grows_call enter1 enter_grows false tail depth vs)
     evaluate_grows (operation site which es) environment depth tail =
         grows_after (grows_all_values (orders site) (each_grows es environment depth)) (λ vs. steady_grows (steady_primitive which vs))
 
@@ -156,8 +156,8 @@ module _ (k : ℕ) (orders : Orders) (enter1 enter2 : Enter)
         ahead_after k (ahead_all_values k (orders site)
         (and_ahead (evaluate_ahead f environment depth false) (each_ahead es environment depth))
         (and_growth (evaluate_grows orders enter2 enter_grows f environment depth false) (each_grows orders enter2 enter_grows es environment depth)))
-        (λ vs. ahead_call k enter1 enter2 enter_ahead enter_grows tail depth vs)
-        (λ vs. grows_call enter2 enter_grows tail depth vs)
+        (λ vs. ahead_call k enter1 enter2 enter_ahead enter_grows false tail depth vs)
+        (λ vs. grows_call enter2 enter_grows false tail depth vs)
     evaluate_ahead (operation site which es) environment depth tail =
         ahead_after k (ahead_all_values k (orders site) (each_ahead es environment depth) (each_grows orders enter2 enter_grows es environment depth))
         (λ vs. ahead_in_store k (steady_primitive which vs)) (λ vs. steady_grows (steady_primitive which vs))

@@ -6,7 +6,7 @@ use Rattle.sch_word.specs.Computation.{Computation, read_literal, read_global, w
 use Rattle.sch_word.specs.Charges.{charge, charge_each, fit}
 use Rattle.sch_word.specs.PrimitiveRows.{primitive}
 use Rattle.sch_word.specs.Runs.{starting_store}
-use Rattle.sch_word.proofs.Similar.{EachSimilar, no_similar, and_similar, similar_gives, similar_stops, similar_spent, similar_either, similar_then, similar_all_values, similar_in_turn}
+use Rattle.sch_word.proofs.Similar.{EachSimilar, no_similar, and_similar, similar_gives, similar_unreached, similar_spent, similar_either, similar_then, similar_all_values, similar_in_turn}
 use Rattle.sch_word.proofs.SameStore.{same_store, Pairs, no_pairs, and_pair, DoesSame, same_in_store, keeps_in_store, same_read_cell, same_write_cell, same_write_cells, same_new_procedure, keeps_new_cells, keeps_new_fix, same_keeping, same_call, same_seen, fit_length}
 use Rattle.sch_lang.specs.Tree.{Expression, Expressions, Lambdas, constant, literal, local, global, set_local, set_global, define, branch, sequence, bind, fix, letrec, lambda, call, operation, no_expressions, and_expression, no_lambdas, and_lambda, count, count_lambdas, Source}
 use Rattle.sch_lang.specs.Variables.{cells_of}
@@ -55,7 +55,7 @@ module _ (orders orders' : Orders) where
       and_pair (record { same = refl; agree = agree_left (sites e) (sites_lambdas ls) a }) (closures_become ls environment (agree_right (sites e) (sites_lambdas ls) a))
 
   with_cell_same : {V : Type 0} (o : Option ℕ) {next : ℕ → Computation Closure V} → ((c : ℕ) → DoesSame Becomes (next c) (next c)) → DoesSame Becomes (with_cell o next) (with_cell o next)
-  with_cell_same None h = similar_stops (same_store Becomes) _
+  with_cell_same None h = similar_unreached (same_store Becomes)
   with_cell_same (Some c) h = h c
 
   module _ (enter1 enter2 : Enter) (same_enter : (p q : Closure) → Becomes p q → (vs : List Value) (depth : ℕ) → DoesSame Becomes (enter1 p vs depth) (enter2 q vs depth)) where
@@ -98,7 +98,7 @@ module _ (orders orders' : Orders) where
       evaluate_same (call site f es) a environment depth tail =
           rw (← a.0) (same_keeping Becomes (similar_all_values (same_store Becomes) (orders site)
           (and_similar (evaluate_same f (agree_left (sites f) (sites_each es) a.1) environment depth false) (each_same es (agree_right (sites f) (sites_each es) a.1) environment depth)))
-          (λ vs _. same_call Becomes enter1 enter2 same_enter tail depth vs))
+          (λ vs _. same_call Becomes enter1 enter2 same_enter false tail depth vs))
       evaluate_same (operation site which es) a environment depth tail =
           rw (← a.0) (same_keeping Becomes (similar_all_values (same_store Becomes) (orders site) (each_same es a.1 environment depth))
           (λ vs _. same_in_store Becomes (primitive which vs)))

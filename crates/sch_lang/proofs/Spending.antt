@@ -6,8 +6,10 @@ use Rattle.sch_word.specs.declared.answer.Answer.{Answer}
 use Rattle.sch_word.specs.declared.stop.Stop.{Stop}
 use Rattle.sch_word.specs.Values.{Value, unspecified, is_true}
 use Rattle.sch_word.specs.Store.{Store}
-use Rattle.sch_word.specs.Computation.{Outcome, gives, stops, spent, State, Action, Computation, with_rest, in_store, on_value, after, either, at_place, in_order, in_turn, blanks, all_values, set_or_stop, read_cell, write_cell, write_cells, new_procedure, new_fix, new_cells, some_each, unset_each, callee, operands, depth_left, checked_call, call_with, some_left, entry_left, taken, take_entry}
+use Rattle.sch_word.specs.Checked.{Checked, passes, refused, exhausted, unreachable}
+use Rattle.sch_word.specs.Computation.{Outcome, gives, stops, spent, State, Action, Computation, with_rest, in_store, on_value, after, either, at_place, in_order, in_turn, blanks, all_values, set_or_stop, read_cell, write_cell, write_cells, new_procedure, new_fix, new_cells, some_each, unset_each, checked, checked_call, call_with, taken, take_entry}
 use Rattle.sch_word.specs.Runs.{going, seen, starting_store, starting_state}
+use Rattle.sch_word.proofs.Exhausted.{Exhausts, exhausts_checked_call}
 use Rattle.sch_lang.specs.Tree.{Expression, Expressions, constant, literal, local, global, set_local, set_global, define, branch, sequence, bind, fix, letrec, lambda, call, operation, no_expressions, and_expression, count, count_lambdas, Source}
 use Rattle.sch_lang.specs.Variables.{cells_of}
 use Rattle.sch_lang.specs.Meaning.{Closure, Enter, Orders, with_cell, onto, closures, lambda_bytes, lambdas_bytes, cells_bytes, evaluate, each, parts, enter}
@@ -114,21 +116,18 @@ module _ (n : ℕ) where
 
   -- ## Calls
 
-  within_some_left : (m : ℕ) (cs : List (Option Value)) (ps : List Closure) (t : Store) → t.entries ≡ m → t.entries ≤ n → Within n (with_rest cs ps (some_left m t))
-  within_some_left zero cs ps t e g = e
-  within_some_left (suc m) cs ps t e g = g
-
-  spends_entry_left : Spends n (in_store entry_left)
-  spends_entry_left = record { from = λ s g. within_some_left s.store.entries s.cells s.procedures s.store refl g }
+  within_checked : {A V : Type 0} (c : Checked A) {next : A → Computation Closure V} → ((a : A) → Spends n (next a)) → (s : State Closure) → s.store.entries ≤ n → Exhausts s.store.entries c → Within n (checked c next s)
+  within_checked (passes a) h s g e = (h a).from s g
+  within_checked (refused why) h s g e = g
+  within_checked exhausted h s g e = e
+  within_checked unreachable h s g e = g
 
   module _ (enter1 : Enter) (enter_spends : (p : Closure) (vs : List Value) (depth : ℕ) → Spends n (enter1 p vs depth)) where
-    spends_checked_call : (o : Option Closure) (depth : Option ℕ) (vs : List Value) → Spends n (checked_call enter1 o depth vs)
-    spends_checked_call None depth vs = spends_stops _
-    spends_checked_call (Some p) None vs = spends_stops _
-    spends_checked_call (Some p) (Some depth) vs = spends_after spends_entry_left (λ _. enter_spends p vs depth)
-
-    spends_call : (tail : Bool) (depth : ℕ) (vs : List Value) → Spends n (call_with enter1 tail depth vs)
-    spends_call tail depth vs = record { from = λ s g. (spends_checked_call (callee s.procedures vs) (depth_left tail depth) (operands vs)).from s g }
+    spends_call : (tail : Bool) (depth : ℕ) (vs : List Value) → Spends n (call_with enter1 false tail depth vs)
+    spends_call tail depth vs = record {
+      from = λ s g. within_checked (checked_call s.procedures s.store false tail depth vs) (λ e. enter_spends e.procedure e.arguments e.depth) s g
+          (exhausts_checked_call s.procedures s.store false tail depth vs);
+    }
 
   -- taking an entry leaves one less
   within_taken : {W : Type 0} (m : ℕ) (cs : List (Option Value)) (ps : List Closure) (t : Store) (next : Value → Computation Closure W) → t.entries ≡ m → t.entries ≤ suc n → ((v : Value) → Spends n (next v)) → Within (suc n) (on_value (with_rest cs ps (taken m t)) next)

@@ -1,9 +1,8 @@
 -- What an expression does (R5RS 4.1, 4.2.2, 4.2.3 and 7.2, over an explicit store).
 use Rattle.std.specs.Prelude.{ℕ, zero, suc, Bool, true, false, List, [], ◌∷◌, length, Option, Some, None, slice_get}
-use Rattle.sch_word.specs.declared.stop.Stop.TheVariants.{Unset}
 use Rattle.sch_word.specs.Values.{Value, unspecified, constant_value, is_true}
 use Rattle.sch_word.specs.Computation as computation
-use Rattle.sch_word.specs.Computation.{Computation, gives, stops, spent, after, either, in_store, all_values, in_turn, read_literal, read_global, write_global, read_cell, write_cell, write_cells, new_cells, some_each, unset_each, new_procedure, new_fix, take_entry, call_with}
+use Rattle.sch_word.specs.Computation.{Computation, gives, spent, unreached, after, either, in_store, all_values, in_turn, read_literal, read_global, write_global, read_cell, write_cell, write_cells, new_cells, some_each, unset_each, new_procedure, new_fix, take_entry, call_with}
 use Rattle.sch_word.specs.Charges.{charge, charge_each, procedure_bytes, cell_bytes, fit}
 use Rattle.sch_word.specs.PrimitiveRows.{primitive}
 use Rattle.sch_lang.specs.Tree.{Expression, Expressions, Lambdas, constant, literal, local, global, set_local, set_global, define, branch, sequence, bind, fix, letrec, lambda, call, operation, no_expressions, and_expression, no_lambdas, and_lambda, count, count_lambdas}
@@ -25,7 +24,7 @@ abbrev pub Orders : Type 0
 Orders = ℕ → List ℕ
 
 abbrev pub with_cell : {V : Type 0} → Option ℕ → (ℕ → Computation Closure V) → Computation Closure V
-with_cell None next = stops Unset
+with_cell None next = unreached
 with_cell (Some c) next = next c
 
 -- cells that were just made are the nearest, and the last of them first
@@ -90,7 +89,7 @@ module _ (orders : Orders) (enter : Enter) where
         (λ _. new_procedure (record { formals = formals; rest = rest; body = e; environment = environment }))
     evaluate (call site f es) environment depth tail =
         after (all_values (orders site) (evaluate f environment depth false ∷ each es environment depth))
-        (call_with enter tail depth)
+        (call_with enter false tail depth)
     evaluate (operation site which es) environment depth tail =
         after (all_values (orders site) (each es environment depth)) (λ vs. in_store (primitive which vs))
 

@@ -6,7 +6,9 @@ use Rattle.sch_word.specs.declared.stop.Stop.{Stop}
 use Rattle.sch_word.specs.Values.{Value, unspecified}
 use Rattle.sch_word.specs.Store.{Store}
 use Rattle.sch_word.specs.Growth.{GrowsTo}
-use Rattle.sch_word.specs.Computation.{Outcome, gives, stops, spent, State, Action, Computation, with_rest, in_store, on_value, after, either, at_place, in_order, in_turn, blanks, all_values, set_or_stop, read_cell, write_cell, write_cells, new_procedure, new_fix, new_cells, callee, operands, depth_left, checked_call, call_with, some_left, entry_left, taken, take_entry, Enter}
+use Rattle.sch_word.specs.Checked.{Checked, passes, refused, exhausted, unreachable, on_passed}
+use Rattle.sch_word.specs.Handed.{handed}
+use Rattle.sch_word.specs.Computation.{Outcome, gives, stops, spent, State, Action, Computation, with_rest, in_store, on_value, after, either, at_place, in_order, in_turn, blanks, all_values, set_or_stop, read_cell, write_cell, write_cells, new_procedure, new_fix, new_cells, checked, callee, operands, depth_left, entry_left, checked_call, call_with, taken, take_entry, Enter}
 use Rattle.sch_word.proofs.Steady.{OutcomeGrows, grows_self, grows_on, quiet, with_entries, outcome_with, Steady}
 
 -- the sum, by recursion on its first number
@@ -17,10 +19,6 @@ more_than (suc n) k = suc (more_than n k)
 pub more_than_is : (n k : ℕ) → more_than n k ≡ n + k
 more_than_is zero k = omega arith
 more_than_is (suc n) k = ap suc (more_than_is n k) ∙ omega arith
-
-some_left_grows : (n : ℕ) (t : Store) → OutcomeGrows t (some_left n t)
-some_left_grows zero t = grows_self t
-some_left_grows (suc n) t = grows_self t
 
 taken_grows : (n : ℕ) (t : Store) → OutcomeGrows (with_entries n t) (taken n (with_entries n t))
 taken_grows zero t = grows_self (with_entries zero t)
@@ -39,6 +37,21 @@ entries_of_with n (spent t) = refl
 -- a steady action leaves the entries as they were
 entries_stay : {V : Type 0} {f : Action V} → Steady f → (t : Store) → entries_of (f t) ≡ t.entries
 entries_stay {f = f} h t = ap entries_of (h.blind t.entries t) ∙ entries_of_with t.entries (f t)
+
+-- checks of which the second is the first, or the first finds no entry left
+pub data CheckedAhead {A : Type 0} : Checked A → Checked A → Type 0 where
+  same_check : (c : Checked A) → CheckedAhead c c
+  more_left : (c : Checked A) → CheckedAhead exhausted c
+
+ahead_on_passed : {A B : Type 0} (c : Checked A) {next next' : A → Checked B} → ((a : A) → CheckedAhead (next a) (next' a)) → CheckedAhead (on_passed c next) (on_passed c next')
+ahead_on_passed (passes a) h = h a
+ahead_on_passed (refused why) h = same_check _
+ahead_on_passed exhausted h = same_check _
+ahead_on_passed unreachable h = same_check _
+
+entry_left_ahead : {V : Type 0} (k n : ℕ) (v : V) → CheckedAhead (entry_left n v) (entry_left (more_than n k) v)
+entry_left_ahead k zero v = more_left _
+entry_left_ahead k (suc n) v = same_check _
 
 module _ {P : Type 0} where
   -- ## Growth
@@ -70,6 +83,12 @@ module _ {P : Type 0} where
     pub grows_either : (b : Bool) {c d : Computation P V} → Grows c → Grows d → Grows (either b c d)
     grows_either true g h = g
     grows_either false g h = h
+
+    pub grows_checked : {A : Type 0} (c : Checked A) {next : A → Computation P V} → ((a : A) → Grows (next a)) → Grows (checked c next)
+    grows_checked (passes a) h = h a
+    grows_checked (refused why) h = grows_stops why
+    grows_checked exhausted h = grows_spent
+    grows_checked unreachable h = grows_stops _
 
     with_rest_grows : (t : Store) (cs : List (Option Value)) (ps : List P) (a : Outcome Store V) → OutcomeGrows t a → StateGrows t (with_rest cs ps a)
     with_rest_grows t cs ps (gives v u) g = g
@@ -133,20 +152,14 @@ module _ {P : Type 0} where
   pub grows_new_fix : (count : ℕ) (make : List ℕ → List P) → Grows (new_fix count make)
   grows_new_fix count make = record { from = λ s. grows_self s.store }
 
-  pub grows_entry_left : Grows (in_store entry_left)
-  grows_entry_left = grows_in_store entry_left (λ t. some_left_grows t.entries t)
-
   pub grows_take_entry : Grows (in_store take_entry)
   grows_take_entry = grows_in_store take_entry (λ t. taken_grows t.entries t)
 
   module _ (enter : Enter P) (enter_grows : (p : P) (vs : List Value) (depth : ℕ) → Grows (enter p vs depth)) where
-    checked_call_grows : (o : Option P) (depth : Option ℕ) (vs : List Value) → Grows (checked_call enter o depth vs)
-    checked_call_grows None depth vs = grows_stops _
-    checked_call_grows (Some p) None vs = grows_stops _
-    checked_call_grows (Some p) (Some depth) vs = grows_after grows_entry_left (λ _. enter_grows p vs depth)
-
-    pub grows_call : (tail : Bool) (depth : ℕ) (vs : List Value) → Grows (call_with enter tail depth vs)
-    grows_call tail depth vs = record { from = λ s. (checked_call_grows (callee s.procedures vs) (depth_left tail depth) (operands vs)).from s }
+    pub grows_call : (spread tail : Bool) (depth : ℕ) (vs : List Value) → Grows (call_with enter spread tail depth vs)
+    grows_call spread tail depth vs = record {
+      from = λ s. (grows_checked (checked_call s.procedures s.store spread tail depth vs) (λ e. enter_grows e.procedure e.arguments e.depth)).from s;
+    }
 
   -- ## More entries
 
@@ -250,13 +263,17 @@ module _ {P : Type 0} where
 
     -- ## Calls
 
-    entry_left_ahead : (n : ℕ) (cs : List (Option Value)) (ps : List P) (t : Store) →
-        AheadOutcome (with_rest cs ps (some_left n (with_entries n t))) (with_rest cs ps (some_left (more_than n k) (with_entries (more_than n k) t)))
-    entry_left_ahead zero cs ps t = with_rest_grows (with_entries k t) cs ps _ (some_left_grows k (with_entries k t))
-    entry_left_ahead (suc n) cs ps t = refl
+    pub ahead_checked : {A V : Type 0} {c d : Checked A} {next next' : A → Computation P V} → CheckedAhead c d → ((a : A) → Ahead (next a) (next' a)) → ((a : A) → Grows (next' a)) → Ahead (checked c next) (checked d next')
+    ahead_checked (same_check (passes a)) h g = h a
+    ahead_checked (same_check (refused why)) h g = ahead_stops why
+    ahead_checked (same_check exhausted) h g = ahead_spent grows_spent
+    ahead_checked (same_check unreachable) h g = ahead_stops _
+    ahead_checked (more_left d) h g = ahead_spent (grows_checked d g)
 
-    pub ahead_entry_left : Ahead (in_store entry_left) (in_store entry_left)
-    ahead_entry_left = record { from = λ s. entry_left_ahead s.store.entries s.cells s.procedures s.store }
+    checked_call_ahead : (ps : List P) (t : Store) (spread tail : Bool) (depth : ℕ) (vs : List Value) → CheckedAhead (checked_call ps t spread tail depth vs) (checked_call ps (with_entries (more_than t.entries k) t) spread tail depth vs)
+    checked_call_ahead ps t spread tail depth vs =
+        ahead_on_passed (handed (operands vs) spread t.objects)
+        (λ arguments. ahead_on_passed (callee ps vs) (λ p. ahead_on_passed (depth_left tail depth) (λ left. entry_left_ahead k t.entries _)))
 
     take_entry_ahead : (n : ℕ) (cs : List (Option Value)) (ps : List P) (t : Store) →
         AheadOutcome (with_rest cs ps (taken n (with_entries n t))) (with_rest cs ps (taken (more_than n k) (with_entries (more_than n k) t)))
@@ -267,10 +284,8 @@ module _ {P : Type 0} where
     ahead_take_entry = record { from = λ s. take_entry_ahead s.store.entries s.cells s.procedures s.store }
 
     module _ (enter enter' : Enter P) (enter_ahead : (p : P) (vs : List Value) (depth : ℕ) → Ahead (enter p vs depth) (enter' p vs depth)) (enter_grows : (p : P) (vs : List Value) (depth : ℕ) → Grows (enter' p vs depth)) where
-      checked_call_ahead : (o : Option P) (depth : Option ℕ) (vs : List Value) → Ahead (checked_call enter o depth vs) (checked_call enter' o depth vs)
-      checked_call_ahead None depth vs = ahead_stops _
-      checked_call_ahead (Some p) None vs = ahead_stops _
-      checked_call_ahead (Some p) (Some depth) vs = ahead_after ahead_entry_left (λ _. enter_ahead p vs depth) (λ _. enter_grows p vs depth)
-
-      pub ahead_call : (tail : Bool) (depth : ℕ) (vs : List Value) → Ahead (call_with enter tail depth vs) (call_with enter' tail depth vs)
-      ahead_call tail depth vs = record { from = λ s. (checked_call_ahead (callee s.procedures vs) (depth_left tail depth) (operands vs)).from s }
+      pub ahead_call : (spread tail : Bool) (depth : ℕ) (vs : List Value) → Ahead (call_with enter spread tail depth vs) (call_with enter' spread tail depth vs)
+      ahead_call spread tail depth vs = record {
+        from = λ s. (ahead_checked (checked_call_ahead s.procedures s.store spread tail depth vs)
+            (λ e. enter_ahead e.procedure e.arguments e.depth) (λ e. enter_grows e.procedure e.arguments e.depth)).from s;
+      }

@@ -1,4 +1,5 @@
 pub mod Ahead
+pub mod Exhausted
 pub mod Fixnums
 pub mod LiteralObjects
 pub mod LiteralRows

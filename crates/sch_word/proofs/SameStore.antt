@@ -6,13 +6,14 @@ use Rattle.std.proofs.lemmas.Bool.{eqb-true, leb-true}
 use Rattle.std.proofs.lemmas.List.{length-take-le}
 use Rattle.sch_word.specs.declared.answer.Answer.{Answer}
 use Rattle.sch_word.specs.declared.stop.Stop.{Stop}
-use Rattle.sch_word.specs.declared.stop.Stop.TheVariants.{WrongCount}
+use Rattle.sch_word.specs.declared.stop.Stop.TheVariants.{NotProcedure, WrongCount}
 use Rattle.sch_word.specs.Values.{Value, unspecified, procedure}
 use Rattle.sch_word.specs.Store.{Store}
-use Rattle.sch_word.specs.Computation.{Outcome, gives, stops, spent, State, Action, Computation, with_rest, in_store, on_value, after, require, set_or_stop, read_cell, write_cell, write_cells, new_procedure, new_group, new_fix, new_cells, numbers_from, procedures_from, callee, operands, depth_left, checked_call, call_with, entry_left, Enter}
+use Rattle.sch_word.specs.Handed.{handed}
+use Rattle.sch_word.specs.Computation.{Outcome, gives, stops, spent, State, Action, Computation, with_rest, in_store, on_value, after, require, set_or_stop, read_cell, write_cell, write_cells, new_procedure, new_group, new_fix, new_cells, numbers_from, procedures_from, known_procedure, callee, operands, depth_left, Entry, checked_call, call_with, entry_left, Enter}
 use Rattle.sch_word.specs.Charges.{new_list, fit}
 use Rattle.sch_word.specs.Runs.{seen, starting_state}
-use Rattle.sch_word.proofs.Similar.{Correspondence, Similar, SimilarOutcome, Same, similar_gives, similar_stops, similar_after, similar_then}
+use Rattle.sch_word.proofs.Similar.{Correspondence, Similar, SimilarOutcome, Same, BothChecked, both_pass, both_refused, both_exhausted, both_unreachable, both_self, both_on_passed, similar_gives, similar_checked, similar_after, similar_then}
 
 -- a promise on the value that an outcome over the store gives
 abbrev pub Gives : {V : Type 0} → (V → Type 0) → Outcome Store V → Type 0
@@ -54,18 +55,30 @@ module _ {P Q : Type 0} (Becomes : P → Q → Type 0) where
   pairs_append no_pairs g = g
   pairs_append (and_pair h hs) g = and_pair h (pairs_append hs g)
 
-  pub data Both : Option P → Option Q → Type 0 where
-    neither : Both None None
-    both : {p : P} {q : Q} → Becomes p q → Both (Some p) (Some q)
+  pub pairs_known : {ps : List P} {qs : List Q} → Pairs ps qs → (i : ℕ) → BothChecked Becomes (known_procedure (slice_get ps i)) (known_procedure (slice_get qs i))
+  pairs_known no_pairs i = both_unreachable
+  pairs_known (and_pair h hs) zero = both_pass h
+  pairs_known (and_pair h hs) (suc i) = pairs_known hs i
 
-  pairs_get : {ps : List P} {qs : List Q} → Pairs ps qs → (i : ℕ) → Both (slice_get ps i) (slice_get qs i)
-  pairs_get no_pairs i = neither
-  pairs_get (and_pair h hs) zero = both h
-  pairs_get (and_pair h hs) (suc i) = pairs_get hs i
+  pub pairs_callee : {ps : List P} {qs : List Q} → Pairs ps qs → (vs : List Value) → BothChecked Becomes (callee ps vs) (callee qs vs)
+  pairs_callee h (procedure i ∷ vs) = pairs_known h i
+  pairs_callee h _ = both_refused NotProcedure
 
-  pairs_callee : {ps : List P} {qs : List Q} → Pairs ps qs → (vs : List Value) → Both (callee ps vs) (callee qs vs)
-  pairs_callee h (procedure i ∷ vs) = pairs_get h i
-  pairs_callee h _ = neither
+  pub record SameEntry (e : Entry P) (f : Entry Q) : Type 0 where
+    pub becomes : Becomes e.procedure f.procedure
+    pub arguments : e.arguments ≡ f.arguments
+    pub depth : e.depth ≡ f.depth
+
+  both_entry_left : (n : ℕ) {e : Entry P} {f : Entry Q} → SameEntry e f → BothChecked SameEntry (entry_left n e) (entry_left n f)
+  both_entry_left zero h = both_exhausted
+  both_entry_left (suc n) h = both_pass h
+
+  pub checked_call_same : {ps : List P} {qs : List Q} → Pairs ps qs → (t : Store) (spread tail : Bool) (depth : ℕ) (vs : List Value) → BothChecked SameEntry (checked_call ps t spread tail depth vs) (checked_call qs t spread tail depth vs)
+  checked_call_same h t spread tail depth vs =
+      both_on_passed (both_self (handed (operands vs) spread t.objects))
+      (λ _ _ arguments. both_on_passed (pairs_callee h vs)
+      (λ _ _ becomes. both_on_passed (both_self (depth_left tail depth))
+      (λ _ _ left. both_entry_left t.entries (record { becomes = becomes; arguments = arguments; depth = left }))))
 
   -- the same state with other procedures
   abbrev pub with_procedures : State P → List Q → State Q
@@ -163,17 +176,15 @@ module _ {P Q : Type 0} (Becomes : P → Q → Type 0) where
   pub same_keeping : {V W : Type 0} {Promise : V → Type 0} {c : Computation P V} {d : Computation Q V} {next : V → Computation P W} {next' : V → Computation Q W} → Keeps (λ v v'. (v ≡ v') × Promise v) c d → ((v : V) → Promise v → DoesSame (next v) (next' v)) → DoesSame (after c next) (after d next')
   same_keeping {next' = next'} h k = similar_after same_store h (λ _ _ v v' p. rw (← p.0) (k v p.1))
 
+  -- a call, where entering related procedures does the same
   module _ (enter : Enter P) (enter' : Enter Q) (same_enter : (p : P) (q : Q) → Becomes p q → (vs : List Value) (depth : ℕ) → DoesSame (enter p vs depth) (enter' q vs depth)) where
-    checked_call_same : {o : Option P} {o' : Option Q} → Both o o' → (depth : Option ℕ) (vs : List Value) → DoesSame (checked_call enter o depth vs) (checked_call enter' o' depth vs)
-    checked_call_same neither depth vs = similar_stops same_store _
-    checked_call_same (both h) None vs = similar_stops same_store _
-    checked_call_same (both {p} {q} h) (Some depth) vs = similar_then same_store (same_in_store entry_left) (λ w1 g v. same_enter p q h vs depth)
+    same_entering : (e : Entry P) (f : Entry Q) → SameEntry e f → DoesSame (enter e.procedure e.arguments e.depth) (enter' f.procedure f.arguments f.depth)
+    same_entering e f h = rw (← h.arguments, ← h.depth) (same_enter e.procedure f.procedure h.becomes e.arguments e.depth)
 
-    -- a call, where entering related procedures does the same
-    pub same_call : (tail : Bool) (depth : ℕ) (vs : List Value) → DoesSame (call_with enter tail depth vs) (call_with enter' tail depth vs)
-    same_call tail depth vs = record {
+    pub same_call : (spread tail : Bool) (depth : ℕ) (vs : List Value) → DoesSame (call_with enter spread tail depth vs) (call_with enter' spread tail depth vs)
+    same_call spread tail depth vs = record {
       from = λ w0 g s t r.
-          rw r.is ((checked_call_same (pairs_callee r.pairs vs) (depth_left tail depth) (operands vs)).from tt tt s (with_procedures s r.procedures) (record { procedures = r.procedures; pairs = r.pairs; is = refl }));
+          rw r.is ((similar_checked same_store (checked_call_same r.pairs s.store spread tail depth vs) same_entering).from tt tt s (with_procedures s r.procedures) (record { procedures = r.procedures; pairs = r.pairs; is = refl }));
     }
 
   -- what is seen of two runs from related starts is the same

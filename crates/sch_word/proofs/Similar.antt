@@ -5,7 +5,27 @@ use Rattle.std.specs.Prelude.{slice_get, slice_set}
 use Rattle.std.proofs.lemmas.List.{length-set}
 use Rattle.sch_word.specs.declared.stop.Stop.{Stop}
 use Rattle.sch_word.specs.Values.{Value, unspecified}
-use Rattle.sch_word.specs.Computation.{Outcome, gives, stops, spent, on_value, after, either, require, at_place, in_order, in_turn, blanks, all_values}
+use Rattle.sch_word.specs.Checked.{Checked, passes, refused, exhausted, unreachable, on_passed}
+use Rattle.sch_word.specs.Computation.{Outcome, gives, stops, spent, on_value, after, either, require, unreached, checked, at_place, in_order, in_turn, blanks, all_values}
+
+-- checks that let related things pass, or end alike
+pub data BothChecked {A B : Type 0} (R : A → B → Type 0) : Checked A → Checked B → Type 0 where
+  both_pass : {a : A} {b : B} → R a b → BothChecked R (passes a) (passes b)
+  both_refused : (why : Stop) → BothChecked R (refused why) (refused why)
+  both_exhausted : BothChecked R exhausted exhausted
+  both_unreachable : BothChecked R unreachable unreachable
+
+pub both_self : {A : Type 0} (c : Checked A) → BothChecked (λ a b. a ≡ b) c c
+both_self (passes a) = both_pass refl
+both_self (refused why) = both_refused why
+both_self exhausted = both_exhausted
+both_self unreachable = both_unreachable
+
+pub both_on_passed : {A B C D : Type 0} {R : A → B → Type 0} {R' : C → D → Type 0} {c : Checked A} {d : Checked B} {next : A → Checked C} {next' : B → Checked D} → BothChecked R c d → ((a : A) (b : B) → R a b → BothChecked R' (next a) (next' b)) → BothChecked R' (on_passed c next) (on_passed d next')
+both_on_passed (both_pass {a} {b} r) h = h a b r
+both_on_passed (both_refused why) h = both_refused why
+both_on_passed both_exhausted h = both_exhausted
+both_on_passed both_unreachable h = both_unreachable
 
 -- How the states of two languages go together: by a world of what is known of them, as which cells of
 -- one are which of the other. It grows as a run goes on.
@@ -61,6 +81,16 @@ module _ {S S' : Type 0} (L : Correspondence S S') where
     pub similar_either : {w : L.World} (b : Bool) {c c' : S → Outcome S V} {d d' : S' → Outcome S' V'} → Similar Promise w c d → Similar Promise w c' d' → Similar Promise w (either b c c') (either b d d')
     similar_either true h g = h
     similar_either false h g = g
+
+    pub similar_unreached : {w : L.World} → Similar Promise w unreached unreached
+    similar_unreached = similar_stops _
+
+    -- after checks that let related things pass
+    pub similar_checked : {A B : Type 0} {R : A → B → Type 0} {w : L.World} {c : Checked A} {d : Checked B} {next : A → S → Outcome S V} {next' : B → S' → Outcome S' V'} → BothChecked R c d → ((a : A) (b : B) → R a b → Similar Promise w (next a) (next' b)) → Similar Promise w (checked c next) (checked d next')
+    similar_checked (both_pass {a} {b} r) h = h a b r
+    similar_checked (both_refused why) h = similar_stops why
+    similar_checked both_exhausted h = similar_spent
+    similar_checked both_unreachable h = similar_unreached
 
     pub similar_require : {w : L.World} (b : Bool) (why : Stop) {c : S → Outcome S V} {d : S' → Outcome S' V'} → Similar Promise w c d → Similar Promise w (require b why c) (require b why d)
     similar_require true why h = h

@@ -5,6 +5,8 @@ use Rattle.sch_word.specs.declared.stop.Stop.{Stop}
 use Rattle.sch_word.specs.declared.stop.Stop.TheVariants.{NotProcedure, DepthLimit, Unset}
 use Rattle.sch_word.specs.Values.{Value, unspecified, procedure}
 use Rattle.sch_word.specs.Store.{Store}
+use Rattle.sch_word.specs.Checked.{Checked, passes, refused, exhausted, unreachable, on_passed}
+use Rattle.sch_word.specs.Handed.{handed}
 
 -- what a computation over the states S ends with
 pub data Outcome (S V : Type 0) : Type 0 where
@@ -46,13 +48,32 @@ abbrev pub require : {S V : Type 0} → Bool → Stop → (S → Outcome S V) �
 require true why next s = next s
 require false why next s = stops why s
 
--- an outcome over the store as one over states, whose cells and procedures stay
-abbrev pub with_rest : {P V : Type 0} → List (Option Value) → List P → Outcome Store V → Outcome (State P) V
-with_rest cells procedures (gives v t) = gives v (record { cells = cells; store = t; procedures = procedures })
-with_rest cells procedures (stops why t) = stops why (record { cells = cells; store = t; procedures = procedures })
-with_rest cells procedures (spent t) = spent (record { cells = cells; store = t; procedures = procedures })
+-- What no valid program comes to: a variable that is not bound, a literal, a symbol or a procedure
+-- of a number that there is none of, a primitive at another count of operands, a list that is spread.
+-- A definition says something of these too, so it is this. A machine owes nothing here: that it
+-- follows a program is proved where none of them can come up.
+abbrev pub unreached : {S V : Type 0} → S → Outcome S V
+unreached = stops Unset
 
--- an action on the store as a computation
+-- goes on with what a check lets pass
+abbrev pub checked : {S V W : Type 0} → Checked V → (V → S → Outcome S W) → S → Outcome S W
+checked (passes v) next = next v
+checked (refused why) next = stops why
+checked exhausted next = spent
+checked unreachable next = unreached
+
+-- ## Actions on the store as computations
+
+-- an outcome over the store as one over states of any kind, by the state that each store belongs to
+abbrev pub outcome_in : {S V : Type 0} → (Store → S) → Outcome Store V → Outcome S V
+outcome_in state (gives v t) = gives v (state t)
+outcome_in state (stops why t) = stops why (state t)
+outcome_in state (spent t) = spent (state t)
+
+-- cells and procedures stay
+abbrev pub with_rest : {P V : Type 0} → List (Option Value) → List P → Outcome Store V → Outcome (State P) V
+with_rest cells procedures = outcome_in (λ t. record { cells = cells; store = t; procedures = procedures })
+
 abbrev pub in_store : {P V : Type 0} → Action V → Computation P V
 in_store action s = with_rest s.cells s.procedures (action s.store)
 
@@ -85,9 +106,9 @@ in_turn (c ∷ cs) v s = on_value (c s) (in_turn cs)
 
 -- a variable's value, or stop 73 where it is unset
 abbrev pub set_or_stop : {S : Type 0} → Option (Option Value) → S → Outcome S Value
-set_or_stop None s = stops Unset s
-set_or_stop (Some None) s = stops Unset s
-set_or_stop (Some (Some v)) s = gives v s
+set_or_stop None = unreached
+set_or_stop (Some None) = stops Unset
+set_or_stop (Some (Some v)) = gives v
 
 abbrev pub read_global : ℕ → Action Value
 read_global g t = set_or_stop (slice_get t.globals g) t
@@ -96,12 +117,12 @@ abbrev pub write_global : ℕ → Value → Action Value
 write_global g v t = gives unspecified (record t { globals = slice_set t.globals g (Some v) })
 
 -- a literal's value
-abbrev pub value_or_stop : Option Value → Action Value
-value_or_stop None t = stops Unset t
-value_or_stop (Some v) t = gives v t
+abbrev pub known_value : Option Value → Action Value
+known_value None = unreached
+known_value (Some v) = gives v
 
 abbrev pub read_literal : ℕ → Action Value
-read_literal n t = value_or_stop (slice_get t.constants.literals n) t
+read_literal n t = known_value (slice_get t.constants.literals n) t
 
 abbrev pub read_cell : {P : Type 0} → ℕ → Computation P Value
 read_cell c s = set_or_stop (slice_get s.cells c) s
@@ -163,28 +184,53 @@ new_fix count make s =
 abbrev pub Enter : Type 0 → Type 0
 Enter P = P → List Value → ℕ → Computation P Value
 
--- the procedure that a value is
-abbrev pub callee : {P : Type 0} → List P → List Value → Option P
-callee procedures (procedure n ∷ vs) = slice_get procedures n
-callee procedures _ = None
-
 abbrev pub operands : List Value → List Value
 operands [] = []
 operands (operator ∷ vs) = vs
 
--- the depth that a call leaves for what it enters; a tail call uses none
-abbrev pub depth_left : (tail : Bool) → ℕ → Option ℕ
-depth_left true depth = Some depth
-depth_left false zero = None
-depth_left false (suc depth) = Some depth
+-- the procedure of a number
+abbrev pub known_procedure : {P : Type 0} → Option P → Checked P
+known_procedure None = unreachable
+known_procedure (Some p) = passes p
 
-abbrev pub some_left : ℕ → Action Value
-some_left zero t = spent t
-some_left (suc n) t = gives unspecified t
+-- the procedure that the operator's value is, or stop 67
+abbrev pub callee : {P : Type 0} → List P → List Value → Checked P
+callee procedures (procedure n ∷ vs) = known_procedure (slice_get procedures n)
+callee procedures _ = refused NotProcedure
+
+-- the depth that a call leaves for what it enters, or stop 72; a tail call uses none
+abbrev pub depth_left : (tail : Bool) → ℕ → Checked ℕ
+depth_left true depth = passes depth
+depth_left false zero = refused DepthLimit
+depth_left false (suc depth) = passes depth
 
 -- whether a procedure entry is left
-abbrev pub entry_left : Action Value
-entry_left t = some_left t.entries t
+abbrev pub entry_left : {V : Type 0} → (entries : ℕ) → V → Checked V
+entry_left zero v = exhausted
+entry_left (suc n) v = passes v
+
+-- what a call enters
+pub record Entry (P : Type 0) : Type 0 where
+  pub procedure : P
+  pub arguments : List Value
+  pub depth : ℕ
+
+-- The checks of a call whose parts have values, in their order: there are arguments, the operator is
+-- a procedure, depth is left, an entry is left. They look at the procedures and the store alone. The
+-- others are made in entering, where the procedure is known.
+abbrev pub checked_call : {P : Type 0} → List P → Store → (spread tail : Bool) → ℕ → List Value → Checked (Entry P)
+checked_call procedures t spread tail depth vs =
+    on_passed (handed (operands vs) spread t.objects)
+    (λ arguments. on_passed (callee procedures vs)
+    (λ p. on_passed (depth_left tail depth)
+    (λ left. entry_left t.entries (record { procedure = p; arguments = arguments; depth = left }))))
+
+-- a call, from the values of its operator and its operands
+abbrev pub call_with : {P : Type 0} → Enter P → (spread tail : Bool) → ℕ → List Value → Computation P Value
+call_with enter spread tail depth vs s =
+    checked (checked_call s.procedures s.store spread tail depth vs) (λ e. enter e.procedure e.arguments e.depth) s
+
+-- ## Entries
 
 abbrev pub taken : ℕ → Action Value
 taken zero t = spent t
@@ -193,14 +239,3 @@ taken (suc n) t = gives unspecified (record t { entries = n })
 -- takes a procedure entry
 abbrev pub take_entry : Action Value
 take_entry t = taken t.entries t
-
--- The checks of a call whose parts have values, in their order: its operator is a procedure, depth
--- is left, an entry is left. The others are made in entering, where the procedure is known.
-abbrev pub checked_call : {P : Type 0} → Enter P → Option P → Option ℕ → List Value → Computation P Value
-checked_call enter None depth vs s = stops NotProcedure s
-checked_call enter (Some p) None vs s = stops DepthLimit s
-checked_call enter (Some p) (Some depth) vs s = on_value (in_store entry_left s) (λ _. enter p vs depth)
-
--- a call, from the values of its operator and its operands
-abbrev pub call_with : {P : Type 0} → Enter P → (tail : Bool) → ℕ → List Value → Computation P Value
-call_with enter tail depth vs s = checked_call enter (callee s.procedures vs) (depth_left tail depth) (operands vs) s

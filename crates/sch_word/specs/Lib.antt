@@ -1,7 +1,9 @@
 pub mod Charges
+pub mod Checked
 pub mod Computation
 pub mod Fixnum
 pub mod Growth
+pub mod Handed
 pub mod Limits
 pub mod LiteralView
 pub mod Literals

@@ -9,22 +9,22 @@ use Rattle.sch_word.specs.Fixnum.{is_fixnum}
 use Rattle.sch_word.specs.Put as puts
 use Rattle.sch_word.specs.Values.{Value, fixnum, character, boolean, nil, unspecified, symbol, object, procedure, cell, Object, pair, vector, string, same_value}
 use Rattle.sch_word.specs.Store.{Store}
-use Rattle.sch_word.specs.Computation.{Action, gives, stops, after, require}
+use Rattle.sch_word.specs.Computation.{Action, gives, stops, after, require, unreached}
 use Rattle.sch_word.specs.Charges.{pair_bytes, vector_bytes, string_bytes, charge, new_object, charged_object}
 
 -- ## Operands by count
 
 abbrev pub unary : List Value → (Value → Action Value) → Action Value
 unary (a ∷ []) row = row a
-unary _ row = stops WrongType
+unary _ row = unreached
 
 abbrev pub binary : List Value → (Value → Value → Action Value) → Action Value
 binary (a ∷ (b ∷ [])) row = row a b
-binary _ row = stops WrongType
+binary _ row = unreached
 
 abbrev pub ternary : List Value → (Value → Value → Value → Action Value) → Action Value
 ternary (a ∷ (b ∷ (c ∷ []))) row = row a b c
-ternary _ row = stops WrongType
+ternary _ row = unreached
 
 -- ## Operands by type: any other is stop 65
 
@@ -36,13 +36,13 @@ abbrev pub as_character : Value → (ℕ → Action Value) → Action Value
 as_character (character byte) next = next byte
 as_character _ next = stops WrongType
 
-abbrev pub name_or_stop : Option (List ℕ) → (List ℕ → Action Value) → Action Value
-name_or_stop (Some name) next = next name
-name_or_stop None next = stops WrongType
+abbrev pub known_name : Option (List ℕ) → (List ℕ → Action Value) → Action Value
+known_name (Some name) next = next name
+known_name None next = unreached
 
 -- a symbol, by its name
 abbrev pub as_symbol : Value → (List ℕ → Action Value) → Action Value
-as_symbol (symbol n) next t = name_or_stop (slice_get t.constants.symbols n) next t
+as_symbol (symbol n) next t = known_name (slice_get t.constants.symbols n) next t
 as_symbol _ next t = stops WrongType t
 
 -- the object that a value is

@@ -63,11 +63,15 @@ run_with end answers entries t = record {
   end = end;
 }
 
--- what is seen of an outcome, from a start with these answers and so many entries
+-- what is seen of an outcome over states of any kind that have a store, from a start with these
+-- answers and n entries
+abbrev pub seen_in : {S V : Type 0} → (store : S → Store) → List Answer → (entries : ℕ) → Outcome S V → Run
+seen_in store answers entries (gives v s) = run_with (ended 0) answers entries (store s)
+seen_in store answers entries (stops why s) = run_with (ended (status_of why)) answers entries (store s)
+seen_in store answers entries (spent s) = run_with going answers entries (store s)
+
 abbrev pub seen : {P V : Type 0} → List Answer → (entries : ℕ) → Outcome (State P) V → Run
-seen answers entries (gives v s) = run_with (ended 0) answers entries s.store
-seen answers entries (stops why s) = run_with (ended (status_of why)) answers entries s.store
-seen answers entries (spent s) = run_with going answers entries s.store
+seen = seen_in (λ s. s.store)
 
 -- what is seen of a program's runs: under an order table, with limits of heap and depth, against the
 -- answers of a kernel, with at most so many procedure entries
