@@ -6,5 +6,7 @@ pub mod LiteralRows
 mod PrimitiveExamples
 pub mod RunsAlike
 pub mod SameStore
+pub mod Shaped
 pub mod Similar
 pub mod Steady
+pub mod Walking

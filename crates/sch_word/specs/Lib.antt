@@ -1,3 +1,4 @@
+pub mod Bindings
 pub mod Charges
 pub mod Checked
 pub mod Computation
@@ -13,8 +14,11 @@ pub mod PrimitiveRows
 pub mod Primitives
 pub mod Put
 pub mod Runs
+pub mod Shape
+pub mod StaticsView
 pub mod Stops
 pub mod Store
 pub mod Tags
 pub mod Values
+pub mod Walk
 pub mod formers
