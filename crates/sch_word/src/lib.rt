@@ -11,6 +11,7 @@ mod literal;
 mod mem;
 mod place;
 mod primitive;
+mod statics;
 mod stop;
 mod tag;
 
@@ -23,5 +24,6 @@ pub use literal::Lit;
 pub use mem::Mem;
 pub use place::Place;
 pub use primitive::{Prim, Primitive};
+pub use statics::Statics;
 pub use stop::Stop;
 pub use tag::{TAG_BITS, Tag};
