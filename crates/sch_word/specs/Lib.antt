@@ -1,4 +1,5 @@
 pub mod Bindings
+pub mod CellBytes
 pub mod Charges
 pub mod Checked
 pub mod Computation
@@ -10,6 +11,7 @@ pub mod LiteralView
 pub mod Literals
 pub mod Memory
 pub mod NumberSets
+pub mod Orders
 pub mod PrimitiveRows
 pub mod Primitives
 pub mod Put

@@ -1,11 +1,13 @@
 -- What the languages of trees have in common: the shape of a node is what is counted of it and what it
 -- names, without its variables and its parts. Each language says which shape its nodes have, and what is
 -- counted is defined here, once for all of them.
-use Rattle.std.specs.Prelude.{ℕ, zero, suc, ◌+◌, Bool, true, false, ◌&&◌, ◌||◌, not, nat_eq, nat_lt, nat_le, List, [], ◌∷◌}
+use Rattle.std.specs.Prelude.{ℕ, zero, suc, ◌+◌, Bool, true, false, ◌&&◌, ◌||◌, not, nat_eq, nat_lt, nat_le, List, [], ◌∷◌, slice_get, Option, Some, None}
+use Rattle.std.specs.List.{list_all, count_by}
 use Rattle.sch_word.specs.declared.constant.Const.{Const}
 use Rattle.sch_word.specs.declared.primitive.Primitive.{Primitive}
 use Rattle.sch_word.specs.Primitives.{operands_of}
 use Rattle.sch_word.specs.Literals.{constant_known}
+use Rattle.sch_word.specs.Computation.{numbers_from}
 
 -- A procedure of the text: the name of its body in a listing, how many variables it binds, its rest
 -- variable included, whether the last takes a list, how many distinct variables are free in it, and how
@@ -156,3 +158,14 @@ fits variables (lambda p) = procedure_fits variables p
 fits variables (new_cells count) = nat_le count max_operands
 fits variables (fix_closures count made) = nat_le count max_operands
 fits variables _ = true
+
+-- a site is listed with its number of parts
+abbrev pub is_width : Option ℕ → ℕ → Bool
+is_width (Some listed) width = nat_eq listed width
+is_width None width = false
+
+-- each site that is listed stands at exactly one node, and each node's site is listed with its width
+abbrev pub sites_once : (listed : List ℕ) → (sites : List (ℕ × ℕ)) → Bool
+sites_once listed sites =
+    list_all (λ s. nat_eq (count_by (λ at. nat_eq at.0 s) sites) 1) (numbers_from 0 listed)
+    && list_all (λ at. is_width (slice_get listed at.0) at.1) sites
