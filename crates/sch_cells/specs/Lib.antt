@@ -1,2 +1,9 @@
+pub mod Bodies
+pub mod Clear
+pub mod Measures
+pub mod ProgramView
+pub mod SourceView
 pub mod Tree
+pub mod Valid
+pub mod Variables
 pub mod View
