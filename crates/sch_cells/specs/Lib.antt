@@ -1,9 +1,12 @@
 pub mod Bodies
+pub mod BoxedMeaning
 pub mod Clear
 pub mod Measures
+pub mod Procedures
 pub mod ProgramView
 pub mod SourceView
 pub mod Tree
+pub mod UnboxedMeaning
 pub mod Valid
 pub mod Variables
 pub mod View

@@ -103,7 +103,7 @@ every test p = over_source true (λ a b. a && b) test p
 
 -- ## Levels
 
--- how deep the nodes of a tree are nested; a body of a Fix's lambda is one level below the Fix
+-- how deep the nodes of a tree are nested; a lambda of a Fix or of the library is a level, as a Lambda node is
 abbrev mutual
   pub levels : Tree → ℕ
   levels (constant c) = 1
@@ -131,4 +131,4 @@ abbrev mutual
 
   pub levels_lambdas : Lambdas → ℕ
   levels_lambdas no_lambdas = 0
-  levels_lambdas (and_lambda name first formals rest e ls) = max (levels e) (levels_lambdas ls)
+  levels_lambdas (and_lambda name first formals rest e ls) = max (1 + levels e) (levels_lambdas ls)
