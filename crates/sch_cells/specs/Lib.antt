@@ -1,6 +1,7 @@
 pub mod Bodies
 pub mod BoxedMeaning
 pub mod Clear
+pub mod Examples
 pub mod Measures
 pub mod Procedures
 pub mod ProgramView

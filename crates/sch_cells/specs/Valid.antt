@@ -72,3 +72,8 @@ sited p = sites_once p.sites (sites_of p)
 
 abbrev pub statics_known : Source → Bool
 statics_known p = statics_valid (count_lambdas p.library) p.statics
+
+-- ## Valid programs
+
+abbrev pub is_valid : (boxed : Bool) → Source → Bool
+is_valid boxed p = scoped p && (formed boxed p && (within_limits boxed p && (sited p && statics_known p)))
