@@ -1,4 +1,5 @@
 pub mod Ahead
+mod Examples
 pub mod Exhausted
 pub mod Fixnums
 pub mod LiteralObjects
@@ -10,3 +11,4 @@ pub mod Shaped
 pub mod Similar
 pub mod Steady
 pub mod Walking
+pub mod StopStatus

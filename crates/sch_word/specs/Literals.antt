@@ -1,8 +1,8 @@
 -- Literals as plain data, and the objects that they are when a run starts (R5RS 4.1.2).
-use Rattle.std.specs.Prelude.{ℕ, suc, ◌+◌, Bool, true, ◌&&◌, nat_lt, List, [], ◌∷◌, ◌++◌, length}
+use Rattle.std.specs.Prelude.{ℕ, suc, ◌+◌, max, Bool, true, ◌&&◌, nat_lt, List, [], ◌∷◌, ◌++◌, length}
 use Rattle.sch_word.specs.declared.constant.Const.{Const}
 use Rattle.sch_word.specs.declared.constant.Const.TheVariants.{Symbol}
-use Rattle.sch_word.specs.Values.{Value, object, constant_value, Object, vector, string}
+use Rattle.sch_word.specs.Values.{Value, object, constant_value, is_constant, are_bytes, Object, vector, string}
 use Rattle.sch_word.specs.Charges.{linked}
 
 mutual
@@ -93,3 +93,28 @@ abbrev mutual
   pub literals_known : ℕ → Literals → Bool
   literals_known symbols no_literals = true
   literals_known symbols (and_literal l ls) = literal_known symbols l && literals_known symbols ls
+
+-- whether the constants of literals are words and their texts bytes
+abbrev mutual
+  pub literal_in_range : Literal → Bool
+  literal_in_range (constant c) = is_constant c
+  literal_in_range (text bytes) = are_bytes bytes
+  literal_in_range (list ls tail) = literals_in_range ls && literal_in_range tail
+  literal_in_range (elements ls) = literals_in_range ls
+
+  pub literals_in_range : Literals → Bool
+  literals_in_range no_literals = true
+  literals_in_range (and_literal l ls) = literal_in_range l && literals_in_range ls
+
+-- The levels of nesting: a list and a vector are one level above what they hold, the end of a list
+-- among it.
+abbrev mutual
+  pub literal_levels : Literal → ℕ
+  literal_levels (constant c) = 1
+  literal_levels (text bytes) = 1
+  literal_levels (list ls tail) = 1 + max (literals_levels ls) (literal_levels tail)
+  literal_levels (elements ls) = 1 + literals_levels ls
+
+  pub literals_levels : Literals → ℕ
+  literals_levels no_literals = 0
+  literals_levels (and_literal l ls) = max (literal_levels l) (literals_levels ls)

@@ -1,11 +1,12 @@
 -- How a run starts, and what is seen of it at its end.
 use Rattle.std.specs.Prelude.{◌≡◌, ℕ, ◌+◌, ◌-◌, Bool, true, ◌&&◌, nat_le, nat_lt, List, [], ◌∷◌, length, Option, Some, None}
+use Rattle.std.specs.List.{list_all}
 use Rattle.sch_word.specs.declared.answer.Answer.{Answer}
 use Rattle.sch_word.specs.Stops.{status_of}
-use Rattle.sch_word.specs.Values.{Value, procedure}
+use Rattle.sch_word.specs.Values.{Value, procedure, are_bytes}
 use Rattle.sch_word.specs.Store.{Store}
 use Rattle.sch_word.specs.Computation.{Outcome, gives, stops, spent, State}
-use Rattle.sch_word.specs.Literals.{Literals, literal_values, objects_of_each, literals_size, literals_known}
+use Rattle.sch_word.specs.Literals.{Literals, literal_values, objects_of_each, literals_size, literals_known, literals_in_range, literals_levels}
 
 -- What stands ready when a program starts: the names of its symbols; its literals; and its globals,
 -- each with the library's procedure of that number, or unset.
@@ -107,3 +108,13 @@ abbrev pub statics_valid : (library : ℕ) → Statics → Bool
 statics_valid library p =
     nat_le (statics_size p) most_statics
     && (literals_known (length p.symbols) p.literals && library_known library p.globals)
+
+-- the levels that the literals of a program nest at most
+abbrev pub most_literal_levels : ℕ
+most_literal_levels = 4000
+
+-- names and texts are bytes, constants are words, and the literals are not nested too deeply
+abbrev pub statics_in_range : Statics → Bool
+statics_in_range p =
+    list_all are_bytes p.symbols
+    && (literals_in_range p.literals && nat_le (literals_levels p.literals) most_literal_levels)

@@ -1,5 +1,6 @@
 -- The named stops of a program, their exit statuses and their texts.
-use Rattle.std.specs.Prelude.{ℕ, List, codes}
+use Rattle.std.specs.Prelude.{ℕ, nat_eq, List, [], ◌∷◌, Option, codes}
+use Rattle.std.specs.List.{find}
 use Rattle.sch_word.specs.declared.stop.Stop.{Stop}
 use Rattle.sch_word.specs.declared.stop.Stop.TheVariants.{WrongType, OutOfRange, NotProcedure, WrongCount, DivideByZero, Overflow, HeapLimit, DepthLimit, Unset, OutputFailed}
 
@@ -14,6 +15,15 @@ status_of HeapLimit = 71
 status_of DepthLimit = 72
 status_of Unset = 73
 status_of OutputFailed = 74
+
+abbrev pub all_stops : List Stop
+all_stops =
+    WrongType ∷ OutOfRange ∷ NotProcedure ∷ WrongCount ∷ DivideByZero
+    ∷ Overflow ∷ HeapLimit ∷ DepthLimit ∷ Unset ∷ OutputFailed ∷ []
+
+-- the stop that an exit status names, if it names one
+abbrev pub stop_of : ℕ → Option Stop
+stop_of status = find (λ stop. nat_eq (status_of stop) status) all_stops
 
 abbrev pub text_of : Stop → List ℕ
 text_of WrongType = codes "wrong type"

@@ -1,7 +1,9 @@
 -- Values and objects of a running program (R5RS 3.4 and 6).
-use Rattle.std.specs.Prelude.{ℕ, ℤ, Bool, true, false, ◌&&◌, nat_eq, int_le, List}
+use Rattle.std.specs.Prelude.{ℕ, ℤ, Bool, true, false, ◌&&◌, nat_eq, nat_lt, int_le, List}
+use Rattle.std.specs.List.{list_all}
 use Rattle.sch_word.specs.declared.constant.Const.{Const}
 use Rattle.sch_word.specs.declared.constant.Const.TheVariants.{Fixnum, Character, Boolean, Nil, Unspecified, Symbol}
+use Rattle.sch_word.specs.Fixnum.{is_fixnum}
 
 -- A value is a number or a name and never code: symbols, objects and procedures are known by their
 -- numbers. A character is a byte. The number of a cell stands only in variables of languages in
@@ -31,6 +33,19 @@ constant_value (Boolean b) = boolean b
 constant_value Nil = nil
 constant_value Unspecified = unspecified
 constant_value (Symbol n) = symbol n
+
+-- a byte, and a text of bytes
+abbrev pub is_byte : ℕ → Bool
+is_byte n = nat_lt n 256
+
+abbrev pub are_bytes : List ℕ → Bool
+are_bytes = list_all is_byte
+
+-- a constant is a word: its number is a fixnum, its character a byte
+abbrev pub is_constant : Const → Bool
+is_constant (Fixnum n) = is_fixnum n
+is_constant (Character byte) = is_byte byte
+is_constant _ = true
 
 -- every value counts as true in a test but `#f` (R5RS 6.3.1)
 abbrev pub is_true : Value → Bool

@@ -1,5 +1,5 @@
-ghost use Rattle.std.specs.Prelude.{◌≡◌};
-ghost use Rattle.sch_word.specs.Stops.{status_of, text_of};
+ghost use Rattle.std.specs.Prelude.{◌≡◌, ◌↔◌, Some};
+ghost use Rattle.sch_word.specs.Stops.{status_of, stop_of, text_of};
 
 /// The ten ways in which a program stops before its end.
 #[derive(Clone, Copy, Debug, PartialEq, Eq)]
@@ -32,6 +32,26 @@ impl Stop {
             Stop::DepthLimit => 72,
             Stop::Unset => 73,
             Stop::OutputFailed => 74,
+        }
+    }
+
+    /// The stop that an exit status names, and `None` exactly where it names none.
+    pub fn of_status(status: u8) -> Option<Stop>
+        ensures value { result ≡ stop_of status }
+        ensures inverse { (stop : Stop) → (result ≡ Some stop) ↔ (status_of stop ≡ status) }
+    {
+        match status {
+            65 => Some(Stop::WrongType),
+            66 => Some(Stop::OutOfRange),
+            67 => Some(Stop::NotProcedure),
+            68 => Some(Stop::WrongCount),
+            69 => Some(Stop::DivideByZero),
+            70 => Some(Stop::Overflow),
+            71 => Some(Stop::HeapLimit),
+            72 => Some(Stop::DepthLimit),
+            73 => Some(Stop::Unset),
+            74 => Some(Stop::OutputFailed),
+            _ => None,
         }
     }
 
