@@ -1,6 +1,5 @@
 pub mod Empty
 mod Examples
-pub mod Lasting
 mod Loop
 pub mod MoreEntries
 pub mod OwnOrders

@@ -9,13 +9,13 @@ use Rattle.sch_word.specs.Store.{Store}
 use Rattle.sch_word.specs.Checked.{Checked, passes, refused, exhausted, unreachable}
 use Rattle.sch_word.specs.Computation.{Outcome, gives, stops, spent, State, Action, Computation, with_rest, in_store, on_value, after, either, at_place, in_order, in_turn, blanks, all_values, set_or_stop, read_cell, write_cell, write_cells, new_procedure, new_fix, new_cells, some_each, unset_each, checked, checked_call, call_with, taken, take_entry}
 use Rattle.sch_word.specs.Runs.{going, seen, starting_store, starting_state}
+use Rattle.sch_word.proofs.Steady.{OutcomeGrows, NeverSpent, Steady, steady_charge, steady_charge_each, steady_fit, steady_read_global, steady_write_global, steady_read_literal, steady_primitive}
 use Rattle.sch_word.proofs.Exhausted.{Exhausts, exhausts_checked_call}
 use Rattle.sch_lang.specs.Tree.{Expression, Expressions, constant, literal, local, global, set_local, set_global, define, branch, sequence, bind, fix, letrec, lambda, call, operation, no_expressions, and_expression, count, count_lambdas, Source}
 use Rattle.sch_lang.specs.Variables.{cells_of}
 use Rattle.sch_lang.specs.Meaning.{Closure, Enter, Orders, with_cell, onto, closures, lambda_bytes, lambdas_bytes, cells_bytes, evaluate, each, parts, enter}
 use Rattle.sch_lang.specs.Run.{order_at, outcome}
 use Rattle.sch_lang.specs.Laws.{GoesOnWhenSpent}
-use Rattle.sch_lang.proofs.Lasting.{Lasts, Lasting, lasting_charge, lasting_charge_each, lasting_fit, lasting_read_global, lasting_write_global, lasting_read_literal, lasting_primitive}
 
 -- an outcome that leaves at most so many entries, and none where it is spent
 abbrev Within : {V : Type 0} → ℕ → Outcome (State Closure) V → Type 0
@@ -32,10 +32,10 @@ within_more n (gives v s) g = omega (arith, g)
 within_more n (stops why s) g = omega (arith, g)
 within_more n (spent s) g = g
 
-lasts_within : {V : Type 0} (n m : ℕ) (cs : List (Option Value)) (ps : List Closure) (a : Outcome Store V) → m ≤ n → Lasts m a → Within n (with_rest cs ps a)
-lasts_within n m cs ps (gives v t) g h = omega (arith, g, h)
-lasts_within n m cs ps (stops why t) g h = omega (arith, g, h)
-lasts_within n m cs ps (spent t) g h = absurd h
+steady_within : {V : Type 0} (n : ℕ) (t : Store) (cs : List (Option Value)) (ps : List Closure) (a : Outcome Store V) → t.entries ≤ n → OutcomeGrows t a → NeverSpent a → Within n (with_rest cs ps a)
+steady_within n t cs ps (gives v u) few g lasts = omega (arith, few, g.entries)
+steady_within n t cs ps (stops why u) few g lasts = omega (arith, few, g.entries)
+steady_within n t cs ps (spent u) few g lasts = absurd lasts
 
 module _ (n : ℕ) where
   module _ {V : Type 0} where
@@ -49,8 +49,8 @@ module _ (n : ℕ) where
     spends_either true g h = g
     spends_either false g h = h
 
-    spends_in_store : {f : Action V} → Lasting f → Spends n (in_store f)
-    spends_in_store {f} h = record { from = λ s g. lasts_within n s.store.entries s.cells s.procedures (f s.store) g (h.from s.store) }
+    spends_in_store : {f : Action V} → Steady f → Spends n (in_store f)
+    spends_in_store {f} h = record { from = λ s g. steady_within n s.store s.cells s.procedures (f s.store) g (h.grows s.store) (h.lasts s.store) }
 
     module _ {W : Type 0} where
       within_on_value : (a : Outcome (State Closure) V) (next : V → Computation Closure W) → Within n a → ((v : V) → Spends n (next v)) → Within n (on_value a next)
@@ -145,41 +145,41 @@ module _ (n : ℕ) (orders : Orders) (enter1 : Enter) (enter_spends : (p : Closu
   mutual
     evaluate_spends : (e : Expression) (environment : List ℕ) (depth : ℕ) (tail : Bool) → Spends n (evaluate orders enter1 e environment depth tail)
     evaluate_spends (constant c) environment depth tail = spends_gives n _
-    evaluate_spends (literal k) environment depth tail = spends_in_store n (lasting_read_literal k)
+    evaluate_spends (literal k) environment depth tail = spends_in_store n (steady_read_literal k)
     evaluate_spends (local k) environment depth tail = spends_with_cell n (slice_get environment k) (spends_read_cell n)
-    evaluate_spends (global g) environment depth tail = spends_in_store n (lasting_read_global g)
+    evaluate_spends (global g) environment depth tail = spends_in_store n (steady_read_global g)
     evaluate_spends (set_local k e) environment depth tail =
         spends_after n (evaluate_spends e environment depth false) (λ v. spends_with_cell n (slice_get environment k) (λ c. spends_write_cell n c v))
     evaluate_spends (set_global g e) environment depth tail =
-        spends_after n (evaluate_spends e environment depth false) (λ v. spends_in_store n (lasting_write_global g v))
+        spends_after n (evaluate_spends e environment depth false) (λ v. spends_in_store n (steady_write_global g v))
     evaluate_spends (define g e) environment depth tail =
-        spends_after n (evaluate_spends e environment depth false) (λ v. spends_in_store n (lasting_write_global g v))
+        spends_after n (evaluate_spends e environment depth false) (λ v. spends_in_store n (steady_write_global g v))
     evaluate_spends (branch a b c) environment depth tail =
         spends_after n (evaluate_spends a environment depth false)
         (λ v. spends_either n (is_true v) (evaluate_spends b environment depth tail) (evaluate_spends c environment depth tail))
     evaluate_spends (sequence es) environment depth tail = spends_in_turn n unspecified (parts_spend es environment depth tail)
     evaluate_spends (bind site es e) environment depth tail =
         spends_after n (spends_all_values n (orders site) (each_spends es environment depth))
-        (λ vs. spends_after n (spends_in_store n (lasting_charge_each (cells_of (count es) e)))
+        (λ vs. spends_after n (spends_in_store n (steady_charge_each (cells_of (count es) e)))
         (λ _. spends_after n (spends_new_cells n (some_each vs))
         (λ cs. evaluate_spends e (onto cs environment) depth tail)))
     evaluate_spends (fix ls e) environment depth tail =
-        spends_after n (spends_in_store n (lasting_charge_each (lambdas_bytes ls)))
+        spends_after n (spends_in_store n (steady_charge_each (lambdas_bytes ls)))
         (λ _. spends_after n (spends_new_fix n (count_lambdas ls) (λ cs. closures ls (onto cs environment)))
         (λ cs. evaluate_spends e (onto cs environment) depth tail))
     evaluate_spends (letrec site es e) environment depth tail =
-        spends_after n (spends_in_store n (lasting_charge_each (cells_bytes (count es))))
+        spends_after n (spends_in_store n (steady_charge_each (cells_bytes (count es))))
         (λ _. spends_after n (spends_new_cells n (unset_each (count es)))
         (λ cs. spends_after n (spends_all_values n (orders site) (each_spends es (onto cs environment) depth))
         (λ vs. spends_after n (spends_write_cells n cs vs)
         (λ _. evaluate_spends e (onto cs environment) depth tail))))
     evaluate_spends (lambda name formals rest e) environment depth tail =
-        spends_after n (spends_in_store n (lasting_charge (lambda_bytes formals e))) (λ _. spends_new_procedure n _)
+        spends_after n (spends_in_store n (steady_charge (lambda_bytes formals e))) (λ _. spends_new_procedure n _)
     evaluate_spends (call site f es) environment depth tail =
         spends_after n (spends_all_values n (orders site) (and_spending (evaluate_spends f environment depth false) (each_spends es environment depth)))
         (λ vs. spends_call n enter1 enter_spends tail depth vs)
     evaluate_spends (operation site which es) environment depth tail =
-        spends_after n (spends_all_values n (orders site) (each_spends es environment depth)) (λ vs. spends_in_store n (lasting_primitive which vs))
+        spends_after n (spends_all_values n (orders site) (each_spends es environment depth)) (λ vs. spends_in_store n (steady_primitive which vs))
 
     each_spends : (es : Expressions) (environment : List ℕ) (depth : ℕ) → EachSpends n (each orders enter1 es environment depth)
     each_spends no_expressions environment depth = no_spending
@@ -199,9 +199,9 @@ spent_at_none s g = omega (arith, g)
 enter_spends : (orders : Orders) (n : ℕ) (p : Closure) (vs : List Value) (depth : ℕ) → Spends n (enter orders n p vs depth)
 enter_spends orders zero p vs depth = record { from = spent_at_none }
 enter_spends orders (suc n) p vs depth =
-    spends_after (suc n) (spends_in_store (suc n) (lasting_fit p.formals p.rest vs))
+    spends_after (suc n) (spends_in_store (suc n) (steady_fit p.formals p.rest vs))
     (λ ws. spends_taking n
-    (λ _. spends_after n (spends_in_store n (lasting_charge_each (cells_of p.formals p.body)))
+    (λ _. spends_after n (spends_in_store n (steady_charge_each (cells_of p.formals p.body)))
     (λ _. spends_after n (spends_new_cells n (some_each ws))
     (λ cs. evaluate_spends n orders (enter orders n) (enter_spends orders n) p.body (onto cs p.environment) depth true))))
 

@@ -1,5 +1,5 @@
--- Steady actions: the store only grows, and how many entries are left is nothing to them. Every
--- primitive and every charge is one.
+-- Steady actions: the store only grows, how many entries are left is nothing to them, and they are
+-- never spent. Every primitive and every charge is one.
 use Rattle.std.proofs.Common.{◌≡◌, ℕ, zero, suc, ◌+◌, ◌≤◌, Bool, true, false, ℤ, pos, negsuc, List, [], ◌∷◌, ◌++◌, length, drop, Option, Some, None, refl, sym, ap, ◌∙◌, arith, append_assoc, length-append}
 use Rattle.std.specs.Prelude.{slice_get, slice_set, nat_eq, nat_le, ◌+ℤ◌, ◌-ℤ◌, ◌*ℤ◌, int_div, int_rem, int_lt, int_le, ◌&&◌}
 use Rattle.std.proofs.lemmas.List.{append-nil, length-set}
@@ -70,16 +70,21 @@ outcome_with n (gives v t) = gives v (with_entries n t)
 outcome_with n (stops why t) = stops why (with_entries n t)
 outcome_with n (spent t) = spent (with_entries n t)
 
+abbrev pub NeverSpent : {V : Type 0} → Outcome Store V → Type 0
+NeverSpent (spent t) = ⊥
+NeverSpent _ = Unit {0}
+
 pub record Steady {V : Type 0} (f : Action V) : Type 0 where
   pub grows : (t : Store) → OutcomeGrows t (f t)
   pub blind : (n : ℕ) (t : Store) → f (with_entries n t) ≡ outcome_with n (f t)
+  pub lasts : (t : Store) → NeverSpent (f t)
 
 module _ {V : Type 0} where
   pub steady_gives : (v : V) → Steady (gives v)
-  steady_gives v = record { grows = grows_self; blind = λ n t. refl }
+  steady_gives v = record { grows = grows_self; blind = λ n t. refl; lasts = λ t. tt }
 
   pub steady_stops : (why : Stop) → Steady {V = V} (stops why)
-  steady_stops why = record { grows = grows_self; blind = λ n t. refl }
+  steady_stops why = record { grows = grows_self; blind = λ n t. refl; lasts = λ t. tt }
 
   pub steady_require : (b : Bool) (why : Stop) {next : Action V} → Steady next → Steady (require b why next)
   steady_require true why h = h
@@ -90,6 +95,7 @@ module _ {V : Type 0} where
   steady_looking look act same h = record {
     grows = λ t. (h (look t)).grows t;
     blind = λ n t. ap (λ a. act a (with_entries n t)) (same n t) ∙ (h (look t)).blind n t;
+    lasts = λ t. (h (look t)).lasts t;
   }
 
 module _ {V W : Type 0} where
@@ -103,10 +109,16 @@ module _ {V W : Type 0} where
   blind_on_value n (stops why t) next h = refl
   blind_on_value n (spent t) next h = refl
 
+  lasts_on_value : (a : Outcome Store V) (next : V → Action W) → NeverSpent a → ((v : V) → Steady (next v)) → NeverSpent (on_value a next)
+  lasts_on_value (gives v t) next g h = (h v).lasts t
+  lasts_on_value (stops why t) next g h = tt
+  lasts_on_value (spent t) next g h = g
+
   pub steady_after : {first : Action V} {next : V → Action W} → Steady first → ((v : V) → Steady (next v)) → Steady (after first next)
   steady_after {first} {next} f h = record {
     grows = λ t. grows_on_value t (first t) next (f.grows t) h;
     blind = λ n t. ap (λ a. on_value a next) (f.blind n t) ∙ blind_on_value n (first t) next h;
+    lasts = λ t. lasts_on_value (first t) next (f.lasts t) h;
   }
 
 -- ## Charges and new objects
@@ -118,6 +130,7 @@ steady_more_charged : (bytes : ℕ) → Steady (more_charged bytes)
 steady_more_charged bytes = record {
   grows = λ t. quiet t (record t { charged = t.charged + bytes }) refl refl refl (omega arith) (omega arith) (omega arith);
   blind = λ n t. refl;
+  lasts = λ t. tt;
 }
 
 pub steady_charge : (bytes : ℕ) → Steady (charge bytes)
@@ -137,6 +150,7 @@ steady_more_objects : (value : ℕ → Value) (objects : ℕ → List Object) �
 steady_more_objects value objects = record {
   grows = λ t. quiet t (record t { objects = t.objects ++ objects (length t.objects) }) refl refl refl (omega arith) (omega (arith, length-append t.objects (objects (length t.objects)))) (omega arith);
   blind = λ n t. refl;
+  lasts = λ t. tt;
 }
 
 pub steady_new_object : (o : Object) → Steady (new_object o)
@@ -168,6 +182,7 @@ pub steady_write_global : (g : ℕ) (v : Value) → Steady (write_global g v)
 steady_write_global g v = record {
   grows = λ t. quiet t (record t { globals = slice_set t.globals g (Some v) }) refl refl refl (omega arith) (omega arith) (omega arith);
   blind = λ n t. refl;
+  lasts = λ t. tt;
 }
 
 steady_known_value : (o : Option Value) → Steady (known_value o)
@@ -265,6 +280,7 @@ steady_write_object : (v : Value) (o : Object) → Steady (write_object v o)
 steady_write_object (object k) o = record {
   grows = λ t. quiet t (record t { objects = slice_set t.objects k o }) refl refl refl (omega arith) (omega (arith, length-set t.objects k o)) (omega arith);
   blind = λ n t. refl;
+  lasts = λ t. tt;
 }
 steady_write_object _ o = steady_stops _
 
@@ -303,10 +319,15 @@ whole_blind : (b : Bool) (n : ℕ) (t : Store) → require b OutputFailed (gives
 whole_blind true n t = refl
 whole_blind false n t = refl
 
+whole_lasts : (b : Bool) (t : Store) → NeverSpent {V = Value} (require b OutputFailed (gives unspecified) t)
+whole_lasts true t = tt
+whole_lasts false t = tt
+
 steady_put_piece : (o : Option (List ℕ)) → Steady (put_piece o)
 steady_put_piece (Some bytes) = record {
   grows = λ t. whole_grows (puts.put bytes t.answers).whole t _ (put_grows bytes t);
   blind = λ n t. whole_blind (puts.put bytes t.answers).whole n (record t { output = t.output ++ (puts.put bytes t.answers).taken; answers = (puts.put bytes t.answers).left });
+  lasts = λ t. whole_lasts (puts.put bytes t.answers).whole (record t { output = t.output ++ (puts.put bytes t.answers).taken; answers = (puts.put bytes t.answers).left });
 }
 steady_put_piece None = steady_stops _
 
