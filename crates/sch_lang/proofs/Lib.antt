@@ -2,9 +2,11 @@ pub mod Empty
 mod Examples
 mod Loop
 pub mod MoreEntries
+mod OrderExamples
 pub mod OwnOrders
 pub mod Rows
 mod SizeExamples
 mod ValidExamples
 pub mod SitesInOrder
 pub mod Spending
+mod TailExamples
