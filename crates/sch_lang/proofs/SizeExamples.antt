@@ -1,8 +1,8 @@
 -- Sizes of the small programs, counted by hand and computed: the variables of the largest body, the
 -- size of the program, and its levels.
-use Rattle.std.proofs.Common.{◌≡◌, refl, [], ◌∷◌, pos}
-use Rattle.sch_lang.specs.Tree.{Source, expressions, local, bind}
-use Rattle.sch_lang.specs.Measures.{most_variables, program_size, levels_each, sites_of}
+use Rattle.std.proofs.Common.{◌≡◌, refl, false, [], ◌∷◌, pos}
+use Rattle.sch_lang.specs.Tree.{Source, expressions, local, bind, fix, letrec, no_lambdas, and_lambda}
+use Rattle.sch_lang.specs.Measures.{most_variables, program_size, nodes_and_bound, levels, levels_each, levels_lambdas, sites_of}
 use Rattle.sch_lang.specs.Examples.{sum_line, loop_of, assigned_local, unset_init, counter, even_odd, rest_list, library_call, program, number, function, apply}
 
 -- the sum is an operand, and its operands are constants
@@ -24,6 +24,21 @@ loop_size = refl
 -- the definition, the lambda, the test, the call, the difference, its operand
 loop_levels : levels_each (loop_of 7).forms ≡ 6
 loop_levels = refl
+
+-- the Fix, a lambda of it, the test, the call, the difference, its operand
+fix_levels : levels_each (even_odd 6).forms ≡ 6
+fix_levels = refl
+
+-- (letrec ((f (lambda () 1))) 2) as a Fix and as a Rec: the group, the lambda, its body
+small_fix_levels : levels (fix (and_lambda [] 0 false (number (pos 1)) no_lambdas) (number (pos 2))) ≡ 3
+small_fix_levels = refl
+
+small_letrec_levels : levels (letrec 0 (expressions (function 0 (number (pos 1)) ∷ [])) (number (pos 2))) ≡ 3
+small_letrec_levels = refl
+
+-- the lambda, the operation, its operand
+library_levels : levels_lambdas library_call.library ≡ 3
+library_levels = refl
 
 -- x twice and y once, the part before the last, the sum, and the reference to x
 assigned_variables : most_variables assigned_local ≡ 6
@@ -69,3 +84,29 @@ outer_reference_variables = refl
 -- the sites of the loop in the order of the text, each with its parts
 loop_sites : sites_of (loop_of 7) ≡ (0, 2) ∷ (1, 1) ∷ (2, 2) ∷ (3, 2) ∷ (4, 2) ∷ []
 loop_sites = refl
+
+-- ## Nodes and bound variables
+
+-- four nodes and two
+sum_line_nodes : nodes_and_bound sum_line ≡ 6
+sum_line_nodes = refl
+
+-- sixteen nodes and a formal
+loop_nodes : nodes_and_bound (loop_of 7) ≡ 17
+loop_nodes = refl
+
+-- nodes: one Fix, ten in each body, four; its two variables, and a formal of each lambda
+fix_nodes : nodes_and_bound (even_odd 6) ≡ 29
+fix_nodes = refl
+
+-- a Rec with its two inits and its body, and two variables
+letrec_nodes : nodes_and_bound unset_init ≡ 6
+letrec_nodes = refl
+
+-- a Let, its two inits, a sequence, the assignment of two nodes, the put of four; and two variables
+let_nodes : nodes_and_bound assigned_local ≡ 12
+let_nodes = refl
+
+-- a library lambda with its formal, its body of two nodes, a form of three
+library_nodes : nodes_and_bound library_call ≡ 7
+library_nodes = refl

@@ -146,6 +146,17 @@ two_thousand_levels = refl
 more_levels : is_valid (program 0 [] (tests_of 2000 ∷ [])) ≡ false
 more_levels = refl
 
+-- groups of one procedure, each in the body of the one before: two levels each
+abbrev groups_of : ℕ → Expression
+groups_of zero = number (pos 1)
+groups_of (suc n) = fix (and_lambda [] 0 false (groups_of n) no_lambdas) (number (pos 2))
+
+many_groups : is_valid (program 0 [] (groups_of 999 ∷ [])) ≡ true
+many_groups = refl
+
+more_groups : is_valid (program 0 [] (groups_of 1000 ∷ [])) ≡ false
+more_groups = refl
+
 -- ## Order tables
 
 either_order : is_order_table (2 ∷ 1 ∷ []) ((1 ∷ 0 ∷ []) ∷ (0 ∷ []) ∷ []) ≡ true

@@ -42,7 +42,8 @@ every test = over true (λ a b. a && b) test
 
 -- ## Levels
 
--- how deep the nodes of a tree are nested; a body of a Fix's lambda is one level below the Fix
+-- How deep the nodes of a tree are nested. A lambda of a Fix or of the library is a level, as a Lambda
+-- node is, so that a group of procedures has the same levels as a Fix and as a Rec.
 abbrev mutual
   pub levels : Expression → ℕ
   levels (constant c) = 1
@@ -67,7 +68,7 @@ abbrev mutual
 
   pub levels_lambdas : Lambdas → ℕ
   levels_lambdas no_lambdas = 0
-  levels_lambdas (and_lambda name formals rest e ls) = max (levels e) (levels_lambdas ls)
+  levels_lambdas (and_lambda name formals rest e ls) = max (1 + levels e) (levels_lambdas ls)
 
 -- ## The variables of a body
 
@@ -198,6 +199,22 @@ node_size _ = 1
 -- all nodes, formals, variables bound, lambdas with their free variables, and forms of a program
 abbrev pub program_size : Source → ℕ
 program_size p = lambdas_size p.library + count p.forms + over_source 0 (λ a b. a + b) node_size p
+
+abbrev pub formals_of : Lambdas → ℕ
+formals_of no_lambdas = 0
+formals_of (and_lambda name formals rest e ls) = formals + formals_of ls
+
+-- a node and the variables that it binds
+abbrev pub node_and_bound : Expression → ℕ
+node_and_bound (bind site es e) = 1 + count es
+node_and_bound (fix ls e) = 1 + (count_lambdas ls + formals_of ls)
+node_and_bound (letrec site es e) = 1 + count es
+node_and_bound (lambda name formals rest e) = 1 + formals
+node_and_bound _ = 1
+
+-- the nodes and the bound variables of a program; a lambda of the library is a node
+abbrev pub nodes_and_bound : Source → ℕ
+nodes_and_bound p = count_lambdas p.library + formals_of p.library + over_source 0 (λ a b. a + b) node_and_bound p
 
 -- ## Sites
 
