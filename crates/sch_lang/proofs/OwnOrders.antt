@@ -11,7 +11,8 @@ use Rattle.sch_word.proofs.SameStore.{same_store, Pairs, no_pairs, and_pair, Doe
 use Rattle.sch_lang.specs.Tree.{Expression, Expressions, Lambdas, constant, literal, local, global, set_local, set_global, define, branch, sequence, bind, fix, letrec, lambda, call, operation, no_expressions, and_expression, no_lambdas, and_lambda, count, count_lambdas, Source}
 use Rattle.sch_lang.specs.Variables.{cells_of}
 use Rattle.sch_lang.specs.Measures.{over, over_each, over_lambdas, site_here}
-use Rattle.sch_lang.specs.Meaning.{Closure, Enter, Orders, with_cell, onto, closures, lambda_bytes, lambdas_bytes, cells_bytes, evaluate, each, parts, enter}
+use Rattle.sch_word.specs.CellBytes.{cells_bytes}
+use Rattle.sch_lang.specs.Meaning.{Closure, Enter, Orders, with_cell, onto, closures, lambda_bytes, lambdas_bytes, evaluate, each, parts, enter}
 use Rattle.sch_lang.specs.Run.{order_at}
 use Rattle.sch_lang.specs.Laws.{AgreeOn, NeedsOwnOrders}
 

@@ -6,7 +6,8 @@ use Rattle.std.proofs.lemmas.Bool.{eqb-true, eqb-false}
 use Rattle.sch_word.specs.Computation.{numbers_from}
 use Rattle.sch_lang.specs.Tree.{Source}
 use Rattle.sch_lang.specs.Measures.{sites_of}
-use Rattle.sch_lang.specs.Valid.{is_width, sites_once}
+use Rattle.sch_word.specs.Shape.{is_width}
+use Rattle.sch_lang.specs.Valid.{sites_once}
 
 -- these widths with the numbers from n on
 abbrev pub numbered : ℕ → List ℕ → List (ℕ × ℕ)

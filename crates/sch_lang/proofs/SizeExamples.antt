@@ -2,7 +2,8 @@
 -- size of the program, and its levels.
 use Rattle.std.proofs.Common.{◌≡◌, refl, false, [], ◌∷◌, pos}
 use Rattle.sch_lang.specs.Tree.{Source, expressions, local, bind, fix, letrec, no_lambdas, and_lambda}
-use Rattle.sch_lang.specs.Measures.{most_variables, program_size, nodes_and_bound, levels, levels_each, levels_lambdas, sites_of}
+use Rattle.sch_lang.specs.Bodies.{most_variables}
+use Rattle.sch_lang.specs.Measures.{program_size, nodes_and_bound, levels, levels_each, levels_lambdas, sites_of}
 use Rattle.sch_lang.specs.Examples.{sum_line, loop_of, assigned_local, unset_init, counter, even_odd, rest_list, library_call, program, number, function, apply}
 
 -- the sum is an operand, and its operands are constants

@@ -13,7 +13,8 @@ use Rattle.sch_word.proofs.Steady.{OutcomeGrows, NeverSpent, Steady, steady_char
 use Rattle.sch_word.proofs.Exhausted.{Exhausts, exhausts_checked_call}
 use Rattle.sch_lang.specs.Tree.{Expression, Expressions, constant, literal, local, global, set_local, set_global, define, branch, sequence, bind, fix, letrec, lambda, call, operation, no_expressions, and_expression, count, count_lambdas, Source}
 use Rattle.sch_lang.specs.Variables.{cells_of}
-use Rattle.sch_lang.specs.Meaning.{Closure, Enter, Orders, with_cell, onto, closures, lambda_bytes, lambdas_bytes, cells_bytes, evaluate, each, parts, enter}
+use Rattle.sch_word.specs.CellBytes.{cells_bytes}
+use Rattle.sch_lang.specs.Meaning.{Closure, Enter, Orders, with_cell, onto, closures, lambda_bytes, lambdas_bytes, evaluate, each, parts, enter}
 use Rattle.sch_lang.specs.Run.{order_at, outcome}
 use Rattle.sch_lang.specs.Laws.{GoesOnWhenSpent}
 

@@ -1,3 +1,4 @@
+pub mod Bodies
 pub mod Examples
 pub mod Laws
 pub mod Meaning

@@ -3,7 +3,9 @@ use Rattle.std.specs.Prelude.{ℕ, zero, suc, Bool, true, false, List, [], ◌�
 use Rattle.sch_word.specs.Values.{Value, unspecified, constant_value, is_true}
 use Rattle.sch_word.specs.Computation as computation
 use Rattle.sch_word.specs.Computation.{Computation, gives, spent, unreached, after, either, in_store, all_values, in_turn, read_literal, read_global, write_global, read_cell, write_cell, write_cells, new_cells, some_each, unset_each, new_procedure, new_fix, take_entry, call_with}
-use Rattle.sch_word.specs.Charges.{charge, charge_each, procedure_bytes, cell_bytes, fit}
+use Rattle.sch_word.specs.CellBytes.{cells_bytes}
+use Rattle.sch_word.specs.Charges.{charge, charge_each, procedure_bytes, fit}
+pub use Rattle.sch_word.specs.Orders.{Orders}
 use Rattle.sch_word.specs.PrimitiveRows.{primitive}
 use Rattle.sch_lang.specs.Tree.{Expression, Expressions, Lambdas, constant, literal, local, global, set_local, set_global, define, branch, sequence, bind, fix, letrec, lambda, call, operation, no_expressions, and_expression, no_lambdas, and_lambda, count, count_lambdas}
 use Rattle.sch_lang.specs.Variables.{free, outside, cells_of}
@@ -18,10 +20,6 @@ pub record Closure : Type 0 where
 
 abbrev pub Enter : Type 0
 Enter = computation.Enter Closure
-
--- the order of the parts of each site: R5RS 4.1.3 and 4.2.2 leave it open
-abbrev pub Orders : Type 0
-Orders = ℕ → List ℕ
 
 abbrev pub with_cell : {V : Type 0} → Option ℕ → (ℕ → Computation Closure V) → Computation Closure V
 with_cell None next = unreached
@@ -45,10 +43,6 @@ lambda_bytes formals e = procedure_bytes (length (outside formals (free e)))
 abbrev pub lambdas_bytes : Lambdas → List ℕ
 lambdas_bytes no_lambdas = []
 lambdas_bytes (and_lambda name formals rest e ls) = lambda_bytes formals e ∷ lambdas_bytes ls
-
-abbrev pub cells_bytes : ℕ → List ℕ
-cells_bytes zero = []
-cells_bytes (suc n) = cell_bytes ∷ cells_bytes n
 
 module _ (orders : Orders) (enter : Enter) where
   -- `depth` is how many calls may still be pending that are no tail calls, `tail` whether the

@@ -1,6 +1,10 @@
--- What is counted over a tree: any measure of its nodes, its levels, the variables of its bodies.
+-- What is counted over a tree: any measure of its nodes, its levels, the variables of its bodies, and
+-- the measures of the shapes of nodes that all languages have.
 use Rattle.std.specs.Prelude.{ℕ, zero, suc, ◌+◌, max, Bool, true, false, ◌&&◌, not, List, [], ◌∷◌, ◌++◌, length, slice_get, Option, Some, None}
 use Rattle.sch_lang.specs.Tree.{Expression, Expressions, Lambdas, constant, literal, local, global, set_local, set_global, define, branch, sequence, bind, fix, letrec, lambda, call, operation, no_expressions, and_expression, no_lambdas, and_lambda, count, count_lambdas, Source}
+use Rattle.sch_word.specs.Shape as shapes
+use Rattle.sch_word.specs.Shape.{Procedure, Shape, site_of, call_site_of, tests_in, dropped_in, procedures_size, size_of}
+use Rattle.sch_word.specs.BoundVariables.{formals_in, bound_in}
 use Rattle.sch_lang.specs.Variables.{free, outside, assigns}
 
 -- A measure of nodes over a whole tree: `here` at each node, the outer before the inner, in the order
@@ -93,13 +97,14 @@ abbrev pub one_unless : Bool → ℕ
 one_unless true = 0
 one_unless false = 1
 
+-- whether each variable of a tree from the j-th nearest on, so many, is not assigned, in front of others
+abbrev pub onto_unassigned : (j count : ℕ) → Expression → List Bool → List Bool
+onto_unassigned j zero e once = once
+onto_unassigned j (suc count) e once = not (assigns e j) ∷ onto_unassigned (suc j) count e once
+
 -- the nearest variables of a tree, so many, in front of the others, each with whether it counts once
 abbrev pub onto_assigned : ℕ → Expression → List Bool → List Bool
-onto_assigned bound e once = nearest 0 bound
-  where
-    nearest : ℕ → ℕ → List Bool
-    nearest j zero = once
-    nearest j (suc more) = not (assigns e j) ∷ nearest (suc j) more
+onto_assigned bound e once = onto_unassigned 0 bound e once
 
 -- so many variables that all count once, or none of which does
 abbrev pub onto_all : ℕ → Bool → List Bool → List Bool
@@ -159,73 +164,91 @@ abbrev mutual
 abbrev pub body_variables : (formals : ℕ) → Expression → ℕ
 body_variables formals e = bound_count formals e + variables e (onto_assigned formals e [])
 
--- the bodies of some lambdas
-abbrev pub largest_body : Lambdas → ℕ
-largest_body no_lambdas = 0
-largest_body (and_lambda name formals rest e ls) = max (body_variables formals e) (largest_body ls)
+-- ## Shapes
 
--- the bodies of the lambdas that a node is or has
-abbrev pub largest_body_here : Expression → ℕ
-largest_body_here (lambda name formals rest e) = body_variables formals e
-largest_body_here (fix ls e) = largest_body ls
-largest_body_here _ = 0
+-- a lambda as a procedure of the text
+abbrev pub procedure : (name : List ℕ) → (formals : ℕ) → (rest : Bool) → Expression → Procedure
+procedure name formals rest e = record {
+  name = name;
+  formals = formals;
+  rest = rest;
+  free = length (outside formals (free e));
+  variables = body_variables formals e;
+}
 
-abbrev pub largest_form : Expressions → ℕ
-largest_form no_expressions = 0
-largest_form (and_expression e es) = max (variables e []) (largest_form es)
+abbrev pub procedures : Lambdas → List Procedure
+procedures no_lambdas = []
+procedures (and_lambda name formals rest e ls) = procedure name formals rest e ∷ procedures ls
 
--- the largest count over all bodies of a program
-abbrev pub most_variables : Source → ℕ
-most_variables p =
-    max (max (largest_body p.library) (largest_form p.forms)) (over_source 0 max largest_body_here p)
+-- an atom is a constant, a literal or a variable
+abbrev pub one_if_atom : Expression → ℕ
+one_if_atom (constant c) = 1
+one_if_atom (literal n) = 1
+one_if_atom (local k) = 1
+one_if_atom _ = 0
 
--- ## The size of a program
+-- the atoms among some parts of a sequence, but for the last part
+abbrev pub dropped_parts : Expressions → ℕ
+dropped_parts no_expressions = 0
+dropped_parts (and_expression e no_expressions) = 0
+dropped_parts (and_expression e (and_expression e' es)) = one_if_atom e + dropped_parts (and_expression e' es)
 
-abbrev pub lambda_size : (formals : ℕ) → Expression → ℕ
-lambda_size formals e = 1 + formals + length (outside formals (free e))
+abbrev pub shape : Expression → Shape
+shape (constant c) = shapes.constant c
+shape (literal n) = shapes.literal n
+shape (local k) = shapes.variable
+shape (global g) = shapes.global g
+shape (set_local k e) = shapes.set_variable
+shape (set_global g e) = shapes.set_global g
+shape (define g e) = shapes.define g
+shape (branch a b c) = shapes.branch
+shape (sequence es) = shapes.sequence (count es) (dropped_parts es)
+shape (bind site es e) = shapes.bind site (count es)
+shape (fix ls e) = shapes.fix (count_lambdas ls) (procedures ls)
+shape (letrec site es e) = shapes.letrec site (count es)
+shape (lambda name formals rest e) = shapes.lambda (procedure name formals rest e)
+shape (call site f es) = shapes.call site (count es) false
+shape (operation site which es) = shapes.operation site which (count es)
 
-abbrev pub lambdas_size : Lambdas → ℕ
-lambdas_size no_lambdas = 0
-lambdas_size (and_lambda name formals rest e ls) = lambda_size formals e + lambdas_size ls
+-- ## Sizes
 
 -- a node, the variables that it binds, and for each lambda one, its formals and its free variables
 abbrev pub node_size : Expression → ℕ
-node_size (bind site es e) = 1 + count es
-node_size (fix ls e) = 1 + count_lambdas ls + lambdas_size ls
-node_size (letrec site es e) = 1 + count es
-node_size (lambda name formals rest e) = 1 + lambda_size formals e
-node_size _ = 1
+node_size e = size_of (shape e)
 
 -- all nodes, formals, variables bound, lambdas with their free variables, and forms of a program
 abbrev pub program_size : Source → ℕ
-program_size p = lambdas_size p.library + count p.forms + over_source 0 (λ a b. a + b) node_size p
-
-abbrev pub formals_of : Lambdas → ℕ
-formals_of no_lambdas = 0
-formals_of (and_lambda name formals rest e ls) = formals + formals_of ls
+program_size p = procedures_size (procedures p.library) + count p.forms + over_source 0 (λ a b. a + b) node_size p
 
 -- a node and the variables that it binds
 abbrev pub node_and_bound : Expression → ℕ
-node_and_bound (bind site es e) = 1 + count es
-node_and_bound (fix ls e) = 1 + (count_lambdas ls + formals_of ls)
-node_and_bound (letrec site es e) = 1 + count es
-node_and_bound (lambda name formals rest e) = 1 + formals
-node_and_bound _ = 1
+node_and_bound e = suc (bound_in (shape e))
 
 -- the nodes and the bound variables of a program; a lambda of the library is a node
 abbrev pub nodes_and_bound : Source → ℕ
-nodes_and_bound p = count_lambdas p.library + formals_of p.library + over_source 0 (λ a b. a + b) node_and_bound p
+nodes_and_bound p =
+    count_lambdas p.library + formals_in (procedures p.library) + over_source 0 (λ a b. a + b) node_and_bound p
 
 -- ## Sites
 
 -- the site of a node and how many parts it has
 abbrev pub site_here : Expression → List (ℕ × ℕ)
-site_here (bind site es e) = (site, count es) ∷ []
-site_here (letrec site es e) = (site, count es) ∷ []
-site_here (call site f es) = (site, suc (count es)) ∷ []
-site_here (operation site which es) = (site, count es) ∷ []
-site_here _ = []
+site_here e = site_of (shape e)
 
 -- the sites of a program in the order of the text
 abbrev pub sites_of : Source → List (ℕ × ℕ)
 sites_of p = over_source [] (λ a b. a ++ b) site_here p
+
+-- the sites of its calls and primitives
+abbrev pub call_sites_of : Source → List ℕ
+call_sites_of p = over_source [] (λ a b. a ++ b) (λ e. call_site_of (shape e)) p
+
+-- ## Tests and dropped atoms
+
+-- how many If nodes
+abbrev pub tests_of : Source → ℕ
+tests_of p = over_source 0 (λ a b. a + b) (λ e. tests_in (shape e)) p
+
+-- how many atoms sequences drop
+abbrev pub dropped_of : Source → ℕ
+dropped_of p = over_source 0 (λ a b. a + b) (λ e. dropped_in (shape e)) p

@@ -4,19 +4,12 @@ use Rattle.std.specs.List.{list_all, count_by}
 use Rattle.sch_word.specs.declared.answer.Answer.{Answer}
 use Rattle.sch_word.specs.Values.{Value, unspecified}
 use Rattle.sch_word.specs.Computation.{Outcome, State, in_turn, numbers_from}
+pub use Rattle.sch_word.specs.Orders.{order_at}
 use Rattle.sch_word.specs.Runs.{Runs, seen, starting_store, starting_state}
 use Rattle.sch_lang.specs.Tree.{Source}
-use Rattle.sch_lang.specs.Meaning.{Closure, Orders, closures, each, enter}
+use Rattle.sch_lang.specs.Meaning.{Closure, closures, each, enter}
 
 -- ## Order tables
-
--- a table lists an order for each site; one that is not listed has none
-abbrev pub order_or_none : Option (List ℕ) → List ℕ
-order_or_none (Some order) = order
-order_or_none None = []
-
-abbrev pub order_at : List (List ℕ) → Orders
-order_at table site = order_or_none (slice_get table site)
 
 -- the numbers below the width, each once
 abbrev pub is_permutation : (width : ℕ) → List ℕ → Bool

@@ -1,13 +1,12 @@
 -- Which programs are valid.
-use Rattle.std.specs.Prelude.{ℕ, zero, suc, ◌+◌, Bool, true, false, ◌&&◌, ◌||◌, not, nat_eq, nat_lt, nat_le, [], length, slice_get, Option, Some, None}
-use Rattle.std.specs.List.{list_all, count_by}
-use Rattle.sch_word.specs.Primitives.{operands_of}
-use Rattle.sch_word.specs.Literals.{count_literals, constant_known}
+use Rattle.std.specs.Prelude.{ℕ, zero, suc, ◌+◌, Bool, true, ◌&&◌, ◌||◌, not, nat_lt, nat_le, [], length}
+use Rattle.sch_word.specs.Literals.{count_literals}
 use Rattle.sch_word.specs.Runs.{statics_valid}
-use Rattle.sch_word.specs.Computation.{numbers_from}
+use Rattle.sch_word.specs.Shape as shapes
+use Rattle.sch_word.specs.Shape.{max_operands, max_levels, max_variables, max_free_variables, names_known, well_formed, fits, procedures_fit}
 use Rattle.sch_lang.specs.Tree.{Expression, Expressions, Lambdas, constant, literal, local, global, set_local, set_global, define, branch, sequence, bind, fix, letrec, lambda, call, operation, no_expressions, and_expression, no_lambdas, and_lambda, count, count_lambdas, Source}
-use Rattle.sch_lang.specs.Variables.{free, outside, assigns, assigns_lambdas}
-use Rattle.sch_lang.specs.Measures.{over_source, levels_each, levels_lambdas, variables, body_variables, sites_of}
+use Rattle.sch_lang.specs.Variables.{assigns, assigns_lambdas}
+use Rattle.sch_lang.specs.Measures.{over_source, levels_each, levels_lambdas, variables, procedures, shape, sites_of}
 
 -- ## Numbers in range
 
@@ -40,12 +39,7 @@ abbrev mutual
 
 -- the symbol, literal or global that a node names is among those of the program
 abbrev pub named_here : (symbols literals globals : ℕ) → Expression → Bool
-named_here symbols literals globals (constant c) = constant_known symbols c
-named_here symbols literals globals (literal n) = nat_lt n literals
-named_here symbols literals globals (global g) = nat_lt g globals
-named_here symbols literals globals (set_global g e) = nat_lt g globals
-named_here symbols literals globals (define g e) = nat_lt g globals
-named_here symbols literals globals _ = true
+named_here symbols literals globals e = names_known symbols literals globals (shape e)
 
 -- every number is in range
 abbrev pub in_range : Source → Bool
@@ -61,12 +55,10 @@ abbrev pub none_assigned : ℕ → Lambdas → Expression → Bool
 none_assigned zero ls e = true
 none_assigned (suc bound) ls e = not (assigns_lambdas ls bound || assigns e bound) && none_assigned bound ls e
 
--- a Prim has its primitive's count of operands, a Seq has a part, no variable of a Fix is assigned
+-- a primitive has its count of operands, a sequence has a part, no variable of a Fix is assigned
 abbrev pub shaped_here : Expression → Bool
-shaped_here (sequence no_expressions) = false
-shaped_here (operation site which es) = nat_eq (count es) (operands_of which)
 shaped_here (fix ls e) = none_assigned (count_lambdas ls) ls e
-shaped_here _ = true
+shaped_here e = well_formed (shape e)
 
 abbrev pub shaped : Source → Bool
 shaped p = over_source true (λ a b. a && b) shaped_here p
@@ -74,38 +66,20 @@ shaped p = over_source true (λ a b. a && b) shaped_here p
 -- ## Limits
 
 abbrev pub most_operands : ℕ
-most_operands = 200
+most_operands = max_operands
 
 abbrev pub most_levels : ℕ
-most_levels = 2000
+most_levels = max_levels
 
 abbrev pub most_body_variables : ℕ
-most_body_variables = 1000
-
-abbrev pub most_free_variables : ℕ
-most_free_variables = 1000
-
--- a lambda has at most 200 formals, 1,000 variables in its body and 1,000 free variables; a rest
--- variable is one of the formals
-abbrev pub lambda_fits : (formals : ℕ) → (rest : Bool) → Expression → Bool
-lambda_fits formals rest e =
-    (not rest || nat_le 1 formals) && (nat_le formals most_operands
-    && (nat_le (body_variables formals e) most_body_variables
-    && nat_le (length (outside formals (free e))) most_free_variables))
+most_body_variables = max_variables
 
 abbrev pub lambdas_fit : Lambdas → Bool
-lambdas_fit no_lambdas = true
-lambdas_fit (and_lambda name formals rest e ls) = lambda_fits formals rest e && lambdas_fit ls
+lambdas_fit ls = procedures_fit max_variables (procedures ls)
 
--- a node has at most 200 operands, inits or lambdas
+-- a node has at most 200 operands, inits or lambdas, and its lambdas are within the limits
 abbrev pub fits_here : Expression → Bool
-fits_here (call site f es) = nat_le (count es) most_operands
-fits_here (operation site which es) = nat_le (count es) most_operands
-fits_here (bind site es e) = nat_le (count es) most_operands
-fits_here (letrec site es e) = nat_le (count es) most_operands
-fits_here (fix ls e) = nat_le (count_lambdas ls) most_operands && lambdas_fit ls
-fits_here (lambda name formals rest e) = lambda_fits formals rest e
-fits_here _ = true
+fits_here e = fits max_variables (shape e)
 
 abbrev pub forms_fit : Expressions → Bool
 forms_fit no_expressions = true
@@ -119,15 +93,9 @@ within_limits p =
 
 -- ## Sites
 
-abbrev pub is_width : Option ℕ → ℕ → Bool
-is_width (Some listed) width = nat_eq listed width
-is_width None width = false
-
 -- each site that is listed stands at exactly one node, and each node's site is listed with its width
 abbrev pub sites_once : Source → Bool
-sites_once p =
-    list_all (λ s. nat_eq (count_by (λ at. nat_eq at.0 s) (sites_of p)) 1) (numbers_from 0 p.sites)
-    && list_all (λ at. is_width (slice_get p.sites at.0) at.1) (sites_of p)
+sites_once p = shapes.sites_once p.sites (sites_of p)
 
 -- ## Valid programs
 

@@ -1,7 +1,7 @@
 -- Which variables are free, and which are assigned.
 use Rattle.std.specs.Prelude.{ℕ, zero, suc, ◌+◌, Bool, true, false, ◌||◌, nat_eq, List, [], ◌∷◌}
 use Rattle.sch_word.specs.NumberSets.{union}
-use Rattle.sch_word.specs.Charges.{cell_bytes}
+use Rattle.sch_word.specs.CellBytes.{where_assigned}
 use Rattle.sch_lang.specs.Tree.{Expression, Expressions, Lambdas, constant, literal, local, global, set_local, set_global, define, branch, sequence, bind, fix, letrec, lambda, call, operation, no_expressions, and_expression, no_lambdas, and_lambda, count, count_lambdas}
 
 -- variables as they are seen from outside a binding of one variable, and of so many
@@ -70,10 +70,6 @@ abbrev mutual
 
 -- the charges for the cells of the nearest variables of a tree, so many, in the order of the text:
 -- one for each that the tree assigns
-abbrev pub where_assigned : Bool → List ℕ → List ℕ
-where_assigned true charges = cell_bytes ∷ charges
-where_assigned false charges = charges
-
 abbrev pub cells_of : ℕ → Expression → List ℕ
 cells_of zero e = []
 cells_of (suc bound) e = where_assigned (assigns e bound) (cells_of bound e)

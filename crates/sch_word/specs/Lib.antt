@@ -1,4 +1,5 @@
 pub mod Bindings
+pub mod BoundVariables
 pub mod CellBytes
 pub mod Charges
 pub mod Checked
