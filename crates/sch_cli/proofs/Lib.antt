@@ -12,6 +12,7 @@ pub mod Programs
 pub mod Running
 pub mod Saying
 pub mod Smallness
+pub mod Steps
 pub mod OneStatus
 pub mod Verdicts
 pub mod WriteLoop

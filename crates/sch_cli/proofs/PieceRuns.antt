@@ -12,15 +12,17 @@ use Rattle.sch_insn.specs.declared.insn.Arg.TheVariants.{Reg, Rip}
 use Rattle.sch_insn.specs.declared.insn.Insn.{Insn}
 use Rattle.sch_insn.specs.declared.insn.Insn.TheVariants.{MovNumber, Lea, Jump, Syscall}
 use Rattle.sch_insn.specs.declared.machine.Flags.{Flags}
-use Rattle.sch_insn.specs.Spelling.{spelling}
+use Rattle.sch_insn.specs.Spelling.{spelling, AllValid}
 use Rattle.sch_insn.specs.Machine.{State, set_register, word, add64}
 use Rattle.sch_insn.specs.Step.{Runs}
 use Rattle.sch_insn.specs.Behaves.{Ending, Behaves, start}
-use Rattle.sch_insn.proofs.Steps.{Exits, then_exits, next_exits, exits_here, HasAt}
-use Rattle.sch_insn.proofs.Placing.{HasBytes, AllValid, ApartFrom, has_all, has_bytes}
+use Rattle.sch_insn.specs.Path.{Exits}
+use Rattle.sch_insn.specs.Stands.{HasAt, HasBytes, ApartFrom}
+use Rattle.sch_insn.proofs.Placing.{has_all, has_bytes}
 use Rattle.sch_insn.proofs.Growing.{behaves}
 use Rattle.sch_cli.specs.Pieces.{puts}
 use Rattle.sch_cli.specs.PieceCode.{write_loop, exit_code, pieces_code, program_code, data_address, text_address, joined, text_memory, data_memory, IsSmall, AreFull}
+use Rattle.sch_cli.proofs.Steps.{then_exits, next_exits, exits_here}
 use Rattle.sch_cli.proofs.WriteLoop.{at, Outcome, writes}
 
 -- Each piece stands in memory, one after the other, and none is empty.

@@ -14,9 +14,11 @@ use Rattle.sch_insn.specs.declared.insn.Insn.TheVariants.{MovNumber, AddTo, SubT
 use Rattle.sch_insn.specs.declared.machine.Flags.{Flags}
 use Rattle.sch_insn.specs.Machine.{State, set_register, word, add64, sub64, is_negative, differ, difference_of, sum_of, condition, test_of, unknown_flags, head_or_0}
 use Rattle.sch_insn.specs.Step.{Runs, answered, after_write, rest_of, jump_if, moved}
-use Rattle.sch_insn.proofs.Steps.{Comes, Exits, then, then_exits, next, next_exits, ends, exits_here, HasAt}
-use Rattle.sch_insn.proofs.Placing.{HasBytes, has_later, write_answered}
+use Rattle.sch_insn.specs.Path.{Exits}
+use Rattle.sch_insn.specs.Stands.{HasAt, HasBytes}
+use Rattle.sch_insn.proofs.Placing.{has_later, write_answered}
 use Rattle.sch_cli.specs.PieceCode.{write_loop}
+use Rattle.sch_cli.proofs.Steps.{Comes, then, then_exits, next, next_exits, ends, exits_here}
 
 -- a state, by its parts
 abbrev pub at : (ℕ → ℕ) → Flags → ℕ → List Segment → List ℕ → List Answer → List ℕ → State
@@ -64,7 +66,7 @@ pub record Returns (s : State) (return : ℕ) (segments : List Segment) (output 
   pub registers : ℕ → ℕ
   pub flags : Flags
   pub spare : List ℕ
-  pub comes : Comes s (Runs (at registers flags return segments output left spare))
+  pub comes : Comes s (at registers flags return segments output left spare)
 
 -- A put has led to where it is whole or not.
 abbrev pub Outcome : Bool → State → ℕ → List Segment → List ℕ → List Answer → Type 0
@@ -72,7 +74,7 @@ Outcome true s return segments output left = Returns s return segments output le
 Outcome false s return segments output left = Exits s 74 output
 
 -- what follows a run
-continued : (whole : Bool) (s t : State) (return : ℕ) (segments : List Segment) (output : List ℕ) (left : List Answer) → Comes s (Runs t) → Outcome whole t return segments output left → Outcome whole s return segments output left
+continued : (whole : Bool) (s t : State) (return : ℕ) (segments : List Segment) (output : List ℕ) (left : List Answer) → Comes s t → Outcome whole t return segments output left → Outcome whole s return segments output left
 continued true s t return segments output left c o = record { registers = o.registers; flags = o.flags; spare = o.spare; comes = then s t _ c o.comes }
 continued false s t return segments output left c o = then_exits s t 74 output c o
 
@@ -87,7 +89,7 @@ module _ (segments : List Segment) (p : ℕ) (has : HasAt segments p write_loop)
   -- the kernel is offered all that is left
   asks : (registers : ℕ → ℕ) (flags : Flags) (output : List ℕ) (answers : List Answer) (spare piece : List ℕ) → 0 < length piece → registers 2 ≡ length piece → HasBytes segments (registers 6) piece →
       Comes (at registers flags p segments output answers spare)
-      (Runs (answered (at (asked registers) flags (p + 7 + 7) segments output answers spare) answer_place piece answers))
+      (answered (at (asked registers) flags (p + 7 + 7) segments output answers spare) answer_place piece answers)
   asks registers flags output answers spare piece some size bytes =
       let s0 = at registers flags p segments output answers spare in
       let s1 = at (set_register registers 0 1) flags (p + 7) segments output answers spare in
@@ -104,7 +106,7 @@ module _ (segments : List Segment) (p : ℕ) (has : HasAt segments p write_loop)
   counts : (registers : ℕ → ℕ) (flags : Flags) (output : List ℕ) (answers : List Answer) (spare : List ℕ) → 0 < registers 0 → registers 0 < 2 ^ 63 → (place : ℕ) →
       cond (not (sub64 (registers 2) (registers 0) == 0)) (add64 (answer_place + 7 + 6 + 3 + 3 + 6) (word (negsuc 40))) (answer_place + 7 + 6 + 3 + 3 + 6) ≡ place →
       Comes (at registers flags answer_place segments output answers spare)
-      (Runs (at (counted registers) (difference_of (registers 2) (registers 0)).flags place segments output answers spare))
+      (at (counted registers) (difference_of (registers 2) (registers 0)).flags place segments output answers spare)
   counts registers flags output answers spare some small place is =
       let f1 = (difference_of (registers 0) 0).flags in
       let f2 = (sum_of (registers 6) (registers 0)).flags in
@@ -123,7 +125,7 @@ module _ (segments : List Segment) (p : ℕ) (has : HasAt segments p write_loop)
       (next c1 (JumpIf 14 (pos 15)) c2 _ h3.1.0 (ap (λ o. moved c1 (jump_if (at registers f1 (answer_place + 7 + 6) segments output answers spare).core (pos 15) o)) (passes_le (registers 0) some small))
       (next c2 (AddTo (Reg 6) 0) c3 _ h5.0 refl
       (next c3 (SubTo (Reg 2) 0) c4 _ h5.1.0 refl
-      (ends c4 (JumpIf 5 (negsuc 40)) (Runs c5) h7.0
+      (ends c4 (JumpIf 5 (negsuc 40)) c5 h7.0
       (ap (λ o. moved c4 (jump_if (at (counted registers) f3 (answer_place + 7 + 6 + 3 + 3 + 6) segments output answers spare).core (negsuc 40) o)) (takes_ne (registers 2) (registers 0))
       ∙ ap (λ n. Runs (at (counted registers) f3 n segments output answers spare)) is)))))
 
@@ -136,13 +138,13 @@ module _ (segments : List Segment) (p : ℕ) (has : HasAt segments p write_loop)
       (m : ℕ) (taken : List ℕ) (left : List Answer) (place : ℕ) → ((s : State) (q : ℕ) → answered s q piece answers ≡ after_write s q m taken left) → 0 < m → m < 2 ^ 63 →
       cond (not (sub64 (registers 2) m == 0)) (add64 (answer_place + 7 + 6 + 3 + 3 + 6) (word (negsuc 40))) (answer_place + 7 + 6 + 3 + 3 + 6) ≡ place →
       Comes (at registers flags p segments output answers spare)
-      (Runs (at (counted (answer_registers registers spare m)) (difference_of (registers 2) m).flags place segments (output ++ taken) left (rest_of (rest_of spare))))
+      (at (counted (answer_registers registers spare m)) (difference_of (registers 2) m).flags place segments (output ++ taken) left (rest_of (rest_of spare)))
   took registers flags output answers spare piece some size bytes m taken left place answer positive small is =
       let s0 = at registers flags p segments output answers spare in
       let s2 = at (asked registers) flags (p + 7 + 7) segments output answers spare in
       let rest = rest_of (rest_of spare) in
       let s3 = at (answer_registers registers spare m) unknown_flags answer_place segments (output ++ taken) left rest in
-      let to_answer : Comes s0 (Runs s3) = subst (λ s. Comes s0 (Runs s)) (answer s2 answer_place) (asks registers flags output answers spare piece some size bytes) in
+      let to_answer : Comes s0 s3 = subst (λ s. Comes s0 s) (answer s2 answer_place) (asks registers flags output answers spare piece some size bytes) in
       then s0 s3 _ to_answer (counts (answer_registers registers spare m) unknown_flags (output ++ taken) left rest positive small place is)
 
   -- after a write that took nothing or failed the program exits with 74
@@ -187,14 +189,14 @@ module _ (segments : List Segment) (p : ℕ) (has : HasAt segments p write_loop)
         registers = r1;
         flags = f1;
         spare = rest;
-        comes = then _ s1 (Runs s2) c (ends s1 (JumpTo (Reg 15)) (Runs s2) h8.0 (ap (λ n. Runs (at r1 f1 n segments (output ++ piece) left rest)) back));
+        comes = then _ s1 s2 c (ends s1 (JumpTo (Reg 15)) s2 h8.0 (ap (λ n. Runs (at r1 f1 n segments (output ++ piece) left rest)) back));
       }
 
   -- the kernel took m bytes, and some are left
   some_taken : (registers : ℕ → ℕ) (flags : Flags) (output : List ℕ) (answers : List Answer) (spare piece : List ℕ) (left : List Answer) (m : ℕ) → length piece < 2 ^ 63 →
       registers 2 ≡ length piece → HasBytes segments (registers 6) piece → 0 < m → m < length piece → ((s : State) (q : ℕ) → answered s q piece answers ≡ after_write s q m (take m piece) left) →
       Comes (at registers flags p segments output answers spare)
-      (Runs (at (counted (answer_registers registers spare m)) (difference_of (registers 2) m).flags p segments (output ++ take m piece) left (rest_of (rest_of spare))))
+      (at (counted (answer_registers registers spare m)) (difference_of (registers 2) m).flags p segments (output ++ take m piece) left (rest_of (rest_of spare)))
   some_taken registers flags output answers spare piece left m small size bytes positive fewer answer =
       let more : 0 < sub64 (registers 2) m = omega arith in
       let end = answer_place + 7 + 6 + 3 + 3 + 6 in
@@ -211,7 +213,7 @@ module _ (segments : List Segment) (p : ℕ) (has : HasAt segments p write_loop)
       let s2 = at (asked registers) flags (p + 7 + 7) segments output answers spare in
       let rest = rest_of (rest_of spare) in
       let s3 = at (answer_registers registers spare m) unknown_flags answer_place segments (output ++ []) left rest in
-      let to_answer : Comes s0 (Runs s3) = subst (λ s. Comes s0 (Runs s)) (answer s2 answer_place) (asks registers flags output answers spare piece some size bytes) in
+      let to_answer : Comes s0 s3 = subst (λ s. Comes s0 s) (answer s2 answer_place) (asks registers flags output answers spare piece some size bytes) in
       then_exits s0 s3 74 (output ++ []) to_answer (gives_up (answer_registers registers spare m) unknown_flags (output ++ []) left rest failed)
 
   -- the loop puts the piece at rsi, rdx bytes long, and returns to r15

@@ -12,7 +12,8 @@ use Rattle.sch_insn.specs.declared.machine.StuckCause.{StuckCause}
 use Rattle.sch_insn.specs.Machine.{Core, State, with_place}
 use Rattle.sch_insn.specs.Step.{Progress, Runs, Exited, Stuck, act, kernel, write_row, piece_written, answered, moved, perform, fetch, fetched, step, go_on, standing, mach}
 use Rattle.sch_insn.specs.Behaves.{Given, start, output_of, exit_of, IsPrefix, Ending, Behaves}
-use Rattle.sch_insn.proofs.Steps.{Exits}
+use Rattle.sch_insn.specs.Path.{Path, Exits}
+use Rattle.sch_insn.proofs.Paths.{exits_mach}
 
 pub prefix_same : (xs : List ℕ) → IsPrefix xs xs
 prefix_same xs = record { rest = []; whole = append-nil xs }
@@ -21,8 +22,8 @@ pub prefix_then : (xs ys zs : List ℕ) → IsPrefix xs ys → IsPrefix ys zs �
 prefix_then xs ys zs p q = record { rest = p.rest ++ q.rest; whole = sym (append_assoc xs p.rest q.rest) ∙ ap (λ l. l ++ q.rest) p.whole ∙ q.whole }
 
 -- An output has grown to that of what the machine has come to.
-record Grows (output : List ℕ) (e : Progress) : Type 0 where
-  by : IsPrefix output (output_of e)
+pub record Grows (output : List ℕ) (e : Progress) : Type 0 where
+  pub by : IsPrefix output (output_of e)
 
 moved_grows : (s : State) (r : Result Core StuckCause) → Grows s.output (moved s r)
 moved_grows s (Ok c) = record { by = prefix_same s.output }
@@ -59,8 +60,13 @@ fetched_grows : (s : State) (o : Option (Insn × ℕ)) → Grows s.output (fetch
 fetched_grows s None = record { by = prefix_same s.output }
 fetched_grows s (Some p) = perform_grows p.0 (s.core.place + p.1) s
 
-step_grows : (s : State) → Grows s.output (step s)
+pub step_grows : (s : State) → Grows s.output (step s)
 step_grows s = fetched_grows s (fetch s.core.segments s.core.place)
+
+-- The output grows along a path.
+pub path_grows : (s : State) (us : List State) (t : State) → Path s us t → IsPrefix s.output t.output
+path_grows s [] t p = subst (λ x. IsPrefix s.output x.output) p (prefix_same s.output)
+path_grows s (u ∷ us) t p = prefix_then s.output u.output t.output (subst (λ x. IsPrefix s.output (output_of x)) p.0 (step_grows s).by) (path_grows u us t p.1)
 
 go_grows : (n : ℕ) (e : Progress) → ((s : State) → IsPrefix s.output (output_of (mach n s))) → IsPrefix (output_of e) (output_of (go_on e (mach n)))
 go_grows n (Runs s) h = h s
@@ -135,7 +141,7 @@ not_stuck s t m status e n cause u f =
 -- A memory behaves as said where its machine comes to the said exit for all given words and answers.
 pub behaves : (entry : ℕ) (segments : List Segment) (ending : List Answer → Ending) → ((g : Given) (answers : List Answer) → Exits (start entry segments g answers) (ending answers).status (ending answers).output) → Behaves entry segments ending
 behaves entry segments ending h = record {
-  ends = λ g answers. let e = h g answers in (e.comes.steps + 0, ap exit_of (e.comes.reaches 0) ∙ ap (λ o. Some ((ending answers).status, o)) e.output_is);
-  along = λ g answers n. let e = h g answers in subst (IsPrefix (output_of (mach n (start entry segments g answers)))) e.output_is (along_end (start entry segments g answers) e.last (e.comes.steps + 0) (ending answers).status (e.comes.reaches 0) n);
-  never_stuck = λ g answers. let e = h g answers in not_stuck (start entry segments g answers) e.last (e.comes.steps + 0) (ending answers).status (e.comes.reaches 0);
+  ends = λ g answers. let e = h g answers in (length e.way + 1, ap exit_of (exits_mach e) ∙ ap (λ o. Some ((ending answers).status, o)) e.output_is);
+  along = λ g answers n. let e = h g answers in subst (IsPrefix (output_of (mach n (start entry segments g answers)))) e.output_is (along_end (start entry segments g answers) e.last (length e.way + 1) (ending answers).status (exits_mach e) n);
+  never_stuck = λ g answers. let e = h g answers in not_stuck (start entry segments g answers) e.last (length e.way + 1) (ending answers).status (exits_mach e);
 }

@@ -3,7 +3,8 @@ pub mod OnAnswer
 pub mod Reading
 pub mod Back
 pub mod PrefixCode
-pub mod Steps
+pub mod Paths
 pub mod Growing
+pub mod Clauses
 pub mod Placing
 mod Rows

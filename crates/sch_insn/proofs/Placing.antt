@@ -1,5 +1,5 @@
 -- What stands where: instructions and bytes in a list of segments.
-use Rattle.std.proofs.Common.{◌≡◌, ℕ, suc, ◌+◌, ◌-◌, ◌<◌, ◌≤◌, List, [], ◌∷◌, ◌++◌, length, drop, Bool, true, false, cond, Option, Some, None, sym, ap, ◌∙◌, subst, ◌⊎◌, ⊎_elim, arith, append_assoc, length-append, length-drop, nat_le, ◌&&◌}
+use Rattle.std.proofs.Common.{◌≡◌, ℕ, suc, ◌+◌, ◌-◌, ◌<◌, ◌≤◌, List, [], ◌∷◌, ◌++◌, length, drop, Bool, true, false, cond, Option, Some, None, sym, ap, ◌∙◌, subst, ⊎_elim, arith, append_assoc, length-append, length-drop, nat_le, ◌&&◌}
 use Rattle.std.specs.List.{flat_map}
 use Rattle.std.proofs.lemmas.Bool.Decides.{nat_tests}
 use Rattle.std.proofs.lemmas.List.{drop-append-le, drop-drop}
@@ -7,21 +7,12 @@ use Rattle.std.proofs.Math.Seq.{drop-append_seam, take-append_seam, drop-append-
 use Rattle.sch_word.specs.Memory.{Segment}
 use Rattle.sch_insn.specs.declared.insn.Insn.{Insn}
 use Rattle.sch_insn.specs.declared.insn.Insn.TheVariants.{MovTo, MovFrom, MovNumber, MovWord, StoreByte, LoadByte, Lea, AddTo, OrTo, AndTo, SubTo, XorTo, CmpTo, AddFrom, OrFrom, AndFrom, SubFrom, XorFrom, CmpFrom, AddNumber, OrNumber, AndNumber, SubNumber, XorNumber, CmpNumber, TestTo, Imul, Neg, Idiv, Cqo, Shl, Shr, Sar, Jump, JumpTo, JumpIf, Syscall}
-use Rattle.sch_insn.specs.Spelling.{spelling, IsValid}
+use Rattle.sch_insn.specs.Spelling.{spelling, AllValid}
 use Rattle.sch_insn.specs.Decode.{decode, when_some}
 use Rattle.sch_insn.specs.Machine.{State, holds, bytes_from}
-use Rattle.sch_insn.specs.Step.{Runs, write_row, piece_written, answered}
+use Rattle.sch_insn.specs.Step.{Progress, Runs, write_row, piece_written, answered, perform, fetched, step}
 use Rattle.sch_insn.proofs.Reading.{decode_spelling}
-use Rattle.sch_insn.proofs.Steps.{StandsAt, HasAt}
-
--- Two segments have no byte in common.
-abbrev pub Apart : Segment → Segment → Type 0
-Apart g h = (g.address + length g.bytes ≤ h.address) ⊎ (h.address + length h.bytes ≤ g.address)
-
--- A segment has no byte in common with any of a list.
-abbrev pub ApartFrom : Segment → List Segment → Type 0
-ApartFrom g [] = Unit {0}
-ApartFrom g (h ∷ hs) = Apart g h × ApartFrom g hs
+use Rattle.sch_insn.specs.Stands.{StandsAt, HasAt, HasBytes, Apart, ApartFrom}
 
 inside : (low high a b : ℕ) → low ≤ a → b ≤ high → (nat_le low a && nat_le b high) ≡ true
 inside low high a b h k = grind (arith, nat_tests)
@@ -51,9 +42,9 @@ bytes_from_one right (h ∷ hs) after g a n apart r low high some =
     ap (λ t. cond t (cond (right h) (Some (drop (a - h.address) h.bytes)) none) (bytes_from right (hs ++ g ∷ after) a n)) (other g h a n low high some apart.0)
     ∙ bytes_from_one right hs after g a n apart.1 r low high some
 
-abbrev pub AllValid : List Insn → Type 0
-AllValid [] = Unit {0}
-AllValid (i ∷ is) = IsValid i × AllValid is
+-- The step where the instruction is known.
+pub stands_step : (s : State) (i : Insn) (e : Progress) → StandsAt s.core.segments s.core.place i → perform i (s.core.place + length (spelling i)) s ≡ e → step s ≡ e
+stands_step s i e h a = ap (fetched s) h ∙ a
 
 -- No spelling is empty.
 pub spelling_some : (i : Insn) → 0 < length (spelling i)
@@ -112,11 +103,7 @@ has_all before after g (i ∷ is) front rest apart x e v =
     let place : g.address + length (front ++ spelling i) ≡ a + length (spelling i) = omega (arith, length-append front (spelling i)) in
     (stands, subst (λ p. HasAt gs p is) place (has_all before after g is (front ++ spelling i) rest apart x later v.1))
 
--- Bytes stand in memory that may be read: from each of their places on, all that is left of them.
-pub record HasBytes (gs : List Segment) (a : ℕ) (xs : List ℕ) : Type 0 where
-  pub from : (k : ℕ) → k < length xs → (rest : List ℕ) × (bytes_from (λ g. g.readable) gs (a + k) (length xs - k) ≡ Some (drop k xs ++ rest))
-
--- So do the bytes from a place on.
+-- Bytes stand from a later place on too.
 pub has_later : (gs : List Segment) (a : ℕ) (xs : List ℕ) (j : ℕ) → HasBytes gs a xs → HasBytes gs (a + j) (drop j xs)
 has_later gs a xs j h = record {
   from = λ k l.

@@ -2,6 +2,7 @@
 use Rattle.std.specs.Prelude.{◌≡◌, ◌≢◌, ℕ, ◌<◌, ◌^◌, List, [], ◌++◌, Option, Some, None, All}
 use Rattle.sch_word.specs.Memory.{Segment}
 use Rattle.sch_word.specs.declared.answer.Answer.{Answer}
+use Rattle.sch_word.specs.Runs.{Run, ended}
 use Rattle.sch_insn.specs.declared.machine.Flags.{Flags}
 use Rattle.sch_insn.specs.declared.machine.StuckCause.{StuckCause}
 use Rattle.sch_insn.specs.Machine.{State}
@@ -54,3 +55,25 @@ pub record Behaves (entry : ℕ) (segments : List Segment) (ending : List Answer
   pub ends : (g : Given) (answers : List Answer) → (n : ℕ) × (exit_of (mach n (start entry segments g answers)) ≡ Some ((ending answers).status, (ending answers).output))
   pub along : (g : Given) (answers : List Answer) (n : ℕ) → IsPrefix (output_of (mach n (start entry segments g answers))) (ending answers).output
   pub never_stuck : (g : Given) (answers : List Answer) (n : ℕ) (cause : StuckCause) (s : State) → mach n (start entry segments g answers) ≢ Stuck cause s
+
+-- ---- a program whose runs are bounded by procedure entries
+
+-- The machine is as far as the run, or farther: what the run has put out the machine has written, and
+-- where the run has ended the machine has exited with the same status and the same output.
+pub record Reaches (machine : Progress) (r : Run) : Type 0 where
+  pub output : IsPrefix r.output (output_of machine)
+  pub end : (status : ℕ) → r.end ≡ ended status → exit_of machine ≡ Some (status, r.output)
+
+-- The run is as far as the machine, or farther.
+pub record Covers (r : Run) (machine : Progress) : Type 0 where
+  pub output : IsPrefix (output_of machine) r.output
+  pub end : (status : ℕ) (output : List ℕ) → exit_of machine ≡ Some (status, output) → (r.end ≡ ended status) × (r.output ≡ output)
+
+-- A memory that is entered at an address does what these runs do, whatever words it is given and whatever
+-- the kernel answers. A run is one against those answers, with at most n procedure entries. Each run is
+-- reached by some bounded run of the machine; a bounded run of the machine with m steps is covered by the
+-- run with m entries, since an entry takes a step at least; and the machine is never stuck.
+pub record FollowsRuns (entry : ℕ) (segments : List Segment) (runs : List Answer → (entries : ℕ) → Run) : Type 0 where
+  pub reaches : (g : Given) (answers : List Answer) (n : ℕ) → (m : ℕ) × Reaches (mach m (start entry segments g answers)) (runs answers n)
+  pub covered : (g : Given) (answers : List Answer) (m : ℕ) → Covers (runs answers m) (mach m (start entry segments g answers))
+  pub never_stuck : (g : Given) (answers : List Answer) (m : ℕ) (cause : StuckCause) (s : State) → mach m (start entry segments g answers) ≢ Stuck cause s

@@ -2,4 +2,6 @@ pub mod Spelling
 pub mod Decode
 pub mod Machine
 pub mod Step
+pub mod Stands
+pub mod Path
 pub mod Behaves

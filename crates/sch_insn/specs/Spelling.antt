@@ -142,6 +142,11 @@ IsValid (JumpTo m) = IsArg m
 IsValid (JumpIf c d) = IsCondition c × FitsSigned w32 d
 IsValid Syscall = Unit {0}
 
+-- All these instructions are valid.
+abbrev pub AllValid : List Insn → Type 0
+AllValid [] = Unit {0}
+AllValid (i ∷ is) = IsValid i × AllValid is
+
 -- A list of bytes is the spelling of an instruction that there is.
 pub record Spells (i : Insn) (bs : List ℕ) : Type 0 where
   pub valid : IsValid i

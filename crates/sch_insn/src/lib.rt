@@ -7,5 +7,5 @@ mod laws;
 mod machine;
 
 pub use insn::{Arg, Insn};
-pub use laws::{reading_inverts_spelling, spellings_are_a_prefix_code};
+pub use laws::{reading_inverts_spelling, spellings_are_a_prefix_code, traces_are_of_runs};
 pub use machine::{Flags, Regs, StuckCause};
