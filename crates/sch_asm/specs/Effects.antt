@@ -1,0 +1,73 @@
+-- What each run-time routine does to a machine that enters it, and in how many steps.
+use Rattle.std.specs.Prelude.{◌≡◌, ℕ, ◌+◌, ◌*◌, ◌^◌, ◌<◌, ◌≤◌, List, [], ◌++◌, length, drop, Bool, true, false, ◌||◌, ◌==◌, ℤ}
+use Rattle.std.specs.Fmt.{signed_decimal}
+use Rattle.sch_word.specs.declared.answer.Answer.{Answer}
+use Rattle.sch_word.specs.Put.{put}
+use Rattle.sch_word.specs.Stops.{status_of}
+use Rattle.sch_insn.specs.Step.{Exited, step}
+use Rattle.sch_asm.specs.declared.item.Item.{Item}
+use Rattle.sch_asm.specs.declared.routine.Routine.{Routine}
+use Rattle.sch_asm.specs.declared.routine.Routine.TheVariants.{End, Stop, Put, PutFixnum}
+use Rattle.sch_asm.specs.Stands.{Setting, Stands}
+use Rattle.sch_asm.specs.Data.{FixnumWord, PieceAt}
+use Rattle.sch_asm.specs.Routines.{label_of}
+use Rattle.sch_asm.specs.Views.{View, full, Leads}
+
+-- rax, rcx, rdx and r11 are free for routines.
+abbrev pub is_scratch : ℕ → Bool
+is_scratch r = (r == 0) || ((r == 1) || ((r == 2) || (r == 11)))
+
+-- What a routine needs of a machine: the data have the routines' 64 words and end below 2^63, and r11 has
+-- the address to which the routine returns.
+pub record IsReady (x : View) : Type 0 where
+  pub own_words : 512 ≤ length x.bytes
+  pub within : 0x10000000 + length x.bytes < 2 ^ 63
+  pub back : x.registers 11 < 2 ^ 64
+
+module _ (setting : Setting) where
+  -- The machine exits with a status after an output, past no mark, in fewer than so many steps and one more
+  -- for each ten answers that it may use.
+  pub record Stops (x : View) (most status : ℕ) (output : List ℕ) : Type 0 where
+    pub last : View
+    pub least : ℕ
+    pub steps : ℕ
+    pub leads : Leads setting least steps [] x last
+    pub few : steps < most
+    pub exits : step (full setting last) ≡ Exited status (full setting last)
+    pub output_is : last.output ≡ output
+    pub silent : setting.marks last.place ≡ []
+
+  -- The machine comes back to its caller past no mark. Registers that are no scratch registers keep their
+  -- words, and so do the data behind the routines' own words. Each answer used costs ten steps.
+  pub record Returns (x : View) (bound : ℕ) (output : List ℕ) (left : List Answer) : Type 0 where
+    pub y : View
+    pub least : ℕ
+    pub most : ℕ
+    pub leads : Leads setting least most [] x y
+    pub few : most + 10 * length left ≤ bound + 10 * length x.answers
+    pub at : y.place ≡ x.registers 11
+    pub registers : (r : ℕ) → is_scratch r ≡ false → x.registers r < 2 ^ 64 → y.registers r ≡ x.registers r
+    pub size : length y.bytes ≡ length x.bytes
+    pub others : drop 512 y.bytes ≡ drop 512 x.bytes
+    pub output_is : y.output ≡ output
+    pub left_is : y.answers ≡ left
+
+  -- A put that took the whole piece comes back, and any other is stop 74.
+  abbrev pub PutEnds : Bool → View → ℕ → List ℕ → List Answer → Type 0
+  PutEnds true x bound output left = Returns x bound output left
+  PutEnds false x bound output left = Stops x (bound + 10 * length x.answers) 74 output
+
+  -- A piece is written against the kernel's answers.
+  abbrev pub Puts : View → ℕ → List ℕ → Type 0
+  Puts x bound piece = PutEnds (put piece x.answers).whole x bound (x.output ++ (put piece x.answers).taken) (put piece x.answers).left
+
+  -- What a routine does from its label on. A piece that is put lies behind the routines' own words.
+  abbrev pub Effect : Routine → View → Type 0
+  Effect End x = Stops x 3 0 x.output
+  Effect (Stop s) x = Stops x 3 (status_of s) x.output
+  Effect Put x = (piece : List ℕ) → IsReady x → 0x10000200 ≤ x.registers 0 → x.registers 2 ≡ length piece → PieceAt x.bytes (x.registers 0) piece → Puts x 21 piece
+  Effect PutFixnum x = (n : ℤ) → IsReady x → FixnumWord n (x.registers 0) → Puts x 300 (signed_decimal n)
+
+-- Items that do what the routines do, wherever they stand in a text.
+pub record AreEffective (items : List Item) : Type 0 where
+  pub does : (setting : Setting) (a : ℕ) → Stands setting [] a items → (k : Routine) (x : View) → x.place ≡ setting.place_of (label_of k) → Effect setting k x

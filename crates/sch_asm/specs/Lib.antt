@@ -1,0 +1,9 @@
+pub mod Items
+pub mod Stands
+pub mod Codes
+pub mod Layout
+pub mod Data
+pub mod Views
+pub mod Propositions
+pub mod Routines
+pub mod Effects

@@ -1,0 +1,15 @@
+//! From items to a text: labels, jumps to labels and marks become instructions and places in a program.
+#![tactic(auto)]
+
+mod assembly;
+mod error;
+mod item;
+mod layout;
+mod resolving;
+mod routine;
+
+pub use assembly::{Asm, Word};
+pub use error::AsmError;
+pub use item::{Item, Mark, MarkKind};
+pub use resolving::{MAX_TEXT, Resolved, resolve};
+pub use routine::Routine;
