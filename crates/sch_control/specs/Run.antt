@@ -1,0 +1,89 @@
+-- What is seen of a program's run.
+use Rattle.std.specs.Prelude.{ℕ, zero, suc, Bool, true, false, ◌&&◌, nat_eq, List, [], ◌∷◌, length, Option, Some, None, slice_get}
+use Rattle.sch_word.specs.declared.answer.Answer.{Answer}
+use Rattle.sch_word.specs.Values.{Value, unspecified}
+use Rattle.sch_word.specs.Computation.{Outcome, gives, spent, State, in_store, take_entry}
+use Rattle.sch_word.specs.Charges.{fit}
+use Rattle.sch_word.specs.Runs.{Run, seen_in, starting_store, starting_state}
+use Rattle.sch_control.specs.declared.mark.MarkKind.TheVariants.{Enter}
+use Rattle.sch_control.specs.Tree.{Code, Entry, Source}
+use Rattle.sch_control.specs.Operations.{Procedure}
+use Rattle.sch_control.specs.Meaning.{World, Result, Callee, plain, marked, on_outcome, on_return, do_body, entry_environment, nothing}
+
+-- ## Entering
+
+-- How a body is done once it is entered: by the callees, the depth that is left, its own value and the
+-- arguments. A top-level form has neither of the last.
+abbrev pub Bodies : Type 0
+Bodies = (label : ℕ) → Callee → (depth : ℕ) → (self : Value) → (arguments : List Value) → World → Result
+
+-- The arguments fit the formals, or are stop 68 or 71; then an entry is taken, and the body begins.
+abbrev pub enter_body : Bodies → Callee → Option Entry → Callee
+enter_body bodies callee None self p vs depth w = None
+enter_body bodies callee (Some e) self p vs depth w =
+    on_outcome w.marks (in_store (fit e.formals e.rest vs) w.state)
+    (λ arguments w. on_outcome w.marks (in_store take_entry w.state)
+    (λ _ w. bodies p.label callee depth self arguments (marked (Enter p.label) w)))
+
+-- entering a procedure, where at most n entries are nested
+abbrev pub enter : (entry : ℕ → Option Entry) → Bodies → (n : ℕ) → Callee
+enter entry bodies zero self p vs depth w = Some (spent w)
+enter entry bodies (suc n) self p vs depth w = enter_body bodies (enter entry bodies n) (entry p.label) self p vs depth w
+
+-- ## Programs
+
+-- the top-level forms, in their order, each at the whole depth; a body of a procedure is passed over
+abbrev pub do_forms : (entries : List (Option Entry)) → (label : ℕ) → Bodies → Callee → (depth : ℕ) → World → Result
+do_forms [] label bodies callee depth w = Some (gives unspecified w)
+do_forms (Some e ∷ entries) label bodies callee depth w = do_forms entries (suc label) bodies callee depth w
+do_forms (None ∷ entries) label bodies callee depth w =
+    on_return (bodies label callee depth unspecified [] (marked (Enter label) w)) (λ v w. do_forms entries (suc label) bodies callee depth w)
+
+abbrev pub entry_at : List (Option Entry) → ℕ → Option Entry
+entry_at entries label = known (slice_get entries label)
+  where
+    known : Option (Option Entry) → Option Entry
+    known None = None
+    known (Some e) = e
+
+-- the procedures of the library, by their labels
+abbrev pub library_procedures : List ℕ → List Procedure
+library_procedures [] = []
+library_procedures (label ∷ library) = record { label = label; fields = [] } ∷ library_procedures library
+
+abbrev pub starting_world : Source → (heap : ℕ) → List Answer → (entries : ℕ) → World
+starting_world p heap answers entries = record {
+  state = starting_state (starting_store p.statics heap answers entries) (library_procedures p.library);
+  marks = [];
+}
+
+abbrev pub entries_of : List Code → List (Option Entry)
+entries_of [] = []
+entries_of (c ∷ cs) = c.entry ∷ entries_of cs
+
+-- the environment in which a body begins
+abbrev pub beginning : Option Entry → Value → List Value → World → (ℕ → Option Value)
+beginning None self arguments w = nothing
+beginning (Some e) self arguments w = entry_environment self arguments
+
+abbrev pub done : Option Code → Callee → ℕ → Value → List Value → World → Result
+done None callee depth self arguments w = None
+done (Some c) callee depth self arguments w = do_body plain callee depth c.expression (beginning c.entry self arguments w) w
+
+-- the bodies of a program, each read plainly
+abbrev pub bodies_of : List Code → Bodies
+bodies_of codes label = done (slice_get codes label)
+
+abbrev pub outcome_of : List (Option Entry) → Bodies → (depth entries : ℕ) → World → Result
+outcome_of entries bodies depth limit w = do_forms entries 0 bodies (enter (entry_at entries) bodies limit) depth w
+
+-- what is seen of a result, if it is not wrong
+abbrev pub seen_of : List Answer → (entries : ℕ) → Result → Option Run
+seen_of answers entries None = None
+seen_of answers entries (Some o) = Some (seen_in (λ w. w.state.store) answers entries o)
+
+-- the run, with limits of heap and depth, against the answers of a kernel and with at most so many procedure
+-- entries; none where the program is wrong
+abbrev pub run : Source → (heap depth : ℕ) → List Answer → (entries : ℕ) → Option Run
+run p heap depth answers entries =
+    seen_of answers entries (outcome_of (entries_of p.bodies) (bodies_of p.bodies) depth entries (starting_world p heap answers entries))

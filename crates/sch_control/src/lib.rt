@@ -1,0 +1,11 @@
+//! The language Control: bodies in which every operand is simple and each call is bound, tested or in
+//! tail position; which programs are valid, and what a program does.
+#![tactic(auto)]
+
+mod mark;
+mod operation;
+mod tree;
+
+pub use mark::MarkKind;
+pub use operation::{Application, Atom, Closure, Member, Operand, Operation, Source};
+pub use tree::Exp;
