@@ -1,5 +1,10 @@
+pub mod Fits
 pub mod Meaning
 pub mod Operations
+pub mod Parts
+pub mod ProgramView
 pub mod Run
+pub mod SourceView
 pub mod Tree
+pub mod Valid
 pub mod View

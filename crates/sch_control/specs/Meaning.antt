@@ -145,6 +145,17 @@ with_region saves inside x = has x saves || inside x
 abbrev pub save_each : List ℕ → Environment → Environment → Environment
 save_each xs environment saved x = cond (has x xs) (environment x) (saved x)
 
+-- ## Calls
+
+abbrev pub entered : Callee → List Value → World → Entry Procedure → Result
+entered callee [] w e = None
+entered callee (operator ∷ vs) w e = callee operator e.procedure e.arguments e.depth w
+
+-- a call, from the values of its operator and its operands
+abbrev pub call_in : Callee → (spread tail : Bool) → ℕ → List Value → World → Result
+call_in callee spread tail depth vs w =
+    on_checked (checked_call w.state.procedures w.state.store spread tail depth vs) w (entered callee vs w)
+
 -- ## The evaluator
 
 module _ (reading : Reading) where
@@ -159,17 +170,6 @@ module _ (reading : Reading) where
   abbrev pub note_members : (inside : ℕ → Bool) → List (Member ℕ) → World → World
   note_members inside [] w = w
   note_members inside (m ∷ members) w = note_members inside members (note_bound inside m.at w)
-
-  -- a call under its mark, from the values of its operator and operands
-  abbrev pub call_under : Callee → MarkKind → (spread tail : Bool) → ℕ → List Value → World → Result
-  call_under callee mark spread tail depth vs w = enters callee vs (marked mark w)
-    where
-      entered : Callee → List Value → Entry Procedure → World → Result
-      entered callee [] e w = None
-      entered callee (operator ∷ vs) e w = callee operator e.procedure e.arguments e.depth w
-
-      enters : Callee → List Value → World → Result
-      enters callee vs w = on_checked (checked_call w.state.procedures w.state.store spread tail depth vs) w (λ e. entered callee vs e w)
 
   module _ (callee : Callee) (depth : ℕ) where
     -- `inside` has the variables of the regions round the expression
@@ -192,12 +192,12 @@ module _ (reading : Reading) where
             (λ s. evaluate e inside inner (put_inside inside saved members vs) (note_members inside members (record { state = s; marks = w.marks })) next))
     evaluate (call a restores) inside environment saved w next =
         with_value (part_values environment w.state.store a)
-        (λ vs. on_return (call_under callee (Call a.site) a.spread false depth vs (marked_each (reading.moves a.site) w))
+        (λ vs. on_return (call_in callee a.spread false depth vs (marked (Call a.site) (marked_each (reading.moves a.site) w)))
         (λ v w. next v (after_call reading.keeps restores environment saved) saved (note_each Restore restores w)))
     evaluate (tail_call a) inside environment saved w next =
         with_value (environment 0)
         (λ link. with_value (part_values environment w.state.store a)
-        (λ vs. call_under callee (Tail a.site) a.spread true depth vs (marked_each (reading.moves a.site) w)))
+        (λ vs. call_in callee a.spread true depth vs (marked (Tail a.site) (marked_each (reading.moves a.site) w))))
     evaluate (return e) inside environment saved w next =
         evaluate e inside environment saved w
         (λ v environment saved w. with_value (environment 0) (λ link. Some (gives v (marked Return w))))

@@ -4,11 +4,13 @@ use Rattle.sch_word.specs.declared.answer.Answer.{Answer}
 use Rattle.sch_word.specs.Values.{Value, unspecified}
 use Rattle.sch_word.specs.Computation.{Outcome, gives, spent, State, in_store, take_entry}
 use Rattle.sch_word.specs.Charges.{fit}
-use Rattle.sch_word.specs.Runs.{Run, seen_in, starting_store, starting_state}
+use Rattle.sch_word.specs.Runs.{Run, Statics, seen_in, starting_store, starting_state}
 use Rattle.sch_control.specs.declared.mark.MarkKind.TheVariants.{Enter}
-use Rattle.sch_control.specs.Tree.{Code, Entry, Source}
+use Rattle.sch_control.specs.declared.body.Entry.{Entry}
+use Rattle.sch_control.specs.Tree.{Code, Source}
 use Rattle.sch_control.specs.Operations.{Procedure}
-use Rattle.sch_control.specs.Meaning.{World, Result, Callee, plain, marked, on_outcome, on_return, do_body, entry_environment, nothing}
+use Rattle.sch_control.specs.Valid.{entries_of}
+use Rattle.sch_control.specs.Meaning.{World, Result, Environment, Callee, plain, marked, on_outcome, on_return, do_body, entry_environment, nothing}
 
 -- ## Entering
 
@@ -39,43 +41,44 @@ do_forms (Some e ∷ entries) label bodies callee depth w = do_forms entries (su
 do_forms (None ∷ entries) label bodies callee depth w =
     on_return (bodies label callee depth unspecified [] (marked (Enter label) w)) (λ v w. do_forms entries (suc label) bodies callee depth w)
 
+abbrev pub known_entry : Option (Option Entry) → Option Entry
+known_entry None = None
+known_entry (Some e) = e
+
+-- how the body of a label is entered, if there is one that is
 abbrev pub entry_at : List (Option Entry) → ℕ → Option Entry
-entry_at entries label = known (slice_get entries label)
-  where
-    known : Option (Option Entry) → Option Entry
-    known None = None
-    known (Some e) = e
+entry_at entries label = known_entry (slice_get entries label)
 
 -- the procedures of the library, by their labels
 abbrev pub library_procedures : List ℕ → List Procedure
 library_procedures [] = []
 library_procedures (label ∷ library) = record { label = label; fields = [] } ∷ library_procedures library
 
-abbrev pub starting_world : Source → (heap : ℕ) → List Answer → (entries : ℕ) → World
-starting_world p heap answers entries = record {
-  state = starting_state (starting_store p.statics heap answers entries) (library_procedures p.library);
+abbrev pub starting_world : Statics → (library : List ℕ) → (heap : ℕ) → List Answer → (entries : ℕ) → World
+starting_world statics library heap answers entries = record {
+  state = starting_state (starting_store statics heap answers entries) (library_procedures library);
   marks = [];
 }
 
-abbrev pub entries_of : List Code → List (Option Entry)
-entries_of [] = []
-entries_of (c ∷ cs) = c.entry ∷ entries_of cs
-
 -- the environment in which a body begins
-abbrev pub beginning : Option Entry → Value → List Value → World → (ℕ → Option Value)
-beginning None self arguments w = nothing
-beginning (Some e) self arguments w = entry_environment self arguments
+abbrev pub beginning : Option Entry → Value → List Value → Environment
+beginning None self arguments = nothing
+beginning (Some e) self arguments = entry_environment self arguments
 
-abbrev pub done : Option Code → Callee → ℕ → Value → List Value → World → Result
-done None callee depth self arguments w = None
-done (Some c) callee depth self arguments w = do_body plain callee depth c.expression (beginning c.entry self arguments w) w
+-- a body, read plainly
+abbrev pub do_code : Code → Callee → (depth : ℕ) → (self : Value) → (arguments : List Value) → World → Result
+do_code c callee depth self arguments w = do_body plain callee depth c.expression (beginning c.entry self arguments) w
 
--- the bodies of a program, each read plainly
+abbrev pub do_known : Option Code → Callee → (depth : ℕ) → (self : Value) → (arguments : List Value) → World → Result
+do_known None callee depth self arguments w = None
+do_known (Some c) callee depth self arguments w = do_code c callee depth self arguments w
+
 abbrev pub bodies_of : List Code → Bodies
-bodies_of codes label = done (slice_get codes label)
+bodies_of codes label = do_known (slice_get codes label)
 
+-- a whole program, by how its bodies are entered and what they do
 abbrev pub outcome_of : List (Option Entry) → Bodies → (depth entries : ℕ) → World → Result
-outcome_of entries bodies depth limit w = do_forms entries 0 bodies (enter (entry_at entries) bodies limit) depth w
+outcome_of entered bodies depth entries w = do_forms entered 0 bodies (enter (entry_at entered) bodies entries) depth w
 
 -- what is seen of a result, if it is not wrong
 abbrev pub seen_of : List Answer → (entries : ℕ) → Result → Option Run
@@ -86,4 +89,4 @@ seen_of answers entries (Some o) = Some (seen_in (λ w. w.state.store) answers e
 -- entries; none where the program is wrong
 abbrev pub run : Source → (heap depth : ℕ) → List Answer → (entries : ℕ) → Option Run
 run p heap depth answers entries =
-    seen_of answers entries (outcome_of (entries_of p.bodies) (bodies_of p.bodies) depth entries (starting_world p heap answers entries))
+    seen_of answers entries (outcome_of (entries_of p.bodies) (bodies_of p.bodies) depth entries (starting_world p.statics p.library heap answers entries))

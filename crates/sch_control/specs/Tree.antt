@@ -1,7 +1,8 @@
 -- The language Control as plain data. After the language of flat closures: operands are simple, what is
 -- not is bound, and a body says where its procedure returns.
-use Rattle.std.specs.Prelude.{ℕ, Bool, List, Option}
+use Rattle.std.specs.Prelude.{ℕ, List, Option}
 use Rattle.sch_word.specs.Runs.{Statics}
+use Rattle.sch_control.specs.declared.body.Entry.{Entry}
 use Rattle.sch_control.specs.declared.operation.Operation.{Operation}
 use Rattle.sch_control.specs.declared.operation.Application.{Application}
 use Rattle.sch_control.specs.declared.operation.Member.{Member}
@@ -20,13 +21,6 @@ pub data Expression : Type 0 where
   return : Expression → Expression
   end : Expression → Expression
   save : (saves : List ℕ) → Expression → Expression
-
--- How a procedure is entered: its formals, whether the last is a rest variable, and how many fields its
--- closure has.
-pub record Entry : Type 0 where
-  pub formals : ℕ
-  pub rest : Bool
-  pub fields : ℕ
 
 -- A body: of a procedure, or of a top-level form, which is not entered. Each of its variables is below the
 -- number of variables.

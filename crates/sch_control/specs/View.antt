@@ -1,7 +1,8 @@
 -- The plain tree of an expression of the program's type.
-use Rattle.std.specs.Prelude.{ℕ, List, []}
+use Rattle.std.specs.Prelude.{ℕ, List, [], Option}
+use Rattle.sch_control.specs.declared.body.Entry.{Entry}
 use Rattle.sch_control.specs.declared.tree.Exp.{Exp, Do, Bind', Seq', If', Fix', Call, TailCall, Return', End'}
-use Rattle.sch_control.specs.Tree.{Expression, perform, bind, sequence, branch, fix, call, tail_call, return, end}
+use Rattle.sch_control.specs.Tree.{Expression, perform, bind, sequence, branch, fix, call, tail_call, return, end, Code}
 
 -- by what is restored after a call, as the call's note says
 module _ {C : Type 0} (restores : C → List ℕ) where
@@ -19,3 +20,7 @@ module _ {C : Type 0} (restores : C → List ℕ) where
 -- of a body whose calls have no note, nothing is restored
 abbrev pub expression : Exp (Unit {0}) → Expression
 expression = expression_with (λ note. [])
+
+-- a body as plain data, from its parts
+abbrev pub code : List ℕ → Option Entry → ℕ → Exp (Unit {0}) → Code
+code name entry variables e = record { name = name; entry = entry; variables = variables; expression = expression e }

@@ -2,10 +2,14 @@
 //! tail position; which programs are valid, and what a program does.
 #![tactic(auto)]
 
+mod body;
 mod mark;
 mod operation;
+mod program;
 mod tree;
 
+pub use body::{Body, Entry};
 pub use mark::MarkKind;
 pub use operation::{Application, Atom, Closure, Member, Operand, Operation, Source};
+pub use program::ControlProgram;
 pub use tree::Exp;

@@ -1,0 +1,183 @@
+-- What a body does: its instructions in their order, over the places of a frame.
+use Rattle.std.specs.Prelude.{ℕ, zero, suc, Bool, true, false, cond, nat_eq, List, [], ◌∷◌, length, Option, Some, None, slice_get}
+use Rattle.sch_word.specs.declared.place.Place.{Place}
+use Rattle.sch_word.specs.declared.place.Place.TheVariants.{Reg, Slot}
+use Rattle.sch_word.specs.Values.{Value, unspecified, is_true}
+use Rattle.sch_word.specs.Computation.{gives, in_store, procedures_from}
+use Rattle.sch_word.specs.Charges.{charge_each}
+use Rattle.sch_control.specs.declared.body.Entry.{Entry}
+use Rattle.sch_control.specs.declared.operation.Member.{Member}
+use Rattle.sch_control.specs.Operations.{operand_value, operate, and_value, member_bytes, members_made, with_procedures}
+use Rattle.sch_control.specs.Meaning.{World, Result, Callee, marked, with_value, on_outcome, on_ending, on_return, either, call_in}
+use Rattle.sch_frames.specs.declared.instruction.Instruction.{Instruction}
+use Rattle.sch_frames.specs.declared.instruction.Instruction.TheVariants.{Do, Store, Copy, Load, Pass, Fix, Call, Tail, Return, End, IfFalse, Jump, Label, Mark}
+
+-- What a place holds: a value; where the activation returns; or any word, which nobody may read.
+pub data Cell : Type 0 where
+  Is : Value → Cell
+  Link : Cell
+  Junk : Cell
+
+-- the accumulator, the places, and the slots of the frame that the next call opens
+pub record Frame : Type 0 where
+  pub accumulator : Cell
+  pub places : Place → Cell
+  pub outgoing : ℕ → Cell
+
+-- ## Places
+
+abbrev pub same_place : Place → Place → Bool
+same_place (Reg a) (Reg b) = nat_eq a b
+same_place (Slot a) (Slot b) = nat_eq a b
+same_place _ _ = false
+
+-- the register of the closure and of the return address
+abbrev pub closure_register : Place
+closure_register = Reg 14
+
+abbrev pub link_register : Place
+link_register = Reg 15
+
+-- where the operand with so many before it is handed over, if that is in a register: RBX, R8, R9, R10, RSI, RDI
+abbrev pub argument_register : ℕ → Option ℕ
+argument_register zero = Some 3
+argument_register (suc zero) = Some 8
+argument_register (suc (suc zero)) = Some 9
+argument_register (suc (suc (suc zero))) = Some 10
+argument_register (suc (suc (suc (suc zero)))) = Some 6
+argument_register (suc (suc (suc (suc (suc zero))))) = Some 7
+argument_register (suc (suc (suc (suc (suc (suc k)))))) = None
+
+-- the slot for an operand that is handed over in none
+abbrev pub argument_slot : ℕ → ℕ
+argument_slot (suc (suc (suc (suc (suc (suc k)))))) = k
+argument_slot k = zero
+
+-- ## What a place holds
+
+-- the value, if it is one
+abbrev pub value_in : Cell → Option Value
+value_in (Is v) = Some v
+value_in Link = None
+value_in Junk = None
+
+abbrev pub held : Frame → Place → Option Value
+held f p = value_in (f.places p)
+
+abbrev pub cell_of : Option Value → Cell
+cell_of None = Junk
+cell_of (Some v) = Is v
+
+abbrev pub set : (Place → Cell) → Place → Cell → Place → Cell
+set places p c q = cond (same_place q p) c (places q)
+
+abbrev pub with_place : Frame → Place → Cell → Frame
+with_place f p c = record f { places = set f.places p c }
+
+abbrev pub with_outgoing : Frame → ℕ → Value → Frame
+with_outgoing f k v = record f { outgoing = λ j. cond (nat_eq j k) (Is v) (f.outgoing j) }
+
+-- each member of a group has its value
+abbrev pub with_members : Frame → List (Member Place) → List Value → Frame
+with_members f (m ∷ members) (v ∷ vs) = with_members (with_place f m.at (Is v)) members vs
+with_members f _ _ = f
+
+-- ## Calls
+
+-- what the operand with so many before it is, by what holds the slots
+abbrev pub argument_in : (Place → Cell) → (slots : ℕ → Cell) → Option ℕ → ℕ → Option Value
+argument_in places slots (Some r) j = value_in (places (Reg r))
+argument_in places slots None j = value_in (slots j)
+
+abbrev pub argument : (Place → Cell) → (slots : ℕ → Cell) → ℕ → Option Value
+argument places slots k = argument_in places slots (argument_register k) (argument_slot k)
+
+-- so many operands from one on
+abbrev pub arguments : (Place → Cell) → (slots : ℕ → Cell) → (from count : ℕ) → Option (List Value)
+arguments places slots from zero = Some []
+arguments places slots from (suc count) = and_value (argument places slots from) (arguments places slots (suc from) count)
+
+-- the operator's value, and the operands'
+abbrev pub parts : (Place → Cell) → (slots : ℕ → Cell) → (count : ℕ) → Option (List Value)
+parts places slots count = and_value (value_in (places closure_register)) (arguments places slots 0 count)
+
+abbrev pub kept : (Place → Cell) → Place → Cell
+kept places (Reg r) = Junk
+kept places (Slot j) = places (Slot j)
+
+-- after a call: its value, what the slots held, and any words elsewhere
+abbrev pub after_call : Frame → Value → Frame
+after_call f v = record { accumulator = Is v; places = kept f.places; outgoing = λ k. Junk }
+
+-- goes on where the place holds where to return
+abbrev pub if_link : Cell → Result → Result
+if_link Link next = next
+if_link (Is v) next = None
+if_link Junk next = None
+
+-- ## Instructions
+
+-- what comes next: perhaps a label is sought
+abbrev pub More : Type 0
+More = Option ℕ → Frame → World → Result
+
+-- what is sought behind an instruction
+abbrev pub sought : ℕ → Instruction → Option ℕ
+sought l (Label m) = cond (nat_eq m l) None (Some l)
+sought l _ = Some l
+
+module _ (callee : Callee) (depth : ℕ) where
+  abbrev pub execute : Instruction → More → Frame → World → Result
+  execute (Do o) next f w = on_ending w.marks (operate (held f) o w.state) (λ v w. next None (record f { accumulator = Is v }) w)
+  execute (Store p) next f w = next None (with_place f p f.accumulator) w
+  execute (Copy to from) next f w = next None (with_place f to (f.places from)) w
+  execute (Load p o) next f w = with_value (operand_value (held f) w.state.store o) (λ v. next None (with_place f p (Is v)) w)
+  execute (Pass k o) next f w = with_value (operand_value (held f) w.state.store o) (λ v. next None (with_outgoing f k v) w)
+  execute (Fix members) next f w =
+      on_outcome w.marks (in_store (charge_each (member_bytes members)) w.state)
+      (λ _ w. let inner = with_members f members (procedures_from (length w.state.procedures) (length members)) in
+          with_value (with_procedures w.state (members_made (held inner) w.state members))
+          (λ s. next None inner (record { state = s; marks = w.marks })))
+  execute (Call spread count) next f w =
+      with_value (parts f.places f.outgoing count)
+      (λ vs. on_return (call_in callee spread false depth vs w) (λ v w. next None (after_call f v) w))
+  execute (Tail spread count) next f w =
+      if_link (f.places link_register)
+      (with_value (parts f.places (λ j. f.places (Slot j)) count) (λ vs. call_in callee spread true depth vs w))
+  execute Return next f w = if_link (f.places link_register) (with_value (value_in f.accumulator) (λ v. Some (gives v w)))
+  execute End next f w = Some (gives unspecified w)
+  execute (IfFalse l) next f w = with_value (value_in f.accumulator) (λ v. either (is_true v) (next None f w) (next (Some l) f w))
+  execute (Jump l) next f w = next (Some l) f w
+  execute (Label l) next f w = next None f w
+  execute (Mark m) next f w = next None f (marked m w)
+
+  -- an instruction is passed over while a label is sought, and done otherwise
+  abbrev pub execute_or_pass : Instruction → More → More
+  execute_or_pass i next (Some l) f w = next (sought l i) f w
+  execute_or_pass i next None f w = execute i next f w
+
+  -- A body that ends without a return, a tail call or the end of a form is wrong, and so is one that has no
+  -- such label behind a jump.
+  abbrev pub execute_each : List Instruction → More
+  execute_each [] seeking f w = None
+  execute_each (i ∷ instructions) seeking f w = execute_or_pass i (execute_each instructions) seeking f w
+
+-- ## Bodies
+
+-- what the places hold where a procedure is entered
+abbrev pub entry_places : Value → List Value → Place → Cell
+entry_places self vs (Reg r) =
+    cond (nat_eq r 15) Link
+    (cond (nat_eq r 14) (Is self)
+    (cond (nat_eq r 3) (cell_of (slice_get vs 0))
+    (cond (nat_eq r 8) (cell_of (slice_get vs 1))
+    (cond (nat_eq r 9) (cell_of (slice_get vs 2))
+    (cond (nat_eq r 10) (cell_of (slice_get vs 3))
+    (cond (nat_eq r 6) (cell_of (slice_get vs 4))
+    (cond (nat_eq r 7) (cell_of (slice_get vs 5)) Junk)))))))
+entry_places self vs (Slot j) = cell_of (slice_get vs (suc (suc (suc (suc (suc (suc j)))))))
+
+-- the frame in which a body begins
+abbrev pub beginning : Option Entry → Value → List Value → Frame
+beginning None self vs = record { accumulator = Junk; places = λ p. Junk; outgoing = λ k. Junk }
+beginning (Some e) self vs = record { accumulator = Junk; places = entry_places self vs; outgoing = λ k. Junk }

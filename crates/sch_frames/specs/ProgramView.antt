@@ -1,0 +1,7 @@
+-- The plain data of a program.
+use Rattle.sch_frames.specs.declared.program.FrameProgram.{FrameProgram}
+use Rattle.sch_frames.specs.SourceView.{source_of}
+use Rattle.sch_frames.specs.Tree.{Source}
+
+abbrev pub source : FrameProgram → Source
+source p = source_of p.symbols p.literals p.globals p.library p.bodies p.words

@@ -1,0 +1,40 @@
+use sch_control::{MarkKind, Member, Operand, Operation};
+use sch_word::{List, Place};
+
+/// An instruction of a body. There is one accumulator beside the places. The operator of a call stands in
+/// R14, its operands in RBX, R8, R9, R10, RSI and RDI, in this order, and behind these in slots: of the frame
+/// that the call opens, from its first slot on, or in a tail call of the frame itself. R15 holds where the
+/// activation returns.
+#[derive(Drop)]
+pub enum Instruction {
+    /// The operation's value into the accumulator.
+    Do(Operation<Place>),
+    /// What the accumulator holds into a place.
+    Store(Place),
+    /// What the second place holds into the first.
+    Copy(Place, Place),
+    /// The operand's value into a place.
+    Load(Place, Operand<Place>),
+    /// The operand's value into a slot of the frame that the next call opens.
+    Pass(u32, Operand<Place>),
+    /// A group of closures that know one another, each into its place.
+    Fix(List<Member<Place>>),
+    /// A call: whether its last operand is a list whose elements are operands, and how many operands it has.
+    /// Afterwards the accumulator holds the value, the slots hold what they held, and the registers nothing
+    /// that may be read.
+    Call(bool, u32),
+    /// The same as a tail call, which ends the body.
+    Tail(bool, u32),
+    /// Ends a procedure's body with what the accumulator holds.
+    Return,
+    /// Ends a top-level form.
+    End,
+    /// Goes on behind the label where the accumulator holds `#f`.
+    IfFalse(u32),
+    /// Goes on behind the label.
+    Jump(u32),
+    /// A place where jumps that stand before it go on.
+    Label(u32),
+    /// A mark of the instruction behind it.
+    Mark(MarkKind),
+}
