@@ -115,6 +115,7 @@ size_of (fix count ps) = 1 + count + procedures_size ps
 size_of (letrec site inits) = 1 + inits
 size_of (lambda p) = 1 + procedure_size p
 size_of (new_cells count) = 1 + count
+size_of (fix_closures count made) = 1 + count
 size_of _ = 1
 
 -- ## What is valid

@@ -1,0 +1,6 @@
+pub mod Tree
+pub mod View
+pub mod Measures
+pub mod Valid
+pub mod SourceView
+pub mod ProgramView
