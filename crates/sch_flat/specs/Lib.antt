@@ -4,3 +4,5 @@ pub mod Measures
 pub mod Valid
 pub mod SourceView
 pub mod ProgramView
+pub mod Meaning
+pub mod Run
