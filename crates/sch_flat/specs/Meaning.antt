@@ -7,7 +7,7 @@ use Rattle.sch_word.specs.Computation.{Computation, gives, spent, unreached, aft
 use Rattle.sch_word.specs.Charges.{charge, charge_each, procedure_bytes, cell_bytes, fit}
 use Rattle.sch_word.specs.PrimitiveRows.{primitive}
 use Rattle.sch_word.specs.Bindings.{Bindings, bound_to, value_or, value_of, with_variables}
-use Rattle.sch_flat.specs.Tree.{Variable, bound, free, Made, Tree, Trees, Body, constant, literal, variable, global, set_global, define, branch, sequence, bind, make_closure, fix_closures, call, operation, cell_get, cell_set, no_trees, and_tree}
+use Rattle.sch_flat.specs.Tree.{Variable, bound, free, Made, NewCell, Tree, Trees, Body, constant, literal, variable, global, set_global, define, branch, sequence, bind, make_closure, fix_closures, call, operation, cell_get, cell_set, no_trees, and_tree}
 use Rattle.sch_flat.specs.Tree as tree
 
 -- a procedure: the label of its body and the values of its fields
@@ -58,16 +58,16 @@ abbrev pub content : Environment → Option Variable → Option Value
 content environment None = None
 content environment (Some v) = Some (value_in environment v)
 
-abbrev pub contents : Environment → List (ℕ × Option Variable) → List (Option Value)
+abbrev pub contents : Environment → List NewCell → List (Option Value)
 contents environment [] = []
-contents environment (c ∷ cs) = content environment c.1 ∷ contents environment cs
+contents environment (c ∷ cs) = content environment c.content ∷ contents environment cs
 
 -- a group of cells bound to its variables
-abbrev pub with_cells : List (ℕ × Option Variable) → List ℕ → Bindings Value → Bindings Value
-with_cells (c ∷ cs) (n ∷ ns) variables = with_cells cs ns ((c.0, cell n) ∷ variables)
+abbrev pub with_cells : List NewCell → List ℕ → Bindings Value → Bindings Value
+with_cells (c ∷ cs) (n ∷ ns) variables = with_cells cs ns ((c.variable, cell n) ∷ variables)
 with_cells _ _ variables = variables
 
-abbrev pub and_cells : List (ℕ × Option Variable) → List ℕ → Environment → Environment
+abbrev pub and_cells : List NewCell → List ℕ → Environment → Environment
 and_cells cs ns environment = record { variables = with_cells cs ns environment.variables; fields = environment.fields }
 
 -- the charge of each of a list of cells
@@ -104,7 +104,7 @@ module _ (orders : Orders) (enter : Enter) where
         after (in_store (charge_each (closures_bytes ms)))
         (λ _. after (new_group (length ms) (λ vs. closures (and_values first vs environment) ms))
         (λ vs. evaluate e (and_values first vs environment) depth tail))
-    evaluate (call site f es spread) environment depth tail =
+    evaluate (call site spread f es) environment depth tail =
         after (all_values (orders site) (evaluate f environment depth false ∷ each es environment depth))
         (call_with enter spread tail depth)
     evaluate (operation site which es) environment depth tail =

@@ -45,7 +45,7 @@ shape (sequence es) = shapes.sequence (count es) (dropped es)
 shape (bind site first es e) = shapes.bind site (count es)
 shape (make_closure m) = shapes.make_closure (made_shape m)
 shape (fix_closures first ms e) = shapes.fix_closures (length ms) (made_shapes ms)
-shape (call site f es spread) = shapes.call site (count es) spread
+shape (call site spread f es) = shapes.call site (count es) spread
 shape (operation site which es) = shapes.operation site which (count es)
 shape (new_cells cs e) = shapes.new_cells (length cs)
 shape (cell_get v) = shapes.cell_get
@@ -67,7 +67,7 @@ module _ {A : Type 0} (nothing : A) (join : A → A → A) (here : Shape → A) 
     over (bind site first es e) = join (here (shape (bind site first es e))) (join (over_each es) (over e))
     over (make_closure m) = here (shape (make_closure m))
     over (fix_closures first ms e) = join (here (shape (fix_closures first ms e))) (over e)
-    over (call site f es spread) = join (here (shape (call site f es spread))) (join (over f) (over_each es))
+    over (call site spread f es) = join (here (shape (call site spread f es))) (join (over f) (over_each es))
     over (operation site which es) = join (here (shape (operation site which es))) (over_each es)
     over (new_cells cs e) = join (here (shape (new_cells cs e))) (over e)
     over (cell_get v) = here (shape (cell_get v))
@@ -137,7 +137,7 @@ abbrev mutual
   variables (bind site first es e) = count es + (variables_each es + variables e)
   variables (make_closure m) = 0
   variables (fix_closures first ms e) = length ms + variables e
-  variables (call site f es spread) = one_unless_simple f + (variables f + variables_operands es)
+  variables (call site spread f es) = one_unless_simple f + (variables f + variables_operands es)
   variables (operation site which es) = variables_operands es
   variables (new_cells cs e) = length cs + variables e
   variables (cell_get v) = 0

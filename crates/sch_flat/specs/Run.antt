@@ -1,11 +1,12 @@
 -- What is seen of a flat program's run.
-use Rattle.std.specs.Prelude.{ℕ, List, [], ◌∷◌, Option, Some, None, slice_get}
+use Rattle.std.specs.Prelude.{ℕ, List, [], ◌∷◌}
 use Rattle.sch_word.specs.declared.answer.Answer.{Answer}
 use Rattle.sch_word.specs.Values.{Value, unspecified}
 use Rattle.sch_word.specs.Computation.{Outcome, State, in_turn}
 use Rattle.sch_word.specs.Runs.{Runs, seen, starting_store, starting_state}
+use Rattle.sch_word.specs.Orders.{order_at}
 use Rattle.sch_flat.specs.Tree.{Source}
-use Rattle.sch_flat.specs.Meaning.{Closure, Environment, Orders, each, enter}
+use Rattle.sch_flat.specs.Meaning.{Closure, Environment, each, enter}
 
 -- the library's procedures, whose records have no fields
 abbrev pub library_closures : List ℕ → List Closure
@@ -15,13 +16,6 @@ library_closures (label ∷ labels) = record { label = label; fields = [] } ∷ 
 -- where a top-level form begins
 abbrev pub top_level : Environment
 top_level = record { variables = []; fields = [] }
-
-abbrev pub order_or_none : Option (List ℕ) → List ℕ
-order_or_none (Some order) = order
-order_or_none None = []
-
-abbrev pub order_at : List (List ℕ) → Orders
-order_at table site = order_or_none (slice_get table site)
 
 -- the outcome of the forms, in their order, each at the whole depth and in no tail context
 abbrev pub outcome : Source → List (List ℕ) → (heap depth : ℕ) → List Answer → (entries : ℕ) → Outcome (State Closure) Value

@@ -15,8 +15,13 @@ pub record Made : Type 0 where
   pub label : ℕ
   pub fields : List Variable
 
--- `first` is the number of the first variable that a node binds; the others follow it. `new_cells cs e`
--- binds variables to new cells, each of which holds the value of another variable or nothing.
+-- a new cell: the variable that has it, and the variable whose value it holds at first, or none
+pub record NewCell : Type 0 where
+  pub variable : ℕ
+  pub content : Option Variable
+
+-- `first` is the number of the first variable that a node binds; the others follow it. `new_cells` binds
+-- variables to new cells.
 mutual
   pub data Tree : Type 0 where
     constant : Const → Tree
@@ -30,9 +35,9 @@ mutual
     bind : (site first : ℕ) → Trees → Tree → Tree
     make_closure : Made → Tree
     fix_closures : (first : ℕ) → List Made → Tree → Tree
-    call : (site : ℕ) → Tree → Trees → (spread : Bool) → Tree
+    call : (site : ℕ) → (spread : Bool) → Tree → Trees → Tree
     operation : (site : ℕ) → Primitive → Trees → Tree
-    new_cells : List (ℕ × Option Variable) → Tree → Tree
+    new_cells : List NewCell → Tree → Tree
     cell_get : Variable → Tree
     cell_set : Variable → Tree → Tree
 

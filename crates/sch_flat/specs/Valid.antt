@@ -5,9 +5,9 @@ use Rattle.sch_word.specs.Literals.{count_literals}
 use Rattle.sch_word.specs.Runs.{statics_valid}
 use Rattle.sch_word.specs.NumberSets.{has}
 use Rattle.sch_word.specs.Bindings.{numbers, scope_with}
-use Rattle.sch_word.specs.Shape.{names_known, well_formed, fits, max_operands, max_variables, max_free_variables}
-use Rattle.sch_flat.specs.Tree.{Variable, bound, free, Made, Tree, Trees, Body, Source, constant, literal, variable, global, set_global, define, branch, sequence, bind, make_closure, fix_closures, call, operation, new_cells, cell_get, cell_set, no_trees, and_tree, count}
-use Rattle.sch_flat.specs.Measures.{over_source, variables, body_variables}
+use Rattle.sch_word.specs.Shape.{names_known, well_formed, fits, max_operands, max_variables, max_free_variables, sites_once}
+use Rattle.sch_flat.specs.Tree.{Variable, bound, free, Made, NewCell, Tree, Trees, Body, Source, constant, literal, variable, global, set_global, define, branch, sequence, bind, make_closure, fix_closures, call, operation, new_cells, cell_get, cell_set, no_trees, and_tree, count}
+use Rattle.sch_flat.specs.Measures.{over_source, sites_of, variables, body_variables}
 
 -- ## Variables
 
@@ -20,18 +20,18 @@ abbrev pub is_content : List ℕ → (fields : ℕ) → Option Variable → Bool
 is_content scope fields None = true
 is_content scope fields (Some v) = is_known scope fields v
 
-abbrev pub cells_scope : List (ℕ × Option Variable) → List ℕ → List ℕ
+abbrev pub cells_scope : List NewCell → List ℕ → List ℕ
 cells_scope [] scope = scope
-cells_scope (c ∷ cs) scope = cells_scope cs (c.0 ∷ scope)
+cells_scope (c ∷ cs) scope = cells_scope cs (c.variable ∷ scope)
 
 -- none of these variables is bound already
 abbrev pub all_new : List ℕ → List ℕ → Bool
 all_new [] scope = true
 all_new (x ∷ xs) scope = not (has x scope) && all_new xs (x ∷ scope)
 
-abbrev pub cell_variables : List (ℕ × Option Variable) → List ℕ
+abbrev pub cell_variables : List NewCell → List ℕ
 cell_variables [] = []
-cell_variables (c ∷ cs) = c.0 ∷ cell_variables cs
+cell_variables (c ∷ cs) = c.variable ∷ cell_variables cs
 
 -- a record has as many fields as its body asks for
 abbrev pub has_fields : Option Body → (fields : ℕ) → Bool
@@ -59,10 +59,10 @@ module _ (bodies : List Body) where
     scoped (fix_closures first ms e) scope fields =
         all_new (numbers first (length ms)) scope
         && (list_all (is_made (scope_with first (length ms) scope) fields) ms && scoped e (scope_with first (length ms) scope) fields)
-    scoped (call site f es spread) scope fields = scoped f scope fields && scoped_each es scope fields
+    scoped (call site spread f es) scope fields = scoped f scope fields && scoped_each es scope fields
     scoped (operation site which es) scope fields = scoped_each es scope fields
     scoped (new_cells cs e) scope fields =
-        list_all (λ c. is_content scope fields c.1) cs && (all_new (cell_variables cs) scope && scoped e (cells_scope cs scope) fields)
+        list_all (λ c. is_content scope fields c.content) cs && (all_new (cell_variables cs) scope && scoped e (cells_scope cs scope) fields)
     scoped (cell_get v) scope fields = is_known scope fields v
     scoped (cell_set v e) scope fields = is_known scope fields v && scoped e scope fields
 
@@ -99,8 +99,12 @@ is_formed p =
     && (over_source true (λ a b. a && b) (fits max_variables) p
     && (list_all body_fits p.bodies && forms_fit p.forms)))
 
+-- ## Sites and statics
+
+-- each site that is listed stands once, with the number of parts that is listed
+abbrev pub sited : Source → Bool
+sited p = sites_once p.sites (sites_of p)
+
 abbrev pub statics_known : Source → Bool
 statics_known p = statics_valid (length p.library) p.statics
 
-abbrev pub is_valid : Source → Bool
-is_valid p = is_closed p && (is_formed p && statics_known p)

@@ -4,6 +4,7 @@ use Rattle.sch_word.specs.StaticsView.{statics}
 use Rattle.sch_flat.specs.declared.tree.Variable.{Variable}
 use Rattle.sch_flat.specs.declared.tree.Variable.TheVariants as place
 use Rattle.sch_flat.specs.declared.tree.Made.{Made}
+use Rattle.sch_flat.specs.declared.tree.NewCell.{NewCell}
 use Rattle.sch_flat.specs.declared.tree.Body.{Body}
 use Rattle.sch_flat.specs.declared.tree.Exp.{Exp, Constant, Literal, Var, Global, SetGlobal', Define', If', Seq, Seq', Let', MakeClosure, FixClosures', Call', Prim', NewCells', CellGet, CellSet', Row_of-Exp, end_of-Exp, more_of-Exp}
 use Rattle.sch_flat.specs.Tree as plain
@@ -20,9 +21,8 @@ abbrev pub used_or_none : Option Variable → Option plain.Variable
 used_or_none None = None
 used_or_none (Some v) = Some (used v)
 
-abbrev pub cells : List (ℕ × Option Variable) → List (ℕ × Option plain.Variable)
-cells [] = []
-cells (c ∷ cs) = (c.0, used_or_none c.1) ∷ cells cs
+abbrev pub new_cell : NewCell → plain.NewCell
+new_cell c = record { variable = c.variable; content = used_or_none c.content }
 
 abbrev mutual
   pub tree : Exp → Tree
@@ -37,9 +37,9 @@ abbrev mutual
   tree (Let' site first s es p e) = bind site first (trees_of_row es) (tree e)
   tree (MakeClosure m) = make_closure (made m)
   tree (FixClosures' first ms p e) = fix_closures first (map made ms) (tree e)
-  tree (Call' site p f s es spread) = call site (tree f) (trees_of_row es) spread
+  tree (Call' site spread p f s es) = call site spread (tree f) (trees_of_row es)
   tree (Prim' site which s es) = operation site which (trees_of_row es)
-  tree (NewCells' cs p e) = new_cells (cells cs) (tree e)
+  tree (NewCells' cs p e) = new_cells (map new_cell cs) (tree e)
   tree (CellGet v) = cell_get (used v)
   tree (CellSet' v p e) = cell_set (used v) (tree e)
 

@@ -5,4 +5,4 @@ mod program;
 mod tree;
 
 pub use program::FlatProgram;
-pub use tree::{Body, Exp, Made, Variable};
+pub use tree::{Body, Exp, Made, NewCell, Variable};

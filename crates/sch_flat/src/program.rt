@@ -1,6 +1,6 @@
 ghost use Rattle.std.specs.Prelude.{IsTrue};
 ghost use Rattle.sch_flat.specs.SourceView.{source_of};
-ghost use Rattle.sch_flat.specs.Valid.{is_closed, is_formed, statics_known};
+ghost use Rattle.sch_flat.specs.Valid.{is_closed, is_formed, sited, statics_known};
 
 use crate::tree::{Body, Exp};
 use sch_word::{List, Statics};
@@ -22,6 +22,8 @@ pub struct FlatProgram {
     ghost closed: { IsTrue (is_closed (source_of statics library bodies forms sites)) },
     // The nodes name what there is and are well formed, and the limits hold.
     ghost formed: { IsTrue (is_formed (source_of statics library bodies forms sites)) },
+    // Each site that is listed stands once, with the number of parts that is listed.
+    ghost sited: { IsTrue (sited (source_of statics library bodies forms sites)) },
     // Symbols, literals and globals are few enough and name what there is.
     ghost ready: { IsTrue (statics_known (source_of statics library bodies forms sites)) },
 }

@@ -1,7 +1,7 @@
 use sch_word::{Bytes, Const, List, Prim};
 
 /// A variable that is used in a body.
-#[derive(Drop)]
+#[derive(Clone, Copy)]
 pub enum Variable {
     /// One that the body binds, by its number.
     Bound(u32),
@@ -20,8 +20,8 @@ pub struct Made {
 /// An expression of a body. No body has a free variable: what a procedure needs of the variables round it
 /// stands in the fields of its record.
 ///
-/// The first number of `Let`, `Call` and `Prim` is the site. The number of the first variable that a node
-/// binds comes before what the variables are bound to, and the others follow it.
+/// Where a node binds variables, `first` is the number of the first of them and the others follow it, and
+/// `site` is the place in the program whose operands or inits have an order of their own.
 #[cycle(flat)]
 #[derive(Drop)]
 pub enum Exp {
@@ -36,19 +36,44 @@ pub enum Exp {
     If(Box<Exp>, Box<Exp>, Box<Exp>),
     /// One expression after another, for the value of the last.
     Seq(List<Exp>),
-    Let(u32, u32, List<Exp>, Box<Exp>),
+    /// The inits, outside, and the body, in which each variable has its init's value.
+    Let {
+        site: u32,
+        first: u32,
+        inits: List<Exp>,
+        body: Box<Exp>,
+    },
     /// A new procedure.
     MakeClosure(Made),
-    /// New procedures, each bound to a variable that the fields of all of them may take, and the body.
-    FixClosures(u32, List<Made>, Box<Exp>),
-    /// The operator, the operands, and whether the last operand is a list of further ones.
-    Call(u32, Box<Exp>, List<Exp>, bool),
+    /// New procedures, each in a variable that the records of all of them may take, and the body.
+    FixClosures {
+        first: u32,
+        closures: List<Made>,
+        body: Box<Exp>,
+    },
+    /// Where `spread` is set, the last operand is a list of further operands.
+    Call {
+        site: u32,
+        spread: bool,
+        operator: Box<Exp>,
+        operands: List<Exp>,
+    },
     Prim(u32, Prim, List<Exp>),
-    /// Each variable is a new cell in the body, with the value of another variable or nothing in it.
-    NewCells(List<(u32, Option<Variable>)>, Box<Exp>),
+    /// New cells, each in a variable of its own, and the body.
+    NewCells(List<NewCell>, Box<Exp>),
     /// What the cell in a variable holds.
     CellGet(Variable),
+    /// A value that is put into the cell in a variable.
     CellSet(Variable, Box<Exp>),
+}
+
+/// A new cell.
+#[derive(Clone, Copy)]
+pub struct NewCell {
+    /// The variable that has the cell.
+    pub variable: u32,
+    /// The variable whose value the cell holds at first; with none it is unset.
+    pub content: Option<Variable>,
 }
 
 /// The body of a procedure of the text.
