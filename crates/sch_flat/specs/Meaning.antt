@@ -4,7 +4,9 @@ use Rattle.std.specs.Prelude.{ℕ, zero, suc, Bool, true, false, List, [], ◌�
 use Rattle.sch_word.specs.Values.{Value, unspecified, constant_value, is_true, cell}
 use Rattle.sch_word.specs.Computation as computation
 use Rattle.sch_word.specs.Computation.{Computation, gives, spent, unreached, after, either, in_store, all_values, in_turn, read_literal, read_global, write_global, read_cell, write_cell, new_cells, new_procedure, new_group, take_entry, call_with}
-use Rattle.sch_word.specs.Charges.{charge, charge_each, procedure_bytes, cell_bytes, fit}
+use Rattle.sch_word.specs.Charges.{charge, charge_each, procedure_bytes, fit}
+use Rattle.sch_word.specs.CellBytes.{cells_bytes}
+use Rattle.sch_word.specs.Orders.{Orders}
 use Rattle.sch_word.specs.PrimitiveRows.{primitive}
 use Rattle.sch_word.specs.Bindings.{Bindings, bound_to, value_or, value_of, with_variables}
 use Rattle.sch_flat.specs.Tree.{Variable, bound, free, Made, NewCell, Tree, Trees, Body, constant, literal, variable, global, set_global, define, branch, sequence, bind, make_closure, fix_closures, call, operation, cell_get, cell_set, no_trees, and_tree}
@@ -23,9 +25,6 @@ pub record Environment : Type 0 where
 
 abbrev pub Enter : Type 0
 Enter = computation.Enter Closure
-
-abbrev pub Orders : Type 0
-Orders = ℕ → List ℕ
 
 -- the value of a variable
 abbrev pub value_in : Environment → Variable → Value
@@ -70,11 +69,6 @@ with_cells _ _ variables = variables
 abbrev pub and_cells : List NewCell → List ℕ → Environment → Environment
 and_cells cs ns environment = record { variables = with_cells cs ns environment.variables; fields = environment.fields }
 
--- the charge of each of a list of cells
-abbrev pub cells_bytes : {A : Type 0} → List A → List ℕ
-cells_bytes [] = []
-cells_bytes (c ∷ cs) = cell_bytes ∷ cells_bytes cs
-
 -- the cell that a variable holds
 abbrev pub with_cell : {V : Type 0} → Value → (ℕ → Computation Closure V) → Computation Closure V
 with_cell (cell n) next = next n
@@ -110,7 +104,7 @@ module _ (orders : Orders) (enter : Enter) where
     evaluate (operation site which es) environment depth tail =
         after (all_values (orders site) (each es environment depth)) (λ vs. in_store (primitive which vs))
     evaluate (tree.new_cells cs e) environment depth tail =
-        after (in_store (charge_each (cells_bytes cs)))
+        after (in_store (charge_each (cells_bytes (length cs))))
         (λ _. after (new_cells (contents environment cs))
         (λ ns. evaluate e (and_cells cs ns environment) depth tail))
     evaluate (cell_get v) environment depth tail = with_cell (value_in environment v) read_cell
