@@ -1,0 +1,4 @@
+pub mod Sets
+pub mod Scopes
+pub mod Standing
+pub mod Same

@@ -58,7 +58,7 @@ abbrev mutual
 
   pub procedures_lambdas : Lambdas → ℕ
   procedures_lambdas no_lambdas = 0
-  procedures_lambdas (and_lambda name first formals rest e ls) = suc (procedures e) + procedures_lambdas ls
+  procedures_lambdas (and_lambda name first formals rest e ls) = suc (procedures e + procedures_lambdas ls)
 
 -- ## Flat trees
 
