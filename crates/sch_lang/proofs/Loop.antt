@@ -128,8 +128,8 @@ loop_goes_on n (suc e) few fits =
 
 -- ## A million rounds
 
-loop_valid : (n : ℕ) → is_valid (loop_of n) ≡ true
-loop_valid n = refl
+loop_valid : (n : ℕ) → is_fixnum (pos n) ≡ true → is_valid (loop_of n) ≡ true
+loop_valid n fits = ap (λ b. (((b && true) && true) && true) && true) fits
 
 million_rounds : plain_run (loop_of 1000000) 1 1000001 ≡ ends (codes "ok") 0 1000001 16
 million_rounds = loop_runs 1000000 0 refl

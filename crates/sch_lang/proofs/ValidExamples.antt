@@ -1,14 +1,14 @@
 -- Programs that are not valid, one for each reason, and tables that are no order tables.
 use Rattle.std.proofs.Common.{◌≡◌, refl, ℕ, zero, suc, [], ◌∷◌, List, pos, true, false, Some}
 use Rattle.std.specs.Prelude.{replicate}
-use Rattle.sch_word.specs.declared.constant.Const.TheVariants.{Symbol}
+use Rattle.sch_word.specs.declared.constant.Const.TheVariants.{Fixnum, Character, Nil, Symbol}
 use Rattle.sch_word.specs.declared.primitive.Primitive.TheVariants.{Car, Cons}
 use Rattle.sch_word.specs.Literals as literals
-use Rattle.sch_word.specs.Literals.{no_literals, and_literal}
+use Rattle.sch_word.specs.Literals.{Literal, no_literals, and_literal}
 use Rattle.sch_lang.specs.Tree.{Expression, Source, expressions, constant, literal, local, global, set_local, sequence, bind, fix, lambda, no_lambdas, and_lambda, branch}
 use Rattle.sch_lang.specs.Valid.{is_valid}
 use Rattle.sch_lang.specs.Run.{is_order_table}
-use Rattle.sch_lang.specs.Examples.{program, number, function, apply, one, two}
+use Rattle.sch_lang.specs.Examples.{program, number, minus, function, apply, one, two}
 
 -- a variable that nothing binds
 unbound : is_valid (program 0 [] (local 0 ∷ [])) ≡ false
@@ -44,6 +44,70 @@ unknown_procedure : is_valid (record {
   sites = [];
 }) ≡ false
 unknown_procedure = refl
+
+-- ## Constants, texts and names that there are not
+
+greatest_number : is_valid (program 0 [] (number (pos 1152921504606846975) ∷ [])) ≡ true
+greatest_number = refl
+
+number_too_great : is_valid (program 0 [] (number (pos 1152921504606846976) ∷ [])) ≡ false
+number_too_great = refl
+
+least_number : is_valid (program 0 [] (number (minus 1152921504606846976) ∷ [])) ≡ true
+least_number = refl
+
+number_too_small : is_valid (program 0 [] (number (minus 1152921504606846977) ∷ [])) ≡ false
+number_too_small = refl
+
+last_character : is_valid (program 0 [] (constant (Character 255) ∷ [])) ≡ true
+last_character = refl
+
+no_character : is_valid (program 0 [] (constant (Character 300) ∷ [])) ≡ false
+no_character = refl
+
+-- in the body of a library's procedure
+number_in_library : is_valid (record {
+  statics = record { symbols = []; literals = no_literals; globals = [] };
+  library = and_lambda [] 0 false (constant (Character 256)) no_lambdas;
+  forms = expressions [];
+  sites = [];
+}) ≡ false
+number_in_library = refl
+
+-- a program of these symbols and this literal, and nothing else
+abbrev ready : List (List ℕ) → Literal → Source
+ready symbols l = record {
+  statics = record { symbols = symbols; literals = and_literal l no_literals; globals = [] };
+  library = no_lambdas;
+  forms = expressions [];
+  sites = [];
+}
+
+bytes_of_text : is_valid (ready [] (literals.text (0 ∷ 255 ∷ []))) ≡ true
+bytes_of_text = refl
+
+no_byte_of_text : is_valid (ready [] (literals.text (0 ∷ 256 ∷ []))) ≡ false
+no_byte_of_text = refl
+
+no_byte_of_name : is_valid (ready ((255 ∷ []) ∷ (97 ∷ 256 ∷ []) ∷ []) (literals.text [])) ≡ false
+no_byte_of_name = refl
+
+-- a number inside a vector in a list
+no_number_of_literal : is_valid (ready [] (literals.list (and_literal (literals.elements (and_literal (literals.constant (Fixnum (pos 1152921504606846976))) no_literals)) no_literals) (literals.constant Nil))) ≡ false
+no_number_of_literal = refl
+
+-- a vector that holds a vector, and so on
+abbrev vectors_of : ℕ → Literal
+vectors_of zero = literals.constant Nil
+vectors_of (suc n) = literals.elements (and_literal (vectors_of n) no_literals)
+
+four_thousand_literal_levels : is_valid (ready [] (vectors_of 3999)) ≡ true
+four_thousand_literal_levels = refl
+
+more_literal_levels : is_valid (ready [] (vectors_of 4000)) ≡ false
+more_literal_levels = refl
+
+-- ## Parts
 
 empty_sequence : is_valid (program 0 [] (sequence (expressions []) ∷ [])) ≡ false
 empty_sequence = refl

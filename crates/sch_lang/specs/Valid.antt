@@ -1,9 +1,9 @@
 -- Which programs are valid.
 use Rattle.std.specs.Prelude.{ℕ, zero, suc, ◌+◌, Bool, true, ◌&&◌, ◌||◌, not, nat_lt, nat_le, [], length}
 use Rattle.sch_word.specs.Literals.{count_literals}
-use Rattle.sch_word.specs.Runs.{statics_valid}
+use Rattle.sch_word.specs.Runs.{statics_valid, statics_in_range}
 use Rattle.sch_word.specs.Shape as shapes
-use Rattle.sch_word.specs.Shape.{max_operands, max_levels, max_variables, max_free_variables, names_known, well_formed, fits, procedures_fit}
+use Rattle.sch_word.specs.Shape.{max_operands, max_levels, max_variables, max_free_variables, names_known, constant_in_range, well_formed, fits, procedures_fit}
 use Rattle.sch_lang.specs.Tree.{Expression, Expressions, Lambdas, constant, literal, local, global, set_local, set_global, define, branch, sequence, bind, fix, letrec, lambda, call, operation, no_expressions, and_expression, no_lambdas, and_lambda, count, count_lambdas, Source}
 use Rattle.sch_lang.specs.Variables.{assigns, assigns_lambdas}
 use Rattle.sch_lang.specs.Measures.{over_source, levels_each, levels_lambdas, variables, procedures, shape, sites_of}
@@ -47,6 +47,14 @@ in_range p =
     lambdas_in_scope p.library 0 && (each_in_scope p.forms 0
     && over_source true (λ a b. a && b)
     (named_here (length p.statics.symbols) (count_literals p.statics.literals) (length p.statics.globals)) p)
+
+-- ## Constants
+
+-- fixnums are in range, characters are bytes, and so are those of texts and of symbols' names; literals
+-- are not nested too deeply
+abbrev pub constants_in_range : Source → Bool
+constants_in_range p =
+    over_source true (λ a b. a && b) (λ e. constant_in_range (shape e)) p && statics_in_range p.statics
 
 -- ## Shape
 
@@ -103,4 +111,5 @@ abbrev pub statics_known : Source → Bool
 statics_known p = statics_valid (count_lambdas p.library) p.statics
 
 abbrev pub is_valid : Source → Bool
-is_valid p = in_range p && (shaped p && (within_limits p && (sites_once p && statics_known p)))
+is_valid p =
+    in_range p && (constants_in_range p && (shaped p && (within_limits p && (sites_once p && statics_known p))))

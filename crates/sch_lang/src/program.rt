@@ -1,6 +1,6 @@
 ghost use Rattle.std.specs.Prelude.{IsTrue};
 ghost use Rattle.sch_lang.specs.SourceView.{source_of};
-ghost use Rattle.sch_lang.specs.Valid.{in_range, shaped, within_limits, sites_once, statics_known};
+ghost use Rattle.sch_lang.specs.Valid.{constants_in_range, in_range, shaped, within_limits, sites_once, statics_known};
 
 use crate::tree::{Exp, Lambda};
 use sch_word::{Bytes, List, Lit};
@@ -19,6 +19,9 @@ pub struct Program {
     pub sites: List<u32>,
     // Every number of a variable, a symbol, a literal and a global is one that there is.
     ghost numbered: { IsTrue (in_range (source_of symbols literals globals library forms sites)) },
+    // Fixnums are in range, characters and the bytes of texts and names are bytes, and literals are not
+    // nested too deeply.
+    ghost words: { IsTrue (constants_in_range (source_of symbols literals globals library forms sites)) },
     // Each primitive has its count of operands, no sequence is empty, no variable of a Fix is assigned.
     ghost formed: { IsTrue (shaped (source_of symbols literals globals library forms sites)) },
     // The limits on nesting, operands, formals, bindings, variables and free variables hold.

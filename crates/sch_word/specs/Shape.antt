@@ -7,6 +7,7 @@ use Rattle.sch_word.specs.declared.constant.Const.{Const}
 use Rattle.sch_word.specs.declared.primitive.Primitive.{Primitive}
 use Rattle.sch_word.specs.Primitives.{operands_of}
 use Rattle.sch_word.specs.Literals.{constant_known}
+use Rattle.sch_word.specs.Values.{is_constant}
 use Rattle.sch_word.specs.Computation.{numbers_from}
 
 -- A procedure of the text: the name of its body in a listing, how many variables it binds, its rest
@@ -128,6 +129,11 @@ names_known symbols literals globals (global g) = nat_lt g globals
 names_known symbols literals globals (set_global g) = nat_lt g globals
 names_known symbols literals globals (define g) = nat_lt g globals
 names_known symbols literals globals _ = true
+
+-- the constant that a node is, is a word
+abbrev pub constant_in_range : Shape → Bool
+constant_in_range (constant c) = is_constant c
+constant_in_range _ = true
 
 -- a primitive has its count of operands, a sequence has a part, and a call that spreads its last operand
 -- has one
