@@ -4,12 +4,12 @@ use Rattle.std.proofs.lemmas.Bool.{cases_lt}
 use Rattle.std.proofs.lemmas.List.{append-nil}
 use Rattle.sch_word.specs.Memory.{Segment}
 use Rattle.sch_word.specs.Runs.{Run, End, ended}
+use Rattle.sch_word.specs.Orders.{in_text_order}
 use Rattle.sch_insn.specs.Machine.{State}
 use Rattle.sch_insn.specs.Step.{Progress, Runs, Exited, Stuck, mach}
 use Rattle.sch_insn.specs.Behaves.{Behaves, Ending, IsPrefix, output_of, exit_of, start}
 use Rattle.sch_insn.proofs.Growing.{IsOver, stays}
 use Rattle.sch_lang.specs.Tree as tree
-use Rattle.sch_lang.specs.Run.{in_text_order}
 use Rattle.sch_cli.specs.Builds.{Prints}
 use Rattle.sch_cli.specs.Headline.{Covers, Follows, Reaches, run_of}
 use Rattle.sch_cli.specs.Pieces.{puts}

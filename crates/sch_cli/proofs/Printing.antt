@@ -9,9 +9,10 @@ use Rattle.sch_word.specs.Values.{Value, constant_value, unspecified}
 use Rattle.sch_word.specs.Computation.{Outcome, State, gives, stops, spent, on_value, with_rest, in_turn}
 use Rattle.sch_word.specs.PrimitiveRows.{piece, wrote, put_piece}
 use Rattle.sch_word.specs.Runs.{ended, seen, starting_store}
+use Rattle.sch_word.specs.Orders.{Orders, order_at, is_order_table, in_text_order}
 use Rattle.sch_insn.specs.Behaves.{Ending}
-use Rattle.sch_lang.specs.Meaning.{Closure, Orders, Enter, each, enter}
-use Rattle.sch_lang.specs.Run.{order_at, outcome, is_order_table, in_text_order}
+use Rattle.sch_lang.specs.Meaning.{Closure, Enter, each, enter}
+use Rattle.sch_lang.specs.Run.{outcome}
 use Rattle.sch_lang.specs.Tree.{Source}
 use Rattle.sch_core.specs.Draft.{drafts}
 use Rattle.sch_core.specs.Forms.{firsts}

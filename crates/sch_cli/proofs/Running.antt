@@ -11,6 +11,7 @@ use Rattle.sch_word.specs.Runs.{End, ended, going}
 use Rattle.sch_word.specs.Runs.{seen as observed}
 use Rattle.sch_word.specs.Stops.{status_of}
 use Rattle.sch_word.specs.Values.{Value}
+use Rattle.sch_word.specs.Orders.{in_text_order}
 use Rattle.sch_elf.specs.declared.image.Image.{Image}
 use Rattle.sch_elf.specs.Layout.{memory}
 use Rattle.sch_io.specs.Counters.{Rose}
@@ -19,7 +20,7 @@ use Rattle.sch_insn.specs.Step.{Progress, Runs, Exited, Stuck, mach}
 use Rattle.sch_insn.specs.Behaves.{Ending, Given, IsPrefix, output_of, exit_of}
 use Rattle.sch_lang.specs.Tree as tree
 use Rattle.sch_lang.specs.Meaning.{Closure}
-use Rattle.sch_lang.specs.Run.{outcome, in_text_order}
+use Rattle.sch_lang.specs.Run.{outcome}
 use Rattle.sch_step.specs.Run.{TakesNothing}
 use Rattle.sch_cli.specs.Builds.{IsImageOf}
 use Rattle.sch_cli.specs.Executes.{Reaches, started, status_after, is_named}

@@ -3,6 +3,7 @@ use Rattle.std.proofs.Common.{◌≡◌, ℕ, List, [], ◌<◌, ◌≤◌, leng
 use Rattle.std.specs.Prelude.{IsSomeAnd}
 use Rattle.std.specs.FinMap.{get}
 use Rattle.std.proofs.lemmas.List.{append-nil}
+use Rattle.sch_word.specs.Orders.{in_text_order}
 use Rattle.sch_io.specs.Files.{Files, Replaces}
 use Rattle.sch_io.specs.Told.{Tells}
 use Rattle.sch_cli.specs.declared.refusal.Refusal.{Refusal}
@@ -10,7 +11,6 @@ use Rattle.sch_cli.specs.declared.refusal.Refusal.TheVariants as refusals
 use Rattle.sch_cli.specs.Builds.{IsFileOf}
 use Rattle.sch_cli.specs.Compiles.{Compiled, Source, HasStatus, IsSaid, IsVerdict, refused, built, done, not_read, not_written, refusal}
 use Rattle.sch_lang.specs.Tree as tree
-use Rattle.sch_lang.specs.Run.{in_text_order}
 use Rattle.sch_cli.specs.Headline.{IsProgram}
 use Rattle.sch_cli.specs.Messages.{Says, read_failed_line, write_failed_line}
 use Rattle.sch_cli.specs.Refusals.{IsRefused, Means, refused_line, refused_status, source_limit}

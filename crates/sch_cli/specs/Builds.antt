@@ -1,9 +1,9 @@
 -- What is built of a source.
 use Rattle.std.specs.Prelude.{◌≡◌, ℕ, List, None, IsTrue}
+use Rattle.sch_word.specs.Orders.{is_order_table, in_text_order}
 use Rattle.sch_elf.specs.Layout.{memory}
 use Rattle.sch_elf.specs.declared.image.Image.{Image}
 use Rattle.sch_insn.specs.Behaves.{Behaves}
-use Rattle.sch_lang.specs.Run.{is_order_table, in_text_order}
 use Rattle.sch_lang.specs.Tree as tree
 use Rattle.sch_word.specs.Runs.{ended}
 use Rattle.sch_word.specs.declared.answer.Answer.{Answer}

@@ -1,11 +1,11 @@
 -- What `compile` promises of the source and the file that it writes.
 use Rattle.std.specs.Prelude.{◌≡◌, ◌≢◌, ◌⊎◌, ◌<◌, ◌≤◌, ◌+◌, ◌^◌, ℕ, List, [], length, IsSomeAnd, Option, None}
 use Rattle.std.specs.FinMap.{get}
+use Rattle.sch_word.specs.Orders.{in_text_order}
 use Rattle.sch_io.specs.Files.{Files, Replaces, Spoils}
 use Rattle.sch_io.specs.Counters.{Rose}
 use Rattle.sch_io.specs.Told.{Tells}
 use Rattle.sch_lang.specs.Tree as tree
-use Rattle.sch_lang.specs.Run.{in_text_order}
 use Rattle.sch_cli.specs.declared.refusal.Refusal.{Refusal}
 use Rattle.sch_cli.specs.Headline.{IsProgram}
 use Rattle.sch_cli.specs.Messages.{read_failed_line, write_failed_line}

@@ -3,6 +3,7 @@ use Rattle.std.specs.Prelude.{◌≡◌, ◌≢◌, ℕ, List, Some, IsTrue}
 use Rattle.sch_word.specs.declared.answer.Answer.{Answer}
 use Rattle.sch_word.specs.Memory.{Segment}
 use Rattle.sch_word.specs.Runs.{Run, ended}
+use Rattle.sch_word.specs.Orders.{is_order_table}
 use Rattle.sch_insn.specs.declared.machine.StuckCause.{StuckCause}
 use Rattle.sch_insn.specs.Machine.{State}
 use Rattle.sch_insn.specs.Step.{Progress, Stuck, mach}
@@ -11,7 +12,7 @@ use Rattle.sch_elf.specs.declared.image.Image.{Image}
 use Rattle.sch_elf.specs.Layout.{memory}
 use Rattle.sch_elf.specs.Stands.{StandsFor}
 use Rattle.sch_lang.specs.Tree as tree
-use Rattle.sch_lang.specs.Run.{run, is_order_table}
+use Rattle.sch_lang.specs.Run.{run}
 
 -- the limits where none are given: the heap in bytes, and the depth
 abbrev pub default_heap : ℕ

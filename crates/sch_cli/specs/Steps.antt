@@ -2,6 +2,7 @@
 use Rattle.std.specs.Prelude.{◌≡◌, ◌≢◌, ◌≤◌, ◌<◌, ◌+◌, ◌^◌, ℕ, List, length, Option, Some, None}
 use Rattle.std.specs.FinMap.{get}
 use Rattle.sch_word.specs.declared.answer.Answer.{Answer}
+use Rattle.sch_word.specs.Orders.{in_text_order}
 use Rattle.sch_io.specs.Counters.{Rose}
 use Rattle.sch_io.specs.Files.{Files}
 use Rattle.sch_io.specs.Told.{Tells}
@@ -13,7 +14,6 @@ use Rattle.sch_elf.specs.Stands.{StandsFor}
 use Rattle.sch_elf.specs.Layout.{memory}
 use Rattle.sch_insn.specs.Behaves.{IsPrefix}
 use Rattle.sch_lang.specs.Tree as tree
-use Rattle.sch_lang.specs.Run.{in_text_order}
 use Rattle.sch_word.specs.Runs.{ended}
 use Rattle.sch_cli.specs.declared.refusal.Refusal.{Refusal}
 use Rattle.sch_cli.specs.Compiles.{Source}

@@ -1,4 +1,5 @@
 pub mod Empty
+pub mod Environments
 mod Examples
 mod Loop
 pub mod MoreEntries

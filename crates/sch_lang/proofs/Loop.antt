@@ -9,10 +9,11 @@ use Rattle.sch_word.specs.Values.{Value, fixnum, unspecified, object, procedure,
 use Rattle.sch_word.specs.Computation.{Outcome, State, gives, spent, on_value, in_turn}
 use Rattle.sch_word.specs.Runs.{seen}
 use Rattle.sch_word.proofs.Ahead.{more_than, more_than_is}
+use Rattle.sch_word.specs.Orders.{Orders, order_at, in_text_order}
 use Rattle.sch_lang.specs.Tree.{literal, local, global, branch}
-use Rattle.sch_lang.specs.Meaning.{Closure, Orders, evaluate, enter}
+use Rattle.sch_lang.specs.Meaning.{Closure, evaluate, enter}
 use Rattle.sch_lang.specs.Examples.{number, two, put, apply, plain_run, ends, goes_on, loop_of}
-use Rattle.sch_lang.specs.Run.{order_at, outcome, in_text_order}
+use Rattle.sch_lang.specs.Run.{outcome}
 use Rattle.sch_lang.specs.Valid.{is_valid}
 
 -- ## The loop's procedure, and the states that it runs in

@@ -10,11 +10,12 @@ use Rattle.sch_word.specs.Charges.{charge_each}
 use Rattle.sch_word.specs.Runs.{Run, End, ended, going, run_with, seen, starting_store, starting_state}
 use Rattle.sch_word.proofs.Steady.{Steady, steady_charge, steady_charge_each, steady_fit, steady_primitive, steady_read_global, steady_write_global, steady_read_literal}
 use Rattle.sch_word.proofs.Ahead.{more_than, more_than_is, Grows, grows_gives, grows_stops, grows_spent, grows_either, grows_in_store, grows_after, EachGrows, no_growth, and_growth, grows_all_values, grows_in_turn, grows_read_cell, grows_write_cell, grows_write_cells, grows_new_cells, grows_new_procedure, grows_new_fix, grows_take_entry, grows_call, ahead, AheadOutcome, Ahead, ahead_gives, ahead_stops, ahead_spent, ahead_either, ahead_after, ahead_in_store, EachAhead, no_ahead, and_ahead, ahead_all_values, ahead_in_turn, ahead_read_cell, ahead_write_cell, ahead_write_cells, ahead_new_cells, ahead_new_procedure, ahead_new_fix, ahead_take_entry, ahead_call}
+use Rattle.sch_word.specs.Orders.{Orders, order_at}
+use Rattle.sch_word.specs.CellBytes.{cells_bytes}
 use Rattle.sch_lang.specs.Tree.{Expression, Expressions, constant, literal, local, global, set_local, set_global, define, branch, sequence, bind, fix, letrec, lambda, call, operation, no_expressions, and_expression, count, count_lambdas, Source}
 use Rattle.sch_lang.specs.Variables.{cells_of}
-use Rattle.sch_word.specs.CellBytes.{cells_bytes}
-use Rattle.sch_lang.specs.Meaning.{Closure, Enter, Orders, with_cell, onto, closures, lambda_bytes, lambdas_bytes, evaluate, each, parts, enter}
-use Rattle.sch_lang.specs.Run.{order_at, outcome}
+use Rattle.sch_lang.specs.Meaning.{Closure, Enter, with_cell, onto, closures, lambda_bytes, lambdas_bytes, evaluate, each, parts, enter}
+use Rattle.sch_lang.specs.Run.{outcome}
 use Rattle.sch_lang.specs.Laws.{GoesFurther, MoreEntries}
 
 -- ## Growth

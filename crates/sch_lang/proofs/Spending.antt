@@ -11,11 +11,12 @@ use Rattle.sch_word.specs.Computation.{Outcome, gives, stops, spent, State, Acti
 use Rattle.sch_word.specs.Runs.{going, seen, starting_store, starting_state}
 use Rattle.sch_word.proofs.Steady.{OutcomeGrows, NeverSpent, Steady, steady_charge, steady_charge_each, steady_fit, steady_read_global, steady_write_global, steady_read_literal, steady_primitive}
 use Rattle.sch_word.proofs.Exhausted.{Exhausts, exhausts_checked_call}
+use Rattle.sch_word.specs.Orders.{Orders, order_at}
+use Rattle.sch_word.specs.CellBytes.{cells_bytes}
 use Rattle.sch_lang.specs.Tree.{Expression, Expressions, constant, literal, local, global, set_local, set_global, define, branch, sequence, bind, fix, letrec, lambda, call, operation, no_expressions, and_expression, count, count_lambdas, Source}
 use Rattle.sch_lang.specs.Variables.{cells_of}
-use Rattle.sch_word.specs.CellBytes.{cells_bytes}
-use Rattle.sch_lang.specs.Meaning.{Closure, Enter, Orders, with_cell, onto, closures, lambda_bytes, lambdas_bytes, evaluate, each, parts, enter}
-use Rattle.sch_lang.specs.Run.{order_at, outcome}
+use Rattle.sch_lang.specs.Meaning.{Closure, Enter, with_cell, onto, closures, lambda_bytes, lambdas_bytes, evaluate, each, parts, enter}
+use Rattle.sch_lang.specs.Run.{outcome}
 use Rattle.sch_lang.specs.Laws.{GoesOnWhenSpent}
 
 -- an outcome that leaves at most so many entries, and none where it is spent

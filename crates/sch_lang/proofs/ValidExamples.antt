@@ -5,9 +5,9 @@ use Rattle.sch_word.specs.declared.constant.Const.TheVariants.{Fixnum, Character
 use Rattle.sch_word.specs.declared.primitive.Primitive.TheVariants.{Car, Cons}
 use Rattle.sch_word.specs.Literals as literals
 use Rattle.sch_word.specs.Literals.{Literal, no_literals, and_literal}
+use Rattle.sch_word.specs.Orders.{is_order_table}
 use Rattle.sch_lang.specs.Tree.{Expression, Source, expressions, constant, literal, local, global, set_local, sequence, bind, fix, lambda, no_lambdas, and_lambda, branch}
 use Rattle.sch_lang.specs.Valid.{is_valid}
-use Rattle.sch_lang.specs.Run.{is_order_table}
 use Rattle.sch_lang.specs.Examples.{program, number, minus, function, apply, one, two}
 
 -- a variable that nothing binds

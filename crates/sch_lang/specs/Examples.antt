@@ -6,8 +6,9 @@ use Rattle.sch_word.specs.declared.primitive.Primitive.TheVariants.{Eq, Cons, Ca
 use Rattle.sch_word.specs.Literals.{Literals, text, list, elements, no_literals, and_literal}
 use Rattle.sch_word.specs.Literals as literals
 use Rattle.sch_word.specs.Runs.{Run, ended, going}
+use Rattle.sch_word.specs.Orders.{in_text_order}
 use Rattle.sch_lang.specs.Tree.{Expression, constant, literal, local, global, set_local, set_global, define, branch, sequence, bind, fix, letrec, lambda, call, operation, no_lambdas, and_lambda, expressions, Source}
-use Rattle.sch_lang.specs.Run.{run, in_text_order}
+use Rattle.sch_lang.specs.Run.{run}
 
 -- ## Ways to write a program
 

@@ -2,10 +2,10 @@
 use Rattle.std.specs.Prelude.{◌≡◌, ℕ, ◌+◌, ◌≤◌, ◌++◌, List, [], ◌∷◌}
 use Rattle.sch_word.specs.declared.answer.Answer.{Answer}
 use Rattle.sch_word.specs.Runs.{Run, ended, going}
+use Rattle.sch_word.specs.Orders.{Orders, order_at}
 use Rattle.sch_lang.specs.Tree.{Source}
 use Rattle.sch_lang.specs.Measures.{sites_of}
-use Rattle.sch_lang.specs.Meaning.{Orders}
-use Rattle.sch_lang.specs.Run.{order_at, run}
+use Rattle.sch_lang.specs.Run.{run}
 
 -- two orders are the same at each of these sites
 abbrev pub AgreeOn : Orders → Orders → List (ℕ × ℕ) → Type 0

@@ -1,11 +1,11 @@
 -- What an expression does (R5RS 4.1, 4.2.2, 4.2.3 and 7.2, over an explicit store).
-use Rattle.std.specs.Prelude.{ℕ, zero, suc, Bool, true, false, List, [], ◌∷◌, length, Option, Some, None, slice_get}
+use Rattle.std.specs.Prelude.{ℕ, zero, suc, Bool, true, false, List, [], ◌∷◌, ◌++◌, length, reverse, Option, Some, None, slice_get}
 use Rattle.sch_word.specs.Values.{Value, unspecified, constant_value, is_true}
 use Rattle.sch_word.specs.Computation as computation
 use Rattle.sch_word.specs.Computation.{Computation, gives, spent, unreached, after, either, in_store, all_values, in_turn, read_literal, read_global, write_global, read_cell, write_cell, write_cells, new_cells, some_each, unset_each, new_procedure, new_fix, take_entry, call_with}
-use Rattle.sch_word.specs.CellBytes.{cells_bytes}
 use Rattle.sch_word.specs.Charges.{charge, charge_each, procedure_bytes, fit}
-pub use Rattle.sch_word.specs.Orders.{Orders}
+use Rattle.sch_word.specs.CellBytes.{cells_bytes}
+use Rattle.sch_word.specs.Orders.{Orders}
 use Rattle.sch_word.specs.PrimitiveRows.{primitive}
 use Rattle.sch_lang.specs.Tree.{Expression, Expressions, Lambdas, constant, literal, local, global, set_local, set_global, define, branch, sequence, bind, fix, letrec, lambda, call, operation, no_expressions, and_expression, no_lambdas, and_lambda, count, count_lambdas}
 use Rattle.sch_lang.specs.Variables.{free, outside, cells_of}
@@ -25,10 +25,9 @@ abbrev pub with_cell : {V : Type 0} → Option ℕ → (ℕ → Computation Clos
 with_cell None next = unreached
 with_cell (Some c) next = next c
 
--- cells that were just made are the nearest, and the last of them first
+-- cells that were just made, of which the last is the nearest
 abbrev pub onto : List ℕ → List ℕ → List ℕ
-onto [] environment = environment
-onto (c ∷ cs) environment = onto cs (c ∷ environment)
+onto cs environment = reverse cs ++ environment
 
 -- the procedures of a group of lambdas in an environment
 abbrev pub closures : Lambdas → List ℕ → List Closure

@@ -1,6 +1,7 @@
 -- What is counted over a tree: any measure of its nodes, its levels, the variables of its bodies, and
 -- the measures of the shapes of nodes that all languages have.
-use Rattle.std.specs.Prelude.{ℕ, zero, suc, ◌+◌, max, Bool, true, false, ◌&&◌, not, List, [], ◌∷◌, ◌++◌, length, slice_get, Option, Some, None}
+use Rattle.std.specs.Prelude.{ℕ, zero, suc, ◌+◌, max, Bool, true, false, ◌&&◌, not, List, [], ◌∷◌, ◌++◌, map, length, slice_get, Option, Some, None}
+use Rattle.sch_word.specs.Orders.{counting}
 use Rattle.sch_lang.specs.Tree.{Expression, Expressions, Lambdas, constant, literal, local, global, set_local, set_global, define, branch, sequence, bind, fix, letrec, lambda, call, operation, no_expressions, and_expression, no_lambdas, and_lambda, count, count_lambdas, Source}
 use Rattle.sch_word.specs.Shape as shapes
 use Rattle.sch_word.specs.Shape.{Procedure, Shape, site_of, call_site_of, tests_in, dropped_in, procedures_size, size_of}
@@ -97,14 +98,9 @@ abbrev pub one_unless : Bool → ℕ
 one_unless true = 0
 one_unless false = 1
 
--- whether each variable of a tree from the j-th nearest on, so many, is not assigned, in front of others
-abbrev pub onto_unassigned : (j count : ℕ) → Expression → List Bool → List Bool
-onto_unassigned j zero e once = once
-onto_unassigned j (suc count) e once = not (assigns e j) ∷ onto_unassigned (suc j) count e once
-
 -- the nearest variables of a tree, so many, in front of the others, each with whether it counts once
 abbrev pub onto_assigned : ℕ → Expression → List Bool → List Bool
-onto_assigned bound e once = onto_unassigned 0 bound e once
+onto_assigned bound e once = map (λ j. not (assigns e j)) (counting 0 bound) ++ once
 
 -- so many variables that all count once, or none of which does
 abbrev pub onto_all : ℕ → Bool → List Bool → List Bool

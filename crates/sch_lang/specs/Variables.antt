@@ -1,7 +1,8 @@
 -- Which variables are free, and which are assigned.
-use Rattle.std.specs.Prelude.{ℕ, zero, suc, ◌+◌, Bool, true, false, ◌||◌, nat_eq, List, [], ◌∷◌}
+use Rattle.std.specs.Prelude.{ℕ, zero, suc, ◌+◌, Bool, false, ◌||◌, nat_eq, List, [], ◌∷◌, map}
+use Rattle.std.specs.List.{filter}
 use Rattle.sch_word.specs.NumberSets.{union}
-use Rattle.sch_word.specs.CellBytes.{where_assigned}
+use Rattle.sch_word.specs.Charges.{cell_bytes}
 use Rattle.sch_lang.specs.Tree.{Expression, Expressions, Lambdas, constant, literal, local, global, set_local, set_global, define, branch, sequence, bind, fix, letrec, lambda, call, operation, no_expressions, and_expression, no_lambdas, and_lambda, count, count_lambdas}
 
 -- variables as they are seen from outside a binding of one variable, and of so many
@@ -68,8 +69,11 @@ abbrev mutual
   assigns_lambdas no_lambdas j = false
   assigns_lambdas (and_lambda name formals rest e ls) j = assigns e (j + formals) || assigns_lambdas ls j
 
--- the charges for the cells of the nearest variables of a tree, so many, in the order of the text:
--- one for each that the tree assigns
-abbrev pub cells_of : ℕ → Expression → List ℕ
-cells_of zero e = []
-cells_of (suc bound) e = where_assigned (assigns e bound) (cells_of bound e)
+-- the nearest variables of a tree in the order of the text, so the nearest is the last
+abbrev pub nearest : (n : ℕ) → List ℕ
+nearest zero = []
+nearest (suc n) = n ∷ nearest n
+
+-- the charges for the cells of the nearest variables of a tree: one for each that the tree assigns
+abbrev pub cells_of : (n : ℕ) → Expression → List ℕ
+cells_of n e = map (λ _. cell_bytes) (filter (assigns e) (nearest n))

@@ -1,8 +1,8 @@
 -- Worked values of small definitions.
-use Rattle.std.proofs.Common.{◌≡◌, ℕ, true, false, List, [], ◌∷◌, ◌++◌, pos, negsuc, Some, None, refl}
+use Rattle.std.proofs.Common.{◌≡◌, ℕ, true, false, [], ◌∷◌, pos, negsuc, refl}
 use Rattle.sch_word.specs.declared.constant.Const.TheVariants.{Fixnum, Character, Nil}
 use Rattle.sch_word.specs.declared.stop.Stop.TheVariants.{NotProcedure, DepthLimit}
-use Rattle.sch_word.specs.Values.{fixnum, character, procedure, is_constant, are_bytes}
+use Rattle.sch_word.specs.Values.{fixnum, procedure, is_constant, are_bytes}
 use Rattle.sch_word.specs.Checked.{passes, refused, exhausted, unreachable}
 use Rattle.sch_word.specs.Handed.{handed}
 use Rattle.sch_word.specs.Computation.{callee, depth_left, entry_left}

@@ -2,6 +2,7 @@ pub mod Ahead
 mod Examples
 pub mod Exhausted
 pub mod Fixnums
+pub mod Lengths
 pub mod LiteralObjects
 pub mod LiteralRows
 mod PrimitiveExamples

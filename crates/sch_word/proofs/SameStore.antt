@@ -13,19 +13,20 @@ use Rattle.sch_word.specs.Handed.{handed}
 use Rattle.sch_word.specs.Computation.{Outcome, gives, stops, spent, State, Action, Computation, with_rest, in_store, on_value, after, require, set_or_stop, read_cell, write_cell, write_cells, new_procedure, new_group, new_fix, new_cells, numbers_from, procedures_from, known_procedure, callee, operands, depth_left, Entry, checked_call, call_with, entry_left, Enter}
 use Rattle.sch_word.specs.Charges.{new_list, fit}
 use Rattle.sch_word.specs.Runs.{seen, starting_state}
-use Rattle.sch_word.proofs.Similar.{Correspondence, Similar, SimilarOutcome, Same, BothChecked, both_pass, both_refused, both_exhausted, both_unreachable, both_self, both_on_passed, similar_gives, similar_checked, similar_after, similar_then}
+use Rattle.sch_word.proofs.Lengths.{numbers_length, procedures_length}
+use Rattle.sch_word.proofs.Similar.{Correspondence, Similar, SimilarOutcome, Same, BothChecked, both_pass, both_refused, both_exhausted, both_unreachable, both_self, both_on_passed, similar_gives, similar_checked, similar_keeping, similar_then}
 
 -- a promise on the value that an outcome over the store gives
 abbrev pub Gives : {V : Type 0} → (V → Type 0) → Outcome Store V → Type 0
 Gives Promise (gives v t) = Promise v
 Gives Promise _ = Unit {0}
 
-gives_on : {V W : Type 0} (Promise : W → Type 0) (a : Outcome Store V) (next : V → Action W) → ((v : V) (t : Store) → Gives Promise (next v t)) → Gives Promise (on_value a next)
+pub gives_on : {V W : Type 0} (Promise : W → Type 0) (a : Outcome Store V) (next : V → Action W) → ((v : V) (t : Store) → Gives Promise (next v t)) → Gives Promise (on_value a next)
 gives_on Promise (gives v t) next h = h v t
 gives_on Promise (stops why t) next h = tt
 gives_on Promise (spent t) next h = tt
 
-gives_require : {V : Type 0} (Promise : V → Type 0) (b : Bool) (why : Stop) (next : Action V) (t : Store) → (b ≡ true → Gives Promise (next t)) → Gives Promise (require b why next t)
+pub gives_require : {V : Type 0} (Promise : V → Type 0) (b : Bool) (why : Stop) (next : Action V) (t : Store) → (b ≡ true → Gives Promise (next t)) → Gives Promise (require b why next t)
 gives_require Promise true why next t h = h refl
 gives_require Promise false why next t h = tt
 
@@ -69,7 +70,7 @@ module _ {P Q : Type 0} (Becomes : P → Q → Type 0) where
     pub arguments : e.arguments ≡ f.arguments
     pub depth : e.depth ≡ f.depth
 
-  both_entry_left : (n : ℕ) {e : Entry P} {f : Entry Q} → SameEntry e f → BothChecked SameEntry (entry_left n e) (entry_left n f)
+  pub both_entry_left : (n : ℕ) {e : Entry P} {f : Entry Q} → SameEntry e f → BothChecked SameEntry (entry_left n e) (entry_left n f)
   both_entry_left zero h = both_exhausted
   both_entry_left (suc n) h = both_pass h
 
@@ -105,12 +106,12 @@ module _ {P Q : Type 0} (Becomes : P → Q → Type 0) where
   abbrev pub DoesSame : {V : Type 0} → Computation P V → Computation Q V → Type 0
   DoesSame c d = Similar same_store (Same same_store) tt c d
 
-  with_rest_keeps : {V : Type 0} (Promise : V → Type 0) (a : Outcome Store V) (cs : List (Option Value)) (ps : List P) (qs : List Q) → Gives Promise a → Pairs ps qs → SimilarOutcome same_store (λ _ v v'. (v ≡ v') × Promise v) tt (with_rest cs ps a) (with_rest cs qs a)
+  pub with_rest_keeps : {V : Type 0} (Promise : V → Type 0) (a : Outcome Store V) (cs : List (Option Value)) (ps : List P) (qs : List Q) → Gives Promise a → Pairs ps qs → SimilarOutcome same_store (λ _ v v'. (v ≡ v') × Promise v) tt (with_rest cs ps a) (with_rest cs qs a)
   with_rest_keeps Promise (gives v t) cs ps qs h p = (tt, _, v, tt, record { procedures = qs; pairs = p; is = refl }, (refl, h), refl)
   with_rest_keeps Promise (stops why t) cs ps qs h p = (tt, _, tt, record { procedures = qs; pairs = p; is = refl }, refl)
   with_rest_keeps Promise (spent t) cs ps qs h p = (tt, _, tt, record { procedures = qs; pairs = p; is = refl }, refl)
 
-  with_rest_same : {V : Type 0} (a : Outcome Store V) (cs : List (Option Value)) (ps : List P) (qs : List Q) → Pairs ps qs → SimilarOutcome same_store (Same same_store) tt (with_rest cs ps a) (with_rest cs qs a)
+  pub with_rest_same : {V : Type 0} (a : Outcome Store V) (cs : List (Option Value)) (ps : List P) (qs : List Q) → Pairs ps qs → SimilarOutcome same_store (Same same_store) tt (with_rest cs ps a) (with_rest cs qs a)
   with_rest_same (gives v t) cs ps qs p = (tt, _, v, tt, record { procedures = qs; pairs = p; is = refl }, refl, refl)
   with_rest_same (stops why t) cs ps qs p = (tt, _, tt, record { procedures = qs; pairs = p; is = refl }, refl)
   with_rest_same (spent t) cs ps qs p = (tt, _, tt, record { procedures = qs; pairs = p; is = refl }, refl)
@@ -122,7 +123,7 @@ module _ {P Q : Type 0} (Becomes : P → Q → Type 0) where
   pub keeps_in_store : {V : Type 0} (Promise : V → Type 0) (action : Action V) → ((t : Store) → Gives Promise (action t)) → Keeps (λ v v'. (v ≡ v') × Promise v) (in_store action) (in_store action)
   keeps_in_store Promise action h = record { from = λ w0 g s t r. rw r.is (with_rest_keeps Promise (action s.store) s.cells s.procedures r.procedures (h s.store) r.pairs) }
 
-  set_or_stop_same : (o : Option (Option Value)) (s : State P) (t : State Q) → Alike s t → SimilarOutcome same_store (Same same_store) tt (set_or_stop o s) (set_or_stop o t)
+  pub set_or_stop_same : (o : Option (Option Value)) (s : State P) (t : State Q) → Alike s t → SimilarOutcome same_store (Same same_store) tt (set_or_stop o s) (set_or_stop o t)
   set_or_stop_same None s t r = (tt, t, tt, r, refl)
   set_or_stop_same (Some None) s t r = (tt, t, tt, r, refl)
   set_or_stop_same (Some (Some v)) s t r = (tt, t, v, tt, r, refl, refl)
@@ -142,14 +143,6 @@ module _ {P Q : Type 0} (Becomes : P → Q → Type 0) where
   same_new_procedure {p} {q} h = record {
     from = λ w0 g s t r. rw (r.is, ← pairs_length r.pairs) (tt, _, _, tt, record { procedures = r.procedures ++ q ∷ []; pairs = pairs_append r.pairs (and_pair h no_pairs); is = refl }, refl, refl);
   }
-
-  procedures_length : (n m : ℕ) → length (procedures_from n m) ≡ m
-  procedures_length n zero = refl
-  procedures_length n (suc m) = ap suc (procedures_length (suc n) m)
-
-  numbers_length : {A : Type 0} (n : ℕ) (xs : List A) → length (numbers_from n xs) ≡ length xs
-  numbers_length n [] = refl
-  numbers_length n (x ∷ xs) = ap suc (numbers_length (suc n) xs)
 
   pub keeps_new_cells : (m : ℕ) (contents : List (Option Value)) → length contents ≡ m → Keeps (λ ns ns'. (ns ≡ ns') × (length ns ≡ m)) (new_cells contents) (new_cells contents)
   keeps_new_cells m contents long = record {
@@ -174,11 +167,11 @@ module _ {P Q : Type 0} (Becomes : P → Q → Type 0) where
 
   -- one after another, where both give the same value, with a promise on it
   pub same_keeping : {V W : Type 0} {Promise : V → Type 0} {c : Computation P V} {d : Computation Q V} {next : V → Computation P W} {next' : V → Computation Q W} → Keeps (λ v v'. (v ≡ v') × Promise v) c d → ((v : V) → Promise v → DoesSame (next v) (next' v)) → DoesSame (after c next) (after d next')
-  same_keeping {next' = next'} h k = similar_after same_store h (λ _ _ v v' p. rw (← p.0) (k v p.1))
+  same_keeping {Promise = Promise} h k = similar_keeping same_store Promise h (λ _ _ v kept. k v kept)
 
   -- a call, where entering related procedures does the same
   module _ (enter : Enter P) (enter' : Enter Q) (same_enter : (p : P) (q : Q) → Becomes p q → (vs : List Value) (depth : ℕ) → DoesSame (enter p vs depth) (enter' q vs depth)) where
-    same_entering : (e : Entry P) (f : Entry Q) → SameEntry e f → DoesSame (enter e.procedure e.arguments e.depth) (enter' f.procedure f.arguments f.depth)
+    pub same_entering : (e : Entry P) (f : Entry Q) → SameEntry e f → DoesSame (enter e.procedure e.arguments e.depth) (enter' f.procedure f.arguments f.depth)
     same_entering e f h = rw (← h.arguments, ← h.depth) (same_enter e.procedure f.procedure h.becomes e.arguments e.depth)
 
     pub same_call : (spread tail : Bool) (depth : ℕ) (vs : List Value) → DoesSame (call_with enter spread tail depth vs) (call_with enter' spread tail depth vs)

@@ -1,7 +1,7 @@
 -- How what is counted over a tree goes together with what is counted over another: a relation between
 -- counts, as equality, implication or a bound, that the joining of counts keeps. A pass that relates its
 -- answer's nodes to its argument's, one by one, has so related every count over the whole trees.
-use Rattle.std.proofs.Common.{◌≡◌, ℕ, ◌+◌, ◌≤◌, Bool, true, false, List, [], ◌++◌, refl, ap, ◌∙◌, arith}
+use Rattle.std.proofs.Common.{◌≡◌, ℕ, ◌+◌, ◌≤◌, Bool, true, false, refl, ◌∙◌, arith}
 use Rattle.std.specs.Prelude.{IsTrue, ◌&&◌}
 
 pub record Joins {A : Type 0} (Related : A → A → Type 0) (nothing : A) (join : A → A → A) : Type 0 where

@@ -5,6 +5,7 @@ use Rattle.std.specs.Prelude.{slice_get, slice_set}
 use Rattle.std.proofs.lemmas.List.{length-set}
 use Rattle.sch_word.specs.declared.stop.Stop.{Stop}
 use Rattle.sch_word.specs.Values.{Value, unspecified}
+use Rattle.sch_word.proofs.Lengths.{blanks_length}
 use Rattle.sch_word.specs.Checked.{Checked, passes, refused, exhausted, unreachable, on_passed}
 use Rattle.sch_word.specs.Computation.{Outcome, gives, stops, spent, on_value, after, either, require, unreached, checked, at_place, in_order, in_turn, blanks, all_values}
 
@@ -60,7 +61,7 @@ module _ {S S' : Type 0} (L : Correspondence S S') where
     no_similar : {w : L.World} → EachSimilar w [] []
     and_similar : {w : L.World} {c : S → Outcome S Value} {d : S' → Outcome S' Value} {cs : List (S → Outcome S Value)} {ds : List (S' → Outcome S' Value)} → Similar Same w c d → EachSimilar w cs ds → EachSimilar w (c ∷ cs) (d ∷ ds)
 
-  grown : {U U' : Type 0} (Promise' : L.World → U → U' → Type 0) {w w0 : L.World} (a : Outcome S U) (b : Outcome S' U') → L.Grows w w0 → SimilarOutcome Promise' w0 a b → SimilarOutcome Promise' w a b
+  pub grown : {U U' : Type 0} (Promise' : L.World → U → U' → Type 0) {w w0 : L.World} (a : Outcome S U) (b : Outcome S' U') → L.Grows w w0 → SimilarOutcome Promise' w0 a b → SimilarOutcome Promise' w a b
   grown Promise' {w = w} {w0 = w0} (gives v s) b g h = (h.0, h.1, h.2, L.on w w0 h.0 g h.3, h.4, h.5, h.6)
   grown Promise' {w = w} {w0 = w0} (stops why s) b g h = (h.0, h.1, L.on w w0 h.0 g h.2, h.3, h.4)
   grown Promise' {w = w} {w0 = w0} (spent s) b g h = (h.0, h.1, L.on w w0 h.0 g h.2, h.3, h.4)
@@ -97,7 +98,7 @@ module _ {S S' : Type 0} (L : Correspondence S S') where
     similar_require false why h = similar_stops why
 
     module _ {U U' : Type 0} {Promise' : L.World → U → U' → Type 0} where
-      similar_on : {w : L.World} (a : Outcome S V) (b : Outcome S' V') (next : V → S → Outcome S U) (next' : V' → S' → Outcome S' U') → SimilarOutcome Promise w a b → ((w1 : L.World) → L.Grows w w1 → (v : V) (v' : V') → Promise w1 v v' → Similar Promise' w1 (next v) (next' v')) → SimilarOutcome Promise' w (on_value a next) (on_value b next')
+      pub similar_on : {w : L.World} (a : Outcome S V) (b : Outcome S' V') (next : V → S → Outcome S U) (next' : V' → S' → Outcome S' U') → SimilarOutcome Promise w a b → ((w1 : L.World) → L.Grows w w1 → (v : V) (v' : V') → Promise w1 v v' → Similar Promise' w1 (next v) (next' v')) → SimilarOutcome Promise' w (on_value a next) (on_value b next')
       similar_on (gives v s) b next next' h k = rw h.6 (grown Promise' (next v s) (next' h.2 h.1) h.3 ((k h.0 h.3 v h.2 h.5).from h.0 (L.stays h.0) s h.1 h.4))
       similar_on (stops why s) b next next' h k = rw h.4 (h.0, h.1, h.2, h.3, refl)
       similar_on (spent s) b next next' h k = rw h.4 (h.0, h.1, h.2, h.3, refl)
@@ -110,32 +111,32 @@ module _ {S S' : Type 0} (L : Correspondence S S') where
   pub similar_then : {V U U' : Type 0} {Promise' : L.World → U → U' → Type 0} {w : L.World} {c : S → Outcome S V} {d : S' → Outcome S' V} {next : V → S → Outcome S U} {next' : V → S' → Outcome S' U'} → Similar Same w c d → ((w1 : L.World) → L.Grows w w1 → (v : V) → Similar Promise' w1 (next v) (next' v)) → Similar Promise' w (after c next) (after d next')
   similar_then {next' = next'} h k = similar_after h (λ w1 g v v' same. rw (← same) (k w1 g v))
 
+  -- one after another, where the values are the same and keep a promise of their own
+  pub similar_keeping : {V U U' : Type 0} (Keeps : V → Type 0) {Promise' : L.World → U → U' → Type 0} {w : L.World} {c : S → Outcome S V} {d : S' → Outcome S' V} {next : V → S → Outcome S U} {next' : V → S' → Outcome S' U'} → Similar (λ _ v v'. (v ≡ v') × Keeps v) w c d → ((w1 : L.World) → L.Grows w w1 → (v : V) → Keeps v → Similar Promise' w1 (next v) (next' v)) → Similar Promise' w (after c next) (after d next')
+  similar_keeping Keeps {next' = next'} h k = similar_after h (λ w1 g v v' kept. rw (← kept.0) (k w1 g v kept.1))
+
   pub each_later : {w : L.World} {cs : List (S → Outcome S Value)} {ds : List (S' → Outcome S' Value)} (w1 : L.World) → L.Grows w w1 → EachSimilar w cs ds → EachSimilar w1 cs ds
   each_later w1 g no_similar = no_similar
   each_later w1 g (and_similar h hs) = and_similar (similar_later w1 g h) (each_later w1 g hs)
 
-  at_place_similar : {w : L.World} {cs : List (S → Outcome S Value)} {ds : List (S' → Outcome S' Value)} (i : ℕ) → EachSimilar w cs ds → Similar Same w (at_place (slice_get cs i)) (at_place (slice_get ds i))
+  pub at_place_similar : {w : L.World} {cs : List (S → Outcome S Value)} {ds : List (S' → Outcome S' Value)} (i : ℕ) → EachSimilar w cs ds → Similar Same w (at_place (slice_get cs i)) (at_place (slice_get ds i))
   at_place_similar i no_similar = similar_gives unspecified unspecified (λ w0 g. refl)
   at_place_similar zero (and_similar h hs) = h
   at_place_similar (suc i) (and_similar h hs) = at_place_similar i hs
 
-  in_order_similar : (order : List ℕ) {w : L.World} {cs : List (S → Outcome S Value)} {ds : List (S' → Outcome S' Value)} (vs : List Value) (n : ℕ) → length vs ≡ n → EachSimilar w cs ds → Similar (SameOfLength n) w (in_order order cs vs) (in_order order ds vs)
+  pub in_order_similar : (order : List ℕ) {w : L.World} {cs : List (S → Outcome S Value)} {ds : List (S' → Outcome S' Value)} (vs : List Value) (n : ℕ) → length vs ≡ n → EachSimilar w cs ds → Similar (SameOfLength n) w (in_order order cs vs) (in_order order ds vs)
   in_order_similar [] vs n long h = similar_gives vs vs (λ w0 g. (refl, long))
   in_order_similar (i ∷ order) vs n long h = similar_then (at_place_similar i h) (λ w1 g v. in_order_similar order (slice_set vs i v) n (length-set vs i v ∙ long) (each_later w1 g h))
 
-  blanks_same : {w : L.World} {cs : List (S → Outcome S Value)} {ds : List (S' → Outcome S' Value)} → EachSimilar w cs ds → blanks cs ≡ blanks ds
+  pub blanks_same : {w : L.World} {cs : List (S → Outcome S Value)} {ds : List (S' → Outcome S' Value)} → EachSimilar w cs ds → blanks cs ≡ blanks ds
   blanks_same no_similar = refl
   blanks_same (and_similar h hs) = ap (λ l. unspecified ∷ l) (blanks_same hs)
-
-  blanks_length : (cs : List (S → Outcome S Value)) → length (blanks cs) ≡ length cs
-  blanks_length [] = refl
-  blanks_length (c ∷ cs) = ap suc (blanks_length cs)
 
   -- all operands, in one order
   pub similar_all_values : (order : List ℕ) {w : L.World} {cs : List (S → Outcome S Value)} {ds : List (S' → Outcome S' Value)} → EachSimilar w cs ds → Similar (SameOfLength (length cs)) w (all_values order cs) (all_values order ds)
   similar_all_values order {w} {cs} {ds} h = rw (← blanks_same h) (in_order_similar order (blanks cs) (length cs) (blanks_length cs) h)
 
-  in_turn_similar : {w0 : L.World} {cs : List (S → Outcome S Value)} {ds : List (S' → Outcome S' Value)} → EachSimilar w0 cs ds → (w : L.World) → L.Grows w0 w → (v : Value) → Similar Same w (in_turn cs v) (in_turn ds v)
+  pub in_turn_similar : {w0 : L.World} {cs : List (S → Outcome S Value)} {ds : List (S' → Outcome S' Value)} → EachSimilar w0 cs ds → (w : L.World) → L.Grows w0 w → (v : Value) → Similar Same w (in_turn cs v) (in_turn ds v)
   in_turn_similar no_similar w g v = similar_gives v v (λ w0 _. refl)
   in_turn_similar {w0} (and_similar h hs) w g v = similar_then (similar_later w g h) (λ w1 g1 v'. in_turn_similar hs w1 (L.on w0 w w1 g g1) v')
 

@@ -1,7 +1,7 @@
 -- Steady actions: the store only grows, how many entries are left is nothing to them, and they are
 -- never spent. Every primitive and every charge is one.
-use Rattle.std.proofs.Common.{◌≡◌, ℕ, zero, suc, ◌+◌, ◌≤◌, Bool, true, false, ℤ, pos, negsuc, List, [], ◌∷◌, ◌++◌, length, drop, Option, Some, None, refl, sym, ap, ◌∙◌, arith, append_assoc, length-append}
-use Rattle.std.specs.Prelude.{slice_get, slice_set, nat_eq, nat_le, ◌+ℤ◌, ◌-ℤ◌, ◌*ℤ◌, int_div, int_rem, int_lt, int_le, ◌&&◌}
+use Rattle.std.proofs.Common.{◌≡◌, ℕ, zero, suc, ◌+◌, ◌≤◌, Bool, true, false, ℤ, List, [], ◌∷◌, ◌++◌, length, drop, Option, Some, None, refl, sym, ap, ◌∙◌, arith, append_assoc, length-append}
+use Rattle.std.specs.Prelude.{slice_get, slice_set, slice_index, replicate, nat_eq, nat_le, ◌+ℤ◌, ◌-ℤ◌, ◌*ℤ◌, nat_abs, int_div, int_rem, int_lt, int_le, ◌&&◌}
 use Rattle.std.proofs.lemmas.List.{append-nil, length-set}
 use Rattle.sch_word.specs.declared.answer.Answer.{Answer}
 use Rattle.sch_word.specs.declared.answer.Answer.TheVariants.{Took, Failed}
@@ -15,8 +15,8 @@ use Rattle.sch_word.specs.Values.{Value, fixnum, character, boolean, nil, unspec
 use Rattle.sch_word.specs.Store.{Store}
 use Rattle.sch_word.specs.Growth.{GrowsTo}
 use Rattle.sch_word.specs.Computation.{Outcome, gives, stops, spent, Action, on_value, after, require, set_or_stop, read_global, write_global, known_value, read_literal}
-use Rattle.sch_word.specs.Charges.{charge, charge_each, new_object, charged_object, linked, list_value, new_list, fit}
-use Rattle.sch_word.specs.PrimitiveRows.{unary, binary, ternary, as_fixnum, as_character, known_name, as_symbol, object_at, pair_or_stop, vector_or_stop, string_or_stop, as_pair, as_vector, as_string, in_range, as_length, fixnum_or_stop, arithmetic, comparison, division, object_test, is_pair, is_vector, is_string, int_modulo, below, write_object, element, piece, put_piece, primitive}
+use Rattle.sch_word.specs.Charges.{string_bytes, vector_bytes, charge, charge_each, new_object, charged_object, linked, list_value, new_list, fit}
+use Rattle.sch_word.specs.PrimitiveRows.{unary, binary, ternary, as_fixnum, as_character, known_name, as_symbol, object_at, pair_or_stop, vector_or_stop, string_or_stop, as_pair, as_vector, as_string, in_range, as_length, fixnum_or_stop, arithmetic, comparison, division, object_test, is_pair, is_vector, is_string, int_modulo, is_natural, is_index, write_object, element, piece, put_piece, primitive}
 
 -- ## Growth
 
@@ -253,13 +253,11 @@ steady_as_vector v {next} h = steady_looking (object_at v) (λ o. vector_or_stop
 steady_as_string : (v : Value) {next : List ℕ → Action Value} → ((bytes : List ℕ) → Steady (next bytes)) → Steady (as_string v next)
 steady_as_string v {next} h = steady_looking (object_at v) (λ o. string_or_stop o next) (object_at_blind v) (steady_string_or_stop h)
 
-steady_in_range : (o : Option ℕ) {next : ℕ → Action Value} → ((k : ℕ) → Steady (next k)) → Steady (in_range o next)
-steady_in_range (Some k) h = h k
-steady_in_range None h = steady_stops _
+steady_in_range : (n : ℤ) (bound : ℕ) {next : ℕ → Action Value} → ((k : ℕ) → Steady (next k)) → Steady (in_range n bound next)
+steady_in_range n bound h = steady_require (is_index n bound) _ (h (nat_abs n))
 
 steady_as_length : (n : ℤ) {next : ℕ → Action Value} → ((k : ℕ) → Steady (next k)) → Steady (as_length n next)
-steady_as_length (pos k) h = h k
-steady_as_length (negsuc k) h = steady_stops _
+steady_as_length n h = steady_require (is_natural n) _ (h (nat_abs n))
 
 steady_fixnum_or_stop : (n : ℤ) → Steady (fixnum_or_stop n)
 steady_fixnum_or_stop n = steady_require (is_fixnum n) _ (steady_gives _)
@@ -374,15 +372,22 @@ steady_primitive Greater vs = steady_binary vs (steady_comparison (λ x y. int_l
 steady_primitive LessEqual vs = steady_binary vs (steady_comparison int_le)
 steady_primitive GreaterEqual vs = steady_binary vs (steady_comparison (λ x y. int_le y x))
 steady_primitive CharToInteger vs = steady_unary vs (λ c. steady_as_character c (λ byte. steady_gives _))
-steady_primitive IntegerToChar vs = steady_unary vs (λ n. steady_as_fixnum n (λ x. steady_in_range _ (λ k. steady_gives _)))
-steady_primitive MakeString vs = steady_binary vs (λ n c. steady_as_fixnum n (λ x. steady_as_character c (λ byte. steady_as_length x (λ k. steady_after (steady_charge _) (λ _. steady_new_object _)))))
+steady_primitive IntegerToChar vs = steady_unary vs (λ n. steady_as_fixnum n (λ x. steady_in_range x 256 (λ byte. steady_gives (character byte))))
+steady_primitive MakeString vs = steady_binary vs (λ n c. steady_as_fixnum n (λ x. steady_as_character c (λ byte. steady_as_length x
+    (λ k. steady_after (steady_charge (string_bytes k)) (λ _. steady_new_object (string (replicate k byte)))))))
 steady_primitive StringLength vs = steady_unary vs (λ s. steady_as_string s (λ bytes. steady_gives _))
-steady_primitive StringRef vs = steady_binary vs (λ s n. steady_as_string s (λ bytes. steady_as_fixnum n (λ x. steady_in_range _ (λ k. steady_gives _))))
-steady_primitive StringSet vs = steady_ternary vs (λ s n c. steady_as_string s (λ bytes. steady_as_fixnum n (λ x. steady_as_character c (λ byte. steady_in_range _ (λ k. steady_write_object s _)))))
-steady_primitive MakeVector vs = steady_binary vs (λ n v. steady_as_fixnum n (λ x. steady_as_length x (λ k. steady_after (steady_charge _) (λ _. steady_new_object _))))
+steady_primitive StringRef vs = steady_binary vs (λ s n. steady_as_string s (λ bytes. steady_as_fixnum n (λ x. steady_in_range x (length bytes)
+    (λ k. steady_gives (character (slice_index bytes k))))))
+steady_primitive StringSet vs = steady_ternary vs (λ s n c. steady_as_string s (λ bytes. steady_as_fixnum n (λ x. steady_as_character c (λ byte. steady_in_range x (length bytes)
+    (λ k. steady_write_object s (string (slice_set bytes k byte)))))))
+steady_primitive MakeVector vs = steady_binary vs (λ n v. steady_as_fixnum n (λ x. steady_as_length x
+    (λ k. steady_after (steady_charge (vector_bytes k)) (λ _. steady_new_object (vector (replicate k v))))))
 steady_primitive VectorLength vs = steady_unary vs (λ v. steady_as_vector v (λ elements. steady_gives _))
-steady_primitive VectorRef vs = steady_binary vs (λ v n. steady_as_vector v (λ elements. steady_as_fixnum n (λ x. steady_in_range (below x (length elements)) (λ k. steady_element (slice_get elements k)))))
-steady_primitive VectorSet vs = steady_ternary vs (λ v n w. steady_as_vector v (λ elements. steady_as_fixnum n (λ x. steady_in_range _ (λ k. steady_write_object v _))))
+steady_primitive VectorRef vs = steady_binary vs (λ v n. steady_as_vector v (λ elements. steady_as_fixnum n (λ x. steady_in_range x (length elements)
+    (λ k. steady_element (slice_get elements k)))))
+steady_primitive VectorSet vs = steady_ternary vs (λ v n w. steady_as_vector v (λ elements. steady_as_fixnum n (λ x. steady_in_range x (length elements)
+    (λ k. steady_write_object v (vector (slice_set elements k w))))))
 steady_primitive Put vs = steady_unary vs (λ v. steady_looking (piece v) put_piece (piece_blind v) steady_put_piece)
 steady_primitive SymbolLength vs = steady_unary vs (λ s. steady_as_symbol s (λ name. steady_gives _))
-steady_primitive SymbolRef vs = steady_binary vs (λ s n. steady_as_symbol s (λ name. steady_as_fixnum n (λ x. steady_in_range _ (λ k. steady_gives _))))
+steady_primitive SymbolRef vs = steady_binary vs (λ s n. steady_as_symbol s (λ name. steady_as_fixnum n (λ x. steady_in_range x (length name)
+    (λ k. steady_gives (character (slice_index name k))))))

@@ -1,6 +1,6 @@
 -- What each primitive does, a row for each, with its checks in their order: the types of its operands
 -- from left to right, then range, then a zero divisor, then overflow, then the heap (R5RS 6).
-use Rattle.std.specs.Prelude.{ℕ, zero, suc, Bool, true, false, ◌&&◌, not, nat_lt, nat_eq, ℤ, pos, negsuc, ◌+ℤ◌, ◌-ℤ◌, ◌*ℤ◌, int_le, int_lt, int_div, int_rem, List, [], ◌∷◌, ◌++◌, length, Option, Some, None, slice_get, slice_set, slice_index, replicate, codes}
+use Rattle.std.specs.Prelude.{ℕ, Bool, true, false, cond, ◌&&◌, ◌||◌, not, nat_eq, ℤ, pos, negsuc, nat_abs, ◌+ℤ◌, ◌-ℤ◌, ◌*ℤ◌, int_le, int_lt, int_div, int_rem, List, [], ◌∷◌, ◌++◌, length, Option, Some, None, slice_get, slice_set, slice_index, replicate, codes}
 use Rattle.std.specs.Fmt.{signed_decimal}
 use Rattle.sch_word.specs.declared.stop.Stop.TheVariants.{WrongType, OutOfRange, DivideByZero, Overflow, OutputFailed}
 use Rattle.sch_word.specs.declared.primitive.Primitive.{Primitive}
@@ -73,23 +73,20 @@ as_string v next t = string_or_stop (object_at v t) next t
 
 -- ## Ranges
 
--- a number that is not negative and below a bound
-abbrev pub below : ℤ → ℕ → Option ℕ
-below (pos n) bound = kept (nat_lt n bound) n
-  where
-    kept : Bool → ℕ → Option ℕ
-    kept true k = Some k
-    kept false k = None
-below (negsuc n) bound = None
+-- a number that is not negative, and one that is below a bound too
+abbrev pub is_natural : ℤ → Bool
+is_natural n = int_le (pos 0) n
 
-abbrev pub in_range : Option ℕ → (ℕ → Action Value) → Action Value
-in_range (Some n) next = next n
-in_range None next = stops OutOfRange
+abbrev pub is_index : ℤ → (bound : ℕ) → Bool
+is_index n bound = is_natural n && int_lt n (pos bound)
 
--- a length that is asked for: a number that is not negative
+-- an index below a bound; any other number is stop 66
+abbrev pub in_range : ℤ → (bound : ℕ) → (ℕ → Action Value) → Action Value
+in_range n bound next = require (is_index n bound) OutOfRange (next (nat_abs n))
+
+-- a length that is asked for
 abbrev pub as_length : ℤ → (ℕ → Action Value) → Action Value
-as_length (pos n) next = next n
-as_length (negsuc n) next = stops OutOfRange
+as_length n next = require (is_natural n) OutOfRange (next (nat_abs n))
 
 -- ## Answers
 
@@ -110,19 +107,14 @@ is_zero (negsuc n) = false
 abbrev pub division : (ℤ → ℤ → ℤ) → Value → Value → Action Value
 division f a b = as_fixnum a (λ x. as_fixnum b (λ y. require (not (is_zero y)) DivideByZero (fixnum_or_stop (f x y))))
 
--- the remainder, moved by the divisor where their signs differ (R5RS 6.2.5)
+-- whether one of two numbers is negative and the other positive
+abbrev pub signs_differ : ℤ → ℤ → Bool
+signs_differ x y = (int_lt x (pos 0) && int_lt (pos 0) y) || (int_lt (pos 0) x && int_lt y (pos 0))
+
+-- `modulo` has the sign of the divisor: where the remainder has the other sign, the divisor is added
+-- (R5RS 6.2.5)
 abbrev pub int_modulo : ℤ → ℤ → ℤ
-int_modulo x (pos d) = raised (int_rem x (pos d)) (pos d)
-  where
-    raised : ℤ → ℤ → ℤ
-    raised (pos r) y = pos r
-    raised (negsuc r) y = negsuc r +ℤ y
-int_modulo x (negsuc d) = lowered (int_rem x (negsuc d)) (negsuc d)
-  where
-    lowered : ℤ → ℤ → ℤ
-    lowered (pos zero) y = pos zero
-    lowered (pos (suc r)) y = pos (suc r) +ℤ y
-    lowered (negsuc r) y = negsuc r
+int_modulo x divisor = cond (signs_differ (int_rem x divisor) divisor) (int_rem x divisor +ℤ divisor) (int_rem x divisor)
 
 -- ## Types (R5RS 3.2)
 
@@ -235,22 +227,22 @@ primitive Greater vs = binary vs (comparison (λ x y. int_lt y x))
 primitive LessEqual vs = binary vs (comparison int_le)
 primitive GreaterEqual vs = binary vs (comparison (λ x y. int_le y x))
 primitive CharToInteger vs = unary vs (λ c. as_character c (λ byte. gives (fixnum (pos byte))))
-primitive IntegerToChar vs = unary vs (λ n. as_fixnum n (λ x. in_range (below x 256) (λ byte. gives (character byte))))
+primitive IntegerToChar vs = unary vs (λ n. as_fixnum n (λ x. in_range x 256 (λ byte. gives (character byte))))
 primitive MakeString vs = binary vs (λ n c. as_fixnum n (λ x. as_character c (λ byte. as_length x
     (λ k. after (charge (string_bytes k)) (λ _. new_object (string (replicate k byte)))))))
 primitive StringLength vs = unary vs (λ s. as_string s (λ bytes. gives (fixnum (pos (length bytes)))))
-primitive StringRef vs = binary vs (λ s n. as_string s (λ bytes. as_fixnum n (λ x. in_range (below x (length bytes))
+primitive StringRef vs = binary vs (λ s n. as_string s (λ bytes. as_fixnum n (λ x. in_range x (length bytes)
     (λ k. gives (character (slice_index bytes k))))))
-primitive StringSet vs = ternary vs (λ s n c. as_string s (λ bytes. as_fixnum n (λ x. as_character c (λ byte. in_range (below x (length bytes))
+primitive StringSet vs = ternary vs (λ s n c. as_string s (λ bytes. as_fixnum n (λ x. as_character c (λ byte. in_range x (length bytes)
     (λ k. write_object s (string (slice_set bytes k byte)))))))
 primitive MakeVector vs = binary vs (λ n v. as_fixnum n (λ x. as_length x
     (λ k. after (charge (vector_bytes k)) (λ _. new_object (vector (replicate k v))))))
 primitive VectorLength vs = unary vs (λ v. as_vector v (λ elements. gives (fixnum (pos (length elements)))))
-primitive VectorRef vs = binary vs (λ v n. as_vector v (λ elements. as_fixnum n (λ x. in_range (below x (length elements))
+primitive VectorRef vs = binary vs (λ v n. as_vector v (λ elements. as_fixnum n (λ x. in_range x (length elements)
     (λ k. element (slice_get elements k)))))
-primitive VectorSet vs = ternary vs (λ v n w. as_vector v (λ elements. as_fixnum n (λ x. in_range (below x (length elements))
+primitive VectorSet vs = ternary vs (λ v n w. as_vector v (λ elements. as_fixnum n (λ x. in_range x (length elements)
     (λ k. write_object v (vector (slice_set elements k w))))))
 primitive Put vs = unary vs (λ v t. put_piece (piece v t) t)
 primitive SymbolLength vs = unary vs (λ s. as_symbol s (λ name. gives (fixnum (pos (length name)))))
-primitive SymbolRef vs = binary vs (λ s n. as_symbol s (λ name. as_fixnum n (λ x. in_range (below x (length name))
+primitive SymbolRef vs = binary vs (λ s n. as_symbol s (λ name. as_fixnum n (λ x. in_range x (length name)
     (λ k. gives (character (slice_index name k))))))

@@ -6,6 +6,7 @@ use Rattle.sch_word.specs.Stops.{status_of}
 use Rattle.sch_word.specs.Values.{Value, procedure, are_bytes}
 use Rattle.sch_word.specs.Store.{Store}
 use Rattle.sch_word.specs.Computation.{Outcome, gives, stops, spent, State}
+use Rattle.sch_word.specs.Orders.{is_order_table}
 use Rattle.sch_word.specs.Literals.{Literals, literal_values, objects_of_each, literals_size, literals_known, literals_in_range, literals_levels}
 
 -- What stands ready when a program starts: the names of its symbols; its literals; and its globals,
@@ -82,6 +83,11 @@ Runs = (table : List (List ℕ)) → (heap depth : ℕ) → (answers : List Answ
 -- two programs, in whatever languages, of which nothing different is ever seen
 pub record SameRuns (a b : Runs) : Type 0 where
   pub same : (table : List (List ℕ)) (heap depth : ℕ) (answers : List Answer) (entries : ℕ) → a table heap depth answers entries ≡ b table heap depth answers entries
+
+-- the same under tables that have an order for each of these sites, as a pass needs that drops or
+-- computes what another order would show
+pub record SameOrderedRuns (sites : List ℕ) (a b : Runs) : Type 0 where
+  pub same : (table : List (List ℕ)) → is_order_table sites table ≡ true → (heap depth : ℕ) (answers : List Answer) (entries : ℕ) → a table heap depth answers entries ≡ b table heap depth answers entries
 
 -- ## Which statics are valid
 
