@@ -1,5 +1,5 @@
 -- The bodies of a program, and how many variables each may need in the languages to come.
-use Rattle.std.specs.Prelude.{ℕ, zero, suc, ◌+◌, Bool, true, false, not, List, [], ◌∷◌, ◌++◌, length, Option, Some, None}
+use Rattle.std.specs.Prelude.{ℕ, zero, suc, ◌+◌, Bool, true, false, not, List, [], ◌∷◌, ◌++◌, length, codes, Option, Some, None}
 use Rattle.sch_cells.specs.Tree.{Tree, Trees, Lambdas, Source, constant, literal, variable, global, set_variable, set_global, define, branch, sequence, bind, fix, letrec, lambda, call, operation, new_cells, cell_get, cell_set, no_trees, and_tree, no_lambdas, and_lambda, count, count_lambdas}
 use Rattle.sch_word.specs.Bindings.{Bindings, bound_to, with_variables, without}
 use Rattle.sch_word.specs.Shape.{Procedure}
@@ -110,9 +110,9 @@ abbrev pub procedures : Lambdas → List Procedure
 procedures no_lambdas = []
 procedures (and_lambda name first formals rest e ls) = procedure name first formals rest e ∷ procedures ls
 
--- the bytes of `form`, the name of a top-level form's body
+-- the name of a top-level form's body
 abbrev pub form_name : List ℕ
-form_name = 102 ∷ (111 ∷ (114 ∷ (109 ∷ [])))
+form_name = codes "form"
 
 abbrev pub form : Tree → Procedure
 form e = record { name = form_name; formals = 0; rest = false; free = 0; variables = variables e [] }

@@ -1,0 +1,9 @@
+pub mod AssignedKept
+pub mod BodiesKept
+pub mod FreeKept
+pub mod LevelsKept
+pub mod Numbers
+pub mod Same
+pub mod ScopeIs
+pub mod Scopes
+pub mod ShapesKept
