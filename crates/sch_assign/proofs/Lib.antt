@@ -1,0 +1,5 @@
+pub mod Worlds
+pub mod Boxes
+pub mod Lookups
+pub mod Keeps
+pub mod Moved
