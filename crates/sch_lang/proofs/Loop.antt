@@ -8,6 +8,7 @@ use Rattle.sch_word.specs.Fixnum.{is_fixnum}
 use Rattle.sch_word.specs.Values.{Value, fixnum, unspecified, object, procedure, string}
 use Rattle.sch_word.specs.Computation.{Outcome, State, gives, spent, on_value, in_turn}
 use Rattle.sch_word.specs.Runs.{seen}
+use Rattle.sch_word.proofs.Fixnums.{lesser_fixnum}
 use Rattle.sch_word.proofs.Ahead.{more_than, more_than_is}
 use Rattle.sch_word.specs.Orders.{Orders, order_at, in_text_order}
 use Rattle.sch_lang.specs.Tree.{literal, local, global, branch}
@@ -58,9 +59,6 @@ one_less k =
     let least : ltb (suc k) 1 ≡ false = false_from_ne_true (ltb (suc k) 1) (λ e. omega (arith, ltb-true (suc k) 1 e)) in
     ap (λ b. cond b (negsuc (1 - suc (suc k))) (pos (suc k - 1))) least ∙ ap pos (omega arith)
 
-lesser_fits : (k : ℕ) → is_fixnum (pos (suc k)) ≡ true → is_fixnum (pos k) ≡ true
-lesser_fits k fits = le-leb k 1152921504606846975 (omega (arith, leb-true (suc k) 1152921504606846975 fits))
-
 entered : (e : ℕ) (cells : List (Option Value)) (v : Value) (left : ℕ) → enter orders (suc e) loop (v ∷ []) 0 (looping cells [] (suc left)) ≡ evaluate orders (enter orders e) loop.body (length cells ∷ []) 0 true (looping (cells ++ (Some v ∷ [])) [] left)
 entered e cells v left = refl
 
@@ -83,7 +81,7 @@ record Finished (left : ℕ) (o : Outcome (State Closure) Value) : Type 0 where
 rounds : (k more : ℕ) (cells : List (Option Value)) → is_fixnum (pos k) ≡ true → Finished more (enter orders (suc (more_than k more)) loop (fixnum (pos k) ∷ []) 0 (looping cells [] (suc (more_than k more))))
 rounds zero more cells fits = record { cells = _; is = last_round more (length cells) (cells ++ (Some (fixnum (pos 0)) ∷ [])) more (last_cell cells (fixnum (pos 0))) }
 rounds (suc k) more cells fits =
-    let fewer : is_fixnum (pos k) ≡ true = lesser_fits k fits in
+    let fewer : is_fixnum (pos k) ≡ true = lesser_fixnum k (suc k) (omega arith) fits in
     let longer : List (Option Value) = cells ++ (Some (fixnum (pos (suc k))) ∷ []) in
     let rest : Finished more _ = rounds k more longer fewer in
     record { cells = rest.cells; is = other_round (suc (more_than k more)) (length cells) k longer (more_than k more) (last_cell cells (fixnum (pos (suc k)))) fewer ∙ rest.is }
@@ -114,9 +112,9 @@ spent_rounds : (e k : ℕ) (cells : List (Option Value)) → e ≤ k → is_fixn
 spent_rounds zero k cells few fits = record { cells = cells; is = refl }
 spent_rounds (suc e) zero cells few fits = absurd (omega (arith, few))
 spent_rounds (suc zero) (suc k) cells few fits =
-    record { cells = _; is = spent_round zero (length cells) k (cells ++ (Some (fixnum (pos (suc k))) ∷ [])) (last_cell cells (fixnum (pos (suc k)))) (lesser_fits k fits) }
+    record { cells = _; is = spent_round zero (length cells) k (cells ++ (Some (fixnum (pos (suc k))) ∷ [])) (last_cell cells (fixnum (pos (suc k)))) (lesser_fixnum k (suc k) (omega arith) fits) }
 spent_rounds (suc (suc e)) (suc k) cells few fits =
-    let fewer : is_fixnum (pos k) ≡ true = lesser_fits k fits in
+    let fewer : is_fixnum (pos k) ≡ true = lesser_fixnum k (suc k) (omega arith) fits in
     let longer : List (Option Value) = cells ++ (Some (fixnum (pos (suc k))) ∷ []) in
     let rest : Spent _ = spent_rounds (suc e) k longer (omega (arith, few)) fewer in
     record { cells = rest.cells; is = other_round (suc e) (length cells) k longer e (last_cell cells (fixnum (pos (suc k)))) fewer ∙ rest.is }

@@ -1,5 +1,7 @@
 -- Worked values of small definitions.
 use Rattle.std.proofs.Common.{◌≡◌, ℕ, true, false, [], ◌∷◌, pos, negsuc, refl}
+use Rattle.std.specs.Prelude.{◌+ℤ◌, ◌-ℤ◌}
+use Rattle.sch_word.specs.declared.fix.TheConstants.{FIXNUM_MIN, FIXNUM_MAX}
 use Rattle.sch_word.specs.declared.constant.Const.TheVariants.{Fixnum, Character, Nil}
 use Rattle.sch_word.specs.declared.stop.Stop.TheVariants.{NotProcedure, DepthLimit}
 use Rattle.sch_word.specs.Values.{fixnum, procedure, is_constant, are_bytes}
@@ -11,10 +13,10 @@ use Rattle.sch_word.specs.Literals.{constant, text, list, elements, literals, li
 -- ## Constants
 
 constants_are_words :
-    (is_constant (Fixnum (pos 1152921504606846975)) ≡ true)
-    × (is_constant (Fixnum (pos 1152921504606846976)) ≡ false)
-    × (is_constant (Fixnum (negsuc 1152921504606846975)) ≡ true)
-    × (is_constant (Fixnum (negsuc 1152921504606846976)) ≡ false)
+    (is_constant (Fixnum FIXNUM_MAX) ≡ true)
+    × (is_constant (Fixnum (FIXNUM_MAX +ℤ pos 1)) ≡ false)
+    × (is_constant (Fixnum FIXNUM_MIN) ≡ true)
+    × (is_constant (Fixnum (FIXNUM_MIN -ℤ pos 1)) ≡ false)
     × (is_constant (Character 255) ≡ true)
     × (is_constant (Character 256) ≡ false)
 constants_are_words = (refl, refl, refl, refl, refl, refl)

@@ -13,3 +13,4 @@ pub mod Similar
 pub mod Steady
 pub mod Walking
 pub mod StopStatus
+pub mod TagsApart

@@ -2,6 +2,7 @@
 use Rattle.std.proofs.Common.{◌≡◌, refl, true, false, [], ◌∷◌, ◌++◌, pos, negsuc}
 use Rattle.std.specs.Prelude.{codes, slice_set}
 use Rattle.std.specs.Fmt.{digits}
+use Rattle.sch_word.specs.declared.fix.TheConstants.{FIXNUM_MIN, FIXNUM_MAX}
 use Rattle.sch_word.specs.declared.primitive.Primitive.TheVariants.{Add, Car, Cdr, CharToInteger, Cons, Eq, Equal, Eqv, Greater, GreaterEqual, IntegerToChar, IsBoolean, IsChar, IsInteger, IsNull, IsPair, IsProcedure, IsString, IsSymbol, IsVector, Less, LessEqual, MakeString, MakeVector, Modulo, Multiply, Put, Quotient, Remainder, SetCar, SetCdr, StringLength, StringRef, StringSet, Subtract, SymbolLength, SymbolRef, VectorLength, VectorRef, VectorSet}
 use Rattle.sch_word.specs.declared.stop.Stop.TheVariants.{WrongType, OutOfRange, DivideByZero, Overflow, HeapLimit}
 use Rattle.sch_word.specs.Values.{fixnum, character, boolean, nil, unspecified, symbol, object, procedure, pair, vector, string}
@@ -98,15 +99,15 @@ set_car_type_row : primitive SetCar (object 1 ∷ fixnum (pos 1) ∷ []) store �
 unfolding digits
 set_car_type_row = refl
 
-add_row : primitive Add (fixnum (pos 1152921504606846975) ∷ fixnum (negsuc 1152921504606846975) ∷ []) store ≡ gives (fixnum (negsuc 0)) store
+add_row : primitive Add (fixnum FIXNUM_MAX ∷ fixnum FIXNUM_MIN ∷ []) store ≡ gives (fixnum (negsuc 0)) store
 unfolding digits
 add_row = refl
 
-add_over_row : primitive Add (fixnum (pos 1152921504606846975) ∷ fixnum (pos 1) ∷ []) store ≡ stops Overflow store
+add_over_row : primitive Add (fixnum FIXNUM_MAX ∷ fixnum (pos 1) ∷ []) store ≡ stops Overflow store
 unfolding digits
 add_over_row = refl
 
-subtract_under_row : primitive Subtract (fixnum (negsuc 1152921504606846975) ∷ fixnum (pos 1) ∷ []) store ≡ stops Overflow store
+subtract_under_row : primitive Subtract (fixnum FIXNUM_MIN ∷ fixnum (pos 1) ∷ []) store ≡ stops Overflow store
 unfolding digits
 subtract_under_row = refl
 
@@ -114,15 +115,15 @@ multiply_row : primitive Multiply (fixnum (negsuc 6) ∷ fixnum (pos 6) ∷ []) 
 unfolding digits
 multiply_row = refl
 
-multiply_least_row : primitive Multiply (fixnum (negsuc 1073741823) ∷ fixnum (pos 1073741824) ∷ []) store ≡ gives (fixnum (negsuc 1152921504606846975)) store
+multiply_least_row : primitive Multiply (fixnum FIXNUM_MIN ∷ fixnum (pos 1) ∷ []) store ≡ gives (fixnum FIXNUM_MIN) store
 unfolding digits
 multiply_least_row = refl
 
-multiply_over_row : primitive Multiply (fixnum (negsuc 1073741823) ∷ fixnum (negsuc 1073741823) ∷ []) store ≡ stops Overflow store
+multiply_over_row : primitive Multiply (fixnum FIXNUM_MIN ∷ fixnum (negsuc 0) ∷ []) store ≡ stops Overflow store
 unfolding digits
 multiply_over_row = refl
 
-multiply_fits_word_row : primitive Multiply (fixnum (pos 2147483648) ∷ fixnum (pos 2147483647) ∷ []) store ≡ stops Overflow store
+multiply_fits_word_row : primitive Multiply (fixnum FIXNUM_MAX ∷ fixnum (pos 2) ∷ []) store ≡ stops Overflow store
 unfolding digits
 multiply_fits_word_row = refl
 
@@ -214,11 +215,11 @@ modulo_6_m3_row : primitive Modulo (fixnum (pos 6) ∷ fixnum (negsuc 2) ∷ [])
 unfolding digits
 modulo_6_m3_row = refl
 
-quotient_over_row : primitive Quotient (fixnum (negsuc 1152921504606846975) ∷ fixnum (negsuc 0) ∷ []) store ≡ stops Overflow store
+quotient_over_row : primitive Quotient (fixnum FIXNUM_MIN ∷ fixnum (negsuc 0) ∷ []) store ≡ stops Overflow store
 unfolding digits
 quotient_over_row = refl
 
-remainder_least_row : primitive Remainder (fixnum (negsuc 1152921504606846975) ∷ fixnum (negsuc 0) ∷ []) store ≡ gives (fixnum (pos 0)) store
+remainder_least_row : primitive Remainder (fixnum FIXNUM_MIN ∷ fixnum (negsuc 0) ∷ []) store ≡ gives (fixnum (pos 0)) store
 unfolding digits
 remainder_least_row = refl
 
@@ -290,7 +291,7 @@ make_vector_negative_row : primitive MakeVector (fixnum (negsuc 0) ∷ nil ∷ [
 unfolding digits
 make_vector_negative_row = refl
 
-make_vector_heap_row : primitive MakeVector (fixnum (pos 1152921504606846975) ∷ nil ∷ []) store ≡ stops HeapLimit store
+make_vector_heap_row : primitive MakeVector (fixnum FIXNUM_MAX ∷ nil ∷ []) store ≡ stops HeapLimit store
 unfolding digits
 make_vector_heap_row = refl
 
@@ -394,9 +395,9 @@ put_number_row : primitive Put (fixnum (negsuc 41) ∷ []) store ≡ gives unspe
 unfolding digits
 put_number_row = refl
 
-put_least_row : primitive Put (fixnum (negsuc 1152921504606846975) ∷ []) store ≡ gives unspecified (record store { output = codes "-1152921504606846976" })
+put_negative_row : primitive Put (fixnum (negsuc 1073741823) ∷ []) store ≡ gives unspecified (record store { output = codes "-1073741824" })
 unfolding digits
-put_least_row = refl
+put_negative_row = refl
 
 put_zero_row : primitive Put (fixnum (pos 0) ∷ []) store ≡ gives unspecified (record store { output = codes "0" })
 unfolding digits
@@ -453,3 +454,27 @@ string_of_nine = refl
 
 vector_of_three : vector_bytes 3 ≡ 32
 vector_of_three = refl
+
+char_to_integer_type_row : primitive CharToInteger (fixnum (pos 97) ∷ []) store ≡ stops WrongType store
+unfolding digits
+char_to_integer_type_row = refl
+
+string_length_type_row : primitive StringLength (object 1 ∷ []) store ≡ stops WrongType store
+unfolding digits
+string_length_type_row = refl
+
+vector_length_type_row : primitive VectorLength (object 2 ∷ []) store ≡ stops WrongType store
+unfolding digits
+vector_length_type_row = refl
+
+vector_ref_type_row : primitive VectorRef (object 0 ∷ fixnum (pos 0) ∷ []) store ≡ stops WrongType store
+unfolding digits
+vector_ref_type_row = refl
+
+vector_set_index_row : primitive VectorSet (object 1 ∷ character 0 ∷ nil ∷ []) store ≡ stops WrongType store
+unfolding digits
+vector_set_index_row = refl
+
+vector_ref_negative_row : primitive VectorRef (object 1 ∷ fixnum (negsuc 0) ∷ []) store ≡ stops OutOfRange store
+unfolding digits
+vector_ref_negative_row = refl

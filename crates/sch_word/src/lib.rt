@@ -26,4 +26,4 @@ pub use place::Place;
 pub use primitive::{Prim, Primitive};
 pub use statics::Statics;
 pub use stop::Stop;
-pub use tag::{TAG_BITS, Tag};
+pub use tag::{FIXNUM_SHIFT, TAG_BITS, Tag};

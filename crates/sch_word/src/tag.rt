@@ -1,10 +1,16 @@
 ghost use Rattle.std.specs.Prelude.{◌≡◌};
 ghost use Rattle.sch_word.specs.Tags.{tag_bits};
 
-/// What the low three bits of a word say that it is, the project's own choice.
+/// How many low bits of a fixnum's word are 0; its number stands above them. The word of any other
+/// value has another low bit, so it is told from a fixnum by these bits alone.
+pub const FIXNUM_SHIFT: u32 = 3;
+
+/// How many low bits of a word that is no fixnum are its tag.
+pub const TAG_BITS: u32 = 3;
+
+/// What the tag of a word that is no fixnum says that it is, the project's own choice.
 #[derive(Clone, Copy, Debug, PartialEq, Eq)]
 pub enum Tag {
-    Fixnum,
     Pair,
     Vector,
     String,
@@ -15,16 +21,12 @@ pub enum Tag {
     Cell,
 }
 
-/// How many low bits of a word are its tag; a fixnum's number stands above them.
-pub const TAG_BITS: u32 = 3;
-
 impl Tag {
-    /// The bits of the tag, below 8.
+    /// The bits of the tag, below 2 to the power `TAG_BITS`.
     pub fn bits(self) -> u8
         ensures { result ≡ tag_bits self }
     {
         match self {
-            Tag::Fixnum => 0,
             Tag::Pair => 1,
             Tag::Vector => 2,
             Tag::String => 3,
