@@ -2,7 +2,7 @@
 use Rattle.std.proofs.Common.{◌≡◌, ℕ, zero, suc, ◌+◌, Bool, true, false, not, nat_lt, List, [], ◌∷◌, ◌++◌, map, length, slice_get, refl, ap, sym, ◌∙◌, arith}
 use Rattle.std.proofs.lemmas.Bool.{or_from}
 use Rattle.std.proofs.lemmas.Bool.Decides.{nat_tests}
-use Rattle.sch_word.specs.Orders.{counting}
+use Rattle.sch_word.specs.Bindings.{numbers}
 use Rattle.sch_lang.specs.Tree as tree
 use Rattle.sch_lang.specs.Tree.{Expression, Expressions}
 use Rattle.sch_lang.specs.Measures.{once_or_not, counts_nothing, one_unless, onto_assigned, onto_all, twice_if, bound_count, variables, variables_each, variables_operands, variables_parts}
@@ -44,7 +44,7 @@ reached (suc b) zero = sym (none_below b)
 reached (suc b) (suc k) = reached b k ∙ sym (both_more k b)
 
 abbrev nearest : Expression → List Bool → (j more : ℕ) → List Bool
-nearest e once j more = map (λ i. not (assigns e i)) (counting j more) ++ once
+nearest e once j more = map (λ i. not (assigns e i)) (numbers j more) ++ once
 
 nearest_once : (e : Expression) (once : List Bool) → ((j : ℕ) → assigns e j ≡ false) → (j more : ℕ) → nearest e once j more ≡ onto_all more true once
 nearest_once e once h j zero = refl

@@ -2,7 +2,7 @@
 -- entries, however many more there are, and goes on where there are no more than n.
 use Rattle.std.proofs.Common.{◌≡◌, ℕ, zero, suc, ◌+◌, ◌-◌, ◌≤◌, true, false, ◌&&◌, List, [], ◌∷◌, ◌++◌, length, Option, Some, pos, negsuc, refl, sym, ap, subst, ◌∙◌, cond, arith}
 use Rattle.std.specs.Prelude.{codes, slice_get, int_le, ◌-ℤ◌, ltb, leb}
-use Rattle.std.proofs.lemmas.Bool.{le-leb, leb-true, ltb-true, false_from_ne_true}
+use Rattle.std.proofs.lemmas.Bool.{leb-true, ltb-true, false_from_ne_true}
 use Rattle.sch_word.specs.declared.primitive.Primitive.TheVariants.{Subtract, Equal}
 use Rattle.sch_word.specs.Fixnum.{is_fixnum}
 use Rattle.sch_word.specs.Values.{Value, fixnum, unspecified, object, procedure, string}

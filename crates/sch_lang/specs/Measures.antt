@@ -1,7 +1,7 @@
 -- What is counted over a tree: any measure of its nodes, its levels, the variables of its bodies, and
 -- the measures of the shapes of nodes that all languages have.
 use Rattle.std.specs.Prelude.{ℕ, zero, suc, ◌+◌, max, Bool, true, false, ◌&&◌, not, List, [], ◌∷◌, ◌++◌, map, length, slice_get, Option, Some, None}
-use Rattle.sch_word.specs.Orders.{counting}
+use Rattle.sch_word.specs.Bindings.{numbers}
 use Rattle.sch_lang.specs.Tree.{Expression, Expressions, Lambdas, constant, literal, local, global, set_local, set_global, define, branch, sequence, bind, fix, letrec, lambda, call, operation, no_expressions, and_expression, no_lambdas, and_lambda, count, count_lambdas, Source}
 use Rattle.sch_word.specs.Shape as shapes
 use Rattle.sch_word.specs.Shape.{Procedure, Shape, site_of, call_site_of, tests_in, dropped_in, procedures_size, size_of}
@@ -100,7 +100,7 @@ one_unless false = 1
 
 -- the nearest variables of a tree, so many, in front of the others, each with whether it counts once
 abbrev pub onto_assigned : ℕ → Expression → List Bool → List Bool
-onto_assigned bound e once = map (λ j. not (assigns e j)) (counting 0 bound) ++ once
+onto_assigned bound e once = map (λ j. not (assigns e j)) (numbers 0 bound) ++ once
 
 -- so many variables that all count once, or none of which does
 abbrev pub onto_all : ℕ → Bool → List Bool → List Bool

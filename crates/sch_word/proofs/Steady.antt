@@ -61,7 +61,7 @@ outcome_on s t (spent u) g h = grows_on s t u g h
 
 -- ## Steady actions
 
--- the same store with so many entries left
+-- the same store with n entries left
 abbrev pub with_entries : ℕ → Store → Store
 with_entries n t = record t { entries = n }
 

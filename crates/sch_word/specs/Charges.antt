@@ -21,7 +21,7 @@ vector_bytes elements = rounded (8 + 8 * elements)
 abbrev pub string_bytes : ℕ → ℕ
 string_bytes characters = rounded (8 + characters)
 
--- a procedure with so many distinct free local variables
+-- a procedure, by the number of its distinct free local variables
 abbrev pub procedure_bytes : ℕ → ℕ
 procedure_bytes free = rounded (8 + 8 * free)
 

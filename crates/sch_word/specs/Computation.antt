@@ -135,7 +135,7 @@ abbrev pub write_cells : {P : Type 0} → List ℕ → List Value → Computatio
 write_cells (c ∷ cs) (v ∷ vs) = after (write_cell c v) (λ _. write_cells cs vs)
 write_cells _ _ = gives unspecified
 
--- as many numbers as a list is long, from n on
+-- numbers from n on, one for each element of a list
 abbrev pub numbers_from : {A : Type 0} → ℕ → List A → List ℕ
 numbers_from n [] = []
 numbers_from n (x ∷ xs) = n ∷ numbers_from (suc n) xs
@@ -149,7 +149,7 @@ abbrev pub some_each : List Value → List (Option Value)
 some_each [] = []
 some_each (v ∷ vs) = Some v ∷ some_each vs
 
--- so many cells that are unset
+-- n cells that are unset
 abbrev pub unset_each : ℕ → List (Option Value)
 unset_each zero = []
 unset_each (suc n) = None ∷ unset_each n
@@ -160,7 +160,7 @@ unset_each (suc n) = None ∷ unset_each n
 abbrev pub new_procedure : {P : Type 0} → P → Computation P Value
 new_procedure p s = gives (procedure (length s.procedures)) (record s { procedures = s.procedures ++ p ∷ [] })
 
--- so many procedures' numbers, from n on
+-- the numbers of some procedures, from n on
 abbrev pub procedures_from : ℕ → ℕ → List Value
 procedures_from n zero = []
 procedures_from n (suc count) = procedure n ∷ procedures_from (suc n) count

@@ -78,7 +78,7 @@ abbrev mutual
   literals_size no_literals = 0
   literals_size (and_literal l ls) = literal_size l + literals_size ls
 
--- whether the symbols of a constant and of literals are among so many
+-- whether the symbols of a constant and of literals are among n symbols
 abbrev pub constant_known : ℕ → Const → Bool
 constant_known symbols (Symbol n) = nat_lt n symbols
 constant_known symbols _ = true

@@ -1,6 +1,7 @@
 -- Order tables: in which order the parts of each site are evaluated (R5RS 4.1.3 and 4.2.2 leave it open).
-use Rattle.std.specs.Prelude.{ℕ, zero, suc, Bool, true, false, ◌&&◌, nat_eq, List, [], ◌∷◌, length, Option, Some, None, slice_get}
+use Rattle.std.specs.Prelude.{ℕ, Bool, true, false, ◌&&◌, nat_eq, List, [], ◌∷◌, length, Option, Some, None, slice_get}
 use Rattle.std.specs.List.{list_all, count_by}
+use Rattle.sch_word.specs.Bindings.{numbers}
 
 -- the order of the parts of each site
 abbrev pub Orders : Type 0
@@ -14,15 +15,10 @@ order_or_none None = []
 abbrev pub order_at : List (List ℕ) → Orders
 order_at table site = order_or_none (slice_get table site)
 
--- n numbers, one after the other
-abbrev pub counting : (from n : ℕ) → List ℕ
-counting from zero = []
-counting from (suc n) = from ∷ counting (suc from) n
-
 -- the numbers below the width, each once
 abbrev pub is_permutation : (width : ℕ) → List ℕ → Bool
 is_permutation width order =
-    nat_eq (length order) width && list_all (λ k. nat_eq (count_by (λ x. nat_eq x k) order) 1) (counting 0 width)
+    nat_eq (length order) width && list_all (λ k. nat_eq (count_by (λ x. nat_eq x k) order) 1) (numbers 0 width)
 
 -- one permutation for each site, whose widths these are
 abbrev pub is_order_table : (sites : List ℕ) → List (List ℕ) → Bool
@@ -33,4 +29,4 @@ is_order_table _ _ = false
 -- every site from left to right, as the text has its operands
 abbrev pub in_text_order : (sites : List ℕ) → List (List ℕ)
 in_text_order [] = []
-in_text_order (width ∷ sites) = counting 0 width ∷ in_text_order sites
+in_text_order (width ∷ sites) = numbers 0 width ∷ in_text_order sites

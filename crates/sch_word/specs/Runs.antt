@@ -76,7 +76,7 @@ abbrev pub seen : {P V : Type 0} → List Answer → (entries : ℕ) → Outcome
 seen = seen_in (λ s. s.store)
 
 -- what is seen of a program's runs: under an order table, with limits of heap and depth, against the
--- answers of a kernel, with at most so many procedure entries
+-- answers of a kernel, with at most n procedure entries
 abbrev pub Runs : Type 0
 Runs = (table : List (List ℕ)) → (heap depth : ℕ) → (answers : List Answer) → (entries : ℕ) → Run
 
@@ -106,21 +106,21 @@ library_known count (Some n ∷ gs) = nat_lt n count && library_known count gs
 
 -- How many nodes and bytes the statics of a program may have: four times what the items of a source
 -- weigh at most, which is 7 * 2 ^ 20.
-abbrev pub most_statics : ℕ
-most_statics = 29360128
+abbrev pub max_statics : ℕ
+max_statics = 29360128
 
 -- they are few enough, and name symbols and library procedures that there are
 abbrev pub statics_valid : (library : ℕ) → Statics → Bool
 statics_valid library p =
-    nat_le (statics_size p) most_statics
+    nat_le (statics_size p) max_statics
     && (literals_known (length p.symbols) p.literals && library_known library p.globals)
 
 -- the levels that the literals of a program nest at most
-abbrev pub most_literal_levels : ℕ
-most_literal_levels = 4000
+abbrev pub max_literal_levels : ℕ
+max_literal_levels = 4000
 
 -- names and texts are bytes, constants are words, and the literals are not nested too deeply
 abbrev pub statics_in_range : Statics → Bool
 statics_in_range p =
     list_all are_bytes p.symbols
-    && (literals_in_range p.literals && nat_le (literals_levels p.literals) most_literal_levels)
+    && (literals_in_range p.literals && nat_le (literals_levels p.literals) max_literal_levels)

@@ -1,6 +1,6 @@
 /// What a kernel, or a stream that stands for one, answers to one write: how many bytes it took, or
 /// that it failed.
-#[derive(Clone, Copy, Debug, PartialEq, Eq)]
+#[derive(Clone, Copy)]
 pub enum Answer {
     Took(usize),
     Failed,

@@ -1,5 +1,5 @@
-//! The words that every other crate shares: lists, the answers of a kernel, the named stops of a
-//! program, the error that means want of memory, fixnums, constants, primitives and limits.
+//! What every other crate shares: lists, the answers of a kernel, the named stops of a program, the
+//! error that means out of memory, fixnums, constants, primitives, limits, and what computations do.
 #![tactic(auto)]
 
 mod answer;

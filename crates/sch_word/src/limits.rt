@@ -15,7 +15,7 @@ pub const MAX_DEPTH: u64 = 10_000_000;
 
 /// What a run may use: bytes of heap, a multiple of 16, and depth, the number of calls that are
 /// pending and no tail calls.
-#[derive(Clone, Copy, Debug, PartialEq, Eq)]
+#[derive(Clone, Copy)]
 pub struct Limits {
     pub heap: u64,
     pub depth: u64,

@@ -88,7 +88,7 @@ impl<T> List<T> {
 }
 
 impl<T: Drop> List<T> {
-    /// Adds an element at the end. Want of memory leaves the list as it was.
+    /// Adds an element at the end. Where memory runs out the list stays as it was.
     pub fn push(&mut self, item: T) -> Result<(), Mem>
         ensures ok { OnOk result (self.new ≡ self.old ++ item ∷ []) }
         ensures err { OnErr result (self.new ≡ self.old) }
@@ -97,7 +97,7 @@ impl<T: Drop> List<T> {
         Ok(())
     }
 
-    /// Moves the elements of `more` to the end. Want of memory leaves the list as it was.
+    /// Moves the elements of `more` to the end. Where memory runs out the list stays as it was.
     pub fn append(&mut self, more: List<T>) -> Result<(), Mem>
         ensures ok { OnOk result (self.new ≡ self.old ++ more) }
         ensures err { OnErr result (self.new ≡ self.old) }
@@ -117,7 +117,7 @@ impl<T: Copy> List<T> {
         Ok(List { items })
     }
 
-    /// Adds copies of `more` at the end. Want of memory leaves the list as it was.
+    /// Adds copies of `more` at the end. Where memory runs out the list stays as it was.
     pub fn extend_from_slice(&mut self, more: &[T]) -> Result<(), Mem>
         ensures ok { OnOk result (self.new ≡ self.old ++ more.now) }
         ensures err { OnErr result (self.new ≡ self.old) }

@@ -17,7 +17,7 @@ pub enum Stop {
 }
 
 impl Stop {
-    /// The exit status that names the stop, from 65 to 74.
+    /// The exit status that names the stop.
     pub fn status(self) -> u8
         ensures { result ≡ status_of self }
     {
