@@ -1,4 +1,5 @@
--- In which order the parts of a site go and what is made is charged, which tests hold, what may be set.
+-- In which order the parts of a site go and what is made is charged; which tests hold; what may be set;
+-- whose variables are whose; and what a call looks at first.
 use Rattle.std.proofs.Common.{◌≡◌, ℕ, suc, refl, true, false, List, [], ◌∷◌, length, pos}
 use Rattle.std.specs.Prelude.{codes}
 use Rattle.std.specs.Fmt.{digits}
@@ -6,7 +7,7 @@ use Rattle.sch_word.specs.declared.constant.Const.TheVariants.{Nil, Unspecified}
 use Rattle.sch_word.specs.declared.primitive.Primitive.TheVariants.{Add, Cons}
 use Rattle.sch_lang.specs.Tree.{Expression, Lambdas, Source, expressions, constant, local, global, set_local, set_global, define, branch, sequence, bind, fix, letrec, lambda, operation, no_lambdas, and_lambda}
 use Rattle.sch_lang.specs.Run.{run}
-use Rattle.sch_lang.specs.Examples.{plain_run, heap_run, ends, program, number, boolean, function, apply, put, two}
+use Rattle.sch_lang.specs.Examples.{plain_run, heap_run, ends, program, call_of_number, number, boolean, function, apply, put, two}
 
 -- ## Orders
 
@@ -145,3 +146,37 @@ too_few_with_rest_runs = refl
 
 just_enough_with_rest_runs : plain_run (with_rest (number (pos 2) ∷ [])) 1 9 ≡ ends [] 0 1 16
 just_enough_with_rest_runs = refl
+
+-- ## Variables
+
+-- closures share the variables around them:
+-- (let ((n 0)) (let ((next (lambda () (set! n (+ n 1)))) (get (lambda () n))) (next) (%put (get))))
+abbrev shared : Source
+shared = program 0 (1 ∷ 2 ∷ 2 ∷ 1 ∷ 1 ∷ 1 ∷ [])
+    (bind 0 (expressions (number (pos 0) ∷ []))
+    (bind 1 (expressions (function 0 (set_local 0 (two 2 Add (local 0) (number (pos 1)))) ∷ function 0 (local 0) ∷ []))
+    (sequence (expressions (apply 3 (local 1) [] ∷ put 4 (apply 5 (local 0) []) ∷ [])))) ∷ [])
+
+shared_runs : plain_run shared 1 9 ≡ ends (codes "1") 0 2 48
+unfolding digits
+shared_runs = refl
+
+-- each call binds variables of its own:
+-- (define (f x) (lambda () x)) (define a (f 1)) (define b (f 2)) (%put (a)) (%put (b))
+abbrev own_variables : Source
+own_variables = program 3 (2 ∷ 2 ∷ 1 ∷ 1 ∷ 1 ∷ 1 ∷ [])
+    (define 0 (function 1 (function 0 (local 0)))
+    ∷ define 1 (apply 0 (global 0) (number (pos 1) ∷ []))
+    ∷ define 2 (apply 1 (global 0) (number (pos 2) ∷ []))
+    ∷ put 2 (apply 3 (global 1) [])
+    ∷ put 4 (apply 5 (global 2) []) ∷ [])
+
+own_variables_runs : plain_run own_variables 1 9 ≡ ends (codes "12") 0 4 48
+unfolding digits
+own_variables_runs = refl
+
+-- ## Checks of a call
+
+-- the operator is looked at before the depth and the entries that are left: (1 2)
+operator_first_runs : plain_run call_of_number 0 0 ≡ ends [] 67 0 0
+operator_first_runs = refl
