@@ -14,3 +14,4 @@ pub mod Steady
 pub mod Walking
 pub mod StopStatus
 pub mod TagsApart
+mod TypeRows
