@@ -6,6 +6,7 @@ pub mod MoreEntries
 mod OrderExamples
 pub mod OwnOrders
 pub mod Rows
+pub mod Scopes
 mod SizeExamples
 mod ValidExamples
 pub mod SitesInOrder

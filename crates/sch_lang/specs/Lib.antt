@@ -1,5 +1,6 @@
 pub mod Bodies
 pub mod Examples
+pub mod InScope
 pub mod Laws
 pub mod Meaning
 pub mod Measures
