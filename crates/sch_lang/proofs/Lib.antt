@@ -1,3 +1,4 @@
+mod BodyExamples
 pub mod Empty
 pub mod Environments
 mod Examples
