@@ -7,3 +7,4 @@ pub mod Same
 pub mod ScopeIs
 pub mod Scopes
 pub mod ShapesKept
+pub mod ValidKept

@@ -1,0 +1,174 @@
+-- A valid program with numbers is a valid cell program.
+use Rattle.std.proofs.Common.{◌≡◌, ℕ, zero, suc, ◌+◌, ◌≤◌, Bool, true, false, List, [], ◌∷◌, ◌++◌, length, Option, refl, sym, ap, ◌∙◌, subst, arith}
+use Rattle.std.specs.Prelude.{IsTrue, ◌&&◌, ◌||◌, not, nat_le}
+use Rattle.sch_word.specs.Bindings.{scope_with}
+use Rattle.sch_word.specs.Literals.{count_literals}
+use Rattle.sch_word.specs.Shape as shapes
+use Rattle.sch_word.specs.Shape.{Shape, names_known, well_formed, fits, procedures_fit, max_variables, max_levels}
+use Rattle.sch_word.proofs.Shaped.{Implies, implies_joins, same_implies, Holds, holds_joins, parts, both_true}
+use Rattle.sch_lang.specs.Tree.{Expression, Expressions, Lambdas, Source, constant, literal, local, global, set_local, set_global, define, branch, sequence, bind, fix, letrec, lambda, call, operation, no_expressions, and_expression, no_lambdas, and_lambda, count, count_lambdas}
+use Rattle.sch_lang.specs.Measures.{over, over_each, over_lambdas, shape, procedures, variables, program_size, node_size, levels_lambdas, levels_each}
+use Rattle.sch_lang.specs.Valid as valid
+use Rattle.sch_cells.specs.Tree as tree
+use Rattle.sch_cells.specs.Measures as to
+use Rattle.sch_cells.specs.Valid as to_valid
+use Rattle.sch_rename.specs.Made.{binds, binds_each, binds_lambdas, renamed, renamed_each, renamed_lambdas, renamed_source}
+use Rattle.sch_rename.specs.InScope.{InScope, EachInScope, LambdasInScope}
+use Rattle.sch_rename.proofs.Scopes.{Falls, falls_more, falls_with, inside}
+use Rattle.sch_rename.proofs.ScopeIs.{each_is, lambdas_are}
+use Rattle.sch_rename.proofs.FreeKept.{counts_lambdas}
+use Rattle.sch_rename.proofs.AssignedKept.{first_assigned, first_assigned_lambdas}
+use Rattle.sch_rename.proofs.BodiesKept.{procedures_kept, form_variables_kept}
+use Rattle.sch_rename.proofs.ShapesKept.{shape_kept, source_kept, measure_kept}
+use Rattle.sch_rename.proofs.LevelsKept.{each_levels, lambdas_levels}
+use Rattle.sch_rename.proofs.Numbers.{program_bound, numbers_distinct, numbers_below, each_closed, lambdas_closed}
+
+-- ## Nodes
+
+none_kept : (ls : Lambdas) (e : Expression) (x m : ℕ) (s : List ℕ) (y z : ℕ) → Falls (scope_with x m s) y → Falls (scope_with x m s) z → LambdasInScope ls (length s + m) → InScope e (length s + m) → to_valid.none_assigned x m (renamed_lambdas ls (scope_with x m s) y) (renamed e (scope_with x m s) z) ≡ valid.none_assigned m ls e
+none_kept ls e x zero s y z f g il i = refl
+none_kept ls e x (suc m) s y z f g il i =
+    let p : length s + suc m ≡ length (x ∷ s) + m = omega arith in
+    rw (first_assigned_lambdas ls x m s y f il, first_assigned e x m s z g i, none_kept ls e (suc x) m (x ∷ s) y z f g (subst (LambdasInScope ls) p il) (subst (InScope e) p i)) refl
+
+fix_node : (e : Expression) (s : List ℕ) (x : ℕ) → Falls s x → InScope e (length s) → Implies (valid.shaped_here e) (to_valid.fix_unassigned (renamed e s x))
+fix_node (fix ls e) s x f i h =
+    let m = count_lambdas ls in
+    let g = falls_with x m s f in
+    rw (counts_lambdas ls (scope_with x m s) (x + m), none_kept ls e x m s (x + m) (x + m + binds_lambdas ls) g (falls_more _ (x + m) _ (omega arith) g) i.0 i.1) h
+fix_node (constant c) s x f i h = refl
+fix_node (literal n) s x f i h = refl
+fix_node (local k) s x f i h = refl
+fix_node (global g) s x f i h = refl
+fix_node (set_local k e) s x f i h = refl
+fix_node (set_global g e) s x f i h = refl
+fix_node (define g e) s x f i h = refl
+fix_node (branch a b c) s x f i h = refl
+fix_node (sequence es) s x f i h = refl
+fix_node (bind site es e) s x f i h = refl
+fix_node (letrec site es e) s x f i h = refl
+fix_node (lambda name m rest e) s x f i h = refl
+fix_node (call site g es) s x f i h = refl
+fix_node (operation site which es) s x f i h = refl
+
+well_formed_node : (e : Expression) (s : List ℕ) (x : ℕ) → Falls s x → InScope e (length s) → Implies (valid.shaped_here e) (well_formed (to.shape (renamed e s x)))
+well_formed_node (fix ls e) s x f i h = refl
+well_formed_node (constant c) s x f i h = same_implies (ap well_formed (shape_kept (constant c) s x f i)) h
+well_formed_node (literal n) s x f i h = same_implies (ap well_formed (shape_kept (literal n) s x f i)) h
+well_formed_node (local k) s x f i h = same_implies (ap well_formed (shape_kept (local k) s x f i)) h
+well_formed_node (global g) s x f i h = same_implies (ap well_formed (shape_kept (global g) s x f i)) h
+well_formed_node (set_local k e) s x f i h = same_implies (ap well_formed (shape_kept (set_local k e) s x f i)) h
+well_formed_node (set_global g e) s x f i h = same_implies (ap well_formed (shape_kept (set_global g e) s x f i)) h
+well_formed_node (define g e) s x f i h = same_implies (ap well_formed (shape_kept (define g e) s x f i)) h
+well_formed_node (branch a b c) s x f i h = same_implies (ap well_formed (shape_kept (branch a b c) s x f i)) h
+well_formed_node (sequence es) s x f i h = same_implies (ap well_formed (shape_kept (sequence es) s x f i)) h
+well_formed_node (bind site es e) s x f i h = same_implies (ap well_formed (shape_kept (bind site es e) s x f i)) h
+well_formed_node (letrec site es e) s x f i h = same_implies (ap well_formed (shape_kept (letrec site es e) s x f i)) h
+well_formed_node (lambda name m rest e) s x f i h = same_implies (ap well_formed (shape_kept (lambda name m rest e) s x f i)) h
+well_formed_node (call site g es) s x f i h = same_implies (ap well_formed (shape_kept (call site g es) s x f i)) h
+well_formed_node (operation site which es) s x f i h = same_implies (ap well_formed (shape_kept (operation site which es) s x f i)) h
+
+form_node : (e : Expression) (s : List ℕ) (x : ℕ) → Falls s x → InScope e (length s) → Holds true (to_valid.has_form false (to.shape (renamed e s x)))
+form_node (constant c) s x f i = refl
+form_node (literal n) s x f i = refl
+form_node (local k) s x f i = refl
+form_node (global g) s x f i = refl
+form_node (set_local k e) s x f i = refl
+form_node (set_global g e) s x f i = refl
+form_node (define g e) s x f i = refl
+form_node (branch a b c) s x f i = refl
+form_node (sequence es) s x f i = refl
+form_node (bind site es e) s x f i = refl
+form_node (letrec site es e) s x f i = refl
+form_node (lambda name m rest e) s x f i = refl
+form_node (call site g es) s x f i = refl
+form_node (operation site which es) s x f i = refl
+form_node (fix ls e) s x f i = refl
+
+forms_fit_kept : (es : Expressions) (x : ℕ) → EachInScope es 0 → Implies (valid.forms_fit es) (to_valid.forms_fit (renamed_each es [] x))
+forms_fit_kept no_expressions x i h = refl
+forms_fit_kept (and_expression e es) x i h =
+    let p = parts (nat_le (variables e []) max_variables) (valid.forms_fit es) h in
+    both_true (rw (form_variables_kept e x i.0) p.0) (forms_fit_kept es (x + binds e) i.1 p.1)
+
+-- ## Programs
+
+module _ (p : Source) (in_range : IsTrue (valid.in_range p)) where
+  pub library_scoped : LambdasInScope p.library 0
+  library_scoped = lambdas_are p.library 0 (parts (valid.lambdas_in_scope p.library 0) _ in_range).0
+
+  pub forms_scoped : EachInScope p.forms 0
+  forms_scoped = each_is p.forms 0 (parts (valid.each_in_scope p.forms 0) _ (parts (valid.lambdas_in_scope p.library 0) _ in_range).1).0
+
+  pub scoped_kept : IsTrue (to_valid.scoped (renamed_source p))
+  scoped_kept =
+      both_true (rw (program_bound p) (both_true (numbers_distinct 0 (binds_lambdas p.library + binds_each p.forms)) (numbers_below 0 (binds_lambdas p.library + binds_each p.forms) (binds_lambdas p.library + binds_each p.forms) (omega arith))))
+      (both_true (lambdas_closed p.library [] 0 library_scoped) (each_closed p.forms [] _ forms_scoped))
+
+  names : IsTrue (to.every (λ e. names_known (length p.statics.symbols) (count_literals p.statics.literals) (length p.statics.globals) (to.shape e)) (renamed_source p))
+  names =
+      measure_kept true (λ a b. a && b) (names_known (length p.statics.symbols) (count_literals p.statics.literals) (length p.statics.globals)) p library_scoped forms_scoped
+      ∙ (parts (valid.each_in_scope p.forms 0) _ (parts (valid.lambdas_in_scope p.library 0) _ in_range).1).1
+
+  pub formed_kept : IsTrue (valid.shaped p) → IsTrue (to_valid.formed false (renamed_source p))
+  formed_kept h =
+      both_true (both_true (source_kept holds_joins (λ _. true) (λ e. to_valid.has_form false (to.shape e)) form_node p library_scoped forms_scoped) names)
+      (both_true (source_kept implies_joins valid.shaped_here (λ e. well_formed (to.shape e)) well_formed_node p library_scoped forms_scoped h)
+      (source_kept implies_joins valid.shaped_here to_valid.fix_unassigned fix_node p library_scoped forms_scoped h))
+
+  pub limited_kept : IsTrue (valid.within_limits p) → IsTrue (to_valid.within_limits false (renamed_source p))
+  limited_kept h =
+      let l = parts (nat_le (levels_lambdas p.library) max_levels && nat_le (levels_each p.forms) max_levels) _ h in
+      let n = parts (nat_le (levels_lambdas p.library) max_levels) (nat_le (levels_each p.forms) max_levels) l.0 in
+      let b = parts (valid.lambdas_fit p.library && valid.forms_fit p.forms) _ l.1 in
+      let c = parts (valid.lambdas_fit p.library) (valid.forms_fit p.forms) b.0 in
+      both_true (both_true (ap (λ n. nat_le n max_levels) (lambdas_levels p.library [] 0) ∙ n.0) (ap (λ n. nat_le n max_levels) (each_levels p.forms [] _) ∙ n.1))
+      (both_true (both_true (ap (procedures_fit max_variables) (procedures_kept p.library [] 0 tt library_scoped) ∙ c.0) (forms_fit_kept p.forms _ forms_scoped c.1))
+      (measure_kept true (λ a b. a && b) (fits max_variables) p library_scoped forms_scoped ∙ b.1))
+
+  pub sited_kept : IsTrue (valid.sites_once p) → IsTrue (to_valid.sited (renamed_source p))
+  sited_kept h = ap (shapes.sites_once p.sites) (measure_kept [] (λ a b. a ++ b) shapes.site_of p library_scoped forms_scoped) ∙ h
+
+pub ready_kept : (p : Source) → IsTrue (valid.statics_known p) → IsTrue (to_valid.statics_known (renamed_source p))
+ready_kept p h = rw (counts_lambdas p.library [] 0) h
+
+-- ## No more variables than the size
+
+abbrev size : Expression → ℕ
+size e = over 0 (λ a b. a + b) node_size e
+
+abbrev size_each : Expressions → ℕ
+size_each es = over_each 0 (λ a b. a + b) node_size es
+
+abbrev size_lambdas : Lambdas → ℕ
+size_lambdas ls = over_lambdas 0 (λ a b. a + b) node_size ls
+
+mutual
+  binds_at_most : (e : Expression) → binds e ≤ size e
+  binds_at_most (constant c) = omega arith
+  binds_at_most (literal n) = omega arith
+  binds_at_most (local k) = omega arith
+  binds_at_most (global g) = omega arith
+  binds_at_most (set_local k e) = omega (arith, binds_at_most e)
+  binds_at_most (set_global g e) = omega (arith, binds_at_most e)
+  binds_at_most (define g e) = omega (arith, binds_at_most e)
+  binds_at_most (branch a b c) = omega (arith, binds_at_most a, binds_at_most b, binds_at_most c)
+  binds_at_most (sequence es) = omega (arith, each_at_most es)
+  binds_at_most (bind site es e) = omega (arith, each_at_most es, binds_at_most e)
+  binds_at_most (fix ls e) = omega (arith, lambdas_at_most ls, binds_at_most e)
+  binds_at_most (letrec site es e) = omega (arith, each_at_most es, binds_at_most e)
+  binds_at_most (lambda name formals rest e) = omega (arith, binds_at_most e)
+  binds_at_most (call site f es) = omega (arith, binds_at_most f, each_at_most es)
+  binds_at_most (operation site which es) = omega (arith, each_at_most es)
+
+  each_at_most : (es : Expressions) → binds_each es ≤ size_each es
+  each_at_most no_expressions = omega arith
+  each_at_most (and_expression e es) = omega (arith, binds_at_most e, each_at_most es)
+
+  lambdas_at_most : (ls : Lambdas) → binds_lambdas ls ≤ shapes.procedures_size (procedures ls) + size_lambdas ls
+  lambdas_at_most no_lambdas = omega arith
+  lambdas_at_most (and_lambda name formals rest e ls) = omega (arith, binds_at_most e, lambdas_at_most ls)
+
+pub variables_at_most : (p : Source) → binds_lambdas p.library + binds_each p.forms ≤ program_size p
+variables_at_most p = omega (arith, lambdas_at_most p.library, each_at_most p.forms)
+
