@@ -1,7 +1,9 @@
 pub mod AssignedKept
 pub mod BodiesKept
+pub mod BoundVariables
 pub mod FreeKept
 pub mod LevelsKept
+pub mod Loops
 pub mod Numbers
 pub mod Same
 pub mod ScopeIs

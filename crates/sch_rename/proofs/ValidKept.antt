@@ -7,7 +7,7 @@ use Rattle.sch_word.specs.Shape as shapes
 use Rattle.sch_word.specs.Shape.{Shape, names_known, well_formed, fits, procedures_fit, max_variables, max_levels}
 use Rattle.sch_word.proofs.Shaped.{Implies, implies_joins, same_implies, Holds, holds_joins, parts, both_true}
 use Rattle.sch_lang.specs.Tree.{Expression, Expressions, Lambdas, Source, constant, literal, local, global, set_local, set_global, define, branch, sequence, bind, fix, letrec, lambda, call, operation, no_expressions, and_expression, no_lambdas, and_lambda, count, count_lambdas}
-use Rattle.sch_lang.specs.Measures.{over, over_each, over_lambdas, shape, procedures, variables, program_size, node_size, levels_lambdas, levels_each}
+use Rattle.sch_lang.specs.Measures.{procedures, variables, levels_lambdas, levels_each}
 use Rattle.sch_lang.specs.Valid as valid
 use Rattle.sch_cells.specs.Tree as tree
 use Rattle.sch_cells.specs.Measures as to
@@ -131,44 +131,3 @@ module _ (p : Source) (in_range : IsTrue (valid.in_range p)) where
 
 pub ready_kept : (p : Source) → IsTrue (valid.statics_known p) → IsTrue (to_valid.statics_known (renamed_source p))
 ready_kept p h = rw (counts_lambdas p.library [] 0) h
-
--- ## No more variables than the size
-
-abbrev size : Expression → ℕ
-size e = over 0 (λ a b. a + b) node_size e
-
-abbrev size_each : Expressions → ℕ
-size_each es = over_each 0 (λ a b. a + b) node_size es
-
-abbrev size_lambdas : Lambdas → ℕ
-size_lambdas ls = over_lambdas 0 (λ a b. a + b) node_size ls
-
-mutual
-  binds_at_most : (e : Expression) → binds e ≤ size e
-  binds_at_most (constant c) = omega arith
-  binds_at_most (literal n) = omega arith
-  binds_at_most (local k) = omega arith
-  binds_at_most (global g) = omega arith
-  binds_at_most (set_local k e) = omega (arith, binds_at_most e)
-  binds_at_most (set_global g e) = omega (arith, binds_at_most e)
-  binds_at_most (define g e) = omega (arith, binds_at_most e)
-  binds_at_most (branch a b c) = omega (arith, binds_at_most a, binds_at_most b, binds_at_most c)
-  binds_at_most (sequence es) = omega (arith, each_at_most es)
-  binds_at_most (bind site es e) = omega (arith, each_at_most es, binds_at_most e)
-  binds_at_most (fix ls e) = omega (arith, lambdas_at_most ls, binds_at_most e)
-  binds_at_most (letrec site es e) = omega (arith, each_at_most es, binds_at_most e)
-  binds_at_most (lambda name formals rest e) = omega (arith, binds_at_most e)
-  binds_at_most (call site f es) = omega (arith, binds_at_most f, each_at_most es)
-  binds_at_most (operation site which es) = omega (arith, each_at_most es)
-
-  each_at_most : (es : Expressions) → binds_each es ≤ size_each es
-  each_at_most no_expressions = omega arith
-  each_at_most (and_expression e es) = omega (arith, binds_at_most e, each_at_most es)
-
-  lambdas_at_most : (ls : Lambdas) → binds_lambdas ls ≤ shapes.procedures_size (procedures ls) + size_lambdas ls
-  lambdas_at_most no_lambdas = omega arith
-  lambdas_at_most (and_lambda name formals rest e ls) = omega (arith, binds_at_most e, lambdas_at_most ls)
-
-pub variables_at_most : (p : Source) → binds_lambdas p.library + binds_each p.forms ≤ program_size p
-variables_at_most p = omega (arith, lambdas_at_most p.library, each_at_most p.forms)
-

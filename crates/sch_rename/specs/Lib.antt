@@ -1,2 +1,3 @@
+pub mod Bound
 pub mod InScope
 pub mod Made

@@ -1,0 +1,147 @@
+-- How many expressions and lambdas there are, and what loops over them have made and have left.
+use Rattle.std.proofs.Common.{◌≡◌, ℕ, zero, suc, ◌+◌, ◌-◌, ◌<◌, ◌≤◌, List, [], ◌∷◌, ◌++◌, length, map, reverse, take, drop, get_or, refl, ap, ◌∙◌, sym, subst, arith, add-one, drop-cons}
+use Rattle.std.proofs.lemmas.List.{get_or-reverse, reverse-append, map-append, drop_all}
+use Rattle.sch_lang.specs.declared.tree.Exp.{Exp}
+use Rattle.sch_lang.specs.declared.tree.Lambda.{Lambda}
+use Rattle.sch_lang.specs.Tree as source
+use Rattle.sch_lang.specs.Tree.{Expressions, Lambdas, Source, expressions, lambdas, count, count_lambdas}
+use Rattle.sch_lang.specs.View.{expression, expressions_of, lambdas_of, function}
+use Rattle.sch_lang.proofs.Rows.{expressions_of_list, lambdas_of_list}
+use Rattle.sch_word.specs.declared.statics.Statics as declared
+use Rattle.sch_word.specs.StaticsView.{statics}
+use Rattle.sch_cells.specs.SourceView.{source_of}
+use Rattle.sch_cells.specs.declared.tree.Exp as to
+use Rattle.sch_cells.specs.declared.tree.Lambda as to_lambda
+use Rattle.sch_cells.specs.Tree as cells
+use Rattle.sch_cells.specs.Tree.{Tree, Trees, no_trees, and_tree, trees, no_lambdas, and_lambda}
+use Rattle.sch_cells.specs.View.{tree, trees_of, function as cells_function, lambdas_of as cells_lambdas_of}
+use Rattle.sch_cells.proofs.Rows.{trees_of_list, lambdas_of_list as cells_lambdas_of_list}
+use Rattle.sch_rename.specs.Made.{number_at, binds, binds_each, binds_lambdas, renamed, renamed_each, renamed_lambdas, renamed_source}
+use Rattle.sch_rename.specs.InScope.{InScope, EachInScope, LambdasInScope}
+use Rattle.sch_word.specs.Bindings.{scope_with}
+use Rattle.sch_word.specs.Walk.{onto}
+use Rattle.sch_word.proofs.Walking.{next_made, next_count, next_left, end_made}
+
+length_of : (es : List Exp) → count (expressions (map expression es)) ≡ length es
+length_of [] = refl
+length_of (e ∷ es) = ap suc (length_of es)
+
+pub count_is : (es : List Exp) → count (expressions_of es) ≡ length es
+count_is es = ap count (expressions_of_list es) ∙ length_of es
+
+length_of_lambdas : (ls : List Lambda) → count_lambdas (lambdas (map function ls)) ≡ length ls
+length_of_lambdas [] = refl
+length_of_lambdas (l ∷ ls) = ap suc (length_of_lambdas ls)
+
+pub count_lambdas_is : (ls : List Lambda) → count_lambdas (lambdas_of ls) ≡ length ls
+count_lambdas_is ls = ap count_lambdas (lambdas_of_list ls) ∙ length_of_lambdas ls
+
+number_at_is : (s : List ℕ) (k : ℕ) → number_at s k ≡ get_or s k 0
+number_at_is [] k = refl
+number_at_is (y ∷ s) zero = refl
+number_at_is (y ∷ s) (suc k) = number_at_is s k
+
+pub from_the_end : (xs : List ℕ) (k : ℕ) → k < length xs → number_at (reverse xs) k ≡ get_or xs (length xs - 1 - k) 0
+from_the_end xs k h = number_at_is (reverse xs) k ∙ get_or-reverse xs k 0 h
+
+pub variables_step : (s r : List ℕ) (x m n : ℕ) → m ≡ suc n → scope_with x m (reverse s) ≡ r → scope_with (x + 1) n (reverse (s ++ x ∷ [])) ≡ r
+variables_step s r x m n e h = rw (reverse-append s (x ∷ []), add-one) (rw e at h)
+
+-- ## The lists that loops make
+
+abbrev pub and_then : to.Exp → Trees → Trees
+and_then q rest = and_tree (tree q) rest
+
+abbrev pub and_then_lambda : to_lambda.Lambda → cells.Lambdas → cells.Lambdas
+and_then_lambda q rest = and_lambda q.name q.first q.formals q.rest (tree q.body) rest
+
+onto_trees : (qs : List to.Exp) → trees (map tree qs) ≡ onto and_then qs no_trees
+onto_trees [] = refl
+onto_trees (q ∷ qs) = ap (and_tree (tree q)) (onto_trees qs)
+
+pub trees_onto : (qs : List to.Exp) → trees_of qs ≡ onto and_then qs no_trees
+trees_onto qs = trees_of_list qs ∙ onto_trees qs
+
+onto_lambdas : (qs : List to_lambda.Lambda) → cells.lambdas (map cells_function qs) ≡ onto and_then_lambda qs no_lambdas
+onto_lambdas [] = refl
+onto_lambdas (q ∷ qs) = ap (and_then_lambda q) (onto_lambdas qs)
+
+pub lambdas_onto : (qs : List to_lambda.Lambda) → cells_lambdas_of qs ≡ onto and_then_lambda qs no_lambdas
+lambdas_onto qs = cells_lambdas_of_list qs ∙ onto_lambdas qs
+
+-- ## The turns
+
+-- what is left of a list, as trees
+abbrev pub left : List Exp → Expressions
+left es = expressions (map expression es)
+
+abbrev pub left_lambdas : List Lambda → Lambdas
+left_lambdas ls = lambdas (map function ls)
+
+module _ (s : List ℕ) (items : List Exp) (i : ℕ) (all : List to.Exp) (e : Exp) (q : to.Exp) (x y total : ℕ) (whole : Trees) (l : i < length items) (is : e ≡ get_or items i e) where
+  pub each_made : tree q ≡ renamed (expression e) s x → y ≡ x + binds (expression e) →
+      onto and_then all (renamed_each (left (drop i items)) s x) ≡ whole → onto and_then (all ++ q ∷ []) (renamed_each (left (drop (i + 1) items)) s y) ≡ whole
+  each_made h g k = next_made items i and_then (λ es n. renamed_each (left es) s n) all e q x y whole l is (rw (h, g) refl) k
+
+  pub each_next : y ≡ x + binds (expression e) → x + binds_each (left (drop i items)) ≡ total → y + binds_each (left (drop (i + 1) items)) ≡ total
+  each_next g k = rw g (next_count items i (λ es. binds_each (left es)) e x (binds (expression e)) total l is refl k)
+
+  pub each_inside : (m : ℕ) → EachInScope (left (drop i items)) m → EachInScope (left (drop (i + 1) items)) m
+  each_inside m k = rw add-one (next_left items i (λ es. EachInScope (left es) m) e l is k).1
+
+-- a lambda node before other lambdas
+abbrev onto_lambda : Tree → cells.Lambdas → cells.Lambdas
+onto_lambda (cells.lambda name first formals rest e) ls = and_lambda name first formals rest e ls
+onto_lambda _ ls = ls
+
+module _ (s : List ℕ) (items : List Lambda) (i : ℕ) (all : List to_lambda.Lambda) (e : Lambda) (q : to_lambda.Lambda) (x y total : ℕ) (whole : cells.Lambdas) (l : i < length items) (is : e ≡ get_or items i e) where
+  pub lambdas_made : cells.lambda q.name q.first q.formals q.rest (tree q.body) ≡ renamed (source.lambda e.name e.formals e.rest (expression e.body)) s x → y ≡ x + (e.formals + binds (expression e.body)) →
+      onto and_then_lambda all (renamed_lambdas (left_lambdas (drop i items)) s x) ≡ whole → onto and_then_lambda (all ++ q ∷ []) (renamed_lambdas (left_lambdas (drop (i + 1) items)) s y) ≡ whole
+  lambdas_made h g k =
+      let g' : y ≡ x + e.formals + binds (expression e.body) = omega (arith, g) in
+      next_made items i and_then_lambda (λ es n. renamed_lambdas (left_lambdas es) s n) all e q x y whole l is
+      (rw g' (ap (λ t. onto_lambda t (renamed_lambdas (left_lambdas (drop (suc i) items)) s (x + e.formals + binds (expression e.body)))) (sym h))) k
+
+  pub lambdas_next : y ≡ x + (e.formals + binds (expression e.body)) → x + binds_lambdas (left_lambdas (drop i items)) ≡ total → y + binds_lambdas (left_lambdas (drop (i + 1) items)) ≡ total
+  lambdas_next g k = rw g (next_count items i (λ es. binds_lambdas (left_lambdas es)) e x (e.formals + binds (expression e.body)) total l is refl k)
+
+  pub lambdas_inside : (m : ℕ) → LambdasInScope (left_lambdas (drop i items)) m → LambdasInScope (left_lambdas (drop (i + 1) items)) m
+  lambdas_inside m k = rw add-one (next_left items i (λ es. LambdasInScope (left_lambdas es) m) e l is k).1
+
+-- ## The start and the end
+
+pub each_start : (s : List ℕ) (items : List Exp) (all : List to.Exp) (x : ℕ) → all ≡ [] → onto and_then all (renamed_each (left items) s x) ≡ renamed_each (expressions_of items) s x
+each_start s items all x h = rw h (ap (λ t. renamed_each t s x) (sym (expressions_of_list items)))
+
+pub each_start_next : (items : List Exp) (x : ℕ) → x + binds_each (left items) ≡ x + binds_each (expressions_of items)
+each_start_next items x = ap (λ t. x + binds_each t) (sym (expressions_of_list items))
+
+pub each_start_inside : (items es : List Exp) (m : ℕ) → items ≡ es → EachInScope (expressions_of es) m → EachInScope (left items) m
+each_start_inside items es m h i = subst (λ t. EachInScope t m) (expressions_of_list items) (subst (λ l. EachInScope (expressions_of l) m) (sym h) i)
+
+pub each_end : (s : List ℕ) (items es : List Exp) (i : ℕ) (all : List to.Exp) (s' : List ℕ) (x start : ℕ) → items ≡ es → length items ≤ i →
+    onto and_then all (renamed_each (left (drop i items)) s' x) ≡ renamed_each (expressions_of items) s start → trees_of all ≡ renamed_each (expressions_of es) s start
+each_end s items es i all s' x start h l k =
+    trees_onto all ∙ end_made items i and_then (λ es n. renamed_each (left es) s' n) all x (renamed_each (expressions_of items) s start) no_trees l refl k ∙ ap (λ l. renamed_each (expressions_of l) s start) h
+
+pub lambdas_start : (s : List ℕ) (items : List Lambda) (all : List to_lambda.Lambda) (x : ℕ) → all ≡ [] → onto and_then_lambda all (renamed_lambdas (left_lambdas items) s x) ≡ renamed_lambdas (lambdas_of items) s x
+lambdas_start s items all x h = rw h (ap (λ t. renamed_lambdas t s x) (sym (lambdas_of_list items)))
+
+pub lambdas_start_next : (items : List Lambda) (x : ℕ) → x + binds_lambdas (left_lambdas items) ≡ x + binds_lambdas (lambdas_of items)
+lambdas_start_next items x = ap (λ t. x + binds_lambdas t) (sym (lambdas_of_list items))
+
+pub lambdas_start_inside : (items es : List Lambda) (m : ℕ) → items ≡ es → LambdasInScope (lambdas_of es) m → LambdasInScope (left_lambdas items) m
+lambdas_start_inside items es m h i = subst (λ t. LambdasInScope t m) (lambdas_of_list items) (subst (λ l. LambdasInScope (lambdas_of l) m) (sym h) i)
+
+pub lambdas_end : (s : List ℕ) (items es : List Lambda) (i : ℕ) (all : List to_lambda.Lambda) (s' : List ℕ) (x start : ℕ) → items ≡ es → length items ≤ i →
+    onto and_then_lambda all (renamed_lambdas (left_lambdas (drop i items)) s' x) ≡ renamed_lambdas (lambdas_of items) s start → cells_lambdas_of all ≡ renamed_lambdas (lambdas_of es) s start
+lambdas_end s items es i all s' x start h l k =
+    lambdas_onto all ∙ end_made items i and_then_lambda (λ es n. renamed_lambdas (left_lambdas es) s' n) all x (renamed_lambdas (lambdas_of items) s start) no_lambdas l refl k ∙ ap (λ l. renamed_lambdas (lambdas_of l) s start) h
+
+-- ## What is made, as plain data
+
+pub made_source : (p : Source) (ready : declared.Statics) (library : List to_lambda.Lambda) (forms : List to.Exp) (sites : List ℕ) (n : ℕ) →
+    statics ready ≡ p.statics → cells_lambdas_of library ≡ renamed_lambdas p.library [] 0 →
+    trees_of forms ≡ renamed_each p.forms [] (binds_lambdas p.library) → sites ≡ p.sites → n ≡ binds_lambdas p.library + binds_each p.forms →
+    source_of ready library forms sites n ≡ renamed_source p
+made_source p _ _ _ _ _ a b c d e = rw (a, b, c, d, e) refl
