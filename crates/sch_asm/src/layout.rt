@@ -125,3 +125,11 @@ pub fn zeros(alloc: Global, count: usize) -> Result<Vec<usize>, Mem>
 {
     Ok(vec![in alloc; 0usize; count]?)
 }
+
+/// How many items two lists have. An item takes at least 16 bytes of memory, so there are fewer than 2^60.
+pub fn item_count(items: &[Item], routines: &[Item]) -> usize
+    ensures count { result ≡ length items.now + length routines.now }
+    ensures few { 15 * (length items.now + length routines.now) < 2 ^ 64 }
+{
+    items.len() + routines.len()
+}

@@ -8,9 +8,10 @@ ghost use Rattle.sch_asm.specs.Codes.{AreResolved, IsTooLarge, text_size};
 
 use crate::assembly::Asm;
 use crate::error::AsmError;
-use crate::item::Mark;
-use sch_insn::Insn;
-use sch_word::{Bytes, List};
+use crate::item::{Item, Mark};
+use crate::layout::{Layout, addresses_of, item_count, labels_of, number_labels, push_sizes, total_size, zeros};
+use sch_insn::{Arg, Insn};
+use sch_word::{Bytes, List, Mem};
 use std::alloc::Global;
 
 /// How many bytes a text has at most.
@@ -40,5 +41,149 @@ pub fn resolve(alloc: Global, a: &Asm, routines: &Asm) -> Result<Resolved, AsmEr
     ensures fits { IfOk result (λ r. length (flat_map spelling r.code) ≤ MAX_TEXT) }
     ensures too_large { IfErr result (IsTooLarge (text_size (a.now.items ++ routines.now.items))) }
 {
-    Err(AsmError::Memory)
+    let sizes = sizes_of(alloc, a.items.as_slice(), routines.items.as_slice())?;
+    let bytes = total_size(sizes.as_slice());
+    if bytes > MAX_TEXT {
+        return Err(AsmError::TextTooLarge(bytes));
+    }
+    let layout = lay_out(alloc, a, routines, sizes.as_slice())?;
+    let mut code = List::new(alloc);
+    let mut marks = List::new(alloc);
+    let behind = emit(a.items.as_slice(), 0, &layout, &mut code, &mut marks)?;
+    emit(routines.items.as_slice(), behind, &layout, &mut code, &mut marks)?;
+    let words = word_bytes(alloc, a.words.as_slice(), &layout)?;
+    Ok(Resolved {
+        code,
+        marks,
+        words,
+        zeros: a.zeros,
+    })
+}
+
+// The size of each item of two lists.
+fn sizes_of(alloc: Global, items: &[Item], routines: &[Item]) -> Result<List<u8>, Mem>
+    requires items { AreItems items.now }
+    requires routines { AreItems routines.now }
+    ensures sizes { IfOk result (λ sizes. sizes ≡ map item_size (items.now ++ routines.now)) }
+    ensures total { IfOk result (λ sizes. total sizes < 2 ^ 64) }
+{
+    let count = item_count(items, routines);
+    let mut sizes = List::from_vec(Vec::with_capacity(alloc, count)?);
+    push_sizes(items, &mut sizes)?;
+    push_sizes(routines, &mut sizes)?;
+    Ok(sizes)
+}
+
+// Where the items stand that have these sizes.
+fn lay_out(alloc: Global, a: &Asm, routines: &Asm, sizes: &[u8]) -> Result<Layout, Mem>
+    requires own { AreOwn a.now.items }
+    requires routines { AreRoutines routines.now.items routines.now.words routines.now.zeros }
+    requires sizes { sizes.now ≡ map item_size (a.now.items ++ routines.now.items) }
+    requires small { total sizes.now ≤ 16777216 }
+    ensures { IfOk result (λ layout. IsLaidOut (a.now.items ++ routines.now.items) a.now.words layout.numbers.items layout.addresses) }
+{
+    let labels = labels_of(a.items.as_slice()).max(labels_of(routines.items.as_slice()));
+    let mut numbers = zeros(alloc, labels)?;
+    number_labels(a.items.as_slice(), 0, &mut numbers);
+    number_labels(routines.items.as_slice(), a.items.len(), &mut numbers);
+    let addresses = addresses_of(alloc, sizes)?;
+    Ok(Layout { numbers, addresses })
+}
+
+// From the address behind an instruction to another address.
+fn displacement_to(next: u32, to: u32) -> i32
+    requires next { next < 2 ^ 31 }
+    requires to { to < 2 ^ 31 }
+    ensures { result ≡ displacement next to }
+{
+    to as i32 - next as i32
+}
+
+// The instruction of an item that ends before the address `next`, if it has one.
+fn insn_of(item: &Item, next: u32, layout: &Layout) -> Option<Insn>
+    requires sound { IsItem item.now }
+    requires next { next < 2 ^ 30 }
+    requires uses { UsesBelow (length layout.now.numbers.items) item.now }
+    ensures { option_list result ≡ insns_of (placed_by layout.now.numbers.items layout.now.addresses) next item.now }
+{
+    match item {
+        Item::Label(_) | Item::Mark(_) => None,
+        Item::Plain(insn) => Some(*insn),
+        Item::Jump(label) => Some(Insn::Jump(displacement_to(next, layout.place(*label)))),
+        Item::JumpIf(condition, label) => Some(Insn::JumpIf(
+            *condition,
+            displacement_to(next, layout.place(*label)),
+        )),
+        Item::LoadLabel(register, label) => Some(Insn::Lea(
+            *register,
+            Arg::Rip(displacement_to(next, layout.place(*label))),
+        )),
+        Item::LoadWord(register, address) => Some(Insn::MovFrom(
+            *register,
+            Arg::Rip(displacement_to(next, *address as u32)),
+        )),
+        Item::StoreWord(address, register) => Some(Insn::MovTo(
+            Arg::Rip(displacement_to(next, *address as u32)),
+            *register,
+        )),
+    }
+}
+
+// The mark of an item, if it is one.
+fn mark_of(item: &Item, at: u32) -> Option<Mark>
+    ensures { option_list result ≡ marks_of at item.now }
+{
+    match item {
+        Item::Mark(kind) => Some(Mark {
+            address: at as u64,
+            kind: *kind,
+        }),
+        _ => None,
+    }
+}
+
+// Puts out the instructions and marks of the items that have the numbers from `first` on, and gives the
+// number behind them.
+fn emit(items: &[Item], first: usize, layout: &Layout, code: &mut List<Insn>, marks: &mut List<Mark>) -> Result<usize, Mem>
+    requires sound { AreItems items.now }
+    requires uses { UseBelow (length layout.now.numbers.items) items.now }
+    requires within { first + length items.now < length layout.now.addresses }
+    ensures code { OnOk result (code.new ≡ code.old ++ emitted (placed_by layout.now.numbers.items layout.now.addresses) (slice_index layout.now.addresses) first items.now) }
+    ensures marks { OnOk result (marks.new ≡ marks.old ++ marked (slice_index layout.now.addresses) first items.now) }
+    ensures end { IfOk result (λ end. end ≡ first + length items.now) }
+{
+    let mut number = first;
+    for item in items {
+        if let Some(mark) = mark_of(item, layout.addresses.as_slice()[number]) {
+            marks.push(mark)?;
+        }
+        number += 1;
+        if let Some(insn) = insn_of(item, layout.addresses.as_slice()[number], layout) {
+            code.push(insn)?;
+        }
+    }
+    Ok(number)
+}
+
+// A word's value.
+fn value_of(word: &Word, layout: &Layout) -> u64
+    requires uses { WordBelow (length layout.now.numbers.items) word.now }
+    ensures { result ≡ word_value (placed_by layout.now.numbers.items layout.now.addresses) word.now }
+{
+    match word {
+        Word::Fixed(value) => *value,
+        Word::Address(label) => layout.place(*label) as u64,
+    }
+}
+
+// The bytes of words, the lowest byte of each first.
+fn word_bytes(alloc: Global, words: &[Word], layout: &Layout) -> Result<Bytes, Mem>
+    requires uses { WordsBelow (length layout.now.numbers.items) words.now }
+    ensures { IfOk result (λ bytes. bytes ≡ flat_map (bytes_of (placed_by layout.now.numbers.items layout.now.addresses)) words.now) }
+{
+    let mut bytes = List::new(alloc);
+    for word in words {
+        bytes.extend_from_slice(&value_of(word, layout).to_le_bytes())?;
+    }
+    Ok(bytes)
 }

@@ -1,0 +1,342 @@
+-- The tables of a text are those of its items.
+use Rattle.std.proofs.Common.{◌≡◌, ◌≢◌, ℕ, zero, suc, ◌+◌, ◌*◌, ◌<◌, ◌≤◌, List, [], ◌∷◌, ◌++◌, length, map, Bool, true, false, refl, sym, ap, ◌∙◌, subst, arith, ⊎_elim, ◌==◌, ◌||◌, ◌&&◌}
+use Rattle.std.specs.Prelude.{nat_le, nat_lt, slice_set, slice_index, replicate, IsTrue, All, AllPairs}
+use Rattle.std.specs.List.{AllByRecursion}
+use Rattle.std.proofs.lemmas.Bool.{eqb-true, eqb-false, cases_Bool, cases_lt}
+use Rattle.std.proofs.lemmas.Bool.Decides.{nat_tests}
+use Rattle.std.proofs.lemmas.Grind.{common_steps}
+use Rattle.std.proofs.lemmas.List.{get_or-set_same, get_or-set_other}
+use Rattle.std.proofs.lemmas.List.Elements.{recursion_from_All}
+use Rattle.std.proofs.Math.ListN.{length-set}
+use Rattle.sch_insn.proofs.PrefixCode.{spelling_short}
+use Rattle.sch_word.specs.declared.stop.Stop.TheVariants.{WrongType, OutOfRange, NotProcedure, WrongCount, DivideByZero, Overflow, HeapLimit, DepthLimit, Unset, OutputFailed}
+use Rattle.sch_asm.specs.declared.assembly.Word.{Word}
+use Rattle.sch_asm.specs.declared.assembly.Word.TheVariants.{Fixed, Address}
+use Rattle.sch_asm.specs.declared.item.Item.{Item}
+use Rattle.sch_asm.specs.declared.item.Item.TheVariants.{Label, Plain, Jump, JumpIf, LoadLabel, LoadWord, StoreWord, Mark}
+use Rattle.sch_asm.specs.declared.routine.Routine.{Routine}
+use Rattle.sch_asm.specs.declared.routine.Routine.TheVariants.{End, Stop, Put, PutFixnum}
+use Rattle.sch_asm.specs.Routines.{label_of}
+use Rattle.sch_asm.specs.Items.{AreItems, AreKnown, AreOwn, IsEachOnce, is_among, is_routine, labels_in, uses_in, word_uses}
+use Rattle.sch_asm.specs.Codes.{item_size, text_size}
+use Rattle.sch_asm.specs.Layout.{raised, label_bound, entered, numbered, StandsAt, StandAt, StandsBelow, StandBelow, UseBelow, WordsBelow, total, addresses_from}
+
+-- ---- sizes
+
+pub size_append : (xs ys : List Item) → text_size (xs ++ ys) ≡ text_size xs + text_size ys
+size_append [] ys = omega arith
+size_append (x ∷ xs) ys = let e = size_append xs ys in omega arith
+
+pub total_sizes : (is : List Item) → total (map item_size is) ≡ text_size is
+total_sizes [] = refl
+total_sizes (i ∷ is) = ap (λ n. item_size i + n) (total_sizes is)
+
+size_small : (i : Item) → item_size i ≤ 15
+size_small (Label l) = omega arith
+size_small (Plain i) = spelling_short i
+size_small (Jump l) = omega arith
+size_small (JumpIf c l) = omega arith
+size_small (LoadLabel r l) = omega arith
+size_small (LoadWord r a) = omega arith
+size_small (StoreWord a r) = omega arith
+size_small (Mark m) = omega arith
+
+pub size_bound : (is : List Item) → text_size is ≤ 15 * length is
+size_bound [] = omega arith
+size_bound (i ∷ is) = let h = size_small i in let k = size_bound is in omega arith
+
+-- ---- how many labels a table has room for
+
+raised_up : (b : ℕ) (i : Item) → b ≤ raised b i
+raised_up b (Label l) = omega arith
+raised_up b (Plain i) = omega arith
+raised_up b (Jump l) = omega arith
+raised_up b (JumpIf c l) = omega arith
+raised_up b (LoadLabel r l) = omega arith
+raised_up b (LoadWord r a) = omega arith
+raised_up b (StoreWord a r) = omega arith
+raised_up b (Mark m) = omega arith
+
+bound_up : (is : List Item) (b : ℕ) → b ≤ label_bound b is
+bound_up [] b = omega arith
+bound_up (i ∷ is) b = let h = raised_up b i in let k = bound_up is (raised b i) in omega (arith, h, k)
+
+stands_by : (i : Item) (b n : ℕ) → raised b i ≤ n → StandsBelow n i
+stands_by (Label l) b n le = omega arith
+stands_by _ b n le = tt
+
+pub stand_below : (is : List Item) (b n : ℕ) → label_bound b is ≤ n → StandBelow n is
+stand_below [] b n le = tt
+stand_below (i ∷ is) b n le = (stands_by i b n (let k = bound_up is (raised b i) in omega (arith, k, le)), stand_below is (raised b i) n le)
+
+among_by : (m l n : ℕ) (ms : List ℕ) (t : Bool) → (m == l) ≡ t → m < n → (IsTrue (is_among ms l) → l < n) → IsTrue (t || is_among ms l) → l < n
+among_by m l n ms true t lt h e = let same = eqb-true m l t in subst (λ k. k < n) same lt
+among_by m l n ms false t lt h e = h e
+
+-- a label that is among those that stand is below
+pub among_below : (is : List Item) (l n : ℕ) → StandBelow n is → IsTrue (is_among (labels_in is) l) → l < n
+among_below [] l n h e = absurd cc
+among_below (Label m ∷ is) l n h e = among_by m l n (labels_in is) (m == l) refl h.0 (among_below is l n h.1) e
+among_below (Plain i ∷ is) l n h e = among_below is l n h.1 e
+among_below (Jump m ∷ is) l n h e = among_below is l n h.1 e
+among_below (JumpIf c m ∷ is) l n h e = among_below is l n h.1 e
+among_below (LoadLabel r m ∷ is) l n h e = among_below is l n h.1 e
+among_below (LoadWord r a ∷ is) l n h e = among_below is l n h.1 e
+among_below (StoreWord a r ∷ is) l n h e = among_below is l n h.1 e
+among_below (Mark m ∷ is) l n h e = among_below is l n h.1 e
+
+-- ---- labels that are used
+
+use_below : (is : List Item) (n : ℕ) → AllByRecursion (λ l. l < n) (uses_in is) → UseBelow n is
+use_below [] n h = tt
+use_below (Label m ∷ is) n h = (tt, use_below is n h)
+use_below (Plain i ∷ is) n h = (tt, use_below is n h)
+use_below (Jump m ∷ is) n h = (h.0, use_below is n h.1)
+use_below (JumpIf c m ∷ is) n h = (h.0, use_below is n h.1)
+use_below (LoadLabel r m ∷ is) n h = (h.0, use_below is n h.1)
+use_below (LoadWord r a ∷ is) n h = (tt, use_below is n h)
+use_below (StoreWord a r ∷ is) n h = (tt, use_below is n h)
+use_below (Mark m ∷ is) n h = (tt, use_below is n h)
+
+words_below : (ws : List Word) (n : ℕ) → AllByRecursion (λ l. l < n) (word_uses ws) → WordsBelow n ws
+words_below [] n h = tt
+words_below (Fixed v ∷ ws) n h = (tt, words_below ws n h)
+words_below (Address l ∷ ws) n h = (h.0, words_below ws n h.1)
+
+front_of : (P : ℕ → Type 0) (xs ys : List ℕ) → AllByRecursion P (xs ++ ys) → AllByRecursion P xs
+front_of P [] ys h = tt
+front_of P (x ∷ xs) ys h = (h.0, front_of P xs ys h.1)
+
+back_of : (P : ℕ → Type 0) (xs ys : List ℕ) → AllByRecursion P (xs ++ ys) → AllByRecursion P ys
+back_of P [] ys h = h
+back_of P (x ∷ xs) ys h = back_of P xs ys h.1
+
+all_by : (P Q : ℕ → Type 0) → ((l : ℕ) → P l → Q l) → (ls : List ℕ) → AllByRecursion P ls → AllByRecursion Q ls
+all_by P Q f [] h = tt
+all_by P Q f (l ∷ ls) h = (f l h.0, all_by P Q f ls h.1)
+
+-- the routine of a label
+routine_at : (l : ℕ) → l < 13 → (k : Routine) × (label_of k ≡ l)
+routine_at l lt =
+    ⊎_elim (λ a. by_stop l a) (λ b. ⊎_elim (λ c. (Put, omega arith)) (λ d. (PutFixnum, omega arith)) (cases_lt l 12)) (cases_lt l 11)
+  where
+    by_stop : (l : ℕ) → l < 11 → (k : Routine) × (label_of k ≡ l)
+    by_stop zero lt = (End, refl)
+    by_stop (suc zero) lt = (Stop WrongType, refl)
+    by_stop (suc (suc zero)) lt = (Stop OutOfRange, refl)
+    by_stop (suc (suc (suc zero))) lt = (Stop NotProcedure, refl)
+    by_stop (suc (suc (suc (suc zero)))) lt = (Stop WrongCount, refl)
+    by_stop (suc (suc (suc (suc (suc zero))))) lt = (Stop DivideByZero, refl)
+    by_stop (suc (suc (suc (suc (suc (suc zero)))))) lt = (Stop Overflow, refl)
+    by_stop (suc (suc (suc (suc (suc (suc (suc zero))))))) lt = (Stop HeapLimit, refl)
+    by_stop (suc (suc (suc (suc (suc (suc (suc (suc zero)))))))) lt = (Stop DepthLimit, refl)
+    by_stop (suc (suc (suc (suc (suc (suc (suc (suc (suc zero))))))))) lt = (Stop Unset, refl)
+    by_stop (suc (suc (suc (suc (suc (suc (suc (suc (suc (suc zero)))))))))) lt = (Stop OutputFailed, refl)
+    by_stop (suc (suc (suc (suc (suc (suc (suc (suc (suc (suc (suc l))))))))))) lt = absurd (omega arith)
+
+routine_low : (l : ℕ) → IsTrue (is_routine l) → l < 13
+routine_low l e = grind (arith, nat_tests)
+
+-- ---- two lists of items, the one behind the other
+
+pub use_append : (xs ys : List Item) (n : ℕ) → UseBelow n xs → UseBelow n ys → UseBelow n (xs ++ ys)
+use_append [] ys n h k = k
+use_append (x ∷ xs) ys n h k = (h.0, use_append xs ys n h.1 k)
+
+pub use_front : (xs ys : List Item) (n : ℕ) → UseBelow n (xs ++ ys) → UseBelow n xs
+use_front [] ys n h = tt
+use_front (x ∷ xs) ys n h = (h.0, use_front xs ys n h.1)
+
+pub use_back : (xs ys : List Item) (n : ℕ) → UseBelow n (xs ++ ys) → UseBelow n ys
+use_back [] ys n h = h
+use_back (x ∷ xs) ys n h = use_back xs ys n h.1
+
+pub sound_append : (xs ys : List Item) → AreItems xs → AreItems ys → AreItems (xs ++ ys)
+sound_append [] ys h k = k
+sound_append (x ∷ xs) ys h k = (h.0, sound_append xs ys h.1 k)
+
+pub stand_append : (xs ys : List Item) (n : ℕ) → StandBelow n xs → StandBelow n ys → StandBelow n (xs ++ ys)
+stand_append [] ys n h k = k
+stand_append (x ∷ xs) ys n h k = (h.0, stand_append xs ys n h.1 k)
+
+pub numbered_append : (xs ys : List Item) (k : ℕ) (t : List ℕ) → numbered (xs ++ ys) k t ≡ numbered ys (k + length xs) (numbered xs k t)
+numbered_append [] ys k t = let e : k + 0 ≡ k = omega arith in ap (λ j. numbered ys j t) (sym e)
+numbered_append (x ∷ xs) ys k t =
+    let e : k + 1 + length xs ≡ k + length (x ∷ xs) = omega arith in
+    numbered_append xs ys (k + 1) (entered x k t) ∙ ap (λ j. numbered ys j (numbered xs (k + 1) (entered x k t))) e
+
+-- ---- the numbers of labels
+
+abbrev IsNot : ℕ → Item → Type 0
+IsNot l (Label m) = l ≢ m
+IsNot l _ = Unit {0}
+
+abbrev Absent : ℕ → List Item → Type 0
+Absent l [] = Unit {0}
+Absent l (i ∷ is) = IsNot l i × Absent l is
+
+-- no label stands twice
+abbrev Once : Item → List Item → Type 0
+Once (Label l) is = Absent l is
+Once _ is = Unit {0}
+
+abbrev pub Apart : List Item → Type 0
+Apart [] = Unit {0}
+Apart (i ∷ is) = Once i is × Apart is
+
+absent_by : (l : ℕ) (is : List Item) → AllByRecursion (λ m. l ≢ m) (labels_in is) → Absent l is
+absent_by l [] h = tt
+absent_by l (Label m ∷ is) h = (h.0, absent_by l is h.1)
+absent_by l (Plain i ∷ is) h = (tt, absent_by l is h)
+absent_by l (Jump m ∷ is) h = (tt, absent_by l is h)
+absent_by l (JumpIf c m ∷ is) h = (tt, absent_by l is h)
+absent_by l (LoadLabel r m ∷ is) h = (tt, absent_by l is h)
+absent_by l (LoadWord r a ∷ is) h = (tt, absent_by l is h)
+absent_by l (StoreWord a r ∷ is) h = (tt, absent_by l is h)
+absent_by l (Mark m ∷ is) h = (tt, absent_by l is h)
+
+pairs_head : (l : ℕ) (ls : List ℕ) → AllPairs (λ a b. a ≢ b) (l ∷ ls) → All (λ m. l ≢ m) ls
+pairs_head l ls h k d lt = h 0 (suc k) d (omega arith) (omega arith)
+
+pairs_tail : (l : ℕ) (ls : List ℕ) → AllPairs (λ a b. a ≢ b) (l ∷ ls) → AllPairs (λ a b. a ≢ b) ls
+pairs_tail l ls h i j d lt within = h (suc i) (suc j) d (omega arith) (omega arith)
+
+pub apart_by : (is : List Item) → IsEachOnce (labels_in is) → Apart is
+apart_by [] h = tt
+apart_by (Label m ∷ is) h = (absent_by m is (recursion_from_All _ (labels_in is) (pairs_head m (labels_in is) h)), apart_by is (pairs_tail m (labels_in is) h))
+apart_by (Plain i ∷ is) h = (tt, apart_by is h)
+apart_by (Jump m ∷ is) h = (tt, apart_by is h)
+apart_by (JumpIf c m ∷ is) h = (tt, apart_by is h)
+apart_by (LoadLabel r m ∷ is) h = (tt, apart_by is h)
+apart_by (LoadWord r a ∷ is) h = (tt, apart_by is h)
+apart_by (StoreWord a r ∷ is) h = (tt, apart_by is h)
+apart_by (Mark m ∷ is) h = (tt, apart_by is h)
+
+absent_append : (l : ℕ) (xs ys : List Item) → Absent l xs → Absent l ys → Absent l (xs ++ ys)
+absent_append l [] ys h k = k
+absent_append l (x ∷ xs) ys h k = (h.0, absent_append l xs ys h.1 k)
+
+absent_above : (l : ℕ) (is : List Item) → StandBelow 1024 is → 1024 ≤ l → Absent l is
+absent_above l [] h le = tt
+absent_above l (Label m ∷ is) h le = (λ e. omega (arith, h.0, le, e), absent_above l is h.1 le)
+absent_above l (Plain i ∷ is) h le = (tt, absent_above l is h.1 le)
+absent_above l (Jump m ∷ is) h le = (tt, absent_above l is h.1 le)
+absent_above l (JumpIf c m ∷ is) h le = (tt, absent_above l is h.1 le)
+absent_above l (LoadLabel r m ∷ is) h le = (tt, absent_above l is h.1 le)
+absent_above l (LoadWord r a ∷ is) h le = (tt, absent_above l is h.1 le)
+absent_above l (StoreWord a r ∷ is) h le = (tt, absent_above l is h.1 le)
+absent_above l (Mark m ∷ is) h le = (tt, absent_above l is h.1 le)
+
+-- a program's own labels are none of the routines'
+pub apart_append : (xs ys : List Item) → Apart xs → Apart ys → AllByRecursion (λ l. 1024 ≤ l) (labels_in xs) → StandBelow 1024 ys → Apart (xs ++ ys)
+apart_append [] ys h k own low = k
+apart_append (Label m ∷ xs) ys h k own low = (absent_append m xs ys h.0 (absent_above m ys low own.0), apart_append xs ys h.1 k own.1 low)
+apart_append (Plain i ∷ xs) ys h k own low = (tt, apart_append xs ys h.1 k own low)
+apart_append (Jump m ∷ xs) ys h k own low = (tt, apart_append xs ys h.1 k own low)
+apart_append (JumpIf c m ∷ xs) ys h k own low = (tt, apart_append xs ys h.1 k own low)
+apart_append (LoadLabel r m ∷ xs) ys h k own low = (tt, apart_append xs ys h.1 k own low)
+apart_append (LoadWord r a ∷ xs) ys h k own low = (tt, apart_append xs ys h.1 k own low)
+apart_append (StoreWord a r ∷ xs) ys h k own low = (tt, apart_append xs ys h.1 k own low)
+apart_append (Mark m ∷ xs) ys h k own low = (tt, apart_append xs ys h.1 k own low)
+
+stand_by : (is : List Item) (n : ℕ) → AllByRecursion (λ l. l < n) (labels_in is) → StandBelow n is
+stand_by [] n h = tt
+stand_by (Label m ∷ is) n h = (h.0, stand_by is n h.1)
+stand_by (Plain i ∷ is) n h = (tt, stand_by is n h)
+stand_by (Jump m ∷ is) n h = (tt, stand_by is n h)
+stand_by (JumpIf c m ∷ is) n h = (tt, stand_by is n h)
+stand_by (LoadLabel r m ∷ is) n h = (tt, stand_by is n h)
+stand_by (LoadWord r a ∷ is) n h = (tt, stand_by is n h)
+stand_by (StoreWord a r ∷ is) n h = (tt, stand_by is n h)
+stand_by (Mark m ∷ is) n h = (tt, stand_by is n h)
+
+-- ---- tables
+
+entered_length : (i : Item) (k : ℕ) (t : List ℕ) → length (entered i k t) ≡ length t
+entered_length (Label l) k t = length-set t l k
+entered_length _ k t = refl
+
+pub numbered_length : (is : List Item) (k : ℕ) (t : List ℕ) → length (numbered is k t) ≡ length t
+numbered_length [] k t = refl
+numbered_length (i ∷ is) k t = numbered_length is (k + 1) (entered i k t) ∙ entered_length i k t
+
+entered_kept : (l : ℕ) (i : Item) (k : ℕ) (t : List ℕ) → IsNot l i → slice_index (entered i k t) l ≡ slice_index t l
+entered_kept l (Label m) k t u = get_or-set_other t m l k 0 u
+entered_kept l _ k t u = refl
+
+kept : (is : List Item) (k : ℕ) (t : List ℕ) (l : ℕ) → Absent l is → slice_index (numbered is k t) l ≡ slice_index t l
+kept [] k t l u = refl
+kept (i ∷ is) k t l u = kept is (k + 1) (entered i k t) l u.1 ∙ entered_kept l i k t u.0
+
+own : (i : Item) (is : List Item) (k j : ℕ) (t : List ℕ) → Once i is → StandsBelow (length t) i → StandsAt (numbered is j (entered i k t)) k i
+own (Label l) is k j t u v = kept is j (slice_set t l k) l u ∙ get_or-set_same t l k 0 v
+own _ is k j t u v = tt
+
+pub stand_at : (is : List Item) (k : ℕ) (t : List ℕ) → Apart is → StandBelow (length t) is → StandAt (numbered is k t) k is
+stand_at [] k t u v = tt
+stand_at (i ∷ is) k t u v = (
+  own i is k (k + 1) t u.0 v.0,
+  stand_at is (k + 1) (entered i k t) u.1 (subst (λ n. StandBelow n is) (sym (entered_length i k t)) v.1),
+)
+
+-- each number is below a bound
+abbrev pub Below : ℕ → List ℕ → Type 0
+Below n t = (k : ℕ) → k < length t → slice_index t k < n
+
+below_set : (t : List ℕ) (l k n : ℕ) → k < n → Below n t → Below n (slice_set t l k)
+below_set t l k n lt h j within =
+    let size = length-set t l k in
+    ⊎_elim
+    (λ e. subst (λ x. x < n) (sym (ap (slice_index (slice_set t l k)) (eqb-true j l e) ∙ get_or-set_same t l k 0 (let q = eqb-true j l e in omega arith))) lt)
+    (λ e. subst (λ x. x < n) (sym (get_or-set_other t l j k 0 (λ q. eqb-false j l e q))) (h j (omega arith)))
+    (cases_Bool (j == l))
+
+below_entered : (i : Item) (k n : ℕ) (t : List ℕ) → k < n → Below n t → Below n (entered i k t)
+below_entered (Label l) k n t lt h = below_set t l k n lt h
+below_entered _ k n t lt h = h
+
+pub below_numbered : (is : List Item) (k n : ℕ) (t : List ℕ) → k + length is < n → Below n t → Below n (numbered is k t)
+below_numbered [] k n t lt h = h
+below_numbered (i ∷ is) k n t lt h = below_numbered is (k + 1) n (entered i k t) (omega arith) (below_entered i k n t (omega arith) h)
+
+pub below_zeros : (c n : ℕ) → 0 < n → Below n (replicate c 0)
+below_zeros c n some k h = grind (arith, common_steps)
+
+-- ---- addresses
+
+pub addresses_length : (a : ℕ) (ns : List ℕ) → length (addresses_from a ns) ≡ length ns + 1
+addresses_length a [] = refl
+addresses_length a (n ∷ ns) = let e = addresses_length (a + n) ns in omega arith
+
+pub below_addresses : (a : ℕ) (ns : List ℕ) (m : ℕ) → a + total ns < m → Below m (addresses_from a ns)
+below_addresses a [] m lt zero h = omega arith
+below_addresses a [] m lt (suc k) h = absurd (omega arith)
+below_addresses a (n ∷ ns) m lt zero h = omega arith
+below_addresses a (n ∷ ns) m lt (suc k) h = below_addresses (a + n) ns m (omega arith) k (omega arith)
+
+-- ---- all labels that are used have a place in the table
+
+-- a list of known labels
+known_below : (xs ys : List Item) (n : ℕ) → ((k : Routine) → IsTrue (is_among (labels_in ys) (label_of k))) → StandBelow n xs → StandBelow n ys → (l : ℕ) → IsTrue (is_routine l || is_among (labels_in xs) l) → l < n
+known_below xs ys n complete h k l e = by (is_routine l) refl e
+  where
+    by : (t : Bool) → is_routine l ≡ t → IsTrue (t || is_among (labels_in xs) l) → l < n
+    by true t e =
+        let r = routine_at l (routine_low l t) in
+        among_below ys l n k (subst (λ m. IsTrue (is_among (labels_in ys) m)) r.1 (complete r.0))
+    by false t e = among_below xs l n h e
+
+pub uses_known : (xs ys : List Item) (ws : List Word) (n : ℕ) → ((k : Routine) → IsTrue (is_among (labels_in ys) (label_of k))) → StandBelow n xs → StandBelow n ys → AreKnown xs ws → UseBelow n xs × WordsBelow n ws
+uses_known xs ys ws n complete h k known =
+    let all = all_by (λ l. IsTrue (is_routine l || is_among (labels_in xs) l)) (λ l. l < n) (known_below xs ys n complete h k) (uses_in xs ++ word_uses ws) (recursion_from_All _ (uses_in xs ++ word_uses ws) known) in
+    (use_below xs n (front_of (λ l. l < n) (uses_in xs) (word_uses ws) all), words_below ws n (back_of (λ l. l < n) (uses_in xs) (word_uses ws) all))
+
+low_label : (l : ℕ) → IsTrue (is_routine l || (nat_le 64 l && nat_lt l 1024)) → l < 1024
+low_label l e = grind (arith, nat_tests)
+
+-- the labels of routines are below 1,024
+pub routines_low : (ys : List Item) → All (λ l. IsTrue (is_routine l || (nat_le 64 l && nat_lt l 1024))) (labels_in ys) → StandBelow 1024 ys
+routines_low ys h = stand_by ys 1024 (all_by (λ l. IsTrue (is_routine l || (nat_le 64 l && nat_lt l 1024))) (λ l. l < 1024) low_label (labels_in ys) (recursion_from_All _ (labels_in ys) h))
+
+pub own_high : (xs : List Item) → AreOwn xs → AllByRecursion (λ l. 1024 ≤ l) (labels_in xs)
+own_high xs h = recursion_from_All _ (labels_in xs) h
