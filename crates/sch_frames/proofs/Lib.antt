@@ -1,0 +1,4 @@
+mod Following
+mod Operating
+mod Same
+mod Skip

@@ -1,3 +1,5 @@
+pub mod Does
+pub mod Layout
 pub mod Meaning
 pub mod ProgramView
 pub mod Run

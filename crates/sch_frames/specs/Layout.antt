@@ -1,0 +1,130 @@
+-- The layout of a body: its tree in order, as instructions. What follows is an argument, so nothing is
+-- appended, and each variable has a place.
+use Rattle.std.specs.Prelude.{ℕ, zero, suc, ◌+◌, ◌-◌, Bool, true, false, ◌&&◌, List, [], ◌∷◌, length, Option, Some, None, map}
+use Rattle.sch_word.specs.declared.place.Place.{Place}
+use Rattle.sch_word.specs.declared.place.Place.TheVariants.{Reg, Slot}
+use Rattle.sch_control.specs.declared.body.Entry.{Entry}
+use Rattle.sch_control.specs.declared.mark.MarkKind.TheVariants as mark
+use Rattle.sch_control.specs.declared.operation.Atom.{Atom}
+use Rattle.sch_control.specs.declared.operation.Atom.TheVariants.{Constant, Literal, Variable}
+use Rattle.sch_control.specs.declared.operation.Operand.{Operand}
+use Rattle.sch_control.specs.declared.operation.Operand.TheVariants as operand
+use Rattle.sch_control.specs.declared.operation.Operation.{Operation}
+use Rattle.sch_control.specs.declared.operation.Operation.TheVariants as operation
+use Rattle.sch_control.specs.Tree as control
+use Rattle.sch_control.specs.Tree.{Expression, perform, bind, sequence, branch, fix, call, tail_call, return, end, save}
+use Rattle.sch_frames.specs.declared.instruction.Instruction.{Instruction}
+use Rattle.sch_frames.specs.declared.instruction.Instruction.TheVariants.{Do, Store, Copy, Return, End, IfFalse, Jump, Label, Mark}
+use Rattle.sch_frames.specs.Meaning.{argument_register, argument_slot, closure_register}
+use Rattle.sch_frames.specs.Valid.{formals_of}
+
+-- ## Bodies that are laid out so far: without calls, closures and cells
+
+abbrev pub straight_operation : Operation ℕ → Bool
+straight_operation (operation.Operand o) = true
+straight_operation (operation.Prim site which operands) = true
+straight_operation (operation.Global g) = true
+straight_operation (operation.SetGlobal g o) = true
+straight_operation _ = false
+
+abbrev pub straight : Expression → Bool
+straight (perform o) = straight_operation o
+straight (bind x a b) = straight a && straight b
+straight (sequence a b) = straight a && straight b
+straight (branch a b c) = straight a && (straight b && straight c)
+straight (return e) = straight e
+straight (end e) = straight e
+straight _ = false
+
+-- ## Places for variables
+
+module _ (place : ℕ → Place) where
+  abbrev pub atom_at : Atom ℕ → Atom Place
+  atom_at (Constant c) = Constant c
+  atom_at (Literal n) = Literal n
+  atom_at (Variable x) = Variable (place x)
+
+  abbrev pub atoms_at : List (Atom ℕ) → List (Atom Place)
+  atoms_at [] = []
+  atoms_at (a ∷ atoms) = atom_at a ∷ atoms_at atoms
+
+  abbrev pub operand_at : Operand ℕ → Operand Place
+  operand_at (operand.Atom a) = operand.Atom (atom_at a)
+  operand_at (operand.Read site which atoms) = operand.Read site which (atoms_at atoms)
+
+  abbrev pub operands_at : List (Operand ℕ) → List (Operand Place)
+  operands_at [] = []
+  operands_at (o ∷ operands) = operand_at o ∷ operands_at operands
+
+  -- an operation of a body that is laid out so far
+  abbrev pub operation_at : Operation ℕ → Operation Place
+  operation_at (operation.Operand o) = operation.Operand (operand_at o)
+  operation_at (operation.Prim site which operands) = operation.Prim site which (operands_at operands)
+  operation_at (operation.Global g) = operation.Global g
+  operation_at (operation.SetGlobal g o) = operation.SetGlobal g (operand_at o)
+  operation_at _ = operation.UnsetCell
+
+  -- ## Expressions
+
+  -- Where a value goes: it is left in the accumulator, or tested, with a label where `#f` goes on.
+  abbrev pub leave : Option ℕ → List Instruction → List Instruction
+  leave None rest = rest
+  leave (Some l) rest = IfFalse l ∷ rest
+
+  -- how many labels an expression has
+  abbrev pub labels : Expression → ℕ
+  labels (bind x a b) = labels a + labels b
+  labels (sequence a b) = labels a + labels b
+  labels (branch a b c) = suc (suc (labels a + (labels b + labels c)))
+  labels (fix members e) = labels e
+  labels (return e) = labels e
+  labels (end e) = labels e
+  labels (save saves e) = labels e
+  labels _ = zero
+
+  -- the instructions of an expression, whose labels are numbered from n on, and then the rest
+  abbrev pub lay : Expression → (n : ℕ) → (test : Option ℕ) → List Instruction → List Instruction
+  lay (perform o) n test rest = Do (operation_at o) ∷ leave test rest
+  lay (bind x a b) n test rest = lay a n None (Store (place x) ∷ lay b (n + labels a) test rest)
+  lay (sequence a b) n test rest = lay a n None (lay b (n + labels a) test rest)
+  lay (branch a b c) n test rest =
+      lay a (suc (suc n)) (Some n)
+      (lay b (suc (suc (n + labels a))) test
+      (Jump (suc n) ∷ (Label n ∷ lay c (suc (suc (n + labels a + labels b))) test (Label (suc n) ∷ rest))))
+  lay (return e) n test rest = lay e n None (Mark mark.Return ∷ (Return ∷ rest))
+  lay (end e) n test rest = lay e n None (End ∷ rest)
+  lay _ n test rest = rest
+
+-- ## A slot for each variable
+
+-- R15 for the return address, and for each other variable a slot of its own from a base on
+abbrev pub own_slot : (base : ℕ) → ℕ → Place
+own_slot base zero = Reg 15
+own_slot base (suc x) = Slot (base + suc x)
+
+abbrev pub in_either : Option ℕ → ℕ → Place
+in_either (Some r) j = Reg r
+in_either None j = Slot j
+
+-- where an argument arrives
+abbrev pub arrival : ℕ → Place
+arrival k = in_either (argument_register k) (argument_slot k)
+
+-- each formal from one on is stored in its slot
+abbrev pub arrivals : (base from count : ℕ) → List Instruction → List Instruction
+arrivals base from zero rest = rest
+arrivals base from (suc count) rest = Copy (own_slot base (suc (suc from))) (arrival from) ∷ arrivals base (suc from) count rest
+
+-- a procedure stores what it has in registers and in the slots below the base
+abbrev pub entering : (base : ℕ) → Option Entry → List Instruction → List Instruction
+entering base None rest = rest
+entering base (Some e) rest = Copy (own_slot base 1) closure_register ∷ arrivals base 0 e.formals rest
+
+-- the slots in which arguments arrive
+abbrev pub arrival_slots : Option Entry → ℕ
+arrival_slots entry = formals_of entry - 6
+
+abbrev pub slots_layout : control.Code → List Instruction
+slots_layout c =
+    let base = arrival_slots c.entry in
+    entering base c.entry (lay (own_slot base) c.expression 0 None [])
