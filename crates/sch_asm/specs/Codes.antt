@@ -30,10 +30,13 @@ module _ (place_of : ℕ → ℕ) where
   Codes a (LoadWord r at ∷ is) code marks = (d : ℤ) × (rest : List Insn) × (code ≡ insn.MovFrom r (Rip d) ∷ rest) × (add64 (a + 7) (word d) ≡ at) × Codes (a + 7) is rest marks
   Codes a (StoreWord at r ∷ is) code marks = (d : ℤ) × (rest : List Insn) × (code ≡ insn.MovTo (Rip d) r ∷ rest) × (add64 (a + 7) (word d) ≡ at) × Codes (a + 7) is rest marks
 
+  abbrev pub value_of : Word → ℕ
+  value_of (Fixed n) = n
+  value_of (Address l) = place_of l
+
   -- the eight bytes of a word, the lowest first
   abbrev pub bytes_of : Word → List ℕ
-  bytes_of (Fixed n) = to_le_bytes w64 n
-  bytes_of (Address l) = to_le_bytes w64 (place_of l)
+  bytes_of w = to_le_bytes w64 (value_of w)
 
 -- Items and words with an address for each label, from 400000 hexadecimal on. Every address lies below 2^31.
 pub record AreResolved (items : List Item) (data_words : List Word) (code : List Insn) (marks : List mark.Mark) (words : List ℕ) : Type 0 where

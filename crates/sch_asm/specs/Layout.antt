@@ -1,6 +1,6 @@
 -- Tables of a text: the number of the item at which each label stands, and the address of each item. Items
 -- are numbered from 0.
-use Rattle.std.specs.Prelude.{◌≡◌, ℕ, ◌+◌, ◌<◌, List, [], ◌∷◌, ◌++◌, max, slice_set, slice_index, map, Option, Some, None, ℤ, pos, ◌-ℤ◌}
+use Rattle.std.specs.Prelude.{◌≡◌, ℕ, ◌+◌, ◌<◌, List, [], ◌∷◌, ◌++◌, length, max, slice_set, slice_index, map, Option, Some, None, ℤ, pos, ◌-ℤ◌}
 use Rattle.sch_insn.specs.declared.insn.Arg.TheVariants.{Rip}
 use Rattle.sch_insn.specs.declared.insn.Insn.{Insn}
 use Rattle.sch_insn.specs.declared.insn.Insn.TheVariants as insn
@@ -10,7 +10,7 @@ use Rattle.sch_asm.specs.declared.assembly.Word.TheVariants.{Fixed, Address}
 use Rattle.sch_asm.specs.declared.item.Item.{Item}
 use Rattle.sch_asm.specs.declared.item.Item.TheVariants.{Label, Plain, Jump, JumpIf, LoadLabel, LoadWord, StoreWord, Mark}
 use Rattle.sch_asm.specs.declared.item.Mark as mark
-use Rattle.sch_asm.specs.Items.{IsItem}
+use Rattle.sch_asm.specs.Codes.{item_size}
 
 -- ---- labels
 
@@ -31,6 +31,15 @@ entered _ k numbers = numbers
 abbrev pub numbered : List Item → ℕ → List ℕ → List ℕ
 numbered [] k numbers = numbers
 numbered (i ∷ is) k numbers = numbered is (k + 1) (entered i k numbers)
+
+-- Each label that stands has the number of its item in a table.
+abbrev pub StandsAt : List ℕ → ℕ → Item → Type 0
+StandsAt numbers k (Label l) = slice_index numbers l ≡ k
+StandsAt numbers k _ = Unit {0}
+
+abbrev pub StandAt : List ℕ → ℕ → List Item → Type 0
+StandAt numbers k [] = Unit {0}
+StandAt numbers k (i ∷ is) = StandsAt numbers k i × StandAt numbers (k + 1) is
 
 -- The labels that stand are below n.
 abbrev pub StandsBelow : ℕ → Item → Type 0
@@ -111,3 +120,11 @@ marked at k (i ∷ is) = marks_of (at k) i ++ marked at (k + 1) is
 -- Where tables place a label.
 abbrev pub placed_by : List ℕ → List ℕ → ℕ → ℕ
 placed_by numbers addresses l = slice_index addresses (slice_index numbers l)
+
+-- The tables are those of items and words: each label that stands has the number of its item, each item the
+-- address where those before it end, and each label that is used has a place in the tables.
+pub record IsLaidOut (items : List Item) (words : List Word) (numbers addresses : List ℕ) : Type 0 where
+  pub standing : StandAt numbers 0 items
+  pub ends : addresses ≡ addresses_from 0x400000 (map item_size items)
+  pub uses : UseBelow (length numbers) items
+  pub words_use : WordsBelow (length numbers) words

@@ -1,12 +1,13 @@
 //! From items to a text: `resolve`.
 
-ghost use Rattle.std.specs.Prelude.{◌≡◌, ◌+◌, ◌<◌, ◌≤◌, ◌++◌, length, IfOk, IfErr};
+ghost use Rattle.std.specs.Prelude.{◌≡◌, ◌+◌, ◌^◌, ◌<◌, ◌≤◌, ◌++◌, length, map, IfOk, IfErr, OnOk, slice_index};
 ghost use Rattle.std.specs.List.{flat_map};
-ghost use Rattle.sch_insn.specs.Spelling.{AllValid, spelling};
-ghost use Rattle.sch_asm.specs.Items.{AreOwn, AreRoutines};
-ghost use Rattle.sch_asm.specs.Codes.{AreResolved, IsTooLarge, text_size};
+ghost use Rattle.sch_insn.specs.Spelling.{AllValid, IsCondition, IsValid, spelling};
+ghost use Rattle.sch_asm.specs.Items.{AreItems, AreOwn, AreRoutines, IsItem};
+ghost use Rattle.sch_asm.specs.Codes.{AreResolved, IsTooLarge, bytes_of, item_size, text_size, value_of as word_value};
+ghost use Rattle.sch_asm.specs.Layout.{IsLaidOut, UseBelow, UsesBelow, WordBelow, WordsBelow, displacement, emitted, insns_of, marked, marks_of, option_list, placed_by, total};
 
-use crate::assembly::Asm;
+use crate::assembly::{Asm, Word};
 use crate::error::AsmError;
 use crate::item::{Item, Mark};
 use crate::layout::{Layout, addresses_of, item_count, labels_of, number_labels, push_sizes, total_size, zeros};
