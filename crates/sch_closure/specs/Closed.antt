@@ -151,6 +151,11 @@ abbrev pub labels : Lambdas → (n : ℕ) → List ℕ
 labels no_lambdas n = []
 labels (and_lambda name first formals rest e ls) n = n ∷ labels ls (suc n + procedures e)
 
+-- how many bodies stand before those of each form's procedures
+abbrev pub starts : Trees → (n : ℕ) → List ℕ
+starts no_trees n = []
+starts (and_tree e es) n = n ∷ starts es (n + procedures e)
+
 -- the flat program: the bodies of the library first
 abbrev pub closed_source : from.Source → to.Source
 closed_source p = record {
@@ -158,5 +163,6 @@ closed_source p = record {
   library = labels p.library 0;
   bodies = bodies_lambdas p.library 0 ++ bodies_each p.forms (procedures_lambdas p.library);
   forms = closed_each p.forms [] (procedures_lambdas p.library);
+  starts = starts p.forms (procedures_lambdas p.library);
   sites = p.sites;
 }

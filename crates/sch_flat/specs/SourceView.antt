@@ -7,11 +7,12 @@ use Rattle.sch_flat.specs.declared.tree.Exp.{Exp}
 use Rattle.sch_flat.specs.Tree.{Source}
 use Rattle.sch_flat.specs.View.{trees_of, body}
 
-abbrev pub source_of : Statics → List ℕ → List Body → List Exp → List ℕ → Source
-source_of ready library bodies forms sites = record {
+abbrev pub source_of : Statics → List ℕ → List Body → List Exp → List ℕ → List ℕ → Source
+source_of ready library bodies forms starts sites = record {
   statics = statics ready;
   library = library;
   bodies = map body bodies;
   forms = trees_of forms;
+  starts = starts;
   sites = sites;
 }

@@ -64,10 +64,12 @@ pub record Body : Type 0 where
   pub code : Tree
 
 -- A program: what stands ready when it starts, the labels of the library's procedures, the bodies by
--- their labels, its top-level forms, and for each site how many parts it has.
+-- their labels, its top-level forms, for each form how many bodies stand before those of its procedures,
+-- and for each site how many parts it has.
 pub record Source : Type 0 where
   pub statics : Statics
   pub library : List ℕ
   pub bodies : List Body
   pub forms : Trees
+  pub starts : List ℕ
   pub sites : List ℕ

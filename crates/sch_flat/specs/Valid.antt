@@ -99,6 +99,17 @@ is_formed p =
     && (over_source true (λ a b. a && b) (fits max_variables) p
     && (list_all body_fits p.bodies && forms_fit p.forms)))
 
+-- ## The order of the bodies
+
+-- none of these numbers is less than the one before it, and none is more than a last one
+abbrev pub ascending : (from last : ℕ) → List ℕ → Bool
+ascending from last [] = nat_le from last
+ascending from last (n ∷ ns) = nat_le from n && ascending n last ns
+
+-- each form has a place among the bodies where those of its procedures begin, in the order of the forms
+abbrev pub in_order : Source → Bool
+in_order p = nat_eq (length p.starts) (count p.forms) && ascending 0 (length p.bodies) p.starts
+
 -- ## Sites and statics
 
 -- each site that is listed stands once, with the number of parts that is listed

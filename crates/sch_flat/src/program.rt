@@ -1,6 +1,6 @@
 ghost use Rattle.std.specs.Prelude.{IsTrue};
 ghost use Rattle.sch_flat.specs.SourceView.{source_of};
-ghost use Rattle.sch_flat.specs.Valid.{is_closed, is_formed, sited, statics_known};
+ghost use Rattle.sch_flat.specs.Valid.{is_closed, is_formed, in_order, sited, statics_known};
 
 use crate::tree::{Body, Exp};
 use sch_word::{List, Statics};
@@ -17,13 +17,17 @@ pub struct FlatProgram {
     /// the forms, outer before inner, in the order of the text.
     pub bodies: List<Body>,
     pub forms: List<Exp>,
+    /// For each form, how many bodies stand before those of its procedures.
+    pub starts: List<u32>,
     pub sites: List<u32>,
     // No body has a free variable, and each record has as many fields as its label's body.
-    ghost closed: { IsTrue (is_closed (source_of statics library bodies forms sites)) },
+    ghost closed: { IsTrue (is_closed (source_of statics library bodies forms starts sites)) },
     // The nodes name what there is and are well formed, and the limits hold.
-    ghost formed: { IsTrue (is_formed (source_of statics library bodies forms sites)) },
+    ghost formed: { IsTrue (is_formed (source_of statics library bodies forms starts sites)) },
+    // The procedures of the forms stand in the order of the forms.
+    ghost ordered: { IsTrue (in_order (source_of statics library bodies forms starts sites)) },
     // Each site that is listed stands once, with the number of parts that is listed.
-    ghost sited: { IsTrue (sited (source_of statics library bodies forms sites)) },
+    ghost sited: { IsTrue (sited (source_of statics library bodies forms starts sites)) },
     // Symbols, literals and globals are few enough and name what there is.
-    ghost ready: { IsTrue (statics_known (source_of statics library bodies forms sites)) },
+    ghost ready: { IsTrue (statics_known (source_of statics library bodies forms starts sites)) },
 }
