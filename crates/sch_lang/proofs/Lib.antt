@@ -3,6 +3,7 @@ pub mod Empty
 pub mod Environments
 mod Examples
 mod Loop
+pub mod Measured
 pub mod MoreEntries
 mod OrderExamples
 pub mod OwnOrders

@@ -3,7 +3,7 @@
 use Rattle.std.proofs.Common.{◌≡◌, refl, false, [], ◌∷◌, pos}
 use Rattle.sch_lang.specs.Tree.{Source, expressions, local, bind, fix, letrec, no_lambdas, and_lambda}
 use Rattle.sch_lang.specs.Bodies.{most_variables}
-use Rattle.sch_lang.specs.Measures.{program_size, nodes_and_bound, levels, levels_each, levels_lambdas, sites_of}
+use Rattle.sch_lang.specs.Measures.{program_size, nodes_and_bound, variables_bound, levels, levels_each, levels_lambdas, sites_of}
 use Rattle.sch_lang.specs.Examples.{sum_line, loop_of, assigned_local, unset_init, counter, even_odd, rest_list, library_call, program, number, function, apply}
 
 -- the sum is an operand, and its operands are constants
@@ -111,3 +111,17 @@ let_nodes = refl
 -- a library lambda with its formal, its body of two nodes, a form of three
 library_nodes : nodes_and_bound library_call ≡ 7
 library_nodes = refl
+
+-- ## Bound variables
+
+-- the two of a group, and a formal of each
+group_bound : variables_bound (even_odd 6) ≡ 4
+group_bound = refl
+
+-- the formal of the library's procedure
+library_bound : variables_bound library_call ≡ 1
+library_bound = refl
+
+-- n, which a Let binds
+counter_bound : variables_bound counter ≡ 1
+counter_bound = refl

@@ -216,6 +216,10 @@ node_size e = size_of (shape e)
 abbrev pub program_size : Source → ℕ
 program_size p = procedures_size (procedures p.library) + count p.forms + over_source 0 (λ a b. a + b) node_size p
 
+-- how many variables a program binds
+abbrev pub variables_bound : Source → ℕ
+variables_bound p = formals_in (procedures p.library) + over_source 0 (λ a b. a + b) (λ e. bound_in (shape e)) p
+
 -- a node and the variables that it binds
 abbrev pub node_and_bound : Expression → ℕ
 node_and_bound e = suc (bound_in (shape e))
