@@ -15,3 +15,4 @@ pub mod Walking
 pub mod StopStatus
 pub mod TagsApart
 mod TypeRows
+pub mod TagsApart
