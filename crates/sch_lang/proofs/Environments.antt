@@ -9,7 +9,7 @@ use Rattle.sch_lang.specs.Variables.{assigns, nearest, cells_of}
 use Rattle.sch_lang.specs.Meaning.{onto}
 
 -- the first of the cells is bound first
-pub onto_more : (c : ℕ) (cs environment : List ℕ) → onto (c ∷ cs) environment ≡ onto cs (c ∷ environment)
+pub onto_more : {A : Type 0} (c : A) (cs environment : List A) → onto (c ∷ cs) environment ≡ onto cs (c ∷ environment)
 onto_more c cs environment = ap (λ l. l ++ environment) (reverse-append (c ∷ []) cs) ∙ append_assoc (reverse cs) (c ∷ []) environment
 
 -- the first of the variables is charged first, where it is assigned

@@ -25,8 +25,8 @@ abbrev pub with_cell : {V : Type 0} → Option ℕ → (ℕ → Computation Clos
 with_cell None next = unreached
 with_cell (Some c) next = next c
 
--- cells that were just made, of which the last is the nearest
-abbrev pub onto : List ℕ → List ℕ → List ℕ
+-- what was just bound, as the cells of new variables, in front of an environment: the last is the nearest
+abbrev pub onto : {A : Type 0} → List A → List A → List A
 onto cs environment = reverse cs ++ environment
 
 -- the procedures of a group of lambdas in an environment

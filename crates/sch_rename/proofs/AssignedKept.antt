@@ -1,9 +1,9 @@
 -- Numbering keeps which variables are assigned, and so the charges of bindings.
-use Rattle.std.proofs.Common.{◌≡◌, ℕ, zero, suc, ◌+◌, ◌<◌, Bool, true, false, List, [], ◌∷◌, length, refl, sym, ap, ◌∙◌, subst, arith}
-use Rattle.std.specs.Prelude.{nat_eq, ◌||◌}
+use Rattle.std.proofs.Common.{◌≡◌, ℕ, zero, suc, ◌+◌, ◌<◌, Bool, List, ◌∷◌, length, refl, sym, ap, ◌∙◌, subst, arith}
 use Rattle.sch_lang.specs.Tree.{Expression, Expressions, Lambdas, constant, literal, local, global, set_local, set_global, define, branch, sequence, bind, fix, letrec, lambda, call, operation, no_expressions, and_expression, no_lambdas, and_lambda, count, count_lambdas}
 use Rattle.sch_lang.specs.Variables.{assigns, assigns_each, assigns_lambdas, cells_of}
 use Rattle.sch_cells.specs.Variables as to
+use Rattle.sch_lang.proofs.Environments.{cells_of_more}
 use Rattle.sch_rename.specs.Made.{number_at, binds, binds_each, binds_lambdas, renamed, renamed_each, renamed_lambdas}
 use Rattle.sch_rename.specs.InScope.{InScope, EachInScope, LambdasInScope}
 use Rattle.sch_word.specs.Bindings.{scope_with}
@@ -79,4 +79,4 @@ pub cells_kept : (e : Expression) (x m : ℕ) (s : List ℕ) (y : ℕ) → Falls
 cells_kept e x zero s y f i = refl
 cells_kept e x (suc m) s y f i =
     let p : length s + suc m ≡ length (x ∷ s) + m = omega arith in
-    rw (first_assigned e x m s y f i, cells_kept e (suc x) m (x ∷ s) y f (subst (InScope e) p i)) refl
+    rw (cells_of_more m e, first_assigned e x m s y f i, cells_kept e (suc x) m (x ∷ s) y f (subst (InScope e) p i)) refl

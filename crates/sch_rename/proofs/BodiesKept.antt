@@ -1,18 +1,20 @@
 -- Numbering keeps the bodies of a program, and how many variables each of them may need.
-use Rattle.std.proofs.Common.{◌≡◌, ℕ, zero, suc, ◌+◌, ◌<◌, Bool, true, false, List, [], ◌∷◌, ◌++◌, length, Option, refl, sym, ap, ◌∙◌, subst, arith}
-use Rattle.std.specs.Prelude.{not, slice_get}
-use Rattle.sch_word.specs.Bindings.{Bindings, bound_to, with_variables, scope_with}
+use Rattle.std.proofs.Common.{◌≡◌, ℕ, zero, suc, ◌+◌, Bool, true, false, List, [], ◌∷◌, ◌++◌, map, length, refl, sym, ap, ◌∙◌, subst, arith}
+use Rattle.std.specs.Prelude.{not}
+use Rattle.sch_word.specs.Bindings.{Bindings, with_variables, scope_with, numbers}
 use Rattle.sch_lang.specs.Tree.{Expression, Expressions, Lambdas, Source, constant, literal, local, global, set_local, set_global, define, branch, sequence, bind, fix, letrec, lambda, call, operation, no_expressions, and_expression, no_lambdas, and_lambda, count, count_lambdas}
 use Rattle.sch_lang.specs.Variables.{assigns}
-use Rattle.sch_lang.specs.Measures.{variables, variables_each, variables_operands, variables_parts, onto_unassigned, onto_assigned, onto_all, bound_count, three_each, counts_nothing, one_unless, procedure, procedures}
+use Rattle.sch_lang.specs.Meaning.{onto}
+use Rattle.sch_lang.proofs.Environments.{onto_more}
+use Rattle.sch_lang.specs.Measures.{variables, variables_each, variables_operands, variables_parts, onto_assigned, onto_all, bound_count, three_each, counts_nothing, one_unless, procedure, procedures}
 use Rattle.sch_lang.specs.Bodies.{form, bodies, bodies_each, bodies_lambdas, bodies_forms, bodies_of}
 use Rattle.sch_cells.specs.Bodies as to
-use Rattle.sch_rename.specs.Made.{number_at, binds, binds_each, binds_lambdas, renamed, renamed_each, renamed_lambdas, renamed_source}
+use Rattle.sch_rename.specs.Made.{binds, binds_each, binds_lambdas, renamed, renamed_each, renamed_lambdas, renamed_source}
 use Rattle.sch_rename.specs.InScope.{InScope, EachInScope, LambdasInScope}
 use Rattle.sch_rename.proofs.Scopes.{Falls, falls_more, falls_with, inside}
 use Rattle.sch_rename.proofs.FreeKept.{counts, counts_lambdas, free_length}
 use Rattle.sch_rename.proofs.AssignedKept.{first_assigned}
-use Rattle.sch_rename.proofs.Same.{Fits, onto, fits_with}
+use Rattle.sch_rename.proofs.Same.{Fits, fits_with}
 
 -- ## Which variables count once
 
@@ -25,6 +27,9 @@ flags_length : (m : ℕ) (e : Expression) → length (flags m e) ≡ m
 flags_length zero e = refl
 flags_length (suc m) e = ap suc (flags_length m e)
 
+abbrev onto_unassigned : (j m : ℕ) → Expression → List Bool → List Bool
+onto_unassigned j m e once = map (λ i. not (assigns e i)) (numbers j m) ++ once
+
 nearest_last : (e : Expression) (once : List Bool) (j m : ℕ) → onto_unassigned j (suc m) e once ≡ onto_unassigned j m e (not (assigns e (j + m)) ∷ once)
 nearest_last e once j zero = let q : j + 0 ≡ j = omega arith in rw q refl
 nearest_last e once j (suc m) =
@@ -36,6 +41,7 @@ nearest_onto zero e once = refl
 nearest_onto (suc m) e once =
     let q : 0 + m ≡ m = omega arith in
     nearest_last e once 0 m ∙ ap (λ i. onto_unassigned 0 m e (not (assigns e i) ∷ once)) q ∙ nearest_onto m e (not (assigns e m) ∷ once)
+    ∙ sym (onto_more (not (assigns e m)) (flags m e) once)
 
 all_one_more : (m : ℕ) (b : Bool) (once : List Bool) → onto_all m b (b ∷ once) ≡ b ∷ onto_all m b once
 all_one_more zero b once = refl
@@ -43,7 +49,7 @@ all_one_more (suc m) b once = ap (λ l. b ∷ l) (all_one_more m b once)
 
 all_onto : (m : ℕ) (b : Bool) (once : List Bool) → onto_all m b once ≡ onto (to.all_same m b) once
 all_onto zero b once = refl
-all_onto (suc m) b once = sym (all_one_more m b once) ∙ all_onto m b (b ∷ once)
+all_onto (suc m) b once = sym (all_one_more m b once) ∙ all_onto m b (b ∷ once) ∙ sym (onto_more b (to.all_same m b) once)
 
 all_length : (m : ℕ) (b : Bool) → length (to.all_same m b) ≡ m
 all_length zero b = refl

@@ -1,6 +1,6 @@
 -- How many expressions and lambdas there are, and what loops over them have made and have left.
-use Rattle.std.proofs.Common.{◌≡◌, ℕ, zero, suc, ◌+◌, ◌-◌, ◌<◌, ◌≤◌, List, [], ◌∷◌, ◌++◌, length, map, reverse, take, drop, get_or, refl, ap, ◌∙◌, sym, subst, arith, add-one, drop-cons}
-use Rattle.std.proofs.lemmas.List.{get_or-reverse, reverse-append, map-append, drop_all}
+use Rattle.std.proofs.Common.{◌≡◌, ℕ, zero, suc, ◌+◌, ◌-◌, ◌<◌, ◌≤◌, List, [], ◌∷◌, ◌++◌, length, map, reverse, drop, get_or, refl, ap, ◌∙◌, sym, subst, arith, add-one}
+use Rattle.std.proofs.lemmas.List.{get_or-reverse, reverse-append}
 use Rattle.sch_lang.specs.declared.tree.Exp.{Exp}
 use Rattle.sch_lang.specs.declared.tree.Lambda.{Lambda}
 use Rattle.sch_lang.specs.Tree as source
@@ -17,7 +17,7 @@ use Rattle.sch_cells.specs.Tree.{Tree, Trees, no_trees, and_tree, trees, no_lamb
 use Rattle.sch_cells.specs.View.{tree, trees_of, function as cells_function, lambdas_of as cells_lambdas_of}
 use Rattle.sch_cells.proofs.Rows.{trees_of_list, lambdas_of_list as cells_lambdas_of_list}
 use Rattle.sch_rename.specs.Made.{number_at, binds, binds_each, binds_lambdas, renamed, renamed_each, renamed_lambdas, renamed_source}
-use Rattle.sch_rename.specs.InScope.{InScope, EachInScope, LambdasInScope}
+use Rattle.sch_rename.specs.InScope.{EachInScope, LambdasInScope}
 use Rattle.sch_word.specs.Bindings.{scope_with}
 use Rattle.sch_word.specs.Walk.{onto}
 use Rattle.sch_word.proofs.Walking.{next_made, next_count, next_left, end_made}

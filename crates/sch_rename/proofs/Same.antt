@@ -1,38 +1,35 @@
 -- A tree with numbers runs as the tree that it was made from.
-use Rattle.std.proofs.Common.{◌≡◌, ℕ, zero, suc, ◌+◌, ◌<◌, Bool, true, false, List, [], ◌∷◌, length, map, Option, Some, None, refl, sym, ap, ◌∙◌, subst, arith}
-use Rattle.std.specs.Prelude.{nat_eq, slice_get}
+use Rattle.std.proofs.Common.{◌≡◌, ℕ, zero, suc, ◌+◌, ◌<◌, Bool, true, false, List, [], ◌∷◌, length, Option, Some, None, refl, ap, ◌∙◌, arith}
+use Rattle.std.specs.Prelude.{slice_get}
 use Rattle.sch_word.specs.Values.{Value, unspecified, is_true}
 use Rattle.sch_word.specs.Computation.{Computation, read_literal, read_global, write_global, some_each, unset_each, take_entry}
-use Rattle.sch_word.specs.Charges.{charge, charge_each, procedure_bytes, fit}
+use Rattle.sch_word.specs.Charges.{charge, charge_each, fit}
 use Rattle.sch_word.specs.PrimitiveRows.{primitive}
 use Rattle.sch_word.specs.Runs.{SameRuns, starting_store}
+use Rattle.sch_word.proofs.Lengths.{some_length, unset_length}
 use Rattle.sch_word.proofs.Similar.{EachSimilar, no_similar, and_similar, similar_gives, similar_unreached, similar_spent, similar_either, similar_then, similar_all_values, similar_in_turn}
 use Rattle.sch_word.proofs.SameStore.{same_store, Pairs, no_pairs, and_pair, DoesSame, same_in_store, keeps_in_store, same_read_cell, same_write_cell, same_write_cells, same_new_procedure, keeps_new_cells, keeps_new_fix, same_keeping, same_call, same_seen, fit_length}
 use Rattle.sch_lang.specs.Tree.{Expression, Expressions, Lambdas, Source, constant, literal, local, global, set_local, set_global, define, branch, sequence, bind, fix, letrec, lambda, call, operation, no_expressions, and_expression, no_lambdas, and_lambda, count, count_lambdas}
-use Rattle.sch_lang.specs.Variables.{outside, free, cells_of}
+use Rattle.sch_lang.specs.Variables.{cells_of}
 use Rattle.sch_lang.specs.Meaning as from
 use Rattle.sch_lang.specs.Meaning.{with_cell, lambda_bytes, lambdas_bytes}
 use Rattle.sch_word.specs.CellBytes.{cells_bytes}
 use Rattle.sch_word.specs.Orders.{Orders, order_at}
 use Rattle.sch_lang.specs.Run as source
-use Rattle.sch_cells.specs.Tree as tree
 use Rattle.sch_cells.specs.UnboxedMeaning as to
 use Rattle.sch_cells.specs.Procedures as procedures
 use Rattle.sch_word.specs.Bindings.{Bindings, bound_to, with_variables, scope_with}
 use Rattle.sch_rename.specs.Made.{number_at, binds, binds_each, binds_lambdas, renamed, renamed_each, renamed_lambdas, renamed_source}
 use Rattle.sch_rename.specs.InScope.{InScope, EachInScope, LambdasInScope}
 use Rattle.sch_rename.proofs.Scopes.{self, Falls, falls_more, falls_with, at_below, differs, inside}
+use Rattle.sch_lang.specs.Meaning.{onto}
+use Rattle.sch_lang.proofs.Environments.{onto_more}
 use Rattle.sch_rename.proofs.FreeKept.{counts, counts_lambdas, free_length}
 use Rattle.sch_rename.proofs.AssignedKept.{cells_kept}
 
 -- each variable in scope has the same on both sides
 pub record Fits {A : Type 0} (s : List ℕ) (environment : List A) (environment' : Bindings A) : Type 0 where
   pub at : (k : ℕ) → k < length s → bound_to (number_at s k) environment' ≡ slice_get environment k
-
--- the last is the nearest
-abbrev pub onto : {A : Type 0} → List A → List A → List A
-onto [] environment = environment
-onto (c ∷ cs) environment = onto cs (c ∷ environment)
 
 module _ {A : Type 0} where
   fits_push : {s : List ℕ} {environment : List A} {environment' : Bindings A} (x : ℕ) (c : A) → Falls s x → Fits s environment environment' → Fits (x ∷ s) (c ∷ environment) ((x, c) ∷ environment')
@@ -47,7 +44,7 @@ module _ {A : Type 0} where
   fits_with x zero (c ∷ cs) l f h = absurd (omega arith)
   fits_with x (suc m) [] l f h = absurd (omega arith)
   fits_with {s = s} {environment = environment} {environment' = environment'} x (suc m) (c ∷ cs) l f h =
-      fits_with {s = x ∷ s} {environment = c ∷ environment} {environment' = (x, c) ∷ environment'} (suc x) m cs (omega arith) (omega arith, f) (fits_push x c f h)
+      rw (onto_more c cs environment) (fits_with {s = x ∷ s} {environment = c ∷ environment} {environment' = (x, c) ∷ environment'} (suc x) m cs (omega arith) (omega arith, f) (fits_push x c f h))
 
 pub record Becomes (p : from.Closure) (q : procedures.Closure ℕ) : Type 0 where
   pub scope : List ℕ
@@ -67,14 +64,6 @@ closures_become no_lambdas s x f i h = no_pairs
 closures_become (and_lambda name m rest e ls) s x {environment} {environment'} f i h =
     and_pair (record { scope = s; first = x; environment' = environment'; is = refl; falls = f; inside = i.0; fits = h })
     (closures_become ls s (x + m + binds e) (falls_more s x _ (omega arith) f) i.1 h)
-
-some_length : (vs : List Value) → length (some_each vs) ≡ length vs
-some_length [] = refl
-some_length (v ∷ vs) = ap suc (some_length vs)
-
-unset_length : (m : ℕ) → length (unset_each m) ≡ m
-unset_length zero = refl
-unset_length (suc m) = ap suc (unset_length m)
 
 same_variable : {o : Option ℕ} (o' : Option ℕ) {c : ℕ → Computation from.Closure Value} {d : ℕ → Computation (procedures.Closure ℕ) Value} → o' ≡ o → ((k : ℕ) → DoesSame Becomes (c k) (d k)) → DoesSame Becomes (with_cell o c) (to.with_cell o' d)
 same_variable None e h = rw (← e) (similar_unreached (same_store Becomes))

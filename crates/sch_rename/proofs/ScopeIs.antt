@@ -1,5 +1,5 @@
 -- What a valid program says of its variables, as what proofs use.
-use Rattle.std.proofs.Common.{◌≡◌, ℕ, ◌+◌, ◌<◌, Bool, true, false, refl}
+use Rattle.std.proofs.Common.{ℕ, ◌+◌}
 use Rattle.std.specs.Prelude.{IsTrue, ◌&&◌, nat_lt}
 use Rattle.std.proofs.lemmas.Bool.{ltb-true}
 use Rattle.sch_word.proofs.Shaped.{parts}

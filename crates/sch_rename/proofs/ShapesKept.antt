@@ -1,15 +1,15 @@
 -- Numbering keeps the shape of each node, and so everything that is counted of shapes.
-use Rattle.std.proofs.Common.{◌≡◌, ℕ, zero, suc, ◌+◌, Bool, true, List, [], ◌∷◌, ◌++◌, length, refl, ap, ◌∙◌, arith}
+use Rattle.std.proofs.Common.{◌≡◌, ℕ, ◌+◌, List, [], length, refl, ap, arith}
 use Rattle.sch_word.specs.Bindings.{scope_with}
 use Rattle.sch_word.specs.Shape as shapes
 use Rattle.sch_word.specs.Shape.{Shape}
-use Rattle.sch_word.proofs.Shaped.{Joins, Equal, equal_joins}
+use Rattle.sch_word.proofs.Shaped.{Joins, equal_joins}
 use Rattle.sch_lang.specs.Tree.{Expression, Expressions, Lambdas, Source, constant, literal, local, global, set_local, set_global, define, branch, sequence, bind, fix, letrec, lambda, call, operation, no_expressions, and_expression, no_lambdas, and_lambda, count, count_lambdas}
 use Rattle.sch_lang.specs.Measures as from
 use Rattle.sch_lang.specs.Measures.{shape, one_if_atom, dropped_parts}
 use Rattle.sch_cells.specs.Tree as tree
 use Rattle.sch_cells.specs.Measures as to
-use Rattle.sch_rename.specs.Made.{binds, binds_each, binds_lambdas, renamed, renamed_each, renamed_lambdas, renamed_source}
+use Rattle.sch_rename.specs.Made.{binds, binds_lambdas, renamed, renamed_each, renamed_lambdas, renamed_source}
 use Rattle.sch_rename.specs.InScope.{InScope, EachInScope, LambdasInScope}
 use Rattle.sch_rename.proofs.Scopes.{Falls, falls_more, falls_with, inside}
 use Rattle.sch_rename.proofs.FreeKept.{counts, counts_lambdas}

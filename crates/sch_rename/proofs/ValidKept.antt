@@ -1,20 +1,19 @@
 -- A valid program with numbers is a valid cell program.
-use Rattle.std.proofs.Common.{◌≡◌, ℕ, zero, suc, ◌+◌, ◌≤◌, Bool, true, false, List, [], ◌∷◌, ◌++◌, length, Option, refl, sym, ap, ◌∙◌, subst, arith}
-use Rattle.std.specs.Prelude.{IsTrue, ◌&&◌, ◌||◌, not, nat_le}
+use Rattle.std.proofs.Common.{◌≡◌, ℕ, zero, suc, ◌+◌, true, false, List, [], ◌∷◌, ◌++◌, length, refl, ap, ◌∙◌, subst, arith}
+use Rattle.std.specs.Prelude.{IsTrue, ◌&&◌, nat_le}
 use Rattle.sch_word.specs.Bindings.{scope_with}
 use Rattle.sch_word.specs.Literals.{count_literals}
 use Rattle.sch_word.specs.Shape as shapes
 use Rattle.sch_word.specs.Shape.{Shape, names_known, well_formed, fits, procedures_fit, max_variables, max_levels}
 use Rattle.sch_word.proofs.Shaped.{Implies, implies_joins, same_implies, Holds, holds_joins, parts, both_true}
-use Rattle.sch_lang.specs.Tree.{Expression, Expressions, Lambdas, Source, constant, literal, local, global, set_local, set_global, define, branch, sequence, bind, fix, letrec, lambda, call, operation, no_expressions, and_expression, no_lambdas, and_lambda, count, count_lambdas}
-use Rattle.sch_lang.specs.Measures.{procedures, variables, levels_lambdas, levels_each}
+use Rattle.sch_lang.specs.Tree.{Expression, Expressions, Lambdas, Source, constant, literal, local, global, set_local, set_global, define, branch, sequence, bind, fix, letrec, lambda, call, operation, no_expressions, and_expression, count_lambdas}
+use Rattle.sch_lang.specs.Measures.{variables, levels_lambdas, levels_each}
 use Rattle.sch_lang.specs.Valid as valid
-use Rattle.sch_cells.specs.Tree as tree
 use Rattle.sch_cells.specs.Measures as to
 use Rattle.sch_cells.specs.Valid as to_valid
 use Rattle.sch_rename.specs.Made.{binds, binds_each, binds_lambdas, renamed, renamed_each, renamed_lambdas, renamed_source}
 use Rattle.sch_rename.specs.InScope.{InScope, EachInScope, LambdasInScope}
-use Rattle.sch_rename.proofs.Scopes.{Falls, falls_more, falls_with, inside}
+use Rattle.sch_rename.proofs.Scopes.{Falls, falls_more, falls_with}
 use Rattle.sch_rename.proofs.ScopeIs.{each_is, lambdas_are}
 use Rattle.sch_rename.proofs.FreeKept.{counts_lambdas}
 use Rattle.sch_rename.proofs.AssignedKept.{first_assigned, first_assigned_lambdas}

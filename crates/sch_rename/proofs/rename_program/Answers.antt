@@ -1,4 +1,4 @@
-use Rattle.std.proofs.Common.{◌≡◌, ◌∙◌, ◌+◌, false, ap, sym, subst, length, reverse, [], arith}
+use Rattle.std.proofs.Common.{◌≡◌, ◌∙◌, ◌+◌, false, ap, sym, subst, reverse, [], arith}
 use Rattle.std.specs.Prelude.{IsTrue}
 use Rattle.sch_lang.specs.ProgramView.{source}
 use Rattle.sch_cells.specs.Valid.{scoped, formed, within_limits, sited, statics_known}

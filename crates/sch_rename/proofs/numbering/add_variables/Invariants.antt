@@ -1,4 +1,4 @@
-use Rattle.std.proofs.Common.{◌≡◌, ◌+◌, ◌-◌, ◌≤◌, length, reverse, take}
+use Rattle.std.proofs.Common.{◌≡◌, ◌+◌, ◌-◌, length, reverse, take}
 use Rattle.sch_word.specs.Bindings.{scope_with}
 use Rattle.sch_rename.proofs.numbering.add_variables.Given as goal
 
