@@ -1,20 +1,20 @@
 //! Each variable gets a number of its own, in the order of the text.
 
 ghost use Rattle.std.specs.Prelude.{◌≡◌, ◌+◌, ◌<◌, ◌^◌, length, reverse, take, IfOk, OnOk};
+ghost use Rattle.sch_word.specs.Bindings.{scope_with};
 ghost use Rattle.sch_lang.specs.Tree as source;
 ghost use Rattle.sch_lang.specs.View.{expression, expressions_of, lambdas_of};
 ghost use Rattle.sch_cells.specs.Tree as plain;
-ghost use Rattle.sch_word.specs.Bindings.{scope_with};
 ghost use Rattle.sch_cells.specs.View as view;
-ghost use Rattle.sch_rename.specs.Made.{number_at, binds, binds_each, binds_lambdas, renamed, renamed_each, renamed_lambdas};
 ghost use Rattle.sch_rename.specs.InScope.{InScope, EachInScope, LambdasInScope};
+ghost use Rattle.sch_rename.specs.Made.{number_at, binds, binds_each, binds_lambdas, renamed, renamed_each, renamed_lambdas};
 
 use sch_cells as cells;
 use sch_lang::{Exp, Lambda};
 use sch_word::{List, Mem};
 use std::alloc::Global;
 
-// The number of the variable with k bound nearer.
+// The number of the variable with k bound nearer. The nearest is the last of the scope.
 #[tactic(auto, using(crate::proofs::Loops::from_the_end))]
 fn number_of(scope: &[u32], k: u32) -> u32
     requires { k < length scope.now }
@@ -41,8 +41,8 @@ fn count_lambdas(ls: &List<Lambda>) -> u32
     ls.len() as u32
 }
 
-// So many new variables, the nearest last.
-fn add_variables(first: u32, count: u32, scope: &mut Vec<u32>) -> Result<(), Mem>
+// Puts `count` new variables into the scope, the nearest last.
+fn bind_variables(first: u32, count: u32, scope: &mut Vec<u32>) -> Result<(), Mem>
     requires { first + count < 2 ^ 32 }
     ensures names { OnOk result (reverse scope.new.items ≡ scope_with first count (reverse scope.old.items)) }
     ensures kept { OnOk result (take (length scope.old.items) scope.new.items ≡ scope.old.items) }
@@ -54,7 +54,7 @@ fn add_variables(first: u32, count: u32, scope: &mut Vec<u32>) -> Result<(), Mem
     Ok(())
 }
 
-/// The tree with numbers, from the next number on.
+/// The expression in a scope of numbers, where new variables have the numbers from `next` on.
 #[cycle(renaming)]
 fn rename_expression(
     alloc: Global,
@@ -73,97 +73,116 @@ fn rename_expression(
         Exp::Literal(n) => Ok(cells::Exp::Literal(*n)),
         Exp::Local(k) => Ok(cells::Exp::Var(number_of(scope.as_slice(), *k))),
         Exp::Global(g) => Ok(cells::Exp::Global(*g)),
-        Exp::SetLocal(k, e) => {
+        Exp::SetLocal(k, value) => {
             let x = number_of(scope.as_slice(), *k);
-            let e = Box::new(alloc, rename_expression(alloc, e, scope, next)?)?;
-            Ok(cells::Exp::SetVar(x, e))
+            let value = rename_boxed(alloc, value, scope, next)?;
+            Ok(cells::Exp::SetVar(x, value))
         }
-        Exp::SetGlobal(g, e) => {
-            let e = Box::new(alloc, rename_expression(alloc, e, scope, next)?)?;
-            Ok(cells::Exp::SetGlobal(*g, e))
+        Exp::SetGlobal(g, value) => {
+            let value = rename_boxed(alloc, value, scope, next)?;
+            Ok(cells::Exp::SetGlobal(*g, value))
         }
-        Exp::Define(g, e) => {
-            let e = Box::new(alloc, rename_expression(alloc, e, scope, next)?)?;
-            Ok(cells::Exp::Define(*g, e))
+        Exp::Define(g, value) => {
+            let value = rename_boxed(alloc, value, scope, next)?;
+            Ok(cells::Exp::Define(*g, value))
         }
-        Exp::If(a, b, c) => {
-            let a = Box::new(alloc, rename_expression(alloc, a, scope, next)?)?;
-            let b = Box::new(alloc, rename_expression(alloc, b, scope, next)?)?;
-            let c = Box::new(alloc, rename_expression(alloc, c, scope, next)?)?;
-            Ok(cells::Exp::If(a, b, c))
+        Exp::If(test, yes, no) => {
+            let test = rename_boxed(alloc, test, scope, next)?;
+            let yes = rename_boxed(alloc, yes, scope, next)?;
+            let no = rename_boxed(alloc, no, scope, next)?;
+            Ok(cells::Exp::If(test, yes, no))
         }
-        Exp::Seq(es) => {
-            let es = rename_each(alloc, es, scope, next)?;
-            Ok(cells::Exp::Seq(es))
+        Exp::Seq(parts) => {
+            let parts = rename_each(alloc, parts, scope, next)?;
+            Ok(cells::Exp::Seq(parts))
         }
-        Exp::Let(site, es, e) => {
+        Exp::Let(site, inits, body) => {
             let first = *next;
-            let count = count(es);
+            let count = count(inits);
             *next += count;
-            let es = rename_each(alloc, es, scope, next)?;
+            let inits = rename_each(alloc, inits, scope, next)?;
             let depth = scope.len();
-            add_variables(first, count, scope)?;
-            let e = Box::new(alloc, rename_expression(alloc, e, scope, next)?)?;
+            bind_variables(first, count, scope)?;
+            let body = rename_boxed(alloc, body, scope, next)?;
             scope.truncate(depth);
             Ok(cells::Exp::Let {
                 site: *site,
                 first,
-                inits: es,
-                body: e,
+                inits,
+                body,
             })
         }
-        Exp::Fix(ls, e) => {
+        Exp::Fix(lambdas, body) => {
             let first = *next;
-            let count = count_lambdas(ls);
+            let count = count_lambdas(lambdas);
             *next += count;
             let depth = scope.len();
-            add_variables(first, count, scope)?;
-            let ls = rename_lambdas(alloc, ls, scope, next)?;
-            let e = Box::new(alloc, rename_expression(alloc, e, scope, next)?)?;
+            bind_variables(first, count, scope)?;
+            let lambdas = rename_lambdas(alloc, lambdas, scope, next)?;
+            let body = rename_boxed(alloc, body, scope, next)?;
             scope.truncate(depth);
             Ok(cells::Exp::Fix {
                 first,
-                lambdas: ls,
-                body: e,
+                lambdas,
+                body,
             })
         }
-        Exp::Rec(site, es, e) => {
+        Exp::Rec(site, inits, body) => {
             let first = *next;
-            let count = count(es);
+            let count = count(inits);
             *next += count;
             let depth = scope.len();
-            add_variables(first, count, scope)?;
-            let es = rename_each(alloc, es, scope, next)?;
-            let e = Box::new(alloc, rename_expression(alloc, e, scope, next)?)?;
+            bind_variables(first, count, scope)?;
+            let inits = rename_each(alloc, inits, scope, next)?;
+            let body = rename_boxed(alloc, body, scope, next)?;
             scope.truncate(depth);
             Ok(cells::Exp::Rec {
                 site: *site,
                 first,
-                inits: es,
-                body: e,
+                inits,
+                body,
             })
         }
         Exp::Lambda(l) => {
             let l = Box::new(alloc, rename_lambda(alloc, l, scope, next)?)?;
             Ok(cells::Exp::Lambda(l))
         }
-        Exp::Call(site, f, es) => {
-            let f = Box::new(alloc, rename_expression(alloc, f, scope, next)?)?;
-            let es = rename_each(alloc, es, scope, next)?;
+        Exp::Call(site, operator, operands) => {
+            let operator = rename_boxed(alloc, operator, scope, next)?;
+            let operands = rename_each(alloc, operands, scope, next)?;
             Ok(cells::Exp::Call {
                 site: *site,
                 spread: false,
-                operator: f,
-                operands: es,
+                operator,
+                operands,
             })
         }
-        Exp::Prim(site, which, es) => {
-            let es = rename_each(alloc, es, scope, next)?;
-            Ok(cells::Exp::Prim(*site, *which, es))
+        Exp::Prim(site, which, operands) => {
+            let operands = rename_each(alloc, operands, scope, next)?;
+            Ok(cells::Exp::Prim(*site, *which, operands))
         }
     }
 }
 
+// The same on the heap. As a function of its own it keeps the frames of the walk small.
+#[cycle(renaming)]
+fn rename_boxed(
+    alloc: Global,
+    e: &Box<Exp>,
+    scope: &mut Vec<u32>,
+    next: &mut u32,
+) -> Result<Box<cells::Exp>, Mem>
+    requires inside { InScope (expression e.now.value) (length scope.old.items) }
+    requires few { next.old + binds (expression e.now.value) < 2 ^ 32 }
+    ensures made { IfOk result (λ q. view.tree q.value ≡ renamed (expression e.now.value) (reverse scope.old.items) next.old) }
+    ensures next { OnOk result (next.new ≡ next.old + binds (expression e.now.value)) }
+    ensures scope { OnOk result (scope.new.items ≡ scope.old.items) }
+{
+    let e = rename_expression(alloc, e, scope, next)?;
+    Ok(Box::new(alloc, e)?)
+}
+
+/// Each of some expressions, one after another.
 #[cycle(renaming)]
 pub(crate) fn rename_each(
     alloc: Global,
@@ -200,7 +219,7 @@ fn rename_lambda(
     let first = *next;
     *next += l.formals;
     let depth = scope.len();
-    add_variables(first, l.formals, scope)?;
+    bind_variables(first, l.formals, scope)?;
     let body = rename_expression(alloc, &l.body, scope, next)?;
     scope.truncate(depth);
     let name = List::from_slice(alloc, l.name.as_slice())?;
@@ -213,6 +232,7 @@ fn rename_lambda(
     })
 }
 
+/// Each of some lambdas, one after another.
 #[cycle(renaming)]
 pub(crate) fn rename_lambdas(
     alloc: Global,

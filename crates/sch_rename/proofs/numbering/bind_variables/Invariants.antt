@@ -1,6 +1,6 @@
 use Rattle.std.proofs.Common.{◌≡◌, ◌+◌, ◌-◌, length, reverse, take}
 use Rattle.sch_word.specs.Bindings.{scope_with}
-use Rattle.sch_rename.proofs.numbering.add_variables.Given as goal
+use Rattle.sch_rename.proofs.numbering.bind_variables.Given as goal
 
 abbrev pub invariant-loop-x : goal.invariant-loop-x
 invariant-loop-x l = record {
