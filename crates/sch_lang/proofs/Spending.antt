@@ -10,7 +10,7 @@ use Rattle.sch_word.specs.Checked.{Checked, passes, refused, exhausted, unreacha
 use Rattle.sch_word.specs.Computation.{Outcome, gives, stops, spent, State, Action, Computation, with_rest, in_store, on_value, after, either, at_place, in_order, in_turn, blanks, all_values, set_or_stop, read_cell, write_cell, write_cells, new_procedure, new_fix, new_cells, some_each, unset_each, checked, checked_call, call_with, taken, take_entry}
 use Rattle.sch_word.specs.Runs.{going, seen, starting_store, starting_state}
 use Rattle.sch_word.proofs.Steady.{OutcomeGrows, NeverSpent, Steady, steady_charge, steady_charge_each, steady_fit, steady_read_global, steady_write_global, steady_read_literal, steady_primitive}
-use Rattle.sch_word.proofs.Exhausted.{Exhausts, exhausts_checked_call}
+use Rattle.sch_word.proofs.NoEntryLeft.{Exhausts, exhausts_checked_call}
 use Rattle.sch_word.specs.Orders.{Orders, order_at}
 use Rattle.sch_word.specs.CellBytes.{cells_bytes}
 use Rattle.sch_lang.specs.Tree.{Expression, Expressions, constant, literal, local, global, set_local, set_global, define, branch, sequence, bind, fix, letrec, lambda, call, operation, no_expressions, and_expression, count, count_lambdas, Source}

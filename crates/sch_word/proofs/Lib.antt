@@ -1,6 +1,6 @@
 pub mod Ahead
 mod Examples
-pub mod Exhausted
+pub mod NoEntryLeft
 pub mod Fixnums
 pub mod Lengths
 pub mod LiteralObjects

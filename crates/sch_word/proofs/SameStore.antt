@@ -1,6 +1,6 @@
 -- Two languages whose states differ in their procedures alone, which are related one by one. Nothing
 -- has to be known of the states besides, so the world has one point.
-use Rattle.std.proofs.Common.{◌≡◌, ℕ, zero, suc, ◌≤◌, Bool, true, false, List, [], ◌∷◌, ◌++◌, length, take, drop, Option, Some, None, refl, ap, ◌∙◌, arith, length-append}
+use Rattle.std.proofs.Common.{◌≡◌, ℕ, zero, suc, ◌≤◌, Bool, true, false, List, [], ◌∷◌, ◌++◌, length, take, drop, Option, Some, None, refl, sym, ap, ◌∙◌, arith, length-append}
 use Rattle.std.specs.Prelude.{slice_get, nat_eq, nat_le}
 use Rattle.std.proofs.lemmas.Bool.{eqb-true, leb-true}
 use Rattle.std.proofs.lemmas.List.{length-take-le}
@@ -14,7 +14,7 @@ use Rattle.sch_word.specs.Computation.{Outcome, gives, stops, spent, State, Acti
 use Rattle.sch_word.specs.Charges.{new_list, fit}
 use Rattle.sch_word.specs.Runs.{seen, starting_state}
 use Rattle.sch_word.proofs.Lengths.{numbers_length, procedures_length}
-use Rattle.sch_word.proofs.Similar.{Correspondence, Similar, SimilarOutcome, Same, BothChecked, both_pass, both_refused, both_exhausted, both_unreachable, both_self, both_on_passed, similar_gives, similar_checked, similar_keeping, similar_then}
+use Rattle.sch_word.proofs.Similar.{Correspondence, Similar, SimilarOutcome, Same, BothChecked, both_pass, both_refused, both_exhausted, both_unreachable, both_self, both_on_passed, similar_gives, similar_checked, similar_keeping, similar_then, similar_seen}
 
 -- a promise on the value that an outcome over the store gives
 abbrev pub Gives : {V : Type 0} → (V → Type 0) → Outcome Store V → Type 0
@@ -182,9 +182,6 @@ module _ {P Q : Type 0} (Becomes : P → Q → Type 0) where
 
   -- what is seen of two runs from related starts is the same
   pub same_seen : {V : Type 0} (answers : List Answer) (entries : ℕ) (c : Computation P V) (d : Computation Q V) → DoesSame c d → (t : Store) (ps : List P) (qs : List Q) → Pairs ps qs → seen answers entries (c (starting_state t ps)) ≡ seen answers entries (d (starting_state t qs))
-  same_seen {V} answers entries c d h t ps qs p = outcomes (c (starting_state t ps)) (d (starting_state t qs)) (h.from tt tt (starting_state t ps) (starting_state t qs) (record { procedures = qs; pairs = p; is = refl }))
-    where
-      outcomes : (a : Outcome (State P) V) (b : Outcome (State Q) V) → SimilarOutcome same_store (Same same_store) tt a b → seen answers entries a ≡ seen answers entries b
-      outcomes (gives v s) b k = rw (k.6, k.4.is) refl
-      outcomes (stops why s) b k = rw (k.4, k.3.is) refl
-      outcomes (spent s) b k = rw (k.4, k.3.is) refl
+  same_seen answers entries c d h t ps qs p =
+      similar_seen same_store (λ s. s.store) (λ s. s.store) (λ _ s t r. sym (ap (λ u. u.store) r.is)) (Same same_store) answers entries tt _ _
+      (h.from tt tt (starting_state t ps) (starting_state t qs) (record { procedures = qs; pairs = p; is = refl }))

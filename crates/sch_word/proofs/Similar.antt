@@ -3,9 +3,12 @@
 use Rattle.std.proofs.Common.{◌≡◌, ℕ, zero, suc, Bool, true, false, List, [], ◌∷◌, length, refl, ap, ◌∙◌}
 use Rattle.std.specs.Prelude.{slice_get, slice_set}
 use Rattle.std.proofs.lemmas.List.{length-set}
+use Rattle.sch_word.specs.declared.answer.Answer.{Answer}
 use Rattle.sch_word.specs.declared.stop.Stop.{Stop}
 use Rattle.sch_word.specs.Values.{Value, unspecified}
 use Rattle.sch_word.proofs.Lengths.{blanks_length}
+use Rattle.sch_word.specs.Store.{Store}
+use Rattle.sch_word.specs.Runs.{seen_in}
 use Rattle.sch_word.specs.Checked.{Checked, passes, refused, exhausted, unreachable, on_passed}
 use Rattle.sch_word.specs.Computation.{Outcome, gives, stops, spent, on_value, after, either, require, unreached, checked, at_place, in_order, in_turn, blanks, all_values}
 
@@ -143,3 +146,10 @@ module _ {S S' : Type 0} (L : Correspondence S S') where
   -- each in turn
   pub similar_in_turn : {w : L.World} {cs : List (S → Outcome S Value)} {ds : List (S' → Outcome S' Value)} (v : Value) → EachSimilar w cs ds → Similar Same w (in_turn cs v) (in_turn ds v)
   similar_in_turn {w} v h = in_turn_similar h w (L.stays w) v
+
+  -- what is seen of similar outcomes, where related states have the same store
+  module _ (store : S → Store) (store' : S' → Store) (same_store : (w : L.World) (s : S) (t : S') → L.Related w s t → store s ≡ store' t) where
+    pub similar_seen : {V V' : Type 0} (Promise : L.World → V → V' → Type 0) (answers : List Answer) (entries : ℕ) (w : L.World) (a : Outcome S V) (b : Outcome S' V') → SimilarOutcome Promise w a b → seen_in store answers entries a ≡ seen_in store' answers entries b
+    similar_seen Promise answers entries w (gives v s) b h = rw (h.6, ← same_store h.0 s h.1 h.4) refl
+    similar_seen Promise answers entries w (stops why s) b h = rw (h.4, ← same_store h.0 s h.1 h.3) refl
+    similar_seen Promise answers entries w (spent s) b h = rw (h.4, ← same_store h.0 s h.1 h.3) refl
