@@ -2,7 +2,7 @@
 use Rattle.sch_word.specs.declared.stop.Stop.{Stop}
 
 -- A check lets something pass, or ends the run: with a stop, or since no procedure entry is left. The
--- last is what no valid program comes to, as `unreached` of the computations says.
+-- last is what no valid program comes to, as `unreached` says of computations.
 pub data Checked (V : Type 0) : Type 0 where
   passes : V → Checked V
   refused : Stop → Checked V

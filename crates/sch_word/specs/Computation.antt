@@ -48,10 +48,11 @@ abbrev pub require : {S V : Type 0} → Bool → Stop → (S → Outcome S V) �
 require true why next s = next s
 require false why next s = stops why s
 
--- What no valid program comes to: a variable that is not bound, a literal, a symbol or a procedure
--- of a number that there is none of, a primitive at another count of operands, a list that is spread.
--- A definition says something of these too, so it is this. A machine owes nothing here: that it
--- follows a program is proved where none of them can come up.
+-- What no run of a valid program of the core language comes to, nor one of a program that a pass makes
+-- of it: a variable that is not bound, a literal, a symbol or a procedure of a number that there is none
+-- of, a primitive at another count of operands, a list that is spread. A definition says something of
+-- these too, so it is this outcome. A machine owes nothing here: that it follows a program is proved
+-- where none of them can come up.
 abbrev pub unreached : {S V : Type 0} → S → Outcome S V
 unreached = stops Unset
 

@@ -5,7 +5,7 @@ use Rattle.sch_word.specs.Checked.{Checked, passes, unreachable}
 
 -- The arguments, from the values of the operands without the operator: the values themselves. A call
 -- with `spread` hands over the items of a list in the objects, which is its last operand's value, in
--- place of that value (R5RS 6.4, `apply`); no valid program has such a call so far.
+-- place of that value (R5RS 6.4, `apply`); the core language has no such call so far.
 abbrev pub handed : List Value → (spread : Bool) → List Object → Checked (List Value)
 handed values false objects = passes values
 handed values true objects = unreachable
