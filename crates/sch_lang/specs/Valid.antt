@@ -3,7 +3,7 @@ use Rattle.std.specs.Prelude.{ℕ, zero, suc, ◌+◌, Bool, true, ◌&&◌, ◌
 use Rattle.sch_word.specs.Literals.{count_literals}
 use Rattle.sch_word.specs.Runs.{statics_valid, statics_in_range}
 use Rattle.sch_word.specs.Shape as shapes
-use Rattle.sch_word.specs.Shape.{max_operands, max_levels, max_variables, max_free_variables, names_known, constant_in_range, well_formed, fits, procedures_fit}
+use Rattle.sch_word.specs.Shape.{max_levels, max_variables, names_known, constant_in_range, well_formed, fits, procedures_fit}
 use Rattle.sch_lang.specs.Tree.{Expression, Expressions, Lambdas, constant, literal, local, global, set_local, set_global, define, branch, sequence, bind, fix, letrec, lambda, call, operation, no_expressions, and_expression, no_lambdas, and_lambda, count, count_lambdas, Source}
 use Rattle.sch_lang.specs.Variables.{assigns, assigns_lambdas}
 use Rattle.sch_lang.specs.Measures.{over_source, levels_each, levels_lambdas, variables, procedures, shape, sites_of}
@@ -73,15 +73,6 @@ shaped p = over_source true (λ a b. a && b) shaped_here p
 
 -- ## Limits
 
-abbrev pub most_operands : ℕ
-most_operands = max_operands
-
-abbrev pub most_levels : ℕ
-most_levels = max_levels
-
-abbrev pub most_body_variables : ℕ
-most_body_variables = max_variables
-
 abbrev pub lambdas_fit : Lambdas → Bool
 lambdas_fit ls = procedures_fit max_variables (procedures ls)
 
@@ -91,12 +82,12 @@ fits_here e = fits max_variables (shape e)
 
 abbrev pub forms_fit : Expressions → Bool
 forms_fit no_expressions = true
-forms_fit (and_expression e es) = nat_le (variables e []) most_body_variables && forms_fit es
+forms_fit (and_expression e es) = nat_le (variables e []) max_variables && forms_fit es
 
 -- the limits on operands, formals, bindings, variables, free variables and nesting hold
 abbrev pub within_limits : Source → Bool
 within_limits p =
-    (nat_le (levels_lambdas p.library) most_levels && nat_le (levels_each p.forms) most_levels)
+    (nat_le (levels_lambdas p.library) max_levels && nat_le (levels_each p.forms) max_levels)
     && ((lambdas_fit p.library && forms_fit p.forms) && over_source true (λ a b. a && b) fits_here p)
 
 -- ## Sites
