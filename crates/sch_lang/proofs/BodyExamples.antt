@@ -1,13 +1,13 @@
 -- What is counted of small programs by the shapes of their nodes, and their bodies in order, by hand and
 -- computed.
-use Rattle.std.proofs.Common.{◌≡◌, ℕ, refl, true, false, List, [], ◌∷◌, map, pos, Some}
+use Rattle.std.proofs.Common.{◌≡◌, ℕ, refl, true, false, [], ◌∷◌, map, pos, Some}
 use Rattle.std.specs.Prelude.{codes}
-use Rattle.sch_word.specs.declared.primitive.Primitive.TheVariants.{Car, Put}
+use Rattle.sch_word.specs.declared.primitive.Primitive.TheVariants.{Car}
 use Rattle.sch_word.specs.Literals.{text, no_literals, and_literal}
-use Rattle.sch_lang.specs.Tree.{Expression, Source, expressions, literal, local, global, set_local, set_global, define, branch, sequence, bind, fix, letrec, lambda, call, no_lambdas, and_lambda}
+use Rattle.sch_lang.specs.Tree.{Expression, Source, expressions, literal, local, global, set_local, set_global, define, branch, sequence, bind, fix, letrec, lambda, no_lambdas, and_lambda}
 use Rattle.sch_lang.specs.Measures.{tests_of, dropped_of, call_sites_of, sites_of}
 use Rattle.sch_lang.specs.Bodies.{bodies_of}
-use Rattle.sch_lang.specs.Examples.{program, number, apply, one, put, loop_of, counter, even_odd, assigned_local, recursive_inits}
+use Rattle.sch_lang.specs.Examples.{number, apply, one, put, loop_of, counter, even_odd, assigned_local, recursive_inits}
 use Rattle.sch_lang.specs.Valid.{is_valid}
 
 -- ## Tests, dropped atoms and sites

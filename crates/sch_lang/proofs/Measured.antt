@@ -1,10 +1,9 @@
 -- Two measures of the same tree go together where they do so at each node.
-use Rattle.std.proofs.Common.{◌≡◌, ℕ, suc, ◌+◌, ◌≤◌, List, [], ◌∷◌, refl, ap, arith}
-use Rattle.sch_word.specs.Shape as shapes
-use Rattle.sch_word.specs.Shape.{Procedure, Shape, procedures_size, size_of}
+use Rattle.std.proofs.Common.{◌+◌, ◌≤◌, arith}
+use Rattle.sch_word.specs.Shape.{procedures_size}
 use Rattle.sch_word.specs.BoundVariables.{formals_in, bound_in}
 use Rattle.sch_word.proofs.Shaped.{Joins, AtMost, at_most_joins}
-use Rattle.sch_lang.specs.Tree.{Expression, Expressions, Lambdas, constant, literal, local, global, set_local, set_global, define, branch, sequence, bind, fix, letrec, lambda, call, operation, no_expressions, and_expression, no_lambdas, and_lambda, count, count_lambdas, Source}
+use Rattle.sch_lang.specs.Tree.{Expression, Expressions, Lambdas, constant, literal, local, global, set_local, set_global, define, branch, sequence, bind, fix, letrec, lambda, call, operation, no_expressions, and_expression, no_lambdas, and_lambda, count_lambdas, Source}
 use Rattle.sch_lang.specs.Measures.{over, over_each, over_lambdas, over_source, procedures, shape, node_size, program_size, variables_bound, node_and_bound, nodes_and_bound}
 
 module _ {A : Type 0} (Related : A → A → Type 0) (nothing : A) (join : A → A → A) (joins : Joins Related nothing join) (here here' : Expression → A) (node : (e : Expression) → Related (here e) (here' e)) where

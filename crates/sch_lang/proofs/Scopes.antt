@@ -1,5 +1,5 @@
 -- In a valid program each variable is in scope, and what is tested of its nodes holds of each part.
-use Rattle.std.proofs.Common.{◌≡◌, ℕ, ◌+◌, ◌<◌, Bool, true, false, refl}
+use Rattle.std.proofs.Common.{ℕ, ◌+◌}
 use Rattle.std.specs.Prelude.{IsTrue, ◌&&◌, nat_lt}
 use Rattle.std.proofs.lemmas.Bool.{ltb-true}
 use Rattle.sch_word.proofs.Shaped.{parts}
