@@ -4,7 +4,7 @@ use Rattle.std.proofs.Common.{◌≡◌, refl, false, [], ◌∷◌, pos}
 use Rattle.sch_lang.specs.Tree.{Source, expressions, local, bind, fix, letrec, no_lambdas, and_lambda}
 use Rattle.sch_lang.specs.Bodies.{most_variables}
 use Rattle.sch_lang.specs.Measures.{program_size, nodes_and_bound, variables_bound, levels, levels_each, levels_lambdas, sites_of}
-use Rattle.sch_lang.specs.Examples.{sum_line, loop_of, assigned_local, unset_init, counter, even_odd, rest_list, library_call, program, number, function, apply}
+use Rattle.sch_lang.specs.Examples.{sum_line, loop_of, assigned_local, unset_init, counter, even_odd, rest_list, library_call, program, number, function, apply, recursive_inits, assigned_formals, unset_global}
 
 -- the sum is an operand, and its operands are constants
 sum_line_variables : most_variables sum_line ≡ 1
@@ -48,6 +48,18 @@ assigned_variables = refl
 -- two variables of a Rec, whose inits are no operands
 letrec_variables : most_variables unset_init ≡ 6
 letrec_variables = refl
+
+-- two variables of a Rec, the call as operand, and its operator, which is one of them and so counts
+recursive_variables : most_variables recursive_inits ≡ 8
+recursive_variables = refl
+
+-- a formal that is assigned, to a constant; in a form the lambda that is defined, or the operator
+formal_variables : most_variables (assigned_formals 1) ≡ 2
+formal_variables = refl
+
+-- the reference to a global is an operand; a constant that is defined counts nothing
+global_variables : most_variables unset_global ≡ 1
+global_variables = refl
 
 -- in the inner body: the part before the last, the value that is set, and n, which is free there
 counter_variables : most_variables counter ≡ 3
