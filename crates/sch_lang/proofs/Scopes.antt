@@ -1,8 +1,8 @@
--- In a valid program each variable is in scope, and what is tested of its nodes holds of each part.
-use Rattle.std.proofs.Common.{ℕ, ◌+◌}
+-- In a valid program each variable is in scope: the test and the proposition say the same.
+use Rattle.std.proofs.Common.{ℕ, ◌+◌, refl, lt-ltb}
 use Rattle.std.specs.Prelude.{IsTrue, ◌&&◌, nat_lt}
 use Rattle.std.proofs.lemmas.Bool.{ltb-true}
-use Rattle.sch_word.proofs.Shaped.{parts}
+use Rattle.sch_word.proofs.Shaped.{parts, both_true}
 use Rattle.sch_lang.specs.Tree.{Expression, Expressions, Lambdas, constant, literal, local, global, set_local, set_global, define, branch, sequence, bind, fix, letrec, lambda, call, operation, no_expressions, and_expression, no_lambdas, and_lambda, count, count_lambdas, Source}
 use Rattle.sch_lang.specs.Valid.{in_scope, each_in_scope, lambdas_in_scope, in_range}
 use Rattle.sch_lang.specs.InScope.{InScope, EachInScope, LambdasInScope, IsClosed}
@@ -51,3 +51,31 @@ program_is_closed p h =
     let q = parts (lambdas_in_scope p.library 0) _ h in
     let r = parts (each_in_scope p.forms 0) _ q.1 in
     record { library = lambdas_scope_is p.library 0 q.0; forms = each_scope_is p.forms 0 r.0 }
+
+-- ## The test, of what is in scope
+
+mutual
+  pub is_scope : (e : Expression) (n : ℕ) → InScope e n → IsTrue (in_scope e n)
+  is_scope (constant c) n h = refl
+  is_scope (literal l) n h = refl
+  is_scope (local k) n h = lt-ltb k n h
+  is_scope (global g) n h = refl
+  is_scope (set_local k e) n h = both_true (lt-ltb k n h.0) (is_scope e n h.1)
+  is_scope (set_global g e) n h = is_scope e n h
+  is_scope (define g e) n h = is_scope e n h
+  is_scope (branch a b c) n h = both_true (is_scope a n h.0) (both_true (is_scope b n h.1) (is_scope c n h.2))
+  is_scope (sequence es) n h = is_scope_each es n h
+  is_scope (bind site es e) n h = both_true (is_scope_each es n h.0) (is_scope e (n + count es) h.1)
+  is_scope (fix ls e) n h = both_true (is_scope_lambdas ls (n + count_lambdas ls) h.0) (is_scope e (n + count_lambdas ls) h.1)
+  is_scope (letrec site es e) n h = both_true (is_scope_each es (n + count es) h.0) (is_scope e (n + count es) h.1)
+  is_scope (lambda name formals rest e) n h = is_scope e (n + formals) h
+  is_scope (call site f es) n h = both_true (is_scope f n h.0) (is_scope_each es n h.1)
+  is_scope (operation site which es) n h = is_scope_each es n h
+
+  pub is_scope_each : (es : Expressions) (n : ℕ) → EachInScope es n → IsTrue (each_in_scope es n)
+  is_scope_each no_expressions n h = refl
+  is_scope_each (and_expression e es) n h = both_true (is_scope e n h.0) (is_scope_each es n h.1)
+
+  pub is_scope_lambdas : (ls : Lambdas) (n : ℕ) → LambdasInScope ls n → IsTrue (lambdas_in_scope ls n)
+  is_scope_lambdas no_lambdas n h = refl
+  is_scope_lambdas (and_lambda name formals rest e ls) n h = both_true (is_scope e (n + formals) h.0) (is_scope_lambdas ls n h.1)
