@@ -1,2 +1,9 @@
 pub mod Tables
 pub mod Emitted
+pub mod Standing
+pub mod Words
+pub mod Bytes
+pub mod EachItem
+pub mod Pieces
+pub mod Joined
+mod Examples

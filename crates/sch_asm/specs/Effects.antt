@@ -4,6 +4,7 @@ use Rattle.std.specs.Fmt.{signed_decimal}
 use Rattle.sch_word.specs.declared.answer.Answer.{Answer}
 use Rattle.sch_word.specs.Put.{put}
 use Rattle.sch_word.specs.Stops.{status_of}
+use Rattle.sch_insn.specs.declared.register.TheConstants.{RAX, RCX, RDX, R11}
 use Rattle.sch_insn.specs.Step.{Exited, step}
 use Rattle.sch_asm.specs.declared.item.Item.{Item}
 use Rattle.sch_asm.specs.declared.routine.Routine.{Routine}
@@ -15,14 +16,14 @@ use Rattle.sch_asm.specs.Views.{View, full, Leads}
 
 -- rax, rcx, rdx and r11 are free for routines.
 abbrev pub is_scratch : ℕ → Bool
-is_scratch r = (r == 0) || ((r == 1) || ((r == 2) || (r == 11)))
+is_scratch r = (r == RAX) || ((r == RCX) || ((r == RDX) || (r == R11)))
 
 -- What a routine needs of a machine: the data have the routines' 64 words and end below 2^63, and r11 has
 -- the address to which the routine returns.
 pub record IsReady (x : View) : Type 0 where
   pub own_words : 512 ≤ length x.bytes
   pub within : 0x10000000 + length x.bytes < 2 ^ 63
-  pub back : x.registers 11 < 2 ^ 64
+  pub back : x.registers R11 < 2 ^ 64
 
 module _ (setting : Setting) where
   -- The machine exits with a status after an output, past no mark, in fewer than so many steps and one more
@@ -45,7 +46,7 @@ module _ (setting : Setting) where
     pub most : ℕ
     pub leads : Leads setting least most [] x y
     pub few : most + 10 * length left ≤ bound + 10 * length x.answers
-    pub at : y.place ≡ x.registers 11
+    pub at : y.place ≡ x.registers R11
     pub registers : (r : ℕ) → is_scratch r ≡ false → x.registers r < 2 ^ 64 → y.registers r ≡ x.registers r
     pub size : length y.bytes ≡ length x.bytes
     pub others : drop 512 y.bytes ≡ drop 512 x.bytes
@@ -65,8 +66,8 @@ module _ (setting : Setting) where
   abbrev pub Effect : Routine → View → Type 0
   Effect End x = Stops x 3 0 x.output
   Effect (Stop s) x = Stops x 3 (status_of s) x.output
-  Effect Put x = (piece : List ℕ) → IsReady x → 0x10000200 ≤ x.registers 0 → x.registers 2 ≡ length piece → PieceAt x.bytes (x.registers 0) piece → Puts x 21 piece
-  Effect PutFixnum x = (n : ℤ) → IsReady x → FixnumWord n (x.registers 0) → Puts x 300 (signed_decimal n)
+  Effect Put x = (piece : List ℕ) → IsReady x → 0x10000200 ≤ x.registers RAX → x.registers RDX ≡ length piece → PieceAt x.bytes (x.registers RAX) piece → Puts x 20 piece
+  Effect PutFixnum x = (n : ℤ) → IsReady x → FixnumWord n (x.registers RAX) → Puts x 167 (signed_decimal n)
 
 -- Items that do what the routines do, wherever they stand in a text.
 pub record AreEffective (items : List Item) : Type 0 where

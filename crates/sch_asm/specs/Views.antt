@@ -1,5 +1,6 @@
 -- A machine that runs a program: its state by parts, with the program's text and data for memory.
-use Rattle.std.specs.Prelude.{ℕ, List, [], ◌∷◌}
+use Rattle.std.specs.Prelude.{ℕ, List, [], ◌∷◌, true, false}
+use Rattle.sch_word.specs.Memory.{Segment}
 use Rattle.sch_word.specs.declared.answer.Answer.{Answer}
 use Rattle.sch_insn.specs.declared.machine.Flags.{Flags}
 use Rattle.sch_insn.specs.Machine.{State}
@@ -7,6 +8,10 @@ use Rattle.sch_insn.specs.Path as path
 use Rattle.sch_asm.specs.declared.item.MarkKind.{MarkKind}
 use Rattle.sch_asm.specs.Stands.{Setting}
 use Rattle.sch_asm.specs.Data.{data_at}
+
+-- The segment of a text, which is entered at its first byte.
+abbrev pub text_at : List ℕ → Segment
+text_at bytes = record { address = 0x400000; readable = true; writable = false; executable = true; bytes = bytes }
 
 pub record View : Type 0 where
   pub registers : ℕ → ℕ

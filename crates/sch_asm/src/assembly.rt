@@ -8,7 +8,7 @@ use crate::item::Item;
 use sch_word::List;
 
 /// A word of the data.
-#[derive(Clone, Copy, Debug, PartialEq, Eq)]
+#[derive(Clone, Copy)]
 pub enum Word {
     Fixed(u64),
     /// The address of a label.

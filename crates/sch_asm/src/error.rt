@@ -7,7 +7,7 @@ use sch_word::Mem;
 use thiserror::Error;
 
 /// Why items are not resolved.
-#[derive(Clone, Copy, Debug, PartialEq, Eq, Error)]
+#[derive(Clone, Copy, Debug, Error)]
 pub enum AsmError {
     /// The text would have this number of bytes, more than 16,777,216.
     #[error("text of {0} bytes")]

@@ -4,7 +4,7 @@ use sch_insn::Insn;
 
 /// What a mark says of the instruction behind it. `Enter` has the number of its body; `Save`, `Restore`
 /// and `Spill` that of a variable; `Call` and `Tail` that of a site of the program.
-#[derive(Clone, Copy, Debug, PartialEq, Eq)]
+#[derive(Clone, Copy)]
 pub enum MarkKind {
     Enter(u32),
     Save(u32),
@@ -18,7 +18,7 @@ pub enum MarkKind {
 }
 
 /// A mark of the instruction at an address.
-#[derive(Clone, Copy, Debug, PartialEq, Eq)]
+#[derive(Clone, Copy)]
 pub struct Mark {
     pub address: u64,
     pub kind: MarkKind,
@@ -26,7 +26,7 @@ pub struct Mark {
 
 /// An item of a text: a label, a mark, or what stands for one instruction. Registers and conditions have
 /// the numbers that they have in instructions.
-#[derive(Clone, Copy, Debug, PartialEq, Eq)]
+#[derive(Clone, Copy)]
 pub enum Item {
     /// The place of the item behind it gets this label.
     Label(u32),

@@ -6,7 +6,7 @@ ghost use Rattle.sch_asm.specs.Routines.{label_of};
 use sch_word::Stop;
 
 /// A piece of code that every program carries. `specs/Effects` says what each does to a machine.
-#[derive(Clone, Copy, Debug, PartialEq, Eq)]
+#[derive(Clone, Copy)]
 pub enum Routine {
     /// Exits with status 0.
     End,

@@ -1,7 +1,8 @@
 -- Programs that are not valid, one for each reason.
 use Rattle.std.proofs.Common.{◌≡◌, refl, true, false, [], ◌∷◌, Some, None}
+use Rattle.sch_word.specs.declared.constant.Const.TheVariants.{Character}
 use Rattle.sch_word.specs.declared.primitive.Primitive.TheVariants.{Car, Cons}
-use Rattle.sch_cells.specs.Tree.{Source, variable, global, literal, set_variable, sequence, bind, fix, letrec, lambda, call, operation, new_cells, cell_get, cell_set, no_lambdas, and_lambda, trees}
+use Rattle.sch_cells.specs.Tree.{Source, constant, variable, global, literal, set_variable, sequence, bind, fix, letrec, lambda, call, operation, new_cells, cell_get, cell_set, no_lambdas, and_lambda, trees}
 use Rattle.sch_cells.specs.Valid.{is_valid}
 use Rattle.sch_cells.specs.Examples.{number, put, two, function, apply, new_cell, program, let_of, assigned_formal, assigned_formal_boxed, unset_init}
 
@@ -63,6 +64,10 @@ spread_one = refl
 -- a rest variable where there is no formal
 rest_without_formal : is_valid false (program 0 [] (lambda [] 0 0 true (number 1) ∷ [])) ≡ false
 rest_without_formal = refl
+
+-- a character that is no byte
+no_byte : is_valid false (program 0 [] (constant (Character 256) ∷ [])) ≡ false
+no_byte = refl
 
 unknown_global : is_valid false (program 0 [] (global 0 ∷ [])) ≡ false
 unknown_global = refl

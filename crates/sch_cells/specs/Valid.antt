@@ -1,9 +1,9 @@
 -- Which cell programs are valid.
 use Rattle.std.specs.Prelude.{ℕ, zero, suc, ◌+◌, ◌*◌, Bool, true, false, ◌&&◌, ◌||◌, not, nat_le, List, [], ◌++◌, length}
 use Rattle.sch_word.specs.Literals.{count_literals}
-use Rattle.sch_word.specs.Runs.{statics_valid}
+use Rattle.sch_word.specs.Runs.{statics_valid, statics_in_range}
 use Rattle.sch_word.specs.Shape as shapes
-use Rattle.sch_word.specs.Shape.{Shape, names_known, well_formed, fits, procedures_fit, sites_once, max_levels, max_variables}
+use Rattle.sch_word.specs.Shape.{Shape, names_known, constant_in_range, well_formed, fits, procedures_fit, sites_once, max_levels, max_variables}
 use Rattle.sch_cells.specs.Tree.{Tree, Trees, Lambdas, Source, fix, no_trees, and_tree, count_lambdas}
 use Rattle.sch_cells.specs.Variables.{assigns, assigns_lambdas, bound_each, bound_lambdas, closed_each, closed_lambdas, distinct, below}
 use Rattle.sch_cells.specs.Bodies.{variables, procedures}
@@ -47,6 +47,13 @@ formed boxed p =
     && every (λ e. names_known (length p.statics.symbols) (count_literals p.statics.literals) (length p.statics.globals) (shape e)) p)
     && (every (λ e. well_formed (shape e)) p && every fix_unassigned p)
 
+-- ## Constants
+
+-- fixnums are in range, characters are bytes, and so are those of texts and of symbols' names; literals are
+-- not nested too deeply
+abbrev pub constants_in_range : Source → Bool
+constants_in_range p = every (λ e. constant_in_range (shape e)) p && statics_in_range p.statics
+
 -- ## Limits
 
 abbrev pub forms_fit : Trees → Bool
@@ -76,4 +83,5 @@ statics_known p = statics_valid (count_lambdas p.library) p.statics
 -- ## Valid programs
 
 abbrev pub is_valid : (boxed : Bool) → Source → Bool
-is_valid boxed p = scoped p && (formed boxed p && (within_limits boxed p && (sited p && statics_known p)))
+is_valid boxed p =
+    scoped p && (formed boxed p && (constants_in_range p && (within_limits boxed p && (sited p && statics_known p))))

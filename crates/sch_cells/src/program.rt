@@ -1,6 +1,6 @@
 ghost use Rattle.std.specs.Prelude.{Bool, true, false, IsTrue};
 ghost use Rattle.sch_cells.specs.SourceView.{source_of};
-ghost use Rattle.sch_cells.specs.Valid.{scoped, formed, within_limits, sited, statics_known};
+ghost use Rattle.sch_cells.specs.Valid.{scoped, formed, constants_in_range, within_limits, sited, statics_known};
 
 use crate::tree::{Exp, Lambda};
 use sch_word::{List, Statics};
@@ -13,11 +13,11 @@ pub trait Form {
 }
 
 /// Variables may be assigned, and no node speaks of cells.
-#[derive(Debug, Drop)]
+#[derive(Drop)]
 pub struct Unboxed;
 
 /// No variable is ever assigned. What was an assigned variable holds a cell.
-#[derive(Debug, Drop)]
+#[derive(Drop)]
 pub struct Boxed;
 
 impl Form for Unboxed {
@@ -31,7 +31,7 @@ impl Form for Boxed {
 /// A valid program of the cell language, in one of its two forms.
 ///
 /// `sites` has the number of parts of each site, with the operator for a call.
-#[derive(Debug, Drop)]
+#[derive(Drop)]
 pub struct CellProgram<K: Form> {
     pub statics: Statics,
     pub library: List<Lambda>,
@@ -44,6 +44,9 @@ pub struct CellProgram<K: Form> {
     ghost scoped: { IsTrue (scoped (source_of statics library forms sites variables)) },
     // The nodes are those of this form, name what there is, and have the parts that they must have.
     ghost formed: { IsTrue (formed K.boxed (source_of statics library forms sites variables)) },
+    // Fixnums are in range, characters and the bytes of texts and names are bytes, and literals are not
+    // nested too deeply.
+    ghost words: { IsTrue (constants_in_range (source_of statics library forms sites variables)) },
     // The limits on nesting, operands, formals, bindings, variables and free variables hold.
     ghost limited: { IsTrue (within_limits K.boxed (source_of statics library forms sites variables)) },
     // Each site that is listed stands once, with the number of parts that is listed.

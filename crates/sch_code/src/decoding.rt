@@ -93,7 +93,7 @@ fn rexed(w: u8, r: u8, b: u8, bytes: &[u8]) -> Option<(Insn, usize)>
     if w == 0 {
         return narrow(op, r, b, &bytes[1..]);
     }
-    if op / 8 == 23 {
+    if op / 8 == 0xB8 / 8 {
         return whole_word(r, 8 * b + op % 8, &bytes[1..]);
     }
     if op == 0x99 {

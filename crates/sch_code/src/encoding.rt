@@ -94,7 +94,7 @@ fn put_long(to: &mut Code, op: u8, r: u8, m: Arg)
     requires empty { to.old ≡ [] }
     requires reg { r < 16 }
     requires arg { IsArg m }
-    ensures spelled { to.new ≡ rex 1 r m ∷ 15 ∷ op ∷ operand r m }
+    ensures spelled { to.new ≡ rex 1 r m ∷ 0x0F ∷ op ∷ operand r m }
     ensures short { length to.new ≤ 9 }
 {
     put_rex(to, 1, r, m);

@@ -8,6 +8,3 @@ mod encoding;
 pub use code::Code;
 pub use decoding::decode;
 pub use encoding::encode;
-
-#[cfg(test)]
-mod tests;

@@ -1,13 +1,7 @@
 -- Which order tables fit a program.
-use Rattle.std.specs.Prelude.{ℕ, suc, Bool, true, false, ◌&&◌, nat_eq, List, [], ◌∷◌, length}
-use Rattle.std.specs.List.{list_all, count_by}
-use Rattle.sch_word.specs.Computation.{numbers_from}
+use Rattle.std.specs.Prelude.{ℕ, Bool, true, false, ◌&&◌, nat_eq, List, [], ◌∷◌}
+use Rattle.sch_word.specs.Orders.{is_permutation}
 use Rattle.sch_control.specs.Tree.{Source}
-
--- the numbers below the width, each once
-abbrev pub is_permutation : (width : ℕ) → List ℕ → Bool
-is_permutation width order =
-    nat_eq (length order) width && list_all (λ k. nat_eq (count_by (λ x. nat_eq x k) order) 1) (numbers_from 0 order)
 
 abbrev pub begins_with : List ℕ → List ℕ → Bool
 begins_with [] order = true

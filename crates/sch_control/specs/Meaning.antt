@@ -9,7 +9,6 @@ use Rattle.sch_word.specs.Charges.{charge_each}
 use Rattle.sch_control.specs.declared.mark.MarkKind.{MarkKind}
 use Rattle.sch_control.specs.declared.mark.MarkKind.TheVariants.{Save, Restore, Spill, Call, Return, Tail}
 use Rattle.sch_control.specs.declared.operation.Member.{Member}
-use Rattle.sch_control.specs.declared.operation.Application.{Application}
 use Rattle.sch_control.specs.Tree.{Expression, perform, bind, sequence, branch, fix, call, tail_call, return, end, save}
 use Rattle.sch_control.specs.Operations.{Procedure, Ending, part_values, operate, member_bytes, members_made, with_procedures}
 

@@ -1,10 +1,10 @@
 -- What an operation does, by where its values stand: `at` has the value of a variable, or none.
-use Rattle.std.specs.Prelude.{ℕ, suc, List, [], ◌∷◌, ◌++◌, length, Option, Some, None, slice_get, slice_set}
+use Rattle.std.specs.Prelude.{ℕ, List, [], ◌∷◌, ◌++◌, length, Option, Some, None, slice_get, slice_set}
 use Rattle.sch_word.specs.declared.primitive.Primitive.{Primitive}
 use Rattle.sch_word.specs.declared.stop.Stop.TheVariants.{Unset}
 use Rattle.sch_word.specs.Values.{Value, unspecified, procedure, cell, constant_value}
 use Rattle.sch_word.specs.Store.{Store}
-use Rattle.sch_word.specs.Computation.{Outcome, gives, stops, spent, State, Computation, after, in_store, read_global, write_global, new_procedure}
+use Rattle.sch_word.specs.Computation.{Outcome, gives, stops, State, Computation, after, in_store, read_global, write_global, new_procedure}
 use Rattle.sch_word.specs.Charges.{charge, cell_bytes, procedure_bytes}
 use Rattle.sch_word.specs.PrimitiveRows.{primitive}
 use Rattle.sch_control.specs.declared.operation.Atom.{Atom}
@@ -13,7 +13,6 @@ use Rattle.sch_control.specs.declared.operation.Operand.{Operand}
 use Rattle.sch_control.specs.declared.operation.Operand.TheVariants as operand
 use Rattle.sch_control.specs.declared.operation.Source.{Source}
 use Rattle.sch_control.specs.declared.operation.Source.TheVariants as source
-use Rattle.sch_control.specs.declared.operation.Closure.{Closure}
 use Rattle.sch_control.specs.declared.operation.Member.{Member}
 use Rattle.sch_control.specs.declared.operation.Operation.{Operation}
 use Rattle.sch_control.specs.declared.operation.Operation.TheVariants as operation

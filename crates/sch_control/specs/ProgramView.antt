@@ -4,4 +4,4 @@ use Rattle.sch_control.specs.SourceView.{source_of}
 use Rattle.sch_control.specs.Tree.{Source}
 
 abbrev pub source : ControlProgram → Source
-source p = source_of p.symbols p.literals p.globals p.library p.bodies p.sites p.bound
+source p = source_of p.statics p.library p.bodies p.sites p.bound

@@ -1,8 +1,8 @@
 -- What is seen of a program's run.
-use Rattle.std.specs.Prelude.{ℕ, zero, suc, Bool, true, false, ◌&&◌, nat_eq, List, [], ◌∷◌, length, Option, Some, None, slice_get}
+use Rattle.std.specs.Prelude.{ℕ, zero, suc, List, [], ◌∷◌, Option, Some, None, slice_get}
 use Rattle.sch_word.specs.declared.answer.Answer.{Answer}
 use Rattle.sch_word.specs.Values.{Value, unspecified}
-use Rattle.sch_word.specs.Computation.{Outcome, gives, spent, State, in_store, take_entry}
+use Rattle.sch_word.specs.Computation.{gives, spent, in_store, take_entry}
 use Rattle.sch_word.specs.Charges.{fit}
 use Rattle.sch_word.specs.Runs.{Run, Statics, seen_in, starting_store, starting_state}
 use Rattle.sch_control.specs.declared.mark.MarkKind.TheVariants.{Enter}

@@ -1,12 +1,14 @@
 -- Which programs are valid.
-use Rattle.std.specs.Prelude.{ℕ, zero, suc, ◌+◌, Bool, true, false, ◌&&◌, ◌||◌, not, nat_eq, nat_lt, nat_le, List, [], ◌∷◌, ◌++◌, length, slice_get, Option, Some, None}
+use Rattle.std.specs.Prelude.{ℕ, ◌+◌, Bool, true, false, ◌&&◌, ◌||◌, not, nat_eq, nat_lt, nat_le, List, [], ◌∷◌, ◌++◌, length, slice_get, Option, Some, None}
 use Rattle.std.specs.List.{list_all, count_by}
 use Rattle.sch_word.specs.declared.primitive.Primitive.{Primitive}
 use Rattle.sch_word.specs.declared.primitive.Primitive.TheVariants.{Eq, Eqv, IsBoolean, IsPair, IsNull, IsSymbol, IsInteger, IsChar, IsString, IsVector, IsProcedure}
 use Rattle.sch_word.specs.Primitives.{operands_of}
+use Rattle.sch_word.specs.Values.{is_constant}
 use Rattle.sch_word.specs.Literals.{count_literals, constant_known}
 use Rattle.sch_word.specs.NumberSets.{has}
-use Rattle.sch_word.specs.Runs.{statics_valid}
+use Rattle.sch_word.specs.Runs.{statics_valid, statics_in_range}
+use Rattle.sch_word.specs.Shape.{max_operands, max_variables, max_free_variables, is_width}
 use Rattle.sch_control.specs.declared.body.Entry.{Entry}
 use Rattle.sch_control.specs.declared.operation.Atom.{Atom}
 use Rattle.sch_control.specs.declared.operation.Atom.TheVariants.{Constant, Literal, Variable}
@@ -19,21 +21,15 @@ use Rattle.sch_control.specs.declared.operation.Member.{Member}
 use Rattle.sch_control.specs.declared.operation.Operation.{Operation}
 use Rattle.sch_control.specs.declared.operation.Operation.TheVariants as operation
 use Rattle.sch_control.specs.declared.operation.Application.{Application}
-use Rattle.sch_control.specs.Parts.{operand_atoms, operation_atoms, application_atoms, member_atoms, operation_sites, application_sites}
+use Rattle.sch_control.specs.Parts.{operation_atoms, application_atoms, member_atoms, operation_sites, application_sites}
 use Rattle.sch_control.specs.Tree as tree
 use Rattle.sch_control.specs.Tree.{Expression, perform, bind, sequence, branch, fix, call, tail_call, return, end, save, Code}
 
 -- ## Limits
 
-abbrev pub most_operands : ℕ
-most_operands = 200
-
--- variables 0 and 1 among them
-abbrev pub most_variables : ℕ
-most_variables = 1002
-
-abbrev pub most_fields : ℕ
-most_fields = 1000
+-- the variables of a body, with the return address and the closure
+abbrev pub max_body_variables : ℕ
+max_body_variables = 2 + max_variables
 
 -- ## Scopes
 
@@ -97,7 +93,7 @@ first_bound (Some e) = 2 + e.formals
 -- each variable is bound once, behind the formals and below the number of variables
 abbrev pub numbered : Code → Bool
 numbered c =
-    nat_le c.variables most_variables
+    nat_le c.variables max_body_variables
     && (nat_le (first_bound c.entry) c.variables
     && (list_all (λ x. nat_le (first_bound c.entry) x && nat_lt x c.variables) (bound_in c.expression)
     && without_repeats (bound_in c.expression)))
@@ -173,7 +169,7 @@ module _ {V : Type 0} where
   operands_shaped (o ∷ operands) = operand_shaped o && operands_shaped operands
 
   abbrev pub closure_shaped : Closure V → Bool
-  closure_shaped c = nat_le (length c.fields) most_fields
+  closure_shaped c = nat_le (length c.fields) max_free_variables
 
   abbrev pub members_shaped : List (Member V) → Bool
   members_shaped [] = true
@@ -192,11 +188,11 @@ module _ {V : Type 0} where
   -- a call has at most 200 operands, and one at least where its last is spread
   abbrev pub application_shaped : Application V → Bool
   application_shaped a =
-      nat_le (length a.operands) most_operands
+      nat_le (length a.operands) max_operands
       && ((not a.spread || nat_le 1 (length a.operands)) && operands_shaped (a.operator ∷ a.operands))
 
   abbrev pub group_shaped : List (Member V) → Bool
-  group_shaped members = nat_le (length members) most_operands && members_shaped members
+  group_shaped members = nat_le (length members) max_operands && members_shaped members
 
 -- ## Tests of each part
 
@@ -263,7 +259,7 @@ is_bare _ = true
 -- a procedure has at most 200 formals, a rest variable among them, and 1,000 fields
 abbrev pub entry_shaped : Option Entry → Bool
 entry_shaped None = true
-entry_shaped (Some e) = nat_le e.formals most_operands && ((not e.rest || nat_le 1 e.formals) && nat_le e.fields most_fields)
+entry_shaped (Some e) = nat_le e.formals max_operands && ((not e.rest || nat_le 1 e.formals) && nat_le e.fields max_free_variables)
 
 -- ## Valid bodies
 
@@ -285,9 +281,9 @@ code_valid c = in_scope_whole c && (numbered c && (ended c && (shaped_whole c &&
 
 -- ## Valid programs
 
--- the symbol or literal that an atom names is among those of the program
+-- the symbol or literal that an atom names is among those of the program, and a constant is a word
 abbrev pub atom_known : {V : Type 0} → (symbols literals : ℕ) → Atom V → Bool
-atom_known symbols literals (Constant c) = constant_known symbols c
+atom_known symbols literals (Constant c) = constant_known symbols c && is_constant c
 atom_known symbols literals (Literal n) = nat_lt n literals
 atom_known symbols literals (Variable v) = true
 
@@ -369,10 +365,6 @@ abbrev pub sites_of_each : List Code → List (ℕ × ℕ)
 sites_of_each [] = []
 sites_of_each (c ∷ cs) = sites_of c.expression ++ sites_of_each cs
 
-abbrev pub is_width : Option ℕ → ℕ → Bool
-is_width (Some listed) width = nat_eq listed width
-is_width None width = false
-
 -- each site stands once, and is listed with its width
 abbrev pub sites_once : tree.Source → Bool
 sites_once p =
@@ -400,7 +392,7 @@ abbrev pub library_known : tree.Source → Bool
 library_known p = without_fields (entries_of p.bodies) p.library
 
 abbrev pub statics_known : tree.Source → Bool
-statics_known p = statics_valid (length p.library) p.statics
+statics_known p = statics_valid (length p.library) p.statics && statics_in_range p.statics
 
 -- all that the type of a program keeps beside the validity of its bodies
 abbrev pub is_valid : tree.Source → Bool

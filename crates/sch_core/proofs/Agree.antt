@@ -2,19 +2,20 @@
 use Rattle.std.proofs.Common.{◌≡◌, ◌⊎◌, inl, inr, ◌≤◌, ◌+◌, ℕ, suc, Bool, true, false, cond, ◌&&◌, List, [], ◌∷◌, ◌++◌, Option, Some, None, nat_le, refl, ap, arith}
 use Rattle.std.proofs.lemmas.Bool.{leb-true}
 use Rattle.std.proofs.lemmas.Bool.Decides.{nat_tests}
-use Rattle.sch_lang.specs.Valid.{most_levels, most_operands}
+use Rattle.sch_word.specs.Shape.{max_levels, max_operands}
 use Rattle.sch_read.specs.Grammar.{Datum, Data, atom, list, dotted, vector, none, cons, boolean, integer, character, text, symbol}
-use Rattle.sch_core.specs.declared.word.Keyword.{Keyword}
-use Rattle.sch_core.specs.declared.word.Keyword.TheVariants.{Quote, If, Let, Begin}
-use Rattle.sch_core.specs.declared.word.Position.{Position}
-use Rattle.sch_core.specs.declared.word.Position.TheVariants.{Value, Test}
+use Rattle.sch_core.specs.declared.keyword.Keyword.{Keyword}
+use Rattle.sch_core.specs.declared.keyword.Keyword.TheVariants.{Quote, If, Let, Begin}
+use Rattle.sch_core.specs.declared.keyword.Position.{Position}
+use Rattle.sch_core.specs.declared.keyword.Position.TheVariants.{Value, Test}
 use Rattle.sch_core.specs.declared.operation.Operation.{Operation}
 use Rattle.sch_core.specs.declared.operation.Operation.TheVariants.{Exact, Unit, UnitAnd, Nested, Chained, Newline}
 use Rattle.sch_core.specs.declared.fault.Fault.{Fault}
 use Rattle.sch_core.specs.declared.fault.Fault.TheVariants.{Unbuilt, BadForm, Operands, Core}
 use Rattle.sch_core.specs.Words.{keyword_of}
 use Rattle.sch_core.specs.Draft.{Draft, Drafts, bind, and_draft}
-use Rattle.sch_core.specs.Scope.{Scope, find, is_among, Head, form, operating, calling, head_of, by_head, how_many, place, with_bindings, are_bindings}
+use Rattle.sch_core.specs.Scope.{Scope, find, is_among, Head, form, operating, calling, head_of, by_head, with_bindings, are_bindings}
+use Rattle.sch_read.specs.Parts.{how_many, offset}
 use Rattle.sch_core.specs.Definitions.{is_definition}
 use Rattle.sch_core.specs.Combined.{combined, own_depth, whole_depth}
 use Rattle.sch_core.specs.Expands.{nothing, IsLevel, AreFew, let_is_shaped}
@@ -31,14 +32,14 @@ false_true e = cc
 
 -- ## Levels and counts
 
-pub level_free : (n at : ℕ) (b : Bool) → nat_le n most_levels ≡ b → Free (λ f. IsIn f (cond b [] (Core at ∷ []))) → IsLevel n
+pub level_free : (n at : ℕ) (b : Bool) → nat_le n max_levels ≡ b → Free (λ f. IsIn f (cond b [] (Core at ∷ []))) → IsLevel n
 level_free n at true e h = e
 level_free n at false e h = absurd (h _ (inl refl))
 
 level_clean : (n at : ℕ) → IsLevel n → Free (λ f. IsIn f (level_faults n at))
 level_clean n at l f i = let j = rw l at i in j
 
-few_free : (at n : ℕ) (b : Bool) → nat_le n most_operands ≡ b → Free (λ f. IsIn f (cond b [] (Operands at ∷ []))) → AreFew n
+few_free : (at n : ℕ) (b : Bool) → nat_le n max_operands ≡ b → Free (λ f. IsIn f (cond b [] (Operands at ∷ []))) → AreFew n
 few_free at n true e h = e
 few_free at n false e h = absurd (h _ (inl refl))
 
@@ -63,7 +64,7 @@ either A false h = absurd h
 
 -- ## Chains
 
-chain_next : (n at : ℕ) (fs : List Fault) (m : ℕ) (b : Bool) → nat_le (n + 3) most_levels ≡ b → Free (λ f. IsIn f (cond b fs (Core at ∷ []))) →
+chain_next : (n at : ℕ) (fs : List Fault) (m : ℕ) (b : Bool) → nat_le (n + 3) max_levels ≡ b → Free (λ f. IsIn f (cond b fs (Core at ∷ []))) →
     (IsLevel (n + 1) → Free (λ f. IsIn f fs) → IsLevel ((n + 1) + m)) → IsLevel (n + suc m)
 chain_next n at fs m true e h r = level_down _ ((n + 1) + m) (omega arith) (r (level_down (n + 1) (n + 3) (omega arith) e) h)
 chain_next n at fs m false e h r = absurd (h _ (inl refl))
@@ -73,18 +74,18 @@ chain_free n at none l h = level_down _ n (omega arith) l
 chain_free n at (cons a none) l h = level_free (n + 1) at _ refl h
 chain_free n at (cons a (cons b none)) l h = level_free (n + 2) at _ refl h
 chain_free n at (cons a (cons b (cons c xs))) l h =
-    chain_next n at _ (how_many (cons b (cons c xs))) _ refl h (chain_free (n + 1) (place b) (cons b (cons c xs)))
+    chain_next n at _ (how_many (cons b (cons c xs))) _ refl h (chain_free (n + 1) (offset b) (cons b (cons c xs)))
 
 chain_clean : (n at : ℕ) (xs : Data) → IsLevel (n + how_many xs) → Free (λ f. IsIn f (chain_faults n at xs))
 chain_clean n at none l f i = i
 chain_clean n at (cons a none) l f i = level_clean (n + 1) at l f i
 chain_clean n at (cons a (cons b none)) l f i = level_clean (n + 2) at l f i
 chain_clean n at (cons a (cons b (cons c xs))) l f i =
-    let e : nat_le (n + 3) most_levels ≡ true = level_down (n + 3) (n + how_many (cons a (cons b (cons c xs)))) (omega arith) l in
+    let e : nat_le (n + 3) max_levels ≡ true = level_down (n + 3) (n + how_many (cons a (cons b (cons c xs)))) (omega arith) l in
     let j = rw e at i in
-    chain_clean (n + 1) (place b) (cons b (cons c xs)) (level_down _ (n + how_many (cons a (cons b (cons c xs)))) (omega arith) l) f j
+    chain_clean (n + 1) (offset b) (cons b (cons c xs)) (level_down _ (n + how_many (cons a (cons b (cons c xs)))) (omega arith) l) f j
 
-own_chain_free : (n at : ℕ) (xs : Data) (b : Bool) → nat_le n most_levels ≡ b → Free (λ f. IsIn f (cond b (chain_faults n at xs) (Core at ∷ []))) → IsLevel (n + how_many xs)
+own_chain_free : (n at : ℕ) (xs : Data) (b : Bool) → nat_le n max_levels ≡ b → Free (λ f. IsIn f (cond b (chain_faults n at xs) (Core at ∷ []))) → IsLevel (n + how_many xs)
 own_chain_free n at xs true e h = chain_free n at xs e h
 own_chain_free n at xs false e h = absurd (h _ (inl refl))
 
@@ -102,7 +103,7 @@ own_clean (Unit p) n at xs l f i = level_clean _ at l f i
 own_clean (UnitAnd p) n at xs l f i = level_clean _ at l f i
 own_clean (Nested p) n at xs l f i = level_clean _ at l f i
 own_clean (Chained p) n at xs l f i =
-    let e : nat_le n most_levels ≡ true = level_down n (n + how_many xs) (omega arith) l in
+    let e : nat_le n max_levels ≡ true = level_down n (n + how_many xs) (omega arith) l in
     let j = rw e at i in
     chain_clean n at xs l f j
 own_clean Newline n at xs l f i = level_clean _ at l f i
@@ -220,9 +221,9 @@ module _ (globals : List (List ℕ)) where
   operation_expands : (n : ℕ) (s : Scope) (t : Position) (at q : ℕ) (x : List ℕ) (xs : Data) (o : Operation) (es : Drafts) →
       head_of globals s x (how_many xs) ≡ operating o →
       Free (λ f. IsIn f (operand_faults at (how_many xs)) ⊎ (IsIn f (own_faults o n at xs)
-      ⊎ cond (nat_le (n + own_depth o (how_many xs)) most_levels) (AnyHasFault globals (n + 1) s xs f) ⊥)) →
+      ⊎ cond (nat_le (n + own_depth o (how_many xs)) max_levels) (AnyHasFault globals (n + 1) s xs f) ⊥)) →
       (Free (AnyHasFault globals (n + 1) s xs) → EachExpands globals (n + 1) s xs es) →
-      Expands globals n s t (list at (cons (atom q (symbol x)) xs)) (cond (nat_le (n + whole_depth o (how_many xs)) most_levels) (combined o (how_many xs) es) nothing)
+      Expands globals n s t (list at (cons (atom q (symbol x)) xs)) (cond (nat_le (n + whole_depth o (how_many xs)) max_levels) (combined o (how_many xs) es) nothing)
   operation_expands n s t at q x xs o es e h r =
       let w = few_free at (how_many xs) _ refl (λ f i. h f (inl i)) in
       let l : IsLevel (n + whole_depth o (how_many xs)) = own_free o n at xs (λ f i. h f (inr (inl i))) in
@@ -233,12 +234,12 @@ module _ (globals : List (List ℕ)) where
   head_expands : (n : ℕ) (s : Scope) (t : Position) (at q : ℕ) (x : List ℕ) (xs : Data) (h : Head) → head_of globals s x (how_many xs) ≡ h →
       Free (λ f. by_head h (λ k. FormHasFault globals k at n s t xs f)
       (λ o. IsIn f (operand_faults at (how_many xs)) ⊎ (IsIn f (own_faults o n at xs)
-      ⊎ cond (nat_le (n + own_depth o (how_many xs)) most_levels) (AnyHasFault globals (n + 1) s xs f) ⊥)) (f ≡ Unbuilt at)) →
+      ⊎ cond (nat_le (n + own_depth o (how_many xs)) max_levels) (AnyHasFault globals (n + 1) s xs f) ⊥)) (f ≡ Unbuilt at)) →
       ((k : Keyword) → Free (FormHasFault globals k at n s t xs) → FormExpands globals k n s t xs (built_form globals k n s t xs)) →
       (Free (AnyHasFault globals (n + 1) s xs) → EachExpands globals (n + 1) s xs (built_each globals (n + 1) s xs)) →
       Expands globals n s t (list at (cons (atom q (symbol x)) xs))
       (by_head h (λ k. built_form globals k n s t xs)
-      (λ o. cond (nat_le (n + whole_depth o (how_many xs)) most_levels) (combined o (how_many xs) (built_each globals (n + 1) s xs)) nothing) nothing)
+      (λ o. cond (nat_le (n + whole_depth o (how_many xs)) max_levels) (combined o (how_many xs) (built_each globals (n + 1) s xs)) nothing) nothing)
   head_expands n s t at q x xs (form k) e h g r = ex.a_form n s t at q x xs k _ e (g k h)
   head_expands n s t at q x xs (operating o) e h g r = operation_expands n s t at q x xs o _ e h r
   head_expands n s t at q x xs calling e h g r = absurd (h _ refl)
@@ -257,24 +258,24 @@ module _ (globals : List (List ℕ)) where
 
   let_expands : (at n : ℕ) (s : Scope) (t : Position) (q : ℕ) (bs : Data) (e : Datum) (es : Data) (is : Drafts) (b : Draft) →
       Free (λ f. cond (let_is_shaped s bs (cons e es))
-      (IsIn f (operand_faults at (how_many bs)) ⊎ cond (nat_le n most_levels)
-      (InitHasFault globals (n + 1) s bs f ⊎ cond (is_definition (with_bindings bs s) e) (f ≡ Unbuilt (place e))
+      (IsIn f (operand_faults at (how_many bs)) ⊎ cond (nat_le n max_levels)
+      (InitHasFault globals (n + 1) s bs f ⊎ cond (is_definition (with_bindings bs s) e) (f ≡ Unbuilt (offset e))
       (FormHasFault globals Begin at (n + 1) (with_bindings bs s) t (cons e es) f))
       (f ≡ Core at))
       (f ≡ BadForm at)) →
       (are_bindings [] bs ≡ true → Free (InitHasFault globals (n + 1) s bs) → InitsExpand globals (n + 1) s bs is) →
       (Free (FormHasFault globals Begin at (n + 1) (with_bindings bs s) t (cons e es)) → FormExpands globals Begin (n + 1) (with_bindings bs s) t (cons e es) b) →
       FormExpands globals Let n s t (cons (list q bs) (cons e es))
-      (cond (let_is_shaped s bs (cons e es)) (cond (nat_le n most_levels) (cond (is_definition (with_bindings bs s) e) nothing (bind is b)) nothing) nothing)
+      (cond (let_is_shaped s bs (cons e es)) (cond (nat_le n max_levels) (cond (is_definition (with_bindings bs s) e) nothing (bind is b)) nothing) nothing)
   let_expands at n s t q bs e es is b h r r' =
-      let g = chosen (λ f. IsIn f (operand_faults at (how_many bs)) ⊎ cond (nat_le n most_levels)
-      (InitHasFault globals (n + 1) s bs f ⊎ cond (is_definition (with_bindings bs s) e) (f ≡ Unbuilt (place e))
+      let g = chosen (λ f. IsIn f (operand_faults at (how_many bs)) ⊎ cond (nat_le n max_levels)
+      (InitHasFault globals (n + 1) s bs f ⊎ cond (is_definition (with_bindings bs s) e) (f ≡ Unbuilt (offset e))
       (FormHasFault globals Begin at (n + 1) (with_bindings bs s) t (cons e es) f))
       (f ≡ Core at)) (BadForm at) (let_is_shaped s bs (cons e es)) refl h in
       let w = few_free at (how_many bs) _ refl (λ f i. g.1 f (inl i)) in
-      let k = chosen (λ f. InitHasFault globals (n + 1) s bs f ⊎ cond (is_definition (with_bindings bs s) e) (f ≡ Unbuilt (place e)) (FormHasFault globals Begin at (n + 1) (with_bindings bs s) t (cons e es) f))
-      (Core at) (nat_le n most_levels) refl (λ f i. g.1 f (inr i)) in
-      let m = not_chosen (FormHasFault globals Begin at (n + 1) (with_bindings bs s) t (cons e es)) (Unbuilt (place e)) (is_definition (with_bindings bs s) e) refl (λ f i. k.1 f (inr i)) in
+      let k = chosen (λ f. InitHasFault globals (n + 1) s bs f ⊎ cond (is_definition (with_bindings bs s) e) (f ≡ Unbuilt (offset e)) (FormHasFault globals Begin at (n + 1) (with_bindings bs s) t (cons e es) f))
+      (Core at) (nat_le n max_levels) refl (λ f i. g.1 f (inr i)) in
+      let m = not_chosen (FormHasFault globals Begin at (n + 1) (with_bindings bs s) t (cons e es)) (Unbuilt (offset e)) (is_definition (with_bindings bs s) e) refl (λ f i. k.1 f (inr i)) in
       rw (g.0, k.0, m.0) (ex.lets n s t q bs e es is b g.0 m.0 w k.0 (r (both _ _ g.0) (λ f i. k.1 f (inl i))) (r' m.1))
 
   mutual
@@ -294,17 +295,17 @@ module _ (globals : List (List ℕ)) where
     form_expands : (k : Keyword) (at n : ℕ) (s : Scope) (t : Position) (xs : Data) → Free (FormHasFault globals k at n s t xs) → FormExpands globals k n s t xs (built_form globals k n s t xs)
     form_expands Quote at n s t xs h = quote_expands n s t at xs h
     form_expands If at n s t (cons a (cons b (cons c none))) h =
-        let g = chosen (λ f. HasFault globals (n + 1) s Test a f ⊎ (HasFault globals (n + 1) s t b f ⊎ HasFault globals (n + 1) s t c f)) (Core at) (nat_le n most_levels) refl h in
+        let g = chosen (λ f. HasFault globals (n + 1) s Test a f ⊎ (HasFault globals (n + 1) s t b f ⊎ HasFault globals (n + 1) s t c f)) (Core at) (nat_le n max_levels) refl h in
         rw g.0 (ex.if_both n s t a b c _ _ _ g.0 (expands (n + 1) s Test a (λ f i. g.1 f (inl i))) (expands (n + 1) s t b (λ f i. g.1 f (inr (inl i)))) (expands (n + 1) s t c (λ f i. g.1 f (inr (inr i)))))
     form_expands If at n s t (cons a (cons b none)) h =
-        let g = chosen (λ f. HasFault globals (n + 1) s Test a f ⊎ HasFault globals (n + 1) s t b f) (Core at) (nat_le (n + 1) most_levels) refl h in
+        let g = chosen (λ f. HasFault globals (n + 1) s Test a f ⊎ HasFault globals (n + 1) s t b f) (Core at) (nat_le (n + 1) max_levels) refl h in
         rw g.0 (ex.if_one n s t a b _ _ g.0 (expands (n + 1) s Test a (λ f i. g.1 f (inl i))) (expands (n + 1) s t b (λ f i. g.1 f (inr i))))
     form_expands Let at n s t (cons (atom q (symbol x)) es) h = absurd (h _ refl)
     form_expands Let at n s t (cons (list q bs) (cons e es)) h =
         let_expands at n s t q bs e es _ _ h (inits_expand (n + 1) s [] bs) (form_expands Begin at (n + 1) (with_bindings bs s) t (cons e es))
     form_expands Begin at n s t (cons e none) h = ex.begin_one n s t e _ (expands n s t e h)
     form_expands Begin at n s t (cons e (cons e' es)) h =
-        let g = chosen (λ f. HasFault globals (n + 1) s Value e f ⊎ PartHasFault globals (n + 1) s t (cons e' es) f) (Core at) (nat_le n most_levels) refl h in
+        let g = chosen (λ f. HasFault globals (n + 1) s Value e f ⊎ PartHasFault globals (n + 1) s t (cons e' es) f) (Core at) (nat_le n max_levels) refl h in
         rw g.0 (ex.begin_more n s t e e' es _ _ g.0 (expands (n + 1) s Value e (λ f i. g.1 f (inl i))) (parts_expand (n + 1) s t (cons e' es) cons_none (λ f i. g.1 f (inr i))))
     form_expands k at n s t _ h = absurd (h _ refl)
 

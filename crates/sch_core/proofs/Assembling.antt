@@ -8,7 +8,7 @@ use Rattle.sch_lang.specs.declared.tree.Lambda.{Lambda}
 use Rattle.sch_lang.specs.Tree.{Source}
 use Rattle.sch_lang.specs.View.{expressions_of, lambdas_of}
 use Rattle.sch_lang.specs.SourceView.{source_of}
-use Rattle.sch_lang.specs.Valid.{in_range, shaped, within_limits, sites_once, statics_known, is_valid}
+use Rattle.sch_lang.specs.Valid.{constants_in_range, in_range, shaped, within_limits, sites_once, statics_known, is_valid}
 use Rattle.sch_lang.proofs.Rows.{lambdas_of_list}
 use Rattle.sch_core.specs.Draft.{Draft, drafts}
 use Rattle.sch_core.specs.Forms.{firsts}
@@ -45,8 +45,14 @@ module _ (p q : Source) (h : p ≡ q) (v : is_valid q ≡ true) where
   valid : is_valid p ≡ true
   valid = ap is_valid h ∙ v
 
+  after_range : (constants_in_range p && (shaped p && (within_limits p && (sites_once p && statics_known p)))) ≡ true
+  after_range = right (in_range p) _ valid
+
   rest : (shaped p && (within_limits p && (sites_once p && statics_known p))) ≡ true
-  rest = right _ _ valid
+  rest = right (constants_in_range p) _ after_range
+
+  pub words : constants_in_range p ≡ true
+  words = left _ _ after_range
 
   pub ranged : in_range p ≡ true
   ranged = left _ _ valid

@@ -1,21 +1,22 @@
 -- The fault that is found is the least.
 use Rattle.std.proofs.Common.{◌≡◌, ◌⊎◌, inl, inr, ◌≤◌, ◌+◌, ℕ, Bool, true, false, cond, List, [], ◌∷◌, Option, Some, None, nat_le, refl, sym, arith}
 use Rattle.std.proofs.lemmas.Bool.{leb-true, leb-false}
-use Rattle.sch_lang.specs.Valid.{most_levels}
+use Rattle.sch_word.specs.Shape.{max_levels}
 use Rattle.sch_read.specs.Grammar.{Datum, Data, atom, list, dotted, vector, none, cons, boolean, integer, character, text, symbol}
-use Rattle.sch_core.specs.declared.word.Keyword.{Keyword}
-use Rattle.sch_core.specs.declared.word.Keyword.TheVariants.{Quote, If, Let, Begin}
-use Rattle.sch_core.specs.declared.word.Position.{Position}
-use Rattle.sch_core.specs.declared.word.Position.TheVariants.{Value, Test}
+use Rattle.sch_core.specs.declared.keyword.Keyword.{Keyword}
+use Rattle.sch_core.specs.declared.keyword.Keyword.TheVariants.{Quote, If, Let, Begin}
+use Rattle.sch_core.specs.declared.keyword.Position.{Position}
+use Rattle.sch_core.specs.declared.keyword.Position.TheVariants.{Value, Test}
 use Rattle.sch_core.specs.declared.operation.Operation.{Operation}
 use Rattle.sch_core.specs.declared.fault.Fault.{Fault}
 use Rattle.sch_core.specs.declared.fault.Fault.TheVariants.{Unbuilt, BadForm, Core}
 use Rattle.sch_core.specs.Words.{keyword_of}
-use Rattle.sch_core.specs.Scope.{Scope, find, is_among, Head, form, operating, calling, head_of, by_head, how_many, place, with_bindings}
+use Rattle.sch_core.specs.Scope.{Scope, find, is_among, Head, form, operating, calling, head_of, by_head, with_bindings}
+use Rattle.sch_read.specs.Parts.{how_many, offset}
 use Rattle.sch_core.specs.Definitions.{is_definition}
 use Rattle.sch_core.specs.Combined.{own_depth}
 use Rattle.sch_core.specs.Expands.{let_is_shaped}
-use Rattle.sch_core.specs.FaultOrder.{rank, noted, all_noted}
+use Rattle.sch_core.specs.FaultOrder.{rank, reported, all_reported}
 use Rattle.sch_core.specs.Faults.{IsIn, level_faults, operand_faults, name_faults, own_faults, misuse, quote_faults, HasFault, FormHasFault, AnyHasFault, InitHasFault, PartHasFault}
 use Rattle.sch_core.specs.Builds.{least, least_form, least_each, least_inits, least_parts}
 
@@ -48,17 +49,17 @@ some_is {f} {g} e = cc
 pub none_some : {f : Fault} → None ≡ Some f → ⊥
 none_some e = cc
 
-noted_by : (f g : Fault) (t : Bool) → nat_le (rank g) (rank f) ≡ t → Best (λ h. h ≡ f) (Some g) (cond t (Some g) (Some f))
-noted_by f g true e = record { from = λ h i. inl i; below = λ h i. record { fault = g; is = refl; below = rw i (leb-true _ _ e) }; kept = λ h i. record { fault = g; is = refl; below = rw (some_is i) (omega arith) } }
-noted_by f g false e = record { from = λ h i. inr (sym (some_is i)); below = λ h i. record { fault = f; is = refl; below = rw i (omega arith) }; kept = λ h i. record { fault = f; is = refl; below = rw (sym (some_is i)) (omega (arith, leb-false _ _ e)) } }
+reported_by : (f g : Fault) (t : Bool) → nat_le (rank g) (rank f) ≡ t → Best (λ h. h ≡ f) (Some g) (cond t (Some g) (Some f))
+reported_by f g true e = record { from = λ h i. inl i; below = λ h i. record { fault = g; is = refl; below = rw i (leb-true _ _ e) }; kept = λ h i. record { fault = g; is = refl; below = rw (some_is i) (omega arith) } }
+reported_by f g false e = record { from = λ h i. inr (sym (some_is i)); below = λ h i. record { fault = f; is = refl; below = rw i (omega arith) }; kept = λ h i. record { fault = f; is = refl; below = rw (sym (some_is i)) (omega (arith, leb-false _ _ e)) } }
 
-pub one_new : (f : Fault) (a : Option Fault) → Best (λ h. h ≡ f) a (noted f a)
+pub one_new : (f : Fault) (a : Option Fault) → Best (λ h. h ≡ f) a (reported f a)
 one_new f None = record { from = λ h i. inr (sym (some_is i)); below = λ h i. record { fault = f; is = refl; below = rw i (omega arith) }; kept = λ h i. absurd (none_some i) }
-one_new f (Some g) = noted_by f g _ refl
+one_new f (Some g) = reported_by f g _ refl
 
-pub all_new : (fs : List Fault) (a : Option Fault) → Best (λ h. IsIn h fs) a (all_noted fs a)
+pub all_new : (fs : List Fault) (a : Option Fault) → Best (λ h. IsIn h fs) a (all_reported fs a)
 all_new [] a = none_new a
-all_new (f ∷ fs) a = and_then (one_new f a) (all_new fs (noted f a))
+all_new (f ∷ fs) a = and_then (one_new f a) (all_new fs (reported f a))
 
 head_best : {F : Keyword → Fault → Type 0} {G : Operation → Fault → Type 0} {H : Fault → Type 0} (h : Head) (a : Option Fault) (f : Keyword → Option Fault) (g : Operation → Option Fault) (c : Option Fault) →
     ((k : Keyword) → Best (F k) a (f k)) → ((p : Operation) → Best (G p) a (g p)) → Best H a c →
@@ -83,7 +84,7 @@ module _ (globals : List (List ℕ)) where
     best n s t (list at (cons (atom q (symbol x)) xs)) o =
         head_best (head_of globals s x (how_many xs)) o _ _ _ (λ k. form_best k at n s t xs o)
         (λ p. and_then (all_new (operand_faults at (how_many xs)) o) (and_then (all_new (own_faults p n at xs) _)
-        (cond_best (nat_le (n + own_depth p (how_many xs)) most_levels) (each_best (n + 1) s xs _) (none_new _))))
+        (cond_best (nat_le (n + own_depth p (how_many xs)) max_levels) (each_best (n + 1) s xs _) (none_new _))))
         (one_new (Unbuilt at) o)
     best n s t (list at (cons g xs)) o = one_new (Unbuilt at) o
     best n s t (dotted at xs x) o = one_new (BadForm at) o
@@ -92,22 +93,22 @@ module _ (globals : List (List ℕ)) where
     form_best : (k : Keyword) (at n : ℕ) (s : Scope) (t : Position) (xs : Data) (o : Option Fault) → Best (FormHasFault globals k at n s t xs) o (least_form globals k at n s t xs o)
     form_best Quote at n s t xs o = all_new (quote_faults xs n at) o
     form_best If at n s t (cons a (cons b (cons c none))) o =
-        cond_best (nat_le n most_levels) (and_then (best (n + 1) s Test a o) (and_then (best (n + 1) s t b _) (best (n + 1) s t c _))) (one_new (Core at) o)
+        cond_best (nat_le n max_levels) (and_then (best (n + 1) s Test a o) (and_then (best (n + 1) s t b _) (best (n + 1) s t c _))) (one_new (Core at) o)
     form_best If at n s t (cons a (cons b none)) o =
-        cond_best (nat_le (n + 1) most_levels) (and_then (best (n + 1) s Test a o) (best (n + 1) s t b _)) (one_new (Core at) o)
+        cond_best (nat_le (n + 1) max_levels) (and_then (best (n + 1) s Test a o) (best (n + 1) s t b _)) (one_new (Core at) o)
     form_best Let at n s t (cons (atom q (symbol x)) es) o = one_new (Unbuilt at) o
     form_best Let at n s t (cons (list q bs) (cons e es)) o =
         cond_best (let_is_shaped s bs (cons e es))
         (and_then (all_new (operand_faults at (how_many bs)) o)
-        (cond_best (nat_le n most_levels)
+        (cond_best (nat_le n max_levels)
         (and_then (inits_best (n + 1) s bs _)
-        (cond_best (is_definition (with_bindings bs s) e) (one_new (Unbuilt (place e)) _)
+        (cond_best (is_definition (with_bindings bs s) e) (one_new (Unbuilt (offset e)) _)
         (form_best Begin at (n + 1) (with_bindings bs s) t (cons e es) _)))
         (one_new (Core at) _)))
         (one_new (BadForm at) o)
     form_best Begin at n s t (cons e none) o = best n s t e o
     form_best Begin at n s t (cons e (cons e' es)) o =
-        cond_best (nat_le n most_levels) (and_then (best (n + 1) s Value e o) (parts_best (n + 1) s t (cons e' es) _)) (one_new (Core at) o)
+        cond_best (nat_le n max_levels) (and_then (best (n + 1) s Value e o) (parts_best (n + 1) s t (cons e' es) _)) (one_new (Core at) o)
     form_best k at n s t _ o = one_new (misuse k at) o
 
     each_best : (n : ℕ) (s : Scope) (xs : Data) (o : Option Fault) → Best (AnyHasFault globals n s xs) o (least_each globals n s xs o)

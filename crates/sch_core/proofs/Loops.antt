@@ -12,13 +12,13 @@ use Rattle.sch_core.specs.Draft.{Drafts, drafts, no_drafts, and_draft}
 use Rattle.sch_core.specs.DraftView.{draft_of, drafts_of}
 use Rattle.sch_core.specs.Following.{and_then}
 use Rattle.sch_read.specs.Grammar as grammar
-use Rattle.sch_core.specs.declared.word.Position.{Position}
-use Rattle.sch_core.specs.declared.word.Position.TheVariants.{Value}
+use Rattle.sch_core.specs.declared.keyword.Position.{Position}
+use Rattle.sch_core.specs.declared.keyword.Position.TheVariants.{Value}
 use Rattle.sch_core.specs.Scope.{Scope, with_bindings}
 use Rattle.sch_core.specs.Builds.{built, built_each, built_inits, built_parts, least, least_each, least_inits, least_parts}
 use Rattle.sch_core.proofs.Steps.{is_none, part_made, part_least}
 use Rattle.sch_read.specs.Valid.{weight, weights}
-use Rattle.sch_core.specs.Scope.{how_many}
+use Rattle.sch_read.specs.Parts.{how_many}
 
 pub how_many_is : (xs : List Datum) → how_many (data_of xs) ≡ length xs
 how_many_is [] = refl

@@ -1,23 +1,24 @@
 -- The steps of the walk, over plain values.
 use Rattle.std.proofs.Common.{◌≡◌, ℕ, ◌+◌, ◌-◌, Bool, true, false, cond, List, Option, Some, None, length, drop, nat_le, refl, ap, ◌∙◌, sym, arith}
-use Rattle.sch_lang.specs.Valid.{most_levels}
+use Rattle.sch_word.specs.Shape.{max_levels}
 use Rattle.sch_read.specs.Grammar.{Datum, Data, atom, list, dotted, vector, none, cons, boolean, integer, character, text, symbol}
-use Rattle.sch_core.specs.declared.word.Keyword.{Keyword}
-use Rattle.sch_core.specs.declared.word.Keyword.TheVariants.{If, Let, Begin}
-use Rattle.sch_core.specs.declared.word.Position.{Position}
-use Rattle.sch_core.specs.declared.word.Position.TheVariants.{Value, Test}
+use Rattle.sch_core.specs.declared.keyword.Keyword.{Keyword}
+use Rattle.sch_core.specs.declared.keyword.Keyword.TheVariants.{If, Let, Begin}
+use Rattle.sch_core.specs.declared.keyword.Position.{Position}
+use Rattle.sch_core.specs.declared.keyword.Position.TheVariants.{Value, Test}
 use Rattle.sch_core.specs.declared.operation.Operation.{Operation}
 use Rattle.sch_core.specs.declared.fault.Fault.{Fault}
 use Rattle.sch_core.specs.declared.fault.Fault.TheVariants.{Unbuilt}
-use Rattle.sch_core.specs.declared.shape.LetKind.{LetKind}
-use Rattle.sch_core.specs.declared.shape.LetKind.TheVariants.{Bad, Defining, Plain}
+use Rattle.sch_core.specs.declared.body.LetKind.{LetKind}
+use Rattle.sch_core.specs.declared.body.LetKind.TheVariants.{Bad, Defining, Plain}
 use Rattle.sch_core.specs.declared.scope.Head as code
 use Rattle.sch_core.specs.Words.{keyword_of}
 use Rattle.sch_core.specs.Draft.{Draft, Drafts, branch, sequence, bind, no_drafts, and_draft}
-use Rattle.sch_core.specs.Scope.{Scope, form, operating, head_of, find, place, how_many, with_bindings}
+use Rattle.sch_core.specs.Scope.{Scope, form, operating, head_of, find, with_bindings}
+use Rattle.sch_read.specs.Parts.{how_many, offset}
 use Rattle.sch_core.specs.Definitions.{is_definition, are_definitions}
 use Rattle.sch_core.specs.Expands.{nothing}
-use Rattle.sch_core.specs.FaultOrder.{noted, all_noted}
+use Rattle.sch_core.specs.FaultOrder.{reported, all_reported}
 use Rattle.sch_core.specs.Faults.{operand_faults}
 use Rattle.sch_core.specs.LetKinds.{let_kind}
 use Rattle.sch_core.specs.HeadView.{head_view}
@@ -30,9 +31,9 @@ definition_begins s d {xs} {ys} {o} {x} {p} {q} e e' e'' f k = rw (e ∙ ap (lis
 
 -- the next level
 abbrev pub Deeper : (n more m : ℕ) → Type 0
-Deeper n more m = (nat_le (n + more) most_levels ≡ true) × (m ≡ n + 1)
+Deeper n more m = (nat_le (n + more) max_levels ≡ true) × (m ≡ n + 1)
 
-pub here : (n : ℕ) → nat_le (n + 0) most_levels ≡ true → nat_le n most_levels ≡ true
+pub here : (n : ℕ) → nat_le (n + 0) max_levels ≡ true → nat_le n max_levels ≡ true
 here n h = let e : n + 0 ≡ n = omega arith in rw e at h
 
 plain_kind : {k : LetKind} (b c : Bool) → k ≡ cond b (cond c Defining Plain) Bad → (k ≡ Bad → ⊥) → (k ≡ Defining → ⊥) → (b ≡ true) × (c ≡ false)
@@ -87,9 +88,9 @@ module _ (g : List (List ℕ)) (n : ℕ) (s : Scope) (t : Position) where
 
   pub let_plain_least : (at : ℕ) {xs r es bs : Data} {b e : Datum} {p m : ℕ} {k : LetKind} → xs ≡ cons b r → b ≡ list p bs → r ≡ cons e es → k ≡ let_kind s bs e r →
       (k ≡ Bad → ⊥) → (k ≡ Defining → ⊥) → Deeper n 0 m → (s1 s2 s3 : Scope) → s1 ≡ s → s2 ≡ s1 → s3 ≡ with_bindings bs s2 → (o o1 o2 o3 : Option Fault) (c : ℕ) → c ≡ how_many bs →
-      o1 ≡ all_noted (operand_faults at c) o → o2 ≡ least_inits g m s1 bs o1 → o3 ≡ least_form g Begin at m s3 t r o2 → o3 ≡ least_form g Let at n s t xs o
+      o1 ≡ all_reported (operand_faults at c) o → o2 ≡ least_inits g m s1 bs o1 → o3 ≡ least_form g Begin at m s3 t r o2 → o3 ≡ least_form g Let at n s t xs o
   let_plain_least at {xs} {r} {es} {bs} {b} {e} {p} a a' a'' k x y (l, m) s1 s2 s3 i j w o o1 o2 o3 c' z h' q v =
-      let h = h' ∙ ap (λ u. all_noted (operand_faults at u) o) z in
+      let h = h' ∙ ap (λ u. all_reported (operand_faults at u) o) z in
       let l' = here n l in
       let f = plain_kind _ _ k x y in
       let d = f.0 in
@@ -109,9 +110,9 @@ module _ (g : List (List ℕ)) (n : ℕ) (s : Scope) (t : Position) where
 
   pub let_defining_least : (at : ℕ) {xs r es bs : Data} {b e : Datum} {p m q : ℕ} {k : LetKind} → xs ≡ cons b r → b ≡ list p bs → r ≡ cons e es → k ≡ let_kind s bs e r →
       k ≡ Defining → Deeper n 0 m → (s1 : Scope) → s1 ≡ s → (o o1 o2 o3 : Option Fault) (c : ℕ) → c ≡ how_many bs →
-      o1 ≡ all_noted (operand_faults at c) o → o2 ≡ least_inits g m s1 bs o1 → q ≡ place e → o3 ≡ noted (Unbuilt q) o2 → o3 ≡ least_form g Let at n s t xs o
+      o1 ≡ all_reported (operand_faults at c) o → o2 ≡ least_inits g m s1 bs o1 → q ≡ offset e → o3 ≡ reported (Unbuilt q) o2 → o3 ≡ least_form g Let at n s t xs o
   let_defining_least at {xs} {r} {es} {bs} {b} {e} {p} a a' a'' k x (l, m) s1 i o o1 o2 o3 c' z h' q j v =
-      let h = h' ∙ ap (λ u. all_noted (operand_faults at u) o) z in
+      let h = h' ∙ ap (λ u. all_reported (operand_faults at u) o) z in
       let l' = here n l in
       let f = defining_kind _ _ k x in
       let d = f.0 in

@@ -1,9 +1,9 @@
 -- A text without faults has one list of drafts, and one with a fault has none.
 use Rattle.std.proofs.Common.{◌≡◌, inl, inr, ℕ, true, false, List, [], ◌∷◌, Option, Some, None, refl, sym, ◌∙◌, ap}
 use Rattle.sch_read.specs.Grammar.{Datum, Data, atom, list, dotted, none, cons, symbol}
-use Rattle.sch_core.specs.declared.word.Keyword.{Keyword}
-use Rattle.sch_core.specs.declared.word.Keyword.TheVariants as word
-use Rattle.sch_core.specs.declared.word.Position.TheVariants.{Value}
+use Rattle.sch_core.specs.declared.keyword.Keyword.{Keyword}
+use Rattle.sch_core.specs.declared.keyword.Keyword.TheVariants as word
+use Rattle.sch_core.specs.declared.keyword.Position.TheVariants.{Value}
 use Rattle.sch_core.specs.declared.fault.Fault.{Fault}
 use Rattle.sch_core.specs.declared.fault.Fault.TheVariants.{Unbuilt, BadForm, KeywordDefined}
 use Rattle.sch_core.specs.Words.{keyword_of}
@@ -131,6 +131,7 @@ text_fault items f e =
     record {
       there = elim (b.from f e) [ inl h ↦ absurd (none_some h) | inr h ↦ h ];
       least = λ g h. let m = b.below g h in rw (some_is (sym e ∙ m.is)) m.below;
+      first = e;
     }
 
 pub text_free : (items : Data) → least_forms (globals_of items) items None ≡ None → TextExpands items (built_forms (globals_of items) items)

@@ -1,21 +1,22 @@
 -- The steps over top-level forms, over plain values.
-use Rattle.std.proofs.Common.{◌≡◌, ℕ, suc, ◌+◌, ◌<◌, cond, List, [], ◌∷◌, ◌++◌, Option, Some, None, length, drop, get_or, refl, ap, ◌∙◌, sym, add-one}
+use Rattle.std.proofs.Common.{◌≡◌, ℕ, suc, ◌+◌, ◌<◌, true, false, cond, subst, List, [], ◌∷◌, ◌++◌, Option, Some, None, length, drop, get_or, refl, ap, ◌∙◌, sym, add-one}
 use Rattle.sch_read.specs.Grammar.{Datum, Data, atom, list, dotted, vector, none, cons, boolean, integer, character, text, symbol}
-use Rattle.sch_core.specs.declared.word.Keyword.{Keyword}
-use Rattle.sch_core.specs.declared.word.Keyword.TheVariants as word
+use Rattle.sch_core.specs.declared.keyword.Keyword.{Keyword}
+use Rattle.sch_core.specs.declared.keyword.Keyword.TheVariants as word
 use Rattle.sch_core.specs.declared.fault.Fault.{Fault}
 use Rattle.sch_core.specs.declared.fault.Fault.TheVariants.{Unbuilt, BadForm, KeywordDefined}
 use Rattle.sch_core.specs.Words.{keyword_of}
-use Rattle.sch_core.specs.FaultOrder.{noted}
-use Rattle.sch_core.specs.Scope.{place}
-use Rattle.sch_core.specs.Shapes.{IsNoSymbol, IsNoList, IsHeaded}
+use Rattle.sch_core.specs.FaultOrder.{reported}
+use Rattle.sch_read.specs.Parts.{offset}
+use Rattle.sch_core.specs.Shapes.{IsHeaded}
+use Rattle.sch_read.specs.Parts.{IsNoSymbol, IsNoProperList}
 use Rattle.sch_core.specs.Forms.{built_value, least_value, by_word, word_of, first_name, head_name, named_if, defined_name, defined_by, defined, firsts, is_listed, built_define, built_top, built_forms, least_define, least_top, least_forms}
 use Rattle.sch_core.specs.Builds.{built, least}
 use Rattle.sch_core.specs.NamesView.{with_name}
 use Rattle.sch_read.specs.declared.datum.Datum as code
 use Rattle.sch_read.specs.Views.{tree_of, data_of}
 use Rattle.sch_core.proofs.Loops.{next_is}
-use Rattle.sch_core.specs.declared.word.Position.TheVariants.{Value}
+use Rattle.sch_core.specs.declared.keyword.Position.TheVariants.{Value}
 
 pub no_symbol_first : (d : Datum) (xs : Data) → IsNoSymbol d → first_name (cons d xs) ≡ None
 no_symbol_first (atom p (boolean b)) xs h = refl
@@ -27,7 +28,7 @@ no_symbol_first (list p ys) xs h = refl
 no_symbol_first (dotted p ys y) xs h = refl
 no_symbol_first (vector p ys) xs h = refl
 
-pub no_list_word : (d : Datum) → IsNoList d → word_of d ≡ None
+pub no_list_word : (d : Datum) → IsNoProperList d → word_of d ≡ None
 no_list_word (atom p a) h = refl
 no_list_word (list p xs) h = absurd h
 no_list_word (dotted p xs x) h = refl
@@ -52,8 +53,64 @@ word_no_symbol {o = o} {ys = ys} {p = p} e e' h = rw (e ∙ ap (list p) e') (no_
 pub word_no_keyword : {d o : Datum} {xs ys : Data} {p q : ℕ} {x : List ℕ} → d ≡ list p xs → xs ≡ cons o ys → o ≡ atom q (symbol x) → keyword_of x ≡ None → word_of d ≡ None
 word_no_keyword {ys = ys} {p = p} e e' e'' h = rw (e ∙ ap (list p) (e' ∙ ap (λ z. cons z ys) e'')) h
 
-pub headed_is : {d o : Datum} {xs ys : Data} {q : ℕ} {x : List ℕ} {k : Keyword} → d ≡ list (place d) xs → xs ≡ cons o ys → o ≡ atom q (symbol x) → keyword_of x ≡ Some k → IsHeaded d k ys
-headed_is {d} {ys = ys} {q} {x} e e' e'' h = record { name_place = q; name = x; shape = e ∙ ap (list (place d)) (e' ∙ ap (λ z. cons z ys) e''); word = h }
+pub headed_is : {d o : Datum} {xs ys : Data} {q : ℕ} {x : List ℕ} {k : Keyword} → d ≡ list (offset d) xs → xs ≡ cons o ys → o ≡ atom q (symbol x) → keyword_of x ≡ Some k → IsHeaded d k ys
+headed_is {d} {ys = ys} {q} {x} e e' e'' h = record { name_place = q; name = x; shape = e ∙ ap (list (offset d)) (e' ∙ ap (λ z. cons z ys) e''); word = h }
+
+-- ## What a datum at top level is
+
+pub headed_as : {d : Datum} {k j : Keyword} {xs : Data} → k ≡ j → IsHeaded d k xs → IsHeaded d j xs
+headed_as {d} {xs = xs} e h = subst (λ w. IsHeaded d w xs) e h
+
+abbrev pub IsExpression : Datum → Type 0
+IsExpression d = by_word (word_of d) false false true ≡ true
+
+pub expression_none : (d : Datum) → word_of d ≡ None → IsExpression d
+expression_none d e = ap (λ w. by_word w false false true) e
+
+other_word : {A : Type 0} (k : Keyword) (a b c : A) → (k ≡ word.Define → ⊥) → (k ≡ word.Begin → ⊥) → by_word (Some k) a b c ≡ c
+other_word word.Quote a b c m n = refl
+other_word word.Lambda a b c m n = refl
+other_word word.If a b c m n = refl
+other_word word.Set a b c m n = refl
+other_word word.Cond a b c m n = refl
+other_word word.Case a b c m n = refl
+other_word word.And a b c m n = refl
+other_word word.Or a b c m n = refl
+other_word word.Let a b c m n = refl
+other_word word.LetStar a b c m n = refl
+other_word word.Letrec a b c m n = refl
+other_word word.Begin a b c m n = absurd (n refl)
+other_word word.Do a b c m n = refl
+other_word word.Define a b c m n = absurd (m refl)
+other_word word.Else a b c m n = refl
+other_word word.Arrow a b c m n = refl
+other_word word.LeftOut a b c m n = refl
+
+headed_word : {d : Datum} {k : Keyword} {xs : Data} → IsHeaded d k xs → word_of d ≡ Some k
+headed_word h = ap word_of h.shape ∙ h.word
+
+pub expression_other : {d : Datum} {k : Keyword} {xs : Data} → IsHeaded d k xs → (k ≡ word.Define → ⊥) → (k ≡ word.Begin → ⊥) → IsExpression d
+expression_other {k = k} h m n = ap (λ w. by_word w false false true) (headed_word h) ∙ other_word k false false true m n
+
+pub expression_word : {A : Type 0} (w : Option Keyword) (a b c : A) → by_word w false false true ≡ true → by_word w a b c ≡ c
+expression_word None a b c h = refl
+expression_word (Some word.Quote) a b c h = refl
+expression_word (Some word.Lambda) a b c h = refl
+expression_word (Some word.If) a b c h = refl
+expression_word (Some word.Set) a b c h = refl
+expression_word (Some word.Cond) a b c h = refl
+expression_word (Some word.Case) a b c h = refl
+expression_word (Some word.And) a b c h = refl
+expression_word (Some word.Or) a b c h = refl
+expression_word (Some word.Let) a b c h = refl
+expression_word (Some word.LetStar) a b c h = refl
+expression_word (Some word.Letrec) a b c h = refl
+expression_word (Some word.Begin) a b c h = cc
+expression_word (Some word.Do) a b c h = refl
+expression_word (Some word.Define) a b c h = cc
+expression_word (Some word.Else) a b c h = refl
+expression_word (Some word.Arrow) a b c h = refl
+expression_word (Some word.LeftOut) a b c h = refl
 
 -- ## Globals
 
@@ -78,91 +135,72 @@ collect_next items i d seen seen' r l e h k =
     let k' = rw n at k in
     rw (add-one, h) (sym (firsts_append seen (defined_by (tree_of d)) (defined (data_of (drop (suc i) items)))) ∙ k')
 
-pub defined_headed : {d : Datum} {k : Keyword} {xs : Data} → IsHeaded d k xs → defined_by d ≡ by_word (Some k) (defined_name xs) (defined xs) []
-defined_headed {d} h = rw (h.shape, h.word) refl
+pub defined_definition : {d : Datum} {xs : Data} → IsHeaded d word.Define xs → defined_by d ≡ defined_name xs
+defined_definition h = rw (h.shape, h.word) refl
 
-other_word : {A : Type 0} (k : Keyword) (a b c : A) → (k ≡ word.Define → ⊥) → (k ≡ word.Begin → ⊥) → by_word (Some k) a b c ≡ c
-other_word word.Quote a b c m n = refl
-other_word word.Lambda a b c m n = refl
-other_word word.If a b c m n = refl
-other_word word.Set a b c m n = refl
-other_word word.Cond a b c m n = refl
-other_word word.Case a b c m n = refl
-other_word word.And a b c m n = refl
-other_word word.Or a b c m n = refl
-other_word word.Let a b c m n = refl
-other_word word.LetStar a b c m n = refl
-other_word word.Letrec a b c m n = refl
-other_word word.Begin a b c m n = absurd (n refl)
-other_word word.Do a b c m n = refl
-other_word word.Define a b c m n = absurd (m refl)
-other_word word.Else a b c m n = refl
-other_word word.Arrow a b c m n = refl
-other_word word.LeftOut a b c m n = refl
+pub defined_beginning : {d : Datum} {xs : Data} → IsHeaded d word.Begin xs → defined_by d ≡ defined xs
+defined_beginning h = rw (h.shape, h.word) refl
 
-pub defined_other : {d : Datum} {k : Keyword} {xs : Data} → IsHeaded d k xs → (k ≡ word.Define → ⊥) → (k ≡ word.Begin → ⊥) → defined_by d ≡ []
-defined_other {d} {k} h m n = defined_headed h ∙ other_word k _ _ _ m n
-
-pub defined_none : (d : Datum) → word_of d ≡ None → defined_by d ≡ []
-defined_none (atom p a) h = refl
-defined_none (list p none) h = refl
-defined_none (list p (cons (atom q (symbol x)) xs)) h = ap (λ w. by_word w (defined_name xs) (defined xs) []) h
-defined_none (list p (cons (atom q (boolean x)) xs)) h = refl
-defined_none (list p (cons (atom q (integer x)) xs)) h = refl
-defined_none (list p (cons (atom q (character x)) xs)) h = refl
-defined_none (list p (cons (atom q (text x)) xs)) h = refl
-defined_none (list p (cons (list q x) xs)) h = refl
-defined_none (list p (cons (dotted q x y) xs)) h = refl
-defined_none (list p (cons (vector q x) xs)) h = refl
-defined_none (dotted p xs x) h = refl
-defined_none (vector p xs) h = refl
+pub defined_expression : (d : Datum) → IsExpression d → defined_by d ≡ []
+defined_expression (atom p a) h = refl
+defined_expression (list p none) h = refl
+defined_expression (list p (cons (atom q (symbol x)) xs)) h = expression_word (keyword_of x) _ _ _ h
+defined_expression (list p (cons (atom q (boolean x)) xs)) h = refl
+defined_expression (list p (cons (atom q (integer x)) xs)) h = refl
+defined_expression (list p (cons (atom q (character x)) xs)) h = refl
+defined_expression (list p (cons (atom q (text x)) xs)) h = refl
+defined_expression (list p (cons (list q x) xs)) h = refl
+defined_expression (list p (cons (dotted q x y) xs)) h = refl
+defined_expression (list p (cons (vector q x) xs)) h = refl
+defined_expression (dotted p xs x) h = refl
+defined_expression (vector p xs) h = refl
 
 -- ## Forms
 
 module _ (g : List (List ℕ)) where
-  pub top_headed : {d : Datum} {k : Keyword} {xs : Data} → IsHeaded d k xs → built_top g d ≡ by_word (Some k) (built_define g xs) (built_forms g xs) (built g 1 [] Value d ∷ [])
-  top_headed {d} {k} {xs} h =
-      ap (built_top g) h.shape ∙ ap (λ w. by_word w (built_define g xs) (built_forms g xs) (built g 1 [] Value (list (place d) (cons (atom h.name_place (symbol h.name)) xs)) ∷ [])) h.word
-      ∙ ap (λ y. by_word (Some k) (built_define g xs) (built_forms g xs) (built g 1 [] Value y ∷ [])) (sym h.shape)
+  pub top_definition : {d : Datum} {xs : Data} → IsHeaded d word.Define xs → built_top g d ≡ built_define g xs
+  top_definition {d} {xs} h =
+      ap (built_top g) h.shape ∙ ap (λ w. by_word w (built_define g xs) (built_forms g xs) (built g 1 [] Value (list (offset d) (cons (atom h.name_place (symbol h.name)) xs)) ∷ [])) h.word
 
-  pub least_headed : {d : Datum} {k : Keyword} {xs : Data} → IsHeaded d k xs → (o : Option Fault) → least_top g d o ≡ by_word (Some k) (least_define g (place d) xs o) (least_forms g xs o) (least g 1 [] Value d o)
-  least_headed {d} {k} {xs} h o =
-      ap (λ y. least_top g y o) h.shape ∙ ap (λ w. by_word w (least_define g (place d) xs o) (least_forms g xs o) (least g 1 [] Value (list (place d) (cons (atom h.name_place (symbol h.name)) xs)) o)) h.word
-      ∙ ap (λ y. by_word (Some k) (least_define g (place d) xs o) (least_forms g xs o) (least g 1 [] Value y o)) (sym h.shape)
+  pub top_beginning : {d : Datum} {xs : Data} → IsHeaded d word.Begin xs → built_top g d ≡ built_forms g xs
+  top_beginning {d} {xs} h =
+      ap (built_top g) h.shape ∙ ap (λ w. by_word w (built_define g xs) (built_forms g xs) (built g 1 [] Value (list (offset d) (cons (atom h.name_place (symbol h.name)) xs)) ∷ [])) h.word
 
-  pub top_other : {d : Datum} {k : Keyword} {xs : Data} → IsHeaded d k xs → (k ≡ word.Define → ⊥) → (k ≡ word.Begin → ⊥) → built_top g d ≡ built g 1 [] Value d ∷ []
-  top_other {d} {k} h m n = top_headed h ∙ other_word k _ _ _ m n
+  pub top_expression : (d : Datum) → IsExpression d → built_top g d ≡ built g 1 [] Value d ∷ []
+  top_expression (atom p a) h = refl
+  top_expression (list p none) h = refl
+  top_expression (list p (cons (atom q (symbol x)) xs)) h = expression_word (keyword_of x) _ _ _ h
+  top_expression (list p (cons (atom q (boolean x)) xs)) h = refl
+  top_expression (list p (cons (atom q (integer x)) xs)) h = refl
+  top_expression (list p (cons (atom q (character x)) xs)) h = refl
+  top_expression (list p (cons (atom q (text x)) xs)) h = refl
+  top_expression (list p (cons (list q x) xs)) h = refl
+  top_expression (list p (cons (dotted q x y) xs)) h = refl
+  top_expression (list p (cons (vector q x) xs)) h = refl
+  top_expression (dotted p xs x) h = refl
+  top_expression (vector p xs) h = refl
 
-  pub least_other_top : {d : Datum} {k : Keyword} {xs : Data} → IsHeaded d k xs → (k ≡ word.Define → ⊥) → (k ≡ word.Begin → ⊥) → (o : Option Fault) → least_top g d o ≡ least g 1 [] Value d o
-  least_other_top {d} {k} h m n o = least_headed h o ∙ other_word k _ _ _ m n
+  pub least_definition : {d : Datum} {xs : Data} → IsHeaded d word.Define xs → (o : Option Fault) → least_top g d o ≡ least_define g (offset d) xs o
+  least_definition {d} {xs} h o =
+      ap (λ y. least_top g y o) h.shape ∙ ap (λ w. by_word w (least_define g (offset d) xs o) (least_forms g xs o) (least g 1 [] Value (list (offset d) (cons (atom h.name_place (symbol h.name)) xs)) o)) h.word
 
-  pub top_none : (d : Datum) → word_of d ≡ None → built_top g d ≡ built g 1 [] Value d ∷ []
-  top_none (atom p a) h = refl
-  top_none (list p none) h = refl
-  top_none (list p (cons (atom q (symbol x)) xs)) h = ap (λ w. by_word w (built_define g xs) (built_forms g xs) (built g 1 [] Value (list p (cons (atom q (symbol x)) xs)) ∷ [])) h
-  top_none (list p (cons (atom q (boolean x)) xs)) h = refl
-  top_none (list p (cons (atom q (integer x)) xs)) h = refl
-  top_none (list p (cons (atom q (character x)) xs)) h = refl
-  top_none (list p (cons (atom q (text x)) xs)) h = refl
-  top_none (list p (cons (list q x) xs)) h = refl
-  top_none (list p (cons (dotted q x y) xs)) h = refl
-  top_none (list p (cons (vector q x) xs)) h = refl
-  top_none (dotted p xs x) h = refl
-  top_none (vector p xs) h = refl
+  pub least_beginning : {d : Datum} {xs : Data} → IsHeaded d word.Begin xs → (o : Option Fault) → least_top g d o ≡ least_forms g xs o
+  least_beginning {d} {xs} h o =
+      ap (λ y. least_top g y o) h.shape ∙ ap (λ w. by_word w (least_define g (offset d) xs o) (least_forms g xs o) (least g 1 [] Value (list (offset d) (cons (atom h.name_place (symbol h.name)) xs)) o)) h.word
 
-  pub least_none : (d : Datum) → word_of d ≡ None → (o : Option Fault) → least_top g d o ≡ least g 1 [] Value d o
-  least_none (atom p a) h o = refl
-  least_none (list p none) h o = refl
-  least_none (list p (cons (atom q (symbol x)) xs)) h o = ap (λ w. by_word w (least_define g p xs o) (least_forms g xs o) (least g 1 [] Value (list p (cons (atom q (symbol x)) xs)) o)) h
-  least_none (list p (cons (atom q (boolean x)) xs)) h o = refl
-  least_none (list p (cons (atom q (integer x)) xs)) h o = refl
-  least_none (list p (cons (atom q (character x)) xs)) h o = refl
-  least_none (list p (cons (atom q (text x)) xs)) h o = refl
-  least_none (list p (cons (list q x) xs)) h o = refl
-  least_none (list p (cons (dotted q x y) xs)) h o = refl
-  least_none (list p (cons (vector q x) xs)) h o = refl
-  least_none (dotted p xs x) h o = refl
-  least_none (vector p xs) h o = refl
+  pub least_expression : (d : Datum) → IsExpression d → (o : Option Fault) → least_top g d o ≡ least g 1 [] Value d o
+  least_expression (atom p a) h o = refl
+  least_expression (list p none) h o = refl
+  least_expression (list p (cons (atom q (symbol x)) xs)) h o = expression_word (keyword_of x) _ _ _ h
+  least_expression (list p (cons (atom q (boolean x)) xs)) h o = refl
+  least_expression (list p (cons (atom q (integer x)) xs)) h o = refl
+  least_expression (list p (cons (atom q (character x)) xs)) h o = refl
+  least_expression (list p (cons (atom q (text x)) xs)) h o = refl
+  least_expression (list p (cons (list q x) xs)) h o = refl
+  least_expression (list p (cons (dotted q x y) xs)) h o = refl
+  least_expression (list p (cons (vector q x) xs)) h o = refl
+  least_expression (dotted p xs x) h o = refl
+  least_expression (vector p xs) h o = refl
 
   -- what is defined is neither a name nor a list, or is a list
   pub define_other : {d : Datum} {xs rest : Data} → xs ≡ cons d rest → IsNoSymbol d → built_define g xs ≡ []
@@ -175,7 +213,7 @@ module _ (g : List (List ℕ)) where
   define_other {d = dotted p ys y} e h = ap (built_define g) e
   define_other {d = vector p ys} e h = ap (built_define g) e
 
-  pub define_other_least : {d : Datum} {xs rest : Data} (at : ℕ) (o : Option Fault) → xs ≡ cons d rest → IsNoSymbol d → least_define g at xs o ≡ cond (is_listed d) (noted (Unbuilt at) o) (noted (BadForm at) o)
+  pub define_other_least : {d : Datum} {xs rest : Data} (at : ℕ) (o : Option Fault) → xs ≡ cons d rest → IsNoSymbol d → least_define g at xs o ≡ cond (is_listed d) (reported (Unbuilt at) o) (reported (BadForm at) o)
   define_other_least {d = atom p (boolean b)} at o e h = ap (λ y. least_define g at y o) e
   define_other_least {d = atom p (integer b)} at o e h = ap (λ y. least_define g at y o) e
   define_other_least {d = atom p (character b)} at o e h = ap (λ y. least_define g at y o) e
@@ -191,7 +229,7 @@ module _ (g : List (List ℕ)) where
   pub define_keyword : {xs rest : Data} {d : Datum} {q : ℕ} {v : List ℕ} {k : Keyword} → xs ≡ cons d rest → d ≡ atom q (symbol v) → keyword_of v ≡ Some k → built_define g xs ≡ []
   define_keyword {rest = rest} e e' h = rw (e ∙ ap (λ y. cons y rest) e', h) refl
 
-  pub define_keyword_least : {xs rest : Data} {d : Datum} {q : ℕ} {v : List ℕ} {k : Keyword} (at : ℕ) (o : Option Fault) → xs ≡ cons d rest → d ≡ atom q (symbol v) → keyword_of v ≡ Some k → least_define g at xs o ≡ noted (KeywordDefined at) o
+  pub define_keyword_least : {xs rest : Data} {d : Datum} {q : ℕ} {v : List ℕ} {k : Keyword} (at : ℕ) (o : Option Fault) → xs ≡ cons d rest → d ≡ atom q (symbol v) → keyword_of v ≡ Some k → least_define g at xs o ≡ reported (KeywordDefined at) o
   define_keyword_least {rest = rest} at o e e' h = rw (e ∙ ap (λ y. cons y rest) e', h) refl
 
   pub define_name : {xs rest : Data} {d : Datum} {q : ℕ} {v : List ℕ} → xs ≡ cons d rest → d ≡ atom q (symbol v) → keyword_of v ≡ None → built_define g xs ≡ built_value g v rest

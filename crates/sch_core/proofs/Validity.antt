@@ -3,15 +3,15 @@ use Rattle.std.proofs.Common.{◌≡◌, ◌≤◌, ◌*◌, ℕ, suc, true, Lis
 use Rattle.std.proofs.lemmas.Bool.{and_from, le-leb}
 use Rattle.sch_word.specs.Runs.{library_known}
 use Rattle.sch_lang.specs.Tree as tree
-use Rattle.sch_lang.specs.Valid.{in_range, shaped, within_limits, sites_once, statics_known, is_valid}
+use Rattle.sch_lang.specs.Valid.{constants_in_range, in_range, shaped, within_limits, sites_once, statics_known, is_valid}
 use Rattle.sch_lang.proofs.SitesInOrder.{sites_in_order}
 use Rattle.sch_read.specs.Grammar.{Data}
-use Rattle.sch_read.specs.Valid.{weights}
+use Rattle.sch_read.specs.Valid.{max_weight, weights}
 use Rattle.sch_core.specs.Draft.{Draft, drafts}
 use Rattle.sch_core.specs.Forms.{firsts, globals_of, TextExpands}
 use Rattle.sch_core.specs.Numbered.{global_names_of_each, unset, program_of}
-use Rattle.sch_core.specs.Programs.{form_places, first_crowded}
-use Rattle.sch_core.specs.Sizes.{nodes_and_bound}
+use Rattle.sch_core.specs.Programs.{form_places, first_exceeding}
+use Rattle.sch_lang.specs.Measures.{nodes_and_bound}
 use Rattle.sch_core.proofs.ValiditySites.{count_numbered, sites_each}
 use Rattle.sch_core.proofs.ValiditySoundness.{sound_text}
 use Rattle.sch_core.proofs.ValidityNodes.{scoped_each, shaped_each, fitting_each}
@@ -38,42 +38,43 @@ table_length items es h = omega (arith, firsts_length (global_names_of_each (dra
 as_many : (items : Data) (es : List Draft) → TextExpands items es → length (form_places items) ≡ tree.count (program_of es).forms
 as_many items es h = places_text (globals_of items) h ∙ sym (count_numbered (table es) (drafts es) 0 ∙ count_drafts es)
 
-pub in_range_of : (items : Data) (es : List Draft) → TextExpands items es → weights items ≤ 7340032 →
-    first_crowded (form_places items) (program_of es).forms ≡ None → in_range (program_of es) ≡ true
+pub in_range_of : (items : Data) (es : List Draft) → TextExpands items es → weights items ≤ max_weight →
+    first_exceeding (form_places items) (program_of es).forms ≡ None → in_range (program_of es) ≡ true
 in_range_of items es h light fits =
     let s = sound_text (globals_of items) h in
     and_from _ _ (scoped_each (table es) (drafts es) 0 0 s)
     (named_each (table es) (drafts es) 0 0 s (all_among (global_names_of_each (drafts es)) []))
 
-pub shaped_of : (items : Data) (es : List Draft) → TextExpands items es → weights items ≤ 7340032 →
-    first_crowded (form_places items) (program_of es).forms ≡ None → shaped (program_of es) ≡ true
+pub shaped_of : (items : Data) (es : List Draft) → TextExpands items es → weights items ≤ max_weight →
+    first_exceeding (form_places items) (program_of es).forms ≡ None → shaped (program_of es) ≡ true
 shaped_of items es h light fits = shaped_each (table es) (drafts es) 0 0 (sound_text (globals_of items) h)
 
-pub within_limits_of : (items : Data) (es : List Draft) → TextExpands items es → weights items ≤ 7340032 →
-    first_crowded (form_places items) (program_of es).forms ≡ None → within_limits (program_of es) ≡ true
+pub within_limits_of : (items : Data) (es : List Draft) → TextExpands items es → weights items ≤ max_weight →
+    first_exceeding (form_places items) (program_of es).forms ≡ None → within_limits (program_of es) ≡ true
 within_limits_of items es h light fits =
     and_from _ _ (le-leb _ _ (omega (arith, levels_each_kept (table es) (drafts es) 0, level_text (globals_of items) h)))
     (and_from _ _ (fit_forms (form_places items) (program_of es).forms (as_many items es h) fits)
     (fitting_each (table es) (drafts es) 0 0 (sound_text (globals_of items) h)))
 
-pub sites_once_of : (items : Data) (es : List Draft) → TextExpands items es → weights items ≤ 7340032 →
-    first_crowded (form_places items) (program_of es).forms ≡ None → sites_once (program_of es) ≡ true
+pub sites_once_of : (items : Data) (es : List Draft) → TextExpands items es → weights items ≤ max_weight →
+    first_exceeding (form_places items) (program_of es).forms ≡ None → sites_once (program_of es) ≡ true
 sites_once_of items es h light fits = sites_in_order (program_of es) (sites_each (table es) (drafts es) 0)
 
-pub statics_known_of : (items : Data) (es : List Draft) → TextExpands items es → weights items ≤ 7340032 →
-    first_crowded (form_places items) (program_of es).forms ≡ None → statics_known (program_of es) ≡ true
+pub statics_known_of : (items : Data) (es : List Draft) → TextExpands items es → weights items ≤ max_weight →
+    first_exceeding (form_places items) (program_of es).forms ≡ None → statics_known (program_of es) ≡ true
 statics_known_of items es h light fits =
     and_from _ _ (le-leb _ _ (omega (arith, light, table_length items es h, unset_length (table es)))) (unset_known (table es) 0)
 
-pub valid_of : (items : Data) (es : List Draft) → TextExpands items es → weights items ≤ 7340032 →
-    first_crowded (form_places items) (program_of es).forms ≡ None → is_valid (program_of es) ≡ true
-valid_of items es h light fits =
+pub valid_of : (items : Data) (es : List Draft) → TextExpands items es → weights items ≤ max_weight →
+    first_exceeding (form_places items) (program_of es).forms ≡ None → constants_in_range (program_of es) ≡ true → is_valid (program_of es) ≡ true
+valid_of items es h light fits constants =
     and_from _ _ (in_range_of items es h light fits)
+    (and_from _ _ constants
     (and_from _ _ (shaped_of items es h light fits)
     (and_from _ _ (within_limits_of items es h light fits)
-    (and_from _ _ (sites_once_of items es h light fits) (statics_known_of items es h light fits))))
+    (and_from _ _ (sites_once_of items es h light fits) (statics_known_of items es h light fits)))))
 
 -- The nodes and bound variables of the program are together at most sixteen times the weight of the items.
-pub size_of : (items : Data) (es : List Draft) → TextExpands items es → weights items ≤ 7340032 →
-    first_crowded (form_places items) (program_of es).forms ≡ None → nodes_and_bound (program_of es) ≤ 16 * weights items
+pub size_of : (items : Data) (es : List Draft) → TextExpands items es → weights items ≤ max_weight →
+    first_exceeding (form_places items) (program_of es).forms ≡ None → nodes_and_bound (program_of es) ≤ 16 * weights items
 size_of items es h light fits = omega (arith, size_each_kept (table es) (drafts es) 0, sized_text (globals_of items) h)

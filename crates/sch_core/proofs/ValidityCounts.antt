@@ -4,16 +4,18 @@ use Rattle.sch_word.specs.declared.primitive.Primitive.{Primitive}
 use Rattle.sch_lang.specs.Tree as tree
 use Rattle.sch_lang.specs.Tree.{Expression, Expressions, no_expressions, and_expression}
 use Rattle.sch_lang.specs.Measures.{variables}
-use Rattle.sch_lang.specs.Valid.{forms_fit, most_body_variables}
+use Rattle.sch_word.specs.Shape.{max_variables}
+use Rattle.sch_lang.specs.Valid.{forms_fit}
 use Rattle.sch_read.specs.Grammar.{Datum, Data, atom, list, cons, symbol}
 use Rattle.sch_read.specs.Valid.{weight, weights}
-use Rattle.sch_core.specs.declared.word.Keyword.{Keyword}
-use Rattle.sch_core.specs.declared.word.Keyword.TheVariants as word
-use Rattle.sch_core.specs.declared.word.Position.{Position}
+use Rattle.sch_core.specs.declared.keyword.Keyword.{Keyword}
+use Rattle.sch_core.specs.declared.keyword.Keyword.TheVariants as word
+use Rattle.sch_core.specs.declared.keyword.Position.{Position}
 use Rattle.sch_core.specs.declared.operation.Operation.{Operation}
 use Rattle.sch_core.specs.declared.operation.Operation.TheVariants.{Exact, Unit, UnitAnd, Nested, Chained, Newline}
 use Rattle.sch_core.specs.Draft.{Draft, Drafts, drafts, count}
-use Rattle.sch_core.specs.Scope.{Scope, how_many}
+use Rattle.sch_core.specs.Scope.{Scope}
+use Rattle.sch_read.specs.Parts.{how_many}
 use Rattle.sch_core.specs.Words.{keyword_of}
 use Rattle.sch_core.specs.Numbered.{global_names, global_names_of_each}
 use Rattle.sch_core.specs.Combined.{nested, nest, chained, chain, combined}
@@ -21,7 +23,7 @@ use Rattle.sch_core.specs.Expands.{Expands, FormExpands, EachExpands, InitsExpan
 use Rattle.sch_core.specs.Expands as ex
 use Rattle.sch_core.specs.Forms.{by_word, word_of, TopExpands, FormsExpand}
 use Rattle.sch_core.specs.Forms as fo
-use Rattle.sch_core.specs.Programs.{places_of, form_places, first_crowded}
+use Rattle.sch_core.specs.Programs.{places_of, form_places, first_exceeding}
 
 -- ## Names
 
@@ -128,13 +130,13 @@ pub count_drafts : (es : List Draft) → count (drafts es) ≡ length es
 count_drafts [] = refl
 count_drafts (e ∷ es) = ap suc (count_drafts es)
 
-pub fit_forms : (places : List ℕ) (es : Expressions) → length places ≡ tree.count es → first_crowded places es ≡ None → forms_fit es ≡ true
+pub fit_forms : (places : List ℕ) (es : Expressions) → length places ≡ tree.count es → first_exceeding places es ≡ None → forms_fit es ≡ true
 fit_forms [] no_expressions c h = refl
 fit_forms [] (and_expression e es) c h = cc
 fit_forms (at ∷ places) no_expressions c h = cc
 fit_forms (at ∷ places) (and_expression e es) c h =
-    go (nat_le (variables e []) most_body_variables) h (fit_forms places es (omega (arith, c)))
+    go (nat_le (variables e []) max_variables) h (fit_forms places es (omega (arith, c)))
   where
-    go : (b : Bool) → cond b (first_crowded places es) (Some at) ≡ None → (first_crowded places es ≡ None → forms_fit es ≡ true) → (b && forms_fit es) ≡ true
+    go : (b : Bool) → cond b (first_exceeding places es) (Some at) ≡ None → (first_exceeding places es ≡ None → forms_fit es ≡ true) → (b && forms_fit es) ≡ true
     go true e f = f e
     go false e f = cc

@@ -5,12 +5,13 @@ use Rattle.std.proofs.lemmas.Bool.{leb-true}
 use Rattle.sch_word.specs.declared.primitive.Primitive.{Primitive}
 use Rattle.sch_lang.specs.Measures as measures
 use Rattle.sch_read.specs.Grammar.{Datum, Data}
-use Rattle.sch_core.specs.declared.word.Keyword.{Keyword}
-use Rattle.sch_core.specs.declared.word.Position.{Position}
+use Rattle.sch_core.specs.declared.keyword.Keyword.{Keyword}
+use Rattle.sch_core.specs.declared.keyword.Position.{Position}
 use Rattle.sch_core.specs.declared.operation.Operation.{Operation}
 use Rattle.sch_core.specs.declared.operation.Operation.TheVariants.{Exact, Unit, UnitAnd, Nested, Chained, Newline}
 use Rattle.sch_core.specs.Draft.{Draft, Drafts, constant, local, global, define, branch, sequence, bind, operation, no_drafts, and_draft, drafts, count}
-use Rattle.sch_core.specs.Scope.{Scope, how_many}
+use Rattle.sch_core.specs.Scope.{Scope}
+use Rattle.sch_read.specs.Parts.{how_many}
 use Rattle.sch_core.specs.Numbered.{widths, widths_of_each, numbered, numbered_each}
 use Rattle.sch_core.specs.Combined.{nested, nest, chained, chain, combined, whole_depth}
 use Rattle.sch_core.specs.Expands.{IsLevel, Expands, FormExpands, EachExpands, InitsExpand, PartsExpand}

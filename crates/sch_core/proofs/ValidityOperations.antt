@@ -5,8 +5,8 @@ use Rattle.std.specs.Str.{bytes_eq}
 use Rattle.std.proofs.lemmas.Bool.{eqb-true}
 use Rattle.sch_word.specs.declared.primitive.Primitive.{Primitive}
 use Rattle.sch_word.specs.declared.primitive.Primitive.TheVariants.{Eq, Eqv, IsBoolean, IsNull, IsInteger, IsChar, IsProcedure, Add, Subtract, Multiply, Quotient, Remainder, Modulo, Equal, Less, Greater, LessEqual, GreaterEqual, CharToInteger, IntegerToChar, Put}
-use Rattle.sch_word.specs.Primitives.{operands_of}
-use Rattle.sch_core.specs.declared.word.Keyword.{Keyword}
+use Rattle.sch_word.specs.Primitives.{name_of, operands_of}
+use Rattle.sch_core.specs.declared.keyword.Keyword.{Keyword}
 use Rattle.sch_core.specs.declared.operation.Operation.{Operation}
 use Rattle.sch_core.specs.declared.operation.Operation.TheVariants.{Exact, Unit, UnitAnd, Nested, Chained, Newline}
 use Rattle.sch_core.specs.Operations.{exactly, arithmetic, comparison, number_operation, operation_of}
@@ -58,30 +58,30 @@ not_none n false o h = h
 
 number_admits : (x : List ℕ) (n : ℕ) → AdmitsIfAny (number_operation x n) n
 number_admits x n =
-    either n (bytes_eq x (codes "+")) _ _ (arithmetic_admits Add n refl)
-    (either n (bytes_eq x (codes "-")) _ _ (not_none n (nat_eq n 0) _ (arithmetic_admits Subtract n refl))
-    (either n (bytes_eq x (codes "*")) _ _ (arithmetic_admits Multiply n refl)
-    (either n (bytes_eq x (codes "quotient")) _ _ (exactly_admits Quotient n)
-    (either n (bytes_eq x (codes "remainder")) _ _ (exactly_admits Remainder n)
-    (either n (bytes_eq x (codes "modulo")) _ _ (exactly_admits Modulo n)
-    (either n (bytes_eq x (codes "=")) _ _ (comparison_admits Equal n refl)
-    (either n (bytes_eq x (codes "<")) _ _ (comparison_admits Less n refl)
-    (either n (bytes_eq x (codes ">")) _ _ (comparison_admits Greater n refl)
-    (either n (bytes_eq x (codes "<=")) _ _ (comparison_admits LessEqual n refl)
-    (either n (bytes_eq x (codes ">=")) _ _ (comparison_admits GreaterEqual n refl)
-    (either n (bytes_eq x (codes "char->integer")) _ _ (exactly_admits CharToInteger n)
-    (either n (bytes_eq x (codes "integer->char")) _ _ (exactly_admits IntegerToChar n) refl))))))))))))
+    either n (bytes_eq x (name_of Add)) _ _ (arithmetic_admits Add n refl)
+    (either n (bytes_eq x (name_of Subtract)) _ _ (not_none n (nat_eq n 0) _ (arithmetic_admits Subtract n refl))
+    (either n (bytes_eq x (name_of Multiply)) _ _ (arithmetic_admits Multiply n refl)
+    (either n (bytes_eq x (name_of Quotient)) _ _ (exactly_admits Quotient n)
+    (either n (bytes_eq x (name_of Remainder)) _ _ (exactly_admits Remainder n)
+    (either n (bytes_eq x (name_of Modulo)) _ _ (exactly_admits Modulo n)
+    (either n (bytes_eq x (name_of Equal)) _ _ (comparison_admits Equal n refl)
+    (either n (bytes_eq x (name_of Less)) _ _ (comparison_admits Less n refl)
+    (either n (bytes_eq x (name_of Greater)) _ _ (comparison_admits Greater n refl)
+    (either n (bytes_eq x (name_of LessEqual)) _ _ (comparison_admits LessEqual n refl)
+    (either n (bytes_eq x (name_of GreaterEqual)) _ _ (comparison_admits GreaterEqual n refl)
+    (either n (bytes_eq x (name_of CharToInteger)) _ _ (exactly_admits CharToInteger n)
+    (either n (bytes_eq x (name_of IntegerToChar)) _ _ (exactly_admits IntegerToChar n) refl))))))))))))
 
 name_admits : (x : List ℕ) (n : ℕ) → AdmitsIfAny (operation_of x n) n
 unfolding operation_of
 name_admits x n =
-    either n (bytes_eq x (codes "eq?")) _ _ (exactly_admits Eq n)
-    (either n (bytes_eq x (codes "eqv?")) _ _ (exactly_admits Eqv n)
-    (either n (bytes_eq x (codes "boolean?")) _ _ (exactly_admits IsBoolean n)
-    (either n (bytes_eq x (codes "null?")) _ _ (exactly_admits IsNull n)
-    (either n (bytes_eq x (codes "integer?")) _ _ (exactly_admits IsInteger n)
-    (either n (bytes_eq x (codes "char?")) _ _ (exactly_admits IsChar n)
-    (either n (bytes_eq x (codes "procedure?")) _ _ (exactly_admits IsProcedure n)
+    either n (bytes_eq x (name_of Eq)) _ _ (exactly_admits Eq n)
+    (either n (bytes_eq x (name_of Eqv)) _ _ (exactly_admits Eqv n)
+    (either n (bytes_eq x (name_of IsBoolean)) _ _ (exactly_admits IsBoolean n)
+    (either n (bytes_eq x (name_of IsNull)) _ _ (exactly_admits IsNull n)
+    (either n (bytes_eq x (name_of IsInteger)) _ _ (exactly_admits IsInteger n)
+    (either n (bytes_eq x (name_of IsChar)) _ _ (exactly_admits IsChar n)
+    (either n (bytes_eq x (name_of IsProcedure)) _ _ (exactly_admits IsProcedure n)
     (either n (bytes_eq x (codes "display")) _ _ (exactly_admits Put n)
     (either n (bytes_eq x (codes "newline")) _ _ (only_none n (nat_eq n 0) refl) (number_admits x n)))))))))
 

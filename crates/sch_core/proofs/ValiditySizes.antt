@@ -1,22 +1,22 @@
 -- How large the drafts of a text are, by the weight of its data.
 use Rattle.std.proofs.Common.{◌≡◌, ◌≤◌, ℕ, zero, suc, ◌+◌, ◌*◌, List, [], ◌∷◌, ◌++◌, length, refl, arith}
 use Rattle.sch_word.specs.declared.primitive.Primitive.{Primitive}
-use Rattle.sch_lang.specs.Measures.{over, over_each}
 use Rattle.sch_read.specs.Grammar.{Datum, Data}
 use Rattle.sch_read.specs.Valid.{weight, weights}
-use Rattle.sch_core.specs.declared.word.Keyword.{Keyword}
-use Rattle.sch_core.specs.declared.word.Position.{Position}
+use Rattle.sch_core.specs.declared.keyword.Keyword.{Keyword}
+use Rattle.sch_core.specs.declared.keyword.Position.{Position}
 use Rattle.sch_core.specs.declared.operation.Operation.{Operation}
 use Rattle.sch_core.specs.declared.operation.Operation.TheVariants.{Exact, Unit, UnitAnd, Nested, Chained, Newline}
 use Rattle.sch_core.specs.Draft.{Draft, Drafts, constant, local, global, define, branch, sequence, bind, operation, no_drafts, and_draft, drafts, count}
-use Rattle.sch_core.specs.Scope.{Scope, how_many}
+use Rattle.sch_core.specs.Scope.{Scope}
+use Rattle.sch_read.specs.Parts.{how_many}
 use Rattle.sch_core.specs.Numbered.{widths, widths_of_each, numbered, numbered_each}
 use Rattle.sch_core.specs.Combined.{nested, nest, chained, chain, combined}
 use Rattle.sch_core.specs.Expands.{Expands, FormExpands, EachExpands, InitsExpand, PartsExpand}
 use Rattle.sch_core.specs.Expands as ex
 use Rattle.sch_core.specs.Forms.{TopExpands, FormsExpand}
 use Rattle.sch_core.specs.Forms as fo
-use Rattle.sch_core.specs.Sizes.{node_and_bound}
+use Rattle.sch_lang.specs.Measures.{node_and_bound, over, over_each}
 use Rattle.sch_core.proofs.ValiditySites.{count_numbered}
 use Rattle.sch_core.proofs.ValiditySoundness.{each_count}
 

@@ -4,12 +4,13 @@ use Rattle.std.proofs.lemmas.Bool.{leb-true}
 use Rattle.sch_word.specs.declared.primitive.Primitive.{Primitive}
 use Rattle.sch_word.specs.Primitives.{operands_of}
 use Rattle.sch_read.specs.Grammar.{Datum, Data}
-use Rattle.sch_core.specs.declared.word.Keyword.{Keyword}
-use Rattle.sch_core.specs.declared.word.Position.{Position}
+use Rattle.sch_core.specs.declared.keyword.Keyword.{Keyword}
+use Rattle.sch_core.specs.declared.keyword.Position.{Position}
 use Rattle.sch_core.specs.declared.operation.Operation.{Operation}
 use Rattle.sch_core.specs.declared.operation.Operation.TheVariants.{Exact, Unit, UnitAnd, Nested, Chained, Newline}
 use Rattle.sch_core.specs.Draft.{Draft, Drafts, drafts, count}
-use Rattle.sch_core.specs.Scope.{Scope, find, is_named, farther, how_many, with_bindings}
+use Rattle.sch_core.specs.Scope.{Scope, find, is_named, farther, with_bindings}
+use Rattle.sch_read.specs.Parts.{how_many}
 use Rattle.sch_core.specs.Combined.{nested, nest, chained, chain, combined}
 use Rattle.sch_core.specs.Expands.{Expands, FormExpands, EachExpands, InitsExpand, PartsExpand}
 use Rattle.sch_core.specs.Expands as ex

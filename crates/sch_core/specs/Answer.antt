@@ -7,7 +7,7 @@ use Rattle.sch_core.specs.declared.error.CoreError.{CoreError}
 use Rattle.sch_core.specs.declared.error.CoreError.TheVariants as errors
 use Rattle.sch_core.specs.declared.error.Kind.TheVariants as kinds
 use Rattle.sch_core.specs.Forms.{IsFaultOf}
-use Rattle.sch_core.specs.Programs.{IsCrowdedAt}
+use Rattle.sch_core.specs.Programs.{ExceedsAt}
 
 -- the error names the fault
 abbrev pub IsErrorFor : CoreError → Fault → Type 0
@@ -20,8 +20,8 @@ IsErrorFor (errors.Limit kinds.Operands at) f = f ≡ fault.Operands at
 IsErrorFor (errors.Limit kinds.Core at) f = f ≡ fault.Core at
 IsErrorFor (errors.Limit _ at) f = ⊥
 
--- the error is want of memory, names the fault of the data, or the first form with too many variables
+-- the error is out of memory, names the fault of the data, or the first form with too many variables
 abbrev pub IsErrorIn : Data → CoreError → Type 0
 IsErrorIn items errors.Memory = Unit {0}
-IsErrorIn items (errors.Limit kinds.Variables at) = IsCrowdedAt items at
+IsErrorIn items (errors.Limit kinds.Variables at) = ExceedsAt items at
 IsErrorIn items e = (f : Fault) × IsErrorFor e f × IsFaultOf items f

@@ -4,7 +4,7 @@ use Rattle.std.specs.Prelude.{ℕ, ◌+◌, Bool, true, false, nat_lt}
 use Rattle.sch_lang.specs.Measures.{one_unless}
 use Rattle.sch_core.specs.Draft.{Draft, Drafts, constant, local, global, define, branch, sequence, bind, operation, no_drafts, and_draft, count}
 
--- a constant, or one of the variables that are bound, so many
+-- a constant, or one of the `bound` variables that are bound
 abbrev pub is_simple : Draft → (bound : ℕ) → Bool
 is_simple (constant c) bound = true
 is_simple (local k) bound = nat_lt k bound

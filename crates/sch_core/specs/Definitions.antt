@@ -1,8 +1,8 @@
 -- Which parts of a body are definitions (R5RS 5.2.2).
 use Rattle.std.specs.Prelude.{ℕ, Bool, true, false, ◌&&◌, Option, Some, None}
 use Rattle.sch_read.specs.Grammar.{Datum, Data, atom, list, none, cons, symbol}
-use Rattle.sch_core.specs.declared.word.Keyword.{Keyword}
-use Rattle.sch_core.specs.declared.word.Keyword.TheVariants.{Define, Begin}
+use Rattle.sch_core.specs.declared.keyword.Keyword.{Keyword}
+use Rattle.sch_core.specs.declared.keyword.Keyword.TheVariants.{Define, Begin}
 use Rattle.sch_core.specs.Words.{keyword_of}
 use Rattle.sch_core.specs.Scope.{Scope, find}
 

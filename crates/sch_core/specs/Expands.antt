@@ -3,16 +3,17 @@
 -- of the expressions, the outermost is at level 1, and none may lie deeper than the limit.
 use Rattle.std.specs.Prelude.{◌≡◌, ℕ, ℤ, ◌+◌, Bool, true, false, ◌&&◌, not, List, [], Some, None, nat_le}
 use Rattle.sch_word.specs.declared.constant.Const.TheVariants.{Fixnum, Character, Boolean, Nil, Unspecified}
-use Rattle.sch_lang.specs.Valid.{most_levels, most_operands}
+use Rattle.sch_word.specs.Shape.{max_levels, max_operands}
 use Rattle.sch_read.specs.Grammar.{Datum, Data, atom, list, none, cons, boolean, integer, character, symbol}
-use Rattle.sch_core.specs.declared.word.Keyword.{Keyword}
-use Rattle.sch_core.specs.declared.word.Keyword.TheVariants.{Quote, If, Let, Begin}
-use Rattle.sch_core.specs.declared.word.Position.{Position}
-use Rattle.sch_core.specs.declared.word.Position.TheVariants.{Value, Test}
+use Rattle.sch_core.specs.declared.keyword.Keyword.{Keyword}
+use Rattle.sch_core.specs.declared.keyword.Keyword.TheVariants.{Quote, If, Let, Begin}
+use Rattle.sch_core.specs.declared.keyword.Position.{Position}
+use Rattle.sch_core.specs.declared.keyword.Position.TheVariants.{Value, Test}
 use Rattle.sch_core.specs.declared.operation.Operation.{Operation}
 use Rattle.sch_core.specs.Words.{keyword_of}
 use Rattle.sch_core.specs.Draft.{Draft, Drafts, constant, local, global, branch, sequence, bind, no_drafts, and_draft}
-use Rattle.sch_core.specs.Scope.{Scope, find, is_among, form, operating, head_of, how_many, with_bindings, are_bindings}
+use Rattle.sch_core.specs.Scope.{Scope, find, is_among, form, operating, head_of, with_bindings, are_bindings}
+use Rattle.sch_read.specs.Parts.{how_many}
 use Rattle.sch_core.specs.Definitions.{is_definition, are_definitions}
 use Rattle.sch_core.specs.Combined.{combined, whole_depth}
 
@@ -21,10 +22,10 @@ nothing = constant Unspecified
 
 -- a level within the limit, and as many operands, formals or bindings as a form may have
 abbrev pub IsLevel : ℕ → Type 0
-IsLevel n = nat_le n most_levels ≡ true
+IsLevel n = nat_le n max_levels ≡ true
 
 abbrev pub AreFew : ℕ → Type 0
-AreFew n = nat_le n most_operands ≡ true
+AreFew n = nat_le n max_operands ≡ true
 
 -- the bindings of a `let` are well formed, and its body has an expression
 abbrev pub let_is_shaped : Scope → (bindings : Data) → (body : Data) → Bool

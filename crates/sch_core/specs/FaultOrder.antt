@@ -13,10 +13,10 @@ rank (Operands at) = at * 6 + 4
 rank (Core at) = at * 6 + 5
 
 -- the least fault so far and one more
-abbrev pub noted : Fault → Option Fault → Option Fault
-noted f None = Some f
-noted f (Some g) = cond (nat_le (rank g) (rank f)) (Some g) (Some f)
+abbrev pub reported : Fault → Option Fault → Option Fault
+reported f None = Some f
+reported f (Some g) = cond (nat_le (rank g) (rank f)) (Some g) (Some f)
 
-abbrev pub all_noted : List Fault → Option Fault → Option Fault
-all_noted [] o = o
-all_noted (f ∷ fs) o = all_noted fs (noted f o)
+abbrev pub all_reported : List Fault → Option Fault → Option Fault
+all_reported [] o = o
+all_reported (f ∷ fs) o = all_reported fs (reported f o)

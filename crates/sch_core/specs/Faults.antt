@@ -1,17 +1,20 @@
 -- The faults of data, and the one that is answered.
 use Rattle.std.specs.Prelude.{◌≡◌, ◌⊎◌, ℕ, ◌+◌, Bool, true, false, cond, List, [], ◌∷◌, Option, Some, None, nat_le}
-use Rattle.sch_lang.specs.Valid.{most_levels, most_operands}
+use Rattle.sch_word.specs.declared.constant.Const.{Const}
+use Rattle.sch_word.specs.Shape.{max_levels, max_operands}
 use Rattle.sch_read.specs.Grammar.{Datum, Data, atom, list, dotted, vector, none, cons, boolean, integer, character, text, symbol}
-use Rattle.sch_core.specs.declared.word.Keyword.{Keyword}
-use Rattle.sch_core.specs.declared.word.Keyword.TheVariants.{Quote, Lambda, If, Set, Cond, Case, And, Or, Let, LetStar, Letrec, Begin, Do}
-use Rattle.sch_core.specs.declared.word.Position.{Position}
-use Rattle.sch_core.specs.declared.word.Position.TheVariants.{Value, Test}
+use Rattle.sch_core.specs.declared.keyword.Keyword.{Keyword}
+use Rattle.sch_core.specs.declared.keyword.Keyword.TheVariants.{Quote, Lambda, If, Set, Cond, Case, And, Or, Let, LetStar, Letrec, Begin, Do}
+use Rattle.sch_core.specs.declared.keyword.Position.{Position}
+use Rattle.sch_core.specs.declared.keyword.Position.TheVariants.{Value, Test}
 use Rattle.sch_core.specs.declared.operation.Operation.{Operation}
 use Rattle.sch_core.specs.declared.operation.Operation.TheVariants.{Chained}
 use Rattle.sch_core.specs.declared.fault.Fault.{Fault}
 use Rattle.sch_core.specs.declared.fault.Fault.TheVariants.{Unbuilt, BadForm, Unbound, Operands, Core}
 use Rattle.sch_core.specs.Words.{keyword_of}
-use Rattle.sch_core.specs.Scope.{Scope, find, is_among, head_of, by_head, how_many, place, with_bindings}
+use Rattle.sch_core.specs.Constants.{constant_of}
+use Rattle.sch_core.specs.Scope.{Scope, find, is_among, head_of, by_head, with_bindings}
+use Rattle.sch_read.specs.Parts.{how_many, offset}
 use Rattle.sch_core.specs.Definitions.{is_definition}
 use Rattle.sch_core.specs.Combined.{own_depth}
 use Rattle.sch_core.specs.Expands.{let_is_shaped}
@@ -22,10 +25,10 @@ IsIn f (g ∷ gs) = (f ≡ g) ⊎ IsIn f gs
 
 -- too deep, too many
 abbrev pub level_faults : (level at : ℕ) → List Fault
-level_faults n at = cond (nat_le n most_levels) [] (Core at ∷ [])
+level_faults n at = cond (nat_le n max_levels) [] (Core at ∷ [])
 
 abbrev pub operand_faults : (at count : ℕ) → List Fault
-operand_faults at n = cond (nat_le n most_operands) [] (Operands at ∷ [])
+operand_faults at n = cond (nat_le n max_operands) [] (Operands at ∷ [])
 
 -- what is wrong with a name as a variable: it may be no keyword, and must be bound
 abbrev pub name_faults : Option ℕ → Option Keyword → (global : Bool) → (level at : ℕ) → List ℕ → List Fault
@@ -41,11 +44,11 @@ chain_faults n at none = []
 chain_faults n at (cons a none) = level_faults (n + 1) at
 chain_faults n at (cons a (cons b none)) = level_faults (n + 2) at
 chain_faults n at (cons a (cons b (cons c xs))) =
-    cond (nat_le (n + 3) most_levels) (chain_faults (n + 1) (place b) (cons b (cons c xs))) (Core at ∷ [])
+    cond (nat_le (n + 3) max_levels) (chain_faults (n + 1) (offset b) (cons b (cons c xs))) (Core at ∷ [])
 
 -- the nodes that an operation makes itself
 abbrev pub own_faults : Operation → (level at : ℕ) → Data → List Fault
-own_faults (Chained p) n at xs = cond (nat_le n most_levels) (chain_faults n at xs) (Core at ∷ [])
+own_faults (Chained p) n at xs = cond (nat_le n max_levels) (chain_faults n at xs) (Core at ∷ [])
 own_faults o n at xs = level_faults (n + own_depth o (how_many xs)) at
 
 -- What is wrong with a form of a keyword that has none of the shapes below. Some forms are not built
@@ -62,11 +65,14 @@ misuse Letrec at = Unbuilt at
 misuse Do at = Unbuilt at
 misuse _ at = BadForm at
 
+-- a constant may be too deep, and other atoms are not built yet
+abbrev pub constant_faults : Option Const → (level at : ℕ) → List Fault
+constant_faults (Some c) n at = level_faults n at
+constant_faults None n at = Unbuilt at ∷ []
+
 -- what is wrong with a quotation of a datum, and of these data, of which there must be one
 abbrev pub quoted_faults : Datum → (level at : ℕ) → List Fault
-quoted_faults (atom q (boolean b)) n at = level_faults n at
-quoted_faults (atom q (integer z)) n at = level_faults n at
-quoted_faults (atom q (character c)) n at = level_faults n at
+quoted_faults (atom q a) n at = constant_faults (constant_of a) n at
 quoted_faults (list q none) n at = level_faults n at
 quoted_faults _ n at = Unbuilt at ∷ []
 
@@ -88,7 +94,7 @@ module _ (globals : List (List ℕ)) where
     HasFault n s t (list at (cons (atom q (symbol x)) xs)) f =
         by_head (head_of globals s x (how_many xs)) (λ k. FormHasFault k at n s t xs f)
         (λ o. IsIn f (operand_faults at (how_many xs)) ⊎ (IsIn f (own_faults o n at xs)
-        ⊎ cond (nat_le (n + own_depth o (how_many xs)) most_levels) (AnyHasFault (n + 1) s xs f) ⊥))
+        ⊎ cond (nat_le (n + own_depth o (how_many xs)) max_levels) (AnyHasFault (n + 1) s xs f) ⊥))
         (f ≡ Unbuilt at)
     HasFault n s t (list at (cons g xs)) f = f ≡ Unbuilt at
     HasFault n s t (dotted at xs x) f = f ≡ BadForm at
@@ -97,20 +103,20 @@ module _ (globals : List (List ℕ)) where
     pub FormHasFault : Keyword → (at level : ℕ) → Scope → Position → Data → Fault → Type 0
     FormHasFault Quote at n s t xs f = IsIn f (quote_faults xs n at)
     FormHasFault If at n s t (cons a (cons b (cons c none))) f =
-        cond (nat_le n most_levels) (HasFault (n + 1) s Test a f ⊎ (HasFault (n + 1) s t b f ⊎ HasFault (n + 1) s t c f)) (f ≡ Core at)
+        cond (nat_le n max_levels) (HasFault (n + 1) s Test a f ⊎ (HasFault (n + 1) s t b f ⊎ HasFault (n + 1) s t c f)) (f ≡ Core at)
     FormHasFault If at n s t (cons a (cons b none)) f =
-        cond (nat_le (n + 1) most_levels) (HasFault (n + 1) s Test a f ⊎ HasFault (n + 1) s t b f) (f ≡ Core at)
+        cond (nat_le (n + 1) max_levels) (HasFault (n + 1) s Test a f ⊎ HasFault (n + 1) s t b f) (f ≡ Core at)
     FormHasFault Let at n s t (cons (atom q (symbol x)) es) f = f ≡ Unbuilt at
     FormHasFault Let at n s t (cons (list q bs) (cons e es)) f =
         cond (let_is_shaped s bs (cons e es))
-        (IsIn f (operand_faults at (how_many bs)) ⊎ cond (nat_le n most_levels)
-        (InitHasFault (n + 1) s bs f ⊎ cond (is_definition (with_bindings bs s) e) (f ≡ Unbuilt (place e))
+        (IsIn f (operand_faults at (how_many bs)) ⊎ cond (nat_le n max_levels)
+        (InitHasFault (n + 1) s bs f ⊎ cond (is_definition (with_bindings bs s) e) (f ≡ Unbuilt (offset e))
         (FormHasFault Begin at (n + 1) (with_bindings bs s) t (cons e es) f))
         (f ≡ Core at))
         (f ≡ BadForm at)
     FormHasFault Begin at n s t (cons e none) f = HasFault n s t e f
     FormHasFault Begin at n s t (cons e (cons e' es)) f =
-        cond (nat_le n most_levels) (HasFault (n + 1) s Value e f ⊎ PartHasFault (n + 1) s t (cons e' es) f) (f ≡ Core at)
+        cond (nat_le n max_levels) (HasFault (n + 1) s Value e f ⊎ PartHasFault (n + 1) s t (cons e' es) f) (f ≡ Core at)
     FormHasFault k at n s t _ f = f ≡ misuse k at
 
     pub AnyHasFault : (level : ℕ) → Scope → Data → Fault → Type 0

@@ -1,15 +1,15 @@
 -- The top-level forms of a text (R5RS 5.1 and 5.2), and their faults.
 use Rattle.std.specs.Prelude.{◌≡◌, ◌⊎◌, ◌≤◌, ℕ, Bool, true, false, List, [], ◌∷◌, ◌++◌, Option, Some, None}
 use Rattle.sch_read.specs.Grammar.{Datum, Data, atom, list, dotted, none, cons, symbol}
-use Rattle.sch_core.specs.declared.word.Keyword.{Keyword}
-use Rattle.sch_core.specs.declared.word.Keyword.TheVariants.{Define, Begin}
-use Rattle.sch_core.specs.declared.word.Position.TheVariants.{Value}
+use Rattle.sch_core.specs.declared.keyword.Keyword.{Keyword}
+use Rattle.sch_core.specs.declared.keyword.Keyword.TheVariants.{Define, Begin}
+use Rattle.sch_core.specs.declared.keyword.Position.TheVariants.{Value}
 use Rattle.sch_core.specs.declared.fault.Fault.{Fault}
 use Rattle.sch_core.specs.declared.fault.Fault.TheVariants.{Unbuilt, BadForm, KeywordDefined}
 use Rattle.sch_core.specs.Words.{keyword_of}
 use Rattle.sch_core.specs.Draft.{Draft, define}
 use Rattle.sch_core.specs.NamesView.{with_name}
-use Rattle.sch_core.specs.FaultOrder.{rank, noted}
+use Rattle.sch_core.specs.FaultOrder.{rank, reported}
 use Rattle.sch_core.specs.Expands.{Expands}
 use Rattle.sch_core.specs.Faults.{HasFault}
 use Rattle.sch_core.specs.Builds.{built, least}
@@ -125,13 +125,13 @@ module _ (globals : List (List ℕ)) where
 
   abbrev pub least_value : (at : ℕ) → Data → Option Fault → Option Fault
   least_value at (cons e none) o = least globals 2 [] Value e o
-  least_value at _ o = noted (BadForm at) o
+  least_value at _ o = reported (BadForm at) o
 
   abbrev pub least_define : (at : ℕ) → Data → Option Fault → Option Fault
-  least_define at (cons (list q ys) rest) o = noted (Unbuilt at) o
-  least_define at (cons (dotted q ys y) rest) o = noted (Unbuilt at) o
-  least_define at (cons (atom p (symbol v)) rest) o = unless_keyword (keyword_of v) (least_value at rest o) (noted (KeywordDefined at) o)
-  least_define at _ o = noted (BadForm at) o
+  least_define at (cons (list q ys) rest) o = reported (Unbuilt at) o
+  least_define at (cons (dotted q ys y) rest) o = reported (Unbuilt at) o
+  least_define at (cons (atom p (symbol v)) rest) o = unless_keyword (keyword_of v) (least_value at rest o) (reported (KeywordDefined at) o)
+  least_define at _ o = reported (BadForm at) o
 
   abbrev mutual
     pub built_top : Datum → List Draft
@@ -159,10 +159,12 @@ module _ (globals : List (List ℕ)) where
 abbrev pub TextExpands : Data → List Draft → Type 0
 TextExpands items es = FormsExpand (globals_of items) items es
 
--- the fault that is answered: a least one
+-- the fault that is answered: a least one, and of two unbound names at one place the one that is found
+-- first in the order of the text
 pub record IsFaultOf (items : Data) (f : Fault) : Type 0 where
   pub there : SomeHasFault (globals_of items) items f
   pub least : (g : Fault) → SomeHasFault (globals_of items) items g → rank f ≤ rank g
+  pub first : least_forms (globals_of items) items None ≡ Some f
 
 -- whether a datum is a list, with or without a dot
 abbrev pub is_listed : Datum → Bool

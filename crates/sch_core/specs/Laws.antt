@@ -1,7 +1,7 @@
 -- Laws of the expansion of one datum.
 use Rattle.std.specs.Prelude.{◌≡◌, ℕ, List}
 use Rattle.sch_read.specs.Grammar.{Datum}
-use Rattle.sch_core.specs.declared.word.Position.{Position}
+use Rattle.sch_core.specs.declared.keyword.Position.{Position}
 use Rattle.sch_core.specs.declared.fault.Fault.{Fault}
 use Rattle.sch_core.specs.Draft.{Draft}
 use Rattle.sch_core.specs.Scope.{Scope}

@@ -1,8 +1,8 @@
 -- What a `let` is by its bindings and its body.
 use Rattle.std.specs.Prelude.{cond}
 use Rattle.sch_read.specs.Grammar.{Datum, Data}
-use Rattle.sch_core.specs.declared.shape.LetKind.{LetKind}
-use Rattle.sch_core.specs.declared.shape.LetKind.TheVariants.{Bad, Defining, Plain}
+use Rattle.sch_core.specs.declared.body.LetKind.{LetKind}
+use Rattle.sch_core.specs.declared.body.LetKind.TheVariants.{Bad, Defining, Plain}
 use Rattle.sch_core.specs.Scope.{Scope, with_bindings}
 use Rattle.sch_core.specs.Definitions.{is_definition}
 use Rattle.sch_core.specs.Expands.{let_is_shaped}

@@ -1,4 +1,5 @@
 pub mod Words
+pub mod Constants
 pub mod Operations
 pub mod FaultOrder
 pub mod Draft
@@ -21,4 +22,3 @@ pub mod Counted
 pub mod Programs
 pub mod Answer
 pub mod Laws
-pub mod Sizes

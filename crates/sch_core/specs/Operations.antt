@@ -5,7 +5,7 @@ use Rattle.std.specs.Prelude.{ℕ, zero, suc, ℤ, pos, cond, nat_eq, List, Opti
 use Rattle.std.specs.Str.{bytes_eq}
 use Rattle.sch_word.specs.declared.primitive.Primitive.{Primitive}
 use Rattle.sch_word.specs.declared.primitive.Primitive.TheVariants.{Eq, Eqv, IsBoolean, IsNull, IsInteger, IsChar, IsProcedure, Add, Subtract, Multiply, Quotient, Remainder, Modulo, Equal, Less, Greater, LessEqual, GreaterEqual, CharToInteger, IntegerToChar, Put}
-use Rattle.sch_word.specs.Primitives.{operands_of}
+use Rattle.sch_word.specs.Primitives.{name_of, operands_of}
 use Rattle.sch_core.specs.declared.operation.Operation.{Operation}
 use Rattle.sch_core.specs.declared.operation.Operation.TheVariants.{Exact, Unit, UnitAnd, Nested, Chained, Newline}
 
@@ -27,30 +27,30 @@ comparison p _ = Some (Chained p)
 
 abbrev pub number_operation : List ℕ → ℕ → Option Operation
 number_operation x n =
-    if bytes_eq x (codes "+") then arithmetic Add n else
-    if bytes_eq x (codes "-") then cond (nat_eq n 0) None (arithmetic Subtract n) else
-    if bytes_eq x (codes "*") then arithmetic Multiply n else
-    if bytes_eq x (codes "quotient") then exactly Quotient n else
-    if bytes_eq x (codes "remainder") then exactly Remainder n else
-    if bytes_eq x (codes "modulo") then exactly Modulo n else
-    if bytes_eq x (codes "=") then comparison Equal n else
-    if bytes_eq x (codes "<") then comparison Less n else
-    if bytes_eq x (codes ">") then comparison Greater n else
-    if bytes_eq x (codes "<=") then comparison LessEqual n else
-    if bytes_eq x (codes ">=") then comparison GreaterEqual n else
-    if bytes_eq x (codes "char->integer") then exactly CharToInteger n else
-    if bytes_eq x (codes "integer->char") then exactly IntegerToChar n else None
+    if bytes_eq x (name_of Add) then arithmetic Add n else
+    if bytes_eq x (name_of Subtract) then cond (nat_eq n 0) None (arithmetic Subtract n) else
+    if bytes_eq x (name_of Multiply) then arithmetic Multiply n else
+    if bytes_eq x (name_of Quotient) then exactly Quotient n else
+    if bytes_eq x (name_of Remainder) then exactly Remainder n else
+    if bytes_eq x (name_of Modulo) then exactly Modulo n else
+    if bytes_eq x (name_of Equal) then comparison Equal n else
+    if bytes_eq x (name_of Less) then comparison Less n else
+    if bytes_eq x (name_of Greater) then comparison Greater n else
+    if bytes_eq x (name_of LessEqual) then comparison LessEqual n else
+    if bytes_eq x (name_of GreaterEqual) then comparison GreaterEqual n else
+    if bytes_eq x (name_of CharToInteger) then exactly CharToInteger n else
+    if bytes_eq x (name_of IntegerToChar) then exactly IntegerToChar n else None
 
--- the operation of a name with so many operands
+-- the operation of a name with n operands
 unfoldable pub operation_of : List ℕ → ℕ → Option Operation
 operation_of x n =
-    if bytes_eq x (codes "eq?") then exactly Eq n else
-    if bytes_eq x (codes "eqv?") then exactly Eqv n else
-    if bytes_eq x (codes "boolean?") then exactly IsBoolean n else
-    if bytes_eq x (codes "null?") then exactly IsNull n else
-    if bytes_eq x (codes "integer?") then exactly IsInteger n else
-    if bytes_eq x (codes "char?") then exactly IsChar n else
-    if bytes_eq x (codes "procedure?") then exactly IsProcedure n else
+    if bytes_eq x (name_of Eq) then exactly Eq n else
+    if bytes_eq x (name_of Eqv) then exactly Eqv n else
+    if bytes_eq x (name_of IsBoolean) then exactly IsBoolean n else
+    if bytes_eq x (name_of IsNull) then exactly IsNull n else
+    if bytes_eq x (name_of IsInteger) then exactly IsInteger n else
+    if bytes_eq x (name_of IsChar) then exactly IsChar n else
+    if bytes_eq x (name_of IsProcedure) then exactly IsProcedure n else
     if bytes_eq x (codes "display") then exactly Put n else
     if bytes_eq x (codes "newline") then cond (nat_eq n 0) (Some Newline) None else number_operation x n
 

@@ -1,8 +1,8 @@
 -- What a name means where it stands.
 use Rattle.std.specs.Prelude.{ℕ, zero, suc, Bool, true, false, cond, List, [], ◌∷◌, ◌++◌, Option, Some, None}
 use Rattle.std.specs.Str.{bytes_eq}
-use Rattle.sch_read.specs.Grammar.{Datum, Data, atom, list, dotted, vector, none, cons, symbol}
-use Rattle.sch_core.specs.declared.word.Keyword.{Keyword}
+use Rattle.sch_read.specs.Grammar.{Data, atom, list, none, cons, symbol}
+use Rattle.sch_core.specs.declared.keyword.Keyword.{Keyword}
 use Rattle.sch_core.specs.declared.operation.Operation.{Operation}
 use Rattle.sch_core.specs.Words.{keyword_of}
 use Rattle.sch_core.specs.Operations.{operation_of}
@@ -54,16 +54,6 @@ abbrev pub by_head {ℓ} : {A : Type ℓ} → Head → (Keyword → A) → (Oper
 by_head (form k) at_form at_operation at_call = at_form k
 by_head (operating o) at_form at_operation at_call = at_operation o
 by_head calling at_form at_operation at_call = at_call
-
-abbrev pub how_many : Data → ℕ
-how_many none = zero
-how_many (cons x xs) = suc (how_many xs)
-
-abbrev pub place : Datum → ℕ
-place (atom at a) = at
-place (list at xs) = at
-place (dotted at xs x) = at
-place (vector at xs) = at
 
 -- the scope inside the bindings `((v i)..)`: the last one is nearest
 abbrev pub with_bindings : Data → Scope → Scope

@@ -1,18 +1,9 @@
 -- Shapes of data.
 use Rattle.std.specs.Prelude.{◌≡◌, ℕ, List, Some}
 use Rattle.sch_read.specs.Grammar.{Datum, Data, atom, list, none, cons, symbol}
-use Rattle.sch_core.specs.declared.word.Keyword.{Keyword}
+use Rattle.sch_core.specs.declared.keyword.Keyword.{Keyword}
 use Rattle.sch_core.specs.Words.{keyword_of}
-use Rattle.sch_core.specs.Scope.{place}
-
-abbrev pub IsNoSymbol : Datum → Type 0
-IsNoSymbol (atom at (symbol x)) = ⊥
-IsNoSymbol _ = Unit {0}
-
--- no list without a dot
-abbrev pub IsNoList : Datum → Type 0
-IsNoList (list at xs) = ⊥
-IsNoList _ = Unit {0}
+use Rattle.sch_read.specs.Parts.{offset}
 
 -- not of the shape `(v i)`
 abbrev pub IsNoBinding : Datum → Type 0
@@ -28,5 +19,5 @@ first d = d
 pub record IsHeaded (d : Datum) (k : Keyword) (xs : Data) : Type 0 where
   pub name_place : ℕ
   pub name : List ℕ
-  pub shape : d ≡ list (place d) (cons (atom name_place (symbol name)) xs)
+  pub shape : d ≡ list (offset d) (cons (atom name_place (symbol name)) xs)
   pub word : keyword_of name ≡ Some k

@@ -1,8 +1,8 @@
 -- The keywords (R5RS 4, 5.2 and 7.1.1).
 use Rattle.std.specs.Prelude.{ℕ, Bool, ◌||◌, List, Option, Some, None, if◌then◌else◌, codes}
 use Rattle.std.specs.Str.{bytes_eq}
-use Rattle.sch_core.specs.declared.word.Keyword.{Keyword}
-use Rattle.sch_core.specs.declared.word.Keyword.TheVariants.{Quote, Lambda, If, Set, Cond, Case, And, Or, Let, LetStar, Letrec, Begin, Do, Define, Else, Arrow, LeftOut}
+use Rattle.sch_core.specs.declared.keyword.Keyword.{Keyword}
+use Rattle.sch_core.specs.declared.keyword.Keyword.TheVariants.{Quote, Lambda, If, Set, Cond, Case, And, Or, Let, LetStar, Letrec, Begin, Do, Define, Else, Arrow, LeftOut}
 
 -- the keywords of R5RS that this language leaves out
 abbrev pub is_left_out : List ℕ → Bool

@@ -35,7 +35,7 @@ pub(crate) fn bind(alloc: Global, inits: List<Draft>, body: Draft) -> Result<Dra
     Ok(Draft::Let(inits, body))
 }
 
-/// The variable with so many variables bound nearer.
+/// The variable with `k` variables bound nearer.
 fn local(k: u32) -> Draft
     ensures { draft_of result ≡ local k }
 {

@@ -5,10 +5,10 @@ ghost use Rattle.std.specs.Prelude.{◌≡◌};
 use sch_word::{Bytes, Const, List, Primitive};
 
 /// An expression whose globals are names and whose sites have no numbers.
-#[derive(Debug, Drop)]
+#[derive(Drop)]
 pub(crate) enum Draft {
     Constant(Const),
-    /// The variable with so many variables bound nearer.
+    /// The variable with this number of variables bound nearer.
     Local(u32),
     Global(Bytes),
     Define(Bytes, Box<Draft>),

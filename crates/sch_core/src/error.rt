@@ -9,7 +9,7 @@ use sch_word::{Bytes, Mem};
 use thiserror::Error;
 
 /// What a program has too much of.
-#[derive(Clone, Copy, Debug, PartialEq, Eq, Error)]
+#[derive(Clone, Copy, Debug, PartialEq, Error)]
 pub enum Kind {
     /// Operands of a call, formals, or bindings of one form: 200.
     #[error("operands")]
@@ -37,7 +37,7 @@ pub enum CoreError {
     KeywordDefined(u32),
     #[error("byte {1}: limit {0}")]
     Limit(Kind, u32),
-    /// Want of memory.
+    /// Out of memory.
     #[error("out of memory")]
     Memory,
     /// A form that is not built yet.

@@ -1,12 +1,12 @@
 //! Faults, and the least of them.
 
 ghost use Rattle.std.specs.Prelude.{◌≡◌, ◌<◌, ◌^◌, ◌*◌, ◌+◌};
-ghost use Rattle.sch_core.specs.FaultOrder.{rank, noted};
+ghost use Rattle.sch_core.specs.FaultOrder.{rank, reported};
 
 use sch_word::Bytes;
 
 /// Why a list of data has no program, with the place.
-#[derive(Debug, Drop)]
+#[derive(Drop)]
 pub(crate) enum Fault {
     Unbuilt(u32),
     KeywordDefined(u32),
@@ -31,8 +31,8 @@ fn rank(f: &Fault) -> u64
 }
 
 /// One more fault: the least stays, and of two equals the first.
-pub(crate) fn note(so_far: &mut Option<Fault>, f: Fault)
-    ensures { so_far.new ≡ noted f so_far.old }
+pub(crate) fn report(so_far: &mut Option<Fault>, f: Fault)
+    ensures { so_far.new ≡ reported f so_far.old }
 {
     if let Some(g) = so_far {
         if rank(g) <= rank(&f) {

@@ -1,6 +1,14 @@
 //! Laws of the expansion, as contracts of functions that do nothing.
 
+ghost use Rattle.std.specs.Prelude.{◌≡◌, ◌≢◌, ◌⊎◌};
+ghost use Rattle.sch_lang.specs.Tree.{Source};
+ghost use Rattle.sch_read.specs.Grammar.{Data};
+ghost use Rattle.sch_core.specs.declared.error.CoreError.{CoreError as TheError};
+ghost use Rattle.sch_core.specs.Answer.{IsErrorIn};
 ghost use Rattle.sch_core.specs.Laws.{AtMostOne, NoFault, FaultOrDraft};
+ghost use Rattle.sch_core.specs.Programs.{IsProgramOf};
+
+use crate::error::CoreError;
 
 /// At most one expression stands for a datum at a level, in a scope and in a position.
 pub fn expansion_is_unique()
@@ -11,4 +19,24 @@ pub fn expansion_is_unique()
 pub fn fault_or_expansion()
     ensures excluded { NoFault }
     ensures given { FaultOrDraft }
+{}
+
+/// Data have a program, or an error says why they have none, and never both. Out of memory says nothing
+/// of data.
+pub fn data_have_a_program_or_an_error()
+    ensures one { (items : Data) →
+        ((p : Source) × IsProgramOf items p) ⊎ ((e : TheError) × (e ≢ CoreError.Memory) × IsErrorIn items e) }
+    ensures never_both { (items : Data) (p : Source) (e : TheError) →
+        IsProgramOf items p → IsErrorIn items e → e ≡ CoreError.Memory }
+{}
+
+/// Data have one error at most, but for out of memory.
+pub fn data_have_one_error()
+    ensures { (items : Data) (e e' : TheError) →
+        e ≢ CoreError.Memory → e' ≢ CoreError.Memory → IsErrorIn items e → IsErrorIn items e' → e ≡ e' }
+{}
+
+/// Data have one program at most.
+pub fn data_have_one_program()
+    ensures { (items : Data) (p q : Source) → IsProgramOf items p → IsProgramOf items q → p ≡ q }
 {}

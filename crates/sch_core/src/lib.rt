@@ -1,31 +1,33 @@
 //! The expander: data to a program of the core language.
 #![tactic(auto)]
 
-mod assembly;
+mod body;
 mod combine;
-mod crowd;
 mod draft;
 mod error;
+mod expander;
+mod expression;
 mod fault;
-mod forms;
+mod keyword;
 mod laws;
 mod names;
 mod nesting;
-mod notes;
-mod number;
+mod numbering;
 mod operation;
-mod parts;
 mod places;
+mod program;
 mod quotation;
+mod reports;
 mod scope;
-mod shape;
-mod text;
-mod walk;
-mod word;
+mod toplevel;
+mod variables;
 
 pub use error::{CoreError, Kind};
-pub use forms::core;
-pub use laws::{expansion_is_unique, fault_or_expansion};
+pub use expander::core;
+pub use laws::{
+    data_have_a_program_or_an_error, data_have_one_error, data_have_one_program,
+    expansion_is_unique, fault_or_expansion,
+};
 
 #[cfg(test)]
 mod tests;

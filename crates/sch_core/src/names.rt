@@ -32,7 +32,7 @@ impl Names {
     }
 
     /// Whether the name is among them.
-    #[tactic(auto, using(crate::proofs::NameLemmas::among))]
+    #[tactic(auto, using(crate::proofs::NameTables::among))]
     pub(crate) fn contains(&self, x: &[u8]) -> bool
         ensures { result ≡ is_among x.now (names_of self.now) }
     {

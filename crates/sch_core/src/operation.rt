@@ -1,12 +1,14 @@
 //! Combinations that are operations of the language and no calls.
 
 ghost use Rattle.std.specs.Prelude.{◌≡◌};
+ghost use Rattle.std.specs.Str.{bytes_eq};
+ghost use Rattle.sch_word.specs.Primitives.{name_of};
 ghost use Rattle.sch_core.specs.Operations.{unit_of, exactly, arithmetic, comparison, number_operation, operation_of};
 
 use sch_word::Primitive;
 
-/// What a combination of a primitive's name and so many operands is.
-#[derive(Clone, Copy, Debug, Drop)]
+/// What a combination of a primitive's name and its operands is.
+#[derive(Clone, Copy, Drop)]
 pub(crate) enum Operation {
     /// The primitive with as many operands as it takes.
     Exact(Primitive),
@@ -58,63 +60,70 @@ fn comparison(p: Primitive, count: usize) -> Option<Operation>
     }
 }
 
+/// Whether this is the name of the primitive.
+fn is_name_of(x: &[u8], p: Primitive) -> bool
+    ensures { result ≡ bytes_eq x.now (name_of p) }
+{
+    x == p.name().as_bytes()
+}
+
 /// Operations on numbers and characters.
 fn number_operation(x: &[u8], count: usize) -> Option<Operation>
     ensures { result ≡ number_operation x.now count }
 {
-    if x == b"+".as_slice() {
+    if is_name_of(x, Primitive::Add) {
         arithmetic(Primitive::Add, count)
-    } else if x == b"-".as_slice() {
+    } else if is_name_of(x, Primitive::Subtract) {
         if count == 0 {
             None
         } else {
             arithmetic(Primitive::Subtract, count)
         }
-    } else if x == b"*".as_slice() {
+    } else if is_name_of(x, Primitive::Multiply) {
         arithmetic(Primitive::Multiply, count)
-    } else if x == b"quotient".as_slice() {
+    } else if is_name_of(x, Primitive::Quotient) {
         exactly(Primitive::Quotient, count)
-    } else if x == b"remainder".as_slice() {
+    } else if is_name_of(x, Primitive::Remainder) {
         exactly(Primitive::Remainder, count)
-    } else if x == b"modulo".as_slice() {
+    } else if is_name_of(x, Primitive::Modulo) {
         exactly(Primitive::Modulo, count)
-    } else if x == b"=".as_slice() {
+    } else if is_name_of(x, Primitive::Equal) {
         comparison(Primitive::Equal, count)
-    } else if x == b"<".as_slice() {
+    } else if is_name_of(x, Primitive::Less) {
         comparison(Primitive::Less, count)
-    } else if x == b">".as_slice() {
+    } else if is_name_of(x, Primitive::Greater) {
         comparison(Primitive::Greater, count)
-    } else if x == b"<=".as_slice() {
+    } else if is_name_of(x, Primitive::LessEqual) {
         comparison(Primitive::LessEqual, count)
-    } else if x == b">=".as_slice() {
+    } else if is_name_of(x, Primitive::GreaterEqual) {
         comparison(Primitive::GreaterEqual, count)
-    } else if x == b"char->integer".as_slice() {
+    } else if is_name_of(x, Primitive::CharToInteger) {
         exactly(Primitive::CharToInteger, count)
-    } else if x == b"integer->char".as_slice() {
+    } else if is_name_of(x, Primitive::IntegerToChar) {
         exactly(Primitive::IntegerToChar, count)
     } else {
         None
     }
 }
 
-/// The operation of this name with so many operands.
+/// The operation of this name with `count` operands.
 #[tactic(auto, unfolding(crate::specs::Operations::operation_of))]
 pub(crate) fn operation_of(x: &[u8], count: usize) -> Option<Operation>
     ensures { result ≡ operation_of x.now count }
 {
-    if x == b"eq?".as_slice() {
+    if is_name_of(x, Primitive::Eq) {
         exactly(Primitive::Eq, count)
-    } else if x == b"eqv?".as_slice() {
+    } else if is_name_of(x, Primitive::Eqv) {
         exactly(Primitive::Eqv, count)
-    } else if x == b"boolean?".as_slice() {
+    } else if is_name_of(x, Primitive::IsBoolean) {
         exactly(Primitive::IsBoolean, count)
-    } else if x == b"null?".as_slice() {
+    } else if is_name_of(x, Primitive::IsNull) {
         exactly(Primitive::IsNull, count)
-    } else if x == b"integer?".as_slice() {
+    } else if is_name_of(x, Primitive::IsInteger) {
         exactly(Primitive::IsInteger, count)
-    } else if x == b"char?".as_slice() {
+    } else if is_name_of(x, Primitive::IsChar) {
         exactly(Primitive::IsChar, count)
-    } else if x == b"procedure?".as_slice() {
+    } else if is_name_of(x, Primitive::IsProcedure) {
         exactly(Primitive::IsProcedure, count)
     } else if x == b"display".as_slice() {
         exactly(Primitive::Put, count)

@@ -9,9 +9,9 @@ ghost use Rattle.sch_core.specs.HeadView.{head_view};
 ghost use Rattle.sch_core.specs.NamesView.{names_of};
 
 use crate::draft::Draft;
+use crate::keyword::{Keyword, keyword_of};
 use crate::names::Names;
 use crate::operation::{Operation, operation_of};
-use crate::word::{Keyword, keyword_of};
 use indexmap::IndexMap;
 use sch_word::{List, Mem};
 use std::alloc::Global;
@@ -110,14 +110,14 @@ impl Scope {
 }
 
 /// What a combination is by the name at its head.
-#[derive(Clone, Copy, Debug, Drop)]
+#[derive(Clone, Copy, Drop)]
 pub(crate) enum Head {
     Form(Keyword),
     Operating(Operation),
     Calling,
 }
 
-/// What a name and so many operands make of a combination.
+/// What a name and the number of operands make of a combination.
 pub(crate) fn head_of(globals: &Names, scope: &Scope, x: &[u8], operands: usize) -> Head
     ensures { head_view result ≡ head_of (names_of globals.now) scope.now x.now operands }
 {
@@ -137,7 +137,7 @@ pub(crate) fn head_of(globals: &Names, scope: &Scope, x: &[u8], operands: usize)
 }
 
 /// A variable of this name. The distance of a variable is a number of 32 bits: a scope with more
-/// variables than that is want of memory.
+/// variables than that is out of memory.
 pub(crate) fn variable(alloc: Global, scope: &Scope, x: &[u8]) -> Result<Draft, Mem>
     ensures { IfOk result (λ e. draft_of e ≡ variable (find scope.now x.now) x.now) }
 {

@@ -5,7 +5,7 @@ ghost use Rattle.sch_read.specs.Views.{tree_of, data_of};
 
 use crate::{CoreError, Kind, core};
 use sch_lang::Program;
-use sch_read::{Datum, Node, read_all};
+use sch_read::{Atom, Datum, Node, read_all};
 use sch_word::{List, Mem};
 use std::alloc::Global;
 use std::test::Fail;
@@ -135,7 +135,7 @@ fn numbers_globals_and_sites(rt: HostRuntime) -> Result<(), Fail> {
 }
 
 // A part of a form at top level with this body inside the bindings of 1,000 variables.
-fn crowded(alloc: Global, body: &[u8]) -> Result<Vec<u8>, Fail> {
+fn exceeding(alloc: Global, body: &[u8]) -> Result<Vec<u8>, Fail> {
     let mut text = Vec::new(alloc);
     text.extend_from_slice(b"1 (begin (begin) ")?;
     for _ in 0..5 {
@@ -165,7 +165,7 @@ fn counts_variables(rt: HostRuntime) -> Result<(), Fail> {
     ];
     for (body, expected) in rows {
         assert_eq!(rt;
-            cause(rt.alloc(), crowded(rt.alloc(), body)?.as_slice()),
+            cause(rt.alloc(), exceeding(rt.alloc(), body)?.as_slice()),
             expected
         );
     }
@@ -175,7 +175,7 @@ fn counts_variables(rt: HostRuntime) -> Result<(), Fail> {
 fn word(at: u32, name: List<u8>) -> Datum
     ensures { tree_of result ≡ atom at (symbol name) }
 {
-    let node = Node::Symbol(name);
+    let node = Node::Atom(Atom::Symbol(name));
     Datum { at, node }
 }
 
@@ -186,7 +186,7 @@ fn listed(at: u32, items: List<Datum>) -> Datum
     Datum { at, node }
 }
 
-// An empty list in so many `begin`s.
+// An empty list in this number of `begin`s.
 fn in_beginnings(alloc: Global, levels: u32) -> Result<Datum, Mem>
     ensures { IfOk result (λ d. weight (tree_of d) ≡ 1 + 7 * levels) }
 {
@@ -200,7 +200,7 @@ fn in_beginnings(alloc: Global, levels: u32) -> Result<Datum, Mem>
     Ok(d)
 }
 
-// Whether the data are walked: an empty list in so many `begin`s is a bad form.
+// Whether the data are walked: an empty list in `begin`s is a bad form.
 fn is_walked(alloc: Global, levels: u32) -> Result<bool, Mem> {
     let mut items = List::new(alloc);
     items.push(in_beginnings(alloc, levels.min(1_000_000))?)?;
@@ -211,7 +211,7 @@ fn is_walked(alloc: Global, levels: u32) -> Result<bool, Mem> {
 }
 
 #[test]
-fn very_deep_data_are_want_of_memory(rt: HostRuntime) -> Result<(), Fail> {
+fn very_deep_data_are_out_of_memory(rt: HostRuntime) -> Result<(), Fail> {
     assert_eq!(rt; is_walked(rt.alloc(), 3_999)?, true);
     assert_eq!(rt; is_walked(rt.alloc(), 4_000)?, false);
     assert_eq!(rt; is_walked(rt.alloc(), 300_000)?, false);

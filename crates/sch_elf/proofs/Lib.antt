@@ -1,5 +1,5 @@
-pub mod WritingLemmas
-pub mod HeaderLemmas
-pub mod StandsLemmas
-pub mod ReadingLemmas
-pub mod RefusalLemmas
+pub mod FileOfImage
+pub mod HeaderTable
+pub mod WrittenStands
+pub mod ImageOfFile
+pub mod OneRefusal

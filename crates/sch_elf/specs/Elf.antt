@@ -1,6 +1,7 @@
 -- The headers of an ELF-64 file (ELF-64 Object File Format, version 1.5, "File header" and "Program
 -- header"; System V ABI, AMD64 supplement).
 use Rattle.std.specs.Prelude.{ℕ, zero, suc, ◌+◌, ◌*◌, ◌==◌, List, [], ◌∷◌, Bool}
+use Rattle.sch_elf.specs.Constants.{PT_LOAD, program_header_size}
 use Rattle.sch_elf.specs.Numbers.{number}
 use Rattle.sch_elf.specs.declared.header.FileHeader.{FileHeader}
 use Rattle.sch_elf.specs.declared.header.ProgramHeader.{ProgramHeader}
@@ -34,17 +35,17 @@ program_header file place = record {
 
 -- the place of the program header of this number
 abbrev pub header_place : List ℕ → ℕ → ℕ
-header_place file i = (file_header file).e_phoff + 56 * i
+header_place file i = (file_header file).e_phoff + program_header_size * i
 
--- so many program headers from a place on
+-- `count` program headers from a place on
 abbrev pub headers_from : List ℕ → ℕ → ℕ → List ProgramHeader
 headers_from file place zero = []
-headers_from file place (suc count) = program_header file place ∷ headers_from file (place + 56) count
+headers_from file place (suc count) = program_header file place ∷ headers_from file (place + program_header_size) count
 
 -- the program headers before the one of this number
 abbrev pub first_headers : List ℕ → ℕ → List ProgramHeader
 first_headers file count = headers_from file (file_header file).e_phoff count
 
--- PT_LOAD
+-- the segment is loaded
 abbrev pub is_load : ProgramHeader → Bool
-is_load header = header.p_type == 1
+is_load header = header.p_type == PT_LOAD

@@ -1,3 +1,4 @@
+pub mod Constants
 pub mod Elf
 pub mod Layout
 pub mod Numbers

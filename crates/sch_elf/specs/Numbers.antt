@@ -2,6 +2,6 @@
 use Rattle.std.specs.Prelude.{ℕ, List, drop}
 use Rattle.byteorder.specs.Endian.{little_number}
 
--- the number of so many bytes at a place
+-- the number of `size` bytes at a place
 abbrev pub number : ℕ → ℕ → List ℕ → ℕ
 number size place file = little_number size (drop place file)

@@ -1,11 +1,33 @@
--- The image of a compiled program.
-use Rattle.std.specs.Prelude.{ℕ, List, true, false}
+-- How the image of a compiled program lies in memory.
+use Rattle.std.specs.Prelude.{◌≡◌, ℕ, List, [], ◌∷◌, true, false}
 use Rattle.sch_elf.specs.declared.image.Segment.{Segment}
+use Rattle.sch_elf.specs.declared.image.Image.{Image}
 
--- the text, at 400000 hexadecimal
+-- where the text lies, and is entered
+abbrev pub text_address : ℕ
+text_address = 0x400000
+
+-- where the data lie
+abbrev pub data_address : ℕ
+data_address = 0x10000000
+
+-- the most bytes of a text, and of data with the zeros after them: together those of an image
+abbrev pub max_text_size : ℕ
+max_text_size = 0x1000000
+
+abbrev pub max_data_size : ℕ
+max_data_size = 0xBF000000
+
+-- the text, which can be read and executed
 abbrev pub text_segment : List ℕ → Segment
-text_segment text = record { address = 0x400000; read = true; write = false; execute = true; bytes = text; zeros = 0 }
+text_segment text = record { address = text_address; read = true; write = false; execute = true; bytes = text; zeros = 0 }
 
--- the data, at 10000000 hexadecimal
+-- the data, which can be read and written: bytes, and zeros after them
 abbrev pub data_segment : List ℕ → ℕ → Segment
-data_segment words zeros = record { address = 0x10000000; read = true; write = true; execute = false; bytes = words; zeros = zeros }
+data_segment bytes zeros = record { address = data_address; read = true; write = true; execute = false; bytes = bytes; zeros = zeros }
+
+-- The image is that of a compiled program with this text and these data: it is entered at the first byte
+-- of its text, and its memory is the text and the data.
+pub record IsProgramImage (text bytes : List ℕ) (zeros : ℕ) (image : Image) : Type 0 where
+  pub entry : image.entry ≡ text_address
+  pub segments : image.segments ≡ text_segment text ∷ data_segment bytes zeros ∷ []

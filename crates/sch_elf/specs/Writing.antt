@@ -2,9 +2,9 @@
 use Rattle.std.specs.Prelude.{ℕ, ◌+◌, ◌-◌, ◌*◌, ◌%◌, List, [], ◌∷◌, ◌++◌, length, replicate, if◌then◌else◌}
 use Rattle.std.specs.List.{flat_map}
 use Rattle.byteorder.specs.Endian.{little_bytes}
+use Rattle.sch_elf.specs.Constants.{EM_X86_64, ET_EXEC, EV_CURRENT, PF_R, PF_W, PF_X, PT_LOAD, file_header_size, identification, page_size, program_header_size}
 use Rattle.sch_elf.specs.declared.header.ProgramHeader.{ProgramHeader}
 use Rattle.sch_elf.specs.Layout.{size_of}
-use Rattle.sch_elf.specs.Stands.{identification}
 use Rattle.sch_elf.specs.declared.image.Segment.{Segment}
 use Rattle.sch_elf.specs.declared.image.Image.{Image}
 
@@ -13,39 +13,39 @@ abbrev pub fields : List (ℕ × ℕ) → List ℕ
 fields [] = []
 fields (field ∷ more) = little_bytes field.0 field.1 ++ fields more
 
--- the file header, with so many program headers right after it and no section headers
+-- the file header, with `count` program headers right after it and no section headers
 abbrev pub file_header_bytes : ℕ → ℕ → List ℕ
 file_header_bytes entry count =
     identification ++ (replicate 9 0
-    ++ (fields ((2, 2) ∷ (2, 62) ∷ (4, 1) ∷ (8, entry) ∷ [])
-    ++ (fields ((8, 64) ∷ (8, 0) ∷ (4, 0) ∷ (2, 64) ∷ [])
-    ++ fields ((2, 56) ∷ (2, count) ∷ (2, 0) ∷ (2, 0) ∷ (2, 0) ∷ []))))
+    ++ (fields ((2, ET_EXEC) ∷ (2, EM_X86_64) ∷ (4, EV_CURRENT) ∷ (8, entry) ∷ [])
+    ++ (fields ((8, file_header_size) ∷ (8, 0) ∷ (4, 0) ∷ (2, file_header_size) ∷ [])
+    ++ fields ((2, program_header_size) ∷ (2, count) ∷ (2, 0) ∷ (2, 0) ∷ (2, 0) ∷ []))))
 
 abbrev pub program_header_bytes : ProgramHeader → List ℕ
 program_header_bytes header =
     fields ((4, header.p_type) ∷ (4, header.p_flags) ∷ (8, header.p_offset) ∷ (8, header.p_vaddr) ∷ [])
     ++ fields ((8, header.p_paddr) ∷ (8, header.p_filesz) ∷ (8, header.p_memsz) ∷ (8, header.p_align) ∷ [])
 
--- PF_X 1, PF_W 2, PF_R 4
+-- the rights, as p_flags
 abbrev pub flags_of : Segment → ℕ
-flags_of segment = (if segment.execute then 1 else 0) + (if segment.write then 2 else 0) + (if segment.read then 4 else 0)
+flags_of segment = (if segment.execute then PF_X else 0) + (if segment.write then PF_W else 0) + (if segment.read then PF_R else 0)
 
 -- the PT_LOAD header of a segment whose bytes stand at an offset
 abbrev pub load : ℕ → Segment → ProgramHeader
 load offset segment = record {
-  p_type = 1;
+  p_type = PT_LOAD;
   p_flags = flags_of segment;
   p_offset = offset;
   p_vaddr = segment.address;
   p_paddr = segment.address;
   p_filesz = length segment.bytes;
   p_memsz = size_of segment;
-  p_align = 4096;
+  p_align = page_size;
 }
 
--- the least offset from `end` on that equals the address modulo 4096
+-- the least offset from `end` on that equals the address modulo the size of a page
 abbrev pub offset_from : ℕ → ℕ → ℕ
-offset_from end address = end + (address % 4096 + (4096 - end % 4096)) % 4096
+offset_from end address = end + (address % page_size + (page_size - end % page_size)) % page_size
 
 -- the headers of the segments, whose bytes are placed from `end` on
 abbrev pub placed : ℕ → List Segment → List ProgramHeader
@@ -62,14 +62,14 @@ contents end (segment ∷ more) =
 
 -- where the headers end
 abbrev pub start : List Segment → ℕ
-start segments = 64 + 56 * length segments
+start segments = file_header_size + program_header_size * length segments
 
 abbrev pub image_bytes : Image → List ℕ
 image_bytes image =
     file_header_bytes image.entry (length image.segments)
     ++ (flat_map program_header_bytes (placed (start image.segments) image.segments) ++ contents (start image.segments) image.segments)
 
--- so many bytes are enough for the contents, gaps included
+-- as many bytes are enough for the contents, gaps included
 abbrev pub need : List Segment → ℕ
 need [] = 0
-need (segment ∷ more) = 4096 + length segment.bytes + need more
+need (segment ∷ more) = page_size + length segment.bytes + need more

@@ -1,4 +1,5 @@
-// Why a file is not read.
+//! Why a file is not read.
+
 ghost use Rattle.std.specs.Prelude.{◌≡◌};
 ghost use Rattle.sch_elf.specs.declared.error.ImageError.TheVariants.{Memory};
 
@@ -6,7 +7,7 @@ use sch_word::Mem;
 use thiserror::Error;
 
 /// Why the bytes of a file stand for no image. The tests are made in this order.
-#[derive(Clone, Copy, Debug, PartialEq, Eq, Error)]
+#[derive(Clone, Copy, Debug, PartialEq, Error)]
 pub enum ImageError {
     /// There are fewer than 64 bytes.
     #[error("short")]
@@ -21,7 +22,7 @@ pub enum ImageError {
     /// The program header of this number is not sound; those before it are.
     #[error("segment {0}")]
     BadSegment(u16),
-    /// The segments have together more than 3,221,225,472 bytes.
+    /// The segments have together more than 3 GiB.
     #[error("too large")]
     TooLarge,
     /// There was no memory for the image.

@@ -1,11 +1,16 @@
-// The headers of an ELF-64 file.
+//! The headers of an ELF-64 file.
+
 ghost use Rattle.std.specs.Prelude.{◌≡◌, ◌≤◌, ◌+◌, ◌↔◌, length, IsTrue};
+ghost use Rattle.sch_elf.specs.Constants.{file_header_size, program_header_size};
 ghost use Rattle.sch_elf.specs.Numbers.{number};
 
+use crate::constants::{
+    EM_X86_64, ET_EXEC, EV_CURRENT, FILE_HEADER_SIZE, MAX_PROGRAM_HEADERS, PROGRAM_HEADER_SIZE,
+};
 use byteorder::{ByteOrder, LittleEndian};
 
 /// Elf64_Ehdr, the file header, without its identification and what it says of sections.
-#[derive(Clone, Copy, Debug, PartialEq, Eq)]
+#[derive(Clone, Copy)]
 pub struct FileHeader {
     pub e_type: u16,
     pub e_machine: u16,
@@ -19,7 +24,7 @@ pub struct FileHeader {
 }
 
 /// Elf64_Phdr, a program header.
-#[derive(Clone, Copy, Debug, PartialEq, Eq)]
+#[derive(Clone, Copy)]
 pub struct ProgramHeader {
     pub p_type: u32,
     pub p_flags: u32,
@@ -37,7 +42,7 @@ impl FileHeader {
 
     /// The file header at the front of a file.
     pub fn read(file: &[u8]) -> FileHeader
-        requires { 64 ≤ length file.now }
+        requires { file_header_size ≤ length file.now }
         ensures { result ≡ file_header file.now }
     {
         FileHeader {
@@ -53,19 +58,19 @@ impl FileHeader {
         }
     }
 
-    /// Whether this is ET_EXEC for EM_X86_64, of version 1 and without flags, with the header sizes of
-    /// ELF-64 and 1 to 16 program headers.
+    /// Whether this is an executable for x86-64, of the current version and without flags, with the
+    /// header sizes of ELF-64 and 1 to 16 program headers.
     pub fn is_for_this_machine(&self) -> bool
         ensures { IsTrue result ↔ IsForThisMachine self.now }
     {
-        self.e_type == 2
-            && self.e_machine == 62
-            && self.e_version == 1
+        self.e_type == ET_EXEC
+            && self.e_machine == EM_X86_64
+            && self.e_version == EV_CURRENT as u32
             && self.e_flags == 0
-            && self.e_ehsize == 64
-            && self.e_phentsize == 56
+            && self.e_ehsize == FILE_HEADER_SIZE
+            && self.e_phentsize == PROGRAM_HEADER_SIZE
             && 0 < self.e_phnum
-            && self.e_phnum <= 16
+            && self.e_phnum <= MAX_PROGRAM_HEADERS
     }
 }
 
@@ -74,7 +79,7 @@ impl ProgramHeader {
 
     /// The program header at a place of a file.
     pub fn read(file: &[u8], place: usize) -> ProgramHeader
-        requires { place + 56 ≤ length file.now }
+        requires { place + program_header_size ≤ length file.now }
         ensures { result ≡ program_header file.now place }
     {
         ProgramHeader {

@@ -1,10 +1,11 @@
-// Images.
-ghost use Rattle.sch_elf.specs.Layout.{IsLaidOut};
+//! Images.
+
+ghost use Rattle.sch_elf.specs.Layout.{IsImageLayout};
 
 use sch_word::{Bytes, List};
 
 /// A range of a program's memory: its first bytes, and then zeros.
-#[derive(Debug, Drop)]
+#[derive(Drop)]
 pub struct Segment {
     pub address: u64,
     pub read: bool,
@@ -16,10 +17,10 @@ pub struct Segment {
 }
 
 /// What a program starts with: the address that is entered first, and its memory. It has at most 8
-/// segments, which do not overlap, end at 2^47 at most, and have together at most 3,221,225,472 bytes.
-#[derive(Debug, Drop)]
+/// segments, which do not overlap, end at 2^47 at most, and have together at most 3 GiB.
+#[derive(Drop)]
 pub struct Image {
     pub entry: u64,
     pub segments: List<Segment>,
-    ghost laid_out: { IsLaidOut segments },
+    ghost laid_out: { IsImageLayout segments },
 }

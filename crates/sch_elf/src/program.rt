@@ -1,6 +1,7 @@
-// The image of a compiled program.
+//! The image of a compiled program.
+
 ghost use Rattle.std.specs.Prelude.{◌≡◌, ◌≤◌, ◌+◌, [], ◌∷◌, length, IfOk};
-ghost use Rattle.sch_elf.specs.Program.{data_segment, text_segment};
+ghost use Rattle.sch_elf.specs.Program.{data_address, data_segment, max_data_size, max_text_size, text_address, text_segment, IsProgramImage};
 
 use crate::image::{Image, Segment};
 use sch_word::{Bytes, List, Mem};
@@ -12,30 +13,45 @@ pub const TEXT_ADDRESS: u64 = 0x40_0000;
 /// Where its data lie.
 pub const DATA_ADDRESS: u64 = 0x1000_0000;
 
-/// The image of a compiled program: its text, which can be read and executed and is entered at its
-/// first byte, and its data, which can be read and written: words, and so many zeros after them.
-pub fn program_image(alloc: Global, text: Bytes, words: Bytes, zeros: u64) -> Result<Image, Mem>
-    requires text { length text ≤ 16777216 }
-    requires words { length words + zeros ≤ 3204448256 }
-    ensures entry { IfOk result (λ image. image.entry ≡ TEXT_ADDRESS) }
-    ensures segments { IfOk result (λ image. image.segments ≡ text_segment text ∷ data_segment words zeros ∷ []) }
+/// The text of a compiled program, which can be read and executed.
+fn text_segment(text: Bytes) -> Segment
+    ensures { result ≡ text_segment text }
 {
-    let text = Segment {
+    Segment {
         address: TEXT_ADDRESS,
         read: true,
         write: false,
         execute: true,
         bytes: text,
         zeros: 0,
-    };
-    let data = Segment {
+    }
+}
+
+/// The data of a compiled program, which can be read and written: bytes, and zeros after them.
+fn data_segment(bytes: Bytes, zeros: u64) -> Segment
+    ensures { result ≡ data_segment bytes zeros }
+{
+    Segment {
         address: DATA_ADDRESS,
         read: true,
         write: true,
         execute: false,
-        bytes: words,
+        bytes,
         zeros,
-    };
+    }
+}
+
+/// The image of a compiled program: its text, which can be read and executed and is entered at its
+/// first byte, and its data, which can be read and written: bytes, and zeros after them.
+pub fn program_image(alloc: Global, text: Bytes, bytes: Bytes, zeros: u64) -> Result<Image, Mem>
+    requires text { length text ≤ max_text_size }
+    requires bytes { length bytes + zeros ≤ max_data_size }
+    ensures entry { IfOk result (λ image. image.entry ≡ text_address) }
+    ensures segments { IfOk result (λ image. image.segments ≡ text_segment text ∷ data_segment bytes zeros ∷ []) }
+    ensures layout { IfOk result (IsProgramImage text bytes zeros) }
+{
+    let text = text_segment(text);
+    let data = data_segment(bytes, zeros);
     let mut segments = List::new(alloc);
     segments.push(text)?;
     segments.push(data)?;

@@ -1,10 +1,15 @@
-// Files to images.
+//! Files to images.
+
 ghost use Rattle.std.specs.Prelude.{◌≡◌, ◌≢◌, ◌≤◌, ◌<◌, ◌+◌, ◌++◌, ◌↔◌, [], ◌∷◌, ℕ, All, IfErr, IfOk, IsTrue, MatchResult, OnOk, filter, length, map, sum_by, take};
+ghost use Rattle.sch_elf.specs.Constants.{file_header_size, identification, max_image_size};
 ghost use Rattle.sch_elf.specs.Elf.{file_header, first_headers, is_load};
 ghost use Rattle.sch_elf.specs.Refused.{HasHeader, IsRefused};
-ghost use Rattle.sch_elf.specs.Stands.{IsSound, StandsFor, has_flag, identification, loads, segment_of};
+ghost use Rattle.sch_elf.specs.Stands.{IsSound, StandsFor, has_flag, file_segment, loads};
 ghost use Rattle.sch_elf.specs.declared.image.Image.{Image as TheImage};
 
+use crate::constants::{
+    FILE_HEADER_SIZE, IDENTIFICATION, MAX_IMAGE_SIZE, PF_R, PF_W, PF_X, PT_LOAD,
+};
 use crate::error::ImageError;
 use crate::header::{FileHeader, ProgramHeader};
 use crate::image::{Image, Segment};
@@ -35,7 +40,7 @@ fn read_header(file: &[u8]) -> Result<FileHeader, ImageError>
     ensures ok { IfOk result (λ header. HasHeader file.now × (header ≡ file_header file.now)) }
     ensures err { IfErr result (λ error. IsRefused file.now error × (error ≢ ImageError.Memory)) }
 {
-    if file.len() < 64 {
+    if file.len() < FILE_HEADER_SIZE as usize {
         return Err(ImageError::Short);
     }
     if !is_elf(file) {
@@ -49,10 +54,10 @@ fn read_header(file: &[u8]) -> Result<FileHeader, ImageError>
 }
 
 fn is_elf(file: &[u8]) -> bool
-    requires { 64 ≤ length file.now }
+    requires { file_header_size ≤ length file.now }
     ensures { IsTrue result ↔ (take 7 file.now ≡ identification) }
 {
-    file.split_at(7).0 == [0x7F, b'E', b'L', b'F', 2, 1, 1].as_slice()
+    file.split_at(IDENTIFICATION.len()).0 == IDENTIFICATION.as_slice()
 }
 
 // The PT_LOAD headers, if each program header is sound.
@@ -81,17 +86,17 @@ fn read_loads(
 fn keep_load(loads: &mut Vec<ProgramHeader>, header: ProgramHeader) -> Result<(), Mem>
     ensures { OnOk result (loads.new.items ≡ loads.old.items ++ filter is_load (header ∷ [])) }
 {
-    if header.p_type == 1 {
+    if header.p_type == PT_LOAD {
         loads.push(header)?;
     }
     Ok(())
 }
 
-// Whether they have together at most 3,221,225,472 bytes of memory.
+// Whether they have together at most 3 GiB of memory.
 fn are_small(loads: &[ProgramHeader]) -> bool
-    ensures { IsTrue result ↔ (sum_by (λ header. header.p_memsz) loads.now ≤ 3221225472) }
+    ensures { IsTrue result ↔ (sum_by (λ header. header.p_memsz) loads.now ≤ max_image_size) }
 {
-    let mut room: u64 = 3_221_225_472;
+    let mut room = MAX_IMAGE_SIZE;
     for header in loads {
         if header.p_memsz > room {
             return false;
@@ -103,7 +108,7 @@ fn are_small(loads: &[ProgramHeader]) -> bool
 
 fn read_segments(alloc: Global, file: &[u8], loads: &[ProgramHeader]) -> Result<List<Segment>, Mem>
     requires { All (λ header. (header.p_filesz ≤ header.p_memsz) × (header.p_offset + header.p_filesz ≤ length file.now)) loads.now }
-    ensures { IfOk result (λ segments. segments ≡ map (segment_of file.now) loads.now) }
+    ensures { IfOk result (λ segments. segments ≡ map (file_segment file.now) loads.now) }
 {
     let mut segments = List::new(alloc);
     for header in loads {
@@ -116,15 +121,15 @@ fn read_segments(alloc: Global, file: &[u8], loads: &[ProgramHeader]) -> Result<
 fn read_segment(alloc: Global, file: &[u8], header: &ProgramHeader) -> Result<Segment, Mem>
     requires fills { header.now.p_filesz ≤ header.now.p_memsz }
     requires inside { header.now.p_offset + header.now.p_filesz ≤ length file.now }
-    ensures { IfOk result (λ segment. segment ≡ segment_of file.now header.now) }
+    ensures { IfOk result (λ segment. segment ≡ file_segment file.now header.now) }
 {
     let rest = file.split_at(header.p_offset as usize).1;
     let bytes = rest.split_at(header.p_filesz as usize).0;
     Ok(Segment {
         address: header.p_vaddr,
-        read: has_bit(header, 4),
-        write: has_bit(header, 2),
-        execute: has_bit(header, 1),
+        read: has_bit(header, PF_R),
+        write: has_bit(header, PF_W),
+        execute: has_bit(header, PF_X),
         bytes: Bytes::from_slice(alloc, bytes)?,
         zeros: header.p_memsz - header.p_filesz,
     })

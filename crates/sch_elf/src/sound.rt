@@ -1,15 +1,12 @@
-// Whether the program headers of a file are sound.
+//! Whether the program headers of a file are sound.
+
 ghost use Rattle.std.specs.Prelude.{◌≡◌, ◌≤◌, ◌<◌, ◌+◌, ◌*◌, ◌%◌, ◌^◌, ◌↔◌, All, IfSome, IsNone, IsTrue, MatchOption, false, filter, length};
+ghost use Rattle.sch_elf.specs.Constants.{program_header_size};
 ghost use Rattle.sch_elf.specs.Elf.{file_header, first_headers, header_place, is_load, program_header};
 ghost use Rattle.sch_elf.specs.Stands.{DoNotOverlap, IsLoadable, IsSound};
 
+use crate::constants::{MAX_SEGMENTS, PROGRAM_HEADER_SIZE, PT_DYNAMIC, PT_INTERP, PT_LOAD};
 use crate::header::{FileHeader, ProgramHeader};
-
-const PT_LOAD: u32 = 1;
-
-const PT_DYNAMIC: u32 = 2;
-
-const PT_INTERP: u32 = 3;
 
 /// The program header of a number, if it is sound.
 pub fn sound_header(
@@ -37,17 +34,17 @@ pub fn sound_header(
 
 // The place of a program header in a table, if all of it is in the file.
 fn place_of(file: &[u8], table: u64, index: u16) -> Option<usize>
-    ensures { MatchOption result (length file.now < table + 56 * index + 56) (λ place. (place ≡ table + 56 * index) × (place + 56 ≤ length file.now)) }
+    ensures { MatchOption result (length file.now < table + program_header_size * index + program_header_size) (λ place. (place ≡ table + program_header_size * index) × (place + program_header_size ≤ length file.now)) }
 {
     let size = file.len() as u64;
-    let before = 56 * index as u64;
-    if table > size || size - table < before + 56 {
+    let before = PROGRAM_HEADER_SIZE as u64 * index as u64;
+    if table > size || size - table < before + PROGRAM_HEADER_SIZE as u64 {
         return None;
     }
     Some((table + before) as usize)
 }
 
-// Whether a PT_LOAD is loadable in a file of so many bytes, after those before it.
+// Whether a PT_LOAD is loadable in a file of `size` bytes, after those before it.
 fn is_loadable(header: &ProgramHeader, size: u64, earlier: &[ProgramHeader]) -> bool
     ensures { IsTrue result ↔ IsLoadable size earlier.now header.now }
 {
@@ -57,7 +54,7 @@ fn is_loadable(header: &ProgramHeader, size: u64, earlier: &[ProgramHeader]) -> 
     if !is_placed(header) {
         return false;
     }
-    if earlier.len() >= 8 {
+    if earlier.len() >= MAX_SEGMENTS {
         return false;
     }
     is_apart(header, earlier)
@@ -77,7 +74,7 @@ fn is_placed(header: &ProgramHeader) -> bool
     is_aligned(header) && ends_by(header.p_vaddr, header.p_memsz, 1 << 47)
 }
 
-// Whether so many bytes from a place on end by a limit.
+// Whether `size` bytes from a place on end by a limit.
 fn ends_by(place: u64, size: u64, limit: u64) -> bool
     ensures { IsTrue result ↔ (place + size ≤ limit) }
 {

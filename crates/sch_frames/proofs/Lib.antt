@@ -1,4 +1,13 @@
+mod Arriving
+mod Entering
 mod Following
+mod Labels
+mod Laid
 mod Operating
 mod Same
 mod Skip
+mod SlotsFrame
+mod Used
+mod Whole
+mod WordsWithin
+mod Written

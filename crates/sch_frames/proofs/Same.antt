@@ -48,14 +48,14 @@ pub record Agrees (place : ℕ → Place) (environment : Environment) (places : 
   pub variables : (x : ℕ) (v : Value) → environment (suc x) ≡ Some v → places (place (suc x)) ≡ Is v
   pub link : (v : Value) → environment 0 ≡ Some v → places link_register ≡ Link
 
-same_self : (p : Place) → same_place p p ≡ true
+pub same_self : (p : Place) → same_place p p ≡ true
 same_self (Reg n) = eq-eqb n n refl
 same_self (Slot n) = eq-eqb n n refl
 
-set_other : (places : Place → Cell) (p q : Place) (c : Cell) → same_place q p ≡ false → set places p c q ≡ places q
+pub set_other : (places : Place → Cell) (p q : Place) (c : Cell) → same_place q p ≡ false → set places p c q ≡ places q
 set_other places p q c e = rw e refl
 
-set_self : (places : Place → Cell) (p : Place) (c : Cell) → set places p c p ≡ c
+pub set_self : (places : Place → Cell) (p : Place) (c : Cell) → set places p c p ≡ c
 set_self places p c = rw (same_self p) refl
 
 module _ (place : ℕ → Place) (at : Apart place) where
@@ -106,7 +106,7 @@ module _ (place : ℕ → Place) (at : Apart place) where
     go_on (Some l) v rest f w = either (is_true v) (run rest None f w) (run rest (Some l) f w)
 
     leaving : (test : Option ℕ) (rest : List Instruction) (f : Frame) (w : World) (v : Value) → f.accumulator ≡ Is v
-        → run (leave place test rest) None f w ≡ go_on test v rest f w
+        → run (leave test rest) None f w ≡ go_on test v rest f w
     leaving None rest f w v e = refl
     leaving (Some l) rest f w v e = ap (λ c. with_value (value_in c) (λ v. either (is_true v) (run rest None f w) (run rest (Some l) f w))) e
 
@@ -175,25 +175,25 @@ module _ (place : ℕ → Place) (at : Apart place) where
     same (bind x a b) s u n test rest below environment saved f w next r h =
         let parts = and_parts _ _ s in
         same a parts.0 u.1.0 n None _ tt environment saved f w _ r
-        (λ v environment saved f w r e. same b parts.1 u.1.1 (n + labels place a) test rest (below_up test n (n + labels place a) (omega arith) below)
+        (λ v environment saved f w r e. same b parts.1 u.1.1 (n + labels a) test rest (below_up test n (n + labels a) (omega arith) below)
             (put environment x v) saved (with_place f (place x) f.accumulator) w next (bound r x v u.0 f.accumulator e) h)
     same (sequence a b) s u n test rest below environment saved f w next r h =
         let parts = and_parts _ _ s in
         same a parts.0 u.0 n None _ tt environment saved f w _ r
-        (λ v environment saved f w r e. same b parts.1 u.1 (n + labels place a) test rest (below_up test n (n + labels place a) (omega arith) below)
+        (λ v environment saved f w r e. same b parts.1 u.1 (n + labels a) test rest (below_up test n (n + labels a) (omega arith) below)
             environment saved f w next r h)
     same (branch a b c) s u n test rest below environment saved f w next r h =
         let parts = and_parts _ _ s in
         let arms_parts = and_parts _ _ parts.1 in
         same a parts.0 u.0 (suc (suc n)) (Some n) _ (omega arith) environment saved f w _ r
         (λ v environment saved f w r e. arms (is_true v) _ _ _ _
-            (λ t. same b arms_parts.0 u.1.0 (suc (suc (n + labels place a))) test _ (below_up test n _ (omega arith) below) environment saved f w next r
+            (λ t. same b arms_parts.0 u.1.0 (suc (suc (n + labels a))) test _ (below_up test n _ (omega arith) below) environment saved f w next r
                 (λ v environment saved f w r e. onto (next v environment saved w) _ _
-                    (joined c n (suc (suc (n + labels place a + labels place b))) test rest v f w (omega arith) below) (h v environment saved f w r e)))
+                    (joined c n (suc (suc (n + labels a + labels b))) test rest v f w (omega arith) below) (h v environment saved f w r e)))
             (λ t. onto (does c environment saved w next) _ _
-                (past callee' depth place b (suc (suc (n + labels place a))) test _ n f w (omega arith)
-                ∙ ap (λ z. run (lay place c (suc (suc (n + labels place a + labels place b))) test (Label (suc n) ∷ rest)) (cond z None (Some n)) f w) (eq-eqb n n refl))
-                (same c arms_parts.1 u.1.1 (suc (suc (n + labels place a + labels place b))) test _ (below_up test n _ (omega arith) below) environment saved f w next r
+                (past callee' depth place b (suc (suc (n + labels a))) test _ n f w (omega arith)
+                ∙ ap (λ z. run (lay place c (suc (suc (n + labels a + labels b))) test (Label (suc n) ∷ rest)) (cond z None (Some n)) f w) (eq-eqb n n refl))
+                (same c arms_parts.1 u.1.1 (suc (suc (n + labels a + labels b))) test _ (below_up test n _ (omega arith) below) environment saved f w next r
                     (λ v environment saved f w r e. onto (next v environment saved w) _ _ (ended n test rest v f w below) (h v environment saved f w r e)))))
     same (return e) s u n test rest below environment saved f w next r h =
         same e s u n None _ tt environment saved f w _ r (λ v environment saved f w r i. same_return environment rest f w v r i)

@@ -8,9 +8,9 @@ use Rattle.sch_control.specs.Meaning.{World, Result, Callee}
 use Rattle.sch_control.specs.Tree as control
 use Rattle.sch_control.specs.Valid.{Names, code_known}
 use Rattle.sch_control.specs.Run as control_run
-use Rattle.sch_frames.specs.Tree.{Code}
+use Rattle.sch_frames.specs.Tree.{Code, Source}
 use Rattle.sch_frames.specs.Valid.{formals_of, instruction_known}
-use Rattle.sch_frames.specs.Run.{do_code}
+use Rattle.sch_frames.specs.Run.{do_code, run}
 
 -- a result is another one, where that is not wrong
 abbrev pub Follows : {A : Type 0} → Option A → Option A → Type 0
@@ -37,3 +37,7 @@ abbrev pub FramesOf : List control.Code → List Code → Type 0
 FramesOf [] [] = Unit {0}
 FramesOf (c ∷ cs) (f ∷ fs) = FrameOf c f × FramesOf cs fs
 FramesOf _ _ = ⊥
+
+-- a frame program has the runs of a program, where that is not wrong
+abbrev pub SameRuns : control.Source → Source → Type 0
+SameRuns p q = (heap depth : ℕ) (answers : List Answer) (entries : ℕ) → Follows (control_run.run p heap depth answers entries) (run q heap depth answers entries)

@@ -36,6 +36,22 @@ straight (return e) = straight e
 straight (end e) = straight e
 straight _ = false
 
+-- ## Labels
+
+-- Where a value goes: it is left in the accumulator, or tested, with a label where `#f` goes on.
+abbrev pub leave : Option ℕ → List Instruction → List Instruction
+leave None rest = rest
+leave (Some l) rest = IfFalse l ∷ rest
+
+-- how many labels an expression has
+abbrev pub labels : Expression → ℕ
+labels (bind x a b) = labels a + labels b
+labels (sequence a b) = labels a + labels b
+labels (branch a b c) = suc (suc (labels a + (labels b + labels c)))
+labels (return e) = labels e
+labels (end e) = labels e
+labels _ = zero
+
 -- ## Places for variables
 
 module _ (place : ℕ → Place) where
@@ -45,16 +61,14 @@ module _ (place : ℕ → Place) where
   atom_at (Variable x) = Variable (place x)
 
   abbrev pub atoms_at : List (Atom ℕ) → List (Atom Place)
-  atoms_at [] = []
-  atoms_at (a ∷ atoms) = atom_at a ∷ atoms_at atoms
+  atoms_at = map atom_at
 
   abbrev pub operand_at : Operand ℕ → Operand Place
   operand_at (operand.Atom a) = operand.Atom (atom_at a)
   operand_at (operand.Read site which atoms) = operand.Read site which (atoms_at atoms)
 
   abbrev pub operands_at : List (Operand ℕ) → List (Operand Place)
-  operands_at [] = []
-  operands_at (o ∷ operands) = operand_at o ∷ operands_at operands
+  operands_at = map operand_at
 
   -- an operation of a body that is laid out so far
   abbrev pub operation_at : Operation ℕ → Operation Place
@@ -65,22 +79,6 @@ module _ (place : ℕ → Place) where
   operation_at _ = operation.UnsetCell
 
   -- ## Expressions
-
-  -- Where a value goes: it is left in the accumulator, or tested, with a label where `#f` goes on.
-  abbrev pub leave : Option ℕ → List Instruction → List Instruction
-  leave None rest = rest
-  leave (Some l) rest = IfFalse l ∷ rest
-
-  -- how many labels an expression has
-  abbrev pub labels : Expression → ℕ
-  labels (bind x a b) = labels a + labels b
-  labels (sequence a b) = labels a + labels b
-  labels (branch a b c) = suc (suc (labels a + (labels b + labels c)))
-  labels (fix members e) = labels e
-  labels (return e) = labels e
-  labels (end e) = labels e
-  labels (save saves e) = labels e
-  labels _ = zero
 
   -- the instructions of an expression, whose labels are numbered from n on, and then the rest
   abbrev pub lay : Expression → (n : ℕ) → (test : Option ℕ) → List Instruction → List Instruction

@@ -3,6 +3,7 @@ pub mod Layout
 pub mod Meaning
 pub mod ProgramView
 pub mod Run
+pub mod Sizes
 pub mod SourceView
 pub mod Tree
 pub mod Valid

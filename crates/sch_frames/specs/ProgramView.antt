@@ -4,4 +4,4 @@ use Rattle.sch_frames.specs.SourceView.{source_of}
 use Rattle.sch_frames.specs.Tree.{Source}
 
 abbrev pub source : FrameProgram → Source
-source p = source_of p.symbols p.literals p.globals p.library p.bodies p.words
+source p = source_of p.statics p.library p.bodies p.words

@@ -1,7 +1,7 @@
 -- The plain data of a program of the program's type, from its parts.
-use Rattle.std.specs.Prelude.{ℕ, List, [], ◌∷◌, Option}
-use Rattle.sch_word.specs.declared.literal.Lit.{Lit}
-use Rattle.sch_word.specs.LiteralView.{literals_of}
+use Rattle.std.specs.Prelude.{ℕ, List, [], ◌∷◌}
+use Rattle.sch_word.specs.declared.statics.Statics.{Statics}
+use Rattle.sch_word.specs.StaticsView as view
 use Rattle.sch_frames.specs.declared.body.FrameBody.{FrameBody}
 use Rattle.sch_frames.specs.Tree.{Code, Source}
 
@@ -12,9 +12,9 @@ abbrev pub codes_of : List FrameBody → List Code
 codes_of [] = []
 codes_of (b ∷ bodies) = code_of b ∷ codes_of bodies
 
-abbrev pub source_of : List (List ℕ) → List Lit → List (Option ℕ) → List ℕ → List FrameBody → ℕ → Source
-source_of symbols literals globals library bodies words = record {
-  statics = record { symbols = symbols; literals = literals_of literals; globals = globals };
+abbrev pub source_of : Statics → List ℕ → List FrameBody → ℕ → Source
+source_of statics library bodies words = record {
+  statics = view.statics statics;
   library = library;
   bodies = codes_of bodies;
   words = words;

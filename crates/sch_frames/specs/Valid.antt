@@ -5,14 +5,15 @@ use Rattle.sch_word.specs.declared.place.Place.{Place}
 use Rattle.sch_word.specs.declared.place.Place.TheVariants.{Reg, Slot}
 use Rattle.sch_word.specs.Literals.{count_literals}
 use Rattle.sch_word.specs.NumberSets.{has}
-use Rattle.sch_word.specs.Runs.{statics_valid}
+use Rattle.sch_word.specs.Runs.{statics_valid, statics_in_range}
+use Rattle.sch_word.specs.Shape.{max_operands}
 use Rattle.sch_control.specs.declared.body.Entry.{Entry}
 use Rattle.sch_control.specs.declared.operation.Atom.{Atom}
 use Rattle.sch_control.specs.declared.operation.Atom.TheVariants.{Variable}
 use Rattle.sch_control.specs.declared.operation.Member.{Member}
 use Rattle.sch_control.specs.Parts.{operand_atoms, operation_atoms, member_atoms}
 use Rattle.sch_control.specs.Valid as control
-use Rattle.sch_control.specs.Valid.{most_operands, without_repeats, operand_shaped, operation_shaped, group_shaped, entry_shaped, atoms_known, operation_known, group_known, Names, without_fields}
+use Rattle.sch_control.specs.Valid.{without_repeats, operand_shaped, operation_shaped, group_shaped, entry_shaped, atoms_known, operation_known, group_known, Names, without_fields}
 use Rattle.sch_frames.specs.declared.instruction.Instruction.{Instruction}
 use Rattle.sch_frames.specs.declared.instruction.Instruction.TheVariants.{Do, Store, Copy, Load, Pass, Fix, Call, Tail, Return, End, IfFalse, Jump, Label, Mark}
 use Rattle.sch_frames.specs.Tree.{Code, Source}
@@ -20,8 +21,8 @@ use Rattle.sch_frames.specs.Run.{entries_of}
 
 -- ## Places
 
-abbrev pub most_words : ℕ
-most_words = 2048
+abbrev pub max_words : ℕ
+max_words = 2048
 
 -- how many operands are handed over in registers
 abbrev pub argument_registers : ℕ
@@ -65,7 +66,7 @@ formals_of (Some e) = e.formals
 
 abbrev pub placed : Option Entry → (words : ℕ) → List Instruction → Bool
 placed entry words instructions =
-    nat_le words most_words && (handed_over words (formals_of entry) && list_all (instruction_placed words) instructions)
+    nat_le words max_words && (handed_over words (formals_of entry) && list_all (instruction_placed words) instructions)
 
 -- ## Labels
 
@@ -89,7 +90,7 @@ forward labels instructions =
 
 -- a call has at most 200 operands, and one at least where its last is spread
 abbrev pub call_shaped : Bool → ℕ → Bool
-call_shaped spread count = nat_le count most_operands && (not spread || nat_le 1 count)
+call_shaped spread count = nat_le count max_operands && (not spread || nat_le 1 count)
 
 abbrev pub instruction_shaped : Instruction → Bool
 instruction_shaped (Do o) = operation_shaped o
@@ -128,13 +129,13 @@ abbrev pub all_known : Source → Bool
 all_known p = list_all (λ c. list_all (instruction_known (names_of p)) c.instructions) p.bodies
 
 abbrev pub all_within : Source → Bool
-all_within p = nat_le p.words most_words && list_all (λ c. nat_le c.words p.words) p.bodies
+all_within p = nat_le p.words max_words && list_all (λ c. nat_le c.words p.words) p.bodies
 
 abbrev pub library_known : Source → Bool
 library_known p = without_fields (entries_of p.bodies) p.library
 
 abbrev pub statics_known : Source → Bool
-statics_known p = statics_valid (length p.library) p.statics
+statics_known p = statics_valid (length p.library) p.statics && statics_in_range p.statics
 
 -- all that the type of a program keeps beside the validity of its bodies
 abbrev pub is_valid : Source → Bool

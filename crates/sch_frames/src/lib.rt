@@ -2,10 +2,14 @@
 //! programs are valid, and what a program does.
 #![tactic(auto)]
 
+mod assembly;
 mod body;
 mod instruction;
+mod layout;
 mod program;
+mod slots;
 
 pub use body::FrameBody;
 pub use instruction::Instruction;
 pub use program::FrameProgram;
+pub use slots::frame_slots;

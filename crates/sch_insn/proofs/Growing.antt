@@ -10,7 +10,7 @@ use Rattle.sch_insn.specs.declared.insn.Insn.{Insn}
 use Rattle.sch_insn.specs.declared.insn.Insn.TheVariants.{Syscall}
 use Rattle.sch_insn.specs.declared.machine.StuckCause.{StuckCause}
 use Rattle.sch_insn.specs.Machine.{Core, State, with_place}
-use Rattle.sch_insn.specs.Step.{Progress, Runs, Exited, Stuck, act, kernel, write_row, piece_written, answered, moved, perform, fetch, fetched, step, go_on, standing, mach}
+use Rattle.sch_insn.specs.Step.{Progress, Runs, Exited, Stuck, Row, Acts, Calls, row, kernel, write_row, piece_written, answered, moved, done, perform, fetch, fetched, step, go_on, standing, mach}
 use Rattle.sch_insn.specs.Behaves.{Given, start, output_of, exit_of, IsPrefix, Ending, Behaves}
 use Rattle.sch_insn.specs.Path.{Path, Exits}
 use Rattle.sch_insn.proofs.Paths.{exits_mach}
@@ -51,10 +51,18 @@ kernel_grows s next =
     cond_grows (s.core.registers 0 == 60) s.output _ _ (record { by = prefix_same s.output })
     (cond_grows ((s.core.registers 0 == 1) && (s.core.registers 7 == 1)) s.output _ _ (write_grows s next (s.core.registers 2)) (record { by = prefix_same s.output }))
 
--- Only a call of the kernel has a row of its own; all other instructions leave the outside alone.
+abbrev IsAct : Row → Type 0
+IsAct (Acts act) = Unit {0}
+IsAct (Calls call) = ⊥
+
+act_grows : (r : Row) (next : ℕ) (s : State) → IsAct r → Grows s.output (done r next s)
+act_grows (Acts act) next s is = moved_grows s (act (with_place next s.core))
+act_grows (Calls call) next s is = absurd is
+
+-- Only a call of the kernel reaches the outside.
 perform_grows : (i : Insn) (next : ℕ) (s : State) → Grows s.output (perform i next s)
 perform_grows Syscall next s = kernel_grows s next
-perform_grows i next s = moved_grows s (act i (with_place next s.core))
+perform_grows i next s = act_grows (row i) next s tt
 
 fetched_grows : (s : State) (o : Option (Insn × ℕ)) → Grows s.output (fetched s o)
 fetched_grows s None = record { by = prefix_same s.output }

@@ -7,4 +7,7 @@ pub mod Paths
 pub mod Growing
 pub mod Clauses
 pub mod Placing
+pub mod Conditions
 mod Rows
+mod EachRow
+mod EachSpelling

@@ -1,11 +1,12 @@
 -- What a memory does when it is run: the words of a theorem on a compiled program.
 use Rattle.std.specs.Prelude.{◌≡◌, ◌≢◌, ℕ, ◌<◌, ◌^◌, List, [], ◌++◌, Option, Some, None, All}
+use Rattle.std.proofs.Common.{arith, lit<}
 use Rattle.sch_word.specs.Memory.{Segment}
 use Rattle.sch_word.specs.declared.answer.Answer.{Answer}
 use Rattle.sch_word.specs.Runs.{Run, ended}
 use Rattle.sch_insn.specs.declared.machine.Flags.{Flags}
 use Rattle.sch_insn.specs.declared.machine.StuckCause.{StuckCause}
-use Rattle.sch_insn.specs.Machine.{State}
+use Rattle.sch_insn.specs.Machine.{State, unknown_flags}
 use Rattle.sch_insn.specs.Step.{Progress, Runs, Exited, Stuck, mach}
 
 -- What a machine is given beside its memory and the kernel's answers: any words in the registers, any
@@ -16,6 +17,10 @@ pub record Given : Type 0 where
   pub spare : List ℕ
   pub registers_fit : (r : ℕ) → registers r < 2 ^ 64
   pub spare_fit : All (λ w. w < 2 ^ 64) spare
+
+-- Nothing is given: all registers are 0, no flag is known, and there are no spare words.
+abbrev pub zeros : Given
+zeros = record { registers = λ r. 0; flags = unknown_flags; spare = []; registers_fit = λ r. lit< tt; spare_fit = λ k d lt. absurd (omega arith) }
 
 -- The state in which a machine starts at an address.
 abbrev pub start : ℕ → List Segment → Given → List Answer → State

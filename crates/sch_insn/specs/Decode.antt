@@ -22,7 +22,7 @@ number_of_8 bs = if nat_lt (length bs) 8 then None else Some (cast_signed w64 (f
 -- How many bytes SIB takes after ModRM with these low bits.
 abbrev pub sib_size : ℕ → List ℕ → Option ℕ
 sib_size low bs =
-    if low == 4 then (if nat_lt (length bs) 1 then None else if slice_index bs 0 == 36 then Some 1 else None)
+    if low == 4 then (if nat_lt (length bs) 1 then None else if slice_index bs 0 == 0x24 then Some 1 else None)
     else Some 0
 
 -- The operand of a mode, the bit B and low bits, and how many bytes it takes after ModRM.
@@ -55,42 +55,42 @@ with_count form k bs = when_some (count_of bs) (λ n. Some (form n, k + 1))
 -- The form of an opcode of one byte with W, where k bytes stand before its number.
 unfoldable pub wide_of : ℕ → ℕ → Arg → ℕ → List ℕ → Option (Insn × ℕ)
 wide_of op r m k bs =
-    if op == 1 then Some (AddTo m r, k)
-    else if op == 3 then Some (AddFrom r m, k)
-    else if op == 9 then Some (OrTo m r, k)
-    else if op == 11 then Some (OrFrom r m, k)
-    else if op == 33 then Some (AndTo m r, k)
-    else if op == 35 then Some (AndFrom r m, k)
-    else if op == 41 then Some (SubTo m r, k)
-    else if op == 43 then Some (SubFrom r m, k)
-    else if op == 49 then Some (XorTo m r, k)
-    else if op == 51 then Some (XorFrom r m, k)
-    else if op == 57 then Some (CmpTo m r, k)
-    else if op == 59 then Some (CmpFrom r m, k)
-    else if (op == 129) && (r == 0) then with_number (AddNumber m) k bs
-    else if (op == 129) && (r == 1) then with_number (OrNumber m) k bs
-    else if (op == 129) && (r == 4) then with_number (AndNumber m) k bs
-    else if (op == 129) && (r == 5) then with_number (SubNumber m) k bs
-    else if (op == 129) && (r == 6) then with_number (XorNumber m) k bs
-    else if (op == 129) && (r == 7) then with_number (CmpNumber m) k bs
-    else if op == 133 then Some (TestTo m r, k)
-    else if op == 137 then Some (MovTo m r, k)
-    else if op == 139 then Some (MovFrom r m, k)
-    else if (op == 141) && in_memory m then Some (Lea r m, k)
-    else if (op == 193) && (r == 4) then with_count (Shl m) k bs
-    else if (op == 193) && (r == 5) then with_count (Shr m) k bs
-    else if (op == 193) && (r == 7) then with_count (Sar m) k bs
-    else if (op == 199) && (r == 0) then with_number (MovNumber m) k bs
-    else if (op == 247) && (r == 3) then Some (Neg m, k)
-    else if (op == 247) && (r == 7) then Some (Idiv m, k)
+    if op == 0x01 then Some (AddTo m r, k)
+    else if op == 0x03 then Some (AddFrom r m, k)
+    else if op == 0x09 then Some (OrTo m r, k)
+    else if op == 0x0B then Some (OrFrom r m, k)
+    else if op == 0x21 then Some (AndTo m r, k)
+    else if op == 0x23 then Some (AndFrom r m, k)
+    else if op == 0x29 then Some (SubTo m r, k)
+    else if op == 0x2B then Some (SubFrom r m, k)
+    else if op == 0x31 then Some (XorTo m r, k)
+    else if op == 0x33 then Some (XorFrom r m, k)
+    else if op == 0x39 then Some (CmpTo m r, k)
+    else if op == 0x3B then Some (CmpFrom r m, k)
+    else if (op == 0x81) && (r == 0) then with_number (AddNumber m) k bs
+    else if (op == 0x81) && (r == 1) then with_number (OrNumber m) k bs
+    else if (op == 0x81) && (r == 4) then with_number (AndNumber m) k bs
+    else if (op == 0x81) && (r == 5) then with_number (SubNumber m) k bs
+    else if (op == 0x81) && (r == 6) then with_number (XorNumber m) k bs
+    else if (op == 0x81) && (r == 7) then with_number (CmpNumber m) k bs
+    else if op == 0x85 then Some (TestTo m r, k)
+    else if op == 0x89 then Some (MovTo m r, k)
+    else if op == 0x8B then Some (MovFrom r m, k)
+    else if (op == 0x8D) && in_memory m then Some (Lea r m, k)
+    else if (op == 0xC1) && (r == 4) then with_count (Shl m) k bs
+    else if (op == 0xC1) && (r == 5) then with_count (Shr m) k bs
+    else if (op == 0xC1) && (r == 7) then with_count (Sar m) k bs
+    else if (op == 0xC7) && (r == 0) then with_number (MovNumber m) k bs
+    else if (op == 0xF7) && (r == 3) then Some (Neg m, k)
+    else if (op == 0xF7) && (r == 7) then Some (Idiv m, k)
     else None
 
 -- The forms without W.
 unfoldable pub narrow_of : ℕ → ℕ → ℕ → List ℕ → Option (Insn × ℕ)
 narrow_of op r b bs =
     when_some (operand_of r b bs) (λ p.
-    if (op == 136) && in_memory p.1 then Some (StoreByte p.1 p.0, p.2 + 2)
-    else if (op == 255) && (p.0 == 4) then Some (JumpTo p.1, p.2 + 2)
+    if (op == 0x88) && in_memory p.1 then Some (StoreByte p.1 p.0, p.2 + 2)
+    else if (op == 0xFF) && (p.0 == 4) then Some (JumpTo p.1, p.2 + 2)
     else None)
 
 -- The forms with W and an opcode that begins with 0F.
@@ -98,8 +98,8 @@ unfoldable pub long_of : ℕ → ℕ → List ℕ → Option (Insn × ℕ)
 long_of r b bs =
     if nat_lt (length bs) 1 then None
     else when_some (operand_of r b (drop 1 bs)) (λ p.
-    if (slice_index bs 0 == 182) && in_memory p.1 then Some (LoadByte p.0 p.1, p.2 + 3)
-    else if slice_index bs 0 == 175 then Some (Imul p.0 p.1, p.2 + 3)
+    if (slice_index bs 0 == 0xB6) && in_memory p.1 then Some (LoadByte p.0 p.1, p.2 + 3)
+    else if slice_index bs 0 == 0xAF then Some (Imul p.0 p.1, p.2 + 3)
     else None)
 
 -- `mov` of a whole word into a register, whose low bits stand in the opcode. The bit R is 0.
@@ -109,9 +109,9 @@ whole_word_of r register bs = if r == 0 then when_some (number_of_8 bs) (λ n. S
 -- What stands after REX with W.
 abbrev pub full_of : ℕ → ℕ → List ℕ → Option (Insn × ℕ)
 full_of r b bs =
-    if slice_index bs 0 / 8 == 23 then whole_word_of r (8 * b + slice_index bs 0 % 8) (drop 1 bs)
-    else if slice_index bs 0 == 153 then (if (r == 0) && (b == 0) then Some (Cqo, 2) else None)
-    else if slice_index bs 0 == 15 then long_of r b (drop 1 bs)
+    if slice_index bs 0 / 8 == 0xB8 / 8 then whole_word_of r (8 * b + slice_index bs 0 % 8) (drop 1 bs)
+    else if slice_index bs 0 == 0x99 then (if (r == 0) && (b == 0) then Some (Cqo, 2) else None)
+    else if slice_index bs 0 == 0x0F then long_of r b (drop 1 bs)
     else when_some (operand_of r b (drop 1 bs)) (λ p. wide_of (slice_index bs 0) p.0 p.1 (p.2 + 2) (drop (p.2 + 1) bs))
 
 -- What stands after REX with the bits W, R and B.
@@ -123,13 +123,13 @@ rexed_of w r b bs =
 
 -- Whether a byte after 0F is the opcode of a jump with a condition: 80 to 8F, but 8A and 8B.
 abbrev pub is_jump_if : ℕ → Bool
-is_jump_if op = (op / 16 == 8) && not (op == 138) && not (op == 139)
+is_jump_if op = (op / 16 == 8) && not (op == 0x8A) && not (op == 0x8B)
 
 -- What stands after a first byte 0F.
 unfoldable pub escaped_of : List ℕ → Option (Insn × ℕ)
 escaped_of bs =
     if nat_lt (length bs) 1 then None
-    else if slice_index bs 0 == 5 then Some (Syscall, 2)
+    else if slice_index bs 0 == 0x05 then Some (Syscall, 2)
     else if is_jump_if (slice_index bs 0) then with_number (JumpIf (slice_index bs 0 % 16)) 2 (drop 1 bs)
     else None
 
@@ -137,6 +137,6 @@ abbrev pub decode : List ℕ → Option (Insn × ℕ)
 decode bs =
     if nat_lt (length bs) 1 then None
     else if (slice_index bs 0 / 16 == 4) && (slice_index bs 0 / 2 % 2 == 0) then rexed_of (slice_index bs 0 / 8 % 2) (slice_index bs 0 / 4 % 2) (slice_index bs 0 % 2) (drop 1 bs)
-    else if slice_index bs 0 == 15 then escaped_of (drop 1 bs)
-    else if slice_index bs 0 == 233 then with_number Jump 1 (drop 1 bs)
+    else if slice_index bs 0 == 0x0F then escaped_of (drop 1 bs)
+    else if slice_index bs 0 == 0xE9 then with_number Jump 1 (drop 1 bs)
     else None

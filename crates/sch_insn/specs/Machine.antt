@@ -11,6 +11,7 @@ use Rattle.sch_insn.specs.declared.machine.Flags.{Flags}
 use Rattle.sch_insn.specs.declared.machine.Regs.{Regs}
 use Rattle.sch_insn.specs.declared.machine.StuckCause.{StuckCause}
 use Rattle.sch_insn.specs.declared.machine.StuckCause.TheVariants.{Access}
+use Rattle.sch_insn.specs.declared.condition.TheConstants.{O, B, E, BE, S, L, LE}
 
 -- The words of the sixteen registers, by their numbers; the flags; the address of the instruction that
 -- comes next; and memory.
@@ -232,13 +233,13 @@ negated (Some b) = Some (not b)
 -- opposite of the even one before it.
 unfoldable pub test_of : Flags → ℕ → Option Bool
 test_of f t =
-    if t == 0 then f.overflow
-    else if t == 1 then f.carry
-    else if t == 2 then f.zero
-    else if t == 3 then both (λ a b. a || b) f.carry f.zero
-    else if t == 4 then f.sign
-    else if t == 6 then both differ f.sign f.overflow
-    else if t == 7 then both (λ a b. a || b) f.zero (both differ f.sign f.overflow)
+    if t == O / 2 then f.overflow
+    else if t == B / 2 then f.carry
+    else if t == E / 2 then f.zero
+    else if t == BE / 2 then both (λ a b. a || b) f.carry f.zero
+    else if t == S / 2 then f.sign
+    else if t == L / 2 then both differ f.sign f.overflow
+    else if t == LE / 2 then both (λ a b. a || b) f.zero (both differ f.sign f.overflow)
     else None
 
 abbrev pub condition : Flags → ℕ → Option Bool

@@ -24,15 +24,15 @@ high_bit (Rip d) = 0
 
 -- REX with the bit W, the register of the form (its high bit is R) and the operand. X is always 0.
 abbrev pub rex : ℕ → ℕ → Arg → ℕ
-rex w r m = 64 + 8 * w + 4 * (r / 8) + high_bit m
+rex w r m = 0x40 + 8 * w + 4 * (r / 8) + high_bit m
 
 -- ModRM: the mode, the low bits of the register of the form, the low bits of the operand's register.
 abbrev pub modrm : ℕ → ℕ → ℕ → ℕ
-modrm mode r b = 64 * mode + 8 * (r % 8) + b % 8
+modrm mode r b = 0x40 * mode + 8 * (r % 8) + b % 8
 
 -- SIB stands only where the low bits of the base are 100, and then it names that base and no index.
 abbrev pub sib : ℕ → List ℕ
-sib b = cond (b % 8 == 4) (36 ∷ []) []
+sib b = cond (b % 8 == 4) (0x24 ∷ []) []
 
 -- ModRM and what follows it. A row for the mode 01, with a displacement of one byte, would stand here.
 abbrev pub operand : ℕ → Arg → List ℕ
@@ -46,43 +46,43 @@ abbrev pub wide : ℕ → ℕ → Arg → List ℕ
 wide op r m = rex 1 r m ∷ op ∷ operand r m
 
 abbrev pub spelling : Insn → List ℕ
-spelling (MovTo m r) = wide 137 r m
-spelling (MovFrom r m) = wide 139 r m
-spelling (MovNumber m n) = wide 199 0 m ++ four_bytes n
-spelling (MovWord r n) = (72 + r / 8) ∷ (184 + r % 8) ∷ eight_bytes n
-spelling (StoreByte m r) = rex 0 r m ∷ 136 ∷ operand r m
-spelling (LoadByte r m) = rex 1 r m ∷ 15 ∷ 182 ∷ operand r m
-spelling (Lea r m) = wide 141 r m
-spelling (AddTo m r) = wide 1 r m
-spelling (OrTo m r) = wide 9 r m
-spelling (AndTo m r) = wide 33 r m
-spelling (SubTo m r) = wide 41 r m
-spelling (XorTo m r) = wide 49 r m
-spelling (CmpTo m r) = wide 57 r m
-spelling (AddFrom r m) = wide 3 r m
-spelling (OrFrom r m) = wide 11 r m
-spelling (AndFrom r m) = wide 35 r m
-spelling (SubFrom r m) = wide 43 r m
-spelling (XorFrom r m) = wide 51 r m
-spelling (CmpFrom r m) = wide 59 r m
-spelling (AddNumber m n) = wide 129 0 m ++ four_bytes n
-spelling (OrNumber m n) = wide 129 1 m ++ four_bytes n
-spelling (AndNumber m n) = wide 129 4 m ++ four_bytes n
-spelling (SubNumber m n) = wide 129 5 m ++ four_bytes n
-spelling (XorNumber m n) = wide 129 6 m ++ four_bytes n
-spelling (CmpNumber m n) = wide 129 7 m ++ four_bytes n
-spelling (TestTo m r) = wide 133 r m
-spelling (Imul r m) = rex 1 r m ∷ 15 ∷ 175 ∷ operand r m
-spelling (Neg m) = wide 247 3 m
-spelling (Idiv m) = wide 247 7 m
-spelling Cqo = 72 ∷ 153 ∷ []
-spelling (Shl m k) = wide 193 4 m ++ k ∷ []
-spelling (Shr m k) = wide 193 5 m ++ k ∷ []
-spelling (Sar m k) = wide 193 7 m ++ k ∷ []
-spelling (Jump d) = 233 ∷ four_bytes d
-spelling (JumpTo m) = rex 0 4 m ∷ 255 ∷ operand 4 m
-spelling (JumpIf c d) = 15 ∷ (128 + c) ∷ four_bytes d
-spelling Syscall = 15 ∷ 5 ∷ []
+spelling (MovTo m r) = wide 0x89 r m
+spelling (MovFrom r m) = wide 0x8B r m
+spelling (MovNumber m n) = wide 0xC7 0 m ++ four_bytes n
+spelling (MovWord r n) = (0x48 + r / 8) ∷ (0xB8 + r % 8) ∷ eight_bytes n
+spelling (StoreByte m r) = rex 0 r m ∷ 0x88 ∷ operand r m
+spelling (LoadByte r m) = rex 1 r m ∷ 0x0F ∷ 0xB6 ∷ operand r m
+spelling (Lea r m) = wide 0x8D r m
+spelling (AddTo m r) = wide 0x01 r m
+spelling (OrTo m r) = wide 0x09 r m
+spelling (AndTo m r) = wide 0x21 r m
+spelling (SubTo m r) = wide 0x29 r m
+spelling (XorTo m r) = wide 0x31 r m
+spelling (CmpTo m r) = wide 0x39 r m
+spelling (AddFrom r m) = wide 0x03 r m
+spelling (OrFrom r m) = wide 0x0B r m
+spelling (AndFrom r m) = wide 0x23 r m
+spelling (SubFrom r m) = wide 0x2B r m
+spelling (XorFrom r m) = wide 0x33 r m
+spelling (CmpFrom r m) = wide 0x3B r m
+spelling (AddNumber m n) = wide 0x81 0 m ++ four_bytes n
+spelling (OrNumber m n) = wide 0x81 1 m ++ four_bytes n
+spelling (AndNumber m n) = wide 0x81 4 m ++ four_bytes n
+spelling (SubNumber m n) = wide 0x81 5 m ++ four_bytes n
+spelling (XorNumber m n) = wide 0x81 6 m ++ four_bytes n
+spelling (CmpNumber m n) = wide 0x81 7 m ++ four_bytes n
+spelling (TestTo m r) = wide 0x85 r m
+spelling (Imul r m) = rex 1 r m ∷ 0x0F ∷ 0xAF ∷ operand r m
+spelling (Neg m) = wide 0xF7 3 m
+spelling (Idiv m) = wide 0xF7 7 m
+spelling Cqo = 0x48 ∷ 0x99 ∷ []
+spelling (Shl m k) = wide 0xC1 4 m ++ k ∷ []
+spelling (Shr m k) = wide 0xC1 5 m ++ k ∷ []
+spelling (Sar m k) = wide 0xC1 7 m ++ k ∷ []
+spelling (Jump d) = 0xE9 ∷ four_bytes d
+spelling (JumpTo m) = rex 0 4 m ∷ 0xFF ∷ operand 4 m
+spelling (JumpIf c d) = 0x0F ∷ (0x80 + c) ∷ four_bytes d
+spelling Syscall = 0x0F ∷ 0x05 ∷ []
 
 -- The operands that there are. With the mode 00 the low bits 101 would mean an address from rip.
 abbrev pub IsArg : Arg → Type 0
@@ -97,8 +97,8 @@ in_memory (Base b) = true
 in_memory (Base32 b d) = true
 in_memory (Rip d) = true
 
--- The conditions: o 0, no 1, b 2, ae 3, e 4, ne 5, be 6, a 7, s 8, ns 9, l 12, ge 13, le 14, g 15.
--- The numbers 10 and 11 read the parity flag, which the table leaves out.
+-- The conditions O to NS and L to G. The two between them, 10 and 11, read the parity flag, which the table
+-- leaves out.
 abbrev pub IsCondition : ℕ → Type 0
 IsCondition c = (c < 16) × (c ≢ 10) × (c ≢ 11)
 

@@ -1,4 +1,4 @@
--- What a machine does: one row for each instruction, and the rows of the kernel.
+-- What a machine does: one row for each instruction, that of the kernel's call among them.
 -- Source: Intel SDM, volume 2, the pages of the mnemonics; Linux on x86-64, the calls `write` (1) and
 -- `exit` (60) (System V ABI, AMD64 supplement, appendix A.2).
 use Rattle.std.specs.Prelude.{ℕ, zero, suc, ◌+◌, ◌-◌, ◌*◌, ◌/◌, ◌%◌, ◌^◌, min, List, [], ◌∷◌, ◌++◌, length, take, Bool, cond, ◌&&◌, nat_lt, nat_le, ◌==◌, Option, Some, None, ℤ, Result, Ok, Err, bit_and, bit_or, bit_xor}
@@ -9,6 +9,7 @@ use Rattle.sch_insn.specs.declared.insn.Arg.{Arg}
 use Rattle.sch_insn.specs.declared.insn.Insn.{Insn}
 use Rattle.sch_insn.specs.declared.insn.Insn.TheVariants.{MovTo, MovFrom, MovNumber, MovWord, StoreByte, LoadByte, Lea, AddTo, OrTo, AndTo, SubTo, XorTo, CmpTo, AddFrom, OrFrom, AndFrom, SubFrom, XorFrom, CmpFrom, AddNumber, OrNumber, AndNumber, SubNumber, XorNumber, CmpNumber, TestTo, Imul, Neg, Idiv, Cqo, Shl, Shr, Sar, Jump, JumpTo, JumpIf, Syscall}
 use Rattle.sch_insn.specs.declared.machine.StuckCause.{StuckCause}
+use Rattle.sch_insn.specs.declared.register.TheConstants.{RAX, RCX, RDX, RSI, RDI, R11}
 use Rattle.sch_insn.specs.declared.machine.StuckCause.TheVariants.{Fetch, Flag, Divide, Kernel}
 use Rattle.sch_insn.specs.Decode.{decode, when_some}
 use Rattle.sch_insn.specs.Machine.{Core, State, Computed, when_ok, with_register, with_flags, with_place, word, add64, is_negative, magnitude, differ, signed, bytes_from, byte_at, write_bytes, address_of, load, store, unknown_flags, sum_of, difference_of, bits_of, product_of, shifted, shift_right_signed, condition, set_register, head_or_0}
@@ -50,7 +51,7 @@ quotient_of high low v =
     (cond (is_quotient negative q) (Ok (signed negative q, signed (is_negative high) r)) (Err Divide))
 
 abbrev pub divide : Core → ℕ → Result Core StuckCause
-divide c v = when_ok (quotient_of (c.registers 2) (c.registers 0) v) (λ p. Ok (with_flags unknown_flags (with_register 2 p.1 (with_register 0 p.0 c))))
+divide c v = when_ok (quotient_of (c.registers RDX) (c.registers RAX) v) (λ p. Ok (with_flags unknown_flags (with_register RDX p.1 (with_register RAX p.0 c))))
 
 -- SDM, CQO: rdx becomes the sign of rax in every bit.
 abbrev pub sign_word : ℕ → ℕ
@@ -59,49 +60,6 @@ sign_word a = cond (is_negative a) (2 ^ 64 - 1) 0
 abbrev pub jump_if : Core → ℤ → Option Bool → Result Core StuckCause
 jump_if c d None = Err Flag
 jump_if c d (Some holds) = Ok (with_place (cond holds (add64 c.place (word d)) c.place) c)
-
--- ---- the rows
-
--- What an instruction does to a core whose place is already that of the next instruction. The rows of a
--- call of the kernel are below; its case here is never reached: `perform` answers the call of the kernel.
-abbrev pub act : Insn → Core → Result Core StuckCause
-act (MovTo m r) c = store c m (c.registers r)
-act (MovFrom r m) c = when_ok (load c m) (λ v. Ok (with_register r v c))
-act (MovNumber m n) c = store c m (word n)
-act (MovWord r n) c = Ok (with_register r (word n) c)
-act (StoreByte m r) c = write_bytes c (address_of c m) (c.registers r % 256 ∷ [])
-act (LoadByte r m) c = when_ok (byte_at c.segments (address_of c m)) (λ v. Ok (with_register r v c))
-act (Lea r m) c = Ok (with_register r (address_of c m) c)
-act (AddTo m r) c = change c m (λ v. sum_of v (c.registers r))
-act (OrTo m r) c = change c m (λ v. bits_of (bit_or v (c.registers r)))
-act (AndTo m r) c = change c m (λ v. bits_of (bit_and v (c.registers r)))
-act (SubTo m r) c = change c m (λ v. difference_of v (c.registers r))
-act (XorTo m r) c = change c m (λ v. bits_of (bit_xor v (c.registers r)))
-act (CmpTo m r) c = compare c m (λ v. difference_of v (c.registers r))
-act (AddFrom r m) c = gather c r m (λ v. sum_of (c.registers r) v)
-act (OrFrom r m) c = gather c r m (λ v. bits_of (bit_or (c.registers r) v))
-act (AndFrom r m) c = gather c r m (λ v. bits_of (bit_and (c.registers r) v))
-act (SubFrom r m) c = gather c r m (λ v. difference_of (c.registers r) v)
-act (XorFrom r m) c = gather c r m (λ v. bits_of (bit_xor (c.registers r) v))
-act (CmpFrom r m) c = compare c m (λ v. difference_of (c.registers r) v)
-act (AddNumber m n) c = change c m (λ v. sum_of v (word n))
-act (OrNumber m n) c = change c m (λ v. bits_of (bit_or v (word n)))
-act (AndNumber m n) c = change c m (λ v. bits_of (bit_and v (word n)))
-act (SubNumber m n) c = change c m (λ v. difference_of v (word n))
-act (XorNumber m n) c = change c m (λ v. bits_of (bit_xor v (word n)))
-act (CmpNumber m n) c = compare c m (λ v. difference_of v (word n))
-act (TestTo m r) c = compare c m (λ v. bits_of (bit_and v (c.registers r)))
-act (Imul r m) c = gather c r m (λ v. product_of (c.registers r) v)
-act (Neg m) c = change c m (λ v. difference_of 0 v)
-act (Idiv m) c = when_ok (load c m) (divide c)
-act Cqo c = Ok (with_register 2 (sign_word (c.registers 0)) c)
-act (Shl m k) c = change c m (λ v. shifted (v * 2 ^ k % 2 ^ 64))
-act (Shr m k) c = change c m (λ v. shifted (v / 2 ^ k))
-act (Sar m k) c = change c m (λ v. shifted (shift_right_signed v k))
-act (Jump d) c = Ok (with_place (add64 c.place (word d)) c)
-act (JumpTo m) c = when_ok (load c m) (λ v. Ok (with_place v c))
-act (JumpIf n d) c = jump_if c d (condition c.flags n)
-act Syscall c = Err (Kernel (c.registers 0))
 
 -- ---- the kernel
 
@@ -115,7 +73,7 @@ abbrev pub after_write : State → ℕ → ℕ → List ℕ → List Answer → 
 after_write s next rax taken left =
     record {
       core = record {
-        registers = set_register (set_register (set_register s.core.registers 0 rax) 1 (head_or_0 s.spare)) 11 (head_or_0 (rest_of s.spare));
+        registers = set_register (set_register (set_register s.core.registers RAX rax) RCX (head_or_0 s.spare)) R11 (head_or_0 (rest_of s.spare));
         flags = unknown_flags;
         place = next;
         segments = s.core.segments;
@@ -133,20 +91,67 @@ answered s next piece (Took k ∷ left) = after_write s next (min k (length piec
 answered s next piece (Failed ∷ left) = after_write s next (2 ^ 64 - 5) [] left
 
 abbrev pub piece_written : State → ℕ → ℕ → Option (List ℕ) → Progress
-piece_written s next n None = Stuck (Kernel (s.core.registers 0)) s
+piece_written s next n None = Stuck (Kernel (s.core.registers RAX)) s
 piece_written s next n (Some bs) = Runs (answered s next (take n bs) s.answers)
 
 -- `write` of n bytes from rsi on. No bytes have to lie anywhere, and use no answer.
 abbrev pub write_row : State → ℕ → ℕ → Progress
 write_row s next zero = Runs (after_write s next 0 [] s.answers)
-write_row s next (suc n) = piece_written s next (suc n) (bytes_from (λ g. g.readable) s.core.segments (s.core.registers 6) (suc n))
+write_row s next (suc n) = piece_written s next (suc n) (bytes_from (λ g. g.readable) s.core.segments (s.core.registers RSI) (suc n))
 
 -- rax 60 exits with the low byte of rdi; rax 1 with rdi 1 writes; nothing else has a row.
 abbrev pub kernel : State → ℕ → Progress
 kernel s next =
-    cond (s.core.registers 0 == 60) (Exited (s.core.registers 7 % 256) s)
-    (cond ((s.core.registers 0 == 1) && (s.core.registers 7 == 1)) (write_row s next (s.core.registers 2))
-    (Stuck (Kernel (s.core.registers 0)) s))
+    cond (s.core.registers RAX == 60) (Exited (s.core.registers RDI % 256) s)
+    (cond ((s.core.registers RAX == 1) && (s.core.registers RDI == 1)) (write_row s next (s.core.registers RDX))
+    (Stuck (Kernel (s.core.registers RAX)) s))
+
+-- ---- the table
+
+-- A row changes the core, whose place is already that of the next instruction; or it calls the kernel, to
+-- which that place is told beside the state.
+pub data Row : Type 0 where
+  Acts : (act : Core → Result Core StuckCause) → Row
+  Calls : (call : State → (next : ℕ) → Progress) → Row
+
+abbrev pub row : Insn → Row
+row (MovTo m r) = Acts (λ c. store c m (c.registers r))
+row (MovFrom r m) = Acts (λ c. when_ok (load c m) (λ v. Ok (with_register r v c)))
+row (MovNumber m n) = Acts (λ c. store c m (word n))
+row (MovWord r n) = Acts (λ c. Ok (with_register r (word n) c))
+row (StoreByte m r) = Acts (λ c. write_bytes c (address_of c m) (c.registers r % 256 ∷ []))
+row (LoadByte r m) = Acts (λ c. when_ok (byte_at c.segments (address_of c m)) (λ v. Ok (with_register r v c)))
+row (Lea r m) = Acts (λ c. Ok (with_register r (address_of c m) c))
+row (AddTo m r) = Acts (λ c. change c m (λ v. sum_of v (c.registers r)))
+row (OrTo m r) = Acts (λ c. change c m (λ v. bits_of (bit_or v (c.registers r))))
+row (AndTo m r) = Acts (λ c. change c m (λ v. bits_of (bit_and v (c.registers r))))
+row (SubTo m r) = Acts (λ c. change c m (λ v. difference_of v (c.registers r)))
+row (XorTo m r) = Acts (λ c. change c m (λ v. bits_of (bit_xor v (c.registers r))))
+row (CmpTo m r) = Acts (λ c. compare c m (λ v. difference_of v (c.registers r)))
+row (AddFrom r m) = Acts (λ c. gather c r m (λ v. sum_of (c.registers r) v))
+row (OrFrom r m) = Acts (λ c. gather c r m (λ v. bits_of (bit_or (c.registers r) v)))
+row (AndFrom r m) = Acts (λ c. gather c r m (λ v. bits_of (bit_and (c.registers r) v)))
+row (SubFrom r m) = Acts (λ c. gather c r m (λ v. difference_of (c.registers r) v))
+row (XorFrom r m) = Acts (λ c. gather c r m (λ v. bits_of (bit_xor (c.registers r) v)))
+row (CmpFrom r m) = Acts (λ c. compare c m (λ v. difference_of (c.registers r) v))
+row (AddNumber m n) = Acts (λ c. change c m (λ v. sum_of v (word n)))
+row (OrNumber m n) = Acts (λ c. change c m (λ v. bits_of (bit_or v (word n))))
+row (AndNumber m n) = Acts (λ c. change c m (λ v. bits_of (bit_and v (word n))))
+row (SubNumber m n) = Acts (λ c. change c m (λ v. difference_of v (word n)))
+row (XorNumber m n) = Acts (λ c. change c m (λ v. bits_of (bit_xor v (word n))))
+row (CmpNumber m n) = Acts (λ c. compare c m (λ v. difference_of v (word n)))
+row (TestTo m r) = Acts (λ c. compare c m (λ v. bits_of (bit_and v (c.registers r))))
+row (Imul r m) = Acts (λ c. gather c r m (λ v. product_of (c.registers r) v))
+row (Neg m) = Acts (λ c. change c m (λ v. difference_of 0 v))
+row (Idiv m) = Acts (λ c. when_ok (load c m) (divide c))
+row Cqo = Acts (λ c. Ok (with_register RDX (sign_word (c.registers RAX)) c))
+row (Shl m k) = Acts (λ c. change c m (λ v. shifted (v * 2 ^ k % 2 ^ 64)))
+row (Shr m k) = Acts (λ c. change c m (λ v. shifted (v / 2 ^ k)))
+row (Sar m k) = Acts (λ c. change c m (λ v. shifted (shift_right_signed v k)))
+row (Jump d) = Acts (λ c. Ok (with_place (add64 c.place (word d)) c))
+row (JumpTo m) = Acts (λ c. when_ok (load c m) (λ v. Ok (with_place v c)))
+row (JumpIf n d) = Acts (λ c. jump_if c d (condition c.flags n))
+row Syscall = Calls kernel
 
 -- ---- steps
 
@@ -157,10 +162,13 @@ abbrev pub moved : State → Result Core StuckCause → Progress
 moved s (Ok c) = Runs (with_core s c)
 moved s (Err cause) = Stuck cause s
 
+abbrev pub done : Row → (next : ℕ) → State → Progress
+done (Acts act) next s = moved s (act (with_place next s.core))
+done (Calls call) next s = call s next
+
 -- One instruction in a state, where `next` is the address after it.
-abbrev pub perform : Insn → ℕ → State → Progress
-perform Syscall next s = kernel s next
-perform i next s = moved s (act i (with_place next s.core))
+abbrev pub perform : Insn → (next : ℕ) → State → Progress
+perform i next s = done (row i) next s
 
 -- The instruction at an address, which lies in one executable segment, and its length.
 abbrev pub fetch : List Segment → ℕ → Option (Insn × ℕ)

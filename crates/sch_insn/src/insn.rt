@@ -7,7 +7,7 @@ ghost use Rattle.sch_insn.specs.Spelling.{spelling, operand, sib, IsValid};
 ///
 /// Source: Intel SDM, volume 2, section 2.1.5 (ModR/M and SIB bytes) and 2.2.1.6 (RIP-relative
 /// addressing).
-#[derive(Clone, Copy, Debug, PartialEq, Eq)]
+#[derive(Clone, Copy)]
 pub enum Arg {
     /// A register.
     Reg(u8),
@@ -24,7 +24,7 @@ pub enum Arg {
 /// comes first, and `Number` where the second is a sign-extended number.
 ///
 /// Source: Intel SDM, volume 2, the pages of the mnemonics.
-#[derive(Clone, Copy, Debug, PartialEq, Eq)]
+#[derive(Clone, Copy)]
 pub enum Insn {
     MovTo(Arg, u8),
     MovFrom(u8, Arg),

@@ -2,9 +2,11 @@
 //! what a machine does on it.
 #![tactic(auto)]
 
+pub mod condition;
 mod insn;
 mod laws;
 mod machine;
+pub mod register;
 
 pub use insn::{Arg, Insn};
 pub use laws::{reading_inverts_spelling, spellings_are_a_prefix_code, traces_are_of_runs};

@@ -1,12 +1,12 @@
 /// The sixteen registers of a machine, by their numbers.
-#[derive(Clone, Copy, Debug, PartialEq, Eq)]
+#[derive(Clone, Copy)]
 pub struct Regs {
     pub words: [u64; 16],
 }
 
 /// The flags OF, SF, ZF and CF of a machine. None is unknown: what the processor leaves undefined,
 /// or what the table does not speak of.
-#[derive(Clone, Copy, Debug, PartialEq, Eq)]
+#[derive(Clone, Copy)]
 pub struct Flags {
     pub overflow: Option<bool>,
     pub sign: Option<bool>,
@@ -15,7 +15,7 @@ pub struct Flags {
 }
 
 /// Why a machine has no next step.
-#[derive(Clone, Copy, Debug, PartialEq, Eq)]
+#[derive(Clone, Copy)]
 pub enum StuckCause {
     /// No spelling stands at the machine's address in an executable segment.
     Fetch,

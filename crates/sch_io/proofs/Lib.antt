@@ -1,2 +1,2 @@
-pub mod PutLemmas
-pub mod FileLemmas
+pub mod PutSteps
+pub mod StoredFiles

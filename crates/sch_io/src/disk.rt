@@ -1,4 +1,5 @@
-// Disks.
+//! Disks.
+
 ghost use Rattle.std.specs.Prelude.{◌≡◌, ◌≤◌, ◌<◌, ℕ, Option, length, IfOk, OnOk, OnErr, IsErr, IsErrOf, IfSome, IsSomeAnd, Some};
 ghost use Rattle.std.specs.FinMap.{get};
 ghost use Rattle.sch_io.specs.Counters.{Rose, raised};
@@ -10,7 +11,7 @@ use std::alloc::Global;
 use thiserror::Error;
 
 /// Why a file was not read.
-#[derive(Clone, Copy, Debug, PartialEq, Eq, Error)]
+#[derive(Clone, Copy, Debug, PartialEq, Error)]
 pub enum DiskRead {
     /// The disk failed. A file that is not there is read so too.
     #[error("read failed")]
@@ -24,7 +25,7 @@ pub enum DiskRead {
 }
 
 /// A file was not written.
-#[derive(Clone, Copy, Debug, PartialEq, Eq, Error)]
+#[derive(Clone, Copy, Debug, PartialEq, Error)]
 #[error("write failed")]
 pub struct Failed;
 

@@ -1,7 +1,12 @@
-// A disk over the files of the host.
-ghost use Rattle.std.specs.Prelude.{◌≡◌, ◌≤◌, None, IsErrOf};
-ghost use Rattle.sch_io.specs.Counters.{Rose, raised};
+//! A disk over the files of the host.
 
+ghost use Rattle.std.specs.Prelude.{◌≡◌, ◌≢◌, ◌≤◌, ◌<◌, Some, length, IfOk, IfSome, IsErr, IsErrOf, IsOk, IsSomeAnd, OnErr, OnOk};
+ghost use Rattle.std.specs.FinMap.{get};
+ghost use Rattle.sch_io.specs.Counters.{Rose, raised};
+ghost use Rattle.sch_io.specs.Files.{Replaces, Spoils};
+ghost use Rattle.sch_io.specs.Told.{Tells};
+
+use crate::counter::raise;
 use crate::disk::{Disk, DiskRead, Failed};
 use sch_word::Bytes;
 use std::alloc::Global;
@@ -32,46 +37,44 @@ impl<'a, R: Files> HostDisk<'a, R> {
         }
     }
 
-    fn begin(&mut self)
-        ensures calls { self.new.calls ≡ raised self.old.calls }
-        ensures same { self.new.faults ≡ self.old.faults }
-    {
-        self.calls = self.calls.saturating_add(1);
-    }
-
-    fn fault(&mut self)
-        ensures same { self.new.calls ≡ self.old.calls }
-        ensures later { self.old.faults ≤ self.new.faults }
-        ensures rose { Rose self.old.faults self.new.faults }
-    {
-        self.faults = self.faults.saturating_add(1);
-    }
-
-    // What the host's error is to a reader. All but want of memory is a fault.
+    // What the host's error is to a reader. All but out of memory is a fault.
     fn refuse(&mut self, error: &Error) -> DiskRead
         ensures same { self.new.calls ≡ self.old.calls }
         ensures later { self.old.faults ≤ self.new.faults }
-        ensures rose { result ≡ DiskRead.Failed → Rose self.old.faults self.new.faults }
+        ensures one_fault { result ≡ DiskRead.Failed → self.new.faults ≡ raised self.old.faults }
+        ensures no_fault { result ≢ DiskRead.Failed → self.new.faults ≡ self.old.faults }
     {
         if error.kind() == ErrorKind::OutOfMemory {
             return DiskRead::Memory;
         }
-        self.fault();
+        raise(&mut self.faults);
         DiskRead::Failed
     }
 }
 
 impl<'a, R: Files> Disk for HostDisk<'a, R> {
-    ghost use Rattle.sch_io.specs.OnHost.{calls_made, calls_failed};
+    ghost use Rattle.sch_io.specs.OnHost.{calls_made, calls_failed, untold_files};
 
-    ghost files = { λ _. None };
+    ghost files = { untold_files };
 
     ghost faults = { calls_failed };
 
     ghost calls = { calls_made };
 
-    fn read(&mut self, alloc: Global, name: &str, limit: u64) -> Result<Bytes, DiskRead> {
-        self.begin();
+    fn read(&mut self, alloc: Global, name: &str, limit: u64) -> Result<Bytes, DiskRead>
+        ensures unchanged { Tells (untold_files self.old) (untold_files self.new) (λ before after. after ≡ before) }
+        ensures found { IfOk result (λ bytes. IfSome (untold_files self.new) (λ all. get all name.now ≡ Some bytes)) }
+        ensures within { IfOk result (λ bytes. length bytes ≤ limit) }
+        ensures too_large { IsErrOf result DiskRead.TooLarge → IfSome (untold_files self.new) (λ all. IsSomeAnd (get all name.now) (λ bytes. limit < length bytes)) }
+        ensures faults { calls_failed self.old ≤ calls_failed self.new }
+        ensures failed_only_where_faults_rose { IsErrOf result DiskRead.Failed → Rose (calls_failed self.old) (calls_failed self.new) }
+        ensures calls { calls_made self.new ≡ raised (calls_made self.old) }
+
+        // A failure is one fault, and no other read is one.
+        ensures one_fault { IsErrOf result DiskRead.Failed → calls_failed self.new ≡ raised (calls_failed self.old) }
+        ensures no_fault { ¬ IsErrOf result DiskRead.Failed → calls_failed self.new ≡ calls_failed self.old }
+    {
+        raise(&mut self.calls);
         let file = match fs::open(self.host, name) {
             Ok(file) => file,
             Err(error) => return Err(self.refuse(&error)),
@@ -86,12 +89,22 @@ impl<'a, R: Files> Disk for HostDisk<'a, R> {
         Ok(Bytes::from_vec(bytes))
     }
 
-    fn write(&mut self, name: &str, bytes: &[u8]) -> Result<(), Failed> {
-        self.begin();
+    fn write(&mut self, name: &str, bytes: &[u8]) -> Result<(), Failed>
+        ensures ok { OnOk result (Tells (untold_files self.old) (untold_files self.new) (Replaces name.now bytes.now)) }
+        ensures err { OnErr result (Tells (untold_files self.old) (untold_files self.new) (Spoils name.now)) }
+        ensures faults { calls_failed self.old ≤ calls_failed self.new }
+        ensures failed_only_where_faults_rose { IsErr result → Rose (calls_failed self.old) (calls_failed self.new) }
+        ensures calls { calls_made self.new ≡ raised (calls_made self.old) }
+
+        // A failure is one fault, and no other write is one.
+        ensures one_fault { IsErr result → calls_failed self.new ≡ raised (calls_failed self.old) }
+        ensures no_fault { IsOk result → calls_failed self.new ≡ calls_failed self.old }
+    {
+        raise(&mut self.calls);
         match fs::write(self.host, name, bytes) {
             Ok(()) => Ok(()),
             Err(_) => {
-                self.fault();
+                raise(&mut self.faults);
                 Err(Failed)
             }
         }

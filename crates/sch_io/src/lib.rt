@@ -2,6 +2,7 @@
 //! pieces. Each is a trait, with forms over memory for tests and thin adapters over the host.
 #![tactic(auto)]
 
+mod counter;
 mod disk;
 mod host_disk;
 mod host_outlet;

@@ -1,4 +1,5 @@
-// A disk in memory.
+//! A disk in memory.
+
 ghost use Rattle.std.specs.Prelude.{◌≡◌, ◌≤◌, ◌<◌, ◌+◌, ◌++◌, ◌↔◌, ◌⊎◌, [], ◌∷◌, ℕ, List, Some, None, map, length, vec_len, vec_capacity, All, IfOk, IfSome, IsSomeAnd, IsErr, IsErrOf, IsNone, IsOk, IsTrue, OnOk, OnErr};
 ghost use Rattle.std.specs.Option.{option_map};
 ghost use Rattle.std.specs.FinMap.{get, empty};
@@ -7,6 +8,7 @@ ghost use Rattle.sch_io.specs.Files.{Replaces, Spoils, written};
 ghost use Rattle.sch_io.specs.Stored.{LiesWithin, file_of, files_of};
 ghost use Rattle.sch_io.specs.Told.{Tells};
 
+use crate::counter::raise;
 use crate::disk::{Disk, DiskRead, Failed};
 use sch_word::{Bytes, Mem};
 use std::alloc::Global;
@@ -19,8 +21,8 @@ struct Entry {
     end: usize,
 }
 
-// So many writes are taken at most.
-const MOST_WRITES: usize = 4096;
+// The most writes that are taken.
+const MAX_WRITES: usize = 4096;
 
 /// A disk that holds its files in memory, and tells them. A read of a name that is not there fails, and
 /// so does a write for which there is no room. Some of its calls can be made to fail.
@@ -63,12 +65,12 @@ impl MemDisk {
             append(&mut text, &mut entries, name.as_slice(), bytes.as_slice())?;
         }
         text.reserve(room)?;
-        entries.reserve(MOST_WRITES)?;
+        entries.reserve(MAX_WRITES)?;
         Ok(MemDisk {
             text,
             entries,
             room,
-            slots: MOST_WRITES,
+            slots: MAX_WRITES,
             failing: Vec::from_slice(alloc, failing)?,
             calls: 0,
             faults: 0,
@@ -81,15 +83,8 @@ impl MemDisk {
         ensures same { self.new ≡ record self.old { calls = raised self.old.calls } }
     {
         let fails = self.failing.contains(&self.calls);
-        self.calls = self.calls.saturating_add(1);
+        raise(&mut self.calls);
         fails
-    }
-
-    fn fault(&mut self)
-        ensures same { self.new ≡ record self.old { faults = raised self.old.faults } }
-        ensures later { self.old.faults ≤ self.new.faults }
-    {
-        self.faults = self.faults.saturating_add(1);
     }
 
     fn lacks_room(&self, name: &str, bytes: &[u8]) -> bool
@@ -128,11 +123,11 @@ impl Disk for MemDisk {
         ensures failing { failing_calls self.new ≡ failing_calls self.old }
     {
         if self.begin() {
-            self.fault();
+            raise(&mut self.faults);
             return Err(DiskRead::Failed);
         }
         let Some(entry) = find(&self.text, &self.entries, name.as_bytes()) else {
-            self.fault();
+            raise(&mut self.faults);
             return Err(DiskRead::Failed);
         };
         let bytes = &self.text[entry.bytes_at..entry.end];
@@ -166,11 +161,11 @@ impl Disk for MemDisk {
         ensures failing { failing_calls self.new ≡ failing_calls self.old }
     {
         if self.begin() {
-            self.fault();
+            raise(&mut self.faults);
             return Err(Failed);
         }
         if self.lacks_room(name, bytes) {
-            self.fault();
+            raise(&mut self.faults);
             return Err(Failed);
         }
         if append(&mut self.text, &mut self.entries, name.as_bytes(), bytes).is_err() {

@@ -1,10 +1,12 @@
-// An outlet in memory.
+//! An outlet in memory.
+
 ghost use Rattle.std.specs.Prelude.{◌≡◌, ◌≤◌, ◌<◌, ◌+◌, ◌++◌, ◌↔◌, [], Some, None, drop, length, vec_len, vec_capacity, IfOk, IsSome, IfSome, IsTrue};
 ghost use Rattle.std.specs.Bool.{OnTrue, OnFalse};
 ghost use Rattle.sch_io.specs.Answers.{AnswersNext, IsRefusal, IsWithin, taken};
 ghost use Rattle.sch_io.specs.Counters.{Rose, raised};
 ghost use Rattle.sch_io.specs.Told.{Tells};
 
+use crate::counter::raise;
 use crate::outlet::Outlet;
 use sch_word::{Answer, Mem};
 use std::alloc::Global;
@@ -81,13 +83,6 @@ impl MemOutlet {
         self.room -= bytes.len();
         self.bytes.extend_from_slice(bytes).is_ok()
     }
-
-    fn fault(&mut self)
-        ensures raised { self.new ≡ record self.old { faults = raised self.old.faults } }
-        ensures later { self.old.faults ≤ self.new.faults }
-    {
-        self.faults = self.faults.saturating_add(1);
-    }
 }
 
 impl Outlet for MemOutlet {
@@ -119,16 +114,16 @@ impl Outlet for MemOutlet {
             Answer::Took(count) => {
                 if !self.keep(&piece[..count]) {
                     self.tells = false;
-                    self.fault();
+                    raise(&mut self.faults);
                     return Answer::Failed;
                 }
                 if count == 0 && !piece.is_empty() {
-                    self.fault();
+                    raise(&mut self.faults);
                 }
                 Answer::Took(count)
             }
             Answer::Failed => {
-                self.fault();
+                raise(&mut self.faults);
                 Answer::Failed
             }
         }

@@ -1,4 +1,5 @@
-// An outlet that keeps nothing.
+//! An outlet that keeps nothing.
+
 ghost use Rattle.std.specs.Prelude.{[], Some, None};
 
 use crate::outlet::Outlet;
@@ -6,7 +7,7 @@ use sch_word::Answer;
 
 /// An outlet that takes every piece whole. It never fails, holds no answers ready, and does not tell
 /// what it took.
-#[derive(Clone, Copy, Debug, PartialEq, Eq)]
+#[derive(Drop)]
 pub struct NullOutlet;
 
 impl NullOutlet {

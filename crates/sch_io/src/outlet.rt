@@ -1,4 +1,5 @@
-// Outlets.
+//! Outlets.
+
 ghost use Rattle.std.specs.Prelude.{◌≡◌, ◌≤◌, ◌++◌, List, ℕ, Option, length};
 ghost use Rattle.sch_io.specs.Answers.{AnswersNext, IsRefusal, IsWithin, taken};
 ghost use Rattle.sch_io.specs.Counters.{Rose};

@@ -1,4 +1,5 @@
-// Puts to an outlet.
+//! Puts to an outlet.
+
 ghost use Rattle.std.specs.Prelude.{◌≡◌, ◌≤◌, ◌++◌, ℕ, IsTrue, take, false};
 ghost use Rattle.sch_io.specs.Counters.{Rose};
 ghost use Rattle.sch_io.specs.Puts.{HasPut};

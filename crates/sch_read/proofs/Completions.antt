@@ -1,8 +1,8 @@
 -- What completes a state of the machine, in the grammar's words, and that a step keeps it.
 use Rattle.std.proofs.Common.{◌≡◌, ◌⊎◌, ℕ, zero, suc, List, [], ◌∷◌, refl, sym, ◌∙◌, ap, subst, inl, inr}
 use Rattle.std.specs.Prelude.{IsOkAnd}
-use Rattle.sch_read.specs.Grammar.{Token, Open, Close, Dot, Plain, Huge, Bad, parenthesis, hash_parenthesis, quote_mark, Datum, Data, atom, list, dotted, vector, none, cons, join, one, quoted, with_tail, ReadsOne, ReadsMany, Reads, plain, listed, pointed, elements, quotes, end, more}
-use Rattle.sch_read.specs.Machine.{Frame, Items, AfterDot, Tail, Elements, Waiting, State, put, shut, start, step, at_top, in_list, in_tail, in_vector, point}
+use Rattle.sch_read.specs.Grammar.{Token, Open, Close, Dot, Plain, Huge, Bad, parenthesis, hash_parenthesis, quote_mark, Datum, Data, atom, list, dotted, vector, none, cons, join, one, quoted, with_tail, ReadsOne, ReadsMany, Reads, plain, listed, with_dot, elements, quotes, end, more}
+use Rattle.sch_read.specs.Parser.Stack.{Frame, Items, AfterDot, Tail, Elements, Waiting, State, put, shut, start, step, at_top, in_list, in_tail, in_vector, read_dot}
 
 pub join-none : (xs : Data) → join xs none ≡ xs
 join-none none = refl
@@ -90,7 +90,7 @@ pub start-forth : (n : ℕ) (fs : List Frame) (top : Data) (t : Token) (ts : Lis
     ReadsOne n (t ∷ ts) d us → Gets n fs top d us out → IsOkAnd (start n fs top t) (Goes ts out)
 start-forth n fs top (Plain at a) ts d us out (plain _ _ _ _) g = put-goes fs n top (atom at a) ts out g
 start-forth (suc n) fs top (Open at parenthesis) ts d us out (listed _ _ e _ xs _ r) g = (list at xs, us, inl (record { ds = xs; end_ = e; reads = r; is = refl }), g)
-start-forth (suc n) fs top (Open at parenthesis) ts d us out (pointed _ _ p e _ vs x xs last _ r q) g =
+start-forth (suc n) fs top (Open at parenthesis) ts d us out (with_dot _ _ p e _ vs x xs last _ r q) g =
     (with_tail at (cons x xs) last, us, inr (record { ds = cons x xs; dot = p; us = vs; last = last; end_ = e; x = x; all = xs; reads = r; some = refl; reads_last = q; is = refl }), g)
 start-forth (suc n) fs top (Open at hash_parenthesis) ts d us out (elements _ _ e _ xs _ r) g = (vector at xs, us, record { ds = xs; end_ = e; reads = r; is = refl }, g)
 start-forth (suc n) fs top (Open at quote_mark) ts d us out (quotes _ _ _ x _ r) g = (quoted at x, us, record { x = x; reads = r; is = refl }, g)
@@ -131,11 +131,11 @@ top-forth : (n : ℕ) (top : Data) (t : Token) (ts : List Token) (out ds : Data)
 top-forth n top t ts out ds (more _ _ us x xs _ r q) e =
     starts-top n top t (Goes ts out) (start-forth n [] top t ts x us out r (record { ds = xs; reads = q; is = e ∙ sym (join-assoc top (one x) xs) }))
 
-point-forth : (n at : ℕ) (xs : Data) (fs : List Frame) (top : Data) (p : ℕ) (ts us : List Token) (d last : Datum) (e : ℕ) (rest : List Token) (x : Datum) (all : Data) (out : Data) →
+read_dot-forth : (n at : ℕ) (xs : Data) (fs : List Frame) (top : Data) (p : ℕ) (ts us : List Token) (d last : Datum) (e : ℕ) (rest : List Token) (x : Datum) (all : Data) (out : Data) →
     xs ≡ cons x all → ReadsOne n ts last (Close e ∷ rest) → d ≡ with_tail at (cons x all) last → Gets (suc n) fs top d rest out →
-    IsOkAnd (point n at xs fs top p) (Goes ts out)
-point-forth n at none fs top p ts us d last e rest x all out h r i g = cc
-point-forth n at (cons y ys) fs top p ts us d last e rest x all out h r i g =
+    IsOkAnd (read_dot n at xs fs top p) (Goes ts out)
+read_dot-forth n at none fs top p ts us d last e rest x all out h r i g = cc
+read_dot-forth n at (cons y ys) fs top p ts us d last e rest x all out h r i g =
     (d, rest, record { last = last; end_ = e; reads = r; is = i ∙ ap (λ v. with_tail at v last) (sym h) }, g)
 
 closes-forth : (n at : ℕ) (xs : Data) (fs : List Frame) (top : Data) (t : Token) (ts : List Token) (d : Datum) (rest : List Token) (out : Data) (ds : Data) (e : ℕ) →
@@ -168,20 +168,20 @@ vector-forth n at xs fs top (Plain _ _) ts d rest out none e r i g = elim r [ ]
 vector-forth n at xs fs top (Huge _) ts d rest out none e r i g = elim r [ ]
 vector-forth n at xs fs top (Bad _ _) ts d rest out none e r i g = elim r [ ]
 
-points-forth : (n at : ℕ) (xs : Data) (fs : List Frame) (top : Data) (t : Token) (ts : List Token) (d : Datum) (rest : List Token) (out : Data)
+read_dots-forth : (n at : ℕ) (xs : Data) (fs : List Frame) (top : Data) (t : Token) (ts : List Token) (d : Datum) (rest : List Token) (out : Data)
     (ds : Data) (dot : ℕ) (vs : List Token) (last : Datum) (e : ℕ) (x : Datum) (all : Data) →
     ReadsMany n (t ∷ ts) ds (Dot dot ∷ vs) → join xs ds ≡ cons x all → ReadsOne n vs last (Close e ∷ rest) → d ≡ with_tail at (cons x all) last →
     Gets (suc n) fs top d rest out → IsOkAnd (in_list n at xs fs top t) (Goes ts out)
-points-forth n at xs fs top (Dot p) ts d rest out none dot vs last e x all (end _ _) s q i g =
-    point-forth n at xs fs top p ts ts d last e rest x all out (sym (join-none xs) ∙ s) q i g
-points-forth n at xs fs top t ts d rest out (cons y ds) dot vs last e x all (more _ _ us _ _ _ r m) s q i g =
+read_dots-forth n at xs fs top (Dot p) ts d rest out none dot vs last e x all (end _ _) s q i g =
+    read_dot-forth n at xs fs top p ts ts d last e rest x all out (sym (join-none xs) ∙ s) q i g
+read_dots-forth n at xs fs top t ts d rest out (cons y ds) dot vs last e x all (more _ _ us _ _ _ r m) s q i g =
     starts-list n at xs fs top t (Goes ts out) (start-forth n (Items at xs ∷ fs) top t ts y us out r
     (d, rest, inr (record { ds = ds; dot = dot; us = vs; last = last; end_ = e; x = x; all = all; reads = m; some = join-assoc xs (one y) ds ∙ s; reads_last = q; is = i }), g))
-points-forth n at xs fs top (Open _ _) ts d rest out none dot vs last e x all r s q i g = elim r [ ]
-points-forth n at xs fs top (Close _) ts d rest out none dot vs last e x all r s q i g = elim r [ ]
-points-forth n at xs fs top (Plain _ _) ts d rest out none dot vs last e x all r s q i g = elim r [ ]
-points-forth n at xs fs top (Huge _) ts d rest out none dot vs last e x all r s q i g = elim r [ ]
-points-forth n at xs fs top (Bad _ _) ts d rest out none dot vs last e x all r s q i g = elim r [ ]
+read_dots-forth n at xs fs top (Open _ _) ts d rest out none dot vs last e x all r s q i g = elim r [ ]
+read_dots-forth n at xs fs top (Close _) ts d rest out none dot vs last e x all r s q i g = elim r [ ]
+read_dots-forth n at xs fs top (Plain _ _) ts d rest out none dot vs last e x all r s q i g = elim r [ ]
+read_dots-forth n at xs fs top (Huge _) ts d rest out none dot vs last e x all r s q i g = elim r [ ]
+read_dots-forth n at xs fs top (Bad _ _) ts d rest out none dot vs last e x all r s q i g = elim r [ ]
 
 -- a list in the tail of a list is more of that list
 tail-in-tail : (p : ℕ) (ys : Data) (at : ℕ) (xs : Data) (last : Datum) → with_tail p ys (with_tail at xs last) ≡ with_tail p (join ys xs) last
@@ -218,7 +218,7 @@ pub step-forth : (n : ℕ) (fs : List Frame) (top : Data) (t : Token) (ts : List
     Completes n fs top (t ∷ ts) out → IsOkAnd (step n fs top t) (Goes ts out)
 step-forth n [] top t ts out h = top-forth n top t ts out h.ds h.reads h.is
 step-forth n (Items at xs ∷ fs) top t ts out (d, rest, inl c, g) = closes-forth n at xs fs top t ts d rest out c.ds c.end_ c.reads c.is g
-step-forth n (Items at xs ∷ fs) top t ts out (d, rest, inr c, g) = points-forth n at xs fs top t ts d rest out c.ds c.dot c.us c.last c.end_ c.x c.all c.reads c.some c.reads_last c.is g
+step-forth n (Items at xs ∷ fs) top t ts out (d, rest, inr c, g) = read_dots-forth n at xs fs top t ts d rest out c.ds c.dot c.us c.last c.end_ c.x c.all c.reads c.some c.reads_last c.is g
 step-forth n (AfterDot at xs ∷ fs) top t ts out (d, rest, c, g) =
     start-forth n (AfterDot at xs ∷ fs) top t ts c.last (Close c.end_ ∷ rest) out c.reads (d, rest, record { end_ = c.end_; next = refl; is = c.is }, g)
 step-forth n (Tail at xs last ∷ fs) top t ts out (d, rest, c, g) = shuts-forth n at xs last fs top t ts d rest out c.end_ c.next c.is g
@@ -285,7 +285,7 @@ start-back (suc n) fs top (Open at parenthesis) ts out h s (d, us, inl c, g) =
 start-back (suc n) fs top (Open at parenthesis) ts out h s (d, us, inr c, g) =
     let P : Datum → Type 0 = λ v. Gets (suc n) fs top v us out in
     let Q : Data → Type 0 = λ v. ReadsMany n ts v (Dot c.dot ∷ c.us) in
-    (with_tail at (cons c.x c.all) c.last, us, pointed n at c.dot c.end_ ts c.us c.x c.all c.last us (subst Q c.some c.reads) c.reads_last, subst P c.is g)
+    (with_tail at (cons c.x c.all) c.last, us, with_dot n at c.dot c.end_ ts c.us c.x c.all c.last us (subst Q c.some c.reads) c.reads_last, subst P c.is g)
 start-back (suc n) fs top (Open at hash_parenthesis) ts out h s (d, us, c, g) =
     let P : Datum → Type 0 = λ v. Gets (suc n) fs top v us out in
     (vector at c.ds, us, elements n at c.end_ ts c.ds us c.reads, subst P c.is g)
@@ -317,10 +317,10 @@ vector-back n at xs fs top t ts out s g = go (start-back n (Elements at xs ∷ f
     go : (d : Datum) × (us : List Token) × ReadsOne n (t ∷ ts) d us × Gets n (Elements at xs ∷ fs) top d us out → Completes n (Elements at xs ∷ fs) top (t ∷ ts) out
     go (x, us, r, (d, rest, c, g')) = (d, rest, record { ds = cons x c.ds; end_ = c.end_; reads = more n (t ∷ ts) us x c.ds (Close c.end_ ∷ rest) r c.reads; is = c.is ∙ ap (vector at) (join-assoc xs (one x) c.ds) }, g')
 
-point-back : (n at : ℕ) (xs : Data) (fs : List Frame) (top : Data) (p : ℕ) (ts : List Token) (out : Data) →
-    IsOkAnd (point n at xs fs top p) (Goes ts out) → Completes n (Items at xs ∷ fs) top (Dot p ∷ ts) out
-point-back n at none fs top p ts out g = absurd g
-point-back n at (cons y ys) fs top p ts out (d, rest, c, g) =
+read_dot-back : (n at : ℕ) (xs : Data) (fs : List Frame) (top : Data) (p : ℕ) (ts : List Token) (out : Data) →
+    IsOkAnd (read_dot n at xs fs top p) (Goes ts out) → Completes n (Items at xs ∷ fs) top (Dot p ∷ ts) out
+read_dot-back n at none fs top p ts out g = absurd g
+read_dot-back n at (cons y ys) fs top p ts out (d, rest, c, g) =
     (d, rest, inr (record { ds = none; dot = p; us = ts; last = c.last; end_ = c.end_; x = y; all = ys; reads = end n (Dot p ∷ ts); some = join-none (cons y ys); reads_last = c.reads; is = c.is }), g)
 
 -- Where the machine takes a token and the rest completes the text, the token and the rest complete it.
@@ -335,7 +335,7 @@ step-back n [] top (Bad p f) ts out s g = absurd g
 step-back n (Items at xs ∷ fs) top (Close p) ts out s g =
     (list at xs, ts, inl (record { ds = none; end_ = p; reads = end n (Close p ∷ ts); is = ap (list at) (sym (join-none xs)) }), put-back fs (suc n) top (list at xs) ts out s.0 s.1 g)
 step-back n (Items at xs ∷ fs) top (Open p o) ts out s g = list-back n at xs fs top (Open p o) ts out s g
-step-back n (Items at xs ∷ fs) top (Dot p) ts out s g = point-back n at xs fs top p ts out g
+step-back n (Items at xs ∷ fs) top (Dot p) ts out s g = read_dot-back n at xs fs top p ts out g
 step-back n (Items at xs ∷ fs) top (Plain p a) ts out s g = list-back n at xs fs top (Plain p a) ts out s g
 step-back n (Items at xs ∷ fs) top (Huge p) ts out s g = absurd g
 step-back n (Items at xs ∷ fs) top (Bad p f) ts out s g = absurd g

@@ -4,12 +4,12 @@ use Rattle.std.specs.Prelude.{◌==◌, ◌&&◌, ◌||◌, not, if◌then◌els
 use Rattle.std.specs.List.{list_all}
 use Rattle.std.proofs.lemmas.List.{append-nil}
 use Rattle.sch_read.specs.Grammar.{Token}
-use Rattle.sch_read.specs.Letters.{is_delimiter, is_word_byte}
-use Rattle.sch_read.specs.Lexeme.{is_empty, is_string_rest, is_escape_rest, is_character_rest, is_hash_rest, is_lexeme, IsLongest}
-use Rattle.sch_read.specs.Token.{token_at}
-use Rattle.sch_read.specs.Cut.{Cuts, nothing, lexeme}
-use Rattle.sch_read.specs.Scan.{scan}
-use Rattle.sch_read.proofs.First.{parted}
+use Rattle.sch_read.specs.Lexer.Letters.{is_delimiter, is_word_byte}
+use Rattle.sch_read.specs.Lexer.Lexeme.{is_empty, is_string_rest, is_escape_rest, is_character_rest, is_hash_rest, is_lexeme, IsLongest}
+use Rattle.sch_read.specs.Lexer.Token.{token_at}
+use Rattle.sch_read.specs.Lexer.Cut.{Cuts, nothing, lexeme}
+use Rattle.sch_read.specs.Lexer.Scan.{scan}
+use Rattle.sch_read.proofs.FirstFault.{parted}
 
 if-both : (t a b c d : Bool) → (a ≡ true → c ≡ true) → (b ≡ true → d ≡ true) → (if t then a else b) ≡ true → (if t then c else d) ≡ true
 if-both true a b c d f g h = f h

@@ -1,18 +1,21 @@
 -- The text of a valid datum spells the datum, apart from places.
+pub mod AtomTexts
+pub mod NameTexts
+pub mod IntegerTexts
 use Rattle.std.proofs.Common.{◌≡◌, ◌≢◌, ◌+◌, ◌≤◌, ℕ, zero, suc, List, [], ◌∷◌, ◌++◌, length, refl, sym, ◌∙◌, ap, subst, arith, append_assoc, length-append}
 use Rattle.std.specs.Prelude.{codes}
 use Rattle.std.proofs.lemmas.List.{append-nil}
-use Rattle.sch_read.specs.Lexeme.{is_empty, is_lexeme, IsLongest}
-use Rattle.sch_read.specs.Grammar.{Token, Open, Close, Dot, Plain, parenthesis, hash_parenthesis, Atom, boolean, integer, character, text, symbol, Datum, Data, atom, list, dotted, vector, none, cons, one, with_tail, ReadsOne, ReadsMany, plain, listed, pointed, elements, end, more}
-use Rattle.sch_read.specs.Cut.{Cuts, nothing, lexeme}
-use Rattle.sch_read.specs.Text.{levels, Spells}
+use Rattle.sch_read.specs.Lexer.Lexeme.{is_empty, is_lexeme, IsLongest}
+use Rattle.sch_read.specs.Grammar.{Token, Open, Close, Dot, Plain, parenthesis, hash_parenthesis, Atom, boolean, integer, character, text, symbol, Datum, Data, atom, list, dotted, vector, none, cons, one, with_tail, ReadsOne, ReadsMany, plain, listed, with_dot, elements, end, more}
+use Rattle.sch_read.specs.Lexer.Cut.{Cuts, nothing, lexeme}
+use Rattle.sch_read.specs.Text.{max_nesting, Spells}
 use Rattle.sch_read.specs.Valid.{IsValidAtom, IsNoList, IsValid, AreValid}
-use Rattle.sch_read.specs.Shape.{depth, depths, without_places, all_without_places, IsFixnumAtom, HasFixnums, HaveFixnums}
+use Rattle.sch_read.specs.Levels.{depth, depths, without_places, all_without_places, IsFixnumAtom, HasFixnums, HaveFixnums}
 use Rattle.sch_read.specs.Printed.{atom_text, datum_text, items_text, more_text}
 use Rattle.sch_read.proofs.Longest.{byte-longest}
-use Rattle.sch_read.proofs.AtomTexts.{IsBroken, IsAtomText}
-use Rattle.sch_read.proofs.NameTexts.{boolean-text, character-text, symbol-text, string-text}
-use Rattle.sch_read.proofs.IntegerTexts.{integer-text}
+use Rattle.sch_read.proofs.RoundTrip.AtomTexts.{IsBroken, IsAtomText}
+use Rattle.sch_read.proofs.RoundTrip.NameTexts.{boolean-text, character-text, symbol-text, string-text}
+use Rattle.sch_read.proofs.RoundTrip.IntegerTexts.{integer-text}
 
 -- Where the bytes stand before a rest that begins with a delimiter, they spell the datum, and the
 -- tokens of the rest are left.
@@ -107,14 +110,14 @@ tail-same at ys (dotted p zs z) (list q bs) h e = absurd h
 tail-same at ys (dotted p zs z) (dotted q bs c) h e = absurd h
 tail-same at ys (dotted p zs z) (vector q bs) h e = cc
 
-point-read : (n at dot shut : ℕ) (us vs : List Token) (ys xs : Data) (z last : Datum) (ts : List Token) → xs ≢ none → IsNoList last →
+dotted-read : (n at dot shut : ℕ) (us vs : List Token) (ys xs : Data) (z last : Datum) (ts : List Token) → xs ≢ none → IsNoList last →
     ReadsMany n us ys (Dot dot ∷ vs) → ReadsOne n vs z (Close shut ∷ ts) → all_without_places ys ≡ all_without_places xs → without_places z ≡ without_places last →
     (x : Datum) × ReadsOne (suc n) (Open at parenthesis ∷ us) x ts × (without_places x ≡ dotted 0 (all_without_places xs) (without_places last))
-point-read n at dot shut us vs none none z last ts some h r q e k = absurd (some refl)
-point-read n at dot shut us vs none (cons x xs) z last ts some h r q e k = cc
-point-read n at dot shut us vs (cons y ys) xs z last ts some h r q e k = (
+dotted-read n at dot shut us vs none none z last ts some h r q e k = absurd (some refl)
+dotted-read n at dot shut us vs none (cons x xs) z last ts some h r q e k = cc
+dotted-read n at dot shut us vs (cons y ys) xs z last ts some h r q e k = (
   with_tail at (cons y ys) z,
-  pointed n at dot shut us vs y ys z ts r q,
+  with_dot n at dot shut us vs y ys z ts r q,
   ap without_places (tail-same at (cons y ys) z last h k) ∙ ap (λ v. dotted 0 v (without_places z)) e ∙ ap (dotted 0 (all_without_places xs)) k,
 )
 
@@ -134,7 +137,7 @@ spell-dotted n at p xs last some h items tail rest ts broken c =
     let l = tail (q + 3) (41 ∷ rest) (Close (q + 3 + length L) ∷ ts) refl shut in
     let dot = cut-dot q (L ++ 41 ∷ rest) l.0 l.2 in
     let i = items (32 ∷ 46 ∷ 32 ∷ (L ++ 41 ∷ rest)) (Dot (q + 1) ∷ l.0) refl dot in
-    let r = point-read n at (q + 1) (q + 3 + length L) i.0 l.0 i.1 xs l.1 last ts some h i.3 l.3 i.4 l.4 in
+    let r = dotted-read n at (q + 1) (q + 3 + length L) i.0 l.0 i.1 xs l.1 last ts some h i.3 l.3 i.4 l.4 in
     (Open at parenthesis ∷ i.0, r.0, cut-of at _ _ (Open at parenthesis ∷ i.0) whole (cut-open at (I ++ 32 ∷ 46 ∷ 32 ∷ (L ++ 41 ∷ rest)) i.0 i.2), r.1, r.2)
 
 more-broken : (xs : Data) (rest : List ℕ) → IsBroken rest → IsBroken (more_text xs ++ rest)
@@ -186,7 +189,7 @@ mutual
       spell-space n at x xs (spell-cons n (at + 1) x xs (spell-one x n (at + 1) (omega arith) v.0 f.0) (λ q. spell-more xs n q (omega arith) v.1 f.1))
 
 -- the text of a valid datum spells it
-pub printed_spells : (d : Datum) → depth d ≤ levels → IsValid d → HasFixnums d → (x : Datum) × Spells (datum_text d) (one x) × (without_places x ≡ without_places d)
+pub printed_spells : (d : Datum) → depth d ≤ max_nesting → IsValid d → HasFixnums d → (x : Datum) × Spells (datum_text d) (one x) × (without_places x ≡ without_places d)
 printed_spells d h v f =
-    let s = spell-one d levels 0 h v f [] [] tt (nothing (0 + length (datum_text d))) in
-    (s.1, (s.0, cut-of 0 (datum_text d ++ []) (datum_text d) s.0 (append-nil (datum_text d)) s.2, more levels s.0 [] s.1 none [] s.3 (end levels [])), s.4)
+    let s = spell-one d max_nesting 0 h v f [] [] tt (nothing (0 + length (datum_text d))) in
+    (s.1, (s.0, cut-of 0 (datum_text d ++ []) (datum_text d) s.0 (append-nil (datum_text d)) s.2, more max_nesting s.0 [] s.1 none [] s.3 (end max_nesting [])), s.4)

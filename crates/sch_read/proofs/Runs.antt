@@ -3,7 +3,7 @@ use Rattle.std.proofs.Common.{◌≡◌, ℕ, zero, suc, List, [], ◌∷◌, re
 use Rattle.std.specs.Prelude.{Result, IsOkAnd, IfOk}
 use Rattle.sch_read.specs.Grammar.{Token, Open, Close, Dot, Plain, Huge, Bad, parenthesis, hash_parenthesis, quote_mark, Datum, Data, atom, list, vector, none, cons, ReadsOne, ReadsMany, Reads, end, more}
 use Rattle.sch_read.specs.Fault.{Fault}
-use Rattle.sch_read.specs.Machine.{Frame, Items, AfterDot, Tail, Elements, Waiting, State, start, step, run, and_then, point, finish}
+use Rattle.sch_read.specs.Parser.Stack.{Frame, Items, AfterDot, Tail, Elements, Waiting, State, start, step, run, and_then, read_dot, finish}
 use Rattle.sch_read.specs.Grammar.{join}
 use Rattle.sch_read.proofs.Completions.{Completes, Goes, HeadTakes, IsSound, put-sound, shut-sound, step-forth, step-back, join-none}
 
@@ -47,9 +47,9 @@ start-sound n fs top (Dot at) h s = tt
 start-sound n fs top (Huge at) h s = tt
 start-sound n fs top (Bad at f) h s = tt
 
-point-sound : (n at : ℕ) (xs : Data) (fs : List Frame) (top : Data) (p : ℕ) → IsSound (Items at xs ∷ fs) → IfOk (point n at xs fs top p) (λ s. IsSound s.open_)
-point-sound n at none fs top p s = tt
-point-sound n at (cons y ys) fs top p s = s
+read_dot-sound : (n at : ℕ) (xs : Data) (fs : List Frame) (top : Data) (p : ℕ) → IsSound (Items at xs ∷ fs) → IfOk (read_dot n at xs fs top p) (λ s. IsSound s.open_)
+read_dot-sound n at none fs top p s = tt
+read_dot-sound n at (cons y ys) fs top p s = s
 
 pub step-sound : (n : ℕ) (fs : List Frame) (top : Data) (t : Token) → IsSound fs → IfOk (step n fs top t) (λ s. IsSound s.open_)
 step-sound n [] top (Close p) s = tt
@@ -60,7 +60,7 @@ step-sound n [] top (Huge p) s = tt
 step-sound n [] top (Bad p f) s = tt
 step-sound n (Items at xs ∷ fs) top (Close p) s = put-sound fs (suc n) top (list at xs) s.0 s.1
 step-sound n (Items at xs ∷ fs) top (Open p o) s = start-sound n (Items at xs ∷ fs) top (Open p o) tt s
-step-sound n (Items at xs ∷ fs) top (Dot p) s = point-sound n at xs fs top p s
+step-sound n (Items at xs ∷ fs) top (Dot p) s = read_dot-sound n at xs fs top p s
 step-sound n (Items at xs ∷ fs) top (Plain p a) s = start-sound n (Items at xs ∷ fs) top (Plain p a) tt s
 step-sound n (Items at xs ∷ fs) top (Huge p) s = tt
 step-sound n (Items at xs ∷ fs) top (Bad p f) s = tt

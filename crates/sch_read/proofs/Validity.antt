@@ -6,17 +6,17 @@ use Rattle.std.proofs.lemmas.Bool.{cases_lt}
 use Rattle.std.proofs.lemmas.Bool.Decides.{nat_tests}
 use Rattle.std.specs.Char.{to_ascii_lowercase, is_ascii_alphabetic}
 use Rattle.std.specs.Str.{bytes_eq}
-use Rattle.sch_read.specs.Letters.{folded, is_initial, is_subsequent}
+use Rattle.sch_read.specs.Lexer.Letters.{folded, is_initial, is_subsequent}
 use Rattle.std.proofs.lemmas.Slice.Eq.{bytes_eq-Decides}
 use Rattle.std.specs.Str.Parse.{without_leading_sign, signed_digits_value}
 use Rattle.std.proofs.Common.{length}
-use Rattle.sch_read.specs.Letters.{is_white}
-use Rattle.sch_read.specs.Lexeme.{is_empty}
-use Rattle.sch_read.specs.Token.{is_identifier, token_at, word_at, name_at, number_at, integer_at, character_at, string_at, string_of, Content, Whole, Unended, NoEscape, content, is_number_like, is_character, are_digits, base_of, numeral_of}
+use Rattle.sch_read.specs.Lexer.Letters.{is_white}
+use Rattle.sch_read.specs.Lexer.Lexeme.{is_empty}
+use Rattle.sch_read.specs.Lexer.Token.{is_identifier, token_at, word_at, name_at, number_at, integer_at, character_at, string_at, string_of, Content, Whole, Unended, NoEscape, content, is_number_like, is_character, are_digits, base_of, numeral_of}
 use Rattle.sch_word.specs.Fixnum.{is_fixnum}
-use Rattle.sch_read.specs.Grammar.{Token, Open, Close, Dot, Plain, Huge, Bad, parenthesis, hash_parenthesis, quote_mark, bad_token, bad_number, boolean, integer, character, symbol, Datum, Data, atom, list, dotted, vector, none, cons, join, with_tail, ReadsOne, ReadsMany, plain, listed, pointed, elements, quotes, end, more}
-use Rattle.sch_read.specs.Cut.{Cuts, nothing, lexeme}
-use Rattle.sch_read.specs.Text.{levels, Spells}
+use Rattle.sch_read.specs.Grammar.{Token, Open, Close, Dot, Plain, Huge, Bad, parenthesis, hash_parenthesis, quote_mark, bad_token, bad_number, boolean, integer, character, symbol, Datum, Data, atom, list, dotted, vector, none, cons, join, with_tail, ReadsOne, ReadsMany, plain, listed, with_dot, elements, quotes, end, more}
+use Rattle.sch_read.specs.Lexer.Cut.{Cuts, nothing, lexeme}
+use Rattle.sch_read.specs.Text.{max_nesting, Spells}
 use Rattle.sch_read.specs.Valid.{IsValidAtom, IsValid, AreValid}
 
 -- a letter's lower case is a letter, and no other byte changes
@@ -182,7 +182,7 @@ mutual
   one-valid : (n : ℕ) (ts : List Token) (d : Datum) (rest : List Token) → ReadsOne n ts d rest → AreValidTokens ts → IsValid d × AreValidTokens rest
   one-valid n ts d rest (plain _ at a _) h = h
   one-valid n ts d rest (listed m at e us xs _ r) h = let k = many-valid m us xs (Close e ∷ rest) r h.1 in (k.0, k.1.1)
-  one-valid n ts d rest (pointed m at dot e us vs x xs last _ r q) h =
+  one-valid n ts d rest (with_dot m at dot e us vs x xs last _ r q) h =
       let k = many-valid m us (cons x xs) (Dot dot ∷ vs) r h.1 in
       let l = one-valid m vs last (Close e ∷ rest) q k.1.1 in
       (valid-with_tail at x xs last k.0 l.0, l.1.1)
@@ -198,4 +198,4 @@ mutual
 
 -- what a text spells is valid
 pub spelled_valid : (bytes : List ℕ) (xs : Data) → Spells bytes xs → AreValid xs
-spelled_valid bytes xs (ts, cut, reads) = (many-valid levels ts xs [] reads (valid-cut 0 bytes ts cut)).0
+spelled_valid bytes xs (ts, cut, reads) = (many-valid max_nesting ts xs [] reads (valid-cut 0 bytes ts cut)).0

@@ -2,14 +2,14 @@
 use Rattle.std.proofs.Common.{◌≡◌, ◌≤◌, ◌+◌, ◌*◌, ℕ, suc, List, [], ◌∷◌, ◌++◌, length, refl, ◌∙◌, ap, arith, Bool, true, false, length-append}
 use Rattle.std.specs.Prelude.{◌==◌, ◌||◌, if◌then◌else◌, drop, codes}
 use Rattle.std.specs.Str.{bytes_eq}
-use Rattle.sch_read.specs.Grammar.{Token, Open, Close, Dot, Plain, Huge, Bad, parenthesis, hash_parenthesis, quote_mark, bad_token, bad_number, boolean, integer, character, symbol, Datum, Data, atom, list, dotted, vector, none, cons, join, with_tail, ReadsOne, ReadsMany, plain, listed, pointed, elements, quotes, end, more}
-use Rattle.sch_read.specs.Letters.{folded, is_white}
-use Rattle.sch_read.specs.Token.{token_at, word_at, name_at, number_at, integer_at, character_at, string_at, string_of, Content, Whole, Unended, NoEscape, with_byte, content, escape_content, escaped, is_escape, is_number_like, is_character, is_identifier, are_digits, base_of, numeral_of}
+use Rattle.sch_read.specs.Grammar.{Token, Open, Close, Dot, Plain, Huge, Bad, parenthesis, hash_parenthesis, quote_mark, bad_token, bad_number, boolean, integer, character, symbol, Datum, Data, atom, list, dotted, vector, none, cons, join, with_tail, ReadsOne, ReadsMany, plain, listed, with_dot, elements, quotes, end, more}
+use Rattle.sch_read.specs.Lexer.Letters.{folded, is_white}
+use Rattle.sch_read.specs.Lexer.Token.{token_at, word_at, name_at, number_at, integer_at, character_at, string_at, string_of, Content, Whole, Unended, NoEscape, with_byte, content, escape_content, escaped, is_escape, is_number_like, is_character, is_identifier, are_digits, base_of, numeral_of}
 use Rattle.sch_word.specs.Fixnum.{is_fixnum}
 use Rattle.std.specs.Str.Parse.{without_leading_sign, signed_digits_value}
-use Rattle.sch_read.specs.Lexeme.{is_empty}
-use Rattle.sch_read.specs.Cut.{Cuts, nothing, lexeme}
-use Rattle.sch_read.specs.Text.{levels, Spells}
+use Rattle.sch_read.specs.Lexer.Lexeme.{is_empty}
+use Rattle.sch_read.specs.Lexer.Cut.{Cuts, nothing, lexeme}
+use Rattle.sch_read.specs.Text.{max_nesting, Spells}
 use Rattle.sch_read.specs.Valid.{bytes_in, weight, weights}
 
 -- what a token adds to the weight
@@ -45,7 +45,7 @@ mutual
   one-weighs : (n : ℕ) (ts : List Token) (d : Datum) (rest : List Token) → ReadsOne n ts d rest → weight d + loads rest ≤ loads ts
   one-weighs n ts d rest (plain _ at a _) = omega arith
   one-weighs n ts d rest (listed m at e us xs _ r) = let h = many-weighs m us xs (Close e ∷ rest) r in omega arith
-  one-weighs n ts d rest (pointed m at dot e us vs x xs last _ r q) =
+  one-weighs n ts d rest (with_dot m at dot e us vs x xs last _ r q) =
       let h = many-weighs m us (cons x xs) (Dot dot ∷ vs) r in
       let k = one-weighs m vs last (Close e ∷ rest) q in
       let w = weight-with_tail at (cons x xs) last in omega arith
@@ -159,6 +159,6 @@ loads-cut at bytes ts (lexeme _ _ first rest us _ e h long c k) =
 -- what a text spells weighs at most seven times its bytes
 pub spelled_weighs : (bytes : List ℕ) (xs : Data) → Spells bytes xs → weights xs ≤ 7 * length bytes
 spelled_weighs bytes xs (ts, cut, reads) =
-    let h = many-weighs levels ts xs [] reads in
+    let h = many-weighs max_nesting ts xs [] reads in
     let k = loads-cut 0 bytes ts cut in
     omega arith

@@ -65,7 +65,7 @@ mutual
     plain : (n at : ℕ) (a : Atom) (rest : List Token) → ReadsOne n (Plain at a ∷ rest) (atom at a) rest
     listed : (n at end : ℕ) (ts : List Token) (xs : Data) (rest : List Token) →
         ReadsMany n ts xs (Close end ∷ rest) → ReadsOne (suc n) (Open at parenthesis ∷ ts) (list at xs) rest
-    pointed : (n at dot end : ℕ) (ts us : List Token) (x : Datum) (xs : Data) (last : Datum) (rest : List Token) →
+    with_dot : (n at dot end : ℕ) (ts us : List Token) (x : Datum) (xs : Data) (last : Datum) (rest : List Token) →
         ReadsMany n ts (cons x xs) (Dot dot ∷ us) → ReadsOne n us last (Close end ∷ rest) →
         ReadsOne (suc n) (Open at parenthesis ∷ ts) (with_tail at (cons x xs) last) rest
     elements : (n at end : ℕ) (ts : List Token) (xs : Data) (rest : List Token) →

@@ -3,7 +3,7 @@ use Rattle.std.specs.Prelude.{◌≡◌, ◌==◌, ◌||◌, ◌++◌, ℕ, List
 use Rattle.std.specs.Fmt.{signed_decimal}
 use Rattle.sch_read.specs.Grammar.{Atom, boolean, integer, character, text, symbol, Datum, Data, atom, list, dotted, vector, none, cons, one}
 use Rattle.sch_read.specs.Text.{Spells}
-use Rattle.sch_read.specs.Shape.{without_places}
+use Rattle.sch_read.specs.Levels.{without_places}
 
 -- space and line feed have names
 abbrev pub character_name : ℕ → List ℕ

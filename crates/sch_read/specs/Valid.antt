@@ -1,8 +1,8 @@
 -- Valid data, and their weight.
-use Rattle.std.specs.Prelude.{◌≡◌, ◌≢◌, ◌+◌, ℕ, true, length}
+use Rattle.std.specs.Prelude.{◌≡◌, ◌≢◌, ◌+◌, ℕ, ◌*◌, true, length}
 use Rattle.sch_read.specs.Grammar.{Atom, boolean, integer, character, text, symbol, Datum, Data, atom, list, dotted, vector, none, cons}
-use Rattle.sch_read.specs.Letters.{folded}
-use Rattle.sch_read.specs.Token.{is_identifier}
+use Rattle.sch_read.specs.Lexer.Letters.{folded}
+use Rattle.sch_read.specs.Lexer.Token.{is_identifier}
 
 -- a symbol is an identifier in lower case
 abbrev pub IsValidAtom : Atom → Type 0
@@ -37,7 +37,7 @@ bytes_in (character c) = 0
 bytes_in (text bs) = length bs
 bytes_in (symbol bs) = length bs
 
--- the data at every level, and the bytes of texts and symbols
+-- how many data there are at every level, and how many bytes in texts and symbols
 abbrev mutual
   pub weight : Datum → ℕ
   weight (atom at a) = 1 + bytes_in a
@@ -48,3 +48,11 @@ abbrev mutual
   pub weights : Data → ℕ
   weights none = 0
   weights (cons x xs) = weight x + weights xs
+
+-- the most weight of the data of a text for each of its bytes
+abbrev pub max_byte_weight : ℕ
+max_byte_weight = 7
+
+-- the most weight of the data of a text of 1 MiB
+abbrev pub max_weight : ℕ
+max_weight = max_byte_weight * 0x100000

@@ -1,7 +1,7 @@
 ghost use Rattle.std.specs.Prelude.{◌≡◌, ⊤};
 ghost use Rattle.sch_read.specs.Fault.{Flawed};
-ghost use Rattle.sch_read.specs.StateViews.{Fails};
-ghost use Rattle.sch_read.specs.TokenViews.{flaw_of};
+ghost use Rattle.sch_read.specs.Parser.StackView.{Fails};
+ghost use Rattle.sch_read.specs.Lexer.TokenView.{flaw_of};
 ghost use Rattle.sch_read.specs.declared.error.ReadError.TheVariants.{Memory};
 
 use crate::token::Flaw;
@@ -9,7 +9,7 @@ use sch_word::Mem;
 use thiserror::Error;
 
 /// Why a text has no data, with the place: the number of bytes before it.
-#[derive(Clone, Copy, Debug, PartialEq, Eq, Error)]
+#[derive(Clone, Copy, Debug, PartialEq, Error)]
 pub enum ReadError {
     #[error("byte {0}: unclosed")]
     Unclosed(u32),
@@ -25,7 +25,7 @@ pub enum ReadError {
     DeepNesting(u32),
     #[error("byte {0}: limit literal")]
     LiteralRange(u32),
-    /// Want of memory.
+    /// Out of memory.
     #[error("out of memory")]
     Memory,
 }

@@ -1,7 +1,7 @@
 //! The bytes of a text by their use.
 
 ghost use Rattle.std.specs.Prelude.{◌≡◌};
-ghost use Rattle.sch_read.specs.Letters as letters;
+ghost use Rattle.sch_read.specs.Lexer.Letters as letters;
 
 pub(crate) fn is_white(b: u8) -> bool
     ensures { result ≡ letters.is_white b }

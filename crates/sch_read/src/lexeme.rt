@@ -1,8 +1,8 @@
 //! How far a lexeme goes, byte after byte.
 
 ghost use Rattle.std.specs.Prelude.{◌≡◌, ℕ, true, List, [], ◌∷◌};
-ghost use Rattle.sch_read.specs.Lexeme.{is_lexeme};
-ghost use Rattle.sch_read.specs.Stages.{can_follow, GoesOn};
+ghost use Rattle.sch_read.specs.Lexer.Lexeme.{is_lexeme};
+ghost use Rattle.sch_read.specs.Lexer.Stages.{can_follow, GoesOn};
 
 use crate::letters::is_delimiter;
 

@@ -1,24 +1,28 @@
 //! The reader: the bytes of a text to its data, and data to bytes.
 #![tactic(auto)]
 
-mod build;
 mod datum;
 mod error;
+mod laws;
 mod letters;
 mod lexeme;
-mod machine;
-mod number;
-mod printing;
-mod read;
+mod lexer;
+mod numeral;
+mod parser;
+mod printer;
+mod reader;
 mod release;
-mod text;
+mod strings;
 mod token;
-mod word;
+mod trees;
 
-pub use datum::{Datum, Node};
+pub use datum::{Atom, Datum, Node};
 pub use error::ReadError;
-pub use printing::print;
-pub use read::read_all;
+pub use laws::{
+    a_text_has_one_fault, a_text_spells_data_or_has_a_fault, a_text_spells_one_list_of_data,
+};
+pub use printer::print;
+pub use reader::read_all;
 
 #[cfg(test)]
 mod tests;

@@ -1,7 +1,7 @@
 //! The end of data, however deep: a loop that takes no memory.
 
 ghost use Rattle.std.specs.Prelude.{◌≡◌, ◌+◌, ◌<◌, [], length, IfNone, IsSome};
-ghost use Rattle.sch_read.specs.Effort.{effort, weight_next, weight_last};
+ghost use Rattle.sch_read.specs.ReleaseEffort.{effort, weight_next, weight_last};
 ghost use Rattle.sch_read.specs.Valid.{weight, weights};
 ghost use Rattle.sch_read.specs.Views.{tree_of, data_of};
 
@@ -14,8 +14,7 @@ pub(crate) fn release(node: Node) {
     match node {
         Node::List(items, last) => release_all(items.into_vec(), last),
         Node::Vector(items) => release_all(items.into_vec(), None),
-        Node::Text(_) | Node::Symbol(_) => {}
-        Node::Boolean(_) | Node::Integer(_) | Node::Character(_) => {}
+        Node::Atom(_) => {}
     }
 }
 
@@ -30,7 +29,7 @@ fn release_all(items: Vec<Datum>, last: Option<Box<Datum>>) {
 }
 
 // One of several data, the one after the dot first, and the others.
-#[tactic(auto, using(crate::proofs::Effort::weights_push))]
+#[tactic(auto, using(crate::proofs::ReleaseEffort::weights_push))]
 fn taken(items: Vec<Datum>, last: Option<Box<Datum>>) -> (Option<Datum>, Vec<Datum>)
     ensures all { weight_next result.0 + weights (data_of result.1.items) ≡ weights (data_of items.items) + weight_last last }
     ensures none { IfNone result.0 (result.1.items ≡ []) }
@@ -54,8 +53,7 @@ fn opened(d: Datum, rest: Vec<Datum>) -> (Option<Datum>, Vec<Datum>)
     match node {
         Node::List(items, last) => joined(rest, items.into_vec(), last),
         Node::Vector(items) => joined(rest, items.into_vec(), None),
-        Node::Text(_) | Node::Symbol(_) => taken(rest, None),
-        Node::Boolean(_) | Node::Integer(_) | Node::Character(_) => taken(rest, None),
+        Node::Atom(_) => taken(rest, None),
     }
 }
 

@@ -1,4 +1,4 @@
-use crate::{Datum, Node, ReadError, print, read_all};
+use crate::{Atom, Datum, Node, ReadError, print, read_all};
 use sch_word::{List, Mem};
 use std::alloc::Global;
 use std::test::Fail;
@@ -43,7 +43,7 @@ fn nested(alloc: Global, levels: u32) -> Result<List<u8>, Mem> {
 }
 
 fn truth() -> Datum {
-    let node = Node::Boolean(true);
+    let node = Node::Atom(Atom::Boolean(true));
     Datum { at: 0, node }
 }
 

@@ -1,6 +1,6 @@
 //! Tokens, as the code keeps them.
 
-use sch_word::{Bytes, Fix};
+use crate::datum::Atom;
 
 /// What is wrong with a token that is ill formed.
 #[derive(Clone, Copy, Drop)]
@@ -15,15 +15,6 @@ pub(crate) enum Opener {
     Parenthesis,
     HashParenthesis,
     QuoteMark,
-}
-
-#[derive(Drop)]
-pub(crate) enum Atom {
-    Boolean(bool),
-    Integer(Fix),
-    Character(u8),
-    Text(Bytes),
-    Symbol(Bytes),
 }
 
 /// `Huge` is an integer that is no fixnum, `Bad` what is no token.

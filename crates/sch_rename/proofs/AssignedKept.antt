@@ -5,7 +5,7 @@ use Rattle.sch_lang.specs.Variables.{assigns, assigns_each, assigns_lambdas, cel
 use Rattle.sch_cells.specs.Variables as to
 use Rattle.sch_lang.proofs.Environments.{cells_of_more}
 use Rattle.sch_rename.specs.Made.{number_at, binds, binds_each, binds_lambdas, renamed, renamed_each, renamed_lambdas}
-use Rattle.sch_rename.specs.InScope.{InScope, EachInScope, LambdasInScope}
+use Rattle.sch_lang.specs.InScope.{InScope, EachInScope, LambdasInScope}
 use Rattle.sch_word.specs.Bindings.{scope_with}
 use Rattle.sch_rename.proofs.Scopes.{Falls, falls_more, falls_with, with_length, inside, same_at, or_same}
 

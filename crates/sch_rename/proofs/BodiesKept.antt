@@ -10,7 +10,7 @@ use Rattle.sch_lang.specs.Measures.{variables, variables_each, variables_operand
 use Rattle.sch_lang.specs.Bodies.{form, bodies, bodies_each, bodies_lambdas, bodies_forms, bodies_of}
 use Rattle.sch_cells.specs.Bodies as to
 use Rattle.sch_rename.specs.Made.{binds, binds_each, binds_lambdas, renamed, renamed_each, renamed_lambdas, renamed_source}
-use Rattle.sch_rename.specs.InScope.{InScope, EachInScope, LambdasInScope}
+use Rattle.sch_lang.specs.InScope.{InScope, EachInScope, LambdasInScope, IsClosed}
 use Rattle.sch_rename.proofs.Scopes.{Falls, falls_more, falls_with, inside}
 use Rattle.sch_rename.proofs.FreeKept.{counts, counts_lambdas, free_length}
 use Rattle.sch_rename.proofs.AssignedKept.{first_assigned}
@@ -221,5 +221,5 @@ forms_bodies no_expressions x i = refl
 forms_bodies (and_expression e es) x i = first_then (form_kept e x i.0) (both (bodies_kept e [] x tt i.0) (forms_bodies es (x + binds e) i.1))
 
 -- a program has the same bodies, each with its name, its formals, its free variables and its count
-pub program_bodies : (p : Source) → LambdasInScope p.library 0 → EachInScope p.forms 0 → to.bodies_of (renamed_source p) ≡ bodies_of p
-program_bodies p il i = both (lambdas_bodies p.library [] 0 tt il) (forms_bodies p.forms _ i)
+pub program_bodies : (p : Source) → IsClosed p → to.bodies_of (renamed_source p) ≡ bodies_of p
+program_bodies p c = both (lambdas_bodies p.library [] 0 tt c.library) (forms_bodies p.forms _ c.forms)

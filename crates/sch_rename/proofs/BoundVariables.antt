@@ -1,10 +1,9 @@
 -- The numbers that renaming gives are as many as the variables that the program binds.
-use Rattle.std.proofs.Common.{◌≡◌, ℕ, ◌+◌, ◌≤◌, refl, arith}
+use Rattle.std.proofs.Common.{◌≡◌, ℕ, ◌+◌, refl, arith}
 use Rattle.sch_word.specs.BoundVariables.{formals_in, bound_in}
 use Rattle.sch_lang.specs.Tree.{Expression, Expressions, Lambdas, Source, constant, literal, local, global, set_local, set_global, define, branch, sequence, bind, fix, letrec, lambda, call, operation, no_expressions, and_expression, no_lambdas, and_lambda}
-use Rattle.sch_lang.specs.Measures.{over, over_each, over_lambdas, shape, procedures, nodes_and_bound, node_and_bound}
+use Rattle.sch_lang.specs.Measures.{over, over_each, over_lambdas, shape, procedures, variables_bound}
 use Rattle.sch_rename.specs.Made.{binds, binds_each, binds_lambdas}
-use Rattle.sch_rename.specs.Bound.{variables_bound}
 
 abbrev bound : Expression → ℕ
 bound e = over 0 (λ a b. a + b) (λ e. bound_in (shape e)) e
@@ -43,44 +42,3 @@ mutual
 
 pub program_binds : (p : Source) → binds_lambdas p.library + binds_each p.forms ≡ variables_bound p
 program_binds p = omega (arith, lambdas_are p.library, each_is p.forms)
-
--- ## No more than nodes and bound variables together
-
-abbrev both : Expression → ℕ
-both e = over 0 (λ a b. a + b) node_and_bound e
-
-abbrev both_each : Expressions → ℕ
-both_each es = over_each 0 (λ a b. a + b) node_and_bound es
-
-abbrev both_lambdas : Lambdas → ℕ
-both_lambdas ls = over_lambdas 0 (λ a b. a + b) node_and_bound ls
-
-mutual
-  bound_at_most : (e : Expression) → bound e ≤ both e
-  bound_at_most (constant c) = omega arith
-  bound_at_most (literal n) = omega arith
-  bound_at_most (local k) = omega arith
-  bound_at_most (global g) = omega arith
-  bound_at_most (set_local k e) = omega (arith, bound_at_most e)
-  bound_at_most (set_global g e) = omega (arith, bound_at_most e)
-  bound_at_most (define g e) = omega (arith, bound_at_most e)
-  bound_at_most (branch a b c) = omega (arith, bound_at_most a, bound_at_most b, bound_at_most c)
-  bound_at_most (sequence es) = omega (arith, each_at_most es)
-  bound_at_most (bind site es e) = omega (arith, each_at_most es, bound_at_most e)
-  bound_at_most (fix ls e) = omega (arith, lambdas_at_most ls, bound_at_most e)
-  bound_at_most (letrec site es e) = omega (arith, each_at_most es, bound_at_most e)
-  bound_at_most (lambda name formals rest e) = omega (arith, bound_at_most e)
-  bound_at_most (call site f es) = omega (arith, bound_at_most f, each_at_most es)
-  bound_at_most (operation site which es) = omega (arith, each_at_most es)
-
-  each_at_most : (es : Expressions) → bound_each es ≤ both_each es
-  each_at_most no_expressions = omega arith
-  each_at_most (and_expression e es) = omega (arith, bound_at_most e, each_at_most es)
-
-  lambdas_at_most : (ls : Lambdas) → bound_lambdas ls ≤ both_lambdas ls
-  lambdas_at_most no_lambdas = omega arith
-  lambdas_at_most (and_lambda name formals rest e ls) = omega (arith, bound_at_most e, lambdas_at_most ls)
-
--- so what a source's weight bounds, bounds the numbers too
-pub few_variables : (p : Source) → variables_bound p ≤ nodes_and_bound p
-few_variables p = omega (arith, lambdas_at_most p.library, each_at_most p.forms)

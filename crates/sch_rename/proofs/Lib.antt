@@ -4,11 +4,8 @@ pub mod BoundVariables
 pub mod FreeKept
 pub mod LevelsKept
 pub mod Loops
-pub mod FreeKept
-pub mod LevelsKept
 pub mod Numbers
 pub mod Same
-pub mod ScopeIs
 pub mod Scopes
 pub mod ShapesKept
 pub mod ValidKept

@@ -17,7 +17,7 @@ use Rattle.sch_cells.specs.Tree.{Tree, Trees, no_trees, and_tree, trees, no_lamb
 use Rattle.sch_cells.specs.View.{tree, trees_of, function as cells_function, lambdas_of as cells_lambdas_of}
 use Rattle.sch_cells.proofs.Rows.{trees_of_list, lambdas_of_list as cells_lambdas_of_list}
 use Rattle.sch_rename.specs.Made.{number_at, binds, binds_each, binds_lambdas, renamed, renamed_each, renamed_lambdas, renamed_source}
-use Rattle.sch_rename.specs.InScope.{EachInScope, LambdasInScope}
+use Rattle.sch_lang.specs.InScope.{EachInScope, LambdasInScope}
 use Rattle.sch_word.specs.Bindings.{scope_with}
 use Rattle.sch_word.specs.Walk.{onto}
 use Rattle.sch_word.proofs.Walking.{next_made, next_count, next_left, end_made}
@@ -138,10 +138,15 @@ pub lambdas_end : (s : List ℕ) (items es : List Lambda) (i : ℕ) (all : List 
 lambdas_end s items es i all s' x start h l k =
     lambdas_onto all ∙ end_made items i and_then_lambda (λ es n. renamed_lambdas (left_lambdas es) s' n) all x (renamed_lambdas (lambdas_of items) s start) no_lambdas l refl k ∙ ap (λ l. renamed_lambdas (lambdas_of l) s start) h
 
--- ## What is made, as plain data
+-- ## The whole program, from what its parts are
 
-pub made_source : (p : Source) (ready : declared.Statics) (library : List to_lambda.Lambda) (forms : List to.Exp) (sites : List ℕ) (n : ℕ) →
-    statics ready ≡ p.statics → cells_lambdas_of library ≡ renamed_lambdas p.library [] 0 →
-    trees_of forms ≡ renamed_each p.forms [] (binds_lambdas p.library) → sites ≡ p.sites → n ≡ binds_lambdas p.library + binds_each p.forms →
+pub made_program : (p : Source) (ready : declared.Statics) (library : List to_lambda.Lambda) (forms : List to.Exp) (sites before after : List ℕ) (next n : ℕ) → before ≡ [] →
+    cells_lambdas_of library ≡ renamed_lambdas p.library (reverse before) 0 → next ≡ 0 + binds_lambdas p.library → after ≡ before →
+    trees_of forms ≡ renamed_each p.forms (reverse after) next → n ≡ next + binds_each p.forms → statics ready ≡ p.statics → sites ≡ p.sites →
     source_of ready library forms sites n ≡ renamed_source p
-made_source p _ _ _ _ _ a b c d e = rw (a, b, c, d, e) refl
+made_program p _ _ _ _ before after next n empty library first same forms count ready sites =
+    let g : next ≡ binds_lambdas p.library = omega (arith, first) in
+    let l = library ∙ ap (λ s. renamed_lambdas p.library (reverse s) 0) empty in
+    let f = forms ∙ ap (λ s. renamed_each p.forms (reverse s) next) (same ∙ empty) ∙ ap (renamed_each p.forms []) g in
+    let m = count ∙ ap (λ k. k + binds_each p.forms) g in
+    rw (ready, l, f, sites, m) refl

@@ -7,7 +7,7 @@ use Rattle.sch_lang.specs.Tree.{Expression, Expressions, Lambdas, Source, consta
 use Rattle.sch_word.specs.Bindings.{numbers, scope_with}
 use Rattle.sch_cells.specs.Variables.{bound, bound_each, bound_lambdas, closed, closed_each, closed_lambdas, distinct, below}
 use Rattle.sch_rename.specs.Made.{number_at, binds, binds_each, binds_lambdas, renamed, renamed_each, renamed_lambdas}
-use Rattle.sch_rename.specs.InScope.{InScope, EachInScope, LambdasInScope}
+use Rattle.sch_lang.specs.InScope.{InScope, EachInScope, LambdasInScope}
 use Rattle.sch_rename.proofs.Scopes.{self, inside, differs}
 use Rattle.sch_word.proofs.Shaped.{both_true}
 use Rattle.sch_rename.proofs.FreeKept.{counts, counts_lambdas}

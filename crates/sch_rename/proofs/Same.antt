@@ -20,7 +20,7 @@ use Rattle.sch_cells.specs.UnboxedMeaning as to
 use Rattle.sch_cells.specs.Procedures as procedures
 use Rattle.sch_word.specs.Bindings.{Bindings, bound_to, with_variables, scope_with}
 use Rattle.sch_rename.specs.Made.{number_at, binds, binds_each, binds_lambdas, renamed, renamed_each, renamed_lambdas, renamed_source}
-use Rattle.sch_rename.specs.InScope.{InScope, EachInScope, LambdasInScope}
+use Rattle.sch_lang.specs.InScope.{InScope, EachInScope, LambdasInScope, IsClosed}
 use Rattle.sch_rename.proofs.Scopes.{self, Falls, falls_more, falls_with, at_below, differs, inside}
 use Rattle.sch_lang.specs.Meaning.{onto}
 use Rattle.sch_lang.proofs.Environments.{onto_more}
@@ -154,12 +154,12 @@ enter_same orders (suc n) p q h vs depth =
         (inside h.first p.formals h.scope (InScope p.body) h.inside) (fits_with h.first p.formals cs k h.falls h.fits))))))
 
 -- a program and its program with numbers have the same runs
-pub runs_alike : (p : Source) → LambdasInScope p.library 0 → EachInScope p.forms 0 → SameRuns (source.run p) (to.run (renamed_source p))
-runs_alike p il i = record {
+pub runs_alike : (p : Source) → IsClosed p → SameRuns (source.run p) (to.run (renamed_source p))
+runs_alike p c = record {
   same = λ table heap depth answers entries.
       same_seen Becomes answers entries _ _
       (similar_in_turn (same_store Becomes) unspecified
-      (each_same (order_at table) (from.enter (order_at table) entries) (to.enter (order_at table) entries) (enter_same (order_at table) entries) p.forms [] (binds_lambdas p.library) depth tt i (record { at = λ k l. absurd (omega arith) })))
+      (each_same (order_at table) (from.enter (order_at table) entries) (to.enter (order_at table) entries) (enter_same (order_at table) entries) p.forms [] (binds_lambdas p.library) depth tt c.forms (record { at = λ k l. absurd (omega arith) })))
       (starting_store p.statics heap answers entries) (from.closures p.library []) (procedures.closures (renamed_lambdas p.library [] 0) [])
-      (closures_become p.library [] 0 tt il (record { at = λ k l. absurd (omega arith) }));
+      (closures_become p.library [] 0 tt c.library (record { at = λ k l. absurd (omega arith) }));
 }

@@ -10,7 +10,7 @@ use Rattle.sch_lang.specs.Measures.{shape, one_if_atom, dropped_parts}
 use Rattle.sch_cells.specs.Tree as tree
 use Rattle.sch_cells.specs.Measures as to
 use Rattle.sch_rename.specs.Made.{binds, binds_lambdas, renamed, renamed_each, renamed_lambdas, renamed_source}
-use Rattle.sch_rename.specs.InScope.{InScope, EachInScope, LambdasInScope}
+use Rattle.sch_lang.specs.InScope.{InScope, EachInScope, LambdasInScope, IsClosed}
 use Rattle.sch_rename.proofs.Scopes.{Falls, falls_more, falls_with, inside}
 use Rattle.sch_rename.proofs.FreeKept.{counts, counts_lambdas}
 use Rattle.sch_rename.proofs.BodiesKept.{procedure_kept, procedures_kept}
@@ -58,8 +58,8 @@ module _ {A : Type 0} {R : A → A → Type 0} {nothing : A} {join : A → A →
     lambdas_kept (and_lambda name m rest e ls) s x f i =
         joins.joined _ _ _ _ (over_kept e (scope_with x m s) (x + m) (falls_with x m s f) (inside x m s (InScope e) i.0)) (lambdas_kept ls s _ (falls_more s x _ (omega arith) f) i.1)
 
-  pub source_kept : (p : Source) → LambdasInScope p.library 0 → EachInScope p.forms 0 → R (from.over_source nothing join here p) (to.over_source nothing join here' (renamed_source p))
-  source_kept p il i = joins.joined _ _ _ _ (lambdas_kept p.library [] 0 tt il) (each_kept p.forms [] _ tt i)
+  pub source_kept : (p : Source) → IsClosed p → R (from.over_source nothing join here p) (to.over_source nothing join here' (renamed_source p))
+  source_kept p c = joins.joined _ _ _ _ (lambdas_kept p.library [] 0 tt c.library) (each_kept p.forms [] _ tt c.forms)
 
 
 atom_kept : (e : Expression) (s : List ℕ) (x : ℕ) → to.one_if_atom (renamed e s x) ≡ one_if_atom e
@@ -104,11 +104,11 @@ shape_kept (call site g es) s x f i = rw (counts es s (x + binds g)) refl
 shape_kept (operation site which es) s x f i = rw (counts es s x) refl
 
 -- any measure of shapes is the same over the whole program
-pub measure_kept : {A : Type 0} (nothing : A) (join : A → A → A) (m : Shape → A) (p : Source) → LambdasInScope p.library 0 → EachInScope p.forms 0 →
+pub measure_kept : {A : Type 0} (nothing : A) (join : A → A → A) (m : Shape → A) (p : Source) → IsClosed p →
     to.over_source nothing join (λ e. m (to.shape e)) (renamed_source p) ≡ from.over_source nothing join (λ e. m (shape e)) p
-measure_kept nothing join m p il i =
-    source_kept (equal_joins nothing join) (λ e. m (shape e)) (λ e. m (to.shape e)) (λ e s x f h. ap m (shape_kept e s x f h)) p il i
+measure_kept nothing join m p c =
+    source_kept (equal_joins nothing join) (λ e. m (shape e)) (λ e. m (to.shape e)) (λ e s x f h. ap m (shape_kept e s x f h)) p c
 
-pub size_kept : (p : Source) → LambdasInScope p.library 0 → EachInScope p.forms 0 → to.program_size (renamed_source p) ≡ from.program_size p
-size_kept p il i =
-    rw (procedures_kept p.library [] 0 tt il, counts p.forms [] (binds_lambdas p.library), measure_kept 0 (λ a b. a + b) shapes.size_of p il i) refl
+pub size_kept : (p : Source) → IsClosed p → to.program_size (renamed_source p) ≡ from.program_size p
+size_kept p c =
+    rw (procedures_kept p.library [] 0 tt c.library, counts p.forms [] (binds_lambdas p.library), measure_kept 0 (λ a b. a + b) shapes.size_of p c) refl

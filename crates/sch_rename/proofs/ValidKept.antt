@@ -3,8 +3,9 @@ use Rattle.std.proofs.Common.{◌≡◌, ℕ, zero, suc, ◌+◌, true, false, L
 use Rattle.std.specs.Prelude.{IsTrue, ◌&&◌, nat_le}
 use Rattle.sch_word.specs.Bindings.{scope_with}
 use Rattle.sch_word.specs.Literals.{count_literals}
+use Rattle.sch_word.specs.Runs.{statics_in_range}
 use Rattle.sch_word.specs.Shape as shapes
-use Rattle.sch_word.specs.Shape.{Shape, names_known, well_formed, fits, procedures_fit, max_variables, max_levels}
+use Rattle.sch_word.specs.Shape.{Shape, names_known, constant_in_range, well_formed, fits, procedures_fit, max_variables, max_levels}
 use Rattle.sch_word.proofs.Shaped.{Implies, implies_joins, same_implies, Holds, holds_joins, parts, both_true}
 use Rattle.sch_lang.specs.Tree.{Expression, Expressions, Lambdas, Source, constant, literal, local, global, set_local, set_global, define, branch, sequence, bind, fix, letrec, lambda, call, operation, no_expressions, and_expression, count_lambdas}
 use Rattle.sch_lang.specs.Measures.{variables, levels_lambdas, levels_each}
@@ -12,9 +13,8 @@ use Rattle.sch_lang.specs.Valid as valid
 use Rattle.sch_cells.specs.Measures as to
 use Rattle.sch_cells.specs.Valid as to_valid
 use Rattle.sch_rename.specs.Made.{binds, binds_each, binds_lambdas, renamed, renamed_each, renamed_lambdas, renamed_source}
-use Rattle.sch_rename.specs.InScope.{InScope, EachInScope, LambdasInScope}
+use Rattle.sch_lang.specs.InScope.{InScope, EachInScope, LambdasInScope, IsClosed}
 use Rattle.sch_rename.proofs.Scopes.{Falls, falls_more, falls_with}
-use Rattle.sch_rename.proofs.ScopeIs.{each_is, lambdas_are}
 use Rattle.sch_rename.proofs.FreeKept.{counts_lambdas}
 use Rattle.sch_rename.proofs.AssignedKept.{first_assigned, first_assigned_lambdas}
 use Rattle.sch_rename.proofs.BodiesKept.{procedures_kept, form_variables_kept}
@@ -92,41 +92,38 @@ forms_fit_kept (and_expression e es) x i h =
 
 -- ## Programs
 
-module _ (p : Source) (in_range : IsTrue (valid.in_range p)) where
-  pub library_scoped : LambdasInScope p.library 0
-  library_scoped = lambdas_are p.library 0 (parts (valid.lambdas_in_scope p.library 0) _ in_range).0
-
-  pub forms_scoped : EachInScope p.forms 0
-  forms_scoped = each_is p.forms 0 (parts (valid.each_in_scope p.forms 0) _ (parts (valid.lambdas_in_scope p.library 0) _ in_range).1).0
-
+module _ (p : Source) (c : IsClosed p) where
   pub scoped_kept : IsTrue (to_valid.scoped (renamed_source p))
   scoped_kept =
       both_true (rw (program_bound p) (both_true (numbers_distinct 0 (binds_lambdas p.library + binds_each p.forms)) (numbers_below 0 (binds_lambdas p.library + binds_each p.forms) (binds_lambdas p.library + binds_each p.forms) (omega arith))))
-      (both_true (lambdas_closed p.library [] 0 library_scoped) (each_closed p.forms [] _ forms_scoped))
+      (both_true (lambdas_closed p.library [] 0 c.library) (each_closed p.forms [] _ c.forms))
 
-  names : IsTrue (to.every (λ e. names_known (length p.statics.symbols) (count_literals p.statics.literals) (length p.statics.globals) (to.shape e)) (renamed_source p))
-  names =
-      measure_kept true (λ a b. a && b) (names_known (length p.statics.symbols) (count_literals p.statics.literals) (length p.statics.globals)) p library_scoped forms_scoped
+  names : IsTrue (valid.in_range p) → IsTrue (to.every (λ e. names_known (length p.statics.symbols) (count_literals p.statics.literals) (length p.statics.globals) (to.shape e)) (renamed_source p))
+  names in_range =
+      measure_kept true (λ a b. a && b) (names_known (length p.statics.symbols) (count_literals p.statics.literals) (length p.statics.globals)) p c
       ∙ (parts (valid.each_in_scope p.forms 0) _ (parts (valid.lambdas_in_scope p.library 0) _ in_range).1).1
 
-  pub formed_kept : IsTrue (valid.shaped p) → IsTrue (to_valid.formed false (renamed_source p))
-  formed_kept h =
-      both_true (both_true (source_kept holds_joins (λ _. true) (λ e. to_valid.has_form false (to.shape e)) form_node p library_scoped forms_scoped) names)
-      (both_true (source_kept implies_joins valid.shaped_here (λ e. well_formed (to.shape e)) well_formed_node p library_scoped forms_scoped h)
-      (source_kept implies_joins valid.shaped_here to_valid.fix_unassigned fix_node p library_scoped forms_scoped h))
+  pub formed_kept : IsTrue (valid.in_range p) → IsTrue (valid.shaped p) → IsTrue (to_valid.formed false (renamed_source p))
+  formed_kept in_range h =
+      both_true (both_true (source_kept holds_joins (λ _. true) (λ e. to_valid.has_form false (to.shape e)) form_node p c) (names in_range))
+      (both_true (source_kept implies_joins valid.shaped_here (λ e. well_formed (to.shape e)) well_formed_node p c h)
+      (source_kept implies_joins valid.shaped_here to_valid.fix_unassigned fix_node p c h))
+
+  pub words_kept : IsTrue (valid.constants_in_range p) → IsTrue (to_valid.constants_in_range (renamed_source p))
+  words_kept h = ap (λ b. b && statics_in_range p.statics) (measure_kept true (λ a b. a && b) constant_in_range p c) ∙ h
 
   pub limited_kept : IsTrue (valid.within_limits p) → IsTrue (to_valid.within_limits false (renamed_source p))
   limited_kept h =
       let l = parts (nat_le (levels_lambdas p.library) max_levels && nat_le (levels_each p.forms) max_levels) _ h in
       let n = parts (nat_le (levels_lambdas p.library) max_levels) (nat_le (levels_each p.forms) max_levels) l.0 in
       let b = parts (valid.lambdas_fit p.library && valid.forms_fit p.forms) _ l.1 in
-      let c = parts (valid.lambdas_fit p.library) (valid.forms_fit p.forms) b.0 in
+      let d = parts (valid.lambdas_fit p.library) (valid.forms_fit p.forms) b.0 in
       both_true (both_true (ap (λ n. nat_le n max_levels) (lambdas_levels p.library [] 0) ∙ n.0) (ap (λ n. nat_le n max_levels) (each_levels p.forms [] _) ∙ n.1))
-      (both_true (both_true (ap (procedures_fit max_variables) (procedures_kept p.library [] 0 tt library_scoped) ∙ c.0) (forms_fit_kept p.forms _ forms_scoped c.1))
-      (measure_kept true (λ a b. a && b) (fits max_variables) p library_scoped forms_scoped ∙ b.1))
+      (both_true (both_true (ap (procedures_fit max_variables) (procedures_kept p.library [] 0 tt c.library) ∙ d.0) (forms_fit_kept p.forms _ c.forms d.1))
+      (measure_kept true (λ a b. a && b) (fits max_variables) p c ∙ b.1))
 
   pub sited_kept : IsTrue (valid.sites_once p) → IsTrue (to_valid.sited (renamed_source p))
-  sited_kept h = ap (shapes.sites_once p.sites) (measure_kept [] (λ a b. a ++ b) shapes.site_of p library_scoped forms_scoped) ∙ h
+  sited_kept h = ap (shapes.sites_once p.sites) (measure_kept [] (λ a b. a ++ b) shapes.site_of p c) ∙ h
 
 pub ready_kept : (p : Source) → IsTrue (valid.statics_known p) → IsTrue (to_valid.statics_known (renamed_source p))
 ready_kept p h = rw (counts_lambdas p.library [] 0) h

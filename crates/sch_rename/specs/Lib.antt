@@ -1,3 +1,1 @@
-pub mod Bound
-pub mod InScope
 pub mod Made

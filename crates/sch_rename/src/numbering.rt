@@ -6,7 +6,7 @@ ghost use Rattle.sch_lang.specs.Tree as source;
 ghost use Rattle.sch_lang.specs.View.{expression, expressions_of, lambdas_of};
 ghost use Rattle.sch_cells.specs.Tree as plain;
 ghost use Rattle.sch_cells.specs.View as view;
-ghost use Rattle.sch_rename.specs.InScope.{InScope, EachInScope, LambdasInScope};
+ghost use Rattle.sch_lang.specs.InScope.{InScope, EachInScope, LambdasInScope};
 ghost use Rattle.sch_rename.specs.Made.{number_at, binds, binds_each, binds_lambdas, renamed, renamed_each, renamed_lambdas};
 
 use sch_cells as cells;

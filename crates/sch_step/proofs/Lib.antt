@@ -4,4 +4,4 @@ pub mod KernelRows
 pub mod Stepping
 pub mod Running
 pub mod ImageMemory
-mod Staying
+pub mod Ended

@@ -8,11 +8,13 @@ use Rattle.sch_io.specs.Answers.{AnswersNext, IsWithin, IsRefusal, taken}
 use Rattle.sch_insn.specs.declared.insn.Insn.{Insn}
 use Rattle.sch_insn.specs.declared.insn.Insn.TheVariants.{Syscall}
 use Rattle.sch_insn.specs.declared.machine.StuckCause.TheVariants.{Fetch, Kernel}
+use Rattle.sch_insn.specs.declared.register.TheConstants.{RAX, RDX, RSI, RDI}
 use Rattle.sch_insn.specs.Machine.{Core, bytes_from, with_place}
-use Rattle.sch_insn.specs.Step.{Runs, Exited, Stuck, kernel, act, moved, perform, fetch, fetched}
+use Rattle.sch_insn.specs.Step.{Runs, Exited, Stuck, kernel, moved, perform, fetch, fetched}
 use Rattle.sch_step.specs.declared.ends.StepEnd.{StepEnd}
 use Rattle.sch_step.specs.declared.ends.StepEnd.TheVariants as step_end
 use Rattle.sch_step.specs.Kernel.{rax_of, written_core}
+use Rattle.sch_step.specs.View.{act}
 use Rattle.sch_step.specs.Run.{state_of, reached_by_step, Does, KernelTo, PerformsTo, StepsTo}
 use Rattle.sch_step.proofs.Outlets.{quiet, loud, weaker}
 use Rattle.sch_step.proofs.KernelRows.{exits, writes, empty, shut, wrote}
@@ -25,24 +27,24 @@ pub one_found : {A : Type 0} (f : A → List ℕ) (o : Option A) (s : A) (n : �
 one_found f o s n None e h = let clash : Some (f s) ≡ None = sym (ap (option_map f) e) ∙ h in absurd cc
 one_found f o s n (Some bs) e h = let same : Some (f s) ≡ Some (take n bs) = sym (ap (option_map f) e) ∙ h in let e' : f s ≡ take n bs = cc in (bs, refl, e')
 
-pub exit_does : (c : Core) (next rdi : ℕ) (rax : ℕ) (ob : Option (List ℕ)) (ol : Option (List Answer)) (of : ℕ) → rax ≡ 60 → rax ≡ c.registers 0 → rdi ≡ c.registers 7 → Does (KernelTo next (step_end.Exited (rdi % 256)) c c) ob ob ol ol of of
+pub exit_does : (c : Core) (next rdi : ℕ) (rax : ℕ) (ob : Option (List ℕ)) (ol : Option (List Answer)) (of : ℕ) → rax ≡ 60 → rax ≡ c.registers RAX → rdi ≡ c.registers RDI → Does (KernelTo next (step_end.Exited (rdi % 256)) c c) ob ob ol ol of of
 exit_does c next rdi rax ob ol of e a d = quiet (KernelTo next (step_end.Exited (rdi % 256)) c c) ob ol of (λ b k. exits c next b k (sym a ∙ e) ∙ ap (λ r. Exited (r % 256) (state_of c b k)) (sym d))
 
 -- A processor that has no row is stuck, and nothing goes out.
-pub stuck_does : (c : Core) (next place rax : ℕ) (end : StepEnd) (ob : Option (List ℕ)) (ol : Option (List Answer)) (of : ℕ) → end ≡ step_end.Stuck (record { at = place; cause = Kernel rax }) → rax ≡ c.registers 0 → ((b : List ℕ) (k : List Answer) → kernel (state_of c b k) next ≡ Stuck (Kernel (c.registers 0)) (state_of c b k)) → Does (KernelTo next end c c) ob ob ol ol of of
+pub stuck_does : (c : Core) (next place rax : ℕ) (end : StepEnd) (ob : Option (List ℕ)) (ol : Option (List Answer)) (of : ℕ) → end ≡ step_end.Stuck (record { at = place; cause = Kernel rax }) → rax ≡ c.registers RAX → ((b : List ℕ) (k : List Answer) → kernel (state_of c b k) next ≡ Stuck (Kernel (c.registers RAX)) (state_of c b k)) → Does (KernelTo next end c c) ob ob ol ol of of
 stuck_does c next place rax end ob ol of e r h =
     subst (λ z. Does (KernelTo next z c c) ob ob ol ol of of) (sym e)
     (quiet (KernelTo next (step_end.Stuck (record { at = place; cause = Kernel rax })) c c) ob ol of (λ b k. h b k ∙ ap (λ z. Stuck (Kernel z) (state_of c b k)) (sym r)))
 
-pub empty_does : (c d : Core) (next : ℕ) (ob : Option (List ℕ)) (ol : Option (List Answer)) (of : ℕ) → d ≡ written_core c next 0 → ((c.registers 0 == 1) && (c.registers 7 == 1)) ≡ true → c.registers 2 ≡ 0 → Does (KernelTo next step_end.Ran c d) ob ob ol ol of of
+pub empty_does : (c d : Core) (next : ℕ) (ob : Option (List ℕ)) (ol : Option (List Answer)) (of : ℕ) → d ≡ written_core c next 0 → ((c.registers RAX == 1) && (c.registers RDI == 1)) ≡ true → c.registers RDX ≡ 0 → Does (KernelTo next step_end.Ran c d) ob ob ol ol of of
 empty_does c d next ob ol of e w z =
     subst (λ x. Does (KernelTo next step_end.Ran c x) ob ob ol ol of of) (sym e)
     (quiet (KernelTo next step_end.Ran c (written_core c next 0)) ob ol of (λ b k. writes c next b k w ∙ empty c next b k z))
 
-pub shut_does : (c : Core) (next place rax n : ℕ) (end : StepEnd) (ob : Option (List ℕ)) (ol : Option (List Answer)) (of : ℕ) → end ≡ step_end.Stuck (record { at = place; cause = Kernel rax }) → rax ≡ c.registers 0 → ((c.registers 0 == 1) && (c.registers 7 == 1)) ≡ true → c.registers 2 ≡ n → 0 < n → bytes_from (λ g. g.readable) c.segments (c.registers 6) n ≡ None → Does (KernelTo next end c c) ob ob ol ol of of
+pub shut_does : (c : Core) (next place rax n : ℕ) (end : StepEnd) (ob : Option (List ℕ)) (ol : Option (List Answer)) (of : ℕ) → end ≡ step_end.Stuck (record { at = place; cause = Kernel rax }) → rax ≡ c.registers RAX → ((c.registers RAX == 1) && (c.registers RDI == 1)) ≡ true → c.registers RDX ≡ n → 0 < n → bytes_from (λ g. g.readable) c.segments (c.registers RSI) n ≡ None → Does (KernelTo next end c c) ob ob ol ol of of
 shut_does c next place rax n end ob ol of e r w size some f = stuck_does c next place rax end ob ol of e r (λ b k. writes c next b k w ∙ shut c next n b k size some f)
 
-pub write_does : (c d : Core) (next n rax : ℕ) (piece bs : List ℕ) (a : Answer) (ob nb : Option (List ℕ)) (ol nl : Option (List Answer)) (of nf : ℕ) → d ≡ written_core c next rax → rax ≡ rax_of a → ((c.registers 0 == 1) && (c.registers 7 == 1)) ≡ true → c.registers 2 ≡ n → 0 < n → bytes_from (λ g. g.readable) c.segments (c.registers 6) n ≡ Some bs → piece ≡ take n bs → 0 < length piece → IsWithin a (length piece) → Tells ob nb (λ x y. y ≡ x ++ taken a piece) → Tells ol nl (AnswersNext (length piece) a) → of ≤ nf → (IsRefusal a (length piece) → Rose of nf) → Does (KernelTo next step_end.Ran c d) ob nb ol nl of nf
+pub write_does : (c d : Core) (next n rax : ℕ) (piece bs : List ℕ) (a : Answer) (ob nb : Option (List ℕ)) (ol nl : Option (List Answer)) (of nf : ℕ) → d ≡ written_core c next rax → rax ≡ rax_of a → ((c.registers RAX == 1) && (c.registers RDI == 1)) ≡ true → c.registers RDX ≡ n → 0 < n → bytes_from (λ g. g.readable) c.segments (c.registers RSI) n ≡ Some bs → piece ≡ take n bs → 0 < length piece → IsWithin a (length piece) → Tells ob nb (λ x y. y ≡ x ++ taken a piece) → Tells ol nl (AnswersNext (length piece) a) → of ≤ nf → (IsRefusal a (length piece) → Rose of nf) → Does (KernelTo next step_end.Ran c d) ob nb ol nl of nf
 write_does c d next n rax piece bs a ob nb ol nl of nf e r w size some f p full within bytes left faults refused =
     subst (λ x. Does (KernelTo next step_end.Ran c x) ob nb ol nl of nf) (sym (e ∙ ap (written_core c next) r))
     (loud (KernelTo next step_end.Ran c (written_core c next (rax_of a))) piece a ob nb ol nl of nf full

@@ -2,6 +2,10 @@
 use Rattle.std.specs.Prelude.{ℕ, Result, Ok, Err}
 use Rattle.sch_insn.specs.declared.machine.Flags.{Flags}
 use Rattle.sch_insn.specs.declared.machine.StuckCause.{StuckCause}
+use Rattle.sch_insn.specs.declared.insn.Insn.{Insn}
+use Rattle.sch_insn.specs.declared.machine.StuckCause.TheVariants.{Kernel}
+use Rattle.sch_insn.specs.declared.register.TheConstants.{RAX}
+use Rattle.sch_insn.specs.Step.{Row, Acts, Calls, row}
 use Rattle.sch_insn.specs.Machine.{Core, registers_of, with_place, unknown_flags, sum_of, difference_of, bits_of, product_of}
 use Rattle.sch_step.specs.declared.flags.LastFlags.{LastFlags}
 use Rattle.sch_step.specs.declared.flags.LastFlags.TheVariants.{Unknown, Sum, Difference, Bits, Product}
@@ -28,3 +32,11 @@ gone_on (Err cause) c = Err cause
 abbrev pub changed : Result Unit StuckCause → Core → Result Core StuckCause
 changed (Ok done) c = Ok c
 changed (Err cause) c = Err cause
+
+-- What a row does to a core. A call of the kernel is not done so: the code for it stands apart.
+abbrev pub acted : Row → Core → Result Core StuckCause
+acted (Acts f) c = f c
+acted (Calls call) c = Err (Kernel (c.registers RAX))
+
+abbrev pub act : Insn → Core → Result Core StuckCause
+act i c = acted (row i) c

@@ -1,14 +1,14 @@
 use sch_insn::StuckCause;
 
 /// Where a machine is stuck, and why.
-#[derive(Clone, Copy, Debug, PartialEq, Eq)]
+#[derive(Clone, Copy)]
 pub struct Stuck {
     pub at: u64,
     pub cause: StuckCause,
 }
 
 /// How a step ended.
-#[derive(Clone, Copy, Debug, PartialEq, Eq)]
+#[derive(Clone, Copy)]
 pub enum StepEnd {
     Ran,
     Exited(u8),
@@ -16,7 +16,7 @@ pub enum StepEnd {
 }
 
 /// How a run ended.
-#[derive(Clone, Copy, Debug, PartialEq, Eq)]
+#[derive(Clone, Copy)]
 pub enum RunEnd {
     Exited(u8),
     Spent,

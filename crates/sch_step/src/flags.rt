@@ -1,6 +1,17 @@
 ghost use Rattle.std.specs.Prelude.{◌≡◌, ◌<◌, ◌≤◌, ◌^◌};
 ghost use Rattle.sch_insn.specs.Machine.{is_negative, test_of, condition as condition_of, sum_of, difference_of, bits_of, product_of, product_fits, magnitude};
 
+use sch_insn::condition::{B, BE, E, L, LE, O, S};
+
+// What the conditions test, by half their numbers.
+const OVERFLOW: u8 = O / 2;
+const CARRY: u8 = B / 2;
+const ZERO: u8 = E / 2;
+const CARRY_OR_ZERO: u8 = BE / 2;
+const SIGN: u8 = S / 2;
+const LESS: u8 = L / 2;
+const LESS_OR_ZERO: u8 = LE / 2;
+
 /// What set the flags last. They are computed where a condition reads them.
 #[derive(Clone, Copy)]
 pub enum LastFlags {
@@ -48,13 +59,13 @@ fn after_sum(a: u64, b: u64, test: u8) -> Option<bool>
     let overflow = is_negative(a) == is_negative(b) && is_negative(a) != sign;
     let carry = r < a;
     match test {
-        0 => Some(overflow),
-        1 => Some(carry),
-        2 => Some(r == 0),
-        3 => Some(carry || r == 0),
-        4 => Some(sign),
-        6 => Some(sign != overflow),
-        7 => Some(r == 0 || sign != overflow),
+        OVERFLOW => Some(overflow),
+        CARRY => Some(carry),
+        ZERO => Some(r == 0),
+        CARRY_OR_ZERO => Some(carry || r == 0),
+        SIGN => Some(sign),
+        LESS => Some(sign != overflow),
+        LESS_OR_ZERO => Some(r == 0 || sign != overflow),
         _ => None,
     }
 }
@@ -69,13 +80,13 @@ fn after_difference(a: u64, b: u64, test: u8) -> Option<bool>
     let overflow = is_negative(a) != is_negative(b) && is_negative(a) != sign;
     let carry = a < b;
     match test {
-        0 => Some(overflow),
-        1 => Some(carry),
-        2 => Some(r == 0),
-        3 => Some(carry || r == 0),
-        4 => Some(sign),
-        6 => Some(sign != overflow),
-        7 => Some(r == 0 || sign != overflow),
+        OVERFLOW => Some(overflow),
+        CARRY => Some(carry),
+        ZERO => Some(r == 0),
+        CARRY_OR_ZERO => Some(carry || r == 0),
+        SIGN => Some(sign),
+        LESS => Some(sign != overflow),
+        LESS_OR_ZERO => Some(r == 0 || sign != overflow),
         _ => None,
     }
 }
@@ -87,13 +98,13 @@ fn after_bits(r: u64, test: u8) -> Option<bool>
 {
     let sign = is_negative(r);
     match test {
-        0 => Some(false),
-        1 => Some(false),
-        2 => Some(r == 0),
-        3 => Some(r == 0),
-        4 => Some(sign),
-        6 => Some(sign),
-        7 => Some(r == 0 || sign),
+        OVERFLOW => Some(false),
+        CARRY => Some(false),
+        ZERO => Some(r == 0),
+        CARRY_OR_ZERO => Some(r == 0),
+        SIGN => Some(sign),
+        LESS => Some(sign),
+        LESS_OR_ZERO => Some(r == 0 || sign),
         _ => None,
     }
 }
@@ -104,7 +115,7 @@ fn after_product(a: u64, b: u64, test: u8) -> Option<bool>
     ensures { result ≡ test_of (product_of a b).flags test }
 {
     match test {
-        0 | 1 => Some(!product_fits(a, b)),
+        OVERFLOW | CARRY => Some(!product_fits(a, b)),
         _ => None,
     }
 }

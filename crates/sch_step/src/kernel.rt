@@ -1,7 +1,7 @@
 ghost use Rattle.std.specs.Prelude.{◌≡◌, ◌+◌, ◌==◌, ◌&&◌, true, ◌<◌, ◌≤◌, ◌^◌, ℕ, List, length, take, option_map, IfSome};
 ghost use Rattle.sch_insn.specs.Spelling.{IsValid};
 ghost use Rattle.sch_insn.specs.Machine.{bytes_from, with_place};
-ghost use Rattle.sch_insn.specs.Step.{act as act_of, moved, kernel as kernel_of, perform, step as step_of, standing};
+ghost use Rattle.sch_insn.specs.Step.{moved, kernel as kernel_of, perform, step as step_of, standing};
 ghost use Rattle.sch_word.specs.declared.answer.Answer.{Answer};
 ghost use Rattle.sch_step.specs.Kernel.{written_core, rax_of as rax_of_answer};
 ghost use Rattle.sch_step.specs.declared.ends.StepEnd.TheVariants as step_end;
@@ -9,21 +9,22 @@ ghost use Rattle.sch_step.specs.declared.ends.StepEnd.TheVariants as step_end;
 use crate::ends::{StepEnd, Stuck};
 use crate::flags::LastFlags;
 use crate::processor::Processor;
+use sch_insn::register::{R11, RAX, RCX, RDI, RDX, RSI};
 use sch_insn::{Insn, StuckCause};
 use sch_io::Outlet;
 use sch_word::Answer;
 
 impl Processor {
-    ghost use Rattle.sch_step.specs.View.{core_of};
+    ghost use Rattle.sch_step.specs.View.{core_of, act as act_of};
     ghost use Rattle.sch_step.specs.Run.{state_of, reached_by_step, looked, Does, IsAt, KernelTo, PerformsTo, StepsTo};
 
     /// After a write: rax has the answer, rcx and r11 have no spare words, and no flag is known.
     fn after_write(&mut self, next: u64, rax: u64)
         ensures { core_of self.new ≡ written_core (core_of self.old) next rax }
     {
-        self.set_reg(0, rax);
-        self.set_reg(1, 0);
-        self.set_reg(11, 0);
+        self.set_reg(RAX, rax);
+        self.set_reg(RCX, 0);
+        self.set_reg(R11, 0);
         self.flags = LastFlags::Unknown;
         self.at = next;
     }
@@ -37,32 +38,32 @@ impl Processor {
 
     /// The bytes of a write that the machine asks for, where they may be read.
     fn piece(&self) -> Option<&[u8]>
-        requires some { 0 < (core_of self.now).registers 2 }
-        ensures found { option_map (λ piece. piece.now) result ≡ option_map (take ((core_of self.now).registers 2)) (bytes_from (λ g. g.readable) (core_of self.now).segments ((core_of self.now).registers 6) ((core_of self.now).registers 2)) }
-        ensures size { IfSome result (λ piece. length piece.now ≡ (core_of self.now).registers 2) }
+        requires some { 0 < (core_of self.now).registers RDX }
+        ensures found { option_map (λ piece. piece.now) result ≡ option_map (take ((core_of self.now).registers RDX)) (bytes_from (λ g. g.readable) (core_of self.now).segments ((core_of self.now).registers RSI) ((core_of self.now).registers RDX)) }
+        ensures size { IfSome result (λ piece. length piece.now ≡ (core_of self.now).registers RDX) }
     {
-        let n = self.reg(2);
-        let bytes = self.bytes_from(self.reg(6), n)?;
+        let n = self.reg(RDX);
+        let bytes = self.bytes_from(self.reg(RSI), n)?;
         Some(&bytes[..n as usize])
     }
 
     /// The call is a write to standard output.
     fn asks_to_write(&self) -> bool
-        ensures { result ≡ (((core_of self.now).registers 0 == 1) && ((core_of self.now).registers 7 == 1)) }
+        ensures { result ≡ (((core_of self.now).registers RAX == 1) && ((core_of self.now).registers RDI == 1)) }
     {
-        self.reg(0) == 1 && self.reg(7) == 1
+        self.reg(RAX) == 1 && self.reg(RDI) == 1
     }
 
     /// A write to standard output of so many bytes, more than none.
     fn write<O: Outlet>(&mut self, out: &mut O, next: u64) -> StepEnd
-        requires call { (((core_of self.old).registers 0 == 1) && ((core_of self.old).registers 7 == 1)) ≡ true }
-        requires some { 0 < (core_of self.old).registers 2 }
+        requires call { (((core_of self.old).registers RAX == 1) && ((core_of self.old).registers RDI == 1)) ≡ true }
+        requires some { 0 < (core_of self.old).registers RDX }
         ensures at { IsAt result (core_of self.new).place }
         ensures did { Does (KernelTo next result (core_of self.old) (core_of self.new)) (O.bytes out.old) (O.bytes out.new) (O.left out.old) (O.left out.new) (O.faults out.old) (O.faults out.new) }
     {
         let answer = match self.piece() {
             Some(piece) => out.write(piece),
-            None => return self.stuck(StuckCause::Kernel(self.reg(0))),
+            None => return self.stuck(StuckCause::Kernel(self.reg(RAX))),
         };
         self.after_write(next, rax_of(answer));
         StepEnd::Ran
@@ -73,13 +74,13 @@ impl Processor {
         ensures at { IsAt result (core_of self.new).place }
         ensures did { Does (KernelTo next result (core_of self.old) (core_of self.new)) (O.bytes out.old) (O.bytes out.new) (O.left out.old) (O.left out.new) (O.faults out.old) (O.faults out.new) }
     {
-        if self.reg(0) == 60 {
-            return StepEnd::Exited((self.reg(7) % 256) as u8);
+        if self.reg(RAX) == 60 {
+            return StepEnd::Exited((self.reg(RDI) % 256) as u8);
         }
         if !self.asks_to_write() {
-            return self.stuck(StuckCause::Kernel(self.reg(0)));
+            return self.stuck(StuckCause::Kernel(self.reg(RAX)));
         }
-        if self.reg(2) == 0 {
+        if self.reg(RDX) == 0 {
             self.after_write(next, 0);
             return StepEnd::Ran;
         }
@@ -132,18 +133,18 @@ impl Processor {
     fn refused(&self) -> Option<StuckCause>
         ensures { (next : ℕ) (bytes : List ℕ) (answers : List Answer) → standing (state_of (core_of self.now) bytes answers) (kernel_of (state_of (core_of self.now) bytes answers) next) ≡ looked result (core_of self.now) bytes answers }
     {
-        if self.reg(0) == 60 {
+        if self.reg(RAX) == 60 {
             return None;
         }
         if !self.asks_to_write() {
-            return Some(StuckCause::Kernel(self.reg(0)));
+            return Some(StuckCause::Kernel(self.reg(RAX)));
         }
-        if self.reg(2) == 0 {
+        if self.reg(RDX) == 0 {
             return None;
         }
         match self.piece() {
             Some(_) => None,
-            None => Some(StuckCause::Kernel(self.reg(0))),
+            None => Some(StuckCause::Kernel(self.reg(RAX))),
         }
     }
 

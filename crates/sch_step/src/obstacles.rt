@@ -2,14 +2,15 @@ ghost use Rattle.std.specs.Prelude.{◌≡◌, ◌+◌, ◌<◌, ◌≤◌, ◌^
 ghost use Rattle.std.specs.Result.{result_err};
 ghost use Rattle.sch_insn.specs.Spelling.{IsArg, IsValid};
 ghost use Rattle.sch_insn.specs.Machine.{Core, Computed, when_ok, with_place, load as load_of, store as store_of, write_bytes};
-ghost use Rattle.sch_insn.specs.Step.{act as act_of, change};
+ghost use Rattle.sch_insn.specs.Step.{change};
 
 use crate::division::divided;
 use crate::processor::Processor;
+use sch_insn::register::{RAX, RDX};
 use sch_insn::{Arg, Insn, StuckCause};
 
 impl Processor {
-    ghost use Rattle.sch_step.specs.View.{core_of};
+    ghost use Rattle.sch_step.specs.View.{core_of, act as act_of};
 
     /// Why the operand cannot be read.
     fn unreadable(&self, m: &Arg, next: u64) -> Option<StuckCause>
@@ -92,7 +93,7 @@ impl Processor {
             Insn::Imul(_, m) => self.unreadable(m, next),
             Insn::JumpTo(m) => self.unreadable(m, next),
             Insn::Idiv(m) => match self.load(m, next) {
-                Ok(v) => divided(self.reg(2), self.reg(0), v).err(),
+                Ok(v) => divided(self.reg(RDX), self.reg(RAX), v).err(),
                 Err(cause) => Some(cause),
             },
             Insn::JumpIf(c, _) => match self.flags.condition(*c) {
@@ -100,7 +101,7 @@ impl Processor {
                 None => Some(StuckCause::Flag),
             },
             // never reached: `obstacle_to` answers the call of the kernel
-            Insn::Syscall => Some(StuckCause::Kernel(self.reg(0))),
+            Insn::Syscall => Some(StuckCause::Kernel(self.reg(RAX))),
             Insn::MovWord(_, _) | Insn::Lea(_, _) | Insn::Cqo | Insn::Jump(_) => None,
         }
     }

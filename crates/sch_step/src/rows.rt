@@ -1,11 +1,12 @@
 ghost use Rattle.std.specs.Prelude.{◌≡◌, ◌+◌, ◌*◌, ◌/◌, ◌%◌, ◌<◌, ◌≤◌, ◌^◌, ◌∷◌, [], OnErr, Ok, bit_and, bit_or, bit_xor};
 ghost use Rattle.sch_insn.specs.Spelling.{IsArg, IsValid};
 ghost use Rattle.sch_insn.specs.Machine.{when_ok, with_register, with_flags, with_place, byte_at, write_bytes, address_of, load as load_of, store as store_of, sum_of, difference_of, bits_of, product_of, shifted, shift_right_signed as shift_right_signed_of, condition as condition_of};
-ghost use Rattle.sch_insn.specs.Step.{act as act_of, change, gather, compare, divide, sign_word, jump_if};
+ghost use Rattle.sch_insn.specs.Step.{change, gather, compare, divide, sign_word, jump_if};
 
 use crate::division::divided;
 use crate::flags::{LastFlags, is_negative};
 use crate::processor::{Processor, word_of};
+use sch_insn::register::{RAX, RDX};
 use sch_insn::{Arg, Insn, StuckCause};
 
 /// One row for each form: the call that does it.
@@ -23,7 +24,7 @@ macro_rules! rows {
 }
 
 impl Processor {
-    ghost use Rattle.sch_step.specs.View.{core_of, gone_on, flags_of};
+    ghost use Rattle.sch_step.specs.View.{core_of, gone_on, flags_of, act as act_of};
 
     /// What an instruction does, and the place where it goes on, where the next instruction has the
     /// address `next`. A call of the kernel is not done here.
@@ -71,7 +72,7 @@ impl Processor {
             Insn::Jump(d) => Ok(next.wrapping_add(word_of(*d)));
             Insn::JumpTo(m) => self.load(m, next);
             // never reached: `perform` answers the call of the kernel
-            Insn::Syscall => Err(StuckCause::Kernel(self.reg(0)));
+            Insn::Syscall => Err(StuckCause::Kernel(self.reg(RAX)));
         } }
     }
 
@@ -387,15 +388,15 @@ impl Processor {
     /// `cqo`.
     #[inline(always)]
     fn cqo(&mut self, next: u64) -> Result<u64, StuckCause>
-        ensures value { gone_on result (core_of self.new) ≡ Ok (with_register 2 (sign_word ((core_of self.old).registers 0)) (with_place next (core_of self.old))) }
+        ensures value { gone_on result (core_of self.new) ≡ Ok (with_register RDX (sign_word ((core_of self.old).registers RAX)) (with_place next (core_of self.old))) }
         ensures same { OnErr result (core_of self.new ≡ core_of self.old) }
     {
-        let value = if is_negative(self.reg(0)) {
+        let value = if is_negative(self.reg(RAX)) {
             u64::MAX
         } else {
             0
         };
-        self.set_reg(2, value);
+        self.set_reg(RDX, value);
         Ok(next)
     }
 
@@ -407,9 +408,9 @@ impl Processor {
         ensures same { OnErr result (core_of self.new ≡ core_of self.old) }
     {
         let v = self.load(m, next)?;
-        let (quotient, remainder) = divided(self.reg(2), self.reg(0), v)?;
-        self.set_reg(0, quotient);
-        self.set_reg(2, remainder);
+        let (quotient, remainder) = divided(self.reg(RDX), self.reg(RAX), v)?;
+        self.set_reg(RAX, quotient);
+        self.set_reg(RDX, remainder);
         self.set_flags(LastFlags::Unknown);
         Ok(next)
     }

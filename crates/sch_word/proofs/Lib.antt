@@ -13,6 +13,5 @@ pub mod Similar
 pub mod Steady
 pub mod Walking
 pub mod StopStatus
-pub mod TagsApart
 mod TypeRows
 pub mod TagsApart

@@ -1,13 +1,13 @@
 -- Tags tell words apart: each is below the bound of tags, no two are the same, and none is that of a
 -- fixnum; the range of fixnums is what their words leave.
-use Rattle.std.proofs.Common.{◌≡◌, ℕ, ◌<◌, ◌%◌, ◌^◌, ◌-◌, List, [], ◌∷◌, Option, Some, ℤ, pos, refl, sym, ap, ◌∙◌, arith}
+use Rattle.std.proofs.Common.{◌≡◌, ℕ, ◌<◌, ◌%◌, ◌^◌, ◌-◌, List, [], ◌∷◌, Option, Some, pos, refl, sym, ap, ◌∙◌, arith}
 use Rattle.std.specs.Prelude.{nat_eq, ◌+ℤ◌, neg_ℤ}
 use Rattle.std.specs.List.{find}
 use Rattle.std.proofs.lemmas.Option.{same_Some}
 use Rattle.sch_word.specs.declared.fix.TheConstants.{FIXNUM_MIN, FIXNUM_MAX}
 use Rattle.sch_word.specs.declared.tag.Tag.{Tag}
 use Rattle.sch_word.specs.declared.tag.Tag.TheVariants.{Pair, Vector, String, Procedure, Symbol, Immediate, Cell}
-use Rattle.sch_word.specs.declared.tag.TheConstants.{FIXNUM_SHIFT, TAG_BITS}
+use Rattle.sch_word.specs.declared.tag.TheConstants.{FIXNUM_SHIFT}
 use Rattle.sch_word.specs.Tags.{fixnum_step, tag_step, tag_bits}
 
 pub tag_below : (t : Tag) → tag_bits t < tag_step

@@ -9,7 +9,7 @@ pub const FIXNUM_SHIFT: u32 = 3;
 pub const TAG_BITS: u32 = 3;
 
 /// What the tag of a word that is no fixnum says that it is, the project's own choice.
-#[derive(Clone, Copy, Debug, PartialEq, Eq)]
+#[derive(Clone, Copy)]
 pub enum Tag {
     Pair,
     Vector,

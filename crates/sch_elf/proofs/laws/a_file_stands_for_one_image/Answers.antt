@@ -1,4 +1,4 @@
-use Rattle.sch_elf.proofs.RefusalLemmas.{one_image}
+use Rattle.sch_elf.proofs.OneRefusal.{one_image}
 use Rattle.sch_elf.proofs.laws.a_file_stands_for_one_image.Goals as goal
 
 pub returns : goal.returns

@@ -2,7 +2,7 @@ use Rattle.std.proofs.Common.{◌≡◌, ◌++◌, ◌∷◌, [], rules, arith, 
 use Rattle.std.specs.Prelude.{filter}
 use Rattle.sch_elf.specs.Elf.{first_headers, is_load}
 use Rattle.sch_elf.specs.Stands.{IsSound}
-use Rattle.sch_elf.proofs.ReadingLemmas.{loads_more}
+use Rattle.sch_elf.proofs.ImageOfFile.{loads_more}
 use Rattle.sch_elf.proofs.read.read_loads.Goals as goal
 
 pub loop-index-preserved : goal.loop-index-preserved

@@ -1,7 +1,7 @@
 use Rattle.std.proofs.Common.{◌≡◌, ◌<◌, ◌+◌, ◌++◌, ◌∷◌, drop, length, rules, arith, ap, sym, ◌∙◌}
 use Rattle.std.specs.List.{flat_map}
 use Rattle.sch_elf.specs.Writing.{load, need, placed, program_header_bytes}
-use Rattle.sch_elf.proofs.WritingLemmas.{drop_next, headers_step}
+use Rattle.sch_elf.proofs.FileOfImage.{drop_next, headers_step}
 use Rattle.sch_elf.proofs.write.put_program_headers.Goals as goal
 
 pub loop-segment-preserved : goal.loop-segment-preserved

@@ -2,8 +2,8 @@ use Rattle.std.proofs.Common.{◌≡◌, ◌++◌, length, rules, arith, ap, sym
 use Rattle.std.specs.List.{flat_map}
 use Rattle.sch_elf.specs.Stands.{StandsFor}
 use Rattle.sch_elf.specs.Writing.{contents, file_header_bytes, need, placed, program_header_bytes, start}
-use Rattle.sch_elf.proofs.WritingLemmas.{need-le, headers_end, whole}
-use Rattle.sch_elf.proofs.StandsLemmas.{image_stands}
+use Rattle.sch_elf.proofs.FileOfImage.{need-le, headers_end, whole}
+use Rattle.sch_elf.proofs.WrittenStands.{image_stands}
 use Rattle.sch_elf.proofs.write.write_image.Goals as goal
 
 pub put_program_headers-requires-clause-room : goal.put_program_headers-requires-clause-room

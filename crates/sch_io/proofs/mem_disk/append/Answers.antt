@@ -1,5 +1,5 @@
 use Rattle.std.proofs.Common.{◌≡◌, ◌++◌, ◌+◌, ◌∷◌, [], length, rules}
-use Rattle.sch_io.proofs.FileLemmas.{files-added}
+use Rattle.sch_io.proofs.StoredFiles.{files-added}
 use Rattle.sch_io.proofs.mem_disk.append.Goals as goal
 
 pub returns-clause-added : goal.returns-clause-added

@@ -1,6 +1,6 @@
 use Rattle.std.proofs.Common.{◌<◌, sym, ◌∙◌, rules, arith, length}
 use Rattle.std.specs.FinMap.{get-empty}
-use Rattle.sch_io.proofs.FileLemmas.{found, passed}
+use Rattle.sch_io.proofs.StoredFiles.{found, passed}
 use Rattle.sch_io.proofs.mem_disk.find.Goals as goal
 use Rattle.sch_io.proofs.mem_disk.find.Goals.{then-eq, else-eq}
 

@@ -1,7 +1,7 @@
 use Rattle.std.proofs.Common.{◌≡◌, ◌<◌, length, drop, [], rules, arith, sym, subst, false, true}
 use Rattle.std.proofs.lemmas.List.{nil_from_length}
 use Rattle.sch_word.specs.declared.answer.Answer.TheVariants.{Took, Failed}
-use Rattle.sch_io.proofs.PutLemmas.{Along, starts, takes_more, comes_to_end, stops_here, front_of, whole_of}
+use Rattle.sch_io.proofs.PutSteps.{Along, starts, takes_more, comes_to_end, stops_here, front_of, whole_of}
 use Rattle.sch_io.proofs.put.put_all.Goals as goal
 
 pub loop-rest-init : goal.loop-rest-init

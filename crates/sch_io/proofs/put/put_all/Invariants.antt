@@ -1,5 +1,5 @@
 use Rattle.std.proofs.Common.{◌≤◌, length}
-use Rattle.sch_io.proofs.PutLemmas.{Along}
+use Rattle.sch_io.proofs.PutSteps.{Along}
 use Rattle.sch_io.proofs.put.put_all.Given as goal
 
 abbrev pub invariant-loop-rest : goal.invariant-loop-rest

@@ -1,7 +1,7 @@
 use Rattle.std.proofs.Common.{arith}
 use Rattle.sch_read.specs.Views.{tree_of}
-use Rattle.sch_read.proofs.Effort.{lighter, some_weight}
+use Rattle.sch_read.proofs.ReleaseEffort.{lighter, some_weight}
 use Rattle.sch_read.proofs.release.opened.Goals as goal
 
-pub returns-in-Text-clause-less : goal.returns-in-Text-clause-less
-returns-in-Text-clause-less c = lighter _ _ _ _ (omega (arith, c.taken.ensures.all, some_weight (tree_of c.args.d)))
+pub returns-clause-less : goal.returns-clause-less
+returns-clause-less c = lighter _ _ _ _ (omega (arith, c.taken.ensures.all, some_weight (tree_of c.args.d)))

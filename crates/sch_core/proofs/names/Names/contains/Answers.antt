@@ -1,5 +1,5 @@
 use Rattle.std.proofs.Common.{◌∙◌}
-use Rattle.sch_core.proofs.NameLemmas.{among}
+use Rattle.sch_core.proofs.NameTables.{among}
 use Rattle.sch_core.proofs.names.Names.contains.Goals as goal
 
 pub returns : goal.returns

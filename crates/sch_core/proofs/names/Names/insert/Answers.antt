@@ -1,5 +1,5 @@
 use Rattle.std.proofs.Common.{◌∙◌, ap, map}
-use Rattle.sch_core.proofs.NameLemmas.{inserted}
+use Rattle.sch_core.proofs.NameTables.{inserted}
 use Rattle.sch_core.proofs.names.Names.insert.Goals as goal
 
 pub returns : goal.returns

@@ -1,5 +1,5 @@
 use Rattle.std.proofs.Common.{◌∙◌, sym}
-use Rattle.sch_core.proofs.NumberLemmas.{found, missing}
+use Rattle.sch_core.proofs.SiteNumbers.{found, missing}
 use Rattle.sch_core.proofs.names.Names.number.Goals as goal
 
 pub returns-in-Some : goal.returns-in-Some

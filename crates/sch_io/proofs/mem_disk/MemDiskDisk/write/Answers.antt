@@ -2,7 +2,7 @@ use Rattle.std.proofs.Common.{◌≡◌, ◌++◌, ◌∷◌, [], map, rules, ap
 use Rattle.std.specs.FinMap.{empty}
 use Rattle.sch_io.specs.Files.{written}
 use Rattle.sch_io.specs.Stored.{file_of}
-use Rattle.sch_io.proofs.FileLemmas.{written-push}
+use Rattle.sch_io.proofs.StoredFiles.{written-push}
 use Rattle.sch_io.proofs.mem_disk.MemDiskDisk.write.Goals as goal
 
 pub returns-clause-ok : goal.returns-clause-ok

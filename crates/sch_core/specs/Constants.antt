@@ -1,0 +1,31 @@
+-- The constants that atoms are (R5RS 4.1.2), and drafts whose constants are those of a program.
+use Rattle.std.specs.Prelude.{◌≡◌, true, Option, Some, None}
+use Rattle.sch_word.specs.declared.constant.Const.{Const}
+use Rattle.sch_word.specs.declared.constant.Const.TheVariants.{Fixnum, Character, Boolean}
+use Rattle.sch_word.specs.Values.{is_constant}
+use Rattle.sch_read.specs.Grammar.{Atom, boolean, integer, character, text, symbol}
+use Rattle.sch_core.specs.Draft.{Draft, Drafts, constant, local, global, define, branch, sequence, bind, operation, no_drafts, and_draft}
+
+-- a text and a symbol are no constants
+abbrev pub constant_of : Atom → Option Const
+constant_of (boolean b) = Some (Boolean b)
+constant_of (integer z) = Some (Fixnum z)
+constant_of (character c) = Some (Character c)
+constant_of (text bs) = None
+constant_of (symbol x) = None
+
+-- each constant of a draft is one that a program may have: a fixnum in range, or a character that is a byte
+abbrev mutual
+  pub HasConstants : Draft → Type 0
+  HasConstants (constant c) = is_constant c ≡ true
+  HasConstants (local k) = Unit {0}
+  HasConstants (global x) = Unit {0}
+  HasConstants (define x e) = HasConstants e
+  HasConstants (branch a b c) = HasConstants a × HasConstants b × HasConstants c
+  HasConstants (sequence es) = HaveConstants es
+  HasConstants (bind es e) = HaveConstants es × HasConstants e
+  HasConstants (operation p es) = HaveConstants es
+
+  pub HaveConstants : Drafts → Type 0
+  HaveConstants no_drafts = Unit {0}
+  HaveConstants (and_draft e es) = HasConstants e × HaveConstants es

@@ -1,0 +1,40 @@
+-- No frame has more than 2,048 words, and the largest frame is no smaller than any.
+use Rattle.std.proofs.Common.{◌≡◌, ◌≤◌, ◌<◌, ◌+◌, ℕ, zero, suc, List, [], ◌∷◌, length, take, Bool, true, false, ◌&&◌, refl, sym, ap, ◌∙◌, subst, ◌⊎◌, inl, inr, arith, get_or}
+use Rattle.std.specs.Prelude.{nat_le}
+use Rattle.std.specs.List.{list_all}
+use Rattle.std.proofs.lemmas.Bool.{and_parts, and_from, leb-true, le-leb}
+use Rattle.std.proofs.lemmas.List.{take_all}
+use Rattle.std.proofs.lemmas.List.Folds.{list_all_more}
+use Rattle.sch_frames.specs.declared.body.FrameBody.{FrameBody}
+use Rattle.sch_frames.specs.SourceView.{codes_of}
+use Rattle.sch_frames.specs.Valid.{max_words}
+
+words_within : (b : FrameBody) → b.words ≤ max_words
+words_within b = leb-true _ _ (and_parts _ _ b.placed).0
+
+abbrev within : ℕ → List FrameBody → Bool
+within words bodies = list_all (λ b. nat_le b.words words) bodies
+
+wider : (bodies : List FrameBody) (w w' : ℕ) → w ≤ w' → within w bodies ≡ true → within w' bodies ≡ true
+wider [] w w' le h = refl
+wider (b ∷ bodies) w w' le h =
+    let parts = and_parts _ _ h in
+    let here : b.words ≤ w = leb-true _ _ parts.0 in
+    and_from _ _ (le-leb b.words w' (omega (arith, le, here))) (wider bodies w w' le parts.1)
+
+pub next_within : (bodies : List FrameBody) (i w w' : ℕ) (b : FrameBody) → i < length bodies → b ≡ get_or bodies i b → w ≤ w' → b.words ≤ w'
+    → within w (take i bodies) ≡ true → within w' (take (i + 1) bodies) ≡ true
+next_within bodies i w w' b lt is le here h =
+    list_all_more (λ b. nat_le b.words w') bodies i b lt
+    ∙ and_from _ _ (wider (take i bodies) w w' le h) (ap (λ b. nat_le b.words w') (sym is) ∙ le-leb b.words w' here)
+
+pub one_within : (w w' : ℕ) (b : FrameBody) → w ≤ max_words → (w' ≡ w) ⊎ (w' ≡ b.words) → w' ≤ max_words
+one_within w w' b h (inl e) = subst (λ n. n ≤ max_words) (sym e) h
+one_within w w' b h (inr e) = subst (λ n. n ≤ max_words) (sym e) (words_within b)
+
+pub all_taken : (bodies : List FrameBody) (i w : ℕ) → length bodies ≤ i → within w (take i bodies) ≡ true → within w bodies ≡ true
+all_taken bodies i w le h = ap (within w) (sym (take_all i bodies le)) ∙ h
+
+pub each_within : (bodies : List FrameBody) (words : ℕ) → within words bodies ≡ true → list_all (λ c. nat_le c.words words) (codes_of bodies) ≡ true
+each_within [] words h = refl
+each_within (b ∷ bodies) words h = let parts = and_parts _ _ h in and_from _ _ parts.0 (each_within bodies words parts.1)

@@ -1,0 +1,12 @@
+use Rattle.sch_frames.proofs.WordsWithin.{next_within, one_within, all_taken}
+use Rattle.sch_frames.proofs.assembly.largest.Goals as goal
+
+pub loop-b-preserved : goal.loop-b-preserved
+loop-b-preserved c = record {
+  all = next_within c.args.bodies.now c.loop-b.b-index c.loop-b.words c.larger-words.result c.b-item.result c.loop-b-test.true c.b-item.is
+      c.larger-words.ensures.first c.larger-words.ensures.second c.loop-b.invariant.all;
+  within = one_within c.loop-b.words c.larger-words.result c.b-item.result c.loop-b.invariant.within c.larger-words.ensures.one;
+}
+
+pub returns-clause-all : goal.returns-clause-all
+returns-clause-all c = all_taken c.args.bodies.now c.loop-b.b-index c.loop-b.words c.loop-b-test.false c.loop-b.invariant.all

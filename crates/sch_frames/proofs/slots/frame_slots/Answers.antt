@@ -1,0 +1,28 @@
+use Rattle.std.proofs.Common.{◌≡◌, ◌≤◌}
+use Rattle.sch_control.specs.SourceView as control
+use Rattle.sch_control.specs.View.{expression}
+use Rattle.sch_frames.proofs.SlotsFrame.{slots_placed, slots_does, slots_forward, slots_shaped, slots_size, labels_size}
+use Rattle.sch_frames.proofs.slots.frame_slots.Goals as goal
+
+pub invariant_of-result : goal.invariant_of-result
+invariant_of-result c =
+    let b = c.args.b.now in
+    let i = c.in_ok-out.ensures.instructions in
+    let l = c.in_ok-out.ensures.labels in
+    let a = c.arrival_slots.ensures in
+    record {
+      placed = rw (i, a) (slots_placed (control.code_of b) c.requires.straight b.scoped b.numbered b.shaped);
+      forward = rw (i, l) (slots_forward (control.code_of b));
+      shaped = rw i (slots_shaped (control.code_of b) c.requires.straight b.shaped);
+    }
+
+pub returns-clause-same : goal.returns-clause-same
+returns-clause-same c =
+    let b = c.args.b.now in
+    rw (c.in_ok-out.ensures.instructions, c.in_ok-out.ensures.labels, c.arrival_slots.ensures) (slots_does (control.code_of b) c.requires.straight b.scoped b.numbered)
+
+pub returns-clause-size : goal.returns-clause-size
+returns-clause-size c = rw c.in_ok-out.ensures.instructions (slots_size (control.code_of c.args.b.now))
+
+pub returns-clause-labels : goal.returns-clause-labels
+returns-clause-labels c = rw c.in_ok-out.ensures.labels (labels_size (expression c.args.b.now.exp))

@@ -1,0 +1,236 @@
+//! The layout of a body: its tree in order, as instructions.
+
+ghost use Rattle.std.specs.Prelude.{◌≡◌, ◌≤◌, ◌++◌, ◌+◌, ◌∷◌, [], length, take, true, IfOk, OnOk, Option, Some, None};
+ghost use Rattle.sch_control.specs.View.{expression};
+ghost use Rattle.sch_control.specs.declared.operation.Operation.TheVariants as operation;
+ghost use Rattle.sch_frames.specs.declared.instruction.Instruction.{Instruction};
+ghost use Rattle.sch_frames.specs.Valid.{formals_of};
+ghost use Rattle.sch_frames.specs.Layout.{atom_at, atoms_at, operand_at, operands_at, operation_at, own_slot, leave, labels, lay, arrival, arrivals, entering, arrival_slots};
+
+use crate::instruction::Instruction;
+use sch_control::{Atom, Entry, Exp, MarkKind, Operand, Operation};
+use sch_word::{List, Mem, Place};
+use std::alloc::Global;
+
+/// R15, where the return address of an activation is.
+const LINK: u8 = 15;
+
+/// R14, where the closure of an activation is as it is entered.
+const CLOSURE: u8 = 14;
+
+/// The place of a variable: a slot of its own, from `base` on, but for the return address. A slot past the
+/// numbers of 32 bits is want of memory.
+pub(crate) fn own_slot(base: u32, x: u32) -> Result<Place, Mem>
+    ensures { IfOk result (λ p. p ≡ own_slot base x) }
+{
+    if x == 0 {
+        return Ok(Place::Reg(LINK));
+    }
+    match base.checked_add(x) {
+        Some(slot) => Ok(Place::Slot(slot)),
+        None => Err(Mem),
+    }
+}
+
+fn atom_at(base: u32, a: &Atom<u32>) -> Result<Atom<Place>, Mem>
+    ensures { IfOk result (λ b. b ≡ atom_at (own_slot base) a.now) }
+{
+    match a {
+        Atom::Constant(c) => Ok(Atom::Constant(*c)),
+        Atom::Literal(n) => Ok(Atom::Literal(*n)),
+        Atom::Variable(x) => Ok(Atom::Variable(own_slot(base, *x)?)),
+    }
+}
+
+fn atoms_at(alloc: Global, base: u32, atoms: &[Atom<u32>]) -> Result<List<Atom<Place>>, Mem>
+    ensures { IfOk result (λ made. made ≡ atoms_at (own_slot base) atoms.now) }
+{
+    let mut made = List::new(alloc);
+    for a in atoms {
+        made.push(atom_at(base, a)?)?;
+    }
+    Ok(made)
+}
+
+fn operand_at(alloc: Global, base: u32, o: &Operand<u32>) -> Result<Operand<Place>, Mem>
+    ensures { IfOk result (λ p. p ≡ operand_at (own_slot base) o.now) }
+{
+    match o {
+        Operand::Atom(a) => Ok(Operand::Atom(atom_at(base, a)?)),
+        Operand::Read(site, which, atoms) => {
+            let atoms = atoms_at(alloc, base, atoms.as_slice())?;
+            Ok(Operand::Read(*site, *which, atoms))
+        }
+    }
+}
+
+fn operands_at(alloc: Global, base: u32, operands: &[Operand<u32>]) -> Result<List<Operand<Place>>, Mem>
+    ensures { IfOk result (λ made. made ≡ operands_at (own_slot base) operands.now) }
+{
+    let mut made = List::new(alloc);
+    for o in operands {
+        made.push(operand_at(alloc, base, o)?)?;
+    }
+    Ok(made)
+}
+
+fn operation_at(alloc: Global, base: u32, o: &Operation<u32>) -> Result<Operation<Place>, Mem>
+    ensures { IfOk result (λ p. p ≡ operation_at (own_slot base) o.now) }
+{
+    match o {
+        Operation::Operand(o) => Ok(Operation::Operand(operand_at(alloc, base, o)?)),
+        Operation::Prim(site, which, operands) => {
+            let operands = operands_at(alloc, base, operands.as_slice())?;
+            Ok(Operation::Prim(*site, *which, operands))
+        }
+        Operation::Global(g) => Ok(Operation::Global(*g)),
+        Operation::SetGlobal(g, o) => Ok(Operation::SetGlobal(*g, operand_at(alloc, base, o)?)),
+        _ => Ok(Operation::UnsetCell),
+    }
+}
+
+/// Instructions as they are written, and how many labels there are among them.
+#[derive(Drop)]
+pub(crate) struct Writer {
+    pub instructions: List<Instruction>,
+    pub labels: u32,
+}
+
+/// The next label.
+fn new_label(out: &mut Writer) -> Result<u32, Mem>
+    ensures number { IfOk result (λ l. l ≡ out.old.labels) }
+    ensures labels { OnOk result (out.new.labels ≡ out.old.labels + 1) }
+    ensures instructions { out.new.instructions ≡ out.old.instructions }
+{
+    let label = out.labels;
+    match label.checked_add(1) {
+        Some(next) => {
+            out.labels = next;
+            Ok(label)
+        }
+        None => Err(Mem),
+    }
+}
+
+/// One instruction more.
+fn put(out: &mut Writer, i: Instruction) -> Result<(), Mem>
+    ensures instructions { OnOk result (out.new.instructions ≡ out.old.instructions ++ i ∷ []) }
+    ensures labels { out.new.labels ≡ out.old.labels }
+{
+    out.instructions.push(i)?;
+    Ok(())
+}
+
+/// A value is left in the accumulator, or tested, and goes on behind the label where it is `#f`.
+fn leave(out: &mut Writer, test: Option<u32>) -> Result<(), Mem>
+    ensures instructions { OnOk result ((rest : List Instruction) → out.new.instructions ++ rest ≡ out.old.instructions ++ leave test rest) }
+    ensures labels { out.new.labels ≡ out.old.labels }
+{
+    match test {
+        Some(label) => put(out, Instruction::IfFalse(label)),
+        None => Ok(()),
+    }
+}
+
+/// The instructions of an expression. Where there is a test, `#f` goes on behind its label; otherwise the
+/// value is left in the accumulator.
+pub(crate) fn lay(
+    alloc: Global,
+    base: u32,
+    e: &Exp<()>,
+    test: Option<u32>,
+    out: &mut Writer,
+) -> Result<(), Mem>
+    ensures instructions { OnOk result ((rest : List Instruction) → out.new.instructions ++ rest ≡ out.old.instructions ++ lay (own_slot base) (expression e.now) out.old.labels test rest) }
+    ensures labels { OnOk result (out.new.labels ≡ out.old.labels + labels (expression e.now)) }
+{
+    match e {
+        Exp::Do(o) => {
+            put(out, Instruction::Do(operation_at(alloc, base, o)?))?;
+            leave(out, test)
+        }
+        Exp::Bind(x, a, b) => {
+            lay(alloc, base, a, None, out)?;
+            put(out, Instruction::Store(own_slot(base, *x)?))?;
+            lay(alloc, base, b, test, out)
+        }
+        Exp::Seq(a, b) => {
+            lay(alloc, base, a, None, out)?;
+            lay(alloc, base, b, test, out)
+        }
+        Exp::If(a, b, c) => {
+            let no = new_label(out)?;
+            let end = new_label(out)?;
+            lay(alloc, base, a, Some(no), out)?;
+            lay(alloc, base, b, test, out)?;
+            put(out, Instruction::Jump(end))?;
+            put(out, Instruction::Label(no))?;
+            lay(alloc, base, c, test, out)?;
+            put(out, Instruction::Label(end))?;
+            Ok(())
+        }
+        Exp::Return(e) => {
+            lay(alloc, base, e, None, out)?;
+            put(out, Instruction::Mark(MarkKind::Return))?;
+            put(out, Instruction::Return)
+        }
+        Exp::End(e) => {
+            lay(alloc, base, e, None, out)?;
+            put(out, Instruction::End)
+        }
+        _ => Ok(()),
+    }
+}
+
+/// Where an argument arrives: in RBX, R8, R9, R10, RSI or RDI, and behind the sixth in a slot.
+fn arrival(k: u32) -> Place
+    ensures { result ≡ arrival k }
+{
+    match k {
+        0 => Place::Reg(3),
+        1 => Place::Reg(8),
+        2 => Place::Reg(9),
+        3 => Place::Reg(10),
+        4 => Place::Reg(6),
+        5 => Place::Reg(7),
+        _ => Place::Slot(k - 6),
+    }
+}
+
+/// Each formal is stored in its slot.
+fn arrive(base: u32, formals: u32, out: &mut Writer) -> Result<(), Mem>
+    requires { formals ≤ 200 }
+    ensures instructions { OnOk result ((rest : List Instruction) → out.new.instructions ++ rest ≡ out.old.instructions ++ arrivals base 0 formals rest) }
+    ensures labels { OnOk result (out.new.labels ≡ out.old.labels) }
+{
+    for k in 0..formals {
+        put(out, Instruction::Copy(own_slot(base, k + 2)?, arrival(k)))?;
+    }
+    Ok(())
+}
+
+/// A procedure stores its closure and its arguments in their slots.
+pub(crate) fn enter(base: u32, entry: Option<Entry>, out: &mut Writer) -> Result<(), Mem>
+    requires { formals_of entry ≤ 200 }
+    ensures instructions { OnOk result ((rest : List Instruction) → out.new.instructions ++ rest ≡ out.old.instructions ++ entering base entry rest) }
+    ensures labels { OnOk result (out.new.labels ≡ out.old.labels) }
+{
+    match entry {
+        None => Ok(()),
+        Some(e) => {
+            put(out, Instruction::Copy(own_slot(base, 1)?, Place::Reg(CLOSURE)))?;
+            arrive(base, e.formals, out)?;
+            Ok(())
+        }
+    }
+}
+
+/// How many arguments arrive in slots.
+pub(crate) fn arrival_slots(entry: Option<Entry>) -> u32
+    ensures { result ≡ arrival_slots entry }
+{
+    match entry {
+        None => 0,
+        Some(e) => e.formals.saturating_sub(6),
+    }
+}

@@ -1,0 +1,53 @@
+//! Bodies with a slot for each variable.
+
+ghost use Rattle.std.specs.Prelude.{◌≡◌, ◌≤◌, ◌+◌, ◌*◌, length, true, IfOk, IsTrue};
+ghost use Rattle.sch_control.specs.SourceView as control;
+ghost use Rattle.sch_control.specs.View.{expression};
+ghost use Rattle.sch_frames.specs.Does.{FrameOf};
+ghost use Rattle.sch_frames.specs.Layout.{arrival_slots, labels, slots_layout, straight};
+ghost use Rattle.sch_frames.specs.Sizes.{nodes};
+ghost use Rattle.sch_frames.specs.SourceView.{code_of};
+ghost use Rattle.sch_frames.specs.Valid.{formals_of};
+
+use crate::body::FrameBody;
+use crate::layout::{Writer, arrival_slots, enter, lay};
+use sch_control::Body;
+use sch_word::{List, Mem};
+use std::alloc::Global;
+
+/// The instructions of a body.
+fn laid_out(alloc: Global, b: &Body) -> Result<Writer, Mem>
+    ensures instructions { IfOk result (λ out. out.instructions ≡ slots_layout (control.code_of b.now)) }
+    ensures labels { IfOk result (λ out. out.labels ≡ labels (expression b.now.exp)) }
+{
+    let base = arrival_slots(b.entry);
+    let mut out = Writer {
+        instructions: List::new(alloc),
+        labels: 0,
+    };
+    enter(base, b.entry, &mut out)?;
+    lay(alloc, base, &b.exp, None, &mut out)?;
+    Ok(out)
+}
+
+/// The frame body of a body, with a slot for each variable. It stands for a body without calls, closures and
+/// cells.
+///
+/// Memory is used as the answer's instructions need it: at most three for each node of the body, one for each
+/// formal and one more.
+pub fn frame_slots(alloc: Global, b: &Body) -> Result<FrameBody, Mem>
+    requires straight { IsTrue (straight (expression b.now.exp)) }
+    ensures same { IfOk result (λ f. FrameOf (control.code_of b.now) (code_of f)) }
+    ensures words { IfOk result (λ f. f.words ≡ arrival_slots b.now.entry + b.now.variables) }
+    ensures size { IfOk result (λ f. length f.instructions ≤ 3 * nodes (expression b.now.exp) + (formals_of b.now.entry + 1)) }
+    ensures labels { IfOk result (λ f. f.labels ≤ 2 * nodes (expression b.now.exp)) }
+{
+    let out = laid_out(alloc, b)?;
+    let words = arrival_slots(b.entry) + b.variables;
+    Ok(FrameBody {
+        entry: b.entry,
+        words,
+        labels: out.labels,
+        instructions: out.instructions,
+    })
+}

@@ -1,0 +1,5 @@
+use Rattle.sch_read.proofs.TextAnswers.{fault_one}
+use Rattle.sch_read.proofs.laws.a_text_has_one_fault.Goals as goal
+
+pub returns : goal.returns
+returns c = fault_one

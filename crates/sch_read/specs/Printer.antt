@@ -1,0 +1,2 @@
+-- From data to bytes, as the code writes them.
+pub mod Tasks

@@ -1,0 +1,111 @@
+-- The items of the routines do what the routines do, wherever they stand.
+use Rattle.std.proofs.Common.{◌≡◌, ℕ, ◌<◌, ◌%◌, List, [], ◌∷◌, ◌++◌, refl, sym, subst, arith}
+use Rattle.std.specs.List.{AllByRecursion}
+use Rattle.sch_word.specs.declared.stop.Stop.{Stop}
+use Rattle.sch_word.specs.declared.stop.Stop.TheVariants.{WrongType, OutOfRange, NotProcedure, WrongCount, DivideByZero, Overflow, HeapLimit, DepthLimit, Unset, OutputFailed}
+use Rattle.sch_word.specs.Stops.{status_of}
+use Rattle.sch_asm.specs.declared.item.Item.{Item}
+use Rattle.sch_asm.specs.declared.item.Item.TheVariants.{Label}
+use Rattle.sch_asm.specs.declared.routine.Routine.{Routine}
+use Rattle.sch_asm.specs.declared.routine.Routine.TheVariants as routine
+use Rattle.sch_asm.specs.Routines.{label_of}
+use Rattle.sch_asm.specs.Stands.{Setting, Stands}
+use Rattle.sch_asm.specs.Views.{View}
+use Rattle.sch_asm.specs.Effects.{AreEffective, Effect, Stops}
+use Rattle.sch_asm.proofs.Standing.{stands_back, stands_part}
+use Rattle.sch_runtime.specs.Code.{exit_code, statuses, exits, done_code, loop_code, write_code, put_code, ready_code, digit_code, positive_code, fixnum_code, put_items, routine_items}
+use Rattle.sch_runtime.proofs.Exits.{exits_here}
+use Rattle.sch_runtime.proofs.Putting as putting
+use Rattle.sch_runtime.proofs.PutFixnum.{puts_fixnum}
+
+module _ (setting : Setting) where
+  open setting use {place_of}
+
+  -- an exit stands at the label of its status
+  abbrev Exit : ℕ → Type 0
+  Exit s = Stands setting [] (place_of (s % 64)) (exit_code s)
+
+  exits_stand : (ss : List ℕ) (rest : List Item) (a : ℕ) → Stands setting [] a (exits ss rest) → AllByRecursion Exit ss × ((b : ℕ) × Stands setting [] b rest)
+  exits_stand [] rest a h = (tt, (a, h))
+  exits_stand (s ∷ ss) rest a h =
+      let r = exits_stand ss rest _ h.2.2.2.2 in
+      ((stands_part setting (s % 64) (exit_code s) (exits ss rest) [] a h, r.0), r.1)
+
+  at_label : (l : ℕ) (is : List Item) (a : ℕ) → Stands setting [] a (Label l ∷ is) → Stands setting [] (place_of l) is
+  at_label l is a h = subst (λ p. Stands setting [] p is) (sym h.1) h.2
+
+  -- where the parts of the puts stand
+  record Parts : Type 0 where
+    put : Stands setting [] (place_of 11) put_code
+    write : Stands setting [] (place_of 64) write_code
+    loop : Stands setting [] (place_of 65) loop_code
+    done : Stands setting [] (place_of 66) done_code
+    fixnum : Stands setting [] (place_of 12) fixnum_code
+    positive : Stands setting [] (place_of 67) positive_code
+    digit : Stands setting [] (place_of 68) digit_code
+    ready : Stands setting [] (place_of 69) ready_code
+
+  parts : (a : ℕ) → Stands setting [] a put_items → Parts
+  parts a h =
+      let p = stands_part setting 11 put_code (Label 66 ∷ (done_code ++ Label 12 ∷ (fixnum_code ++ []))) [] a h in
+      let b = stands_back setting (Label 11 ∷ put_code) (Label 66 ∷ (done_code ++ Label 12 ∷ (fixnum_code ++ []))) [] a refl h in
+      let c = stands_back setting (Label 66 ∷ done_code) (Label 12 ∷ (fixnum_code ++ [])) [] b.0 refl b.1 in
+      let w = at_label 64 write_code _ p.4.4.2 in
+      let f = stands_part setting 12 fixnum_code [] [] c.0 c.1 in
+      let q = at_label 67 positive_code _ f.4.4.2.2.2.4.2 in
+      let d = at_label 68 digit_code _ q.2.2 in
+      record {
+        put = p;
+        write = w;
+        loop = at_label 65 loop_code _ w.4;
+        done = stands_part setting 66 done_code (Label 12 ∷ (fixnum_code ++ [])) [] b.0 b.1;
+        fixnum = f;
+        positive = q;
+        digit = d;
+        ready = at_label 69 ready_code _ d.2.2.2.2.2.2.4.2.4.2.2.2;
+      }
+
+  stop_here : (s : Stop) → Stands setting [] (place_of (label_of (routine.Stop s))) (exit_code (status_of s)) → (x : View) → x.place ≡ place_of (label_of (routine.Stop s)) → Stops setting x 3 (status_of s) x.output
+  stop_here s h x at = exits_here setting x (status_of s) (low s) (subst (λ a. Stands setting [] a (exit_code (status_of s))) (sym at) h)
+    where
+      low : (s : Stop) → status_of s < 256
+      low WrongType = omega arith
+      low OutOfRange = omega arith
+      low NotProcedure = omega arith
+      low WrongCount = omega arith
+      low DivideByZero = omega arith
+      low Overflow = omega arith
+      low HeapLimit = omega arith
+      low DepthLimit = omega arith
+      low Unset = omega arith
+      low OutputFailed = omega arith
+
+  does : (a : ℕ) → Stands setting [] a routine_items → (k : Routine) (x : View) → x.place ≡ place_of (label_of k) → Effect setting k x
+  does a h k x at = by k at
+    where
+      all : AllByRecursion Exit statuses × ((b : ℕ) × Stands setting [] b put_items)
+      all = exits_stand statuses put_items a h
+
+      p : Parts
+      p = parts all.1.0 all.1.1
+
+      e : AllByRecursion Exit statuses
+      e = all.0
+
+      by : (k : Routine) → x.place ≡ place_of (label_of k) → Effect setting k x
+      by routine.End at = exits_here setting x 0 (omega arith) (subst (λ a. Stands setting [] a (exit_code 0)) (sym at) e.0)
+      by (routine.Stop WrongType) at = stop_here WrongType e.1.0 x at
+      by (routine.Stop OutOfRange) at = stop_here OutOfRange e.1.1.0 x at
+      by (routine.Stop NotProcedure) at = stop_here NotProcedure e.1.1.1.0 x at
+      by (routine.Stop WrongCount) at = stop_here WrongCount e.1.1.1.1.0 x at
+      by (routine.Stop DivideByZero) at = stop_here DivideByZero e.1.1.1.1.1.0 x at
+      by (routine.Stop Overflow) at = stop_here Overflow e.1.1.1.1.1.1.0 x at
+      by (routine.Stop HeapLimit) at = stop_here HeapLimit e.1.1.1.1.1.1.1.0 x at
+      by (routine.Stop DepthLimit) at = stop_here DepthLimit e.1.1.1.1.1.1.1.1.0 x at
+      by (routine.Stop Unset) at = stop_here Unset e.1.1.1.1.1.1.1.1.1.0 x at
+      by (routine.Stop OutputFailed) at = stop_here OutputFailed e.1.1.1.1.1.1.1.1.1.1.0 x at
+      by routine.Put at = λ piece ready low size here. putting.puts setting p.write p.loop e.1.1.1.1.1.1.1.1.1.1.0 p.done p.put x piece at ready low size here
+      by routine.PutFixnum at = λ n ready word. puts_fixnum setting p.write p.loop e.1.1.1.1.1.1.1.1.1.1.0 p.done p.fixnum p.positive p.digit p.ready x n at ready word
+
+pub routines_are_effective : AreEffective routine_items
+routines_are_effective = record { does = λ setting a h k x at. does setting a h k x at }

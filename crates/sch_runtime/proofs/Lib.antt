@@ -1,0 +1,8 @@
+pub mod ZeroTests
+pub mod Exits
+pub mod WriteLoop
+pub mod Putting
+pub mod Digits
+pub mod PutFixnum
+pub mod Effective
+pub mod Joining

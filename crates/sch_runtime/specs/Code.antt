@@ -1,0 +1,120 @@
+-- The items of the run-time routines. Each returns by a jump through r11. A call of the kernel overwrites
+-- r11, so it is kept in a word of the data meanwhile.
+use Rattle.std.specs.Prelude.{ℕ, ◌%◌, List, [], ◌∷◌, ◌++◌, pos}
+use Rattle.sch_insn.specs.declared.insn.Arg.TheVariants.{Reg, Base}
+use Rattle.sch_insn.specs.declared.insn.Insn.TheVariants.{MovTo, MovNumber, StoreByte, AddTo, SubTo, AddNumber, SubNumber, CmpNumber, Neg, Idiv, Sar, JumpTo, Syscall}
+use Rattle.sch_insn.specs.declared.condition.TheConstants.{E, NE, GE, LE}
+use Rattle.sch_insn.specs.declared.register.TheConstants.{RAX, RCX, RDX, RSI, RDI, R11}
+use Rattle.sch_word.specs.declared.stop.Stop.TheVariants.{OutputFailed}
+use Rattle.sch_asm.specs.declared.item.Item.{Item}
+use Rattle.sch_asm.specs.declared.item.Item.TheVariants.{Label, Plain, Jump, JumpIf, LoadWord, StoreWord}
+use Rattle.sch_asm.specs.declared.routine.Routine.TheVariants.{Stop, Put, PutFixnum}
+use Rattle.sch_asm.specs.Routines.{label_of}
+
+-- ---- labels inside the routines
+
+abbrev pub write_label : ℕ
+write_label = 64
+
+abbrev pub loop_label : ℕ
+loop_label = 65
+
+abbrev pub done_label : ℕ
+done_label = 66
+
+abbrev pub positive_label : ℕ
+positive_label = 67
+
+abbrev pub digit_label : ℕ
+digit_label = 68
+
+abbrev pub ready_label : ℕ
+ready_label = 69
+
+-- ---- exits
+
+abbrev pub exit_code : ℕ → List Item
+exit_code status = Plain (MovNumber (Reg RDI) (pos status)) ∷ Plain (MovNumber (Reg RAX) (pos 60)) ∷ Plain Syscall ∷ []
+
+-- The statuses: of a program's end, and of its stops.
+abbrev pub statuses : List ℕ
+statuses = 0 ∷ 65 ∷ 66 ∷ 67 ∷ 68 ∷ 69 ∷ 70 ∷ 71 ∷ 72 ∷ 73 ∷ 74 ∷ []
+
+-- An exit for each status, with the label of the status modulo 64, and then other items.
+abbrev pub exits : List ℕ → List Item → List Item
+exits [] rest = rest
+exits (s ∷ ss) rest = Label (s % 64) ∷ (exit_code s ++ exits ss rest)
+
+-- ---- a put: rax has the address of a piece and rdx its size
+
+-- Words of the data keep r11, rsi and rdi.
+abbrev pub kept_r11 : ℕ
+kept_r11 = 0x10000000
+
+abbrev pub kept_rsi : ℕ
+kept_rsi = 0x10000008
+
+abbrev pub kept_rdi : ℕ
+kept_rdi = 0x10000010
+
+abbrev pub done_code : List Item
+done_code = LoadWord RSI kept_rsi ∷ LoadWord RDI kept_rdi ∷ LoadWord R11 kept_r11 ∷ Plain (JumpTo (Reg R11)) ∷ []
+
+-- what is left is counted
+abbrev pub next_code : List Item
+next_code = Plain (AddTo (Reg RSI) RAX) ∷ Plain (SubTo (Reg RDX) RAX) ∷ Jump loop_label ∷ []
+
+abbrev pub count_code : List Item
+count_code = Plain (CmpNumber (Reg RAX) (pos 0)) ∷ JumpIf LE (label_of (Stop OutputFailed)) ∷ next_code
+
+-- the kernel is asked
+abbrev pub ask_code : List Item
+ask_code = Plain (MovNumber (Reg RAX) (pos 1)) ∷ Plain (MovNumber (Reg RDI) (pos 1)) ∷ Plain Syscall ∷ count_code
+
+abbrev pub loop_code : List Item
+loop_code = Plain (CmpNumber (Reg RDX) (pos 0)) ∷ JumpIf E done_label ∷ ask_code
+
+-- From here on rsi has the address of what is left and rdx its size.
+abbrev pub write_code : List Item
+write_code = StoreWord kept_r11 R11 ∷ Label loop_label ∷ loop_code
+
+abbrev pub put_code : List Item
+put_code = StoreWord kept_rsi RSI ∷ StoreWord kept_rdi RDI ∷ Plain (MovTo (Reg RSI) RAX) ∷ Label write_label ∷ write_code
+
+-- ---- a put of a fixnum: rax has its word
+
+-- Its digits end before this address.
+abbrev pub digits_end : ℕ
+digits_end = 0x10000040
+
+abbrev pub ready_code : List Item
+ready_code = Plain (MovNumber (Reg RDX) (pos digits_end)) ∷ Plain (SubTo (Reg RDX) RSI) ∷ Jump write_label ∷ []
+
+-- a sign stands before the digits of a number below zero
+abbrev pub minus_code : List Item
+minus_code = Plain (SubNumber (Reg RSI) (pos 1)) ∷ Plain (MovNumber (Reg RDX) (pos 45)) ∷ Plain (StoreByte (Base RSI) RDX) ∷ Label ready_label ∷ ready_code
+
+abbrev pub sign_code : List Item
+sign_code = Plain (CmpNumber (Reg RDI) (pos 0)) ∷ JumpIf GE ready_label ∷ minus_code
+
+-- The last digit of rax goes before rsi, and rax loses it.
+abbrev pub digit_code : List Item
+digit_code = Plain (MovNumber (Reg RDX) (pos 0)) ∷ Plain (Idiv (Reg RCX)) ∷ Plain (AddNumber (Reg RDX) (pos 48)) ∷ Plain (SubNumber (Reg RSI) (pos 1)) ∷ Plain (StoreByte (Base RSI) RDX) ∷ Plain (CmpNumber (Reg RAX) (pos 0)) ∷ JumpIf NE digit_label ∷ sign_code
+
+abbrev pub positive_code : List Item
+positive_code = Plain (MovNumber (Reg RSI) (pos digits_end)) ∷ Plain (MovNumber (Reg RCX) (pos 10)) ∷ Label digit_label ∷ digit_code
+
+-- rdi has the fixnum, and rax its absolute value
+abbrev pub absolute_code : List Item
+absolute_code = Plain (CmpNumber (Reg RAX) (pos 0)) ∷ JumpIf GE positive_label ∷ Plain (Neg (Reg RAX)) ∷ Label positive_label ∷ positive_code
+
+abbrev pub fixnum_code : List Item
+fixnum_code = StoreWord kept_rsi RSI ∷ StoreWord kept_rdi RDI ∷ Plain (Sar (Reg RAX) 3) ∷ Plain (MovTo (Reg RDI) RAX) ∷ absolute_code
+
+-- ---- all of them
+
+abbrev pub put_items : List Item
+put_items = Label (label_of Put) ∷ (put_code ++ Label done_label ∷ (done_code ++ Label (label_of PutFixnum) ∷ (fixnum_code ++ [])))
+
+abbrev pub routine_items : List Item
+routine_items = exits statuses put_items

@@ -1,0 +1,158 @@
+//! The items of the run-time routines, made.
+
+ghost use Rattle.std.specs.Prelude.{◌≡◌, ◌≤◌, ◌%◌, [], ◌∷◌, ◌++◌, IfOk};
+ghost use Rattle.sch_asm.specs.declared.item.Item.TheVariants as item;
+ghost use Rattle.sch_asm.specs.Items.{AreRoutines};
+ghost use Rattle.sch_asm.specs.Routines.{label_of};
+ghost use Rattle.sch_asm.specs.Codes.{text_size};
+ghost use Rattle.sch_asm.specs.Effects.{AreEffective};
+ghost use Rattle.sch_runtime.specs.Code.{digit_code, digit_label, done_code, done_label, exit_code, fixnum_code, put_code, routine_items};
+
+use sch_asm::{Asm, Item, Routine};
+use sch_insn::condition::{E, GE, LE, NE};
+use sch_insn::register::{R11, RAX, RCX, RDI, RDX, RSI};
+use sch_insn::{Arg, Insn};
+use sch_word::{Limits, List, Mem, Stop};
+use std::alloc::Global;
+
+/// The statuses with which a program ends: that of its end, and those of its stops.
+const STATUSES: [u8; 11] = [0, 65, 66, 67, 68, 69, 70, 71, 72, 73, 74];
+
+// Labels inside the routines.
+const WRITE: u32 = 64;
+const LOOP: u32 = 65;
+const DONE: u32 = 66;
+const POSITIVE: u32 = 67;
+const DIGIT: u32 = 68;
+const READY: u32 = 69;
+
+// The words of the data that keep registers.
+const KEPT_R11: u64 = 0x1000_0000;
+const KEPT_RSI: u64 = 0x1000_0008;
+const KEPT_RDI: u64 = 0x1000_0010;
+
+// Where the digits of a number end.
+const DIGITS_END: i32 = 0x1000_0040;
+
+/// The run-time routines for these limits, as `resolve` takes them.
+pub fn routines(alloc: Global, limits: Limits) -> Result<Asm, Mem>
+    ensures joined { IfOk result (λ r. AreRoutines r.items r.words r.zeros) }
+    ensures effective { IfOk result (λ r. AreEffective r.items) }
+    ensures short { IfOk result (λ r. text_size r.items ≤ 1024) }
+{
+    let items = items_of(alloc)?;
+    Ok(Asm {
+        items,
+        words: List::new(alloc),
+        zeros: 0,
+    })
+}
+
+// The items of all routines.
+fn items_of(alloc: Global) -> Result<List<Item>, Mem>
+    ensures { IfOk result (λ items. items ≡ routine_items) }
+{
+    let mut items = List::new(alloc);
+    for status in STATUSES.iter() {
+        items.extend_from_slice(&exit_items(*status))?;
+    }
+    items.extend_from_slice(&put_items())?;
+    items.extend_from_slice(&done_items())?;
+    items.extend_from_slice(&fixnum_items())?;
+    items.extend_from_slice(&digit_items())?;
+    Ok(items)
+}
+
+// An exit with a status.
+fn exit_items(status: u8) -> [Item; 4]
+    ensures { result ≡ item.Label (status % 64) ∷ exit_code status }
+{
+    [
+        Item::Label((status % 64) as u32),
+        Item::Plain(Insn::MovNumber(Arg::Reg(RDI), status as i32)),
+        Item::Plain(Insn::MovNumber(Arg::Reg(RAX), 60)),
+        Item::Plain(Insn::Syscall),
+    ]
+}
+
+// The put of a piece, up to its end.
+fn put_items() -> [Item; 17]
+    ensures { result ≡ item.Label (label_of Routine.Put) ∷ put_code }
+{
+    [
+        Item::Label(Routine::Put.label()),
+        Item::StoreWord(KEPT_RSI, RSI),
+        Item::StoreWord(KEPT_RDI, RDI),
+        Item::Plain(Insn::MovTo(Arg::Reg(RSI), RAX)),
+        Item::Label(WRITE),
+        Item::StoreWord(KEPT_R11, R11),
+        Item::Label(LOOP),
+        Item::Plain(Insn::CmpNumber(Arg::Reg(RDX), 0)),
+        Item::JumpIf(E, DONE),
+        Item::Plain(Insn::MovNumber(Arg::Reg(RAX), 1)),
+        Item::Plain(Insn::MovNumber(Arg::Reg(RDI), 1)),
+        Item::Plain(Insn::Syscall),
+        Item::Plain(Insn::CmpNumber(Arg::Reg(RAX), 0)),
+        Item::JumpIf(LE, Routine::Stop(Stop::OutputFailed).label()),
+        Item::Plain(Insn::AddTo(Arg::Reg(RSI), RAX)),
+        Item::Plain(Insn::SubTo(Arg::Reg(RDX), RAX)),
+        Item::Jump(LOOP),
+    ]
+}
+
+// The end of a put: back to the caller.
+fn done_items() -> [Item; 5]
+    ensures { result ≡ item.Label done_label ∷ done_code }
+{
+    [
+        Item::Label(DONE),
+        Item::LoadWord(RSI, KEPT_RSI),
+        Item::LoadWord(RDI, KEPT_RDI),
+        Item::LoadWord(R11, KEPT_R11),
+        Item::Plain(Insn::JumpTo(Arg::Reg(R11))),
+    ]
+}
+
+// The put of a fixnum, up to its digits.
+fn fixnum_items() -> [Item; 11]
+    ensures { result ++ (item.Label digit_label ∷ digit_code) ≡ item.Label (label_of Routine.PutFixnum) ∷ fixnum_code }
+{
+    [
+        Item::Label(Routine::PutFixnum.label()),
+        Item::StoreWord(KEPT_RSI, RSI),
+        Item::StoreWord(KEPT_RDI, RDI),
+        Item::Plain(Insn::Sar(Arg::Reg(RAX), 3)),
+        Item::Plain(Insn::MovTo(Arg::Reg(RDI), RAX)),
+        Item::Plain(Insn::CmpNumber(Arg::Reg(RAX), 0)),
+        Item::JumpIf(GE, POSITIVE),
+        Item::Plain(Insn::Neg(Arg::Reg(RAX))),
+        Item::Label(POSITIVE),
+        Item::Plain(Insn::MovNumber(Arg::Reg(RSI), DIGITS_END)),
+        Item::Plain(Insn::MovNumber(Arg::Reg(RCX), 10)),
+    ]
+}
+
+// Its digits and its sign, which are then put.
+fn digit_items() -> [Item; 17]
+    ensures { result ≡ item.Label digit_label ∷ digit_code }
+{
+    [
+        Item::Label(DIGIT),
+        Item::Plain(Insn::MovNumber(Arg::Reg(RDX), 0)),
+        Item::Plain(Insn::Idiv(Arg::Reg(RCX))),
+        Item::Plain(Insn::AddNumber(Arg::Reg(RDX), 48)),
+        Item::Plain(Insn::SubNumber(Arg::Reg(RSI), 1)),
+        Item::Plain(Insn::StoreByte(Arg::Base(RSI), RDX)),
+        Item::Plain(Insn::CmpNumber(Arg::Reg(RAX), 0)),
+        Item::JumpIf(NE, DIGIT),
+        Item::Plain(Insn::CmpNumber(Arg::Reg(RDI), 0)),
+        Item::JumpIf(GE, READY),
+        Item::Plain(Insn::SubNumber(Arg::Reg(RSI), 1)),
+        Item::Plain(Insn::MovNumber(Arg::Reg(RDX), 45)),
+        Item::Plain(Insn::StoreByte(Arg::Base(RSI), RDX)),
+        Item::Label(READY),
+        Item::Plain(Insn::MovNumber(Arg::Reg(RDX), DIGITS_END)),
+        Item::Plain(Insn::SubTo(Arg::Reg(RDX), RSI)),
+        Item::Jump(WRITE),
+    ]
+}
