@@ -67,21 +67,41 @@ module _ (place at : ℕ → ℕ) (small : (l : ℕ) → place l < 2147483648) w
       (_, refl, subst (λ a. Codes place a is (emitted place at (k + 1) is) (marked at (k + 1) is)) e (codes is (k + 1) (omega (arith, e, lt)) v.1 r.1 h.1))
   codes (Plain i ∷ is) k lt v r h =
       (_, refl, subst (λ a. Codes place a is (emitted place at (k + 1) is) (marked at (k + 1) is)) r.0 (codes is (k + 1) (omega (arith, r.0, lt)) v.1 r.1 h.1))
-  codes (Jump l ∷ is) k lt v r h =
-      (_, _, refl, subst (λ n. add64 (at k + 5) (word (displacement n (place l))) ≡ place l) (sym r.0) (leads (at k + 5) (place l) (omega (arith, lt)) (small l)),
-      subst (λ a. Codes place a is (emitted place at (k + 1) is) (marked at (k + 1) is)) r.0 (codes is (k + 1) (omega (arith, r.0, lt)) v.1 r.1 h.1))
-  codes (JumpIf c l ∷ is) k lt v r h =
-      (_, _, refl, (refl, subst (λ n. add64 (at k + 6) (word (displacement n (place l))) ≡ place l) (sym r.0) (leads (at k + 6) (place l) (omega (arith, lt)) (small l))),
-      subst (λ a. Codes place a is (emitted place at (k + 1) is) (marked at (k + 1) is)) r.0 (codes is (k + 1) (omega (arith, r.0, lt)) v.1 r.1 h.1))
-  codes (LoadLabel n l ∷ is) k lt v r h =
-      (_, _, refl, subst (λ n. add64 (at k + 7) (word (displacement n (place l))) ≡ place l) (sym r.0) (leads (at k + 7) (place l) (omega (arith, lt)) (small l)),
-      subst (λ a. Codes place a is (emitted place at (k + 1) is) (marked at (k + 1) is)) r.0 (codes is (k + 1) (omega (arith, r.0, lt)) v.1 r.1 h.1))
-  codes (LoadWord n to ∷ is) k lt v r h =
-      (_, _, refl, subst (λ n. add64 (at k + 7) (word (displacement n to)) ≡ to) (sym r.0) (leads (at k + 7) to (omega (arith, lt)) (omega (arith, v.0.1.1))),
-      subst (λ a. Codes place a is (emitted place at (k + 1) is) (marked at (k + 1) is)) r.0 (codes is (k + 1) (omega (arith, r.0, lt)) v.1 r.1 h.1))
-  codes (StoreWord to n ∷ is) k lt v r h =
-      (_, _, refl, subst (λ n. add64 (at k + 7) (word (displacement n to)) ≡ to) (sym r.0) (leads (at k + 7) to (omega (arith, lt)) (omega (arith, v.0.1.1))),
-      subst (λ a. Codes place a is (emitted place at (k + 1) is) (marked at (k + 1) is)) r.0 (codes is (k + 1) (omega (arith, r.0, lt)) v.1 r.1 h.1))
+  codes (Jump l ∷ is) k lt v r h = (
+    _,
+    _,
+    refl,
+    subst (λ n. add64 (at k + 5) (word (displacement n (place l))) ≡ place l) (sym r.0) (leads (at k + 5) (place l) (omega (arith, lt)) (small l)),
+    subst (λ a. Codes place a is (emitted place at (k + 1) is) (marked at (k + 1) is)) r.0 (codes is (k + 1) (omega (arith, r.0, lt)) v.1 r.1 h.1),
+  )
+  codes (JumpIf c l ∷ is) k lt v r h = (
+    _,
+    _,
+    refl,
+    (refl, subst (λ n. add64 (at k + 6) (word (displacement n (place l))) ≡ place l) (sym r.0) (leads (at k + 6) (place l) (omega (arith, lt)) (small l))),
+    subst (λ a. Codes place a is (emitted place at (k + 1) is) (marked at (k + 1) is)) r.0 (codes is (k + 1) (omega (arith, r.0, lt)) v.1 r.1 h.1),
+  )
+  codes (LoadLabel n l ∷ is) k lt v r h = (
+    _,
+    _,
+    refl,
+    subst (λ n. add64 (at k + 7) (word (displacement n (place l))) ≡ place l) (sym r.0) (leads (at k + 7) (place l) (omega (arith, lt)) (small l)),
+    subst (λ a. Codes place a is (emitted place at (k + 1) is) (marked at (k + 1) is)) r.0 (codes is (k + 1) (omega (arith, r.0, lt)) v.1 r.1 h.1),
+  )
+  codes (LoadWord n to ∷ is) k lt v r h = (
+    _,
+    _,
+    refl,
+    subst (λ n. add64 (at k + 7) (word (displacement n to)) ≡ to) (sym r.0) (leads (at k + 7) to (omega (arith, lt)) (omega (arith, v.0.1.1))),
+    subst (λ a. Codes place a is (emitted place at (k + 1) is) (marked at (k + 1) is)) r.0 (codes is (k + 1) (omega (arith, r.0, lt)) v.1 r.1 h.1),
+  )
+  codes (StoreWord to n ∷ is) k lt v r h = (
+    _,
+    _,
+    refl,
+    subst (λ n. add64 (at k + 7) (word (displacement n to)) ≡ to) (sym r.0) (leads (at k + 7) to (omega (arith, lt)) (omega (arith, v.0.1.1))),
+    subst (λ a. Codes place a is (emitted place at (k + 1) is) (marked at (k + 1) is)) r.0 (codes is (k + 1) (omega (arith, r.0, lt)) v.1 r.1 h.1),
+  )
 
   one_valid : (i : Item) (is : List Insn) (next : ℕ) → next < 2147483648 → IsItem i → AllValid is → AllValid (insns_of place next i ++ is)
   one_valid (Label l) is next lt v h = h

@@ -1,22 +1,22 @@
 -- The definitions on worked values.
-use Rattle.std.proofs.Common.{◌≡◌, ℕ, ◌+◌, ◌^◌, List, [], ◌∷◌, Bool, true, false, cond, ◌==◌, refl, arith, inl, inr}
+use Rattle.std.proofs.Common.{◌≡◌, ℕ, List, [], ◌∷◌, true, false, cond, ◌==◌, refl, arith, inl, inr}
 use Rattle.std.specs.Prelude.{pos, negsuc}
 use Rattle.std.proofs.lemmas.Int.{ints}
 use Rattle.sch_word.specs.declared.stop.Stop.TheVariants.{WrongType, OutputFailed}
-use Rattle.sch_insn.specs.declared.insn.Arg.TheVariants.{Reg, Rip}
+use Rattle.sch_insn.specs.declared.insn.Arg.TheVariants.{Rip}
 use Rattle.sch_insn.specs.declared.insn.Insn.{Insn}
 use Rattle.sch_insn.specs.declared.insn.Insn.TheVariants as insn
 use Rattle.sch_insn.specs.declared.condition.TheConstants.{L}
 use Rattle.sch_insn.specs.declared.register.TheConstants.{RAX, RBX, RSI, R11, R12}
 use Rattle.sch_asm.specs.declared.assembly.Word.TheVariants.{Fixed, Address}
-use Rattle.sch_asm.specs.declared.error.AsmError.TheVariants.{TextTooLarge, Memory}
+use Rattle.sch_asm.specs.declared.error.AsmError.TheVariants.{TextTooLarge}
 use Rattle.sch_asm.specs.declared.item.Item.{Item}
-use Rattle.sch_asm.specs.declared.item.Item.TheVariants.{Label, Plain, Jump, JumpIf, LoadLabel, LoadWord, StoreWord, Mark}
+use Rattle.sch_asm.specs.declared.item.Item.TheVariants.{Label, Plain, Jump, JumpIf, LoadLabel, LoadWord, Mark}
 use Rattle.sch_asm.specs.declared.item.Mark as mark
 use Rattle.sch_asm.specs.declared.item.MarkKind.TheVariants.{Enter, Save}
 use Rattle.sch_asm.specs.declared.routine.Routine.TheVariants.{End, Stop, Put, PutFixnum}
-use Rattle.sch_asm.specs.Routines.{label_of, routine_count}
-use Rattle.sch_asm.specs.Items.{IsPlain, is_among, is_routine, labels_in, marks_arrive, uses_in, word_uses}
+use Rattle.sch_asm.specs.Routines.{label_of}
+use Rattle.sch_asm.specs.Items.{IsPlain, is_routine, labels_in, marks_arrive, uses_in, word_uses}
 use Rattle.sch_asm.specs.Stands.{marks_at}
 use Rattle.sch_asm.specs.Codes.{Codes, IsTooLarge, bytes_of, text_size}
 use Rattle.sch_asm.specs.Data.{IsShifted, word_in, with_word}

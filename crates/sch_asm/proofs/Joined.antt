@@ -1,5 +1,5 @@
 -- A program with its routines: what `resolve` answers, as the text of a machine.
-use Rattle.std.proofs.Common.{◌≡◌, ℕ, ◌+◌, ◌<◌, ◌≤◌, List, [], ◌∷◌, ◌++◌, length, refl, sym, arith, append-nil}
+use Rattle.std.proofs.Common.{ℕ, ◌+◌, ◌≤◌, List, [], ◌++◌, length, refl, sym, arith, append-nil}
 use Rattle.std.specs.List.{flat_map}
 use Rattle.std.specs.Prelude.{IsTrue, false}
 use Rattle.sch_insn.specs.declared.insn.Insn.{Insn}
@@ -9,7 +9,7 @@ use Rattle.sch_asm.specs.declared.item.Item.{Item}
 use Rattle.sch_asm.specs.declared.item.Mark as mark
 use Rattle.sch_asm.specs.Items.{marks_arrive}
 use Rattle.sch_asm.specs.Codes.{AreResolved}
-use Rattle.sch_asm.specs.Stands.{Setting, Stands, marks_at}
+use Rattle.sch_asm.specs.Stands.{Stands}
 use Rattle.sch_asm.specs.Views.{text_at}
 use Rattle.sch_asm.proofs.Standing.{arrive_append, resolved_stands, setting_of, stands_back, stands_front}
 

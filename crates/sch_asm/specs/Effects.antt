@@ -26,20 +26,22 @@ pub record IsReady (x : View) : Type 0 where
   pub back : x.registers R11 < 2 ^ 64
 
 module _ (setting : Setting) where
-  -- The machine exits with a status after an output, past no mark, in fewer than so many steps and one more
-  -- for each ten answers that it may use.
-  pub record Stops (x : View) (most status : ℕ) (output : List ℕ) : Type 0 where
+  -- The machine exits with a status after an output, past no mark, with these answers left. It takes fewer
+  -- steps than the bound and ten for each answer used.
+  pub record Stops (x : View) (bound status : ℕ) (output : List ℕ) (left : List Answer) : Type 0 where
     pub last : View
     pub least : ℕ
-    pub steps : ℕ
-    pub leads : Leads setting least steps [] x last
-    pub few : steps < most
+    pub most : ℕ
+    pub leads : Leads setting least most [] x last
+    pub few : most + 10 * length left < bound + 10 * length x.answers
     pub exits : step (full setting last) ≡ Exited status (full setting last)
-    pub output_is : last.output ≡ output
     pub silent : setting.marks last.place ≡ []
+    pub output_is : last.output ≡ output
+    pub left_is : last.answers ≡ left
 
-  -- The machine comes back to its caller past no mark. Registers that are no scratch registers keep their
-  -- words, and so do the data behind the routines' own words. Each answer used costs ten steps.
+  -- The machine comes back to its caller, past no mark, with these answers left. Registers that are no scratch
+  -- registers keep their words, and the data keep what is behind the routines' own words. It takes no more
+  -- steps than the bound and ten for each answer used.
   pub record Returns (x : View) (bound : ℕ) (output : List ℕ) (left : List Answer) : Type 0 where
     pub y : View
     pub least : ℕ
@@ -56,7 +58,7 @@ module _ (setting : Setting) where
   -- A put that took the whole piece comes back, and any other is stop 74.
   abbrev pub PutEnds : Bool → View → ℕ → List ℕ → List Answer → Type 0
   PutEnds true x bound output left = Returns x bound output left
-  PutEnds false x bound output left = Stops x (bound + 10 * length x.answers) 74 output
+  PutEnds false x bound output left = Stops x bound 74 output left
 
   -- A piece is written against the kernel's answers.
   abbrev pub Puts : View → ℕ → List ℕ → Type 0
@@ -64,8 +66,8 @@ module _ (setting : Setting) where
 
   -- What a routine does from its label on. A piece that is put lies behind the routines' own words.
   abbrev pub Effect : Routine → View → Type 0
-  Effect End x = Stops x 3 0 x.output
-  Effect (Stop s) x = Stops x 3 (status_of s) x.output
+  Effect End x = Stops x 3 0 x.output x.answers
+  Effect (Stop s) x = Stops x 3 (status_of s) x.output x.answers
   Effect Put x = (piece : List ℕ) → IsReady x → 0x10000200 ≤ x.registers RAX → x.registers RDX ≡ length piece → PieceAt x.bytes (x.registers RAX) piece → Puts x 20 piece
   Effect PutFixnum x = (n : ℤ) → IsReady x → FixnumWord n (x.registers RAX) → Puts x 167 (signed_decimal n)
 

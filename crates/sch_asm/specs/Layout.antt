@@ -121,6 +121,13 @@ marked at k (i ∷ is) = marks_of (at k) i ++ marked at (k + 1) is
 abbrev pub placed_by : List ℕ → List ℕ → ℕ → ℕ
 placed_by numbers addresses l = slice_index addresses (slice_index numbers l)
 
+-- What tables put out for items from number k on.
+abbrev pub emitted_by : List ℕ → List ℕ → ℕ → List Item → List Insn
+emitted_by numbers addresses k is = emitted (placed_by numbers addresses) (slice_index addresses) k is
+
+abbrev pub marked_by : List ℕ → ℕ → List Item → List mark.Mark
+marked_by addresses k is = marked (slice_index addresses) k is
+
 -- The tables are those of items and words: each label that stands has the number of its item, each item the
 -- address where those before it end, and each label that is used has a place in the tables.
 pub record IsLaidOut (items : List Item) (words : List Word) (numbers addresses : List ℕ) : Type 0 where

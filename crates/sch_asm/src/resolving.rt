@@ -5,12 +5,14 @@ ghost use Rattle.std.specs.List.{flat_map};
 ghost use Rattle.sch_insn.specs.Spelling.{AllValid, IsCondition, IsValid, spelling};
 ghost use Rattle.sch_asm.specs.Items.{AreItems, AreOwn, AreRoutines, IsItem};
 ghost use Rattle.sch_asm.specs.Codes.{AreResolved, IsTooLarge, bytes_of, item_size, text_size, value_of as word_value};
-ghost use Rattle.sch_asm.specs.Layout.{IsLaidOut, UseBelow, UsesBelow, WordBelow, WordsBelow, displacement, emitted, insns_of, marked, marks_of, option_list, placed_by, total};
+ghost use Rattle.sch_asm.specs.Layout.{IsLaidOut, UseBelow, UsesBelow, WordBelow, WordsBelow, displacement, emitted_by, insns_of, marked_by, marks_of, option_list, placed_by, total};
 
 use crate::assembly::{Asm, Word};
 use crate::error::AsmError;
 use crate::item::{Item, Mark};
-use crate::layout::{Layout, addresses_of, item_count, labels_of, number_labels, push_sizes, total_size, zeros};
+use crate::layout::{
+    Layout, addresses_of, item_count, labels_of, number_labels, push_sizes, total_size, zeros,
+};
 use sch_insn::{Arg, Insn};
 use sch_word::{Bytes, List, Mem};
 use std::alloc::Global;
@@ -51,7 +53,13 @@ pub fn resolve(alloc: Global, a: &Asm, routines: &Asm) -> Result<Resolved, AsmEr
     let mut code = List::new(alloc);
     let mut marks = List::new(alloc);
     let behind = emit(a.items.as_slice(), 0, &layout, &mut code, &mut marks)?;
-    emit(routines.items.as_slice(), behind, &layout, &mut code, &mut marks)?;
+    emit(
+        routines.items.as_slice(),
+        behind,
+        &layout,
+        &mut code,
+        &mut marks,
+    )?;
     let words = word_bytes(alloc, a.words.as_slice(), &layout)?;
     Ok(Resolved {
         code,
@@ -145,12 +153,18 @@ fn mark_of(item: &Item, at: u32) -> Option<Mark>
 
 // Puts out the instructions and marks of the items that have the numbers from `first` on, and gives the
 // number behind them.
-fn emit(items: &[Item], first: usize, layout: &Layout, code: &mut List<Insn>, marks: &mut List<Mark>) -> Result<usize, Mem>
+fn emit(
+    items: &[Item],
+    first: usize,
+    layout: &Layout,
+    code: &mut List<Insn>,
+    marks: &mut List<Mark>,
+) -> Result<usize, Mem>
     requires sound { AreItems items.now }
     requires uses { UseBelow (length layout.now.numbers.items) items.now }
     requires within { first + length items.now < length layout.now.addresses }
-    ensures code { OnOk result (code.new ≡ code.old ++ emitted (placed_by layout.now.numbers.items layout.now.addresses) (slice_index layout.now.addresses) first items.now) }
-    ensures marks { OnOk result (marks.new ≡ marks.old ++ marked (slice_index layout.now.addresses) first items.now) }
+    ensures code { OnOk result (code.new ≡ code.old ++ emitted_by layout.now.numbers.items layout.now.addresses first items.now) }
+    ensures marks { OnOk result (marks.new ≡ marks.old ++ marked_by layout.now.addresses first items.now) }
     ensures end { IfOk result (λ end. end ≡ first + length items.now) }
 {
     let mut number = first;

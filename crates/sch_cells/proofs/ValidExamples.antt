@@ -1,10 +1,10 @@
 -- Programs that are not valid, one for each reason.
 use Rattle.std.proofs.Common.{◌≡◌, refl, true, false, [], ◌∷◌, Some, None}
 use Rattle.sch_word.specs.declared.constant.Const.TheVariants.{Character}
-use Rattle.sch_word.specs.declared.primitive.Primitive.TheVariants.{Car, Cons}
-use Rattle.sch_cells.specs.Tree.{Source, constant, variable, global, literal, set_variable, sequence, bind, fix, letrec, lambda, call, operation, new_cells, cell_get, cell_set, no_lambdas, and_lambda, trees}
+use Rattle.sch_word.specs.declared.primitive.Primitive.TheVariants.{Car}
+use Rattle.sch_cells.specs.Tree.{constant, variable, global, literal, set_variable, sequence, bind, fix, lambda, call, new_cells, cell_get, no_lambdas, and_lambda, trees}
 use Rattle.sch_cells.specs.Valid.{is_valid}
-use Rattle.sch_cells.specs.Examples.{number, put, two, function, apply, new_cell, program, let_of, assigned_formal, assigned_formal_boxed, unset_init}
+use Rattle.sch_cells.specs.Examples.{number, put, two, function, new_cell, program, let_of, assigned_formal, assigned_formal_boxed, unset_init}
 
 -- a number that two variables have, one inside the other
 twice : is_valid false (let_of 0) ≡ false

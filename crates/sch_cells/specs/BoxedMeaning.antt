@@ -12,7 +12,7 @@ use Rattle.sch_word.specs.Orders.{Orders, order_at}
 use Rattle.sch_word.specs.PrimitiveRows.{primitive}
 use Rattle.sch_word.specs.Runs.{Runs, seen, starting_store, starting_state}
 use Rattle.sch_cells.specs.declared.tree.NewCell.{NewCell}
-use Rattle.sch_cells.specs.Tree.{Tree, Trees, Lambdas, Source, constant, literal, variable, global, set_variable, set_global, define, branch, sequence, bind, fix, letrec, lambda, call, operation, new_cells, cell_get, cell_set, no_trees, and_tree, count, count_lambdas}
+use Rattle.sch_cells.specs.Tree.{Tree, Trees, Source, constant, literal, variable, global, set_variable, set_global, define, branch, sequence, bind, fix, letrec, lambda, call, operation, new_cells, cell_get, cell_set, no_trees, and_tree, count_lambdas}
 use Rattle.sch_cells.specs.Procedures.{Closure, closures, lambda_bytes, lambdas_bytes}
 
 abbrev pub Enter : Type 0

@@ -1,11 +1,11 @@
 -- Small programs as trees of the cell language, most of them in both forms; proofs/Examples.antt says what
 -- each of them does.
-use Rattle.std.specs.Prelude.{ℕ, zero, suc, Bool, true, false, ℤ, pos, List, [], ◌∷◌, Option, Some, None}
+use Rattle.std.specs.Prelude.{ℕ, false, pos, List, [], ◌∷◌, Option, Some, None}
 use Rattle.sch_word.specs.declared.constant.Const.TheVariants.{Fixnum}
 use Rattle.sch_word.specs.declared.primitive.Primitive.{Primitive}
 use Rattle.sch_word.specs.declared.primitive.Primitive.TheVariants.{Add, Subtract, Equal, Put}
 use Rattle.sch_word.specs.Literals.{no_literals}
-use Rattle.sch_word.specs.Runs.{Runs, Run, ended}
+use Rattle.sch_word.specs.Runs.{Run, ended}
 use Rattle.sch_cells.specs.declared.tree.NewCell.{NewCell}
 use Rattle.sch_cells.specs.Tree.{Tree, constant, variable, set_variable, branch, sequence, bind, fix, letrec, lambda, call, operation, new_cells, cell_get, cell_set, no_lambdas, and_lambda, trees, Source}
 

@@ -1,5 +1,5 @@
 -- Which cell programs are valid.
-use Rattle.std.specs.Prelude.{ℕ, zero, suc, ◌+◌, ◌*◌, Bool, true, false, ◌&&◌, ◌||◌, not, nat_le, List, [], ◌++◌, length}
+use Rattle.std.specs.Prelude.{ℕ, zero, suc, ◌*◌, Bool, true, false, ◌&&◌, ◌||◌, not, nat_le, List, [], ◌++◌, length}
 use Rattle.sch_word.specs.Literals.{count_literals}
 use Rattle.sch_word.specs.Runs.{statics_valid, statics_in_range}
 use Rattle.sch_word.specs.Shape as shapes

@@ -1,8 +1,8 @@
 -- Quotations, and data that are neither lists nor names, by what the code finds.
-use Rattle.std.proofs.Common.{◌≡◌, ℕ, List, [], ◌∷◌, Option, refl, ap, ◌∙◌}
+use Rattle.std.proofs.Common.{◌≡◌, ℕ, [], ◌∷◌, Option, refl, ap, ◌∙◌}
 use Rattle.sch_word.specs.declared.constant.Const.TheVariants.{Nil}
-use Rattle.sch_read.specs.Grammar.{Atom, Datum, Data, atom, list, dotted, vector, none, cons, boolean, integer, character, text, symbol}
-use Rattle.sch_read.specs.Parts.{offset, IsNoAtom, IsNoSymbol, IsNoProperList}
+use Rattle.sch_read.specs.Grammar.{Atom, Datum, Data, atom, list, dotted, vector, none, cons}
+use Rattle.sch_read.specs.Parts.{offset, IsNoAtom, IsNoProperList}
 use Rattle.sch_core.specs.declared.fault.Fault.{Fault}
 use Rattle.sch_core.specs.declared.fault.Fault.TheVariants.{Unbuilt, BadForm}
 use Rattle.sch_core.specs.Builds.{drafted, quoted, built_other, least_other}

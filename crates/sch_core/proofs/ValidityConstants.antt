@@ -1,8 +1,8 @@
 -- The constants of a program are those of its drafts.
-use Rattle.std.proofs.Common.{◌≡◌, ◌<◌, ℕ, suc, ◌+◌, true, ◌&&◌, List, [], ◌∷◌, drop, get_or, length, refl, subst, sym, ap, add-one}
+use Rattle.std.proofs.Common.{◌≡◌, ◌<◌, ℕ, suc, ◌+◌, true, ◌&&◌, List, drop, get_or, length, refl, subst, sym, add-one}
 use Rattle.std.proofs.lemmas.Bool.{and_from}
 use Rattle.std.proofs.lemmas.List.{drop_all}
-use Rattle.std.specs.Prelude.{map, ◌≤◌}
+use Rattle.std.specs.Prelude.{◌≤◌}
 use Rattle.sch_word.specs.Shape.{constant_in_range}
 use Rattle.sch_lang.specs.Measures.{over, over_each, shape}
 use Rattle.sch_lang.specs.Valid.{constants_in_range}

@@ -9,15 +9,17 @@ use Rattle.sch_control.specs.declared.operation.Atom.{Atom}
 use Rattle.sch_control.specs.declared.operation.Atom.TheVariants.{Constant, Literal, Variable}
 use Rattle.sch_control.specs.declared.operation.Operand.{Operand}
 use Rattle.sch_control.specs.declared.operation.Operand.TheVariants as operand
+use Rattle.sch_control.specs.declared.operation.Source.{Source}
+use Rattle.sch_control.specs.declared.operation.Source.TheVariants as source
 use Rattle.sch_control.specs.declared.operation.Operation.{Operation}
 use Rattle.sch_control.specs.declared.operation.Operation.TheVariants as operation
-use Rattle.sch_control.specs.Parts.{operand_atoms, operands_atoms, operation_atoms}
+use Rattle.sch_control.specs.Parts.{operand_atoms, operands_atoms, source_atom, source_atoms, operation_atoms}
 use Rattle.sch_control.specs.Tree.{Expression, perform, bind, sequence, branch, fix, call, tail_call, return, end, save}
-use Rattle.sch_control.specs.Valid.{operand_shaped, operands_shaped, operation_shaped, application_shaped, group_shaped, each_part, shaped, Names, atom_known, atoms_known, operation_known, application_known, group_known}
+use Rattle.sch_control.specs.Valid.{operand_shaped, operands_shaped, operation_shaped, application_shaped, group_shaped, each_part, shaped, Names, atom_known, atoms_known, closure_known, operation_known, application_known, group_known}
 use Rattle.sch_frames.specs.declared.instruction.Instruction.{Instruction}
 use Rattle.sch_frames.specs.declared.instruction.Instruction.TheVariants.{Do, Store, Return, End, IfFalse, Jump, Label, Mark}
 use Rattle.sch_frames.specs.Valid.{is_place, is_atom, instruction_placed, instruction_shaped, instruction_known}
-use Rattle.sch_frames.specs.Layout.{straight, straight_operation, atom_at, atoms_at, operand_at, operands_at, operation_at, leave, lay}
+use Rattle.sch_frames.specs.Layout.{straight, source_at, sources_at, atom_at, atoms_at, operand_at, operands_at, operation_at, leave, lay}
 use Rattle.sch_frames.proofs.Operating.{AtomHas, AtomsHave, have_left, have_right}
 use Rattle.sch_frames.proofs.Same.{Uses}
 
@@ -89,20 +91,30 @@ module _ (place : ℕ → Place) (words : ℕ) (P : ℕ → Type 0) (there : (x 
       list_all-append (is_atom words) (operand_atoms (operand_at place o)) _
       ∙ and_from _ _ (operand_placed o (have_left P (operand_atoms o) _ h)) (operands_placed operands (have_right P (operand_atoms o) _ h))
 
-  operation_placed : (o : Operation ℕ) → straight_operation o ≡ true → AtomsHave P (operation_atoms o) → list_all (is_atom words) (operation_atoms (operation_at place o)) ≡ true
-  operation_placed (operation.Operand o) s h = operand_placed o h
-  operation_placed (operation.Prim site which operands) s h = operands_placed operands h
-  operation_placed (operation.Global g) s h = refl
-  operation_placed (operation.SetGlobal g o) s h = operand_placed o h
-  operation_placed (operation.Field v k) s h = absurd (cc)
-  operation_placed (operation.NewCell o) s h = absurd (cc)
-  operation_placed operation.UnsetCell s h = absurd (cc)
-  operation_placed (operation.CellGet c) s h = absurd (cc)
-  operation_placed (operation.CellSet c o) s h = absurd (cc)
-  operation_placed (operation.MakeClosure c) s h = absurd (cc)
+  source_placed : (c : Source ℕ) → AtomHas P (source_atom c) → is_atom words (source_atom (source_at place c)) ≡ true
+  source_placed (source.Atom (Constant c)) h = refl
+  source_placed (source.Atom (Literal n)) h = refl
+  source_placed (source.Atom (Variable x)) h = there x h
+  source_placed (source.Field x k) h = there x h
+
+  sources_placed : (cs : List (Source ℕ)) → AtomsHave P (source_atoms cs) → list_all (is_atom words) (source_atoms (sources_at place cs)) ≡ true
+  sources_placed [] h = refl
+  sources_placed (c ∷ cs) h = and_from _ _ (source_placed c h.0) (sources_placed cs h.1)
+
+  operation_placed : (o : Operation ℕ) → AtomsHave P (operation_atoms o) → list_all (is_atom words) (operation_atoms (operation_at place o)) ≡ true
+  operation_placed (operation.Operand o) h = operand_placed o h
+  operation_placed (operation.Prim site which operands) h = operands_placed operands h
+  operation_placed (operation.Global g) h = refl
+  operation_placed (operation.SetGlobal g o) h = operand_placed o h
+  operation_placed (operation.Field x k) h = and_from _ _ (there x h.0) refl
+  operation_placed (operation.NewCell o) h = operand_placed o h
+  operation_placed operation.UnsetCell h = refl
+  operation_placed (operation.CellGet c) h = and_from _ _ (source_placed c h.0) refl
+  operation_placed (operation.CellSet c o) h = and_from _ _ (source_placed c h.0) (operand_placed o h.1)
+  operation_placed (operation.MakeClosure c) h = sources_placed c.fields h
 
   pub uses_placed : (e : Expression) → straight e ≡ true → Uses P e → Passes place (instruction_placed words) (placed_steers words) e
-  uses_placed (perform o) s h = operation_placed o s h
+  uses_placed (perform o) s h = operation_placed o h
   uses_placed (bind x a b) s h = let parts = and_parts _ _ s in (there x h.0, (uses_placed a parts.0 h.1.0, uses_placed b parts.1 h.1.1))
   uses_placed (sequence a b) s h = let parts = and_parts _ _ s in (uses_placed a parts.0 h.0, uses_placed b parts.1 h.1)
   uses_placed (branch a b c) s h =
@@ -135,20 +147,24 @@ module _ (place : ℕ → Place) where
   operands_same_shape [] = refl
   operands_same_shape (o ∷ operands) = rw (operand_same_shape o, operands_same_shape operands) refl
 
-  operation_same_shape : (o : Operation ℕ) → straight_operation o ≡ true → operation_shaped (operation_at place o) ≡ operation_shaped o
-  operation_same_shape (operation.Operand o) s = operand_same_shape o
-  operation_same_shape (operation.Prim site which operands) s = rw (length_operands operands, operands_same_shape operands) refl
-  operation_same_shape (operation.Global g) s = refl
-  operation_same_shape (operation.SetGlobal g o) s = operand_same_shape o
-  operation_same_shape (operation.Field v k) s = absurd (cc)
-  operation_same_shape (operation.NewCell o) s = absurd (cc)
-  operation_same_shape operation.UnsetCell s = absurd (cc)
-  operation_same_shape (operation.CellGet c) s = absurd (cc)
-  operation_same_shape (operation.CellSet c o) s = absurd (cc)
-  operation_same_shape (operation.MakeClosure c) s = absurd (cc)
+  length_sources : (cs : List (Source ℕ)) → length (sources_at place cs) ≡ length cs
+  length_sources [] = refl
+  length_sources (c ∷ cs) = ap suc (length_sources cs)
+
+  operation_same_shape : (o : Operation ℕ) → operation_shaped (operation_at place o) ≡ operation_shaped o
+  operation_same_shape (operation.Operand o) = operand_same_shape o
+  operation_same_shape (operation.Prim site which operands) = rw (length_operands operands, operands_same_shape operands) refl
+  operation_same_shape (operation.Global g) = refl
+  operation_same_shape (operation.SetGlobal g o) = operand_same_shape o
+  operation_same_shape (operation.Field x k) = refl
+  operation_same_shape (operation.NewCell o) = operand_same_shape o
+  operation_same_shape operation.UnsetCell = refl
+  operation_same_shape (operation.CellGet c) = refl
+  operation_same_shape (operation.CellSet c o) = operand_same_shape o
+  operation_same_shape (operation.MakeClosure c) = rw (length_sources c.fields) refl
 
   pub parts_shaped : (e : Expression) → straight e ≡ true → shaped e ≡ true → Passes place instruction_shaped shaped_steers e
-  parts_shaped (perform o) s h = operation_same_shape o s ∙ h
+  parts_shaped (perform o) s h = operation_same_shape o ∙ h
   parts_shaped (bind x a b) s h = let parts = and_parts _ _ s in let more = and_parts _ _ h in (refl, (parts_shaped a parts.0 more.0, parts_shaped b parts.1 more.1))
   parts_shaped (sequence a b) s h = let parts = and_parts _ _ s in let more = and_parts _ _ h in (parts_shaped a parts.0 more.0, parts_shaped b parts.1 more.1)
   parts_shaped (branch a b c) s h =
@@ -186,24 +202,41 @@ module _ (place : ℕ → Place) where
     operand_same_names : (o : Operand ℕ) → atoms_known names (operand_atoms (operand_at place o)) ≡ atoms_known names (operand_atoms o)
     operand_same_names o = ap (atoms_known names) (operand_atoms_at o) ∙ atoms_same_names (operand_atoms o)
 
-    operation_same_names : (o : Operation ℕ) → straight_operation o ≡ true → operation_known names (operation_at place o) ≡ operation_known names o
-    operation_same_names (operation.Operand o) s = rw (operand_same_names o) refl
-    operation_same_names (operation.Prim site which operands) s =
+    source_atom_at : (c : Source ℕ) → source_atom (source_at place c) ≡ atom_at place (source_atom c)
+    source_atom_at (source.Atom a) = refl
+    source_atom_at (source.Field x k) = refl
+
+    sources_atoms_at : (cs : List (Source ℕ)) → source_atoms (sources_at place cs) ≡ atoms_at place (source_atoms cs)
+    sources_atoms_at [] = refl
+    sources_atoms_at (c ∷ cs) = rw (source_atom_at c, sources_atoms_at cs) refl
+
+    atom_same_name : (a : Atom ℕ) → atom_known names.symbols names.literals (atom_at place a) ≡ atom_known names.symbols names.literals a
+    atom_same_name (Constant c) = refl
+    atom_same_name (Literal n) = refl
+    atom_same_name (Variable x) = refl
+
+    source_same_name : (c : Source ℕ) → atom_known names.symbols names.literals (source_atom (source_at place c)) ≡ atom_known names.symbols names.literals (source_atom c)
+    source_same_name c = ap (atom_known names.symbols names.literals) (source_atom_at c) ∙ atom_same_name (source_atom c)
+
+    operation_same_names : (o : Operation ℕ) → operation_known names (operation_at place o) ≡ operation_known names o
+    operation_same_names (operation.Operand o) = rw (operand_same_names o) refl
+    operation_same_names (operation.Prim site which operands) =
         ap (λ t. t && (true && true)) (ap (atoms_known names) (operands_atoms_at operands) ∙ atoms_same_names (operands_atoms operands))
-    operation_same_names (operation.Global g) s = refl
-    operation_same_names (operation.SetGlobal g o) s = rw (operand_same_names o) refl
-    operation_same_names (operation.Field v k) s = absurd (cc)
-    operation_same_names (operation.NewCell o) s = absurd (cc)
-    operation_same_names operation.UnsetCell s = absurd (cc)
-    operation_same_names (operation.CellGet c) s = absurd (cc)
-    operation_same_names (operation.CellSet c o) s = absurd (cc)
-    operation_same_names (operation.MakeClosure c) s = absurd (cc)
+    operation_same_names (operation.Global g) = refl
+    operation_same_names (operation.SetGlobal g o) = rw (operand_same_names o) refl
+    operation_same_names (operation.Field x k) = refl
+    operation_same_names (operation.NewCell o) = rw (operand_same_names o) refl
+    operation_same_names operation.UnsetCell = refl
+    operation_same_names (operation.CellGet c) = rw (source_same_name c) refl
+    operation_same_names (operation.CellSet c o) = rw (source_same_name c, operand_same_names o) refl
+    operation_same_names (operation.MakeClosure c) =
+        rw (length_sources c.fields) (ap (λ t. t && (true && closure_known names.entries c)) (ap (atoms_known names) (sources_atoms_at c.fields) ∙ atoms_same_names (source_atoms c.fields)))
 
     abbrev parts_known : Expression → Bool
     parts_known e = each_part (record { operation = operation_known names; application = application_known names; group = group_known names }) e
 
     pub parts_named : (e : Expression) → straight e ≡ true → parts_known e ≡ true → Passes place (instruction_known names) (known_steers names) e
-    parts_named (perform o) s h = operation_same_names o s ∙ h
+    parts_named (perform o) s h = operation_same_names o ∙ h
     parts_named (bind x a b) s h = let parts = and_parts _ _ s in let more = and_parts _ _ h in (refl, (parts_named a parts.0 more.0, parts_named b parts.1 more.1))
     parts_named (sequence a b) s h = let parts = and_parts _ _ s in let more = and_parts _ _ h in (parts_named a parts.0 more.0, parts_named b parts.1 more.1)
     parts_named (branch a b c) s h =

@@ -1,5 +1,6 @@
 mod Arriving
 mod Entering
+mod Examples
 mod Following
 mod Labels
 mod Laid

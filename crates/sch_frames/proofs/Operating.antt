@@ -1,7 +1,8 @@
 -- An operation whose variables are in their places does the same.
 use Rattle.std.proofs.Common.{◌≡◌, ℕ, zero, suc, ◌<◌, List, [], ◌∷◌, ◌++◌, Option, Some, None, Bool, true, false, refl, sym, ap, ◌∙◌, subst}
+use Rattle.std.specs.Prelude.{slice_get}
 use Rattle.sch_word.specs.declared.place.Place.{Place}
-use Rattle.sch_word.specs.Values.{Value}
+use Rattle.sch_word.specs.Values.{Value, fixnum, character, boolean, nil, unspecified, symbol, object, procedure, cell}
 use Rattle.sch_word.specs.Store.{Store}
 use Rattle.sch_word.specs.Computation.{gives, in_store, write_global, read_global, State}
 use Rattle.sch_word.specs.PrimitiveRows.{primitive}
@@ -9,13 +10,15 @@ use Rattle.sch_control.specs.declared.operation.Atom.{Atom}
 use Rattle.sch_control.specs.declared.operation.Atom.TheVariants.{Constant, Literal, Variable}
 use Rattle.sch_control.specs.declared.operation.Operand.{Operand}
 use Rattle.sch_control.specs.declared.operation.Operand.TheVariants as operand
+use Rattle.sch_control.specs.declared.operation.Source.{Source}
+use Rattle.sch_control.specs.declared.operation.Source.TheVariants as source
 use Rattle.sch_control.specs.declared.operation.Operation.{Operation}
 use Rattle.sch_control.specs.declared.operation.Operation.TheVariants as operation
-use Rattle.sch_control.specs.Operations.{Procedure, atom_value, atom_values, operand_value, operand_values, operate, with_some}
-use Rattle.sch_control.specs.Parts.{operand_atoms, operands_atoms, operation_atoms}
+use Rattle.sch_control.specs.Operations.{Procedure, Ending, atom_value, atom_values, operand_value, operand_values, field, source_value, source_values, with_cell, operate, with_some}
+use Rattle.sch_control.specs.Parts.{operand_atoms, operands_atoms, source_atom, source_atoms, operation_atoms}
 use Rattle.sch_frames.specs.Does.{Follows}
-use Rattle.sch_frames.specs.Layout.{atom_at, atoms_at, operand_at, operands_at, operation_at, straight_operation}
-use Rattle.sch_frames.proofs.Following.{follows_same, and_value_follows, read_follows, with_some_follows}
+use Rattle.sch_frames.specs.Layout.{atom_at, atoms_at, operand_at, operands_at, operation_at, source_at, sources_at}
+use Rattle.sch_frames.proofs.Following.{follows_same, onto, and_value_follows, read_follows, with_some_follows}
 
 -- each variable among atoms has a property
 abbrev pub AtomHas : (ℕ → Type 0) → Atom ℕ → Type 0
@@ -57,15 +60,45 @@ module _ (place : ℕ → Place) (P : ℕ → Type 0) (at : ℕ → Option Value
   operands_follow t (o ∷ operands) h =
       and_value_follows _ _ _ _ (operand_follows t o (have_left P (operand_atoms o) _ h)) (operands_follow t operands (have_right P (operand_atoms o) _ h))
 
-  pub operate_follows : (o : Operation ℕ) (s : State Procedure) → straight_operation o ≡ true → AtomsHave P (operation_atoms o)
+  field_follows : (x k : ℕ) (procedures : List Procedure) → P x → Follows (field (at x) k procedures) (field (at' (place x)) k procedures)
+  field_follows x k procedures h = by (at x) (at' (place x)) (there x h) where
+    by : (a b : Option Value) → Follows a b → Follows (field a k procedures) (field b k procedures)
+    by None b f = tt
+    by (Some v) b f = onto _ _ _ (ap (λ t. field t k procedures) f) (follows_same (field (Some v) k procedures))
+
+  source_follows : (s : State Procedure) (c : Source ℕ) → AtomHas P (source_atom c) → Follows (source_value at s c) (source_value at' s (source_at place c))
+  source_follows s (source.Atom a) h = atom_follows s.store a h
+  source_follows s (source.Field x k) h = field_follows x k s.procedures h
+
+  sources_follow : (s : State Procedure) (cs : List (Source ℕ)) → AtomsHave P (source_atoms cs) → Follows (source_values at s cs) (source_values at' s (sources_at place cs))
+  sources_follow s [] h = refl
+  sources_follow s (c ∷ cs) h = and_value_follows _ _ _ _ (source_follows s c h.0) (sources_follow s cs h.1)
+
+  with_cell_follows : (a b : Option Value) (cells : List (Option Value)) (next next' : ℕ → Option Value → Ending) → Follows a b
+      → ((n : ℕ) (held : Option Value) → Follows (next n held) (next' n held)) → Follows (with_cell a cells next) (with_cell b cells next')
+  with_cell_follows a b cells next next' f h = by a f where
+    by : (a : Option Value) → Follows a b → Follows (with_cell a cells next) (with_cell b cells next')
+    by None f = tt
+    by (Some (cell n)) f = onto _ _ _ (ap (λ t. with_cell t cells next') f) (with_some_follows (slice_get cells n) (slice_get cells n) (next n) (next' n) (follows_same (slice_get cells n)) (h n))
+    by (Some (fixnum n)) f = tt
+    by (Some (character c)) f = tt
+    by (Some (boolean c)) f = tt
+    by (Some nil) f = tt
+    by (Some unspecified) f = tt
+    by (Some (symbol n)) f = tt
+    by (Some (object n)) f = tt
+    by (Some (procedure n)) f = tt
+
+  pub operate_follows : (o : Operation ℕ) (s : State Procedure) → AtomsHave P (operation_atoms o)
       → Follows (operate at o s) (operate at' (operation_at place o) s)
-  operate_follows (operation.Operand o) s e h = with_some_follows _ _ _ _ (operand_follows s.store o h) (λ v. refl)
-  operate_follows (operation.Prim site which operands) s e h = with_some_follows _ _ _ _ (operands_follow s.store operands h) (λ vs. refl)
-  operate_follows (operation.Global g) s e h = refl
-  operate_follows (operation.SetGlobal g o) s e h = with_some_follows _ _ _ _ (operand_follows s.store o h) (λ v. refl)
-  operate_follows (operation.Field v k) s e h = absurd (cc)
-  operate_follows (operation.NewCell o) s e h = absurd (cc)
-  operate_follows operation.UnsetCell s e h = absurd (cc)
-  operate_follows (operation.CellGet c) s e h = absurd (cc)
-  operate_follows (operation.CellSet c o) s e h = absurd (cc)
-  operate_follows (operation.MakeClosure c) s e h = absurd (cc)
+  operate_follows (operation.Operand o) s h = with_some_follows _ _ _ _ (operand_follows s.store o h) (λ v. refl)
+  operate_follows (operation.Prim site which operands) s h = with_some_follows _ _ _ _ (operands_follow s.store operands h) (λ vs. refl)
+  operate_follows (operation.Global g) s h = refl
+  operate_follows (operation.SetGlobal g o) s h = with_some_follows _ _ _ _ (operand_follows s.store o h) (λ v. refl)
+  operate_follows (operation.Field x k) s h = with_some_follows _ _ _ _ (field_follows x k s.procedures h.0) (λ v. refl)
+  operate_follows (operation.NewCell o) s h = with_some_follows _ _ _ _ (operand_follows s.store o h) (λ v. refl)
+  operate_follows operation.UnsetCell s h = refl
+  operate_follows (operation.CellGet c) s h = with_cell_follows _ _ s.cells _ _ (source_follows s c h.0) (λ n held. refl)
+  operate_follows (operation.CellSet c o) s h =
+      with_cell_follows _ _ s.cells _ _ (source_follows s c h.0) (λ n held. with_some_follows _ _ _ _ (operand_follows s.store o h.1) (λ v. refl))
+  operate_follows (operation.MakeClosure c) s h = with_some_follows _ _ _ _ (sources_follow s c.fields h) (λ vs. refl)

@@ -15,7 +15,7 @@ use Rattle.sch_frames.specs.declared.instruction.Instruction.{Instruction}
 use Rattle.sch_frames.specs.declared.instruction.Instruction.TheVariants.{Return, End, Jump, Label, Mark}
 use Rattle.sch_frames.specs.Does.{Follows}
 use Rattle.sch_frames.specs.Meaning.{Cell, Is, Link, Junk, Frame, link_register, value_in, held, same_place, set, with_place, if_link, execute_each}
-use Rattle.sch_frames.specs.Layout.{straight, straight_operation, operation_at, leave, labels, lay}
+use Rattle.sch_frames.specs.Layout.{straight, operation_at, leave, labels, lay}
 use Rattle.sch_frames.proofs.Following.{onto, with_value_follows, on_ending_follows}
 use Rattle.sch_frames.proofs.Operating.{AtomsHave, operate_follows}
 use Rattle.sch_frames.proofs.Skip.{past, past_label}
@@ -170,7 +170,7 @@ module _ (place : ℕ → Place) (at : Apart place) where
         → Follows (does e environment saved w next) (run (lay place e n test rest) None f w)
     same (perform o) s u n test rest b environment saved f w next r h =
         on_ending_follows w.marks (operate environment o w.state) (operate (held f) (operation_at place o) w.state) _ _
-        (operate_follows place Behind environment (held f) (found f r) o w.state s u)
+        (operate_follows place Behind environment (held f) (found f r) o w.state u)
         (λ v w. onto (next v environment saved w) _ _ (leaving test rest (record f { accumulator = Is v }) w v refl) (h v environment saved (record f { accumulator = Is v }) w r refl))
     same (bind x a b) s u n test rest below environment saved f w next r h =
         let parts = and_parts _ _ s in

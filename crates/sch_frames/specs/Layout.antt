@@ -9,6 +9,9 @@ use Rattle.sch_control.specs.declared.operation.Atom.{Atom}
 use Rattle.sch_control.specs.declared.operation.Atom.TheVariants.{Constant, Literal, Variable}
 use Rattle.sch_control.specs.declared.operation.Operand.{Operand}
 use Rattle.sch_control.specs.declared.operation.Operand.TheVariants as operand
+use Rattle.sch_control.specs.declared.operation.Source.{Source}
+use Rattle.sch_control.specs.declared.operation.Source.TheVariants as source
+use Rattle.sch_control.specs.declared.operation.Closure.{Closure}
 use Rattle.sch_control.specs.declared.operation.Operation.{Operation}
 use Rattle.sch_control.specs.declared.operation.Operation.TheVariants as operation
 use Rattle.sch_control.specs.Tree as control
@@ -18,17 +21,10 @@ use Rattle.sch_frames.specs.declared.instruction.Instruction.TheVariants.{Do, St
 use Rattle.sch_frames.specs.Meaning.{argument_register, argument_slot, closure_register}
 use Rattle.sch_frames.specs.Valid.{formals_of}
 
--- ## Bodies that are laid out so far: without calls, closures and cells
-
-abbrev pub straight_operation : Operation ℕ → Bool
-straight_operation (operation.Operand o) = true
-straight_operation (operation.Prim site which operands) = true
-straight_operation (operation.Global g) = true
-straight_operation (operation.SetGlobal g o) = true
-straight_operation _ = false
+-- ## Bodies that are laid out so far: without calls and groups of closures
 
 abbrev pub straight : Expression → Bool
-straight (perform o) = straight_operation o
+straight (perform o) = true
 straight (bind x a b) = straight a && straight b
 straight (sequence a b) = straight a && straight b
 straight (branch a b c) = straight a && (straight b && straight c)
@@ -70,13 +66,27 @@ module _ (place : ℕ → Place) where
   abbrev pub operands_at : List (Operand ℕ) → List (Operand Place)
   operands_at = map operand_at
 
-  -- an operation of a body that is laid out so far
+  abbrev pub source_at : Source ℕ → Source Place
+  source_at (source.Atom a) = source.Atom (atom_at a)
+  source_at (source.Field x k) = source.Field (place x) k
+
+  abbrev pub sources_at : List (Source ℕ) → List (Source Place)
+  sources_at = map source_at
+
+  abbrev pub closure_at : Closure ℕ → Closure Place
+  closure_at c = record { label = c.label; fields = sources_at c.fields }
+
   abbrev pub operation_at : Operation ℕ → Operation Place
   operation_at (operation.Operand o) = operation.Operand (operand_at o)
   operation_at (operation.Prim site which operands) = operation.Prim site which (operands_at operands)
   operation_at (operation.Global g) = operation.Global g
   operation_at (operation.SetGlobal g o) = operation.SetGlobal g (operand_at o)
-  operation_at _ = operation.UnsetCell
+  operation_at (operation.Field x k) = operation.Field (place x) k
+  operation_at (operation.NewCell o) = operation.NewCell (operand_at o)
+  operation_at operation.UnsetCell = operation.UnsetCell
+  operation_at (operation.CellGet c) = operation.CellGet (source_at c)
+  operation_at (operation.CellSet c o) = operation.CellSet (source_at c) (operand_at o)
+  operation_at (operation.MakeClosure c) = operation.MakeClosure (closure_at c)
 
   -- ## Expressions
 

@@ -3,12 +3,14 @@
 ghost use Rattle.std.specs.Prelude.{◌≡◌, ◌≤◌, ◌++◌, ◌+◌, ◌∷◌, [], length, take, true, IfOk, OnOk, Option, Some, None};
 ghost use Rattle.sch_control.specs.View.{expression};
 ghost use Rattle.sch_control.specs.declared.operation.Operation.TheVariants as operation;
+ghost use Rattle.sch_control.specs.declared.mark.MarkKind.TheVariants as mark;
 ghost use Rattle.sch_frames.specs.declared.instruction.Instruction.{Instruction};
+ghost use Rattle.sch_frames.specs.declared.instruction.Instruction.TheVariants.{Do, Store, Return, End, Jump, Label, Mark};
 ghost use Rattle.sch_frames.specs.Valid.{formals_of};
-ghost use Rattle.sch_frames.specs.Layout.{atom_at, atoms_at, operand_at, operands_at, operation_at, own_slot, leave, labels, lay, arrival, arrivals, entering, arrival_slots};
+ghost use Rattle.sch_frames.specs.Layout.{atom_at, atoms_at, operand_at, operands_at, source_at, sources_at, closure_at, operation_at, own_slot, leave, labels, lay, arrival, arrivals, entering, arrival_slots};
 
 use crate::instruction::Instruction;
-use sch_control::{Atom, Entry, Exp, MarkKind, Operand, Operation};
+use sch_control::{Atom, Closure, Entry, Exp, MarkKind, Operand, Operation, Source};
 use sch_word::{List, Mem, Place};
 use std::alloc::Global;
 
@@ -74,6 +76,35 @@ fn operands_at(alloc: Global, base: u32, operands: &[Operand<u32>]) -> Result<Li
     Ok(made)
 }
 
+fn source_at(base: u32, c: &Source<u32>) -> Result<Source<Place>, Mem>
+    ensures { IfOk result (λ d. d ≡ source_at (own_slot base) c.now) }
+{
+    match c {
+        Source::Atom(a) => Ok(Source::Atom(atom_at(base, a)?)),
+        Source::Field(x, k) => Ok(Source::Field(own_slot(base, *x)?, *k)),
+    }
+}
+
+fn sources_at(alloc: Global, base: u32, sources: &[Source<u32>]) -> Result<List<Source<Place>>, Mem>
+    ensures { IfOk result (λ made. made ≡ sources_at (own_slot base) sources.now) }
+{
+    let mut made = List::new(alloc);
+    for c in sources {
+        made.push(source_at(base, c)?)?;
+    }
+    Ok(made)
+}
+
+fn closure_at(alloc: Global, base: u32, c: &Closure<u32>) -> Result<Closure<Place>, Mem>
+    ensures { IfOk result (λ d. d ≡ closure_at (own_slot base) c.now) }
+{
+    let fields = sources_at(alloc, base, c.fields.as_slice())?;
+    Ok(Closure {
+        label: c.label,
+        fields,
+    })
+}
+
 fn operation_at(alloc: Global, base: u32, o: &Operation<u32>) -> Result<Operation<Place>, Mem>
     ensures { IfOk result (λ p. p ≡ operation_at (own_slot base) o.now) }
 {
@@ -85,7 +116,15 @@ fn operation_at(alloc: Global, base: u32, o: &Operation<u32>) -> Result<Operatio
         }
         Operation::Global(g) => Ok(Operation::Global(*g)),
         Operation::SetGlobal(g, o) => Ok(Operation::SetGlobal(*g, operand_at(alloc, base, o)?)),
-        _ => Ok(Operation::UnsetCell),
+        Operation::Field(x, k) => Ok(Operation::Field(own_slot(base, *x)?, *k)),
+        Operation::NewCell(o) => Ok(Operation::NewCell(operand_at(alloc, base, o)?)),
+        Operation::UnsetCell => Ok(Operation::UnsetCell),
+        Operation::CellGet(c) => Ok(Operation::CellGet(source_at(base, c)?)),
+        Operation::CellSet(c, o) => {
+            let c = source_at(base, c)?;
+            Ok(Operation::CellSet(c, operand_at(alloc, base, o)?))
+        }
+        Operation::MakeClosure(c) => Ok(Operation::MakeClosure(closure_at(alloc, base, c)?)),
     }
 }
 
@@ -132,6 +171,66 @@ fn leave(out: &mut Writer, test: Option<u32>) -> Result<(), Mem>
     }
 }
 
+// What is written between the parts of an expression stands in functions of its own, so that the walk over the
+// parts, which is as deep as they nest, has a small frame.
+
+fn write_operation(
+    alloc: Global,
+    base: u32,
+    o: &Operation<u32>,
+    test: Option<u32>,
+    out: &mut Writer,
+) -> Result<(), Mem>
+    ensures instructions { OnOk result ((rest : List Instruction) → out.new.instructions ++ rest ≡ out.old.instructions ++ Do (operation_at (own_slot base) o.now) ∷ leave test rest) }
+    ensures labels { OnOk result (out.new.labels ≡ out.old.labels) }
+{
+    put(out, Instruction::Do(operation_at(alloc, base, o)?))?;
+    leave(out, test)?;
+    Ok(())
+}
+
+fn write_store(base: u32, x: u32, out: &mut Writer) -> Result<(), Mem>
+    ensures instructions { OnOk result ((rest : List Instruction) → out.new.instructions ++ rest ≡ out.old.instructions ++ Store (own_slot base x) ∷ rest) }
+    ensures labels { OnOk result (out.new.labels ≡ out.old.labels) }
+{
+    put(out, Instruction::Store(own_slot(base, x)?))?;
+    Ok(())
+}
+
+fn write_else(no: u32, end: u32, out: &mut Writer) -> Result<(), Mem>
+    ensures instructions { OnOk result ((rest : List Instruction) → out.new.instructions ++ rest ≡ out.old.instructions ++ Jump end ∷ (Label no ∷ rest)) }
+    ensures labels { OnOk result (out.new.labels ≡ out.old.labels) }
+{
+    put(out, Instruction::Jump(end))?;
+    put(out, Instruction::Label(no))?;
+    Ok(())
+}
+
+fn write_label(label: u32, out: &mut Writer) -> Result<(), Mem>
+    ensures instructions { OnOk result ((rest : List Instruction) → out.new.instructions ++ rest ≡ out.old.instructions ++ Label label ∷ rest) }
+    ensures labels { OnOk result (out.new.labels ≡ out.old.labels) }
+{
+    put(out, Instruction::Label(label))?;
+    Ok(())
+}
+
+fn write_return(out: &mut Writer) -> Result<(), Mem>
+    ensures instructions { OnOk result ((rest : List Instruction) → out.new.instructions ++ rest ≡ out.old.instructions ++ Mark mark.Return ∷ (Return ∷ rest)) }
+    ensures labels { OnOk result (out.new.labels ≡ out.old.labels) }
+{
+    put(out, Instruction::Mark(MarkKind::Return))?;
+    put(out, Instruction::Return)?;
+    Ok(())
+}
+
+fn write_end(out: &mut Writer) -> Result<(), Mem>
+    ensures instructions { OnOk result ((rest : List Instruction) → out.new.instructions ++ rest ≡ out.old.instructions ++ End ∷ rest) }
+    ensures labels { OnOk result (out.new.labels ≡ out.old.labels) }
+{
+    put(out, Instruction::End)?;
+    Ok(())
+}
+
 /// The instructions of an expression. Where there is a test, `#f` goes on behind its label; otherwise the
 /// value is left in the accumulator.
 pub(crate) fn lay(
@@ -145,13 +244,10 @@ pub(crate) fn lay(
     ensures labels { OnOk result (out.new.labels ≡ out.old.labels + labels (expression e.now)) }
 {
     match e {
-        Exp::Do(o) => {
-            put(out, Instruction::Do(operation_at(alloc, base, o)?))?;
-            leave(out, test)
-        }
+        Exp::Do(o) => write_operation(alloc, base, o, test, out),
         Exp::Bind(x, a, b) => {
             lay(alloc, base, a, None, out)?;
-            put(out, Instruction::Store(own_slot(base, *x)?))?;
+            write_store(base, *x, out)?;
             lay(alloc, base, b, test, out)
         }
         Exp::Seq(a, b) => {
@@ -163,20 +259,20 @@ pub(crate) fn lay(
             let end = new_label(out)?;
             lay(alloc, base, a, Some(no), out)?;
             lay(alloc, base, b, test, out)?;
-            put(out, Instruction::Jump(end))?;
-            put(out, Instruction::Label(no))?;
+            write_else(no, end, out)?;
             lay(alloc, base, c, test, out)?;
-            put(out, Instruction::Label(end))?;
+            write_label(end, out)?;
             Ok(())
         }
         Exp::Return(e) => {
             lay(alloc, base, e, None, out)?;
-            put(out, Instruction::Mark(MarkKind::Return))?;
-            put(out, Instruction::Return)
+            write_return(out)?;
+            Ok(())
         }
         Exp::End(e) => {
             lay(alloc, base, e, None, out)?;
-            put(out, Instruction::End)
+            write_end(out)?;
+            Ok(())
         }
         _ => Ok(()),
     }

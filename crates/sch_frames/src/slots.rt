@@ -30,8 +30,8 @@ fn laid_out(alloc: Global, b: &Body) -> Result<Writer, Mem>
     Ok(out)
 }
 
-/// The frame body of a body, with a slot for each variable. It stands for a body without calls, closures and
-/// cells.
+/// The frame body of a body, with a slot for each variable. It stands for a body without calls and
+/// without groups of closures that know one another.
 ///
 /// Memory is used as the answer's instructions need it: at most three for each node of the body, one for each
 /// formal and one more.

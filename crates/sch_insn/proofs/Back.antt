@@ -90,7 +90,7 @@ number_of_8_back (a ∷ b ∷ c ∷ d ∷ e ∷ f ∷ g ∷ k ∷ bs) h =
     }))
 
 -- ---- operands
--- So many bytes are what SIB is after ModRM with these low bits.
+-- The first n bytes are what SIB is after ModRM with these low bits.
 record Sib (low : ℕ) (bs : List ℕ) (n : ℕ) : Type 0 where
   pub within : n ≤ length bs
   pub same : take n bs ≡ cond (low == 4) (36 ∷ []) []
@@ -104,7 +104,7 @@ sib_back low (x ∷ bs) =
     (λ _. nothing)))
     (λ e. gives 0 (record { within = omega arith; same = ap (λ t. cond t (36 ∷ []) []) (sym e) }))
 
--- With ModRM before them, so many bytes are the operand, whatever the register of the form is.
+-- With ModRM before them, the first bytes are the operand, whatever the register of the form is.
 record Read (mode low hi : ℕ) (bs : List ℕ) (p : Arg × ℕ) : Type 0 where
   pub within : p.1 ≤ length bs
   pub same : (r : ℕ) → (64 * mode + 8 * (r % 8) + low) ∷ take p.1 bs ≡ operand r p.0
@@ -158,7 +158,7 @@ arg_back mode high low bs hm hh hl h =
       high = hi;
     }))))))
 
--- From ModRM on, so many bytes are the operand with the register, and REX has their high bits.
+-- From ModRM on, the first bytes are the operand with the register, and REX has their high bits.
 record Operand (r b : ℕ) (bs : List ℕ) (p : ℕ × Arg × ℕ) : Type 0 where
   pub within : p.2 ≤ length bs
   pub same : take p.2 bs ≡ operand p.0 p.1
@@ -280,7 +280,7 @@ wide_back op r m k bs hm hr h =
     nothing))))))))))))))))))))))))))))
 
 -- ---- whole instructions
--- So many bytes are the spelling of an instruction that there is.
+-- The first bytes are the spelling of an instruction that there is.
 pub record Spelt (bs : List ℕ) (p : Insn × ℕ) : Type 0 where
   pub within : p.1 ≤ length bs
   pub same : take p.1 bs ≡ spelling p.0

@@ -301,6 +301,45 @@ runs :
 unfolding operand_of wide_of narrow_of long_of rexed_of escaped_of test_of
 runs = (refl, refl, refl, refl, refl, refl, refl, refl, refl, refl, refl, refl, refl, refl)
 
+-- The text under `begun`, with these rights.
+abbrev with_rights : Bool → Bool → List ℕ → State
+with_rights readable executable bytes =
+    let s = begun bytes [] in
+    record {
+      core = record {
+        registers = s.core.registers;
+        flags = s.core.flags;
+        place = s.core.place;
+        segments = record { address = 0x400000; readable = readable; writable = false; executable = executable; bytes = bytes } ∷ [];
+      };
+      output = [];
+      answers = [];
+      spare = [];
+    }
+
+-- lea rbx, [rip-7], and what then stores to the text or loads from it
+abbrev at_text : List ℕ → List ℕ
+at_text more = 0x48 ∷ 0x8D ∷ 0x1D ∷ 0xF9 ∷ 0xFF ∷ 0xFF ∷ 0xFF ∷ more
+
+-- Bytes that lie in a segment without the right are not fetched, loaded or stored to.
+rights :
+    (cause_and_place (mach 1 (with_rights true false (0xE9 ∷ 0xFB ∷ 0xFF ∷ 0xFF ∷ 0xFF ∷ []))) ≡ stuck_at Fetch 0x400000)
+    × (cause_and_place (mach 2 (with_rights true true (at_text (0x48 ∷ 0x89 ∷ 0x03 ∷ [])))) ≡ stuck_at (Access 0x400000) 0x400007)
+    × (cause_and_place (mach 2 (with_rights true true (at_text (0x40 ∷ 0x88 ∷ 0x03 ∷ [])))) ≡ stuck_at (Access 0x400000) 0x400007)
+    × (cause_and_place (mach 2 (with_rights false true (at_text (0x48 ∷ 0x8B ∷ 0x03 ∷ [])))) ≡ stuck_at (Access 0x400000) 0x400007)
+    × (cause_and_place (mach 2 (with_rights false true (at_text (0x48 ∷ 0x0F ∷ 0xB6 ∷ 0x03 ∷ [])))) ≡ stuck_at (Access 0x400000) 0x400007)
+unfolding operand_of wide_of narrow_of long_of rexed_of escaped_of test_of
+rights = (refl, refl, refl, refl, refl)
+
+-- A write to another stream has no row; after a write no flag is known, whatever was known before; and a state
+-- without a row is stuck also where no step is left.
+no_rows :
+    (cause_and_place (mach 3 (begun (0x48 ∷ 0xC7 ∷ 0xC0 ∷ 0x01 ∷ 0x00 ∷ 0x00 ∷ 0x00 ∷ 0x48 ∷ 0xC7 ∷ 0xC7 ∷ 0x02 ∷ 0x00 ∷ 0x00 ∷ 0x00 ∷ 0x0F ∷ 0x05 ∷ []) [])) ≡ stuck_at (Kernel 1) 0x40000E)
+    × (cause_and_place (mach 6 (begun (0x48 ∷ 0xC7 ∷ 0xC0 ∷ 0x01 ∷ 0x00 ∷ 0x00 ∷ 0x00 ∷ 0x48 ∷ 0xC7 ∷ 0xC7 ∷ 0x01 ∷ 0x00 ∷ 0x00 ∷ 0x00 ∷ 0x48 ∷ 0xC7 ∷ 0xC2 ∷ 0x00 ∷ 0x00 ∷ 0x00 ∷ 0x00 ∷ 0x48 ∷ 0x81 ∷ 0xF9 ∷ 0x00 ∷ 0x00 ∷ 0x00 ∷ 0x00 ∷ 0x0F ∷ 0x05 ∷ 0x0F ∷ 0x8C ∷ 0x05 ∷ 0x00 ∷ 0x00 ∷ 0x00 ∷ []) [])) ≡ stuck_at Flag 0x40001E)
+    × (cause_and_place (mach 0 (begun (0xC3 ∷ []) [])) ≡ stuck_at Fetch 0x400000)
+unfolding operand_of wide_of narrow_of long_of rexed_of escaped_of test_of
+no_rows = (refl, refl, refl)
+
 -- An instruction that has no row is not begun; the one that exits is.
 traces :
     ((traced 0 (begun exiting [])).trace ≡ [])

@@ -117,8 +117,12 @@ mutual
       let y = x + m + binds_each es in
       let t = scope_with x m s in
       let g : Falls t y = falls_more t (x + m) _ (omega arith) (falls_with x m s f) in
-      rw (counts es s (x + m), each_kept es s (x + m) (falls_more s x _ (omega arith) f) i.0 h, count_kept e x m s y g i.1,
-          variables_kept e t y g (inside x m s (InScope e) i.1) (assigned_fits e x m y f g i.1 h)) refl
+      rw (
+        counts es s (x + m),
+        each_kept es s (x + m) (falls_more s x _ (omega arith) f) i.0 h,
+        count_kept e x m s y g i.1,
+        variables_kept e t y g (inside x m s (InScope e) i.1) (assigned_fits e x m y f g i.1 h),
+      ) refl
   variables_kept (fix ls e) s x f i h =
       let m = count_lambdas ls in
       let t = scope_with x m s in
@@ -126,8 +130,12 @@ mutual
   variables_kept (letrec site es e) s x f i h =
       let m = count es in
       let t = scope_with x m s in
-      rw (counts es t (x + m), same_three m, each_kept es t (x + m) (falls_with x m s f) (inside x m s (EachInScope es) i.0) (all_fits x m false f h),
-          variables_kept e t (x + m + binds_each es) (falls_more t (x + m) _ (omega arith) (falls_with x m s f)) (inside x m s (InScope e) i.1) (all_fits x m false f h)) refl
+      rw (
+        counts es t (x + m),
+        same_three m,
+        each_kept es t (x + m) (falls_with x m s f) (inside x m s (EachInScope es) i.0) (all_fits x m false f h),
+        variables_kept e t (x + m + binds_each es) (falls_more t (x + m) _ (omega arith) (falls_with x m s f)) (inside x m s (InScope e) i.1) (all_fits x m false f h),
+      ) refl
   variables_kept (lambda name m rest e) s x f i h = refl
   variables_kept (call site g es) s x f i h =
       rw (nothing_kept g s x i.0 h, variables_kept g s x f i.0 h, operands_kept es s (x + binds g) (falls_more s x _ (omega arith) f) i.1 h) refl

@@ -68,7 +68,7 @@ mutual
       rw (counts es s (x + m))
       (both s x (free_each es) _ f (each_under es _ i.0) (outside_under m (free e) _ (free_under e _ i.1)) (each_kept es s (x + m) g i.0)
       (ap (without x m) (free_kept e (scope_with x m s) (x + m + binds_each es) (falls_more (scope_with x m s) (x + m) _ (omega arith) (falls_with x m s f)) (inside x m s (InScope e) i.1))
-          ∙ outside_map x m s (free e) f (free_under e _ i.1)))
+      ∙ outside_map x m s (free e) f (free_under e _ i.1)))
   free_kept (fix ls e) s x f i =
       let m = count_lambdas ls in
       let t = scope_with x m s in
@@ -77,8 +77,8 @@ mutual
       let g : Falls t (x + m) = falls_with x m s f in
       rw (counts_lambdas ls t (x + m))
       (ap (without x m) (both t (x + m) (free_lambdas ls) (free e) g (lambdas_under ls _ il) (free_under e _ ie) (lambdas_kept ls t (x + m) g il)
-          (free_kept e t (x + m + binds_lambdas ls) (falls_more t (x + m) _ (omega arith) g) ie))
-          ∙ outside_map x m s _ f (union_under (free_lambdas ls) (free e) _ (lambdas_under ls _ i.0) (free_under e _ i.1)))
+      (free_kept e t (x + m + binds_lambdas ls) (falls_more t (x + m) _ (omega arith) g) ie))
+      ∙ outside_map x m s _ f (union_under (free_lambdas ls) (free e) _ (lambdas_under ls _ i.0) (free_under e _ i.1)))
   free_kept (letrec site es e) s x f i =
       let m = count es in
       let t = scope_with x m s in
@@ -87,8 +87,8 @@ mutual
       let g : Falls t (x + m) = falls_with x m s f in
       rw (counts es t (x + m))
       (ap (without x m) (both t (x + m) (free_each es) (free e) g (each_under es _ il) (free_under e _ ie) (each_kept es t (x + m) g il)
-          (free_kept e t (x + m + binds_each es) (falls_more t (x + m) _ (omega arith) g) ie))
-          ∙ outside_map x m s _ f (union_under (free_each es) (free e) _ (each_under es _ i.0) (free_under e _ i.1)))
+      (free_kept e t (x + m + binds_each es) (falls_more t (x + m) _ (omega arith) g) ie))
+      ∙ outside_map x m s _ f (union_under (free_each es) (free e) _ (each_under es _ i.0) (free_under e _ i.1)))
   free_kept (lambda name formals rest e) s x f i =
       ap (without x formals) (free_kept e (scope_with x formals s) (x + formals) (falls_with x formals s f) (inside x formals s (InScope e) i)) ∙ outside_map x formals s (free e) f (free_under e _ i)
   free_kept (call site g es) s x f i =

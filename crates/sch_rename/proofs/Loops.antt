@@ -71,6 +71,9 @@ lambdas_onto qs = cells_lambdas_of_list qs ∙ onto_lambdas qs
 
 -- ## The turns
 
+pub then_same : {a b c : List ℕ} → a ≡ b → b ≡ c → a ≡ c
+then_same p q = p ∙ q
+
 -- what is left of a list, as trees
 abbrev pub left : List Exp → Expressions
 left es = expressions (map expression es)

@@ -118,7 +118,7 @@ module _ (orders : Orders) (enter : from.Enter) (enter' : to.Enter)
         (similar_then (same_store Becomes) (same_in_store Becomes (charge_each (cells_bytes m)))
         (λ _ _ _. same_keeping Becomes (keeps_new_cells Becomes m (unset_each m) (unset_length m))
         (λ cs k. same_keeping Becomes {Promise = λ vs. length vs ≡ length (from.each orders enter es (onto cs environment) depth)}
-            (similar_all_values (same_store Becomes) (orders site) (each_same es t (x + m) depth g (inside x m s (EachInScope es) i.0) (fits_with x m cs k f h)))
+        (similar_all_values (same_store Becomes) (orders site) (each_same es t (x + m) depth g (inside x m s (EachInScope es) i.0) (fits_with x m cs k f h)))
         (λ vs l. similar_then (same_store Becomes) (same_write_cells Becomes cs vs)
         (λ _ _ _. evaluate_same e t (x + m + binds_each es) depth tail (falls_more t (x + m) _ (omega arith) g) (inside x m s (InScope e) i.1) (fits_with x m cs k f h))))))
     evaluate_same (lambda name m rest e) s x depth tail f i h =
@@ -151,7 +151,7 @@ enter_same orders (suc n) p q h vs depth =
     (λ _ _ _. similar_then (same_store Becomes) (same_in_store Becomes (charge_each (cells_of p.formals p.body)))
     (λ _ _ _. same_keeping Becomes (keeps_new_cells Becomes p.formals (some_each ws) (some_length ws ∙ l))
     (λ cs k. evaluate_same orders (from.enter orders n) (to.enter orders n) (enter_same orders n) p.body (scope_with h.first p.formals h.scope) (h.first + p.formals) depth true t
-        (inside h.first p.formals h.scope (InScope p.body) h.inside) (fits_with h.first p.formals cs k h.falls h.fits))))))
+    (inside h.first p.formals h.scope (InScope p.body) h.inside) (fits_with h.first p.formals cs k h.falls h.fits))))))
 
 -- a program and its program with numbers have the same runs
 pub runs_alike : (p : Source) → IsClosed p → SameRuns (source.run p) (to.run (renamed_source p))

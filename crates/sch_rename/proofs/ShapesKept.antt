@@ -61,7 +61,6 @@ module _ {A : Type 0} {R : A → A → Type 0} {nothing : A} {join : A → A →
   pub source_kept : (p : Source) → IsClosed p → R (from.over_source nothing join here p) (to.over_source nothing join here' (renamed_source p))
   source_kept p c = joins.joined _ _ _ _ (lambdas_kept p.library [] 0 tt c.library) (each_kept p.forms [] _ tt c.forms)
 
-
 atom_kept : (e : Expression) (s : List ℕ) (x : ℕ) → to.one_if_atom (renamed e s x) ≡ one_if_atom e
 atom_kept (constant c) s x = refl
 atom_kept (literal n) s x = refl

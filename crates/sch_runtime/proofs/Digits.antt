@@ -10,13 +10,15 @@ use Rattle.sch_insn.specs.declared.machine.StuckCause.{StuckCause}
 use Rattle.sch_insn.specs.Machine.{set_register, add64, sub64, magnitude, difference_of, sum_of, unknown_flags, condition, when_ok, with_flags, with_register, with_place}
 use Rattle.sch_insn.specs.Step.{Runs, moved, perform, quotient_of, dividend_magnitude, is_quotient}
 use Rattle.sch_insn.proofs.Paths.{leads_then, leads_on}
+use Rattle.sch_insn.specs.declared.register.TheConstants.{RAX, RCX, RDX, RSI, RDI, R11}
+use Rattle.sch_insn.specs.declared.condition.TheConstants.{NE}
 use Rattle.sch_asm.specs.declared.item.Item.TheVariants.{JumpIf}
 use Rattle.sch_asm.specs.Stands.{Setting, Stands}
 use Rattle.sch_asm.specs.Data.{PieceAt, word_in}
 use Rattle.sch_asm.specs.Views.{View, full, Leads}
 use Rattle.sch_asm.proofs.EachItem.{goes, branches, stores_one_byte}
 use Rattle.sch_asm.proofs.Bytes.{with_byte, size_with_byte, from_byte, behind_byte, word_beside_byte}
-use Rattle.sch_runtime.specs.Code.{digit_code, sign_code, digits_end}
+use Rattle.sch_runtime.specs.Code.{digit_code, digit_label, digits_end, sign_code}
 use Rattle.sch_runtime.proofs.ZeroTests.{ne_zero}
 use Rattle.sch_runtime.proofs.WriteLoop.{is_other, other_of}
 
@@ -56,16 +58,16 @@ limit (suc j) = 10 * limit j
 module _ (setting : Setting) where
   open setting use {place_of}
 
-  divided : (y : View) (next q r : ℕ) → quotient_of (y.registers 2) (y.registers 0) (y.registers 1) ≡ Ok (q, r) → perform (Idiv (Reg 1)) next (full setting y) ≡ Runs (full setting (record y { registers = set_register (set_register y.registers 0 q) 2 r; flags = unknown_flags; place = next }))
-  divided y next q r e = ap (λ (o : Result (ℕ × ℕ) StuckCause). moved (full setting y) (when_ok o (λ p. Ok (with_flags unknown_flags (with_register 2 p.1 (with_register 0 p.0 (with_place next (full setting y).core))))))) e
+  divided : (y : View) (next q r : ℕ) → quotient_of (y.registers RDX) (y.registers RAX) (y.registers RCX) ≡ Ok (q, r) → perform (Idiv (Reg RCX)) next (full setting y) ≡ Runs (full setting (record y { registers = set_register (set_register y.registers RAX q) RDX r; flags = unknown_flags; place = next }))
+  divided y next q r e = ap (λ (o : Result (ℕ × ℕ) StuckCause). moved (full setting y) (when_ok o (λ p. Ok (with_flags unknown_flags (with_register RDX p.1 (with_register RAX p.0 (with_place next (full setting y).core))))))) e
 
   -- A view in which a piece has been begun, from its end on: what has become of an earlier view.
   pub record Begun (z y : View) (piece : List ℕ) (room : ℕ) : Type 0 where
-    pub digits : PieceAt y.bytes (y.registers 6) piece
-    pub end : y.registers 6 + length piece ≡ digits_end
-    pub low : 0x10000018 + room ≤ y.registers 6
-    pub seven : y.registers 7 ≡ z.registers 7
-    pub eleven : y.registers 11 ≡ z.registers 11
+    pub digits : PieceAt y.bytes (y.registers RSI) piece
+    pub end : y.registers RSI + length piece ≡ digits_end
+    pub low : 0x10000018 + room ≤ y.registers RSI
+    pub seven : y.registers RDI ≡ z.registers RDI
+    pub eleven : y.registers R11 ≡ z.registers R11
     pub registers : (r : ℕ) → is_other r ≡ true → y.registers r ≡ z.registers r
     pub size : length y.bytes ≡ length z.bytes
     pub words : (b : ℕ) → 0x10000000 ≤ b → b + 8 ≤ 0x10000018 → word_in y.bytes b ≡ word_in z.bytes b
@@ -74,17 +76,17 @@ module _ (setting : Setting) where
     pub answers_are : y.answers ≡ z.answers
 
   -- one byte more, where rsi has gone down by one
-  pub longer : (z x y : View) (piece : List ℕ) (room v : ℕ) → Begun z x piece (suc room) → 512 ≤ length z.bytes → y.registers 6 ≡ x.registers 6 - 1 → y.bytes ≡ with_byte x.bytes (x.registers 6 - 1) v → y.registers 7 ≡ x.registers 7 → y.registers 11 ≡ x.registers 11 →
+  pub longer : (z x y : View) (piece : List ℕ) (room v : ℕ) → Begun z x piece (suc room) → 512 ≤ length z.bytes → y.registers RSI ≡ x.registers RSI - 1 → y.bytes ≡ with_byte x.bytes (x.registers RSI - 1) v → y.registers RDI ≡ x.registers RDI → y.registers R11 ≡ x.registers R11 →
       ((r : ℕ) → is_other r ≡ true → y.registers r ≡ x.registers r) → y.output ≡ x.output → y.answers ≡ x.answers → Begun z y (v ∷ piece) room
   longer z x y piece room v b long e f g h i j k =
       let low = b.low in
       let end = b.end in
       let size = b.size in
-      let a = x.registers 6 - 1 in
+      let a = x.registers RSI - 1 in
       let base : 0x10000000 ≤ a = omega arith in
       let inside : a < 0x10000000 + length x.bytes = omega arith in
-      let same : a + 1 ≡ x.registers 6 = omega arith in
-      let at = piece_longer x.bytes (x.registers 6) a v piece b.digits same base inside in
+      let same : a + 1 ≡ x.registers RSI = omega arith in
+      let at = piece_longer x.bytes (x.registers RSI) a v piece b.digits same base inside in
       record {
         digits = subst (λ n. PieceAt y.bytes n (v ∷ piece)) (sym e) (subst (λ l. PieceAt l a (v ∷ piece)) (sym f) at);
         end = omega (arith, e, end, low);
@@ -113,27 +115,27 @@ module _ (setting : Setting) where
   record Digit (z x : View) (piece : List ℕ) (room : ℕ) : Type 0 where
     y : View
     leads : Leads setting 6 6 [] x y
-    begun : Begun z y (digit_glyph false (x.registers 0 % 10) ∷ piece) room
-    rest : y.registers 0 ≡ x.registers 0 / 10
-    ten : y.registers 1 ≡ 10
-    test : condition y.flags 5 ≡ Some (not (x.registers 0 / 10 == 0))
-    ahead : Stands setting [] y.place (JumpIf 5 68 ∷ sign_code)
+    begun : Begun z y (digit_glyph false (x.registers RAX % 10) ∷ piece) room
+    rest : y.registers RAX ≡ x.registers RAX / 10
+    ten : y.registers RCX ≡ 10
+    test : condition y.flags NE ≡ Some (not (x.registers RAX / 10 == 0))
+    ahead : Stands setting [] y.place (JumpIf NE digit_label ∷ sign_code)
 
-  digit : (z x : View) (piece : List ℕ) (room : ℕ) → Stands setting [] x.place digit_code → x.registers 0 < 2 ^ 63 → x.registers 1 ≡ 10 → 512 ≤ length z.bytes → Begun z x piece (suc room) → Digit z x piece room
+  digit : (z x : View) (piece : List ℕ) (room : ℕ) → Stands setting [] x.place digit_code → x.registers RAX < 2 ^ 63 → x.registers RCX ≡ 10 → 512 ≤ length z.bytes → Begun z x piece (suc room) → Digit z x piece room
   digit z x piece room h small ten long b =
-      let n = x.registers 0 in
-      let p = x.registers 6 in
+      let n = x.registers RAX in
+      let p = x.registers RSI in
       let a = p - 1 in
       let low = b.low in
       let end = b.end in
       let size = b.size in
-      let y1 : View = record x { registers = set_register x.registers 2 0; place = x.place + h.0 } in
+      let y1 : View = record x { registers = set_register x.registers RDX 0; place = x.place + h.0 } in
       let h1 = h.2 in
-      let y2 : View = record y1 { registers = set_register (set_register y1.registers 0 (n / 10)) 2 (n % 10); flags = unknown_flags; place = y1.place + h1.0 } in
+      let y2 : View = record y1 { registers = set_register (set_register y1.registers RAX (n / 10)) RDX (n % 10); flags = unknown_flags; place = y1.place + h1.0 } in
       let h2 = h1.2 in
-      let y3 : View = record y2 { registers = set_register y2.registers 2 (add64 (n % 10) 48); flags = (sum_of (n % 10) 48).flags; place = y2.place + h2.0 } in
+      let y3 : View = record y2 { registers = set_register y2.registers RDX (add64 (n % 10) 48); flags = (sum_of (n % 10) 48).flags; place = y2.place + h2.0 } in
       let h3 = h2.2 in
-      let y4 : View = record y3 { registers = set_register y3.registers 6 (sub64 p 1); flags = (difference_of p 1).flags; place = y3.place + h3.0 } in
+      let y4 : View = record y3 { registers = set_register y3.registers RSI (sub64 p 1); flags = (difference_of p 1).flags; place = y3.place + h3.0 } in
       let h4 = h3.2 in
       let below : sub64 p 1 ≡ a = omega (arith, low, end) in
       let y5 : View = record y4 { bytes = with_byte x.bytes a (add64 (n % 10) 48 % 256); place = y4.place + h4.0 } in
@@ -143,12 +145,12 @@ module _ (setting : Setting) where
       record {
         y = y6;
         leads = leads_on setting.marks (leads_on setting.marks (leads_on setting.marks (leads_on setting.marks (leads_on setting.marks
-            (goes setting x y1 (MovNumber (Reg 2) (pos 0)) h.0 [] h.1 refl)
-            (goes setting y1 y2 (Idiv (Reg 1)) h1.0 [] h1.1 (divided y1 (y1.place + h1.0) (n / 10) (n % 10) (tenth n (x.registers 1) ten small))))
-            (goes setting y2 y3 (AddNumber (Reg 2) (pos 48)) h2.0 [] h2.1 refl))
-            (goes setting y3 y4 (SubNumber (Reg 6) (pos 1)) h3.0 [] h3.1 refl))
-            (stores_one_byte setting y4 2 h4.0 a (Base 6) [] h4.1 below (omega (arith, low)) (omega (arith, end, size, long, low))))
-            (goes setting y5 y6 (CmpNumber (Reg 0) (pos 0)) h5.0 [] h5.1 refl);
+            (goes setting x y1 (MovNumber (Reg RDX) (pos 0)) h.0 [] h.1 refl)
+            (goes setting y1 y2 (Idiv (Reg RCX)) h1.0 [] h1.1 (divided y1 (y1.place + h1.0) (n / 10) (n % 10) (tenth n (x.registers RCX) ten small))))
+            (goes setting y2 y3 (AddNumber (Reg RDX) (pos 48)) h2.0 [] h2.1 refl))
+            (goes setting y3 y4 (SubNumber (Reg RSI) (pos 1)) h3.0 [] h3.1 refl))
+            (stores_one_byte setting y4 RDX h4.0 a (Base RSI) [] h4.1 below (omega (arith, low)) (omega (arith, end, size, long, low))))
+            (goes setting y5 y6 (CmpNumber (Reg RAX) (pos 0)) h5.0 [] h5.1 refl);
         begun = longer z x y6 piece room (digit_glyph false (n % 10)) b long below (ap (with_byte x.bytes a) glyph) refl refl (λ r e. let o = other_of r e in rw (o.0, o.2, o.3) refl) refl refl;
         rest = refl;
         ten = ten;
@@ -157,7 +159,7 @@ module _ (setting : Setting) where
       }
 
   -- the digit was the first one, or the loop goes on
-  closes : (z x : View) (piece more : List ℕ) (room j : ℕ) (d : Digit z x piece (suc room)) (t : Bool) → (x.registers 0 / 10 == 0) ≡ t → (t ≡ false → Printed z (record (d.y) { place = place_of 68 }) more j) → Printed z x (if t then digit_glyph false (x.registers 0 % 10) ∷ piece else more) (7 + j)
+  closes : (z x : View) (piece more : List ℕ) (room j : ℕ) (d : Digit z x piece (suc room)) (t : Bool) → (x.registers RAX / 10 == 0) ≡ t → (t ≡ false → Printed z (record (d.y) { place = place_of digit_label }) more j) → Printed z x (if t then digit_glyph false (x.registers RAX % 10) ∷ piece else more) (7 + j)
   closes z x piece more room j d true e next =
       let h = d.ahead in
       let y : View = record (d.y) { place = d.y.place + h.0 } in
@@ -166,7 +168,7 @@ module _ (setting : Setting) where
         y = y;
         least = 7;
         most = 7;
-        leads = leads_on setting.marks d.leads (branches setting d.y 5 68 sign_code [] false h (d.test ∙ ap (λ t. Some (not t)) e));
+        leads = leads_on setting.marks d.leads (branches setting d.y NE digit_label sign_code [] false h (d.test ∙ ap (λ t. Some (not t)) e));
         few = omega arith;
         begun = record { digits = b.digits; end = b.end; low = (let l = b.low in omega (arith, l)); seven = b.seven; eleven = b.eleven; registers = b.registers; size = b.size; words = b.words; others = b.others; output_is = b.output_is; answers_are = b.answers_are };
         ahead = h.4;
@@ -178,30 +180,30 @@ module _ (setting : Setting) where
         y = r.y;
         least = 7 + r.least;
         most = 7 + r.most;
-        leads = leads_then setting.marks (leads_on setting.marks d.leads (branches setting d.y 5 68 sign_code [] true h (d.test ∙ ap (λ t. Some (not t)) e))) r.leads;
+        leads = leads_then setting.marks (leads_on setting.marks d.leads (branches setting d.y NE digit_label sign_code [] true h (d.test ∙ ap (λ t. Some (not t)) e))) r.leads;
         few = let f = r.few in omega (arith, f);
         begun = r.begun;
         ahead = r.ahead;
       }
 
-  module _ (digit_stands : Stands setting [] (place_of 68) digit_code) where
-    -- From label 68 on, rax has the number and rcx ten.
-    pub prints : (j f : ℕ) (z x : View) (piece : List ℕ) → j ≤ f → x.place ≡ place_of 68 → x.registers 0 < limit j → x.registers 0 < 2 ^ 63 → x.registers 1 ≡ 10 → 512 ≤ length z.bytes → Begun z x piece (suc (suc j)) →
-        Printed z x (digits_onto (suc f) 10 false (x.registers 0) piece) (7 + 7 * j)
+  module _ (digit_stands : Stands setting [] (place_of digit_label) digit_code) where
+    -- From `digit_label` on, rax has the number and rcx ten.
+    pub prints : (j f : ℕ) (z x : View) (piece : List ℕ) → j ≤ f → x.place ≡ place_of digit_label → x.registers RAX < limit j → x.registers RAX < 2 ^ 63 → x.registers RCX ≡ 10 → 512 ≤ length z.bytes → Begun z x piece (suc (suc j)) →
+        Printed z x (digits_onto (suc f) 10 false (x.registers RAX) piece) (7 + 7 * j)
     prints zero f z x piece le at lt small ten long b =
         let h = subst (λ a. Stands setting [] a digit_code) (sym at) digit_stands in
         let d = digit z x piece 1 h small ten long b in
-        let none : x.registers 0 / 10 ≡ 0 = omega (arith, lt) in
-        closes z x piece (digits_onto f 10 false (x.registers 0 / 10) (digit_glyph false (x.registers 0 % 10) ∷ piece)) 0 0 d (x.registers 0 / 10 == 0) refl (λ e. absurd (eqb-false (x.registers 0 / 10) 0 e none))
+        let none : x.registers RAX / 10 ≡ 0 = omega (arith, lt) in
+        closes z x piece (digits_onto f 10 false (x.registers RAX / 10) (digit_glyph false (x.registers RAX % 10) ∷ piece)) 0 0 d (x.registers RAX / 10 == 0) refl (λ e. absurd (eqb-false (x.registers RAX / 10) 0 e none))
     prints (suc j) zero z x piece le at lt small ten long b = absurd (omega (arith, le))
     prints (suc j) (suc f) z x piece le at lt small ten long b =
         let h = subst (λ a. Stands setting [] a digit_code) (sym at) digit_stands in
         let d = digit z x piece (suc (suc j)) h small ten long b in
         let rest = d.rest in
-        let more = digits_onto (suc f) 10 false (x.registers 0 / 10) (digit_glyph false (x.registers 0 % 10) ∷ piece) in
+        let more = digits_onto (suc f) 10 false (x.registers RAX / 10) (digit_glyph false (x.registers RAX % 10) ∷ piece) in
         let bound : 7 + 7 * j ≡ 7 * suc j = omega arith in
-        closes z x piece more (suc j) (7 * suc j) d (x.registers 0 / 10 == 0) refl
-        (λ e. subst (Printed z (record (d.y) { place = place_of 68 }) more) bound
-        (subst (λ n. Printed z (record (d.y) { place = place_of 68 }) (digits_onto (suc f) 10 false n (digit_glyph false (x.registers 0 % 10) ∷ piece)) (7 + 7 * j)) rest
-        (prints j f z (record (d.y) { place = place_of 68 }) (digit_glyph false (x.registers 0 % 10) ∷ piece) (omega (arith, le)) refl (omega (arith, rest, lt)) (omega (arith, rest, small)) d.ten long
+        closes z x piece more (suc j) (7 * suc j) d (x.registers RAX / 10 == 0) refl
+        (λ e. subst (Printed z (record (d.y) { place = place_of digit_label }) more) bound
+        (subst (λ n. Printed z (record (d.y) { place = place_of digit_label }) (digits_onto (suc f) 10 false n (digit_glyph false (x.registers RAX % 10) ∷ piece)) (7 + 7 * j)) rest
+        (prints j f z (record (d.y) { place = place_of digit_label }) (digit_glyph false (x.registers RAX % 10) ∷ piece) (omega (arith, le)) refl (omega (arith, rest, lt)) (omega (arith, rest, small)) d.ten long
         (let b = d.begun in record { digits = b.digits; end = b.end; low = b.low; seven = b.seven; eleven = b.eleven; registers = b.registers; size = b.size; words = b.words; others = b.others; output_is = b.output_is; answers_are = b.answers_are }))))

@@ -13,7 +13,7 @@ use Rattle.sch_asm.specs.Stands.{Setting, Stands}
 use Rattle.sch_asm.specs.Views.{View}
 use Rattle.sch_asm.specs.Effects.{AreEffective, Effect, Stops}
 use Rattle.sch_asm.proofs.Standing.{stands_back, stands_part}
-use Rattle.sch_runtime.specs.Code.{exit_code, statuses, exits, done_code, loop_code, write_code, put_code, ready_code, digit_code, positive_code, fixnum_code, put_items, routine_items}
+use Rattle.sch_runtime.specs.Code.{digit_code, digit_label, done_code, done_label, exit_code, exits, fixnum_code, fixnum_label, loop_code, loop_label, positive_code, positive_label, put_code, put_items, put_label, ready_code, ready_label, routine_items, statuses, write_code, write_label}
 use Rattle.sch_runtime.proofs.Exits.{exits_here}
 use Rattle.sch_runtime.proofs.Putting as putting
 use Rattle.sch_runtime.proofs.PutFixnum.{puts_fixnum}
@@ -36,36 +36,36 @@ module _ (setting : Setting) where
 
   -- where the parts of the puts stand
   record Parts : Type 0 where
-    put : Stands setting [] (place_of 11) put_code
-    write : Stands setting [] (place_of 64) write_code
-    loop : Stands setting [] (place_of 65) loop_code
-    done : Stands setting [] (place_of 66) done_code
-    fixnum : Stands setting [] (place_of 12) fixnum_code
-    positive : Stands setting [] (place_of 67) positive_code
-    digit : Stands setting [] (place_of 68) digit_code
-    ready : Stands setting [] (place_of 69) ready_code
+    put : Stands setting [] (place_of put_label) put_code
+    write : Stands setting [] (place_of write_label) write_code
+    loop : Stands setting [] (place_of loop_label) loop_code
+    done : Stands setting [] (place_of done_label) done_code
+    fixnum : Stands setting [] (place_of fixnum_label) fixnum_code
+    positive : Stands setting [] (place_of positive_label) positive_code
+    digit : Stands setting [] (place_of digit_label) digit_code
+    ready : Stands setting [] (place_of ready_label) ready_code
 
   parts : (a : ℕ) → Stands setting [] a put_items → Parts
   parts a h =
-      let p = stands_part setting 11 put_code (Label 66 ∷ (done_code ++ Label 12 ∷ (fixnum_code ++ []))) [] a h in
-      let b = stands_back setting (Label 11 ∷ put_code) (Label 66 ∷ (done_code ++ Label 12 ∷ (fixnum_code ++ []))) [] a refl h in
-      let c = stands_back setting (Label 66 ∷ done_code) (Label 12 ∷ (fixnum_code ++ [])) [] b.0 refl b.1 in
-      let w = at_label 64 write_code _ p.4.4.2 in
-      let f = stands_part setting 12 fixnum_code [] [] c.0 c.1 in
-      let q = at_label 67 positive_code _ f.4.4.2.2.2.4.2 in
-      let d = at_label 68 digit_code _ q.2.2 in
+      let p = stands_part setting put_label put_code (Label done_label ∷ (done_code ++ Label fixnum_label ∷ (fixnum_code ++ []))) [] a h in
+      let b = stands_back setting (Label put_label ∷ put_code) (Label done_label ∷ (done_code ++ Label fixnum_label ∷ (fixnum_code ++ []))) [] a refl h in
+      let c = stands_back setting (Label done_label ∷ done_code) (Label fixnum_label ∷ (fixnum_code ++ [])) [] b.0 refl b.1 in
+      let w = at_label write_label write_code _ p.4.4.2 in
+      let f = stands_part setting fixnum_label fixnum_code [] [] c.0 c.1 in
+      let q = at_label positive_label positive_code _ f.4.4.2.2.2.4.2 in
+      let d = at_label digit_label digit_code _ q.2.2 in
       record {
         put = p;
         write = w;
-        loop = at_label 65 loop_code _ w.4;
-        done = stands_part setting 66 done_code (Label 12 ∷ (fixnum_code ++ [])) [] b.0 b.1;
+        loop = at_label loop_label loop_code _ w.4;
+        done = stands_part setting done_label done_code (Label fixnum_label ∷ (fixnum_code ++ [])) [] b.0 b.1;
         fixnum = f;
         positive = q;
         digit = d;
-        ready = at_label 69 ready_code _ d.2.2.2.2.2.2.4.2.4.2.2.2;
+        ready = at_label ready_label ready_code _ d.2.2.2.2.2.2.4.2.4.2.2.2;
       }
 
-  stop_here : (s : Stop) → Stands setting [] (place_of (label_of (routine.Stop s))) (exit_code (status_of s)) → (x : View) → x.place ≡ place_of (label_of (routine.Stop s)) → Stops setting x 3 (status_of s) x.output
+  stop_here : (s : Stop) → Stands setting [] (place_of (label_of (routine.Stop s))) (exit_code (status_of s)) → (x : View) → x.place ≡ place_of (label_of (routine.Stop s)) → Stops setting x 3 (status_of s) x.output x.answers
   stop_here s h x at = exits_here setting x (status_of s) (low s) (subst (λ a. Stands setting [] a (exit_code (status_of s))) (sym at) h)
     where
       low : (s : Stop) → status_of s < 256

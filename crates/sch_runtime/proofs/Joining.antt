@@ -22,58 +22,157 @@ exit_sound : (l s : ℕ) (rest : List Item) → s < 128 → AreItems rest → Ar
 exit_sound l s rest low h = (tt, (((omega arith, fits_by (pos s) s refl (omega (arith, low))), tt), (((omega arith, fits_by (pos 60) 60 refl (omega arith)), tt), ((tt, tt), h))))
 
 put_sound : AreItems put_items
-put_sound =
-    (tt,
-    ((omega arith, (omega arith, omega arith)),
-    ((omega arith, (omega arith, omega arith)),
-    (((omega arith, omega arith), tt),
-    (tt,
-    ((omega arith, (omega arith, omega arith)),
-    (tt,
-    (((omega arith, fits_by (pos 0) 0 refl (omega arith)), tt),
-    ((omega arith, λ e. omega (arith, e), λ e. omega (arith, e)),
-    (((omega arith, fits_by (pos 1) 1 refl (omega arith)), tt),
-    (((omega arith, fits_by (pos 1) 1 refl (omega arith)), tt),
-    ((tt, tt),
-    (((omega arith, fits_by (pos 0) 0 refl (omega arith)), tt),
-    ((omega arith, λ e. omega (arith, e), λ e. omega (arith, e)),
-    (((omega arith, omega arith), tt),
-    (((omega arith, omega arith), tt),
-    (tt,
-    (tt,
-    ((omega arith, (omega arith, omega arith)),
-    ((omega arith, (omega arith, omega arith)),
-    ((omega arith, (omega arith, omega arith)),
-    ((omega arith, tt),
-    (tt,
-    ((omega arith, (omega arith, omega arith)),
-    ((omega arith, (omega arith, omega arith)),
-    (((omega arith, omega arith), tt),
-    (((omega arith, omega arith), tt),
-    (((omega arith, fits_by (pos 0) 0 refl (omega arith)), tt),
-    ((omega arith, λ e. omega (arith, e), λ e. omega (arith, e)),
-    ((omega arith, tt),
-    (tt,
-    (((omega arith, fits_by (pos 268435520) 268435520 refl (omega arith)), tt),
-    (((omega arith, fits_by (pos 10) 10 refl (omega arith)), tt),
-    (tt,
-    (((omega arith, fits_by (pos 0) 0 refl (omega arith)), tt),
-    ((omega arith, tt),
-    (((omega arith, fits_by (pos 48) 48 refl (omega arith)), tt),
-    (((omega arith, fits_by (pos 1) 1 refl (omega arith)), tt),
-    ((((omega arith, λ e. omega (arith, e)), omega arith, refl), tt),
-    (((omega arith, fits_by (pos 0) 0 refl (omega arith)), tt),
-    ((omega arith, λ e. omega (arith, e), λ e. omega (arith, e)),
-    (((omega arith, fits_by (pos 0) 0 refl (omega arith)), tt),
-    ((omega arith, λ e. omega (arith, e), λ e. omega (arith, e)),
-    (((omega arith, fits_by (pos 1) 1 refl (omega arith)), tt),
-    (((omega arith, fits_by (pos 45) 45 refl (omega arith)), tt),
-    ((((omega arith, λ e. omega (arith, e)), omega arith, refl), tt),
-    (tt,
-    (((omega arith, fits_by (pos 268435520) 268435520 refl (omega arith)), tt),
-    (((omega arith, omega arith), tt),
-    (tt,
-    tt))))))))))))))))))))))))))))))))))))))))))))))))))
+put_sound = (
+  tt,
+  (
+    (omega arith, (omega arith, omega arith)),
+    (
+      (omega arith, (omega arith, omega arith)),
+      (
+        ((omega arith, omega arith), tt),
+        (
+          tt,
+          (
+            (omega arith, (omega arith, omega arith)),
+            (
+              tt,
+              (
+                ((omega arith, fits_by (pos 0) 0 refl (omega arith)), tt),
+                (
+                  (omega arith, λ e. omega (arith, e), λ e. omega (arith, e)),
+                  (
+                    ((omega arith, fits_by (pos 1) 1 refl (omega arith)), tt),
+                    (
+                      ((omega arith, fits_by (pos 1) 1 refl (omega arith)), tt),
+                      (
+                        (tt, tt),
+                        (
+                          ((omega arith, fits_by (pos 0) 0 refl (omega arith)), tt),
+                          (
+                            (omega arith, λ e. omega (arith, e), λ e. omega (arith, e)),
+                            (
+                              ((omega arith, omega arith), tt),
+                              (
+                                ((omega arith, omega arith), tt),
+                                (
+                                  tt,
+                                  (
+                                    tt,
+                                    (
+                                      (omega arith, (omega arith, omega arith)),
+                                      (
+                                        (omega arith, (omega arith, omega arith)),
+                                        (
+                                          (omega arith, (omega arith, omega arith)),
+                                          (
+                                            (omega arith, tt),
+                                            (
+                                              tt,
+                                              (
+                                                (omega arith, (omega arith, omega arith)),
+                                                (
+                                                  (omega arith, (omega arith, omega arith)),
+                                                  (
+                                                    ((omega arith, omega arith), tt),
+                                                    (
+                                                      ((omega arith, omega arith), tt),
+                                                      (
+                                                        ((omega arith, fits_by (pos 0) 0 refl (omega arith)), tt),
+                                                        (
+                                                          (omega arith, λ e. omega (arith, e), λ e. omega (arith, e)),
+                                                          (
+                                                            (omega arith, tt),
+                                                            (
+                                                              tt,
+                                                              (
+                                                                ((omega arith, fits_by (pos 268435520) 268435520 refl (omega arith)), tt),
+                                                                (
+                                                                  ((omega arith, fits_by (pos 10) 10 refl (omega arith)), tt),
+                                                                  (
+                                                                    tt,
+                                                                    (
+                                                                      ((omega arith, fits_by (pos 0) 0 refl (omega arith)), tt),
+                                                                      (
+                                                                        (omega arith, tt),
+                                                                        (
+                                                                          ((omega arith, fits_by (pos 48) 48 refl (omega arith)), tt),
+                                                                          (
+                                                                            ((omega arith, fits_by (pos 1) 1 refl (omega arith)), tt),
+                                                                            (
+                                                                              (((omega arith, λ e. omega (arith, e)), omega arith, refl), tt),
+                                                                              (
+                                                                                ((omega arith, fits_by (pos 0) 0 refl (omega arith)), tt),
+                                                                                (
+                                                                                  (omega arith, λ e. omega (arith, e), λ e. omega (arith, e)),
+                                                                                  (
+                                                                                    ((omega arith, fits_by (pos 0) 0 refl (omega arith)), tt),
+                                                                                    (
+                                                                                      (omega arith, λ e. omega (arith, e), λ e. omega (arith, e)),
+                                                                                      (
+                                                                                        ((omega arith, fits_by (pos 1) 1 refl (omega arith)), tt),
+                                                                                        (
+                                                                                          ((omega arith, fits_by (pos 45) 45 refl (omega arith)), tt),
+                                                                                          (
+                                                                                            (((omega arith, λ e. omega (arith, e)), omega arith, refl), tt),
+                                                                                            (
+                                                                                              tt,
+                                                                                              (
+                                                                                                ((omega arith, fits_by (pos 268435520) 268435520 refl (omega arith)), tt),
+                                                                                                (
+                                                                                                  ((omega arith, omega arith), tt),
+                                                                                                  (
+                                                                                                    tt,
+                                                                                                    tt,
+                                                                                                  ),
+                                                                                                ),
+                                                                                              ),
+                                                                                            ),
+                                                                                          ),
+                                                                                        ),
+                                                                                      ),
+                                                                                    ),
+                                                                                  ),
+                                                                                ),
+                                                                              ),
+                                                                            ),
+                                                                          ),
+                                                                        ),
+                                                                      ),
+                                                                    ),
+                                                                  ),
+                                                                ),
+                                                              ),
+                                                            ),
+                                                          ),
+                                                        ),
+                                                      ),
+                                                    ),
+                                                  ),
+                                                ),
+                                              ),
+                                            ),
+                                          ),
+                                        ),
+                                      ),
+                                    ),
+                                  ),
+                                ),
+                              ),
+                            ),
+                          ),
+                        ),
+                      ),
+                    ),
+                  ),
+                ),
+              ),
+            ),
+          ),
+        ),
+      ),
+    ),
+  ),
+)
 
 pub routines_sound : AreItems routine_items
 routines_sound =

@@ -6,3 +6,4 @@ pub mod Digits
 pub mod PutFixnum
 pub mod Effective
 pub mod Joining
+mod Examples

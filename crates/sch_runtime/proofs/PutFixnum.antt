@@ -7,6 +7,8 @@ use Rattle.sch_insn.specs.declared.insn.Arg.TheVariants.{Reg, Base}
 use Rattle.sch_insn.specs.declared.insn.Insn.TheVariants.{MovTo, MovNumber, SubTo, SubNumber, CmpNumber, Neg, Sar}
 use Rattle.sch_insn.specs.Machine.{set_register, sub64, is_negative, difference_of, unknown_flags, shift_right_signed}
 use Rattle.sch_insn.proofs.Paths.{leads_then, leads_on, leads_within}
+use Rattle.sch_insn.specs.declared.register.TheConstants.{RAX, RCX, RDX, RSI, RDI, R11}
+use Rattle.sch_insn.specs.declared.condition.TheConstants.{GE}
 use Rattle.sch_asm.specs.declared.item.Item.TheVariants.{JumpIf, Label, Plain, StoreWord}
 use Rattle.sch_asm.specs.Stands.{Setting, Stands}
 use Rattle.sch_asm.specs.Data.{FixnumWord, word_in, with_word}
@@ -14,7 +16,7 @@ use Rattle.sch_asm.specs.Views.{View, Leads}
 use Rattle.sch_asm.specs.Effects.{IsReady, Puts}
 use Rattle.sch_asm.proofs.EachItem.{goes, jumps, branches, stores_data, stores_one_byte}
 use Rattle.sch_asm.proofs.Bytes.{with_byte}
-use Rattle.sch_runtime.specs.Code.{loop_code, exit_code, done_code, write_code, fixnum_code, absolute_code, positive_code, digit_code, sign_code, minus_code, ready_code, digits_end, kept_rsi, kept_rdi}
+use Rattle.sch_runtime.specs.Code.{absolute_code, digit_code, digit_label, digits_end, done_code, done_label, exit_code, failed_label, fixnum_code, fixnum_label, kept_rdi, kept_rsi, loop_code, loop_label, minus_code, positive_code, positive_label, ready_code, ready_label, sign_code, write_code, write_label}
 use Rattle.sch_runtime.proofs.ZeroTests.{ge_zero, is_high, is_low}
 use Rattle.sch_runtime.proofs.WriteLoop.{is_other, other_of}
 use Rattle.sch_runtime.proofs.Putting.{Kept, Saved, kept_bytes, saves, finishes}
@@ -75,9 +77,9 @@ module _ (setting : Setting) where
   open setting use {place_of}
 
   -- nothing is begun, with room for twenty digits
-  begun_at : (x : View) → 512 ≤ length x.bytes → x.registers 6 ≡ digits_end → Begun setting x x [] 20
+  begun_at : (x : View) → 512 ≤ length x.bytes → x.registers RSI ≡ digits_end → Begun setting x x [] 20
   begun_at x long e = record {
-    digits = record { rest = drop (x.registers 6 - 0x10000000) x.bytes; is = refl; low = omega (arith, e); high = omega (arith, e, long) };
+    digits = record { rest = drop (x.registers RSI - 0x10000000) x.bytes; is = refl; low = omega (arith, e); high = omega (arith, e, long) };
     end = omega (arith, e);
     low = omega (arith, e);
     seven = refl;
@@ -100,14 +102,14 @@ module _ (setting : Setting) where
     begun : Begun setting z y piece 0
     ahead : Stands setting [] y.place ready_code
 
-  signs : (ready_stands : Stands setting [] (place_of 69) ready_code) (z x : View) (piece : List ℕ) (negative : Bool) → Stands setting [] x.place sign_code → Begun setting z x piece 1 → 512 ≤ length z.bytes → is_negative (x.registers 7) ≡ negative → x.registers 7 < 2 ^ 64 → Signed z x (cond negative (45 ∷ piece) piece)
+  signs : (ready_stands : Stands setting [] (place_of ready_label) ready_code) (z x : View) (piece : List ℕ) (negative : Bool) → Stands setting [] x.place sign_code → Begun setting z x piece 1 → 512 ≤ length z.bytes → is_negative (x.registers RDI) ≡ negative → x.registers RDI < 2 ^ 64 → Signed z x (cond negative (45 ∷ piece) piece)
   signs ready_stands z x piece false h b long e fits =
-      let y1 : View = record x { flags = (difference_of (x.registers 7) 0).flags; place = x.place + h.0 } in
+      let y1 : View = record x { flags = (difference_of (x.registers RDI) 0).flags; place = x.place + h.0 } in
       record {
-        y = record y1 { place = place_of 69 };
+        y = record y1 { place = place_of ready_label };
         least = 2;
         most = 2;
-        leads = leads_on setting.marks (goes setting x y1 (CmpNumber (Reg 7) (pos 0)) h.0 [] h.1 refl) (branches setting y1 13 69 minus_code [] true h.2 (ge_zero (x.registers 7) false fits e));
+        leads = leads_on setting.marks (goes setting x y1 (CmpNumber (Reg RDI) (pos 0)) h.0 [] h.1 refl) (branches setting y1 GE ready_label minus_code [] true h.2 (ge_zero (x.registers RDI) false fits e));
         few = omega arith;
         begun = record { digits = b.digits; end = b.end; low = (let l = b.low in omega (arith, l)); seven = b.seven; eleven = b.eleven; registers = b.registers; size = b.size; words = b.words; others = b.others; output_is = b.output_is; answers_are = b.answers_are };
         ahead = ready_stands;
@@ -116,33 +118,33 @@ module _ (setting : Setting) where
       let low = b.low in
       let end = b.end in
       let size = b.size in
-      let a = x.registers 6 - 1 in
-      let y1 : View = record x { flags = (difference_of (x.registers 7) 0).flags; place = x.place + h.0 } in
+      let a = x.registers RSI - 1 in
+      let y1 : View = record x { flags = (difference_of (x.registers RDI) 0).flags; place = x.place + h.0 } in
       let h1 = h.2 in
       let y2 : View = record y1 { place = y1.place + h1.0 } in
       let h2 = h1.4 in
-      let y3 : View = record y2 { registers = set_register x.registers 6 (sub64 (x.registers 6) 1); flags = (difference_of (x.registers 6) 1).flags; place = y2.place + h2.0 } in
+      let y3 : View = record y2 { registers = set_register x.registers RSI (sub64 (x.registers RSI) 1); flags = (difference_of (x.registers RSI) 1).flags; place = y2.place + h2.0 } in
       let h3 = h2.2 in
-      let y4 : View = record y3 { registers = set_register y3.registers 2 45; place = y3.place + h3.0 } in
+      let y4 : View = record y3 { registers = set_register y3.registers RDX 45; place = y3.place + h3.0 } in
       let h4 = h3.2 in
       let y5 : View = record y4 { bytes = with_byte x.bytes a 45; place = y4.place + h4.0 } in
-      let below : sub64 (x.registers 6) 1 ≡ a = omega (arith, low, end) in
+      let below : sub64 (x.registers RSI) 1 ≡ a = omega (arith, low, end) in
       record {
         y = y5;
         least = 5;
         most = 5;
         leads = leads_on setting.marks (leads_on setting.marks (leads_on setting.marks (leads_on setting.marks
-            (goes setting x y1 (CmpNumber (Reg 7) (pos 0)) h.0 [] h.1 refl)
-            (branches setting y1 13 69 minus_code [] false h1 (ge_zero (x.registers 7) true fits e)))
-            (goes setting y2 y3 (SubNumber (Reg 6) (pos 1)) h2.0 [] h2.1 refl))
-            (goes setting y3 y4 (MovNumber (Reg 2) (pos 45)) h3.0 [] h3.1 refl))
-            (stores_one_byte setting y4 2 h4.0 a (Base 6) [] h4.1 below (omega (arith, low)) (omega (arith, end, size, long, low)));
+            (goes setting x y1 (CmpNumber (Reg RDI) (pos 0)) h.0 [] h.1 refl)
+            (branches setting y1 GE ready_label minus_code [] false h1 (ge_zero (x.registers RDI) true fits e)))
+            (goes setting y2 y3 (SubNumber (Reg RSI) (pos 1)) h2.0 [] h2.1 refl))
+            (goes setting y3 y4 (MovNumber (Reg RDX) (pos 45)) h3.0 [] h3.1 refl))
+            (stores_one_byte setting y4 RDX h4.0 a (Base RSI) [] h4.1 below (omega (arith, low)) (omega (arith, end, size, long, low)));
         few = omega arith;
         begun = longer setting z x y5 piece 0 45 b long below refl refl refl (λ r o. let q = other_of r o in rw (q.2, q.3) refl) refl refl;
         ahead = h4.2.2;
       }
 
-  module _ (write_stands : Stands setting [] (place_of 64) write_code) (loop_stands : Stands setting [] (place_of 65) loop_code) (failed_stands : Stands setting [] (place_of 10) (exit_code 74)) (done_stands : Stands setting [] (place_of 66) done_code) where
+  module _ (write_stands : Stands setting [] (place_of write_label) write_code) (loop_stands : Stands setting [] (place_of loop_label) loop_code) (failed_stands : Stands setting [] (place_of failed_label) (exit_code 74)) (done_stands : Stands setting [] (place_of done_label) done_code) where
     -- rax has the absolute value, and rdi the number
     record Absolute (x : View) (size : ℕ) (negative : Bool) : Type 0 where
       z : View
@@ -151,20 +153,20 @@ module _ (setting : Setting) where
       leads : Leads setting least most [] x z
       few : most ≤ 7
       ahead : Stands setting [] z.place positive_code
-      size_is : z.registers 0 ≡ size
-      sign : is_negative (z.registers 7) ≡ negative
-      fits : z.registers 7 < 2 ^ 64
+      size_is : z.registers RAX ≡ size
+      sign : is_negative (z.registers RDI) ≡ negative
+      fits : z.registers RDI < 2 ^ 64
       bytes : z.bytes ≡ kept_bytes x
-      eleven : z.registers 11 ≡ x.registers 11
+      eleven : z.registers R11 ≡ x.registers R11
       registers : (r : ℕ) → is_other r ≡ true → z.registers r ≡ x.registers r
       output_is : z.output ≡ x.output
       answers_are : z.answers ≡ x.answers
 
-    absolute : (fixnum_stands : Stands setting [] (place_of 12) fixnum_code) (positive_stands : Stands setting [] (place_of 67) positive_code) (x : View) (n : ℤ) → x.place ≡ place_of 12 → IsReady x → (s : Shifted n (shift_right_signed (x.registers 0) 3)) → Absolute x s.size s.negative
+    absolute : (fixnum_stands : Stands setting [] (place_of fixnum_label) fixnum_code) (positive_stands : Stands setting [] (place_of positive_label) positive_code) (x : View) (n : ℤ) → x.place ≡ place_of fixnum_label → IsReady x → (s : Shifted n (shift_right_signed (x.registers RAX) 3)) → Absolute x s.size s.negative
     absolute fixnum_stands positive_stands x n at ready s = by s.negative s.sign s.is
       where
         v : ℕ
-        v = shift_right_signed (x.registers 0) 3
+        v = shift_right_signed (x.registers RAX) 3
 
         h : Stands setting [] x.place fixnum_code
         h = subst (λ a. Stands setting [] a fixnum_code) (sym at) fixnum_stands
@@ -173,37 +175,37 @@ module _ (setting : Setting) where
         kept = saves x ready
 
         y1 : View
-        y1 = record x { bytes = with_word x.bytes kept_rsi (x.registers 6); place = x.place + h.0 }
+        y1 = record x { bytes = with_word x.bytes kept_rsi (x.registers RSI); place = x.place + h.0 }
 
         y2 : View
         y2 = record x { bytes = kept_bytes x; place = y1.place + h.4.0 }
 
         y3 : View
-        y3 = record y2 { registers = set_register x.registers 0 v; flags = unknown_flags; place = y2.place + h.4.4.0 }
+        y3 = record y2 { registers = set_register x.registers RAX v; flags = unknown_flags; place = y2.place + h.4.4.0 }
 
         y4 : View
-        y4 = record y3 { registers = set_register y3.registers 7 v; place = y3.place + h.4.4.2.0 }
+        y4 = record y3 { registers = set_register y3.registers RDI v; place = y3.place + h.4.4.2.0 }
 
         y5 : View
         y5 = record y4 { flags = (difference_of v 0).flags; place = y4.place + h.4.4.2.2.0 }
 
         p : Leads setting 5 5 [] x y5
         p = leads_on setting.marks (leads_on setting.marks (leads_on setting.marks (leads_on setting.marks
-            (stores_data setting x 6 kept_rsi (StoreWord kept_rdi 7 ∷ Plain (Sar (Reg 0) 3) ∷ Plain (MovTo (Reg 7) 0) ∷ absolute_code) [] h kept.inside_rsi)
-            (stores_data setting y1 7 kept_rdi (Plain (Sar (Reg 0) 3) ∷ Plain (MovTo (Reg 7) 0) ∷ absolute_code) [] h.4 kept.inside_rdi))
-            (goes setting y2 y3 (Sar (Reg 0) 3) h.4.4.0 [] h.4.4.1 refl))
-            (goes setting y3 y4 (MovTo (Reg 7) 0) h.4.4.2.0 [] h.4.4.2.1 refl))
-            (goes setting y4 y5 (CmpNumber (Reg 0) (pos 0)) h.4.4.2.2.0 [] h.4.4.2.2.1 refl)
+            (stores_data setting x RSI kept_rsi (StoreWord kept_rdi RDI ∷ Plain (Sar (Reg RAX) 3) ∷ Plain (MovTo (Reg RDI) RAX) ∷ absolute_code) [] h kept.inside_rsi)
+            (stores_data setting y1 RDI kept_rdi (Plain (Sar (Reg RAX) 3) ∷ Plain (MovTo (Reg RDI) RAX) ∷ absolute_code) [] h.4 kept.inside_rdi))
+            (goes setting y2 y3 (Sar (Reg RAX) 3) h.4.4.0 [] h.4.4.1 refl))
+            (goes setting y3 y4 (MovTo (Reg RDI) RAX) h.4.4.2.0 [] h.4.4.2.1 refl))
+            (goes setting y4 y5 (CmpNumber (Reg RAX) (pos 0)) h.4.4.2.2.0 [] h.4.4.2.2.1 refl)
 
-        h5 : Stands setting [] y5.place (JumpIf 13 67 ∷ Plain (Neg (Reg 0)) ∷ Label 67 ∷ positive_code)
+        h5 : Stands setting [] y5.place (JumpIf GE positive_label ∷ Plain (Neg (Reg RAX)) ∷ Label positive_label ∷ positive_code)
         h5 = h.4.4.2.2.2
 
         by : (t : Bool) → is_negative v ≡ t → cond t (sub64 0 v) v ≡ s.size → Absolute x s.size t
         by false e f = record {
-          z = record y5 { place = place_of 67 };
+          z = record y5 { place = place_of positive_label };
           least = 6;
           most = 6;
-          leads = leads_on setting.marks p (branches setting y5 13 67 (Plain (Neg (Reg 0)) ∷ Label 67 ∷ positive_code) [] true h5 (ge_zero v false s.fits e));
+          leads = leads_on setting.marks p (branches setting y5 GE positive_label (Plain (Neg (Reg RAX)) ∷ Label positive_label ∷ positive_code) [] true h5 (ge_zero v false s.fits e));
           few = omega arith;
           ahead = positive_stands;
           size_is = f;
@@ -219,11 +221,11 @@ module _ (setting : Setting) where
             let y6 : View = record y5 { place = y5.place + h5.0 } in
             let h6 = h5.4 in
             record {
-              z = record y6 { registers = set_register y5.registers 0 (sub64 0 v); flags = (difference_of 0 v).flags; place = y6.place + h6.0 };
+              z = record y6 { registers = set_register y5.registers RAX (sub64 0 v); flags = (difference_of 0 v).flags; place = y6.place + h6.0 };
               least = 7;
               most = 7;
-              leads = leads_on setting.marks (leads_on setting.marks p (branches setting y5 13 67 (Plain (Neg (Reg 0)) ∷ Label 67 ∷ positive_code) [] false h5 (ge_zero v true s.fits e)))
-                  (goes setting y6 _ (Neg (Reg 0)) h6.0 [] h6.1 refl);
+              leads = leads_on setting.marks (leads_on setting.marks p (branches setting y5 GE positive_label (Plain (Neg (Reg RAX)) ∷ Label positive_label ∷ positive_code) [] false h5 (ge_zero v true s.fits e)))
+                  (goes setting y6 _ (Neg (Reg RAX)) h6.0 [] h6.1 refl);
               few = omega arith;
               ahead = h6.2.2;
               size_is = f;
@@ -237,35 +239,35 @@ module _ (setting : Setting) where
             }
 
     -- the routine
-    pub puts_fixnum : (fixnum_stands : Stands setting [] (place_of 12) fixnum_code) (positive_stands : Stands setting [] (place_of 67) positive_code) (digit_stands : Stands setting [] (place_of 68) digit_code) (ready_stands : Stands setting [] (place_of 69) ready_code) →
-        (x : View) (n : ℤ) → x.place ≡ place_of 12 → IsReady x → FixnumWord n (x.registers 0) → Puts setting x 167 (signed_decimal n)
+    pub puts_fixnum : (fixnum_stands : Stands setting [] (place_of fixnum_label) fixnum_code) (positive_stands : Stands setting [] (place_of positive_label) positive_code) (digit_stands : Stands setting [] (place_of digit_label) digit_code) (ready_stands : Stands setting [] (place_of ready_label) ready_code) →
+        (x : View) (n : ℤ) → x.place ≡ place_of fixnum_label → IsReady x → FixnumWord n (x.registers RAX) → Puts setting x 167 (signed_decimal n)
     puts_fixnum fixnum_stands positive_stands digit_stands ready_stands x n at ready word =
-        let s = shifted_number n (x.registers 0) word in
+        let s = shifted_number n (x.registers RAX) word in
         let o = absolute fixnum_stands positive_stands x n at ready s in
         let kept = saves x ready in
         let z = o.z in
         let h = o.ahead in
-        let w1 : View = record z { registers = set_register z.registers 6 digits_end; place = z.place + h.0 } in
-        let w2 : View = record w1 { registers = set_register w1.registers 1 10; place = w1.place + h.2.0 } in
+        let w1 : View = record z { registers = set_register z.registers RSI digits_end; place = z.place + h.0 } in
+        let w2 : View = record w1 { registers = set_register w1.registers RCX 10; place = w1.place + h.2.0 } in
         let size : length z.bytes ≡ length x.bytes = ap length o.bytes ∙ kept.size in
         let long : 512 ≤ length w2.bytes = omega (arith, size, ready.own_words) in
         let e0 = o.size_is in
         let r = prints setting digit_stands 18 63 w2 w2 [] (omega arith) (sym h.2.2.1) (omega (arith, e0, s.digits)) (omega (arith, e0, s.small)) refl long (begun_at w2 long refl) in
         let p0 : Leads setting (o.least + 1 + 1 + r.least) (o.most + 1 + 1 + r.most) [] x r.y = leads_then setting.marks (leads_on setting.marks (leads_on setting.marks o.leads
-            (goes setting z w1 (MovNumber (Reg 6) (pos digits_end)) h.0 [] h.1 refl)) (goes setting w1 w2 (MovNumber (Reg 1) (pos 10)) h.2.0 [] h.2.1 refl)) r.leads in
+        (goes setting z w1 (MovNumber (Reg RSI) (pos digits_end)) h.0 [] h.1 refl)) (goes setting w1 w2 (MovNumber (Reg RCX) (pos 10)) h.2.0 [] h.2.1 refl)) r.leads in
         let b0 = r.begun in
-        let g = signs ready_stands w2 r.y (digits_onto 64 10 false (z.registers 0) []) s.negative r.ahead b0 long (ap is_negative b0.seven ∙ o.sign) (let e = b0.seven in omega (arith, e, o.fits)) in
+        let g = signs ready_stands w2 r.y (digits_onto 64 10 false (z.registers RAX) []) s.negative r.ahead b0 long (ap is_negative b0.seven ∙ o.sign) (let e = b0.seven in omega (arith, e, o.fits)) in
         let b = g.begun in
         let end = b.end in
         let low = b.low in
-        let piece = cond s.negative (45 ∷ digits_onto 64 10 false (z.registers 0) []) (digits_onto 64 10 false (z.registers 0) []) in
+        let piece = cond s.negative (45 ∷ digits_onto 64 10 false (z.registers RAX) []) (digits_onto 64 10 false (z.registers RAX) []) in
         let k0 = g.ahead in
-        let u1 : View = record (g.y) { registers = set_register g.y.registers 2 digits_end; place = g.y.place + k0.0 } in
+        let u1 : View = record (g.y) { registers = set_register g.y.registers RDX digits_end; place = g.y.place + k0.0 } in
         let k1 = k0.2 in
-        let u2 : View = record u1 { registers = set_register u1.registers 2 (sub64 digits_end (g.y.registers 6)); flags = (difference_of digits_end (g.y.registers 6)).flags; place = u1.place + k1.0 } in
-        let u3 : View = record u2 { place = place_of 64 } in
+        let u2 : View = record u1 { registers = set_register u1.registers RDX (sub64 digits_end (g.y.registers RSI)); flags = (difference_of digits_end (g.y.registers RSI)).flags; place = u1.place + k1.0 } in
+        let u3 : View = record u2 { place = place_of write_label } in
         let p : Leads setting (o.least + 1 + 1 + r.least + g.least + 1 + 1 + 1) (o.most + 1 + 1 + r.most + g.most + 1 + 1 + 1) [] x u3 = leads_on setting.marks (leads_on setting.marks (leads_on setting.marks (leads_then setting.marks p0 g.leads)
-            (goes setting g.y u1 (MovNumber (Reg 2) (pos digits_end)) k0.0 [] k0.1 refl)) (goes setting u1 u2 (SubTo (Reg 2) 6) k1.0 [] k1.1 refl)) (jumps setting u2 64 [] [] k1.2) in
+        (goes setting g.y u1 (MovNumber (Reg RDX) (pos digits_end)) k0.0 [] k0.1 refl)) (goes setting u1 u2 (SubTo (Reg RDX) RSI) k1.0 [] k1.1 refl)) (jumps setting u2 write_label [] [] k1.2) in
         let few : o.most + 1 + 1 + r.most + g.most + 1 + 1 + 1 ≤ 150 = (let a = o.few in let c = r.few in let d = g.few in omega (arith, a, c, d)) in
         let k : Kept setting x u3 = record {
           at = refl;
@@ -278,8 +280,8 @@ module _ (setting : Setting) where
           output_is = b.output_is ∙ o.output_is;
           answers_are = b.answers_are ∙ o.answers_are;
         } in
-        let length_is : sub64 digits_end (g.y.registers 6) ≡ length piece = omega (arith, end, low) in
+        let length_is : sub64 digits_end (g.y.registers RSI) ≡ length piece = omega (arith, end, low) in
         let done = finishes setting write_stands loop_stands failed_stands done_stands x u3 (o.least + 1 + 1 + r.least + g.least + 1 + 1 + 1) 150 piece (leads_within setting.marks p (omega arith) few) k ready length_is b.digits (omega (arith, low)) in
-        let d0 : digits_onto 64 10 false (z.registers 0) [] ≡ decimal s.size = ap (λ n. digits_onto 64 10 false n []) e0 ∙ sym (decimal_by s.size) in
+        let d0 : digits_onto 64 10 false (z.registers RAX) [] ≡ decimal s.size = ap (λ n. digits_onto 64 10 false n []) e0 ∙ sym (decimal_by s.size) in
         let same : piece ≡ signed_decimal n = ap (λ l. cond s.negative (45 ∷ l) l) d0 ∙ sym s.decimal_is in
         subst (Puts setting x 167) same done

@@ -13,22 +13,24 @@ use Rattle.sch_insn.specs.declared.insn.Insn.TheVariants.{MovNumber, AddTo, SubT
 use Rattle.sch_insn.specs.Machine.{set_register, add64, sub64, difference_of, sum_of, unknown_flags, condition, head_or_0}
 use Rattle.sch_insn.specs.Step.{Runs, answered, rest_of, write_row, piece_written}
 use Rattle.sch_insn.proofs.Paths.{leads_then, leads_on}
+use Rattle.sch_insn.specs.declared.register.TheConstants.{RAX, RCX, RDX, RSI, RDI, R11}
+use Rattle.sch_insn.specs.declared.condition.TheConstants.{E, LE}
 use Rattle.sch_asm.specs.Stands.{Setting, Stands}
 use Rattle.sch_asm.specs.Data.{PieceAt}
 use Rattle.sch_asm.specs.Views.{View, full, Leads}
 use Rattle.sch_asm.specs.Effects.{Stops}
 use Rattle.sch_asm.proofs.EachItem.{goes, jumps, branches}
 use Rattle.sch_asm.proofs.Pieces.{piece_later, piece_read}
-use Rattle.sch_runtime.specs.Code.{loop_code, ask_code, count_code, next_code, exit_code}
+use Rattle.sch_runtime.specs.Code.{ask_code, count_code, done_label, exit_code, failed_label, loop_code, loop_label, next_code}
 use Rattle.sch_runtime.proofs.ZeroTests.{e_zero, le_zero, passes_le}
 use Rattle.sch_runtime.proofs.Exits.{exits_here, stops_after}
 
 -- The registers that the loop does not write.
 abbrev pub is_other : ℕ → Bool
-is_other r = not (r == 0) && (not (r == 1) && (not (r == 2) && (not (r == 6) && (not (r == 7) && not (r == 11)))))
+is_other r = not (r == RAX) && (not (r == RCX) && (not (r == RDX) && (not (r == RSI) && (not (r == RDI) && not (r == R11)))))
 
-pub other_of : (r : ℕ) → is_other r ≡ true → ((r == 0) ≡ false) × ((r == 1) ≡ false) × ((r == 2) ≡ false) × ((r == 6) ≡ false) × ((r == 7) ≡ false) × ((r == 11) ≡ false)
-other_of r e = by (r == 0) (r == 1) (r == 2) (r == 6) (r == 7) (r == 11) e
+pub other_of : (r : ℕ) → is_other r ≡ true → ((r == RAX) ≡ false) × ((r == RCX) ≡ false) × ((r == RDX) ≡ false) × ((r == RSI) ≡ false) × ((r == RDI) ≡ false) × ((r == R11) ≡ false)
+other_of r e = by (r == RAX) (r == RCX) (r == RDX) (r == RSI) (r == RDI) (r == R11) e
   where
     by : (a b c d f g : Bool) → (not a && (not b && (not c && (not d && (not f && not g))))) ≡ true → (a ≡ false) × (b ≡ false) × (c ≡ false) × (d ≡ false) × (f ≡ false) × (g ≡ false)
     by true b c d f g e = absurd cc
@@ -55,18 +57,18 @@ module _ (setting : Setting) where
   Led least most x y = Leads setting least most [] x y
 
   -- the kernel is offered the piece
-  offered : (x : View) (next : ℕ) (b : ℕ) (bs : List ℕ) → x.registers 2 ≡ length (b ∷ bs) → PieceAt x.bytes (x.registers 6) (b ∷ bs) → write_row (full setting x) next (x.registers 2) ≡ Runs (answered (full setting x) next (b ∷ bs) x.answers)
+  offered : (x : View) (next : ℕ) (b : ℕ) (bs : List ℕ) → x.registers RDX ≡ length (b ∷ bs) → PieceAt x.bytes (x.registers RSI) (b ∷ bs) → write_row (full setting x) next (x.registers RDX) ≡ Runs (answered (full setting x) next (b ∷ bs) x.answers)
   offered x next b bs size at =
       let n = length bs in
       let s = full setting x in
       ap (write_row s next) size
-      ∙ ap (piece_written s next (suc n)) (piece_read setting x.bytes (x.registers 6) (b ∷ bs) at (omega arith))
+      ∙ ap (piece_written s next (suc n)) (piece_read setting x.bytes (x.registers RSI) (b ∷ bs) at (omega arith))
       ∙ ap (λ l. Runs (answered s next l x.answers)) (take-append_seam (b ∷ bs) at.rest)
 
   -- the view after a write
   abbrev wrote : View → ℕ → ℕ → List ℕ → List Answer → View
   wrote x next rax taken left = record x {
-    registers = set_register (set_register (set_register x.registers 0 rax) 1 (head_or_0 x.spare)) 11 (head_or_0 (rest_of x.spare));
+    registers = set_register (set_register (set_register x.registers RAX rax) RCX (head_or_0 x.spare)) R11 (head_or_0 (rest_of x.spare));
     flags = unknown_flags;
     place = next;
     output = x.output ++ taken;
@@ -81,7 +83,7 @@ module _ (setting : Setting) where
     pub most : ℕ
     pub leads : Led least most x y
     pub few : most + 10 * length left ≤ c + 10 * length x.answers
-    pub at : y.place ≡ place_of 66
+    pub at : y.place ≡ place_of done_label
     pub kept : (r : ℕ) → is_other r ≡ true → y.registers r ≡ x.registers r
     pub bytes : y.bytes ≡ x.bytes
     pub output_is : y.output ≡ output
@@ -89,55 +91,55 @@ module _ (setting : Setting) where
 
   abbrev pub Ends : Bool → View → List ℕ → List Answer → Type 0
   Ends true x output left = Done 12 x output left
-  Ends false x output left = Stops setting x (12 + 10 * length x.answers) 74 output
+  Ends false x output left = Stops setting x 12 74 output left
 
-  module _ (loop_stands : Stands setting [] (place_of 65) loop_code) (failed_stands : Stands setting [] (place_of 10) (exit_code 74)) where
+  module _ (loop_stands : Stands setting [] (place_of loop_label) loop_code) (failed_stands : Stands setting [] (place_of failed_label) (exit_code 74)) where
     -- where it fails
-    fails : (x : View) → x.place ≡ place_of 10 → Stops setting x 3 74 x.output
+    fails : (x : View) → x.place ≡ place_of failed_label → Stops setting x 3 74 x.output x.answers
     fails x at = exits_here setting x 74 (omega arith) (subst (λ a. Stands setting [] a (exit_code 74)) (sym at) failed_stands)
 
     -- one turn, up to the kernel's answer
     abbrev asking : View → View
-    asking x = record x { registers = set_register (set_register x.registers 0 1) 7 1 }
+    asking x = record x { registers = set_register (set_register x.registers RAX 1) RDI 1 }
 
     record Asked (x : View) (rax : ℕ) (taken : List ℕ) (left : List Answer) : Type 0 where
       next : ℕ
       leads : Led 5 5 x (wrote (asking x) next rax taken left)
       ahead : Stands setting [] next count_code
 
-    asked : (x : View) (b : ℕ) (bs : List ℕ) (rax : ℕ) (taken : List ℕ) (left : List Answer) → x.place ≡ place_of 65 → x.registers 2 ≡ length (b ∷ bs) → length (b ∷ bs) < 2 ^ 63 → PieceAt x.bytes (x.registers 6) (b ∷ bs) →
+    asked : (x : View) (b : ℕ) (bs : List ℕ) (rax : ℕ) (taken : List ℕ) (left : List Answer) → x.place ≡ place_of loop_label → x.registers RDX ≡ length (b ∷ bs) → length (b ∷ bs) < 2 ^ 63 → PieceAt x.bytes (x.registers RSI) (b ∷ bs) →
         ((y : View) (next : ℕ) → y.answers ≡ x.answers → answered (full setting y) next (b ∷ bs) y.answers ≡ full setting (wrote y next rax taken left)) → Asked x rax taken left
     asked x b bs rax taken left at size small piece answer =
         let h : Stands setting [] x.place loop_code = subst (λ a. Stands setting [] a loop_code) (sym at) loop_stands in
-        let fs = (difference_of (x.registers 2) 0).flags in
+        let fs = (difference_of (x.registers RDX) 0).flags in
         let y1 : View = record x { flags = fs; place = x.place + h.0 } in
-        let is : condition fs 4 ≡ Some false = e_zero (x.registers 2) (omega arith) ∙ ap Some (ne_eqb (x.registers 2) 0 (λ e. omega arith)) in
+        let is : condition fs E ≡ Some false = e_zero (x.registers RDX) (omega arith) ∙ ap Some (ne_eqb (x.registers RDX) 0 (λ e. omega arith)) in
         let y2 : View = record y1 { place = y1.place + h.2.0 } in
         let h2 = h.2.4 in
-        let y3 : View = record y2 { registers = set_register x.registers 0 1; place = y2.place + h2.0 } in
-        let y4 : View = record y3 { registers = set_register y3.registers 7 1; place = y3.place + h2.2.0 } in
+        let y3 : View = record y2 { registers = set_register x.registers RAX 1; place = y2.place + h2.0 } in
+        let y4 : View = record y3 { registers = set_register y3.registers RDI 1; place = y3.place + h2.2.0 } in
         let next = y4.place + h2.2.2.0 in
         record {
           next = next;
-          leads = leads_on setting.marks (leads_on setting.marks (leads_on setting.marks (leads_on setting.marks (goes setting x y1 (CmpNumber (Reg 2) (pos 0)) h.0 [] h.1 refl) (branches setting y1 4 66 ask_code [] false h.2 is))
-          (goes setting y2 y3 (MovNumber (Reg 0) (pos 1)) h2.0 [] h2.1 refl))
-          (goes setting y3 y4 (MovNumber (Reg 7) (pos 1)) h2.2.0 [] h2.2.1 refl))
-          (goes setting y4 (wrote (asking x) next rax taken left) Syscall h2.2.2.0 [] h2.2.2.1 (offered y4 next b bs size piece ∙ ap Runs (answer y4 next refl)));
+          leads = leads_on setting.marks (leads_on setting.marks (leads_on setting.marks (leads_on setting.marks (goes setting x y1 (CmpNumber (Reg RDX) (pos 0)) h.0 [] h.1 refl) (branches setting y1 E done_label ask_code [] false h.2 is))
+              (goes setting y2 y3 (MovNumber (Reg RAX) (pos 1)) h2.0 [] h2.1 refl))
+              (goes setting y3 y4 (MovNumber (Reg RDI) (pos 1)) h2.2.0 [] h2.2.1 refl))
+              (goes setting y4 (wrote (asking x) next rax taken left) Syscall h2.2.2.0 [] h2.2.2.1 (offered y4 next b bs size piece ∙ ap Runs (answer y4 next refl)));
           ahead = h2.2.2.2;
         }
 
     -- nothing is left
-    finished : (x : View) → x.place ≡ place_of 65 → x.registers 2 ≡ 0 → Done 2 x x.output x.answers
+    finished : (x : View) → x.place ≡ place_of loop_label → x.registers RDX ≡ 0 → Done 2 x x.output x.answers
     finished x at none =
         let h : Stands setting [] x.place loop_code = subst (λ a. Stands setting [] a loop_code) (sym at) loop_stands in
-        let fs = (difference_of (x.registers 2) 0).flags in
+        let fs = (difference_of (x.registers RDX) 0).flags in
         let y1 : View = record x { flags = fs; place = x.place + h.0 } in
-        let is : condition fs 4 ≡ Some true = e_zero (x.registers 2) (omega arith) ∙ ap Some (eq-eqb (x.registers 2) 0 none) in
+        let is : condition fs E ≡ Some true = e_zero (x.registers RDX) (omega arith) ∙ ap Some (eq-eqb (x.registers RDX) 0 none) in
         record {
-          y = record y1 { place = place_of 66 };
+          y = record y1 { place = place_of done_label };
           least = 2;
           most = 2;
-          leads = leads_on setting.marks (goes setting x y1 (CmpNumber (Reg 2) (pos 0)) h.0 [] h.1 refl) (branches setting y1 4 66 ask_code [] true h.2 is);
+          leads = leads_on setting.marks (goes setting x y1 (CmpNumber (Reg RDX) (pos 0)) h.0 [] h.1 refl) (branches setting y1 E done_label ask_code [] true h.2 is);
           few = omega arith;
           at = refl;
           kept = λ k e. refl;
@@ -150,31 +152,31 @@ module _ (setting : Setting) where
     record Counted (x : View) (m : ℕ) (taken : List ℕ) (left : List Answer) : Type 0 where
       y : View
       leads : Led 10 10 x y
-      at : y.place ≡ place_of 65
-      address : y.registers 6 ≡ x.registers 6 + m
-      size : y.registers 2 + m ≡ x.registers 2
+      at : y.place ≡ place_of loop_label
+      address : y.registers RSI ≡ x.registers RSI + m
+      size : y.registers RDX + m ≡ x.registers RDX
       kept : (r : ℕ) → is_other r ≡ true → y.registers r ≡ x.registers r
       bytes : y.bytes ≡ x.bytes
       output_is : y.output ≡ x.output ++ taken
       left_is : y.answers ≡ left
 
-    counted : (x : View) (m : ℕ) (taken : List ℕ) (left : List Answer) → Asked x m taken left → 0 < m → m ≤ x.registers 2 → x.registers 2 < 2 ^ 63 → x.registers 6 + x.registers 2 < 2 ^ 63 → Counted x m taken left
+    counted : (x : View) (m : ℕ) (taken : List ℕ) (left : List Answer) → Asked x m taken left → 0 < m → m ≤ x.registers RDX → x.registers RDX < 2 ^ 63 → x.registers RSI + x.registers RDX < 2 ^ 63 → Counted x m taken left
     counted x m taken left q some within small top =
         let h = q.ahead in
         let y0 = wrote (asking x) q.next m taken left in
         let y1 : View = record y0 { flags = (difference_of m 0).flags; place = q.next + h.0 } in
         let y2 : View = record y1 { place = y1.place + h.2.0 } in
         let h2 = h.2.4 in
-        let y3 : View = record y2 { registers = set_register y2.registers 6 (add64 (x.registers 6) m); flags = (sum_of (x.registers 6) m).flags; place = y2.place + h2.0 } in
-        let y4 : View = record y3 { registers = set_register y3.registers 2 (sub64 (x.registers 2) m); flags = (difference_of (x.registers 2) m).flags; place = y3.place + h2.2.0 } in
+        let y3 : View = record y2 { registers = set_register y2.registers RSI (add64 (x.registers RSI) m); flags = (sum_of (x.registers RSI) m).flags; place = y2.place + h2.0 } in
+        let y4 : View = record y3 { registers = set_register y3.registers RDX (sub64 (x.registers RDX) m); flags = (difference_of (x.registers RDX) m).flags; place = y3.place + h2.2.0 } in
         record {
-          y = record y4 { place = place_of 65 };
+          y = record y4 { place = place_of loop_label };
           leads = leads_on setting.marks (leads_on setting.marks (leads_on setting.marks (leads_on setting.marks (leads_on setting.marks q.leads
-          (goes setting y0 y1 (CmpNumber (Reg 0) (pos 0)) h.0 [] h.1 refl))
-          (branches setting y1 14 10 next_code [] false h.2 (passes_le m some (omega arith))))
-          (goes setting y2 y3 (AddTo (Reg 6) 0) h2.0 [] h2.1 refl))
-          (goes setting y3 y4 (SubTo (Reg 2) 0) h2.2.0 [] h2.2.1 refl))
-          (jumps setting y4 65 [] [] h2.2.2);
+              (goes setting y0 y1 (CmpNumber (Reg RAX) (pos 0)) h.0 [] h.1 refl))
+              (branches setting y1 LE failed_label next_code [] false h.2 (passes_le m some (omega arith))))
+              (goes setting y2 y3 (AddTo (Reg RSI) RAX) h2.0 [] h2.1 refl))
+              (goes setting y3 y4 (SubTo (Reg RDX) RAX) h2.2.0 [] h2.2.1 refl))
+              (jumps setting y4 loop_label [] [] h2.2.2);
           at = refl;
           address = omega arith;
           size = omega arith;
@@ -200,25 +202,25 @@ module _ (setting : Setting) where
       output_is = d.output_is;
       left_is = d.left_is;
     }
-    follows false x m taken output left after q le d = let e = ap length q.left_is in stops_after setting x q.y 10 10 (12 + 10 * length q.y.answers) (12 + 10 * length x.answers) 74 output q.leads d (omega (arith, le, ap (λ n. 10 * n) e))
+    follows false x m taken output left after q le d = let e = ap length q.left_is in stops_after setting x q.y 10 10 12 12 74 output left q.leads d (omega (arith, le, ap (λ n. 10 * n) e))
 
     -- a write that took nothing
-    gives_up : (x : View) (rax : ℕ) (left : List Answer) → Asked x rax [] left → condition (difference_of rax 0).flags 14 ≡ Some true → Stops setting x (12 + 10 * length x.answers) 74 (x.output ++ [])
-    gives_up x rax left q taken =
+    gives_up : (x : View) (rax : ℕ) (a : Answer) (left : List Answer) → x.answers ≡ a ∷ left → Asked x rax [] left → condition (difference_of rax 0).flags LE ≡ Some true → Stops setting x 12 74 (x.output ++ []) left
+    gives_up x rax a left e q taken =
         let h = q.ahead in
         let y0 = wrote (asking x) q.next rax [] left in
         let y1 : View = record y0 { flags = (difference_of rax 0).flags; place = q.next + h.0 } in
-        let y2 : View = record y1 { place = place_of 10 } in
-        stops_after setting x y2 7 7 3 (12 + 10 * length x.answers) 74 (x.output ++ [])
-        (leads_on setting.marks (leads_on setting.marks q.leads (goes setting y0 y1 (CmpNumber (Reg 0) (pos 0)) h.0 [] h.1 refl)) (branches setting y1 14 10 next_code [] true h.2 taken))
-        (fails y2 refl) (omega arith)
+        let y2 : View = record y1 { place = place_of failed_label } in
+        stops_after setting x y2 7 7 3 12 74 (x.output ++ []) left
+        (leads_on setting.marks (leads_on setting.marks q.leads (goes setting y0 y1 (CmpNumber (Reg RAX) (pos 0)) h.0 [] h.1 refl)) (branches setting y1 LE failed_label next_code [] true h.2 taken))
+        (fails y2 refl) (let f = ap length e in omega (arith, f))
 
     answered_by : (b : ℕ) (bs : List ℕ) (rax : ℕ) (taken : List ℕ) (left answers : List Answer) → ((y : View) (next : ℕ) → answered (full setting y) next (b ∷ bs) answers ≡ full setting (wrote y next rax taken left)) →
         (x : View) → x.answers ≡ answers → (y : View) (next : ℕ) → y.answers ≡ x.answers → answered (full setting y) next (b ∷ bs) y.answers ≡ full setting (wrote y next rax taken left)
     answered_by b bs rax taken left answers h x e y next f = ap (answered (full setting y) next (b ∷ bs)) (f ∙ e) ∙ h y next
 
     -- a put, by the answers
-    pub writes : (answers : List Answer) (x : View) (piece : List ℕ) → x.answers ≡ answers → x.place ≡ place_of 65 → x.registers 2 ≡ length piece → PieceAt x.bytes (x.registers 6) piece → 0x10000000 + length x.bytes < 2 ^ 63 →
+    pub writes : (answers : List Answer) (x : View) (piece : List ℕ) → x.answers ≡ answers → x.place ≡ place_of loop_label → x.registers RDX ≡ length piece → PieceAt x.bytes (x.registers RSI) piece → 0x10000000 + length x.bytes < 2 ^ 63 →
         Ends (put piece answers).whole x (x.output ++ (put piece answers).taken) (put piece answers).left
     writes answers x [] e at size piece top =
         let d = finished x at size in
@@ -244,11 +246,11 @@ module _ (setting : Setting) where
         }
     writes (Failed ∷ answers) x (b ∷ bs) e at size piece top =
         let high = piece.high in
-        gives_up x (2 ^ 64 - 5) answers (asked x b bs (2 ^ 64 - 5) [] answers at size (omega arith) piece (answered_by b bs (2 ^ 64 - 5) [] answers (Failed ∷ answers) (λ y next. refl) x e)) (le_zero (2 ^ 64 - 5) true (omega arith) refl)
+        gives_up x (2 ^ 64 - 5) Failed answers e (asked x b bs (2 ^ 64 - 5) [] answers at size (omega arith) piece (answered_by b bs (2 ^ 64 - 5) [] answers (Failed ∷ answers) (λ y next. refl) x e)) (le_zero (2 ^ 64 - 5) true (omega arith) refl)
     writes (Took zero ∷ answers) x (b ∷ bs) e at size piece top =
         let high = piece.high in
         let least : min 0 (length (b ∷ bs)) ≡ 0 = omega arith in
-        gives_up x 0 answers (asked x b bs 0 [] answers at size (omega arith) piece (answered_by b bs 0 [] answers (Took 0 ∷ answers) (λ y next. ap (λ m. full setting (wrote y next m (take m (b ∷ bs)) answers)) least) x e)) (le_zero 0 false (omega arith) refl)
+        gives_up x 0 (Took 0) answers e (asked x b bs 0 [] answers at size (omega arith) piece (answered_by b bs 0 [] answers (Took 0 ∷ answers) (λ y next. ap (λ m. full setting (wrote y next m (take m (b ∷ bs)) answers)) least) x e)) (le_zero 0 false (omega arith) refl)
     writes (Took (suc k) ∷ answers) x (b ∷ bs) e at size piece top =
         let high = piece.high in
         let whole = b ∷ bs in
@@ -259,7 +261,7 @@ module _ (setting : Setting) where
         let t = counted x m (take m whole) answers q some (omega arith) (omega arith) (omega arith) in
         let z = t.size in
         let len = length-drop m whole in
-        let at' : PieceAt t.y.bytes (t.y.registers 6) (drop m whole) = subst (λ a. PieceAt t.y.bytes a (drop m whole)) (sym t.address) (subst (λ l. PieceAt l (x.registers 6 + m) (drop m whole)) (sym t.bytes) (piece_later x.bytes (x.registers 6) whole m within piece)) in
+        let at' : PieceAt t.y.bytes (t.y.registers RSI) (drop m whole) = subst (λ a. PieceAt t.y.bytes a (drop m whole)) (sym t.address) (subst (λ l. PieceAt l (x.registers RSI + m) (drop m whole)) (sym t.bytes) (piece_later x.bytes (x.registers RSI) whole m within piece)) in
         let r = writes answers t.y (drop m whole) t.left_is t.at (omega arith) at' (subst (λ l. 0x10000000 + length l < 2 ^ 63) (sym t.bytes) top) in
         let p = put (drop (suc k) whole) answers in
         let r' = subst (λ l. Ends (put l answers).whole t.y (t.y.output ++ (put l answers).taken) (put l answers).left) (drop_least (suc k) whole) r in

@@ -11,7 +11,18 @@ use Rattle.sch_asm.specs.declared.item.Item.TheVariants.{Label, Plain, Jump, Jum
 use Rattle.sch_asm.specs.declared.routine.Routine.TheVariants.{Stop, Put, PutFixnum}
 use Rattle.sch_asm.specs.Routines.{label_of}
 
--- ---- labels inside the routines
+-- ---- labels
+
+abbrev pub failed_label : ℕ
+failed_label = label_of (Stop OutputFailed)
+
+abbrev pub put_label : ℕ
+put_label = label_of Put
+
+abbrev pub fixnum_label : ℕ
+fixnum_label = label_of PutFixnum
+
+-- Inside the routines:
 
 abbrev pub write_label : ℕ
 write_label = 64
@@ -65,7 +76,7 @@ abbrev pub next_code : List Item
 next_code = Plain (AddTo (Reg RSI) RAX) ∷ Plain (SubTo (Reg RDX) RAX) ∷ Jump loop_label ∷ []
 
 abbrev pub count_code : List Item
-count_code = Plain (CmpNumber (Reg RAX) (pos 0)) ∷ JumpIf LE (label_of (Stop OutputFailed)) ∷ next_code
+count_code = Plain (CmpNumber (Reg RAX) (pos 0)) ∷ JumpIf LE failed_label ∷ next_code
 
 -- the kernel is asked
 abbrev pub ask_code : List Item
@@ -114,7 +125,7 @@ fixnum_code = StoreWord kept_rsi RSI ∷ StoreWord kept_rdi RDI ∷ Plain (Sar (
 -- ---- all of them
 
 abbrev pub put_items : List Item
-put_items = Label (label_of Put) ∷ (put_code ++ Label done_label ∷ (done_code ++ Label (label_of PutFixnum) ∷ (fixnum_code ++ [])))
+put_items = Label put_label ∷ (put_code ++ Label done_label ∷ (done_code ++ Label fixnum_label ∷ (fixnum_code ++ [])))
 
 abbrev pub routine_items : List Item
 routine_items = exits statuses put_items

@@ -20,15 +20,22 @@ const STATUSES: [u8; 11] = [0, 65, 66, 67, 68, 69, 70, 71, 72, 73, 74];
 
 // Labels inside the routines.
 const WRITE: u32 = 64;
+
 const LOOP: u32 = 65;
+
 const DONE: u32 = 66;
+
 const POSITIVE: u32 = 67;
+
 const DIGIT: u32 = 68;
+
 const READY: u32 = 69;
 
 // The words of the data that keep registers.
 const KEPT_R11: u64 = 0x1000_0000;
+
 const KEPT_RSI: u64 = 0x1000_0008;
+
 const KEPT_RDI: u64 = 0x1000_0010;
 
 // Where the digits of a number end.
@@ -36,6 +43,7 @@ const DIGITS_END: i32 = 0x1000_0040;
 
 /// The run-time routines for these limits, as `resolve` takes them.
 pub fn routines(alloc: Global, limits: Limits) -> Result<Asm, Mem>
+    ensures items { IfOk result (λ r. r.items ≡ routine_items) }
     ensures joined { IfOk result (λ r. AreRoutines r.items r.words r.zeros) }
     ensures effective { IfOk result (λ r. AreEffective r.items) }
     ensures short { IfOk result (λ r. text_size r.items ≤ 1024) }
@@ -155,4 +163,36 @@ fn digit_items() -> [Item; 17]
         Item::Plain(Insn::SubTo(Arg::Reg(RDX), RSI)),
         Item::Jump(WRITE),
     ]
+}
+
+#[cfg(test)]
+mod tests {
+    use super::*;
+    use sch_asm::{Word, resolve};
+    use std::test::Fail;
+
+    #[test]
+    fn routines_are_resolved(rt: HostRuntime) -> Result<(), Fail> {
+        let alloc = rt.alloc();
+        let mut words = List::new(alloc);
+        words.push(Word::Fixed(258))?;
+        let program = Asm {
+            items: List::new(alloc),
+            words,
+            zeros: 8,
+        };
+        let limits = Limits::new(4_096, 1);
+        assert_eq!(rt; limits.is_some(), true);
+        if let Some(limits) = limits {
+            let routines = routines(alloc, limits)?;
+            let resolved = resolve(alloc, &program, &routines)?;
+            assert_eq!(rt; resolved.code.len(), 75);
+            assert_eq!(rt;
+                resolved.words.as_slice(),
+                [2, 1, 0, 0, 0, 0, 0, 0].as_slice()
+            );
+            assert_eq!(rt; resolved.zeros, 8);
+        }
+        Ok(())
+    }
 }

@@ -8,7 +8,7 @@ use Rattle.sch_word.specs.Memory as words
 use Rattle.sch_insn.specs.Machine.{holds}
 use Rattle.sch_elf.specs.declared.image.Segment.{Segment}
 use Rattle.sch_elf.specs.Layout as image
-use Rattle.sch_step.specs.Layout.{segment_at, IsLaidOut}
+use Rattle.sch_step.specs.Layout.{segment_at, IsMemory}
 
 abbrev zeros_of : ℕ → List ℕ
 zeros_of n = replicate n 0
@@ -16,7 +16,7 @@ zeros_of n = replicate n 0
 zero_count : (n : ℕ) → length (zeros_of n) ≡ n
 zero_count n = let zero_byte : ℕ = 0 in length-replicate n zero_byte
 
--- Bytes put over the first of so many zeros.
+-- Bytes put over the first of some zeros.
 pub filled : (given bytes over items : List ℕ) (n zeros : ℕ) → given ≡ bytes ++ drop (length bytes) over → over ≡ items → n ≡ length bytes + zeros → items ≡ replicate (length bytes + zeros) 0 → take n (given ++ drop (length given) items) ≡ bytes ++ zeros_of zeros
 filled given bytes over items n zeros g o size all =
     let rest : drop (length bytes) over ≡ zeros_of zeros =
@@ -59,7 +59,7 @@ ends_low [] h i = omega arith
 ends_low (g ∷ gs) h zero = let low = h 0 g (omega arith) in omega (arith, low, size_is g)
 ends_low (g ∷ gs) h (suc i) = ends_low gs (λ k d l. h (suc k) d (omega (arith, l))) i
 
-pub image_laid_out : (gs : List Segment) → image.IsLaidOut gs → IsLaidOut (image.memory gs)
+pub image_laid_out : (gs : List Segment) → image.IsLaidOut gs → IsMemory (image.memory gs)
 image_laid_out [] laid = record { apart = λ i j a n l m z e. absurd (omega (arith, m)); ends = ends_low [] laid.ends }
 image_laid_out (g ∷ gs) laid = record {
   apart = λ i j a n l m z e.

@@ -7,11 +7,11 @@ use Rattle.sch_insn.specs.Machine.{holds}
 use Rattle.sch_step.specs.declared.segment.Segment.{Segment}
 
 -- A segment as the definitions have it.
-abbrev pub segment_of : Segment → words.Segment
-segment_of g = record { address = g.address; readable = g.readable; writable = g.writable; executable = g.executable; bytes = g.bytes.items }
+abbrev pub segment_view : Segment → words.Segment
+segment_view g = record { address = g.address; readable = g.readable; writable = g.writable; executable = g.executable; bytes = g.bytes.items }
 
-abbrev pub segments_of : Vec Segment Global → List words.Segment
-segments_of gs = map segment_of gs.items
+abbrev pub segments_view : Vec Segment Global → List words.Segment
+segments_view gs = map segment_view gs.items
 
 abbrev pub nowhere : words.Segment
 nowhere = record { address = 0; readable = false; writable = false; executable = false; bytes = [] }
@@ -19,7 +19,7 @@ nowhere = record { address = 0; readable = false; writable = false; executable =
 abbrev pub segment_at : List words.Segment → ℕ → words.Segment
 segment_at gs i = get_or gs i nowhere
 
-pub record IsLaidOut (gs : List words.Segment) : Type 0 where
+pub record IsMemory (gs : List words.Segment) : Type 0 where
   pub apart : (i j a n : ℕ) → i < j → j < length gs → 0 < n → holds (segment_at gs j) a n ≡ true → holds (segment_at gs i) a n ≡ false
   pub ends : (i : ℕ) → (segment_at gs i).address + length (segment_at gs i).bytes ≤ 2 ^ 47
 

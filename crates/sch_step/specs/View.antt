@@ -10,7 +10,7 @@ use Rattle.sch_insn.specs.Machine.{Core, registers_of, with_place, unknown_flags
 use Rattle.sch_step.specs.declared.flags.LastFlags.{LastFlags}
 use Rattle.sch_step.specs.declared.flags.LastFlags.TheVariants.{Unknown, Sum, Difference, Bits, Product}
 use Rattle.sch_step.specs.declared.processor.Processor.{Processor}
-use Rattle.sch_step.specs.Layout.{segments_of}
+use Rattle.sch_step.specs.Layout.{segments_view}
 
 -- The flags that an operation has left, from its operands or its result.
 abbrev pub flags_of : LastFlags → Flags
@@ -21,7 +21,7 @@ flags_of (Bits r) = (bits_of r).flags
 flags_of (Product a b) = (product_of a b).flags
 
 abbrev pub core_of : Processor → Core
-core_of m = record { registers = registers_of m.regs; flags = flags_of m.flags; place = m.at; segments = segments_of m.segments }
+core_of m = record { registers = registers_of m.regs; flags = flags_of m.flags; place = m.at; segments = segments_view m.segments }
 
 -- The core after a row that says where it goes on, or why it is stuck.
 abbrev pub gone_on : Result ℕ StuckCause → Core → Result Core StuckCause

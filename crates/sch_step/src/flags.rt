@@ -5,11 +5,17 @@ use sch_insn::condition::{B, BE, E, L, LE, O, S};
 
 // What the conditions test, by half their numbers.
 const OVERFLOW: u8 = O / 2;
+
 const CARRY: u8 = B / 2;
+
 const ZERO: u8 = E / 2;
+
 const CARRY_OR_ZERO: u8 = BE / 2;
+
 const SIGN: u8 = S / 2;
+
 const LESS: u8 = L / 2;
+
 const LESS_OR_ZERO: u8 = LE / 2;
 
 /// What set the flags last. They are computed where a condition reads them.

@@ -54,7 +54,7 @@ impl Processor {
         self.reg(RAX) == 1 && self.reg(RDI) == 1
     }
 
-    /// A write to standard output of so many bytes, more than none.
+    /// A write of at least one byte to standard output.
     fn write<O: Outlet>(&mut self, out: &mut O, next: u64) -> StepEnd
         requires call { (((core_of self.old).registers RAX == 1) && ((core_of self.old).registers RDI == 1)) ≡ true }
         requires some { 0 < (core_of self.old).registers RDX }
@@ -148,7 +148,7 @@ impl Processor {
         }
     }
 
-    fn obstacle_to(&self, insn: &Insn, size: usize) -> Option<StuckCause>
+    fn stuck_cause_at(&self, insn: &Insn, size: usize) -> Option<StuckCause>
         requires valid { IsValid insn.now }
         requires low { (core_of self.now).place + size ≤ 2 ^ 47 }
         ensures { (bytes : List ℕ) (answers : List Answer) → standing (state_of (core_of self.now) bytes answers) (perform insn.now ((core_of self.now).place + size) (state_of (core_of self.now) bytes answers)) ≡ looked result (core_of self.now) bytes answers }
@@ -156,7 +156,7 @@ impl Processor {
         let next = self.at + size as u64;
         match insn {
             Insn::Syscall => self.refused(),
-            _ => self.obstacle(insn, next),
+            _ => self.stuck_cause(insn, next),
         }
     }
 
@@ -166,7 +166,7 @@ impl Processor {
         ensures looked { (bytes : List ℕ) (answers : List Answer) → standing (state_of (core_of self.old) bytes answers) (step_of (state_of (core_of self.old) bytes answers)) ≡ looked result (core_of self.old) bytes answers }
     {
         match self.fetch() {
-            Some((insn, size)) => self.obstacle_to(&insn, size),
+            Some((insn, size)) => self.stuck_cause_at(&insn, size),
             None => Some(StuckCause::Fetch),
         }
     }

@@ -9,10 +9,10 @@ mod flags;
 mod kernel;
 mod loading;
 mod machine;
-mod obstacles;
 mod processor;
 mod rows;
 mod segment;
+mod stuck;
 
 pub use ends::{RunEnd, StepEnd, Stuck};
 pub use loading::load;

@@ -2,7 +2,7 @@ ghost use Rattle.std.specs.Prelude.{◌≡◌, ◌+◌, ◌<◌, ◌≤◌, ◌^
 ghost use Rattle.sch_word.specs.declared.answer.Answer.{Answer};
 ghost use Rattle.sch_insn.specs.Step.{Runs};
 ghost use Rattle.sch_elf.specs.Layout.{end_of, memory, memory_of};
-ghost use Rattle.sch_step.specs.Layout.{segment_of, segments_of};
+ghost use Rattle.sch_step.specs.Layout.{segment_view, segments_view};
 ghost use Rattle.sch_step.specs.Machine.{standing_of, loaded};
 ghost use Rattle.sch_step.specs.Run.{state_of};
 
@@ -37,7 +37,7 @@ pub fn load(alloc: Global, image: &Image) -> Result<Machine, Mem>
 }
 
 fn load_segments(alloc: Global, image: &Image) -> Result<Vec<Segment>, Mem>
-    ensures { IfOk result (λ segments. segments_of segments ≡ memory image.now.segments) }
+    ensures { IfOk result (λ segments. segments_view segments ≡ memory image.now.segments) }
 {
     let mut segments = Vec::new(alloc);
     for segment in image.segments.as_slice() {
@@ -50,7 +50,7 @@ fn load_segments(alloc: Global, image: &Image) -> Result<Vec<Segment>, Mem>
 /// The bytes of a segment and the zeros behind them.
 fn load_segment(alloc: Global, segment: &sch_elf::Segment) -> Result<Segment, Mem>
     requires { end_of segment.now ≤ 2 ^ 47 }
-    ensures { IfOk result (λ g. segment_of g ≡ memory_of segment.now) }
+    ensures { IfOk result (λ g. segment_view g ≡ memory_of segment.now) }
 {
     let bytes = with_zeros(alloc, segment.bytes.as_slice(), segment.zeros as usize)?;
     Ok(Segment {
@@ -62,7 +62,7 @@ fn load_segment(alloc: Global, segment: &sch_elf::Segment) -> Result<Segment, Me
     })
 }
 
-/// Some bytes and so many zeros, which are filled at once.
+/// Some bytes and zeros behind them, which are filled at once.
 fn with_zeros(alloc: Global, bytes: &[u8], zeros: usize) -> Result<Vec<u8>, Mem>
     requires { length bytes.now + zeros < 2 ^ 63 }
     ensures { IfOk result (λ v. v.items ≡ bytes.now ++ replicate zeros 0) }

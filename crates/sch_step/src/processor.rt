@@ -3,7 +3,7 @@ ghost use Rattle.std.specs.Int.{w64, to_le_bytes};
 ghost use Rattle.sch_insn.specs.Spelling.{IsArg, IsValid};
 ghost use Rattle.sch_insn.specs.Machine.{holds, stored, bytes_from, with_register, with_flags, with_place, word_at, byte_at, write_bytes, address_of, load as load_of, store as store_of, word as word_of};
 ghost use Rattle.sch_insn.specs.Step.{fetch as fetch_of};
-ghost use Rattle.sch_step.specs.Layout.{IsLaidOut, segments_of, segment_at, NoneHolds};
+ghost use Rattle.sch_step.specs.Layout.{IsMemory, segments_view, segment_at, NoneHolds};
 
 use crate::flags::LastFlags;
 use crate::segment::Segment;
@@ -20,7 +20,7 @@ pub struct Processor {
     pub(crate) segments: Vec<Segment>,
     pub(crate) code: usize,
     pub(crate) data: usize,
-    ghost laid_out: { IsLaidOut (segments_of segments) },
+    ghost laid_out: { IsMemory (segments_view segments) },
 }
 
 impl Processor {
@@ -29,7 +29,7 @@ impl Processor {
     #[inline(always)]
     fn holds_at(&self, i: usize, address: u64, n: u64) -> bool
         requires { i < vec_len self.now.segments }
-        ensures { result ≡ holds (segment_at (segments_of self.now.segments) i) address n }
+        ensures { result ≡ holds (segment_at (segments_view self.now.segments) i) address n }
     {
         self.segments[i].holds(address, n)
     }
@@ -38,8 +38,8 @@ impl Processor {
     #[inline(always)]
     pub(crate) fn find(&self, hint: usize, address: u64, n: u64) -> Option<usize>
         ensures within { IfSome result (λ i. i < length self.now.segments.items) }
-        ensures some { IfSome result (λ i. holds (segment_at (segments_of self.now.segments) i) address n ≡ true) }
-        ensures none { result ≡ None → NoneHolds (segments_of self.now.segments) address n }
+        ensures some { IfSome result (λ i. holds (segment_at (segments_view self.now.segments) i) address n ≡ true) }
+        ensures none { result ≡ None → NoneHolds (segments_view self.now.segments) address n }
     {
         if hint < self.segments.len() && self.holds_at(hint, address, n) {
             return Some(hint);
@@ -51,8 +51,8 @@ impl Processor {
     #[inline(never)]
     fn search(&self, address: u64, n: u64) -> Option<usize>
         ensures within { IfSome result (λ i. i < length self.now.segments.items) }
-        ensures some { IfSome result (λ i. holds (segment_at (segments_of self.now.segments) i) address n ≡ true) }
-        ensures none { result ≡ None → NoneHolds (segments_of self.now.segments) address n }
+        ensures some { IfSome result (λ i. holds (segment_at (segments_view self.now.segments) i) address n ≡ true) }
+        ensures none { result ≡ None → NoneHolds (segments_view self.now.segments) address n }
     {
         for i in 0..self.segments.len() {
             if self.holds_at(i, address, n) {
@@ -85,7 +85,7 @@ impl Processor {
         self.flags = flags;
     }
 
-    /// The bytes from an address on, to the end of their segment, where so many of them may be read.
+    /// The bytes from an address on, to the end of their segment, where n of them may be read.
     #[inline(always)]
     pub(crate) fn bytes_from(&self, address: u64, n: u64) -> Option<&[u8]>
         requires some { 0 < n }
@@ -145,12 +145,12 @@ impl Processor {
         }
     }
 
-    /// Where so many bytes may be written: the index of their segment, and their place in it.
+    /// Where n bytes from an address on may be written: the index of their segment.
     #[inline(always)]
     pub(crate) fn place_to_write(&self, address: u64, n: u64) -> Option<usize>
         ensures within { IfSome result (λ i. i < length self.now.segments.items) }
-        ensures some { IfSome result (λ i. holds (segment_at (segments_of self.now.segments) i) address n ≡ true) }
-        ensures writable { IfSome result (λ i. (segment_at (segments_of self.now.segments) i).writable ≡ true) }
+        ensures some { IfSome result (λ i. holds (segment_at (segments_view self.now.segments) i) address n ≡ true) }
+        ensures writable { IfSome result (λ i. (segment_at (segments_view self.now.segments) i).writable ≡ true) }
         ensures none { result ≡ None → (ys : List ℕ) → length ys ≡ n → 0 < n → stored (core_of self.now).segments address ys ≡ None }
     {
         let i = self.find(self.data, address, n)?;

@@ -13,12 +13,12 @@ pub struct Segment {
 }
 
 impl Segment {
-    ghost use Rattle.sch_step.specs.Layout.{segment_of};
+    ghost use Rattle.sch_step.specs.Layout.{segment_view};
 
-    /// Whether so many bytes from an address on lie in the segment.
+    /// Whether n bytes from an address on lie in the segment.
     #[inline(always)]
     pub(crate) fn holds(&self, address: u64, n: u64) -> bool
-        ensures { result ≡ holds (segment_of self.now) address n }
+        ensures { result ≡ holds (segment_view self.now) address n }
     {
         let len = self.bytes.len() as u64;
         if address < self.address {
@@ -41,7 +41,7 @@ impl Segment {
     #[inline(always)]
     pub(crate) fn put_word(&mut self, k: usize, value: u64)
         requires { k + 8 ≤ vec_len self.old.bytes }
-        ensures { segment_of self.new ≡ with_bytes (segment_of self.old) (put_bytes self.old.bytes.items k (to_le_bytes w64 value)) }
+        ensures { segment_view self.new ≡ with_bytes (segment_view self.old) (put_bytes self.old.bytes.items k (to_le_bytes w64 value)) }
     {
         let bytes = self.bytes.as_mut_slice();
         bytes[k..k + 8].copy_from_slice(&value.to_le_bytes());
@@ -51,7 +51,7 @@ impl Segment {
     #[inline(always)]
     pub(crate) fn put_byte(&mut self, k: usize, value: u8)
         requires { k < vec_len self.old.bytes }
-        ensures { segment_of self.new ≡ with_bytes (segment_of self.old) (put_bytes self.old.bytes.items k (value ∷ [])) }
+        ensures { segment_view self.new ≡ with_bytes (segment_view self.old) (put_bytes self.old.bytes.items k (value ∷ [])) }
     {
         let bytes = self.bytes.as_mut_slice();
         bytes[k..k + 1].copy_from_slice(&[value]);

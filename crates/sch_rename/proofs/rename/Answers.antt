@@ -1,4 +1,4 @@
-use Rattle.std.proofs.Common.{◌≡◌, ◌∙◌, ◌+◌, ◌++◌, [], Result, Ok, Err, IfOk, sym, subst, ap}
+use Rattle.std.proofs.Common.{◌∙◌, ◌+◌, ◌++◌, [], Result, Ok, Err, IfOk, sym, subst, ap}
 use Rattle.sch_word.specs.Runs.{SameRuns}
 use Rattle.sch_word.specs.Shape.{site_of, call_site_of, tests_in, dropped_in}
 use Rattle.sch_lang.specs.ProgramView.{source}

@@ -1,4 +1,4 @@
-use Rattle.std.proofs.Common.{◌≡◌, ◌∙◌, false, sym, subst, arith}
+use Rattle.std.proofs.Common.{◌∙◌, false, sym, subst, arith}
 use Rattle.std.specs.Prelude.{IsTrue}
 use Rattle.sch_lang.specs.ProgramView.{source}
 use Rattle.sch_lang.proofs.Scopes.{program_is_closed}
@@ -26,7 +26,7 @@ invariant_of-result c =
     let v = c.args.p.now in
     let closed = program_is_closed p v.numbered in
     let made = made_program p _ _ _ _ _ _ _ _ c.new-scope.ensures.items c.in_ok-library.ensures.made c.in_ok-library.ensures.next c.in_ok-library.ensures.scope
-        c.in_ok-forms.ensures.made c.in_ok-forms.ensures.next c.in_ok-statics.ensures (c.in_ok-sites.ensures ∙ c.as_slice.ensures) in
+    c.in_ok-forms.ensures.made c.in_ok-forms.ensures.next c.in_ok-statics.ensures (c.in_ok-sites.ensures ∙ c.as_slice.ensures) in
     record {
       scoped = subst (λ q. IsTrue (scoped q)) (sym made) (scoped_kept p closed);
       formed = subst (λ q. IsTrue (formed false q)) (sym made) (formed_kept p closed v.numbered v.formed);
@@ -40,4 +40,4 @@ pub returns : goal.returns
 returns c =
     let p = source c.args.p.now in
     made_program p _ _ _ _ _ _ _ _ c.new-scope.ensures.items c.in_ok-library.ensures.made c.in_ok-library.ensures.next c.in_ok-library.ensures.scope
-        c.in_ok-forms.ensures.made c.in_ok-forms.ensures.next c.in_ok-statics.ensures (c.in_ok-sites.ensures ∙ c.as_slice.ensures)
+    c.in_ok-forms.ensures.made c.in_ok-forms.ensures.next c.in_ok-statics.ensures (c.in_ok-sites.ensures ∙ c.as_slice.ensures)

@@ -8,4 +8,4 @@ invariant-loop-item l = record {
   small : l.number + length (drop l.item-index l.items) ≡ l.first + length l.items;
   below : StandBelow (length l.fn.numbers.items) (drop l.item-index l.items);
   size : length l.numbers.items ≡ length l.fn.numbers.items;
-  }
+}

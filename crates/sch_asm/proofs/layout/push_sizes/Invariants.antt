@@ -7,4 +7,4 @@ abbrev pub invariant-loop-item : goal.invariant-loop-item
 invariant-loop-item l = record {
   sizes : l.sizes ++ map item_size (drop l.item-index l.items) ≡ l.fn.sizes ++ map item_size l.items;
   sound : AreItems (drop l.item-index l.items);
-  }
+}

@@ -11,4 +11,4 @@ invariant-loop-item l = record {
   number : l.number + length (drop l.item-index l.items) ≡ l.first + length l.items;
   sound : AreItems (drop l.item-index l.items);
   uses : UseBelow (length l.layout.numbers.items) (drop l.item-index l.items);
-  }
+}

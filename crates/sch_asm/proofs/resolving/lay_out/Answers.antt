@@ -71,8 +71,8 @@ number_labels-requires-2-clause-below c =
 pub invariant_of-result : goal.invariant_of-result
 invariant_of-result c =
     let f = filled c.args.a.now.items c.args.routines.now.items c.as_slice-3.result.now c.as_slice-4.result.now c.args.sizes.now c.in_ok-numbers.numbers.items c.number_labels.new.numbers.items c.number_labels-2.new.numbers.items c.in_ok-addresses.addresses
-        c.len.result c.labels_of.result c.labels_of-2.result c.max-labels.result c.in_ok-numbers.ensures c.as_slice-3.ensures c.as_slice-4.ensures c.len.ensures c.number_labels.ensures.numbers c.number_labels-2.ensures.numbers c.in_ok-addresses.ensures c.requires.sizes c.requires.small
-        c.max-labels.ensures (c.labels_of.ensures ∙ ap (label_bound 0) c.as_slice.ensures) (c.labels_of-2.ensures ∙ ap (label_bound 0) c.as_slice-2.ensures) in
+    c.len.result c.labels_of.result c.labels_of-2.result c.max-labels.result c.in_ok-numbers.ensures c.as_slice-3.ensures c.as_slice-4.ensures c.len.ensures c.number_labels.ensures.numbers c.number_labels-2.ensures.numbers c.in_ok-addresses.ensures c.requires.sizes c.requires.small
+    c.max-labels.ensures (c.labels_of.ensures ∙ ap (label_bound 0) c.as_slice.ensures) (c.labels_of-2.ensures ∙ ap (label_bound 0) c.as_slice-2.ensures) in
     record {
       known = known_by c.args.a.now.items c.args.routines.now.items c.number_labels-2.new.numbers.items c.in_ok-addresses.addresses c.max-labels.result f;
       small = small_by c.args.a.now.items c.args.routines.now.items c.number_labels-2.new.numbers.items c.in_ok-addresses.addresses c.max-labels.result f;
@@ -81,6 +81,6 @@ invariant_of-result c =
 pub returns : goal.returns
 returns c =
     let f = filled c.args.a.now.items c.args.routines.now.items c.as_slice-3.result.now c.as_slice-4.result.now c.args.sizes.now c.in_ok-numbers.numbers.items c.number_labels.new.numbers.items c.number_labels-2.new.numbers.items c.in_ok-addresses.addresses
-        c.len.result c.labels_of.result c.labels_of-2.result c.max-labels.result c.in_ok-numbers.ensures c.as_slice-3.ensures c.as_slice-4.ensures c.len.ensures c.number_labels.ensures.numbers c.number_labels-2.ensures.numbers c.in_ok-addresses.ensures c.requires.sizes c.requires.small
-        c.max-labels.ensures (c.labels_of.ensures ∙ ap (label_bound 0) c.as_slice.ensures) (c.labels_of-2.ensures ∙ ap (label_bound 0) c.as_slice-2.ensures) in
+    c.len.result c.labels_of.result c.labels_of-2.result c.max-labels.result c.in_ok-numbers.ensures c.as_slice-3.ensures c.as_slice-4.ensures c.len.ensures c.number_labels.ensures.numbers c.number_labels-2.ensures.numbers c.in_ok-addresses.ensures c.requires.sizes c.requires.small
+    c.max-labels.ensures (c.labels_of.ensures ∙ ap (label_bound 0) c.as_slice.ensures) (c.labels_of-2.ensures ∙ ap (label_bound 0) c.as_slice-2.ensures) in
     laid_out c.args.a.now.items c.args.routines.now.items c.args.a.now.words c.args.routines.now.words c.number_labels-2.new.numbers.items c.in_ok-addresses.addresses c.max-labels.result c.args.routines.now.zeros f c.requires.own c.requires.routines c.args.a.now.once c.args.routines.now.once c.args.a.now.known c.args.routines.now.known

@@ -8,4 +8,4 @@ abbrev pub invariant-loop-word : goal.invariant-loop-word
 invariant-loop-word l = record {
   bytes : l.bytes ++ flat_map (bytes_of (placed_by l.layout.numbers.items l.layout.addresses)) (drop l.word-index l.words) ≡ flat_map (bytes_of (placed_by l.layout.numbers.items l.layout.addresses)) l.words;
   uses : WordsBelow (length l.layout.numbers.items) (drop l.word-index l.words);
-  }
+}

@@ -1,4 +1,4 @@
-use Rattle.std.proofs.Common.{◌≡◌, ◌≤◌, ◌+◌, ◌++◌, drop, length}
+use Rattle.std.proofs.Common.{◌≡◌, ◌≤◌, ◌+◌, ◌++◌, drop}
 use Rattle.std.specs.List.{flat_map}
 use Rattle.sch_elf.specs.Writing.{need, placed, program_header_bytes, start}
 use Rattle.sch_elf.proofs.write.put_program_headers.Given as goal

@@ -1,6 +1,6 @@
-use Rattle.std.proofs.Common.{◌∙◌, refl, reverse}
+use Rattle.std.proofs.Common.{refl, reverse}
 use Rattle.sch_cells.specs.Tree.{no_trees, no_lambdas}
-use Rattle.sch_rename.proofs.Loops.{each_made, each_next, each_inside, each_start, each_start_next, each_start_inside, each_end, lambdas_made, lambdas_next, lambdas_inside, lambdas_start, lambdas_start_next, lambdas_start_inside, lambdas_end}
+use Rattle.sch_rename.proofs.Loops.{then_same, each_made, each_next, each_inside, each_start, each_start_next, each_start_inside, each_end, lambdas_made, lambdas_next, lambdas_inside, lambdas_start, lambdas_start_next, lambdas_start_inside, lambdas_end}
 use Rattle.sch_rename.proofs.numbering.+renaming.Goals as goal
 
 pub rename_each-loop-e-init : goal.rename_each-loop-e-init
@@ -23,7 +23,7 @@ rename_each-loop-e-preserved t c =
       made = rw (c.in_ok-push.ensures.ok, p.scope) (each_made (reverse c.loop-e.scope.items) items c.loop-e.e-index c.loop-e.all c.e-item.result q c.loop-e.next c.rename_expression.new.next 0 _ c.loop-e-test.true c.e-item.is p.made p.next i.made);
       next = each_next (reverse c.loop-e.scope.items) items c.loop-e.e-index c.loop-e.all c.e-item.result q c.loop-e.next c.rename_expression.new.next _ no_trees c.loop-e-test.true c.e-item.is p.next i.next;
       inside = rw p.scope (each_inside (reverse c.loop-e.scope.items) items c.loop-e.e-index c.loop-e.all c.e-item.result q 0 0 0 no_trees c.loop-e-test.true c.e-item.is _ i.inside);
-      scope = p.scope ∙ i.scope;
+      scope = then_same p.scope i.scope;
     }
 
 pub rename_each-returns-clause-made : goal.rename_each-returns-clause-made
@@ -50,7 +50,7 @@ rename_lambdas-loop-l-preserved t c =
       made = rw (c.in_ok-push.ensures.ok, p.scope) (lambdas_made (reverse c.loop-l.scope.items) items c.loop-l.l-index c.loop-l.all c.l-item.result q c.loop-l.next c.rename_lambda.new.next 0 _ c.loop-l-test.true c.l-item.is p.made p.next i.made);
       next = lambdas_next (reverse c.loop-l.scope.items) items c.loop-l.l-index c.loop-l.all c.l-item.result q c.loop-l.next c.rename_lambda.new.next _ no_lambdas c.loop-l-test.true c.l-item.is p.next i.next;
       inside = rw p.scope (lambdas_inside (reverse c.loop-l.scope.items) items c.loop-l.l-index c.loop-l.all c.l-item.result q 0 0 0 no_lambdas c.loop-l-test.true c.l-item.is _ i.inside);
-      scope = p.scope ∙ i.scope;
+      scope = then_same p.scope i.scope;
     }
 
 pub rename_lambdas-returns-clause-made : goal.rename_lambdas-returns-clause-made

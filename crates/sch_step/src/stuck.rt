@@ -24,7 +24,7 @@ impl Processor {
         }
     }
 
-    /// Why so many bytes cannot be written there.
+    /// Why n bytes from an address on cannot be written.
     fn closed(&self, address: u64, n: u64) -> Option<StuckCause>
         requires some { 0 < n }
         ensures { (place : ℕ) (ys : List ℕ) → length ys ≡ n → result ≡ result_err (write_bytes (with_place place (core_of self.now)) address ys) }
@@ -58,7 +58,7 @@ impl Processor {
     }
 
     /// Why the processor has no row for an instruction that is no call of the kernel.
-    pub(crate) fn obstacle(&self, insn: &Insn, next: u64) -> Option<StuckCause>
+    pub(crate) fn stuck_cause(&self, insn: &Insn, next: u64) -> Option<StuckCause>
         requires valid { IsValid insn.now }
         ensures { result ≡ result_err (act_of insn.now (with_place next (core_of self.now))) }
     {
@@ -100,7 +100,7 @@ impl Processor {
                 Some(_) => None,
                 None => Some(StuckCause::Flag),
             },
-            // never reached: `obstacle_to` answers the call of the kernel
+            // never reached: `stuck_cause_at` answers the call of the kernel
             Insn::Syscall => Some(StuckCause::Kernel(self.reg(RAX))),
             Insn::MovWord(_, _) | Insn::Lea(_, _) | Insn::Cqo | Insn::Jump(_) => None,
         }

@@ -1,0 +1,67 @@
+-- Small programs joined with the routines, run by the machine.
+use Rattle.std.proofs.Common.{◌≡◌, ℕ, List, [], ◌∷◌, ◌++◌, Option, Some, refl}
+use Rattle.std.specs.List.{flat_map}
+use Rattle.std.specs.Prelude.{codes, map, pos, negsuc, replicate, slice_index, ℤ}
+use Rattle.sch_word.specs.declared.answer.Answer.{Answer}
+use Rattle.sch_word.specs.declared.answer.Answer.TheVariants.{Took, Failed}
+use Rattle.sch_word.specs.declared.stop.Stop.TheVariants.{DivideByZero}
+use Rattle.sch_insn.specs.declared.insn.Arg.TheVariants.{Reg}
+use Rattle.sch_insn.specs.declared.insn.Insn.TheVariants.{MovNumber, MovWord}
+use Rattle.sch_insn.specs.declared.register.TheConstants.{RAX, RDX, R11}
+use Rattle.sch_insn.specs.Decode.{escaped_of, narrow_of, operand_of, rexed_of, wide_of}
+use Rattle.sch_insn.specs.Machine.{test_of}
+use Rattle.sch_insn.specs.Behaves.{exit_of, start, zeros}
+use Rattle.sch_insn.specs.Spelling.{spelling}
+use Rattle.sch_insn.specs.Step.{mach}
+use Rattle.sch_asm.specs.declared.item.Item.{Item}
+use Rattle.sch_asm.specs.declared.item.Item.TheVariants.{Label, Plain, Jump, LoadLabel}
+use Rattle.sch_asm.specs.declared.routine.Routine.TheVariants.{End, Stop, Put, PutFixnum}
+use Rattle.sch_asm.specs.Routines.{label_of}
+use Rattle.sch_asm.specs.Codes.{item_size, text_size}
+use Rattle.sch_asm.specs.Data.{data_at}
+use Rattle.sch_asm.specs.Layout.{addresses_from, emitted, numbered, placed_by}
+use Rattle.sch_asm.specs.Views.{text_at}
+use Rattle.sch_runtime.specs.Code.{routine_items}
+
+-- the routines take this many bytes
+routine_bytes : text_size routine_items ≡ 413
+routine_bytes = refl
+
+-- a program's text
+abbrev text_of : List Item → List ℕ
+text_of items =
+    let all = items ++ routine_items in
+    let numbers = numbered all 0 (replicate 1030 0) in
+    let addresses = addresses_from 0x400000 (map item_size all) in
+    flat_map spelling (emitted (placed_by numbers addresses) (slice_index addresses) 0 all)
+
+-- how it ends within 400 steps, where some bytes stand behind the routines' own words
+abbrev ends : List Item → List ℕ → List Answer → Option (ℕ × List ℕ)
+ends items bytes answers = exit_of (mach 400 (start 0x400000 (text_at (text_of items) ∷ data_at (replicate 512 0 ++ bytes) ∷ []) zeros answers))
+
+abbrev fixnum_program : ℤ → List Item
+fixnum_program word = Plain (MovWord RAX word) ∷ LoadLabel R11 1024 ∷ Jump (label_of PutFixnum) ∷ Label 1024 ∷ Jump (label_of End) ∷ []
+
+abbrev piece_program : List Item
+piece_program = Plain (MovNumber (Reg RAX) (pos 0x10000200)) ∷ Plain (MovNumber (Reg RDX) (pos 3)) ∷ LoadLabel R11 1024 ∷ Jump (label_of Put) ∷ Label 1024 ∷ Jump (label_of End) ∷ []
+
+fixnums :
+    (ends (fixnum_program (pos 0)) [] [] ≡ Some (0, codes "0"))
+    × (ends (fixnum_program (negsuc 335)) [] [] ≡ Some (0, codes "-42"))
+    × (ends (fixnum_program (pos 9223372036854775800)) [] [] ≡ Some (0, codes "1152921504606846975"))
+    × (ends (fixnum_program (negsuc 9223372036854775807)) [] [] ≡ Some (0, codes "-1152921504606846976"))
+unfolding escaped_of narrow_of operand_of rexed_of wide_of test_of
+fixnums = (refl, refl, refl, refl)
+
+-- short writes go on, and a write that takes nothing or fails is stop 74
+pieces :
+    (ends piece_program (codes "abc") [] ≡ Some (0, codes "abc"))
+    × (ends piece_program (codes "abc") (Took 1 ∷ Took 5 ∷ []) ≡ Some (0, codes "abc"))
+    × (ends piece_program (codes "abc") (Took 1 ∷ Took 1 ∷ Failed ∷ []) ≡ Some (74, codes "ab"))
+    × (ends piece_program (codes "abc") (Took 0 ∷ []) ≡ Some (74, []))
+unfolding escaped_of narrow_of operand_of rexed_of wide_of test_of
+pieces = (refl, refl, refl, refl)
+
+stops : ends (Jump (label_of (Stop DivideByZero)) ∷ []) [] [] ≡ Some (69, [])
+unfolding escaped_of narrow_of operand_of rexed_of wide_of test_of
+stops = refl
