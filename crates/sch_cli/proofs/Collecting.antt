@@ -10,7 +10,7 @@ use Rattle.sch_word.specs.Fixnum.{IsFixnum}
 use Rattle.sch_read.specs.declared.datum.Datum.{Datum}
 use Rattle.sch_read.specs.Views.{tree_of, data_of}
 use Rattle.sch_cli.specs.declared.piece.Piece.{Piece}
-use Rattle.sch_core.specs.Scope.{place}
+use Rattle.sch_read.specs.Parts.{offset}
 use Rattle.sch_cli.specs.Pieces.{AreShort, IsShort, bytes_of, first_other, other_at, piece_of, pieces_in, with_piece}
 
 module _ (items : List Datum) (i : ℕ) (d : Datum) (p : Piece) (d0 : Datum) (within : i < length items) (is : d ≡ get_or items i d0) (prints : Some p ≡ piece_of (tree_of d)) where
@@ -19,7 +19,7 @@ module _ (items : List Datum) (i : ℕ) (d : Datum) (p : Piece) (d0 : Datum) (wi
 
   pub next_other : first_other (data_of (drop i items)) ≡ first_other (data_of items) → first_other (data_of (drop (i + 1) items)) ≡ first_other (data_of items)
   next_other h =
-      ap (λ o. other_at o (place (tree_of d)) (first_other (data_of (drop (i + 1) items)))) prints ∙ sym (at_item (λ l. first_other (data_of l))) ∙ h
+      ap (λ o. other_at o (offset (tree_of d)) (first_other (data_of (drop (i + 1) items)))) prints ∙ sym (at_item (λ l. first_other (data_of l))) ∙ h
 
   pub next_pieces : (ps ps' : List Piece) → ps' ≡ ps ++ p ∷ [] → ps ++ pieces_in (data_of (drop i items)) ≡ pieces_in (data_of items) → ps' ++ pieces_in (data_of (drop (i + 1) items)) ≡ pieces_in (data_of items)
   next_pieces ps ps' e h =

@@ -14,10 +14,10 @@ use Rattle.sch_core.specs.Expands as ex
 use Rattle.sch_core.specs.Forms as fo
 use Rattle.sch_core.specs.Forms.{TopExpands, FormsExpand, TextExpands, defined, defined_by, firsts, globals_of}
 use Rattle.sch_core.specs.Numbered.{numbered_each, program_of, global_names_of_each}
-use Rattle.sch_core.specs.Programs.{IsProgramOf, first_crowded, form_places, places_of}
+use Rattle.sch_core.specs.Programs.{IsProgramOf, first_exceeding, form_places, places_of}
 use Rattle.sch_cli.specs.declared.piece.Piece.{Piece}
 use Rattle.sch_cli.specs.declared.piece.Piece.TheVariants.{Number, Character, Boolean}
-use Rattle.sch_core.specs.Scope.{place}
+use Rattle.sch_read.specs.Parts.{offset}
 use Rattle.sch_cli.specs.Pieces.{piece_of, displayed, new_line, first_other, other_at, pieces_in, with_piece}
 
 abbrev pub constant_of : Piece → Const
@@ -116,7 +116,7 @@ Print none (p ∷ ps) = ⊥
 Print (cons d ds) [] = ⊥
 Print (cons d ds) (p ∷ ps) = (piece_of d ≡ Some p) × Print ds ps
 
-first_prints : (d : Datum) (ds : Data) (o : Option Piece) → piece_of d ≡ o → other_at o (place d) (first_other ds) ≡ None →
+first_prints : (d : Datum) (ds : Data) (o : Option Piece) → piece_of d ≡ o → other_at o (offset d) (first_other ds) ≡ None →
     (first_other ds ≡ None → Print ds (pieces_in ds)) → Print (cons d ds) (with_piece o (pieces_in ds))
 first_prints d ds None e h rest = absurd cc
 first_prints d ds (Some p) e h rest = (e, rest h)
@@ -140,13 +140,13 @@ forms (cons d ds) (p ∷ ps) h = fo.and_form d ds (put_of p ∷ []) (map put_of 
 expands : (items : Data) (ps : List Piece) → Print items ps → TextExpands items (map put_of ps)
 expands items ps h = subst (λ g. FormsExpand g items (map put_of ps)) (sym (ap (firsts []) (nothing_defined items ps h))) (forms items ps h)
 
-few : (globals : List (List ℕ)) (items : Data) (ps : List Piece) (n : ℕ) → Print items ps → first_crowded (form_places items) (numbered_each globals (drafts (map put_of ps)) n) ≡ None
+few : (globals : List (List ℕ)) (items : Data) (ps : List Piece) (n : ℕ) → Print items ps → first_exceeding (form_places items) (numbered_each globals (drafts (map put_of ps)) n) ≡ None
 few globals none [] n h = refl
 few globals none (p ∷ ps) n h = absurd h
 few globals (cons d ds) [] n h = absurd h
 few globals (cons d ds) (p ∷ ps) n h =
     let g = (good d p h.0).placed in
-    ap (λ l. first_crowded (l ++ form_places ds) (numbered_each globals (drafts (map put_of (p ∷ ps))) n)) g.1 ∙ few globals ds ps (n + 1) h.1
+    ap (λ l. first_exceeding (l ++ form_places ds) (numbered_each globals (drafts (map put_of (p ∷ ps))) n)) g.1 ∙ few globals ds ps (n + 1) h.1
 
 -- the core program of puts
 pub program_of_pieces : (items : Data) (ps : List Piece) → Print items ps → IsProgramOf items (program_of (map put_of ps))

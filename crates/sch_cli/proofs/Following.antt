@@ -4,14 +4,15 @@ use Rattle.std.proofs.lemmas.Bool.{cases_lt}
 use Rattle.std.proofs.lemmas.List.{append-nil}
 use Rattle.sch_word.specs.Memory.{Segment}
 use Rattle.sch_word.specs.Runs.{Run, End, ended}
-use Rattle.sch_word.specs.Orders.{in_text_order}
 use Rattle.sch_insn.specs.Machine.{State}
 use Rattle.sch_insn.specs.Step.{Progress, Runs, Exited, Stuck, mach}
-use Rattle.sch_insn.specs.Behaves.{Behaves, Ending, IsPrefix, output_of, exit_of, start}
+use Rattle.sch_insn.specs.Behaves.{Behaves, Covers, Ending, IsPrefix, Reaches, output_of, exit_of, start}
 use Rattle.sch_insn.proofs.Growing.{IsOver, stays}
 use Rattle.sch_lang.specs.Tree as tree
-use Rattle.sch_cli.specs.Builds.{Prints}
-use Rattle.sch_cli.specs.Headline.{Covers, Follows, Reaches, run_of}
+use Rattle.sch_lang.specs.Run.{run}
+use Rattle.sch_cli.specs.Builds.{Prints, orders_of}
+use Rattle.sch_cli.specs.Command.{default_heap, default_depth}
+use Rattle.sch_cli.specs.Headline.{Follows}
 use Rattle.sch_cli.specs.Pieces.{puts}
 
 some_same : (x y : ℕ × List ℕ) → Some x ≡ Some y → x ≡ y
@@ -56,14 +57,19 @@ module _ (r : Run) (e : Ending) (output_is : r.output ≡ e.output) (end_is : r.
         (end_is ∙ ap (λ x. ended x.0) same, output_is ∙ ap (λ x. x.1) same);
   }
 
-pub follows : (entry : ℕ) (segments : List Segment) (p : tree.Source) (pieces : List (List ℕ)) → Prints p pieces → Behaves entry segments (puts pieces) → Follows entry segments p (in_text_order p.sites)
-follows entry segments p pieces prints behaves = record {
-  reaches = λ g answers n.
-      let end = behaves.ends g answers in
-      (end.0, reaches (run_of p (in_text_order p.sites) answers n) (puts pieces answers) (prints.output answers n) (prints.end answers n) (mach end.0 (start entry segments g answers)) end.1);
-  covered = λ g answers m.
-      let end = behaves.ends g answers in
-      covers (run_of p (in_text_order p.sites) answers m) (puts pieces answers) (prints.output answers m) (prints.end answers m) (start entry segments g answers) m end.0 end.1 (behaves.along g answers m);
-  never_stuck = behaves.never_stuck;
-  orders = prints.orders;
-}
+pub follows : (entry : ℕ) (segments : List Segment) (p : tree.Source) (pieces : List (List ℕ)) → Prints p pieces → Behaves entry segments (puts pieces) →
+    Follows entry segments p (orders_of p) default_heap default_depth
+follows entry segments p pieces prints behaves =
+    let runs = run p (orders_of p) default_heap default_depth in
+    record {
+      runs = record {
+        reaches = λ g answers n.
+            let end = behaves.ends g answers in
+            (end.0, reaches (runs answers n) (puts pieces answers) (prints.output answers n) (prints.end answers n) (mach end.0 (start entry segments g answers)) end.1);
+        covered = λ g answers m.
+            let end = behaves.ends g answers in
+            covers (runs answers m) (puts pieces answers) (prints.output answers m) (prints.end answers m) (start entry segments g answers) m end.0 end.1 (behaves.along g answers m);
+        never_stuck = behaves.never_stuck;
+      };
+      orders = prints.orders;
+    }

@@ -21,7 +21,8 @@ use Rattle.sch_insn.specs.Stands.{HasAt, HasBytes, ApartFrom}
 use Rattle.sch_insn.proofs.Placing.{has_all, has_bytes}
 use Rattle.sch_insn.proofs.Growing.{behaves}
 use Rattle.sch_cli.specs.Pieces.{puts}
-use Rattle.sch_cli.specs.PieceCode.{write_loop, exit_code, pieces_code, program_code, data_address, text_address, joined, text_memory, data_memory, IsSmall, AreFull}
+use Rattle.sch_cli.specs.PieceCode.{write_loop, exit_code, pieces_code, program_code, joined, text_memory, data_memory, IsSmall, AreFull}
+use Rattle.sch_elf.specs.Program.{text_address, data_address}
 use Rattle.sch_cli.proofs.Steps.{then_exits, next_exits, exits_here}
 use Rattle.sch_cli.proofs.WriteLoop.{at, Outcome, writes}
 
@@ -162,6 +163,12 @@ stand_all before g (piece ∷ pieces) front a apart r e is full =
       stand_all before g pieces (front ++ piece) (a + length piece) apart r later place full.1,
     )
 
+pub program_valid : (pieces : List (List ℕ)) → IsSmall pieces → AllValid (program_code pieces)
+program_valid pieces small =
+    let few = small.few in
+    let short = small.short in
+    (fits_pos 60 (omega arith), both_valid write_loop (pieces_code 60 data_address pieces) write_loop_valid (pieces_valid pieces 60 data_address (omega arith) (omega arith)))
+
 pub program_behaves : (pieces : List (List ℕ)) → IsSmall pieces → Behaves text_address (text_memory pieces ∷ data_memory pieces ∷ []) (puts pieces)
 program_behaves pieces small =
     let few = small.few in
@@ -172,7 +179,7 @@ program_behaves pieces small =
     let tail = pieces_code 60 data_address pieces in
     let p : ℕ = text_address + 5 in
     let size : length text.bytes ≡ 81 + 26 * length pieces = let z = length-pieces_code pieces 60 data_address in let w = ap length (append-nil (flat_map spelling (program_code pieces))) in omega arith in
-    let valid : AllValid (program_code pieces) = (fits_pos 60 (omega arith), both_valid write_loop tail write_loop_valid (pieces_valid pieces 60 data_address (omega arith) (omega arith))) in
+    let valid = program_valid pieces small in
     let h : HasAt segments text_address (program_code pieces) = has_all [] (pool ∷ []) text (program_code pieces) [] [] tt refl refl valid in
     let loop : HasAt segments p write_loop = front_at segments p write_loop tail h.1 in
     let code : HasAt segments (p + 60) tail = h.1.1.1.1.1.1.1.1.1.1.1.1.1 in

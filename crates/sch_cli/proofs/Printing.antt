@@ -20,7 +20,7 @@ use Rattle.sch_core.specs.Numbered.{numbered_each, program_of, global_names_of_e
 use Rattle.sch_cli.specs.declared.piece.Piece.{Piece}
 use Rattle.sch_cli.specs.declared.piece.Piece.TheVariants.{Number, Character, Boolean}
 use Rattle.sch_cli.specs.Builds.{Prints}
-use Rattle.sch_cli.specs.Headline.{default_heap, default_depth}
+use Rattle.sch_cli.specs.Command.{default_heap, default_depth}
 use Rattle.sch_cli.specs.Pieces.{bytes_of, puts}
 use Rattle.sch_cli.proofs.Expanding.{constant_of, put_of}
 use Rattle.sch_cli.proofs.PieceRuns.{ending_after}

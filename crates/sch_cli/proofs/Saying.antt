@@ -6,7 +6,11 @@ use Rattle.std.proofs.Math.Seq.{take-append_seam, take-append-add}
 use Rattle.sch_io.specs.Told.{Tells}
 use Rattle.sch_io.specs.Counters.{Rose}
 use Rattle.std.specs.Borrow.{Bor}
-use Rattle.sch_cli.specs.Messages.{Says, joined}
+use Rattle.sch_cli.specs.Messages.{Said, joined}
+
+-- the line was taken between these bytes told and these counts of faults
+abbrev pub Says : List ℕ → Option (List ℕ) → Option (List ℕ) → ℕ → ℕ → Type 0
+Says line bytes bytes' faults faults' = Tells bytes bytes' (λ before after. Said line before after (Rose faults faults'))
 
 -- any number of bytes of the first part
 taken_first : (subject text : List ℕ) (k : ℕ) → (n : ℕ) × (take n (subject ++ text) ≡ take k subject)

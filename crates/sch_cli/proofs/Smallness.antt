@@ -5,6 +5,7 @@ use Rattle.sch_read.specs.Valid.{weights}
 use Rattle.sch_cli.specs.declared.piece.Piece.{Piece}
 use Rattle.sch_cli.specs.PieceCode.{IsSmall, AreFull, joined}
 use Rattle.sch_cli.specs.Pieces.{AreShort, bytes_of, first_other, pieces_in}
+use Rattle.sch_cli.specs.Refusals.{max_source_size}
 use Rattle.sch_cli.proofs.Expanding.{light, print}
 
 all_full : (pieces : List (List ℕ)) → AreShort pieces → AreFull pieces
@@ -23,7 +24,7 @@ length_map : (ps : List Piece) → length (map bytes_of ps) ≡ length ps
 length_map [] = omega arith
 length_map (p ∷ ps) = let e = length_map ps in omega arith
 
-pub small : (items : Data) (ps qs : List Piece) → qs ≡ ps → first_other items ≡ None → ps ≡ pieces_in items → weights items ≤ 7340032 → AreShort (map bytes_of ps) → IsSmall (map bytes_of qs)
+pub small : (items : Data) (ps qs : List Piece) → qs ≡ ps → first_other items ≡ None → ps ≡ pieces_in items → weights items ≤ 7 * max_source_size → AreShort (map bytes_of ps) → IsSmall (map bytes_of qs)
 small items ps qs lent none same weighs short =
     let few = light items (pieces_in items) (print items none) in
     let many = ap length same in

@@ -1,31 +1,49 @@
 -- The words that are a command.
-use Rattle.std.specs.Prelude.{ℕ, ◌^◌, List, [], ◌∷◌, codes, Bool, true, false, not, ◌&&◌, Option, Some, None, if◌then◌else◌}
+use Rattle.std.specs.Prelude.{ℕ, ◌^◌, nat_le, List, [], ◌∷◌, length, codes, Bool, true, false, not, ◌&&◌, ◌==◌, Option, Some, None, if◌then◌else◌}
 use Rattle.std.specs.Str.{bytes_eq}
-use Rattle.sch_cli.specs.Numbers.{is_steps, value_of}
+use Rattle.std.specs.Char.{is_ascii_digit}
+use Rattle.std.specs.List.{list_all}
+use Rattle.std.specs.Str.Parse.{digits_value}
 
--- `compile` reads a source and writes a target; `run` compiles a source and runs it; `step` runs an
--- image, of at most so many steps.
+-- ---- what is taken where the words give nothing
+
+abbrev pub default_steps : ℕ
+default_steps = 10 ^ 9
+
+-- the limits of a program: its heap, 64 MiB, and its depth
+abbrev pub default_heap : ℕ
+default_heap = 2 ^ 26
+
+abbrev pub default_depth : ℕ
+default_depth = 100000
+
+-- ---- commands
+
+-- `compile` reads a source and writes a target; `run` compiles a source and runs it, and `step` runs an
+-- image, both of at most `steps` steps.
 pub data Command : Type 0 where
   compile : (source target : List ℕ) → Command
   run : (source : List ℕ) → (steps : ℕ) → Command
   step : (image : List ℕ) → (steps : ℕ) → Command
 
+-- a word that is not empty, and no option: it does not begin with `-`, but may be `-` itself
 abbrev pub is_name : List ℕ → Bool
 is_name [] = false
-is_name (byte ∷ bytes) = true
+is_name (byte ∷ []) = true
+is_name (byte ∷ next ∷ bytes) = not (byte == 45)
 
--- two different names that are not empty
+-- two different names
 abbrev pub are_names : List ℕ → List ℕ → Bool
 are_names source target = is_name source && is_name target && not (bytes_eq source target)
 
--- the steps where none are given
-abbrev pub default_steps : ℕ
-default_steps = 10 ^ 9
+-- a number of steps: 1 to 19 decimal digits, and at most 10^18
+abbrev pub is_steps : List ℕ → Bool
+is_steps digits = nat_le 1 (length digits) && nat_le (length digits) 19 && list_all is_ascii_digit digits && nat_le (digits_value 10 digits) (10 ^ 18)
 
 -- the steps in what follows a name: nothing, or `--steps N`
 abbrev pub steps_in : List (List ℕ) → Option ℕ
 steps_in [] = Some default_steps
-steps_in (option ∷ digits ∷ []) = if bytes_eq option (codes "--steps") && is_steps digits then Some (value_of digits) else None
+steps_in (option ∷ digits ∷ []) = if bytes_eq option (codes "--steps") && is_steps digits then Some (digits_value 10 digits) else None
 steps_in _ = None
 
 abbrev pub compile_of : List ℕ → List (List ℕ) → Option Command

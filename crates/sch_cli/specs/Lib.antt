@@ -3,12 +3,14 @@ pub mod Command
 pub mod CommandView
 pub mod Compiles
 pub mod Executes
+pub mod Failures
+pub mod Files
 pub mod Headline
 pub mod Laws
 pub mod Messages
-pub mod Numbers
 pub mod PieceCode
 pub mod Pieces
 pub mod Refusals
+pub mod Seen
+pub mod Statuses
 pub mod Steps
-pub mod Stopped

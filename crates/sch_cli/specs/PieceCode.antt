@@ -2,7 +2,7 @@
 use Rattle.std.specs.Prelude.{ℕ, ◌+◌, ◌*◌, ◌^◌, ◌<◌, ◌≤◌, List, [], ◌∷◌, ◌++◌, length, true, false, pos, negsuc}
 use Rattle.std.specs.List.{flat_map}
 use Rattle.sch_word.specs.Memory.{Segment}
-use Rattle.sch_elf.specs.declared.image.Segment as elf
+use Rattle.sch_elf.specs.Program.{text_address, data_address}
 use Rattle.sch_insn.specs.Spelling.{spelling}
 use Rattle.sch_insn.specs.declared.insn.Arg.TheVariants.{Reg, Rip}
 use Rattle.sch_insn.specs.declared.insn.Insn.{Insn}
@@ -47,14 +47,6 @@ pieces_code behind address [] = exit_code
 pieces_code behind address (piece ∷ pieces) =
     piece_code behind address (length piece) ++ pieces_code (behind + 26) (address + length piece) pieces
 
--- where the pieces stand: at the beginning of the data
-abbrev pub data_address : ℕ
-data_address = 0x1000_0000
-
--- where the code stands and is entered
-abbrev pub text_address : ℕ
-text_address = 0x40_0000
-
 -- the whole code: over the write loop, and on
 abbrev pub program_code : List (List ℕ) → List Insn
 program_code pieces = Jump (pos 60) ∷ (write_loop ++ pieces_code 60 data_address pieces)
@@ -84,10 +76,3 @@ pub record IsSmall (pieces : List (List ℕ)) : Type 0 where
   pub full : AreFull pieces
   pub few : length pieces ≤ 2 ^ 20
   pub short : length (joined pieces) ≤ 20 * 2 ^ 20
-
--- the segments of an image that holds the code and the pieces
-abbrev pub text_segment : List ℕ → elf.Segment
-text_segment bytes = record { address = text_address; read = true; write = false; execute = true; bytes = bytes; zeros = 0 }
-
-abbrev pub data_segment : List ℕ → elf.Segment
-data_segment bytes = record { address = data_address; read = true; write = true; execute = false; bytes = bytes; zeros = 0 }

@@ -9,7 +9,7 @@ use Rattle.sch_word.specs.declared.answer.Answer.{Answer}
 use Rattle.sch_word.specs.Put.{put}
 use Rattle.sch_insn.specs.Behaves.{Ending}
 use Rattle.sch_read.specs.Grammar.{Datum, Data, atom, list, none, cons, boolean, integer, character, symbol}
-use Rattle.sch_core.specs.Scope.{place}
+use Rattle.sch_read.specs.Parts.{offset}
 use Rattle.sch_cli.specs.declared.piece.Piece.{Piece}
 use Rattle.sch_cli.specs.declared.piece.Piece.TheVariants.{Number, Character, Boolean}
 
@@ -51,7 +51,7 @@ other_at (Some p) at rest = rest
 -- the place of the first datum that is neither of the two
 abbrev pub first_other : Data → Option ℕ
 first_other none = None
-first_other (cons d ds) = other_at (piece_of d) (place d) (first_other ds)
+first_other (cons d ds) = other_at (piece_of d) (offset d) (first_other ds)
 
 -- ---- the bytes of a piece
 

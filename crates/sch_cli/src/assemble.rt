@@ -1,22 +1,19 @@
-// Makes the image of a program that puts pieces.
+//! Makes the image of a program that puts pieces.
+
 ghost use Rattle.std.specs.Prelude.{◌≡◌, ◌+◌, ◌*◌, ◌^◌, ◌<◌, ◌≤◌, [], ◌∷◌, ◌++◌, length, map, IfOk, OnOk, pos, negsuc};
 ghost use Rattle.std.specs.List.{flat_map};
 ghost use Rattle.sch_insn.specs.Spelling.{spelling, IsValid};
-ghost use Rattle.sch_elf.specs.Layout.{memory};
-ghost use Rattle.sch_cli.specs.PieceCode.{write_loop, exit_code, piece_code, text_address, data_address, text_memory, data_memory, text_segment, data_segment, IsSmall};
+ghost use Rattle.sch_elf.specs.Program.{IsProgramImage, data_address};
+ghost use Rattle.sch_cli.specs.PieceCode.{write_loop, exit_code, piece_code, program_code, joined, IsSmall};
 ghost use Rattle.sch_cli.specs.Pieces.{bytes_of};
 
 use crate::piece::Piece;
 use itoa::Buffer;
 use sch_code::{Code, encode};
-use sch_elf::{Image, Segment};
+use sch_elf::{DATA_ADDRESS, Image, Segment, TEXT_ADDRESS};
 use sch_insn::{Arg, Insn};
 use sch_word::{Bytes, List, Mem};
 use std::alloc::Global;
-
-const TEXT_ADDRESS: u64 = 0x40_0000;
-
-const DATA_ADDRESS: u32 = 0x1000_0000;
 
 fn put(text: &mut Bytes, insn: Insn) -> Result<(), Mem>
     requires { IsValid insn }
@@ -100,7 +97,8 @@ fn put_piece(pool: &mut Bytes, piece: Piece) -> Result<(), Mem>
 fn put_call_of(text: &mut Bytes, pool: &mut Bytes, behind: u32, piece: &Piece) -> Result<(), Mem>
     requires behind { behind < 2 ^ 30 }
     requires room { length pool.old + length (bytes_of piece.now) ≤ 20 * 2 ^ 20 }
-    ensures text { OnOk result (text.new ≡ text.old ++ flat_map spelling (piece_code behind (data_address + length pool.old) (length (bytes_of piece.now)))) }
+    ensures text { OnOk result (text.new ≡ text.old
+        ++ flat_map spelling (piece_code behind (data_address + length pool.old) (length (bytes_of piece.now)))) }
     ensures pool { OnOk result (pool.new ≡ pool.old ++ bytes_of piece.now) }
 {
     let start = pool.len() as u32;
@@ -108,7 +106,7 @@ fn put_call_of(text: &mut Bytes, pool: &mut Bytes, behind: u32, piece: &Piece) -
     put_call(
         text,
         behind,
-        DATA_ADDRESS + start,
+        DATA_ADDRESS as u32 + start,
         pool.len() as u32 - start,
     )
 }
@@ -116,8 +114,8 @@ fn put_call_of(text: &mut Bytes, pool: &mut Bytes, behind: u32, piece: &Piece) -
 /// The image of a program that puts the pieces: its code, and the pieces one after the other.
 pub fn assemble(alloc: Global, pieces: &[Piece]) -> Result<Image, Mem>
     requires { IsSmall (map bytes_of pieces.now) }
-    ensures entry { IfOk result (λ image. image.entry ≡ text_address) }
-    ensures memory { IfOk result (λ image. memory image.segments ≡ text_memory (map bytes_of pieces.now) ∷ data_memory (map bytes_of pieces.now) ∷ []) }
+    ensures layout { IfOk result
+        (IsProgramImage (flat_map spelling (program_code (map bytes_of pieces.now))) (joined (map bytes_of pieces.now)) 0) }
 {
     let mut text = Bytes::new(alloc);
     let mut pool = Bytes::new(alloc);
@@ -135,8 +133,7 @@ pub fn assemble(alloc: Global, pieces: &[Piece]) -> Result<Image, Mem>
 fn image(alloc: Global, text: Bytes, pool: Bytes) -> Result<Image, Mem>
     requires text { length text ≤ 2 ^ 26 }
     requires pool { length pool ≤ 2 ^ 26 }
-    ensures entry { IfOk result (λ image. image.entry ≡ text_address) }
-    ensures segments { IfOk result (λ image. image.segments ≡ text_segment text ∷ data_segment pool ∷ []) }
+    ensures layout { IfOk result (IsProgramImage text pool 0) }
 {
     let mut segments = List::new(alloc);
     segments.push(Segment {
@@ -148,7 +145,7 @@ fn image(alloc: Global, text: Bytes, pool: Bytes) -> Result<Image, Mem>
         zeros: 0,
     })?;
     segments.push(Segment {
-        address: DATA_ADDRESS as u64,
+        address: DATA_ADDRESS,
         read: true,
         write: true,
         execute: false,

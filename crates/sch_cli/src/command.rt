@@ -1,13 +1,12 @@
-// Reads the words of a command.
-ghost use Rattle.std.specs.Prelude.{◌≡◌, ◌<◌, ◌≤◌, ◌^◌, List, ℕ, map, length, IsTrue, Some, None, string_bytes, if◌then◌else◌};
+//! Reads the words of a command.
+
+ghost use Rattle.std.specs.Prelude.{◌≡◌, List, ℕ, map, Some, None, string_bytes, if◌then◌else◌};
 ghost use Rattle.std.specs.Char.{is_ascii_digit};
 ghost use Rattle.std.specs.List.{list_all};
 ghost use Rattle.std.specs.Option.{option_map};
-ghost use Rattle.sch_cli.specs.Command.{are_names, command, compile_of, is_name, run, step, steps_in, with_steps};
+ghost use Rattle.std.specs.Str.Parse.{digits_value};
+ghost use Rattle.sch_cli.specs.Command.{are_names, command, compile_of, is_name, is_steps, run, step, steps_in, with_steps};
 ghost use Rattle.sch_cli.specs.CommandView.{command_of};
-ghost use Rattle.sch_cli.specs.Numbers.{is_steps, value_of};
-
-use crate::number::number;
 
 /// A command: the names are those in the words.
 #[derive(Clone, Copy)]
@@ -17,9 +16,13 @@ pub enum Command<'a> {
     Step { image: &'a str, steps: u64 },
 }
 
+/// The steps where the words give none.
 const DEFAULT_STEPS: u64 = 1_000_000_000;
 
-const MOST_STEPS: u64 = 1_000_000_000_000_000_000;
+/// The most steps, and the most digits of their number.
+const MAX_STEPS: u64 = 1_000_000_000_000_000_000;
+
+const MAX_DIGITS: usize = 19;
 
 /// The command that the words are, if they are one.
 pub fn read_words<'a>(words: &'a [String]) -> Option<Command<'a>>
@@ -55,17 +58,29 @@ fn read_compile<'a>(source: &'a String, rest: &'a [String]) -> Option<Command<'a
     })
 }
 
-// Whether the names are different and not empty.
+// Whether the words are two different names.
 fn are_admitted(source: &str, target: &str) -> bool
     ensures { result ≡ are_names source.now target.now }
 {
-    !source.is_empty() && !target.is_empty() && source != target
+    is_name(source) && is_name(target) && source != target
+}
+
+// Whether a word is not empty and no option.
+fn is_name(word: &str) -> bool
+    ensures { result ≡ is_name word.now }
+{
+    match word.as_bytes() {
+        [] => false,
+        [_] => true,
+        [first, ..] => *first != b'-',
+    }
 }
 
 fn read_run<'a>(source: &'a String, rest: &'a [String]) -> Option<Command<'a>>
-    ensures { with_steps (run (string_bytes source.now)) (is_name (string_bytes source.now)) (steps_in (map string_bytes rest.now)) ≡ option_map command_of result }
+    ensures { with_steps (run (string_bytes source.now)) (is_name (string_bytes source.now)) (steps_in (map string_bytes rest.now))
+        ≡ option_map command_of result }
 {
-    if source.as_str().is_empty() {
+    if !is_name(source.as_str()) {
         return None;
     }
     let Some(steps) = read_steps(rest) else {
@@ -78,9 +93,10 @@ fn read_run<'a>(source: &'a String, rest: &'a [String]) -> Option<Command<'a>>
 }
 
 fn read_step<'a>(image: &'a String, rest: &'a [String]) -> Option<Command<'a>>
-    ensures { with_steps (step (string_bytes image.now)) (is_name (string_bytes image.now)) (steps_in (map string_bytes rest.now)) ≡ option_map command_of result }
+    ensures { with_steps (step (string_bytes image.now)) (is_name (string_bytes image.now)) (steps_in (map string_bytes rest.now))
+        ≡ option_map command_of result }
 {
-    if image.as_str().is_empty() {
+    if !is_name(image.as_str()) {
         return None;
     }
     let Some(steps) = read_steps(rest) else {
@@ -105,20 +121,18 @@ fn read_steps(rest: &[String]) -> Option<u64>
     if option.as_str() != "--steps" {
         return None;
     }
-    read_count(digits.as_str().as_bytes())
+    read_count(digits.as_str())
 }
 
-fn read_count(digits: &[u8]) -> Option<u64>
-    ensures { result ≡ (if is_steps digits.now then Some (value_of digits.now) else None) }
+fn read_count(digits: &str) -> Option<u64>
+    ensures { result ≡ (if is_steps digits.now then Some (digits_value 10 digits.now) else None) }
 {
-    if digits.is_empty() || digits.len() > 19 || !are_digits(digits) {
+    if digits.is_empty() || digits.len() > MAX_DIGITS || !are_digits(digits.as_bytes()) {
         return None;
     }
-    let count = number(digits);
-    if count > MOST_STEPS {
-        None
-    } else {
-        Some(count)
+    match digits.parse::<u64>() {
+        Ok(count) if count <= MAX_STEPS => Some(count),
+        _ => None,
     }
 }
 

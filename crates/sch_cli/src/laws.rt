@@ -1,10 +1,10 @@
 //! Laws of the statuses, as contracts of functions that do nothing.
 
 ghost use Rattle.std.specs.Prelude.{List, ℕ};
-ghost use Rattle.sch_cli.specs.Laws.{HasOneStatus};
+ghost use Rattle.sch_cli.specs.Laws.{HasOneVerdict};
 
 /// The causes of the statuses 0, 4 to 7 and 11 exclude one another: a source has at most one
-/// of them, and at most one line, but that of an unbound variable.
+/// of them, with one line.
 pub fn a_source_has_one_status()
-    ensures { (name text : List ℕ) → HasOneStatus name text }
+    ensures { (text : List ℕ) → HasOneVerdict text }
 {}

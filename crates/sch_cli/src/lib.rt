@@ -1,39 +1,38 @@
 //! The one call that the program makes, with what it promises.
 #![tactic(auto)]
 
-ghost use Rattle.std.specs.Prelude.{◌≡◌, ◌≢◌, ◌⊎◌, List, ℕ, None, map, string_bytes, if◌then◌else◌, ◌==◌};
+ghost use Rattle.std.specs.Prelude.{◌≡◌, ◌≢◌, ◌⊎◌, None, map, string_bytes, if◌then◌else◌, ◌==◌};
 ghost use Rattle.std.specs.IoError.{error_kind};
 ghost use Rattle.sch_cli.specs.Command.{IfCompile, IfRun, IfStep, command};
 ghost use Rattle.sch_cli.specs.Compiles.{EndsCompile};
 ghost use Rattle.sch_cli.specs.Messages.{Says, out_of_memory_line, usage_line};
-ghost use Rattle.sch_cli.specs.Steps.{EndsRun, EndsStep, ReadsOnly, seen};
+ghost use Rattle.sch_cli.specs.Seen.{disk_change, stream_change};
+ghost use Rattle.sch_cli.specs.Steps.{EndsRun, RunsSource, StepsImage};
 
 mod assemble;
 mod build;
 mod command;
 mod compile;
 mod execute;
+mod expansion;
+mod failure;
+mod file;
 mod laws;
 mod message;
-mod number;
 mod piece;
 mod pieces;
-mod refusal;
 mod run;
-mod source;
-mod step;
-#[cfg(test)]
-mod tests;
+mod status;
 
 use command::{Command, read_words};
-use compile::compile;
+use compile::{compile, report_compile};
 pub use laws::a_source_has_one_status;
 use message::{say, say_out_of_memory};
-use run::run;
+use run::{report_run, run_source, step_image};
 use sch_io::{Disk, Outlet};
+use status::Status;
 use std::alloc::Global;
 use std::io::{Error, ErrorKind};
-use step::step;
 
 const USAGE: &str =
     "usage: schc VERB NAME [NAME2] [--listing F] [--heap N] [--depth N] [--steps N]";
@@ -57,32 +56,47 @@ pub fn schc<D: Disk, O: Outlet, E: Outlet>(
     out: &mut O,
     err: &mut E,
 ) -> u8
-    // 1 comes exactly where the words are no command.
+    // 1 comes exactly where the words are no command, and then nothing is touched.
     ensures usage { result ≡ 1 → command (map string_bytes words.now) ≡ None }
     ensures command { result ≢ 1 → command (map string_bytes words.now) ≢ None }
-    ensures usage_line { result ≡ 1 → Says usage_line (E.bytes err.old) (E.bytes err.new) (E.faults err.old) (E.faults err.new) }
+    ensures usage_line { result ≡ 1 → Says usage_line (stream_change E.bytes E.left E.faults err.old err.new) }
     ensures disk_at_1 { result ≡ 1 → disk.new ≡ disk.old }
     ensures out_at_1 { result ≡ 1 → out.new ≡ out.old }
 
     // Compiling ends by its causes, with the line that says the cause, and writes nothing on `out`.
-    ensures compile { IfCompile (command (map string_bytes words.now)) (λ source target. (line : List ℕ) × Says line (E.bytes err.old) (E.bytes err.new) (E.faults err.old) (E.faults err.new) × EndsCompile source target result (D.files disk.old) (D.files disk.new) (D.faults disk.old) (D.faults disk.new) (D.calls disk.old) (D.calls disk.new) line) }
+    ensures compile { IfCompile (command (map string_bytes words.now)) (λ source target. EndsCompile source target result
+        (disk_change D.files D.faults D.calls disk.old disk.new) (stream_change E.bytes E.left E.faults err.old err.new)) }
     ensures compile_out { IfCompile (command (map string_bytes words.now)) (λ source target. out.new ≡ out.old) }
 
     // A source that is run ends as it means, and an image as the machine does, with a line that says so.
-    ensures run { IfRun (command (map string_bytes words.now)) (λ source steps. ReadsOnly result (D.files disk.old) (D.files disk.new) (D.faults disk.old) (D.faults disk.new) (D.calls disk.old) (D.calls disk.new)) }
-    ensures run_ends { IfRun (command (map string_bytes words.now)) (λ source steps. (line : List ℕ) × Says line (E.bytes err.old) (E.bytes err.new) (E.faults err.old) (E.faults err.new) × EndsRun source steps result (seen (D.files disk.old) (D.files disk.new) (O.bytes out.old) (O.bytes out.new) (O.left out.old) (O.left out.new) (O.faults out.old) (O.faults out.new) line)) }
-    ensures step { IfStep (command (map string_bytes words.now)) (λ image steps. ReadsOnly result (D.files disk.old) (D.files disk.new) (D.faults disk.old) (D.faults disk.new) (D.calls disk.old) (D.calls disk.new)) }
-    ensures step_ends { IfStep (command (map string_bytes words.now)) (λ image steps. (line : List ℕ) × Says line (E.bytes err.old) (E.bytes err.new) (E.faults err.old) (E.faults err.new) × EndsStep image steps result (seen (D.files disk.old) (D.files disk.new) (O.bytes out.old) (O.bytes out.new) (O.left out.old) (O.left out.new) (O.faults out.old) (O.faults out.new) line)) }
+    ensures run { IfRun (command (map string_bytes words.now)) (λ source steps. EndsRun source result
+        (disk_change D.files D.faults D.calls disk.old disk.new) (stream_change E.bytes E.left E.faults err.old err.new)
+        (RunsSource source steps (disk_change D.files D.faults D.calls disk.old disk.new)
+        (stream_change O.bytes O.left O.faults out.old out.new))) }
+    ensures step { IfStep (command (map string_bytes words.now)) (λ image steps. EndsRun image result
+        (disk_change D.files D.faults D.calls disk.old disk.new) (stream_change E.bytes E.left E.faults err.old err.new)
+        (StepsImage image steps (disk_change D.files D.faults D.calls disk.old disk.new)
+        (stream_change O.bytes O.left O.faults out.old out.new))) }
 {
-    match read_words(words) {
-        Some(Command::Compile { source, target }) => compile(alloc, source, target, disk, err),
-        Some(Command::Run { source, steps }) => run(alloc, source, steps, disk, out, err),
-        Some(Command::Step { image, steps }) => step(alloc, image, steps, disk, out, err),
+    let status = match read_words(words) {
+        Some(Command::Compile { source, target }) => {
+            let answer = compile(alloc, source, target, disk);
+            report_compile(err, source, target, &answer)
+        }
+        Some(Command::Run { source, steps }) => {
+            let answer = run_source(alloc, source, steps, disk, out);
+            report_run(err, source, &answer)
+        }
+        Some(Command::Step { image, steps }) => {
+            let answer = step_image(alloc, image, steps, disk, out);
+            report_run(err, image, &answer)
+        }
         None => {
             say(err, USAGE, "\n");
-            1
+            Status::Usage
         }
-    }
+    };
+    status.number()
 }
 
 /// Answers for words that could not be taken from the host: 10 where there was no memory for them, and
@@ -91,12 +105,12 @@ pub fn report_words<E: Outlet>(error: &Error, err: &mut E) -> u8
     ensures status { (result ≡ 1) ⊎ (result ≡ 10) }
     ensures no_memory { error_kind error.now ≡ ErrorKind.OutOfMemory → result ≡ 10 }
     ensures no_text { error_kind error.now ≢ ErrorKind.OutOfMemory → result ≡ 1 }
-    ensures line { Says (if result == 1 then usage_line else out_of_memory_line) (E.bytes err.old) (E.bytes err.new) (E.faults err.old) (E.faults err.new) }
+    ensures line { Says (if result == 1 then usage_line else out_of_memory_line) (stream_change E.bytes E.left E.faults err.old err.new) }
 {
     if error.kind() == ErrorKind::OutOfMemory {
         say_out_of_memory(err);
-        return 10;
+        return Status::OutOfMemory.number();
     }
     say(err, USAGE, "\n");
-    1
+    Status::Usage.number()
 }

@@ -1,18 +1,22 @@
-// Writes the lines on the standard error.
-ghost use Rattle.std.specs.Prelude.{◌≡◌, ◌≤◌, ◌<◌, ◌++◌, codes, length};
-ghost use Rattle.sch_cli.specs.Messages.{Says, exit_line, hexadecimal_digit, hexadecimal_digits, cause_text, joined, out_of_memory_line, image_error_line, spent_line, stop_line, stuck_line};
-ghost use Rattle.sch_cli.specs.Refusals.{place_line};
-ghost use Rattle.sch_cli.specs.Stopped.{stop_of};
+//! Writes lines on the standard error. None of it takes memory.
 
+ghost use Rattle.std.specs.Prelude.{◌≡◌, ◌≤◌, ◌<◌, ◌^◌, ◌++◌, codes, length};
+ghost use Rattle.std.specs.Fmt.{decimal};
+ghost use Rattle.std.specs.Int.{w32, w64, to_be_bytes};
+ghost use Rattle.hex.specs.Hex.{encode_lower};
+ghost use Rattle.sch_cli.specs.Messages.{Says, cause_text, end_line, exit_line, joined, out_of_memory_line, place_line, spent_line, stop_line, stuck_line};
+ghost use Rattle.sch_cli.specs.Seen.{stream_change};
+
+use hex::encode_to_slice;
 use itoa::Buffer;
-use sch_elf::ImageError;
 use sch_insn::StuckCause;
 use sch_io::{Outlet, put_all};
+use sch_step::{RunEnd, Stuck};
 use sch_word::Stop;
 
 /// Writes a line in two parts. A failure of the outlet changes nothing else.
 pub fn say<E: Outlet>(err: &mut E, subject: &str, text: &str)
-    ensures line { Says (subject.now ++ text.now) (E.bytes err.old) (E.bytes err.new) (E.faults err.old) (E.faults err.new) }
+    ensures line { Says (subject.now ++ text.now) (stream_change E.bytes E.left E.faults err.old err.new) }
     ensures faults { E.faults err.old ≤ E.faults err.new }
 {
     if put_all(err, subject.as_bytes()) {
@@ -20,9 +24,9 @@ pub fn say<E: Outlet>(err: &mut E, subject: &str, text: &str)
     }
 }
 
-/// Writes a line in pieces, and ends at the first that fails. It takes no memory.
+/// Writes a line in pieces, and ends at the first that fails.
 pub fn say_pieces<E: Outlet>(err: &mut E, pieces: &[&[u8]])
-    ensures line { Says (joined pieces.now) (E.bytes err.old) (E.bytes err.new) (E.faults err.old) (E.faults err.new) }
+    ensures line { Says (joined pieces.now) (stream_change E.bytes E.left E.faults err.old err.new) }
     ensures faults { E.faults err.old ≤ E.faults err.new }
 {
     for piece in pieces {
@@ -34,7 +38,7 @@ pub fn say_pieces<E: Outlet>(err: &mut E, pieces: &[&[u8]])
 
 /// The line of a fault at a place of a source, with what the fault names.
 pub fn say_at<E: Outlet>(err: &mut E, name: &str, at: u32, what: &str, subject: &[u8])
-    ensures line { Says (place_line name.now at what.now subject.now) (E.bytes err.old) (E.bytes err.new) (E.faults err.old) (E.faults err.new) }
+    ensures line { Says (place_line name.now at what.now subject.now) (stream_change E.bytes E.left E.faults err.old err.new) }
     ensures faults { E.faults err.old ≤ E.faults err.new }
 {
     let mut buffer = Buffer::new();
@@ -49,7 +53,8 @@ fn say_fault<'a, E: Outlet>(
     what: &str,
     subject: &'a [u8],
 )
-    ensures line { Says (name.now ++ (codes ": byte " ++ (digits.now ++ (codes ": " ++ (what.now ++ (subject.now ++ codes "\n")))))) (E.bytes err.old) (E.bytes err.new) (E.faults err.old) (E.faults err.new) }
+    ensures line { Says (name.now ++ (codes ": byte " ++ (digits.now ++ (codes ": " ++ (what.now ++ (subject.now ++ codes "\n"))))))
+        (stream_change E.bytes E.left E.faults err.old err.new) }
     ensures faults { E.faults err.old ≤ E.faults err.new }
 {
     say_pieces(
@@ -66,50 +71,66 @@ fn say_fault<'a, E: Outlet>(
     );
 }
 
+/// A line that ends with a number: of a segment, or an exit status.
+pub fn say_numbered<E: Outlet>(err: &mut E, name: &str, what: &str, number: u64)
+    ensures line { Says (name.now ++ (what.now ++ (decimal number ++ codes "\n"))) (stream_change E.bytes E.left E.faults err.old err.new) }
+    ensures faults { E.faults err.old ≤ E.faults err.new }
+{
+    let mut buffer = Buffer::new();
+    let digits = buffer.format(number).as_bytes();
+    say_pieces(
+        err,
+        &[name.as_bytes(), what.as_bytes(), digits, "\n".as_bytes()],
+    );
+}
+
 /// The line where there was no memory.
 pub fn say_out_of_memory<E: Outlet>(err: &mut E)
-    ensures line { Says out_of_memory_line (E.bytes err.old) (E.bytes err.new) (E.faults err.old) (E.faults err.new) }
+    ensures line { Says out_of_memory_line (stream_change E.bytes E.left E.faults err.old err.new) }
     ensures faults { E.faults err.old ≤ E.faults err.new }
 {
     say_pieces(err, &["out of memory\n".as_bytes()]);
 }
 
-/// The line of a run whose steps were spent.
-pub fn say_spent<E: Outlet>(err: &mut E)
-    ensures line { Says spent_line (E.bytes err.old) (E.bytes err.new) (E.faults err.old) (E.faults err.new) }
+/// The line for how a run of the image `name` ended: none where it exited with 0.
+pub fn say_end<E: Outlet>(err: &mut E, name: &str, end: RunEnd)
+    ensures line { Says (end_line name.now end) (stream_change E.bytes E.left E.faults err.old err.new) }
+    ensures faults { E.faults err.old ≤ E.faults err.new }
+{
+    match end {
+        RunEnd::Spent => say_spent(err),
+        RunEnd::Exited(status) => say_exit(err, name, status),
+        RunEnd::Stuck(stuck) => say_stuck(err, name, stuck),
+    }
+}
+
+fn say_spent<E: Outlet>(err: &mut E)
+    ensures line { Says spent_line (stream_change E.bytes E.left E.faults err.old err.new) }
     ensures faults { E.faults err.old ≤ E.faults err.new }
 {
     say_pieces(err, &["steps spent\n".as_bytes()]);
 }
 
-/// The line of an image that exited with a status which names no stop.
-pub fn say_exit_status<E: Outlet>(err: &mut E, name: &str, status: u8)
-    ensures line { Says (exit_line name.now status) (E.bytes err.old) (E.bytes err.new) (E.faults err.old) (E.faults err.new) }
+fn say_exit<E: Outlet>(err: &mut E, name: &str, status: u8)
+    ensures line { Says (exit_line name.now status) (stream_change E.bytes E.left E.faults err.old err.new) }
     ensures faults { E.faults err.old ≤ E.faults err.new }
 {
-    let mut buffer = Buffer::new();
-    let digits = buffer.format(status).as_bytes();
-    say_pieces(
-        err,
-        &[
-            name.as_bytes(),
-            ": exit status ".as_bytes(),
-            digits,
-            "\n".as_bytes(),
-        ],
-    );
+    if status == 0 {
+        return;
+    }
+    match Stop::of_status(status) {
+        Some(stop) => say_stop(err, stop),
+        None => say_numbered(err, name, ": exit status ", status as u64),
+    }
 }
 
-/// The line of a program that stopped with this status.
-pub fn say_stop<E: Outlet>(err: &mut E, status: u8)
-    requires low { 65 ≤ status }
-    requires high { status ≤ 74 }
-    ensures line { Says (stop_line status) (E.bytes err.old) (E.bytes err.new) (E.faults err.old) (E.faults err.new) }
+fn say_stop<E: Outlet>(err: &mut E, stop: Stop)
+    ensures line { Says (stop_line stop) (stream_change E.bytes E.left E.faults err.old err.new) }
     ensures faults { E.faults err.old ≤ E.faults err.new }
 {
     let mut buffer = Buffer::new();
-    let digits = buffer.format(status).as_bytes();
-    let text = stop_at(status).text().as_bytes();
+    let digits = buffer.format(stop.status()).as_bytes();
+    let text = stop.text().as_bytes();
     say_pieces(
         err,
         &[
@@ -122,57 +143,7 @@ pub fn say_stop<E: Outlet>(err: &mut E, status: u8)
     );
 }
 
-// The stop that a status from 65 to 74 names.
-fn stop_at(status: u8) -> Stop
-    ensures { result ≡ stop_of status }
-{
-    match status {
-        65 => Stop::WrongType,
-        66 => Stop::OutOfRange,
-        67 => Stop::NotProcedure,
-        68 => Stop::WrongCount,
-        69 => Stop::DivideByZero,
-        70 => Stop::Overflow,
-        71 => Stop::HeapLimit,
-        72 => Stop::DepthLimit,
-        73 => Stop::Unset,
-        _ => Stop::OutputFailed,
-    }
-}
-
-/// The line of a file that stands for no image.
-pub fn say_image_error<E: Outlet>(err: &mut E, name: &str, error: ImageError)
-    ensures line { Says (image_error_line name.now error) (E.bytes err.old) (E.bytes err.new) (E.faults err.old) (E.faults err.new) }
-    ensures faults { E.faults err.old ≤ E.faults err.new }
-{
-    match error {
-        ImageError::Short => say(err, name, ": short\n"),
-        ImageError::NotElf => say(err, name, ": not ELF\n"),
-        ImageError::NotThisMachine => say(err, name, ": wrong machine\n"),
-        ImageError::BadSegment(index) => say_segment(err, name, index),
-        ImageError::TooLarge => say(err, name, ": too large\n"),
-        ImageError::Memory => say_out_of_memory(err),
-    }
-}
-
-fn say_segment<E: Outlet>(err: &mut E, name: &str, index: u16)
-    ensures line { Says (image_error_line name.now (ImageError.BadSegment index)) (E.bytes err.old) (E.bytes err.new) (E.faults err.old) (E.faults err.new) }
-    ensures faults { E.faults err.old ≤ E.faults err.new }
-{
-    let mut buffer = Buffer::new();
-    let digits = buffer.format(index).as_bytes();
-    say_pieces(
-        err,
-        &[
-            name.as_bytes(),
-            ": segment ".as_bytes(),
-            digits,
-            "\n".as_bytes(),
-        ],
-    );
-}
-
-// The end of that line: the cause.
+// The end of the line of a machine that is stuck: the cause.
 fn end_for(cause: StuckCause) -> &'static str
     ensures { result.now ≡ codes ": " ++ (cause_text cause ++ codes "\n") }
 {
@@ -185,25 +156,37 @@ fn end_for(cause: StuckCause) -> &'static str
     }
 }
 
-/// The line of a machine that is stuck at an address.
-pub fn say_stuck<E: Outlet>(err: &mut E, name: &str, address: u64, cause: StuckCause)
-    ensures line { Says (stuck_line name.now address cause) (E.bytes err.old) (E.bytes err.new) (E.faults err.old) (E.faults err.new) }
+fn say_stuck<E: Outlet>(err: &mut E, name: &str, stuck: Stuck)
+    ensures line { Says (stuck_line name.now stuck.at stuck.cause) (stream_change E.bytes E.left E.faults err.old err.new) }
     ensures faults { E.faults err.old ≤ E.faults err.new }
 {
-    let end = end_for(cause);
-    if address < 1 << 32 {
-        let mut digits = [0; 8];
-        write_hexadecimal(&mut digits, address);
-        say_place(err, name, &digits, end);
+    let end = end_for(stuck.cause);
+    if stuck.at < 1 << 32 {
+        say_place(err, name, &short_address(stuck.at as u32), end);
     } else {
-        let mut digits = [0; 16];
-        write_hexadecimal(&mut digits, address);
-        say_place(err, name, &digits, end);
+        say_place(err, name, &long_address(stuck.at), end);
     }
 }
 
+fn short_address(address: u32) -> [u8; 8]
+    ensures { result ≡ encode_lower (to_be_bytes w32 address) }
+{
+    let mut digits = [0; 8];
+    let _ = encode_to_slice(address.to_be_bytes(), &mut digits);
+    digits
+}
+
+fn long_address(address: u64) -> [u8; 16]
+    ensures { result ≡ encode_lower (to_be_bytes w64 address) }
+{
+    let mut digits = [0; 16];
+    let _ = encode_to_slice(address.to_be_bytes(), &mut digits);
+    digits
+}
+
 fn say_place<E: Outlet>(err: &mut E, name: &str, digits: &[u8], end: &str)
-    ensures line { Says (name.now ++ (codes ": stuck at " ++ (digits.now ++ end.now))) (E.bytes err.old) (E.bytes err.new) (E.faults err.old) (E.faults err.new) }
+    ensures line { Says (name.now ++ (codes ": stuck at " ++ (digits.now ++ end.now)))
+        (stream_change E.bytes E.left E.faults err.old err.new) }
     ensures faults { E.faults err.old ≤ E.faults err.new }
 {
     say_pieces(
@@ -215,24 +198,4 @@ fn say_place<E: Outlet>(err: &mut E, name: &str, digits: &[u8], end: &str)
             end.as_bytes(),
         ],
     );
-}
-
-// Fills the buffer with the last hexadecimal digits of a number.
-fn write_hexadecimal(buffer: &mut [u8], number: u64)
-    ensures { buffer.new ≡ hexadecimal_digits (length buffer.old) number }
-{
-    let mut rest = number;
-    let mut left = buffer.len();
-    while left > 0 {
-        left -= 1;
-        buffer[left] = digit_of((rest % 16) as u8);
-        rest /= 16;
-    }
-}
-
-fn digit_of(digit: u8) -> u8
-    requires { digit < 16 }
-    ensures { result ≡ hexadecimal_digit digit }
-{
-    if digit < 10 { 48 + digit } else { 87 + digit }
 }

@@ -1,5 +1,7 @@
+//! What is printed.
+
 /// What one datum at top level prints.
-#[derive(Clone, Copy, Debug, PartialEq, Eq)]
+#[derive(Clone, Copy)]
 pub enum Piece {
     /// A number in decimal.
     Number(i64),

@@ -1,17 +1,18 @@
-// The pieces that the data of a text print.
+//! The pieces that the data of a text print.
+
 ghost use Rattle.std.specs.Prelude.{◌≡◌, Some, None, IfSome, IfOk, MatchOption, MatchResult, map};
-ghost use Rattle.sch_read.specs.Grammar.{none, cons};
 ghost use Rattle.sch_read.specs.Views.{tree_of, data_of};
 ghost use Rattle.sch_cli.specs.Pieces.{AreShort, IsShort, bytes_of, combination, displayed, first_other, named_piece, new_line, piece_of, pieces_in, shown};
 
 use crate::piece::Piece;
-use sch_read::{Datum, Node};
+use sch_read::{Atom, Datum, Node};
 use sch_word::{List, Mem};
 use std::alloc::Global;
 
 /// The pieces of the data, or the place of the first datum that prints none.
 pub fn pieces_of(alloc: Global, items: &[Datum]) -> Result<Result<List<Piece>, u32>, Mem>
-    ensures other { IfOk result (λ made. MatchResult made (λ _. first_other (data_of items.now) ≡ None) (λ at. first_other (data_of items.now) ≡ Some at)) }
+    ensures other { IfOk result (λ made. MatchResult made
+        (λ _. first_other (data_of items.now) ≡ None) (λ at. first_other (data_of items.now) ≡ Some at)) }
     ensures made { IfOk result (λ made. IfOk made (λ pieces. pieces ≡ pieces_in (data_of items.now))) }
     ensures short { IfOk result (λ made. IfOk made (λ pieces. AreShort (map bytes_of pieces))) }
 {
@@ -40,11 +41,11 @@ fn combination(parts: &[Datum]) -> Option<Piece>
     ensures piece { result ≡ combination (data_of parts.now) }
     ensures short { IfSome result (λ piece. IsShort (bytes_of piece)) }
 {
-    let Some((head, operands)) = split(parts) else {
+    let Some((head, operands)) = Datum::split(parts) else {
         return None;
     };
     match &head.node {
-        Node::Symbol(name) => named_piece(name.as_slice(), operands),
+        Node::Atom(Atom::Symbol(name)) => named_piece(name.as_slice(), operands),
         _ => None,
     }
 }
@@ -66,10 +67,10 @@ fn displayed(operands: &[Datum]) -> Option<Piece>
     ensures piece { result ≡ displayed (data_of operands.now) }
     ensures short { IfSome result (λ piece. IsShort (bytes_of piece)) }
 {
-    let Some((operand, others)) = split(operands) else {
+    let Some((operand, others)) = Datum::split(operands) else {
         return None;
     };
-    match split(others) {
+    match Datum::split(others) {
         None => shown(operand),
         Some(_) => None,
     }
@@ -80,9 +81,9 @@ fn shown(datum: &Datum) -> Option<Piece>
     ensures short { IfSome result (λ piece. IsShort (bytes_of piece)) }
 {
     match &datum.node {
-        Node::Integer(number) => Some(Piece::Number(number.get())),
-        Node::Character(byte) => Some(Piece::Character(*byte)),
-        Node::Boolean(truth) => Some(Piece::Boolean(*truth)),
+        Node::Atom(Atom::Integer(number)) => Some(Piece::Number(number.get())),
+        Node::Atom(Atom::Character(byte)) => Some(Piece::Character(*byte)),
+        Node::Atom(Atom::Boolean(truth)) => Some(Piece::Boolean(*truth)),
         _ => None,
     }
 }
@@ -91,15 +92,8 @@ fn new_line(operands: &[Datum]) -> Option<Piece>
     ensures piece { result ≡ new_line (data_of operands.now) }
     ensures short { IfSome result (λ piece. IsShort (bytes_of piece)) }
 {
-    match split(operands) {
+    match Datum::split(operands) {
         None => Some(Piece::Character(b'\n')),
         Some(_) => None,
     }
-}
-
-// The first datum and the others.
-fn split(items: &[Datum]) -> Option<(&Datum, &[Datum])>
-    ensures { MatchOption result (data_of items.now ≡ none) (λ p. data_of items.now ≡ cons (tree_of p.0.now) (data_of p.1.now)) }
-{
-    items.split_first()
 }

@@ -1,44 +1,78 @@
-// The verb `run`.
-ghost use Rattle.std.specs.Prelude.{◌≡◌, ◌≢◌, ◌≤◌, ◌<◌, ◌+◌, ◌^◌, ℕ, List};
+//! The verbs `run` and `step`.
+
+ghost use Rattle.std.specs.Prelude.{◌≡◌, ◌≢◌};
 ghost use Rattle.sch_cli.specs.Messages.{Says};
-ghost use Rattle.sch_cli.specs.Steps.{EndsRun, ReadsOnly, seen};
+ghost use Rattle.sch_cli.specs.Seen.{HadCalls, SameFiles, disk_change, stream_change};
+ghost use Rattle.sch_cli.specs.Statuses.{number_of};
+ghost use Rattle.sch_cli.specs.Steps.{RunsSource, StepsImage, run_line, run_status};
 
 use crate::build::image_of;
 use crate::execute::execute;
-use crate::message::say;
-use crate::refusal::{Refusal, refuse};
-use crate::source::SOURCE_LIMIT;
-use sch_io::{Disk, DiskRead, Outlet};
+use crate::expansion::MAX_SOURCE_SIZE;
+use crate::failure::{Failure, say_failure};
+use crate::file::read_file;
+use crate::message::say_end;
+use crate::status::Status;
+use sch_elf::read_image;
+use sch_io::{Disk, Outlet};
+use sch_step::RunEnd;
 use std::alloc::Global;
 
+/// The most bytes of an image's file: 128 MiB.
+const MAX_IMAGE_FILE_SIZE: u64 = 1 << 27;
+
 /// Compiles a source and runs its image.
-pub fn run<D: Disk, O: Outlet, E: Outlet>(
+pub fn run_source<D: Disk, O: Outlet>(
     alloc: Global,
-    source: &str,
+    name: &str,
     steps: u64,
     disk: &mut D,
     out: &mut O,
-    err: &mut E,
-) -> u8
-    ensures no_usage { result ≢ 1 }
-    ensures reads { ReadsOnly result (D.files disk.old) (D.files disk.new) (D.faults disk.old) (D.faults disk.new) (D.calls disk.old) (D.calls disk.new) }
-    ensures ends { (line : List ℕ) × Says line (E.bytes err.old) (E.bytes err.new) (E.faults err.old) (E.faults err.new) × EndsRun source.now steps result (seen (D.files disk.old) (D.files disk.new) (O.bytes out.old) (O.bytes out.new) (O.left out.old) (O.left out.new) (O.faults out.old) (O.faults out.new) line) }
+) -> Result<RunEnd, Failure>
+    ensures unchanged { SameFiles (disk_change D.files D.faults D.calls disk.old disk.new) }
+    ensures calls { HadCalls 1 (disk_change D.files D.faults D.calls disk.old disk.new) }
+    ensures ran { RunsSource name.now steps (disk_change D.files D.faults D.calls disk.old disk.new)
+        (stream_change O.bytes O.left O.faults out.old out.new) result }
 {
-    let text = match disk.read(alloc, source, SOURCE_LIMIT) {
-        Ok(text) => text,
-        Err(DiskRead::Failed) => {
-            say(err, source, ": read failed\n");
-            return 2;
+    let text = read_file(alloc, disk, name, MAX_SOURCE_SIZE)?;
+    let image = image_of(alloc, text.as_slice())?;
+    let end = execute(alloc, &image, steps, out)?;
+    Ok(end)
+}
+
+/// Reads an image and runs it.
+pub fn step_image<D: Disk, O: Outlet>(
+    alloc: Global,
+    name: &str,
+    steps: u64,
+    disk: &mut D,
+    out: &mut O,
+) -> Result<RunEnd, Failure>
+    ensures unchanged { SameFiles (disk_change D.files D.faults D.calls disk.old disk.new) }
+    ensures calls { HadCalls 1 (disk_change D.files D.faults D.calls disk.old disk.new) }
+    ensures stepped { StepsImage name.now steps (disk_change D.files D.faults D.calls disk.old disk.new)
+        (stream_change O.bytes O.left O.faults out.old out.new) result }
+{
+    let file = read_file(alloc, disk, name, MAX_IMAGE_FILE_SIZE)?;
+    let image = read_image(alloc, file.as_slice())?;
+    let end = execute(alloc, &image, steps, out)?;
+    Ok(end)
+}
+
+/// Says how a run ended, and answers its status.
+pub fn report_run<E: Outlet>(err: &mut E, name: &str, answer: &Result<RunEnd, Failure>) -> Status
+    ensures status { result ≡ run_status answer.now }
+    ensures no_usage { number_of result ≢ 1 }
+    ensures line { Says (run_line name.now answer.now) (stream_change E.bytes E.left E.faults err.old err.new) }
+{
+    match answer {
+        Ok(end) => {
+            say_end(err, name, *end);
+            Status::of_end(*end)
         }
-        Err(DiskRead::TooLarge) => return refuse(err, source, &Refusal::TooLong),
-        Err(DiskRead::Memory) => return refuse(err, source, &Refusal::Memory),
-    };
-    let image = match image_of(alloc, text.as_slice()) {
-        Ok(image) => image,
-        Err(refusal) => return refuse(err, source, &refusal),
-    };
-    match execute(alloc, source, &image, steps, out, err) {
-        Ok(status) => status,
-        Err(_) => refuse(err, source, &Refusal::Memory),
+        Err(failure) => {
+            say_failure(err, name, failure);
+            failure.status()
+        }
     }
 }

@@ -59,7 +59,7 @@ ends_low [] h i = omega arith
 ends_low (g ∷ gs) h zero = let low = h 0 g (omega arith) in omega (arith, low, size_is g)
 ends_low (g ∷ gs) h (suc i) = ends_low gs (λ k d l. h (suc k) d (omega (arith, l))) i
 
-pub image_laid_out : (gs : List Segment) → image.IsLaidOut gs → IsMemory (image.memory gs)
+pub image_laid_out : (gs : List Segment) → image.IsImageLayout gs → IsMemory (image.memory gs)
 image_laid_out [] laid = record { apart = λ i j a n l m z e. absurd (omega (arith, m)); ends = ends_low [] laid.ends }
 image_laid_out (g ∷ gs) laid = record {
   apart = λ i j a n l m z e.

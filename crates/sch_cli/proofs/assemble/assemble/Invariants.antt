@@ -1,7 +1,8 @@
 use Rattle.std.proofs.Common.{◌≡◌, ◌+◌, ◌*◌, ◌++◌, drop, length, map}
 use Rattle.std.specs.List.{flat_map}
 use Rattle.sch_insn.specs.Spelling.{spelling}
-use Rattle.sch_cli.specs.PieceCode.{program_code, pieces_code, joined, data_address}
+use Rattle.sch_cli.specs.PieceCode.{program_code, pieces_code, joined}
+use Rattle.sch_elf.specs.Program.{data_address}
 use Rattle.sch_cli.specs.Pieces.{bytes_of}
 use Rattle.sch_cli.proofs.assemble.assemble.Given as goal
 

@@ -30,5 +30,5 @@ returns-clause-made c =
     let items = data_of c.in_ok-source.source.items in
     let none = subst (λ l. first_other (data_of l) ≡ None) c.as_slice.ensures made.other in
     let same = subst (λ l. c.in-Ok.pieces ≡ pieces_in (data_of l)) c.as_slice.ensures made.made in
-    is_image c.args.text.now items (source c.in_ok-source.source.program) c.as_slice-2.result.now c.in_ok-image.image s.spells s.program s.only none (c.as_slice-2.ensures ∙ same)
-    (small items c.in-Ok.pieces c.as_slice-2.result.now c.as_slice-2.ensures none same s.light made.short) c.in_ok-image.ensures.entry c.in_ok-image.ensures.memory
+    is_image c.args.text.now items (source c.in_ok-source.source.program) c.as_slice-2.result.now c.in_ok-image.image c.requires s.spells s.program s.only none (c.as_slice-2.ensures ∙ same)
+    (small items c.in-Ok.pieces c.as_slice-2.result.now c.as_slice-2.ensures none same s.light made.short) c.in_ok-image.ensures.layout

@@ -1,0 +1,103 @@
+#!/usr/bin/env python3
+"""Runs the gate with nothing kept (`rt ci --anew`), and prints the processor seconds that it takes for each
+crate: its proofs, its tests and its must-fail edits.
+
+It looks at the prover's processes ten times a second: what a process took after the last look is missing
+from its crate, and stands in the line `rest` with what the gate itself took. With names of crates as words
+it is the run of these crates and those below them.
+"""
+import collections
+import os
+import subprocess
+import sys
+import time
+
+PARTS = ("proofs", "tests", "edits")
+TICKS = os.sysconf("SC_CLK_TCK")
+TOP = os.path.dirname(os.path.dirname(os.path.realpath(__file__)))
+
+
+def processes():
+    """The number, the parent, the beginning and the processor seconds of each process there is."""
+    for name in os.listdir("/proc"):
+        if name.isdigit():
+            try:
+                with open(f"/proc/{name}/stat") as file:
+                    fields = file.read().rpartition(")")[2].split()
+            except OSError:
+                continue
+            yield int(name), int(fields[1]), fields[19], (int(fields[11]) + int(fields[12])) / TICKS
+
+
+def part_of(pid):
+    """The crate that a process of the prover works for, and at which part; None for any other process."""
+    try:
+        with open(f"/proc/{pid}/cmdline", errors="replace") as file:
+            words = file.read().split("\0")
+    except OSError:
+        return None
+    if os.path.basename(words[0]) != "rattle" or "--crate-name" not in words:
+        return None
+    crate = words[words.index("--crate-name") + 1]
+    if any("rt-edits-" in word for word in words):
+        return crate, "edits"
+    if "--test" in words:
+        return crate, "tests"
+    # a library's proof is a build; where a library is checked only, that is for an edit
+    is_program = "src/main.rs" in words or "src/main.rt" in words
+    return crate, "proofs" if words[1] == "build" or is_program else "edits"
+
+
+def look(root, parts, seconds):
+    """Notes what each process under the root has taken so far."""
+    found = {pid: (parent, begun, taken) for pid, parent, begun, taken in processes()}
+    children = collections.defaultdict(list)
+    for pid, (parent, _, _) in found.items():
+        children[parent].append(pid)
+    waiting = [root]
+    while waiting:
+        pid = waiting.pop()
+        waiting += children[pid]
+        _, begun, taken = found.get(pid, (0, "", 0))
+        key = pid, begun
+        if parts.get(key) is None:
+            parts[key] = part_of(pid)
+        if parts[key]:
+            seconds[key] = taken
+
+
+def run(words):
+    """The processor seconds of each crate and part, of the whole run, and the seconds on the clock."""
+    begin = time.perf_counter()
+    child = subprocess.Popen(["rt", "ci", "--anew", *words], cwd=TOP)
+    parts, seconds = {}, {}
+    while True:
+        pid, status, usage = os.wait4(child.pid, os.WNOHANG)
+        if pid:
+            break
+        look(child.pid, parts, seconds)
+        time.sleep(0.1)
+    taken = collections.Counter()
+    for key, value in seconds.items():
+        taken[parts[key]] += value
+    whole = usage.ru_utime + usage.ru_stime
+    return taken, whole, time.perf_counter() - begin, os.waitstatus_to_exitcode(status)
+
+
+def main():
+    taken, whole, clock, status = run(sys.argv[1:])
+    crates = sorted({crate for crate, _ in taken})
+    print("| Crate |" + "".join(f" {part} |" for part in (*PARTS, "sum")))
+    print("|---|" + "---|" * (len(PARTS) + 1))
+    for crate in crates:
+        row = [taken[crate, part] for part in PARTS]
+        print(f"| `{crate}` |" + "".join(f" {value:.0f} |" for value in (*row, sum(row))))
+    sums = [sum(taken[crate, part] for crate in crates) for part in PARTS]
+    print("| all |" + "".join(f" {value:.0f} |" for value in (*sums, sum(sums))))
+    print(f"| rest | | | | {whole - sum(sums):.0f} |")
+    print(f"{whole / 60:.1f} processor minutes, {clock / 60:.1f} minutes on {os.cpu_count()} processors")
+    sys.exit(status)
+
+
+if __name__ == "__main__":
+    main()

@@ -1,0 +1,10 @@
+use Rattle.std.proofs.Common.{subst, sym}
+use Rattle.sch_cli.specs.Failures.{failure_line}
+use Rattle.sch_cli.specs.Messages.{Says}
+use Rattle.sch_cli.specs.Seen.{stream_change}
+use Rattle.sch_cli.proofs.failure.say_failure.Goals as goal
+
+pub returns-in-ReadFailed-clause-line : goal.returns-in-ReadFailed-clause-line
+returns-in-ReadFailed-clause-line g c =
+    let err = stream_change g.E.Outlet.bytes g.E.Outlet.left g.E.Outlet.faults c.args.err.now c.say.new.err in
+    subst (λ failure. Says (failure_line c.args.name.now failure) err) (sym c.in-ReadFailed.is) c.say.ensures.line

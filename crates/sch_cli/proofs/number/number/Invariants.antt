@@ -1,9 +1,0 @@
-use Rattle.std.proofs.Common.{◌≡◌, ◌<◌, ◌^◌, take}
-use Rattle.sch_cli.specs.Numbers.{value_of}
-use Rattle.sch_cli.proofs.number.number.Given as goal
-
-abbrev pub invariant-loop-digit : goal.invariant-loop-digit
-invariant-loop-digit l = record {
-  value : l.value ≡ value_of (take l.digit-index l.digits);
-  below : l.value < 10 ^ l.digit-index;
-}

@@ -1,0 +1,90 @@
+-- Why a command was not done: each cause with its status and its line.
+use Rattle.std.specs.Prelude.{ℕ, List, [], ◌++◌, codes}
+use Rattle.std.specs.Fmt.{decimal}
+use Rattle.sch_read.specs.declared.error.ReadError.{ReadError}
+use Rattle.sch_read.specs.declared.error.ReadError.TheVariants as read
+use Rattle.sch_core.specs.declared.error.CoreError.{CoreError}
+use Rattle.sch_core.specs.declared.error.CoreError.TheVariants as core
+use Rattle.sch_core.specs.declared.error.Kind.{Kind}
+use Rattle.sch_core.specs.declared.error.Kind.TheVariants.{Operands, Core, Variables, Free}
+use Rattle.sch_elf.specs.declared.error.ImageError.{ImageError}
+use Rattle.sch_elf.specs.declared.error.ImageError.TheVariants as image
+use Rattle.sch_cli.specs.declared.failure.Failure.{Failure}
+use Rattle.sch_cli.specs.declared.failure.Failure.TheVariants as failure
+use Rattle.sch_cli.specs.declared.status.Status.{Status}
+use Rattle.sch_cli.specs.declared.status.Status.TheVariants.{ReadFailed, WriteFailed, BadText, BadForm, Unbound, PastLimit, BadImage, OutOfMemory, NotBuilt}
+use Rattle.sch_cli.specs.Messages.{out_of_memory_line, place_line}
+
+-- ---- the statuses
+
+abbrev pub read_status : ReadError → Status
+read_status (read.DeepNesting at) = PastLimit
+read_status (read.LiteralRange at) = PastLimit
+read_status read.Memory = OutOfMemory
+read_status _ = BadText
+
+abbrev pub core_status : CoreError → Status
+core_status (core.BadForm at) = BadForm
+core_status (core.KeywordDefined at) = BadForm
+core_status (core.Unbound at name) = Unbound
+core_status (core.Limit kind at) = PastLimit
+core_status core.Memory = OutOfMemory
+core_status (core.Unbuilt at) = NotBuilt
+
+abbrev pub image_status : ImageError → Status
+image_status image.Memory = OutOfMemory
+image_status _ = BadImage
+
+abbrev pub failure_status : Failure → Status
+failure_status failure.ReadFailed = ReadFailed
+failure_status failure.WriteFailed = WriteFailed
+failure_status failure.TooLong = PastLimit
+failure_status (failure.Read error) = read_status error
+failure_status (failure.Expand error) = core_status error
+failure_status (failure.NotBuilt at) = NotBuilt
+failure_status (failure.Image error) = image_status error
+failure_status failure.Memory = OutOfMemory
+
+-- ---- the lines, over the name of the file that each concerns
+
+abbrev pub read_line : List ℕ → ReadError → List ℕ
+read_line name (read.Unclosed at) = place_line name at (codes "unclosed") []
+read_line name (read.StrayClose at) = place_line name at (codes "stray close") []
+read_line name (read.BadToken at) = place_line name at (codes "bad token") []
+read_line name (read.BadNumber at) = place_line name at (codes "bad number") []
+read_line name (read.BadString at) = place_line name at (codes "bad string") []
+read_line name (read.DeepNesting at) = place_line name at (codes "limit nesting") []
+read_line name (read.LiteralRange at) = place_line name at (codes "limit literal") []
+read_line name read.Memory = out_of_memory_line
+
+abbrev pub limit_text : Kind → List ℕ
+limit_text Operands = codes "limit operands"
+limit_text Core = codes "limit core"
+limit_text Variables = codes "limit variables"
+limit_text Free = codes "limit free"
+
+abbrev pub core_line : List ℕ → CoreError → List ℕ
+core_line name (core.BadForm at) = place_line name at (codes "bad form") []
+core_line name (core.KeywordDefined at) = place_line name at (codes "keyword defined") []
+core_line name (core.Unbound at unbound) = place_line name at (codes "unbound ") unbound
+core_line name (core.Limit kind at) = place_line name at (limit_text kind) []
+core_line name core.Memory = out_of_memory_line
+core_line name (core.Unbuilt at) = place_line name at (codes "not built") []
+
+abbrev pub image_line : List ℕ → ImageError → List ℕ
+image_line name image.Short = name ++ codes ": short\n"
+image_line name image.NotElf = name ++ codes ": not ELF\n"
+image_line name image.NotThisMachine = name ++ codes ": wrong machine\n"
+image_line name (image.BadSegment index) = name ++ (codes ": segment " ++ (decimal index ++ codes "\n"))
+image_line name image.TooLarge = name ++ codes ": too large\n"
+image_line name image.Memory = out_of_memory_line
+
+abbrev pub failure_line : List ℕ → Failure → List ℕ
+failure_line name failure.ReadFailed = name ++ codes ": read failed\n"
+failure_line name failure.WriteFailed = name ++ codes ": write failed\n"
+failure_line name failure.TooLong = name ++ codes ": limit file\n"
+failure_line name (failure.Read error) = read_line name error
+failure_line name (failure.Expand error) = core_line name error
+failure_line name (failure.NotBuilt at) = place_line name at (codes "not built") []
+failure_line name (failure.Image error) = image_line name error
+failure_line name failure.Memory = out_of_memory_line

@@ -1,0 +1,38 @@
+-- The program's exit statuses.
+use Rattle.std.specs.Prelude.{ℕ, ◌==◌, Option, Some, None, if◌then◌else◌}
+use Rattle.sch_word.specs.Stops.{status_of, stop_of}
+use Rattle.sch_word.specs.declared.stop.Stop.{Stop}
+use Rattle.sch_step.specs.declared.ends.RunEnd.{RunEnd}
+use Rattle.sch_step.specs.declared.ends.RunEnd.TheVariants as run_end
+use Rattle.sch_cli.specs.declared.status.Status.{Status}
+use Rattle.sch_cli.specs.declared.status.Status.TheVariants.{Done, Usage, ReadFailed, WriteFailed, BadText, BadForm, Unbound, PastLimit, BadImage, StepsSpent, OutOfMemory, NotBuilt, Stopped}
+
+abbrev pub number_of : Status → ℕ
+number_of Done = 0
+number_of Usage = 1
+number_of ReadFailed = 2
+number_of WriteFailed = 3
+number_of BadText = 4
+number_of BadForm = 5
+number_of Unbound = 6
+number_of PastLimit = 7
+number_of BadImage = 8
+number_of StepsSpent = 9
+number_of OutOfMemory = 10
+number_of NotBuilt = 11
+number_of (Stopped stop) = status_of stop
+
+-- ---- how a run of an image ended
+
+abbrev pub stop_status : Option Stop → Status
+stop_status (Some stop) = Stopped stop
+stop_status None = BadImage
+
+-- for an image that exited: 0 and a stop's status as they are, and the same status for any other
+abbrev pub exit_status : ℕ → Status
+exit_status status = if status == 0 then Done else stop_status (stop_of status)
+
+abbrev pub end_status : RunEnd → Status
+end_status run_end.Spent = StepsSpent
+end_status (run_end.Exited status) = exit_status status
+end_status (run_end.Stuck stuck) = BadImage

@@ -1,0 +1,461 @@
+//! The program's call over a disk and outlets in memory.
+ghost use Rattle.std.specs.Prelude.{◌≤◌, length};
+
+use sch_cli::{report_words, schc};
+use sch_elf::{program_image, write_image};
+use sch_io::{Disk, MemDisk, MemOutlet};
+use sch_word::{Answer, Bytes};
+use std::alloc::Global;
+use std::io::{Error, ErrorKind};
+use std::test::Fail;
+
+// What a call answered, what the file `b` then holds, and what was said.
+#[derive(Drop)]
+struct Outcome {
+    status: u8,
+    target: Option<Bytes>,
+    said: Vec<u8>,
+}
+
+// Calls the program on a disk whose only file is `a`, where the calls of the disk with these numbers
+// fail, and the standard error answers by this plan.
+fn call(
+    alloc: Global,
+    words: &[&str],
+    source: &[u8],
+    failing: &[u64],
+    plan: &[Answer],
+) -> Result<Outcome, Fail> {
+    let mut all = Vec::new(alloc);
+    for word in words {
+        all.push(String::from_str(alloc, word)?)?;
+    }
+    let files = [(
+        Bytes::from_slice(alloc, b"a")?,
+        Bytes::from_slice(alloc, source)?,
+    )];
+    let mut disk = MemDisk::new(alloc, &files, 20_000, failing)?;
+    let mut out = MemOutlet::new(alloc, &[], 0)?;
+    let mut err = MemOutlet::new(alloc, plan, 1000)?;
+    let status = schc(alloc, all.as_slice(), &mut disk, &mut out, &mut err);
+    let said = Vec::from_slice(alloc, err.taken())?;
+    let target = disk.read(alloc, "b", 20_000).ok();
+    Ok(Outcome {
+        status,
+        target,
+        said,
+    })
+}
+
+fn compile(alloc: Global, source: &[u8]) -> Result<Outcome, Fail> {
+    call(alloc, &["compile", "a", "b"], source, &[], &[])
+}
+
+#[test]
+fn texts_that_compile(rt: HostRuntime) -> Result<(), Fail> {
+    let texts: [&[u8]; 8] = [
+        b"",
+        b" \t\n\r\x0c",
+        b"; a comment",
+        b"(display -42)\n(newline)",
+        b"(DISPLAY 007)(display +1)(display -0)",
+        b"( display\t\n 1152921504606846975 ) (\nNewline )",
+        b"(display -1152921504606846976)(display #\\space)",
+        b"(display #t)(display #f)",
+    ];
+    for text in texts {
+        let outcome = compile(rt.alloc(), text)?;
+        assert_eq!(rt; outcome.status, 0);
+        assert_eq!(rt; outcome.said.as_slice(), [].as_slice());
+        assert!(rt; outcome.target.is_some());
+    }
+    Ok(())
+}
+
+#[test]
+fn texts_that_are_refused(rt: HostRuntime) -> Result<(), Fail> {
+    let rows: [(&[u8], u8, &[u8]); 18] = [
+        (b"(display (list 1 2", 4, b"a: byte 9: unclosed\n"),
+        (b"(display 1", 4, b"a: byte 0: unclosed\n"),
+        (b")", 4, b"a: byte 0: stray close\n"),
+        (b"(a . b c)", 4, b"a: byte 7: bad token\n"),
+        (b"1.5", 4, b"a: byte 0: bad number\n"),
+        (b"\"a\\q\"", 4, b"a: byte 2: bad string\n"),
+        (b"(define if 1)", 5, b"a: byte 0: keyword defined\n"),
+        (b"(if)", 5, b"a: byte 0: bad form\n"),
+        (b"(display 1) x", 6, b"a: byte 12: unbound x\n"),
+        (
+            b"(display 1152921504606846976)",
+            7,
+            b"a: byte 9: limit literal\n",
+        ),
+        (b"(display \"a\")", 11, b"a: byte 9: not built\n"),
+        (b"(newlin)", 11, b"a: byte 0: not built\n"),
+        (b"(begin (newline))", 11, b"a: byte 0: not built\n"),
+        (b"(define x 1)", 11, b"a: byte 0: not built\n"),
+        (b"(display 1)(display (+))1", 11, b"a: byte 11: not built\n"),
+        (b"(display 1)2 3", 11, b"a: byte 11: not built\n"),
+        (b"(display '1)", 11, b"a: byte 0: not built\n"),
+        (b"(display)", 11, b"a: byte 0: not built\n"),
+    ];
+    for (source, status, said) in rows {
+        let outcome = compile(rt.alloc(), source)?;
+        assert_eq!(rt; outcome.status, status);
+        assert_eq!(rt; outcome.said.as_slice(), said);
+        assert!(rt; outcome.target.is_none());
+    }
+    Ok(())
+}
+
+// A thousand levels of parentheses are the most, and 200 operands.
+#[test]
+fn texts_past_a_limit(rt: HostRuntime) -> Result<(), Fail> {
+    let mut deep = Vec::new(rt.alloc());
+    for _ in 0..1001 {
+        deep.push(b'(')?;
+    }
+    let outcome = compile(rt.alloc(), deep.as_slice())?;
+    assert_eq!(rt; outcome.status, 7);
+    assert_eq!(rt;
+        outcome.said.as_slice(),
+        b"a: byte 1000: limit nesting\n".as_slice()
+    );
+    let mut wide = Vec::new(rt.alloc());
+    wide.extend_from_slice(b"(+")?;
+    for _ in 0..201 {
+        wide.extend_from_slice(b" 1")?;
+    }
+    wide.push(b')')?;
+    let outcome = compile(rt.alloc(), wide.as_slice())?;
+    assert_eq!(rt; outcome.status, 7);
+    assert_eq!(rt;
+        outcome.said.as_slice(),
+        b"a: byte 0: limit operands\n".as_slice()
+    );
+    Ok(())
+}
+
+// The places of the numbers are those of the ELF-64 header and program headers; the code is as GNU as
+// writes it.
+#[test]
+fn program_has_its_bytes(rt: HostRuntime) -> Result<(), Fail> {
+    let outcome = compile(rt.alloc(), b"(display -42)\n(newline)\n")?;
+    let file = outcome.target.ok_or("no file")?;
+    let file = file.as_slice();
+    assert_eq!(rt; file.len(), 0x2004);
+    let places: [(usize, &[u8]); 11] = [
+        (0, &[0x7f, b'E', b'L', b'F', 2, 1, 1, 0]),
+        (24, &[0, 0, 0x40, 0, 0, 0, 0, 0]),
+        (80, &[0, 0, 0x40, 0, 0, 0, 0, 0]),
+        (136, &[0, 0, 0, 0x10, 0, 0, 0, 0]),
+        (0x1000, &[0xe9, 60, 0, 0, 0]),
+        (
+            0x1015,
+            &[0x48, 0x81, 0xf8, 0, 0, 0, 0, 0x0f, 0x8e, 15, 0, 0, 0],
+        ),
+        (0x1041, &[0x48, 0xc7, 0xc6, 0, 0, 0, 0x10]),
+        (0x1048, &[0x48, 0xc7, 0xc2, 3, 0, 0, 0]),
+        (0x104f, &[0x4c, 0x8d, 0x3d, 5, 0, 0, 0]),
+        (0x1056, &[0xe9, 0xaa, 0xff, 0xff, 0xff]),
+        (0x2000, b"-42\n"),
+    ];
+    for (place, bytes) in places {
+        let (_, rest) = file.split_at_checked(place).ok_or("too short")?;
+        assert!(rt; rest.starts_with(bytes), "at {place}");
+    }
+    Ok(())
+}
+
+#[test]
+fn words_that_are_no_command(rt: HostRuntime) -> Result<(), Fail> {
+    let commands: [&[&str]; 17] = [
+        &[],
+        &["compile"],
+        &["compile", "a"],
+        &["compile", "a", "a"],
+        &["compile", "", "b"],
+        &["compile", "a", ""],
+        &["compile", "a", "b", "c"],
+        &["compile", "a", "--listing"],
+        &["run", "--steps"],
+        &["step", "-a"],
+        &["run"],
+        &["run", "a", "b"],
+        &["run", "a", "--heap", "4097"],
+        &["run", "a", "--steps", "1000000000000000001"],
+        &["run", "a", "--steps", "1x"],
+        &["step", "a", "--depth", "1"],
+        &["step", ""],
+    ];
+    for words in commands {
+        let outcome = call(rt.alloc(), words, b"", &[], &[])?;
+        assert_eq!(rt; outcome.status, 1);
+        assert_eq!(rt;
+            outcome.said.as_slice(),
+            b"usage: schc VERB NAME [NAME2] [--listing F] [--heap N] [--depth N] [--steps N]\n".as_slice()
+        );
+        assert!(rt; outcome.target.is_none());
+    }
+    Ok(())
+}
+
+#[test]
+fn words_that_the_host_does_not_give(rt: HostRuntime) -> Result<(), Fail> {
+    let causes: [(ErrorKind, u8, &[u8]); 2] = [
+        (ErrorKind::OutOfMemory, 10, b"out of memory\n"),
+        (
+            ErrorKind::InvalidData,
+            1,
+            b"usage: schc VERB NAME [NAME2] [--listing F] [--heap N] [--depth N] [--steps N]\n",
+        ),
+    ];
+    for (kind, status, said) in causes {
+        let mut err = MemOutlet::new(rt.alloc(), &[], 1000)?;
+        assert_eq!(rt; report_words(&Error::from(kind), &mut err), status);
+        assert_eq!(rt; err.taken(), said);
+    }
+    Ok(())
+}
+
+#[test]
+fn a_disk_that_fails(rt: HostRuntime) -> Result<(), Fail> {
+    let absent = call(rt.alloc(), &["compile", "c", "b"], b"", &[], &[])?;
+    assert_eq!(rt; absent.status, 2);
+    assert_eq!(rt; absent.said.as_slice(), b"c: read failed\n".as_slice());
+    let read = call(rt.alloc(), &["compile", "a", "b"], b"", &[0], &[])?;
+    assert_eq!(rt; read.status, 2);
+    let write = call(rt.alloc(), &["compile", "a", "b"], b"", &[1], &[])?;
+    assert_eq!(rt; write.status, 3);
+    assert_eq!(rt; write.said.as_slice(), b"b: write failed\n".as_slice());
+    Ok(())
+}
+
+// The line goes on after a short write, and ends at one that fails.
+#[test]
+fn an_outlet_that_fails(rt: HostRuntime) -> Result<(), Fail> {
+    let words: [&str; 3] = ["compile", "c", "b"];
+    let short = call(
+        rt.alloc(),
+        &words,
+        b"",
+        &[],
+        &[Answer::Took(1), Answer::Took(3)],
+    )?;
+    assert_eq!(rt; short.status, 2);
+    assert_eq!(rt; short.said.as_slice(), b"c: read failed\n".as_slice());
+    let failed = call(
+        rt.alloc(),
+        &words,
+        b"",
+        &[],
+        &[Answer::Took(1), Answer::Took(3), Answer::Failed],
+    )?;
+    assert_eq!(rt; failed.status, 2);
+    assert_eq!(rt; failed.said.as_slice(), b"c: r".as_slice());
+    Ok(())
+}
+
+#[test]
+fn a_source_of_the_greatest_length(rt: HostRuntime) -> Result<(), Fail> {
+    let mut spaces = Vec::new(rt.alloc());
+    for _ in 0..1_048_576 {
+        spaces.push(b' ')?;
+    }
+    let outcome = compile(rt.alloc(), spaces.as_slice())?;
+    assert_eq!(rt; outcome.status, 0);
+    spaces.push(b' ')?;
+    let outcome = compile(rt.alloc(), spaces.as_slice())?;
+    assert_eq!(rt; outcome.status, 7);
+    assert_eq!(rt; outcome.said.as_slice(), b"a: limit file\n".as_slice());
+    assert!(rt; outcome.target.is_none());
+    Ok(())
+}
+
+// What a verb answered that runs something, what was printed, and what was said.
+#[derive(Drop)]
+struct Ending {
+    status: u8,
+    printed: Vec<u8>,
+    said: Vec<u8>,
+}
+
+// Calls the program on a disk whose only file is `a`, over an outlet that answers by this plan.
+fn perform(alloc: Global, words: &[&str], file: &[u8], plan: &[Answer]) -> Result<Ending, Fail> {
+    let mut all = Vec::new(alloc);
+    for word in words {
+        all.push(String::from_str(alloc, word)?)?;
+    }
+    let files = [(
+        Bytes::from_slice(alloc, b"a")?,
+        Bytes::from_slice(alloc, file)?,
+    )];
+    let mut disk = MemDisk::new(alloc, &files, 0, &[])?;
+    let mut out = MemOutlet::new(alloc, plan, 1000)?;
+    let mut err = MemOutlet::new(alloc, &[], 1000)?;
+    let status = schc(alloc, all.as_slice(), &mut disk, &mut out, &mut err);
+    let printed = Vec::from_slice(alloc, out.taken())?;
+    let said = Vec::from_slice(alloc, err.taken())?;
+    Ok(Ending {
+        status,
+        printed,
+        said,
+    })
+}
+
+#[test]
+fn sources_run(rt: HostRuntime) -> Result<(), Fail> {
+    let source = b"(display -42)(newline)";
+    let whole = perform(rt.alloc(), &["run", "a"], source, &[])?;
+    assert_eq!(rt; whole.status, 0);
+    assert_eq!(rt; whole.printed.as_slice(), b"-42\n".as_slice());
+    assert_eq!(rt; whole.said.as_slice(), [].as_slice());
+    let empty = perform(rt.alloc(), &["run", "a"], b"", &[])?;
+    assert_eq!(rt; empty.status, 0);
+    assert_eq!(rt; empty.printed.as_slice(), [].as_slice());
+    let spent = perform(rt.alloc(), &["run", "a", "--steps", "0"], source, &[])?;
+    assert_eq!(rt; spent.status, 9);
+    assert_eq!(rt; spent.said.as_slice(), b"steps spent\n".as_slice());
+    let absent = perform(rt.alloc(), &["run", "c"], source, &[])?;
+    assert_eq!(rt; absent.status, 2);
+    assert_eq!(rt; absent.said.as_slice(), b"c: read failed\n".as_slice());
+    let other = perform(rt.alloc(), &["run", "a"], b"(f)", &[])?;
+    assert_eq!(rt; other.status, 11);
+    assert_eq!(rt; other.said.as_slice(), b"a: byte 0: not built\n".as_slice());
+    let faulty = perform(rt.alloc(), &["run", "a"], b"(newline) x", &[])?;
+    assert_eq!(rt; faulty.status, 6);
+    assert_eq!(rt; faulty.printed.as_slice(), [].as_slice());
+    Ok(())
+}
+
+#[test]
+fn a_source_whose_output_fails(rt: HostRuntime) -> Result<(), Fail> {
+    let plan = [Answer::Took(1), Answer::Took(1), Answer::Failed];
+    let failed = perform(rt.alloc(), &["run", "a"], b"(display 123)", &plan)?;
+    assert_eq!(rt; failed.status, 74);
+    assert_eq!(rt; failed.printed.as_slice(), b"12".as_slice());
+    assert_eq!(rt;
+        failed.said.as_slice(),
+        b"stop 74: output failed\n".as_slice()
+    );
+    Ok(())
+}
+
+#[test]
+fn compiled_images_step(rt: HostRuntime) -> Result<(), Fail> {
+    let sources: [(&[u8], &[u8]); 6] = [
+        (b"", b""),
+        (b"(display 7)(newline)", b"7\n"),
+        (b"(display 007)(display -0)", b"70"),
+        (b"(display #t)(display #\\a)(newline)", b"#ta\n"),
+        (b"(display -1152921504606846976)", b"-1152921504606846976"),
+        (b"(display 1152921504606846975)", b"1152921504606846975"),
+    ];
+    for (source, printed) in sources {
+        let image = compile(rt.alloc(), source)?.target.ok_or("no file")?;
+        let outcome = perform(rt.alloc(), &["step", "a"], image.as_slice(), &[])?;
+        assert_eq!(rt; outcome.status, 0);
+        assert_eq!(rt; outcome.printed.as_slice(), printed);
+        assert_eq!(rt; outcome.said.as_slice(), [].as_slice());
+    }
+    Ok(())
+}
+
+// The file of an image with this text.
+fn image(alloc: Global, text: &[u8]) -> Result<Bytes, Fail>
+    requires { length text.now ≤ 1000 }
+{
+    let text = Bytes::from_slice(alloc, text)?;
+    let image = program_image(alloc, text, Bytes::new(alloc), 0)?;
+    Ok(write_image(alloc, &image)?)
+}
+
+fn exit_with(status: u8) -> [u8; 16] {
+    [
+        0x48, 0xC7, 0xC0, 60, 0, 0, 0, 0x48, 0xC7, 0xC7, status, 0, 0, 0, 0x0F, 0x05,
+    ]
+}
+
+#[test]
+fn images_end(rt: HostRuntime) -> Result<(), Fail> {
+    let endings: [(u8, u8, &[u8]); 14] = [
+        (0, 0, b""),
+        (65, 65, b"stop 65: wrong type\n"),
+        (66, 66, b"stop 66: out of range\n"),
+        (67, 67, b"stop 67: not a procedure\n"),
+        (68, 68, b"stop 68: wrong argument count\n"),
+        (69, 69, b"stop 69: division by zero\n"),
+        (70, 70, b"stop 70: fixnum overflow\n"),
+        (71, 71, b"stop 71: heap limit\n"),
+        (72, 72, b"stop 72: depth limit\n"),
+        (73, 73, b"stop 73: unset variable\n"),
+        (74, 74, b"stop 74: output failed\n"),
+        (64, 8, b"a: exit status 64\n"),
+        (75, 8, b"a: exit status 75\n"),
+        (1, 8, b"a: exit status 1\n"),
+    ];
+    for (exit, status, said) in endings {
+        let file = image(rt.alloc(), &exit_with(exit))?;
+        let outcome = perform(rt.alloc(), &["step", "a"], file.as_slice(), &[])?;
+        assert_eq!(rt; outcome.status, status);
+        assert_eq!(rt; outcome.said.as_slice(), said);
+    }
+    let file = image(rt.alloc(), &exit_with(0))?;
+    let spent = perform(
+        rt.alloc(),
+        &["step", "a", "--steps", "2"],
+        file.as_slice(),
+        &[],
+    )?;
+    assert_eq!(rt; spent.status, 9);
+    let done = perform(
+        rt.alloc(),
+        &["step", "a", "--steps", "3"],
+        file.as_slice(),
+        &[],
+    )?;
+    assert_eq!(rt; done.status, 0);
+    Ok(())
+}
+
+#[test]
+fn images_get_stuck(rt: HostRuntime) -> Result<(), Fail> {
+    let texts: [(&[u8], &[u8]); 6] = [
+        (&[0xC3], b"a: stuck at 00400000: fetch\n"),
+        // mov rax, 123456789ABCDEF0; jmp rax
+        (
+            &[
+                0x48, 0xB8, 0xF0, 0xDE, 0xBC, 0x9A, 0x78, 0x56, 0x34, 0x12, 0x40, 0xFF, 0xE0,
+            ],
+            b"a: stuck at 123456789abcdef0: fetch\n",
+        ),
+        (
+            &[0x48, 0x8B, 0x83, 0, 0, 0, 0],
+            b"a: stuck at 00400000: access\n",
+        ),
+        (&[0x0F, 0x84, 0, 0, 0, 0], b"a: stuck at 00400000: flag\n"),
+        (
+            &[0x48, 0x99, 0x48, 0xF7, 0xF9],
+            b"a: stuck at 00400002: divide\n",
+        ),
+        (&[0x0F, 0x05], b"a: stuck at 00400000: kernel\n"),
+    ];
+    for (text, said) in texts {
+        let file = image(rt.alloc(), text)?;
+        let outcome = perform(rt.alloc(), &["step", "a"], file.as_slice(), &[])?;
+        assert_eq!(rt; outcome.status, 8);
+        assert_eq!(rt; outcome.said.as_slice(), said);
+    }
+    Ok(())
+}
+
+#[test]
+fn files_that_are_no_image(rt: HostRuntime) -> Result<(), Fail> {
+    let files: [(&[u8], &[u8]); 2] = [(&[0; 10], b"a: short\n"), (&[b' '; 64], b"a: not ELF\n")];
+    for (file, said) in files {
+        let outcome = perform(rt.alloc(), &["step", "a"], file, &[])?;
+        assert_eq!(rt; outcome.status, 8);
+        assert_eq!(rt; outcome.said.as_slice(), said);
+        assert_eq!(rt; outcome.printed.as_slice(), [].as_slice());
+    }
+    Ok(())
+}
