@@ -1,10 +1,12 @@
 -- Programs that are not valid, one for each reason.
-use Rattle.std.proofs.Common.{◌≡◌, refl, true, false, [], ◌∷◌, Some, None}
+use Rattle.std.proofs.Common.{◌≡◌, refl, ℕ, zero, suc, true, false, List, [], ◌∷◌, Some, None}
+use Rattle.std.specs.Prelude.{replicate}
 use Rattle.sch_word.specs.declared.constant.Const.TheVariants.{Character}
 use Rattle.sch_word.specs.declared.primitive.Primitive.TheVariants.{Car}
-use Rattle.sch_cells.specs.Tree.{constant, variable, global, literal, set_variable, sequence, bind, fix, lambda, call, new_cells, cell_get, no_lambdas, and_lambda, trees}
+use Rattle.sch_word.specs.Shape.{Procedure, procedure_fits, max_variables}
+use Rattle.sch_cells.specs.Tree.{Tree, Source, constant, variable, global, literal, set_variable, branch, sequence, bind, fix, lambda, call, new_cells, cell_get, no_lambdas, and_lambda, trees}
 use Rattle.sch_cells.specs.Valid.{is_valid}
-use Rattle.sch_cells.specs.Examples.{number, put, two, function, new_cell, program, let_of, assigned_formal, assigned_formal_boxed, unset_init}
+use Rattle.sch_cells.specs.Examples.{number, put, two, function, apply, new_cell, program, let_of, assigned_formal, assigned_formal_boxed, unset_init}
 
 -- a number that two variables have, one inside the other
 twice : is_valid false (let_of 0) ≡ false
@@ -84,3 +86,70 @@ site_nowhere = refl
 
 site_of_other_width : is_valid false (program 0 (2 ∷ []) (put 0 (number 1) ∷ [])) ≡ false
 site_of_other_width = refl
+
+-- ## Limits
+
+two_hundred_formals : is_valid false (program 200 [] (function 0 200 (number 1) ∷ [])) ≡ true
+two_hundred_formals = refl
+
+more_formals : is_valid false (program 201 [] (function 0 201 (number 1) ∷ [])) ≡ false
+more_formals = refl
+
+abbrev call_of : ℕ → Source
+call_of operands = program 0 (suc operands ∷ []) (apply 0 (number 1) (replicate operands (number 1)) ∷ [])
+
+two_hundred_operands : is_valid false (call_of 200) ≡ true
+two_hundred_operands = refl
+
+more_operands : is_valid false (call_of 201) ≡ false
+more_operands = refl
+
+abbrev bind_of : ℕ → Source
+bind_of inits = program inits (inits ∷ []) (bind 0 0 (trees (replicate inits (number 1))) (number 1) ∷ [])
+
+two_hundred_inits : is_valid false (bind_of 200) ≡ true
+two_hundred_inits = refl
+
+more_inits : is_valid false (bind_of 201) ≡ false
+more_inits = refl
+
+-- lambdas without formals in a sequence, each of which but the last counts one variable
+abbrev sequence_of : ℕ → Tree
+sequence_of parts = sequence (trees (replicate parts (function 0 0 (number 1))))
+
+thousand_variables : is_valid false (program 0 [] (sequence_of 1001 ∷ [])) ≡ true
+thousand_variables = refl
+
+more_variables : is_valid false (program 0 [] (sequence_of 1002 ∷ [])) ≡ false
+more_variables = refl
+
+-- the same in the body of a lambda
+body_variables : is_valid false (program 0 [] (function 0 0 (sequence_of 1002) ∷ [])) ≡ false
+body_variables = refl
+
+-- of free variables
+abbrev with_free : ℕ → Procedure
+with_free n = record { name = []; formals = 0; rest = false; free = n; variables = 0 }
+
+thousand_free : procedure_fits max_variables (with_free 1000) ≡ true
+thousand_free = refl
+
+more_free : procedure_fits max_variables (with_free 1001) ≡ false
+more_free = refl
+
+abbrev tests_of : ℕ → Source
+tests_of levels = program 0 [] (nest levels ∷ [])
+  where
+    nest : ℕ → Tree
+    nest zero = number 1
+    nest (suc n) = branch (number 1) (nest n) (number 2)
+
+two_thousand_levels : is_valid false (tests_of 1999) ≡ true
+two_thousand_levels = refl
+
+more_levels : is_valid false (tests_of 2000) ≡ false
+more_levels = refl
+
+-- cells may add levels
+more_levels_boxed : is_valid true (tests_of 2000) ≡ true
+more_levels_boxed = refl

@@ -67,8 +67,8 @@ abbrev pub straight_program : Source
 straight_program = program (None ∷ [])
     (form 2 (end (perform (operation.SetGlobal 0 (number 7))))
     ∷ form 5 (bind 2 (perform (operation.Global 0)) (bind 3 (perform (operation.Prim 0 Multiply (held_in 2 ∷ number 6 ∷ [])))
-        (branch (perform (operation.Prim 1 Less (held_in 3 ∷ number 40 ∷ []))) (end (shown 2 (number 0)))
-        (bind 4 (perform (operation.Prim 3 Subtract (held_in 3 ∷ number 50 ∷ []))) (end (shown 4 (held_in 4)))))))
+    (branch (perform (operation.Prim 1 Less (held_in 3 ∷ number 40 ∷ []))) (end (shown 2 (number 0)))
+    (bind 4 (perform (operation.Prim 3 Subtract (held_in 3 ∷ number 50 ∷ []))) (end (shown 4 (held_in 4)))))))
     ∷ [])
     (2 ∷ 2 ∷ 1 ∷ 2 ∷ 1 ∷ []) ((0 ∷ []) ∷ [] ∷ [] ∷ [] ∷ (0 ∷ []) ∷ [])
 
@@ -83,8 +83,8 @@ straight_valid = refl
 abbrev pub taking : Source
 taking = program []
     (form 5 (bind 2 (perform (operation.NewCell (number 1))) (bind 3 (perform (operation.MakeClosure (record { label = 1; fields = source.Atom (Variable 2) ∷ [] })))
-        (sequence (perform (operation.CellSet (source.Atom (Variable 2)) (number 6)))
-        (bind 4 (call (applied 0 (held_in 3) (number 5 ∷ [])) []) (end (shown 1 (held_in 4)))))))
+    (sequence (perform (operation.CellSet (source.Atom (Variable 2)) (number 6)))
+    (bind 4 (call (applied 0 (held_in 3) (number 5 ∷ [])) []) (end (shown 1 (held_in 4)))))))
     ∷ lambda 1 1 4 (bind 3 (perform (operation.CellGet (source.Field 1 0))) (return (perform (operation.Prim 2 Subtract (held_in 2 ∷ held_in 3 ∷ [])))))
     ∷ [])
     (2 ∷ 1 ∷ 2 ∷ []) ([] ∷ (0 ∷ []) ∷ (1 ∷ []) ∷ [])
@@ -108,11 +108,11 @@ taking_valid = refl
 abbrev pub looping : Source
 looping = program []
     (form 5 (fix (record { at = 2; closure = record { label = 1; fields = source.Atom (Variable 3) ∷ [] } } ∷ record { at = 3; closure = record { label = 2; fields = source.Atom (Variable 2) ∷ [] } } ∷ [])
-        (bind 4 (call (applied 0 (held_in 2) (number 2 ∷ [])) []) (end (shown 1 (held_in 4)))))
+    (bind 4 (call (applied 0 (held_in 2) (number 2 ∷ [])) []) (end (shown 1 (held_in 4)))))
     ∷ lambda 1 1 5 (branch (perform (operation.Prim 2 Equal (held_in 2 ∷ number 0 ∷ []))) (return (perform (operation.Operand (truth true))))
-        (bind 3 (perform (operation.Field 1 0)) (bind 4 (perform (operation.Prim 3 Subtract (held_in 2 ∷ number 1 ∷ []))) (tail_call (applied 4 (held_in 3) (held_in 4 ∷ []))))))
+    (bind 3 (perform (operation.Field 1 0)) (bind 4 (perform (operation.Prim 3 Subtract (held_in 2 ∷ number 1 ∷ []))) (tail_call (applied 4 (held_in 3) (held_in 4 ∷ []))))))
     ∷ lambda 1 1 5 (branch (perform (operation.Prim 5 Equal (held_in 2 ∷ number 0 ∷ []))) (return (perform (operation.Operand (truth false))))
-        (bind 3 (perform (operation.Field 1 0)) (bind 4 (perform (operation.Prim 6 Subtract (held_in 2 ∷ number 1 ∷ []))) (tail_call (applied 7 (held_in 3) (held_in 4 ∷ []))))))
+    (bind 3 (perform (operation.Field 1 0)) (bind 4 (perform (operation.Prim 6 Subtract (held_in 2 ∷ number 1 ∷ []))) (tail_call (applied 7 (held_in 3) (held_in 4 ∷ []))))))
     ∷ [])
     (2 ∷ 1 ∷ 2 ∷ 2 ∷ 2 ∷ 2 ∷ 2 ∷ 2 ∷ []) ([] ∷ (0 ∷ []) ∷ [] ∷ [] ∷ (1 ∷ 0 ∷ []) ∷ [] ∷ [] ∷ (1 ∷ 0 ∷ []) ∷ [])
 

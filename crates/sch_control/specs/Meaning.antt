@@ -186,9 +186,9 @@ module _ (reading : Reading) where
     evaluate (fix members e) inside environment saved w next =
         on_outcome w.marks (in_store (charge_each (member_bytes members)) w.state)
         (λ _ w. let vs = procedures_from (length w.state.procedures) (length members) in
-            let inner = put_each environment members vs in
-            with_value (with_procedures w.state (members_made inner w.state members))
-            (λ s. evaluate e inside inner (put_inside inside saved members vs) (note_members inside members (record { state = s; marks = w.marks })) next))
+        let inner = put_each environment members vs in
+        with_value (with_procedures w.state (members_made inner w.state members))
+        (λ s. evaluate e inside inner (put_inside inside saved members vs) (note_members inside members (record { state = s; marks = w.marks })) next))
     evaluate (call a restores) inside environment saved w next =
         with_value (part_values environment w.state.store a)
         (λ vs. on_return (call_in callee a.spread false depth vs (marked (Call a.site) (marked_each (reading.moves a.site) w)))

@@ -1,19 +1,18 @@
 -- A procedure's arguments come into the slots of its formals.
-use Rattle.std.proofs.Common.{◌≡◌, ◌≢◌, ℕ, zero, suc, ◌+◌, ◌-◌, ◌<◌, ◌≤◌, List, [], ◌∷◌, length, Option, Some, None, Bool, true, false, ◌&&◌, cond, refl, sym, ap, ◌∙◌, subst, arith, ◌⊎◌, inl, inr}
-use Rattle.std.specs.Prelude.{nat_eq, slice_get}
+use Rattle.std.proofs.Common.{◌≡◌, ◌≢◌, ℕ, zero, suc, ◌+◌, ◌-◌, ◌<◌, ◌≤◌, List, [], ◌∷◌, length, Option, Some, None, Bool, true, false, refl, sym, ap, ◌∙◌, subst, arith, ◌⊎◌, inl, inr}
+use Rattle.std.specs.Prelude.{slice_get}
 use Rattle.std.specs.List.{list_all}
 use Rattle.std.proofs.lemmas.Bool.{ne_eqb, and_from, lt-ltb, cases_eq}
 use Rattle.sch_word.specs.declared.place.Place.{Place}
-use Rattle.sch_word.specs.declared.place.Place.TheVariants.{Reg, Slot}
-use Rattle.sch_word.specs.Values.{Value, unspecified}
+use Rattle.sch_word.specs.Values.{Value}
 use Rattle.sch_control.specs.declared.body.Entry.{Entry}
-use Rattle.sch_control.specs.Meaning.{World, Result, Callee, entry_environment, nothing}
+use Rattle.sch_control.specs.Meaning.{World, Result, Callee}
 use Rattle.sch_control.specs.Run as control_run
 use Rattle.sch_frames.specs.declared.instruction.Instruction.{Instruction}
 use Rattle.sch_frames.specs.declared.instruction.Instruction.TheVariants.{Copy}
 use Rattle.sch_frames.specs.Does.{Follows}
-use Rattle.sch_frames.specs.Meaning.{Cell, Is, Link, Junk, Frame, link_register, closure_register, same_place, set, with_place, cell_of, execute_each, entry_places, beginning}
-use Rattle.sch_frames.specs.Valid.{is_place, instruction_placed, instruction_shaped, instruction_known, labels_in, formals_of}
+use Rattle.sch_frames.specs.Meaning.{Cell, Is, Link, Frame, link_register, closure_register, same_place, set, with_place, cell_of, execute_each, entry_places, beginning}
+use Rattle.sch_frames.specs.Valid.{is_place, instruction_placed, formals_of}
 use Rattle.sch_frames.specs.Layout.{own_slot, arrival, arrivals, entering, arrival_slots}
 use Rattle.sch_frames.proofs.Same.{Apart, Agrees, set_other, set_self}
 
@@ -74,7 +73,7 @@ module _ (base formals : ℕ) (before : (j : ℕ) → suc (suc (suc (suc (suc (s
         → set places (own_slot base (suc (suc from))) (places (arrival from)) (own_slot base (suc (suc k))) ≡ Is v
     by k v l e (inl i) =
         subst (λ z. set places (own_slot base (suc (suc from))) (places (arrival from)) (own_slot base (suc (suc z))) ≡ Is v) (sym i)
-            (set_self places (own_slot base (suc (suc from))) (places (arrival from)) ∙ a.waiting from v (omega arith) h (subst (λ z. slice_get arguments z ≡ Some v) i e))
+        (set_self places (own_slot base (suc (suc from))) (places (arrival from)) ∙ a.waiting from v (omega arith) h (subst (λ z. slice_get arguments z ≡ Some v) i e))
     by k v l e (inr n) =
         set_other places (own_slot base (suc (suc from))) (own_slot base (suc (suc k))) _ ((own_apart base).apart (suc (suc k)) (suc (suc from)) (λ i. n (omega (arith, i))))
         ∙ a.stored k v (omega (arith, l, n)) e

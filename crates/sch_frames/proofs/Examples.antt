@@ -1,5 +1,5 @@
 -- Worked rows: what frame programs do, and the layout of a body.
-use Rattle.std.proofs.Common.{◌≡◌, refl, ℕ, Bool, true, false, List, [], ◌∷◌, Option, Some, None, pos, negsuc}
+use Rattle.std.proofs.Common.{◌≡◌, refl, ℕ, true, false, List, [], ◌∷◌, Option, Some, None, pos, negsuc}
 use Rattle.std.specs.Prelude.{codes, ◌&&◌}
 use Rattle.std.specs.Fmt.{signed_decimal}
 use Rattle.std.specs.List.{list_all}
@@ -10,7 +10,6 @@ use Rattle.sch_word.specs.declared.primitive.Primitive.TheVariants.{Subtract, Mu
 use Rattle.sch_word.specs.Literals.{no_literals}
 use Rattle.sch_word.specs.Runs as runs_of
 use Rattle.sch_word.specs.Runs.{Run, ended, going}
-use Rattle.sch_control.specs.declared.body.Entry.{Entry}
 use Rattle.sch_control.specs.declared.mark.MarkKind.TheVariants as mark
 use Rattle.sch_control.specs.declared.operation.Atom.TheVariants.{Constant, Variable}
 use Rattle.sch_control.specs.declared.operation.Operand.{Operand}
@@ -113,7 +112,7 @@ load_six rest = Load (Reg 3) (number 1) ∷ Load (Reg 8) (number 2) ∷ Load (Re
 abbrev calling : Operand Place → Instruction → Source
 calling passed last = program []
     (form 1 0 (Do (operation.MakeClosure (record { label = 1; fields = source.Atom (Constant (Boolean true)) ∷ [] })) ∷ Store (Slot 0) ∷ Copy (Reg 14) (Slot 0)
-        ∷ load_six (Pass 0 passed ∷ Mark (mark.Call 0) ∷ Call false 7 ∷ last ∷ Do (operation.Prim 1 Put (held_in (Reg 3) ∷ [])) ∷ End ∷ []))
+    ∷ load_six (Pass 0 passed ∷ Mark (mark.Call 0) ∷ Call false 7 ∷ last ∷ Do (operation.Prim 1 Put (held_in (Reg 3) ∷ [])) ∷ End ∷ []))
     ∷ seventh ∷ []) 1
 
 calling_runs : runs (calling (operand.Atom (Constant (Boolean false))) (Store (Reg 3))) 1 1 ≡ seen (codes "#t") 1 16 (ended 0)
@@ -137,7 +136,7 @@ junk_read = refl
 abbrev tail_calling : Source
 tail_calling = program []
     (form 1 0 (Do (operation.MakeClosure (record { label = 1; fields = [] })) ∷ Store (Slot 0) ∷ Copy (Reg 14) (Slot 0) ∷ Mark (mark.Call 0) ∷ Call false 0
-        ∷ Store (Reg 3) ∷ Do (operation.Prim 1 Put (held_in (Reg 3) ∷ [])) ∷ End ∷ [])
+    ∷ Store (Reg 3) ∷ Do (operation.Prim 1 Put (held_in (Reg 3) ∷ [])) ∷ End ∷ [])
     ∷ lambda 0 0 1 0 (Do (operation.MakeClosure (record { label = 2; fields = [] })) ∷ Store (Reg 14) ∷ Load (Reg 3) (operand.Atom (Constant (Boolean false))) ∷ Mark (mark.Tail 2) ∷ Tail false 1 ∷ [])
     ∷ lambda 1 0 1 0 (Do (operation.Operand (held_in (Reg 3))) ∷ Mark mark.Return ∷ Return ∷ [])
     ∷ []) 1
@@ -154,7 +153,7 @@ link_lost = refl
 abbrev group : Source
 group = program []
     (form 2 0 (Fix (record { at = Slot 0; closure = record { label = 1; fields = source.Atom (Variable (Slot 1)) ∷ [] } } ∷ record { at = Slot 1; closure = record { label = 2; fields = source.Atom (Variable (Slot 0)) ∷ [] } } ∷ [])
-        ∷ Copy (Reg 14) (Slot 0) ∷ Call false 0 ∷ Store (Reg 3) ∷ Do (operation.Prim 0 Put (held_in (Reg 3) ∷ [])) ∷ End ∷ [])
+    ∷ Copy (Reg 14) (Slot 0) ∷ Call false 0 ∷ Store (Reg 3) ∷ Do (operation.Prim 0 Put (held_in (Reg 3) ∷ [])) ∷ End ∷ [])
     ∷ lambda 0 1 1 0 (Do (operation.Field (Reg 14) 0) ∷ Store (Reg 14) ∷ Tail false 0 ∷ [])
     ∷ lambda 0 1 1 0 (Do (operation.Operand (operand.Atom (Constant (Boolean true)))) ∷ Return ∷ [])
     ∷ []) 2

@@ -1,6 +1,6 @@
 -- Results that follow others, through the ways in which they are made.
-use Rattle.std.proofs.Common.{◌≡◌, ℕ, List, [], ◌∷◌, Option, Some, None, Bool, true, false, refl, sym, ap, ◌∙◌, subst}
-use Rattle.sch_word.specs.Values.{Value, is_true}
+use Rattle.std.proofs.Common.{◌≡◌, List, Option, Some, None, Bool, true, false, refl, sym, ap, ◌∙◌, subst}
+use Rattle.sch_word.specs.Values.{Value}
 use Rattle.sch_word.specs.Store.{Store}
 use Rattle.sch_word.specs.Checked.{Checked, passes, refused, exhausted, unreachable}
 use Rattle.sch_word.specs.Computation.{Outcome, gives, stops, spent, State}

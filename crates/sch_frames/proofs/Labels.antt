@@ -1,6 +1,6 @@
 -- The labels of a layout: each stands once, behind the jumps to it.
-use Rattle.std.proofs.Common.{◌≡◌, ℕ, zero, suc, ◌+◌, ◌<◌, ◌≤◌, List, [], ◌∷◌, Option, Some, None, Bool, true, false, ◌&&◌, refl, sym, ap, ◌∙◌, subst, ◌⊎◌, inl, inr, arith}
-use Rattle.std.specs.Prelude.{nat_eq, nat_lt, ◌||◌, not}
+use Rattle.std.proofs.Common.{◌≡◌, ℕ, suc, ◌+◌, ◌<◌, ◌≤◌, List, ◌∷◌, Option, Some, None, Bool, true, false, refl, ap, ◌∙◌, ◌⊎◌, inl, inr, arith}
+use Rattle.std.specs.Prelude.{nat_eq, nat_lt, ◌||◌}
 use Rattle.std.specs.List.{list_all}
 use Rattle.std.proofs.lemmas.Bool.{and_from, ne_eqb, eq-eqb, or_left, or_right, or_from, not_from_false, lt-ltb}
 use Rattle.sch_word.specs.declared.place.Place.{Place}
@@ -9,7 +9,7 @@ use Rattle.sch_control.specs.Valid.{without_repeats}
 use Rattle.sch_control.specs.Tree.{Expression, perform, bind, sequence, branch, fix, call, tail_call, return, end, save}
 use Rattle.sch_frames.specs.declared.instruction.Instruction.{Instruction}
 use Rattle.sch_frames.specs.declared.instruction.Instruction.TheVariants.{Label, Jump}
-use Rattle.sch_frames.specs.Valid.{labels_in, jumps_ahead, forward}
+use Rattle.sch_frames.specs.Valid.{labels_in, jumps_ahead}
 use Rattle.sch_frames.specs.Layout.{leave, labels, lay}
 
 module _ (place : ℕ → Place) where
@@ -131,23 +131,23 @@ module _ (place : ℕ → Place) where
       let lc = labels c in
       let last : Right (Label (suc n) ∷ rest) = labelled (suc n) rest (f (suc n) (omega arith) (omega arith)) r in
       let third : Right (lay place c (suc (suc (n + la + lb))) test (Label (suc n) ∷ rest)) =
-          right c (suc (suc (n + la + lb))) test (Label (suc n) ∷ rest)
-          (λ l h h'. or_from _ _ (other l (suc n) (inr (omega (arith, h)))) (f l (omega (arith, h)) (omega (arith, h'))))
-          (ahead_label test _ (suc n) rest (raised test n _ rest (omega arith) a)) last in
+      right c (suc (suc (n + la + lb))) test (Label (suc n) ∷ rest)
+      (λ l h h'. or_from _ _ (other l (suc n) (inr (omega (arith, h)))) (f l (omega (arith, h)) (omega (arith, h'))))
+      (ahead_label test _ (suc n) rest (raised test n _ rest (omega arith) a)) last in
       let no_n : there n (lay place c (suc (suc (n + la + lb))) test (Label (suc n) ∷ rest)) ≡ false =
-          outside c (suc (suc (n + la + lb))) test (Label (suc n) ∷ rest) n (inl (omega arith))
-          ∙ or_from _ _ (other n (suc n) (inl (omega arith))) (f n (omega arith) (omega arith)) in
+      outside c (suc (suc (n + la + lb))) test (Label (suc n) ∷ rest) n (inl (omega arith))
+      ∙ or_from _ _ (other n (suc n) (inl (omega arith))) (f n (omega arith) (omega arith)) in
       let middle : Right (Label n ∷ lay place c (suc (suc (n + la + lb))) test (Label (suc n) ∷ rest)) = labelled n _ no_n third in
       let to_end : there (suc n) (Label n ∷ lay place c (suc (suc (n + la + lb))) test (Label (suc n) ∷ rest)) ≡ true =
-          or_right (nat_eq (suc n) n) _ (outside c (suc (suc (n + la + lb))) test (Label (suc n) ∷ rest) (suc n) (inl (omega arith)) ∙ or_left _ _ (eq-eqb (suc n) (suc n) refl)) in
+      or_right (nat_eq (suc n) n) _ (outside c (suc (suc (n + la + lb))) test (Label (suc n) ∷ rest) (suc n) (inl (omega arith)) ∙ or_left _ _ (eq-eqb (suc n) (suc n) refl)) in
       let away : (l : ℕ) → suc (suc n) ≤ l → l < suc (suc (n + la + lb)) → there l (Label n ∷ lay place c (suc (suc (n + la + lb))) test (Label (suc n) ∷ rest)) ≡ false =
-          λ l h h'. or_from _ _ (other l n (inr (omega (arith, h))))
-              (outside c (suc (suc (n + la + lb))) test (Label (suc n) ∷ rest) l (inl h')
-              ∙ or_from _ _ (other l (suc n) (inr (omega (arith, h)))) (f l (omega (arith, h)) (omega (arith, h')))) in
+      λ l h h'. or_from _ _ (other l n (inr (omega (arith, h))))
+      (outside c (suc (suc (n + la + lb))) test (Label (suc n) ∷ rest) l (inl h')
+      ∙ or_from _ _ (other l (suc n) (inr (omega (arith, h)))) (f l (omega (arith, h)) (omega (arith, h')))) in
       let second : Right (lay place b (suc (suc (n + la))) test (Jump (suc n) ∷ (Label n ∷ lay place c (suc (suc (n + la + lb))) test (Label (suc n) ∷ rest)))) =
-          right b (suc (suc (n + la))) test _ (λ l h h'. away l (omega (arith, h)) (omega (arith, h')))
-          (raised test n _ _ (omega arith) (ahead_jump test n (suc n) _ (ahead_label test n n _ (ahead_lay test c n (suc (suc (n + la + lb))) test _ (omega arith) (ahead_label test n (suc n) rest a)))))
-          (record { once = middle.once; ahead = and_from _ _ to_end middle.ahead }) in
+      right b (suc (suc (n + la))) test _ (λ l h h'. away l (omega (arith, h)) (omega (arith, h')))
+      (raised test n _ _ (omega arith) (ahead_jump test n (suc n) _ (ahead_label test n n _ (ahead_lay test c n (suc (suc (n + la + lb))) test _ (omega arith) (ahead_label test n (suc n) rest a)))))
+      (record { once = middle.once; ahead = and_from _ _ to_end middle.ahead }) in
       right e (suc (suc n)) (Some n) _
       (λ l h h'. outside b (suc (suc (n + la))) test _ l (inl (omega (arith, h'))) ∙ away l h (omega (arith, h')))
       (omega arith, outside b (suc (suc (n + la))) test _ n (inl (omega arith)) ∙ or_left _ _ (eq-eqb n n refl))

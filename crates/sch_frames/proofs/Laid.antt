@@ -1,5 +1,5 @@
 -- Tests that each instruction of a layout passes.
-use Rattle.std.proofs.Common.{◌≡◌, ℕ, zero, suc, ◌+◌, ◌<◌, ◌≤◌, List, [], ◌∷◌, ◌++◌, length, Option, Some, None, Bool, true, false, ◌&&◌, refl, sym, ap, ◌∙◌, subst, arith, length-append}
+use Rattle.std.proofs.Common.{◌≡◌, ℕ, suc, List, [], ◌∷◌, ◌++◌, length, Option, Some, None, Bool, true, ◌&&◌, refl, sym, ap, ◌∙◌}
 use Rattle.std.specs.List.{list_all}
 use Rattle.std.proofs.lemmas.Bool.{and_parts, and_from}
 use Rattle.std.proofs.lemmas.List.Folds.{list_all-append}
@@ -15,7 +15,7 @@ use Rattle.sch_control.specs.declared.operation.Operation.{Operation}
 use Rattle.sch_control.specs.declared.operation.Operation.TheVariants as operation
 use Rattle.sch_control.specs.Parts.{operand_atoms, operands_atoms, source_atom, source_atoms, operation_atoms}
 use Rattle.sch_control.specs.Tree.{Expression, perform, bind, sequence, branch, fix, call, tail_call, return, end, save}
-use Rattle.sch_control.specs.Valid.{operand_shaped, operands_shaped, operation_shaped, application_shaped, group_shaped, each_part, shaped, Names, atom_known, atoms_known, closure_known, operation_known, application_known, group_known}
+use Rattle.sch_control.specs.Valid.{operand_shaped, operands_shaped, operation_shaped, each_part, shaped, Names, atom_known, atoms_known, closure_known, operation_known, application_known, group_known}
 use Rattle.sch_frames.specs.declared.instruction.Instruction.{Instruction}
 use Rattle.sch_frames.specs.declared.instruction.Instruction.TheVariants.{Do, Store, Return, End, IfFalse, Jump, Label, Mark}
 use Rattle.sch_frames.specs.Valid.{is_place, is_atom, instruction_placed, instruction_shaped, instruction_known}

@@ -1,10 +1,10 @@
 -- The layout of an expression does what the expression does.
-use Rattle.std.proofs.Common.{◌≡◌, ◌≢◌, ℕ, zero, suc, ◌+◌, ◌<◌, List, [], ◌∷◌, Option, Some, None, Bool, true, false, ◌&&◌, cond, refl, sym, ap, ◌∙◌, subst, arith}
+use Rattle.std.proofs.Common.{◌≡◌, ◌≢◌, ℕ, zero, suc, ◌+◌, ◌<◌, List, ◌∷◌, Option, Some, None, Bool, true, false, cond, refl, sym, ap, ◌∙◌, subst, arith}
 use Rattle.std.specs.Prelude.{nat_eq}
 use Rattle.std.proofs.lemmas.Bool.{eqb-true, eqb-false, eq-eqb, ne_eqb, and_parts}
 use Rattle.sch_word.specs.declared.place.Place.{Place}
 use Rattle.sch_word.specs.declared.place.Place.TheVariants.{Reg, Slot}
-use Rattle.sch_word.specs.Values.{Value, unspecified, is_true}
+use Rattle.sch_word.specs.Values.{Value, is_true}
 use Rattle.sch_word.specs.Computation.{gives}
 use Rattle.sch_control.specs.declared.mark.MarkKind.TheVariants as mark
 use Rattle.sch_control.specs.Meaning.{World, Result, Environment, Then, Callee, plain, marked, with_value, either, put, no_region, evaluate}
@@ -12,11 +12,11 @@ use Rattle.sch_control.specs.Operations.{operate}
 use Rattle.sch_control.specs.Parts.{operation_atoms}
 use Rattle.sch_control.specs.Tree.{Expression, perform, bind, sequence, branch, fix, call, tail_call, return, end, save}
 use Rattle.sch_frames.specs.declared.instruction.Instruction.{Instruction}
-use Rattle.sch_frames.specs.declared.instruction.Instruction.TheVariants.{Return, End, Jump, Label, Mark}
+use Rattle.sch_frames.specs.declared.instruction.Instruction.TheVariants.{Return, Jump, Label, Mark}
 use Rattle.sch_frames.specs.Does.{Follows}
 use Rattle.sch_frames.specs.Meaning.{Cell, Is, Link, Junk, Frame, link_register, value_in, held, same_place, set, with_place, if_link, execute_each}
 use Rattle.sch_frames.specs.Layout.{straight, operation_at, leave, labels, lay}
-use Rattle.sch_frames.proofs.Following.{onto, with_value_follows, on_ending_follows}
+use Rattle.sch_frames.proofs.Following.{onto, on_ending_follows}
 use Rattle.sch_frames.proofs.Operating.{AtomsHave, operate_follows}
 use Rattle.sch_frames.proofs.Skip.{past, past_label}
 
@@ -87,8 +87,8 @@ module _ (place : ℕ → Place) (at : Apart place) where
         → set places (place (suc x)) c (place (suc y)) ≡ Is u
     by y u true i h =
         subst (λ z. cond (nat_eq (suc z) (suc x)) (Some v) (environment (suc z)) ≡ Some u → set places (place (suc x)) c (place (suc z)) ≡ Is u)
-            (sym (eqb-true y x i))
-            (λ h. set_self places (place (suc x)) c ∙ (e ∙ some_is u (sym (ap (λ t. cond t (Some v) (environment (suc x))) (eq-eqb (suc x) (suc x) refl)) ∙ h))) h
+        (sym (eqb-true y x i))
+        (λ h. set_self places (place (suc x)) c ∙ (e ∙ some_is u (sym (ap (λ t. cond t (Some v) (environment (suc x))) (eq-eqb (suc x) (suc x) refl)) ∙ h))) h
     by y u false i h =
         set_other places (place (suc x)) (place (suc y)) c (at.apart (suc y) (suc x) (λ j. eqb-false y x i (omega (arith, j))))
         ∙ r.variables y u (sym (ap (λ t. cond t (Some v) (environment (suc y))) (ne_eqb (suc y) (suc x) (λ j. eqb-false y x i (omega (arith, j))))) ∙ h)
@@ -176,25 +176,25 @@ module _ (place : ℕ → Place) (at : Apart place) where
         let parts = and_parts _ _ s in
         same a parts.0 u.1.0 n None _ tt environment saved f w _ r
         (λ v environment saved f w r e. same b parts.1 u.1.1 (n + labels a) test rest (below_up test n (n + labels a) (omega arith) below)
-            (put environment x v) saved (with_place f (place x) f.accumulator) w next (bound r x v u.0 f.accumulator e) h)
+        (put environment x v) saved (with_place f (place x) f.accumulator) w next (bound r x v u.0 f.accumulator e) h)
     same (sequence a b) s u n test rest below environment saved f w next r h =
         let parts = and_parts _ _ s in
         same a parts.0 u.0 n None _ tt environment saved f w _ r
         (λ v environment saved f w r e. same b parts.1 u.1 (n + labels a) test rest (below_up test n (n + labels a) (omega arith) below)
-            environment saved f w next r h)
+        environment saved f w next r h)
     same (branch a b c) s u n test rest below environment saved f w next r h =
         let parts = and_parts _ _ s in
         let arms_parts = and_parts _ _ parts.1 in
         same a parts.0 u.0 (suc (suc n)) (Some n) _ (omega arith) environment saved f w _ r
         (λ v environment saved f w r e. arms (is_true v) _ _ _ _
-            (λ t. same b arms_parts.0 u.1.0 (suc (suc (n + labels a))) test _ (below_up test n _ (omega arith) below) environment saved f w next r
-                (λ v environment saved f w r e. onto (next v environment saved w) _ _
-                    (joined c n (suc (suc (n + labels a + labels b))) test rest v f w (omega arith) below) (h v environment saved f w r e)))
-            (λ t. onto (does c environment saved w next) _ _
-                (past callee' depth place b (suc (suc (n + labels a))) test _ n f w (omega arith)
-                ∙ ap (λ z. run (lay place c (suc (suc (n + labels a + labels b))) test (Label (suc n) ∷ rest)) (cond z None (Some n)) f w) (eq-eqb n n refl))
-                (same c arms_parts.1 u.1.1 (suc (suc (n + labels a + labels b))) test _ (below_up test n _ (omega arith) below) environment saved f w next r
-                    (λ v environment saved f w r e. onto (next v environment saved w) _ _ (ended n test rest v f w below) (h v environment saved f w r e)))))
+        (λ t. same b arms_parts.0 u.1.0 (suc (suc (n + labels a))) test _ (below_up test n _ (omega arith) below) environment saved f w next r
+        (λ v environment saved f w r e. onto (next v environment saved w) _ _
+        (joined c n (suc (suc (n + labels a + labels b))) test rest v f w (omega arith) below) (h v environment saved f w r e)))
+        (λ t. onto (does c environment saved w next) _ _
+        (past callee' depth place b (suc (suc (n + labels a))) test _ n f w (omega arith)
+        ∙ ap (λ z. run (lay place c (suc (suc (n + labels a + labels b))) test (Label (suc n) ∷ rest)) (cond z None (Some n)) f w) (eq-eqb n n refl))
+        (same c arms_parts.1 u.1.1 (suc (suc (n + labels a + labels b))) test _ (below_up test n _ (omega arith) below) environment saved f w next r
+        (λ v environment saved f w r e. onto (next v environment saved w) _ _ (ended n test rest v f w below) (h v environment saved f w r e)))))
     same (return e) s u n test rest below environment saved f w next r h =
         same e s u n None _ tt environment saved f w _ r (λ v environment saved f w r i. same_return environment rest f w v r i)
     same (end e) s u n test rest below environment saved f w next r h =

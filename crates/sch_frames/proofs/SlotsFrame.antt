@@ -1,6 +1,6 @@
 -- The layout with a slot for each variable is a valid frame body of its body.
-use Rattle.std.proofs.Common.{◌≡◌, ℕ, zero, suc, ◌+◌, ◌-◌, ◌*◌, ◌<◌, ◌≤◌, List, [], ◌∷◌, length, Option, Some, None, Bool, true, false, ◌&&◌, refl, sym, ap, ◌∙◌, subst, arith}
-use Rattle.std.specs.Prelude.{nat_lt, not}
+use Rattle.std.proofs.Common.{◌≡◌, ℕ, zero, suc, ◌+◌, ◌*◌, ◌≤◌, List, [], ◌∷◌, length, Option, Some, None, true, refl, ap, ◌∙◌, arith}
+use Rattle.std.specs.Prelude.{nat_lt}
 use Rattle.std.specs.List.{list_all}
 use Rattle.std.proofs.lemmas.Bool.{and_parts, and_from, le-leb, leb-true, lt-ltb}
 use Rattle.sch_word.specs.declared.place.Place.{Place}
@@ -11,19 +11,19 @@ use Rattle.sch_control.specs.Meaning.{nothing, falls_off}
 use Rattle.sch_control.specs.Run as control_run
 use Rattle.sch_control.specs.Tree as control
 use Rattle.sch_control.specs.Tree.{Expression, perform, bind, sequence, branch, fix, call, tail_call, return, end, save}
-use Rattle.sch_control.specs.Valid.{first_bound, in_scope_whole, numbered, shaped_whole, entry_shaped, without_repeats, Names, code_known}
+use Rattle.sch_control.specs.Valid.{first_bound, in_scope_whole, numbered, shaped_whole, entry_shaped, without_repeats}
 use Rattle.sch_frames.specs.declared.instruction.Instruction.{Instruction}
 use Rattle.sch_frames.specs.declared.instruction.Instruction.TheVariants.{Jump, Label}
 use Rattle.sch_frames.specs.Does.{FrameOf}
 use Rattle.sch_frames.specs.Tree.{Code}
-use Rattle.sch_frames.specs.Valid.{is_place, placed, forward, shaped, handed_over, formals_of, labels_in, jumps_ahead, instruction_placed, instruction_shaped, instruction_known}
+use Rattle.sch_frames.specs.Valid.{is_place, placed, forward, shaped, formals_of, labels_in, jumps_ahead, instruction_placed, instruction_shaped, instruction_known}
 use Rattle.sch_frames.specs.Layout.{straight, leave, labels, lay, own_slot, arrivals, entering, arrival_slots, slots_layout}
 use Rattle.sch_frames.specs.Sizes.{nodes}
 use Rattle.sch_frames.proofs.Entering.{own_apart, enters, entering_placed, entering_passes}
 use Rattle.sch_frames.proofs.Labels.{Right, right, lay_below}
 use Rattle.sch_frames.proofs.Laid.{lay_passes, placed_steers, uses_placed, shaped_steers, parts_shaped, known_steers, parts_named}
-use Rattle.sch_frames.proofs.Operating.{AtomHas, AtomsHave}
-use Rattle.sch_frames.proofs.Same.{Uses, Behind, same}
+use Rattle.sch_frames.proofs.Operating.{AtomsHave}
+use Rattle.sch_frames.proofs.Same.{Uses, same}
 use Rattle.sch_frames.proofs.Used.{Within, Numbered, numbered_is, code_uses}
 
 -- what has a property has a weaker one
@@ -83,8 +83,8 @@ module _ (c : control.Code) (s : straight c.expression ≡ true) (scoped : in_sc
       (and_from _ _ (le-leb (formals_of c.entry) (6 + (arrival_slots c.entry + c.variables)) (omega (arith, six)))
       (entering_placed c.entry (arrival_slots c.entry + c.variables) _ (omega (arith, first_two))
       (lay_passes (own_slot (arrival_slots c.entry)) (instruction_placed (arrival_slots c.entry + c.variables)) (placed_steers _) c.expression
-          (uses_placed (own_slot (arrival_slots c.entry)) (arrival_slots c.entry + c.variables) (Within c.variables) (λ x w. own_placed (arrival_slots c.entry) c.variables x w) c.expression s uses)
-          0 None [] refl)))
+      (uses_placed (own_slot (arrival_slots c.entry)) (arrival_slots c.entry + c.variables) (Within c.variables) (λ x w. own_placed (arrival_slots c.entry) c.variables x w) c.expression s uses)
+      0 None [] refl)))
 
   pub slots_does : FrameOf c (slots_of c)
   slots_does = record {
@@ -92,7 +92,7 @@ module _ (c : control.Code) (s : straight c.expression ≡ true) (scoped : in_sc
     does = λ callee callee' follow depth self arguments l w.
         enters c.entry self arguments l callee' depth _ w _
         (λ f a. same (own_slot (arrival_slots c.entry)) (own_apart (arrival_slots c.entry)) callee callee' depth c.expression s (weaker (λ x h. h.0) c.expression uses) 0 None [] tt
-            (control_run.beginning c.entry self arguments) nothing f w falls_off a (λ v environment saved f w r e. tt));
+        (control_run.beginning c.entry self arguments) nothing f w falls_off a (λ v environment saved f w r e. tt));
     names = λ names h.
         entering_passes (instruction_known names) (λ to from. refl) c.entry (arrival_slots c.entry) _
         (lay_passes (own_slot (arrival_slots c.entry)) (instruction_known names) (known_steers names) c.expression (parts_named (own_slot (arrival_slots c.entry)) names c.expression s h) 0 None [] refl);

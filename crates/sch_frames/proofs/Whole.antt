@@ -1,14 +1,14 @@
 -- A program whose bodies are followed by frame bodies is followed by the frame program.
-use Rattle.std.proofs.Common.{◌≡◌, ℕ, zero, suc, ◌+◌, ◌≤◌, List, [], ◌∷◌, length, Option, Some, None, Bool, true, false, ◌&&◌, refl, sym, ap, ◌∙◌, subst, arith}
-use Rattle.std.specs.Prelude.{slice_get, nat_le}
+use Rattle.std.proofs.Common.{◌≡◌, ℕ, zero, suc, ◌+◌, List, [], ◌∷◌, length, Option, Some, None, true, refl, sym, ap, ◌∙◌, subst, arith}
+use Rattle.std.specs.Prelude.{slice_get}
 use Rattle.std.specs.List.{list_all}
-use Rattle.std.proofs.lemmas.Bool.{and_parts, and_from, leb-true, le-leb}
+use Rattle.std.proofs.lemmas.Bool.{and_parts, and_from}
 use Rattle.sch_word.specs.declared.answer.Answer.{Answer}
 use Rattle.sch_word.specs.Values.{Value, unspecified}
 use Rattle.sch_word.specs.Store.{Store}
-use Rattle.sch_word.specs.Computation.{Outcome, gives, stops, spent, State, in_store, with_rest, take_entry}
+use Rattle.sch_word.specs.Computation.{Outcome, gives, stops, spent, in_store, with_rest, take_entry}
 use Rattle.sch_word.specs.Charges.{fit}
-use Rattle.sch_word.specs.Runs.{Statics, statics_valid, statics_in_range}
+use Rattle.sch_word.specs.Runs.{Statics}
 use Rattle.sch_word.proofs.SameStore.{Gives, fit_length}
 use Rattle.sch_control.specs.declared.body.Entry.{Entry}
 use Rattle.sch_control.specs.declared.mark.MarkKind.{MarkKind}
@@ -19,11 +19,11 @@ use Rattle.sch_control.specs.Run as control_run
 use Rattle.sch_control.specs.Run.{Bodies, enter, enter_body, do_forms, entry_at, known_entry, outcome_of, seen_of, starting_world}
 use Rattle.sch_control.specs.Tree as control
 use Rattle.sch_control.specs.Valid as valid
-use Rattle.sch_frames.specs.Does.{Follows, CalleesFollow, FrameOf, FramesOf, SameRuns}
+use Rattle.sch_frames.specs.Does.{Follows, CalleesFollow, FramesOf, SameRuns}
 use Rattle.sch_frames.specs.Run as run
 use Rattle.sch_frames.specs.Tree.{Code, Source}
 use Rattle.sch_frames.specs.Valid.{formals_of, names_of, instruction_known, all_known, library_known}
-use Rattle.sch_frames.proofs.Following.{onto, follows_same, on_outcome_follows, on_return_follows}
+use Rattle.sch_frames.proofs.Following.{on_outcome_follows, on_return_follows}
 
 -- ## Bodies by their labels
 
@@ -79,17 +79,17 @@ module _ (cs : List control.Code) (fs : List Code) (frames : FramesOf cs fs) whe
     forms_follow (None ∷ entries) label same w =
         on_return_follows _ _ _ _
         (body_follows callee callee' follow depth unspecified [] (marked (Enter label) w) cs fs frames label
-            (sym (ap formals_of (ap known_entry (ap (slice_get (valid.entries_of cs)) (zero_more label) ∙ sym (same 0))))))
+        (sym (ap formals_of (ap known_entry (ap (slice_get (valid.entries_of cs)) (zero_more label) ∙ sym (same 0))))))
         (λ v w. forms_follow entries (suc label) (λ k. same (suc k) ∙ ap (slice_get (valid.entries_of cs)) (omega arith)) w) where
-      zero_more : (label : ℕ) → label ≡ label + 0
-      zero_more label = omega arith
+          zero_more : (label : ℕ) → label ≡ label + 0
+          zero_more label = omega arith
 
   outcome_follows : (depth entries : ℕ) (w : World)
       → Follows (outcome_of (valid.entries_of cs) (control_run.bodies_of cs) depth entries w) (outcome_of (run.entries_of fs) (run.bodies_of fs) depth entries w)
   outcome_follows depth entries w =
       subst (λ es. Follows (outcome_of (valid.entries_of cs) (control_run.bodies_of cs) depth entries w) (outcome_of es (run.bodies_of fs) depth entries w)) (sym (same_entries cs fs frames))
       (forms_follow (enter (entry_at (valid.entries_of cs)) (control_run.bodies_of cs) entries) (enter (entry_at (valid.entries_of cs)) (run.bodies_of fs) entries) (callees_follow entries) depth
-          (valid.entries_of cs) 0 (λ k. ap (slice_get (valid.entries_of cs)) (omega arith)) w)
+      (valid.entries_of cs) 0 (λ k. ap (slice_get (valid.entries_of cs)) (omega arith)) w)
 
 -- ## Programs
 

@@ -1,5 +1,5 @@
 -- A body whose code of entry and expression are written one after the other is laid out whole.
-use Rattle.std.proofs.Common.{◌≡◌, ℕ, List, [], ◌∷◌, ◌++◌, None, refl, sym, ap, ◌∙◌, subst, append-nil}
+use Rattle.std.proofs.Common.{◌≡◌, ℕ, List, [], ◌++◌, None, refl, sym, ◌∙◌, append-nil}
 use Rattle.sch_control.specs.Tree.{Code}
 use Rattle.sch_frames.specs.declared.instruction.Instruction.{Instruction}
 use Rattle.sch_frames.specs.Layout.{lay, own_slot, entering, arrival_slots, slots_layout}

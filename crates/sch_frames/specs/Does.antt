@@ -4,7 +4,7 @@ use Rattle.std.specs.List.{list_all}
 use Rattle.sch_word.specs.declared.answer.Answer.{Answer}
 use Rattle.sch_word.specs.Values.{Value}
 use Rattle.sch_control.specs.Operations.{Procedure}
-use Rattle.sch_control.specs.Meaning.{World, Result, Callee}
+use Rattle.sch_control.specs.Meaning.{World, Callee}
 use Rattle.sch_control.specs.Tree as control
 use Rattle.sch_control.specs.Valid.{Names, code_known}
 use Rattle.sch_control.specs.Run as control_run

@@ -136,8 +136,8 @@ module _ (callee : Callee) (depth : ℕ) where
   execute (Fix members) next f w =
       on_outcome w.marks (in_store (charge_each (member_bytes members)) w.state)
       (λ _ w. let inner = with_members f members (procedures_from (length w.state.procedures) (length members)) in
-          with_value (with_procedures w.state (members_made (held inner) w.state members))
-          (λ s. next None inner (record { state = s; marks = w.marks })))
+      with_value (with_procedures w.state (members_made (held inner) w.state members))
+      (λ s. next None inner (record { state = s; marks = w.marks })))
   execute (Call spread count) next f w =
       with_value (parts f.places f.outgoing count)
       (λ vs. on_return (call_in callee spread false depth vs w) (λ v w. next None (after_call f v) w))

@@ -66,7 +66,11 @@ fn operand_at(alloc: Global, base: u32, o: &Operand<u32>) -> Result<Operand<Plac
     }
 }
 
-fn operands_at(alloc: Global, base: u32, operands: &[Operand<u32>]) -> Result<List<Operand<Place>>, Mem>
+fn operands_at(
+    alloc: Global,
+    base: u32,
+    operands: &[Operand<u32>],
+) -> Result<List<Operand<Place>>, Mem>
     ensures { IfOk result (λ made. made ≡ operands_at (own_slot base) operands.now) }
 {
     let mut made = List::new(alloc);
@@ -314,7 +318,10 @@ pub(crate) fn enter(base: u32, entry: Option<Entry>, out: &mut Writer) -> Result
     match entry {
         None => Ok(()),
         Some(e) => {
-            put(out, Instruction::Copy(own_slot(base, 1)?, Place::Reg(CLOSURE)))?;
+            put(
+                out,
+                Instruction::Copy(own_slot(base, 1)?, Place::Reg(CLOSURE)),
+            )?;
             arrive(base, e.formals, out)?;
             Ok(())
         }

@@ -3,7 +3,6 @@ use Rattle.std.proofs.Common.{◌≡◌, ℕ, zero, suc, ◌+◌, ◌-◌, ◌<�
 use Rattle.std.proofs.lemmas.List.{get_or-reverse, reverse-append}
 use Rattle.sch_lang.specs.declared.tree.Exp.{Exp}
 use Rattle.sch_lang.specs.declared.tree.Lambda.{Lambda}
-use Rattle.sch_lang.specs.Tree as source
 use Rattle.sch_lang.specs.Tree.{Expressions, Lambdas, Source, expressions, lambdas, count, count_lambdas}
 use Rattle.sch_lang.specs.View.{expression, expressions_of, lambdas_of, function}
 use Rattle.sch_lang.proofs.Rows.{expressions_of_list, lambdas_of_list}
@@ -13,10 +12,10 @@ use Rattle.sch_cells.specs.SourceView.{source_of}
 use Rattle.sch_cells.specs.declared.tree.Exp as to
 use Rattle.sch_cells.specs.declared.tree.Lambda as to_lambda
 use Rattle.sch_cells.specs.Tree as cells
-use Rattle.sch_cells.specs.Tree.{Tree, Trees, no_trees, and_tree, trees, no_lambdas, and_lambda}
+use Rattle.sch_cells.specs.Tree.{Trees, no_trees, and_tree, trees, no_lambdas, and_lambda}
 use Rattle.sch_cells.specs.View.{tree, trees_of, function as cells_function, lambdas_of as cells_lambdas_of}
 use Rattle.sch_cells.proofs.Rows.{trees_of_list, lambdas_of_list as cells_lambdas_of_list}
-use Rattle.sch_rename.specs.Made.{number_at, binds, binds_each, binds_lambdas, renamed, renamed_each, renamed_lambdas, renamed_source}
+use Rattle.sch_rename.specs.Made.{number_at, binds, binds_each, binds_lambdas, renamed, renamed_each, renamed_function, renamed_lambdas, renamed_source}
 use Rattle.sch_lang.specs.InScope.{EachInScope, LambdasInScope}
 use Rattle.sch_word.specs.Bindings.{scope_with}
 use Rattle.sch_word.specs.Walk.{onto}
@@ -92,18 +91,17 @@ module _ (s : List ℕ) (items : List Exp) (i : ℕ) (all : List to.Exp) (e : Ex
   pub each_inside : (m : ℕ) → EachInScope (left (drop i items)) m → EachInScope (left (drop (i + 1) items)) m
   each_inside m k = rw add-one (next_left items i (λ es. EachInScope (left es) m) e l is k).1
 
--- a lambda node before other lambdas
-abbrev onto_lambda : Tree → cells.Lambdas → cells.Lambdas
-onto_lambda (cells.lambda name first formals rest e) ls = and_lambda name first formals rest e ls
-onto_lambda _ ls = ls
+-- a lambda before other lambdas
+abbrev onto_function : cells.Function → cells.Lambdas → cells.Lambdas
+onto_function f ls = and_lambda f.name f.first f.formals f.rest f.body ls
 
 module _ (s : List ℕ) (items : List Lambda) (i : ℕ) (all : List to_lambda.Lambda) (e : Lambda) (q : to_lambda.Lambda) (x y total : ℕ) (whole : cells.Lambdas) (l : i < length items) (is : e ≡ get_or items i e) where
-  pub lambdas_made : cells.lambda q.name q.first q.formals q.rest (tree q.body) ≡ renamed (source.lambda e.name e.formals e.rest (expression e.body)) s x → y ≡ x + (e.formals + binds (expression e.body)) →
+  pub lambdas_made : cells_function q ≡ renamed_function (function e) s x → y ≡ x + (e.formals + binds (expression e.body)) →
       onto and_then_lambda all (renamed_lambdas (left_lambdas (drop i items)) s x) ≡ whole → onto and_then_lambda (all ++ q ∷ []) (renamed_lambdas (left_lambdas (drop (i + 1) items)) s y) ≡ whole
   lambdas_made h g k =
       let g' : y ≡ x + e.formals + binds (expression e.body) = omega (arith, g) in
       next_made items i and_then_lambda (λ es n. renamed_lambdas (left_lambdas es) s n) all e q x y whole l is
-      (rw g' (ap (λ t. onto_lambda t (renamed_lambdas (left_lambdas (drop (suc i) items)) s (x + e.formals + binds (expression e.body)))) (sym h))) k
+      (rw g' (ap (λ t. onto_function t (renamed_lambdas (left_lambdas (drop (suc i) items)) s (x + e.formals + binds (expression e.body)))) (sym h))) k
 
   pub lambdas_next : y ≡ x + (e.formals + binds (expression e.body)) → x + binds_lambdas (left_lambdas (drop i items)) ≡ total → y + binds_lambdas (left_lambdas (drop (i + 1) items)) ≡ total
   lambdas_next g k = rw g (next_count items i (λ es. binds_lambdas (left_lambdas es)) e x (e.formals + binds (expression e.body)) total l is refl k)

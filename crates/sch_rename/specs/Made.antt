@@ -1,6 +1,6 @@
 -- What the pass makes of a core tree: the same tree, in which each variable has a number of its own.
 use Rattle.std.specs.Prelude.{ℕ, zero, suc, ◌+◌, false, List, [], ◌∷◌}
-use Rattle.sch_lang.specs.Tree.{Expression, Expressions, Lambdas, Source, constant, literal, local, global, set_local, set_global, define, branch, sequence, bind, fix, letrec, lambda, call, operation, no_expressions, and_expression, no_lambdas, and_lambda, count, count_lambdas}
+use Rattle.sch_lang.specs.Tree.{Expression, Expressions, Lambdas, Function, Source, constant, literal, local, global, set_local, set_global, define, branch, sequence, bind, fix, letrec, lambda, call, operation, no_expressions, and_expression, no_lambdas, and_lambda, count, count_lambdas}
 use Rattle.sch_cells.specs.Tree as to
 use Rattle.sch_word.specs.Bindings.{scope_with}
 
@@ -68,6 +68,16 @@ abbrev mutual
   renamed_lambdas no_lambdas s x = to.no_lambdas
   renamed_lambdas (and_lambda name formals rest e ls) s x =
       to.and_lambda name x formals rest (renamed e (scope_with x formals s) (x + formals)) (renamed_lambdas ls s (x + formals + binds e))
+
+-- a lambda as plain data
+abbrev pub renamed_function : Function → (scope : List ℕ) → (x : ℕ) → to.Function
+renamed_function f s x = record {
+  name = f.name;
+  first = x;
+  formals = f.formals;
+  rest = f.rest;
+  body = renamed f.body (scope_with x f.formals s) (x + f.formals);
+}
 
 -- a whole program
 abbrev pub renamed_source : Source → to.Source

@@ -3,11 +3,10 @@
 ghost use Rattle.std.specs.Prelude.{◌≡◌, ◌+◌, ◌<◌, ◌^◌, length, reverse, take, IfOk, OnOk};
 ghost use Rattle.sch_word.specs.Bindings.{scope_with};
 ghost use Rattle.sch_lang.specs.Tree as source;
-ghost use Rattle.sch_lang.specs.View.{expression, expressions_of, lambdas_of};
-ghost use Rattle.sch_cells.specs.Tree as plain;
+ghost use Rattle.sch_lang.specs.View.{expression, expressions_of, function, lambdas_of};
 ghost use Rattle.sch_cells.specs.View as view;
 ghost use Rattle.sch_lang.specs.InScope.{InScope, EachInScope, LambdasInScope};
-ghost use Rattle.sch_rename.specs.Made.{number_at, binds, binds_each, binds_lambdas, renamed, renamed_each, renamed_lambdas};
+ghost use Rattle.sch_rename.specs.Made.{number_at, binds, binds_each, binds_lambdas, renamed, renamed_each, renamed_function, renamed_lambdas};
 
 use sch_cells as cells;
 use sch_lang::{Exp, Lambda};
@@ -203,6 +202,7 @@ pub(crate) fn rename_each(
     Ok(all)
 }
 
+/// The procedure; its formals have the first of the new numbers.
 #[cycle(renaming)]
 fn rename_lambda(
     alloc: Global,
@@ -212,7 +212,7 @@ fn rename_lambda(
 ) -> Result<cells::Lambda, Mem>
     requires inside { InScope (expression l.now.body) (length scope.old.items + l.now.formals) }
     requires few { next.old + (l.now.formals + binds (expression l.now.body)) < 2 ^ 32 }
-    ensures made { IfOk result (λ q. plain.lambda q.name q.first q.formals q.rest (view.tree q.body) ≡ renamed (source.lambda l.now.name l.now.formals l.now.rest (expression l.now.body)) (reverse scope.old.items) next.old) }
+    ensures made { IfOk result (λ q. view.function q ≡ renamed_function (function l.now) (reverse scope.old.items) next.old) }
     ensures next { OnOk result (next.new ≡ next.old + (l.now.formals + binds (expression l.now.body))) }
     ensures scope { OnOk result (scope.new.items ≡ scope.old.items) }
 {

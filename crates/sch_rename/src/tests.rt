@@ -45,14 +45,16 @@ fn set_local(alloc: Global, k: u32, value: Exp) -> Result<Exp, Mem>
 }
 
 fn bind(alloc: Global, site: u32, init: Exp, body: Exp) -> Result<Exp, Mem>
-    ensures { IfOk result (λ e. expression e ≡ tree.bind site (tree.and_expression (expression init) tree.no_expressions) (expression body)) }
+    ensures { IfOk result (λ e.
+        expression e ≡ tree.bind site (tree.and_expression (expression init) tree.no_expressions) (expression body)) }
 {
     let inits = one(alloc, init)?;
     Ok(Exp::Let(site, inits, Box::new(alloc, body)?))
 }
 
 fn letrec(alloc: Global, site: u32, init: Exp, body: Exp) -> Result<Exp, Mem>
-    ensures { IfOk result (λ e. expression e ≡ tree.letrec site (tree.and_expression (expression init) tree.no_expressions) (expression body)) }
+    ensures { IfOk result (λ e.
+        expression e ≡ tree.letrec site (tree.and_expression (expression init) tree.no_expressions) (expression body)) }
 {
     let inits = one(alloc, init)?;
     Ok(Exp::Rec(site, inits, Box::new(alloc, body)?))
@@ -73,7 +75,8 @@ fn lambda(alloc: Global, formals: u32, rest: bool, body: Exp) -> Result<Exp, Mem
 
 // A group of one procedure without formals, and the body.
 fn fix(alloc: Global, procedure: Exp, body: Exp) -> Result<Exp, Mem>
-    ensures { IfOk result (λ e. expression e ≡ tree.fix (tree.and_lambda [] 0 false (expression procedure) tree.no_lambdas) (expression body)) }
+    ensures { IfOk result (λ e.
+        expression e ≡ tree.fix (tree.and_lambda [] 0 false (expression procedure) tree.no_lambdas) (expression body)) }
 {
     let lambdas = one_lambda(alloc, procedure)?;
     Ok(Exp::Fix(lambdas, Box::new(alloc, body)?))

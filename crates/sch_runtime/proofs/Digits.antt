@@ -66,8 +66,8 @@ module _ (setting : Setting) where
     pub digits : PieceAt y.bytes (y.registers RSI) piece
     pub end : y.registers RSI + length piece ≡ digits_end
     pub low : 0x10000018 + room ≤ y.registers RSI
-    pub seven : y.registers RDI ≡ z.registers RDI
-    pub eleven : y.registers R11 ≡ z.registers R11
+    pub rdi_is : y.registers RDI ≡ z.registers RDI
+    pub r11_is : y.registers R11 ≡ z.registers R11
     pub registers : (r : ℕ) → is_other r ≡ true → y.registers r ≡ z.registers r
     pub size : length y.bytes ≡ length z.bytes
     pub words : (b : ℕ) → 0x10000000 ≤ b → b + 8 ≤ 0x10000018 → word_in y.bytes b ≡ word_in z.bytes b
@@ -91,8 +91,8 @@ module _ (setting : Setting) where
         digits = subst (λ n. PieceAt y.bytes n (v ∷ piece)) (sym e) (subst (λ l. PieceAt l a (v ∷ piece)) (sym f) at);
         end = omega (arith, e, end, low);
         low = omega (arith, e, low);
-        seven = g ∙ b.seven;
-        eleven = h ∙ b.eleven;
+        rdi_is = g ∙ b.rdi_is;
+        r11_is = h ∙ b.r11_is;
         registers = λ r o. i r o ∙ b.registers r o;
         size = ap length f ∙ size_with_byte x.bytes a v base inside ∙ size;
         words = λ c l u. ap (λ l. word_in l c) f ∙ word_beside_byte x.bytes a v c base inside l (inl (omega (arith, u, low))) ∙ b.words c l u;
@@ -170,7 +170,7 @@ module _ (setting : Setting) where
         most = 7;
         leads = leads_on setting.marks d.leads (branches setting d.y NE digit_label sign_code [] false h (d.test ∙ ap (λ t. Some (not t)) e));
         few = omega arith;
-        begun = record { digits = b.digits; end = b.end; low = (let l = b.low in omega (arith, l)); seven = b.seven; eleven = b.eleven; registers = b.registers; size = b.size; words = b.words; others = b.others; output_is = b.output_is; answers_are = b.answers_are };
+        begun = record { digits = b.digits; end = b.end; low = (let l = b.low in omega (arith, l)); rdi_is = b.rdi_is; r11_is = b.r11_is; registers = b.registers; size = b.size; words = b.words; others = b.others; output_is = b.output_is; answers_are = b.answers_are };
         ahead = h.4;
       }
   closes z x piece more room j d false e next =
@@ -206,4 +206,4 @@ module _ (setting : Setting) where
         (λ e. subst (Printed z (record (d.y) { place = place_of digit_label }) more) bound
         (subst (λ n. Printed z (record (d.y) { place = place_of digit_label }) (digits_onto (suc f) 10 false n (digit_glyph false (x.registers RAX % 10) ∷ piece)) (7 + 7 * j)) rest
         (prints j f z (record (d.y) { place = place_of digit_label }) (digit_glyph false (x.registers RAX % 10) ∷ piece) (omega (arith, le)) refl (omega (arith, rest, lt)) (omega (arith, rest, small)) d.ten long
-        (let b = d.begun in record { digits = b.digits; end = b.end; low = b.low; seven = b.seven; eleven = b.eleven; registers = b.registers; size = b.size; words = b.words; others = b.others; output_is = b.output_is; answers_are = b.answers_are }))))
+        (let b = d.begun in record { digits = b.digits; end = b.end; low = b.low; rdi_is = b.rdi_is; r11_is = b.r11_is; registers = b.registers; size = b.size; words = b.words; others = b.others; output_is = b.output_is; answers_are = b.answers_are }))))

@@ -82,8 +82,8 @@ module _ (setting : Setting) where
     digits = record { rest = drop (x.registers RSI - 0x10000000) x.bytes; is = refl; low = omega (arith, e); high = omega (arith, e, long) };
     end = omega (arith, e);
     low = omega (arith, e);
-    seven = refl;
-    eleven = refl;
+    rdi_is = refl;
+    r11_is = refl;
     registers = λ r o. refl;
     size = refl;
     words = λ b l u. refl;
@@ -111,7 +111,7 @@ module _ (setting : Setting) where
         most = 2;
         leads = leads_on setting.marks (goes setting x y1 (CmpNumber (Reg RDI) (pos 0)) h.0 [] h.1 refl) (branches setting y1 GE ready_label minus_code [] true h.2 (ge_zero (x.registers RDI) false fits e));
         few = omega arith;
-        begun = record { digits = b.digits; end = b.end; low = (let l = b.low in omega (arith, l)); seven = b.seven; eleven = b.eleven; registers = b.registers; size = b.size; words = b.words; others = b.others; output_is = b.output_is; answers_are = b.answers_are };
+        begun = record { digits = b.digits; end = b.end; low = (let l = b.low in omega (arith, l)); rdi_is = b.rdi_is; r11_is = b.r11_is; registers = b.registers; size = b.size; words = b.words; others = b.others; output_is = b.output_is; answers_are = b.answers_are };
         ahead = ready_stands;
       }
   signs ready_stands z x piece true h b long e fits =
@@ -157,7 +157,7 @@ module _ (setting : Setting) where
       sign : is_negative (z.registers RDI) ≡ negative
       fits : z.registers RDI < 2 ^ 64
       bytes : z.bytes ≡ kept_bytes x
-      eleven : z.registers R11 ≡ x.registers R11
+      r11_is : z.registers R11 ≡ x.registers R11
       registers : (r : ℕ) → is_other r ≡ true → z.registers r ≡ x.registers r
       output_is : z.output ≡ x.output
       answers_are : z.answers ≡ x.answers
@@ -212,7 +212,7 @@ module _ (setting : Setting) where
           sign = e;
           fits = s.fits;
           bytes = refl;
-          eleven = refl;
+          r11_is = refl;
           registers = λ r o. let q = other_of r o in rw (q.0, q.4) refl;
           output_is = refl;
           answers_are = refl;
@@ -232,7 +232,7 @@ module _ (setting : Setting) where
               sign = e;
               fits = s.fits;
               bytes = refl;
-              eleven = refl;
+              r11_is = refl;
               registers = λ r o. let q = other_of r o in rw (q.0, q.4) refl;
               output_is = refl;
               answers_are = refl;
@@ -256,7 +256,7 @@ module _ (setting : Setting) where
         let p0 : Leads setting (o.least + 1 + 1 + r.least) (o.most + 1 + 1 + r.most) [] x r.y = leads_then setting.marks (leads_on setting.marks (leads_on setting.marks o.leads
         (goes setting z w1 (MovNumber (Reg RSI) (pos digits_end)) h.0 [] h.1 refl)) (goes setting w1 w2 (MovNumber (Reg RCX) (pos 10)) h.2.0 [] h.2.1 refl)) r.leads in
         let b0 = r.begun in
-        let g = signs ready_stands w2 r.y (digits_onto 64 10 false (z.registers RAX) []) s.negative r.ahead b0 long (ap is_negative b0.seven ∙ o.sign) (let e = b0.seven in omega (arith, e, o.fits)) in
+        let g = signs ready_stands w2 r.y (digits_onto 64 10 false (z.registers RAX) []) s.negative r.ahead b0 long (ap is_negative b0.rdi_is ∙ o.sign) (let e = b0.rdi_is in omega (arith, e, o.fits)) in
         let b = g.begun in
         let end = b.end in
         let low = b.low in
@@ -271,9 +271,9 @@ module _ (setting : Setting) where
         let few : o.most + 1 + 1 + r.most + g.most + 1 + 1 + 1 ≤ 150 = (let a = o.few in let c = r.few in let d = g.few in omega (arith, a, c, d)) in
         let k : Kept setting x u3 = record {
           at = refl;
-          back = b.eleven ∙ o.eleven;
-          six = λ u. b.words kept_rsi (omega arith) (omega arith) ∙ ap (λ l. word_in l kept_rsi) o.bytes ∙ kept.six u;
-          seven = λ u. b.words kept_rdi (omega arith) (omega arith) ∙ ap (λ l. word_in l kept_rdi) o.bytes ∙ kept.seven u;
+          back = b.r11_is ∙ o.r11_is;
+          rsi_kept = λ u. b.words kept_rsi (omega arith) (omega arith) ∙ ap (λ l. word_in l kept_rsi) o.bytes ∙ kept.rsi_kept u;
+          rdi_kept = λ u. b.words kept_rdi (omega arith) (omega arith) ∙ ap (λ l. word_in l kept_rdi) o.bytes ∙ kept.rdi_kept u;
           registers = λ r e. let q = other_of r e in rw (q.2) (b.registers r e ∙ rw (q.1, q.3) (o.registers r e));
           size = b.size ∙ size;
           others = b.others ∙ ap (drop 512) o.bytes ∙ kept.behind 512 (omega arith);

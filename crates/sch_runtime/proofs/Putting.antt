@@ -43,8 +43,8 @@ abbrev pub kept_bytes : View → List ℕ
 kept_bytes x = with_word (with_word x.bytes kept_rsi (x.registers RSI)) kept_rdi (x.registers RDI)
 
 pub record Saved (x : View) : Type 0 where
-  pub six : x.registers RSI < 2 ^ 64 → word_in (kept_bytes x) kept_rsi ≡ x.registers RSI
-  pub seven : x.registers RDI < 2 ^ 64 → word_in (kept_bytes x) kept_rdi ≡ x.registers RDI
+  pub rsi_kept : x.registers RSI < 2 ^ 64 → word_in (kept_bytes x) kept_rsi ≡ x.registers RSI
+  pub rdi_kept : x.registers RDI < 2 ^ 64 → word_in (kept_bytes x) kept_rdi ≡ x.registers RDI
   pub size : length (kept_bytes x) ≡ length x.bytes
   pub inside_rsi : Inside (length x.bytes) kept_rsi
   pub inside_rdi : Inside (length (with_word x.bytes kept_rsi (x.registers RSI))) kept_rdi
@@ -57,8 +57,8 @@ saves x ready =
     let s1 = size_kept x.bytes kept_rsi (x.registers RSI) i1 in
     let i2 = own_word (length bs1) kept_rdi (omega (arith, s1, ready.own_words)) (omega arith) (omega arith) in
     record {
-      six = λ u. word_other bs1 kept_rdi (x.registers RDI) kept_rsi i2 (omega arith) (inl (omega arith)) ∙ word_same x.bytes kept_rsi (x.registers RSI) i1 u;
-      seven = λ u. word_same bs1 kept_rdi (x.registers RDI) i2 u;
+      rsi_kept = λ u. word_other bs1 kept_rdi (x.registers RDI) kept_rsi i2 (omega arith) (inl (omega arith)) ∙ word_same x.bytes kept_rsi (x.registers RSI) i1 u;
+      rdi_kept = λ u. word_same bs1 kept_rdi (x.registers RDI) i2 u;
       size = size_kept bs1 kept_rdi (x.registers RDI) i2 ∙ s1;
       inside_rsi = i1;
       inside_rdi = i2;
@@ -72,8 +72,8 @@ module _ (setting : Setting) where
   pub record Kept (x z : View) : Type 0 where
     pub at : z.place ≡ place_of write_label
     pub back : z.registers R11 ≡ x.registers R11
-    pub six : x.registers RSI < 2 ^ 64 → word_in z.bytes kept_rsi ≡ x.registers RSI
-    pub seven : x.registers RDI < 2 ^ 64 → word_in z.bytes kept_rdi ≡ x.registers RDI
+    pub rsi_kept : x.registers RSI < 2 ^ 64 → word_in z.bytes kept_rsi ≡ x.registers RSI
+    pub rdi_kept : x.registers RDI < 2 ^ 64 → word_in z.bytes kept_rdi ≡ x.registers RDI
     pub registers : (r : ℕ) → is_other r ≡ true → z.registers r ≡ x.registers r
     pub size : length z.bytes ≡ length x.bytes
     pub others : drop 512 z.bytes ≡ drop 512 x.bytes
@@ -119,11 +119,11 @@ module _ (setting : Setting) where
           registers = λ r free u.
               ⊎_elim
               (λ t. let q : r ≡ RSI = eqb-true r RSI t in
-              subst (λ n. y4.registers n ≡ x.registers n) (sym q) (rsi ∙ k.six (subst (λ n. x.registers n < 2 ^ 64) q u)))
+              subst (λ n. y4.registers n ≡ x.registers n) (sym q) (rsi ∙ k.rsi_kept (subst (λ n. x.registers n < 2 ^ 64) q u)))
               (λ t.
               ⊎_elim
               (λ v. let q : r ≡ RDI = eqb-true r RDI v in
-              subst (λ n. y4.registers n ≡ x.registers n) (sym q) (rdi ∙ k.seven (subst (λ n. x.registers n < 2 ^ 64) q u)))
+              subst (λ n. y4.registers n ≡ x.registers n) (sym q) (rdi ∙ k.rdi_kept (subst (λ n. x.registers n < 2 ^ 64) q u)))
               (λ v. let other = others_of r free t v in let o = other_of r other in rw (o.3, o.4, o.5) (d.kept r other ∙ same r other ∙ k.registers r other))
               (cases_Bool (r == RDI)))
               (cases_Bool (r == RSI));
@@ -170,8 +170,8 @@ module _ (setting : Setting) where
         let k : Kept x y3 = record {
           at = sym h2.2.1;
           back = refl;
-          six = s.six;
-          seven = s.seven;
+          rsi_kept = s.rsi_kept;
+          rdi_kept = s.rdi_kept;
           registers = λ r e. let o = other_of r e in rw (o.3) refl;
           size = s.size;
           others = s.behind 512 (omega arith);

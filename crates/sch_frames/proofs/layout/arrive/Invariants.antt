@@ -1,4 +1,4 @@
-use Rattle.std.proofs.Common.{◌≡◌, ◌++◌, ◌-◌, ◌≤◌, List}
+use Rattle.std.proofs.Common.{◌≡◌, ◌++◌, ◌-◌, List}
 use Rattle.sch_frames.specs.declared.instruction.Instruction.{Instruction}
 use Rattle.sch_frames.specs.Layout.{arrivals}
 use Rattle.sch_frames.proofs.layout.arrive.Given as goal

@@ -1,4 +1,3 @@
-use Rattle.std.proofs.Common.{◌∙◌}
 use Rattle.sch_control.specs.SourceView as control
 use Rattle.sch_frames.proofs.Written.{whole_written}
 use Rattle.sch_frames.proofs.slots.laid_out.Goals as goal
