@@ -1,5 +1,5 @@
 -- Programs that are not valid, one for each reason.
-use Rattle.std.proofs.Common.{◌≡◌, refl, ℕ, zero, suc, true, false, List, [], ◌∷◌, Some, None}
+use Rattle.std.proofs.Common.{◌≡◌, refl, ℕ, zero, suc, true, false, [], ◌∷◌, Some, None}
 use Rattle.std.specs.Prelude.{replicate}
 use Rattle.sch_word.specs.declared.constant.Const.TheVariants.{Character}
 use Rattle.sch_word.specs.declared.primitive.Primitive.TheVariants.{Car}

@@ -182,13 +182,15 @@ module _ (reading : Reading) where
         evaluate a inside environment saved w (λ v environment saved w. evaluate b inside environment saved w next)
     evaluate (branch a b c) inside environment saved w next =
         evaluate a inside environment saved w
-        (λ v environment saved w. either (is_true v) (evaluate b inside environment saved w next) (evaluate c inside environment saved w next))
+        (λ v environment saved w. either (is_true v)
+        (evaluate b inside environment saved w next) (evaluate c inside environment saved w next))
     evaluate (fix members e) inside environment saved w next =
         on_outcome w.marks (in_store (charge_each (member_bytes members)) w.state)
         (λ _ w. let vs = procedures_from (length w.state.procedures) (length members) in
         let inner = put_each environment members vs in
         with_value (with_procedures w.state (members_made inner w.state members))
-        (λ s. evaluate e inside inner (put_inside inside saved members vs) (note_members inside members (record { state = s; marks = w.marks })) next))
+        (λ s. evaluate e inside inner (put_inside inside saved members vs)
+        (note_members inside members (record { state = s; marks = w.marks })) next))
     evaluate (call a restores) inside environment saved w next =
         with_value (part_values environment w.state.store a)
         (λ vs. on_return (call_in callee a.spread false depth vs (marked (Call a.site) (marked_each (reading.moves a.site) w)))
@@ -203,7 +205,8 @@ module _ (reading : Reading) where
     evaluate (end e) inside environment saved w next =
         evaluate e inside environment saved w (λ v environment saved w. Some (gives unspecified w))
     evaluate (save saves e) inside environment saved w next =
-        evaluate e (with_region saves inside) environment (save_each (heads e saves) environment saved) (note_each Save (heads e saves) w) next
+        evaluate e (with_region saves inside) environment (save_each (heads e saves) environment saved)
+        (note_each Save (heads e saves) w) next
 
 -- ## Bodies
 

@@ -60,7 +60,9 @@ field _ k procedures = None
 
 -- a new procedure with these fields, for its charge
 abbrev pub close : ℕ → List Value → Computation Procedure Value
-close label fields = after (in_store (charge (procedure_bytes (length fields)))) (λ _. new_procedure (record { label = label; fields = fields }))
+close label fields =
+    after (in_store (charge (procedure_bytes (length fields))))
+    (λ _. new_procedure (record { label = label; fields = fields }))
 
 -- ## Cells
 
@@ -119,14 +121,16 @@ module _ {V : Type 0} (at : V → Option Value) where
 
   abbrev pub operate : Operation V → State Procedure → Ending
   operate (operation.Operand o) s = with_some (operand_value s.store o) (λ v. Some (gives v s))
-  operate (operation.Prim site which operands) s = with_some (operand_values s.store operands) (λ vs. Some (in_store (primitive which vs) s))
+  operate (operation.Prim site which operands) s =
+      with_some (operand_values s.store operands) (λ vs. Some (in_store (primitive which vs) s))
   operate (operation.Global g) s = Some (in_store (read_global g) s)
   operate (operation.SetGlobal g o) s = with_some (operand_value s.store o) (λ v. Some (in_store (write_global g v) s))
   operate (operation.Field v k) s = with_some (field (at v) k s.procedures) (λ u. Some (gives u s))
   operate (operation.NewCell o) s = with_some (operand_value s.store o) (λ v. Some (new_cell (Some v) s))
   operate operation.UnsetCell s = Some (new_cell None s)
   operate (operation.CellGet c) s = with_cell (source_value s c) s.cells (λ n held. Some (contents held s))
-  operate (operation.CellSet c o) s = with_cell (source_value s c) s.cells (λ n held. with_some (operand_value s.store o) (λ v. Some (set_cell n v s)))
+  operate (operation.CellSet c o) s =
+      with_cell (source_value s c) s.cells (λ n held. with_some (operand_value s.store o) (λ v. Some (set_cell n v s)))
   operate (operation.MakeClosure c) s = with_some (source_values s c.fields) (λ vs. Some (close c.label vs s))
 
   -- ## Groups
@@ -135,7 +139,8 @@ module _ {V : Type 0} (at : V → Option Value) where
   abbrev pub members_made : State Procedure → List (Member V) → Option (List Procedure)
   members_made s [] = Some []
   members_made s (m ∷ members) =
-      and_value (with_some (source_values s m.closure.fields) (λ vs. Some (record { label = m.closure.label; fields = vs }))) (members_made s members)
+      and_value (with_some (source_values s m.closure.fields) (λ vs. Some (record { label = m.closure.label; fields = vs })))
+      (members_made s members)
 
 -- what the procedures of a group are charged, in the order of the text
 abbrev pub member_bytes : {V : Type 0} → List (Member V) → List ℕ

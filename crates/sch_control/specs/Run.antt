@@ -39,7 +39,8 @@ abbrev pub do_forms : (entries : List (Option Entry)) → (label : ℕ) → Bodi
 do_forms [] label bodies callee depth w = Some (gives unspecified w)
 do_forms (Some e ∷ entries) label bodies callee depth w = do_forms entries (suc label) bodies callee depth w
 do_forms (None ∷ entries) label bodies callee depth w =
-    on_return (bodies label callee depth unspecified [] (marked (Enter label) w)) (λ v w. do_forms entries (suc label) bodies callee depth w)
+    on_return (bodies label callee depth unspecified [] (marked (Enter label) w))
+    (λ v w. do_forms entries (suc label) bodies callee depth w)
 
 abbrev pub known_entry : Option (Option Entry) → Option Entry
 known_entry None = None
@@ -89,4 +90,5 @@ seen_of answers entries (Some o) = Some (seen_in (λ w. w.state.store) answers e
 -- entries; none where the program is wrong
 abbrev pub run : Source → (heap depth : ℕ) → List Answer → (entries : ℕ) → Option Run
 run p heap depth answers entries =
-    seen_of answers entries (outcome_of (entries_of p.bodies) (bodies_of p.bodies) depth entries (starting_world p.statics p.library heap answers entries))
+    seen_of answers entries
+    (outcome_of (entries_of p.bodies) (bodies_of p.bodies) depth entries (starting_world p.statics p.library heap answers entries))

@@ -54,7 +54,8 @@ in_scope (perform o) scope = in_scope_atoms scope (operation_atoms o)
 in_scope (bind x a b) scope = in_scope a scope && in_scope b (with_variable x scope)
 in_scope (sequence a b) scope = in_scope a scope && in_scope b scope
 in_scope (branch a b c) scope = in_scope a scope && (in_scope b scope && in_scope c scope)
-in_scope (fix members e) scope = in_scope_atoms (with_members members scope) (member_atoms members) && in_scope e (with_members members scope)
+in_scope (fix members e) scope =
+    in_scope_atoms (with_members members scope) (member_atoms members) && in_scope e (with_members members scope)
 in_scope (call a restores) scope = in_scope_atoms scope (application_atoms a)
 in_scope (tail_call a) scope = in_scope_atoms scope (application_atoms a)
 in_scope (return e) scope = in_scope e scope

@@ -8,8 +8,9 @@ use sch_word::{List, Statics};
 /// A valid program of the language Control.
 ///
 /// `library` has the labels of the library's procedures, in the order of their numbers, and the label of a
-/// body is its number in `bodies`, where the top-level forms stand in their order. `sites` has the number of parts of each site, with the operator for a call, and
-/// `bound` the numbers of the parts that the program binds, in the order in which it binds them.
+/// body is its number in `bodies`, where the top-level forms stand in their order. `sites` has the number of
+/// parts of each site, with the operator for a call, and `bound` the numbers of the parts that the program
+/// binds, in the order in which it binds them.
 #[derive(Drop)]
 pub struct ControlProgram {
     pub statics: Statics,

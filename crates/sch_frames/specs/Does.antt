@@ -28,7 +28,8 @@ CalleesFollow callee callee' =
 -- names.
 pub record FrameOf (c : control.Code) (f : Code) : Type 0 where
   pub entry : f.entry ≡ c.entry
-  pub does : (callee callee' : Callee) → CalleesFollow callee callee' → (depth : ℕ) (self : Value) (arguments : List Value) → length arguments ≡ formals_of c.entry
+  pub does : (callee callee' : Callee) → CalleesFollow callee callee'
+      → (depth : ℕ) (self : Value) (arguments : List Value) → length arguments ≡ formals_of c.entry
       → (w : World) → Follows (control_run.do_code c callee depth self arguments w) (do_code f callee' depth self arguments w)
   pub names : (names : Names) → IsTrue (code_known names c) → IsTrue (list_all (instruction_known names) f.instructions)
 
@@ -40,4 +41,6 @@ FramesOf _ _ = ⊥
 
 -- a frame program has the runs of a program, where that is not wrong
 abbrev pub SameRuns : control.Source → Source → Type 0
-SameRuns p q = (heap depth : ℕ) (answers : List Answer) (entries : ℕ) → Follows (control_run.run p heap depth answers entries) (run q heap depth answers entries)
+SameRuns p q =
+    (heap depth : ℕ) (answers : List Answer) (entries : ℕ)
+    → Follows (control_run.run p heap depth answers entries) (run q heap depth answers entries)

@@ -1,6 +1,6 @@
 -- The layout of a body: its tree in order, as instructions. What follows is an argument, so nothing is
 -- appended, and each variable has a place.
-use Rattle.std.specs.Prelude.{ℕ, zero, suc, ◌+◌, ◌-◌, Bool, true, false, ◌&&◌, List, [], ◌∷◌, Option, Some, None, map}
+use Rattle.std.specs.Prelude.{◌≡◌, ℕ, zero, suc, ◌+◌, ◌-◌, Bool, true, false, ◌&&◌, List, [], ◌∷◌, ◌++◌, Option, Some, None, map}
 use Rattle.sch_word.specs.declared.place.Place.{Place}
 use Rattle.sch_word.specs.declared.place.Place.TheVariants.{Reg, Slot}
 use Rattle.sch_control.specs.declared.body.Entry.{Entry}
@@ -47,6 +47,10 @@ labels (branch a b c) = suc (suc (labels a + (labels b + labels c)))
 labels (return e) = labels e
 labels (end e) = labels e
 labels _ = zero
+
+-- what writing adds to instructions: code in front of whatever follows
+abbrev pub Writes : (old new : List Instruction) → (code : List Instruction → List Instruction) → Type 0
+Writes old new code = (rest : List Instruction) → new ++ rest ≡ old ++ code rest
 
 -- ## Places for variables
 

@@ -27,4 +27,5 @@ entries_of (c ∷ cs) = c.entry ∷ entries_of cs
 -- entries; none where the program is wrong
 abbrev pub run : Source → (heap depth : ℕ) → List Answer → (entries : ℕ) → Option Run
 run p heap depth answers entries =
-    seen_of answers entries (outcome_of (entries_of p.bodies) (bodies_of p.bodies) depth entries (starting_world p.statics p.library heap answers entries))
+    seen_of answers entries
+    (outcome_of (entries_of p.bodies) (bodies_of p.bodies) depth entries (starting_world p.statics p.library heap answers entries))

@@ -7,7 +7,7 @@ ghost use Rattle.sch_control.specs.declared.mark.MarkKind.TheVariants as mark;
 ghost use Rattle.sch_frames.specs.declared.instruction.Instruction.{Instruction};
 ghost use Rattle.sch_frames.specs.declared.instruction.Instruction.TheVariants.{Do, Store, Return, End, Jump, Label, Mark};
 ghost use Rattle.sch_frames.specs.Valid.{formals_of};
-ghost use Rattle.sch_frames.specs.Layout.{atom_at, atoms_at, operand_at, operands_at, source_at, sources_at, closure_at, operation_at, own_slot, leave, labels, lay, arrival, arrivals, entering, arrival_slots};
+ghost use Rattle.sch_frames.specs.Layout.{atom_at, atoms_at, operand_at, operands_at, source_at, sources_at, closure_at, operation_at, own_slot, leave, labels, lay, arrival, arrivals, entering, arrival_slots, Writes};
 
 use crate::instruction::Instruction;
 use sch_control::{Atom, Closure, Entry, Exp, MarkKind, Operand, Operation, Source};
@@ -166,7 +166,7 @@ fn put(out: &mut Writer, i: Instruction) -> Result<(), Mem>
 
 /// A value is left in the accumulator, or tested, and goes on behind the label where it is `#f`.
 fn leave(out: &mut Writer, test: Option<u32>) -> Result<(), Mem>
-    ensures instructions { OnOk result ((rest : List Instruction) → out.new.instructions ++ rest ≡ out.old.instructions ++ leave test rest) }
+    ensures instructions { OnOk result (Writes out.old.instructions out.new.instructions (leave test)) }
     ensures labels { out.new.labels ≡ out.old.labels }
 {
     match test {
@@ -185,7 +185,8 @@ fn write_operation(
     test: Option<u32>,
     out: &mut Writer,
 ) -> Result<(), Mem>
-    ensures instructions { OnOk result ((rest : List Instruction) → out.new.instructions ++ rest ≡ out.old.instructions ++ Do (operation_at (own_slot base) o.now) ∷ leave test rest) }
+    ensures instructions { OnOk result (Writes out.old.instructions out.new.instructions
+        (λ rest. Do (operation_at (own_slot base) o.now) ∷ leave test rest)) }
     ensures labels { OnOk result (out.new.labels ≡ out.old.labels) }
 {
     put(out, Instruction::Do(operation_at(alloc, base, o)?))?;
@@ -194,7 +195,7 @@ fn write_operation(
 }
 
 fn write_store(base: u32, x: u32, out: &mut Writer) -> Result<(), Mem>
-    ensures instructions { OnOk result ((rest : List Instruction) → out.new.instructions ++ rest ≡ out.old.instructions ++ Store (own_slot base x) ∷ rest) }
+    ensures instructions { OnOk result (Writes out.old.instructions out.new.instructions (λ rest. Store (own_slot base x) ∷ rest)) }
     ensures labels { OnOk result (out.new.labels ≡ out.old.labels) }
 {
     put(out, Instruction::Store(own_slot(base, x)?))?;
@@ -202,7 +203,7 @@ fn write_store(base: u32, x: u32, out: &mut Writer) -> Result<(), Mem>
 }
 
 fn write_else(no: u32, end: u32, out: &mut Writer) -> Result<(), Mem>
-    ensures instructions { OnOk result ((rest : List Instruction) → out.new.instructions ++ rest ≡ out.old.instructions ++ Jump end ∷ (Label no ∷ rest)) }
+    ensures instructions { OnOk result (Writes out.old.instructions out.new.instructions (λ rest. Jump end ∷ (Label no ∷ rest))) }
     ensures labels { OnOk result (out.new.labels ≡ out.old.labels) }
 {
     put(out, Instruction::Jump(end))?;
@@ -211,7 +212,7 @@ fn write_else(no: u32, end: u32, out: &mut Writer) -> Result<(), Mem>
 }
 
 fn write_label(label: u32, out: &mut Writer) -> Result<(), Mem>
-    ensures instructions { OnOk result ((rest : List Instruction) → out.new.instructions ++ rest ≡ out.old.instructions ++ Label label ∷ rest) }
+    ensures instructions { OnOk result (Writes out.old.instructions out.new.instructions (λ rest. Label label ∷ rest)) }
     ensures labels { OnOk result (out.new.labels ≡ out.old.labels) }
 {
     put(out, Instruction::Label(label))?;
@@ -219,7 +220,7 @@ fn write_label(label: u32, out: &mut Writer) -> Result<(), Mem>
 }
 
 fn write_return(out: &mut Writer) -> Result<(), Mem>
-    ensures instructions { OnOk result ((rest : List Instruction) → out.new.instructions ++ rest ≡ out.old.instructions ++ Mark mark.Return ∷ (Return ∷ rest)) }
+    ensures instructions { OnOk result (Writes out.old.instructions out.new.instructions (λ rest. Mark mark.Return ∷ (Return ∷ rest))) }
     ensures labels { OnOk result (out.new.labels ≡ out.old.labels) }
 {
     put(out, Instruction::Mark(MarkKind::Return))?;
@@ -228,7 +229,7 @@ fn write_return(out: &mut Writer) -> Result<(), Mem>
 }
 
 fn write_end(out: &mut Writer) -> Result<(), Mem>
-    ensures instructions { OnOk result ((rest : List Instruction) → out.new.instructions ++ rest ≡ out.old.instructions ++ End ∷ rest) }
+    ensures instructions { OnOk result (Writes out.old.instructions out.new.instructions (λ rest. End ∷ rest)) }
     ensures labels { OnOk result (out.new.labels ≡ out.old.labels) }
 {
     put(out, Instruction::End)?;
@@ -244,7 +245,8 @@ pub(crate) fn lay(
     test: Option<u32>,
     out: &mut Writer,
 ) -> Result<(), Mem>
-    ensures instructions { OnOk result ((rest : List Instruction) → out.new.instructions ++ rest ≡ out.old.instructions ++ lay (own_slot base) (expression e.now) out.old.labels test rest) }
+    ensures instructions { OnOk result (Writes out.old.instructions out.new.instructions
+        (lay (own_slot base) (expression e.now) out.old.labels test)) }
     ensures labels { OnOk result (out.new.labels ≡ out.old.labels + labels (expression e.now)) }
 {
     match e {
@@ -300,7 +302,7 @@ fn arrival(k: u32) -> Place
 /// Each formal is stored in its slot.
 fn arrive(base: u32, formals: u32, out: &mut Writer) -> Result<(), Mem>
     requires { formals ≤ 200 }
-    ensures instructions { OnOk result ((rest : List Instruction) → out.new.instructions ++ rest ≡ out.old.instructions ++ arrivals base 0 formals rest) }
+    ensures instructions { OnOk result (Writes out.old.instructions out.new.instructions (arrivals base 0 formals)) }
     ensures labels { OnOk result (out.new.labels ≡ out.old.labels) }
 {
     for k in 0..formals {
@@ -312,7 +314,7 @@ fn arrive(base: u32, formals: u32, out: &mut Writer) -> Result<(), Mem>
 /// A procedure stores its closure and its arguments in their slots.
 pub(crate) fn enter(base: u32, entry: Option<Entry>, out: &mut Writer) -> Result<(), Mem>
     requires { formals_of entry ≤ 200 }
-    ensures instructions { OnOk result ((rest : List Instruction) → out.new.instructions ++ rest ≡ out.old.instructions ++ entering base entry rest) }
+    ensures instructions { OnOk result (Writes out.old.instructions out.new.instructions (entering base entry)) }
     ensures labels { OnOk result (out.new.labels ≡ out.old.labels) }
 {
     match entry {
