@@ -1,0 +1,56 @@
+//! Frame bodies and frame programs.
+
+ghost use Rattle.std.specs.Prelude.{◌≡◌, true, IfOk};
+ghost use Rattle.sch_control.specs.View.{expression};
+ghost use Rattle.sch_frames.specs.Layout.{straight};
+
+use sch_control::{Atom, Body, ControlProgram, Exp, Operand, Operation};
+use sch_frames::{FrameProgram, frame_slots};
+use sch_word::{Const, List, Mem, Prim, Statics};
+use std::alloc::Global;
+use std::test::Fail;
+
+// The form `(display #\a)`.
+fn shown(alloc: Global) -> Result<Body, Mem>
+    ensures straight { IfOk result (λ b. straight (expression b.exp) ≡ true) }
+    ensures variables { IfOk result (λ b. b.variables ≡ 2) }
+{
+    let mut operands = List::new(alloc);
+    operands.push(Operand::Atom(Atom::Constant(Const::Character(97))))?;
+    let exp = Exp::End(Box::new(alloc, Exp::Do(Operation::Prim(0, Prim::Put, operands)))?);
+    Ok(Body {
+        name: List::new(alloc),
+        entry: None,
+        variables: 2,
+        exp,
+    })
+}
+
+#[test]
+fn lays_out_a_form(rt: HostRuntime) -> Result<(), Fail> {
+    let alloc = rt.alloc();
+    let b = shown(alloc)?;
+    let f = frame_slots(alloc, &b)?;
+    let words = f.words;
+    assert!(rt; words >= 2);
+    Ok(())
+}
+
+#[test]
+fn makes_a_program(rt: HostRuntime) -> Result<(), Fail> {
+    let alloc = rt.alloc();
+    let p = ControlProgram {
+        statics: Statics {
+            symbols: List::new(alloc),
+            literals: List::new(alloc),
+            globals: List::new(alloc),
+        },
+        library: List::new(alloc),
+        bodies: List::new(alloc),
+        sites: List::new(alloc),
+        bound: List::new(alloc),
+    };
+    let q = FrameProgram::new(alloc, &p, List::new(alloc))?;
+    assert!(rt; q.bodies.is_empty());
+    Ok(())
+}
