@@ -15,6 +15,7 @@ pub mod NumberSets
 pub mod Orders
 pub mod PrimitiveRows
 pub mod Primitives
+pub mod ProgramLayout
 pub mod Put
 pub mod Runs
 pub mod Shape
