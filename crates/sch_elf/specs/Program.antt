@@ -1,20 +1,20 @@
 -- How the image of a compiled program lies in memory.
 use Rattle.std.specs.Prelude.{◌≡◌, ℕ, List, [], ◌∷◌, true, false}
+use Rattle.sch_word.specs.ProgramLayout as layout
 use Rattle.sch_elf.specs.declared.image.Segment.{Segment}
 use Rattle.sch_elf.specs.declared.image.Image.{Image}
 
--- where the text lies, and is entered
+-- where the text lies, and is entered; where the data lie; and the most bytes of a text
 abbrev pub text_address : ℕ
-text_address = 0x400000
+text_address = layout.text_address
 
--- where the data lie
 abbrev pub data_address : ℕ
-data_address = 0x10000000
+data_address = layout.data_address
 
--- the most bytes of a text, and of data with the zeros after them: together those of an image
 abbrev pub max_text_size : ℕ
-max_text_size = 0x1000000
+max_text_size = layout.max_text_size
 
+-- the most bytes of data with the zeros after them: together with a text those of an image
 abbrev pub max_data_size : ℕ
 max_data_size = 0xBF000000
 

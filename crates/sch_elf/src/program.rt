@@ -4,14 +4,8 @@ ghost use Rattle.std.specs.Prelude.{◌≡◌, ◌≤◌, ◌+◌, [], ◌∷◌
 ghost use Rattle.sch_elf.specs.Program.{data_address, data_segment, max_data_size, max_text_size, text_address, text_segment, IsProgramImage};
 
 use crate::image::{Image, Segment};
-use sch_word::{Bytes, List, Mem};
+use sch_word::{Bytes, DATA_ADDRESS, List, Mem, TEXT_ADDRESS};
 use std::alloc::Global;
-
-/// Where the text of a compiled program lies, and is entered.
-pub const TEXT_ADDRESS: u64 = 0x40_0000;
-
-/// Where its data lie.
-pub const DATA_ADDRESS: u64 = 0x1000_0000;
 
 /// The text of a compiled program, which can be read and executed.
 fn text_segment(text: Bytes) -> Segment
