@@ -2,6 +2,7 @@
 use Rattle.std.specs.Prelude.{◌≡◌, ℕ, ◌+◌, ◌^◌, ◌<◌, List, [], ◌∷◌, length, ℤ}
 use Rattle.std.specs.Int.{w64, to_le_bytes}
 use Rattle.std.specs.List.{flat_map}
+use Rattle.sch_word.specs.ProgramLayout.{text_address, max_text_size}
 use Rattle.sch_insn.specs.declared.insn.Arg.TheVariants.{Rip}
 use Rattle.sch_insn.specs.declared.insn.Insn.{Insn}
 use Rattle.sch_insn.specs.declared.insn.Insn.TheVariants as insn
@@ -38,11 +39,11 @@ module _ (place_of : ℕ → ℕ) where
   abbrev pub bytes_of : Word → List ℕ
   bytes_of w = to_le_bytes w64 (value_of w)
 
--- Items and words with an address for each label, from 400000 hexadecimal on. Every address lies below 2^31.
+-- Items and words with an address for each label, from the address of the text on. Every address lies below 2^31.
 pub record AreResolved (items : List Item) (data_words : List Word) (code : List Insn) (marks : List mark.Mark) (words : List ℕ) : Type 0 where
   pub place_of : ℕ → ℕ
   pub small : (l : ℕ) → place_of l < 2 ^ 31
-  pub codes : Codes place_of 0x400000 items code marks
+  pub codes : Codes place_of text_address items code marks
   pub bytes : words ≡ flat_map (bytes_of place_of) data_words
 
 -- ---- how long a text is: jumps have their long forms
@@ -65,5 +66,5 @@ text_size (i ∷ is) = item_size i + text_size is
 
 -- The error of a text that has this number of bytes: it is too large, or there was no memory.
 abbrev pub IsTooLarge : ℕ → AsmError → Type 0
-IsTooLarge size (TextTooLarge bytes) = (bytes ≡ size) × (16777216 < bytes)
+IsTooLarge size (TextTooLarge bytes) = (bytes ≡ size) × (max_text_size < bytes)
 IsTooLarge size Memory = Unit {0}

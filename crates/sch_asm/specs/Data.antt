@@ -1,31 +1,32 @@
--- The data of a program, from 10000000 hexadecimal on.
+-- The data of a program, from their address on.
 use Rattle.std.specs.Prelude.{◌≡◌, ℕ, ◌+◌, ◌-◌, ◌^◌, ◌<◌, ◌≤◌, List, ◌++◌, length, drop, true, false, ℤ, pos, ◌+ℤ◌, ◌*ℤ◌, ◌⊎◌}
 use Rattle.std.specs.Int.{w64, to_le_bytes, from_le_bytes}
 use Rattle.sch_word.specs.Fixnum.{IsFixnum}
 use Rattle.sch_word.specs.Memory.{Segment}
+use Rattle.sch_word.specs.ProgramLayout.{data_address}
 use Rattle.sch_insn.specs.Machine.{put_bytes}
 
 abbrev pub data_at : List ℕ → Segment
-data_at bytes = record { address = 0x10000000; readable = true; writable = true; executable = false; bytes = bytes }
+data_at bytes = record { address = data_address; readable = true; writable = true; executable = false; bytes = bytes }
 
 -- The word at an address, and the data with another word there.
 abbrev pub word_in : List ℕ → ℕ → ℕ
-word_in bytes a = from_le_bytes w64 (drop (a - 0x10000000) bytes)
+word_in bytes a = from_le_bytes w64 (drop (a - data_address) bytes)
 
 abbrev pub with_word : List ℕ → ℕ → ℕ → List ℕ
-with_word bytes a v = put_bytes bytes (a - 0x10000000) (to_le_bytes w64 v)
+with_word bytes a v = put_bytes bytes (a - data_address) (to_le_bytes w64 v)
 
 -- The eight bytes of a word lie in data of a size.
 pub record Inside (size a : ℕ) : Type 0 where
-  pub low : 0x10000000 ≤ a
-  pub high : a + 8 ≤ 0x10000000 + size
+  pub low : data_address ≤ a
+  pub high : a + 8 ≤ data_address + size
 
 -- The bytes of a piece lie at an address.
 pub record PieceAt (bytes : List ℕ) (a : ℕ) (piece : List ℕ) : Type 0 where
   pub rest : List ℕ
-  pub is : drop (a - 0x10000000) bytes ≡ piece ++ rest
-  pub low : 0x10000000 ≤ a
-  pub high : a + length piece ≤ 0x10000000 + length bytes
+  pub is : drop (a - data_address) bytes ≡ piece ++ rest
+  pub low : data_address ≤ a
+  pub high : a + length piece ≤ data_address + length bytes
 
 -- A number shifted by three, in 64 bits.
 abbrev pub IsShifted : ℤ → ℕ → Type 0

@@ -2,6 +2,7 @@
 use Rattle.std.specs.Prelude.{◌≡◌, ℕ, ◌+◌, ◌*◌, ◌^◌, ◌<◌, ◌≤◌, List, [], ◌++◌, length, drop, Bool, true, false, ◌||◌, ◌==◌, ℤ}
 use Rattle.std.specs.Fmt.{signed_decimal}
 use Rattle.sch_word.specs.declared.answer.Answer.{Answer}
+use Rattle.sch_word.specs.ProgramLayout.{data_address}
 use Rattle.sch_word.specs.Put.{put}
 use Rattle.sch_word.specs.Stops.{status_of}
 use Rattle.sch_insn.specs.declared.register.TheConstants.{RAX, RCX, RDX, R11}
@@ -18,11 +19,15 @@ use Rattle.sch_asm.specs.Views.{View, full, Leads}
 abbrev pub is_scratch : ℕ → Bool
 is_scratch r = (r == RAX) || ((r == RCX) || ((r == RDX) || (r == R11)))
 
--- What a routine needs of a machine: the data have the routines' 64 words and end below 2^63, and r11 has
+-- the bytes of the routines' own 64 words, with which the data begin
+abbrev pub own_size : ℕ
+own_size = 512
+
+-- What a routine needs of a machine: the data have the routines' own words and end below 2^63, and r11 has
 -- the address to which the routine returns.
 pub record IsReady (x : View) : Type 0 where
-  pub own_words : 512 ≤ length x.bytes
-  pub within : 0x10000000 + length x.bytes < 2 ^ 63
+  pub own_words : own_size ≤ length x.bytes
+  pub within : data_address + length x.bytes < 2 ^ 63
   pub back : x.registers R11 < 2 ^ 64
 
 module _ (setting : Setting) where
@@ -51,7 +56,7 @@ module _ (setting : Setting) where
     pub at : y.place ≡ x.registers R11
     pub registers : (r : ℕ) → is_scratch r ≡ false → x.registers r < 2 ^ 64 → y.registers r ≡ x.registers r
     pub size : length y.bytes ≡ length x.bytes
-    pub others : drop 512 y.bytes ≡ drop 512 x.bytes
+    pub others : drop own_size y.bytes ≡ drop own_size x.bytes
     pub output_is : y.output ≡ output
     pub left_is : y.answers ≡ left
 
@@ -68,7 +73,7 @@ module _ (setting : Setting) where
   abbrev pub Effect : Routine → View → Type 0
   Effect End x = Stops x 3 0 x.output x.answers
   Effect (Stop s) x = Stops x 3 (status_of s) x.output x.answers
-  Effect Put x = (piece : List ℕ) → IsReady x → 0x10000200 ≤ x.registers RAX → x.registers RDX ≡ length piece → PieceAt x.bytes (x.registers RAX) piece → Puts x 20 piece
+  Effect Put x = (piece : List ℕ) → IsReady x → data_address + own_size ≤ x.registers RAX → x.registers RDX ≡ length piece → PieceAt x.bytes (x.registers RAX) piece → Puts x 20 piece
   Effect PutFixnum x = (n : ℤ) → IsReady x → FixnumWord n (x.registers RAX) → Puts x 167 (signed_decimal n)
 
 -- Items that do what the routines do, wherever they stand in a text.

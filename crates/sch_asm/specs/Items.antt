@@ -1,5 +1,6 @@
 -- What items and words keep before they have addresses.
 use Rattle.std.specs.Prelude.{◌≡◌, ◌≢◌, ℕ, ◌<◌, ◌≤◌, nat_le, nat_lt, List, [], ◌∷◌, ◌++◌, All, AllPairs, Bool, true, false, not, ◌&&◌, ◌||◌, ◌==◌, IsTrue}
+use Rattle.sch_word.specs.ProgramLayout.{data_address}
 use Rattle.sch_insn.specs.declared.insn.Arg.{Arg}
 use Rattle.sch_insn.specs.declared.insn.Arg.TheVariants.{Rip}
 use Rattle.sch_insn.specs.declared.insn.Insn.{Insn}
@@ -59,9 +60,9 @@ IsPlain (insn.JumpTo m) = IsFree m
 IsPlain (insn.JumpIf c d) = ⊥
 IsPlain insn.Syscall = Unit {0}
 
--- The addresses of data words.
+-- The addresses of data words: from that of the data on, and eight bytes below 2^31.
 abbrev pub IsDataWord : ℕ → Type 0
-IsDataWord a = (0x10000000 ≤ a) × (a ≤ 0x7FFFFFF8)
+IsDataWord a = (data_address ≤ a) × (a ≤ 0x7FFFFFF8)
 
 abbrev pub IsItem : Item → Type 0
 IsItem (Label l) = Unit {0}

@@ -1,6 +1,7 @@
 -- Tables of a text: the number of the item at which each label stands, and the address of each item. Items
 -- are numbered from 0.
 use Rattle.std.specs.Prelude.{◌≡◌, ℕ, ◌+◌, ◌<◌, List, [], ◌∷◌, ◌++◌, length, max, slice_set, slice_index, map, Option, Some, None, ℤ, pos, ◌-ℤ◌}
+use Rattle.sch_word.specs.ProgramLayout.{text_address}
 use Rattle.sch_insn.specs.declared.insn.Arg.TheVariants.{Rip}
 use Rattle.sch_insn.specs.declared.insn.Insn.{Insn}
 use Rattle.sch_insn.specs.declared.insn.Insn.TheVariants as insn
@@ -132,6 +133,6 @@ marked_by addresses k is = marked (slice_index addresses) k is
 -- address where those before it end, and each label that is used has a place in the tables.
 pub record IsLaidOut (items : List Item) (words : List Word) (numbers addresses : List ℕ) : Type 0 where
   pub standing : StandAt numbers 0 items
-  pub ends : addresses ≡ addresses_from 0x400000 (map item_size items)
+  pub ends : addresses ≡ addresses_from text_address (map item_size items)
   pub uses : UseBelow (length numbers) items
   pub words_use : WordsBelow (length numbers) words

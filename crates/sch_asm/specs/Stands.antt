@@ -1,6 +1,7 @@
 -- That items stand in a text, whatever forms their instructions have and however long these are.
 use Rattle.std.specs.Prelude.{◌≡◌, ℕ, ◌+◌, ◌≤◌, List, [], ◌∷◌, ◌++◌, length, Some, ℤ, cond, ◌==◌}
 use Rattle.sch_word.specs.Memory.{Segment}
+use Rattle.sch_word.specs.ProgramLayout.{data_address}
 use Rattle.sch_insn.specs.declared.insn.Arg.TheVariants.{Rip}
 use Rattle.sch_insn.specs.declared.insn.Insn.{Insn}
 use Rattle.sch_insn.specs.declared.insn.Insn.TheVariants as insn
@@ -26,12 +27,12 @@ BranchesTo c (insn.JumpIf n d) next to = (c ≡ n) × (add64 next (word d) ≡ t
 BranchesTo c _ next to = ⊥
 
 -- The text of a program, the marks of each address, and the address of each label. The text ends before
--- the data begin, at 10000000 hexadecimal.
+-- the data begin.
 pub record Setting : Type 0 where
   pub text : Segment
   pub marks : ℕ → List MarkKind
   pub place_of : ℕ → ℕ
-  pub apart : text.address + length text.bytes ≤ 0x10000000
+  pub apart : text.address + length text.bytes ≤ data_address
 
 module _ (setting : Setting) where
   -- An instruction stands at an address, n bytes long, with these marks.

@@ -1,6 +1,7 @@
 -- A machine that runs a program: its state by parts, with the program's text and data for memory.
 use Rattle.std.specs.Prelude.{ℕ, List, [], ◌∷◌, true, false}
 use Rattle.sch_word.specs.Memory.{Segment}
+use Rattle.sch_word.specs.ProgramLayout.{text_address}
 use Rattle.sch_word.specs.declared.answer.Answer.{Answer}
 use Rattle.sch_insn.specs.declared.machine.Flags.{Flags}
 use Rattle.sch_insn.specs.Machine.{State}
@@ -11,7 +12,7 @@ use Rattle.sch_asm.specs.Data.{data_at}
 
 -- The segment of a text, which is entered at its first byte.
 abbrev pub text_at : List ℕ → Segment
-text_at bytes = record { address = 0x400000; readable = true; writable = false; executable = true; bytes = bytes }
+text_at bytes = record { address = text_address; readable = true; writable = false; executable = true; bytes = bytes }
 
 pub record View : Type 0 where
   pub registers : ℕ → ℕ

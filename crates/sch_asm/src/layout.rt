@@ -1,15 +1,14 @@
 //! Where items stand: label to item to address.
 
 ghost use Rattle.std.specs.Prelude.{◌≡◌, ◌+◌, ◌*◌, ◌^◌, ◌<◌, ◌≤◌, ◌++◌, EachIndex, IfOk, OnOk, length, map, replicate, slice_index};
+ghost use Rattle.sch_word.specs.ProgramLayout.{max_text_size, text_address};
 ghost use Rattle.sch_asm.specs.Items.{AreItems};
 ghost use Rattle.sch_asm.specs.Codes.{item_size};
 ghost use Rattle.sch_asm.specs.Layout.{IsSized, StandBelow, addresses_from, entered, label_bound, numbered, placed_by, raised, total};
 
 use crate::item::Item;
-use sch_word::{List, Mem};
+use sch_word::{List, Mem, TEXT_ADDRESS};
 use std::alloc::Global;
-
-const TEXT_ADDRESS: u32 = 0x40_0000;
 
 /// The number of each label's item, and the address of each item and of the end.
 #[derive(Drop)]
@@ -106,11 +105,11 @@ pub fn total_size(sizes: &[u8]) -> u64
 
 /// The address of each item by the sizes, and that behind the last one.
 pub fn addresses_of(alloc: Global, sizes: &[u8]) -> Result<List<u32>, Mem>
-    requires { total sizes.now ≤ 16777216 }
-    ensures { IfOk result (λ addresses. addresses ≡ addresses_from 0x400000 sizes.now) }
+    requires { total sizes.now ≤ max_text_size }
+    ensures { IfOk result (λ addresses. addresses ≡ addresses_from text_address sizes.now) }
 {
     let mut addresses = List::new(alloc);
-    let mut at = TEXT_ADDRESS;
+    let mut at = TEXT_ADDRESS as u32;
     for size in sizes {
         addresses.push(at)?;
         at += *size as u32;
@@ -119,7 +118,7 @@ pub fn addresses_of(alloc: Global, sizes: &[u8]) -> Result<List<u32>, Mem>
     Ok(addresses)
 }
 
-/// So many zeros.
+/// A table of `count` zeros.
 pub fn zeros(alloc: Global, count: usize) -> Result<Vec<usize>, Mem>
     ensures { IfOk result (λ numbers. numbers.items ≡ replicate count 0) }
 {

@@ -11,5 +11,5 @@ mod routine;
 pub use assembly::{Asm, Word};
 pub use error::AsmError;
 pub use item::{Item, Mark, MarkKind};
-pub use resolving::{MAX_TEXT, Resolved, resolve};
+pub use resolving::{Resolved, resolve};
 pub use routine::Routine;

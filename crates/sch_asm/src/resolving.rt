@@ -2,6 +2,7 @@
 
 ghost use Rattle.std.specs.Prelude.{◌≡◌, ◌+◌, ◌^◌, ◌<◌, ◌≤◌, ◌++◌, length, map, IfOk, IfErr, OnOk, slice_index};
 ghost use Rattle.std.specs.List.{flat_map};
+ghost use Rattle.sch_word.specs.ProgramLayout.{max_text_size};
 ghost use Rattle.sch_insn.specs.Spelling.{AllValid, IsCondition, IsValid, spelling};
 ghost use Rattle.sch_asm.specs.Items.{AreItems, AreOwn, AreRoutines, IsItem};
 ghost use Rattle.sch_asm.specs.Codes.{AreResolved, IsTooLarge, bytes_of, item_size, text_size, value_of as word_value};
@@ -14,11 +15,8 @@ use crate::layout::{
     Layout, addresses_of, item_count, labels_of, number_labels, push_sizes, total_size, zeros,
 };
 use sch_insn::{Arg, Insn};
-use sch_word::{Bytes, List, Mem};
+use sch_word::{Bytes, List, MAX_TEXT_SIZE, Mem};
 use std::alloc::Global;
-
-/// How many bytes a text has at most.
-pub const MAX_TEXT: u64 = 16_777_216;
 
 /// A text and its data with addresses: instructions, marks, the bytes of words and zeros behind them.
 #[derive(Drop)]
@@ -29,10 +27,10 @@ pub struct Resolved {
     pub zeros: u64,
 }
 
-/// Gives a text its addresses: the items of `a` from 400000 hexadecimal on and behind them those of
-/// `routines`, with the data of `a` at 10000000 hexadecimal. All jumps have their long forms.
+/// Gives a text its addresses: the items of `a` from `TEXT_ADDRESS` on and behind them those of
+/// `routines`, with the data of `a` at `DATA_ADDRESS`. All jumps have their long forms.
 ///
-/// `TextTooLarge` comes exactly where the text has more than `MAX_TEXT` bytes. Time and memory are linear
+/// `TextTooLarge` comes exactly where the text has more than `MAX_TEXT_SIZE` bytes. Time and memory are linear
 /// in the items, the words and the greatest label that stands.
 pub fn resolve(alloc: Global, a: &Asm, routines: &Asm) -> Result<Resolved, AsmError>
     requires own { AreOwn a.now.items }
@@ -41,12 +39,12 @@ pub fn resolve(alloc: Global, a: &Asm, routines: &Asm) -> Result<Resolved, AsmEr
     ensures valid { IfOk result (λ r. AllValid r.code) }
     ensures zeros { IfOk result (λ r. r.zeros ≡ a.now.zeros) }
     ensures size { IfOk result (λ r. length (flat_map spelling r.code) ≡ text_size (a.now.items ++ routines.now.items)) }
-    ensures fits { IfOk result (λ r. length (flat_map spelling r.code) ≤ MAX_TEXT) }
+    ensures fits { IfOk result (λ r. length (flat_map spelling r.code) ≤ max_text_size) }
     ensures too_large { IfErr result (IsTooLarge (text_size (a.now.items ++ routines.now.items))) }
 {
     let sizes = sizes_of(alloc, a.items.as_slice(), routines.items.as_slice())?;
     let bytes = total_size(sizes.as_slice());
-    if bytes > MAX_TEXT {
+    if bytes > MAX_TEXT_SIZE {
         return Err(AsmError::TextTooLarge(bytes));
     }
     let layout = lay_out(alloc, a, routines, sizes.as_slice())?;
@@ -88,7 +86,7 @@ fn lay_out(alloc: Global, a: &Asm, routines: &Asm, sizes: &[u8]) -> Result<Layou
     requires own { AreOwn a.now.items }
     requires routines { AreRoutines routines.now.items routines.now.words routines.now.zeros }
     requires sizes { sizes.now ≡ map item_size (a.now.items ++ routines.now.items) }
-    requires small { total sizes.now ≤ 16777216 }
+    requires small { total sizes.now ≤ max_text_size }
     ensures { IfOk result (λ layout. IsLaidOut (a.now.items ++ routines.now.items) a.now.words layout.numbers.items layout.addresses) }
 {
     let labels = labels_of(a.items.as_slice()).max(labels_of(routines.items.as_slice()));

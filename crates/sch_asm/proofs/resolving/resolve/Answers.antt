@@ -86,9 +86,9 @@ resolved is ws code marks words numbers addresses w =
 
 -- ---- the goals
 
-pub returns-then-bytes-gt-MAX_TEXT-clause-too_large : goal.returns-then-bytes-gt-MAX_TEXT-clause-too_large
-returns-then-bytes-gt-MAX_TEXT-clause-too_large c =
-    (size_is (c.args.a.now.items ++ c.args.routines.now.items) c.total_size-bytes.result c.in_ok-sizes.sizes c.as_slice-3.result.now c.total_size-bytes.ensures c.as_slice-3.ensures (sizes_are c.args.a.now.items c.args.routines.now.items c.as_slice.result.now c.as_slice-2.result.now c.in_ok-sizes.sizes c.as_slice.ensures c.as_slice-2.ensures c.in_ok-sizes.ensures.sizes), c.if-bytes-gt-MAX_TEXT.true)
+pub returns-then-bytes-gt-MAX_TEXT_SIZE-clause-too_large : goal.returns-then-bytes-gt-MAX_TEXT_SIZE-clause-too_large
+returns-then-bytes-gt-MAX_TEXT_SIZE-clause-too_large c =
+    (size_is (c.args.a.now.items ++ c.args.routines.now.items) c.total_size-bytes.result c.in_ok-sizes.sizes c.as_slice-3.result.now c.total_size-bytes.ensures c.as_slice-3.ensures (sizes_are c.args.a.now.items c.args.routines.now.items c.as_slice.result.now c.as_slice-2.result.now c.in_ok-sizes.sizes c.as_slice.ensures c.as_slice-2.ensures c.in_ok-sizes.ensures.sizes), c.if-bytes-gt-MAX_TEXT_SIZE.true)
 
 pub emit-requires-clause-uses : goal.emit-requires-clause-uses
 emit-requires-clause-uses c =
@@ -117,7 +117,7 @@ returns c =
       laid = c.in_ok-layout.ensures;
       small = c.in_ok-layout.layout.small;
       sound = sound_append c.args.a.now.items c.args.routines.now.items c.args.a.now.sound c.args.routines.now.sound;
-      fits = omega (arith, size, c.if-bytes-gt-MAX_TEXT.false);
+      fits = omega (arith, size, c.if-bytes-gt-MAX_TEXT_SIZE.false);
       code_is = both_code place at c.args.a.now.items c.args.routines.now.items c.as_slice-5.result.now c.as_slice-6.result.now c.in_ok-behind.behind c.new-code.result c.emit.new.code c.emit-2.new.code c.new-code.ensures c.as_slice-5.ensures c.as_slice-6.ensures c.in_ok-behind.ensures.end c.in_ok-behind.ensures.code c.in_ok-emit.ensures.code;
       marks_is = both_marks at c.args.a.now.items c.args.routines.now.items c.as_slice-5.result.now c.as_slice-6.result.now c.in_ok-behind.behind c.new-marks.result c.emit.new.marks c.emit-2.new.marks c.new-marks.ensures c.as_slice-5.ensures c.as_slice-6.ensures c.in_ok-behind.ensures.end c.in_ok-behind.ensures.marks c.in_ok-emit.ensures.marks;
       words_are = c.in_ok-words.ensures ∙ ap (flat_map (bytes_of place)) c.as_slice-7.ensures;
