@@ -98,6 +98,21 @@ each_row :
     × (after (Sar (Reg RAX) 12) ≡ left 0xFFFF123456789ABC 0xFFFFFFFB 3 0x8070605040302010 unknown_flags)
 each_row = (refl, refl, refl, refl, refl, refl, refl, refl, refl, refl, refl, refl, refl, refl, refl, refl, refl, refl, refl, refl, refl, refl, refl, refl, refl, refl, refl, refl, refl, refl, refl, refl, refl, refl, refl, refl)
 
+-- Both words of memory.
+abbrev words_of : Progress → Option (Result ℕ StuckCause × Result ℕ StuckCause)
+words_of (Runs s) = Some (word_at s.core.segments 0x10000000, word_at s.core.segments 0x10000008)
+words_of (Exited status s) = None
+words_of (Stuck cause s) = None
+
+abbrev words : ℕ → ℕ → Option (Result ℕ StuckCause × Result ℕ StuckCause)
+words first second = Some (Ok first, Ok second)
+
+-- A word is stored where its address says, and the bytes before it and behind it stay.
+stored_words :
+    (words_of (perform (MovTo (Base32 RBX (pos 8)) RAX) 0x400007 before) ≡ words 0x8070605040302010 0xF123456789ABCDEF)
+    × (words_of (perform (MovTo (Base32 RBX (pos 4)) RAX) 0x400007 before) ≡ words 0x89ABCDEF40302010 0x1234567F1234567)
+stored_words = (refl, refl)
+
 jumps :
     (after (Jump (pos 0x10)) ≡ goes_to 0x400017)
     × (after (Jump (negsuc 0x1F)) ≡ goes_to 0x3FFFE7)

@@ -9,6 +9,7 @@ use Rattle.sch_word.specs.declared.answer.Answer.TheVariants.{Took, Failed}
 use Rattle.sch_insn.specs.declared.insn.Insn.{Insn}
 use Rattle.sch_insn.specs.declared.insn.Insn.TheVariants.{Syscall}
 use Rattle.sch_insn.specs.declared.machine.StuckCause.{StuckCause}
+use Rattle.sch_insn.specs.declared.register.TheConstants.{RAX, RDX, RDI}
 use Rattle.sch_insn.specs.Machine.{Core, State, with_place}
 use Rattle.sch_insn.specs.Step.{Progress, Runs, Exited, Stuck, Row, Acts, Calls, row, kernel, write_row, piece_written, answered, moved, done, perform, fetch, fetched, step, go_on, standing, mach}
 use Rattle.sch_insn.specs.Behaves.{Given, start, output_of, exit_of, IsPrefix, Ending, Behaves}
@@ -48,8 +49,8 @@ cond_grows false output x y p q = q
 
 kernel_grows : (s : State) (next : ℕ) → Grows s.output (kernel s next)
 kernel_grows s next =
-    cond_grows (s.core.registers 0 == 60) s.output _ _ (record { by = prefix_same s.output })
-    (cond_grows ((s.core.registers 0 == 1) && (s.core.registers 7 == 1)) s.output _ _ (write_grows s next (s.core.registers 2)) (record { by = prefix_same s.output }))
+    cond_grows (s.core.registers RAX == 60) s.output _ _ (record { by = prefix_same s.output })
+    (cond_grows ((s.core.registers RAX == 1) && (s.core.registers RDI == 1)) s.output _ _ (write_grows s next (s.core.registers RDX)) (record { by = prefix_same s.output }))
 
 abbrev IsAct : Row → Type 0
 IsAct (Acts act) = Unit {0}

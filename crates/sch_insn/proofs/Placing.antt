@@ -7,6 +7,7 @@ use Rattle.std.proofs.Math.Seq.{drop-append_seam, take-append_seam, drop-append-
 use Rattle.sch_word.specs.Memory.{Segment}
 use Rattle.sch_insn.specs.declared.insn.Insn.{Insn}
 use Rattle.sch_insn.specs.declared.insn.Insn.TheVariants.{MovTo, MovFrom, MovNumber, MovWord, StoreByte, LoadByte, Lea, AddTo, OrTo, AndTo, SubTo, XorTo, CmpTo, AddFrom, OrFrom, AndFrom, SubFrom, XorFrom, CmpFrom, AddNumber, OrNumber, AndNumber, SubNumber, XorNumber, CmpNumber, TestTo, Imul, Neg, Idiv, Cqo, Shl, Shr, Sar, Jump, JumpTo, JumpIf, Syscall}
+use Rattle.sch_insn.specs.declared.register.TheConstants.{RDX, RSI}
 use Rattle.sch_insn.specs.Spelling.{spelling, AllValid}
 use Rattle.sch_insn.specs.Decode.{decode, when_some}
 use Rattle.sch_insn.specs.Machine.{State, holds, bytes_from}
@@ -137,11 +138,11 @@ has_bytes before after g xs front rest apart r e = record {
 }
 
 -- A write of bytes that stand at rsi, rdx many: they meet the kernel's next answer.
-pub write_answered : (s : State) (next : ℕ) (xs : List ℕ) → 0 < length xs → s.core.registers 2 ≡ length xs → HasBytes s.core.segments (s.core.registers 6) xs → write_row s next (s.core.registers 2) ≡ Runs (answered s next xs s.answers)
+pub write_answered : (s : State) (next : ℕ) (xs : List ℕ) → 0 < length xs → s.core.registers RDX ≡ length xs → HasBytes s.core.segments (s.core.registers RSI) xs → write_row s next (s.core.registers RDX) ≡ Runs (answered s next xs s.answers)
 write_answered s next [] some two has = absurd (omega arith)
 write_answered s next (x ∷ xs) some two has =
     let ys = x ∷ xs in
-    let a = s.core.registers 6 in
+    let a = s.core.registers RSI in
     let f = has.from 0 some in
     let n = length xs in
     let size : length ys - 0 ≡ suc n = omega arith in

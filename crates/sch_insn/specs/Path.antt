@@ -34,7 +34,7 @@ pub record Exits (s : State) (status : ℕ) (output : List ℕ) : Type 0 where
   pub exits : step last ≡ Exited status last
   pub output_is : last.output ≡ output
 
--- From s the machine comes to this output in more than n steps, and runs on.
+-- From s the machine makes more than n steps, and then has this output.
 pub record Lasts (s : State) (n : ℕ) (output : List ℕ) : Type 0 where
   pub way : List State
   pub last : State
