@@ -2,6 +2,7 @@
 use Rattle.std.proofs.Common.{◌≡◌, ℕ, List, [], ◌∷◌, ◌++◌, Option, Some, refl}
 use Rattle.std.specs.List.{flat_map}
 use Rattle.std.specs.Prelude.{codes, map, pos, negsuc, replicate, slice_index, ℤ}
+use Rattle.sch_word.specs.ProgramLayout.{text_address}
 use Rattle.sch_word.specs.declared.answer.Answer.{Answer}
 use Rattle.sch_word.specs.declared.answer.Answer.TheVariants.{Took, Failed}
 use Rattle.sch_word.specs.declared.stop.Stop.TheVariants.{DivideByZero}
@@ -32,12 +33,12 @@ abbrev text_of : List Item → List ℕ
 text_of items =
     let all = items ++ routine_items in
     let numbers = numbered all 0 (replicate 1030 0) in
-    let addresses = addresses_from 0x400000 (map item_size all) in
+    let addresses = addresses_from text_address (map item_size all) in
     flat_map spelling (emitted (placed_by numbers addresses) (slice_index addresses) 0 all)
 
 -- how it ends within 400 steps, where some bytes stand behind the routines' own words
 abbrev ends : List Item → List ℕ → List Answer → Option (ℕ × List ℕ)
-ends items bytes answers = exit_of (mach 400 (start 0x400000 (text_at (text_of items) ∷ data_at (replicate 512 0 ++ bytes) ∷ []) zeros answers))
+ends items bytes answers = exit_of (mach 400 (start text_address (text_at (text_of items) ∷ data_at (replicate 512 0 ++ bytes) ∷ []) zeros answers))
 
 abbrev fixnum_program : ℤ → List Item
 fixnum_program word = Plain (MovWord RAX word) ∷ LoadLabel R11 1024 ∷ Jump (label_of PutFixnum) ∷ Label 1024 ∷ Jump (label_of End) ∷ []

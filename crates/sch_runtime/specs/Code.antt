@@ -1,10 +1,11 @@
 -- The items of the run-time routines. Each returns by a jump through r11. A call of the kernel overwrites
 -- r11, so it is kept in a word of the data meanwhile.
-use Rattle.std.specs.Prelude.{ℕ, ◌%◌, List, [], ◌∷◌, ◌++◌, pos}
+use Rattle.std.specs.Prelude.{ℕ, ◌+◌, ◌%◌, List, [], ◌∷◌, ◌++◌, pos}
 use Rattle.sch_insn.specs.declared.insn.Arg.TheVariants.{Reg, Base}
 use Rattle.sch_insn.specs.declared.insn.Insn.TheVariants.{MovTo, MovNumber, StoreByte, AddTo, SubTo, AddNumber, SubNumber, CmpNumber, Neg, Idiv, Sar, JumpTo, Syscall}
 use Rattle.sch_insn.specs.declared.condition.TheConstants.{E, NE, GE, LE}
 use Rattle.sch_insn.specs.declared.register.TheConstants.{RAX, RCX, RDX, RSI, RDI, R11}
+use Rattle.sch_word.specs.ProgramLayout.{data_address}
 use Rattle.sch_word.specs.declared.stop.Stop.TheVariants.{OutputFailed}
 use Rattle.sch_asm.specs.declared.item.Item.{Item}
 use Rattle.sch_asm.specs.declared.item.Item.TheVariants.{Label, Plain, Jump, JumpIf, LoadWord, StoreWord}
@@ -60,13 +61,13 @@ exits (s ∷ ss) rest = Label (s % 64) ∷ (exit_code s ++ exits ss rest)
 
 -- Words of the data keep r11, rsi and rdi.
 abbrev pub kept_r11 : ℕ
-kept_r11 = 0x10000000
+kept_r11 = data_address
 
 abbrev pub kept_rsi : ℕ
-kept_rsi = 0x10000008
+kept_rsi = data_address + 8
 
 abbrev pub kept_rdi : ℕ
-kept_rdi = 0x10000010
+kept_rdi = data_address + 16
 
 abbrev pub done_code : List Item
 done_code = LoadWord RSI kept_rsi ∷ LoadWord RDI kept_rdi ∷ LoadWord R11 kept_r11 ∷ Plain (JumpTo (Reg R11)) ∷ []
@@ -96,7 +97,7 @@ put_code = StoreWord kept_rsi RSI ∷ StoreWord kept_rdi RDI ∷ Plain (MovTo (R
 
 -- Its digits end before this address.
 abbrev pub digits_end : ℕ
-digits_end = 0x10000040
+digits_end = data_address + 64
 
 abbrev pub ready_code : List Item
 ready_code = Plain (MovNumber (Reg RDX) (pos digits_end)) ∷ Plain (SubTo (Reg RDX) RSI) ∷ Jump write_label ∷ []

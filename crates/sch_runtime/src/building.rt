@@ -12,7 +12,7 @@ use sch_asm::{Asm, Item, Routine};
 use sch_insn::condition::{E, GE, LE, NE};
 use sch_insn::register::{R11, RAX, RCX, RDI, RDX, RSI};
 use sch_insn::{Arg, Insn};
-use sch_word::{Limits, List, Mem, Stop};
+use sch_word::{DATA_ADDRESS, Limits, List, Mem, Stop};
 use std::alloc::Global;
 
 /// The statuses with which a program ends: that of its end, and those of its stops.
@@ -32,14 +32,14 @@ const DIGIT: u32 = 68;
 const READY: u32 = 69;
 
 // The words of the data that keep registers.
-const KEPT_R11: u64 = 0x1000_0000;
+const KEPT_R11: u64 = DATA_ADDRESS;
 
-const KEPT_RSI: u64 = 0x1000_0008;
+const KEPT_RSI: u64 = DATA_ADDRESS + 8;
 
-const KEPT_RDI: u64 = 0x1000_0010;
+const KEPT_RDI: u64 = DATA_ADDRESS + 16;
 
 // Where the digits of a number end.
-const DIGITS_END: i32 = 0x1000_0040;
+const DIGITS_END: i32 = DATA_ADDRESS as i32 + 64;
 
 /// The run-time routines for these limits, as `resolve` takes them.
 pub fn routines(alloc: Global, limits: Limits) -> Result<Asm, Mem>
