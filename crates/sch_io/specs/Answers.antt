@@ -18,7 +18,7 @@ abbrev pub taken : Answer → List ℕ → List ℕ
 taken (Took k) piece = take k piece
 taken Failed piece = []
 
--- an answer that was held ready, as it is given to a piece of so many bytes
+-- an answer that was held ready, as it is given to a piece of `offered` bytes
 abbrev pub cut : Answer → ℕ → Answer
 cut (Took k) offered = Took (min k offered)
 cut Failed offered = Failed

@@ -37,7 +37,7 @@ bytes_left disk = disk.room
 abbrev pub writes_left : MemDisk → ℕ
 writes_left disk = disk.slots
 
--- a write of so many bytes does not fit
+-- a write of `size` bytes does not fit
 abbrev pub LacksRoomFor : MemDisk → ℕ → Type 0
 LacksRoomFor disk size = (bytes_left disk < size) ⊎ (writes_left disk ≡ 0)
 
@@ -59,7 +59,7 @@ faults_met outlet = outlet.faults
 abbrev pub room_left : MemOutlet → ℕ
 room_left outlet = outlet.room
 
--- how many bytes the next of these answers takes of so many that are offered
+-- how many of the bytes offered the next of these answers takes
 abbrev pub next_count : List Answer → ℕ → ℕ
 next_count [] offered = offered
 next_count (Took k ∷ rest) offered = min k offered
