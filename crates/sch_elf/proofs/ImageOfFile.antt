@@ -43,7 +43,7 @@ pub loads_more : (file : List ℕ) (i : ℕ) →
     filter is_load (first_headers file (i + 1)) ≡ filter is_load (first_headers file i) ++ filter is_load (program_header file (header_place file i) ∷ [])
 loads_more file i = let e : i + 1 ≡ suc i = omega arith in ap (λ n. filter is_load (first_headers file n)) e ∙ loads_suc file i
 
--- what is known of the PT_LOAD headers of a file of so many bytes
+-- what is known of the PT_LOAD headers of a file of `size` bytes
 pub record AreLoadable (size : ℕ) (hs : List ProgramHeader) : Type 0 where
   pub few : length hs ≤ 8
   pub apart : AllPairs DoNotOverlap hs
