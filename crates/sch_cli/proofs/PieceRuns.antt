@@ -3,7 +3,7 @@ use Rattle.std.proofs.Common.{◌≡◌, ℕ, ◌+◌, ◌*◌, ◌<◌, ◌^◌
 use Rattle.std.specs.Prelude.{pos, negsuc}
 use Rattle.std.specs.Int.{w32}
 use Rattle.std.specs.Int.RustNames.{FitsSigned}
-use Rattle.std.specs.List.{flat_map}
+use Rattle.std.specs.List.{concat, flat_map}
 use Rattle.std.proofs.lemmas.List.{append-nil}
 use Rattle.sch_word.specs.Memory.{Segment}
 use Rattle.sch_word.specs.Put.{Put, put}
@@ -13,6 +13,7 @@ use Rattle.sch_insn.specs.declared.insn.Insn.{Insn}
 use Rattle.sch_insn.specs.declared.insn.Insn.TheVariants.{MovNumber, Lea, Jump, Syscall}
 use Rattle.sch_insn.specs.declared.machine.Flags.{Flags}
 use Rattle.sch_insn.specs.Spelling.{spelling, AllValid}
+use Rattle.sch_insn.specs.declared.register.TheConstants.{RAX, RDX, RSI, RDI, R15}
 use Rattle.sch_insn.specs.Machine.{State, set_register, word, add64}
 use Rattle.sch_insn.specs.Step.{Runs}
 use Rattle.sch_insn.specs.Behaves.{Ending, Behaves, start}
@@ -21,7 +22,7 @@ use Rattle.sch_insn.specs.Stands.{HasAt, HasBytes, ApartFrom}
 use Rattle.sch_insn.proofs.Placing.{has_all, has_bytes}
 use Rattle.sch_insn.proofs.Growing.{behaves}
 use Rattle.sch_cli.specs.Pieces.{puts}
-use Rattle.sch_cli.specs.PieceCode.{write_loop, exit_code, pieces_code, program_code, joined, text_memory, data_memory, IsSmall, AreFull}
+use Rattle.sch_cli.specs.PieceCode.{write_loop, exit_code, pieces_code, program_code, text_memory, data_memory, IsSmall, AreFull}
 use Rattle.sch_elf.specs.Program.{text_address, data_address}
 use Rattle.sch_cli.proofs.Steps.{then_exits, next_exits, exits_here}
 use Rattle.sch_cli.proofs.WriteLoop.{at, Outcome, writes}
@@ -38,10 +39,10 @@ module _ (segments : List Segment) (p : ℕ) (has : HasAt segments p write_loop)
   exits : (registers : ℕ → ℕ) (flags : Flags) (q : ℕ) (output : List ℕ) (answers : List Answer) (spare : List ℕ) → HasAt segments q exit_code → Exits (at registers flags q segments output answers spare) 0 output
   exits registers flags q output answers spare h =
       let s0 = at registers flags q segments output answers spare in
-      let s1 = at (set_register registers 0 60) flags (q + 7) segments output answers spare in
-      let s2 = at (set_register (set_register registers 0 60) 7 0) flags (q + 7 + 7) segments output answers spare in
-      next_exits s0 (MovNumber (Reg 0) (pos 60)) s1 0 output h.0 refl
-      (next_exits s1 (MovNumber (Reg 7) (pos 0)) s2 0 output h.1.0 refl
+      let s1 = at (set_register registers RAX 60) flags (q + 7) segments output answers spare in
+      let s2 = at (set_register (set_register registers RAX 60) RDI 0) flags (q + 7 + 7) segments output answers spare in
+      next_exits s0 (MovNumber (Reg RAX) (pos 60)) s1 0 output h.0 refl
+      (next_exits s1 (MovNumber (Reg RDI) (pos 0)) s2 0 output h.1.0 refl
       (exits_here s2 Syscall 0 h.1.1.0 refl))
 
   -- after a whole put the rest follows, and else the program is at its end
@@ -53,20 +54,20 @@ module _ (segments : List Segment) (p : ℕ) (has : HasAt segments p write_loop)
   goes_on false s return output taken left rest o f = o
 
   pub pieces_run : (pieces : List (List ℕ)) (behind a : ℕ) (registers : ℕ → ℕ) (flags : Flags) (output : List ℕ) (answers : List Answer) (spare : List ℕ) →
-      HasAt segments (p + behind) (pieces_code behind a pieces) → StandAt segments a pieces → behind + 26 * length pieces < 2 ^ 30 → a + length (joined pieces) < 2 ^ 31 →
+      HasAt segments (p + behind) (pieces_code behind a pieces) → StandAt segments a pieces → behind + 26 * length pieces < 2 ^ 30 → a + length (concat pieces) < 2 ^ 31 →
       Exits (at registers flags (p + behind) segments output answers spare) (puts pieces answers).status (output ++ (puts pieces answers).output)
   pieces_run [] behind a registers flags output answers spare h stand few short =
       subst (Exits (at registers flags (p + behind) segments output answers spare) 0) (sym (append-nil output)) (exits registers flags (p + behind) output answers spare h)
   pieces_run (piece ∷ pieces) behind a registers flags output answers spare h stand few short =
       let n = length piece in
       let q = p + behind in
-      let len = length-append piece (joined pieces) in
+      let len = length-append piece (concat pieces) in
       let after : q + 7 + 7 + 7 + 5 ≡ p + (behind + 26) = omega arith in
       let return : add64 (q + 7 + 7 + 7) (word (pos 5)) ≡ p + (behind + 26) = omega arith in
       let loop : add64 (q + 7 + 7 + 7 + 5) (word (negsuc (behind + 25))) ≡ p = omega arith in
-      let r1 = set_register registers 6 a in
-      let r2 = set_register r1 2 n in
-      let r3 = set_register r2 15 (p + (behind + 26)) in
+      let r1 = set_register registers RSI a in
+      let r2 = set_register r1 RDX n in
+      let r3 = set_register r2 R15 (p + (behind + 26)) in
       let s0 = at registers flags q segments output answers spare in
       let s1 = at r1 flags (q + 7) segments output answers spare in
       let s2 = at r2 flags (q + 7 + 7) segments output answers spare in
@@ -82,9 +83,9 @@ module _ (segments : List Segment) (p : ℕ) (has : HasAt segments p write_loop)
       let ends = puts (piece ∷ pieces) answers in
       let status = ends.status in
       let all = output ++ ends.output in
-      next_exits s0 (MovNumber (Reg 6) (pos a)) s1 status all h.0 (ap (λ v. Runs (at (set_register registers 6 v) flags (q + 7) segments output answers spare)) word_a)
-      (next_exits s1 (MovNumber (Reg 2) (pos n)) s2 status all h.1.0 (ap (λ v. Runs (at (set_register r1 2 v) flags (q + 7 + 7) segments output answers spare)) word_n)
-      (next_exits s2 (Lea 15 (Rip (pos 5))) s3 status all h.1.1.0 (ap (λ z. Runs (at (set_register r2 15 z) flags (q + 7 + 7 + 7) segments output answers spare)) return)
+      next_exits s0 (MovNumber (Reg RSI) (pos a)) s1 status all h.0 (ap (λ v. Runs (at (set_register registers RSI v) flags (q + 7) segments output answers spare)) word_a)
+      (next_exits s1 (MovNumber (Reg RDX) (pos n)) s2 status all h.1.0 (ap (λ v. Runs (at (set_register r1 RDX v) flags (q + 7 + 7) segments output answers spare)) word_n)
+      (next_exits s2 (Lea R15 (Rip (pos 5))) s3 status all h.1.1.0 (ap (λ z. Runs (at (set_register r2 R15 z) flags (q + 7 + 7 + 7) segments output answers spare)) return)
       (next_exits s3 (Jump (negsuc (behind + 25))) s4 status all h.1.1.1.0 (ap (λ z. Runs (at r3 flags z segments output answers spare)) loop) c)))
 
 -- ---- the whole program
@@ -95,10 +96,10 @@ fits_pos n low = record { sfits = omega arith }
 fits_negsuc : (n : ℕ) → n < 2 ^ 31 → FitsSigned w32 (negsuc n)
 fits_negsuc n low = record { sfits = omega arith }
 
-pieces_valid : (pieces : List (List ℕ)) (behind a : ℕ) → behind + 26 * length pieces < 2 ^ 30 → a + length (joined pieces) < 2 ^ 31 → AllValid (pieces_code behind a pieces)
+pieces_valid : (pieces : List (List ℕ)) (behind a : ℕ) → behind + 26 * length pieces < 2 ^ 30 → a + length (concat pieces) < 2 ^ 31 → AllValid (pieces_code behind a pieces)
 pieces_valid [] behind a few short = ((lit< tt, fits_pos 60 (omega arith)), ((lit< tt, fits_pos 0 (omega arith)), (tt, tt)))
 pieces_valid (piece ∷ pieces) behind a few short =
-    let len = length-append piece (joined pieces) in (
+    let len = length-append piece (concat pieces) in (
       (lit< tt, fits_pos a (omega arith)),
       (
         (lit< tt, fits_pos (length piece) (omega arith)),
@@ -151,15 +152,15 @@ pub length-pieces_code : (pieces : List (List ℕ)) (behind a : ℕ) → length 
 length-pieces_code [] behind a = refl
 length-pieces_code (piece ∷ pieces) behind a = let more = length-pieces_code pieces (behind + 26) (a + length piece) in omega arith
 
-stand_all : (before : List Segment) (g : Segment) (pieces : List (List ℕ)) (front : List ℕ) (a : ℕ) → ApartFrom g before → g.readable ≡ true → g.bytes ≡ front ++ (joined pieces ++ []) → a ≡ g.address + length front → AreFull pieces → StandAt (before ++ g ∷ []) a pieces
+stand_all : (before : List Segment) (g : Segment) (pieces : List (List ℕ)) (front : List ℕ) (a : ℕ) → ApartFrom g before → g.readable ≡ true → g.bytes ≡ front ++ (concat pieces ++ []) → a ≡ g.address + length front → AreFull pieces → StandAt (before ++ g ∷ []) a pieces
 stand_all before g [] front a apart r e is full = tt
 stand_all before g (piece ∷ pieces) front a apart r e is full =
     let segments = before ++ g ∷ [] in
-    let whole : g.bytes ≡ front ++ (piece ++ (joined pieces ++ [])) = e ∙ ap (λ l. front ++ l) (append_assoc piece (joined pieces) []) in
-    let later : g.bytes ≡ (front ++ piece) ++ (joined pieces ++ []) = whole ∙ sym (append_assoc front piece (joined pieces ++ [])) in
+    let whole : g.bytes ≡ front ++ (piece ++ (concat pieces ++ [])) = e ∙ ap (λ l. front ++ l) (append_assoc piece (concat pieces) []) in
+    let later : g.bytes ≡ (front ++ piece) ++ (concat pieces ++ []) = whole ∙ sym (append_assoc front piece (concat pieces ++ [])) in
     let place : a + length piece ≡ g.address + length (front ++ piece) = omega (arith, length-append front piece) in (
       full.0,
-      subst (λ z. HasBytes segments z piece) (sym is) (has_bytes before [] g piece front (joined pieces ++ []) apart r whole),
+      subst (λ z. HasBytes segments z piece) (sym is) (has_bytes before [] g piece front (concat pieces ++ []) apart r whole),
       stand_all before g pieces (front ++ piece) (a + length piece) apart r later place full.1,
     )
 

@@ -1,6 +1,6 @@
 -- The image and the file of an assembled program.
 use Rattle.std.proofs.Common.{◌≡◌, ℕ, ◌≤◌, List, length, map, Some, None, sym, subst}
-use Rattle.std.specs.List.{flat_map}
+use Rattle.std.specs.List.{concat, flat_map}
 use Rattle.sch_elf.specs.declared.image.Image.{Image}
 use Rattle.sch_elf.specs.Stands.{StandsFor}
 use Rattle.sch_elf.specs.Layout.{memory}
@@ -17,7 +17,7 @@ use Rattle.sch_cli.specs.declared.piece.Piece.{Piece}
 use Rattle.sch_cli.specs.Builds.{IsImageOf, IsFileOf, Prints}
 use Rattle.sch_cli.specs.Headline.{IsLaidOut}
 use Rattle.sch_cli.specs.Pieces.{bytes_of, first_other, pieces_in, puts}
-use Rattle.sch_cli.specs.PieceCode.{IsSmall, joined, program_code}
+use Rattle.sch_cli.specs.PieceCode.{IsSmall, program_code}
 use Rattle.sch_cli.specs.Refusals.{IsNotBuilt, max_source_size}
 use Rattle.sch_cli.proofs.Expanding.{Print, print, program_of_pieces, put_of}
 use Rattle.sch_cli.proofs.Following.{follows}
@@ -26,14 +26,14 @@ use Rattle.sch_cli.proofs.Printing.{prints}
 
 -- the image of these pieces
 abbrev pub IsImageOfPieces : Image → List (List ℕ) → Type 0
-IsImageOfPieces image pieces = IsProgramImage (flat_map spelling (program_code pieces)) (joined pieces) 0 image
+IsImageOfPieces image pieces = IsProgramImage (flat_map spelling (program_code pieces)) (concat pieces) 0 image
 
 image_behaves : (image : Image) (pieces : List (List ℕ)) → IsSmall pieces → IsImageOfPieces image pieces → Behaves image.entry (memory image.segments) (puts pieces)
 image_behaves image pieces small lies =
     subst (λ a. Behaves a (memory image.segments) (puts pieces)) (sym lies.entry) (subst (λ s. Behaves text_address (memory s) (puts pieces)) (sym lies.segments) (program_behaves pieces small))
 
 laid_out : (image : Image) (pieces : List (List ℕ)) → IsSmall pieces → IsImageOfPieces image pieces → IsLaidOut image
-laid_out image pieces small lies = record { code = program_code pieces; valid = program_valid pieces small; words = joined pieces; zeros = 0; lies = lies }
+laid_out image pieces small lies = record { code = program_code pieces; valid = program_valid pieces small; words = concat pieces; zeros = 0; lies = lies }
 
 pub is_image : (text : List ℕ) (items : Data) (q : tree.Source) (ps : List Piece) (image : Image) → length text ≤ max_source_size → Spells text items → IsProgramOf items q → ((p : tree.Source) → IsProgramOf items p → q ≡ p) →
     first_other items ≡ None → ps ≡ pieces_in items → IsSmall (map bytes_of ps) → IsImageOfPieces image (map bytes_of ps) → IsImageOf text image

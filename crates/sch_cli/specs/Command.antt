@@ -36,9 +36,16 @@ is_name (byte ∷ next ∷ bytes) = not (byte == 45)
 abbrev pub are_names : List ℕ → List ℕ → Bool
 are_names source target = is_name source && is_name target && not (bytes_eq source target)
 
--- a number of steps: 1 to 19 decimal digits, and at most 10^18
+-- the most steps, and the most digits of their number
+abbrev pub max_steps : ℕ
+max_steps = 10 ^ 18
+
+abbrev pub max_digits : ℕ
+max_digits = 19
+
+-- a number of steps: decimal digits, at least one
 abbrev pub is_steps : List ℕ → Bool
-is_steps digits = nat_le 1 (length digits) && nat_le (length digits) 19 && list_all is_ascii_digit digits && nat_le (digits_value 10 digits) (10 ^ 18)
+is_steps digits = nat_le 1 (length digits) && nat_le (length digits) max_digits && list_all is_ascii_digit digits && nat_le (digits_value 10 digits) max_steps
 
 -- the steps in what follows a name: nothing, or `--steps N`
 abbrev pub steps_in : List (List ℕ) → Option ℕ

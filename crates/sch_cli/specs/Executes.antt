@@ -1,12 +1,12 @@
 -- What it is to run an image over an outlet, of at most n steps.
-use Rattle.std.specs.Prelude.{◌≡◌, ◌++◌, ℕ, List, [], All}
+use Rattle.std.specs.Prelude.{◌≡◌, ◌++◌, ℕ, List, All}
 use Rattle.sch_word.specs.declared.answer.Answer.{Answer}
 use Rattle.sch_io.specs.Told.{Tells}
 use Rattle.sch_elf.specs.declared.image.Image.{Image}
 use Rattle.sch_elf.specs.Layout.{memory}
-use Rattle.sch_insn.specs.Machine.{State, unknown_flags}
+use Rattle.sch_insn.specs.Machine.{State}
 use Rattle.sch_insn.specs.Step.{Progress, Runs, Exited, Stuck, mach}
-use Rattle.sch_insn.specs.Behaves.{output_of}
+use Rattle.sch_insn.specs.Behaves.{output_of, start, zeros}
 use Rattle.sch_step.specs.Run.{TakesNothing}
 use Rattle.sch_step.specs.declared.ends.RunEnd.{RunEnd}
 use Rattle.sch_step.specs.declared.ends.RunEnd.TheVariants as run_end
@@ -15,12 +15,7 @@ use Rattle.sch_cli.specs.Seen.{StreamChange, BytesChange, StreamFailed}
 -- The machine of an image at its start: every register is 0, the flags are unknown, and there are no
 -- spare words.
 abbrev pub started : Image → List Answer → State
-started image answers = record {
-  core = record { registers = λ r. 0; flags = unknown_flags; place = image.entry; segments = memory image.segments };
-  output = [];
-  answers = answers;
-  spare = [];
-}
+started image answers = start image.entry (memory image.segments) zeros answers
 
 -- how a run ended that has come to this
 abbrev pub end_of : Progress → RunEnd

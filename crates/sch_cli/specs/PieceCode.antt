@@ -1,12 +1,14 @@
 -- The code of a program that puts pieces: a write loop, and for each piece four instructions that call it.
 use Rattle.std.specs.Prelude.{ℕ, ◌+◌, ◌*◌, ◌^◌, ◌<◌, ◌≤◌, List, [], ◌∷◌, ◌++◌, length, true, false, pos, negsuc}
-use Rattle.std.specs.List.{flat_map}
+use Rattle.std.specs.List.{concat, flat_map}
 use Rattle.sch_word.specs.Memory.{Segment}
 use Rattle.sch_elf.specs.Program.{text_address, data_address}
 use Rattle.sch_insn.specs.Spelling.{spelling}
 use Rattle.sch_insn.specs.declared.insn.Arg.TheVariants.{Reg, Rip}
 use Rattle.sch_insn.specs.declared.insn.Insn.{Insn}
 use Rattle.sch_insn.specs.declared.insn.Insn.TheVariants.{MovNumber, Lea, AddTo, SubTo, CmpNumber, Jump, JumpTo, JumpIf, Syscall}
+use Rattle.sch_insn.specs.declared.condition.TheConstants.{NE, LE}
+use Rattle.sch_insn.specs.declared.register.TheConstants.{RAX, RDX, RSI, RDI, R15}
 
 -- Writes the rdx bytes at rsi to the standard output until none is left, and returns to r15. Where a
 -- write takes nothing or fails, it exits with 74. Its 60 bytes are
@@ -17,29 +19,29 @@ use Rattle.sch_insn.specs.declared.insn.Insn.TheVariants.{MovNumber, Lea, AddTo,
 --     23  jle 44
 abbrev pub write_loop : List Insn
 write_loop =
-    MovNumber (Reg 0) (pos 1)
-    ∷ MovNumber (Reg 7) (pos 1)
+    MovNumber (Reg RAX) (pos 1)
+    ∷ MovNumber (Reg RDI) (pos 1)
     ∷ Syscall
-    ∷ CmpNumber (Reg 0) (pos 0)
-    ∷ JumpIf 14 (pos 15)
-    ∷ AddTo (Reg 6) 0
-    ∷ SubTo (Reg 2) 0
-    ∷ JumpIf 5 (negsuc 40)
-    ∷ JumpTo (Reg 15)
-    ∷ MovNumber (Reg 0) (pos 60)
-    ∷ MovNumber (Reg 7) (pos 74)
+    ∷ CmpNumber (Reg RAX) (pos 0)
+    ∷ JumpIf LE (pos 15)
+    ∷ AddTo (Reg RSI) RAX
+    ∷ SubTo (Reg RDX) RAX
+    ∷ JumpIf NE (negsuc 40)
+    ∷ JumpTo (Reg R15)
+    ∷ MovNumber (Reg RAX) (pos 60)
+    ∷ MovNumber (Reg RDI) (pos 74)
     ∷ Syscall
     ∷ []
 
 -- exits with 0
 abbrev pub exit_code : List Insn
-exit_code = MovNumber (Reg 0) (pos 60) ∷ MovNumber (Reg 7) (pos 0) ∷ Syscall ∷ []
+exit_code = MovNumber (Reg RAX) (pos 60) ∷ MovNumber (Reg RDI) (pos 0) ∷ Syscall ∷ []
 
--- Calls the write loop, which begins `behind` bytes before, for the piece of so many bytes at an
--- address. It has 26 bytes.
+-- Calls the write loop, which begins `behind` bytes before, for the piece of `size` bytes at an address.
+-- It has 26 bytes.
 abbrev pub piece_code : ℕ → ℕ → ℕ → List Insn
 piece_code behind address size =
-    MovNumber (Reg 6) (pos address) ∷ MovNumber (Reg 2) (pos size) ∷ Lea 15 (Rip (pos 5)) ∷ Jump (negsuc (behind + 25)) ∷ []
+    MovNumber (Reg RSI) (pos address) ∷ MovNumber (Reg RDX) (pos size) ∷ Lea R15 (Rip (pos 5)) ∷ Jump (negsuc (behind + 25)) ∷ []
 
 -- the calls for pieces that stand one after the other from an address on, and then the exit
 abbrev pub pieces_code : ℕ → ℕ → List (List ℕ) → List Insn
@@ -53,18 +55,13 @@ program_code pieces = Jump (pos 60) ∷ (write_loop ++ pieces_code 60 data_addre
 
 -- ---- its memory
 
--- the pieces one after the other
-abbrev pub joined : List (List ℕ) → List ℕ
-joined [] = []
-joined (piece ∷ pieces) = piece ++ joined pieces
-
 -- the code, which may be read and executed
 abbrev pub text_memory : List (List ℕ) → Segment
 text_memory pieces = record { address = text_address; readable = true; writable = false; executable = true; bytes = flat_map spelling (program_code pieces) ++ [] }
 
 -- the pieces, which may be read and written
 abbrev pub data_memory : List (List ℕ) → Segment
-data_memory pieces = record { address = data_address; readable = true; writable = true; executable = false; bytes = joined pieces ++ [] }
+data_memory pieces = record { address = data_address; readable = true; writable = true; executable = false; bytes = concat pieces ++ [] }
 
 -- no piece is empty
 abbrev pub AreFull : List (List ℕ) → Type 0
@@ -75,4 +72,4 @@ AreFull (piece ∷ pieces) = (0 < length piece) × AreFull pieces
 pub record IsSmall (pieces : List (List ℕ)) : Type 0 where
   pub full : AreFull pieces
   pub few : length pieces ≤ 2 ^ 20
-  pub short : length (joined pieces) ≤ 20 * 2 ^ 20
+  pub short : length (concat pieces) ≤ 20 * 2 ^ 20

@@ -28,7 +28,7 @@ abbrev pub stop_status : Option Stop → Status
 stop_status (Some stop) = Stopped stop
 stop_status None = BadImage
 
--- for an image that exited: 0 and a stop's status as they are, and the same status for any other
+-- for an image that exited: 0 and a stop's status as they are, and 8 for any other
 abbrev pub exit_status : ℕ → Status
 exit_status status = if status == 0 then Done else stop_status (stop_of status)
 

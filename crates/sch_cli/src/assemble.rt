@@ -1,18 +1,20 @@
 //! Makes the image of a program that puts pieces.
 
 ghost use Rattle.std.specs.Prelude.{◌≡◌, ◌+◌, ◌*◌, ◌^◌, ◌<◌, ◌≤◌, [], ◌∷◌, ◌++◌, length, map, IfOk, OnOk, pos, negsuc};
-ghost use Rattle.std.specs.List.{flat_map};
+ghost use Rattle.std.specs.List.{concat, flat_map};
 ghost use Rattle.sch_insn.specs.Spelling.{spelling, IsValid};
 ghost use Rattle.sch_elf.specs.Program.{IsProgramImage, data_address};
-ghost use Rattle.sch_cli.specs.PieceCode.{write_loop, exit_code, piece_code, program_code, joined, IsSmall};
+ghost use Rattle.sch_cli.specs.PieceCode.{write_loop, exit_code, piece_code, program_code, IsSmall};
 ghost use Rattle.sch_cli.specs.Pieces.{bytes_of};
 
 use crate::piece::Piece;
 use itoa::Buffer;
 use sch_code::{Code, encode};
-use sch_elf::{DATA_ADDRESS, Image, Segment, TEXT_ADDRESS};
+use sch_elf::{Image, Segment};
+use sch_insn::condition::{LE, NE};
+use sch_insn::register::{R15, RAX, RDI, RDX, RSI};
 use sch_insn::{Arg, Insn};
-use sch_word::{Bytes, List, Mem};
+use sch_word::{Bytes, DATA_ADDRESS, List, Mem, TEXT_ADDRESS};
 use std::alloc::Global;
 
 fn put(text: &mut Bytes, insn: Insn) -> Result<(), Mem>
@@ -27,25 +29,25 @@ fn put(text: &mut Bytes, insn: Insn) -> Result<(), Mem>
 fn put_write_loop(text: &mut Bytes) -> Result<(), Mem>
     ensures { OnOk result (text.new ≡ text.old ++ flat_map spelling write_loop) }
 {
-    put(text, Insn::MovNumber(Arg::Reg(0), 1))?;
-    put(text, Insn::MovNumber(Arg::Reg(7), 1))?;
+    put(text, Insn::MovNumber(Arg::Reg(RAX), 1))?;
+    put(text, Insn::MovNumber(Arg::Reg(RDI), 1))?;
     put(text, Insn::Syscall)?;
-    put(text, Insn::CmpNumber(Arg::Reg(0), 0))?;
-    put(text, Insn::JumpIf(14, 15))?;
-    put(text, Insn::AddTo(Arg::Reg(6), 0))?;
-    put(text, Insn::SubTo(Arg::Reg(2), 0))?;
-    put(text, Insn::JumpIf(5, -41))?;
-    put(text, Insn::JumpTo(Arg::Reg(15)))?;
-    put(text, Insn::MovNumber(Arg::Reg(0), 60))?;
-    put(text, Insn::MovNumber(Arg::Reg(7), 74))?;
+    put(text, Insn::CmpNumber(Arg::Reg(RAX), 0))?;
+    put(text, Insn::JumpIf(LE, 15))?;
+    put(text, Insn::AddTo(Arg::Reg(RSI), RAX))?;
+    put(text, Insn::SubTo(Arg::Reg(RDX), RAX))?;
+    put(text, Insn::JumpIf(NE, -41))?;
+    put(text, Insn::JumpTo(Arg::Reg(R15)))?;
+    put(text, Insn::MovNumber(Arg::Reg(RAX), 60))?;
+    put(text, Insn::MovNumber(Arg::Reg(RDI), 74))?;
     put(text, Insn::Syscall)
 }
 
 fn put_exit(text: &mut Bytes) -> Result<(), Mem>
     ensures { OnOk result (text.new ≡ text.old ++ flat_map spelling exit_code) }
 {
-    put(text, Insn::MovNumber(Arg::Reg(0), 60))?;
-    put(text, Insn::MovNumber(Arg::Reg(7), 0))?;
+    put(text, Insn::MovNumber(Arg::Reg(RAX), 60))?;
+    put(text, Insn::MovNumber(Arg::Reg(RDI), 0))?;
     put(text, Insn::Syscall)?;
     Ok(())
 }
@@ -57,9 +59,9 @@ fn put_call(text: &mut Bytes, behind: u32, address: u32, size: u32) -> Result<()
     requires size { size < 2 ^ 31 }
     ensures { OnOk result (text.new ≡ text.old ++ flat_map spelling (piece_code behind address size)) }
 {
-    put(text, load(6, address))?;
-    put(text, load(2, size))?;
-    put(text, Insn::Lea(15, Arg::Rip(5)))?;
+    put(text, load(RSI, address))?;
+    put(text, load(RDX, size))?;
+    put(text, Insn::Lea(R15, Arg::Rip(5)))?;
     put(text, jump_back(behind))?;
     Ok(())
 }
@@ -115,7 +117,7 @@ fn put_call_of(text: &mut Bytes, pool: &mut Bytes, behind: u32, piece: &Piece) -
 pub fn assemble(alloc: Global, pieces: &[Piece]) -> Result<Image, Mem>
     requires { IsSmall (map bytes_of pieces.now) }
     ensures layout { IfOk result
-        (IsProgramImage (flat_map spelling (program_code (map bytes_of pieces.now))) (joined (map bytes_of pieces.now)) 0) }
+        (IsProgramImage (flat_map spelling (program_code (map bytes_of pieces.now))) (concat (map bytes_of pieces.now)) 0) }
 {
     let mut text = Bytes::new(alloc);
     let mut pool = Bytes::new(alloc);

@@ -1,7 +1,7 @@
 use Rattle.std.proofs.Common.{arith, ap, map, length, ◌+◌}
-use Rattle.std.specs.List.{flat_map}
+use Rattle.std.specs.List.{concat, flat_map}
 use Rattle.sch_insn.specs.Spelling.{spelling}
-use Rattle.sch_cli.specs.PieceCode.{program_code, joined}
+use Rattle.sch_cli.specs.PieceCode.{program_code}
 use Rattle.sch_elf.specs.Program.{data_address}
 use Rattle.sch_cli.specs.Pieces.{bytes_of}
 use Rattle.sch_cli.proofs.Assembling.{text_ends, pool_ends, length-program_code, layout_is}
@@ -24,6 +24,6 @@ returns c =
       layout = layout_is pieces c.put_exit.new.text c.loop-piece.pool c.image.result
           (text_ends c.loop-piece.text c.put_exit.new.text (flat_map spelling (program_code pieces)) c.loop-piece.behind (data_address + length c.loop-piece.pool) c.loop-piece.piece-index c.args.pieces.now
           c.loop-piece-test.false c.in_ok-put_exit.ensures c.loop-piece.invariant.text)
-          (pool_ends c.loop-piece.pool (joined pieces) c.loop-piece.piece-index c.args.pieces.now c.loop-piece-test.false c.loop-piece.invariant.pool)
+          (pool_ends c.loop-piece.pool (concat pieces) c.loop-piece.piece-index c.args.pieces.now c.loop-piece-test.false c.loop-piece.invariant.pool)
           c.image.ensures.layout;
     }
