@@ -7,7 +7,7 @@ use sch_word::Mem;
 use thiserror::Error;
 
 /// Why the bytes of a file stand for no image. The tests are made in this order.
-#[derive(Clone, Copy, Debug, PartialEq, Error)]
+#[derive(Clone, Copy, Debug, Error)]
 pub enum ImageError {
     /// There are fewer than 64 bytes.
     #[error("short")]

@@ -22,6 +22,3 @@ pub use program::program_image;
 pub use read::read_image;
 pub use sch_word::{DATA_ADDRESS, TEXT_ADDRESS};
 pub use write::write_image;
-
-#[cfg(test)]
-mod tests;

@@ -11,7 +11,7 @@ use std::alloc::Global;
 use thiserror::Error;
 
 /// Why a file was not read.
-#[derive(Clone, Copy, Debug, PartialEq, Error)]
+#[derive(Clone, Copy, Debug, Error)]
 pub enum DiskRead {
     /// The disk failed. A file that is not there is read so too.
     #[error("read failed")]
@@ -25,7 +25,7 @@ pub enum DiskRead {
 }
 
 /// A file was not written.
-#[derive(Clone, Copy, Debug, PartialEq, Error)]
+#[derive(Clone, Copy, Debug, Error)]
 #[error("write failed")]
 pub struct Failed;
 

@@ -21,6 +21,3 @@ pub use null_outlet::NullOutlet;
 pub use outlet::Outlet;
 pub use put::put_all;
 pub use sch_word::Answer;
-
-#[cfg(test)]
-mod tests;

@@ -164,35 +164,3 @@ fn digit_items() -> [Item; 17]
         Item::Jump(WRITE),
     ]
 }
-
-#[cfg(test)]
-mod tests {
-    use super::*;
-    use sch_asm::{Word, resolve};
-    use std::test::Fail;
-
-    #[test]
-    fn routines_are_resolved(rt: HostRuntime) -> Result<(), Fail> {
-        let alloc = rt.alloc();
-        let mut words = List::new(alloc);
-        words.push(Word::Fixed(258))?;
-        let program = Asm {
-            items: List::new(alloc),
-            words,
-            zeros: 8,
-        };
-        let limits = Limits::new(4_096, 1);
-        assert_eq!(rt; limits.is_some(), true);
-        if let Some(limits) = limits {
-            let routines = routines(alloc, limits)?;
-            let resolved = resolve(alloc, &program, &routines)?;
-            assert_eq!(rt; resolved.code.len(), 75);
-            assert_eq!(rt;
-                resolved.words.as_slice(),
-                [2, 1, 0, 0, 0, 0, 0, 0].as_slice()
-            );
-            assert_eq!(rt; resolved.zeros, 8);
-        }
-        Ok(())
-    }
-}

@@ -17,6 +17,3 @@ mod stuck;
 pub use ends::{RunEnd, StepEnd, Stuck};
 pub use loading::load;
 pub use machine::{Machine, run, step};
-
-#[cfg(test)]
-mod tests;

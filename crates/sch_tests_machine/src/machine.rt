@@ -1,9 +1,9 @@
 //! Whole runs of small programs, with the statuses that a processor and Linux gave for them.
 ghost use Rattle.std.specs.Prelude.{◌≤◌, length};
 
-use super::*;
 use sch_elf::program_image;
 use sch_io::{MemOutlet, NullOutlet};
+use sch_step::{Machine, RunEnd, StepEnd, load, run, step};
 use sch_word::{Answer, List};
 use std::alloc::Global;
 use std::test::Fail;

@@ -1,0 +1,13 @@
+//! Tests below the languages: lists, disks and outlets, executables, routines, and the machine that steps.
+#![tactic(auto)]
+
+#[cfg(test)]
+mod executables;
+#[cfg(test)]
+mod lists;
+#[cfg(test)]
+mod machine;
+#[cfg(test)]
+mod outside;
+#[cfg(test)]
+mod routines;
