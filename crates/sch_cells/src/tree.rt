@@ -5,7 +5,7 @@ use sch_word::{Bytes, Const, List, Prim};
 /// Where a node binds variables, `first` is the number of the first of them and the others follow it, and
 /// `site` is the place in the program whose operands or inits have an order of their own.
 #[cycle(cells)]
-#[derive(Debug, Drop)]
+#[derive(Drop)]
 pub enum Exp {
     Constant(Const),
     /// The literal with this number, an object.
@@ -58,7 +58,7 @@ pub enum Exp {
 
 /// A procedure of the text (R5RS 4.1.4).
 #[cycle(cells)]
-#[derive(Debug, Drop)]
+#[derive(Drop)]
 pub struct Lambda {
     /// The name under which a listing shows the body.
     pub name: Bytes,
@@ -72,7 +72,7 @@ pub struct Lambda {
 }
 
 /// A new cell.
-#[derive(Clone, Copy, Debug)]
+#[derive(Clone, Copy)]
 pub struct NewCell {
     /// The variable that has the cell.
     pub variable: u32,

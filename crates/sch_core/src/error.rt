@@ -9,7 +9,7 @@ use sch_word::{Bytes, Mem};
 use thiserror::Error;
 
 /// What a program has too much of.
-#[derive(Clone, Copy, Debug, PartialEq, Error)]
+#[derive(Clone, Copy, Debug, Error)]
 pub enum Kind {
     /// Operands of a call, formals, or bindings of one form: 200.
     #[error("operands")]

@@ -1,5 +1,4 @@
 mod BodyExamples
-pub mod Empty
 pub mod Environments
 mod Examples
 mod Loop

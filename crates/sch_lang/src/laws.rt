@@ -27,27 +27,3 @@ pub fn more_entries_change_no_end(p: &Program)
 pub fn run_goes_on_when_spent(p: &Program)
     ensures { GoesOnWhenSpent (source p.now) }
 {}
-
-#[cfg(test)]
-mod tests {
-    use super::*;
-    use sch_word::List;
-
-    #[test]
-    fn a_program_can_be_made(rt: HostRuntime) {
-        let alloc = rt.alloc();
-        let program = Program {
-            symbols: List::new(alloc),
-            literals: List::new(alloc),
-            globals: List::new(alloc),
-            library: List::new(alloc),
-            forms: List::new(alloc),
-            sites: List::new(alloc),
-        };
-        program_is_valid(&program);
-        run_needs_own_orders(&program);
-        more_entries_change_no_end(&program);
-        run_goes_on_when_spent(&program);
-        assert!(rt; program.forms.is_empty());
-    }
-}

@@ -9,7 +9,7 @@ use sch_word::{Bytes, List, Lit};
 ///
 /// A global holds at the start the procedure of the library's lambda with that number, or is unset.
 /// `sites` has the number of parts of each site, with the operator for a call.
-#[derive(Debug, Drop)]
+#[derive(Drop)]
 pub struct Program {
     pub symbols: List<Bytes>,
     pub literals: List<Lit>,

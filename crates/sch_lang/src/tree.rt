@@ -6,7 +6,7 @@ use sch_word::{Bytes, Const, List, Prim};
 /// operands or inits have an order of their own. `Local(k)` is the variable with k variables bound
 /// nearer; in a group the last is nearest.
 #[cycle(core)]
-#[derive(Debug, Drop)]
+#[derive(Drop)]
 pub enum Exp {
     Constant(Const),
     /// The literal with this number, an object.
@@ -34,7 +34,7 @@ pub enum Exp {
 
 /// A procedure of the text (R5RS 4.1.4).
 #[cycle(core)]
-#[derive(Debug, Drop)]
+#[derive(Drop)]
 pub struct Lambda {
     /// The name under which a listing shows the body.
     pub name: Bytes,

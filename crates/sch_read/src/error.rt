@@ -9,7 +9,7 @@ use sch_word::Mem;
 use thiserror::Error;
 
 /// Why a text has no data, with the place: the number of bytes before it.
-#[derive(Clone, Copy, Debug, PartialEq, Error)]
+#[derive(Clone, Copy, Debug, Error)]
 pub enum ReadError {
     #[error("byte {0}: unclosed")]
     Unclosed(u32),

@@ -23,6 +23,3 @@ pub use laws::{
 };
 pub use printer::print;
 pub use reader::read_all;
-
-#[cfg(test)]
-mod tests;

@@ -2,7 +2,6 @@ pub mod AssignedKept
 pub mod BodiesKept
 pub mod BoundVariables
 pub mod FreeKept
-pub mod HandMade
 pub mod LevelsKept
 pub mod Loops
 pub mod Numbers

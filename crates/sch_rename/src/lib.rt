@@ -15,8 +15,6 @@ ghost use Rattle.sch_cells.specs.UnboxedMeaning as meaning;
 ghost use Rattle.sch_rename.specs.Made.{renamed_source};
 
 mod numbering;
-#[cfg(test)]
-mod tests;
 
 use crate::numbering::{rename_each, rename_lambdas};
 use sch_cells::{CellProgram, Unboxed};

@@ -1,7 +1,13 @@
-//! Tests of the public calls: that they succeed where there is memory, and what the whole program answers.
+//! Tests of the whole program, and of the passes from a text to frames: that they succeed where there is memory.
 #![tactic(auto)]
 
+#[cfg(test)]
+mod expander;
 #[cfg(test)]
 mod frames;
 #[cfg(test)]
 mod program;
+#[cfg(test)]
+mod reader;
+#[cfg(test)]
+mod renaming;

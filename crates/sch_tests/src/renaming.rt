@@ -1,4 +1,4 @@
-//! Programs made by hand, since each of them turns on one rule of scopes.
+//! A program with each kind of binding, made by hand.
 
 ghost use Rattle.std.specs.Prelude.{◌≡◌, ◌<◌, ◌^◌, ◌-◌, [], ◌∷◌, true, false, IsTrue, IfOk};
 ghost use Rattle.sch_lang.specs.Examples.{program};
@@ -7,9 +7,9 @@ ghost use Rattle.sch_lang.specs.Tree as tree;
 ghost use Rattle.sch_lang.specs.Valid.{is_valid};
 ghost use Rattle.sch_lang.specs.View.{expression, expressions_of, lambdas_of};
 
-use crate::rename;
 use sch_lang::{Exp, Lambda, Program};
-use sch_word::{Const, List, Mem};
+use sch_rename::rename;
+use sch_word::{List, Mem};
 use std::alloc::Global;
 use std::test::Fail;
 
@@ -82,8 +82,8 @@ fn fix(alloc: Global, procedure: Exp, body: Exp) -> Result<Exp, Mem>
     Ok(Exp::Fix(lambdas, Box::new(alloc, body)?))
 }
 
-// The forms of a program of one form with these sites, after renaming, as text.
-fn renamed_form(alloc: Global, form: Exp, sites: &[u32]) -> Result<String, Mem>
+// How many variables a program of one form with these sites has after renaming.
+fn renamed_form(alloc: Global, form: Exp, sites: &[u32]) -> Result<u32, Mem>
     requires valid { IsTrue (is_valid (program 0 sites.now (expression form ∷ []))) }
     requires few { variables_bound (program 0 sites.now (expression form ∷ [])) < 2 ^ 32 - 2 ^ 10 }
 {
@@ -97,76 +97,18 @@ fn renamed_form(alloc: Global, form: Exp, sites: &[u32]) -> Result<String, Mem>
         sites: List::from_slice(alloc, sites)?,
     };
     let q = rename(alloc, &p)?;
-    Ok(format!(in alloc; "{:?}", q.forms)?)
+    Ok(q.variables)
 }
 
-// (lambda (x . y) (set! y x))
+// (letrec ((f (lambda () (letrec ((x x)) (let ((y x)) (lambda (a . b) (set! b a))))))) f)
 #[test]
-fn a_rest_list_that_is_assigned(rt: HostRuntime) -> Result<(), Fail> {
+fn renames_each_kind_of_binding(rt: HostRuntime) -> Result<(), Fail> {
     let alloc = rt.alloc();
-    let body = set_local(alloc, 0, Exp::Local(1))?;
-    let form = lambda(alloc, 2, true, body)?;
-    let text = renamed_form(alloc, form, &[])?;
-    assert_eq!(rt;
-        text.as_str(),
-        "List { items: [Lambda(Lambda { name: List { items: [] }, first: 0, formals: 2, rest: true, body: SetVar(1, Var(0)) })] }"
-    );
-    Ok(())
-}
-
-// (letrec ((x x)) x)
-#[test]
-fn an_init_that_reads_itself(rt: HostRuntime) -> Result<(), Fail> {
-    let alloc = rt.alloc();
-    let form = letrec(alloc, 0, Exp::Local(0), Exp::Local(0))?;
-    let text = renamed_form(alloc, form, &[1])?;
-    assert_eq!(rt;
-        text.as_str(),
-        "List { items: [Rec { site: 0, first: 0, inits: List { items: [Var(0)] }, body: Var(0) }] }"
-    );
-    Ok(())
-}
-
-// (let ((x 1)) (let ((x x)) (set! x x)))
-#[test]
-fn an_init_outside_its_let(rt: HostRuntime) -> Result<(), Fail> {
-    let alloc = rt.alloc();
-    let body = set_local(alloc, 0, Exp::Local(0))?;
-    let inner = bind(alloc, 1, Exp::Local(0), body)?;
-    let form = bind(alloc, 0, Exp::Constant(Const::Nil), inner)?;
-    let text = renamed_form(alloc, form, &[1, 1])?;
-    assert_eq!(rt;
-        text.as_str(),
-        "List { items: [Let { site: 0, first: 0, inits: List { items: [Constant(Nil)] }, body: Let { site: 1, first: 1, inits: List { items: [Var(0)] }, body: SetVar(1, Var(1)) } }] }"
-    );
-    Ok(())
-}
-
-// (letrec ((f (lambda () (letrec ((g (lambda () g))) f)))) f)
-#[test]
-fn groups_of_procedures(rt: HostRuntime) -> Result<(), Fail> {
-    let alloc = rt.alloc();
-    let inner = fix(alloc, Exp::Local(0), Exp::Local(1))?;
-    let form = fix(alloc, inner, Exp::Local(0))?;
-    let text = renamed_form(alloc, form, &[])?;
-    assert_eq!(rt;
-        text.as_str(),
-        "List { items: [Fix { first: 0, lambdas: List { items: [Lambda { name: List { items: [] }, first: 1, formals: 0, rest: false, body: Fix { first: 1, lambdas: List { items: [Lambda { name: List { items: [] }, first: 2, formals: 0, rest: false, body: Var(1) }] }, body: Var(0) } }] }, body: Var(0) }] }"
-    );
-    Ok(())
-}
-
-// (lambda (x) (lambda (y z) (lambda () x)))
-#[test]
-fn a_free_variable_of_a_free_variable(rt: HostRuntime) -> Result<(), Fail> {
-    let alloc = rt.alloc();
-    let inner = lambda(alloc, 0, false, Exp::Local(2))?;
-    let middle = lambda(alloc, 2, false, inner)?;
-    let form = lambda(alloc, 1, false, middle)?;
-    let text = renamed_form(alloc, form, &[])?;
-    assert_eq!(rt;
-        text.as_str(),
-        "List { items: [Lambda(Lambda { name: List { items: [] }, first: 0, formals: 1, rest: false, body: Lambda(Lambda { name: List { items: [] }, first: 1, formals: 2, rest: false, body: Lambda(Lambda { name: List { items: [] }, first: 3, formals: 0, rest: false, body: Var(0) }) }) })] }"
-    );
+    let assigned = set_local(alloc, 0, Exp::Local(1))?;
+    let procedure = lambda(alloc, 2, true, assigned)?;
+    let inner = bind(alloc, 1, Exp::Local(0), procedure)?;
+    let body = letrec(alloc, 0, Exp::Local(0), inner)?;
+    let form = fix(alloc, body, Exp::Local(0))?;
+    assert_eq!(rt; renamed_form(alloc, form, &[1, 1])?, 5);
     Ok(())
 }

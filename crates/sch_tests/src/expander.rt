@@ -1,0 +1,129 @@
+//! Texts that have a program, the limit of variables, and how deep data are walked.
+
+ghost use Rattle.std.specs.Prelude.{◌≡◌, ◌+◌, ◌*◌, IfOk};
+ghost use Rattle.sch_read.specs.Grammar.{atom, list, symbol};
+ghost use Rattle.sch_read.specs.Valid.{weight};
+ghost use Rattle.sch_read.specs.Views.{tree_of, data_of};
+
+use sch_core::{CoreError, Kind, core};
+use sch_lang::Program;
+use sch_read::{Atom, Datum, Node, read_all};
+use sch_word::{List, Mem};
+use std::alloc::Global;
+use std::test::Fail;
+
+// The longest text that is read.
+const MOST_BYTES: usize = 1_048_576;
+
+// The program of a text, or why it has none.
+fn program_of(alloc: Global, text: &[u8]) -> Result<Program, CoreError> {
+    if text.len() > MOST_BYTES {
+        return Err(CoreError::Memory);
+    }
+    match read_all(alloc, text) {
+        Ok(items) => core(alloc, items.as_slice()),
+        Err(_) => Err(CoreError::Memory),
+    }
+}
+
+// How many globals and sites the program of a text has.
+#[test]
+fn expands_each_form(rt: HostRuntime) -> Result<(), Fail> {
+    let rows: [(&[u8], usize, usize); 4] = [
+        (b"", 0, 0),
+        (b"(display 1)(newline)(display #\\a)", 0, 3),
+        (
+            b"(define x 7)(let ((y (* x 6))) (if (< y 40) (display '()) (display (- y 50))))",
+            1,
+            6,
+        ),
+        (
+            b"(begin (begin) (define x 1) x) (+) (*) (- x) (= x x x x)",
+            1,
+            5,
+        ),
+    ];
+    for (text, globals, sites) in rows {
+        let program = program_of(rt.alloc(), text)?;
+        assert_eq!(rt; program.globals.len(), globals);
+        assert_eq!(rt; program.sites.len(), sites);
+    }
+    Ok(())
+}
+
+// A part of a form at top level with this body inside the bindings of 1,000 variables.
+fn exceeding(alloc: Global, body: &[u8]) -> Result<Vec<u8>, Fail> {
+    let mut text = Vec::new(alloc);
+    text.extend_from_slice(b"1 (begin (begin) ")?;
+    for _ in 0..5 {
+        text.extend_from_slice(b"(let (")?;
+        for k in 0..200u8 {
+            text.extend_from_slice(b"(v")?;
+            text.push(b'0' + k / 100)?;
+            text.push(b'0' + k / 10 % 10)?;
+            text.push(b'0' + k % 10)?;
+            text.extend_from_slice(b" 1)")?;
+        }
+        text.extend_from_slice(b") ")?;
+    }
+    text.extend_from_slice(body)?;
+    text.extend_from_slice(b")))))) 2")?;
+    Ok(text)
+}
+
+#[test]
+fn counts_variables(rt: HostRuntime) -> Result<(), Fail> {
+    let alloc = rt.alloc();
+    let all = exceeding(alloc, b"(+ v000 v199)")?;
+    assert!(rt; program_of(alloc, all.as_slice()).is_ok());
+    let more = exceeding(alloc, b"(let ((x 1)) 1)")?;
+    let refused = program_of(alloc, more.as_slice());
+    assert!(rt; matches!(refused, Err(CoreError::Limit(Kind::Variables, 17))));
+    Ok(())
+}
+
+fn word(at: u32, name: List<u8>) -> Datum
+    ensures { tree_of result ≡ atom at (symbol name) }
+{
+    let node = Node::Atom(Atom::Symbol(name));
+    Datum { at, node }
+}
+
+fn listed(at: u32, items: List<Datum>) -> Datum
+    ensures { tree_of result ≡ list at (data_of items) }
+{
+    let node = Node::List(items, None);
+    Datum { at, node }
+}
+
+// An empty list in this number of `begin`s.
+fn in_beginnings(alloc: Global, levels: u32) -> Result<Datum, Mem>
+    ensures { IfOk result (λ d. weight (tree_of d) ≡ 1 + 7 * levels) }
+{
+    let mut d = listed(0, List::new(alloc));
+    for at in 0..levels {
+        let mut items = List::new(alloc);
+        items.push(word(at, List::from_slice(alloc, b"begin")?))?;
+        items.push(d)?;
+        d = listed(at, items);
+    }
+    Ok(d)
+}
+
+// Whether the data are walked: an empty list in `begin`s is a bad form.
+fn is_walked(alloc: Global, levels: u32) -> Result<bool, Mem> {
+    let mut items = List::new(alloc);
+    items.push(in_beginnings(alloc, levels.min(1_000_000))?)?;
+    match core(alloc, items.as_slice()) {
+        Err(CoreError::BadForm(0)) => Ok(true),
+        _ => Ok(false),
+    }
+}
+
+#[test]
+fn very_deep_data_are_out_of_memory(rt: HostRuntime) -> Result<(), Fail> {
+    assert_eq!(rt; is_walked(rt.alloc(), 3_999)?, true);
+    assert_eq!(rt; is_walked(rt.alloc(), 4_000)?, false);
+    assert_eq!(rt; is_walked(rt.alloc(), 300_000)?, false);
+    Ok(())
+}
