@@ -1,13 +1,5 @@
-//! Tests of the whole program, and of the passes from a text to frames: that they succeed where there is memory.
+//! Tests of the whole program.
 #![tactic(auto)]
 
 #[cfg(test)]
-mod expander;
-#[cfg(test)]
-mod frames;
-#[cfg(test)]
 mod program;
-#[cfg(test)]
-mod reader;
-#[cfg(test)]
-mod renaming;

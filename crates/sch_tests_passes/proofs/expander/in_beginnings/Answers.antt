@@ -4,7 +4,7 @@ use Rattle.sch_read.specs.Grammar as grammar
 use Rattle.sch_read.specs.Grammar.{atom, list, symbol, none, cons}
 use Rattle.sch_read.specs.Valid.{weight}
 use Rattle.sch_read.specs.Views.{tree_of, data_of}
-use Rattle.sch_tests.proofs.expander.in_beginnings.Goals as goal
+use Rattle.sch_tests_passes.proofs.expander.in_beginnings.Goals as goal
 
 one_more : (at k : ℕ) (name : List ℕ) (t u : grammar.Datum) → t ≡ atom at (symbol name) → length name ≡ 5 → weight u ≡ 1 + 7 * k → weight (list at (cons t (cons u none))) ≡ 1 + 7 * (k + 1)
 one_more at k name t u e l h =

@@ -4,8 +4,8 @@ use Rattle.sch_lang.specs.Measures.{variables_bound}
 use Rattle.sch_lang.specs.SourceView.{source_of}
 use Rattle.sch_lang.specs.Valid.{is_valid}
 use Rattle.sch_lang.specs.View.{expression}
-use Rattle.sch_tests.proofs.HandMade.{one_form, valid_parts}
-use Rattle.sch_tests.proofs.renaming.renamed_form.Goals as goal
+use Rattle.sch_tests_passes.proofs.HandMade.{one_form, valid_parts}
+use Rattle.sch_tests_passes.proofs.renaming.renamed_form.Goals as goal
 
 pub invariant_of-p : goal.invariant_of-p
 invariant_of-p c =

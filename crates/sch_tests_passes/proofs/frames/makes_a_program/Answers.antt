@@ -3,7 +3,7 @@ use Rattle.sch_word.specs.Literals.{Literals, no_literals}
 use Rattle.sch_word.specs.LiteralView.{literals_of}
 use Rattle.sch_word.proofs.LiteralRows.{literals_of_list}
 use Rattle.sch_word.specs.Runs.{Statics, statics_valid, statics_in_range}
-use Rattle.sch_tests.proofs.frames.makes_a_program.Goals as goal
+use Rattle.sch_tests_passes.proofs.frames.makes_a_program.Goals as goal
 
 abbrev statics_from : List (List ℕ) → Literals → List (Option ℕ) → Statics
 statics_from symbols literals globals = record { symbols = symbols; literals = literals; globals = globals }

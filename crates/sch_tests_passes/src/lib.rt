@@ -1,0 +1,11 @@
+//! Tests of the passes from a text to frames: that they succeed where there is memory.
+#![tactic(auto)]
+
+#[cfg(test)]
+mod expander;
+#[cfg(test)]
+mod frames;
+#[cfg(test)]
+mod reader;
+#[cfg(test)]
+mod renaming;
