@@ -10,6 +10,7 @@ pub mod Rows
 pub mod Scopes
 mod SizeExamples
 mod ValidExamples
+mod VariableExamples
 pub mod SitesInOrder
 pub mod Spending
 mod TailExamples
