@@ -31,6 +31,8 @@ use std::marker::PhantomData;
 /// It takes time in proportion to the size of `p` and stack in proportion to its levels.
 pub fn rename(alloc: Global, p: &Program) -> Result<CellProgram<Unboxed>, Mem>
     requires few { variables_bound (source p.now) < 2 ^ 32 - 2 ^ 10 }
+    // The same tree, with the numbers in place of the distances.
+    ensures made { IfOk result (λ q. view.source q ≡ renamed_source (source p.now)) }
     // Under every order table, limits, answers of a kernel and number of entries it runs as `p` does.
     ensures runs { IfOk result (λ q. SameRuns (run (source p.now)) (meaning.run (view.source q))) }
     ensures statics { IfOk result (λ q. statics q.statics ≡ statics_of p.now.symbols p.now.literals p.now.globals) }

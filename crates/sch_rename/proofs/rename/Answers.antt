@@ -17,6 +17,9 @@ if_ok : {A E : Type 0} (r : Result A E) (P Q : A → Type 0) → IfOk r P → ((
 if_ok (Ok a) P Q h f = f a h
 if_ok (Err e) P Q h f = h
 
+pub returns-clause-made : goal.returns-clause-made
+returns-clause-made c = c.rename_program.ensures
+
 pub returns-clause-runs : goal.returns-clause-runs
 returns-clause-runs c =
     let p = source c.args.p.now in
