@@ -22,6 +22,7 @@ use Rattle.sch_frames.specs.declared.instruction.Instruction.{Instruction}
 use Rattle.sch_frames.specs.declared.instruction.Instruction.TheVariants.{Do, Store, Copy, Load, Pass, Fix, Call, Tail, Return, End, IfFalse, Jump, Label, Mark}
 use Rattle.sch_frames.specs.Layout.{slots_layout}
 use Rattle.sch_frames.specs.Run.{run}
+use Rattle.sch_frames.specs.Sizes.{largest_frame}
 use Rattle.sch_frames.specs.Tree.{Code, Source}
 use Rattle.sch_frames.specs.Valid.{code_valid, is_valid, placed, forward}
 
@@ -160,6 +161,14 @@ group = program []
 
 group_runs : runs group 1 2 ≡ seen (codes "#t") 2 32 (ended 0)
 group_runs = refl
+
+-- ## The largest frame, which stands in the middle
+
+largest_of_three : largest_frame (form 2 0 [] ∷ form 5 0 [] ∷ form 3 0 [] ∷ []) ≡ 5
+largest_of_three = refl
+
+largest_of_none : largest_frame [] ≡ 0
+largest_of_none = refl
 
 -- ## What is not valid
 

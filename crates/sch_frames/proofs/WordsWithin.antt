@@ -1,11 +1,14 @@
--- No frame has more than 2,048 words, and the largest frame is no smaller than any.
-use Rattle.std.proofs.Common.{◌≡◌, ◌≤◌, ◌<◌, ◌+◌, ℕ, List, [], ◌∷◌, length, take, Bool, true, refl, sym, ap, ◌∙◌, subst, ◌⊎◌, inl, inr, arith, get_or}
+-- No frame has more than 2,048 words, and the largest frame is as large as the largest of the bodies.
+use Rattle.std.proofs.Common.{◌≡◌, ◌≤◌, ◌<◌, ◌+◌, ◌++◌, ℕ, List, [], ◌∷◌, length, take, Bool, true, refl, sym, ap, ◌∙◌, subst, max, ◌⊎◌, inl, inr, arith, get_or}
 use Rattle.std.specs.Prelude.{nat_le}
 use Rattle.std.specs.List.{list_all}
 use Rattle.std.proofs.lemmas.Bool.{and_parts, and_from, leb-true, le-leb}
-use Rattle.std.proofs.lemmas.List.{take_all}
+use Rattle.std.proofs.Math.Nat.{max-eq_left, max-eq_right}
+use Rattle.std.proofs.lemmas.List.{take_all, take_more}
+use Rattle.std.proofs.lemmas.List.Recursion.{max_push}
 use Rattle.std.proofs.lemmas.List.Folds.{list_all_more}
 use Rattle.sch_frames.specs.declared.body.FrameBody.{FrameBody}
+use Rattle.sch_frames.specs.Sizes.{largest_frame}
 use Rattle.sch_frames.specs.SourceView.{codes_of}
 use Rattle.sch_frames.specs.Valid.{max_words}
 
@@ -38,3 +41,22 @@ all_taken bodies i w le h = ap (within w) (sym (take_all i bodies le)) ∙ h
 pub each_within : (bodies : List FrameBody) (words : ℕ) → within words bodies ≡ true → list_all (λ c. nat_le c.words words) (codes_of bodies) ≡ true
 each_within [] words h = refl
 each_within (b ∷ bodies) words h = let parts = and_parts _ _ h in and_from _ _ parts.0 (each_within bodies words parts.1)
+
+abbrev largest_of : List FrameBody → ℕ
+largest_of bodies = largest_frame (codes_of bodies)
+
+larger_is : (a b r : ℕ) → a ≤ r → b ≤ r → (r ≡ a) ⊎ (r ≡ b) → r ≡ max a b
+larger_is a b r first second (inl e) = e ∙ sym (max-eq_left (omega (arith, e, second)))
+larger_is a b r first second (inr e) = e ∙ sym (max-eq_right (omega (arith, e, first)))
+
+pub next_exact : (bodies : List FrameBody) (i w w' : ℕ) (b : FrameBody) → i < length bodies → b ≡ get_or bodies i b → w ≤ w' → b.words ≤ w'
+    → (w' ≡ w) ⊎ (w' ≡ b.words) → w ≡ largest_of (take i bodies) → w' ≡ largest_of (take (i + 1) bodies)
+next_exact bodies i w w' b lt is first second one h =
+    larger_is w b.words w' first second one
+    ∙ ap (λ n. max n b.words) h
+    ∙ sym (max_push largest_of (λ b. b.words) refl (λ x xs. refl) (take i bodies) b)
+    ∙ ap (λ z. largest_of (take i bodies ++ z ∷ [])) is
+    ∙ sym (ap largest_of (take_more bodies i b lt))
+
+pub exact_taken : (bodies : List FrameBody) (i w : ℕ) → length bodies ≤ i → w ≡ largest_of (take i bodies) → w ≡ largest_of bodies
+exact_taken bodies i w le h = h ∙ ap largest_of (take_all i bodies le)

@@ -1,6 +1,7 @@
--- Sizes of expressions.
-use Rattle.std.specs.Prelude.{ℕ, ◌+◌}
+-- Sizes of expressions and of frames.
+use Rattle.std.specs.Prelude.{ℕ, ◌+◌, max, List, [], ◌∷◌}
 use Rattle.sch_control.specs.Tree.{Expression, perform, bind, sequence, branch, fix, call, tail_call, return, end, save}
+use Rattle.sch_frames.specs.Tree.{Code}
 
 -- how many nodes an expression has
 abbrev pub nodes : Expression → ℕ
@@ -14,3 +15,8 @@ nodes (tail_call a) = 1
 nodes (return e) = 1 + nodes e
 nodes (end e) = 1 + nodes e
 nodes (save saves e) = 1 + nodes e
+
+-- the size of the largest frame of some bodies, and 0 where there are none
+abbrev pub largest_frame : List Code → ℕ
+largest_frame [] = 0
+largest_frame (c ∷ codes) = max c.words (largest_frame codes)

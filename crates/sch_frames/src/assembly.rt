@@ -6,6 +6,7 @@ ghost use Rattle.sch_control.specs.ProgramView as control;
 ghost use Rattle.sch_control.specs.SourceView as control_bodies;
 ghost use Rattle.sch_frames.specs.Does.{FramesOf, SameRuns};
 ghost use Rattle.sch_frames.specs.ProgramView.{source};
+ghost use Rattle.sch_frames.specs.Sizes.{largest_frame};
 ghost use Rattle.sch_frames.specs.SourceView.{codes_of};
 ghost use Rattle.sch_frames.specs.Valid.{max_words};
 
@@ -24,10 +25,11 @@ fn larger(a: u32, b: u32) -> u32
     if a < b { b } else { a }
 }
 
-/// The size of the largest frame.
+/// The size of the largest frame, and 0 where there is none.
 fn largest(bodies: &[FrameBody]) -> u32
     ensures all { IsTrue (list_all (λ b. nat_le b.words result) bodies.now) }
     ensures within { result ≤ max_words }
+    ensures exact { result ≡ largest_frame (codes_of bodies.now) }
 {
     let mut words = 0;
     for b in bodies {
@@ -37,7 +39,8 @@ fn largest(bodies: &[FrameBody]) -> u32
 }
 
 impl FrameProgram {
-    /// The frame program of a program, from one frame body for each of its bodies, in their order.
+    /// The frame program of a program, from one frame body for each of its bodies, in their order. The size
+    /// of its largest frame is 0 where it has no bodies.
     pub fn new(
         alloc: Global,
         p: &ControlProgram,
@@ -46,6 +49,7 @@ impl FrameProgram {
         requires frames { FramesOf (control_bodies.codes_of p.now.bodies) (codes_of bodies) }
         ensures same { IfOk result (λ q. SameRuns (control.source p.now) (source q)) }
         ensures bodies { IfOk result (λ q. q.bodies ≡ bodies) }
+        ensures words { IfOk result (λ q. q.words ≡ largest_frame (codes_of bodies)) }
     {
         let statics = p.statics.copy(alloc)?;
         let library = List::from_slice(alloc, p.library.as_slice())?;

@@ -5,6 +5,7 @@ use Rattle.std.proofs.lemmas.Bool.{and_from, le-leb}
 use Rattle.sch_control.specs.ProgramView as control
 use Rattle.sch_word.specs.StaticsView.{statics}
 use Rattle.sch_frames.specs.Does.{SameRuns}
+use Rattle.sch_frames.specs.Sizes.{largest_frame}
 use Rattle.sch_frames.specs.SourceView.{codes_of}
 use Rattle.sch_frames.specs.Valid.{all_known, library_known, statics_known}
 use Rattle.sch_frames.proofs.Whole.{same_runs, frames_known, frames_library, made}
@@ -30,3 +31,6 @@ returns-clause-same c =
     let fs = codes_of c.args.bodies in
     let words = c.largest-words.result in
     subst (SameRuns p) (sym (made p fs words (statics c.in_ok-statics.statics) c.in_ok-library.library c.in_ok-statics.ensures (c.in_ok-library.ensures ∙ c.as_slice.ensures))) (same_runs p fs words c.requires.frames)
+
+pub returns-clause-words : goal.returns-clause-words
+returns-clause-words c = c.largest-words.ensures.exact ∙ ap (λ bs. largest_frame (codes_of bs)) c.as_slice-2.ensures
