@@ -148,7 +148,7 @@ around restores =
 abbrev restored : Reading
 restored = record { keeps = λ x. false; spills = λ x. false; notes = λ x. true; moves = λ site. [] }
 
-abbrev at_start : World
+abbrev pub at_start : World
 at_start = record {
   state = starting_state (starting_store (record { symbols = []; literals = no_literals; globals = [] }) 4096 [] 1) (record { label = 0; fields = [] } ∷ []);
   marks = [];

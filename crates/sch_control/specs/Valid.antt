@@ -126,7 +126,7 @@ abbrev pub ends_form : Position → Bool
 ends_form form_end = true
 ends_form _ = false
 
--- each call is bound, tested or in tail position, and each way through a body ends it
+-- each call is bound, tested, in tail position or the last of a form, and each way through a body ends it
 abbrev pub positioned : Expression → Position → Bool
 positioned (perform o) at = is_value at
 positioned (bind x a b) at = positioned a value && positioned b at

@@ -1,5 +1,5 @@
-//! The language Control: bodies in which every operand is simple and each call is bound, tested or in
-//! tail position; which programs are valid, and what a program does.
+//! The language Control: bodies in which every operand is simple and each call is bound, tested, in tail
+//! position or the last of a form; which programs are valid, and what a program does.
 #![tactic(auto)]
 
 mod body;
