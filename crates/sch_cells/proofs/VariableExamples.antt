@@ -165,7 +165,11 @@ free_in_call = refl
 free_in_new_cells : boxed_run (procedure_of [] (new_cells (new_cell 2 (Some 0) ∷ new_cell 3 (Some 1) ∷ []) (number 0))) 0 ≡ ends [] 0 0 32
 free_in_new_cells = refl
 
--- a new cell of x, with y in its scope, and the cell's own variable, which is not free
+-- the cell's own variable is not free
+own_cell_is_not_free : boxed_run (procedure_of [] (new_cells (new_cell 2 (Some 0) ∷ []) (cell_get 2))) 0 ≡ ends [] 0 0 16
+own_cell_is_not_free = refl
+
+-- a new cell of x, with y in its scope
 free_in_scope_of_cells : boxed_run (procedure_of (2 ∷ []) (new_cells (new_cell 2 (Some 0) ∷ []) (two 1 Eq (variable 1) (cell_get 2)))) 0 ≡ ends [] 0 0 32
 free_in_scope_of_cells = refl
 
