@@ -17,7 +17,7 @@ use Rattle.sch_control.specs.declared.operation.Operation.{Operation}
 use Rattle.sch_control.specs.declared.operation.Operation.TheVariants as operation
 use Rattle.sch_control.specs.declared.operation.Application.{Application}
 use Rattle.sch_control.specs.Tree.{Expression, perform, bind, sequence, branch, fix, call, tail_call, return, end, save, Source}
-use Rattle.sch_control.specs.Valid.{bound_in, numbered, only_reads, operand_shaped, operation_shaped, application_shaped, group_shaped, entry_shaped, each_part, source_field, operation_field, group_fields, fields_known, is_bare, in_scope, atom_known, global_known, closure_known, operation_known, application_known, group_known, Names, sites_once, bound_known, library_known, statics_known, code_valid, is_valid}
+use Rattle.sch_control.specs.Valid.{bound_in, numbered, only_reads, operand_shaped, operation_shaped, application_shaped, group_shaped, entry_shaped, each_part, source_field, operation_field, group_fields, fields_known, is_bare, in_scope, atom_known, global_known, closure_known, operation_known, application_known, group_known, Names, sites_of, sites_once, bound_known, library_known, statics_known, code_valid, is_valid}
 use Rattle.sch_control.proofs.Examples.{number, held_in, applied, form, lambda, program, shown}
 
 abbrev fails : {A : Type 0} → (A → Bool) → List A → Bool
@@ -251,7 +251,7 @@ group_is_known = group_known names
 groups_known : list_all group_is_known ((member 2 0 ∷ member 3 0 ∷ []) ∷ []) ≡ true
 groups_known = refl
 
-groups_known_not : fails group_is_known ((member 2 0 ∷ member 3 1 ∷ []) ∷ []) ≡ true
+groups_known_not : fails group_is_known ((member 2 0 ∷ member 3 1 ∷ []) ∷ (record { at = 2; closure = record { label = 2; fields = source.Atom (Literal 1) ∷ [] } } ∷ []) ∷ []) ≡ true
 groups_known_not = refl
 
 -- ## Sites, of a form that shows two values
@@ -266,6 +266,18 @@ sites_listed = refl
 sites_listed_not : fails sites_once (two_shown 0 0 (1 ∷ 1 ∷ []) [] ∷ program [] (form 2 (end (shown 0 (number 1))) ∷ form 2 (end (shown 0 (number 1))) ∷ []) (1 ∷ []) []
     ∷ two_shown 0 1 (1 ∷ []) [] ∷ two_shown 0 1 (1 ∷ 2 ∷ []) [] ∷ program [] (form 3 (end (call (applied 0 (held_in 2) (number 1 ∷ [])) [])) ∷ []) (1 ∷ []) [] ∷ []) ≡ true
 sites_listed_not = refl
+
+abbrev read_at : ℕ → Operand ℕ
+read_at site = operand.Read site IsNull (Variable 2 ∷ [])
+
+abbrev at_site : ℕ → Expression
+at_site site = shown site (number 1)
+
+sites_everywhere : sites_of (bind 2 (at_site 0) (sequence (at_site 1) (branch (at_site 2) (return (at_site 3)) (fix (member 7 0 ∷ []) (save [] (bind 3 (call (applied 4 (read_at 5) (read_at 6 ∷ number 1 ∷ [])) [])
+    (sequence (perform (operation.Prim 7 Eq (read_at 8 ∷ number 1 ∷ []))) (branch (perform (operation.SetGlobal 0 (read_at 9))) (end (perform (operation.NewCell (read_at 10))))
+    (sequence (perform (operation.CellSet (source.Field 1 0) (read_at 11))) (tail_call (applied 12 (held_in 2) [])))))))))))
+    ≡ (0, 1) ∷ (1, 1) ∷ (2, 1) ∷ (3, 1) ∷ (4, 3) ∷ (5, 1) ∷ (6, 1) ∷ (7, 2) ∷ (8, 1) ∷ (9, 1) ∷ (10, 1) ∷ (11, 1) ∷ (12, 1) ∷ []
+sites_everywhere = refl
 
 abbrev binds : (sites : List ℕ) → (bound : List (List ℕ)) → Source
 binds sites bound = program [] [] sites bound
