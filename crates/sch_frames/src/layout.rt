@@ -21,7 +21,7 @@ const LINK: u8 = 15;
 const CLOSURE: u8 = 14;
 
 /// The place of a variable: a slot of its own, from `base` on, but for the return address. A slot past the
-/// numbers of 32 bits is want of memory.
+/// numbers of 32 bits is out of memory.
 pub(crate) fn own_slot(base: u32, x: u32) -> Result<Place, Mem>
     ensures { IfOk result (λ p. p ≡ own_slot base x) }
 {

@@ -35,7 +35,7 @@ fn laid_out(alloc: Global, b: &Body) -> Result<Writer, Mem>
 ///
 /// Memory is used as the answer's instructions need it: at most three for each node of the body, one for each
 /// formal and one more. A label past the numbers of 32 bits, for which a body needs 2^31 nodes, is answered as
-/// want of memory too.
+/// out of memory too.
 pub fn frame_slots(alloc: Global, b: &Body) -> Result<FrameBody, Mem>
     requires straight { IsTrue (straight (expression b.now.exp)) }
     ensures same { IfOk result (λ f. FrameOf (control.code_of b.now) (code_of f)) }
