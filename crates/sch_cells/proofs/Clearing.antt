@@ -10,11 +10,11 @@ use Rattle.sch_cells.specs.Variables.{scope_of, cells_bound, cells_used, all_in,
 use Rattle.sch_cells.specs.Valid.{scoped, bound_of}
 use Rattle.sch_cells.specs.Clear.{In, Apart, Clear, ClearEach, ClearLambdas}
 
-not_has : (b : Bool) → IsTrue (not b) → b ≡ false
+pub not_has : (b : Bool) → IsTrue (not b) → b ≡ false
 not_has true h = absurd (cc)
 not_has false h = refl
 
-has_append : (y : ℕ) (xs ys : List ℕ) → has y (xs ++ ys) ≡ (has y xs || has y ys)
+pub has_append : (y : ℕ) (xs ys : List ℕ) → has y (xs ++ ys) ≡ (has y xs || has y ys)
 has_append y [] ys = refl
 has_append y (x ∷ xs) ys = go (nat_eq y x) (has_append y xs ys)
   where
@@ -22,23 +22,23 @@ has_append y (x ∷ xs) ys = go (nat_eq y x) (has_append y xs ys)
     go true h = refl
     go false h = h
 
-or_left : (a b : Bool) → a ≡ true → (a || b) ≡ true
+pub or_left : (a b : Bool) → a ≡ true → (a || b) ≡ true
 or_left true b h = refl
 or_left false b h = absurd (cc)
 
-or_right : (a b : Bool) → b ≡ true → (a || b) ≡ true
+pub or_right : (a b : Bool) → b ≡ true → (a || b) ≡ true
 or_right true b h = refl
 or_right false b h = h
 
-neither : (a b : Bool) → a ≡ false → b ≡ false → (a || b) ≡ false
+pub neither : (a b : Bool) → a ≡ false → b ≡ false → (a || b) ≡ false
 neither true b p q = absurd (cc)
 neither false b p q = q
 
-first_false : (a b : Bool) → (a || b) ≡ false → a ≡ false
+pub first_false : (a b : Bool) → (a || b) ≡ false → a ≡ false
 first_false true b h = absurd (cc)
 first_false false b h = refl
 
-second_false : (a b : Bool) → (a || b) ≡ false → b ≡ false
+pub second_false : (a b : Bool) → (a || b) ≡ false → b ≡ false
 second_false true b h = absurd (cc)
 second_false false b h = h
 
@@ -50,13 +50,13 @@ left_apart xs ys S h = record { at = λ y i. h.at y (has_append y xs ys ∙ or_l
 pub right_apart : (xs ys S : List ℕ) → Apart (xs ++ ys) S → Apart ys S
 right_apart xs ys S h = record { at = λ y i. h.at y (has_append y xs ys ∙ or_right (has y xs) (has y ys) i) }
 
-apart_left : (xs ys zs : List ℕ) → Apart xs (ys ++ zs) → Apart xs ys
+pub apart_left : (xs ys zs : List ℕ) → Apart xs (ys ++ zs) → Apart xs ys
 apart_left xs ys zs h = record { at = λ y i. first_false (has y ys) (has y zs) (sym (has_append y ys zs) ∙ h.at y i) }
 
-apart_right : (xs ys zs : List ℕ) → Apart xs (ys ++ zs) → Apart xs zs
+pub apart_right : (xs ys zs : List ℕ) → Apart xs (ys ++ zs) → Apart xs zs
 apart_right xs ys zs h = record { at = λ y i. second_false (has y ys) (has y zs) (sym (has_append y ys zs) ∙ h.at y i) }
 
-apart_back : (xs ys : List ℕ) → Apart xs ys → Apart ys xs
+pub apart_back : (xs ys : List ℕ) → Apart xs ys → Apart ys xs
 apart_back xs ys h = record { at = λ y i. go y i (has y xs) refl }
   where
     go : (y : ℕ) → In y ys → (b : Bool) → has y xs ≡ b → has y xs ≡ false
@@ -64,25 +64,25 @@ apart_back xs ys h = record { at = λ y i. go y i (has y xs) refl }
     go y i false e = e
 
 -- what is apart from a group and from a scope is apart from the scope with the group
-scope_has : (y : ℕ) (x m : ℕ) (S : List ℕ) → has y (numbers x m) ≡ false → has y S ≡ false → has y (scope_with x m S) ≡ false
+pub scope_has : (y : ℕ) (x m : ℕ) (S : List ℕ) → has y (numbers x m) ≡ false → has y S ≡ false → has y (scope_with x m S) ≡ false
 scope_has y x zero S p q = q
 scope_has y x (suc m) S p q = scope_has y (suc x) m (x ∷ S) (second_false (nat_eq y x) _ p) (neither (nat_eq y x) (has y S) (first_false (nat_eq y x) _ p) q)
 
-apart_scope : (xs : List ℕ) (x m : ℕ) (S : List ℕ) → Apart xs (numbers x m) → Apart xs S → Apart xs (scope_with x m S)
+pub apart_scope : (xs : List ℕ) (x m : ℕ) (S : List ℕ) → Apart xs (numbers x m) → Apart xs S → Apart xs (scope_with x m S)
 apart_scope xs x m S p q = record { at = λ y i. scope_has y x m S (p.at y i) (q.at y i) }
 
-list_has : (y : ℕ) (zs S : List ℕ) → has y zs ≡ false → has y S ≡ false → has y (scope_of zs S) ≡ false
+pub list_has : (y : ℕ) (zs S : List ℕ) → has y zs ≡ false → has y S ≡ false → has y (scope_of zs S) ≡ false
 list_has y [] S p q = q
 list_has y (z ∷ zs) S p q = list_has y zs (z ∷ S) (second_false (nat_eq y z) _ p) (neither (nat_eq y z) (has y S) (first_false (nat_eq y z) _ p) q)
 
 -- ## Lists without repeats
 
-record Parts (xs ys : List ℕ) : Type 0 where
-  left : IsTrue (distinct xs)
-  right : IsTrue (distinct ys)
-  apart : Apart xs ys
+pub record Parts (xs ys : List ℕ) : Type 0 where
+  pub left : IsTrue (distinct xs)
+  pub right : IsTrue (distinct ys)
+  pub apart : Apart xs ys
 
-distinct_parts : (xs ys : List ℕ) → IsTrue (distinct (xs ++ ys)) → Parts xs ys
+pub distinct_parts : (xs ys : List ℕ) → IsTrue (distinct (xs ++ ys)) → Parts xs ys
 distinct_parts [] ys h = record { left = refl; right = h; apart = record { at = λ y i. absurd (cc) } }
 distinct_parts (x ∷ xs) ys h =
     let p = parts (not (has x (xs ++ ys))) (distinct (xs ++ ys)) h in
@@ -98,6 +98,12 @@ distinct_parts (x ∷ xs) ys h =
     go : (y : ℕ) (b : Bool) → nat_eq y x ≡ b → (nat_eq y x || has y xs) ≡ true → has x ys ≡ false → (In y xs → has y ys ≡ false) → has y ys ≡ false
     go y true e i f k = subst (λ z. has z ys ≡ false) (sym (eqb-true y x e)) f
     go y false e i f k = k (let j : (false || has y xs) ≡ true = rw e at i in j)
+
+pub distinct_left : (xs ys : List ℕ) → IsTrue (distinct (xs ++ ys)) → IsTrue (distinct xs)
+distinct_left xs ys h = (distinct_parts xs ys h).left
+
+pub distinct_right : (xs ys : List ℕ) → IsTrue (distinct (xs ++ ys)) → IsTrue (distinct ys)
+distinct_right xs ys h = (distinct_parts xs ys h).right
 
 -- ## Trees
 

@@ -1,8 +1,8 @@
 -- A flat tree runs as the tree that it was made from.
-use Rattle.std.proofs.Common.{◌≡◌, ℕ, zero, suc, ◌+◌, Bool, true, false, List, [], ◌∷◌, ◌++◌, length, map, Option, Some, None, refl, sym, ap, ◌∙◌, subst, arith, append_assoc, length-append}
-use Rattle.std.specs.Prelude.{IsTrue, slice_get, nat_eq, ◌||◌, ◌&&◌}
+use Rattle.std.proofs.Common.{◌≡◌, ℕ, zero, suc, ◌+◌, Bool, true, false, List, [], ◌∷◌, ◌++◌, length, map, Option, Some, None, refl, sym, ap, ◌∙◌, arith, append_assoc, length-append}
+use Rattle.std.specs.Prelude.{slice_get, nat_eq, ◌||◌}
 use Rattle.std.proofs.lemmas.Bool.{eqb-true}
-use Rattle.sch_word.specs.Values.{Value, unspecified, constant_value, is_true, cell, fixnum, character, boolean, nil, symbol, object, procedure}
+use Rattle.sch_word.specs.Values.{Value, unspecified, is_true, cell, fixnum, character, boolean, nil, symbol, object, procedure}
 use Rattle.sch_word.specs.NumberSets.{has, union}
 use Rattle.sch_word.specs.Bindings.{Bindings, bound_to, this_or, value_or, value_of, with_variables, numbers, scope_with, remove, without}
 use Rattle.sch_word.specs.Computation.{Computation, read_literal, read_global, write_global, take_entry}
@@ -17,7 +17,7 @@ use Rattle.sch_cells.specs.declared.tree.NewCell.{NewCell}
 use Rattle.sch_cells.specs.Tree.{Tree, Trees, Lambdas, Source, constant, literal, variable, global, set_variable, set_global, define, branch, sequence, bind, fix, letrec, lambda, call, operation, new_cells, cell_get, cell_set, no_trees, and_tree, no_lambdas, and_lambda, count, count_lambdas}
 use Rattle.sch_cells.specs.Variables.{free, free_each, free_lambdas, cells_bound, cells_used, and_some, without_each}
 use Rattle.sch_cells.specs.Clear.{In, Apart, ClearEach, ClearLambdas}
-use Rattle.sch_cells.specs.Procedures.{Closure, closures, lambda_bytes, lambdas_bytes}
+use Rattle.sch_cells.specs.Procedures.{Closure, closures, lambdas_bytes}
 use Rattle.sch_cells.specs.BoxedMeaning as from
 use Rattle.sch_flat.specs.Tree as flat
 use Rattle.sch_flat.specs.Meaning as to
@@ -46,7 +46,7 @@ seen_right : {fs : List ℕ} (xs ys : List ℕ) {environment : Bindings Value} {
 seen_right xs ys s = seen_less (union xs ys) (λ x i. union_right x xs ys i) s
 
 -- a variable that is no field is one that the body binds
-place_bound : (k : ℕ) (fs : List ℕ) (x : ℕ) → has x fs ≡ false → place_from k fs x ≡ flat.bound x
+pub place_bound : (k : ℕ) (fs : List ℕ) (x : ℕ) → has x fs ≡ false → place_from k fs x ≡ flat.bound x
 place_bound k [] x e = refl
 place_bound k (y ∷ fs) x e = go (place_bound (suc k) fs x) (nat_eq x y) e
   where
@@ -75,10 +75,10 @@ seen_push {fs} {xs} {environment} {h} y v a s = record { at = λ x i. go x (nat_
         rw (p, e) refl
     go x false e i = push_other 0 fs x y v h e ∙ s.at x (remove_other x y xs e i) ∙ rw e refl
 
-apart_head : (y : ℕ) (ys fs : List ℕ) → Apart (y ∷ ys) fs → has y fs ≡ false
+pub apart_head : (y : ℕ) (ys fs : List ℕ) → Apart (y ∷ ys) fs → has y fs ≡ false
 apart_head y ys fs a = a.at y (in_here y ys)
 
-apart_tail : (y : ℕ) (ys fs : List ℕ) → Apart (y ∷ ys) fs → Apart ys fs
+pub apart_tail : (y : ℕ) (ys fs : List ℕ) → Apart (y ∷ ys) fs → Apart ys fs
 apart_tail y ys fs a = record { at = λ z i. a.at z (in_more z y ys i) }
 
 seen_with : {fs xs : List ℕ} {environment : Bindings Value} {h : Environment} (x m : ℕ) (vs : List Value) → length vs ≡ m → Apart (numbers x m) fs → Seen fs (without x m xs) environment h → Seen fs xs (with_variables x vs environment) (and_values x vs h)
@@ -213,30 +213,30 @@ module _ (all : List flat.Body) where
           let r = seen_right (free a) (union (free b) (free c)) s in
           similar_then (same_store Becomes) (evaluate_same a fs n depth false (seen_left (free a) (union (free b) (free c)) s) f.0 t.0)
           (λ _ _ v. similar_either (same_store Becomes) (is_true v)
-              (evaluate_same b fs (n + procedures a) depth tail (seen_left (free b) (free c) r) f.1 t.1)
-              (evaluate_same c fs (n + procedures a + procedures b) depth tail (seen_right (free b) (free c) r) f.2 t.2))
+          (evaluate_same b fs (n + procedures a) depth tail (seen_left (free b) (free c) r) f.1 t.1)
+          (evaluate_same c fs (n + procedures a + procedures b) depth tail (seen_right (free b) (free c) r) f.2 t.2))
       evaluate_same (sequence es) fs n depth tail s f t = similar_in_turn (same_store Becomes) unspecified (parts_same es fs n depth tail s f t)
       evaluate_same (bind site x es e) fs n {environment} depth tail s f t =
           same_keeping Becomes {Promise = λ vs. length vs ≡ length (from.each orders enter es environment depth)}
-              (similar_all_values (same_store Becomes) (orders site) (each_same es fs n depth (seen_left (free_each es) _ s) f.1 t.0))
+          (similar_all_values (same_store Becomes) (orders site) (each_same es fs n depth (seen_left (free_each es) _ s) f.1 t.0))
           (λ vs l. evaluate_same e fs (n + procedures_each es) depth tail
-              (seen_with x (count es) vs (l ∙ each_length es environment depth) f.0 (seen_right (free_each es) (without x (count es) (free e)) s)) f.2 t.1)
+          (seen_with x (count es) vs (l ∙ each_length es environment depth) f.0 (seen_right (free_each es) (without x (count es) (free e)) s)) f.2 t.1)
       evaluate_same (fix x ls e) fs n {environment} {h} depth tail s f t =
           rw (bytes_same ls fs n, made_length ls fs n) (similar_then (same_store Becomes) (same_in_store Becomes (charge_each (lambdas_bytes ls)))
           (λ _ _ _. same_keeping Becomes
-              (keeps_new_group Becomes (count_lambdas ls) (λ vs l. groups ls fs n (seen_left (free_lambdas ls) (free e) (seen_with x (count_lambdas ls) vs l f.0 s)) f.1 t.0))
-              (λ vs l. evaluate_same e fs (n + procedures_lambdas ls) depth tail (seen_right (free_lambdas ls) (free e) (seen_with x (count_lambdas ls) vs l f.0 s)) f.2 t.1)))
+          (keeps_new_group Becomes (count_lambdas ls) (λ vs l. groups ls fs n (seen_left (free_lambdas ls) (free e) (seen_with x (count_lambdas ls) vs l f.0 s)) f.1 t.0))
+          (λ vs l. evaluate_same e fs (n + procedures_lambdas ls) depth tail (seen_right (free_lambdas ls) (free e) (seen_with x (count_lambdas ls) vs l f.0 s)) f.2 t.1)))
       evaluate_same (lambda name x m rest e) fs n depth tail s f t =
           rw (places_length (place fs) (fields_of x m e)) (similar_then (same_store Becomes) (same_in_store Becomes (charge (procedure_bytes (length (fields_of x m e)))))
           (λ _ _ _. same_new_procedure Becomes (record { name = name; fields = captured fs (fields_of x m e) s; body = t.0; stand = t.1; apart = f.0; fresh = f.1 })))
       evaluate_same (call site spread g es) fs n {environment} depth tail s f t =
           same_keeping Becomes {Promise = λ vs. length vs ≡ suc (length (from.each orders enter es environment depth))}
-              (similar_all_values (same_store Becomes) (orders site)
-              (and_similar (evaluate_same g fs n depth false (seen_left (free g) (free_each es) s) f.0 t.0) (each_same es fs (n + procedures g) depth (seen_right (free g) (free_each es) s) f.1 t.1)))
+          (similar_all_values (same_store Becomes) (orders site)
+          (and_similar (evaluate_same g fs n depth false (seen_left (free g) (free_each es) s) f.0 t.0) (each_same es fs (n + procedures g) depth (seen_right (free g) (free_each es) s) f.1 t.1)))
           (λ vs _. same_call Becomes enter enter' same_enter spread tail depth vs)
       evaluate_same (operation site which es) fs n {environment} depth tail s f t =
           same_keeping Becomes {Promise = λ vs. length vs ≡ length (from.each orders enter es environment depth)}
-              (similar_all_values (same_store Becomes) (orders site) (each_same es fs n depth s f t))
+          (similar_all_values (same_store Becomes) (orders site) (each_same es fs n depth s f t))
           (λ vs _. same_in_store Becomes (primitive which vs))
       evaluate_same (new_cells cs e) fs n {environment} {h} depth tail s f t =
           let used = seen_left (cells_used cs) (without_each (cells_bound cs) (free e)) s in
@@ -268,11 +268,11 @@ module _ (all : List flat.Body) where
       rw (h.body, h.fields) (same_keeping Becomes (keeps_in_store Becomes (λ ws. length ws ≡ p.formals) (fit p.formals p.rest vs) (fit_length p.formals p.rest vs))
       (λ ws l. similar_then (same_store Becomes) (same_in_store Becomes take_entry)
       (λ _ _ _. evaluate_same orders (from.enter orders n) (to.enter all orders n) (enter_same orders n) p.body (free_of p) (suc q.label) depth true
-          (seen_with p.first p.formals ws l h.apart (seen_fields (free_of p) p.environment)) h.fresh h.stand)))
+      (seen_with p.first p.formals ws l h.apart (seen_fields (free_of p) p.environment)) h.fresh h.stand)))
 
 -- ## Programs
 
-none_within : (xs : List ℕ) → Within xs [] → xs ≡ []
+pub none_within : (xs : List ℕ) → Within xs [] → xs ≡ []
 none_within [] w = refl
 none_within (x ∷ xs) w = absurd (let h : false ≡ true = w x (in_here x xs) in cc)
 
@@ -296,7 +296,7 @@ runs_alike p cl c bl b = record {
       same_seen (Becomes all) answers entries _ _
       (similar_in_turn (same_store (Becomes all)) unspecified
       (each_same all (order_at table) (from.enter (order_at table) entries) (to.enter all (order_at table) entries) (enter_same all (order_at table) entries) p.forms [] (procedures_lambdas p.library) depth
-          (seen_none (free_each p.forms)) (fresh_each p.forms [] [] (λ x i. i) c b) (stands_forms p.library p.forms)))
+      (seen_none (free_each p.forms)) (fresh_each p.forms [] [] (λ x i. i) c b) (stands_forms body_of p.library p.forms)))
       (starting_store p.statics heap answers entries) (closures p.library []) (runs.library_closures (labels p.library 0))
-      (library_becomes all p.library 0 cl (fresh_lambdas p.library [] cl bl) (stands_library p.library p.forms));
+      (library_becomes all p.library 0 cl (fresh_lambdas p.library [] cl bl) (stands_library body_of p.library p.forms));
 }

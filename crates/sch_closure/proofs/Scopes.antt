@@ -1,13 +1,12 @@
 -- In a valid program no variable that a body binds is a field of its record.
-use Rattle.std.proofs.Common.{◌≡◌, ℕ, zero, suc, ◌+◌, Bool, true, false, List, [], ◌∷◌, Option, Some, None, refl, sym, ap, ◌∙◌, subst}
+use Rattle.std.proofs.Common.{◌≡◌, ℕ, Bool, true, false, List, [], ◌∷◌, refl, sym, subst}
 use Rattle.std.specs.Prelude.{IsTrue, nat_eq, ◌||◌, ◌&&◌}
 use Rattle.std.proofs.lemmas.Bool.{eqb-true}
-use Rattle.sch_word.specs.NumberSets.{has, union}
+use Rattle.sch_word.specs.NumberSets.{has}
 use Rattle.sch_word.specs.Bindings.{numbers, without, scope_with}
 use Rattle.sch_word.proofs.Shaped.{parts}
-use Rattle.sch_cells.specs.declared.tree.NewCell.{NewCell}
 use Rattle.sch_cells.specs.Tree.{Tree, Trees, Lambdas, constant, literal, variable, global, set_variable, set_global, define, branch, sequence, bind, fix, letrec, lambda, call, operation, new_cells, cell_get, cell_set, no_trees, and_tree, no_lambdas, and_lambda, count, count_lambdas}
-use Rattle.sch_cells.specs.Variables.{free, free_each, free_lambdas, scope_of, cells_bound, cells_used, and_some, all_in, without_each}
+use Rattle.sch_cells.specs.Variables.{free, free_each, free_lambdas, scope_of, cells_bound, cells_used, all_in}
 use Rattle.sch_cells.specs.Measures.{over, over_each, over_lambdas, shape}
 use Rattle.sch_cells.specs.Valid.{has_form}
 use Rattle.sch_cells.specs.Clear.{In, Apart, Clear, ClearEach, ClearLambdas}

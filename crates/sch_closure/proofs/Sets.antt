@@ -1,6 +1,6 @@
 -- Sets of numbers: what is in a union, and in a set without some numbers.
-use Rattle.std.proofs.Common.{◌≡◌, ℕ, zero, suc, ◌+◌, Bool, true, false, List, [], ◌∷◌, ◌++◌, length, Option, Some, None, refl, sym, ap, ◌∙◌, subst, arith, map}
-use Rattle.std.specs.Prelude.{nat_eq, slice_get}
+use Rattle.std.proofs.Common.{◌≡◌, ℕ, zero, suc, Bool, true, false, List, [], ◌∷◌, refl, sym, subst}
+use Rattle.std.specs.Prelude.{nat_eq}
 use Rattle.std.proofs.lemmas.Bool.{eqb-true, eq-eqb}
 use Rattle.std.specs.Prelude.{◌||◌}
 use Rattle.sch_word.specs.NumberSets.{has, unless, insert, union}
@@ -113,7 +113,6 @@ without_scope a (suc m) xs S f y h =
 pub scope_more : (a m : ℕ) (S : List ℕ) (y : ℕ) → In y S → In y (scope_with a m S)
 scope_more a zero S y h = h
 scope_more a (suc m) S y h = scope_more (suc a) m (a ∷ S) y (in_more y a S h)
-
 
 -- the same for any list of numbers
 pub without_each_scope : (ys xs S : List ℕ) → ((y : ℕ) → In y xs → In y (scope_of ys S)) → (y : ℕ) → In y (without_each ys xs) → In y S

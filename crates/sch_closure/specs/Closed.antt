@@ -1,5 +1,5 @@
 -- What closing makes of a tree: a flat tree, and the bodies of the procedures in it.
-use Rattle.std.specs.Prelude.{◌≡◌, ℕ, zero, suc, ◌+◌, Bool, true, false, List, [], ◌∷◌, ◌++◌, length, map, nat_eq, slice_get, Option, Some, None}
+use Rattle.std.specs.Prelude.{ℕ, suc, ◌+◌, Bool, true, false, List, [], ◌∷◌, ◌++◌, length, map, nat_eq, Option, Some, None}
 use Rattle.sch_word.specs.Bindings.{without}
 use Rattle.sch_cells.specs.declared.tree.NewCell.{NewCell}
 use Rattle.sch_cells.specs.Tree as from
@@ -104,45 +104,55 @@ abbrev mutual
   made_each (and_lambda name first formals rest e ls) fields n =
       made first formals e fields n ∷ made_each ls fields (suc n + procedures e)
 
--- ## Bodies
+-- ## Procedures
 
+-- what is made of each procedure in a tree with its label, where labels begin at n: of each before those inside it
+module _ {A : Type 0} (of : (name : List ℕ) → (first formals : ℕ) → (rest : Bool) → Tree → (label : ℕ) → A) where
+  abbrev mutual
+    pub all_procedures : Tree → (n : ℕ) → List A
+    all_procedures (constant c) n = []
+    all_procedures (literal k) n = []
+    all_procedures (variable x) n = []
+    all_procedures (global g) n = []
+    all_procedures (set_variable x e) n = all_procedures e n
+    all_procedures (set_global g e) n = all_procedures e n
+    all_procedures (define g e) n = all_procedures e n
+    all_procedures (branch a b c) n =
+        all_procedures a n ++ (all_procedures b (n + procedures a) ++ all_procedures c (n + procedures a + procedures b))
+    all_procedures (sequence es) n = all_of_each es n
+    all_procedures (bind site first es e) n = all_of_each es n ++ all_procedures e (n + procedures_each es)
+    all_procedures (fix first ls e) n = all_of_lambdas ls n ++ all_procedures e (n + procedures_lambdas ls)
+    all_procedures (letrec site first es e) n = all_of_each es n ++ all_procedures e (n + procedures_each es)
+    all_procedures (lambda name first formals rest e) n = of name first formals rest e n ∷ all_procedures e (suc n)
+    all_procedures (call site spread f es) n = all_procedures f n ++ all_of_each es (n + procedures f)
+    all_procedures (operation site which es) n = all_of_each es n
+    all_procedures (new_cells cs e) n = all_procedures e n
+    all_procedures (cell_get x) n = []
+    all_procedures (cell_set x e) n = all_procedures e n
+
+    pub all_of_each : Trees → (n : ℕ) → List A
+    all_of_each no_trees n = []
+    all_of_each (and_tree e es) n = all_procedures e n ++ all_of_each es (n + procedures e)
+
+    pub all_of_lambdas : Lambdas → (n : ℕ) → List A
+    all_of_lambdas no_lambdas n = []
+    all_of_lambdas (and_lambda name first formals rest e ls) n =
+        of name first formals rest e n ∷ (all_procedures e (suc n) ++ all_of_lambdas ls (suc n + procedures e))
+
+-- the free variables of a procedure of the text
+abbrev pub captured : (name : List ℕ) → (first formals : ℕ) → (rest : Bool) → Tree → (label : ℕ) → List ℕ
+captured name first formals rest e label = fields_of first formals e
+
+-- the body of a procedure of the text
 abbrev pub body_of : (name : List ℕ) → (first formals : ℕ) → (rest : Bool) → Tree → (label : ℕ) → to.Body
 body_of name first formals rest e label = record {
-  name = name; first = first; formals = formals; rest = rest;
+  name = name;
+  first = first;
+  formals = formals;
+  rest = rest;
   fields = length (fields_of first formals e);
   code = closed e (fields_of first formals e) (suc label);
 }
-
--- the bodies of the procedures in a tree, whose labels begin at n: each before those inside it
-abbrev mutual
-  pub bodies : Tree → (n : ℕ) → List to.Body
-  bodies (constant c) n = []
-  bodies (literal k) n = []
-  bodies (variable x) n = []
-  bodies (global g) n = []
-  bodies (set_variable x e) n = bodies e n
-  bodies (set_global g e) n = bodies e n
-  bodies (define g e) n = bodies e n
-  bodies (branch a b c) n = bodies a n ++ (bodies b (n + procedures a) ++ bodies c (n + procedures a + procedures b))
-  bodies (sequence es) n = bodies_each es n
-  bodies (bind site first es e) n = bodies_each es n ++ bodies e (n + procedures_each es)
-  bodies (fix first ls e) n = bodies_lambdas ls n ++ bodies e (n + procedures_lambdas ls)
-  bodies (letrec site first es e) n = bodies_each es n ++ bodies e (n + procedures_each es)
-  bodies (lambda name first formals rest e) n = body_of name first formals rest e n ∷ bodies e (suc n)
-  bodies (call site spread f es) n = bodies f n ++ bodies_each es (n + procedures f)
-  bodies (operation site which es) n = bodies_each es n
-  bodies (new_cells cs e) n = bodies e n
-  bodies (cell_get x) n = []
-  bodies (cell_set x e) n = bodies e n
-
-  pub bodies_each : Trees → (n : ℕ) → List to.Body
-  bodies_each no_trees n = []
-  bodies_each (and_tree e es) n = bodies e n ++ bodies_each es (n + procedures e)
-
-  pub bodies_lambdas : Lambdas → (n : ℕ) → List to.Body
-  bodies_lambdas no_lambdas n = []
-  bodies_lambdas (and_lambda name first formals rest e ls) n =
-      body_of name first formals rest e n ∷ (bodies e (suc n) ++ bodies_lambdas ls (suc n + procedures e))
 
 -- ## Programs
 
@@ -161,7 +171,7 @@ abbrev pub closed_source : from.Source → to.Source
 closed_source p = record {
   statics = p.statics;
   library = labels p.library 0;
-  bodies = bodies_lambdas p.library 0 ++ bodies_each p.forms (procedures_lambdas p.library);
+  bodies = all_of_lambdas body_of p.library 0 ++ all_of_each body_of p.forms (procedures_lambdas p.library);
   forms = closed_each p.forms [] (procedures_lambdas p.library);
   starts = starts p.forms (procedures_lambdas p.library);
   sites = p.sites;

@@ -1,6 +1,6 @@
 -- What holds of the trees of a valid program: no variable that a body binds is a field of its record, and the
 -- nodes are those without assignments. And where the bodies of a tree stand.
-use Rattle.std.specs.Prelude.{◌≡◌, ℕ, suc, ◌+◌, Bool, true, false, List, slice_get, Some}
+use Rattle.std.specs.Prelude.{◌≡◌, ℕ, suc, ◌+◌, Bool, List, slice_get, Some}
 use Rattle.sch_word.specs.Bindings.{numbers}
 use Rattle.sch_cells.specs.Tree.{Tree, Trees, Lambdas, constant, literal, variable, global, set_variable, set_global, define, branch, sequence, bind, fix, letrec, lambda, call, operation, new_cells, cell_get, cell_set, no_trees, and_tree, no_lambdas, and_lambda, count, count_lambdas}
 use Rattle.sch_cells.specs.Variables.{cells_bound}
@@ -37,34 +37,44 @@ abbrev mutual
   FreshLambdas no_lambdas = Unit {0}
   FreshLambdas (and_lambda name x m rest e ls) = (Apart (numbers x m) (fields_of x m e) × Fresh e (fields_of x m e)) × FreshLambdas ls
 
--- the bodies of a tree stand in the list of all of them, from a label on
-module _ (all : List to.Body) where
+-- what is made of the procedures in a tree stands in a list, from a label on
+module _ {A : Type 0} (of : (name : List ℕ) → (first formals : ℕ) → (rest : Bool) → Tree → (label : ℕ) → A) (all : List A) where
   abbrev mutual
-    pub Stand : Tree → (n : ℕ) → Type 0
-    Stand (constant c) n = Unit {0}
-    Stand (literal k) n = Unit {0}
-    Stand (variable x) n = Unit {0}
-    Stand (global g) n = Unit {0}
-    Stand (set_variable x e) n = Stand e n
-    Stand (set_global g e) n = Stand e n
-    Stand (define g e) n = Stand e n
-    Stand (branch a b c) n = Stand a n × Stand b (n + procedures a) × Stand c (n + procedures a + procedures b)
-    Stand (sequence es) n = StandEach es n
-    Stand (bind site x es e) n = StandEach es n × Stand e (n + procedures_each es)
-    Stand (fix x ls e) n = StandLambdas ls n × Stand e (n + procedures_lambdas ls)
-    Stand (letrec site x es e) n = StandEach es n × Stand e (n + procedures_each es)
-    Stand (lambda name x m rest e) n = (slice_get all n ≡ Some (body_of name x m rest e n)) × Stand e (suc n)
-    Stand (call site spread f es) n = Stand f n × StandEach es (n + procedures f)
-    Stand (operation site which es) n = StandEach es n
-    Stand (new_cells cs e) n = Stand e n
-    Stand (cell_get x) n = Unit {0}
-    Stand (cell_set x e) n = Stand e n
+    pub Stands : Tree → (n : ℕ) → Type 0
+    Stands (constant c) n = Unit {0}
+    Stands (literal k) n = Unit {0}
+    Stands (variable x) n = Unit {0}
+    Stands (global g) n = Unit {0}
+    Stands (set_variable x e) n = Stands e n
+    Stands (set_global g e) n = Stands e n
+    Stands (define g e) n = Stands e n
+    Stands (branch a b c) n = Stands a n × Stands b (n + procedures a) × Stands c (n + procedures a + procedures b)
+    Stands (sequence es) n = EachStands es n
+    Stands (bind site x es e) n = EachStands es n × Stands e (n + procedures_each es)
+    Stands (fix x ls e) n = LambdasStand ls n × Stands e (n + procedures_lambdas ls)
+    Stands (letrec site x es e) n = EachStands es n × Stands e (n + procedures_each es)
+    Stands (lambda name x m rest e) n = (slice_get all n ≡ Some (of name x m rest e n)) × Stands e (suc n)
+    Stands (call site spread f es) n = Stands f n × EachStands es (n + procedures f)
+    Stands (operation site which es) n = EachStands es n
+    Stands (new_cells cs e) n = Stands e n
+    Stands (cell_get x) n = Unit {0}
+    Stands (cell_set x e) n = Stands e n
 
-    pub StandEach : Trees → (n : ℕ) → Type 0
-    StandEach no_trees n = Unit {0}
-    StandEach (and_tree e es) n = Stand e n × StandEach es (n + procedures e)
+    pub EachStands : Trees → (n : ℕ) → Type 0
+    EachStands no_trees n = Unit {0}
+    EachStands (and_tree e es) n = Stands e n × EachStands es (n + procedures e)
 
-    pub StandLambdas : Lambdas → (n : ℕ) → Type 0
-    StandLambdas no_lambdas n = Unit {0}
-    StandLambdas (and_lambda name x m rest e ls) n =
-        ((slice_get all n ≡ Some (body_of name x m rest e n)) × Stand e (suc n)) × StandLambdas ls (suc n + procedures e)
+    pub LambdasStand : Lambdas → (n : ℕ) → Type 0
+    LambdasStand no_lambdas n = Unit {0}
+    LambdasStand (and_lambda name x m rest e ls) n =
+        ((slice_get all n ≡ Some (of name x m rest e n)) × Stands e (suc n)) × LambdasStand ls (suc n + procedures e)
+
+-- the bodies of a tree stand in the list of all of them
+abbrev pub Stand : List to.Body → Tree → (n : ℕ) → Type 0
+Stand all e n = Stands body_of all e n
+
+abbrev pub StandEach : List to.Body → Trees → (n : ℕ) → Type 0
+StandEach all es n = EachStands body_of all es n
+
+abbrev pub StandLambdas : List to.Body → Lambdas → (n : ℕ) → Type 0
+StandLambdas all ls n = LambdasStand body_of all ls n

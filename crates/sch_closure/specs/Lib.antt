@@ -1,2 +1,4 @@
 pub mod Closed
 pub mod Fresh
+pub mod Walked
+pub mod Kept

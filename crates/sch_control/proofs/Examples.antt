@@ -82,7 +82,7 @@ straight_valid = refl
 
 abbrev pub taking : Source
 taking = program []
-    (form 5 (bind 2 (perform (operation.NewCell (number 1))) (bind 3 (perform (operation.MakeClosure (record { label = 1; fields = source.Atom (Variable 2) ∷ [] })))
+    (form 5 (bind 2 (perform (operation.NewCell (source.Atom (Constant (Fixnum (pos 1)))))) (bind 3 (perform (operation.MakeClosure (record { label = 1; fields = source.Atom (Variable 2) ∷ [] })))
     (sequence (perform (operation.CellSet (source.Atom (Variable 2)) (number 6)))
     (bind 4 (call (applied 0 (held_in 3) (number 5 ∷ [])) []) (end (shown 1 (held_in 4)))))))
     ∷ lambda 1 1 4 (bind 3 (perform (operation.CellGet (source.Field 1 0))) (return (perform (operation.Prim 2 Subtract (held_in 2 ∷ held_in 3 ∷ [])))))

@@ -83,12 +83,12 @@ scopes_not = refl
 -- ## Shapes
 
 shapes : list_all operation_shaped (operation.Operand (test_of 2) ∷ operation.Prim 0 Put (test_of 2 ∷ []) ∷ operation.Prim 0 Cons (number 1 ∷ number 2 ∷ [])
-    ∷ operation.Global 0 ∷ operation.SetGlobal 0 (number 1) ∷ operation.Field 1 0 ∷ operation.NewCell (number 1) ∷ operation.UnsetCell
+    ∷ operation.Global 0 ∷ operation.SetGlobal 0 (number 1) ∷ operation.Field 1 0 ∷ operation.NewCell (source.Field 1 0) ∷ operation.UnsetCell
     ∷ operation.CellGet (source.Field 1 0) ∷ operation.CellSet (source.Field 1 0) (number 1) ∷ operation.MakeClosure (closure 1 1000) ∷ []) ≡ true
 shapes = refl
 
 shapes_not : fails operation_shaped (operation.Operand not_simple ∷ operation.Prim 0 Put [] ∷ operation.Prim 0 Cons (number 1 ∷ []) ∷ operation.Prim 0 Put (number 1 ∷ number 2 ∷ []) ∷ operation.Prim 0 Put (not_simple ∷ [])
-    ∷ operation.SetGlobal 0 not_simple ∷ operation.NewCell not_simple ∷ operation.CellSet (source.Field 1 0) not_simple ∷ operation.MakeClosure (closure 1 1001) ∷ []) ≡ true
+    ∷ operation.SetGlobal 0 not_simple ∷ operation.CellSet (source.Field 1 0) not_simple ∷ operation.MakeClosure (closure 1 1001) ∷ []) ≡ true
 shapes_not = refl
 
 abbrev spread_over : List (Operand ℕ) → Application ℕ
@@ -157,7 +157,7 @@ abbrev capturing : (field : ℕ) → Closure ℕ
 capturing k = record { label = 1; fields = source.Atom (Constant Nil) ∷ source.Field 1 k ∷ [] }
 
 abbrev field_operations : (field : ℕ) → List (Operation ℕ)
-field_operations k = operation.Field 1 k ∷ operation.CellGet (source.Field 1 k) ∷ operation.CellSet (source.Field 1 k) (number 1) ∷ operation.MakeClosure (capturing k) ∷ []
+field_operations k = operation.Field 1 k ∷ operation.NewCell (source.Field 1 k) ∷ operation.CellGet (source.Field 1 k) ∷ operation.CellSet (source.Field 1 k) (number 1) ∷ operation.MakeClosure (capturing k) ∷ []
 
 fields_read : list_all (operation_field 1) (operation.Global 5 ∷ field_operations 0) ≡ true
 fields_read = refl
@@ -274,7 +274,7 @@ abbrev at_site : ℕ → Expression
 at_site site = shown site (number 1)
 
 sites_everywhere : sites_of (bind 2 (at_site 0) (sequence (at_site 1) (branch (at_site 2) (return (at_site 3)) (fix (member 7 0 ∷ []) (save [] (bind 3 (call (applied 4 (read_at 5) (read_at 6 ∷ number 1 ∷ [])) [])
-    (sequence (perform (operation.Prim 7 Eq (read_at 8 ∷ number 1 ∷ []))) (branch (perform (operation.SetGlobal 0 (read_at 9))) (end (perform (operation.NewCell (read_at 10))))
+    (sequence (perform (operation.Prim 7 Eq (read_at 8 ∷ number 1 ∷ []))) (branch (perform (operation.SetGlobal 0 (read_at 9))) (end (perform (operation.SetGlobal 0 (read_at 10))))
     (sequence (perform (operation.CellSet (source.Field 1 0) (read_at 11))) (tail_call (applied 12 (held_in 2) [])))))))))))
     ≡ (0, 1) ∷ (1, 1) ∷ (2, 1) ∷ (3, 1) ∷ (4, 3) ∷ (5, 1) ∷ (6, 1) ∷ (7, 2) ∷ (8, 1) ∷ (9, 1) ∷ (10, 1) ∷ (11, 1) ∷ (12, 1) ∷ []
 sites_everywhere = refl

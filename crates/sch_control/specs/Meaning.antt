@@ -4,7 +4,7 @@ use Rattle.std.specs.Prelude.{ℕ, zero, suc, Bool, true, false, ◌||◌, cond,
 use Rattle.sch_word.specs.Values.{Value, unspecified, is_true}
 use Rattle.sch_word.specs.NumberSets.{has, unless}
 use Rattle.sch_word.specs.Checked.{Checked, passes, refused, exhausted, unreachable}
-use Rattle.sch_word.specs.Computation.{Outcome, gives, stops, spent, State, in_store, procedures_from, Entry, checked_call}
+use Rattle.sch_word.specs.Computation.{unreached, Outcome, gives, stops, spent, State, in_store, procedures_from, Entry, checked_call}
 use Rattle.sch_word.specs.Charges.{charge_each}
 use Rattle.sch_control.specs.declared.mark.MarkKind.{MarkKind}
 use Rattle.sch_control.specs.declared.mark.MarkKind.TheVariants.{Save, Restore, Spill, Call, Return, Tail}
@@ -86,7 +86,7 @@ abbrev pub on_checked : {V : Type 0} → Checked V → World → (V → Result) 
 on_checked (passes v) w next = next v
 on_checked (refused why) w next = Some (stops why w)
 on_checked exhausted w next = Some (spent w)
-on_checked unreachable w next = None
+on_checked unreachable w next = Some (unreached w)
 
 abbrev pub either : Bool → Result → Result → Result
 either true first second = first

@@ -1,10 +1,9 @@
 -- What an operation does, by where its values stand: `at` has the value of a variable, or none.
 use Rattle.std.specs.Prelude.{ℕ, List, [], ◌∷◌, ◌++◌, length, Option, Some, None, slice_get, slice_set}
 use Rattle.sch_word.specs.declared.primitive.Primitive.{Primitive}
-use Rattle.sch_word.specs.declared.stop.Stop.TheVariants.{Unset}
 use Rattle.sch_word.specs.Values.{Value, unspecified, procedure, cell, constant_value}
 use Rattle.sch_word.specs.Store.{Store}
-use Rattle.sch_word.specs.Computation.{Outcome, gives, stops, State, Computation, after, in_store, read_global, write_global, new_procedure}
+use Rattle.sch_word.specs.Computation.{Outcome, gives, stops, State, Computation, unreached, after, in_store, read_global, write_global, read_cell, write_cell, new_procedure}
 use Rattle.sch_word.specs.Charges.{charge, cell_bytes, procedure_bytes}
 use Rattle.sch_word.specs.PrimitiveRows.{primitive}
 use Rattle.sch_control.specs.declared.operation.Atom.{Atom}
@@ -72,18 +71,10 @@ new_cell contents =
     after (in_store (charge cell_bytes))
     (λ _ s. gives (cell (length s.cells)) (record s { cells = s.cells ++ contents ∷ [] }))
 
--- the number of a cell that there is
-abbrev pub with_cell : Option Value → List (Option Value) → (ℕ → Option Value → Ending) → Ending
-with_cell (Some (cell n)) cells next = with_some (slice_get cells n) (next n)
-with_cell _ cells next = None
-
--- what a cell holds, or stop 73 where it is unset
-abbrev pub contents : Option Value → Computation Procedure Value
-contents None = stops Unset
-contents (Some v) = gives v
-
-abbrev pub set_cell : ℕ → Value → Computation Procedure Value
-set_cell n v s = gives unspecified (record s { cells = slice_set s.cells n (Some v) })
+-- the cell that a value is
+abbrev pub with_cell : Value → (ℕ → Computation Procedure Value) → Computation Procedure Value
+with_cell (cell n) next = next n
+with_cell _ next = unreached
 
 module _ {V : Type 0} (at : V → Option Value) where
   -- ## Values
@@ -126,11 +117,12 @@ module _ {V : Type 0} (at : V → Option Value) where
   operate (operation.Global g) s = Some (in_store (read_global g) s)
   operate (operation.SetGlobal g o) s = with_some (operand_value s.store o) (λ v. Some (in_store (write_global g v) s))
   operate (operation.Field v k) s = with_some (field (at v) k s.procedures) (λ u. Some (gives u s))
-  operate (operation.NewCell o) s = with_some (operand_value s.store o) (λ v. Some (new_cell (Some v) s))
+  operate (operation.NewCell c) s = with_some (source_value s c) (λ v. Some (new_cell (Some v) s))
   operate operation.UnsetCell s = Some (new_cell None s)
-  operate (operation.CellGet c) s = with_cell (source_value s c) s.cells (λ n held. Some (contents held s))
+  operate (operation.CellGet c) s = with_some (source_value s c) (λ v. Some (with_cell v read_cell s))
   operate (operation.CellSet c o) s =
-      with_cell (source_value s c) s.cells (λ n held. with_some (operand_value s.store o) (λ v. Some (set_cell n v s)))
+      with_some (source_value s c)
+      (λ v. with_some (operand_value s.store o) (λ u. Some (with_cell v (λ n. write_cell n u) s)))
   operate (operation.MakeClosure c) s = with_some (source_values s c.fields) (λ vs. Some (close c.label vs s))
 
   -- ## Groups

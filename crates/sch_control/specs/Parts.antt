@@ -34,7 +34,7 @@ operation_atoms (operation.Prim site which operands) = operands_atoms operands
 operation_atoms (operation.Global g) = []
 operation_atoms (operation.SetGlobal g o) = operand_atoms o
 operation_atoms (operation.Field v k) = Variable v ∷ []
-operation_atoms (operation.NewCell o) = operand_atoms o
+operation_atoms (operation.NewCell c) = source_atom c ∷ []
 operation_atoms operation.UnsetCell = []
 operation_atoms (operation.CellGet c) = source_atom c ∷ []
 operation_atoms (operation.CellSet c o) = source_atom c ∷ operand_atoms o
@@ -61,7 +61,7 @@ abbrev pub operation_sites : {V : Type 0} → Operation V → List (ℕ × ℕ)
 operation_sites (operation.Operand o) = operand_sites o
 operation_sites (operation.Prim site which operands) = (site, length operands) ∷ operands_sites operands
 operation_sites (operation.SetGlobal g o) = operand_sites o
-operation_sites (operation.NewCell o) = operand_sites o
+
 operation_sites (operation.CellSet c o) = operand_sites o
 operation_sites _ = []
 

@@ -181,7 +181,6 @@ module _ {V : Type 0} where
   operation_shaped (operation.Operand o) = operand_shaped o
   operation_shaped (operation.Prim site which operands) = nat_eq (length operands) (operands_of which) && operands_shaped operands
   operation_shaped (operation.SetGlobal g o) = operand_shaped o
-  operation_shaped (operation.NewCell o) = operand_shaped o
   operation_shaped (operation.CellSet c o) = operand_shaped o
   operation_shaped (operation.MakeClosure c) = closure_shaped c
   operation_shaped _ = true
@@ -228,6 +227,7 @@ closure_fields fields c = list_all (source_field fields) c.fields
 
 abbrev pub operation_field : ℕ → Operation ℕ → Bool
 operation_field fields (operation.Field v k) = nat_eq v 1 && nat_lt k fields
+operation_field fields (operation.NewCell c) = source_field fields c
 operation_field fields (operation.CellGet c) = source_field fields c
 operation_field fields (operation.CellSet c o) = source_field fields c
 operation_field fields (operation.MakeClosure c) = closure_fields fields c

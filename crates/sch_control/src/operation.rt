@@ -53,7 +53,7 @@ pub enum Operation<V> {
     /// A field of the closure that stands in `V`.
     Field(V, u32),
     /// A new cell, charged, with a value.
-    NewCell(Operand<V>),
+    NewCell(Source<V>),
     /// A new cell, charged, that is unset.
     UnsetCell,
     CellGet(Source<V>),

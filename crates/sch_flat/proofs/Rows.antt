@@ -1,5 +1,5 @@
 -- The trees of a list of expressions are the list of their trees.
-use Rattle.std.proofs.Common.{◌≡◌, List, refl, sym, ap, ◌∙◌, map}
+use Rattle.std.proofs.Common.{◌≡◌, List, refl, ap, ◌∙◌, map}
 use Rattle.sch_flat.specs.declared.tree.Exp.{Exp, Row_of-Exp, end_of-Exp, more_of-Exp, items-the_row-Exp, items_hidden-the_row-Exp-0}
 use Rattle.sch_flat.specs.declared.tree.Exp.TheBlock.{hidden-the_row-Exp-0}
 use Rattle.sch_flat.specs.Tree.{and_tree, trees}

@@ -6,3 +6,4 @@ pub mod SourceView
 pub mod ProgramView
 pub mod Meaning
 pub mod Run
+pub mod Examples

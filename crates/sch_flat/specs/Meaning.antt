@@ -8,7 +8,7 @@ use Rattle.sch_word.specs.Charges.{charge, charge_each, procedure_bytes, fit}
 use Rattle.sch_word.specs.CellBytes.{cells_bytes}
 use Rattle.sch_word.specs.Orders.{Orders}
 use Rattle.sch_word.specs.PrimitiveRows.{primitive}
-use Rattle.sch_word.specs.Bindings.{Bindings, bound_to, value_or, value_of, with_variables}
+use Rattle.sch_word.specs.Bindings.{Bindings, value_or, value_of, with_variables}
 use Rattle.sch_flat.specs.Tree.{Variable, bound, free, Made, NewCell, Tree, Trees, Body, constant, literal, variable, global, set_global, define, branch, sequence, bind, make_closure, fix_closures, call, operation, cell_get, cell_set, no_trees, and_tree}
 use Rattle.sch_flat.specs.Tree as tree
 

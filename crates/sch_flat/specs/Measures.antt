@@ -1,5 +1,5 @@
 -- What is counted over flat trees.
-use Rattle.std.specs.Prelude.{ℕ, zero, suc, ◌+◌, max, Bool, true, false, ◌&&◌, List, [], ◌∷◌, ◌++◌, length}
+use Rattle.std.specs.Prelude.{ℕ, ◌+◌, max, Bool, true, false, List, [], ◌∷◌, ◌++◌, length}
 use Rattle.sch_word.specs.Shape as shapes
 use Rattle.sch_word.specs.Shape.{Shape}
 use Rattle.sch_flat.specs.Tree.{Variable, bound, free, Made, Tree, Trees, Body, Source, constant, literal, variable, global, set_global, define, branch, sequence, bind, make_closure, fix_closures, call, operation, new_cells, cell_get, cell_set, no_trees, and_tree, count}
@@ -160,3 +160,29 @@ abbrev mutual
 
 abbrev pub body_variables : Body → ℕ
 body_variables b = b.formals + variables b.code
+
+-- ## Levels
+
+-- how deep the nodes of a tree are nested; the body of a procedure is a tree of its own
+abbrev mutual
+  pub levels : Tree → ℕ
+  levels (constant c) = 1
+  levels (literal n) = 1
+  levels (variable v) = 1
+  levels (global g) = 1
+  levels (set_global g e) = 1 + levels e
+  levels (define g e) = 1 + levels e
+  levels (branch a b c) = 1 + max (levels a) (max (levels b) (levels c))
+  levels (sequence es) = 1 + levels_each es
+  levels (bind site first es e) = 1 + max (levels_each es) (levels e)
+  levels (make_closure m) = 1
+  levels (fix_closures first ms e) = 1 + levels e
+  levels (call site spread f es) = 1 + max (levels f) (levels_each es)
+  levels (operation site which es) = 1 + levels_each es
+  levels (new_cells cs e) = 1 + levels e
+  levels (cell_get v) = 1
+  levels (cell_set v e) = 1 + levels e
+
+  pub levels_each : Trees → ℕ
+  levels_each no_trees = 0
+  levels_each (and_tree e es) = max (levels e) (levels_each es)

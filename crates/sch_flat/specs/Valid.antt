@@ -1,13 +1,13 @@
 -- Which flat programs are valid.
-use Rattle.std.specs.Prelude.{ℕ, zero, suc, ◌+◌, Bool, true, false, ◌&&◌, ◌||◌, not, nat_eq, nat_lt, nat_le, List, [], ◌∷◌, length, slice_get, Option, Some, None}
+use Rattle.std.specs.Prelude.{ℕ, ◌*◌, Bool, true, false, ◌&&◌, ◌||◌, not, nat_eq, nat_lt, nat_le, List, [], ◌∷◌, length, slice_get, Option, Some, None}
 use Rattle.std.specs.List.{list_all}
 use Rattle.sch_word.specs.Literals.{count_literals}
-use Rattle.sch_word.specs.Runs.{statics_valid}
+use Rattle.sch_word.specs.Runs.{statics_valid, statics_in_range}
 use Rattle.sch_word.specs.NumberSets.{has}
 use Rattle.sch_word.specs.Bindings.{numbers, scope_with}
-use Rattle.sch_word.specs.Shape.{names_known, well_formed, fits, max_operands, max_variables, max_free_variables, sites_once}
+use Rattle.sch_word.specs.Shape.{names_known, constant_in_range, well_formed, fits, max_operands, max_levels, max_variables, max_free_variables, sites_once}
 use Rattle.sch_flat.specs.Tree.{Variable, bound, free, Made, NewCell, Tree, Trees, Body, Source, constant, literal, variable, global, set_global, define, branch, sequence, bind, make_closure, fix_closures, call, operation, new_cells, cell_get, cell_set, no_trees, and_tree, count}
-use Rattle.sch_flat.specs.Measures.{over_source, sites_of, variables, body_variables}
+use Rattle.sch_flat.specs.Measures.{over_source, sites_of, variables, body_variables, levels, levels_each}
 
 -- ## Variables
 
@@ -99,6 +99,12 @@ is_formed p =
     && (over_source true (λ a b. a && b) (fits max_variables) p
     && (list_all body_fits p.bodies && forms_fit p.forms)))
 
+-- A body and a form are nested no deeper than the form with cells that they come from, where a variable that
+-- got a cell, and a Rec, have added at most two levels to what they bind.
+abbrev pub within_levels : Source → Bool
+within_levels p =
+    list_all (λ b. nat_le (levels b.code) (3 * max_levels)) p.bodies && nat_le (levels_each p.forms) (3 * max_levels)
+
 -- ## The order of the bodies
 
 -- none of these numbers is less than the one before it, and none is more than a last one
@@ -119,3 +125,6 @@ sited p = sites_once p.sites (sites_of p)
 abbrev pub statics_known : Source → Bool
 statics_known p = statics_valid (length p.library) p.statics
 
+-- constants are words, and so are those of the statics
+abbrev pub constants_in_range : Source → Bool
+constants_in_range p = over_source true (λ a b. a && b) constant_in_range p && statics_in_range p.statics

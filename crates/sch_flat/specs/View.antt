@@ -1,6 +1,5 @@
 -- The plain data of a program's parts.
-use Rattle.std.specs.Prelude.{ℕ, List, [], ◌∷◌, Option, Some, None, map}
-use Rattle.sch_word.specs.StaticsView.{statics}
+use Rattle.std.specs.Prelude.{List, Option, Some, None, map}
 use Rattle.sch_flat.specs.declared.tree.Variable.{Variable}
 use Rattle.sch_flat.specs.declared.tree.Variable.TheVariants as place
 use Rattle.sch_flat.specs.declared.tree.Made.{Made}

@@ -1,6 +1,6 @@
 ghost use Rattle.std.specs.Prelude.{IsTrue};
 ghost use Rattle.sch_flat.specs.SourceView.{source_of};
-ghost use Rattle.sch_flat.specs.Valid.{is_closed, is_formed, in_order, sited, statics_known};
+ghost use Rattle.sch_flat.specs.Valid.{constants_in_range, is_closed, is_formed, in_order, sited, statics_known, within_levels};
 
 use crate::tree::{Body, Exp};
 use sch_word::{List, Statics};
@@ -24,10 +24,14 @@ pub struct FlatProgram {
     ghost closed: { IsTrue (is_closed (source_of statics library bodies forms starts sites)) },
     // The nodes name what there is and are well formed, and the limits hold.
     ghost formed: { IsTrue (is_formed (source_of statics library bodies forms starts sites)) },
+    // Bodies and forms are nested no deeper than three times the levels of a program's text.
+    ghost nested: { IsTrue (within_levels (source_of statics library bodies forms starts sites)) },
     // The procedures of the forms stand in the order of the forms.
     ghost ordered: { IsTrue (in_order (source_of statics library bodies forms starts sites)) },
     // Each site that is listed stands once, with the number of parts that is listed.
     ghost sited: { IsTrue (sited (source_of statics library bodies forms starts sites)) },
     // Symbols, literals and globals are few enough and name what there is.
     ghost ready: { IsTrue (statics_known (source_of statics library bodies forms starts sites)) },
+    // Constants are words, names and texts are bytes, and no literal is nested too deeply.
+    ghost words: { IsTrue (constants_in_range (source_of statics library bodies forms starts sites)) },
 }

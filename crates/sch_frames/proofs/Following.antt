@@ -61,7 +61,7 @@ pub on_checked_follows : {V : Type 0} (c : Checked V) (w : World) (next next' : 
 on_checked_follows (passes v) w next next' h = h v
 on_checked_follows (refused why) w next next' h = refl
 on_checked_follows exhausted w next next' h = refl
-on_checked_follows unreachable w next next' h = tt
+on_checked_follows unreachable w next next' h = refl
 
 pub either_follows : (b : Bool) (x y x' y' : Result) → Follows x x' → Follows y y' → Follows (either b x y) (either b x' y')
 either_follows true x y x' y' f g = f

@@ -107,7 +107,7 @@ module _ (place : ℕ → Place) (words : ℕ) (P : ℕ → Type 0) (there : (x 
   operation_placed (operation.Global g) h = refl
   operation_placed (operation.SetGlobal g o) h = operand_placed o h
   operation_placed (operation.Field x k) h = and_from _ _ (there x h.0) refl
-  operation_placed (operation.NewCell o) h = operand_placed o h
+  operation_placed (operation.NewCell c) h = and_from _ _ (source_placed c h.0) refl
   operation_placed operation.UnsetCell h = refl
   operation_placed (operation.CellGet c) h = and_from _ _ (source_placed c h.0) refl
   operation_placed (operation.CellSet c o) h = and_from _ _ (source_placed c h.0) (operand_placed o h.1)
@@ -157,7 +157,7 @@ module _ (place : ℕ → Place) where
   operation_same_shape (operation.Global g) = refl
   operation_same_shape (operation.SetGlobal g o) = operand_same_shape o
   operation_same_shape (operation.Field x k) = refl
-  operation_same_shape (operation.NewCell o) = operand_same_shape o
+  operation_same_shape (operation.NewCell c) = refl
   operation_same_shape operation.UnsetCell = refl
   operation_same_shape (operation.CellGet c) = refl
   operation_same_shape (operation.CellSet c o) = operand_same_shape o
@@ -225,7 +225,7 @@ module _ (place : ℕ → Place) where
     operation_same_names (operation.Global g) = refl
     operation_same_names (operation.SetGlobal g o) = rw (operand_same_names o) refl
     operation_same_names (operation.Field x k) = refl
-    operation_same_names (operation.NewCell o) = rw (operand_same_names o) refl
+    operation_same_names (operation.NewCell c) = rw (source_same_name c) refl
     operation_same_names operation.UnsetCell = refl
     operation_same_names (operation.CellGet c) = rw (source_same_name c) refl
     operation_same_names (operation.CellSet c o) = rw (source_same_name c, operand_same_names o) refl

@@ -13,7 +13,7 @@ use Rattle.sch_control.specs.declared.operation.Source.{Source}
 use Rattle.sch_control.specs.declared.operation.Source.TheVariants as source
 use Rattle.sch_control.specs.declared.operation.Operation.{Operation}
 use Rattle.sch_control.specs.declared.operation.Operation.TheVariants as operation
-use Rattle.sch_control.specs.Operations.{Procedure, Ending, atom_value, atom_values, operand_value, operand_values, field, source_value, source_values, with_cell, operate}
+use Rattle.sch_control.specs.Operations.{Procedure, Ending, atom_value, atom_values, operand_value, operand_values, field, source_value, source_values, operate}
 use Rattle.sch_control.specs.Parts.{operand_atoms, operands_atoms, source_atom, source_atoms, operation_atoms}
 use Rattle.sch_frames.specs.Does.{Follows}
 use Rattle.sch_frames.specs.Layout.{atom_at, atoms_at, operand_at, operands_at, operation_at, source_at, sources_at}
@@ -73,21 +73,6 @@ module _ (place : ℕ → Place) (P : ℕ → Type 0) (at : ℕ → Option Value
   sources_follow s [] h = refl
   sources_follow s (c ∷ cs) h = and_value_follows _ _ _ _ (source_follows s c h.0) (sources_follow s cs h.1)
 
-  with_cell_follows : (a b : Option Value) (cells : List (Option Value)) (next next' : ℕ → Option Value → Ending) → Follows a b
-      → ((n : ℕ) (held : Option Value) → Follows (next n held) (next' n held)) → Follows (with_cell a cells next) (with_cell b cells next')
-  with_cell_follows a b cells next next' f h = by a f where
-    by : (a : Option Value) → Follows a b → Follows (with_cell a cells next) (with_cell b cells next')
-    by None f = tt
-    by (Some (cell n)) f = onto _ _ _ (ap (λ t. with_cell t cells next') f) (with_some_follows (slice_get cells n) (slice_get cells n) (next n) (next' n) (follows_same (slice_get cells n)) (h n))
-    by (Some (fixnum n)) f = tt
-    by (Some (character c)) f = tt
-    by (Some (boolean c)) f = tt
-    by (Some nil) f = tt
-    by (Some unspecified) f = tt
-    by (Some (symbol n)) f = tt
-    by (Some (object n)) f = tt
-    by (Some (procedure n)) f = tt
-
   pub operate_follows : (o : Operation ℕ) (s : State Procedure) → AtomsHave P (operation_atoms o)
       → Follows (operate at o s) (operate at' (operation_at place o) s)
   operate_follows (operation.Operand o) s h = with_some_follows _ _ _ _ (operand_follows s.store o h) (λ v. refl)
@@ -95,9 +80,9 @@ module _ (place : ℕ → Place) (P : ℕ → Type 0) (at : ℕ → Option Value
   operate_follows (operation.Global g) s h = refl
   operate_follows (operation.SetGlobal g o) s h = with_some_follows _ _ _ _ (operand_follows s.store o h) (λ v. refl)
   operate_follows (operation.Field x k) s h = with_some_follows _ _ _ _ (field_follows x k s.procedures h.0) (λ v. refl)
-  operate_follows (operation.NewCell o) s h = with_some_follows _ _ _ _ (operand_follows s.store o h) (λ v. refl)
+  operate_follows (operation.NewCell c) s h = with_some_follows _ _ _ _ (source_follows s c h.0) (λ v. refl)
   operate_follows operation.UnsetCell s h = refl
-  operate_follows (operation.CellGet c) s h = with_cell_follows _ _ s.cells _ _ (source_follows s c h.0) (λ n held. refl)
+  operate_follows (operation.CellGet c) s h = with_some_follows _ _ _ _ (source_follows s c h.0) (λ v. refl)
   operate_follows (operation.CellSet c o) s h =
-      with_cell_follows _ _ s.cells _ _ (source_follows s c h.0) (λ n held. with_some_follows _ _ _ _ (operand_follows s.store o h.1) (λ v. refl))
+      with_some_follows _ _ _ _ (source_follows s c h.0) (λ v. with_some_follows _ _ _ _ (operand_follows s.store o h.1) (λ u. refl))
   operate_follows (operation.MakeClosure c) s h = with_some_follows _ _ _ _ (sources_follow s c.fields h) (λ vs. refl)

@@ -86,7 +86,7 @@ module _ (place : ℕ → Place) where
   operation_at (operation.Global g) = operation.Global g
   operation_at (operation.SetGlobal g o) = operation.SetGlobal g (operand_at o)
   operation_at (operation.Field x k) = operation.Field (place x) k
-  operation_at (operation.NewCell o) = operation.NewCell (operand_at o)
+  operation_at (operation.NewCell c) = operation.NewCell (source_at c)
   operation_at operation.UnsetCell = operation.UnsetCell
   operation_at (operation.CellGet c) = operation.CellGet (source_at c)
   operation_at (operation.CellSet c o) = operation.CellSet (source_at c) (operand_at o)

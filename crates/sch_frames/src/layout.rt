@@ -121,7 +121,7 @@ fn operation_at(alloc: Global, base: u32, o: &Operation<u32>) -> Result<Operatio
         Operation::Global(g) => Ok(Operation::Global(*g)),
         Operation::SetGlobal(g, o) => Ok(Operation::SetGlobal(*g, operand_at(alloc, base, o)?)),
         Operation::Field(x, k) => Ok(Operation::Field(own_slot(base, *x)?, *k)),
-        Operation::NewCell(o) => Ok(Operation::NewCell(operand_at(alloc, base, o)?)),
+        Operation::NewCell(c) => Ok(Operation::NewCell(source_at(base, c)?)),
         Operation::UnsetCell => Ok(Operation::UnsetCell),
         Operation::CellGet(c) => Ok(Operation::CellGet(source_at(base, c)?)),
         Operation::CellSet(c, o) => {

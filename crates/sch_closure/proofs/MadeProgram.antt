@@ -1,0 +1,93 @@
+-- What the two walks make of a program is its flat program.
+use Rattle.std.proofs.Common.{◌≡◌, ℕ, suc, ◌+◌, ◌<◌, ◌≤◌, List, [], ◌++◌, length, map, reverse, refl, sym, ap, ◌∙◌, arith, append-nil, length-append}
+use Rattle.sch_word.specs.declared.statics.Statics as declared
+use Rattle.sch_word.specs.StaticsView.{statics}
+use Rattle.sch_cells.specs.Tree.{Source, Tree, Trees, Lambdas, constant, literal, variable, global, set_variable, set_global, define, branch, sequence, bind, fix, letrec, lambda, call, operation, new_cells, cell_get, cell_set, no_trees, and_tree, no_lambdas, and_lambda}
+use Rattle.sch_cells.specs.Bodies as bodies
+use Rattle.sch_flat.specs.declared.tree.Exp as to
+use Rattle.sch_flat.specs.declared.tree.Made as to_made
+use Rattle.sch_flat.specs.declared.tree.Body as to_body
+use Rattle.sch_flat.specs.SourceView.{source_of}
+use Rattle.sch_flat.specs.View as view
+use Rattle.sch_closure.specs.Closed.{procedures, procedures_each, procedures_lambdas, captured, body_of, all_of_each, all_of_lambdas, closed_source, labels, starts, made_each, closed_each}
+use Rattle.sch_closure.specs.Walked.{fields_of_each, fields_of_lambdas, with_bodies_each, with_bodies_lambdas}
+use Rattle.sch_closure.proofs.Walks.{each_fields, lambdas_fields, each_bodies, lambdas_bodies}
+use Rattle.sch_closure.proofs.MadeLists.{labels_made, map_length}
+use Rattle.sch_closure.proofs.Standing.{size_lambdas}
+
+-- the fields of all procedures by their labels
+abbrev pub all_fields : Source → List (List ℕ)
+all_fields p = all_of_lambdas captured p.library 0 ++ all_of_each captured p.forms (procedures_lambdas p.library)
+
+pub fields_made : (p : Source) (empty before after all : List (List ℕ)) → empty ≡ [] → reverse before ≡ fields_of_each p.forms (reverse empty) → reverse after ≡ fields_of_lambdas p.library (reverse before) → all ≡ reverse after → all ≡ all_fields p
+fields_made p empty before after all none forms library turned =
+    let n = procedures_lambdas p.library in
+    let f : reverse before ≡ all_of_each captured p.forms n = forms ∙ ap (λ l. fields_of_each p.forms (reverse l)) none ∙ each_fields p.forms n [] ∙ append-nil (all_of_each captured p.forms n) in
+    turned ∙ library ∙ ap (fields_of_lambdas p.library) f ∙ lambdas_fields p.library 0 (all_of_each captured p.forms n)
+
+pub library_bodies : (p : Source) (bs : List to_body.Body) → map view.body bs ≡ with_bodies_lambdas p.library [] → map view.body bs ≡ all_of_lambdas body_of p.library 0
+library_bodies p bs h = h ∙ lambdas_bodies p.library []
+
+pub library_length : (p : Source) (bs : List to_body.Body) → map view.body bs ≡ with_bodies_lambdas p.library [] → length bs ≡ procedures_lambdas p.library
+library_length p bs h = sym (map_length view.body bs) ∙ ap length (library_bodies p bs h) ∙ size_lambdas body_of p.library 0
+
+pub program_bodies : (p : Source) (before after : List to_body.Body) → map view.body before ≡ with_bodies_lambdas p.library [] → map view.body after ≡ with_bodies_each p.forms (map view.body before) → map view.body after ≡ (closed_source p).bodies
+program_bodies p before after h k =
+    let l = library_bodies p before h in
+    let m : length (map view.body before) ≡ procedures_lambdas p.library = ap length l ∙ size_lambdas body_of p.library 0 in
+    k ∙ each_bodies p.forms (map view.body before) ∙ ap (λ n. map view.body before ++ all_of_each body_of p.forms n) m ∙ ap (λ r. r ++ all_of_each body_of p.forms (procedures_lambdas p.library)) l
+
+-- ## How many procedures there are
+
+joined_count : {A : Type 0} (xs ys : List A) {a b : ℕ} → a ≡ length xs → b ≡ length ys → a + b ≡ length (xs ++ ys)
+joined_count xs ys p q = omega (arith, length-append xs ys, p, q)
+
+mutual
+  count_of : (e : Tree) → procedures e ≡ length (bodies.bodies e)
+  count_of (constant c) = refl
+  count_of (literal i) = refl
+  count_of (variable x) = refl
+  count_of (global g) = refl
+  count_of (set_variable x e) = count_of e
+  count_of (set_global g e) = count_of e
+  count_of (define g e) = count_of e
+  count_of (branch a b c) = joined_count (bodies.bodies a) _ (count_of a) (joined_count (bodies.bodies b) _ (count_of b) (count_of c))
+  count_of (sequence es) = each_count es
+  count_of (bind site x es e) = joined_count (bodies.bodies_each es) _ (each_count es) (count_of e)
+  count_of (letrec site x es e) = joined_count (bodies.bodies_each es) _ (each_count es) (count_of e)
+  count_of (fix x ls e) = joined_count (bodies.bodies_lambdas ls) _ (lambdas_count ls) (count_of e)
+  count_of (lambda name x m rest e) = ap suc (count_of e)
+  count_of (call site spread g es) = joined_count (bodies.bodies g) _ (count_of g) (each_count es)
+  count_of (operation site which es) = each_count es
+  count_of (new_cells cs e) = count_of e
+  count_of (cell_get x) = refl
+  count_of (cell_set x e) = count_of e
+
+  each_count : (es : Trees) → procedures_each es ≡ length (bodies.bodies_each es)
+  each_count no_trees = refl
+  each_count (and_tree e es) = joined_count (bodies.bodies e) _ (count_of e) (each_count es)
+
+  lambdas_count : (ls : Lambdas) → procedures_lambdas ls ≡ length (bodies.bodies_lambdas ls)
+  lambdas_count no_lambdas = refl
+  lambdas_count (and_lambda name x m rest e ls) = ap suc (joined_count (bodies.bodies e) _ (count_of e) (lambdas_count ls))
+
+forms_count : (es : Trees) → procedures_each es ≤ length (bodies.bodies_forms es)
+forms_count no_trees = omega arith
+forms_count (and_tree e es) = omega (arith, length-append (bodies.bodies e) (bodies.bodies_forms es), count_of e, forms_count es)
+
+pub few_procedures : (p : Source) (k : ℕ) → length (bodies.bodies_of p) < k → procedures_lambdas p.library + procedures_each p.forms < k
+few_procedures p k h = omega (arith, h, length-append (bodies.bodies_lambdas p.library) (bodies.bodies_forms p.forms), lambdas_count p.library, forms_count p.forms)
+
+-- ## The whole program
+
+pub made_program : (p : Source) (ready : declared.Statics) (records : List to_made.Made) (library : List ℕ) (before after : List to_body.Body) (forms : List to.Exp) (places sites : List ℕ) →
+    statics ready ≡ p.statics → map view.made records ≡ made_each p.library [] 0 → library ≡ map (λ m. m.label) (map view.made records) →
+    map view.body before ≡ with_bodies_lambdas p.library [] → map view.body after ≡ with_bodies_each p.forms (map view.body before) →
+    view.trees_of forms ≡ closed_each p.forms [] (length before) → places ≡ starts p.forms (length before) → sites ≡ p.sites →
+    source_of ready library after forms places sites ≡ closed_source p
+made_program p ready records library before after forms places sites a b c d e f g h =
+    let l : library ≡ labels p.library 0 = c ∙ ap (map (λ m. m.label)) b ∙ labels_made p.library [] 0 in
+    let n : length before ≡ procedures_lambdas p.library = library_length p before d in
+    let t : view.trees_of forms ≡ closed_each p.forms [] (procedures_lambdas p.library) = f ∙ ap (closed_each p.forms []) n in
+    let s : places ≡ starts p.forms (procedures_lambdas p.library) = g ∙ ap (starts p.forms) n in
+    rw (a, l, program_bodies p before after d e, t, s, h) refl

@@ -1,0 +1,324 @@
+//! Trees without free variables, and the bodies of procedures by their labels.
+
+ghost use Rattle.std.specs.Prelude.{◌≡◌, ◌+◌, ◌<◌, ◌^◌, ℕ, List, suc, ◌∷◌, [], length, map, slice_get, Some, IfOk, OnOk};
+ghost use Rattle.sch_cells.specs.View.{tree, trees_of, lambdas_of};
+ghost use Rattle.sch_cells.specs.Tree as plain;
+ghost use Rattle.sch_flat.specs.View as view;
+ghost use Rattle.sch_closure.specs.Closed.{place, placed, procedures, procedures_each, procedures_lambdas, fields_of, captured, closed, closed_each, made, made_each, starts};
+ghost use Rattle.sch_closure.specs.Fresh.{Stands, EachStands, LambdasStand};
+ghost use Rattle.sch_closure.specs.Walked.{with_bodies, with_bodies_each, with_bodies_lambdas};
+
+use sch_cells::{Exp, Lambda};
+use sch_flat as flat;
+use sch_flat::{Body, Made, Variable};
+use sch_word::{Const, List, Mem};
+use std::alloc::Global;
+
+// A variable in a body whose record has these fields.
+fn place_variable(fields: &[u32], x: u32) -> Variable
+    requires { length fields.now < 2 ^ 32 }
+    ensures { view.used result ≡ place fields.now x }
+{
+    for k in 0..fields.len() {
+        if x == fields[k] {
+            return Variable::Free(k as u32);
+        }
+    }
+    Variable::Bound(x)
+}
+
+// Each of some variables in a body whose record has these fields.
+fn place_each(alloc: Global, fields: &[u32], xs: &[u32]) -> Result<List<Variable>, Mem>
+    requires { length fields.now < 2 ^ 32 }
+    ensures { IfOk result (λ vs. map view.used vs ≡ map (place fields.now) xs.now) }
+{
+    let mut all = List::new(alloc);
+    for x in xs {
+        all.push(place_variable(fields, *x))?;
+    }
+    Ok(all)
+}
+
+fn place_cell(fields: &[u32], c: &sch_cells::NewCell) -> flat::NewCell
+    requires { length fields.now < 2 ^ 32 }
+    ensures { view.new_cell result ≡ placed fields.now c.now }
+{
+    let content = match c.content {
+        Some(x) => Some(place_variable(fields, x)),
+        None => None,
+    };
+    flat::NewCell {
+        variable: c.variable,
+        content,
+    }
+}
+
+// Each of some new cells in a body whose record has these fields.
+fn place_cells(
+    alloc: Global,
+    fields: &[u32],
+    cs: &[sch_cells::NewCell],
+) -> Result<List<flat::NewCell>, Mem>
+    requires { length fields.now < 2 ^ 32 }
+    ensures { IfOk result (λ made. map view.new_cell made ≡ map (placed fields.now) cs.now) }
+{
+    let mut all = List::new(alloc);
+    for c in cs {
+        all.push(place_cell(fields, c))?;
+    }
+    Ok(all)
+}
+
+/// The tree in a body whose record has these fields. The bodies of its procedures are put behind `bodies`.
+#[cycle(closing)]
+fn close_expression(
+    alloc: Global,
+    e: &Exp,
+    own: &[u32],
+    fields: &[List<u32>],
+    bodies: &mut Vec<Body>,
+) -> Result<flat::Exp, Mem>
+    requires own { length own.now < 2 ^ 32 }
+    requires short { (k : ℕ) → (xs : List ℕ) → slice_get fields.now k ≡ Some xs → length xs < 2 ^ 32 }
+    requires stand { Stands captured fields.now (tree e.now) (length bodies.old.items) }
+    requires few { length bodies.old.items + procedures (tree e.now) < 2 ^ 32 }
+    ensures made { IfOk result (λ q. view.tree q ≡ closed (tree e.now) own.now (length bodies.old.items)) }
+    ensures bodies { OnOk result (map view.body bodies.new.items ≡ with_bodies (tree e.now) (map view.body bodies.old.items)) }
+    ensures count { OnOk result (length bodies.new.items ≡ length bodies.old.items + procedures (tree e.now)) }
+{
+    match e {
+        Exp::Constant(c) => Ok(flat::Exp::Constant(*c)),
+        Exp::Literal(n) => Ok(flat::Exp::Literal(*n)),
+        Exp::Var(x) => Ok(flat::Exp::Var(place_variable(own, *x))),
+        Exp::Global(g) => Ok(flat::Exp::Global(*g)),
+        Exp::SetVar(_, value) => close_expression(alloc, value, own, fields, bodies),
+        Exp::SetGlobal(g, value) => {
+            let value = close_boxed(alloc, value, own, fields, bodies)?;
+            Ok(flat::Exp::SetGlobal(*g, value))
+        }
+        Exp::Define(g, value) => {
+            let value = close_boxed(alloc, value, own, fields, bodies)?;
+            Ok(flat::Exp::Define(*g, value))
+        }
+        Exp::If(test, yes, no) => {
+            let test = close_boxed(alloc, test, own, fields, bodies)?;
+            let yes = close_boxed(alloc, yes, own, fields, bodies)?;
+            let no = close_boxed(alloc, no, own, fields, bodies)?;
+            Ok(flat::Exp::If(test, yes, no))
+        }
+        Exp::Seq(parts) => {
+            let parts = close_each(alloc, parts, own, fields, bodies)?;
+            Ok(flat::Exp::Seq(parts))
+        }
+        Exp::Let {
+            site,
+            first,
+            inits,
+            body,
+        }
+        | Exp::Rec {
+            site,
+            first,
+            inits,
+            body,
+        } => {
+            let inits = close_each(alloc, inits, own, fields, bodies)?;
+            let body = close_boxed(alloc, body, own, fields, bodies)?;
+            Ok(flat::Exp::Let {
+                site: *site,
+                first: *first,
+                inits,
+                body,
+            })
+        }
+        Exp::Fix {
+            first,
+            lambdas,
+            body,
+        } => {
+            let closures = close_lambdas(alloc, lambdas, own, fields, bodies)?;
+            let body = close_boxed(alloc, body, own, fields, bodies)?;
+            Ok(flat::Exp::FixClosures {
+                first: *first,
+                closures,
+                body,
+            })
+        }
+        Exp::Lambda(l) => {
+            let m = close_lambda(alloc, l, own, fields, bodies)?;
+            Ok(flat::Exp::MakeClosure(m))
+        }
+        Exp::Call {
+            site,
+            spread,
+            operator,
+            operands,
+        } => {
+            let operator = close_boxed(alloc, operator, own, fields, bodies)?;
+            let operands = close_each(alloc, operands, own, fields, bodies)?;
+            Ok(flat::Exp::Call {
+                site: *site,
+                spread: *spread,
+                operator,
+                operands,
+            })
+        }
+        Exp::Prim(site, which, operands) => {
+            let operands = close_each(alloc, operands, own, fields, bodies)?;
+            Ok(flat::Exp::Prim(*site, *which, operands))
+        }
+        Exp::NewCells(cells, body) => {
+            let cells = place_cells(alloc, own, cells.as_slice())?;
+            let body = close_boxed(alloc, body, own, fields, bodies)?;
+            Ok(flat::Exp::NewCells(cells, body))
+        }
+        Exp::CellGet(x) => Ok(flat::Exp::CellGet(place_variable(own, *x))),
+        Exp::CellSet(x, value) => {
+            let value = close_boxed(alloc, value, own, fields, bodies)?;
+            Ok(flat::Exp::CellSet(place_variable(own, *x), value))
+        }
+    }
+}
+
+// The same on the heap. As a function of its own it keeps the frames of the walk small.
+#[cycle(closing)]
+fn close_boxed(
+    alloc: Global,
+    e: &Box<Exp>,
+    own: &[u32],
+    fields: &[List<u32>],
+    bodies: &mut Vec<Body>,
+) -> Result<Box<flat::Exp>, Mem>
+    requires own { length own.now < 2 ^ 32 }
+    requires short { (k : ℕ) → (xs : List ℕ) → slice_get fields.now k ≡ Some xs → length xs < 2 ^ 32 }
+    requires stand { Stands captured fields.now (tree e.now.value) (length bodies.old.items) }
+    requires few { length bodies.old.items + procedures (tree e.now.value) < 2 ^ 32 }
+    ensures made { IfOk result (λ q. view.tree q.value ≡ closed (tree e.now.value) own.now (length bodies.old.items)) }
+    ensures bodies { OnOk result (map view.body bodies.new.items ≡ with_bodies (tree e.now.value) (map view.body bodies.old.items)) }
+    ensures count { OnOk result (length bodies.new.items ≡ length bodies.old.items + procedures (tree e.now.value)) }
+{
+    let e = close_expression(alloc, e, own, fields, bodies)?;
+    Ok(Box::new(alloc, e)?)
+}
+
+/// Each of some expressions, one after another.
+#[cycle(closing)]
+fn close_each(
+    alloc: Global,
+    es: &List<Exp>,
+    own: &[u32],
+    fields: &[List<u32>],
+    bodies: &mut Vec<Body>,
+) -> Result<List<flat::Exp>, Mem>
+    requires own { length own.now < 2 ^ 32 }
+    requires short { (k : ℕ) → (xs : List ℕ) → slice_get fields.now k ≡ Some xs → length xs < 2 ^ 32 }
+    requires stand { EachStands captured fields.now (trees_of es.now) (length bodies.old.items) }
+    requires few { length bodies.old.items + procedures_each (trees_of es.now) < 2 ^ 32 }
+    ensures made { IfOk result (λ qs. view.trees_of qs ≡ closed_each (trees_of es.now) own.now (length bodies.old.items)) }
+    ensures bodies { OnOk result (map view.body bodies.new.items ≡ with_bodies_each (trees_of es.now) (map view.body bodies.old.items)) }
+    ensures count { OnOk result (length bodies.new.items ≡ length bodies.old.items + procedures_each (trees_of es.now)) }
+{
+    let mut all = List::new(alloc);
+    for e in es.as_slice() {
+        all.push(close_expression(alloc, e, own, fields, bodies)?)?;
+    }
+    Ok(all)
+}
+
+/// The record of a procedure in a body whose record has these fields.
+#[cycle(closing)]
+fn close_lambda(
+    alloc: Global,
+    l: &Lambda,
+    own: &[u32],
+    fields: &[List<u32>],
+    bodies: &mut Vec<Body>,
+) -> Result<Made, Mem>
+    requires own { length own.now < 2 ^ 32 }
+    requires short { (k : ℕ) → (xs : List ℕ) → slice_get fields.now k ≡ Some xs → length xs < 2 ^ 32 }
+    requires here { slice_get fields.now (length bodies.old.items) ≡ Some (fields_of l.now.first l.now.formals (tree l.now.body)) }
+    requires stand { Stands captured fields.now (tree l.now.body) (suc (length bodies.old.items)) }
+    requires few { length bodies.old.items + suc (procedures (tree l.now.body)) < 2 ^ 32 }
+    ensures made { IfOk result (λ m. view.made m ≡ made l.now.first l.now.formals (tree l.now.body) own.now (length bodies.old.items)) }
+    ensures bodies { OnOk result (map view.body bodies.new.items ≡ with_bodies (plain.lambda l.now.name l.now.first l.now.formals l.now.rest (tree l.now.body)) (map view.body bodies.old.items)) }
+    ensures count { OnOk result (length bodies.new.items ≡ length bodies.old.items + suc (procedures (tree l.now.body))) }
+{
+    let label = bodies.len();
+    let inside = fields[label].as_slice();
+    let captured = place_each(alloc, own, inside)?;
+    let name = List::from_slice(alloc, l.name.as_slice())?;
+    bodies.push(unmade_body(alloc))?;
+    let code = close_expression(alloc, &l.body, inside, fields, bodies)?;
+    bodies[label] = Body {
+        name,
+        first: l.first,
+        formals: l.formals,
+        rest: l.rest,
+        fields: inside.len() as u32,
+        code,
+    };
+    Ok(Made {
+        label: label as u32,
+        fields: captured,
+    })
+}
+
+// What stands in the place of a body until its code is made.
+fn unmade_body(alloc: Global) -> Body {
+    Body {
+        name: List::new(alloc),
+        first: 0,
+        formals: 0,
+        rest: false,
+        fields: 0,
+        code: flat::Exp::Constant(Const::Unspecified),
+    }
+}
+
+/// Each of some lambdas, one after another.
+#[cycle(closing)]
+pub(crate) fn close_lambdas(
+    alloc: Global,
+    ls: &List<Lambda>,
+    own: &[u32],
+    fields: &[List<u32>],
+    bodies: &mut Vec<Body>,
+) -> Result<List<Made>, Mem>
+    requires own { length own.now < 2 ^ 32 }
+    requires short { (k : ℕ) → (xs : List ℕ) → slice_get fields.now k ≡ Some xs → length xs < 2 ^ 32 }
+    requires stand { LambdasStand captured fields.now (lambdas_of ls.now) (length bodies.old.items) }
+    requires few { length bodies.old.items + procedures_lambdas (lambdas_of ls.now) < 2 ^ 32 }
+    ensures made { IfOk result (λ ms. map view.made ms ≡ made_each (lambdas_of ls.now) own.now (length bodies.old.items)) }
+    ensures bodies { OnOk result (map view.body bodies.new.items ≡ with_bodies_lambdas (lambdas_of ls.now) (map view.body bodies.old.items)) }
+    ensures count { OnOk result (length bodies.new.items ≡ length bodies.old.items + procedures_lambdas (lambdas_of ls.now)) }
+{
+    let mut all = List::new(alloc);
+    for l in ls.as_slice() {
+        all.push(close_lambda(alloc, l, own, fields, bodies)?)?;
+    }
+    Ok(all)
+}
+
+/// The top-level forms, and before each of them how many bodies there are.
+pub(crate) fn close_forms(
+    alloc: Global,
+    es: &List<Exp>,
+    fields: &[List<u32>],
+    bodies: &mut Vec<Body>,
+    before: &mut List<u32>,
+) -> Result<List<flat::Exp>, Mem>
+    requires short { (k : ℕ) → (xs : List ℕ) → slice_get fields.now k ≡ Some xs → length xs < 2 ^ 32 }
+    requires stand { EachStands captured fields.now (trees_of es.now) (length bodies.old.items) }
+    requires few { length bodies.old.items + procedures_each (trees_of es.now) < 2 ^ 32 }
+    requires none { before.old ≡ [] }
+    ensures made { IfOk result (λ qs. view.trees_of qs ≡ closed_each (trees_of es.now) [] (length bodies.old.items)) }
+    ensures bodies { OnOk result (map view.body bodies.new.items ≡ with_bodies_each (trees_of es.now) (map view.body bodies.old.items)) }
+    ensures starts { OnOk result (before.new ≡ starts (trees_of es.now) (length bodies.old.items)) }
+{
+    let mut all = List::new(alloc);
+    for e in es.as_slice() {
+        before.push(bodies.len() as u32)?;
+        all.push(close_expression(alloc, e, &[], fields, bodies)?)?;
+    }
+    Ok(all)
+}
