@@ -1,14 +1,13 @@
 -- States with a cell for each variable beside states with cells for some.
-use Rattle.std.proofs.Common.{◌≡◌, ℕ, zero, suc, ◌+◌, ◌<◌, ◌≤◌, Bool, true, false, List, [], ◌∷◌, ◌++◌, length, Option, Some, None, refl, sym, ap, ◌∙◌, subst, arith, append_assoc, length-append}
-use Rattle.std.specs.Prelude.{slice_get, slice_set}
+use Rattle.std.proofs.Common.{◌≡◌, ℕ, zero, suc, ◌+◌, ◌<◌, Bool, List, [], ◌∷◌, ◌++◌, length, Option, Some, None, refl, ap, ◌∙◌, arith}
+use Rattle.std.specs.Prelude.{slice_get}
 use Rattle.std.proofs.lemmas.List.{append-nil}
 use Rattle.sch_word.specs.declared.answer.Answer.{Answer}
-use Rattle.sch_word.specs.declared.stop.Stop.{Stop}
-use Rattle.sch_word.specs.Values.{Value, unspecified, procedure}
+use Rattle.sch_word.specs.Values.{Value, unspecified}
 use Rattle.sch_word.specs.Store.{Store}
-use Rattle.sch_word.specs.Computation.{Outcome, gives, stops, spent, State, Action, Computation, Enter, with_rest, in_store, on_value, after, set_or_stop, read_cell, write_cell, new_cells, new_procedure, new_group, new_fix, some_each, unset_each, numbers_from, procedures_from, Entry, call_with}
+use Rattle.sch_word.specs.Computation.{Outcome, gives, stops, spent, State, Action, Computation, Enter, with_rest, in_store, after, set_or_stop, read_cell, write_cell, new_cells, new_procedure, new_group, new_fix, some_each, numbers_from, procedures_from, Entry, call_with}
 use Rattle.sch_word.specs.Runs.{seen, starting_state}
-use Rattle.sch_word.proofs.Similar.{Correspondence, Similar, SimilarOutcome, Same, similar_gives, similar_stops, similar_checked, similar_after, similar_then}
+use Rattle.sch_word.proofs.Similar.{Correspondence, Similar, SimilarOutcome, Same, similar_checked, similar_after}
 use Rattle.sch_word.proofs.SameStore.{Gives, Pairs, no_pairs, and_pair, pairs_length, pairs_append, SameEntry, checked_call_same}
 use Rattle.sch_assign.proofs.Worlds.{World, Cells, Grows, stays, on, Holds, holds_none, holds_plain, holds_boxed, boxes, rank, get_plain, get_boxed, set_holds, set_boxes, holds_append, boxes_append, get_grow, rank_grow}
 
@@ -145,14 +144,14 @@ module _ {P Q : Type 0} (Becomes : World → P → Q → Type 0) (grow : (w w' :
   pub same_new_procedure : {w : World} {p : P} {q : Q} → Becomes w p q → DoesSame w (new_procedure p) (new_procedure q)
   same_new_procedure {w} {p} {q} h = record {
     from = λ w0 g s t r. (
-        w0,
-        made w0 (record s { procedures = s.procedures ++ p ∷ [] }) (r.qs ++ q ∷ []),
-        _,
-        stays w0,
-        record { qs = r.qs ++ q ∷ []; holds = r.holds; pairs = pairs_append (Becomes w0) r.pairs (and_pair (grow w w0 g p q h) no_pairs); is = refl },
-        refl,
-        rw (r.is, ← pairs_length (Becomes w0) r.pairs) refl,
-      );
+      w0,
+      made w0 (record s { procedures = s.procedures ++ p ∷ [] }) (r.qs ++ q ∷ []),
+      _,
+      stays w0,
+      record { qs = r.qs ++ q ∷ []; holds = r.holds; pairs = pairs_append (Becomes w0) r.pairs (and_pair (grow w w0 g p q h) no_pairs); is = refl },
+      refl,
+      rw (r.is, ← pairs_length (Becomes w0) r.pairs) refl,
+    );
   }
 
   some_holds : (vs : List Value) → Holds (some_each vs) (some_each vs)

@@ -1,24 +1,21 @@
 -- Variables of a group, by their places in it.
-use Rattle.std.proofs.Common.{◌≡◌, ℕ, zero, suc, ◌+◌, ◌<◌, ◌≤◌, Bool, true, false, List, [], ◌∷◌, ◌++◌, length, Option, Some, None, refl, sym, ap, ◌∙◌, subst, arith}
+use Rattle.std.proofs.Common.{◌≡◌, ℕ, zero, suc, ◌+◌, ◌<◌, Bool, true, false, List, [], ◌∷◌, length, Option, Some, refl, ap, ◌∙◌, arith}
 use Rattle.std.specs.Prelude.{nat_eq, slice_get, ◌||◌}
 use Rattle.std.proofs.lemmas.Bool.{eqb-true, eq-eqb}
 use Rattle.sch_word.specs.NumberSets.{has}
 use Rattle.sch_word.specs.Values.{Value, cell}
 use Rattle.sch_word.specs.Computation.{numbers_from}
 use Rattle.sch_word.specs.CellBytes.{cells_bytes, where_assigned}
-use Rattle.sch_word.specs.Bindings.{Bindings, this_or, bound_to, value_or, value_of, with_variables, scope_with}
-use Rattle.sch_cells.specs.declared.tree.NewCell.{NewCell}
-use Rattle.sch_cells.specs.Clear.{In}
+use Rattle.sch_word.specs.Bindings.{Bindings, bound_to, with_variables, scope_with}
 use Rattle.sch_cells.specs.Variables.{assigns, cells_of}
 use Rattle.sch_cells.specs.Tree.{Tree}
-use Rattle.sch_cells.specs.BoxedMeaning.{with_cells, contents, content}
-use Rattle.sch_assign.specs.Converted.{and_cell, cells_for, empty_cells, Agree, AllAre}
-use Rattle.sch_assign.proofs.Worlds.{World, rank}
+use Rattle.sch_cells.specs.BoxedMeaning.{with_cells, contents}
+use Rattle.sch_assign.specs.Converted.{and_cell, cells_for, Agree, AllAre, Low}
 
 pub self : (x : ℕ) → nat_eq x x ≡ true
 self x = eq-eqb x x refl
 
-apart : (a b : ℕ) → (a ≡ b → ⊥) → nat_eq a b ≡ false
+pub apart : (a b : ℕ) → (a ≡ b → ⊥) → nat_eq a b ≡ false
 apart a b h = go (nat_eq a b) refl
   where
     go : (b' : Bool) → nat_eq a b ≡ b' → b' ≡ false
@@ -59,14 +56,14 @@ in_outside x (suc m) y S h i =
     let j : (nat_eq y x || has y S) ≡ true = in_outside (suc x) m y (x ∷ S) (apart_next x m y h) i in
     rw d at j
 
-in_more : (y x : ℕ) (S : List ℕ) → has y S ≡ true → has y (x ∷ S) ≡ true
+pub in_more : (y x : ℕ) (S : List ℕ) → has y S ≡ true → has y (x ∷ S) ≡ true
 in_more y x S h = go (nat_eq y x)
   where
     go : (b : Bool) → (b || has y S) ≡ true
     go true = refl
     go false = h
 
-in_deeper : (x m y : ℕ) (S : List ℕ) → has y S ≡ true → has y (scope_with x m S) ≡ true
+pub in_deeper : (x m y : ℕ) (S : List ℕ) → has y S ≡ true → has y (scope_with x m S) ≡ true
 in_deeper x zero y S h = h
 in_deeper x (suc m) y S h = in_deeper (suc x) m y (x ∷ S) (in_more y x S h)
 
@@ -101,7 +98,7 @@ pub numbers_length : {V : Type 0} (k : ℕ) (vs : List V) → length (numbers_fr
 numbers_length k [] = refl
 numbers_length k (v ∷ vs) = ap suc (numbers_length (suc k) vs)
 
-module _ (A : ℕ → Bool) (n : ℕ) where
+module _ (has_cell : ℕ → Bool) (n : ℕ) where
   -- how many of so many variables from x on become cells
   abbrev pub one_more_if : Bool → ℕ → ℕ
   one_more_if true k = suc k
@@ -109,56 +106,73 @@ module _ (A : ℕ → Bool) (n : ℕ) where
 
   abbrev pub count_before : (x i : ℕ) → ℕ
   count_before x zero = 0
-  count_before x (suc i) = one_more_if (A x) (count_before (suc x) i)
+  count_before x (suc i) = one_more_if (has_cell x) (count_before (suc x) i)
 
-  agree_next : (x m : ℕ) (e : Tree) → Agree A n x (suc m) e → Agree A n (suc x) m e
+  pub agree_next : (x m : ℕ) (e : Tree) → Agree has_cell n x (suc m) e → Agree has_cell n (suc x) m e
   agree_next x m e h = record { at = λ i l. let q : x + suc i ≡ suc x + i = omega arith in rw q at (h.at (suc i) (omega (arith, l))) }
 
+  pub low_next : (x m : ℕ) → Low n x (suc m) → Low n (suc x) m
+  low_next x m h = record { at = λ i l. let q : x + suc i ≡ suc x + i = omega arith in rw q at (h.at (suc i) (omega (arith, l))) }
+
+  pub low_first : (x m : ℕ) → Low n x (suc m) → x < n
+  low_first x m h = let q : x + 0 ≡ x = omega arith in rw q at (h.at 0 (omega arith))
+
+  pub all_next : (b : Bool) (x m : ℕ) → AllAre has_cell n b x (suc m) → AllAre has_cell n b (suc x) m
+  all_next b x m h = record { at = λ i l. let q : x + suc i ≡ suc x + i = omega arith in rw q at (h.at (suc i) (omega (arith, l))) }
+
+  pub all_first : (b : Bool) (x m : ℕ) → AllAre has_cell n b x (suc m) → has_cell x ≡ b
+  all_first b x m h = let q : x + 0 ≡ x = omega arith in rw q at (h.at 0 (omega arith))
+
+  -- no cells where no variable becomes one
+  pub no_cells : (x m : ℕ) → AllAre has_cell n false x m → cells_for has_cell n x m ≡ []
+  no_cells x zero h = refl
+  no_cells x (suc m) h = rw (all_first false x m h) (no_cells (suc x) m (all_next false x m h))
+
   -- the same charges
-  pub charges_same : (x m : ℕ) (e : Tree) → Agree A n x m e → cells_of x m e ≡ cells_bytes (length (cells_for A n x m))
+  pub charges_same : (x m : ℕ) (e : Tree) → Agree has_cell n x m e → cells_of x m e ≡ cells_bytes (length (cells_for has_cell n x m))
   charges_same x zero e h = refl
   charges_same x (suc m) e h =
       let q : x + 0 ≡ x = omega arith in
-      let a : A x ≡ assigns e x = rw q at (h.at 0 (omega arith)) in
-      rw (← a) (go (A x) (charges_same (suc x) m e (agree_next x m e h)))
+      let a : has_cell x ≡ assigns e x = rw q at (h.at 0 (omega arith)) in
+      rw (← a) (go (has_cell x) (charges_same (suc x) m e (agree_next x m e h)))
     where
-      go : (b : Bool) → cells_of (suc x) m e ≡ cells_bytes (length (cells_for A n (suc x) m)) → where_assigned b (cells_of (suc x) m e) ≡ cells_bytes (length (and_cell A n b x (cells_for A n (suc x) m)))
+      go : (b : Bool) → cells_of (suc x) m e ≡ cells_bytes (length (cells_for has_cell n (suc x) m)) → where_assigned b (cells_of (suc x) m e) ≡ cells_bytes (length (and_cell n b x (cells_for has_cell n (suc x) m)))
       go true k = ap (λ l. 16 ∷ l) k
       go false k = k
 
   -- a key that is no cell of the group
-  pub outside_cells : (x m k : ℕ) (ns : List ℕ) (env : Bindings Value) → Apart (x + n) m k → bound_to k (with_cells (cells_for A n x m) ns env) ≡ bound_to k env
+  pub outside_cells : (x m k : ℕ) (ns : List ℕ) (env : Bindings Value) → Apart (x + n) m k → bound_to k (with_cells (cells_for has_cell n x m) ns env) ≡ bound_to k env
   outside_cells x zero k [] env h = refl
   outside_cells x zero k (c ∷ ns) env h = refl
   outside_cells x (suc m) k ns env h =
-      go (A x) ns (λ ns' env'. outside_cells (suc x) m k ns' env' (record { at = λ i l e. h.at (suc i) (omega (arith, l)) (omega (arith, e)) }))
+      go (has_cell x) ns (λ ns' env'. outside_cells (suc x) m k ns' env' (record { at = λ i l e. h.at (suc i) (omega (arith, l)) (omega (arith, e)) }))
     where
-      go : (b : Bool) (ns : List ℕ) → ((ns : List ℕ) (env : Bindings Value) → bound_to k (with_cells (cells_for A n (suc x) m) ns env) ≡ bound_to k env) → bound_to k (with_cells (and_cell A n b x (cells_for A n (suc x) m)) ns env) ≡ bound_to k env
+      go : (b : Bool) (ns : List ℕ) → ((ns : List ℕ) (env : Bindings Value) → bound_to k (with_cells (cells_for has_cell n (suc x) m) ns env) ≡ bound_to k env) → bound_to k (with_cells (and_cell n b x (cells_for has_cell n (suc x) m)) ns env) ≡ bound_to k env
       go true [] deeper = refl
       go true (c ∷ ns) deeper = deeper ns ((x + n, cell c) ∷ env) ∙ rw (apart_first (x + n) m k h) refl
       go false ns deeper = deeper ns env
 
-  pub inside_cells : {V : Type 0} (x m i j : ℕ) (cts : List V) (env : Bindings Value) → length cts ≡ length (cells_for A n x m) → i < m → A (x + i) ≡ true → bound_to (x + i + n) (with_cells (cells_for A n x m) (numbers_from j cts) env) ≡ Some (cell (j + count_before x i))
+  pub inside_cells : {V : Type 0} (x m i j : ℕ) (cts : List V) (env : Bindings Value) → length cts ≡ length (cells_for has_cell n x m) → i < m → has_cell (x + i) ≡ true → bound_to (x + i + n) (with_cells (cells_for has_cell n x m) (numbers_from j cts) env) ≡ Some (cell (j + count_before x i))
   inside_cells x zero i j cts env e l a = absurd (omega (arith, l))
   inside_cells {V} x (suc m) zero j cts env e l a =
       let q : x + 0 ≡ x = omega arith in
-      let a' : A x ≡ true = rw q at a in
-      let e' : length cts ≡ length (and_cell A n true x (cells_for A n (suc x) m)) = rw a' at e in
+      let a' : has_cell x ≡ true = rw q at a in
+      let e' : length cts ≡ length (and_cell n true x (cells_for has_cell n (suc x) m)) = rw a' at e in
       rw (q, a') (go cts e')
     where
-      go : (cts : List V) → length cts ≡ length (and_cell A n true x (cells_for A n (suc x) m)) → bound_to (x + n) (with_cells (record { variable = x + n; content = Some x } ∷ cells_for A n (suc x) m) (numbers_from j cts) env) ≡ Some (cell (j + 0))
+      go : (cts : List V) → length cts ≡ length (and_cell n true x (cells_for has_cell n (suc x) m)) → bound_to (x + n) (with_cells (record { variable = x + n; content = Some x } ∷ cells_for has_cell n (suc x) m) (numbers_from j cts) env) ≡ Some (cell (j + 0))
       go [] k = absurd (omega (arith, k))
       go (c ∷ cts) k =
           outside_cells (suc x) m (x + n) (numbers_from (suc j) cts) ((x + n, cell j) ∷ env) (record { at = λ i l e. omega (arith, e) })
           ∙ (let r : j ≡ j + 0 = omega arith in rw (self (x + n)) (ap (λ k. Some (cell k)) r))
   inside_cells {V} x (suc m) (suc i) j cts env e l a =
       let q : x + suc i ≡ suc x + i = omega arith in
-      let a' : A (suc x + i) ≡ true = rw q at a in
-      rw q (go (A x) cts e (λ k cts' env' e'. inside_cells (suc x) m i k cts' env' e' (omega (arith, l)) a'))
+      let a' : has_cell (suc x + i) ≡ true = rw q at a in
+      rw q (go (has_cell x) cts e (λ k cts' env' e'. inside_cells (suc x) m i k cts' env' e' (omega (arith, l)) a'))
     where
-      go : (b : Bool) (cts : List V) → length cts ≡ length (and_cell A n b x (cells_for A n (suc x) m))
-          → ((k : ℕ) (cts : List V) (env : Bindings Value) → length cts ≡ length (cells_for A n (suc x) m) → bound_to (suc x + i + n) (with_cells (cells_for A n (suc x) m) (numbers_from k cts) env) ≡ Some (cell (k + count_before (suc x) i)))
-          → bound_to (suc x + i + n) (with_cells (and_cell A n b x (cells_for A n (suc x) m)) (numbers_from j cts) env) ≡ Some (cell (j + one_more_if b (count_before (suc x) i)))
+      go : (b : Bool) (cts : List V) → length cts ≡ length (and_cell n b x (cells_for has_cell n (suc x) m))
+          → ((k : ℕ) (cts : List V) (env : Bindings Value) → length cts ≡ length (cells_for has_cell n (suc x) m) → bound_to (suc x + i + n) (with_cells (cells_for has_cell n (suc x) m) (numbers_from k cts) env) ≡ Some (cell (k + count_before (suc x) i)))
+          → bound_to (suc x + i + n) (with_cells (and_cell n b x (cells_for has_cell n (suc x) m)) (numbers_from j cts) env) ≡ Some (cell (j + one_more_if b (count_before (suc x) i)))
       go true [] k deeper = absurd (omega (arith, k))
       go true (c ∷ cts) k deeper =
           deeper (suc j) cts ((x + n, cell j) ∷ env) (omega (arith, k))
@@ -173,25 +187,25 @@ module _ (A : ℕ → Bool) (n : ℕ) where
 
   abbrev pub chosen : ℕ → List Value → List (Option Value)
   chosen x [] = []
-  chosen x (v ∷ vs) = and_content (A x) v (chosen (suc x) vs)
+  chosen x (v ∷ vs) = and_content (has_cell x) v (chosen (suc x) vs)
 
-  pub contents_are : (x m : ℕ) (vs : List Value) (env : Bindings Value) → length vs ≡ m → ((i : ℕ) → i < m → bound_to (x + i) env ≡ slice_get vs i) → contents (cells_for A n x m) env ≡ chosen x vs
+  pub contents_are : (x m : ℕ) (vs : List Value) (env : Bindings Value) → length vs ≡ m → ((i : ℕ) → i < m → bound_to (x + i) env ≡ slice_get vs i) → contents (cells_for has_cell n x m) env ≡ chosen x vs
   contents_are x zero [] env e h = refl
   contents_are x zero (v ∷ vs) env e h = absurd (omega (arith, e))
   contents_are x (suc m) [] env e h = absurd (omega (arith, e))
   contents_are x (suc m) (v ∷ vs) env e h =
       let q : x + 0 ≡ x = omega arith in
       let here : bound_to x env ≡ Some v = rw q at (h 0 (omega arith)) in
-      rw (← contents_are (suc x) m vs env (omega (arith, e)) (λ i l. let r : x + suc i ≡ suc x + i = omega arith in rw r at (h (suc i) (omega (arith, l))))) (go (A x) here)
+      rw (← contents_are (suc x) m vs env (omega (arith, e)) (λ i l. let r : x + suc i ≡ suc x + i = omega arith in rw r at (h (suc i) (omega (arith, l))))) (go (has_cell x) here)
     where
-      go : (b : Bool) → bound_to x env ≡ Some v → contents (and_cell A n b x (cells_for A n (suc x) m)) env ≡ and_content b v (contents (cells_for A n (suc x) m) env)
+      go : (b : Bool) → bound_to x env ≡ Some v → contents (and_cell n b x (cells_for has_cell n (suc x) m)) env ≡ and_content b v (contents (cells_for has_cell n (suc x) m) env)
       go true here = rw here refl
       go false here = refl
 
-  pub chosen_length : (x : ℕ) (vs : List Value) → length (chosen x vs) ≡ length (cells_for A n x (length vs))
+  pub chosen_length : (x : ℕ) (vs : List Value) → length (chosen x vs) ≡ length (cells_for has_cell n x (length vs))
   chosen_length x [] = refl
-  chosen_length x (v ∷ vs) = go (A x) (chosen_length (suc x) vs)
+  chosen_length x (v ∷ vs) = go (has_cell x) (chosen_length (suc x) vs)
     where
-      go : (b : Bool) → length (chosen (suc x) vs) ≡ length (cells_for A n (suc x) (length vs)) → length (and_content b v (chosen (suc x) vs)) ≡ length (and_cell A n b x (cells_for A n (suc x) (length vs)))
+      go : (b : Bool) → length (chosen (suc x) vs) ≡ length (cells_for has_cell n (suc x) (length vs)) → length (and_content b v (chosen (suc x) vs)) ≡ length (and_cell n b x (cells_for has_cell n (suc x) (length vs)))
       go true k = ap suc k
       go false k = k

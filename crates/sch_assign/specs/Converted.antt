@@ -1,32 +1,20 @@
 -- The tree without assignments for a tree with them.
-use Rattle.std.specs.Prelude.{◌≡◌, ℕ, zero, suc, ◌+◌, ◌<◌, ◌≤◌, Bool, true, false, List, [], ◌∷◌, Option, Some, None}
-use Rattle.sch_word.specs.NumberSets.{has}
+use Rattle.std.specs.Prelude.{◌≡◌, ℕ, zero, suc, ◌+◌, ◌<◌, Bool, true, false, List, [], ◌∷◌, Some, None}
 use Rattle.sch_cells.specs.Tree.{Tree, Trees, Lambdas, Source, constant, literal, variable, global, set_variable, set_global, define, branch, sequence, bind, fix, letrec, lambda, call, operation, new_cells, cell_get, cell_set, no_trees, and_tree, no_lambdas, and_lambda, count, count_lambdas}
 use Rattle.sch_word.specs.Bindings.{scope_with}
 use Rattle.sch_cells.specs.declared.tree.NewCell.{NewCell}
 use Rattle.sch_cells.specs.Variables.{assigns}
-use Rattle.sch_cells.specs.Procedures.{lambda_bytes}
 use Rattle.sch_cells.specs.Clear.{In}
 
--- A tells which variables become cells. The cell of x is in the variable x + n, and n is more than any
--- number of the tree's.
-module _ (A : ℕ → Bool) (n : ℕ) where
+-- The cell of the variable x is in the variable x + n, where n is more than any number of the tree's.
+module _ (n : ℕ) where
   abbrev pub and_cell : Bool → ℕ → List NewCell → List NewCell
   and_cell true x cs = record { variable = x + n; content = Some x } ∷ cs
   and_cell false x cs = cs
 
-  -- a cell for each of so many variables from x on that becomes one
-  abbrev pub cells_for : (x m : ℕ) → List NewCell
-  cells_for x zero = []
-  cells_for x (suc m) = and_cell (A x) x (cells_for (suc x) m)
-
   abbrev pub empty_cells : (x m : ℕ) → List NewCell
   empty_cells x zero = []
   empty_cells x (suc m) = record { variable = x + n; content = None } ∷ empty_cells (suc x) m
-
-  abbrev pub wrapped : List NewCell → Tree → Tree
-  wrapped [] e = e
-  wrapped (c ∷ cs) e = new_cells (c ∷ cs) e
 
   abbrev pub reading : Bool → ℕ → Tree
   reading true x = cell_get (x + n)
@@ -37,11 +25,26 @@ module _ (A : ℕ → Bool) (n : ℕ) where
   filling x zero e = and_tree e no_trees
   filling x (suc m) e = and_tree (cell_set (x + n) (variable x)) (filling (suc x) m e)
 
+  -- so many variables from x on are below n
+  pub record Low (x m : ℕ) : Type 0 where
+    pub at : (i : ℕ) → i < m → x + i < n
+
+abbrev pub wrapped : List NewCell → Tree → Tree
+wrapped [] e = e
+wrapped (c ∷ cs) e = new_cells (c ∷ cs) e
+
+-- `has_cell` tells which variables have cells.
+module _ (has_cell : ℕ → Bool) (n : ℕ) where
+  -- a cell for each of so many variables from x on that becomes one
+  abbrev pub cells_for : (x m : ℕ) → List NewCell
+  cells_for x zero = []
+  cells_for x (suc m) = and_cell n (has_cell x) x (cells_for (suc x) m)
+
   abbrev mutual
     pub converted : Tree → Tree
     converted (constant c) = constant c
     converted (literal k) = literal k
-    converted (variable x) = reading (A x) x
+    converted (variable x) = reading n (has_cell x) x
     converted (global g) = global g
     converted (set_variable x e) = cell_set (x + n) (converted e)
     converted (set_global g e) = set_global g (converted e)
@@ -51,7 +54,7 @@ module _ (A : ℕ → Bool) (n : ℕ) where
     converted (bind site x es e) = bind site x (converted_each es) (wrapped (cells_for x (count es)) (converted e))
     converted (fix x ls e) = fix x (converted_lambdas ls) (converted e)
     converted (letrec site x es e) =
-        new_cells (empty_cells x (count es)) (bind site x (converted_each es) (sequence (filling x (count es) (converted e))))
+        new_cells (empty_cells n x (count es)) (bind site x (converted_each es) (sequence (filling n x (count es) (converted e))))
     converted (lambda name x m rest e) = lambda name x m rest (wrapped (cells_for x m) (converted e))
     converted (call site spread f es) = call site spread (converted f) (converted_each es)
     converted (operation site which es) = operation site which (converted_each es)
@@ -70,14 +73,10 @@ module _ (A : ℕ → Bool) (n : ℕ) where
   -- ## Where the conversion is right
 
   pub record Agree (x m : ℕ) (e : Tree) : Type 0 where
-    pub at : (i : ℕ) → i < m → A (x + i) ≡ assigns e (x + i)
+    pub at : (i : ℕ) → i < m → has_cell (x + i) ≡ assigns e (x + i)
 
   pub record AllAre (b : Bool) (x m : ℕ) : Type 0 where
-    pub at : (i : ℕ) → i < m → A (x + i) ≡ b
-
-  -- the procedure has as many free variables as before
-  abbrev pub SameBytes : (x m : ℕ) → Tree → Type 0
-  SameBytes x m e = lambda_bytes x m (wrapped (cells_for x m) (converted e)) ≡ lambda_bytes x m e
+    pub at : (i : ℕ) → i < m → has_cell (x + i) ≡ b
 
   abbrev mutual
     pub Right : Tree → List ℕ → Type 0
@@ -85,17 +84,17 @@ module _ (A : ℕ → Bool) (n : ℕ) where
     Right (literal k) S = Unit {0}
     Right (variable x) S = In x S
     Right (global g) S = Unit {0}
-    Right (set_variable x e) S = (A x ≡ true) × In x S × Right e S
+    Right (set_variable x e) S = (has_cell x ≡ true) × In x S × Right e S
     Right (set_global g e) S = Right e S
     Right (define g e) S = Right e S
     Right (branch a b c) S = Right a S × Right b S × Right c S
     Right (sequence es) S = RightEach es S
-    Right (bind site x es e) S = RightEach es S × Agree x (count es) e × (x + count es ≤ n) × Right e (scope_with x (count es) S)
+    Right (bind site x es e) S = RightEach es S × Agree x (count es) e × Low n x (count es) × Right e (scope_with x (count es) S)
     Right (fix x ls e) S =
-        AllAre false x (count_lambdas ls) × (x + count_lambdas ls ≤ n) × RightLambdas ls (scope_with x (count_lambdas ls) S) × Right e (scope_with x (count_lambdas ls) S)
+        AllAre false x (count_lambdas ls) × Low n x (count_lambdas ls) × RightLambdas ls (scope_with x (count_lambdas ls) S) × Right e (scope_with x (count_lambdas ls) S)
     Right (letrec site x es e) S =
-        AllAre true x (count es) × (x + count es ≤ n) × RightEach es (scope_with x (count es) S) × Right e (scope_with x (count es) S)
-    Right (lambda name x m rest e) S = SameBytes x m e × Agree x m e × (x + m ≤ n) × Right e (scope_with x m S)
+        AllAre true x (count es) × Low n x (count es) × RightEach es (scope_with x (count es) S) × Right e (scope_with x (count es) S)
+    Right (lambda name x m rest e) S = Agree x m e × Low n x m × Right e (scope_with x m S)
     Right (call site spread f es) S = Right f S × RightEach es S
     Right (operation site which es) S = RightEach es S
     Right (new_cells cs e) S = ⊥
@@ -108,7 +107,7 @@ module _ (A : ℕ → Bool) (n : ℕ) where
 
     pub RightLambdas : Lambdas → List ℕ → Type 0
     RightLambdas no_lambdas S = Unit {0}
-    RightLambdas (and_lambda name x m rest e ls) S = (SameBytes x m e × Agree x m e × (x + m ≤ n) × Right e (scope_with x m S)) × RightLambdas ls S
+    RightLambdas (and_lambda name x m rest e ls) S = (Agree x m e × Low n x m × Right e (scope_with x m S)) × RightLambdas ls S
 
   abbrev pub converted_source : Source → Source
   converted_source p = record {

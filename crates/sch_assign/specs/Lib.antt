@@ -1,1 +1,4 @@
+pub mod Celled
 pub mod Converted
+pub mod InRange
+pub mod Table

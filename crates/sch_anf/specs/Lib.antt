@@ -1,0 +1,4 @@
+pub mod Normal
+pub mod SameRun
+pub mod Table
+pub mod Tests

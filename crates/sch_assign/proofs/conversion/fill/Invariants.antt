@@ -1,0 +1,12 @@
+use Rattle.std.proofs.Common.{◌≡◌, ◌+◌, ◌-◌}
+use Rattle.sch_cells.specs.Tree.{Tree}
+use Rattle.sch_assign.specs.Converted.{filling}
+use Rattle.sch_word.specs.Walk.{onto}
+use Rattle.sch_assign.proofs.Loops.{and_then}
+use Rattle.sch_assign.proofs.conversion.fill.Given as goal
+
+abbrev pub invariant-loop-place : goal.invariant-loop-place
+invariant-loop-place l = record {
+  made : (e : Tree) → onto and_then l.all (filling l.n (l.first + l.place) (l.count - l.place) e) ≡ filling l.n l.first l.count e;
+  same : l.e ≡ l.initial.e;
+}

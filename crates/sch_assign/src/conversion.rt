@@ -1,0 +1,314 @@
+//! Each variable that gets a cell has it in a variable of its own.
+
+ghost use Rattle.std.specs.Prelude.{◌≡◌, ◌+◌, ◌<◌, ◌^◌, [], ◌++◌, None, IfOk, OnOk};
+ghost use Rattle.sch_cells.specs.Tree as plain;
+ghost use Rattle.sch_cells.specs.View.{tree, trees_of, lambdas_of};
+ghost use Rattle.sch_assign.specs.Converted.{Low, and_cell, cells_for, empty_cells, wrapped, filling, converted, converted_each, converted_lambdas};
+ghost use Rattle.sch_assign.specs.InRange.{InRange, EachInRange, LambdasInRange};
+ghost use Rattle.sch_assign.specs.Table.{table};
+
+use crate::marking::{count, variable_at};
+use sch_cells::{Exp, Lambda, NewCell};
+use sch_word::{List, Mem};
+use std::alloc::Global;
+
+// Whether a variable gets a cell.
+fn gets_cell(celled: &[bool], x: u32) -> bool
+    ensures { result ≡ table celled.now x }
+{
+    match celled.get(x as usize) {
+        Some(noted) => *noted,
+        None => false,
+    }
+}
+
+// The cell of a variable that gets one.
+fn add_cell(celled: &[bool], n: u32, x: u32, all: &mut List<NewCell>) -> Result<(), Mem>
+    requires { x + n < 2 ^ 32 }
+    ensures { OnOk result (all.new ≡ all.old ++ and_cell n (table celled.now x) x []) }
+{
+    if gets_cell(celled, x) {
+        all.push(NewCell {
+            variable: x + n,
+            content: Some(x),
+        })?;
+    }
+    Ok(())
+}
+
+// The cells of a group of variables.
+fn cells(
+    alloc: Global,
+    celled: &[bool],
+    n: u32,
+    first: u32,
+    count: usize,
+) -> Result<List<NewCell>, Mem>
+    requires low { Low n first count }
+    requires few { n + n < 2 ^ 32 }
+    ensures { IfOk result (λ cs. cs ≡ cells_for (table celled.now) n first count) }
+{
+    let mut all = List::new(alloc);
+    for place in 0..count {
+        add_cell(celled, n, variable_at(first, place), &mut all)?;
+    }
+    Ok(all)
+}
+
+// A cell with nothing in it.
+fn empty_cell(n: u32, x: u32) -> NewCell
+    requires { x + n < 2 ^ 32 }
+    ensures variable { result.variable ≡ x + n }
+    ensures content { result.content ≡ None }
+{
+    NewCell {
+        variable: x + n,
+        content: None,
+    }
+}
+
+// Cells with nothing in them for a group of variables.
+fn no_values(alloc: Global, n: u32, first: u32, count: usize) -> Result<List<NewCell>, Mem>
+    requires low { Low n first count }
+    requires few { n + n < 2 ^ 32 }
+    ensures { IfOk result (λ cs. cs ≡ empty_cells n first count) }
+{
+    let mut all = List::new(alloc);
+    for place in 0..count {
+        all.push(empty_cell(n, variable_at(first, place)))?;
+    }
+    Ok(all)
+}
+
+// An expression under its cells, if there are any.
+fn wrap(alloc: Global, cs: List<NewCell>, e: Exp) -> Result<Exp, Mem>
+    ensures { IfOk result (λ q. tree q ≡ wrapped cs (tree e)) }
+{
+    if cs.is_empty() {
+        return Ok(e);
+    }
+    Ok(Exp::NewCells(cs, Box::new(alloc, e)?))
+}
+
+// A variable's value goes into its cell.
+fn fill_one(alloc: Global, n: u32, x: u32) -> Result<Exp, Mem>
+    requires { x + n < 2 ^ 32 }
+    ensures { IfOk result (λ q. tree q ≡ plain.cell_set (x + n) (plain.variable x)) }
+{
+    let value = Box::new(alloc, Exp::Var(x))?;
+    Ok(Exp::CellSet(x + n, value))
+}
+
+// The values of a group of variables go into their cells, and then an expression.
+fn fill(alloc: Global, n: u32, first: u32, count: usize, e: Exp) -> Result<List<Exp>, Mem>
+    requires low { Low n first count }
+    requires few { n + n < 2 ^ 32 }
+    ensures { IfOk result (λ qs. trees_of qs ≡ filling n first count (tree e)) }
+{
+    let mut all = List::new(alloc);
+    for place in 0..count {
+        all.push(fill_one(alloc, n, variable_at(first, place))?)?;
+    }
+    all.push(e)?;
+    Ok(all)
+}
+
+// A Rec with cells: they are new and empty, the inits have their values, and these go into the cells.
+fn recursive(
+    alloc: Global,
+    cs: List<NewCell>,
+    site: u32,
+    first: u32,
+    inits: List<Exp>,
+    parts: List<Exp>,
+) -> Result<Exp, Mem>
+    ensures { IfOk result (λ q. tree q ≡ plain.new_cells cs (plain.bind site first (trees_of inits) (plain.sequence (trees_of parts)))) }
+{
+    let body = Box::new(alloc, Exp::Seq(parts))?;
+    let inner = Exp::Let {
+        site,
+        first,
+        inits,
+        body,
+    };
+    Ok(Exp::NewCells(cs, Box::new(alloc, inner)?))
+}
+
+/// The expression with cells for the variables that the table notes.
+#[cycle(converting)]
+fn convert(alloc: Global, celled: &[bool], n: u32, e: &Exp) -> Result<Exp, Mem>
+    requires within { InRange n (tree e.now) }
+    requires few { n + n < 2 ^ 32 }
+    ensures { IfOk result (λ q. tree q ≡ converted (table celled.now) n (tree e.now)) }
+{
+    match e {
+        Exp::Constant(c) => Ok(Exp::Constant(*c)),
+        Exp::Literal(k) => Ok(Exp::Literal(*k)),
+        Exp::Var(x) => {
+            if gets_cell(celled, *x) {
+                Ok(Exp::CellGet(*x + n))
+            } else {
+                Ok(Exp::Var(*x))
+            }
+        }
+        Exp::Global(g) => Ok(Exp::Global(*g)),
+        Exp::SetVar(x, value) => {
+            let value = convert_boxed(alloc, celled, n, value)?;
+            Ok(Exp::CellSet(*x + n, value))
+        }
+        Exp::SetGlobal(g, value) => {
+            let value = convert_boxed(alloc, celled, n, value)?;
+            Ok(Exp::SetGlobal(*g, value))
+        }
+        Exp::Define(g, value) => {
+            let value = convert_boxed(alloc, celled, n, value)?;
+            Ok(Exp::Define(*g, value))
+        }
+        Exp::If(test, yes, no) => {
+            let test = convert_boxed(alloc, celled, n, test)?;
+            let yes = convert_boxed(alloc, celled, n, yes)?;
+            let no = convert_boxed(alloc, celled, n, no)?;
+            Ok(Exp::If(test, yes, no))
+        }
+        Exp::Seq(parts) => {
+            let parts = convert_each(alloc, celled, n, parts)?;
+            Ok(Exp::Seq(parts))
+        }
+        Exp::Let {
+            site,
+            first,
+            inits,
+            body,
+        } => {
+            let cs = cells(alloc, celled, n, *first, count(inits))?;
+            let inits = convert_each(alloc, celled, n, inits)?;
+            let body = convert(alloc, celled, n, body)?;
+            let body = Box::new(alloc, wrap(alloc, cs, body)?)?;
+            Ok(Exp::Let {
+                site: *site,
+                first: *first,
+                inits,
+                body,
+            })
+        }
+        Exp::Fix {
+            first,
+            lambdas,
+            body,
+        } => {
+            let lambdas = convert_lambdas(alloc, celled, n, lambdas)?;
+            let body = convert_boxed(alloc, celled, n, body)?;
+            Ok(Exp::Fix {
+                first: *first,
+                lambdas,
+                body,
+            })
+        }
+        Exp::Rec {
+            site,
+            first,
+            inits,
+            body,
+        } => {
+            let count = count(inits);
+            let cs = no_values(alloc, n, *first, count)?;
+            let inits = convert_each(alloc, celled, n, inits)?;
+            let body = convert(alloc, celled, n, body)?;
+            let parts = fill(alloc, n, *first, count, body)?;
+            recursive(alloc, cs, *site, *first, inits, parts)
+        }
+        Exp::Lambda(l) => {
+            let l = Box::new(alloc, convert_lambda(alloc, celled, n, l)?)?;
+            Ok(Exp::Lambda(l))
+        }
+        Exp::Call {
+            site,
+            spread,
+            operator,
+            operands,
+        } => {
+            let operator = convert_boxed(alloc, celled, n, operator)?;
+            let operands = convert_each(alloc, celled, n, operands)?;
+            Ok(Exp::Call {
+                site: *site,
+                spread: *spread,
+                operator,
+                operands,
+            })
+        }
+        Exp::Prim(site, which, operands) => {
+            let operands = convert_each(alloc, celled, n, operands)?;
+            Ok(Exp::Prim(*site, *which, operands))
+        }
+        Exp::NewCells(_, _) | Exp::CellGet(_) | Exp::CellSet(_, _) => unreachable!(),
+    }
+}
+
+// The same on the heap. As a function of its own it keeps the frames of the walk small.
+#[cycle(converting)]
+fn convert_boxed(alloc: Global, celled: &[bool], n: u32, e: &Box<Exp>) -> Result<Box<Exp>, Mem>
+    requires within { InRange n (tree e.now.value) }
+    requires few { n + n < 2 ^ 32 }
+    ensures { IfOk result (λ q. tree q.value ≡ converted (table celled.now) n (tree e.now.value)) }
+{
+    let e = convert(alloc, celled, n, e)?;
+    Ok(Box::new(alloc, e)?)
+}
+
+/// The same for each of some expressions.
+#[cycle(converting)]
+pub(crate) fn convert_each(
+    alloc: Global,
+    celled: &[bool],
+    n: u32,
+    es: &List<Exp>,
+) -> Result<List<Exp>, Mem>
+    requires within { EachInRange n (trees_of es.now) }
+    requires few { n + n < 2 ^ 32 }
+    ensures { IfOk result (λ qs. trees_of qs ≡ converted_each (table celled.now) n (trees_of es.now)) }
+{
+    let mut all = List::new(alloc);
+    for e in es.as_slice() {
+        all.push(convert(alloc, celled, n, e)?)?;
+    }
+    Ok(all)
+}
+
+#[cycle(converting)]
+fn convert_lambda(alloc: Global, celled: &[bool], n: u32, l: &Lambda) -> Result<Lambda, Mem>
+    requires low { Low n l.now.first l.now.formals }
+    requires within { InRange n (tree l.now.body) }
+    requires few { n + n < 2 ^ 32 }
+    ensures { IfOk result (λ q. plain.lambda q.name q.first q.formals q.rest (tree q.body) ≡ converted (table celled.now) n (plain.lambda l.now.name l.now.first l.now.formals l.now.rest (tree l.now.body))) }
+{
+    let cs = cells(alloc, celled, n, l.first, l.formals as usize)?;
+    let body = convert(alloc, celled, n, &l.body)?;
+    let body = wrap(alloc, cs, body)?;
+    let name = List::from_slice(alloc, l.name.as_slice())?;
+    Ok(Lambda {
+        name,
+        first: l.first,
+        formals: l.formals,
+        rest: l.rest,
+        body,
+    })
+}
+
+/// The same for each of some lambdas.
+#[cycle(converting)]
+pub(crate) fn convert_lambdas(
+    alloc: Global,
+    celled: &[bool],
+    n: u32,
+    ls: &List<Lambda>,
+) -> Result<List<Lambda>, Mem>
+    requires within { LambdasInRange n (lambdas_of ls.now) }
+    requires few { n + n < 2 ^ 32 }
+    ensures { IfOk result (λ qs. lambdas_of qs ≡ converted_lambdas (table celled.now) n (lambdas_of ls.now)) }
+{
+    let mut all = List::new(alloc);
+    for l in ls.as_slice() {
+        all.push(convert_lambda(alloc, celled, n, l)?)?;
+    }
+    Ok(all)
+}
