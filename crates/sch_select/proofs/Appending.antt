@@ -1,0 +1,96 @@
+-- What follows an instruction's items stands behind them.
+use Rattle.std.proofs.Common.{◌≡◌, ℕ, ◌+◌, List, [], ◌∷◌, ◌++◌, refl, sym, ap, ◌∙◌, append_assoc}
+use Rattle.sch_word.specs.declared.place.Place.{Place}
+use Rattle.sch_word.specs.declared.primitive.Primitive.{Primitive}
+use Rattle.sch_word.specs.declared.primitive.Primitive.TheVariants.{IsBoolean, Eq}
+use Rattle.sch_control.specs.declared.operation.Atom.{Atom}
+use Rattle.sch_control.specs.declared.operation.Atom.TheVariants.{Constant, Literal, Variable}
+use Rattle.sch_control.specs.declared.operation.Operand.{Operand}
+use Rattle.sch_control.specs.declared.operation.Operand.TheVariants as operand
+use Rattle.sch_control.specs.declared.operation.Operation.{Operation}
+use Rattle.sch_control.specs.declared.operation.Operation.TheVariants as operation
+use Rattle.sch_frames.specs.declared.instruction.Instruction.{Instruction}
+use Rattle.sch_frames.specs.declared.instruction.Instruction.TheVariants.{Do}
+use Rattle.sch_insn.specs.declared.insn.Arg.TheVariants.{Reg}
+use Rattle.sch_insn.specs.declared.insn.Insn.TheVariants.{MovTo, MovNumber}
+use Rattle.sch_asm.specs.declared.item.Item.{Item}
+use Rattle.sch_asm.specs.declared.item.Item.TheVariants as item
+use Rattle.sch_asm.specs.declared.item.MarkKind.{MarkKind}
+use Rattle.sch_asm.specs.Stands.{Setting, Stands}
+use Rattle.sch_select.specs.Select.{atom_code, unary_code, binary_code, read_code, operand_code, second_code, primitive_code, operation_code, global_address, instruction_code, body_code}
+use Rattle.sch_select.specs.Encoded.{unspecified_word}
+use Rattle.std.specs.Prelude.{pos}
+
+-- what comes behind is appended
+abbrev pub Appends : (List Item → List Item) → Type 0
+Appends f = (rest : List Item) → f rest ≡ f [] ++ rest
+
+pub then_appends : (f g : List Item → List Item) → Appends f → Appends g → Appends (λ rest. f (g rest))
+then_appends f g a b rest = a (g rest) ∙ ap (λ l. f [] ++ l) (b rest) ∙ sym (append_assoc (f []) (g []) rest) ∙ ap (λ l. l ++ rest) (sym (a (g [])))
+
+atom_appends : (r : ℕ) (a : Atom Place) → Appends (atom_code r a)
+atom_appends r (Constant c) rest = refl
+atom_appends r (Variable p) rest = refl
+atom_appends r (Literal n) rest = refl
+
+unary_appends : (n : ℕ) (which : Primitive) → Appends (unary_code n which)
+unary_appends n IsBoolean rest = refl
+unary_appends n _ rest = refl
+
+binary_appends : (n : ℕ) (which : Primitive) → Appends (binary_code n which)
+binary_appends n Eq rest = refl
+binary_appends n _ rest = refl
+
+read_appends : (n : ℕ) (which : Primitive) (atoms : List (Atom Place)) → Appends (read_code n which atoms)
+read_appends n which [] rest = refl
+read_appends n which (a ∷ []) rest = then_appends (atom_code 0 a) (unary_code n which) (atom_appends 0 a) (unary_appends n which) rest
+read_appends n which (a ∷ (b ∷ [])) rest = then_appends (atom_code 0 a) (λ rest. atom_code 1 b (binary_code n which rest)) (atom_appends 0 a) (then_appends (atom_code 1 b) (binary_code n which) (atom_appends 1 b) (binary_appends n which)) rest
+read_appends n which (a ∷ (b ∷ (c ∷ atoms))) rest = refl
+
+operand_appends : (n : ℕ) (o : Operand Place) → Appends (operand_code n o)
+operand_appends n (operand.Atom a) rest = atom_appends 0 a rest
+operand_appends n (operand.Read site which atoms) rest = read_appends n which atoms rest
+
+second_appends : (n : ℕ) (o : Operand Place) → Appends (second_code n o)
+second_appends n (operand.Atom a) rest = atom_appends 1 a rest
+second_appends n (operand.Read site which atoms) rest =
+    ap (λ l. item.Plain (MovTo (Reg 11) 0) ∷ l) (then_appends (read_code n which atoms) (λ rest. item.Plain (MovTo (Reg 1) 0) ∷ (item.Plain (MovTo (Reg 0) 11) ∷ rest)) (read_appends n which atoms) (λ rest. refl) rest)
+
+primitive_appends : (n : ℕ) (which : Primitive) (operands : List (Operand Place)) → Appends (primitive_code n which operands)
+primitive_appends n which [] rest = refl
+primitive_appends n which (a ∷ []) rest = then_appends (operand_code n a) (unary_code (n + 8) which) (operand_appends n a) (unary_appends (n + 8) which) rest
+primitive_appends n which (a ∷ (b ∷ [])) rest = then_appends (operand_code n a) (λ rest. second_code (n + 4) b (binary_code (n + 8) which rest)) (operand_appends n a) (then_appends (second_code (n + 4) b) (binary_code (n + 8) which) (second_appends (n + 4) b) (binary_appends (n + 8) which)) rest
+primitive_appends n which (a ∷ (b ∷ (c ∷ operands))) rest = refl
+
+operation_appends : (n : ℕ) (o : Operation Place) → Appends (operation_code n o)
+operation_appends n (operation.Operand o) rest = operand_appends n o rest
+operation_appends n (operation.Prim site which operands) rest = primitive_appends n which operands rest
+operation_appends n (operation.Global g) rest = refl
+operation_appends n (operation.SetGlobal g o) rest = then_appends (operand_code n o) (λ rest. item.StoreWord (global_address g) 0 ∷ (item.Plain (MovNumber (Reg 0) (pos unspecified_word)) ∷ rest)) (operand_appends n o) (λ rest. refl) rest
+operation_appends n _ rest = refl
+
+module _ (base out : ℕ) where
+  pub instruction_appends : (n : ℕ) (i : Instruction) → Appends (instruction_code base out n i)
+  instruction_appends n (Do o) rest = operation_appends n o rest
+  instruction_appends n _ rest = refl
+
+  pub body_appends : (n : ℕ) (instructions : List Instruction) → Appends (body_code base out n instructions)
+  body_appends n [] rest = refl
+  body_appends n (i ∷ instructions) rest = then_appends (instruction_code base out n i) (body_code base out (n + 12) instructions) (instruction_appends n i) (body_appends (n + 12) instructions) rest
+
+-- items behind others, whatever waits for them
+pub record Behind (setting : Setting) (rest : List Item) : Type 0 where
+  pub place : ℕ
+  pub waiting : List MarkKind
+  pub stands : Stands setting waiting place rest
+
+pub behind : (setting : Setting) (xs ys : List Item) (waiting : List MarkKind) (a : ℕ) → Stands setting waiting a (xs ++ ys) → Behind setting ys
+behind setting [] ys waiting a h = record { place = a; waiting = waiting; stands = h }
+behind setting (item.Label l ∷ xs) ys waiting a h = behind setting xs ys [] a h.2
+behind setting (item.Mark m ∷ xs) ys waiting a h = behind setting xs ys (waiting ++ m ∷ []) a h
+behind setting (item.Plain i ∷ xs) ys waiting a h = behind setting xs ys [] (a + h.0) h.2
+behind setting (item.Jump l ∷ xs) ys waiting a h = behind setting xs ys [] (a + h.0) h.4
+behind setting (item.JumpIf c l ∷ xs) ys waiting a h = behind setting xs ys [] (a + h.0) h.4
+behind setting (item.LoadLabel r l ∷ xs) ys waiting a h = behind setting xs ys [] (a + h.0) h.4
+behind setting (item.LoadWord r l ∷ xs) ys waiting a h = behind setting xs ys [] (a + h.0) h.4
+behind setting (item.StoreWord l r ∷ xs) ys waiting a h = behind setting xs ys [] (a + h.0) h.4

@@ -1,0 +1,145 @@
+-- The machine does the forms of a program, one after the other, and ends as they do.
+use Rattle.std.proofs.Common.{◌≡◌, ℕ, suc, ◌+◌, ◌≤◌, List, [], ◌∷◌, ◌++◌, map, true, Option, Some, None, refl, sym, ap, ◌∙◌, subst, arith, append-nil, append_assoc}
+use Rattle.std.specs.Prelude.{slice_get}
+use Rattle.std.specs.List.{list_all}
+use Rattle.std.proofs.lemmas.Bool.{and_parts}
+use Rattle.sch_word.specs.Values.{unspecified}
+use Rattle.sch_word.specs.Store.{Store}
+use Rattle.sch_word.specs.Stops.{status_of}
+use Rattle.sch_word.specs.Computation.{gives, stops, spent}
+use Rattle.sch_control.specs.declared.body.Entry.{Entry}
+use Rattle.sch_control.specs.declared.mark.MarkKind.TheVariants as control
+use Rattle.sch_control.specs.Meaning.{World, Result, Callee, marked, on_return}
+use Rattle.sch_control.specs.Run.{do_forms}
+use Rattle.sch_frames.specs.Tree.{Code}
+use Rattle.sch_frames.specs.Meaning.{beginning, execute_each}
+use Rattle.sch_frames.specs.Run.{bodies_of, entries_of, do_known}
+use Rattle.sch_insn.proofs.Paths.{leads_then, leads_on}
+use Rattle.sch_asm.specs.declared.item.Item.{Item}
+use Rattle.sch_asm.specs.declared.item.Item.TheVariants as item
+use Rattle.sch_asm.specs.declared.item.MarkKind.{MarkKind}
+use Rattle.sch_asm.specs.declared.item.MarkKind.TheVariants.{Enter}
+use Rattle.sch_asm.specs.declared.routine.Routine.TheVariants as routine
+use Rattle.sch_asm.specs.Routines.{label_of}
+use Rattle.sch_asm.specs.Stands.{Stands}
+use Rattle.sch_asm.specs.Views.{View, Leads}
+use Rattle.sch_asm.proofs.EachItem.{jumps}
+use Rattle.sch_select.specs.Select.{kind_of, body_code}
+use Rattle.sch_select.specs.Program.{is_form, form_selected, instruction_selected, form_code, forms_code, labels_end}
+use Rattle.sch_select.proofs.Places.{Plan, Room, StoreAt, PlacesAt}
+use Rattle.sch_select.proofs.Appending.{body_appends, Behind, behind}
+use Rattle.sch_select.proofs.Following.{Ends, Goes_on, Sim, Laid, ends_after, paid}
+use Rattle.sch_select.proofs.Bodies.{body_cost, body_sim, map_one}
+
+-- how many steps forms take at most
+abbrev pub forms_cost : List Code → ℕ
+forms_cost [] = 4
+forms_cost (c ∷ cs) = body_cost c.instructions + forms_cost cs
+
+module _ (plan : Plan) (body_steps : ℕ) (laid : Laid plan body_steps) (depth : ℕ) (room : Room plan plan.stack depth) (all : List Code) (callee : Callee) where
+  open plan use {setting, words, globals, heap, stack, labels}
+
+  -- between two forms
+  pub record Ready (w : World) (x : View) : Type 0 where
+    pub frame : x.registers 5 ≡ stack
+    pub deep : x.registers 13 ≡ depth
+    pub free : x.registers 12 ≡ heap + w.state.store.charged
+    pub world : StoreAt plan w.state.store x.bytes x.output x.answers
+
+  -- what is owed for all forms that are left
+  abbrev pub Owed : List MarkKind → Store → View → ℕ → Result → Type 0
+  Owed before t x c None = Unit {0}
+  Owed before t x c (Some (gives v w)) = Ends plan body_steps before t x c 0 w
+  Owed before t x c (Some (stops why w)) = Ends plan body_steps before t x c (status_of why) w
+  Owed before t x c (Some (spent w)) = Goes_on plan body_steps before t x w
+
+  owed_after : (before events : List MarkKind) (t t' : Store) (x y : View) (a b c most : ℕ) (r : Result) → Leads setting a b events x y → t.entries ≤ a + t'.entries → b + c + paid plan body_steps t' ≤ most + paid plan body_steps t → Owed (before ++ events) t' y c r → Owed before t x most r
+  owed_after before events t t' x y a b c most None p l le s = tt
+  owed_after before events t t' x y a b c most (Some (gives v w)) p l le s = ends_after plan body_steps before events t t' x y a b c most 0 w p le s
+  owed_after before events t t' x y a b c most (Some (stops why w)) p l le s = ends_after plan body_steps before events t t' x y a b c most (status_of why) w p le s
+  owed_after before events t t' x y a b c most (Some (spent w)) p l le s = record {
+    last = s.last;
+    events = events ++ s.events;
+    least = a + s.least;
+    steps = b + s.steps;
+    ahead = s.ahead;
+    leads = leads_then setting.marks p s.leads;
+    long = (let e = s.long in omega (arith, e, l));
+    output_is = s.output_is;
+    marked = s.marked ∙ append_assoc before events (s.events ++ s.ahead) ∙ ap (λ l. before ++ l) (sym (append_assoc events s.events s.ahead));
+  }
+
+  abbrev rest_code : List Item → List Item
+  rest_code behind_all = item.Jump (label_of routine.End) ∷ behind_all
+
+  -- the bodies of the forms that are left stand where their labels say
+  abbrev Are : ℕ → List Code → Type 0
+  Are label cs = (j : ℕ) (c : Code) → slice_get cs j ≡ Some c → slice_get all (label + j) ≡ Some c
+
+  -- what is owed for some forms, wherever the machine comes to them
+  abbrev Rest : List Code → ℕ → List Item → Type 0
+  Rest cs label code = (before : List MarkKind) (w : World) (x : View) → Stands setting [] x.place code → Ready w x → map kind_of w.marks ≡ before → Owed before w.state.store x (forms_cost cs) (do_forms (entries_of cs) label (bodies_of all) callee depth w)
+
+  one_form : (c : Code) (cs : List Code) (label n : ℕ) (following : List Item) → form_selected words globals c ≡ true → slice_get all label ≡ Some c → Rest cs (suc label) following → (before : List MarkKind) (w : World) (x : View) → Stands setting [] x.place (item.Mark (Enter label) ∷ form_code n c following) → Ready w x → map kind_of w.marks ≡ before → Owed before w.state.store x (body_cost c.instructions + forms_cost cs) (do_forms (c.entry ∷ entries_of cs) label (bodies_of all) callee depth w)
+  one_form c cs label n following e at rec before w x h r m = by c.entry refl
+    where
+      selected : (is_form c.entry ≡ true) × (list_all (instruction_selected words globals) c.instructions ≡ true)
+      selected = and_parts (is_form c.entry) (list_all (instruction_selected words globals) c.instructions) e
+
+      out : ℕ
+      out = n + c.labels
+
+      b : Behind setting (item.Label out ∷ following)
+      b = behind setting (body_code n out (n + c.labels + 1) c.instructions []) (item.Label out ∷ following) (Enter label ∷ []) x.place (subst (Stands setting (Enter label ∷ []) x.place) (body_appends n out (n + c.labels + 1) c.instructions (item.Label out ∷ following)) h)
+
+      next : Stands setting [] (setting.place_of out) following
+      next = subst (λ a. Stands setting [] a following) (sym b.stands.1) b.stands.2
+
+      entered : World
+      entered = marked (control.Enter label) w
+
+      here : PlacesAt plan (setting.place_of out) stack depth (labels out) room w.state.store.charged (beginning None unspecified []).places x.registers x.bytes
+      here = record { frame = r.frame; depth = r.deep; free = r.free; register = λ k i. tt; slot = λ j lt. tt }
+
+      done : Sim plan body_steps (setting.place_of out) stack depth before w.state.store x (body_cost c.instructions) (execute_each callee depth c.instructions None (beginning None unspecified []) entered)
+      done = body_sim plan body_steps laid (setting.place_of out) stack depth (labels out) room n out refl callee depth (n + c.labels + 1) c.instructions (item.Label out ∷ following) selected.1
+          None before (Enter label ∷ []) (beginning None unspecified []) entered x h here r.world tt (map_one w.marks (control.Enter label) ∙ ap (λ l. l ++ Enter label ∷ []) m)
+
+      goes_on : (res : Result) → Sim plan body_steps (setting.place_of out) stack depth before w.state.store x (body_cost c.instructions) res → Owed before w.state.store x (body_cost c.instructions + forms_cost cs) (on_return res (λ v u. do_forms (entries_of cs) (suc label) (bodies_of all) callee depth u))
+      goes_on None s = tt
+      goes_on (Some (stops why u)) s = record { last = s.last; events = s.events; least = s.least; steps = s.steps; leads = s.leads; cost = (let k = s.cost in omega (arith, k)); exits = s.exits; output_is = s.output_is; marked = s.marked; silent = s.silent }
+      goes_on (Some (spent u)) s = s
+      goes_on (Some (gives v u)) s =
+          owed_after before s.events w.state.store u.state.store x s.y s.least s.steps (forms_cost cs) (body_cost c.instructions + forms_cost cs) _ s.leads s.entries (let k = s.cost in omega (arith, k))
+          (rec (before ++ s.events) u s.y (subst (λ a. Stands setting [] a following) (sym s.at) next) (record { frame = s.frame; deep = s.depth; free = s.free; world = s.world }) s.marked)
+
+      by : (o : Option Entry) → c.entry ≡ o → Owed before w.state.store x (body_cost c.instructions + forms_cost cs) (do_forms (o ∷ entries_of cs) label (bodies_of all) callee depth w)
+      by (Some q) i = absurd (let bad : is_form (Some q) ≡ true = ap is_form (sym i) ∙ selected.0 in cc)
+      by None i =
+          subst (λ k. Owed before w.state.store x (body_cost c.instructions + forms_cost cs) (on_return (do_known k callee depth unspecified [] entered) (λ v u. do_forms (entries_of cs) (suc label) (bodies_of all) callee depth u))) (sym at)
+          (subst (λ o. Owed before w.state.store x (body_cost c.instructions + forms_cost cs) (on_return (execute_each callee depth c.instructions None (beginning o unspecified []) entered) (λ v u. do_forms (entries_of cs) (suc label) (bodies_of all) callee depth u))) (sym i)
+          (goes_on _ done))
+
+  pub forms_sim : (cs : List Code) (label n : ℕ) (behind_all : List Item) → list_all (form_selected words globals) cs ≡ true → Are label cs → (before : List MarkKind) (w : World) (x : View) → Stands setting [] x.place (forms_code label n cs (rest_code behind_all)) → Ready w x → map kind_of w.marks ≡ before → Owed before w.state.store x (forms_cost cs) (do_forms (entries_of cs) label (bodies_of all) callee depth w)
+  forms_sim [] label n behind_all e at before w x h r m =
+      let y : View = record x { place = setting.place_of (label_of routine.End) } in
+      let s = laid.routine routine.End y refl in
+      let first = jumps setting x (label_of routine.End) behind_all [] h in
+      record {
+        last = s.last;
+        events = [];
+        least = 1 + s.least;
+        steps = 1 + s.most;
+        leads = leads_on setting.marks first s.leads;
+        cost = (let f = s.few in omega (arith, f));
+        exits = s.exits;
+        output_is = s.output_is ∙ r.world.printed;
+        marked = m ∙ sym (append-nil before);
+        silent = s.silent;
+      }
+  forms_sim (c ∷ cs) label n behind_all e at before w x h r m =
+      let parts = and_parts (form_selected words globals c) (list_all (form_selected words globals) cs) e in
+      let sum : label + 0 ≡ label = omega arith in
+      one_form c cs label n (forms_code (suc label) (labels_end n c) cs (rest_code behind_all)) parts.0 (ap (slice_get all) (sym sum) ∙ at 0 c refl)
+      (λ before w x h r m. forms_sim cs (suc label) (labels_end n c) behind_all parts.1 (λ j k i. let sum : label + suc j ≡ suc label + j = omega arith in ap (slice_get all) (sym sum) ∙ at (suc j) k i) before w x h r m)
+      before w x h r m

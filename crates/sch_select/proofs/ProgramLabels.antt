@@ -1,0 +1,222 @@
+-- No label stands twice in a program's items.
+use Rattle.std.proofs.Common.{◌≡◌, ◌≢◌, ℕ, suc, ◌+◌, ◌*◌, ◌<◌, ◌≤◌, List, [], ◌∷◌, ◌++◌, length, Bool, true, false, refl, sym, ap, ◌∙◌, subst, arith, append_assoc, ◌==◌, ◌&&◌, ◌||◌, eq-eqb}
+use Rattle.std.specs.Prelude.{not, nat_eq, nat_lt}
+use Rattle.std.specs.List.{list_all}
+use Rattle.std.proofs.lemmas.Bool.{and_parts, ne_eqb, ltb-true, ltb-false, eqb-true}
+use Rattle.sch_word.specs.NumberSets.{has}
+use Rattle.sch_control.specs.Valid.{without_repeats}
+use Rattle.sch_frames.specs.declared.instruction.Instruction.{Instruction}
+use Rattle.sch_frames.specs.declared.instruction.Instruction.TheVariants.{Do, Store, Copy, Load, Pass, Fix, Call, Tail, Return, End, IfFalse, Jump, Label, Mark}
+use Rattle.sch_frames.specs.Tree.{Code, Source}
+use Rattle.sch_frames.specs.Valid as frames
+use Rattle.sch_frames.specs.Valid.{forward, jumps_ahead}
+use Rattle.sch_asm.specs.declared.item.Item.TheVariants as item
+use Rattle.sch_asm.specs.declared.routine.Routine.TheVariants as routine
+use Rattle.sch_asm.specs.Routines.{label_of}
+use Rattle.sch_asm.specs.Items.{IsEachOnce, is_among, labels_in}
+use Rattle.sch_asm.proofs.Tables.{each_once, repeats}
+use Rattle.sch_select.specs.Select.{put_label, instruction_code, body_code}
+use Rattle.sch_select.specs.Program.{form_code, forms_code, labels_end, first_label, put_value_code, program_code}
+use Rattle.sch_select.proofs.Labels.{Block, Apart, Labelled, among_append, either_false, distinct_append, blocks, no_labels, operation_labels, operation_labelled, operation_block}
+
+-- elements of one list that another one has not
+apart_by : (xs ys : List ℕ) → ((x : ℕ) → is_among xs x ≡ true → is_among ys x ≡ false) → Apart xs ys
+apart_by [] ys h = tt
+apart_by (x ∷ xs) ys h = (h x (ap (λ b. b || is_among xs x) (eq-eqb x x refl)), apart_by xs ys (λ y e. h y (ap (λ b. (x == y) || b) e ∙ or_true (x == y))))
+  where
+    or_true : (b : Bool) → (b || true) ≡ true
+    or_true true = refl
+    or_true false = refl
+
+-- an element of a block is in its range
+pub low_end : {a b : ℕ} {ls : List ℕ} → Block a b ls → (y : ℕ) → is_among ls y ≡ true → a ≤ y
+low_end {a} {b} {ls} p y e = by (nat_lt y a) refl
+  where
+    by : (t : Bool) → nat_lt y a ≡ t → a ≤ y
+    by false f = ltb-false y a f
+    by true f = absurd (let bad : true ≡ false = sym e ∙ p.below y (ltb-true y a f) in cc)
+
+pub high_end : {a b : ℕ} {ls : List ℕ} → Block a b ls → (y : ℕ) → is_among ls y ≡ true → y < b
+high_end {a} {b} {ls} p y e = by (nat_lt y b) refl
+  where
+    by : (t : Bool) → nat_lt y b ≡ t → y < b
+    by true f = ltb-true y b f
+    by false f = absurd (let bad : true ≡ false = sym e ∙ p.above y (ltb-false y b f) in cc)
+
+module _ (base out : ℕ) where
+  abbrev pub instruction_labels : ℕ → Instruction → List ℕ
+  instruction_labels n (Do o) = operation_labels n o
+  instruction_labels n (Label l) = (base + l) ∷ []
+  instruction_labels n _ = []
+
+  abbrev pub body_labels : ℕ → List Instruction → List ℕ
+  body_labels n [] = []
+  body_labels n (i ∷ instructions) = instruction_labels n i ++ body_labels (n + 12) instructions
+
+  instruction_labelled : (n : ℕ) (i : Instruction) → Labelled (instruction_code base out n i) (instruction_labels n i)
+  instruction_labelled n (Do o) rest = operation_labelled n o rest
+  instruction_labelled n _ rest = refl
+
+  pub body_labelled : (n : ℕ) (instructions : List Instruction) → Labelled (body_code base out n instructions) (body_labels n instructions)
+  body_labelled n [] rest = refl
+  body_labelled n (i ∷ instructions) rest =
+      instruction_labelled n i (body_code base out (n + 12) instructions rest) ∙ ap (λ l. instruction_labels n i ++ l) (body_labelled (n + 12) instructions rest)
+      ∙ sym (append_assoc (instruction_labels n i) (body_labels (n + 12) instructions) (labels_in rest))
+
+  absent : (y n : ℕ) (instructions : List Instruction) → y < n → ((l : ℕ) → has l (frames.labels_in instructions) ≡ true → y ≢ base + l) → is_among (body_labels n instructions) y ≡ false
+  absent y n [] lt h = refl
+  absent y n (Label l ∷ instructions) lt h = either_false (base + l == y) (is_among (body_labels (n + 12) instructions) y) (ne_eqb (base + l) y (λ e. h l (ap (λ b. b || has l (frames.labels_in instructions)) (eq-eqb l l refl)) (sym e))) (absent y (n + 12) instructions (omega (arith, lt)) (λ k e. h k (ap (λ b. nat_eq k l || b) e ∙ or_true (nat_eq k l))))
+    where
+      or_true : (b : Bool) → (b || true) ≡ true
+      or_true true = refl
+      or_true false = refl
+  absent y n (Do o ∷ instructions) lt h = among_append (operation_labels n o) (body_labels (n + 12) instructions) y ((operation_block n o).below y lt) (absent y (n + 12) instructions (omega (arith, lt)) h)
+  absent y n (Store q ∷ instructions) lt h = absent y (n + 12) instructions (omega (arith, lt)) h
+  absent y n (Copy to from ∷ instructions) lt h = absent y (n + 12) instructions (omega (arith, lt)) h
+  absent y n (Load q o ∷ instructions) lt h = absent y (n + 12) instructions (omega (arith, lt)) h
+  absent y n (Pass j o ∷ instructions) lt h = absent y (n + 12) instructions (omega (arith, lt)) h
+  absent y n (Fix members ∷ instructions) lt h = absent y (n + 12) instructions (omega (arith, lt)) h
+  absent y n (Call spread count ∷ instructions) lt h = absent y (n + 12) instructions (omega (arith, lt)) h
+  absent y n (Tail spread count ∷ instructions) lt h = absent y (n + 12) instructions (omega (arith, lt)) h
+  absent y n (Return ∷ instructions) lt h = absent y (n + 12) instructions (omega (arith, lt)) h
+  absent y n (End ∷ instructions) lt h = absent y (n + 12) instructions (omega (arith, lt)) h
+  absent y n (IfFalse j ∷ instructions) lt h = absent y (n + 12) instructions (omega (arith, lt)) h
+  absent y n (Jump j ∷ instructions) lt h = absent y (n + 12) instructions (omega (arith, lt)) h
+  absent y n (Mark m ∷ instructions) lt h = absent y (n + 12) instructions (omega (arith, lt)) h
+
+  module _ (labels : ℕ) where
+    local_small : (ls : List ℕ) (l : ℕ) → list_all (λ l. nat_lt l labels) ls ≡ true → has l ls ≡ true → l < labels
+    local_small [] l e h = absurd (let bad : false ≡ true = h in cc)
+    local_small (k ∷ ls) l e h = by (nat_eq l k) refl (λ i. local_small ls l (and_parts (nat_lt k labels) (list_all (λ l. nat_lt l labels) ls) e).1 i)
+      where
+        by : (b : Bool) → nat_eq l k ≡ b → (has l ls ≡ true → l < labels) → l < labels
+        by true q rec = let same : l ≡ k = eqb-true l k q in let lt = ltb-true k labels (and_parts (nat_lt k labels) (list_all (λ l. nat_lt l labels) ls) e).0 in omega (arith, same, lt)
+        by false q rec = rec (ap (λ b. b || has l ls) (sym q) ∙ h)
+
+    beyond : (y n : ℕ) (instructions : List Instruction) → list_all (λ l. nat_lt l labels) (frames.labels_in instructions) ≡ true → base + labels ≤ n → n + 12 * length instructions ≤ y → is_among (body_labels n instructions) y ≡ false
+    beyond y n [] e le far = refl
+    beyond y n (Label l ∷ instructions) e le far =
+        let p = and_parts (nat_lt l labels) (list_all (λ l. nat_lt l labels) (frames.labels_in instructions)) e in
+        let lt = ltb-true l labels p.0 in
+        either_false (base + l == y) (is_among (body_labels (n + 12) instructions) y) (ne_eqb (base + l) y (λ q. omega (arith, q, lt, le, far))) (beyond y (n + 12) instructions p.1 (omega (arith, le)) (omega (arith, far)))
+    beyond y n (Do o ∷ instructions) e le far = among_append (operation_labels n o) (body_labels (n + 12) instructions) y ((operation_block n o).above y (omega (arith, far))) (beyond y (n + 12) instructions e (omega (arith, le)) (omega (arith, far)))
+    beyond y n (Store q ∷ instructions) e le far = beyond y (n + 12) instructions e (omega (arith, le)) (omega (arith, far))
+    beyond y n (Copy to from ∷ instructions) e le far = beyond y (n + 12) instructions e (omega (arith, le)) (omega (arith, far))
+    beyond y n (Load q o ∷ instructions) e le far = beyond y (n + 12) instructions e (omega (arith, le)) (omega (arith, far))
+    beyond y n (Pass j o ∷ instructions) e le far = beyond y (n + 12) instructions e (omega (arith, le)) (omega (arith, far))
+    beyond y n (Fix members ∷ instructions) e le far = beyond y (n + 12) instructions e (omega (arith, le)) (omega (arith, far))
+    beyond y n (Call spread count ∷ instructions) e le far = beyond y (n + 12) instructions e (omega (arith, le)) (omega (arith, far))
+    beyond y n (Tail spread count ∷ instructions) e le far = beyond y (n + 12) instructions e (omega (arith, le)) (omega (arith, far))
+    beyond y n (Return ∷ instructions) e le far = beyond y (n + 12) instructions e (omega (arith, le)) (omega (arith, far))
+    beyond y n (End ∷ instructions) e le far = beyond y (n + 12) instructions e (omega (arith, le)) (omega (arith, far))
+    beyond y n (IfFalse j ∷ instructions) e le far = beyond y (n + 12) instructions e (omega (arith, le)) (omega (arith, far))
+    beyond y n (Jump j ∷ instructions) e le far = beyond y (n + 12) instructions e (omega (arith, le)) (omega (arith, far))
+    beyond y n (Mark m ∷ instructions) e le far = beyond y (n + 12) instructions e (omega (arith, le)) (omega (arith, far))
+
+    different : (n : ℕ) (instructions : List Instruction) → list_all (λ l. nat_lt l labels) (frames.labels_in instructions) ≡ true → without_repeats (frames.labels_in instructions) ≡ true → base + labels ≤ n → repeats (body_labels n instructions) ≡ false
+    different n [] e d le = refl
+    different n (Label l ∷ instructions) e d le =
+        let p = and_parts (nat_lt l labels) (list_all (λ l. nat_lt l labels) (frames.labels_in instructions)) e in
+        let q = and_parts (not (has l (frames.labels_in instructions))) (without_repeats (frames.labels_in instructions)) d in
+        let lt = ltb-true l labels p.0 in
+        either_false (is_among (body_labels (n + 12) instructions) (base + l)) (repeats (body_labels (n + 12) instructions))
+        (absent (base + l) (n + 12) instructions (omega (arith, lt, le)) (λ k h s. let same : k ≡ l = omega (arith, s) in absurd (both (has l (frames.labels_in instructions)) q.0 (ap (λ k. has k (frames.labels_in instructions)) (sym same) ∙ h))))
+        (different (n + 12) instructions p.1 q.1 (omega (arith, le)))
+      where
+        both : (b : Bool) → not b ≡ true → b ≡ true → ⊥
+        both true e f = let bad : false ≡ true = e in cc
+        both false e f = let bad : false ≡ true = f in cc
+    different n (Do o ∷ instructions) e d le =
+        distinct_append (operation_labels n o) (body_labels (n + 12) instructions) (operation_block n o).distinct (different (n + 12) instructions e d (omega (arith, le)))
+        (apart_by (operation_labels n o) (body_labels (n + 12) instructions) (λ x h. let hi = high_end (operation_block n o) x h in let lo = low_end (operation_block n o) x h in
+        absent x (n + 12) instructions hi (λ l k s. let small = local_small (frames.labels_in instructions) l e k in omega (arith, s, lo, le, small))))
+    different n (Store q ∷ instructions) e d le = different (n + 12) instructions e d (omega (arith, le))
+    different n (Copy to from ∷ instructions) e d le = different (n + 12) instructions e d (omega (arith, le))
+    different n (Load q o ∷ instructions) e d le = different (n + 12) instructions e d (omega (arith, le))
+    different n (Pass j o ∷ instructions) e d le = different (n + 12) instructions e d (omega (arith, le))
+    different n (Fix members ∷ instructions) e d le = different (n + 12) instructions e d (omega (arith, le))
+    different n (Call spread count ∷ instructions) e d le = different (n + 12) instructions e d (omega (arith, le))
+    different n (Tail spread count ∷ instructions) e d le = different (n + 12) instructions e d (omega (arith, le))
+    different n (Return ∷ instructions) e d le = different (n + 12) instructions e d (omega (arith, le))
+    different n (End ∷ instructions) e d le = different (n + 12) instructions e d (omega (arith, le))
+    different n (IfFalse j ∷ instructions) e d le = different (n + 12) instructions e d (omega (arith, le))
+    different n (Jump j ∷ instructions) e d le = different (n + 12) instructions e d (omega (arith, le))
+    different n (Mark m ∷ instructions) e d le = different (n + 12) instructions e d (omega (arith, le))
+
+    pub body_block : (n : ℕ) (instructions : List Instruction) → forward labels instructions ≡ true → base + labels ≤ n → Block base (n + 12 * length instructions) (body_labels n instructions)
+    body_block n instructions e le =
+        let p = and_parts (list_all (λ l. nat_lt l labels) (frames.labels_in instructions)) (without_repeats (frames.labels_in instructions) && jumps_ahead instructions) e in
+        let q = and_parts (without_repeats (frames.labels_in instructions)) (jumps_ahead instructions) p.1 in
+        record {
+          distinct = different n instructions p.0 q.0 le;
+          below = λ y lt. absent y n instructions (omega (arith, lt, le)) (λ l h s. omega (arith, s, lt));
+          above = λ y far. beyond y n instructions p.0 le far;
+        }
+
+    pub absent_end : (y n : ℕ) (instructions : List Instruction) → forward labels instructions ≡ true → base + labels ≤ y → y < n → is_among (body_labels n instructions) y ≡ false
+    absent_end y n instructions e le lt =
+        let p = and_parts (list_all (λ l. nat_lt l labels) (frames.labels_in instructions)) (without_repeats (frames.labels_in instructions) && jumps_ahead instructions) e in
+        absent y n instructions lt (λ l h s. let small = local_small (frames.labels_in instructions) l p.0 h in omega (arith, s, le, small))
+
+-- ---- forms
+
+abbrev pub form_labels : ℕ → Code → List ℕ
+form_labels n c = body_labels n (n + c.labels) (n + c.labels + 1) c.instructions ++ (n + c.labels) ∷ []
+
+form_labelled : (n : ℕ) (c : Code) → Labelled (form_code n c) (form_labels n c)
+form_labelled n c rest =
+    body_labelled n (n + c.labels) (n + c.labels + 1) c.instructions (item.Label (n + c.labels) ∷ rest)
+    ∙ sym (append_assoc (body_labels n (n + c.labels) (n + c.labels + 1) c.instructions) ((n + c.labels) ∷ []) (labels_in rest))
+
+form_block : (n : ℕ) (c : Code) → forward c.labels c.instructions ≡ true → Block n (labels_end n c) (form_labels n c)
+form_block n c e =
+    let b = body_block n (n + c.labels) c.labels (n + c.labels + 1) c.instructions e (omega arith) in
+    let body = body_labels n (n + c.labels) (n + c.labels + 1) c.instructions in
+    record {
+      distinct = distinct_append body ((n + c.labels) ∷ []) b.distinct refl (apart_by body ((n + c.labels) ∷ []) (λ x h. either_false (n + c.labels == x) false (ne_eqb (n + c.labels) x (λ s. other x h (sym s))) refl));
+      below = λ y lt. among_append body ((n + c.labels) ∷ []) y (b.below y lt) (either_false (n + c.labels == y) false (ne_eqb (n + c.labels) y (λ s. omega (arith, s, lt))) refl);
+      above = λ y far. among_append body ((n + c.labels) ∷ []) y (b.above y far) (either_false (n + c.labels == y) false (ne_eqb (n + c.labels) y (λ s. omega (arith, s, far))) refl);
+    }
+  where
+    other : (x : ℕ) → is_among (body_labels n (n + c.labels) (n + c.labels + 1) c.instructions) x ≡ true → x ≢ n + c.labels
+    other x h s =
+        let g = absent_end n (n + c.labels) c.labels (n + c.labels) (n + c.labels + 1) c.instructions e (omega arith) (omega arith) in
+        let bad : true ≡ false = sym h ∙ ap (is_among (body_labels n (n + c.labels) (n + c.labels + 1) c.instructions)) s ∙ g in cc
+
+abbrev pub forms_labels : ℕ → List Code → List ℕ
+forms_labels n [] = []
+forms_labels n (c ∷ cs) = form_labels n c ++ forms_labels (labels_end n c) cs
+
+abbrev pub forms_end : ℕ → List Code → ℕ
+forms_end n [] = n
+forms_end n (c ∷ cs) = forms_end (labels_end n c) cs
+
+pub forms_labelled : (label n : ℕ) (cs : List Code) → Labelled (forms_code label n cs) (forms_labels n cs)
+forms_labelled label n [] rest = refl
+forms_labelled label n (c ∷ cs) rest =
+    form_labelled n c (forms_code (suc label) (labels_end n c) cs rest) ∙ ap (λ l. form_labels n c ++ l) (forms_labelled (suc label) (labels_end n c) cs rest)
+    ∙ sym (append_assoc (form_labels n c) (forms_labels (labels_end n c) cs) (labels_in rest))
+
+end_above : (n : ℕ) (cs : List Code) → n ≤ forms_end n cs
+end_above n [] = omega arith
+end_above n (c ∷ cs) = let h = end_above (labels_end n c) cs in omega (arith, h)
+
+pub forms_block : (n : ℕ) (cs : List Code) → list_all (λ c. forward c.labels c.instructions) cs ≡ true → Block n (forms_end n cs) (forms_labels n cs)
+forms_block n [] e = no_labels n n
+forms_block n (c ∷ cs) e =
+    let p = and_parts (forward c.labels c.instructions) (list_all (λ c. forward c.labels c.instructions) cs) e in
+    let h = end_above (labels_end n c) cs in
+    blocks n (labels_end n c) (labels_end n c) (forms_end (labels_end n c) cs) (form_labels n c) (forms_labels (labels_end n c) cs) (omega arith) (omega arith) h (form_block n c p.0) (forms_block (labels_end n c) cs p.1)
+
+-- ---- the program
+
+pub program_once : (p : Source) (limit depth : ℕ) → list_all (λ c. forward c.labels c.instructions) p.bodies ≡ true → IsEachOnce (labels_in (program_code p limit depth))
+program_once p limit depth e =
+    let rest = item.Jump (label_of routine.End) ∷ (item.Label put_label ∷ put_value_code) in
+    let forms = forms_labels first_label p.bodies in
+    let b = forms_block first_label p.bodies e in
+    let all : labels_in (program_code p limit depth) ≡ forms ++ labels_in rest = forms_labelled 0 first_label p.bodies rest in
+    subst IsEachOnce (sym all) (each_once (forms ++ labels_in rest) (distinct_append forms (labels_in rest) b.distinct refl (apart_by forms (labels_in rest) (λ x h. let lo = low_end b x h in own x lo))))
+  where
+    own : (x : ℕ) → 1032 ≤ x → is_among (1024 ∷ (1025 ∷ (1026 ∷ (1027 ∷ (1028 ∷ []))))) x ≡ false
+    own x le = either_false (1024 == x) _ (ne_eqb 1024 x (λ s. omega (arith, s, le))) (either_false (1025 == x) _ (ne_eqb 1025 x (λ s. omega (arith, s, le))) (either_false (1026 == x) _ (ne_eqb 1026 x (λ s. omega (arith, s, le))) (either_false (1027 == x) _ (ne_eqb 1027 x (λ s. omega (arith, s, le))) (either_false (1028 == x) false (ne_eqb 1028 x (λ s. omega (arith, s, le))) refl))))

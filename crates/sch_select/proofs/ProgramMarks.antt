@@ -1,0 +1,117 @@
+-- Each mark of a selected program has its instruction behind it.
+use Rattle.std.proofs.Common.{◌≡◌, ℕ, suc, ◌+◌, List, [], ◌∷◌, length, Bool, true, false, refl, ◌∙◌, ◌&&◌, ◌||◌}
+use Rattle.std.specs.Prelude.{not, nat_lt, IsTrue}
+use Rattle.std.specs.List.{list_all}
+use Rattle.std.proofs.lemmas.Bool.{and_parts}
+use Rattle.sch_word.specs.declared.place.Place.{Place}
+use Rattle.sch_word.specs.declared.primitive.Primitive.{Primitive}
+use Rattle.sch_word.specs.declared.primitive.Primitive.TheVariants.{IsBoolean, Eq}
+use Rattle.sch_control.specs.declared.operation.Atom.{Atom}
+use Rattle.sch_control.specs.declared.operation.Atom.TheVariants.{Constant, Literal, Variable}
+use Rattle.sch_control.specs.declared.operation.Operand.{Operand}
+use Rattle.sch_control.specs.declared.operation.Operand.TheVariants as operand
+use Rattle.sch_control.specs.declared.operation.Operation.{Operation}
+use Rattle.sch_control.specs.declared.operation.Operation.TheVariants as operation
+use Rattle.sch_frames.specs.declared.instruction.Instruction.{Instruction}
+use Rattle.sch_frames.specs.declared.instruction.Instruction.TheVariants.{Do, Store, Copy, End, IfFalse, Jump, Label, Mark}
+use Rattle.sch_frames.specs.Tree.{Code, Source}
+use Rattle.sch_asm.specs.declared.item.Item.{Item}
+use Rattle.sch_asm.specs.declared.item.Item.TheVariants as item
+use Rattle.sch_asm.specs.declared.routine.Routine.TheVariants as routine
+use Rattle.sch_asm.specs.Routines.{label_of}
+use Rattle.sch_asm.specs.Items.{marks_arrive}
+use Rattle.sch_select.specs.Select.{put_label, atom_code, unary_code, binary_code, read_code, operand_code, second_code, operation_code, instruction_code, body_code}
+use Rattle.sch_select.specs.Program.{atom_selected, read_selected, operand_selected, operation_selected, instruction_selected, is_form, form_selected, is_unset, marks_settled, selects, pure_unary, pure_binary, is_put, forms_code, labels_end, put_value_code, program_code, first_label}
+use Rattle.sch_select.proofs.ProgramSound.{in_front}
+
+impossible : {A : Type 0} → false ≡ true → A
+impossible e = absurd cc
+
+module _ (words globals : ℕ) where
+  -- where nothing waits, nothing waits behind
+  abbrev Quiet : (List Item → List Item) → Type 0
+  Quiet f = (rest : List Item) → marks_arrive false (f rest) ≡ marks_arrive false rest
+
+  -- whatever waits, it arrives at the first instruction
+  abbrev Arrives : (List Item → List Item) → Type 0
+  Arrives f = (b : Bool) (rest : List Item) → marks_arrive b (f rest) ≡ marks_arrive false rest
+
+  unary_quiet : (n : ℕ) (which : Primitive) → Quiet (unary_code n which)
+  unary_quiet n IsBoolean rest = refl
+  unary_quiet n _ rest = refl
+
+  binary_quiet : (n : ℕ) (which : Primitive) → Quiet (binary_code n which)
+  binary_quiet n Eq rest = refl
+  binary_quiet n _ rest = refl
+
+  atom_arrives : (r : ℕ) (a : Atom Place) → atom_selected words globals a ≡ true → Arrives (atom_code r a)
+  atom_arrives r (Constant c) e b rest = refl
+  atom_arrives r (Variable p) e b rest = refl
+  atom_arrives r (Literal n) e b rest = impossible e
+
+  read_arrives : (n : ℕ) (which : Primitive) (atoms : List (Atom Place)) → read_selected words globals which atoms ≡ true → Arrives (read_code n which atoms)
+  read_arrives n which [] e b rest = impossible e
+  read_arrives n which (a ∷ []) e b rest = let p = and_parts (pure_unary which) (atom_selected words globals a) e in atom_arrives 0 a p.1 b (unary_code n which rest) ∙ unary_quiet n which rest
+  read_arrives n which (a ∷ (c ∷ [])) e b rest =
+      let p = and_parts (pure_binary which) (atom_selected words globals a && atom_selected words globals c) e in
+      let q = and_parts (atom_selected words globals a) (atom_selected words globals c) p.1 in
+      atom_arrives 0 a q.0 b (atom_code 1 c (binary_code n which rest)) ∙ atom_arrives 1 c q.1 false (binary_code n which rest) ∙ binary_quiet n which rest
+  read_arrives n which (a ∷ (c ∷ (d ∷ atoms))) e b rest = impossible e
+
+  operand_arrives : (n : ℕ) (o : Operand Place) → operand_selected words globals o ≡ true → Arrives (operand_code n o)
+  operand_arrives n (operand.Atom a) e b rest = atom_arrives 0 a e b rest
+  operand_arrives n (operand.Read site which atoms) e b rest = read_arrives n which atoms e b rest
+
+  second_arrives : (n : ℕ) (o : Operand Place) → operand_selected words globals o ≡ true → Arrives (second_code n o)
+  second_arrives n (operand.Atom a) e b rest = atom_arrives 1 a e b rest
+  second_arrives n (operand.Read site which atoms) e b rest = read_arrives n which atoms e false _
+
+  operation_arrives : (n : ℕ) (o : Operation Place) → operation_selected words globals o ≡ true → Arrives (operation_code n o)
+  operation_arrives n (operation.Operand o) e b rest = operand_arrives n o e b rest
+  operation_arrives n (operation.Prim site which []) e b rest = impossible e
+  operation_arrives n (operation.Prim site which (o ∷ [])) e b rest =
+      let p = and_parts (pure_unary which || is_put which) (operand_selected words globals o) e in operand_arrives n o p.1 b (unary_code (n + 8) which rest) ∙ unary_quiet (n + 8) which rest
+  operation_arrives n (operation.Prim site which (o ∷ (q ∷ []))) e b rest =
+      let p = and_parts (pure_binary which) (operand_selected words globals o && operand_selected words globals q) e in
+      let both = and_parts (operand_selected words globals o) (operand_selected words globals q) p.1 in
+      operand_arrives n o both.0 b (second_code (n + 4) q (binary_code (n + 8) which rest)) ∙ second_arrives (n + 4) q both.1 false (binary_code (n + 8) which rest) ∙ binary_quiet (n + 8) which rest
+  operation_arrives n (operation.Prim site which (o ∷ (q ∷ (r ∷ operands)))) e b rest = impossible e
+  operation_arrives n (operation.Global g) e b rest = refl
+  operation_arrives n (operation.SetGlobal g o) e b rest = let p = and_parts (nat_lt g globals) (operand_selected words globals o) e in operand_arrives n o p.1 b _
+  operation_arrives n _ e b rest = impossible e
+
+  body_arrives : (base out n : ℕ) (instructions : List Instruction) (b : Bool) (following : List Item) → list_all (instruction_selected words globals) instructions ≡ true → marks_settled b instructions ≡ true → marks_arrive b (body_code base out n instructions (item.Label out ∷ following)) ≡ marks_arrive false following
+  body_arrives base out n [] b following e m = in_front (not b) (marks_arrive false following) m
+  body_arrives base out n (i ∷ instructions) b following e m =
+      let p = and_parts (instruction_selected words globals i) (list_all (instruction_selected words globals) instructions) e in
+      by i p.0 m (λ b m. body_arrives base out (n + 12) instructions b following p.1 m)
+    where
+      rest : List Item
+      rest = body_code base out (n + 12) instructions (item.Label out ∷ following)
+
+      by : (i : Instruction) → instruction_selected words globals i ≡ true → marks_settled b (i ∷ instructions) ≡ true → ((b : Bool) → marks_settled b instructions ≡ true → marks_arrive b rest ≡ marks_arrive false following) → marks_arrive b (instruction_code base out n i rest) ≡ marks_arrive false following
+      by (Do o) e m rec = operation_arrives n o e b rest ∙ rec false m
+      by (Store q) e m rec = rec false m
+      by (Copy to from) e m rec = rec false m
+      by End e m rec = rec false m
+      by (IfFalse l) e m rec = rec false m
+      by (Jump l) e m rec = rec false m
+      by (Label l) e m rec = let q = and_parts (not b) (marks_settled false instructions) m in in_front (not b) (marks_arrive false rest) q.0 ∙ rec false q.1
+      by (Mark k) e m rec = rec true m
+      by _ e m rec = impossible e
+
+  forms_arrive : (label n : ℕ) (cs : List Code) (rest : List Item) → list_all (form_selected words globals) cs ≡ true → list_all (λ c. marks_settled true c.instructions) cs ≡ true → marks_arrive false (forms_code label n cs rest) ≡ marks_arrive false rest
+  forms_arrive label n [] rest e m = refl
+  forms_arrive label n (c ∷ cs) rest e m =
+      let p = and_parts (form_selected words globals c) (list_all (form_selected words globals) cs) e in
+      let q = and_parts (is_form c.entry) (list_all (instruction_selected words globals) c.instructions) p.0 in
+      let s = and_parts (marks_settled true c.instructions) (list_all (λ c. marks_settled true c.instructions) cs) m in
+      body_arrives n (n + c.labels) (n + c.labels + 1) c.instructions true (forms_code (suc label) (labels_end n c) cs rest) q.1 s.0
+      ∙ forms_arrive (suc label) (labels_end n c) cs rest p.1 s.1
+
+pub program_marked : (p : Source) (limit depth : ℕ) → selects p ≡ true → IsTrue (marks_arrive false (program_code p limit depth))
+program_marked p limit depth e =
+    let globals = length p.statics.globals in
+    let parts = and_parts (list_all (form_selected p.words globals) p.bodies) (list_all is_unset p.statics.globals && list_all (λ c. marks_settled true c.instructions) p.bodies) e in
+    let both = and_parts (list_all is_unset p.statics.globals) (list_all (λ c. marks_settled true c.instructions) p.bodies) parts.1 in
+    forms_arrive p.words globals 0 first_label p.bodies (item.Jump (label_of routine.End) ∷ (item.Label put_label ∷ put_value_code)) parts.0 both.1

@@ -1,0 +1,171 @@
+-- The items of a selected program are valid.
+use Rattle.std.proofs.Common.{◌≡◌, ℕ, suc, ◌+◌, ◌*◌, ◌<◌, ◌≤◌, List, [], ◌∷◌, length, Bool, true, false, refl, sym, ◌∙◌, arith, ◌&&◌, ◌||◌, ⊎_elim}
+use Rattle.std.specs.Prelude.{ℤ, pos, negsuc, ◌≤ℤ◌, ◌*ℤ◌, int_le, not, nat_eq, nat_lt, nat_le}
+use Rattle.std.specs.List.{list_all}
+use Rattle.std.proofs.lemmas.Bool.{and_parts, and_from, ltb-true, lt-ltb, le-leb, ne_eqb, cases_lt}
+use Rattle.std.proofs.lemmas.Int.{ints}
+use Rattle.sch_word.specs.declared.constant.Const.{Const}
+use Rattle.sch_word.specs.declared.constant.Const.TheVariants.{Fixnum, Character, Boolean, Nil, Unspecified, Symbol}
+use Rattle.sch_word.specs.declared.place.Place.{Place}
+use Rattle.sch_word.specs.declared.place.Place.TheVariants.{Reg, Slot}
+use Rattle.sch_word.specs.declared.primitive.Primitive.{Primitive}
+use Rattle.sch_word.specs.declared.primitive.Primitive.TheVariants.{IsBoolean, Eq}
+use Rattle.sch_word.specs.Values.{is_constant}
+use Rattle.sch_word.proofs.Fixnums.{is_fixnum_says}
+use Rattle.sch_control.specs.declared.operation.Atom.{Atom}
+use Rattle.sch_control.specs.declared.operation.Atom.TheVariants.{Constant, Literal, Variable}
+use Rattle.sch_control.specs.declared.operation.Operand.{Operand}
+use Rattle.sch_control.specs.declared.operation.Operand.TheVariants as operand
+use Rattle.sch_control.specs.declared.operation.Operation.{Operation}
+use Rattle.sch_control.specs.declared.operation.Operation.TheVariants as operation
+use Rattle.sch_frames.specs.declared.instruction.Instruction.{Instruction}
+use Rattle.sch_frames.specs.declared.instruction.Instruction.TheVariants.{Do, Store, Copy, End, IfFalse, Jump, Label, Mark}
+use Rattle.sch_frames.specs.Tree.{Code, Source}
+use Rattle.sch_frames.specs.Valid.{is_place, is_register}
+use Rattle.sch_asm.specs.declared.item.Item.{Item}
+use Rattle.sch_asm.specs.declared.item.Item.TheVariants as item
+use Rattle.sch_asm.specs.Items.{AreItems}
+use Rattle.sch_asm.specs.Routines.{label_of}
+use Rattle.sch_asm.specs.declared.routine.Routine.TheVariants as routine
+use Rattle.sch_select.specs.Encoded.{constant_number}
+use Rattle.sch_select.specs.Select.{atom_code, unary_code, binary_code, read_code, operand_code, second_code, operation_code, global_address, place_operand, instruction_code, body_code, put_label}
+use Rattle.sch_select.specs.Program.{is_symbol_constant, atom_selected, read_selected, operand_selected, operation_selected, instruction_selected, is_form, form_selected, is_unset, marks_settled, selects, pure_unary, pure_binary, is_put, forms_code, labels_end, put_value_code, program_code, first_label, heap_address, stack_address}
+use Rattle.sch_select.proofs.Sound.{items_valid, arg_valid, fits_32, fits_64, items_say}
+
+-- what is valid in front of what is
+pub in_front : (a b : Bool) → a ≡ true → (a && b) ≡ b
+in_front true b e = refl
+in_front false b e = absurd (let bad : false ≡ true = e in cc)
+
+fits_word : (n : ℤ) → negsuc 9223372036854775807 ≤ℤ n → n ≤ℤ pos 9223372036854775807 → fits_64 n ≡ true
+fits_word n a b = and_from (int_le (negsuc 9223372036854775807) n) (int_le n (pos 9223372036854775807)) (at_most (negsuc 9223372036854775807) n a) (at_most n (pos 9223372036854775807) b)
+  where
+    at_most : (a b : ℤ) → a ≤ℤ b → int_le a b ≡ true
+    at_most a b h = by (int_le a b) refl
+      where
+        by : (t : Bool) → int_le a b ≡ t → t ≡ true
+        by true e = refl
+        by false e = absurd (omega (arith, ints))
+
+fits_short : (n : ℕ) → n < 2147483648 → fits_32 (pos n) ≡ true
+fits_short n lt = le-leb n 2147483647 (omega (arith, lt))
+
+constant_fits : (c : Const) → is_constant c ≡ true → fits_64 (constant_number c) ≡ true
+constant_fits (Fixnum n) e =
+    let h = is_fixnum_says n e in
+    let l : negsuc 1152921504606846975 ≤ℤ n = h.low in
+    let m : n ≤ℤ pos 1152921504606846975 = h.high in
+    fits_word (pos 8 *ℤ n) (omega (arith, ints, l, m)) (omega (arith, ints, l, m))
+constant_fits (Character c) e = let lt = ltb-true c 256 e in fits_word (pos (256 * c + 46)) (omega (arith, ints)) (omega (arith, ints, lt))
+constant_fits (Boolean true) e = refl
+constant_fits (Boolean false) e = refl
+constant_fits Nil e = refl
+constant_fits Unspecified e = refl
+constant_fits (Symbol n) e = refl
+
+register_small : (r : ℕ) → is_register r ≡ true → nat_lt r 16 ≡ true
+register_small r e = ⊎_elim (λ lt. lt-ltb r 16 lt) (λ le. absurd (let f = large r le in let bad : true ≡ false = sym e ∙ f in cc)) (cases_lt r 16)
+  where
+    large : (r : ℕ) → 16 ≤ r → is_register r ≡ false
+    large r le = rw (other 3 (omega arith), other 6 (omega arith), other 7 (omega arith), other 8 (omega arith), other 9 (omega arith), other 10 (omega arith), other 14 (omega arith), other 15 (omega arith)) refl
+      where
+        other : (k : ℕ) → k < 16 → nat_eq r k ≡ false
+        other k lt = ne_eqb r k (λ e. omega (arith, e, lt, le))
+
+module _ (words globals : ℕ) (narrow : words ≤ 2048) (few : globals ≤ 29360128) where
+  place_valid : (p : Place) → is_place words p ≡ true → arg_valid (place_operand p) ≡ true
+  place_valid (Reg r) e = register_small r e
+  place_valid (Slot j) e = let lt = ltb-true j words e in fits_short (8 * j) (omega (arith, lt, narrow))
+
+  global_valid : (g : ℕ) → nat_lt g globals ≡ true → (nat_le 0x10000000 (global_address g) && nat_le (global_address g) 0x7FFFFFF8) ≡ true
+  global_valid g e = let lt = ltb-true g globals e in and_from (nat_le 0x10000000 (global_address g)) (nat_le (global_address g) 0x7FFFFFF8) (le-leb 0x10000000 (global_address g) (omega arith)) (le-leb (global_address g) 0x7FFFFFF8 (omega (arith, lt, few)))
+
+  -- what an item list keeps in front of others
+  abbrev Valid : (List Item → List Item) → Type 0
+  Valid f = (rest : List Item) → items_valid (f rest) ≡ items_valid rest
+
+  atom_valid : (r : ℕ) (a : Atom Place) → nat_lt r 16 ≡ true → atom_selected words globals a ≡ true → Valid (atom_code r a)
+  atom_valid r (Constant c) low e rest = let p = and_parts (is_constant c) (not (is_symbol_constant c)) e in in_front (nat_lt r 16 && fits_64 (constant_number c)) (items_valid rest) (and_from (nat_lt r 16) (fits_64 (constant_number c)) low (constant_fits c p.0))
+  atom_valid r (Variable p) low e rest = in_front (arg_valid (place_operand p) && nat_lt r 16) (items_valid rest) (and_from (arg_valid (place_operand p)) (nat_lt r 16) (place_valid p e) low)
+  atom_valid r (Literal n) low e rest = refl
+
+  unary_valid : (n : ℕ) (which : Primitive) → Valid (unary_code n which)
+  unary_valid n IsBoolean rest = refl
+  unary_valid n _ rest = refl
+
+  binary_valid : (n : ℕ) (which : Primitive) → Valid (binary_code n which)
+  binary_valid n Eq rest = refl
+  binary_valid n _ rest = refl
+
+  read_valid : (n : ℕ) (which : Primitive) (atoms : List (Atom Place)) → read_selected words globals which atoms ≡ true → Valid (read_code n which atoms)
+  read_valid n which [] e rest = refl
+  read_valid n which (a ∷ []) e rest = let p = and_parts (pure_unary which) (atom_selected words globals a) e in atom_valid 0 a refl p.1 (unary_code n which rest) ∙ unary_valid n which rest
+  read_valid n which (a ∷ (b ∷ [])) e rest =
+      let p = and_parts (pure_binary which) (atom_selected words globals a && atom_selected words globals b) e in
+      let q = and_parts (atom_selected words globals a) (atom_selected words globals b) p.1 in
+      atom_valid 0 a refl q.0 (atom_code 1 b (binary_code n which rest)) ∙ atom_valid 1 b refl q.1 (binary_code n which rest) ∙ binary_valid n which rest
+  read_valid n which (a ∷ (b ∷ (c ∷ atoms))) e rest = refl
+
+  operand_valid : (n : ℕ) (o : Operand Place) → operand_selected words globals o ≡ true → Valid (operand_code n o)
+  operand_valid n (operand.Atom a) e rest = atom_valid 0 a refl e rest
+  operand_valid n (operand.Read site which atoms) e rest = read_valid n which atoms e rest
+
+  second_valid : (n : ℕ) (o : Operand Place) → operand_selected words globals o ≡ true → Valid (second_code n o)
+  second_valid n (operand.Atom a) e rest = atom_valid 1 a refl e rest
+  second_valid n (operand.Read site which atoms) e rest = read_valid n which atoms e _
+
+  operation_valid : (n : ℕ) (o : Operation Place) → operation_selected words globals o ≡ true → Valid (operation_code n o)
+  operation_valid n (operation.Operand o) e rest = operand_valid n o e rest
+  operation_valid n (operation.Prim site which []) e rest = refl
+  operation_valid n (operation.Prim site which (o ∷ [])) e rest =
+      let p = and_parts (pure_unary which || is_put which) (operand_selected words globals o) e in
+      operand_valid n o p.1 (unary_code (n + 8) which rest) ∙ unary_valid (n + 8) which rest
+  operation_valid n (operation.Prim site which (o ∷ (q ∷ []))) e rest =
+      let p = and_parts (pure_binary which) (operand_selected words globals o && operand_selected words globals q) e in
+      let both = and_parts (operand_selected words globals o) (operand_selected words globals q) p.1 in
+      operand_valid n o both.0 (second_code (n + 4) q (binary_code (n + 8) which rest)) ∙ second_valid (n + 4) q both.1 (binary_code (n + 8) which rest) ∙ binary_valid (n + 8) which rest
+  operation_valid n (operation.Prim site which (o ∷ (q ∷ (r ∷ operands)))) e rest = refl
+  operation_valid n (operation.Global g) e rest = in_front (nat_le 0x10000000 (global_address g) && nat_le (global_address g) 0x7FFFFFF8) (items_valid rest) (global_valid g e)
+  operation_valid n (operation.SetGlobal g o) e rest =
+      let p = and_parts (nat_lt g globals) (operand_selected words globals o) e in
+      operand_valid n o p.1 _ ∙ in_front (nat_le 0x10000000 (global_address g) && nat_le (global_address g) 0x7FFFFFF8) (items_valid rest) (global_valid g p.0)
+  operation_valid n _ e rest = absurd (let bad : false ≡ true = e in cc)
+
+  instruction_valid : (base out n : ℕ) (i : Instruction) → instruction_selected words globals i ≡ true → Valid (instruction_code base out n i)
+  instruction_valid base out n (Do o) e rest = operation_valid n o e rest
+  instruction_valid base out n (Store p) e rest = in_front (arg_valid (place_operand p) && true) (items_valid rest) (and_from (arg_valid (place_operand p)) true (place_valid p e) refl)
+  instruction_valid base out n (Copy to from) e rest =
+      let p = and_parts (is_place words to) (is_place words from) e in
+      in_front (arg_valid (place_operand from) && true) _ (and_from (arg_valid (place_operand from)) true (place_valid from p.1) refl)
+      ∙ in_front (arg_valid (place_operand to) && true) (items_valid rest) (and_from (arg_valid (place_operand to)) true (place_valid to p.0) refl)
+  instruction_valid base out n End e rest = refl
+  instruction_valid base out n (IfFalse l) e rest = refl
+  instruction_valid base out n (Jump l) e rest = refl
+  instruction_valid base out n (Label l) e rest = refl
+  instruction_valid base out n (Mark m) e rest = refl
+  instruction_valid base out n _ e rest = absurd (let bad : false ≡ true = e in cc)
+
+  body_valid : (base out n : ℕ) (instructions : List Instruction) → list_all (instruction_selected words globals) instructions ≡ true → Valid (body_code base out n instructions)
+  body_valid base out n [] e rest = refl
+  body_valid base out n (i ∷ instructions) e rest =
+      let p = and_parts (instruction_selected words globals i) (list_all (instruction_selected words globals) instructions) e in
+      instruction_valid base out n i p.0 (body_code base out (n + 12) instructions rest) ∙ body_valid base out (n + 12) instructions p.1 rest
+
+  forms_valid : (label n : ℕ) (cs : List Code) → list_all (form_selected words globals) cs ≡ true → Valid (forms_code label n cs)
+  forms_valid label n [] e rest = refl
+  forms_valid label n (c ∷ cs) e rest =
+      let p = and_parts (form_selected words globals c) (list_all (form_selected words globals) cs) e in
+      let q = and_parts (is_form c.entry) (list_all (instruction_selected words globals) c.instructions) p.0 in
+      body_valid n (n + c.labels) (n + c.labels + 1) c.instructions q.1 _ ∙ forms_valid (suc label) (labels_end n c) cs p.1 rest
+
+pub program_sound : (p : Source) (limit depth : ℕ) → p.words ≤ 2048 → length p.statics.globals ≤ 29360128 → limit ≤ 1073741824 → depth ≤ 10000000 → selects p ≡ true → AreItems (program_code p limit depth)
+program_sound p limit depth narrow few heap deep e =
+    let parts = and_parts (list_all (form_selected p.words (length p.statics.globals)) p.bodies) (list_all is_unset p.statics.globals && list_all (λ c. marks_settled true c.instructions) p.bodies) e in
+    let rest = item.Jump (label_of routine.End) ∷ (item.Label put_label ∷ put_value_code) in
+    let globals = length p.statics.globals in
+    let forms : items_valid (forms_code 0 first_label p.bodies rest) ≡ true = forms_valid p.words globals narrow few 0 first_label p.bodies parts.0 rest in
+    let a : fits_64 (pos (stack_address globals limit)) ≡ true = fits_word (pos (stack_address globals limit)) (omega (arith, ints)) (omega (arith, ints, few, heap)) in
+    let b : fits_64 (pos (heap_address globals)) ≡ true = fits_word (pos (heap_address globals)) (omega (arith, ints)) (omega (arith, ints, few)) in
+    let c : fits_64 (pos depth) ≡ true = fits_word (pos depth) (omega (arith, ints)) (omega (arith, ints, deep)) in
+    items_say (program_code p limit depth)
+    (and_from (fits_64 (pos (stack_address globals limit))) _ a (and_from (fits_64 (pos (heap_address globals))) _ b (and_from (fits_64 (pos depth)) _ c forms)))

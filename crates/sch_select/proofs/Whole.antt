@@ -1,0 +1,108 @@
+-- A whole program follows its runs.
+use Rattle.std.proofs.Common.{◌≡◌, ℕ, zero, suc, ◌+◌, ◌<◌, List, [], ◌∷◌, length, take, drop, true, false, Option, Some, None, refl, sym, ap, ◌∙◌, subst, arith}
+use Rattle.std.specs.Prelude.{pos, slice_get}
+use Rattle.std.specs.List.{list_all}
+use Rattle.std.proofs.lemmas.Option.{slice_get_within}
+use Rattle.sch_word.specs.declared.answer.Answer.{Answer}
+use Rattle.sch_word.specs.Stops.{status_of}
+use Rattle.sch_word.specs.Store.{Store}
+use Rattle.sch_word.specs.Values.{Value}
+use Rattle.sch_word.specs.Computation.{gives, stops, spent}
+use Rattle.sch_word.specs.Runs.{Run, ended, going, run_with, starting_store, starting_values}
+use Rattle.sch_control.specs.Meaning.{World, Result, Callee}
+use Rattle.sch_control.specs.Run.{seen_of, enter, entry_at, starting_world}
+use Rattle.sch_frames.specs.Tree.{Source}
+use Rattle.sch_frames.specs.Run.{bodies_of, entries_of}
+use Rattle.sch_insn.specs.declared.insn.Insn.TheVariants.{MovWord}
+use Rattle.sch_insn.specs.Behaves.{Given, start, FollowsRuns}
+use Rattle.sch_insn.specs.Machine.{set_register}
+use Rattle.sch_insn.specs.Path.{Does, Exits}
+use Rattle.sch_insn.proofs.Clauses.{follows}
+use Rattle.sch_insn.proofs.Paths.{leads_on, leads_then}
+use Rattle.sch_asm.specs.declared.item.Item.{Item}
+use Rattle.sch_asm.specs.declared.item.Item.TheVariants as item
+use Rattle.sch_asm.specs.declared.routine.Routine.TheVariants as routine
+use Rattle.sch_asm.specs.Routines.{label_of}
+use Rattle.sch_asm.specs.Stands.{Stands}
+use Rattle.sch_asm.specs.Data.{data_at, word_in}
+use Rattle.sch_asm.specs.Views.{View, Leads, full}
+use Rattle.sch_asm.proofs.EachItem.{goes}
+use Rattle.sch_select.specs.Encoded.{IsHeld}
+use Rattle.sch_select.specs.Select.{global_address}
+use Rattle.sch_select.specs.Program.{form_selected, is_unset, first_label, forms_code}
+use Rattle.sch_select.specs.Follows.{AreRuns}
+use Rattle.sch_select.proofs.Places.{Plan, Room, StoreAt}
+use Rattle.sch_select.proofs.Following.{Ends, Laid}
+use Rattle.sch_select.proofs.Forms.{Owed, forms_sim, forms_cost}
+
+-- ---- globals that are unset
+
+unset_values : (gs : List (Option ℕ)) (g : ℕ) (o : Option Value) → list_all is_unset gs ≡ true → slice_get (starting_values gs) g ≡ Some o → o ≡ None
+unset_values [] g o e h = absurd cc
+unset_values (None ∷ gs) zero o e h = let same : None ≡ o = cc in sym same
+unset_values (None ∷ gs) (suc g) o e h = unset_values gs g o e h
+unset_values (Some n ∷ gs) g o e h = absurd (let bad : false ≡ true = e in cc)
+
+pub values_count : (gs : List (Option ℕ)) → length (starting_values gs) ≡ length gs
+values_count [] = refl
+values_count (g ∷ gs) = ap suc (values_count gs)
+
+module _ (plan : Plan) (body_steps : ℕ) (laid : Laid plan body_steps) (depth : ℕ) (room : Room plan plan.stack depth) where
+  open plan use {setting, size, words, globals, heap, stack, static, labels}
+
+  -- RBP, R12 and R13 are set, and the forms follow
+  abbrev pub started : List Item → List Item
+  started rest = item.Plain (MovWord 5 (pos stack)) ∷ (item.Plain (MovWord 12 (pos heap)) ∷ (item.Plain (MovWord 13 (pos depth)) ∷ rest))
+
+  exits_from : (t : Store) (x z : View) (c status : ℕ) (w : World) → Leads setting 3 3 [] x z → Ends plan body_steps [] t z c status w → Exits (full setting x) status w.state.store.output
+  exits_from t x z c status w p e = let q = leads_then setting.marks p e.leads in record { way = q.way; last = full setting e.last; path = q.path; exits = e.exits; output_is = e.output_is }
+
+  -- from a result to what is seen
+  seen_does : (p : Source) (callee : Callee) (t : Store) (x z : View) (c n : ℕ) (answers : List Answer) (result : Result) (r : Run) → t.entries ≡ n → Leads setting 3 3 [] x z → Owed plan body_steps laid depth room p.bodies callee [] t z c result → seen_of answers n result ≡ Some r → Does (full setting x) n r.end r.output
+  seen_does p callee t x z c n answers None r e l s h = absurd cc
+  seen_does p callee t x z c n answers (Some (gives v w)) r e l s h =
+      let same : run_with (ended 0) answers n w.state.store ≡ r = cc in
+      subst (λ r. Does (full setting x) n r.end r.output) same (exits_from t x z c 0 w l s)
+  seen_does p callee t x z c n answers (Some (stops why w)) r e l s h =
+      let same : run_with (ended (status_of why)) answers n w.state.store ≡ r = cc in
+      subst (λ r. Does (full setting x) n r.end r.output) same (exits_from t x z c (status_of why) w l s)
+  seen_does p callee t x z c n answers (Some (spent w)) r e l s h =
+      let same : run_with going answers n w.state.store ≡ r = cc in
+      let q = leads_then setting.marks l s.leads in
+      subst (λ r. Does (full setting x) n r.end r.output) same
+      (record { way = q.way; last = full setting s.last; path = q.path; long = (let a = q.at_least in let b = s.long in omega (arith, a, b, e)); output_is = s.output_is })
+
+  -- the data of a program at its start
+  pub record Starts (bytes : List ℕ) : Type 0 where
+    pub size_is : length bytes ≡ size
+    pub unset : (g : ℕ) → g < globals → word_in bytes (global_address g) ≡ 38
+    pub texts : take 280 (drop 512 bytes) ≡ static
+
+  pub program_follows : (p : Source) (limit : ℕ) (bytes : List ℕ) (rest : List Item) (runs : List Answer → ℕ → Run) → list_all (form_selected words globals) p.bodies ≡ true → list_all is_unset p.statics.globals ≡ true → length p.statics.globals ≡ globals →
+      Stands setting [] 0x400000 (started (forms_code 0 first_label p.bodies (item.Jump (label_of routine.End) ∷ rest))) → Starts bytes → AreRuns p limit depth runs → FollowsRuns 0x400000 (setting.text ∷ data_at bytes ∷ []) runs
+  program_follows p limit bytes rest runs selected unset count h s r = follows 0x400000 (setting.text ∷ data_at bytes ∷ []) runs at
+    where
+      at : (g : Given) (answers : List Answer) (n : ℕ) → Does (start 0x400000 (setting.text ∷ data_at bytes ∷ []) g answers) n (runs answers n).end (runs answers n).output
+      at g answers n =
+          let x : View = record { registers = g.registers; flags = g.flags; place = 0x400000; bytes = bytes; output = []; answers = answers; spare = g.spare } in
+          let t = starting_store p.statics limit answers n in
+          let w = starting_world p.statics p.library limit answers n in
+          let callee = enter (entry_at (entries_of p.bodies)) (bodies_of p.bodies) n in
+          let y1 : View = record x { registers = set_register x.registers 5 stack; place = x.place + h.0 } in
+          let y2 : View = record y1 { registers = set_register y1.registers 12 heap; place = y1.place + h.2.0 } in
+          let z : View = record y2 { registers = set_register y2.registers 13 depth; place = y2.place + h.2.2.0 } in
+          let free : heap ≡ heap + 0 = omega arith in
+          let world : StoreAt plan t bytes [] answers = record {
+            size_is = s.size_is;
+            printed = refl;
+            left = refl;
+            within = (let a = plan.stack_low in omega (arith, a));
+            count = values_count p.statics.globals ∙ count;
+            global = λ i o e. let lt = slice_get_within (starting_values p.statics.globals) i o e in let m = values_count p.statics.globals in
+                subst (λ o. IsHeld o (word_in bytes (global_address i))) (sym (unset_values p.statics.globals i o unset e)) (s.unset i (omega (arith, lt, m, count)));
+            texts = s.texts;
+          } in
+          seen_does p callee t x z (forms_cost p.bodies) n answers _ (runs answers n) refl
+          (leads_on setting.marks (leads_on setting.marks (goes setting x y1 (MovWord 5 (pos stack)) h.0 [] h.1 refl) (goes setting y1 y2 (MovWord 12 (pos heap)) h.2.0 [] h.2.1 refl)) (goes setting y2 z (MovWord 13 (pos depth)) h.2.2.0 [] h.2.2.1 refl))
+          (forms_sim plan body_steps laid depth room p.bodies callee p.bodies 0 first_label rest selected (λ j c e. let sum : 0 + j ≡ j = omega arith in ap (slice_get p.bodies) sum ∙ e) [] w z h.2.2.2 (record { frame = refl; deep = refl; free = free; world = world }) refl)
+          (r.are answers n)

@@ -1,0 +1,30 @@
+-- What a program's items and data owe to it.
+use Rattle.std.specs.Prelude.{◌≡◌, ℕ, ◌≤◌, List, [], ◌∷◌, ◌++◌, length, replicate, Some, IsTrue, false}
+use Rattle.std.specs.List.{flat_map}
+use Rattle.sch_word.specs.declared.answer.Answer.{Answer}
+use Rattle.sch_word.specs.Runs.{Run}
+use Rattle.sch_frames.specs.Tree.{Source}
+use Rattle.sch_frames.specs.Run.{run}
+use Rattle.sch_insn.specs.declared.insn.Insn.{Insn}
+use Rattle.sch_insn.specs.Behaves.{FollowsRuns}
+use Rattle.sch_insn.specs.Spelling.{AllValid, spelling}
+use Rattle.sch_asm.specs.declared.assembly.Word.{Word}
+use Rattle.sch_asm.specs.declared.item.Item.{Item}
+use Rattle.sch_asm.specs.declared.item.Mark as mark
+use Rattle.sch_asm.specs.Codes.{AreResolved}
+use Rattle.sch_asm.specs.Data.{data_at}
+use Rattle.sch_asm.specs.Effects.{AreEffective}
+use Rattle.sch_asm.specs.Items.{marks_arrive}
+use Rattle.sch_asm.specs.Views.{text_at}
+
+-- The runs of a frame program that is never wrong, under limits of heap and depth.
+pub record AreRuns (p : Source) (heap depth : ℕ) (runs : List Answer → (entries : ℕ) → Run) : Type 0 where
+  pub are : (answers : List Answer) (entries : ℕ) → run p heap depth answers entries ≡ Some (runs answers entries)
+
+-- Resolved with any items that do what the routines do, the items are a text that, with the data and the
+-- zeros behind them, follows the program's runs.
+pub record FollowsFrames (p : Source) (heap depth : ℕ) (items : List Item) (data_words : List Word) (zeros : ℕ) : Type 0 where
+  pub follows : (routines : List Item) (code : List Insn) (marks : List mark.Mark) (words : List ℕ) → AreEffective routines → IsTrue (marks_arrive false items) → IsTrue (marks_arrive false routines)
+      → AreResolved (items ++ routines) data_words code marks words → AllValid code → length (flat_map spelling code) ≤ 16777216
+      → (runs : List Answer → ℕ → Run) → AreRuns p heap depth runs
+      → FollowsRuns 0x400000 (text_at (flat_map spelling code) ∷ data_at (words ++ replicate zeros 0) ∷ []) runs

@@ -1,0 +1,4 @@
+pub mod Encoded
+pub mod Select
+pub mod Program
+pub mod Follows

@@ -1,0 +1,406 @@
+//! The items of operations.
+
+ghost use Rattle.std.specs.Prelude.{◌≡◌, ◌+◌, ◌++◌, IfOk, IsTrue, OnOk, List, int_le, nat_abs, pos};
+ghost use Rattle.sch_word.specs.declared.primitive.Primitive.TheVariants.{CharToInteger, IntegerToChar};
+ghost use Rattle.sch_asm.specs.declared.item.Item.{Item};
+ghost use Rattle.sch_select.specs.Encoded.{constant_number};
+ghost use Rattle.sch_select.specs.Select.{atom_code, binary_code, boolean_code, check_character, check_fixnum, compare_code, comparison_code, division_code, global_address, modulo_code, operand_code, operation_code, overflow_code, place_operand, primitive_code, put_code, read_code, second_code, stop_label, test_code, unary_code};
+
+use sch_asm::{Item, Routine};
+use sch_control::{Atom, Operand, Operation};
+use sch_insn::condition::{A, E, G, GE, L, LE, NE, O};
+use sch_insn::register::{R11, RAX, RBP, RCX, RDX};
+use sch_insn::{Arg, Insn};
+use sch_word::{Const, List, Mem, Place, Prim, Stop};
+
+// The words of values that are no fixnums, as `specs/Encoded` has them.
+const FALSE: i32 = 6;
+
+const TRUE: i32 = 134;
+
+const NIL: i32 = 22;
+
+const UNSPECIFIED: i32 = 30;
+
+const UNSET: i32 = 38;
+
+const CHARACTER: i32 = 46;
+
+/// Where the globals stand in the data.
+pub(crate) const GLOBALS_ADDRESS: u64 = 0x1000_0318;
+
+/// The label of the routine that puts any value.
+pub(crate) const PUT_LABEL: u32 = 1024;
+
+/// A label behind another one. One past the numbers of 32 bits is want of memory.
+pub(crate) fn above(n: u32, k: u32) -> Result<u32, Mem>
+    ensures { IfOk result (λ m. m ≡ n + k) }
+{
+    match n.checked_add(k) {
+        Some(m) => Ok(m),
+        None => Err(Mem),
+    }
+}
+
+fn stop(why: Stop) -> u32
+    ensures { result ≡ stop_label why }
+{
+    Routine::Stop(why).label()
+}
+
+/// The word of a constant, as a number with a sign.
+fn constant_number(c: Const) -> i64
+    ensures { result ≡ constant_number c }
+{
+    match c {
+        Const::Fixnum(n) => 8 * n.get(),
+        Const::Character(byte) => 256 * byte as i64 + CHARACTER as i64,
+        Const::Boolean(true) => TRUE as i64,
+        Const::Boolean(false) => FALSE as i64,
+        Const::Nil => NIL as i64,
+        Const::Unspecified => UNSPECIFIED as i64,
+        Const::Symbol(_) => 0,
+    }
+}
+
+/// A place as an operand. A slot past the displacements of 32 bits is want of memory.
+pub(crate) fn place_operand(p: Place) -> Result<Arg, Mem>
+    ensures { IfOk result (λ m. m ≡ place_operand p) }
+{
+    match p {
+        Place::Reg(r) => Ok(Arg::Reg(r)),
+        Place::Slot(j) => {
+            if j < 268_435_456 {
+                Ok(Arg::Base32(RBP, 8 * j as i32))
+            } else {
+                Err(Mem)
+            }
+        }
+    }
+}
+
+/// The address of a global's word.
+pub(crate) fn global_address(g: u32) -> u64
+    ensures { result ≡ global_address g }
+{
+    GLOBALS_ADDRESS + 8 * g as u64
+}
+
+/// An atom into a register.
+fn atom(out: &mut List<Item>, register: u8, a: &Atom<Place>) -> Result<(), Mem>
+    ensures { OnOk result ((rest : List Item) → out.new ++ rest ≡ out.old ++ atom_code register a.now rest) }
+{
+    match a {
+        Atom::Constant(c) => out.push(Item::Plain(Insn::MovWord(register, constant_number(*c)))),
+        Atom::Variable(p) => {
+            let place = place_operand(*p)?;
+            out.push(Item::Plain(Insn::MovFrom(register, place)))
+        }
+        Atom::Literal(_) => Ok(()),
+    }
+}
+
+/// A check that a register has a fixnum, or stop 65.
+fn check(register: u8) -> [Item; 3]
+    ensures { (rest : List Item) → result ++ rest ≡ check_fixnum register rest }
+{
+    [
+        Item::Plain(Insn::MovTo(Arg::Reg(RDX), register)),
+        Item::Plain(Insn::AndNumber(Arg::Reg(RDX), 7)),
+        Item::JumpIf(NE, stop(Stop::WrongType)),
+    ]
+}
+
+/// RAX becomes `#t` where a condition holds, and `#f` elsewhere.
+fn boolean(n: u32, condition: u8) -> [Item; 4]
+    ensures { (rest : List Item) → result ++ rest ≡ boolean_code n condition rest }
+{
+    [
+        Item::Plain(Insn::MovNumber(Arg::Reg(RAX), TRUE)),
+        Item::JumpIf(condition, n),
+        Item::Plain(Insn::MovNumber(Arg::Reg(RAX), FALSE)),
+        Item::Label(n),
+    ]
+}
+
+/// Whether the low bits of RAX are these.
+fn test(out: &mut List<Item>, n: u32, mask: i32, tag: i32) -> Result<(), Mem>
+    requires mask { IsTrue (int_le (pos 0) mask) }
+    requires tag { IsTrue (int_le (pos 0) tag) }
+    ensures { OnOk result ((rest : List Item) → out.new ++ rest ≡ out.old ++ test_code n (nat_abs mask) (nat_abs tag) rest) }
+{
+    out.extend_from_slice(&[
+        Item::Plain(Insn::MovTo(Arg::Reg(RDX), RAX)),
+        Item::Plain(Insn::AndNumber(Arg::Reg(RDX), mask)),
+        Item::Plain(Insn::CmpNumber(Arg::Reg(RDX), tag)),
+    ])?;
+    out.extend_from_slice(&boolean(n, E))
+}
+
+/// RAX and RCX are compared.
+fn compare(out: &mut List<Item>, n: u32, condition: u8) -> Result<(), Mem>
+    ensures { OnOk result ((rest : List Item) → out.new ++ rest ≡ out.old ++ compare_code n condition rest) }
+{
+    out.push(Item::Plain(Insn::CmpTo(Arg::Reg(RAX), RCX)))?;
+    out.extend_from_slice(&boolean(n, condition))
+}
+
+/// RAX and RCX have fixnums, or stop 65.
+fn check_both(out: &mut List<Item>) -> Result<(), Mem>
+    ensures { OnOk result ((rest : List Item) → out.new ++ rest ≡ out.old ++ check_fixnum RAX (check_fixnum RCX rest)) }
+{
+    out.extend_from_slice(&check(RAX))?;
+    out.extend_from_slice(&check(RCX))
+}
+
+/// Two fixnums are compared.
+fn comparison(out: &mut List<Item>, n: u32, condition: u8) -> Result<(), Mem>
+    ensures { OnOk result ((rest : List Item) → out.new ++ rest ≡ out.old ++ comparison_code n condition rest) }
+{
+    check_both(out)?;
+    compare(out, n, condition)
+}
+
+/// What computes a fixnum from two, with its overflow.
+fn arithmetic(out: &mut List<Item>, insns: &[Item]) -> Result<(), Mem>
+    ensures { OnOk result ((rest : List Item) → out.new ++ rest ≡ out.old ++ check_fixnum RAX (check_fixnum RCX (insns.now ++ overflow_code rest))) }
+{
+    check_both(out)?;
+    out.extend_from_slice(insns)?;
+    out.push(Item::JumpIf(O, stop(Stop::Overflow)))
+}
+
+/// The quotient into RAX and the remainder into RDX, or stop 69.
+fn division(out: &mut List<Item>) -> Result<(), Mem>
+    ensures { OnOk result ((rest : List Item) → out.new ++ rest ≡ out.old ++ division_code rest) }
+{
+    check_both(out)?;
+    out.extend_from_slice(&[
+        Item::Plain(Insn::CmpNumber(Arg::Reg(RCX), 0)),
+        Item::JumpIf(E, stop(Stop::DivideByZero)),
+        Item::Plain(Insn::Cqo),
+        Item::Plain(Insn::Idiv(Arg::Reg(RCX))),
+    ])
+}
+
+/// A remainder in RAX becomes a modulus. The two labels are those behind n.
+fn adjusted(n: u32, negative: u32, add: u32) -> [Item; 12]
+    requires negative { n + 1 ≡ negative }
+    requires add { n + 2 ≡ add }
+    ensures { (rest : List Item) → result ++ rest ≡ modulo_code n rest }
+{
+    [
+        Item::Plain(Insn::CmpNumber(Arg::Reg(RAX), 0)),
+        Item::JumpIf(E, n),
+        Item::JumpIf(L, negative),
+        Item::Plain(Insn::CmpNumber(Arg::Reg(RCX), 0)),
+        Item::JumpIf(GE, n),
+        Item::Jump(add),
+        Item::Label(negative),
+        Item::Plain(Insn::CmpNumber(Arg::Reg(RCX), 0)),
+        Item::JumpIf(L, n),
+        Item::Label(add),
+        Item::Plain(Insn::AddTo(Arg::Reg(RAX), RCX)),
+        Item::Label(n),
+    ]
+}
+
+fn modulo(out: &mut List<Item>, n: u32) -> Result<(), Mem>
+    ensures { OnOk result ((rest : List Item) → out.new ++ rest ≡ out.old ++ modulo_code n rest) }
+{
+    let negative = above(n, 1)?;
+    let add = above(n, 2)?;
+    out.extend_from_slice(&adjusted(n, negative, add))
+}
+
+/// RAX is put.
+fn put(out: &mut List<Item>, n: u32) -> Result<(), Mem>
+    ensures { OnOk result ((rest : List Item) → out.new ++ rest ≡ out.old ++ put_code n rest) }
+{
+    out.extend_from_slice(&[
+        Item::LoadLabel(R11, n),
+        Item::Jump(PUT_LABEL),
+        Item::Label(n),
+        Item::Plain(Insn::MovNumber(Arg::Reg(RAX), UNSPECIFIED)),
+    ])
+}
+
+/// A character becomes its number.
+fn character_number(out: &mut List<Item>) -> Result<(), Mem>
+    ensures { OnOk result ((rest : List Item) → out.new ++ rest ≡ out.old ++ unary_code 0 CharToInteger rest) }
+{
+    out.extend_from_slice(&[
+        Item::Plain(Insn::MovTo(Arg::Reg(RDX), RAX)),
+        Item::Plain(Insn::AndNumber(Arg::Reg(RDX), 255)),
+        Item::Plain(Insn::CmpNumber(Arg::Reg(RDX), CHARACTER)),
+        Item::JumpIf(NE, stop(Stop::WrongType)),
+        Item::Plain(Insn::Shr(Arg::Reg(RAX), 8)),
+        Item::Plain(Insn::Shl(Arg::Reg(RAX), 3)),
+    ])
+}
+
+/// A number from 0 to 255 becomes its character.
+fn number_character(out: &mut List<Item>) -> Result<(), Mem>
+    ensures { OnOk result ((rest : List Item) → out.new ++ rest ≡ out.old ++ unary_code 0 IntegerToChar rest) }
+{
+    out.extend_from_slice(&check(RAX))?;
+    out.extend_from_slice(&[
+        Item::Plain(Insn::CmpNumber(Arg::Reg(RAX), 2040)),
+        Item::JumpIf(A, stop(Stop::OutOfRange)),
+        Item::Plain(Insn::Shl(Arg::Reg(RAX), 5)),
+        Item::Plain(Insn::AddNumber(Arg::Reg(RAX), CHARACTER)),
+    ])
+}
+
+/// A primitive of one operand, in RAX.
+fn unary(out: &mut List<Item>, n: u32, which: Prim) -> Result<(), Mem>
+    ensures { OnOk result ((rest : List Item) → out.new ++ rest ≡ out.old ++ unary_code n which rest) }
+{
+    match which {
+        Prim::IsBoolean => test(out, n, 127, 6),
+        Prim::IsPair => test(out, n, 7, 1),
+        Prim::IsNull => test(out, n, 255, NIL),
+        Prim::IsSymbol => test(out, n, 7, 5),
+        Prim::IsInteger => test(out, n, 7, 0),
+        Prim::IsChar => test(out, n, 255, CHARACTER),
+        Prim::IsString => test(out, n, 7, 3),
+        Prim::IsVector => test(out, n, 7, 2),
+        Prim::IsProcedure => test(out, n, 7, 4),
+        Prim::CharToInteger => character_number(out),
+        Prim::IntegerToChar => number_character(out),
+        Prim::Put => put(out, n),
+        _ => Ok(()),
+    }
+}
+
+/// A primitive of two operands, in RAX and RCX.
+fn binary(out: &mut List<Item>, n: u32, which: Prim) -> Result<(), Mem>
+    ensures { OnOk result ((rest : List Item) → out.new ++ rest ≡ out.old ++ binary_code n which rest) }
+{
+    match which {
+        Prim::Eq | Prim::Eqv => compare(out, n, E),
+        Prim::Add => arithmetic(out, &[Item::Plain(Insn::AddTo(Arg::Reg(RAX), RCX))]),
+        Prim::Subtract => arithmetic(out, &[Item::Plain(Insn::SubTo(Arg::Reg(RAX), RCX))]),
+        Prim::Multiply => arithmetic(
+            out,
+            &[
+                Item::Plain(Insn::Sar(Arg::Reg(RAX), 3)),
+                Item::Plain(Insn::Imul(RAX, Arg::Reg(RCX))),
+            ],
+        ),
+        Prim::Quotient => {
+            division(out)?;
+            out.extend_from_slice(&[
+                Item::Plain(Insn::MovNumber(Arg::Reg(RCX), 8)),
+                Item::Plain(Insn::Imul(RAX, Arg::Reg(RCX))),
+                Item::JumpIf(O, stop(Stop::Overflow)),
+            ])
+        }
+        Prim::Remainder => {
+            division(out)?;
+            out.push(Item::Plain(Insn::MovTo(Arg::Reg(RAX), RDX)))
+        }
+        Prim::Modulo => {
+            division(out)?;
+            out.push(Item::Plain(Insn::MovTo(Arg::Reg(RAX), RDX)))?;
+            modulo(out, n)
+        }
+        Prim::Equal => comparison(out, n, E),
+        Prim::Less => comparison(out, n, L),
+        Prim::Greater => comparison(out, n, G),
+        Prim::LessEqual => comparison(out, n, LE),
+        Prim::GreaterEqual => comparison(out, n, GE),
+        _ => Ok(()),
+    }
+}
+
+/// A primitive that reads, over atoms.
+fn read(out: &mut List<Item>, n: u32, which: Prim, atoms: &[Atom<Place>]) -> Result<(), Mem>
+    ensures { OnOk result ((rest : List Item) → out.new ++ rest ≡ out.old ++ read_code n which atoms.now rest) }
+{
+    match atoms {
+        [a] => {
+            atom(out, RAX, a)?;
+            unary(out, n, which)
+        }
+        [a, b] => {
+            atom(out, RAX, a)?;
+            atom(out, RCX, b)?;
+            binary(out, n, which)
+        }
+        _ => Ok(()),
+    }
+}
+
+/// An operand into RAX.
+fn operand(out: &mut List<Item>, n: u32, o: &Operand<Place>) -> Result<(), Mem>
+    ensures { OnOk result ((rest : List Item) → out.new ++ rest ≡ out.old ++ operand_code n o.now rest) }
+{
+    match o {
+        Operand::Atom(a) => atom(out, RAX, a),
+        Operand::Read(_, which, atoms) => read(out, n, *which, atoms.as_slice()),
+    }
+}
+
+/// A second operand into RCX, while RAX keeps the first.
+fn second(out: &mut List<Item>, n: u32, o: &Operand<Place>) -> Result<(), Mem>
+    ensures { OnOk result ((rest : List Item) → out.new ++ rest ≡ out.old ++ second_code n o.now rest) }
+{
+    match o {
+        Operand::Atom(a) => atom(out, RCX, a),
+        Operand::Read(_, which, atoms) => {
+            out.push(Item::Plain(Insn::MovTo(Arg::Reg(R11), RAX)))?;
+            read(out, n, *which, atoms.as_slice())?;
+            out.extend_from_slice(&[
+                Item::Plain(Insn::MovTo(Arg::Reg(RCX), RAX)),
+                Item::Plain(Insn::MovTo(Arg::Reg(RAX), R11)),
+            ])
+        }
+    }
+}
+
+/// A primitive.
+fn primitive(
+    out: &mut List<Item>,
+    n: u32,
+    which: Prim,
+    operands: &[Operand<Place>],
+) -> Result<(), Mem>
+    ensures { OnOk result ((rest : List Item) → out.new ++ rest ≡ out.old ++ primitive_code n which operands.now rest) }
+{
+    match operands {
+        [o] => {
+            operand(out, n, o)?;
+            unary(out, above(n, 8)?, which)
+        }
+        [o, q] => {
+            operand(out, n, o)?;
+            second(out, above(n, 4)?, q)?;
+            binary(out, above(n, 8)?, which)
+        }
+        _ => Ok(()),
+    }
+}
+
+/// An operation, whose value is left in RAX. Its labels are from n on.
+pub(crate) fn operation(out: &mut List<Item>, n: u32, o: &Operation<Place>) -> Result<(), Mem>
+    ensures { OnOk result ((rest : List Item) → out.new ++ rest ≡ out.old ++ operation_code n o.now rest) }
+{
+    match o {
+        Operation::Operand(o) => operand(out, n, o),
+        Operation::Prim(_, which, operands) => primitive(out, n, *which, operands.as_slice()),
+        Operation::Global(g) => out.extend_from_slice(&[
+            Item::LoadWord(RAX, global_address(*g)),
+            Item::Plain(Insn::CmpNumber(Arg::Reg(RAX), UNSET)),
+            Item::JumpIf(E, stop(Stop::Unset)),
+        ]),
+        Operation::SetGlobal(g, o) => {
+            operand(out, n, o)?;
+            out.extend_from_slice(&[
+                Item::StoreWord(global_address(*g), RAX),
+                Item::Plain(Insn::MovNumber(Arg::Reg(RAX), UNSPECIFIED)),
+            ])
+        }
+        _ => Ok(()),
+    }
+}

@@ -1,0 +1,121 @@
+//! The items of bodies and of the forms of a program.
+
+ghost use Rattle.std.specs.Prelude.{◌≡◌, ◌+◌, ◌++◌, ◌*◌, IfOk, OnOk, List, length};
+ghost use Rattle.sch_asm.specs.declared.item.Item.{Item};
+ghost use Rattle.sch_frames.specs.SourceView.{codes_of, code_of};
+ghost use Rattle.sch_select.specs.Select.{body_code, instruction_code, kind_of};
+ghost use Rattle.sch_select.specs.Program.{form_code, forms_code, labels_end};
+
+use crate::code::{above, operation, place_operand};
+use sch_asm::{Item, MarkKind};
+use sch_control::MarkKind as ControlMark;
+use sch_frames::{FrameBody, Instruction};
+use sch_insn::condition::E;
+use sch_insn::register::{R15, RAX, RCX};
+use sch_insn::{Arg, Insn};
+use sch_word::{List, Mem};
+
+/// A mark of a body as a mark of an item.
+fn kind_of(mark: ControlMark) -> MarkKind
+    ensures { result ≡ kind_of mark }
+{
+    match mark {
+        ControlMark::Enter(label) => MarkKind::Enter(label),
+        ControlMark::Save(x) => MarkKind::Save(x),
+        ControlMark::Restore(x) => MarkKind::Restore(x),
+        ControlMark::Spill(x) => MarkKind::Spill(x),
+        ControlMark::Temp => MarkKind::Temp,
+        ControlMark::Argument => MarkKind::Argument,
+        ControlMark::Call(site) => MarkKind::Call(site),
+        ControlMark::Return => MarkKind::Return,
+        ControlMark::Tail(site) => MarkKind::Tail(site),
+    }
+}
+
+/// Where the labels of a body are: its own from `base` on, and `end` behind it.
+#[derive(Clone, Copy)]
+pub(crate) struct Labels {
+    pub base: u32,
+    pub end: u32,
+}
+
+/// One instruction, whose own labels are from n on.
+fn instruction(out: &mut List<Item>, labels: Labels, n: u32, i: &Instruction) -> Result<(), Mem>
+    ensures { OnOk result ((rest : List Item) → out.new ++ rest ≡ out.old ++ instruction_code labels.base labels.end n i.now rest) }
+{
+    match i {
+        Instruction::Do(o) => operation(out, n, o),
+        Instruction::Store(p) => {
+            let place = place_operand(*p)?;
+            out.push(Item::Plain(Insn::MovTo(place, RAX)))
+        }
+        Instruction::Copy(to, from) => {
+            let to = place_operand(*to)?;
+            let from = place_operand(*from)?;
+            out.push(Item::Plain(Insn::MovFrom(RCX, from)))?;
+            out.push(Item::Plain(Insn::MovTo(to, RCX)))
+        }
+        Instruction::Return => out.push(Item::Plain(Insn::JumpTo(Arg::Reg(R15)))),
+        Instruction::End => out.push(Item::Jump(labels.end)),
+        Instruction::IfFalse(l) => {
+            let label = above(labels.base, *l)?;
+            out.push(Item::Plain(Insn::CmpNumber(Arg::Reg(RAX), 6)))?;
+            out.push(Item::JumpIf(E, label))
+        }
+        Instruction::Jump(l) => {
+            let label = above(labels.base, *l)?;
+            out.push(Item::Jump(label))
+        }
+        Instruction::Label(l) => {
+            let label = above(labels.base, *l)?;
+            out.push(Item::Label(label))
+        }
+        Instruction::Mark(mark) => out.push(Item::Mark(kind_of(*mark))),
+        _ => Ok(()),
+    }
+}
+
+/// The instructions of a body, each with twelve labels, from n on, and the number behind these.
+fn body(
+    out: &mut List<Item>,
+    labels: Labels,
+    n: u32,
+    instructions: &[Instruction],
+) -> Result<u32, Mem>
+    ensures items { OnOk result ((rest : List Item) → out.new ++ rest ≡ out.old ++ body_code labels.base labels.end n instructions.now rest) }
+    ensures next { IfOk result (λ m. m ≡ n + 12 * length instructions.now) }
+{
+    let mut next = n;
+    for i in instructions {
+        instruction(out, labels, next, i)?;
+        next = above(next, 12)?;
+    }
+    Ok(next)
+}
+
+/// A form, whose labels are from n on, and the number behind these.
+fn form(out: &mut List<Item>, n: u32, b: &FrameBody) -> Result<u32, Mem>
+    ensures items { OnOk result ((rest : List Item) → out.new ++ rest ≡ out.old ++ form_code n (code_of b.now) rest) }
+    ensures next { IfOk result (λ m. m ≡ labels_end n (code_of b.now)) }
+{
+    let end = above(n, b.labels)?;
+    let first = above(end, 1)?;
+    let labels = Labels { base: n, end };
+    let next = body(out, labels, first, b.instructions.as_slice())?;
+    out.push(Item::Label(end))?;
+    Ok(next)
+}
+
+/// The forms, in their order, with labels from n on.
+pub(crate) fn forms(out: &mut List<Item>, n: u32, bodies: &[FrameBody]) -> Result<(), Mem>
+    ensures { OnOk result ((rest : List Item) → out.new ++ rest ≡ out.old ++ forms_code 0 n (codes_of bodies.now) rest) }
+{
+    let mut next = n;
+    let mut label = 0;
+    for b in bodies {
+        out.push(Item::Mark(MarkKind::Enter(label)))?;
+        next = form(out, next, b)?;
+        label = above(label, 1)?;
+    }
+    Ok(())
+}
