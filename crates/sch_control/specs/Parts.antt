@@ -61,7 +61,6 @@ abbrev pub operation_sites : {V : Type 0} → Operation V → List (ℕ × ℕ)
 operation_sites (operation.Operand o) = operand_sites o
 operation_sites (operation.Prim site which operands) = (site, length operands) ∷ operands_sites operands
 operation_sites (operation.SetGlobal g o) = operand_sites o
-
 operation_sites (operation.CellSet c o) = operand_sites o
 operation_sites _ = []
 
