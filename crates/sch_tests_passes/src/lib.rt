@@ -1,4 +1,4 @@
-//! Tests of the passes from a text to frames: that they succeed where there is memory.
+//! Tests of the passes from a text to items: that they succeed where there is memory.
 #![tactic(auto)]
 
 #[cfg(test)]
@@ -9,3 +9,5 @@ mod frames;
 mod reader;
 #[cfg(test)]
 mod renaming;
+#[cfg(test)]
+mod selection;
