@@ -1,4 +1,4 @@
-use Rattle.std.proofs.Common.{◌≡◌, ℕ, List, [], ◌∷◌, ◌++◌, Option, Some, None, refl, ap, ◌∙◌}
+use Rattle.std.proofs.Common.{◌≡◌, ℕ, List, [], ◌∷◌, ◌++◌, Option, None, refl, ap, ◌∙◌}
 use Rattle.sch_word.specs.declared.constant.Const.TheVariants.{Character}
 use Rattle.sch_word.specs.declared.primitive.Primitive.TheVariants as primitives
 use Rattle.sch_word.specs.Literals.{Literals, no_literals}
