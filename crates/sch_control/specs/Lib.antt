@@ -5,6 +5,7 @@ pub mod Parts
 pub mod ProgramView
 pub mod Run
 pub mod SourceView
+pub mod Straight
 pub mod Tree
 pub mod Valid
 pub mod View

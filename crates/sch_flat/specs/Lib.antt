@@ -3,6 +3,7 @@ pub mod View
 pub mod Measures
 pub mod Valid
 pub mod SourceView
+pub mod Straight
 pub mod ProgramView
 pub mod Meaning
 pub mod Run

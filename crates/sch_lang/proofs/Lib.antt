@@ -9,6 +9,7 @@ pub mod OwnOrders
 pub mod Rows
 pub mod Scopes
 mod SizeExamples
+mod StraightExamples
 mod ValidExamples
 mod VariableExamples
 pub mod SitesInOrder

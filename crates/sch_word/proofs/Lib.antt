@@ -13,5 +13,6 @@ pub mod Similar
 pub mod Steady
 pub mod Walking
 pub mod StopStatus
+mod StraightRows
 mod TypeRows
 pub mod TagsApart

@@ -22,6 +22,7 @@ pub mod Shape
 pub mod StaticsView
 pub mod Stops
 pub mod Store
+pub mod Straight
 pub mod Tags
 pub mod Values
 pub mod Walk

@@ -1,0 +1,35 @@
+-- Worked rows of straight programs: where the first form stands that is not straight.
+use Rattle.std.proofs.Common.{◌≡◌, refl, true, false, [], ◌∷◌, pos, Some, None}
+use Rattle.sch_word.specs.declared.constant.Const.TheVariants.{Fixnum}
+use Rattle.sch_word.specs.declared.primitive.Primitive.TheVariants.{Add, Put}
+use Rattle.sch_lang.specs.Tree.{Expression, Expressions, constant, local, global, set_local, define, bind, lambda, call, operation, no_expressions, and_expression, expressions}
+use Rattle.sch_lang.specs.Straight.{is_straight, first_other}
+
+abbrev one : Expression
+one = constant (Fixnum (pos 1))
+
+-- (display 1)
+abbrev display_one : Expression
+display_one = operation 0 Put (expressions (one ∷ []))
+
+-- (define x (let ((y 1)) (+ y 1)))
+abbrev define_sum : Expression
+define_sum = define 0 (bind 1 (expressions (one ∷ [])) (operation 2 Add (expressions (local 0 ∷ one ∷ []))))
+
+-- (let ((y 1)) (set! y 1))
+abbrev assigns_local : Expression
+assigns_local = bind 3 (expressions (one ∷ [])) (set_local 0 one)
+
+all_straight_row : first_other (0 ∷ 12 ∷ []) (expressions (display_one ∷ define_sum ∷ [])) ≡ None
+all_straight_row = refl
+
+assigned_row : first_other (0 ∷ 12 ∷ 45 ∷ []) (expressions (display_one ∷ define_sum ∷ assigns_local ∷ [])) ≡ Some 45
+assigned_row = refl
+
+-- ((lambda () 1)) before a form that is not straight either
+call_row : first_other (7 ∷ 45 ∷ []) (expressions (call 4 (lambda [] 0 false one) no_expressions ∷ assigns_local ∷ [])) ≡ Some 7
+call_row = refl
+
+-- a node that is not straight, deep inside a form
+deep_row : is_straight (define 0 (bind 1 (expressions (one ∷ [])) (operation 2 Add (expressions (local 0 ∷ call 5 (global 0) no_expressions ∷ []))))) ≡ false
+deep_row = refl
