@@ -19,7 +19,7 @@ use Rattle.sch_control.specs.Tree.{Expression, perform, bind, sequence, branch, 
 use Rattle.sch_frames.specs.declared.instruction.Instruction.{Instruction}
 use Rattle.sch_frames.specs.declared.instruction.Instruction.TheVariants.{Store, End, Jump, Label}
 use Rattle.sch_frames.specs.Layout.{straight, leave, labels, lay, atom_at, atoms_at, operand_at, operands_at, operation_at, own_slot}
-use Rattle.sch_frames.specs.Straight.{is_straight_instruction, is_straight_code}
+use Rattle.sch_frames.specs.Straight.{begins_with_operation, is_straight_instruction, is_straight_code}
 use Rattle.sch_frames.proofs.SlotsFrame.{slots_of}
 
 -- ## What is laid out so far
@@ -100,10 +100,24 @@ module _ (place : ℕ → Place) where
   lay_straight (return e) s n test rest h = absurd cc
   lay_straight (save saves e) s n test rest h = absurd cc
 
+  lay_begins : (e : Expression) → is_straight e ≡ true → (n : ℕ) (test : Option ℕ) (rest : List Instruction) → begins_with_operation (lay place e n test rest) ≡ true
+  lay_begins (perform o) s n test rest = refl
+  lay_begins (bind x a b) s n test rest = lay_begins a (and_parts _ _ s).0 n None (Store (place x) ∷ lay place b (n + labels a) test rest)
+  lay_begins (sequence a b) s n test rest = lay_begins a (and_parts _ _ s).0 n None (lay place b (n + labels a) test rest)
+  lay_begins (branch a b c) s n test rest =
+      lay_begins a (and_parts _ _ s).0 (suc (suc n)) (Some n)
+      (lay place b (suc (suc (n + labels a))) test (Jump (suc n) ∷ (Label n ∷ lay place c (suc (suc (n + labels a + labels b))) test (Label (suc n) ∷ rest))))
+  lay_begins (end e) s n test rest = lay_begins e s n None (End ∷ rest)
+  lay_begins (fix members e) s n test rest = absurd cc
+  lay_begins (call a restores) s n test rest = absurd cc
+  lay_begins (tail_call a) s n test rest = absurd cc
+  lay_begins (return e) s n test rest = absurd cc
+  lay_begins (save saves e) s n test rest = absurd cc
+
 -- ## Bodies
 
 pub slots_straight : (c : control.Code) → control_straight.is_straight_code c ≡ true → is_straight_code (slots_of c) ≡ true
 slots_straight c h = by c.entry refl (and_parts _ _ h).0 where
   by : (o : Option Entry) → c.entry ≡ o → control_straight.is_form o ≡ true → is_straight_code (slots_of c) ≡ true
-  by None e f = rw e (lay_straight (own_slot 0) c.expression (and_parts _ _ h).1 0 None [] refl)
+  by None e f = let s = (and_parts _ _ h).1 in rw e (and_from _ _ (lay_begins (own_slot 0) c.expression s 0 None []) (lay_straight (own_slot 0) c.expression s 0 None [] refl))
   by (Some n) e f = absurd cc
