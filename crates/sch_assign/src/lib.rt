@@ -17,8 +17,6 @@ ghost use Rattle.sch_assign.specs.Table.{table};
 
 mod conversion;
 mod marking;
-#[cfg(test)]
-mod tests;
 
 use crate::conversion::{convert_each, convert_lambdas};
 use crate::marking::{mark_each, mark_lambdas};
