@@ -13,11 +13,11 @@ pub mod NumbersKept
 pub mod ScopesKept
 pub mod BodiesKept
 pub mod ShapesKept
+pub mod StraightKept
 pub mod TableMarked
 pub mod ValidKept
 pub mod SizeKept
 pub mod BoundCount
 pub mod MeasuresKept
 pub mod Examples
-pub mod HandMade
 pub mod Laws

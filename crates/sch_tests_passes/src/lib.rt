@@ -2,12 +2,12 @@
 #![tactic(auto)]
 
 #[cfg(test)]
+mod closures;
+#[cfg(test)]
 mod expander;
 #[cfg(test)]
 mod frames;
 #[cfg(test)]
 mod reader;
-#[cfg(test)]
-mod renaming;
 #[cfg(test)]
 mod selection;

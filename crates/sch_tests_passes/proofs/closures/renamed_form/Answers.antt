@@ -1,11 +1,14 @@
-use Rattle.std.proofs.Common.{◌<◌, ◌^◌, ◌-◌, sym, subst}
+use Rattle.std.proofs.Common.{◌≡◌, ◌<◌, ◌^◌, ◌-◌, IfOk, sym, subst}
 use Rattle.std.specs.Prelude.{IsTrue}
+use Rattle.sch_cells.specs.Bodies as bodies
+use Rattle.sch_cells.specs.ProgramView as view
+use Rattle.sch_lang.specs.Bodies.{bodies_of}
 use Rattle.sch_lang.specs.Measures.{variables_bound}
 use Rattle.sch_lang.specs.SourceView.{source_of}
 use Rattle.sch_lang.specs.Valid.{is_valid}
 use Rattle.sch_lang.specs.View.{expression}
 use Rattle.sch_tests_passes.proofs.HandMade.{one_form, valid_parts}
-use Rattle.sch_tests_passes.proofs.renaming.renamed_form.Goals as goal
+use Rattle.sch_tests_passes.proofs.closures.renamed_form.Goals as goal
 
 pub invariant_of-p : goal.invariant_of-p
 invariant_of-p c =
@@ -17,3 +20,13 @@ pub rename-requires : goal.rename-requires
 rename-requires c =
     let made = one_form _ _ _ _ _ _ c.args.sites.now (expression c.args.form) c.new.ensures c.new-2.ensures c.new-3.ensures c.new-4.ensures c.in_ok-forms.ensures c.in_ok-from_slice.ensures in
     record { few = subst (λ q. variables_bound q < 2 ^ 32 - 2 ^ 10) (sym made) c.requires.few }
+
+pub returns-clause-variables : goal.returns-clause-variables
+returns-clause-variables c =
+    let made = one_form _ _ _ _ _ _ c.args.sites.now (expression c.args.form) c.new.ensures c.new-2.ensures c.new-3.ensures c.new-4.ensures c.in_ok-forms.ensures c.in_ok-from_slice.ensures in
+    subst (λ s. IfOk c.rename.result (λ q. q.variables ≡ variables_bound s)) made c.rename.ensures.variables
+
+pub returns-clause-bodies : goal.returns-clause-bodies
+returns-clause-bodies c =
+    let made = one_form _ _ _ _ _ _ c.args.sites.now (expression c.args.form) c.new.ensures c.new-2.ensures c.new-3.ensures c.new-4.ensures c.in_ok-forms.ensures c.in_ok-from_slice.ensures in
+    subst (λ s. IfOk c.rename.result (λ q. bodies.bodies_of (view.source q) ≡ bodies_of s)) made c.rename.ensures.bodies
