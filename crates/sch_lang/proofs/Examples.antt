@@ -6,6 +6,7 @@ use Rattle.std.specs.Fmt.{digits}
 use Rattle.sch_word.specs.declared.answer.Answer.TheVariants.{Took, Failed}
 use Rattle.sch_word.specs.Runs.{ended}
 use Rattle.sch_lang.specs.Examples.{minus, plain_run, heap_run, ends, goes_on, assigned_formals, assigned_local, call_of_number, car_of_number, counter, divide_by_zero, divisions, endless, even_odd, library_call, loop_of, nested_literal, nested_nine, pairs, past_the_end, put_next, put_number, put_texts, recursive_inits, right_then_wrong_count, rest_list, sum_line, swap_thrice, two_orders, two_orders_table, two_procedures, unset_global, unset_init, written_literal, wrong_count}
+use Rattle.sch_lang.specs.Laws.{TakesNothing}
 use Rattle.sch_lang.specs.Run.{run}
 use Rattle.sch_lang.specs.Valid.{is_valid}
 
@@ -169,6 +170,14 @@ formals_stop_runs = refl
 failed_put_runs : run put_texts ((0 ∷ []) ∷ (0 ∷ []) ∷ []) 4096 1 (Took 1 ∷ Took 1 ∷ Failed ∷ Took 9 ∷ []) 0 ≡ record { output = codes "ab"; entries = 0; charged = 0; answers = 3; end = ended 74 }
 unfolding digits
 failed_put_runs = refl
+
+refused_put_runs : run put_texts ((0 ∷ []) ∷ (0 ∷ []) ∷ []) 4096 1 (Took 1 ∷ Took 0 ∷ Took 9 ∷ []) 0 ≡ record { output = codes "a"; entries = 0; charged = 0; answers = 2; end = ended 74 }
+unfolding digits
+refused_put_runs = refl
+
+-- which answers take nothing
+refusals : TakesNothing Failed × TakesNothing (Took 0) × (TakesNothing (Took 1) → ⊥)
+refusals = (tt, tt, λ taken. taken)
 
 long_take_runs : run put_texts ((0 ∷ []) ∷ (0 ∷ []) ∷ []) 4096 1 (Took 1 ∷ Took 9 ∷ []) 0 ≡ record { output = codes "abcd"; entries = 0; charged = 0; answers = 2; end = ended 0 }
 unfolding digits

@@ -6,6 +6,7 @@ mod Loop
 pub mod Measured
 pub mod MoreEntries
 mod OrderExamples
+pub mod OutputFails
 pub mod OwnOrders
 pub mod Rows
 pub mod Scopes

@@ -1,7 +1,7 @@
 //! Laws of the core language, as contracts of functions that do nothing.
 
 ghost use Rattle.std.specs.Prelude.{IsTrue};
-ghost use Rattle.sch_lang.specs.Laws.{GoesOnWhenSpent, MoreEntries, NeedsOwnOrders};
+ghost use Rattle.sch_lang.specs.Laws.{FailsByAnswer, GoesOnWhenSpent, MoreEntries, NeedsOwnOrders};
 ghost use Rattle.sch_lang.specs.ProgramView.{source};
 ghost use Rattle.sch_lang.specs.Valid.{is_valid};
 
@@ -26,4 +26,10 @@ pub fn more_entries_change_no_end(p: &Program)
 /// never the nesting that bounds the evaluator.
 pub fn run_goes_on_when_spent(p: &Program)
     ensures { GoesOnWhenSpent (source p.now) }
+{}
+
+/// A run stops with a failed output, which is status 74, only where one of the kernel's answers takes
+/// nothing.
+pub fn run_fails_by_answer(p: &Program)
+    ensures { FailsByAnswer (source p.now) }
 {}
