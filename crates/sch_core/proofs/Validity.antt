@@ -35,7 +35,8 @@ unset_known (x ∷ names) library = unset_known names library
 table_length : (items : Data) (es : List Draft) → TextExpands items es → length (table es) ≤ weights items
 table_length items es h = omega (arith, firsts_length (global_names_of_each (drafts es)) [], names_text (globals_of items) h)
 
-as_many : (items : Data) (es : List Draft) → TextExpands items es → length (form_places items) ≡ tree.count (program_of es).forms
+-- Each form of the program has a place.
+pub as_many : (items : Data) (es : List Draft) → TextExpands items es → length (form_places items) ≡ tree.count (program_of es).forms
 as_many items es h = places_text (globals_of items) h ∙ sym (count_numbered (table es) (drafts es) 0 ∙ count_drafts es)
 
 pub in_range_of : (items : Data) (es : List Draft) → TextExpands items es → weights items ≤ max_weight →

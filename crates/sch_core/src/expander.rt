@@ -1,12 +1,12 @@
 //! The program of a text.
 
-ghost use Rattle.std.specs.Prelude.{◌≡◌, ◌≤◌, ◌*◌, IfOk, IfErr, MatchResult};
+ghost use Rattle.std.specs.Prelude.{◌≡◌, ◌≤◌, ◌*◌, length, IfOk, IfErr, MatchResult};
 ghost use Rattle.sch_read.specs.Views.{data_of};
 ghost use Rattle.sch_core.specs.Answer.{IsErrorIn};
-ghost use Rattle.sch_core.specs.Programs.{IsProgramOf};
+ghost use Rattle.sch_core.specs.Programs.{IsProgramOf, form_places};
 ghost use Rattle.sch_lang.specs.Measures.{nodes_and_bound};
 ghost use Rattle.sch_lang.specs.ProgramView.{source};
-ghost use Rattle.sch_lang.specs.Tree.{Source};
+ghost use Rattle.sch_lang.specs.Tree.{Source, count};
 ghost use Rattle.sch_read.specs.Valid.{max_weight, weights};
 
 use crate::error::{CoreError, Kind, error_of};
@@ -26,6 +26,8 @@ pub fn core(alloc: Global, items: &[Datum]) -> Result<Program, CoreError>
     requires light { weights (data_of items.now) ≤ max_weight }
     ensures found { IfOk result (λ p. IsProgramOf (data_of items.now) (source p)) }
     ensures size { IfOk result (λ p. nodes_and_bound (source p) ≤ 16 * weights (data_of items.now)) }
+    // Each form has a place.
+    ensures places { IfOk result (λ p. length (form_places (data_of items.now)) ≡ count (source p).forms) }
     ensures only { (p : Source) → IsProgramOf (data_of items.now) p →
         MatchResult result (λ q. source q ≡ p) (λ e. e ≡ CoreError.Memory) }
     ensures fault { IfErr result (IsErrorIn (data_of items.now)) }

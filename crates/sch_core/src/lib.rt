@@ -28,3 +28,4 @@ pub use laws::{
     data_have_a_program_or_an_error, data_have_one_error, data_have_one_program,
     expansion_is_unique, fault_or_expansion,
 };
+pub use places::form_places;

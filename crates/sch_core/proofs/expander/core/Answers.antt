@@ -1,11 +1,13 @@
 use Rattle.std.proofs.Common.{map, ap, sym, ◌∙◌}
 use Rattle.sch_lang.specs.ProgramView.{source}
+use Rattle.sch_lang.specs.Tree.{count}
 use Rattle.sch_lang.specs.Valid.{constants_in_range, is_valid}
 use Rattle.sch_read.specs.Views.{data_of}
 use Rattle.sch_core.specs.DraftView.{draft_of}
 use Rattle.sch_core.specs.Numbered.{program_of}
 use Rattle.sch_core.specs.Programs.{first_exceeding}
 use Rattle.sch_core.proofs.Answering.{is_sound, is_small}
+use Rattle.sch_core.proofs.Validity.{as_many}
 use Rattle.sch_core.proofs.expander.core.Goals as goal
 
 pub assemble-requires : goal.assemble-requires
@@ -23,3 +25,9 @@ returns-clause-size c =
     is_small (data_of c.args.items.now) c.as_slice.result.now c.new-places.result (map draft_of c.in-Ok.drafts) c.new-places.ensures (c.as_slice.ensures ∙ c.in_ok-place_forms.ensures) f
     c.first_exceeding.result (c.first_exceeding.ensures ∙ ap (λ es. first_exceeding c.as_slice.result.now (program_of (map draft_of es)).forms) c.as_slice-2.ensures) c.in_default.is
     (source c.in_ok-program.program) (c.in_ok-program.ensures ∙ ap (λ es. program_of (map draft_of es)) c.as_slice-3.ensures) c.requires.light
+
+pub returns-clause-places : goal.returns-clause-places
+returns-clause-places c =
+    let f = rw c.in-Ok.is at c.in_ok-drafts.ensures.found in
+    as_many (data_of c.args.items.now) (map draft_of c.in-Ok.drafts) f
+    ∙ ap (λ p. count p.forms) (sym (c.in_ok-program.ensures ∙ ap (λ es. program_of (map draft_of es)) c.as_slice-3.ensures))
