@@ -23,6 +23,7 @@ use Rattle.sch_frames.specs.declared.instruction.Instruction.TheVariants.{Do, St
 use Rattle.sch_frames.specs.Layout.{slots_layout}
 use Rattle.sch_frames.specs.Run.{run}
 use Rattle.sch_frames.specs.Sizes.{largest_frame}
+use Rattle.sch_frames.specs.Straight.{is_straight_code, is_straight_program}
 use Rattle.sch_frames.specs.Tree.{Code, Source}
 use Rattle.sch_frames.specs.Valid.{code_valid, is_valid, placed, forward}
 
@@ -191,3 +192,16 @@ jump_back = refl
 
 label_twice : forward 1 (Jump 0 ∷ Label 0 ∷ Label 0 ∷ []) ≡ false
 label_twice = refl
+
+-- ## Straight code: no body is that begins with a label, has nothing or is a procedure's
+
+abbrev shows : List Instruction
+shows = Do (operation.Prim 0 Put (number 7 ∷ [])) ∷ End ∷ []
+
+straight_rows :
+    (is_straight_code (form 2 0 shows) ≡ true)
+    × (is_straight_code (form 2 1 (Label 0 ∷ shows)) ≡ false)
+    × (is_straight_code (form 2 0 []) ≡ false)
+    × (is_straight_code (lambda 0 0 2 0 shows) ≡ false)
+    × (is_straight_program (program (None ∷ []) (form 2 0 shows ∷ []) 2) ≡ true)
+straight_rows = (refl, refl, refl, refl, refl)

@@ -2,12 +2,14 @@ mod Arriving
 mod Entering
 mod Examples
 mod Following
+mod FrameBodies
 mod Labels
 mod Laid
 mod Operating
 mod Same
 mod Skip
 mod SlotsFrame
+mod StraightSlots
 mod Used
 mod Whole
 mod WordsWithin

@@ -1,8 +1,7 @@
 -- An operation whose variables are in their places does the same.
 use Rattle.std.proofs.Common.{ℕ, List, [], ◌∷◌, ◌++◌, Option, Some, None, refl, ap}
-use Rattle.std.specs.Prelude.{slice_get}
 use Rattle.sch_word.specs.declared.place.Place.{Place}
-use Rattle.sch_word.specs.Values.{Value, fixnum, character, boolean, nil, unspecified, symbol, object, procedure, cell}
+use Rattle.sch_word.specs.Values.{Value}
 use Rattle.sch_word.specs.Store.{Store}
 use Rattle.sch_word.specs.Computation.{State}
 use Rattle.sch_control.specs.declared.operation.Atom.{Atom}
@@ -13,7 +12,7 @@ use Rattle.sch_control.specs.declared.operation.Source.{Source}
 use Rattle.sch_control.specs.declared.operation.Source.TheVariants as source
 use Rattle.sch_control.specs.declared.operation.Operation.{Operation}
 use Rattle.sch_control.specs.declared.operation.Operation.TheVariants as operation
-use Rattle.sch_control.specs.Operations.{Procedure, Ending, atom_value, atom_values, operand_value, operand_values, field, source_value, source_values, operate}
+use Rattle.sch_control.specs.Operations.{Procedure, atom_value, atom_values, operand_value, operand_values, field, source_value, source_values, operate}
 use Rattle.sch_control.specs.Parts.{operand_atoms, operands_atoms, source_atom, source_atoms, operation_atoms}
 use Rattle.sch_frames.specs.Does.{Follows}
 use Rattle.sch_frames.specs.Layout.{atom_at, atoms_at, operand_at, operands_at, operation_at, source_at, sources_at}

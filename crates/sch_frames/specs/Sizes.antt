@@ -1,5 +1,6 @@
 -- Sizes of expressions and of frames.
 use Rattle.std.specs.Prelude.{ℕ, ◌+◌, max, List, [], ◌∷◌}
+use Rattle.sch_control.specs.Tree as control
 use Rattle.sch_control.specs.Tree.{Expression, perform, bind, sequence, branch, fix, call, tail_call, return, end, save}
 use Rattle.sch_frames.specs.Tree.{Code}
 
@@ -20,3 +21,8 @@ nodes (save saves e) = 1 + nodes e
 abbrev pub largest_frame : List Code → ℕ
 largest_frame [] = 0
 largest_frame (c ∷ codes) = max c.words (largest_frame codes)
+
+-- the most variables of a body, the return address and the closure among them, and 0 where there are no bodies
+abbrev pub most_variables : List control.Code → ℕ
+most_variables [] = 0
+most_variables (c ∷ codes) = max c.variables (most_variables codes)

@@ -2,6 +2,7 @@
 
 ghost use Rattle.std.specs.Prelude.{◌≡◌, ◌≤◌, ◌⊎◌, nat_le, IfOk, IsTrue};
 ghost use Rattle.std.specs.List.{list_all};
+ghost use Rattle.sch_word.specs.StaticsView.{statics};
 ghost use Rattle.sch_control.specs.ProgramView as control;
 ghost use Rattle.sch_control.specs.SourceView as control_bodies;
 ghost use Rattle.sch_frames.specs.Does.{FramesOf, SameRuns};
@@ -48,6 +49,8 @@ impl FrameProgram {
     ) -> Result<FrameProgram, Mem>
         requires frames { FramesOf (control_bodies.codes_of p.now.bodies) (codes_of bodies) }
         ensures same { IfOk result (λ q. SameRuns (control.source p.now) (source q)) }
+        ensures statics { IfOk result (λ q. statics q.statics ≡ statics p.now.statics) }
+        ensures library { IfOk result (λ q. q.library ≡ p.now.library) }
         ensures bodies { IfOk result (λ q. q.bodies ≡ bodies) }
         ensures words { IfOk result (λ q. q.words ≡ largest_frame (codes_of bodies)) }
     {

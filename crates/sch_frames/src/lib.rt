@@ -8,8 +8,10 @@ mod instruction;
 mod layout;
 mod program;
 mod slots;
+mod straight;
 
 pub use body::FrameBody;
 pub use instruction::Instruction;
 pub use program::FrameProgram;
 pub use slots::frame_slots;
+pub use straight::frame_program;

@@ -2,11 +2,13 @@
 
 ghost use Rattle.std.specs.Prelude.{◌≡◌, ◌≤◌, ◌+◌, ◌*◌, length, true, IfOk, IsTrue};
 ghost use Rattle.sch_control.specs.SourceView as control;
+ghost use Rattle.sch_control.specs.Straight as control_straight;
 ghost use Rattle.sch_control.specs.View.{expression};
 ghost use Rattle.sch_frames.specs.Does.{FrameOf};
 ghost use Rattle.sch_frames.specs.Layout.{arrival_slots, labels, slots_layout, straight};
 ghost use Rattle.sch_frames.specs.Sizes.{nodes};
 ghost use Rattle.sch_frames.specs.SourceView.{code_of};
+ghost use Rattle.sch_frames.specs.Straight.{is_straight_code};
 ghost use Rattle.sch_frames.specs.Valid.{formals_of};
 
 use crate::body::FrameBody;
@@ -39,6 +41,7 @@ fn laid_out(alloc: Global, b: &Body) -> Result<Writer, Mem>
 pub fn frame_slots(alloc: Global, b: &Body) -> Result<FrameBody, Mem>
     requires straight { IsTrue (straight (expression b.now.exp)) }
     ensures same { IfOk result (λ f. FrameOf (control.code_of b.now) (code_of f)) }
+    ensures straight { IfOk result (λ f. IsTrue (control_straight.is_straight_code (control.code_of b.now)) → IsTrue (is_straight_code (code_of f))) }
     ensures words { IfOk result (λ f. f.words ≡ arrival_slots b.now.entry + b.now.variables) }
     ensures size { IfOk result (λ f. length f.instructions ≤ 3 * nodes (expression b.now.exp) + (formals_of b.now.entry + 1)) }
     ensures labels { IfOk result (λ f. f.labels ≤ 2 * nodes (expression b.now.exp)) }

@@ -26,13 +26,13 @@ use Rattle.sch_asm.specs.Views.{View, Leads, full}
 use Rattle.sch_asm.proofs.EachItem.{goes, branches, jumps}
 use Rattle.sch_select.specs.Encoded.{IsWord}
 use Rattle.sch_select.specs.Select.{kind_of, place_operand, instruction_code, body_code}
-use Rattle.sch_select.specs.Program.{instruction_selected}
 use Rattle.sch_select.proofs.Encodings.{fits, false_tested}
 use Rattle.sch_select.proofs.Straight.{kept_set, moved_to}
 use Rattle.sch_select.proofs.Places.{Plan, Room, Holds, held_value, loaded, written, places_kept}
 use Rattle.sch_select.proofs.Appending.{instruction_appends, Behind, behind}
 use Rattle.sch_select.proofs.Following.{Laid}
 use Rattle.sch_select.proofs.Operations.{Std, FrameOf, StoreOf, SimOf, onward, none_waits, operation_sim}
+use Rattle.sch_select.proofs.Selected.{instruction_selected}
 
 pub map_one : (ms : List control.MarkKind) (m : control.MarkKind) → map kind_of (ms ++ m ∷ []) ≡ map kind_of ms ++ kind_of m ∷ []
 map_one [] m = refl

@@ -13,9 +13,9 @@ use Rattle.sch_insn.specs.Machine.{word}
 use Rattle.sch_insn.proofs.Conditions.{compared_e}
 use Rattle.sch_asm.specs.Data.{FixnumWord}
 use Rattle.sch_select.specs.Encoded.{IsWord, constant_number}
-use Rattle.sch_select.specs.Program.{is_symbol_constant}
 use Rattle.sch_select.proofs.Signs.{tag_zero}
 use Rattle.sch_select.proofs.Comparisons.{tests_equal}
+use Rattle.sch_word.specs.Straight.{is_straight_constant}
 
 pub fits : (v : Value) (x : ℕ) → IsWord v x → x < 2 ^ 64
 fits (fixnum n) x h = h.fits
@@ -189,7 +189,7 @@ fixnum_word n h =
     let m : n ≤ℤ pos 1152921504606846975 = h.high in
     record { range = h; fits = word_fits (pos 8 *ℤ n) (omega (arith, ints)); shifted = word_is (pos 8 *ℤ n) (omega (arith, ints)) }
 
-pub constant_word : (c : Const) → is_constant c ≡ true → is_symbol_constant c ≡ false → IsWord (constant_value c) (word (constant_number c))
+pub constant_word : (c : Const) → is_constant c ≡ true → is_straight_constant c ≡ true → IsWord (constant_value c) (word (constant_number c))
 constant_word (Fixnum n) e s = fixnum_word n (is_fixnum_says n e)
 constant_word (Character c) e s = (refl, let lt = ltb-true c 256 e in lt)
 constant_word (Boolean b) e s = refl

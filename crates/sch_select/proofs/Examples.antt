@@ -17,6 +17,7 @@ use Rattle.sch_control.specs.declared.operation.Operand.TheVariants as operand
 use Rattle.sch_control.specs.declared.operation.Operation.TheVariants as operation
 use Rattle.sch_frames.specs.declared.instruction.Instruction.{Instruction}
 use Rattle.sch_frames.specs.declared.instruction.Instruction.TheVariants.{Do, Store, End, IfFalse, Jump, Label}
+use Rattle.sch_frames.specs.Straight.{is_straight_program}
 use Rattle.sch_frames.specs.Tree.{Source}
 use Rattle.sch_insn.specs.Decode.{escaped_of, long_of, narrow_of, operand_of, rexed_of, wide_of}
 use Rattle.sch_insn.specs.Machine.{test_of}
@@ -29,7 +30,7 @@ use Rattle.sch_asm.specs.Data.{data_at}
 use Rattle.sch_asm.specs.Layout.{addresses_from, emitted, numbered, placed_by}
 use Rattle.sch_asm.specs.Views.{text_at}
 use Rattle.sch_runtime.specs.Code.{routine_items}
-use Rattle.sch_select.specs.Program.{program_code, program_words, program_zeros, selects}
+use Rattle.sch_select.specs.Program.{program_code, program_words, program_zeros}
 
 -- a program of one form, with one global
 abbrev one_form : (labels : ℕ) → List Instruction → Source
@@ -51,7 +52,7 @@ text_of items =
 
 -- how a program ends within 400 steps
 abbrev ends : Source → List Answer → Option (ℕ × List ℕ)
-ends p answers = exit_of (mach 400 (start 0x400000 (text_at (text_of (items_of p)) ∷ data_at (flat_map (bytes_of (λ l. 0)) (program_words p) ++ replicate (program_zeros p 16 1) 0) ∷ []) zeros answers))
+ends p answers = exit_of (mach 400 (start 0x400000 (text_at (text_of (items_of p)) ∷ data_at (flat_map (bytes_of (λ l. 0)) (program_words p) ++ replicate (program_zeros p 16) 0) ∷ []) zeros answers))
 
 abbrev number : ℤ → Operand Place
 number n = operand.Atom (Constant (Fixnum n))
@@ -64,7 +65,7 @@ abbrev shows : Primitive → ℤ → ℤ → Source
 shows which a b = one_form 0 (Do (operation.Prim 1 which (number a ∷ number b ∷ [])) ∷ Store (Slot 1) ∷ puts (operand.Atom (Variable (Slot 1))))
 
 products :
-    (selects (shows prim.Multiply (pos 6) (negsuc 6)) ≡ true)
+    (is_straight_program (shows prim.Multiply (pos 6) (negsuc 6)) ≡ true)
     × (ends (shows prim.Multiply (pos 6) (negsuc 6)) [] ≡ Some (0, codes "-42"))
     × (ends (shows prim.Multiply (pos 1073741824) (pos 1073741824)) [] ≡ Some (70, []))
     × (ends (shows prim.Add (pos 1152921504606846975) (pos 1)) [] ≡ Some (70, []))

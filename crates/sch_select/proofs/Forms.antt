@@ -25,11 +25,13 @@ use Rattle.sch_asm.specs.Stands.{Stands}
 use Rattle.sch_asm.specs.Views.{View, Leads}
 use Rattle.sch_asm.proofs.EachItem.{jumps}
 use Rattle.sch_select.specs.Select.{kind_of, body_code}
-use Rattle.sch_select.specs.Program.{is_form, form_selected, instruction_selected, form_code, forms_code, labels_end}
+use Rattle.sch_select.specs.Program.{form_code, forms_code, labels_end}
 use Rattle.sch_select.proofs.Places.{Plan, Room, StoreAt, PlacesAt}
 use Rattle.sch_select.proofs.Appending.{body_appends, Behind, behind}
 use Rattle.sch_select.proofs.Following.{Ends, Goes_on, Sim, Laid, ends_after, paid}
 use Rattle.sch_select.proofs.Bodies.{body_cost, body_sim, map_one}
+use Rattle.sch_select.proofs.Selected.{form_selected, instruction_selected}
+use Rattle.sch_control.specs.Straight.{is_form}
 
 -- how many steps forms take at most
 abbrev pub forms_cost : List Code → ℕ

@@ -1,9 +1,8 @@
 -- A program joined with its routines and resolved follows its runs.
-use Rattle.std.proofs.Common.{◌≡◌, ℕ, suc, ◌+◌, ◌*◌, ◌^◌, ◌<◌, ◌≤◌, List, [], ◌∷◌, ◌++◌, length, replicate, true, false, refl, sym, ap, ◌∙◌, subst, arith, ◌&&◌}
+use Rattle.std.proofs.Common.{◌≡◌, ℕ, suc, ◌+◌, ◌*◌, ◌^◌, ◌<◌, ◌≤◌, List, [], ◌∷◌, ◌++◌, length, replicate, true, false, refl, sym, ap, subst, arith, ◌&&◌}
 use Rattle.std.specs.Prelude.{IsTrue}
 use Rattle.std.specs.List.{list_all, flat_map}
 use Rattle.std.proofs.lemmas.Bool.{and_parts}
-use Rattle.std.proofs.Math.Nat.{mul-add, mul_assoc, mul-le-mul_right}
 use Rattle.sch_word.specs.declared.answer.Answer.{Answer}
 use Rattle.sch_word.specs.Runs.{Run}
 use Rattle.sch_frames.specs.Tree.{Code, Source}
@@ -25,13 +24,14 @@ use Rattle.sch_asm.specs.Views.{text_at}
 use Rattle.sch_asm.proofs.Joined.{joined}
 use Rattle.sch_asm.proofs.Standing.{setting_of}
 use Rattle.sch_select.specs.Select.{put_label, globals_address, body_code}
-use Rattle.sch_select.specs.Program.{form_selected, is_unset, marks_settled, selects, first_label, forms_code, form_code, labels_end, put_value_code, program_code, program_words, program_zeros, static_bytes, heap_address, stack_address, stack_bytes}
+use Rattle.sch_select.specs.Program.{first_label, forms_code, form_code, labels_end, put_value_code, program_code, program_words, program_zeros, static_bytes, heap_address, stack_address, stack_bytes}
 use Rattle.sch_select.specs.Follows.{AreRuns, FollowsFrames}
 use Rattle.sch_select.proofs.Places.{Plan, Room}
 use Rattle.sch_select.proofs.Appending.{Appends, then_appends, body_appends, behind}
 use Rattle.sch_select.proofs.Following.{Laid}
 use Rattle.sch_select.proofs.Starting.{all_bytes, bytes_count, texts_there, unset_globals}
 use Rattle.sch_select.proofs.Whole.{Starts, program_follows}
+use Rattle.sch_select.proofs.Selected.{form_selected, is_unset, marks_settled, selects}
 
 -- ---- what stands behind the forms
 
@@ -64,21 +64,15 @@ module _ (p : Source) (limit depth : ℕ) (words_few : p.words ≤ 2048) (global
   heap_close = omega arith
 
   abbrev stack_size : ℕ
-  stack_size = stack_bytes p.words depth
+  stack_size = stack_bytes p.words
 
-  frames : 8 * p.words * (depth + 2) ≡ 8 * (p.words * depth) + 16 * p.words
-  frames = mul-add (8 * p.words) depth 2 ∙ (let a : 8 * p.words * depth ≡ 8 * (p.words * depth) = mul_assoc 8 p.words depth in omega (arith, a))
-
-  stack_few : stack_size ≤ 16384 * (depth + 2)
-  stack_few = mul-le-mul_right (depth + 2) (let l : 8 * p.words ≤ 16384 = omega (arith, words_few) in l)
-
-  total : 792 + 8 * globals + program_zeros p limit depth + 0x10000000 ≡ stack_address globals limit + stack_size
+  total : 792 + 8 * globals + program_zeros p limit + 0x10000000 ≡ stack_address globals limit + stack_size
   total = let a = heap_above in omega (arith, a)
 
   plan_of : (setting : Setting) → ((l : ℕ) → setting.place_of l < 2 ^ 31) → Plan
   plan_of setting labels = record {
     setting = setting;
-    size = 792 + 8 * globals + program_zeros p limit depth;
+    size = 792 + 8 * globals + program_zeros p limit;
     words = p.words;
     globals = globals;
     heap = heap_address globals;
@@ -86,12 +80,12 @@ module _ (p : Source) (limit depth : ℕ) (words_few : p.words ≤ 2048) (global
     static = static_bytes;
     heap_low = heap_above;
     stack_low = omega arith;
-    small = let t = total in let s = stack_few in let c = heap_close in omega (arith, t, s, c, globals_few, limit_few, depth_few);
+    small = let t = total in let c = heap_close in omega (arith, t, c, globals_few, limit_few, words_few);
     narrow = words_few;
     labels = λ l. let k = labels l in omega (arith, k);
   }
 
-  pub frames_follow : selects p ≡ true → FollowsFrames p limit depth (program_code p limit depth) (program_words p) (program_zeros p limit depth)
+  pub frames_follow : selects p ≡ true → FollowsFrames p limit depth (program_code p limit depth) (program_words p) (program_zeros p limit)
   unfolding plan_of
   frames_follow selected = record { follows = at }
     where
@@ -103,19 +97,19 @@ module _ (p : Source) (limit depth : ℕ) (words_few : p.words ≤ 2048) (global
       at : (routines : List Item) (code : List Insn) (marks : List mark.Mark) (words : List ℕ) → AreEffective routines → IsTrue (marks_arrive false (program_code p limit depth)) → IsTrue (marks_arrive false routines)
           → AreResolved (program_code p limit depth ++ routines) (program_words p) code marks words → AllValid code → length (flat_map spelling code) ≤ 16777216
           → (runs : List Answer → ℕ → Run) → AreRuns p limit depth runs
-          → FollowsRuns 0x400000 (text_at (flat_map spelling code) ∷ data_at (words ++ replicate (program_zeros p limit depth) 0) ∷ []) runs
+          → FollowsRuns 0x400000 (text_at (flat_map spelling code) ∷ data_at (words ++ replicate (program_zeros p limit) 0) ∷ []) runs
       at routines code marks words effective arrive arrive' r valid small runs are =
           let j = joined (program_code p limit depth) routines (program_words p) code marks words r valid small arrive arrive' in
           let setting = setting_of (text_at (flat_map spelling code)) r.place_of marks j.apart in
           let plan = plan_of setting r.small in
-          let zeros = program_zeros p limit depth in
+          let zeros = program_zeros p limit in
           let bytes = all_bytes r.place_of globals zeros in
           let laid : Laid plan 0 = record {
             routine = effective.does setting j.second.0 j.second.1;
             put_stands = put_there setting 0 first_label p.bodies _ j.first.2.2.2;
             static_is = refl;
           } in
-          let room : Room plan plan.stack depth = record { low = omega arith; high = (let t = total in let f = frames in omega (arith, t, f)); few = omega (arith, depth_few) } in
+          let room : Room plan plan.stack depth = record { low = omega arith; high = (let t = total in omega (arith, t)); few = omega (arith, depth_few) } in
           let starts : Starts plan 0 laid depth room bytes = record { size_is = bytes_count r.place_of globals zeros; unset = unset_globals r.place_of globals zeros; texts = texts_there r.place_of globals zeros } in
           subst (λ w. FollowsRuns 0x400000 (text_at (flat_map spelling code) ∷ data_at (w ++ replicate zeros 0) ∷ []) runs) (sym r.bytes)
           (program_follows plan 0 laid depth room p limit bytes (item.Label put_label ∷ put_value_code) runs parts.0 parts.1 refl j.first starts are)

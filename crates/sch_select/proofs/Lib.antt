@@ -26,3 +26,5 @@ pub mod ProgramLabels
 pub mod ProgramMarks
 pub mod ProgramKnown
 pub mod ProgramFacts
+pub mod Selected
+pub mod StraightPrograms

@@ -4,6 +4,7 @@ use Rattle.std.specs.Prelude.{not}
 use Rattle.std.proofs.lemmas.Bool.{and_parts, ne_eqb}
 use Rattle.sch_word.specs.declared.place.Place.{Place}
 use Rattle.sch_word.specs.declared.primitive.Primitive.{Primitive}
+use Rattle.sch_word.specs.declared.primitive.Primitive.TheVariants.{Put}
 use Rattle.sch_word.specs.Values.{Value, is_constant, constant_value}
 use Rattle.sch_word.specs.Store.{Store}
 use Rattle.sch_word.specs.Computation.{Outcome, gives, stops, spent}
@@ -27,11 +28,13 @@ use Rattle.sch_asm.specs.Views.{View, Leads}
 use Rattle.sch_asm.proofs.EachItem.{goes}
 use Rattle.sch_select.specs.Encoded.{IsWord, constant_number}
 use Rattle.sch_select.specs.Select.{atom_code, unary_code, binary_code, read_code, operand_code, second_code}
-use Rattle.sch_select.specs.Program.{is_symbol_constant, atom_selected, read_selected, operand_selected, pure_unary, pure_binary}
 use Rattle.sch_select.proofs.Encodings.{constant_word}
 use Rattle.sch_select.proofs.Straight.{is_free, Kept, kept_set, kept_then, moved_to, Yields, Comes, yields_after}
 use Rattle.sch_select.proofs.Primitives.{unary_here, binary_here}
 use Rattle.sch_select.proofs.Places.{Plan, Room, PlacesAt, places_kept, loaded, held_value}
+use Rattle.sch_select.proofs.Selected.{atom_selected, read_selected, operand_selected, takes}
+use Rattle.sch_control.specs.Valid.{only_reads}
+use Rattle.sch_word.specs.Straight.{is_straight_constant}
 
 not_true : (b : Bool) → not b ≡ true → b ≡ false
 not_true true e = absurd (let bad : false ≡ true = e in cc)
@@ -65,13 +68,13 @@ module _ (plan : Plan) (back fr d : ℕ) (back_fits : back < 2 ^ 64) (room : Roo
 
   pub atomic : (r : ℕ) (a : Atom Place) (charged : ℕ) (f : Frame) (t : Store) (x : View) (waiting : List MarkKind) (rest : List Item) → atom_selected words globals a ≡ true → At charged f x → length x.bytes ≡ size → Std waiting x.place (atom_code r a rest) → Atomic r x waiting rest (atom_value (held f) t a)
   atomic r (Constant c) charged f t x waiting rest e p s h =
-      let parts = and_parts (is_constant c) (not (is_symbol_constant c)) e in
+      let parts = and_parts (is_constant c) (is_straight_constant c) e in
       let n = word (constant_number c) in
       record {
         value = n;
         place = x.place + h.0;
         leads = goes setting x _ (MovWord r (constant_number c)) h.0 waiting h.1 refl;
-        word = λ v g. let same : constant_value c ≡ v = cc in subst (λ v. IsWord v n) same (constant_word c parts.0 (not_true (is_symbol_constant c) parts.1));
+        word = λ v g. let same : constant_value c ≡ v = cc in subst (λ v. IsWord v n) same (constant_word c parts.0 parts.1);
         ahead = h.2;
       }
   atomic r (Variable q) charged f t x waiting rest e p s h =
@@ -94,11 +97,17 @@ module _ (plan : Plan) (back fr d : ℕ) (back_fits : back < 2 ^ 64) (room : Roo
   reads_after x registers flags place waiting a b c most rest None p k le s = tt
   reads_after x registers flags place waiting a b c most rest (Some v) p k le s = yields_after setting is_free x registers flags place waiting a b c most v rest p k le s
 
+  reads_no_put : (which : Primitive) → only_reads which ≡ true → which ≡ Put → ⊥
+  reads_no_put which r e = let bad : only_reads Put ≡ true = subst (λ p. only_reads p ≡ true) e r in absurd cc
+
   read_here : (n : ℕ) (which : Primitive) (atoms : List (Atom Place)) (charged : ℕ) (f : Frame) (t : Store) (x : View) (waiting : List MarkKind) (rest : List Item) → read_selected words globals which atoms ≡ true → At charged f x → length x.bytes ≡ size → Std waiting x.place (read_code n which atoms rest) → Reads x waiting 32 rest (read which t (atom_values (held f) t atoms))
   read_here n which (a ∷ []) charged f t x waiting rest e p s h = by (atom_value (held f) t a) refl
     where
-      parts : (pure_unary which ≡ true) × (atom_selected words globals a ≡ true)
-      parts = and_parts (pure_unary which) (atom_selected words globals a) e
+      parts : ((only_reads which && takes 1 which) ≡ true) × (atom_selected words globals a ≡ true)
+      parts = and_parts (only_reads which && takes 1 which) (atom_selected words globals a) e
+
+      reads : (only_reads which ≡ true) × (takes 1 which ≡ true)
+      reads = and_parts (only_reads which) (takes 1 which) parts.0
 
       l : Atomic 0 x waiting (unary_code n which rest) (atom_value (held f) t a)
       l = atomic 0 a charged f t x waiting (unary_code n which rest) parts.1 p s h
@@ -108,11 +117,11 @@ module _ (plan : Plan) (back fr d : ℕ) (back_fits : back < 2 ^ 64) (room : Roo
       by (Some v) g =
           let y = moved_to x (set_register x.registers 0 l.value) x.flags l.place in
           reads_after x y.registers y.flags y.place waiting 1 1 20 32 rest _ l.leads (kept_set is_free x.registers 0 l.value refl) (omega arith)
-          (given_yields y [] 20 t rest _ (unary_here setting n which v y [] t rest parts.0 (l.word v g) l.ahead))
+          (given_yields y [] 20 t rest _ (unary_here setting n which v y [] t rest reads.1 (reads_no_put which reads.0) (l.word v g) l.ahead))
   read_here n which (a ∷ (b ∷ [])) charged f t x waiting rest e p s h = by (atom_value (held f) t a) (atom_value (held f) t b) refl refl
     where
-      parts : (pure_binary which ≡ true) × ((atom_selected words globals a && atom_selected words globals b) ≡ true)
-      parts = and_parts (pure_binary which) (atom_selected words globals a && atom_selected words globals b) e
+      parts : (takes 2 which ≡ true) × ((atom_selected words globals a && atom_selected words globals b) ≡ true)
+      parts = and_parts (takes 2 which) (atom_selected words globals a && atom_selected words globals b) e
 
       both : (atom_selected words globals a ≡ true) × (atom_selected words globals b ≡ true)
       both = and_parts (atom_selected words globals a) (atom_selected words globals b) parts.1

@@ -1,7 +1,7 @@
 -- The machine does what an operation does, with the rest of the body as any continuation.
-use Rattle.std.proofs.Common.{◌≡◌, ℕ, zero, suc, ◌+◌, ◌^◌, ◌<◌, ◌≤◌, List, [], ◌∷◌, ◌++◌, length, map, Bool, true, false, Option, Some, None, refl, sym, ap, ◌∙◌, subst, arith, append-nil, ◌&&◌, ◌||◌, ⊎_elim, eq-eqb}
+use Rattle.std.proofs.Common.{◌≡◌, ℕ, zero, suc, ◌+◌, ◌^◌, ◌<◌, ◌≤◌, List, [], ◌∷◌, ◌++◌, length, map, Bool, true, false, Option, Some, None, refl, sym, ap, ◌∙◌, subst, arith, append-nil, ◌&&◌, eq-eqb}
 use Rattle.std.specs.Prelude.{pos, nat_lt, slice_get, slice_set}
-use Rattle.std.proofs.lemmas.Bool.{and_parts, ltb-true, cases_Bool}
+use Rattle.std.proofs.lemmas.Bool.{and_parts, ltb-true}
 use Rattle.sch_word.specs.declared.answer.Answer.{Answer}
 use Rattle.sch_word.specs.declared.place.Place.{Place}
 use Rattle.sch_word.specs.declared.primitive.Primitive.{Primitive}
@@ -35,7 +35,6 @@ use Rattle.sch_asm.specs.Views.{View, Leads}
 use Rattle.sch_asm.proofs.EachItem.{goes, branches, jumps, loads_label, loads_data, stores_data}
 use Rattle.sch_select.specs.Encoded.{IsWord}
 use Rattle.sch_select.specs.Select.{global_address, put_label, kind_of, operand_code, second_code, unary_code, binary_code, put_code, operation_code, stop_label}
-use Rattle.sch_select.specs.Program.{operand_selected, operation_selected, pure_unary, pure_binary, is_put}
 use Rattle.sch_select.proofs.Encodings.{fits, unset_tested}
 use Rattle.sch_select.proofs.Straight.{is_free, kept_set, kept_then, moved_to, Yields, Comes, comes_after}
 use Rattle.sch_select.proofs.Primitives.{unary_here, binary_here}
@@ -44,6 +43,7 @@ use Rattle.sch_select.proofs.Operands.{Reads, ReadsSecond, operand_here, second_
 use Rattle.sch_select.proofs.PutValue.{PutsValue, puts_value}
 use Rattle.sch_select.proofs.Changes.{global_inside, global_written, store_behind, places_written, below_written, places_behind, word_behind}
 use Rattle.sch_select.proofs.Following.{Ends, Sim, after, Laid, stops_here}
+use Rattle.sch_select.proofs.Selected.{operand_selected, operation_selected, takes}
 
 pub none_waits : (l before waiting : List MarkKind) → l ≡ before ++ waiting → l ≡ (before ++ waiting) ++ []
 none_waits l before waiting e = e ∙ sym (append-nil (before ++ waiting))
@@ -258,34 +258,38 @@ module _ (plan : Plan) (body_steps : ℕ) (laid : Laid plan body_steps) (back fr
   -- ---- primitives
 
   module _ (k : Frame → World → Result) (c : ℕ) (rest : List Item) (K : Rest k c rest) (before waiting : List MarkKind) (f : Frame) (w : World) (x : View) (p : FrameOf f w x) (g : StoreOf w x) (marked : map kind_of w.marks ≡ before ++ waiting) where
-    -- of one operand
-    unary_sim : (n : ℕ) (which : Primitive) (o : Operand Place) → ((pure_unary which || is_put which) ≡ true) → operand_selected words globals o ≡ true → Std waiting x.place (operand_code n o (unary_code (n + 8) which rest)) → SimOf before w x (250 + c) (on_ending w.marks (with_some (and_value (operand_value (held f) w.state.store o) (Some [])) (λ vs. Some (in_store (primitive which vs) w.state))) (next_of k f))
+    -- of one operand, which has its value
+    abbrev Applied : (n : ℕ) → Value → (place : ℕ) → Primitive → Type 0
+    Applied n v place which =
+        Std [] place (unary_code (n + 8) which rest) → SimOf before w x (250 + c) (on_outcome w.marks (with_rest w.state.cells w.state.procedures (primitive which (v ∷ []) w.state.store)) (next_of k f))
+
+    unary_sim : (n : ℕ) (which : Primitive) (o : Operand Place) → takes 1 which ≡ true → operand_selected words globals o ≡ true → Std waiting x.place (operand_code n o (unary_code (n + 8) which rest)) → SimOf before w x (250 + c) (on_ending w.marks (with_some (and_value (operand_value (held f) w.state.store o) (Some [])) (λ vs. Some (in_store (primitive which vs) w.state))) (next_of k f))
     unary_sim n which o allowed e h = by (operand_value (held f) w.state.store o) (operand_here plan back fr d back_fits room n o w.state.store.charged f w.state.store x waiting (unary_code (n + 8) which rest) e p g.size_is h)
       where
         by : (v : Option Value) → Reads plan back fr d back_fits room x waiting 32 (unary_code (n + 8) which rest) v → SimOf before w x (250 + c) (on_ending w.marks (with_some (and_value v (Some [])) (λ vs. Some (in_store (primitive which vs) w.state))) (next_of k f))
         by None s = tt
-        by (Some v) s = ⊎_elim pure output (cases_Bool (pure_unary which))
+        by (Some v) s = of which allowed s.ahead
           where
             y : View
             y = moved_to x s.registers s.flags s.place
 
-            pure : pure_unary which ≡ true → SimOf before w x (250 + c) (on_outcome w.marks (with_rest w.state.cells w.state.procedures (primitive which (v ∷ []) w.state.store)) (next_of k f))
-            pure is =
-                comes_sim k c rest K before waiting f w x p g marked 52 (primitive which (v ∷ []) w.state.store) (omega arith)
+            pure : (other : Primitive) → takes 1 other ≡ true → (other ≡ prim.Put → ⊥) → Applied n v s.place other
+            pure other is no_put st =
+                comes_sim k c rest K before waiting f w x p g marked 52 (primitive other (v ∷ []) w.state.store) (omega arith)
                 (comes_scratch x waiting 52 w.state.store rest _ (comes_after setting is_free x s.registers s.flags s.place waiting s.least s.steps 20 52 w.state.store rest _ s.leads s.kept (let q = s.few in omega (arith, q))
-                (unary_here setting (n + 8) which v y [] w.state.store rest is s.value s.ahead)))
+                (unary_here setting (n + 8) other v y [] w.state.store rest is no_put s.value st)))
 
-            put_only : (which : Primitive) → is_put which ≡ true → Std [] s.place (unary_code (n + 8) which rest) → SimOf (before ++ waiting) w y (216 + c) (on_outcome w.marks (with_rest w.state.cells w.state.procedures (primitive which (v ∷ []) w.state.store)) (next_of k f))
-            put_only prim.Put is st = put_sim k c rest K (before ++ waiting) [] f w y (places_kept plan back fr d back_fits room w.state.store.charged f.places x.registers s.registers x.bytes (free_scratch x.registers s.registers s.kept) p) g (none_waits (map kind_of w.marks) before waiting marked) (n + 8) v s.value st
-            put_only _ is st = absurd cc
+            put : Applied n v s.place prim.Put
+            put st =
+                onward before waiting w x y s.least s.steps (216 + c) (250 + c) _ s.leads (λ a lo hi. refl) (let q = s.few in omega (arith, q))
+                (put_sim k c rest K (before ++ waiting) [] f w y (places_kept plan back fr d back_fits room w.state.store.charged f.places x.registers s.registers x.bytes (free_scratch x.registers s.registers s.kept) p) g (none_waits (map kind_of w.marks) before waiting marked) (n + 8) v s.value st)
 
-            output : pure_unary which ≡ false → SimOf before w x (250 + c) (on_outcome w.marks (with_rest w.state.cells w.state.procedures (primitive which (v ∷ []) w.state.store)) (next_of k f))
-            output impure =
-                let is : is_put which ≡ true = ap (λ b. b || is_put which) (sym impure) ∙ allowed in
-                onward before waiting w x y s.least s.steps (216 + c) (250 + c) _ s.leads (λ a lo hi. refl) (let q = s.few in omega (arith, q)) (put_only which is s.ahead)
+            of : (other : Primitive) → takes 1 other ≡ true → Applied n v s.place other
+            of prim.Put is = put
+            of other is = pure other is (λ e. absurd cc)
 
     -- of two operands
-    binary_sim : (n : ℕ) (which : Primitive) (o q : Operand Place) → pure_binary which ≡ true → operand_selected words globals o ≡ true → operand_selected words globals q ≡ true → Std waiting x.place (operand_code n o (second_code (n + 4) q (binary_code (n + 8) which rest))) → SimOf before w x (250 + c) (on_ending w.marks (with_some (and_value (operand_value (held f) w.state.store o) (and_value (operand_value (held f) w.state.store q) (Some []))) (λ vs. Some (in_store (primitive which vs) w.state))) (next_of k f))
+    binary_sim : (n : ℕ) (which : Primitive) (o q : Operand Place) → takes 2 which ≡ true → operand_selected words globals o ≡ true → operand_selected words globals q ≡ true → Std waiting x.place (operand_code n o (second_code (n + 4) q (binary_code (n + 8) which rest))) → SimOf before w x (250 + c) (on_ending w.marks (with_some (and_value (operand_value (held f) w.state.store o) (and_value (operand_value (held f) w.state.store q) (Some []))) (λ vs. Some (in_store (primitive which vs) w.state))) (next_of k f))
     binary_sim n which o q allowed e e' h = by (operand_value (held f) w.state.store o) (operand_here plan back fr d back_fits room n o w.state.store.charged f w.state.store x waiting (second_code (n + 4) q (binary_code (n + 8) which rest)) e p g.size_is h)
       where
         t : Store
@@ -314,9 +318,9 @@ module _ (plan : Plan) (body_steps : ℕ) (laid : Laid plan body_steps) (back fr
 
     pub operation_sim : (n : ℕ) (o : Operation Place) → operation_selected words globals o ≡ true → Std waiting x.place (operation_code n o rest) → SimOf before w x (250 + c) (on_ending w.marks (operate (held f) o w.state) (next_of k f))
     operation_sim n (operation.Operand o) e h = operand_sim k c rest K before waiting f w x p g marked n o e h
-    operation_sim n (operation.Prim site which (o ∷ [])) e h = let parts = and_parts (pure_unary which || is_put which) (operand_selected words globals o) e in unary_sim n which o parts.0 parts.1 h
+    operation_sim n (operation.Prim site which (o ∷ [])) e h = let parts = and_parts (takes 1 which) (operand_selected words globals o) e in unary_sim n which o parts.0 parts.1 h
     operation_sim n (operation.Prim site which (o ∷ (q ∷ []))) e h =
-        let parts = and_parts (pure_binary which) (operand_selected words globals o && operand_selected words globals q) e in
+        let parts = and_parts (takes 2 which) (operand_selected words globals o && operand_selected words globals q) e in
         let both = and_parts (operand_selected words globals o) (operand_selected words globals q) parts.1 in
         binary_sim n which o q parts.0 both.0 both.1 h
     operation_sim n (operation.Prim site which []) e h = absurd (let bad : false ≡ true = e in cc)

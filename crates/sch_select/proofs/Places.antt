@@ -70,10 +70,10 @@ same_word back small Junk x y h e = tt
 module _ (plan : Plan) where
   open plan use {setting, size, words, globals, heap, stack, static, heap_low, stack_low, small, narrow, labels}
 
-  -- The frame begins at fr, and behind it there is room for d frames more and the next one.
+  -- The frame begins at fr and lies in the data, and the depth that is left fits a register.
   pub record Room (fr d : ℕ) : Type 0 where
     pub low : stack ≤ fr
-    pub high : fr + 8 * (words * d) + 16 * words ≤ 0x10000000 + size
+    pub high : fr + 8 * words ≤ 0x10000000 + size
     pub few : d < 2 ^ 63
 
   -- What the store has stands in the data: the globals, and the static bytes of puts.

@@ -5,7 +5,7 @@ use Rattle.std.proofs.lemmas.Bool.{ne_eqb, and_parts, ltb-true, eqb-false}
 use Rattle.std.proofs.lemmas.Bool.Decides.{nat_tests}
 use Rattle.std.proofs.lemmas.Int.{ints}
 use Rattle.sch_word.specs.declared.primitive.Primitive.{Primitive}
-use Rattle.sch_word.specs.declared.primitive.Primitive.TheVariants.{Eq, Eqv, IsBoolean, IsPair, IsNull, IsSymbol, IsInteger, IsChar, IsString, IsVector, IsProcedure, Add, Subtract, Multiply, Quotient, Remainder, Modulo, Equal, Less, Greater, LessEqual, GreaterEqual, CharToInteger, IntegerToChar}
+use Rattle.sch_word.specs.declared.primitive.Primitive.TheVariants.{Eq, Eqv, IsBoolean, IsPair, IsNull, IsSymbol, IsInteger, IsChar, IsString, IsVector, IsProcedure, Add, Subtract, Multiply, Quotient, Remainder, Modulo, Equal, Less, Greater, LessEqual, GreaterEqual, CharToInteger, IntegerToChar, Put}
 use Rattle.sch_word.specs.declared.stop.Stop.TheVariants.{OutOfRange, DivideByZero, Overflow}
 use Rattle.sch_word.specs.Fixnum.{IsFixnum}
 use Rattle.sch_word.specs.Values.{Value, fixnum, character, boolean, nil, unspecified, symbol, object, procedure, cell, same_value}
@@ -31,7 +31,6 @@ use Rattle.sch_asm.specs.Views.{View, Leads, full}
 use Rattle.sch_asm.proofs.EachItem.{goes, branches, jumps}
 use Rattle.sch_select.specs.Encoded.{IsWord}
 use Rattle.sch_select.specs.Select.{stop_label, check_fixnum, test_code, compare_code, comparison_code, division_code, modulo_code, overflow_code, unary_code, binary_code}
-use Rattle.sch_select.specs.Program.{pure_unary, pure_binary}
 use Rattle.sch_select.proofs.Signs.{low_word, high_word}
 use Rattle.sch_select.proofs.Sums.{Computes, sum_computes, difference_computes}
 use Rattle.sch_select.proofs.Products.{IsNear, untagged, product_computes}
@@ -39,6 +38,7 @@ use Rattle.sch_select.proofs.Quotients.{Divides, divides, quotient_computes, pos
 use Rattle.sch_select.proofs.Comparisons.{is_less, is_not_less, at_most_is, tests_equal, tests_less, tests_greater, tests_less_equal, tests_greater_equal}
 use Rattle.sch_select.proofs.Encodings.{fits, integer_tested, character_tested, boolean_tested, null_tested, tag_is, same_tested}
 use Rattle.sch_select.proofs.Straight.{is_free, kept_set, kept_then, moved_to, tagged, Comes, comes_after, yields_after, fixnum_checked, character_checked, booleans, tests, ends_fixnum, by_7, by_127, by_255}
+use Rattle.sch_select.proofs.Selected.{takes}
 
 -- ---- types that no word has yet
 
@@ -414,17 +414,17 @@ module _ (setting : Setting) where
 
   -- ---- one operand
 
-  pub unary_here : (n : ℕ) (which : Primitive) (a : Value) (x : View) (waiting : List MarkKind) (t : Store) (rest : List Item) → pure_unary which ≡ true → IsWord a (x.registers 0) → Std waiting x.place (unary_code n which rest) → Owes x waiting 20 t rest (primitive which (a ∷ []) t)
-  unary_here n IsBoolean a x waiting t rest p ha h = tested x n 127 128 6 _ _ waiting t rest by_127 (omega arith) (omega arith) (omega arith) (boolean_tested a _ ha) refl h
-  unary_here n IsPair a x waiting t rest p ha h = tested x n 7 8 1 false _ waiting t rest by_7 (omega arith) (omega arith) (omega arith) (tag_never a _ 1 ha (omega arith) (omega arith)) (ap is_pair (no_object a _ t ha)) h
-  unary_here n IsNull a x waiting t rest p ha h = tested x n 255 256 22 _ _ waiting t rest by_255 (omega arith) (omega arith) (omega arith) (null_tested a _ ha) refl h
-  unary_here n IsSymbol a x waiting t rest p ha h = tested x n 7 8 5 false _ waiting t rest by_7 (omega arith) (omega arith) (omega arith) (tag_never a _ 5 ha (omega arith) (omega arith)) (no_symbol a _ ha) h
-  unary_here n IsInteger a x waiting t rest p ha h = tested x n 7 8 0 _ _ waiting t rest by_7 (omega arith) (omega arith) (omega arith) (integer_tested a _ ha) refl h
-  unary_here n IsChar a x waiting t rest p ha h = tested x n 255 256 46 _ _ waiting t rest by_255 (omega arith) (omega arith) (omega arith) (character_tested a _ ha) refl h
-  unary_here n IsString a x waiting t rest p ha h = tested x n 7 8 3 false _ waiting t rest by_7 (omega arith) (omega arith) (omega arith) (tag_never a _ 3 ha (omega arith) (omega arith)) (ap is_string (no_object a _ t ha)) h
-  unary_here n IsVector a x waiting t rest p ha h = tested x n 7 8 2 false _ waiting t rest by_7 (omega arith) (omega arith) (omega arith) (tag_never a _ 2 ha (omega arith) (omega arith)) (ap is_vector (no_object a _ t ha)) h
-  unary_here n IsProcedure a x waiting t rest p ha h = tested x n 7 8 4 false _ waiting t rest by_7 (omega arith) (omega arith) (omega arith) (tag_never a _ 4 ha (omega arith) (omega arith)) (no_procedure a _ ha) h
-  unary_here n CharToInteger a x waiting t rest p ha h =
+  pub unary_here : (n : ℕ) (which : Primitive) (a : Value) (x : View) (waiting : List MarkKind) (t : Store) (rest : List Item) → takes 1 which ≡ true → (which ≡ Put → ⊥) → IsWord a (x.registers 0) → Std waiting x.place (unary_code n which rest) → Owes x waiting 20 t rest (primitive which (a ∷ []) t)
+  unary_here n IsBoolean a x waiting t rest p other ha h = tested x n 127 128 6 _ _ waiting t rest by_127 (omega arith) (omega arith) (omega arith) (boolean_tested a _ ha) refl h
+  unary_here n IsPair a x waiting t rest p other ha h = tested x n 7 8 1 false _ waiting t rest by_7 (omega arith) (omega arith) (omega arith) (tag_never a _ 1 ha (omega arith) (omega arith)) (ap is_pair (no_object a _ t ha)) h
+  unary_here n IsNull a x waiting t rest p other ha h = tested x n 255 256 22 _ _ waiting t rest by_255 (omega arith) (omega arith) (omega arith) (null_tested a _ ha) refl h
+  unary_here n IsSymbol a x waiting t rest p other ha h = tested x n 7 8 5 false _ waiting t rest by_7 (omega arith) (omega arith) (omega arith) (tag_never a _ 5 ha (omega arith) (omega arith)) (no_symbol a _ ha) h
+  unary_here n IsInteger a x waiting t rest p other ha h = tested x n 7 8 0 _ _ waiting t rest by_7 (omega arith) (omega arith) (omega arith) (integer_tested a _ ha) refl h
+  unary_here n IsChar a x waiting t rest p other ha h = tested x n 255 256 46 _ _ waiting t rest by_255 (omega arith) (omega arith) (omega arith) (character_tested a _ ha) refl h
+  unary_here n IsString a x waiting t rest p other ha h = tested x n 7 8 3 false _ waiting t rest by_7 (omega arith) (omega arith) (omega arith) (tag_never a _ 3 ha (omega arith) (omega arith)) (ap is_string (no_object a _ t ha)) h
+  unary_here n IsVector a x waiting t rest p other ha h = tested x n 7 8 2 false _ waiting t rest by_7 (omega arith) (omega arith) (omega arith) (tag_never a _ 2 ha (omega arith) (omega arith)) (ap is_vector (no_object a _ t ha)) h
+  unary_here n IsProcedure a x waiting t rest p other ha h = tested x n 7 8 4 false _ waiting t rest by_7 (omega arith) (omega arith) (omega arith) (tag_never a _ 4 ha (omega arith) (omega arith)) (no_procedure a _ ha) h
+  unary_here n CharToInteger a x waiting t rest p other ha h =
       comes_within is_free x waiting 6 20 t rest _ (omega arith)
       (character_checked setting a (λ byte. gives (fixnum (pos byte))) x waiting 2 t (Plain (Shr (Reg 0) 8) ∷ (Plain (Shl (Reg 0) 3) ∷ rest)) rest ha h (λ byte tag flags place hb st.
       let y = tagged setting x 0 tag flags place in
@@ -447,14 +447,15 @@ module _ (setting : Setting) where
           ahead = st.2.2;
         },
       )))
-  unary_here n IntegerToChar a x waiting t rest p ha h =
+  unary_here n IntegerToChar a x waiting t rest p other ha h =
       comes_within is_free x waiting 7 20 t rest _ (omega arith)
       (fixnum_checked setting 0 a (λ k. in_range k 256 (λ byte. gives (character byte))) x waiting 4 t (Plain (CmpNumber (Reg 0) (pos 2040)) ∷ (JumpIf A (stop_label OutOfRange) ∷ (Plain (Shl (Reg 0) 5) ∷ (Plain (AddNumber (Reg 0) (pos 46)) ∷ rest)))) rest ha h (λ k tag flags place hk st. ranged k (tagged setting x 0 tag flags place) t rest hk st))
-  unary_here n _ a x waiting t rest p ha h = absurd cc
+  unary_here n Put a x waiting t rest p other ha h = absurd (other refl)
+  unary_here n _ a x waiting t rest p other ha h = absurd cc
 
   -- ---- two operands
 
-  pub binary_here : (n : ℕ) (which : Primitive) (a b : Value) (x : View) (waiting : List MarkKind) (t : Store) (rest : List Item) → pure_binary which ≡ true → IsWord a (x.registers 0) → IsWord b (x.registers 1) → Std waiting x.place (binary_code n which rest) → Owes x waiting 30 t rest (primitive which (a ∷ (b ∷ [])) t)
+  pub binary_here : (n : ℕ) (which : Primitive) (a b : Value) (x : View) (waiting : List MarkKind) (t : Store) (rest : List Item) → takes 2 which ≡ true → IsWord a (x.registers 0) → IsWord b (x.registers 1) → Std waiting x.place (binary_code n which rest) → Owes x waiting 30 t rest (primitive which (a ∷ (b ∷ [])) t)
   binary_here n Eq a b x waiting t rest p ha hb h = same a b n x waiting t rest ha hb h
   binary_here n Eqv a b x waiting t rest p ha hb h = same a b n x waiting t rest ha hb h
   binary_here n Add a b x waiting t rest p ha hb h =

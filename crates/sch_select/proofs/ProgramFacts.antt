@@ -74,7 +74,7 @@ whole_items p limit depth stack heap g items a b c e =
 pub whole_words : (p : Source) (g : ℕ) (words : List Word) → g ≡ length p.statics.globals → words ≡ replicate 64 (Fixed 0) ++ (word_list static_bytes ++ replicate g (Fixed 38)) → words ≡ program_words p
 whole_words p g words c e = e ∙ ap (λ g. replicate 64 (Fixed 0) ++ (word_list static_bytes ++ replicate g (Fixed 38))) c
 
-pub whole_zeros : (p : Source) (limit depth g zeros : ℕ) → g ≡ length p.statics.globals → zeros + (globals_address + 8 * g) ≡ stack_address g limit + stack_bytes p.words depth → zeros ≡ program_zeros p limit depth
-whole_zeros p limit depth g zeros c e =
-    let f : zeros + (globals_address + 8 * length p.statics.globals) ≡ stack_address (length p.statics.globals) limit + stack_bytes p.words depth = subst (λ g. zeros + (globals_address + 8 * g) ≡ stack_address g limit + stack_bytes p.words depth) c e in
+pub whole_zeros : (p : Source) (limit g zeros : ℕ) → g ≡ length p.statics.globals → zeros + (globals_address + 8 * g) ≡ stack_address g limit + stack_bytes p.words → zeros ≡ program_zeros p limit
+whole_zeros p limit g zeros c e =
+    let f : zeros + (globals_address + 8 * length p.statics.globals) ≡ stack_address (length p.statics.globals) limit + stack_bytes p.words = subst (λ g. zeros + (globals_address + 8 * g) ≡ stack_address g limit + stack_bytes p.words) c e in
     omega (arith, f)

@@ -1,5 +1,5 @@
 -- Each mark of a selected program has its instruction behind it.
-use Rattle.std.proofs.Common.{◌≡◌, ℕ, suc, ◌+◌, List, [], ◌∷◌, length, Bool, true, false, refl, ◌∙◌, ◌&&◌, ◌||◌}
+use Rattle.std.proofs.Common.{◌≡◌, ℕ, suc, ◌+◌, List, [], ◌∷◌, length, Bool, true, false, refl, ◌∙◌, ◌&&◌}
 use Rattle.std.specs.Prelude.{not, nat_lt, IsTrue}
 use Rattle.std.specs.List.{list_all}
 use Rattle.std.proofs.lemmas.Bool.{and_parts}
@@ -21,8 +21,11 @@ use Rattle.sch_asm.specs.declared.routine.Routine.TheVariants as routine
 use Rattle.sch_asm.specs.Routines.{label_of}
 use Rattle.sch_asm.specs.Items.{marks_arrive}
 use Rattle.sch_select.specs.Select.{put_label, atom_code, unary_code, binary_code, read_code, operand_code, second_code, operation_code, instruction_code, body_code}
-use Rattle.sch_select.specs.Program.{atom_selected, read_selected, operand_selected, operation_selected, instruction_selected, is_form, form_selected, is_unset, marks_settled, selects, pure_unary, pure_binary, is_put, forms_code, labels_end, put_value_code, program_code, first_label}
+use Rattle.sch_select.specs.Program.{forms_code, labels_end, put_value_code, program_code, first_label}
 use Rattle.sch_select.proofs.ProgramSound.{in_front}
+use Rattle.sch_select.proofs.Selected.{atom_selected, read_selected, operand_selected, operation_selected, instruction_selected, form_selected, is_unset, marks_settled, selects, takes}
+use Rattle.sch_control.specs.Straight.{is_form}
+use Rattle.sch_control.specs.Valid.{only_reads}
 
 impossible : {A : Type 0} → false ≡ true → A
 impossible e = absurd cc
@@ -51,9 +54,9 @@ module _ (words globals : ℕ) where
 
   read_arrives : (n : ℕ) (which : Primitive) (atoms : List (Atom Place)) → read_selected words globals which atoms ≡ true → Arrives (read_code n which atoms)
   read_arrives n which [] e b rest = impossible e
-  read_arrives n which (a ∷ []) e b rest = let p = and_parts (pure_unary which) (atom_selected words globals a) e in atom_arrives 0 a p.1 b (unary_code n which rest) ∙ unary_quiet n which rest
+  read_arrives n which (a ∷ []) e b rest = let p = and_parts (only_reads which && takes 1 which) (atom_selected words globals a) e in atom_arrives 0 a p.1 b (unary_code n which rest) ∙ unary_quiet n which rest
   read_arrives n which (a ∷ (c ∷ [])) e b rest =
-      let p = and_parts (pure_binary which) (atom_selected words globals a && atom_selected words globals c) e in
+      let p = and_parts (takes 2 which) (atom_selected words globals a && atom_selected words globals c) e in
       let q = and_parts (atom_selected words globals a) (atom_selected words globals c) p.1 in
       atom_arrives 0 a q.0 b (atom_code 1 c (binary_code n which rest)) ∙ atom_arrives 1 c q.1 false (binary_code n which rest) ∙ binary_quiet n which rest
   read_arrives n which (a ∷ (c ∷ (d ∷ atoms))) e b rest = impossible e
@@ -70,9 +73,9 @@ module _ (words globals : ℕ) where
   operation_arrives n (operation.Operand o) e b rest = operand_arrives n o e b rest
   operation_arrives n (operation.Prim site which []) e b rest = impossible e
   operation_arrives n (operation.Prim site which (o ∷ [])) e b rest =
-      let p = and_parts (pure_unary which || is_put which) (operand_selected words globals o) e in operand_arrives n o p.1 b (unary_code (n + 8) which rest) ∙ unary_quiet (n + 8) which rest
+      let p = and_parts (takes 1 which) (operand_selected words globals o) e in operand_arrives n o p.1 b (unary_code (n + 8) which rest) ∙ unary_quiet (n + 8) which rest
   operation_arrives n (operation.Prim site which (o ∷ (q ∷ []))) e b rest =
-      let p = and_parts (pure_binary which) (operand_selected words globals o && operand_selected words globals q) e in
+      let p = and_parts (takes 2 which) (operand_selected words globals o && operand_selected words globals q) e in
       let both = and_parts (operand_selected words globals o) (operand_selected words globals q) p.1 in
       operand_arrives n o both.0 b (second_code (n + 4) q (binary_code (n + 8) which rest)) ∙ second_arrives (n + 4) q both.1 false (binary_code (n + 8) which rest) ∙ binary_quiet (n + 8) which rest
   operation_arrives n (operation.Prim site which (o ∷ (q ∷ (r ∷ operands)))) e b rest = impossible e

@@ -1,6 +1,6 @@
 -- The items of a selected program are valid.
-use Rattle.std.proofs.Common.{◌≡◌, ℕ, suc, ◌+◌, ◌*◌, ◌<◌, ◌≤◌, List, [], ◌∷◌, length, Bool, true, false, refl, sym, ◌∙◌, arith, ◌&&◌, ◌||◌, ⊎_elim}
-use Rattle.std.specs.Prelude.{ℤ, pos, negsuc, ◌≤ℤ◌, ◌*ℤ◌, int_le, not, nat_eq, nat_lt, nat_le}
+use Rattle.std.proofs.Common.{◌≡◌, ℕ, suc, ◌+◌, ◌*◌, ◌<◌, ◌≤◌, List, [], ◌∷◌, length, Bool, true, false, refl, sym, ◌∙◌, arith, ◌&&◌, ⊎_elim}
+use Rattle.std.specs.Prelude.{ℤ, pos, negsuc, ◌≤ℤ◌, ◌*ℤ◌, int_le, nat_eq, nat_lt, nat_le}
 use Rattle.std.specs.List.{list_all}
 use Rattle.std.proofs.lemmas.Bool.{and_parts, and_from, ltb-true, lt-ltb, le-leb, ne_eqb, cases_lt}
 use Rattle.std.proofs.lemmas.Int.{ints}
@@ -29,8 +29,12 @@ use Rattle.sch_asm.specs.Routines.{label_of}
 use Rattle.sch_asm.specs.declared.routine.Routine.TheVariants as routine
 use Rattle.sch_select.specs.Encoded.{constant_number}
 use Rattle.sch_select.specs.Select.{atom_code, unary_code, binary_code, read_code, operand_code, second_code, operation_code, global_address, place_operand, instruction_code, body_code, put_label}
-use Rattle.sch_select.specs.Program.{is_symbol_constant, atom_selected, read_selected, operand_selected, operation_selected, instruction_selected, is_form, form_selected, is_unset, marks_settled, selects, pure_unary, pure_binary, is_put, forms_code, labels_end, put_value_code, program_code, first_label, heap_address, stack_address}
+use Rattle.sch_select.specs.Program.{forms_code, labels_end, put_value_code, program_code, first_label, heap_address, stack_address}
 use Rattle.sch_select.proofs.Sound.{items_valid, arg_valid, fits_32, fits_64, items_say}
+use Rattle.sch_select.proofs.Selected.{atom_selected, read_selected, operand_selected, operation_selected, instruction_selected, form_selected, is_unset, marks_settled, selects, takes}
+use Rattle.sch_control.specs.Straight.{is_form}
+use Rattle.sch_control.specs.Valid.{only_reads}
+use Rattle.sch_word.specs.Straight.{is_straight_constant}
 
 -- what is valid in front of what is
 pub in_front : (a b : Bool) → a ≡ true → (a && b) ≡ b
@@ -85,7 +89,7 @@ module _ (words globals : ℕ) (narrow : words ≤ 2048) (few : globals ≤ 2936
   Valid f = (rest : List Item) → items_valid (f rest) ≡ items_valid rest
 
   atom_valid : (r : ℕ) (a : Atom Place) → nat_lt r 16 ≡ true → atom_selected words globals a ≡ true → Valid (atom_code r a)
-  atom_valid r (Constant c) low e rest = let p = and_parts (is_constant c) (not (is_symbol_constant c)) e in in_front (nat_lt r 16 && fits_64 (constant_number c)) (items_valid rest) (and_from (nat_lt r 16) (fits_64 (constant_number c)) low (constant_fits c p.0))
+  atom_valid r (Constant c) low e rest = let p = and_parts (is_constant c) (is_straight_constant c) e in in_front (nat_lt r 16 && fits_64 (constant_number c)) (items_valid rest) (and_from (nat_lt r 16) (fits_64 (constant_number c)) low (constant_fits c p.0))
   atom_valid r (Variable p) low e rest = in_front (arg_valid (place_operand p) && nat_lt r 16) (items_valid rest) (and_from (arg_valid (place_operand p)) (nat_lt r 16) (place_valid p e) low)
   atom_valid r (Literal n) low e rest = refl
 
@@ -99,9 +103,9 @@ module _ (words globals : ℕ) (narrow : words ≤ 2048) (few : globals ≤ 2936
 
   read_valid : (n : ℕ) (which : Primitive) (atoms : List (Atom Place)) → read_selected words globals which atoms ≡ true → Valid (read_code n which atoms)
   read_valid n which [] e rest = refl
-  read_valid n which (a ∷ []) e rest = let p = and_parts (pure_unary which) (atom_selected words globals a) e in atom_valid 0 a refl p.1 (unary_code n which rest) ∙ unary_valid n which rest
+  read_valid n which (a ∷ []) e rest = let p = and_parts (only_reads which && takes 1 which) (atom_selected words globals a) e in atom_valid 0 a refl p.1 (unary_code n which rest) ∙ unary_valid n which rest
   read_valid n which (a ∷ (b ∷ [])) e rest =
-      let p = and_parts (pure_binary which) (atom_selected words globals a && atom_selected words globals b) e in
+      let p = and_parts (takes 2 which) (atom_selected words globals a && atom_selected words globals b) e in
       let q = and_parts (atom_selected words globals a) (atom_selected words globals b) p.1 in
       atom_valid 0 a refl q.0 (atom_code 1 b (binary_code n which rest)) ∙ atom_valid 1 b refl q.1 (binary_code n which rest) ∙ binary_valid n which rest
   read_valid n which (a ∷ (b ∷ (c ∷ atoms))) e rest = refl
@@ -118,10 +122,10 @@ module _ (words globals : ℕ) (narrow : words ≤ 2048) (few : globals ≤ 2936
   operation_valid n (operation.Operand o) e rest = operand_valid n o e rest
   operation_valid n (operation.Prim site which []) e rest = refl
   operation_valid n (operation.Prim site which (o ∷ [])) e rest =
-      let p = and_parts (pure_unary which || is_put which) (operand_selected words globals o) e in
+      let p = and_parts (takes 1 which) (operand_selected words globals o) e in
       operand_valid n o p.1 (unary_code (n + 8) which rest) ∙ unary_valid (n + 8) which rest
   operation_valid n (operation.Prim site which (o ∷ (q ∷ []))) e rest =
-      let p = and_parts (pure_binary which) (operand_selected words globals o && operand_selected words globals q) e in
+      let p = and_parts (takes 2 which) (operand_selected words globals o && operand_selected words globals q) e in
       let both = and_parts (operand_selected words globals o) (operand_selected words globals q) p.1 in
       operand_valid n o both.0 (second_code (n + 4) q (binary_code (n + 8) which rest)) ∙ second_valid (n + 4) q both.1 (binary_code (n + 8) which rest) ∙ binary_valid (n + 8) which rest
   operation_valid n (operation.Prim site which (o ∷ (q ∷ (r ∷ operands)))) e rest = refl

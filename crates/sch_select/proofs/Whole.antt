@@ -29,11 +29,12 @@ use Rattle.sch_asm.specs.Views.{View, Leads, full}
 use Rattle.sch_asm.proofs.EachItem.{goes}
 use Rattle.sch_select.specs.Encoded.{IsHeld}
 use Rattle.sch_select.specs.Select.{global_address}
-use Rattle.sch_select.specs.Program.{form_selected, is_unset, first_label, forms_code}
+use Rattle.sch_select.specs.Program.{first_label, forms_code}
 use Rattle.sch_select.specs.Follows.{AreRuns}
 use Rattle.sch_select.proofs.Places.{Plan, Room, StoreAt}
 use Rattle.sch_select.proofs.Following.{Ends, Laid}
 use Rattle.sch_select.proofs.Forms.{Owed, forms_sim, forms_cost}
+use Rattle.sch_select.proofs.Selected.{form_selected, is_unset}
 
 -- ---- globals that are unset
 

@@ -8,10 +8,11 @@ ghost use Rattle.sch_asm.specs.declared.routine.Routine.TheVariants as routine;
 ghost use Rattle.sch_asm.specs.Routines.{label_of};
 ghost use Rattle.sch_frames.specs.ProgramView.{source};
 ghost use Rattle.sch_frames.specs.SourceView.{codes_of};
+ghost use Rattle.sch_frames.specs.Straight.{is_straight_program};
 ghost use Rattle.sch_insn.specs.declared.insn.Insn.TheVariants.{MovWord};
 ghost use Rattle.sch_select.specs.Encoded.{unset_word};
 ghost use Rattle.sch_select.specs.Follows.{FollowsFrames};
-ghost use Rattle.sch_select.specs.Program.{first_label, forms_code, heap_address, program_code, program_words, program_zeros, put_value_code, selects, stack_address, stack_bytes, static_bytes, word_list};
+ghost use Rattle.sch_select.specs.Program.{first_label, forms_code, heap_address, program_code, program_words, program_zeros, put_value_code, stack_address, stack_bytes, static_bytes, word_list};
 ghost use Rattle.sch_select.specs.Select.{globals_address, put_label};
 
 use crate::code::{GLOBALS_ADDRESS, PUT_LABEL};
@@ -91,24 +92,18 @@ struct Layout {
     zeros: u64,
 }
 
-fn lay_out(globals: u64, words: u32, limits: Limits) -> Result<Layout, Mem>
+fn lay_out(globals: u64, words: u32, limits: Limits) -> Layout
     requires few { globals ≤ 29360128 }
-    ensures heap { IfOk result (λ l. l.heap ≡ heap_address globals) }
-    ensures stack { IfOk result (λ l. l.stack ≡ stack_address globals limits.heap) }
-    ensures zeros { IfOk result (λ l. l.zeros + (globals_address + 8 * globals) ≡ stack_address globals limits.heap + stack_bytes words limits.depth) }
-    ensures low { IfOk result (λ l. (l.heap ≤ l.stack) × (l.stack ≤ 2147483647)) }
+    ensures heap { result.heap ≡ heap_address globals }
+    ensures stack { result.stack ≡ stack_address globals limits.heap }
+    ensures zeros { result.zeros + (globals_address + 8 * globals) ≡ stack_address globals limits.heap + stack_bytes words }
+    ensures low { (result.heap ≤ result.stack) × (result.stack ≤ 2147483647) }
 {
     let end = GLOBALS_ADDRESS + 8 * globals;
     let heap = (end + 15) / 16 * 16;
     let stack = heap + limits.heap;
-    let frame = 8 * words as u64;
-    match frame.checked_mul(limits.depth + 2) {
-        Some(bytes) => match bytes.checked_add(stack - end) {
-            Some(zeros) => Ok(Layout { heap, stack, zeros }),
-            None => Err(Mem),
-        },
-        None => Err(Mem),
-    }
+    let zeros = stack - end + 8 * words as u64;
+    Layout { heap, stack, zeros }
 }
 
 /// The words in front of the globals: those of the routines, and the static bytes.
@@ -194,15 +189,15 @@ fn items_of(alloc: Global, p: &FrameProgram, layout: Layout, depth: u64) -> Resu
 /// follow one after the other, and behind them the routine that puts any value.
 ///
 /// Resolved with the run-time routines, they do what the program does, whatever the machine is given and
-/// whatever the kernel answers. The condition says which programs have their code yet. Time and memory are
-/// linear in the instructions, the labels and the globals.
+/// whatever the kernel answers. Straight programs have their code yet. Time and memory are linear in the
+/// instructions, the labels and the globals.
 pub fn select(alloc: Global, p: &FrameProgram, limits: Limits) -> Result<Asm, Mem>
-    requires selected { IsTrue (selects (source p.now)) }
+    requires straight { IsTrue (is_straight_program (source p.now)) }
     ensures follows { IfOk result (λ a. FollowsFrames (source p.now) limits.heap limits.depth a.items a.words a.zeros) }
     ensures own { IfOk result (λ a. AreOwn a.items) }
 {
     let globals = p.statics.globals.len();
-    let layout = lay_out(globals as u64, p.words, limits)?;
+    let layout = lay_out(globals as u64, p.words, limits);
     let items = items_of(alloc, p, layout, limits.depth)?;
     let words = words_of(alloc, globals)?;
     Ok(Asm {

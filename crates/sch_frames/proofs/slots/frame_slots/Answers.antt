@@ -1,6 +1,7 @@
 use Rattle.sch_control.specs.SourceView as control
 use Rattle.sch_control.specs.View.{expression}
 use Rattle.sch_frames.proofs.SlotsFrame.{slots_placed, slots_does, slots_forward, slots_shaped, slots_size, labels_size}
+use Rattle.sch_frames.proofs.StraightSlots.{slots_straight}
 use Rattle.sch_frames.proofs.slots.frame_slots.Goals as goal
 
 pub invariant_of-result : goal.invariant_of-result
@@ -25,3 +26,6 @@ returns-clause-size c = rw c.in_ok-out.ensures.instructions (slots_size (control
 
 pub returns-clause-labels : goal.returns-clause-labels
 returns-clause-labels c = rw c.in_ok-out.ensures.labels (labels_size (expression c.args.b.now.exp))
+
+pub returns-clause-straight : goal.returns-clause-straight
+returns-clause-straight c s = rw c.in_ok-out.ensures.instructions (slots_straight (control.code_of c.args.b.now) s)

@@ -10,6 +10,7 @@ use Rattle.sch_select.proofs.ProgramKnown.{program_known}
 use Rattle.sch_select.proofs.ProgramLabels.{program_once}
 use Rattle.sch_select.proofs.ProgramMarks.{program_marked}
 use Rattle.sch_select.proofs.ProgramSound.{program_sound}
+use Rattle.sch_select.proofs.StraightPrograms.{straight_selected}
 use Rattle.sch_select.proofs.selecting.select.Goals as goal
 
 pub invariant_of-result : goal.invariant_of-result
@@ -18,13 +19,13 @@ invariant_of-result c =
     let q = source p in
     let l = c.args.limits in
     let code = program_code q l.heap l.depth in
-    let i = sym (whole_items q l.heap l.depth _ _ _ _ c.in_ok-layout.ensures.stack c.in_ok-layout.ensures.heap c.len-globals.ensures c.in_ok-items.ensures) in
+    let i = sym (whole_items q l.heap l.depth _ _ _ _ c.lay_out-layout.ensures.stack c.lay_out-layout.ensures.heap c.len-globals.ensures c.in_ok-items.ensures) in
     let w = sym (whole_words q _ _ c.len-globals.ensures c.in_ok-words.ensures) in
     record {
-      sound = subst AreItems i (program_sound q l.heap l.depth (words_few p) (globals_few p) l.admitted.heap_high l.admitted.depth_high c.requires.selected);
+      sound = subst AreItems i (program_sound q l.heap l.depth (words_few p) (globals_few p) l.admitted.heap_high l.admitted.depth_high (straight_selected p c.requires.straight));
       once = subst (λ is. IsEachOnce (labels_in is)) i (program_once q l.heap l.depth (all_forward p.bodies));
       known = subst (λ ws. AreKnown c.in_ok-items.items ws) w (subst (λ is. AreKnown is (program_words q)) i (program_known q l.heap l.depth (all_forward p.bodies)));
-      marked = subst (λ is. IsTrue (marks_arrive false is)) i (program_marked q l.heap l.depth c.requires.selected);
+      marked = subst (λ is. IsTrue (marks_arrive false is)) i (program_marked q l.heap l.depth (straight_selected p c.requires.straight));
     }
 
 pub returns-clause-follows : goal.returns-clause-follows
@@ -32,18 +33,18 @@ returns-clause-follows c =
     let p = c.args.p.now in
     let q = source p in
     let l = c.args.limits in
-    let i = sym (whole_items q l.heap l.depth _ _ _ _ c.in_ok-layout.ensures.stack c.in_ok-layout.ensures.heap c.len-globals.ensures c.in_ok-items.ensures) in
+    let i = sym (whole_items q l.heap l.depth _ _ _ _ c.lay_out-layout.ensures.stack c.lay_out-layout.ensures.heap c.len-globals.ensures c.in_ok-items.ensures) in
     let w = sym (whole_words q _ _ c.len-globals.ensures c.in_ok-words.ensures) in
-    let z = sym (whole_zeros q l.heap l.depth _ _ c.len-globals.ensures c.in_ok-layout.ensures.zeros) in
+    let z = sym (whole_zeros q l.heap _ _ c.len-globals.ensures c.lay_out-layout.ensures.zeros) in
     subst (λ z. FollowsFrames q l.heap l.depth c.in_ok-items.items c.in_ok-words.words z) z
-    (subst (λ ws. FollowsFrames q l.heap l.depth c.in_ok-items.items ws (program_zeros q l.heap l.depth)) w
-    (subst (λ is. FollowsFrames q l.heap l.depth is (program_words q) (program_zeros q l.heap l.depth)) i
-    (frames_follow q l.heap l.depth (words_few p) (globals_few p) l.admitted.heap_high l.admitted.depth_high c.requires.selected)))
+    (subst (λ ws. FollowsFrames q l.heap l.depth c.in_ok-items.items ws (program_zeros q l.heap)) w
+    (subst (λ is. FollowsFrames q l.heap l.depth is (program_words q) (program_zeros q l.heap)) i
+    (frames_follow q l.heap l.depth (words_few p) (globals_few p) l.admitted.heap_high l.admitted.depth_high (straight_selected p c.requires.straight))))
 
 pub returns-clause-own : goal.returns-clause-own
 returns-clause-own c =
     let p = c.args.p.now in
     let q = source p in
     let l = c.args.limits in
-    let i = sym (whole_items q l.heap l.depth _ _ _ _ c.in_ok-layout.ensures.stack c.in_ok-layout.ensures.heap c.len-globals.ensures c.in_ok-items.ensures) in
+    let i = sym (whole_items q l.heap l.depth _ _ _ _ c.lay_out-layout.ensures.stack c.lay_out-layout.ensures.heap c.len-globals.ensures c.in_ok-items.ensures) in
     subst AreOwn i (program_own q l.heap l.depth (all_forward p.bodies))

@@ -1,0 +1,123 @@
+-- The layout of straight code is straight code.
+use Rattle.std.proofs.Common.{◌≡◌, ℕ, suc, ◌+◌, List, [], ◌∷◌, Option, Some, None, true, refl, ap, ◌∙◌}
+use Rattle.std.specs.Prelude.{◌&&◌}
+use Rattle.std.specs.List.{list_all}
+use Rattle.std.proofs.lemmas.Bool.{and_parts, and_from}
+use Rattle.sch_word.specs.Straight.{is_straight_primitive}
+use Rattle.sch_word.specs.declared.place.Place.{Place}
+use Rattle.sch_control.specs.declared.body.Entry.{Entry}
+use Rattle.sch_control.specs.declared.operation.Atom.{Atom}
+use Rattle.sch_control.specs.declared.operation.Atom.TheVariants.{Constant, Literal, Variable}
+use Rattle.sch_control.specs.declared.operation.Operand.{Operand}
+use Rattle.sch_control.specs.declared.operation.Operand.TheVariants as operand
+use Rattle.sch_control.specs.declared.operation.Operation.{Operation}
+use Rattle.sch_control.specs.declared.operation.Operation.TheVariants as operation
+use Rattle.sch_control.specs.Straight as control_straight
+use Rattle.sch_control.specs.Straight.{is_straight, is_straight_atom, is_straight_operand, is_straight_operation}
+use Rattle.sch_control.specs.Tree as control
+use Rattle.sch_control.specs.Tree.{Expression, perform, bind, sequence, branch, fix, call, tail_call, return, end, save}
+use Rattle.sch_frames.specs.declared.instruction.Instruction.{Instruction}
+use Rattle.sch_frames.specs.declared.instruction.Instruction.TheVariants.{Store, End, Jump, Label}
+use Rattle.sch_frames.specs.Layout.{straight, leave, labels, lay, atom_at, atoms_at, operand_at, operands_at, operation_at, own_slot}
+use Rattle.sch_frames.specs.Straight.{begins_with_operation, is_straight_instruction, is_straight_code}
+use Rattle.sch_frames.proofs.SlotsFrame.{slots_of}
+
+-- ## What is laid out so far
+
+pub laid_out : (e : Expression) → is_straight e ≡ true → straight e ≡ true
+laid_out (perform o) h = refl
+laid_out (bind x a b) h = let p = and_parts _ _ h in and_from _ _ (laid_out a p.0) (laid_out b p.1)
+laid_out (sequence a b) h = let p = and_parts _ _ h in and_from _ _ (laid_out a p.0) (laid_out b p.1)
+laid_out (branch a b c) h =
+    let p = and_parts _ _ h in
+    let q = and_parts _ _ p.1 in
+    and_from _ _ (laid_out a p.0) (and_from _ _ (laid_out b q.0) (laid_out c q.1))
+laid_out (end e) h = laid_out e h
+laid_out (fix members e) h = absurd cc
+laid_out (call a restores) h = absurd cc
+laid_out (tail_call a) h = absurd cc
+laid_out (return e) h = absurd cc
+laid_out (save saves e) h = absurd cc
+
+-- ## Operations
+
+module _ (place : ℕ → Place) where
+  atom_kept : (a : Atom ℕ) → is_straight_atom (atom_at place a) ≡ is_straight_atom a
+  atom_kept (Constant c) = refl
+  atom_kept (Literal n) = refl
+  atom_kept (Variable x) = refl
+
+  atoms_kept : (atoms : List (Atom ℕ)) → list_all is_straight_atom (atoms_at place atoms) ≡ list_all is_straight_atom atoms
+  atoms_kept [] = refl
+  atoms_kept (a ∷ atoms) = ap (λ b. b && list_all is_straight_atom (atoms_at place atoms)) (atom_kept a) ∙ ap (λ b. is_straight_atom a && b) (atoms_kept atoms)
+
+  operand_kept : (o : Operand ℕ) → is_straight_operand (operand_at place o) ≡ is_straight_operand o
+  operand_kept (operand.Atom a) = atom_kept a
+  operand_kept (operand.Read site which atoms) = ap (λ b. is_straight_primitive which && b) (atoms_kept atoms)
+
+  operands_kept : (os : List (Operand ℕ)) → list_all is_straight_operand (operands_at place os) ≡ list_all is_straight_operand os
+  operands_kept [] = refl
+  operands_kept (o ∷ os) = ap (λ b. b && list_all is_straight_operand (operands_at place os)) (operand_kept o) ∙ ap (λ b. is_straight_operand o && b) (operands_kept os)
+
+  operation_kept : (o : Operation ℕ) → is_straight_operation (operation_at place o) ≡ is_straight_operation o
+  operation_kept (operation.Operand o) = operand_kept o
+  operation_kept (operation.Prim site which operands) = ap (λ b. is_straight_primitive which && b) (operands_kept operands)
+  operation_kept (operation.Global g) = refl
+  operation_kept (operation.SetGlobal g o) = operand_kept o
+  operation_kept (operation.Field x k) = refl
+  operation_kept (operation.NewCell c) = refl
+  operation_kept operation.UnsetCell = refl
+  operation_kept (operation.CellGet c) = refl
+  operation_kept (operation.CellSet c o) = refl
+  operation_kept (operation.MakeClosure c) = refl
+
+  -- ## Expressions
+
+  leave_straight : (test : Option ℕ) (rest : List Instruction) → list_all is_straight_instruction rest ≡ true → list_all is_straight_instruction (leave test rest) ≡ true
+  leave_straight None rest h = h
+  leave_straight (Some l) rest h = h
+
+  lay_straight : (e : Expression) → is_straight e ≡ true → (n : ℕ) (test : Option ℕ) (rest : List Instruction) → list_all is_straight_instruction rest ≡ true
+      → list_all is_straight_instruction (lay place e n test rest) ≡ true
+  lay_straight (perform o) s n test rest h = and_from _ _ (operation_kept o ∙ s) (leave_straight test rest h)
+  lay_straight (bind x a b) s n test rest h =
+      let p = and_parts _ _ s in
+      lay_straight a p.0 n None (Store (place x) ∷ lay place b (n + labels a) test rest) (lay_straight b p.1 (n + labels a) test rest h)
+  lay_straight (sequence a b) s n test rest h =
+      let p = and_parts _ _ s in
+      lay_straight a p.0 n None (lay place b (n + labels a) test rest) (lay_straight b p.1 (n + labels a) test rest h)
+  lay_straight (branch a b c) s n test rest h =
+      let p = and_parts _ _ s in
+      let q = and_parts _ _ p.1 in
+      let tail = lay place c (suc (suc (n + labels a + labels b))) test (Label (suc n) ∷ rest) in
+      lay_straight a p.0 (suc (suc n)) (Some n) (lay place b (suc (suc (n + labels a))) test (Jump (suc n) ∷ (Label n ∷ tail)))
+      (lay_straight b q.0 (suc (suc (n + labels a))) test (Jump (suc n) ∷ (Label n ∷ tail))
+      (lay_straight c q.1 (suc (suc (n + labels a + labels b))) test (Label (suc n) ∷ rest) h))
+  lay_straight (end e) s n test rest h = lay_straight e s n None (End ∷ rest) h
+  lay_straight (fix members e) s n test rest h = absurd cc
+  lay_straight (call a restores) s n test rest h = absurd cc
+  lay_straight (tail_call a) s n test rest h = absurd cc
+  lay_straight (return e) s n test rest h = absurd cc
+  lay_straight (save saves e) s n test rest h = absurd cc
+
+  lay_begins : (e : Expression) → is_straight e ≡ true → (n : ℕ) (test : Option ℕ) (rest : List Instruction) → begins_with_operation (lay place e n test rest) ≡ true
+  lay_begins (perform o) s n test rest = refl
+  lay_begins (bind x a b) s n test rest = lay_begins a (and_parts _ _ s).0 n None (Store (place x) ∷ lay place b (n + labels a) test rest)
+  lay_begins (sequence a b) s n test rest = lay_begins a (and_parts _ _ s).0 n None (lay place b (n + labels a) test rest)
+  lay_begins (branch a b c) s n test rest =
+      lay_begins a (and_parts _ _ s).0 (suc (suc n)) (Some n)
+      (lay place b (suc (suc (n + labels a))) test (Jump (suc n) ∷ (Label n ∷ lay place c (suc (suc (n + labels a + labels b))) test (Label (suc n) ∷ rest))))
+  lay_begins (end e) s n test rest = lay_begins e s n None (End ∷ rest)
+  lay_begins (fix members e) s n test rest = absurd cc
+  lay_begins (call a restores) s n test rest = absurd cc
+  lay_begins (tail_call a) s n test rest = absurd cc
+  lay_begins (return e) s n test rest = absurd cc
+  lay_begins (save saves e) s n test rest = absurd cc
+
+-- ## Bodies
+
+pub slots_straight : (c : control.Code) → control_straight.is_straight_code c ≡ true → is_straight_code (slots_of c) ≡ true
+slots_straight c h = by c.entry refl (and_parts _ _ h).0 where
+  by : (o : Option Entry) → c.entry ≡ o → control_straight.is_form o ≡ true → is_straight_code (slots_of c) ≡ true
+  by None e f = let s = (and_parts _ _ h).1 in rw e (and_from _ _ (lay_begins (own_slot 0) c.expression s 0 None []) (lay_straight (own_slot 0) c.expression s 0 None [] refl))
+  by (Some n) e f = absurd cc

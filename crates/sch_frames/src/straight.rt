@@ -1,0 +1,48 @@
+//! The frame program of a straight program.
+
+ghost use Rattle.std.specs.Prelude.{◌≡◌, IfOk, IsTrue};
+ghost use Rattle.std.specs.List.{list_all};
+ghost use Rattle.sch_word.specs.StaticsView.{statics};
+ghost use Rattle.sch_control.specs.ProgramView as control;
+ghost use Rattle.sch_control.specs.SourceView as control_bodies;
+ghost use Rattle.sch_control.specs.Straight as control_straight;
+ghost use Rattle.sch_frames.specs.Does.{FramesOf, SameRuns};
+ghost use Rattle.sch_frames.specs.ProgramView.{source};
+ghost use Rattle.sch_frames.specs.Sizes.{largest_frame, most_variables};
+ghost use Rattle.sch_frames.specs.SourceView.{codes_of};
+ghost use Rattle.sch_frames.specs.Straight.{is_straight_code, is_straight_program};
+
+use crate::body::FrameBody;
+use crate::program::FrameProgram;
+use crate::slots::frame_slots;
+use sch_control::{Body, ControlProgram};
+use sch_word::{List, Mem};
+use std::alloc::Global;
+
+/// A frame body for each body, in their order.
+fn frame_bodies(alloc: Global, bodies: &[Body]) -> Result<List<FrameBody>, Mem>
+    requires straight { IsTrue (list_all control_straight.is_straight_code (control_bodies.codes_of bodies.now)) }
+    ensures frames { IfOk result (λ made. FramesOf (control_bodies.codes_of bodies.now) (codes_of made)) }
+    ensures straight { IfOk result (λ made. IsTrue (list_all is_straight_code (codes_of made))) }
+    ensures words { IfOk result (λ made. largest_frame (codes_of made) ≡ most_variables (control_bodies.codes_of bodies.now)) }
+{
+    let mut made = List::new(alloc);
+    for b in bodies {
+        made.push(frame_slots(alloc, b)?)?;
+    }
+    Ok(made)
+}
+
+/// The frame program of a straight program, with a slot for each variable of each form.
+///
+/// Time and memory are linear in the program.
+pub fn frame_program(alloc: Global, p: &ControlProgram) -> Result<FrameProgram, Mem>
+    requires straight { IsTrue (control_straight.is_straight_program (control.source p.now)) }
+    ensures same { IfOk result (λ q. SameRuns (control.source p.now) (source q)) }
+    ensures straight { IfOk result (λ q. IsTrue (is_straight_program (source q))) }
+    ensures statics { IfOk result (λ q. statics q.statics ≡ statics p.now.statics) }
+    ensures words { IfOk result (λ q. q.words ≡ most_variables (control_bodies.codes_of p.now.bodies)) }
+{
+    let bodies = frame_bodies(alloc, p.bodies.as_slice())?;
+    FrameProgram::new(alloc, p, bodies)
+}
