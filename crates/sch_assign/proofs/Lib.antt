@@ -13,6 +13,7 @@ pub mod NumbersKept
 pub mod ScopesKept
 pub mod BodiesKept
 pub mod ShapesKept
+pub mod StraightKept
 pub mod TableMarked
 pub mod ValidKept
 pub mod SizeKept

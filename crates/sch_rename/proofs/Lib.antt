@@ -8,4 +8,5 @@ pub mod Numbers
 pub mod Same
 pub mod Scopes
 pub mod ShapesKept
+pub mod StraightKept
 pub mod ValidKept

@@ -8,9 +8,11 @@ ghost use Rattle.sch_lang.specs.Bodies.{bodies_of};
 ghost use Rattle.sch_lang.specs.Measures.{call_sites_of, dropped_of, program_size, sites_of, tests_of, variables_bound};
 ghost use Rattle.sch_lang.specs.ProgramView.{source};
 ghost use Rattle.sch_lang.specs.Run.{run};
+ghost use Rattle.sch_lang.specs.Straight.{is_straight_program};
 ghost use Rattle.sch_cells.specs.Bodies as bodies;
 ghost use Rattle.sch_cells.specs.Measures as measures;
 ghost use Rattle.sch_cells.specs.ProgramView as view;
+ghost use Rattle.sch_cells.specs.Straight as straight;
 ghost use Rattle.sch_cells.specs.UnboxedMeaning as meaning;
 ghost use Rattle.sch_rename.specs.Made.{renamed_source};
 
@@ -46,6 +48,7 @@ pub fn rename(alloc: Global, p: &Program) -> Result<CellProgram<Unboxed>, Mem>
     // Each body has its name, its formals, its free variables and its count of variables.
     ensures bodies { IfOk result (λ q. bodies.bodies_of (view.source q) ≡ bodies_of (source p.now)) }
     ensures size { IfOk result (λ q. measures.program_size (view.source q) ≡ program_size (source p.now)) }
+    ensures straight { IfOk result (λ q. straight.is_straight_program (view.source q) ≡ is_straight_program (source p.now)) }
 {
     rename_program(alloc, p)
 }

@@ -1,9 +1,11 @@
+use Rattle.std.specs.Prelude.{IsTrue}
 use Rattle.std.proofs.Common.{◌∙◌, ℕ, ◌*◌, ◌≤◌, length, sym, subst, ap}
 use Rattle.sch_word.specs.Runs.{SameRuns}
 use Rattle.sch_cells.specs.Bodies.{bodies_of}
 use Rattle.sch_cells.specs.BoxedMeaning as boxed
 use Rattle.sch_cells.specs.Measures.{call_sites_of, dropped_of, program_size, sites_of, tests_of}
 use Rattle.sch_cells.specs.ProgramView.{source}
+use Rattle.sch_cells.specs.Straight.{is_straight_program}
 use Rattle.sch_cells.specs.UnboxedMeaning as unboxed
 use Rattle.sch_cells.specs.Valid.{bound_of}
 use Rattle.sch_assign.specs.Table.{table}
@@ -14,6 +16,7 @@ use Rattle.sch_assign.proofs.Same.{runs_alike}
 use Rattle.sch_assign.proofs.Laws.{if_ok}
 use Rattle.sch_assign.proofs.MeasuresKept.{calls_kept, tests_kept, dropped_kept}
 use Rattle.sch_assign.proofs.SizeKept.{program_size_kept}
+use Rattle.sch_assign.proofs.StraightKept.{straight_kept}
 use Rattle.sch_assign.proofs.ValidKept.{sites_kept}
 use Rattle.sch_assign.proofs.convert_assign.Goals as goal
 
@@ -80,3 +83,10 @@ returns-clause-size c =
     let same = λ (y : ℕ). ap (λ bs. table bs y) c.as_slice.ensures.value ∙ c.in_ok-celled.ensures y in
     let r = program_right has_cell (source v) same v.scoped v.formed in
     if_ok c.convert_program.result _ _ c.convert_program.ensures (λ q made. subst (λ s. program_size s ≤ 4 * program_size (source v)) (sym made) (program_size_kept has_cell v.variables (source v) r))
+
+pub returns-clause-straight : goal.returns-clause-straight
+returns-clause-straight c =
+    let v = c.args.p.now in
+    let has_cell = table c.as_slice.result.now in
+    let same = λ (y : ℕ). ap (λ bs. table bs y) c.as_slice.ensures.value ∙ c.in_ok-celled.ensures y in
+    if_ok c.convert_program.result _ _ c.convert_program.ensures (λ q made s. subst (λ t. IsTrue (is_straight_program t)) (sym made) (straight_kept has_cell v.variables (source v) same s))

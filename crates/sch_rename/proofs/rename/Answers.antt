@@ -6,11 +6,13 @@ use Rattle.sch_lang.specs.Run.{run}
 use Rattle.sch_lang.proofs.Scopes.{program_is_closed}
 use Rattle.sch_cells.specs.Bodies.{bodies_of}
 use Rattle.sch_cells.specs.Measures.{sites_of, call_sites_of, tests_of, dropped_of, program_size}
+use Rattle.sch_cells.specs.Straight.{is_straight_program}
 use Rattle.sch_cells.specs.UnboxedMeaning as meaning
 use Rattle.sch_rename.proofs.BodiesKept.{program_bodies}
 use Rattle.sch_rename.proofs.BoundVariables.{program_binds}
 use Rattle.sch_rename.proofs.Same.{runs_alike}
 use Rattle.sch_rename.proofs.ShapesKept.{measure_kept, size_kept}
+use Rattle.sch_rename.proofs.StraightKept.{straight_kept}
 use Rattle.sch_rename.proofs.rename.Goals as goal
 
 if_ok : {A E : Type 0} (r : Result A E) (P Q : A → Type 0) → IfOk r P → ((a : A) → P a → Q a) → IfOk r Q
@@ -73,3 +75,9 @@ returns-clause-size c =
     let p = source c.args.p.now in
     let closed = program_is_closed p c.args.p.now.numbered in
     if_ok c.rename_program.result _ _ c.rename_program.ensures (λ q made. ap program_size made ∙ size_kept p closed)
+
+pub returns-clause-straight : goal.returns-clause-straight
+returns-clause-straight c =
+    let p = source c.args.p.now in
+    let closed = program_is_closed p c.args.p.now.numbered in
+    if_ok c.rename_program.result _ _ c.rename_program.ensures (λ q made. ap is_straight_program made ∙ straight_kept p closed)

@@ -1,0 +1,29 @@
+-- Straight code is numbered to straight code, and no other code is.
+use Rattle.std.proofs.Common.{◌≡◌, ℕ, true, List, [], refl, ap, ◌∙◌}
+use Rattle.std.specs.Prelude.{◌&&◌}
+use Rattle.sch_word.specs.Straight.{is_straight_node}
+use Rattle.sch_word.proofs.Shaped.{equal_joins}
+use Rattle.sch_lang.specs.Tree.{Expressions, Lambdas, Source, no_expressions, and_expression, no_lambdas, and_lambda}
+use Rattle.sch_lang.specs.Measures.{over_each, shape}
+use Rattle.sch_lang.specs.InScope.{IsClosed}
+use Rattle.sch_lang.specs.Straight as from
+use Rattle.sch_cells.specs.Measures as measures
+use Rattle.sch_cells.specs.Straight as to
+use Rattle.sch_rename.specs.Made.{binds_lambdas, renamed_each, renamed_lambdas, renamed_source}
+use Rattle.sch_rename.proofs.ShapesKept.{each_kept, shape_kept}
+
+library_kept : (ls : Lambdas) (s : List ℕ) (x : ℕ) → to.no_procedures (renamed_lambdas ls s x) ≡ from.no_procedures ls
+library_kept no_lambdas s x = refl
+library_kept (and_lambda name m rest e ls) s x = refl
+
+each_is : (es : Expressions) → over_each true (λ a b. a && b) (λ e. is_straight_node (shape e)) es ≡ from.are_straight es
+each_is no_expressions = refl
+each_is (and_expression e es) = ap (λ b. from.is_straight e && b) (each_is es)
+
+pub straight_kept : (p : Source) → IsClosed p → to.is_straight_program (renamed_source p) ≡ from.is_straight_program p
+straight_kept p c =
+    let k : to.are_straight (renamed_each p.forms [] (binds_lambdas p.library)) ≡ from.are_straight p.forms =
+    each_kept (equal_joins true (λ a b. a && b)) (λ e. is_straight_node (shape e)) (λ e. is_straight_node (measures.shape e))
+    (λ e s x f i. ap is_straight_node (shape_kept e s x f i)) p.forms [] (binds_lambdas p.library) tt c.forms
+    ∙ each_is p.forms in
+    rw (library_kept p.library [] 0, k) refl
