@@ -1,6 +1,6 @@
 //! From items to a text: `resolve`.
 
-ghost use Rattle.std.specs.Prelude.{◌≡◌, ◌+◌, ◌^◌, ◌<◌, ◌≤◌, ◌++◌, length, map, IfOk, IfErr, OnOk, slice_index};
+ghost use Rattle.std.specs.Prelude.{◌≡◌, ◌+◌, ◌*◌, ◌^◌, ◌<◌, ◌≤◌, ◌++◌, length, map, IfOk, IfErr, OnOk, slice_index};
 ghost use Rattle.std.specs.List.{flat_map};
 ghost use Rattle.sch_word.specs.ProgramLayout.{max_text_size};
 ghost use Rattle.sch_insn.specs.Spelling.{AllValid, IsCondition, IsValid, spelling};
@@ -37,6 +37,7 @@ pub fn resolve(alloc: Global, a: &Asm, routines: &Asm) -> Result<Resolved, AsmEr
     requires routines { AreRoutines routines.now.items routines.now.words routines.now.zeros }
     ensures stands { IfOk result (λ r. AreResolved (a.now.items ++ routines.now.items) a.now.words r.code r.marks r.words) }
     ensures valid { IfOk result (λ r. AllValid r.code) }
+    ensures words { IfOk result (λ r. length r.words ≡ 8 * length a.now.words) }
     ensures zeros { IfOk result (λ r. r.zeros ≡ a.now.zeros) }
     ensures size { IfOk result (λ r. length (flat_map spelling r.code) ≡ text_size (a.now.items ++ routines.now.items)) }
     ensures fits { IfOk result (λ r. length (flat_map spelling r.code) ≤ max_text_size) }

@@ -1,6 +1,7 @@
 //! A frame program's items and data: `select`.
 
-ghost use Rattle.std.specs.Prelude.{◌≡◌, ◌+◌, ◌*◌, ◌≤◌, ◌++◌, [], ◌∷◌, IfOk, IsTrue, OnOk, length, pos, replicate};
+ghost use Rattle.std.specs.Prelude.{◌≡◌, ◌+◌, ◌*◌, ◌^◌, ◌<◌, ◌≤◌, ◌++◌, [], ◌∷◌, IfOk, IsTrue, OnOk, length, pos, replicate};
+ghost use Rattle.sch_word.specs.ProgramLayout.{data_address};
 ghost use Rattle.sch_asm.specs.Items.{AreOwn};
 ghost use Rattle.sch_asm.specs.declared.item.Item.TheVariants as item;
 ghost use Rattle.sch_asm.specs.declared.assembly.Word.TheVariants.{Fixed};
@@ -190,11 +191,12 @@ fn items_of(alloc: Global, p: &FrameProgram, layout: Layout, depth: u64) -> Resu
 ///
 /// Resolved with the run-time routines, they do what the program does, whatever the machine is given and
 /// whatever the kernel answers. Straight programs have their code yet. Time and memory are linear in the
-/// instructions, the labels and the globals.
+/// instructions, the labels and the globals. The addresses of the data are numbers of 31 bits.
 pub fn select(alloc: Global, p: &FrameProgram, limits: Limits) -> Result<Asm, Mem>
     requires straight { IsTrue (is_straight_program (source p.now)) }
     ensures follows { IfOk result (λ a. FollowsFrames (source p.now) limits.heap limits.depth a.items a.words a.zeros) }
     ensures own { IfOk result (λ a. AreOwn a.items) }
+    ensures ends { IfOk result (λ a. data_address + (8 * length a.words + a.zeros) < 2 ^ 31) }
 {
     let globals = p.statics.globals.len();
     let layout = lay_out(globals as u64, p.words, limits);

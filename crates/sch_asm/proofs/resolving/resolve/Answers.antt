@@ -1,5 +1,5 @@
 -- The instructions, marks and words that are put out by the tables are those of the items and words.
-use Rattle.std.proofs.Common.{◌≡◌, ℕ, ◌+◌, ◌<◌, ◌≤◌, ◌++◌, List, [], length, map, refl, sym, ap, ◌∙◌, subst, arith, ⊎_elim, length-append}
+use Rattle.std.proofs.Common.{◌≡◌, ℕ, ◌+◌, ◌*◌, ◌<◌, ◌≤◌, ◌++◌, ◌∷◌, List, [], length, map, refl, sym, ap, ◌∙◌, subst, arith, ⊎_elim, length-append}
 use Rattle.std.proofs.lemmas.Bool.{cases_lt}
 use Rattle.std.proofs.lemmas.List.{length-map}
 use Rattle.std.proofs.Math.ListN.{get_or-eq_default}
@@ -24,6 +24,15 @@ sizes_are xs ys first second sizes e f g = g ∙ ap (λ l. map item_size (l ++ s
 
 size_is : (is : List Item) (bytes : ℕ) (sizes lent : List ℕ) → bytes ≡ total lent → lent ≡ sizes → sizes ≡ map item_size is → bytes ≡ text_size is
 size_is is bytes sizes lent e f g = e ∙ ap total (f ∙ g) ∙ total_sizes is
+
+-- eight bytes for each word
+eight_each : (place : ℕ → ℕ) (ws : List Word) → length (flat_map (bytes_of place) ws) ≡ 8 * length ws
+eight_each place [] = refl
+eight_each place (w ∷ ws) =
+    let a = length-append (bytes_of place w) (flat_map (bytes_of place) ws) in
+    let b : length (bytes_of place w) ≡ 8 = refl in
+    let e = eight_each place ws in
+    omega (arith, a, b, e)
 
 -- ---- tables
 
@@ -124,4 +133,4 @@ returns c =
     } in
     let r = resolved (c.args.a.now.items ++ c.args.routines.now.items) c.args.a.now.words c.emit-2.new.code c.emit-2.new.marks c.in_ok-words.words c.in_ok-layout.layout.numbers.items c.in_ok-layout.layout.addresses w in
     let e = r.2 in
-    record { stands = r.0; valid = r.1; zeros = refl; size = r.2; fits = omega (arith, e, w.fits); too_large = tt }
+    record { stands = r.0; valid = r.1; words = ap length w.words_are ∙ eight_each place c.args.a.now.words; zeros = refl; size = r.2; fits = omega (arith, e, w.fits); too_large = tt }
