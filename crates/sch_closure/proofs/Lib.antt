@@ -13,6 +13,7 @@ pub mod LevelsKept
 pub mod ValidKept
 pub mod MadeProgram
 pub mod ProgramKept
+pub mod StraightKept
 pub mod Same
 pub mod HandMade
 mod Examples

@@ -1,17 +1,19 @@
 //! From cells to flat closures: a procedure becomes a record of the values of its free variables.
 #![tactic(auto)]
 
-ghost use Rattle.std.specs.Prelude.{◌≡◌, ◌<◌, ◌^◌, ◌-◌, length, map, IfOk};
+ghost use Rattle.std.specs.Prelude.{◌≡◌, ◌<◌, ◌^◌, ◌-◌, length, map, IfOk, IsTrue};
 ghost use Rattle.sch_word.specs.Runs.{SameRuns};
 ghost use Rattle.sch_word.specs.StaticsView.{statics};
 ghost use Rattle.sch_cells.specs.Bodies.{bodies_of};
 ghost use Rattle.sch_cells.specs.BoxedMeaning.{run};
 ghost use Rattle.sch_cells.specs.ProgramView.{source};
 ghost use Rattle.sch_cells.specs.Measures.{call_sites_of, dropped_of, program_size, sites_of, tests_of};
+ghost use Rattle.sch_cells.specs.Straight.{is_straight_program};
 ghost use Rattle.sch_cells.specs.View.{trees_of as trees};
 ghost use Rattle.sch_flat.specs.Measures as measures;
 ghost use Rattle.sch_flat.specs.ProgramView as view;
 ghost use Rattle.sch_flat.specs.Run as meaning;
+ghost use Rattle.sch_flat.specs.Straight as straight;
 ghost use Rattle.sch_flat.specs.View.{body, made, trees_of};
 ghost use Rattle.sch_closure.specs.Closed.{closed_source};
 ghost use Rattle.sch_closure.specs.Kept.{SameItems, flat_forms, forms_in, procedure_of, procedures_in};
@@ -50,6 +52,7 @@ pub fn close(alloc: Global, p: &CellProgram<Boxed>) -> Result<FlatProgram, Mem>
     ensures bodies { IfOk result (λ q. map procedure_of (map body q.bodies) ≡ procedures_in (source p.now)) }
     ensures forms { IfOk result (λ q. flat_forms (trees_of q.forms) ≡ forms_in (trees p.now.forms)) }
     ensures size { IfOk result (λ q. measures.program_size (view.source q) ≡ program_size (source p.now)) }
+    ensures straight { IfOk result (λ q. IsTrue (is_straight_program (source p.now)) → IsTrue (straight.is_straight_program (view.source q))) }
 {
     close_program(alloc, p)
 }

@@ -1,3 +1,4 @@
+use Rattle.std.specs.Prelude.{IsTrue}
 use Rattle.std.proofs.Common.{◌∙◌, Result, Ok, Err, IfOk, sym, subst, ap, map}
 use Rattle.sch_word.specs.Runs.{SameRuns}
 use Rattle.sch_cells.specs.BoxedMeaning.{run}
@@ -5,9 +6,11 @@ use Rattle.sch_cells.specs.ProgramView.{source}
 use Rattle.sch_cells.specs.Measures as from
 use Rattle.sch_flat.specs.Measures.{sites_of, call_sites_of, tests_of, dropped_of, program_size}
 use Rattle.sch_flat.specs.Run as meaning
+use Rattle.sch_flat.specs.Straight.{is_straight_program}
 use Rattle.sch_closure.specs.Kept.{SameItems, flat_forms, procedure_of}
 use Rattle.sch_closure.proofs.ValidKept.{Given, same_runs, clears, fresh_library, fresh_forms}
 use Rattle.sch_closure.proofs.ProgramKept.{sites_kept, calls_kept, tests_kept, dropped_kept, bodies_kept, forms_kept, size_kept}
+use Rattle.sch_closure.proofs.StraightKept.{straight_kept}
 use Rattle.sch_closure.proofs.close.Goals as goal
 
 if_ok : {A E : Type 0} (r : Result A E) (P Q : A → Type 0) → IfOk r P → ((a : A) → P a → Q a) → IfOk r Q
@@ -69,3 +72,8 @@ returns-clause-size c =
     let v = c.args.p.now in
     let g : Given p = record { scoped = v.scoped; formed = v.formed; limited = v.limited } in
     if_ok c.close_program.result _ _ c.close_program.ensures (λ q made. ap program_size made ∙ size_kept p (fresh_library p g) (fresh_forms p g))
+
+pub returns-clause-straight : goal.returns-clause-straight
+returns-clause-straight c =
+    let p = source c.args.p.now in
+    if_ok c.close_program.result _ _ c.close_program.ensures (λ q made s. subst (λ t. IsTrue (is_straight_program t)) (sym made) (straight_kept p s))
