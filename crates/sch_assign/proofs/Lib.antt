@@ -20,5 +20,4 @@ pub mod SizeKept
 pub mod BoundCount
 pub mod MeasuresKept
 pub mod Examples
-pub mod HandMade
 pub mod Laws

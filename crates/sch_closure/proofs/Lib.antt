@@ -15,5 +15,4 @@ pub mod MadeProgram
 pub mod ProgramKept
 pub mod StraightKept
 pub mod Same
-pub mod HandMade
 mod Examples

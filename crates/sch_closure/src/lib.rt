@@ -20,8 +20,6 @@ ghost use Rattle.sch_closure.specs.Kept.{SameItems, flat_forms, forms_in, proced
 
 mod closing;
 mod gathering;
-#[cfg(test)]
-mod tests;
 
 use crate::closing::{close_forms, close_lambdas};
 use crate::gathering::{find_each, find_lambdas};
