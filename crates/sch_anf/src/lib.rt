@@ -4,7 +4,8 @@
 //! functions that do nothing.
 #![tactic(auto)]
 
-ghost use Rattle.std.specs.Prelude.{◌≡◌, IsTrue, IfOk, true, ℕ, List};
+ghost use Rattle.std.specs.Prelude.{◌≡◌, ◌≤◌, ◌*◌, IsTrue, IfOk, true, ℕ, List};
+ghost use Rattle.sch_control.specs.Sizes.{expressions_size};
 ghost use Rattle.sch_word.specs.Orders.{is_order_table};
 ghost use Rattle.sch_control.specs.ProgramView as control;
 ghost use Rattle.sch_control.specs.Straight as control_straight;
@@ -28,6 +29,7 @@ pub fn normalize(alloc: Global, p: &FlatProgram) -> Result<ControlProgram, Mem>
     ensures fits { IfOk result (λ q. IsTrue (table_fits (control.source q) (given_table (control.source q)))) }
     ensures orders { IfOk result (λ q. (table : List (List ℕ)) → table_fits (control.source q) table ≡ true → IsTrue (is_order_table p.now.sites table)) }
     ensures straight { IfOk result (λ q. IsTrue (is_straight_program (source p.now)) → IsTrue (control_straight.is_straight_program (control.source q))) }
+    ensures size { IfOk result (λ q. IsTrue (is_straight_program (source p.now)) → expressions_size (control.source q).bodies ≤ 4 * measures.program_size (source p.now)) }
 {
     Err(Mem)
 }

@@ -14,7 +14,8 @@ use Rattle.sch_control.specs.View.{expression}
 use Rattle.sch_frames.specs.declared.body.FrameBody.{FrameBody}
 use Rattle.sch_frames.specs.Does.{FrameOf, FramesOf}
 use Rattle.sch_frames.specs.Layout.{arrival_slots}
-use Rattle.sch_frames.specs.Sizes.{codes_size, entry_size, expression_size, expressions_size, instructions_size, largest_frame, most_variables}
+use Rattle.sch_control.specs.Sizes.{expression_size, expressions_size}
+use Rattle.sch_frames.specs.Sizes.{codes_size, entry_size, instructions_size, largest_frame, most_variables}
 use Rattle.sch_frames.specs.SourceView.{code_of, codes_of}
 use Rattle.sch_frames.specs.Straight.{is_straight_code}
 use Rattle.sch_frames.specs.Tree.{Code}

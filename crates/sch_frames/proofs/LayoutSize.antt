@@ -15,7 +15,8 @@ use Rattle.sch_frames.specs.declared.instruction.Instruction.{Instruction}
 use Rattle.sch_frames.specs.declared.instruction.Instruction.TheVariants.{Store, Return, End, Jump, Label, Mark}
 use Rattle.sch_control.specs.declared.mark.MarkKind.TheVariants as mark
 use Rattle.sch_frames.specs.Layout.{leave, labels, lay, atom_at, operand_at, operands_at, sources_at, operation_at, own_slot, arrivals, entering, arrival_slots, slots_layout}
-use Rattle.sch_frames.specs.Sizes.{operand_size, operands_size, operation_size, expression_size, instructions_size, entry_size}
+use Rattle.sch_control.specs.Sizes.{operand_size, operands_size, operation_size, expression_size}
+use Rattle.sch_frames.specs.Sizes.{instructions_size, entry_size}
 
 module _ (place : ℕ → Place) where
   -- ## Operations

@@ -8,7 +8,8 @@ ghost use Rattle.sch_control.specs.SourceView as control_bodies;
 ghost use Rattle.sch_control.specs.Straight as control_straight;
 ghost use Rattle.sch_frames.specs.Does.{FramesOf, SameRuns};
 ghost use Rattle.sch_frames.specs.ProgramView.{source};
-ghost use Rattle.sch_frames.specs.Sizes.{codes_size, expressions_size, largest_frame, most_variables, program_size};
+ghost use Rattle.sch_control.specs.Sizes.{expressions_size};
+ghost use Rattle.sch_frames.specs.Sizes.{codes_size, largest_frame, most_variables, program_size};
 ghost use Rattle.sch_frames.specs.SourceView.{codes_of};
 ghost use Rattle.sch_frames.specs.Straight.{is_straight_code, is_straight_program};
 

@@ -13,7 +13,8 @@ use Rattle.sch_control.specs.declared.operation.Operation.{Operation}
 use Rattle.sch_control.specs.declared.operation.Operation.TheVariants as operation
 use Rattle.sch_frames.specs.declared.instruction.Instruction.{Instruction}
 use Rattle.sch_frames.specs.declared.instruction.Instruction.TheVariants as instruction
-use Rattle.sch_frames.specs.Sizes.{operand_size, operands_size, operation_size, instruction_size, instructions_size, codes_size, program_size}
+use Rattle.sch_control.specs.Sizes.{operand_size, operands_size, operation_size}
+use Rattle.sch_frames.specs.Sizes.{instruction_size, instructions_size, codes_size, program_size}
 use Rattle.sch_frames.specs.Tree.{Code, Source}
 use Rattle.sch_insn.specs.declared.insn.Arg.TheVariants.{Reg}
 use Rattle.sch_insn.specs.declared.insn.Insn.TheVariants.{MovTo, MovFrom, MovNumber, MovWord, JumpTo}

@@ -2,7 +2,8 @@ use Rattle.std.proofs.Common.{◌≡◌, ◌≤◌, ◌*◌, true, take}
 use Rattle.std.specs.List.{list_all}
 use Rattle.sch_control.specs.SourceView as control
 use Rattle.sch_frames.specs.Does.{FramesOf}
-use Rattle.sch_frames.specs.Sizes.{codes_size, expressions_size, largest_frame, most_variables}
+use Rattle.sch_control.specs.Sizes.{expressions_size}
+use Rattle.sch_frames.specs.Sizes.{codes_size, largest_frame, most_variables}
 use Rattle.sch_frames.specs.SourceView.{codes_of}
 use Rattle.sch_frames.specs.Straight.{is_straight_code}
 use Rattle.sch_frames.proofs.straight.frame_bodies.Given as goal
