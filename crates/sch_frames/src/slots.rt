@@ -42,10 +42,12 @@ fn laid_out(alloc: Global, b: &Body) -> Result<Writer, Mem>
 pub fn frame_slots(alloc: Global, b: &Body) -> Result<FrameBody, Mem>
     requires straight { IsTrue (straight (expression b.now.exp)) }
     ensures same { IfOk result (λ f. FrameOf (control.code_of b.now) (code_of f)) }
-    ensures straight { IfOk result (λ f. IsTrue (control_straight.is_straight_code (control.code_of b.now)) → IsTrue (is_straight_code (code_of f))) }
+    ensures straight { IfOk result (λ f.
+        IsTrue (control_straight.is_straight_code (control.code_of b.now)) → IsTrue (is_straight_code (code_of f))) }
     ensures words { IfOk result (λ f. f.words ≡ arrival_slots b.now.entry + b.now.variables) }
     ensures size { IfOk result (λ f. length f.instructions ≤ 3 * nodes (expression b.now.exp) + (formals_of b.now.entry + 1)) }
-    ensures work { IfOk result (λ f. instructions_size f.instructions ≤ 2 * expression_size (expression b.now.exp) + entry_size b.now.entry) }
+    ensures work { IfOk result (λ f.
+        instructions_size f.instructions ≤ 2 * expression_size (expression b.now.exp) + entry_size b.now.entry) }
     ensures labels { IfOk result (λ f. f.labels ≤ 2 * nodes (expression b.now.exp)) }
 {
     let out = laid_out(alloc, b)?;

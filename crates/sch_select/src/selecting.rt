@@ -192,7 +192,7 @@ fn items_of(alloc: Global, p: &FrameProgram, layout: Layout, depth: u64) -> Resu
 /// follow one after the other, and behind them the routine that puts any value.
 ///
 /// Resolved with the run-time routines, they do what the program does, whatever the machine is given and
-/// whatever the kernel answers. Straight programs have their code yet. Time and memory are linear in the
+/// whatever the kernel answers. Only straight programs have their code yet. Time and memory are linear in the
 /// instructions, the labels and the globals. The addresses of the data are numbers of 31 bits.
 pub fn select(alloc: Global, p: &FrameProgram, limits: Limits) -> Result<Asm, Mem>
     requires straight { IsTrue (is_straight_program (source p.now)) }
