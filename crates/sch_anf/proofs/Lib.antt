@@ -1,3 +1,4 @@
+pub mod StraightSize
 pub mod Orders
 pub mod Worlds
 pub mod Fine

@@ -4,7 +4,12 @@
 //! functions that do nothing.
 #![tactic(auto)]
 
-ghost use Rattle.std.specs.Prelude.{◌≡◌, IsTrue};
+ghost use Rattle.std.specs.Prelude.{◌≡◌, ◌≤◌, ◌*◌, IsTrue, IfOk, true, ℕ, List};
+ghost use Rattle.sch_control.specs.Sizes.{expressions_size};
+ghost use Rattle.sch_word.specs.Orders.{is_order_table};
+ghost use Rattle.sch_control.specs.ProgramView as control;
+ghost use Rattle.sch_control.specs.Straight as control_straight;
+ghost use Rattle.sch_flat.specs.Straight.{is_straight_program};
 ghost use Rattle.sch_control.specs.Fits.{table_fits};
 ghost use Rattle.sch_control.specs.Valid.{is_valid};
 ghost use Rattle.sch_flat.specs.Measures as measures;
@@ -15,6 +20,25 @@ ghost use Rattle.sch_anf.specs.Table.{given_table};
 ghost use Rattle.sch_anf.specs.Tests.{tests_of};
 
 use sch_flat::FlatProgram;
+use sch_control::ControlProgram;
+use sch_word::{List, Mem};
+use std::alloc::Global;
+
+pub fn normalize(alloc: Global, p: &FlatProgram) -> Result<ControlProgram, Mem>
+    ensures runs { IfOk result (λ q. SameRun (source p.now) (control.source q)) }
+    ensures fits { IfOk result (λ q. IsTrue (table_fits (control.source q) (given_table (control.source q)))) }
+    ensures orders { IfOk result (λ q. (table : List (List ℕ)) → table_fits (control.source q) table ≡ true → IsTrue (is_order_table p.now.sites table)) }
+    ensures straight { IfOk result (λ q. IsTrue (is_straight_program (source p.now)) → IsTrue (control_straight.is_straight_program (control.source q))) }
+    ensures size { IfOk result (λ q. IsTrue (is_straight_program (source p.now)) → expressions_size (control.source q).bodies ≤ 4 * measures.program_size (source p.now)) }
+{
+    Err(Mem)
+}
+
+pub fn given_orders(alloc: Global, p: &ControlProgram) -> Result<List<List<u32>>, Mem>
+    ensures { IfOk result (λ orders. orders ≡ given_table (control.source p.now)) }
+{
+    Err(Mem)
+}
 
 /// The normal form of a program runs as the program does under every order table that fits it, and is never
 /// wrong.

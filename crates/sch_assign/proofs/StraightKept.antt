@@ -1,12 +1,13 @@
 -- In straight code no variable gets a cell, and so it is converted to itself.
-use Rattle.std.proofs.Common.{◌≡◌, ℕ, zero, suc, Bool, false, [], refl, ap, ◌∙◌}
+use Rattle.std.proofs.Common.{◌≡◌, ℕ, zero, suc, Bool, false, [], refl, sym, ap, ◌∙◌}
 use Rattle.std.specs.Prelude.{IsTrue, ◌&&◌}
 use Rattle.std.proofs.lemmas.Bool.{or_from}
 use Rattle.sch_word.specs.Straight.{is_straight_primitive}
-use Rattle.sch_word.proofs.Shaped.{parts, both_true}
+use Rattle.sch_word.proofs.Shaped.{parts}
 use Rattle.sch_cells.specs.Tree.{Tree, Trees, Lambdas, Source, constant, literal, variable, global, set_variable, set_global, define, branch, sequence, bind, fix, letrec, lambda, call, operation, new_cells, cell_get, cell_set, no_trees, and_tree, no_lambdas, and_lambda, count}
 use Rattle.sch_cells.specs.Straight.{is_straight, are_straight, no_procedures, is_straight_program}
 use Rattle.sch_assign.specs.Celled.{celled, celled_each, celled_lambdas, celled_in}
+use Rattle.sch_assign.specs.SameTrees.{SameTrees}
 use Rattle.sch_assign.specs.Converted.{reading, cells_for, converted, converted_each, converted_lambdas, converted_source}
 
 mutual
@@ -83,9 +84,9 @@ module _ (has_cell : ℕ → Bool) (n : ℕ) where
           let p = parts (is_straight e) (are_straight es) s in
           rw (unchanged e p.0, each_unchanged es p.1) refl
 
-  pub straight_kept : (p : Source) → ((y : ℕ) → has_cell y ≡ celled_in p y) → IsTrue (is_straight_program p) → IsTrue (is_straight_program (converted_source has_cell n p))
-  straight_kept p same s =
+  pub trees_kept : (p : Source) → ((y : ℕ) → has_cell y ≡ celled_in p y) → IsTrue (is_straight_program p) → SameTrees p (converted_source has_cell n p)
+  trees_kept p same s =
       let k = parts (no_procedures p.library) (are_straight p.forms) s in
       let e = empty_library p.library k.0 in
       let none : (y : ℕ) → has_cell y ≡ false = λ y. same y ∙ or_from _ _ (ap (λ ls. celled_lambdas ls y) e) (none_celled p.forms y k.1) in
-      both_true (ap (λ ls. no_procedures (converted_lambdas has_cell n ls)) e) (ap are_straight (each_unchanged none p.forms k.1) ∙ k.1)
+      record { library = ap (converted_lambdas has_cell n) e ∙ sym e; forms = each_unchanged none p.forms k.1 }

@@ -9,6 +9,7 @@ ghost use Rattle.sch_cells.specs.BoxedMeaning as boxed;
 ghost use Rattle.sch_cells.specs.Measures.{call_sites_of, dropped_of, program_size, sites_of, tests_of};
 ghost use Rattle.sch_cells.specs.ProgramView.{source};
 ghost use Rattle.sch_cells.specs.Straight.{is_straight_program};
+ghost use Rattle.sch_assign.specs.SameTrees.{SameTrees};
 ghost use Rattle.sch_cells.specs.UnboxedMeaning as unboxed;
 ghost use Rattle.sch_cells.specs.Valid.{bound_of};
 ghost use Rattle.sch_assign.specs.Celled.{celled_in, celled_of};
@@ -49,7 +50,8 @@ pub fn convert_assign(alloc: Global, p: &CellProgram<Unboxed>) -> Result<CellPro
     // Each body has its name, its formals, its free variables and its count of variables.
     ensures bodies { IfOk result (λ q. bodies_of (source q) ≡ bodies_of (source p.now)) }
     ensures size { IfOk result (λ q. program_size (source q) ≤ 4 * program_size (source p.now)) }
-    ensures straight { IfOk result (λ q. IsTrue (is_straight_program (source p.now)) → IsTrue (is_straight_program (source q))) }
+    // Straight code has no cells, and its trees stay as they are.
+    ensures straight { IfOk result (λ q. IsTrue (is_straight_program (source p.now)) → SameTrees (source p.now) (source q)) }
 {
     let celled = celled_variables(alloc, p)?;
     convert_program(alloc, p, celled.as_slice())

@@ -4,6 +4,7 @@ pub mod Operations
 pub mod Parts
 pub mod ProgramView
 pub mod Run
+pub mod Sizes
 pub mod SourceView
 pub mod Straight
 pub mod Tree

@@ -1,6 +1,7 @@
 //! Why a text is not compiled.
 
 ghost use Rattle.std.specs.Prelude.{◌≡◌};
+ghost use Rattle.sch_driver.specs.Assembled.{of_assembly};
 ghost use Rattle.sch_driver.specs.declared.error.CompileError.TheVariants as error;
 
 use sch_asm::AsmError;
@@ -49,5 +50,16 @@ impl From<Mem> for CompileError {
 
     fn from(_cause: Mem) -> CompileError {
         CompileError::Memory
+    }
+}
+
+impl From<AsmError> for CompileError {
+    ghost from_gives = { λ cause e. e ≡ of_assembly cause };
+
+    fn from(cause: AsmError) -> CompileError {
+        match cause {
+            AsmError::TextTooLarge(bytes) => CompileError::TextTooLarge(bytes),
+            AsmError::Memory => CompileError::Memory,
+        }
     }
 }

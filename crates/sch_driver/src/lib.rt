@@ -5,9 +5,18 @@ ghost use Rattle.std.specs.Prelude.{◌≤◌, length, IfOk, IfErr};
 ghost use Rattle.sch_driver.specs.Causes.{IsErrorOf, max_source_size};
 ghost use Rattle.sch_driver.specs.Compiled.{IsCompiled};
 
+mod assembly;
 mod error;
+mod passes;
+mod reading;
+mod straight;
 
+use crate::assembly::assemble;
+use crate::passes::control_program;
+use crate::reading::read_program;
 pub use error::CompileError;
+use sch_anf::given_orders;
+use sch_elf::write_image;
 use sch_word::{Bytes, Limits, List};
 use std::alloc::Global;
 
@@ -37,5 +46,13 @@ pub fn compile(alloc: Global, text: &[u8], limits: Limits) -> Result<Compiled, C
     ensures compiled { IfOk result (λ c. IsCompiled text.now limits.heap limits.depth c.image c.listing.orders) }
     ensures refused { IfErr result (IsErrorOf text.now) }
 {
-    Err(CompileError::Memory)
+    let program = read_program(alloc, text)?;
+    let control = control_program(alloc, &program)?;
+    let image = assemble(alloc, &control, limits)?;
+    let orders = given_orders(alloc, &control)?;
+    let image = write_image(alloc, &image)?;
+    Ok(Compiled {
+        image,
+        listing: Listing { orders },
+    })
 }

@@ -6,7 +6,7 @@ use Rattle.std.specs.List.{list_all}
 use Rattle.sch_word.specs.declared.constant.Const.TheVariants.{Fixnum, Boolean}
 use Rattle.sch_word.specs.declared.place.Place.{Place}
 use Rattle.sch_word.specs.declared.place.Place.TheVariants.{Reg, Slot}
-use Rattle.sch_word.specs.declared.primitive.Primitive.TheVariants.{Subtract, Multiply, Less, Put}
+use Rattle.sch_word.specs.declared.primitive.Primitive.TheVariants.{Eq, Subtract, Multiply, Less, Put}
 use Rattle.sch_word.specs.Literals.{no_literals}
 use Rattle.sch_word.specs.Runs as runs_of
 use Rattle.sch_word.specs.Runs.{Run, ended, going}
@@ -22,7 +22,7 @@ use Rattle.sch_frames.specs.declared.instruction.Instruction.{Instruction}
 use Rattle.sch_frames.specs.declared.instruction.Instruction.TheVariants.{Do, Store, Copy, Load, Pass, Fix, Call, Tail, Return, End, IfFalse, Jump, Label, Mark}
 use Rattle.sch_frames.specs.Layout.{slots_layout}
 use Rattle.sch_frames.specs.Run.{run}
-use Rattle.sch_frames.specs.Sizes.{largest_frame}
+use Rattle.sch_frames.specs.Sizes.{entry_size, expression_size, instructions_size, largest_frame, most_variables, program_size}
 use Rattle.sch_frames.specs.Straight.{is_straight_code, is_straight_program}
 use Rattle.sch_frames.specs.Tree.{Code, Source}
 use Rattle.sch_frames.specs.Valid.{code_valid, is_valid, placed, forward}
@@ -205,3 +205,21 @@ straight_rows :
     × (is_straight_code (lambda 0 0 2 0 shows) ≡ false)
     × (is_straight_program (program (None ∷ []) (form 2 0 shows ∷ []) 2) ≡ true)
 straight_rows = (refl, refl, refl, refl, refl)
+
+-- ## Sizes: of (display (if (eq? x 7) x 7)) with its atoms and the test that is an operand, and of its layout
+
+abbrev chosen : Expression
+chosen = branch (perform (operation.Operand (operand.Read 0 Eq (Variable 2 ∷ (Constant (Fixnum (pos 7)) ∷ []))))) (perform (operation.Operand (held_in 2))) (perform (operation.Operand (number 7)))
+
+abbrev displays : control.Code
+displays = record { name = []; entry = None; variables = 4; expression = end (bind 3 chosen (perform (operation.Prim 1 Put (held_in 3 ∷ [])))) }
+
+size_rows :
+    (expression_size chosen ≡ 9)
+    × (expression_size displays.expression ≡ 13)
+    × (instructions_size (slots_layout displays) ≡ 14)
+    × (instructions_size (Label 0 ∷ shows) ≡ 3)
+    × (program_size (program [] (form 2 0 shows ∷ (form 2 1 (Label 0 ∷ shows) ∷ [])) 2) ≡ 6)
+    × (most_variables (displays ∷ []) ≡ 4)
+    × (entry_size (Some (record { formals = 3; rest = false; fields = 0 })) ≡ 4)
+size_rows = (refl, refl, refl, refl, refl, refl, refl)

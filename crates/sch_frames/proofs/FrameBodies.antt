@@ -1,5 +1,5 @@
 -- One body more, with its frame body.
-use Rattle.std.proofs.Common.{◌≡◌, ℕ, ◌+◌, ◌++◌, ◌<◌, List, [], ◌∷◌, length, take, get_or, Option, Some, None, Bool, true, false, refl, sym, ap, ◌∙◌, subst, max, ⊎_elim, arith}
+use Rattle.std.proofs.Common.{◌≡◌, ℕ, ◌+◌, ◌++◌, ◌*◌, ◌<◌, ◌≤◌, List, [], ◌∷◌, length, take, get_or, Option, Some, None, Bool, true, false, refl, sym, ap, ◌∙◌, subst, max, ⊎_elim, arith}
 use Rattle.std.specs.List.{list_all}
 use Rattle.std.proofs.lemmas.Bool.{and_parts, and_from, cases_Bool}
 use Rattle.std.proofs.lemmas.List.{take_more}
@@ -10,10 +10,12 @@ use Rattle.sch_control.specs.declared.body.Entry.{Entry}
 use Rattle.sch_control.specs.SourceView as control
 use Rattle.sch_control.specs.Straight as control_straight
 use Rattle.sch_control.specs.Tree as tree
+use Rattle.sch_control.specs.View.{expression}
 use Rattle.sch_frames.specs.declared.body.FrameBody.{FrameBody}
 use Rattle.sch_frames.specs.Does.{FrameOf, FramesOf}
 use Rattle.sch_frames.specs.Layout.{arrival_slots}
-use Rattle.sch_frames.specs.Sizes.{largest_frame, most_variables}
+use Rattle.sch_control.specs.Sizes.{expression_size, expressions_size}
+use Rattle.sch_frames.specs.Sizes.{codes_size, entry_size, instructions_size, largest_frame, most_variables}
 use Rattle.sch_frames.specs.SourceView.{code_of, codes_of}
 use Rattle.sch_frames.specs.Straight.{is_straight_code}
 use Rattle.sch_frames.specs.Tree.{Code}
@@ -41,6 +43,23 @@ largest_more cs fs c f h e =
     ∙ ap (λ n. max n f.words) h
     ∙ ap (max (most_variables cs)) e
     ∙ sym (max_push most_variables (λ c. c.variables) refl (λ x xs. refl) cs c)
+
+sizes_more : (cs : List tree.Code) (fs : List Code) (c : tree.Code) (f : Code) → codes_size fs ≤ 2 * expressions_size cs → instructions_size f.instructions ≤ 2 * expression_size c.expression
+    → codes_size (fs ++ f ∷ []) ≤ 2 * expressions_size (cs ++ c ∷ [])
+sizes_more cs fs c f h e = let a = codes_push fs f in let b = expressions_push cs c in omega (arith, a, b, h, e)
+  where
+    codes_push : (fs : List Code) (f : Code) → codes_size (fs ++ f ∷ []) ≡ codes_size fs + instructions_size f.instructions
+    codes_push [] f = omega arith
+    codes_push (x ∷ fs) f = let e = codes_push fs f in omega (arith, e)
+
+    expressions_push : (cs : List tree.Code) (c : tree.Code) → expressions_size (cs ++ c ∷ []) ≡ expressions_size cs + expression_size c.expression
+    expressions_push [] c = omega arith
+    expressions_push (x ∷ cs) c = let e = expressions_push cs c in omega (arith, e)
+
+-- a form stores no arguments
+form_size : (o : Option Entry) (n : ℕ) → control_straight.is_form o ≡ true → n + entry_size o ≡ n
+form_size None n h = omega arith
+form_size (Some e) n h = absurd cc
 
 -- the frame of a form has a slot for each variable and no more
 form_words : (o : Option Entry) (n : ℕ) → control_straight.is_form o ≡ true → arrival_slots o + n ≡ n
@@ -83,6 +102,15 @@ module _ (bodies : List Body) (i : ℕ) (b : Body) (lt : i < length bodies) (is 
         ap (list_all is_straight_code) grown
         ∙ list_all-append is_straight_code (codes_of made) (code_of f ∷ [])
         ∙ and_from _ _ h (and_from _ _ g refl)
+
+    pub size_next : control_straight.is_straight_code (control.code_of b) ≡ true → codes_size (codes_of made) ≤ 2 * expressions_size (control.codes_of (take i bodies))
+        → instructions_size f.instructions ≤ 2 * expression_size (expression b.exp) + entry_size b.entry
+        → codes_size (codes_of next) ≤ 2 * expressions_size (control.codes_of (take (i + 1) bodies))
+    size_next s h g =
+        let form = form_size b.entry (2 * expression_size (expression b.exp)) (and_parts _ _ s).0 in
+        subst (λ fs. codes_size fs ≤ 2 * expressions_size (control.codes_of (take (i + 1) bodies))) (sym grown)
+        (subst (λ cs. codes_size (codes_of made ++ code_of f ∷ []) ≤ 2 * expressions_size cs) (sym taken)
+        (sizes_more (control.codes_of (take i bodies)) (codes_of made) (control.code_of b) (code_of f) h (subst (λ n. instructions_size f.instructions ≤ n) form g)))
 
     pub words_next : control_straight.is_straight_code (control.code_of b) ≡ true → largest_frame (codes_of made) ≡ most_variables (control.codes_of (take i bodies))
         → f.words ≡ arrival_slots b.entry + b.variables → largest_frame (codes_of next) ≡ most_variables (control.codes_of (take (i + 1) bodies))

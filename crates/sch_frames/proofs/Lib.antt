@@ -5,6 +5,7 @@ mod Following
 mod FrameBodies
 mod Labels
 mod Laid
+mod LayoutSize
 mod Operating
 mod Same
 mod Skip

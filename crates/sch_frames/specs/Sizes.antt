@@ -1,8 +1,13 @@
--- Sizes of expressions and of frames.
-use Rattle.std.specs.Prelude.{ℕ, ◌+◌, max, List, [], ◌∷◌}
+-- Sizes of instructions and of frames, and how many nodes an expression has.
+use Rattle.std.specs.Prelude.{ℕ, suc, ◌+◌, max, List, [], ◌∷◌, length, Option, Some, None}
+use Rattle.sch_control.specs.declared.body.Entry.{Entry}
+use Rattle.sch_control.specs.Parts.{member_atoms}
+use Rattle.sch_control.specs.Sizes.{operand_size, operation_size}
 use Rattle.sch_control.specs.Tree as control
 use Rattle.sch_control.specs.Tree.{Expression, perform, bind, sequence, branch, fix, call, tail_call, return, end, save}
-use Rattle.sch_frames.specs.Tree.{Code}
+use Rattle.sch_frames.specs.declared.instruction.Instruction.{Instruction}
+use Rattle.sch_frames.specs.declared.instruction.Instruction.TheVariants.{Do, Load, Pass, Fix, Label, Mark}
+use Rattle.sch_frames.specs.Tree.{Code, Source}
 
 -- how many nodes an expression has
 abbrev pub nodes : Expression → ℕ
@@ -26,3 +31,32 @@ largest_frame (c ∷ codes) = max c.words (largest_frame codes)
 abbrev pub most_variables : List control.Code → ℕ
 most_variables [] = 0
 most_variables (c ∷ codes) = max c.variables (most_variables codes)
+
+-- ## Instructions
+
+-- One for each instruction, with what its operation has. Labels and marks are nothing that is done.
+abbrev pub instruction_size : Instruction → ℕ
+instruction_size (Do o) = suc (operation_size o)
+instruction_size (Load p o) = suc (operand_size o)
+instruction_size (Pass k o) = suc (operand_size o)
+instruction_size (Fix members) = suc (length (member_atoms members))
+instruction_size (Label l) = 0
+instruction_size (Mark m) = 0
+instruction_size _ = 1
+
+abbrev pub instructions_size : List Instruction → ℕ
+instructions_size [] = 0
+instructions_size (i ∷ instructions) = instruction_size i + instructions_size instructions
+
+abbrev pub codes_size : List Code → ℕ
+codes_size [] = 0
+codes_size (c ∷ codes) = instructions_size c.instructions + codes_size codes
+
+-- the size of a program's instructions
+abbrev pub program_size : Source → ℕ
+program_size p = codes_size p.bodies
+
+-- a procedure stores its closure and its arguments
+abbrev pub entry_size : Option Entry → ℕ
+entry_size None = 0
+entry_size (Some e) = suc e.formals

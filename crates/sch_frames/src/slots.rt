@@ -6,7 +6,8 @@ ghost use Rattle.sch_control.specs.Straight as control_straight;
 ghost use Rattle.sch_control.specs.View.{expression};
 ghost use Rattle.sch_frames.specs.Does.{FrameOf};
 ghost use Rattle.sch_frames.specs.Layout.{arrival_slots, labels, slots_layout, straight};
-ghost use Rattle.sch_frames.specs.Sizes.{nodes};
+ghost use Rattle.sch_control.specs.Sizes.{expression_size};
+ghost use Rattle.sch_frames.specs.Sizes.{entry_size, instructions_size, nodes};
 ghost use Rattle.sch_frames.specs.SourceView.{code_of};
 ghost use Rattle.sch_frames.specs.Straight.{is_straight_code};
 ghost use Rattle.sch_frames.specs.Valid.{formals_of};
@@ -41,9 +42,12 @@ fn laid_out(alloc: Global, b: &Body) -> Result<Writer, Mem>
 pub fn frame_slots(alloc: Global, b: &Body) -> Result<FrameBody, Mem>
     requires straight { IsTrue (straight (expression b.now.exp)) }
     ensures same { IfOk result (λ f. FrameOf (control.code_of b.now) (code_of f)) }
-    ensures straight { IfOk result (λ f. IsTrue (control_straight.is_straight_code (control.code_of b.now)) → IsTrue (is_straight_code (code_of f))) }
+    ensures straight { IfOk result (λ f.
+        IsTrue (control_straight.is_straight_code (control.code_of b.now)) → IsTrue (is_straight_code (code_of f))) }
     ensures words { IfOk result (λ f. f.words ≡ arrival_slots b.now.entry + b.now.variables) }
     ensures size { IfOk result (λ f. length f.instructions ≤ 3 * nodes (expression b.now.exp) + (formals_of b.now.entry + 1)) }
+    ensures work { IfOk result (λ f.
+        instructions_size f.instructions ≤ 2 * expression_size (expression b.now.exp) + entry_size b.now.entry) }
     ensures labels { IfOk result (λ f. f.labels ≤ 2 * nodes (expression b.now.exp)) }
 {
     let out = laid_out(alloc, b)?;

@@ -1,6 +1,6 @@
 //! The frame program of a straight program.
 
-ghost use Rattle.std.specs.Prelude.{◌≡◌, IfOk, IsTrue};
+ghost use Rattle.std.specs.Prelude.{◌≡◌, ◌≤◌, ◌*◌, IfOk, IsTrue};
 ghost use Rattle.std.specs.List.{list_all};
 ghost use Rattle.sch_word.specs.StaticsView.{statics};
 ghost use Rattle.sch_control.specs.ProgramView as control;
@@ -8,7 +8,8 @@ ghost use Rattle.sch_control.specs.SourceView as control_bodies;
 ghost use Rattle.sch_control.specs.Straight as control_straight;
 ghost use Rattle.sch_frames.specs.Does.{FramesOf, SameRuns};
 ghost use Rattle.sch_frames.specs.ProgramView.{source};
-ghost use Rattle.sch_frames.specs.Sizes.{largest_frame, most_variables};
+ghost use Rattle.sch_control.specs.Sizes.{expressions_size};
+ghost use Rattle.sch_frames.specs.Sizes.{codes_size, largest_frame, most_variables, program_size};
 ghost use Rattle.sch_frames.specs.SourceView.{codes_of};
 ghost use Rattle.sch_frames.specs.Straight.{is_straight_code, is_straight_program};
 
@@ -24,6 +25,7 @@ fn frame_bodies(alloc: Global, bodies: &[Body]) -> Result<List<FrameBody>, Mem>
     requires straight { IsTrue (list_all control_straight.is_straight_code (control_bodies.codes_of bodies.now)) }
     ensures frames { IfOk result (λ made. FramesOf (control_bodies.codes_of bodies.now) (codes_of made)) }
     ensures straight { IfOk result (λ made. IsTrue (list_all is_straight_code (codes_of made))) }
+    ensures size { IfOk result (λ made. codes_size (codes_of made) ≤ 2 * expressions_size (control_bodies.codes_of bodies.now)) }
     ensures words { IfOk result (λ made. largest_frame (codes_of made) ≡ most_variables (control_bodies.codes_of bodies.now)) }
 {
     let mut made = List::new(alloc);
@@ -41,6 +43,7 @@ pub fn frame_program(alloc: Global, p: &ControlProgram) -> Result<FrameProgram, 
     ensures same { IfOk result (λ q. SameRuns (control.source p.now) (source q)) }
     ensures straight { IfOk result (λ q. IsTrue (is_straight_program (source q))) }
     ensures statics { IfOk result (λ q. statics q.statics ≡ statics p.now.statics) }
+    ensures size { IfOk result (λ q. program_size (source q) ≤ 2 * expressions_size (control_bodies.codes_of p.now.bodies)) }
     ensures words { IfOk result (λ q. q.words ≡ most_variables (control_bodies.codes_of p.now.bodies)) }
 {
     let bodies = frame_bodies(alloc, p.bodies.as_slice())?;

@@ -1,3 +1,4 @@
+pub mod BodyCounts
 mod BodyExamples
 pub mod Environments
 mod Examples

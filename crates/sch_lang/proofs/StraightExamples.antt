@@ -1,8 +1,8 @@
 -- Worked rows of straight programs: where the first form stands that is not straight.
-use Rattle.std.proofs.Common.{◌≡◌, refl, true, false, [], ◌∷◌, pos, Some, None}
+use Rattle.std.proofs.Common.{◌≡◌, refl, false, [], ◌∷◌, pos, Some, None}
 use Rattle.sch_word.specs.declared.constant.Const.TheVariants.{Fixnum}
 use Rattle.sch_word.specs.declared.primitive.Primitive.TheVariants.{Add, Put}
-use Rattle.sch_lang.specs.Tree.{Expression, Expressions, constant, local, global, set_local, define, bind, lambda, call, operation, no_expressions, and_expression, expressions}
+use Rattle.sch_lang.specs.Tree.{Expression, constant, local, global, set_local, define, bind, lambda, call, operation, no_expressions, expressions}
 use Rattle.sch_lang.specs.Straight.{is_straight, first_other}
 
 abbrev one : Expression

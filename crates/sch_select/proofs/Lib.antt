@@ -28,3 +28,4 @@ pub mod ProgramKnown
 pub mod ProgramFacts
 pub mod Selected
 pub mod StraightPrograms
+pub mod TextSize

@@ -1,10 +1,12 @@
 -- What the type of frame programs keeps, as select needs it, and that a program's labels are its own.
-use Rattle.std.proofs.Common.{◌≡◌, ℕ, ◌+◌, ◌*◌, ◌≤◌, List, [], ◌∷◌, ◌++◌, length, Bool, true, false, refl, sym, ap, ◌∙◌, subst, arith, ◌==◌, ◌&&◌, ◌||◌, eq-eqb}
+use Rattle.std.proofs.Common.{◌≡◌, ℕ, ◌+◌, ◌*◌, ◌^◌, ◌<◌, ◌≤◌, List, [], ◌∷◌, ◌++◌, length, Bool, true, false, refl, sym, ap, ◌∙◌, subst, arith, ◌==◌, ◌&&◌, ◌||◌, eq-eqb, length-append}
 use Rattle.std.specs.Prelude.{nat_le, pos, replicate}
 use Rattle.std.specs.List.{list_all, AllByRecursion}
 use Rattle.std.proofs.lemmas.Bool.{and_parts, and_from, leb-true}
 use Rattle.std.proofs.lemmas.List.Elements.{All-from_recursion}
+use Rattle.std.proofs.lemmas.List.{length-replicate}
 use Rattle.sch_word.specs.Literals.{literals_known}
+use Rattle.sch_word.specs.ProgramLayout.{data_address}
 use Rattle.sch_word.specs.Runs.{max_statics, statics_size, statics_valid, statics_in_range, library_known}
 use Rattle.sch_frames.specs.declared.body.FrameBody.{FrameBody}
 use Rattle.sch_frames.specs.declared.program.FrameProgram.{FrameProgram}
@@ -78,3 +80,15 @@ pub whole_zeros : (p : Source) (limit g zeros : ℕ) → g ≡ length p.statics.
 whole_zeros p limit g zeros c e =
     let f : zeros + (globals_address + 8 * length p.statics.globals) ≡ stack_address (length p.statics.globals) limit + stack_bytes p.words = subst (λ g. zeros + (globals_address + 8 * g) ≡ stack_address g limit + stack_bytes p.words) c e in
     omega (arith, f)
+
+-- ---- where the data end
+
+three_count : (xs ys zs : List Word) (k m n : ℕ) → length xs ≡ k → length ys ≡ m → length zs ≡ n → length (xs ++ (ys ++ zs)) ≡ k + m + n
+three_count xs ys zs k m n e f g = let a = length-append xs (ys ++ zs) in let b = length-append ys zs in omega (arith, a, b, e, f, g)
+
+words_count : (p : Source) → length (program_words p) ≡ 99 + length p.statics.globals
+words_count p = three_count (replicate 64 (Fixed 0)) (word_list static_bytes) (replicate (length p.statics.globals) (Fixed 38)) 64 35 (length p.statics.globals) refl refl (length-replicate (length p.statics.globals) (Fixed 38))
+
+pub data_end : (p : Source) (limit : ℕ) → p.words ≤ 2048 → length p.statics.globals ≤ 29360128 → limit ≤ 1073741824
+    → data_address + (8 * length (program_words p) + program_zeros p limit) < 2 ^ 31
+data_end p limit words globals heap = let n = words_count p in omega (arith, n, words, globals, heap)

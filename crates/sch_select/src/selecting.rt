@@ -1,12 +1,15 @@
 //! A frame program's items and data: `select`.
 
-ghost use Rattle.std.specs.Prelude.{◌≡◌, ◌+◌, ◌*◌, ◌≤◌, ◌++◌, [], ◌∷◌, IfOk, IsTrue, OnOk, length, pos, replicate};
+ghost use Rattle.std.specs.Prelude.{◌≡◌, ◌+◌, ◌*◌, ◌^◌, ◌<◌, ◌≤◌, ◌++◌, [], ◌∷◌, IfOk, IsTrue, OnOk, length, pos, replicate};
+ghost use Rattle.sch_word.specs.ProgramLayout.{data_address};
+ghost use Rattle.sch_asm.specs.Codes.{text_size};
 ghost use Rattle.sch_asm.specs.Items.{AreOwn};
 ghost use Rattle.sch_asm.specs.declared.item.Item.TheVariants as item;
 ghost use Rattle.sch_asm.specs.declared.assembly.Word.TheVariants.{Fixed};
 ghost use Rattle.sch_asm.specs.declared.routine.Routine.TheVariants as routine;
 ghost use Rattle.sch_asm.specs.Routines.{label_of};
 ghost use Rattle.sch_frames.specs.ProgramView.{source};
+ghost use Rattle.sch_frames.specs.Sizes.{program_size};
 ghost use Rattle.sch_frames.specs.SourceView.{codes_of};
 ghost use Rattle.sch_frames.specs.Straight.{is_straight_program};
 ghost use Rattle.sch_insn.specs.declared.insn.Insn.TheVariants.{MovWord};
@@ -189,12 +192,14 @@ fn items_of(alloc: Global, p: &FrameProgram, layout: Layout, depth: u64) -> Resu
 /// follow one after the other, and behind them the routine that puts any value.
 ///
 /// Resolved with the run-time routines, they do what the program does, whatever the machine is given and
-/// whatever the kernel answers. Straight programs have their code yet. Time and memory are linear in the
-/// instructions, the labels and the globals.
+/// whatever the kernel answers. Only straight programs have their code yet. Time and memory are linear in the
+/// instructions, the labels and the globals. The addresses of the data are numbers of 31 bits.
 pub fn select(alloc: Global, p: &FrameProgram, limits: Limits) -> Result<Asm, Mem>
     requires straight { IsTrue (is_straight_program (source p.now)) }
     ensures follows { IfOk result (λ a. FollowsFrames (source p.now) limits.heap limits.depth a.items a.words a.zeros) }
     ensures own { IfOk result (λ a. AreOwn a.items) }
+    ensures text { IfOk result (λ a. text_size a.items ≤ 512 + 64 * program_size (source p.now)) }
+    ensures ends { IfOk result (λ a. data_address + (8 * length a.words + a.zeros) < 2 ^ 31) }
 {
     let globals = p.statics.globals.len();
     let layout = lay_out(globals as u64, p.words, limits);

@@ -5,7 +5,6 @@ use Rattle.sch_cells.specs.Bodies.{bodies_of}
 use Rattle.sch_cells.specs.BoxedMeaning as boxed
 use Rattle.sch_cells.specs.Measures.{call_sites_of, dropped_of, program_size, sites_of, tests_of}
 use Rattle.sch_cells.specs.ProgramView.{source}
-use Rattle.sch_cells.specs.Straight.{is_straight_program}
 use Rattle.sch_cells.specs.UnboxedMeaning as unboxed
 use Rattle.sch_cells.specs.Valid.{bound_of}
 use Rattle.sch_assign.specs.Table.{table}
@@ -16,7 +15,8 @@ use Rattle.sch_assign.proofs.Same.{runs_alike}
 use Rattle.sch_assign.proofs.Laws.{if_ok}
 use Rattle.sch_assign.proofs.MeasuresKept.{calls_kept, tests_kept, dropped_kept}
 use Rattle.sch_assign.proofs.SizeKept.{program_size_kept}
-use Rattle.sch_assign.proofs.StraightKept.{straight_kept}
+use Rattle.sch_assign.specs.SameTrees.{SameTrees}
+use Rattle.sch_assign.proofs.StraightKept.{trees_kept}
 use Rattle.sch_assign.proofs.ValidKept.{sites_kept}
 use Rattle.sch_assign.proofs.convert_assign.Goals as goal
 
@@ -89,4 +89,4 @@ returns-clause-straight c =
     let v = c.args.p.now in
     let has_cell = table c.as_slice.result.now in
     let same = λ (y : ℕ). ap (λ bs. table bs y) c.as_slice.ensures.value ∙ c.in_ok-celled.ensures y in
-    if_ok c.convert_program.result _ _ c.convert_program.ensures (λ q made s. subst (λ t. IsTrue (is_straight_program t)) (sym made) (straight_kept has_cell v.variables (source v) same s))
+    if_ok c.convert_program.result _ _ c.convert_program.ensures (λ q made s. subst (SameTrees (source v)) (sym made) (trees_kept has_cell v.variables (source v) same s))

@@ -1,6 +1,7 @@
 use Rattle.sch_control.specs.SourceView as control
 use Rattle.sch_control.specs.View.{expression}
 use Rattle.sch_frames.proofs.SlotsFrame.{slots_placed, slots_does, slots_forward, slots_shaped, slots_size, labels_size}
+use Rattle.sch_frames.proofs.LayoutSize.{slots_work}
 use Rattle.sch_frames.proofs.StraightSlots.{slots_straight}
 use Rattle.sch_frames.proofs.slots.frame_slots.Goals as goal
 
@@ -29,3 +30,6 @@ returns-clause-labels c = rw c.in_ok-out.ensures.labels (labels_size (expression
 
 pub returns-clause-straight : goal.returns-clause-straight
 returns-clause-straight c s = rw c.in_ok-out.ensures.instructions (slots_straight (control.code_of c.args.b.now) s)
+
+pub returns-clause-work : goal.returns-clause-work
+returns-clause-work c = rw c.in_ok-out.ensures.instructions (slots_work (control.code_of c.args.b.now))

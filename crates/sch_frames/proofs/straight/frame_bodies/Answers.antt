@@ -1,4 +1,4 @@
-use Rattle.sch_frames.proofs.FrameBodies.{body_straight, frames_next, straight_next, words_next}
+use Rattle.sch_frames.proofs.FrameBodies.{body_straight, frames_next, straight_next, size_next, words_next}
 use Rattle.sch_frames.proofs.StraightSlots.{laid_out}
 use Rattle.std.proofs.lemmas.Bool.{and_parts}
 use Rattle.sch_control.specs.View.{expression}
@@ -20,5 +20,6 @@ loop-b-preserved c =
     record {
       frames = frames_next bodies i b c.loop-b-test.true c.b-item.is c.loop-b.made c.push.new.self f c.in_ok-push.ensures.ok c.loop-b.invariant.frames c.in_ok-frame_slots.ensures.same;
       straight = straight_next bodies i b c.loop-b-test.true c.b-item.is c.loop-b.made c.push.new.self f c.in_ok-push.ensures.ok c.loop-b.invariant.straight (c.in_ok-frame_slots.ensures.straight s);
+      size = size_next bodies i b c.loop-b-test.true c.b-item.is c.loop-b.made c.push.new.self f c.in_ok-push.ensures.ok s c.loop-b.invariant.size c.in_ok-frame_slots.ensures.work;
       words = words_next bodies i b c.loop-b-test.true c.b-item.is c.loop-b.made c.push.new.self f c.in_ok-push.ensures.ok s c.loop-b.invariant.words c.in_ok-frame_slots.ensures.words;
     }

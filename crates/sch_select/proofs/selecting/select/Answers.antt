@@ -1,16 +1,20 @@
-use Rattle.std.proofs.Common.{sym, subst}
+use Rattle.std.proofs.Common.{◌+◌, ◌*◌, ◌^◌, ◌<◌, ◌≤◌, length, sym, subst}
+use Rattle.sch_word.specs.ProgramLayout.{data_address}
 use Rattle.std.specs.Prelude.{IsTrue, false}
 use Rattle.sch_asm.specs.Items.{AreItems, AreKnown, AreOwn, IsEachOnce, labels_in, marks_arrive}
+use Rattle.sch_asm.specs.Codes.{text_size}
 use Rattle.sch_frames.specs.ProgramView.{source}
+use Rattle.sch_frames.specs.Sizes.{program_size}
 use Rattle.sch_select.specs.Follows.{FollowsFrames}
 use Rattle.sch_select.specs.Program.{program_code, program_words, program_zeros}
 use Rattle.sch_select.proofs.JoinedProgram.{frames_follow}
-use Rattle.sch_select.proofs.ProgramFacts.{all_forward, globals_few, program_own, whole_items, whole_words, whole_zeros, words_few}
+use Rattle.sch_select.proofs.ProgramFacts.{all_forward, data_end, globals_few, program_own, whole_items, whole_words, whole_zeros, words_few}
 use Rattle.sch_select.proofs.ProgramKnown.{program_known}
 use Rattle.sch_select.proofs.ProgramLabels.{program_once}
 use Rattle.sch_select.proofs.ProgramMarks.{program_marked}
 use Rattle.sch_select.proofs.ProgramSound.{program_sound}
 use Rattle.sch_select.proofs.StraightPrograms.{straight_selected}
+use Rattle.sch_select.proofs.TextSize.{text_small}
 use Rattle.sch_select.proofs.selecting.select.Goals as goal
 
 pub invariant_of-result : goal.invariant_of-result
@@ -48,3 +52,21 @@ returns-clause-own c =
     let l = c.args.limits in
     let i = sym (whole_items q l.heap l.depth _ _ _ _ c.lay_out-layout.ensures.stack c.lay_out-layout.ensures.heap c.len-globals.ensures c.in_ok-items.ensures) in
     subst AreOwn i (program_own q l.heap l.depth (all_forward p.bodies))
+
+pub returns-clause-ends : goal.returns-clause-ends
+returns-clause-ends c =
+    let p = c.args.p.now in
+    let q = source p in
+    let l = c.args.limits in
+    let w = sym (whole_words q _ _ c.len-globals.ensures c.in_ok-words.ensures) in
+    let z = sym (whole_zeros q l.heap _ _ c.len-globals.ensures c.lay_out-layout.ensures.zeros) in
+    subst (λ ws. data_address + (8 * length ws + c.lay_out-layout.result.zeros) < 2 ^ 31) w
+    (subst (λ z. data_address + (8 * length (program_words q) + z) < 2 ^ 31) z (data_end q l.heap (words_few p) (globals_few p) l.admitted.heap_high))
+
+pub returns-clause-text : goal.returns-clause-text
+returns-clause-text c =
+    let p = c.args.p.now in
+    let q = source p in
+    let l = c.args.limits in
+    let i = sym (whole_items q l.heap l.depth _ _ _ _ c.lay_out-layout.ensures.stack c.lay_out-layout.ensures.heap c.len-globals.ensures c.in_ok-items.ensures) in
+    subst (λ is. text_size is ≤ 512 + 64 * program_size q) i (text_small q l.heap l.depth)

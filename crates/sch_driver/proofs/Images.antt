@@ -1,0 +1,70 @@
+-- The image of a program whose items follow the runs of its frames.
+use Rattle.std.proofs.Common.{◌≡◌, ◌≤◌, ℕ, ◌+◌, ◌*◌, List, [], ◌∷◌, ◌++◌, length, Option, Some, None, refl, sym, ap, ◌∙◌, subst, arith}
+use Rattle.std.specs.Prelude.{IsTrue, replicate, false}
+use Rattle.std.specs.List.{flat_map}
+use Rattle.std.proofs.lemmas.List.{append-nil}
+use Rattle.sch_word.specs.declared.answer.Answer.{Answer}
+use Rattle.sch_word.specs.ProgramLayout.{max_text_size}
+use Rattle.sch_word.specs.Runs.{Run}
+use Rattle.sch_insn.specs.declared.insn.Insn.{Insn}
+use Rattle.sch_insn.specs.Behaves.{FollowsRuns}
+use Rattle.sch_insn.specs.Spelling.{AllValid, spelling}
+use Rattle.sch_asm.specs.declared.assembly.Asm.{Asm}
+use Rattle.sch_asm.specs.declared.error.AsmError.{AsmError}
+use Rattle.sch_asm.specs.declared.error.AsmError.TheVariants.{TextTooLarge, Memory}
+use Rattle.sch_asm.specs.declared.item.Item.{Item}
+use Rattle.sch_asm.specs.declared.item.Mark.{Mark}
+use Rattle.sch_asm.specs.Codes.{AreResolved, text_size, IsTooLarge}
+use Rattle.sch_asm.specs.Data.{data_at}
+use Rattle.sch_asm.specs.Effects.{AreEffective}
+use Rattle.sch_asm.specs.Views.{text_at}
+use Rattle.sch_asm.proofs.Tables.{size_append}
+use Rattle.sch_elf.specs.declared.image.Image.{Image}
+use Rattle.sch_elf.specs.Layout.{memory}
+use Rattle.sch_elf.specs.Program.{IsProgramImage, text_address}
+use Rattle.sch_control.specs.Sizes.{expressions_size}
+use Rattle.sch_control.specs.Tree as control
+use Rattle.sch_control.specs.Run as control_run
+use Rattle.sch_frames.specs.Does.{Follows, SameRuns}
+use Rattle.sch_frames.specs.Tree as frames
+use Rattle.sch_select.specs.Follows.{FollowsFrames}
+use Rattle.sch_driver.specs.Assembled.{IsAssembled, IsUnfit, of_assembly}
+
+-- the memory of an image is its text and its data
+memory_is : (text words : List ℕ) (zeros : ℕ) (image : Image) → IsProgramImage text words zeros image → memory image.segments ≡ text_at text ∷ data_at (words ++ replicate zeros 0) ∷ []
+memory_is text words zeros image lies =
+    ap memory lies.segments ∙ ap (λ bytes. text_at bytes ∷ data_at (words ++ replicate zeros 0) ∷ []) (append-nil text)
+
+image_follows : (text words : List ℕ) (zeros : ℕ) (image : Image) (runs : List Answer → ℕ → Run) → IsProgramImage text words zeros image
+    → FollowsRuns text_address (text_at text ∷ data_at (words ++ replicate zeros 0) ∷ []) runs → FollowsRuns image.entry (memory image.segments) runs
+image_follows text words zeros image runs lies f =
+    subst (λ a. FollowsRuns a (memory image.segments) runs) (sym lies.entry)
+    (subst (λ segments. FollowsRuns text_address segments runs) (sym (memory_is text words zeros image lies)) f)
+
+-- a run of the frames, where the control program is not wrong
+not_wrong : (a b : Option Run) (r : Run) → a ≡ Some r → Follows a b → b ≡ Some r
+not_wrong a b r e = subst (λ o. Follows o b → b ≡ Some r) (sym e) (λ f. f)
+
+pub assembled : (p : control.Source) (f : frames.Source) (heap depth : ℕ) (a routines : Asm) (code : List Insn) (marks : List Mark) (words text : List ℕ) (zeros : ℕ) (image : Image)
+    → SameRuns p f → FollowsFrames f heap depth a.items a.words a.zeros → AreEffective routines.items → AreResolved (a.items ++ routines.items) a.words code marks words → AllValid code
+    → length (flat_map spelling code) ≤ max_text_size → text ≡ flat_map spelling code → zeros ≡ a.zeros → IsProgramImage text words zeros image → IsAssembled p heap depth image
+assembled p f heap depth a routines code marks words text zeros image same follows effective resolved valid fits text_is zeros_are lies =
+    let lies' : IsProgramImage (flat_map spelling code) words a.zeros image =
+        subst (λ t. IsProgramImage t words a.zeros image) text_is (subst (λ z. IsProgramImage text words z image) zeros_are lies) in
+    record {
+      laid_out = record { code = code; valid = valid; words = words; zeros = a.zeros; lies = lies' };
+      follows = λ runs are.
+          image_follows (flat_map spelling code) words a.zeros image runs lies'
+          (follows.follows routines.items code marks words effective a.marked routines.marked resolved valid fits runs
+          (record { are = λ answers entries. not_wrong (control_run.run p heap depth answers entries) _ (runs answers entries) (are answers entries) (same heap depth answers entries) }));
+    }
+
+-- ## What is too large
+
+-- the text of a program's items and of the routines, by the size of its bodies
+pub text_within : (a routines : List Item) (f size : ℕ) → text_size a ≤ 512 + 64 * f → f ≤ 2 * size → text_size routines ≤ 1024 → text_size (a ++ routines) ≤ 65536 + 128 * size
+text_within a routines f size text few short = let e = size_append a routines in omega (arith, e, text, few, short)
+
+pub unfit : (p : control.Source) (n : ℕ) (error : AsmError) → n ≤ 65536 + 128 * expressions_size p.bodies → IsTooLarge n error → IsUnfit p (of_assembly error)
+unfit p n (TextTooLarge bytes) h t = (t.1, subst (λ k. k ≤ 65536 + 128 * expressions_size p.bodies) (sym t.0) h)
+unfit p n Memory h t = tt

@@ -1,0 +1,4 @@
+pub mod Chain
+pub mod Images
+pub mod Spelled
+pub mod BuiltTexts

@@ -1,0 +1,30 @@
+//! Reads and expands a text, and refuses what is not straight code.
+
+ghost use Rattle.std.specs.Prelude.{◌≤◌, ◌*◌, length, IfOk, IfErr};
+ghost use Rattle.sch_lang.specs.Measures.{nodes_and_bound};
+ghost use Rattle.sch_lang.specs.ProgramView.{source};
+ghost use Rattle.sch_read.specs.Valid.{max_weight};
+ghost use Rattle.sch_driver.specs.Causes.{IsBuilt, IsErrorOf, max_source_size};
+
+use crate::error::CompileError;
+use crate::straight::first_other;
+use sch_core::{core, form_places};
+use sch_lang::Program;
+use sch_read::read_all;
+use std::alloc::Global;
+
+/// The core program of a text whose forms are all straight code.
+pub(crate) fn read_program(alloc: Global, text: &[u8]) -> Result<Program, CompileError>
+    requires short { length text.now ≤ max_source_size }
+    ensures built { IfOk result (λ p. IsBuilt text.now (source p)) }
+    ensures size { IfOk result (λ p. nodes_and_bound (source p) ≤ 16 * max_weight) }
+    ensures refused { IfErr result (IsErrorOf text.now) }
+{
+    let items = read_all(alloc, text)?;
+    let program = core(alloc, items.as_slice())?;
+    let places = form_places(alloc, items.as_slice())?;
+    match first_other(places.as_slice(), program.forms.as_slice()) {
+        None => Ok(program),
+        Some(at) => Err(CompileError::NotBuilt(at)),
+    }
+}
