@@ -2,8 +2,8 @@
 use Rattle.std.specs.Prelude.{List, map}
 use Rattle.sch_core.specs.declared.draft.Draft.{Draft, fold-Draft}
 use Rattle.sch_core.specs.declared.draft.Draft.TheOpen.{Draft-F}
-use Rattle.sch_core.specs.Draft as plain
-use Rattle.sch_core.specs.Draft.{Drafts, drafts, constant, local, global, define, branch, sequence, bind, operation}
+use Rattle.sch_forms.specs.Draft as plain
+use Rattle.sch_forms.specs.Draft.{Drafts, drafts, constant, local, global, define, branch, sequence, bind, operation}
 
 -- one level
 abbrev pub draft_view : Draft-F plain.Draft → plain.Draft

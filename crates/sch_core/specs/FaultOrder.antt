@@ -1,7 +1,7 @@
 -- The order of faults: by their places, and at one place by their causes.
 use Rattle.std.specs.Prelude.{ℕ, ◌+◌, ◌*◌, cond, nat_le, List, [], ◌∷◌, Option, Some, None}
-use Rattle.sch_core.specs.declared.fault.Fault.{Fault}
-use Rattle.sch_core.specs.declared.fault.Fault.TheVariants.{Unbuilt, KeywordDefined, BadForm, Unbound, Operands, Core}
+use Rattle.sch_forms.specs.declared.fault.Fault.{Fault}
+use Rattle.sch_forms.specs.declared.fault.Fault.TheVariants.{Unbuilt, KeywordDefined, BadForm, Unbound, Operands, Core}
 
 -- there are six causes
 abbrev pub rank : Fault → ℕ

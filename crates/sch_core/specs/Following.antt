@@ -1,6 +1,6 @@
 -- Drafts that are made, and then others.
 use Rattle.std.specs.Prelude.{List, [], ◌∷◌}
-use Rattle.sch_core.specs.Draft.{Draft, Drafts, and_draft}
+use Rattle.sch_forms.specs.Draft.{Draft, Drafts, and_draft}
 
 abbrev pub and_then : List Draft → Drafts → Drafts
 and_then [] rest = rest

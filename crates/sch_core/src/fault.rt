@@ -1,22 +1,11 @@
-//! Faults, and the least of them.
+//! The order of faults, and the least of them.
 
 ghost use Rattle.std.specs.Prelude.{◌≡◌, ◌<◌, ◌^◌, ◌*◌, ◌+◌};
 ghost use Rattle.sch_core.specs.FaultOrder.{rank, reported};
 
-use sch_word::Bytes;
+use sch_forms::Fault;
 
-/// Why a list of data has no program, with the place.
-#[derive(Drop)]
-pub(crate) enum Fault {
-    Unbuilt(u32),
-    KeywordDefined(u32),
-    BadForm(u32),
-    Unbound(u32, Bytes),
-    Operands(u32),
-    Core(u32),
-}
-
-/// The order of faults.
+/// The order of faults: by their places, and at one place by their causes.
 fn rank(f: &Fault) -> u64
     ensures { result ≡ rank f.now }
 {
