@@ -12,7 +12,7 @@ use Rattle.sch_scope.specs.Operations.{operation_of}
 use Rattle.sch_forms.specs.declared.sketch.Position.TheVariants.{Value}
 use Rattle.sch_forms.specs.Draft.{Draft, constant, operation, no_drafts, and_draft, drafts}
 use Rattle.sch_forms.specs.Sketch.{operating, leaf, text as sketch, no_sketch, and_sketch}
-use Rattle.sch_core.specs.Expands as ex
+use Rattle.sch_expand.specs.Expands as ex
 use Rattle.sch_core.specs.Forms as fo
 use Rattle.sch_core.specs.Forms.{TopExpands, FormsExpand, TextExpands, defined, defined_by, firsts, globals_of}
 use Rattle.sch_core.specs.Numbered.{numbered_each, program_of, global_names_of_each}

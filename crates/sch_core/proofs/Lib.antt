@@ -1,10 +1,5 @@
-pub mod Best
-pub mod Readings
 pub mod TextLaws
 pub mod Loops
-pub mod Sketches
-pub mod Taking
-pub mod Stacks
 pub mod TopSteps
 pub mod TopLaws
 pub mod Top

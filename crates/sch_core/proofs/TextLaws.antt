@@ -6,12 +6,12 @@ use Rattle.sch_forms.specs.declared.fault.Fault.{Fault}
 use Rattle.sch_forms.specs.declared.sketch.Position.{Position}
 use Rattle.sch_forms.specs.Draft.{Draft}
 use Rattle.sch_forms.specs.Sketch.{text}
-use Rattle.sch_core.specs.Expands.{Expands}
-use Rattle.sch_core.specs.Faults.{HasFault}
+use Rattle.sch_expand.specs.Expands.{Expands}
+use Rattle.sch_expand.specs.Faults.{HasFault}
 use Rattle.sch_core.specs.Laws.{NoFault, FaultOrDraft}
-use Rattle.sch_core.specs.Reads.{Reads}
-use Rattle.sch_core.proofs.Best.{none_some}
-use Rattle.sch_core.proofs.Readings.{clean, read_best, read_made, is_read}
+use Rattle.sch_expand.specs.Reads.{Reads}
+use Rattle.sch_expand.proofs.Best.{none_some}
+use Rattle.sch_expand.proofs.Readings.{clean, read_best, read_made, is_read}
 
 pub never_both : NoFault
 never_both g n s t d a p f q = clean g p q

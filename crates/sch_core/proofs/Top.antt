@@ -3,8 +3,8 @@ use Rattle.std.proofs.Common.{◌≡◌, ℕ, List, [], Option, Some, None, map,
 use Rattle.sch_read.specs.Grammar.{Data}
 use Rattle.sch_forms.specs.declared.fault.Fault.{Fault}
 use Rattle.sch_forms.specs.Draft.{Draft}
-use Rattle.sch_core.specs.declared.draft.Draft as code
-use Rattle.sch_core.specs.DraftView.{draft_of}
+use Rattle.sch_expand.specs.declared.draft.Draft as code
+use Rattle.sch_expand.specs.DraftView.{draft_of}
 use Rattle.sch_core.specs.Forms.{firsts, defined, globals_of, FormsRead, TextExpands, IsFaultOf}
 use Rattle.sch_core.proofs.TopLaws.{text_fault, text_drafts, forms_unique, forms_clean}
 

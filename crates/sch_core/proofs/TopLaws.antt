@@ -9,14 +9,14 @@ use Rattle.sch_forms.specs.declared.fault.Fault.TheVariants.{Unbuilt, BadForm, K
 use Rattle.sch_forms.specs.declared.sketch.Position.TheVariants.{Value}
 use Rattle.sch_forms.specs.Draft.{Draft, define}
 use Rattle.sch_forms.specs.Sketch.{text}
-use Rattle.sch_core.specs.FaultOrder.{reported}
-use Rattle.sch_core.specs.Expands.{Expands}
-use Rattle.sch_core.specs.Faults.{HasFault}
-use Rattle.sch_core.specs.Reads.{Reads}
+use Rattle.sch_expand.specs.FaultOrder.{reported}
+use Rattle.sch_expand.specs.Expands.{Expands}
+use Rattle.sch_expand.specs.Faults.{HasFault}
+use Rattle.sch_expand.specs.Reads.{Reads}
 use Rattle.sch_core.specs.Forms.{by_word, word_of, unless_keyword, globals_of, TopExpands, FormsExpand, ValueHasFault, DefineHasFault, TopHasFault, SomeHasFault, Refuses, ExpressionReads, ValueReads, DefineReads, TopReads, FormsRead, TextExpands, IsFaultOf}
 use Rattle.sch_core.specs.Forms as fo
-use Rattle.sch_core.proofs.Best.{Best, and_then, none_new, one_new, none_some, some_is, best_by, none_before, none_reported}
-use Rattle.sch_core.proofs.Readings.{unique, clean, one_fault, read_best, read_made, is_read}
+use Rattle.sch_expand.proofs.Best.{Best, and_then, none_new, one_new, none_some, some_is, best_by, none_before, none_reported}
+use Rattle.sch_expand.proofs.Readings.{unique, clean, one_fault, read_best, read_made, is_read}
 
 false_true : false ≡ true → ⊥
 false_true e = cc

@@ -6,7 +6,7 @@ use Rattle.sch_scope.specs.declared.keyword.Keyword.TheVariants as word
 use Rattle.sch_forms.specs.declared.fault.Fault.{Fault}
 use Rattle.sch_forms.specs.declared.fault.Fault.TheVariants.{Unbuilt, BadForm, KeywordDefined}
 use Rattle.sch_scope.specs.Words.{keyword_of}
-use Rattle.sch_core.specs.FaultOrder.{reported}
+use Rattle.sch_expand.specs.FaultOrder.{reported}
 use Rattle.sch_read.specs.Parts.{offset}
 use Rattle.sch_core.specs.Shapes.{IsHeaded}
 use Rattle.sch_read.specs.Parts.{IsNoSymbol, IsNoProperList}
@@ -17,7 +17,7 @@ use Rattle.sch_read.specs.Views.{tree_of, data_of}
 use Rattle.sch_forms.specs.declared.sketch.Position.TheVariants.{Value}
 use Rattle.sch_forms.specs.Draft.{Draft, define}
 use Rattle.sch_forms.specs.Sketch.{text as sketch}
-use Rattle.sch_core.specs.Reads.{Reads}
+use Rattle.sch_expand.specs.Reads.{Reads}
 use Rattle.sch_core.proofs.Loops.{next_is}
 
 pub no_symbol_first : (d : Datum) (xs : Data) → IsNoSymbol d → first_name (cons d xs) ≡ None

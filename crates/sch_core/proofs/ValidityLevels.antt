@@ -11,8 +11,8 @@ use Rattle.sch_forms.specs.Sketch.{Kind, choosing, sequencing, binding, operatin
 use Rattle.sch_forms.specs.Soundness.{IsAtom, HasParts, IsSound, AreSound as PartsSound}
 use Rattle.sch_forms.proofs.Sound.{datum_sound, rest_sound}
 use Rattle.sch_core.specs.Numbered.{widths, widths_of_each, numbered, numbered_each}
-use Rattle.sch_core.specs.Expands.{IsLevel, Expands, PartsExpand}
-use Rattle.sch_core.specs.Expands as ex
+use Rattle.sch_expand.specs.Expands.{IsLevel, Expands, PartsExpand}
+use Rattle.sch_expand.specs.Expands as ex
 use Rattle.sch_core.specs.Forms.{TopExpands, FormsExpand}
 use Rattle.sch_core.specs.Forms as fo
 use Rattle.sch_core.proofs.ValiditySoundness.{counted}

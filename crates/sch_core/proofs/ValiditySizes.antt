@@ -12,8 +12,8 @@ use Rattle.sch_forms.specs.Soundness.{IsAtom, HasParts, IsSound, AreSound as Par
 use Rattle.sch_forms.proofs.Falls.{datum_falls, rest_falls, datum_weighs}
 use Rattle.sch_forms.proofs.Sound.{datum_sound, rest_sound}
 use Rattle.sch_core.specs.Numbered.{widths, widths_of_each, global_names, global_names_of_each, numbered, numbered_each}
-use Rattle.sch_core.specs.Expands.{Expands, PartsExpand}
-use Rattle.sch_core.specs.Expands as ex
+use Rattle.sch_expand.specs.Expands.{Expands, PartsExpand}
+use Rattle.sch_expand.specs.Expands as ex
 use Rattle.sch_core.specs.Forms.{TopExpands, FormsExpand}
 use Rattle.sch_core.specs.Forms as fo
 use Rattle.sch_core.proofs.ValiditySites.{count_numbered}
@@ -85,8 +85,14 @@ parts_names (and_draft e (and_draft f fs)) h =
 
 branch_names : (a b c : Draft) → names (branch a b c) ≡ names_each (and_draft a (and_draft b (and_draft c no_drafts)))
 branch_names a b c =
-    omega (arith, length-append (global_names a) (global_names b ++ global_names c), length-append (global_names b) (global_names c),
-    length-append (global_names a) (global_names b ++ (global_names c ++ [])), length-append (global_names b) (global_names c ++ []), length-append (global_names c) [])
+    omega (
+      arith,
+      length-append (global_names a) (global_names b ++ global_names c),
+      length-append (global_names b) (global_names c),
+      length-append (global_names a) (global_names b ++ (global_names c ++ [])),
+      length-append (global_names b) (global_names c ++ []),
+      length-append (global_names c) [],
+    )
 
 node_names : (k : Kind) (es : Drafts) → HasParts k (count es) → names (assemble k es) ≡ names_each es
 node_names choosing (and_draft a (and_draft b (and_draft c no_drafts))) h = branch_names a b c

@@ -8,8 +8,8 @@ use Rattle.sch_forms.specs.Draft.{Draft, Drafts, constant, local, global, define
 use Rattle.sch_forms.specs.Sketch.{Kind, choosing, sequencing, binding, operating, Sketch, Sketches, how_many_parts, is_end, scope_in, front, last, assemble, width}
 use Rattle.sch_forms.specs.Soundness.{IsAtom, HasParts, IsSound, AreSound as PartsSound}
 use Rattle.sch_forms.proofs.Sound.{onto_length, datum_sound, rest_sound}
-use Rattle.sch_core.specs.Expands.{AreFew, Expands, PartsExpand}
-use Rattle.sch_core.specs.Expands as ex
+use Rattle.sch_expand.specs.Expands.{AreFew, Expands, PartsExpand}
+use Rattle.sch_expand.specs.Expands as ex
 use Rattle.sch_core.specs.Forms.{TopExpands, FormsExpand}
 use Rattle.sch_core.specs.Forms as fo
 use Rattle.sch_core.proofs.ValiditySound.{Sound, AreSound, sound_append}
@@ -64,9 +64,11 @@ node_sound (operating q) s es c w p = (c, all_in (operating q) true (length s) s
 node_sound (binding vs) s es c w p =
     let x = front_count es (length vs) c in
     let w' : AreFew (length vs) = rw c at w in
-    let b = body_in_place vs true s es (omega (arith, c)) p in
-    (omega (arith, x, leb-true _ _ w'), inits_in_place vs true s es p,
-    subst (λ m. Sound m (last es)) (omega (arith, onto_length vs s, x)) b)
+    let b = body_in_place vs true s es (omega (arith, c)) p in (
+      omega (arith, x, leb-true _ _ w'),
+      inits_in_place vs true s es p,
+      subst (λ m. Sound m (last es)) (omega (arith, onto_length vs s, x)) b,
+    )
 
 atom_sound : (m : ℕ) (e : Draft) → IsAtom e m → Sound m e
 atom_sound m (constant c) h = h

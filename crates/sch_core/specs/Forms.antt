@@ -10,10 +10,10 @@ use Rattle.sch_forms.specs.declared.fault.Fault.TheVariants.{Unbuilt, BadForm, K
 use Rattle.sch_forms.specs.declared.sketch.Position.TheVariants.{Value}
 use Rattle.sch_forms.specs.Draft.{Draft, define}
 use Rattle.sch_forms.specs.Sketch.{text}
-use Rattle.sch_core.specs.FaultOrder.{rank, reported}
-use Rattle.sch_core.specs.Expands.{Expands}
-use Rattle.sch_core.specs.Faults.{HasFault}
-use Rattle.sch_core.specs.Reads.{Reads}
+use Rattle.sch_expand.specs.FaultOrder.{rank, reported}
+use Rattle.sch_expand.specs.Expands.{Expands}
+use Rattle.sch_expand.specs.Faults.{HasFault}
+use Rattle.sch_expand.specs.Reads.{Reads}
 
 -- What the word at the head of a top-level form makes of it. No local variable shadows it, and no
 -- global one can.

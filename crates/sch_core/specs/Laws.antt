@@ -6,8 +6,8 @@ use Rattle.sch_forms.specs.declared.fault.Fault.{Fault}
 use Rattle.sch_forms.specs.Draft.{Draft}
 use Rattle.sch_scope.specs.Scope.{Scope}
 use Rattle.sch_forms.specs.Sketch.{text}
-use Rattle.sch_core.specs.Expands.{Expands}
-use Rattle.sch_core.specs.Faults.{HasFault}
+use Rattle.sch_expand.specs.Expands.{Expands}
+use Rattle.sch_expand.specs.Faults.{HasFault}
 
 -- at most one draft stands for a datum at a level, in a scope and in a position
 abbrev pub AtMostOne : Type 0

@@ -1,12 +1,5 @@
 pub mod Constants
-pub mod FaultOrder
-pub mod DraftView
-pub mod Expands
-pub mod Faults
-pub mod Reads
 pub mod Shapes
-pub mod Following
-pub mod Stacking
 pub mod Forms
 pub mod Numbered
 pub mod Counted

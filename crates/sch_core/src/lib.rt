@@ -1,20 +1,15 @@
 //! The expander: data to a program of the core language.
 #![tactic(auto)]
 
-mod draft;
 mod error;
 mod expander;
-mod fault;
 mod laws;
 mod nesting;
-mod nodes;
 mod numbering;
 mod places;
 mod program;
-mod reports;
 mod toplevel;
 mod variables;
-mod walk;
 
 pub use error::{CoreError, Kind};
 pub use expander::core;

@@ -9,14 +9,12 @@ ghost use Rattle.sch_forms.specs.declared.fault.Fault.TheVariants.{BadForm, Unbu
 ghost use Rattle.sch_forms.specs.Draft as plain;
 ghost use Rattle.sch_forms.specs.Draft.{define};
 ghost use Rattle.sch_core.specs.declared.toplevel.TopForm.TheVariants.{Beginning, Definition, Expression};
-ghost use Rattle.sch_core.specs.DraftView.{draft_of};
-ghost use Rattle.sch_core.specs.FaultOrder.{reported};
+ghost use Rattle.sch_expand.specs.DraftView.{draft_of};
+ghost use Rattle.sch_expand.specs.FaultOrder.{reported};
 ghost use Rattle.sch_core.specs.Shapes.{IsHeaded};
 ghost use Rattle.sch_core.specs.Forms.{by_word, word_of, first_name, head_name, named, named_if, defined_name, defined_by, defined, firsts, globals_of, is_listed, refused_as, Refuses, ExpressionReads, ValueReads, DefineReads, TopReads, FormsRead, TextExpands, IsFaultOf};
 
-use crate::draft::Draft;
-use crate::fault::report;
-use crate::walk::read;
+use sch_expand::{Draft, read, report};
 use sch_forms::Fault;
 use sch_read::{Datum, Node};
 use sch_scope::{Keyword, Names, keyword_of};
@@ -180,7 +178,8 @@ fn read_expression(
     all: &mut List<Draft>,
     fault: &mut Option<Fault>,
 ) -> Result<(), Mem>
-    ensures { OnOk result (ExpressionReads (names_of globals.now) (tree_of d.now) fault.old fault.new (map draft_of all.old) (map draft_of all.new)) }
+    ensures { OnOk result (ExpressionReads (names_of globals.now) (tree_of d.now) fault.old fault.new
+        (map draft_of all.old) (map draft_of all.new)) }
 {
     let e = read(alloc, globals, d, 1, fault)?;
     all.push(e)?;
@@ -197,7 +196,8 @@ fn read_value(
     all: &mut List<Draft>,
     fault: &mut Option<Fault>,
 ) -> Result<(), Mem>
-    ensures { OnOk result (ValueReads (names_of globals.now) at v.now (data_of items.now) fault.old fault.new (map draft_of all.old) (map draft_of all.new)) }
+    ensures { OnOk result (ValueReads (names_of globals.now) at v.now (data_of items.now) fault.old fault.new
+        (map draft_of all.old) (map draft_of all.new)) }
 {
     let Some((e, others)) = Datum::split(items) else {
         report(fault, Fault::BadForm(at));
@@ -230,7 +230,8 @@ fn read_define(
     all: &mut List<Draft>,
     fault: &mut Option<Fault>,
 ) -> Result<(), Mem>
-    ensures { OnOk result (DefineReads (names_of globals.now) at (data_of items.now) fault.old fault.new (map draft_of all.old) (map draft_of all.new)) }
+    ensures { OnOk result (DefineReads (names_of globals.now) at (data_of items.now) fault.old fault.new
+        (map draft_of all.old) (map draft_of all.new)) }
 {
     let Some((target, rest)) = Datum::split(items) else {
         report(fault, Fault::BadForm(at));
@@ -268,7 +269,8 @@ fn read_form(
     all: &mut List<Draft>,
     fault: &mut Option<Fault>,
 ) -> Result<(), Mem>
-    ensures { OnOk result (TopReads (names_of globals.now) (tree_of d.now) fault.old fault.new (map draft_of all.old) (map draft_of all.new)) }
+    ensures { OnOk result (TopReads (names_of globals.now) (tree_of d.now) fault.old fault.new
+        (map draft_of all.old) (map draft_of all.new)) }
 {
     let (form, items) = top_form(d);
     match form {
@@ -287,7 +289,8 @@ fn read_forms(
     all: &mut List<Draft>,
     fault: &mut Option<Fault>,
 ) -> Result<(), Mem>
-    ensures { OnOk result (FormsRead (names_of globals.now) (data_of items.now) fault.old fault.new (map draft_of all.old) (map draft_of all.new)) }
+    ensures { OnOk result (FormsRead (names_of globals.now) (data_of items.now) fault.old fault.new
+        (map draft_of all.old) (map draft_of all.new)) }
 {
     for d in items {
         read_form(alloc, globals, d, all, fault)?;
@@ -297,8 +300,10 @@ fn read_forms(
 
 /// The drafts of the top-level forms of a text, or its fault.
 pub(crate) fn expand(alloc: Global, items: &[Datum]) -> Result<Result<List<Draft>, Fault>, Mem>
-    ensures found { IfOk result (λ r. MatchResult r (λ es. TextExpands (data_of items.now) (map draft_of es)) (λ f. IsFaultOf (data_of items.now) f)) }
-    ensures only { IfOk result (λ r. MatchResult r (λ es. (fs : List plain.Draft) → TextExpands (data_of items.now) fs → map draft_of es ≡ fs) (λ f. (fs : List plain.Draft) → ¬ TextExpands (data_of items.now) fs)) }
+    ensures found { IfOk result (λ r. MatchResult r (λ es. TextExpands (data_of items.now) (map draft_of es))
+        (λ f. IsFaultOf (data_of items.now) f)) }
+    ensures only { IfOk result (λ r. MatchResult r (λ es. (fs : List plain.Draft) → TextExpands (data_of items.now) fs → map draft_of es
+        ≡ fs) (λ f. (fs : List plain.Draft) → ¬ TextExpands (data_of items.now) fs)) }
 {
     let mut globals = Names::new(alloc);
     collect(alloc, items, &mut globals)?;

@@ -106,12 +106,14 @@ combination_sound s (Exact p) at xs a = (omega (arith, texts_count xs no_sketch,
 combination_sound s (UnitOf p) at xs a = refl
 combination_sound s (UnitAnd p) at xs a =
     (omega (arith, texts_count xs no_sketch, a.0, a.1), (refl, texts_sound (operating p) false s xs no_sketch (λ b. tt)))
-combination_sound s (Nested p) at xs a =
-    (omega (arith, texts_count xs (one (rest (Join p (but_one (how_many xs)) 0) at none none)), fresh_count xs),
-    texts_sound (binding (fresh_each xs)) true s xs _ (λ b. ((a.1, join_fits _ _ a.0 (fresh_fits s xs)), tt)))
-combination_sound s (Chained p) at xs a =
-    (omega (arith, texts_count xs (one (rest (Chain p) at xs none)), fresh_count xs),
-    texts_sound (binding (fresh_each xs)) true s xs _ (λ b. ((a.1, fresh_fits s xs), tt)))
+combination_sound s (Nested p) at xs a = (
+  omega (arith, texts_count xs (one (rest (Join p (but_one (how_many xs)) 0) at none none)), fresh_count xs),
+  texts_sound (binding (fresh_each xs)) true s xs _ (λ b. ((a.1, join_fits _ _ a.0 (fresh_fits s xs)), tt)),
+)
+combination_sound s (Chained p) at xs a = (
+  omega (arith, texts_count xs (one (rest (Chain p) at xs none)), fresh_count xs),
+  texts_sound (binding (fresh_each xs)) true s xs _ (λ b. ((a.1, fresh_fits s xs), tt)),
+)
 combination_sound s Newline at xs a = (refl, (refl, tt))
 combination_sound s Not at xs a = denial_sound s at xs
 

@@ -53,7 +53,13 @@ pub(crate) fn row_let<'a>(
     let Some(names) = binding_form(alloc, scope, bound, body)? else {
         return Ok(bad(at));
     };
-    let made = inits_and(alloc, Kind::Let(names), at, bound, alone(Row::Body, at, body))?;
+    let made = inits_and(
+        alloc,
+        Kind::Let(names),
+        at,
+        bound,
+        alone(Row::Body, at, body),
+    )?;
     Ok(made)
 }
 

@@ -127,7 +127,8 @@ pub(crate) fn choice<'a>(
     b: Sketch<'a>,
     c: Sketch<'a>,
 ) -> Result<Sketch<'a>, Mem>
-    ensures { IfOk result (λ k. sketch_of k ≡ words.node words.choosing at (small.three (sketch_of a.entry) (sketch_of b.entry) (sketch_of c.entry))) }
+    ensures { IfOk result (λ k. sketch_of k
+        ≡ words.node words.choosing at (small.three (sketch_of a.entry) (sketch_of b.entry) (sketch_of c.entry))) }
 {
     let mut parts = List::new(alloc);
     parts.push(a)?;
@@ -143,7 +144,8 @@ pub(crate) fn bind_fresh<'a>(
     init: Sketch<'a>,
     body: Sketch<'a>,
 ) -> Result<Sketch<'a>, Mem>
-    ensures { IfOk result (λ k. sketch_of k ≡ words.node (words.binding small.fresh) at (small.two (sketch_of init.entry) (sketch_of body.entry))) }
+    ensures { IfOk result (λ k. sketch_of k
+        ≡ words.node (words.binding small.fresh) at (small.two (sketch_of init.entry) (sketch_of body.entry))) }
 {
     let mut names = List::new(alloc);
     names.push(None)?;
@@ -184,7 +186,8 @@ pub(crate) fn texts_and<'a>(
     items: &'a [Datum],
     last: Sketch<'a>,
 ) -> Result<Sketch<'a>, Mem>
-    ensures { IfOk result (λ k. sketch_of k ≡ words.node (kind_of kind.entry) at (small.texts (data_of items.now) (small.one (sketch_of last.entry)))) }
+    ensures { IfOk result (λ k. sketch_of k
+        ≡ words.node (kind_of kind.entry) at (small.texts (data_of items.now) (small.one (sketch_of last.entry)))) }
 {
     let mut parts = List::new(alloc);
     add_texts(&mut parts, items)?;
@@ -201,7 +204,8 @@ pub(crate) fn and_texts<'a>(
     first: Sketch<'a>,
     items: &'a [Datum],
 ) -> Result<Sketch<'a>, Mem>
-    ensures { IfOk result (λ k. sketch_of k ≡ words.node (kind_of kind.entry) at (and_sketch (sketch_of first.entry) (small.texts (data_of items.now) no_sketch))) }
+    ensures { IfOk result (λ k. sketch_of k
+        ≡ words.node (kind_of kind.entry) at (and_sketch (sketch_of first.entry) (small.texts (data_of items.now) no_sketch))) }
 {
     let mut parts = List::new(alloc);
     parts.push(first)?;
@@ -231,7 +235,8 @@ pub(crate) fn inits_and<'a>(
     items: &'a [Datum],
     last: Sketch<'a>,
 ) -> Result<Sketch<'a>, Mem>
-    ensures { IfOk result (λ k. sketch_of k ≡ words.node (kind_of kind.entry) at (inits (data_of items.now) (small.one (sketch_of last.entry)))) }
+    ensures { IfOk result (λ k. sketch_of k
+        ≡ words.node (kind_of kind.entry) at (inits (data_of items.now) (small.one (sketch_of last.entry)))) }
 {
     let mut parts = List::new(alloc);
     add_inits(&mut parts, items)?;

@@ -29,11 +29,7 @@ pub(crate) fn quote<'a>(at: u32, items: &'a [Datum]) -> Sketch<'a>
 }
 
 /// `(begin e ..)`.
-pub(crate) fn sequence<'a>(
-    alloc: Global,
-    at: u32,
-    items: &'a [Datum],
-) -> Result<Sketch<'a>, Mem>
+pub(crate) fn sequence<'a>(alloc: Global, at: u32, items: &'a [Datum]) -> Result<Sketch<'a>, Mem>
     ensures { IfOk result (λ k. sketch_of k ≡ row_begin at (data_of items.now)) }
 {
     let Some((e, others)) = Datum::split(items) else {

@@ -120,15 +120,16 @@ fn plain_clause<'a>(
 }
 
 /// `(a => f)`.
-fn receiving<'a>(
-    alloc: Global,
-    at: u32,
-    clause: u32,
-    items: &'a [Datum],
-) -> Result<Sketch<'a>, Mem>
+fn receiving<'a>(alloc: Global, at: u32, clause: u32, items: &'a [Datum]) -> Result<Sketch<'a>, Mem>
     ensures { IfOk result (λ k. sketch_of k ≡ table.receiving at clause (data_of items.now)) }
 {
-    let made = either_of(alloc, Position::Value, at, unbuilt(clause), remaining(at, items))?;
+    let made = either_of(
+        alloc,
+        Position::Value,
+        at,
+        unbuilt(clause),
+        remaining(at, items),
+    )?;
     Ok(made)
 }
 
@@ -235,11 +236,7 @@ pub(crate) fn row_case<'a>(
 }
 
 /// The clauses from one on: `((d ..) e ..)` -> `(if (or (eqv? t d) ..) (begin e ..) rest)`.
-pub(crate) fn row_cases<'a>(
-    alloc: Global,
-    at: u32,
-    items: &'a [Datum],
-) -> Result<Sketch<'a>, Mem>
+pub(crate) fn row_cases<'a>(alloc: Global, at: u32, items: &'a [Datum]) -> Result<Sketch<'a>, Mem>
     ensures { IfOk result (λ k. sketch_of k ≡ table.row_cases at (data_of items.now)) }
 {
     let Some((c, others)) = Datum::split(items) else {
@@ -270,11 +267,7 @@ fn equals<'a>(alloc: Global, at: u32, d: &Datum) -> Result<Sketch<'a>, Mem>
 }
 
 /// Whether the key is one of the data.
-pub(crate) fn row_tests<'a>(
-    alloc: Global,
-    at: u32,
-    items: &'a [Datum],
-) -> Result<Sketch<'a>, Mem>
+pub(crate) fn row_tests<'a>(alloc: Global, at: u32, items: &'a [Datum]) -> Result<Sketch<'a>, Mem>
     ensures { IfOk result (λ k. sketch_of k ≡ table.row_tests at (data_of items.now)) }
 {
     let Some((d, others)) = Datum::split(items) else {

@@ -17,7 +17,8 @@ use std::alloc::Global;
 
 /// The name and the init of a binding `(name init)`.
 pub(crate) fn binding_of(d: &Datum) -> Option<(&[u8], &Datum)>
-    ensures { MatchOption result (IsNoBinding (tree_of d.now)) (λ p. tree_of d.now ≡ list (offset (tree_of d.now)) (cons (atom (offset (first (tree_of d.now))) (symbol p.0.now)) (cons (tree_of p.1.now) none))) }
+    ensures { MatchOption result (IsNoBinding (tree_of d.now)) (λ p. tree_of d.now
+        ≡ list (offset (tree_of d.now)) (cons (atom (offset (first (tree_of d.now))) (symbol p.0.now)) (cons (tree_of p.1.now) none))) }
 {
     let items = d.items()?;
     let (v, others) = Datum::split(items)?;
@@ -123,7 +124,8 @@ pub(crate) fn binding_form<'a>(
     bindings: &'a [Datum],
     body: &[Datum],
 ) -> Result<Option<List<Name<'a>>>, Mem>
-    ensures form { IfOk result (AreGiven (table.is_binding_form scope.old (data_of bindings.now) (data_of body.now)) (table.bound (data_of bindings.now))) }
+    ensures form { IfOk result (AreGiven (table.is_binding_form scope.old (data_of bindings.now) (data_of body.now))
+        (table.bound (data_of bindings.now))) }
     ensures scope { OnOk result (scope.new ≡ scope.old) }
 {
     let Some(names) = bound_names(alloc, bindings)? else {

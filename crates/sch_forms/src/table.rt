@@ -25,7 +25,8 @@ use std::alloc::Global;
 /// What a name stands for. The distance of a variable is a number of 32 bits: a scope with more
 /// variables than that is out of memory.
 fn name<'a>(globals: &Names, scope: &Scope, at: u32, x: &'a [u8]) -> Result<Sketch<'a>, Mem>
-    ensures { IfOk result (λ k. sketch_of k ≡ table.outline_name (find scope.now x.now) (keyword_of x.now) (is_among x.now (names_of globals.now)) at x.now) }
+    ensures { IfOk result (λ k. sketch_of k
+        ≡ table.outline_name (find scope.now x.now) (keyword_of x.now) (is_among x.now (names_of globals.now)) at x.now) }
 {
     if let Some(k) = scope.find(x) {
         return match u32::try_from(k) {

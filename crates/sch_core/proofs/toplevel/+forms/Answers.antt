@@ -1,7 +1,7 @@
 use Rattle.std.proofs.Common.{arith, refl, map}
 use Rattle.std.proofs.lemmas.List.{drop_all}
 use Rattle.sch_scope.specs.NamesView.{names_of}
-use Rattle.sch_core.specs.DraftView.{draft_of}
+use Rattle.sch_expand.specs.DraftView.{draft_of}
 use Rattle.sch_core.proofs.Loops.{lighter}
 use Rattle.sch_core.proofs.TopSteps.{forms_next}
 use Rattle.sch_core.proofs.toplevel.+forms.Goals as goal

@@ -4,7 +4,7 @@ use Rattle.sch_read.specs.Views.{tree_of, data_of}
 use Rattle.sch_scope.specs.NamesView.{names_of}
 use Rattle.sch_forms.specs.declared.fault.Fault.{Fault}
 use Rattle.sch_forms.specs.Draft.{Draft}
-use Rattle.sch_core.specs.DraftView.{draft_of}
+use Rattle.sch_expand.specs.DraftView.{draft_of}
 use Rattle.sch_core.specs.Forms.{FormsRead}
 use Rattle.sch_core.proofs.toplevel.+forms.Given as goal
 

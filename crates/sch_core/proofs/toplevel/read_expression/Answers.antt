@@ -1,6 +1,6 @@
 use Rattle.std.proofs.Common.{map, ap, ◌∙◌, ◌∷◌, []}
 use Rattle.std.proofs.lemmas.List.{map-append}
-use Rattle.sch_core.specs.DraftView.{draft_of}
+use Rattle.sch_expand.specs.DraftView.{draft_of}
 use Rattle.sch_core.proofs.toplevel.read_expression.Goals as goal
 
 pub returns : goal.returns

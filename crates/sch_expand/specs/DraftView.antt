@@ -1,7 +1,7 @@
 -- What the values of the code stand for, in plain words.
 use Rattle.std.specs.Prelude.{List, map}
-use Rattle.sch_core.specs.declared.draft.Draft.{Draft, fold-Draft}
-use Rattle.sch_core.specs.declared.draft.Draft.TheOpen.{Draft-F}
+use Rattle.sch_expand.specs.declared.draft.Draft.{Draft, fold-Draft}
+use Rattle.sch_expand.specs.declared.draft.Draft.TheOpen.{Draft-F}
 use Rattle.sch_forms.specs.Draft as plain
 use Rattle.sch_forms.specs.Draft.{Drafts, drafts, constant, local, global, define, branch, sequence, bind, operation}
 

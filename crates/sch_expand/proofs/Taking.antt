@@ -2,8 +2,8 @@
 use Rattle.std.proofs.Common.{◌≡◌, List, [], ◌∷◌, ◌++◌, refl, ap}
 use Rattle.sch_forms.specs.Draft.{and_draft}
 use Rattle.sch_forms.specs.Sketch.{last, front}
-use Rattle.sch_core.specs.declared.draft.Draft.{Draft}
-use Rattle.sch_core.specs.DraftView.{draft_of, drafts_of}
+use Rattle.sch_expand.specs.declared.draft.Draft.{Draft}
+use Rattle.sch_expand.specs.DraftView.{draft_of, drafts_of}
 
 pub last_of : (es : List Draft) (e : Draft) → last (drafts_of (es ++ e ∷ [])) ≡ draft_of e
 last_of [] e = refl

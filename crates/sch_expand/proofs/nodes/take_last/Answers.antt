@@ -1,8 +1,8 @@
 use Rattle.std.proofs.Common.{ap, sym, ◌∙◌}
 use Rattle.sch_forms.specs.Sketch.{last, front}
-use Rattle.sch_core.specs.DraftView.{drafts_of}
-use Rattle.sch_core.proofs.Taking.{last_of, front_of}
-use Rattle.sch_core.proofs.nodes.take_last.Goals as goal
+use Rattle.sch_expand.specs.DraftView.{drafts_of}
+use Rattle.sch_expand.proofs.Taking.{last_of, front_of}
+use Rattle.sch_expand.proofs.nodes.take_last.Goals as goal
 
 pub returns-in-Some-clause-taken : goal.returns-in-Some-clause-taken
 returns-in-Some-clause-taken c = sym (ap (λ l. last (drafts_of l)) c.in-Some.ensures ∙ last_of c.pop.new.self c.in-Some.e)

@@ -3,7 +3,7 @@
 ghost use Rattle.std.specs.Prelude.{◌≡◌, ◌-◌, length, drop, true, IfOk, OnOk};
 ghost use Rattle.sch_forms.specs.Sketch.{assemble, width, position_in, scope_in, front, last, nothing, sequencing};
 ghost use Rattle.sch_forms.specs.SketchView.{leaf_of, kind_of};
-ghost use Rattle.sch_core.specs.DraftView.{draft_of, drafts_of};
+ghost use Rattle.sch_expand.specs.DraftView.{draft_of, drafts_of};
 
 use crate::draft::Draft;
 use sch_forms::{Kind, Leaf, Position};
@@ -41,22 +41,11 @@ pub(crate) fn width(kind: &Kind<'_>, parts: usize) -> usize
 }
 
 /// The position of a part.
-pub(crate) fn position_in(
-    kind: &Kind<'_>,
-    first: bool,
-    last: bool,
-    position: Position,
-) -> Position
+pub(crate) fn position_in(kind: &Kind<'_>, first: bool, last: bool, position: Position) -> Position
     ensures { result ≡ position_in (kind_of kind.now) first last position }
 {
     match kind {
-        Kind::If => {
-            if first {
-                Position::Test
-            } else {
-                position
-            }
-        }
+        Kind::If => { if first { Position::Test } else { position } }
         Kind::Seq => if_last(last, position),
         Kind::Let(_) => if_last(last, position),
         Kind::Prim(_) => Position::Value,

@@ -16,15 +16,22 @@ use Rattle.sch_forms.specs.Outline.{outline_datum, outline}
 use Rattle.sch_forms.specs.Sketch.{Kind, Sketch, Sketches, text, rest, wrong, leaf, node, limited, no_sketch, and_sketch, how_many_parts, is_end, scope_in, position_in, width, assemble, nothing}
 use Rattle.sch_forms.specs.SketchView.{kind_of, sketch_of, sketches_of}
 use Rattle.sch_forms.proofs.Falls.{datum_falls, rest_falls, leaf_some}
-use Rattle.sch_core.specs.declared.draft.Draft as code_draft
-use Rattle.sch_core.specs.declared.walk.Open.{Open}
-use Rattle.sch_core.specs.DraftView.{draft_of, drafts_of}
-use Rattle.sch_core.specs.FaultOrder.{reported, all_reported}
-use Rattle.sch_core.specs.Following.{and_then}
-use Rattle.sch_core.specs.Reads.{Reads, PartsRead, level_faults, operand_faults}
-use Rattle.sch_core.specs.Reads as re
-use Rattle.sch_core.specs.Stacking.{Task, Holds, Goes, around, open_left, stack_left}
-use Rattle.sch_core.proofs.Loops.{and_then_none, and_then_more}
+use Rattle.sch_expand.specs.declared.draft.Draft as code_draft
+use Rattle.sch_expand.specs.declared.walk.Open.{Open}
+use Rattle.sch_expand.specs.DraftView.{draft_of, drafts_of}
+use Rattle.sch_expand.specs.FaultOrder.{reported, all_reported}
+use Rattle.sch_expand.specs.Following.{and_then}
+use Rattle.sch_expand.specs.Reads.{Reads, PartsRead, level_faults, operand_faults}
+use Rattle.sch_expand.specs.Reads as re
+use Rattle.sch_expand.specs.Stacking.{Task, Holds, Goes, around, open_left, stack_left}
+
+and_then_none : (es : List Draft) → and_then es no_drafts ≡ drafts es
+and_then_none [] = refl
+and_then_none (e ∷ es) = ap (and_draft e) (and_then_none es)
+
+and_then_more : (es : List Draft) (e : Draft) (more : Drafts) → and_then (es ++ e ∷ []) more ≡ and_then es (and_draft e more)
+and_then_more [] e more = refl
+and_then_more (a ∷ es) e more = ap (and_draft a) (and_then_more es e more)
 
 -- the view of a list
 pub how_many_is : (ks : List code_sketch.Sketch) → how_many_parts (sketches_of ks) ≡ length ks
@@ -65,7 +72,7 @@ module _ (globals : List (List ℕ)) {n : ℕ} {s : Scope} {t : Position} {k : S
 pub no_part_left : (w : Task) (o : Open) (os : List Open) (s : Scope) (b : Option Fault) (e : Draft) → o.left ≡ [] → e ≡ assemble (kind_of o.kind) (drafts_of o.drafts) → Goes w o os s b → Holds w os s b e
 no_part_left w o os s b e l h g =
     let r : PartsRead w.globals (kind_of o.kind) (nat_eq (length o.drafts) 0) o.level s o.position (sketches_of (reverse o.left)) b b no_drafts =
-        rw l (re.reads_none (kind_of o.kind) (nat_eq (length o.drafts) 0) o.level s o.position b) in
+    rw l (re.reads_none (kind_of o.kind) (nat_eq (length o.drafts) 0) o.level s o.position b) in
     let q = g.rest b no_drafts r in
     let q' = rw and_then_none at q in
     rw h q'
@@ -79,12 +86,14 @@ next_part w o o' os s s' t' p first last b m e hk hl hp hd hm left f l u kept v 
     let x : last ≡ is_end (sketches_of (reverse o'.left)) = l ∙ ap (λ d. nat_eq d 0) (sym (length-reverse o'.left)) ∙ sym (is_end_of (reverse o'.left)) in
     let y : sketches_of (reverse o.left) ≡ and_sketch (sketch_of p) (sketches_of (reverse o'.left)) = ap (λ d. sketches_of (reverse d)) left ∙ ap sketches_of (reverse-append o'.left (p ∷ [])) in
     let r' = rw (u, v, x, f) at r in
-    let deep : o'.depth ≤ length s' = omega (arith, hd, g.depth, ap (λ x. length x) kept, length-drop (length s' - length s) s') in
-    (deep, λ c es q.
-        let q' = rw (hk, hl, hp, n) at q in
-        let z : PartsRead w.globals (kind_of o.kind) (nat_eq (length o.drafts) 0) o.level s o.position (sketches_of (reverse o.left)) b c (and_draft e es) =
-            rw y (re.reads_part (kind_of o.kind) (nat_eq (length o.drafts) 0) o.level s o.position (sketch_of p) (sketches_of (reverse o'.left)) b m c e es r' q') in
-        rw (n, hk, hm) (g.rest c (and_draft e es) z))
+    let deep : o'.depth ≤ length s' = omega (arith, hd, g.depth, ap (λ x. length x) kept, length-drop (length s' - length s) s') in (
+      deep,
+      λ c es q.
+          let q' = rw (hk, hl, hp, n) at q in
+          let z : PartsRead w.globals (kind_of o.kind) (nat_eq (length o.drafts) 0) o.level s o.position (sketches_of (reverse o.left)) b c (and_draft e es) =
+          rw y (re.reads_part (kind_of o.kind) (nat_eq (length o.drafts) 0) o.level s o.position (sketch_of p) (sketches_of (reverse o'.left)) b m c e es r' q') in
+          rw (n, hk, hm) (g.rest c (and_draft e es) z),
+    )
 
 -- a part's draft
 pub part_made : (w : Task) (o o' : Open) (os : List Open) (s s' : Scope) (b : Option Fault) (e : code_draft.Draft) →
@@ -95,8 +104,8 @@ part_made w o o' os s s' b e hk hl hp left hm u d h =
     record {
       depth = d ∙ omega (arith, h.0, ap (λ x. length x) u, length-drop (length s - o.depth) s);
       rest = λ c es q.
-        let q' = rw (hk, hl, hp, left, hm, z, u) at q in
-        rw (hk, hm, u, more_made) (h.1 c es q');
+          let q' = rw (hk, hl, hp, left, hm, z, u) at q in
+          rw (hk, hm, u, more_made) (h.1 c es q');
     }
 
 pub node_opened : (w : Task) (o : Open) (os : List Open) (at n wide : ℕ) (s : Scope) (t : Position) (ks : List code_sketch.Sketch) (sketch : Sketch) (a m : Option Fault) →
@@ -109,9 +118,9 @@ node_opened w o os at n wide s t ks sketch a m h hw i l hl hp hd left hm f =
     record {
       depth = hd;
       rest = λ c es q.
-        let q' = rw (hm, hl, hp, x, i') at q in
-        let g : Reads w.globals n s t sketch a c (assemble (kind_of o.kind) es) = rw h (re.reads_node n s t (kind_of o.kind) at (sketches_of ks) a c es l q') in
-        rw hm (f c (assemble (kind_of o.kind) es) g);
+          let q' = rw (hm, hl, hp, x, i') at q in
+          let g : Reads w.globals n s t sketch a c (assemble (kind_of o.kind) es) = rw h (re.reads_node n s t (kind_of o.kind) at (sketches_of ks) a c es l q') in
+          rw hm (f c (assemble (kind_of o.kind) es) g);
     }
 
 -- ## What is left
@@ -120,7 +129,7 @@ pub smaller_part : (o : Open) (left : List code_sketch.Sketch) (p : code_sketch.
     2 * sketch_measure (sketch_of p) + ((1 + 2 * sketches_measure (sketches_of (reverse left))) + m) < 1 + open_left o + m
 smaller_part o left p m e =
     let y : sketches_measure (sketches_of (reverse o.left)) ≡ sketch_measure (sketch_of p) + sketches_measure (sketches_of (reverse left)) =
-        ap (λ d. sketches_measure (sketches_of (reverse d))) e ∙ ap (λ d. sketches_measure (sketches_of d)) (reverse-append left (p ∷ [])) in
+    ap (λ d. sketches_measure (sketches_of (reverse d))) e ∙ ap (λ d. sketches_measure (sketches_of d)) (reverse-append left (p ∷ [])) in
     omega (arith, y)
 
 pub smaller_datum : (globals : List (List ℕ)) {k k' : Sketch} {d : Datum} (s : Scope) (m : ℕ) → k ≡ text d → k' ≡ outline_datum globals s d → 2 * sketch_measure k' + m < 2 * sketch_measure k + m

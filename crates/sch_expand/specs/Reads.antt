@@ -11,8 +11,8 @@ use Rattle.sch_forms.specs.declared.sketch.Row.{Row}
 use Rattle.sch_forms.specs.Draft.{Draft, Drafts, no_drafts, and_draft}
 use Rattle.sch_forms.specs.Outline.{outline_datum, outline}
 use Rattle.sch_forms.specs.Sketch.{Kind, Sketch, Sketches, text, rest, wrong, leaf, node, limited, no_sketch, and_sketch, how_many_parts, is_end, scope_in, position_in, width, assemble, nothing}
-use Rattle.sch_core.specs.FaultOrder.{reported, all_reported}
-use Rattle.sch_core.specs.Expands.{IsLevel}
+use Rattle.sch_expand.specs.FaultOrder.{reported, all_reported}
+use Rattle.sch_expand.specs.Expands.{IsLevel}
 
 -- too deep, too many
 abbrev pub level_faults : (level at : ℕ) → List Fault

@@ -5,9 +5,9 @@ use Rattle.sch_scope.specs.NamesView.{names_of}
 use Rattle.sch_forms.specs.Outline.{outline_datum}
 use Rattle.sch_forms.specs.Sketch.{width}
 use Rattle.sch_forms.specs.SketchView.{sketch_of, kind_of}
-use Rattle.sch_core.proofs.Stacks.{node_opened, at_datum, at_rest, at_wrong, at_leaf, at_limited, at_deep, how_many_is, smaller_datum, smaller_rest, smaller_wrong, smaller_leaf, smaller_limited, smaller_deep, smaller_node}
-use Rattle.sch_core.proofs.Sketches.{text_view, rest_view, wrong_view, leaf_view, node_view, limited_view}
-use Rattle.sch_core.proofs.walk.down.Goals as goal
+use Rattle.sch_expand.proofs.Stacks.{node_opened, at_datum, at_rest, at_wrong, at_leaf, at_limited, at_deep, how_many_is, smaller_datum, smaller_rest, smaller_wrong, smaller_leaf, smaller_limited, smaller_deep, smaller_node}
+use Rattle.sch_expand.proofs.Sketches.{text_view, rest_view, wrong_view, leaf_view, node_view, limited_view}
+use Rattle.sch_expand.proofs.walk.down.Goals as goal
 
 pub returns-in_default-clause-ready : goal.returns-in_default-clause-ready
 returns-in_default-clause-ready c = λ w h f. f _ _ (at_deep w.globals (node_view _ _ _ c.in-Node.is)

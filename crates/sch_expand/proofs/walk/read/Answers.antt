@@ -4,10 +4,10 @@ use Rattle.sch_read.specs.Views.{tree_of}
 use Rattle.sch_scope.specs.NamesView.{names_of}
 use Rattle.sch_forms.specs.declared.sketch.Position.TheVariants.{Value}
 use Rattle.sch_forms.specs.Sketch.{text}
-use Rattle.sch_core.specs.Reads.{Reads}
-use Rattle.sch_core.specs.Stacking.{Task}
-use Rattle.sch_core.proofs.Sketches.{text_view}
-use Rattle.sch_core.proofs.walk.read.Goals as goal
+use Rattle.sch_expand.specs.Reads.{Reads}
+use Rattle.sch_expand.specs.Stacking.{Task}
+use Rattle.sch_expand.proofs.Sketches.{text_view}
+use Rattle.sch_expand.proofs.walk.read.Goals as goal
 
 pub loop-next-init : goal.loop-next-init
 loop-next-init c = λ m e r.

@@ -7,12 +7,12 @@ use Rattle.sch_forms.specs.Draft.{Draft, Drafts, and_draft}
 use Rattle.sch_forms.specs.Measure.{sketch_measure, sketches_measure}
 use Rattle.sch_forms.specs.Sketch.{Sketch, assemble}
 use Rattle.sch_forms.specs.SketchView.{kind_of, sketch_of, sketches_of}
-use Rattle.sch_core.specs.declared.walk.Open.{Open}
-use Rattle.sch_core.specs.declared.walk.Next.{Next}
-use Rattle.sch_core.specs.declared.walk.Next.TheVariants.{Down, Up}
-use Rattle.sch_core.specs.DraftView.{draft_of}
-use Rattle.sch_core.specs.Following.{and_then}
-use Rattle.sch_core.specs.Reads.{Reads, PartsRead}
+use Rattle.sch_expand.specs.declared.walk.Open.{Open}
+use Rattle.sch_expand.specs.declared.walk.Next.{Next}
+use Rattle.sch_expand.specs.declared.walk.Next.TheVariants.{Down, Up}
+use Rattle.sch_expand.specs.DraftView.{draft_of}
+use Rattle.sch_expand.specs.Following.{and_then}
+use Rattle.sch_expand.specs.Reads.{Reads, PartsRead}
 
 -- what is to be read in the end
 pub record Task : Type 0 where

@@ -4,8 +4,8 @@ ghost use Rattle.std.specs.Prelude.{◌≡◌, ◌+◌, ◌<◌, ◌≤◌, true
 ghost use Rattle.sch_word.specs.Shape.{max_levels, max_operands};
 ghost use Rattle.sch_forms.specs.declared.fault.Fault.TheVariants.{Core};
 ghost use Rattle.sch_forms.specs.SketchView.{fault_of};
-ghost use Rattle.sch_core.specs.FaultOrder.{reported, all_reported};
-ghost use Rattle.sch_core.specs.Reads.{level_faults, operand_faults};
+ghost use Rattle.sch_expand.specs.FaultOrder.{reported, all_reported};
+ghost use Rattle.sch_expand.specs.Reads.{level_faults, operand_faults};
 
 use crate::fault::report;
 use sch_forms::{Fault, Wrong};

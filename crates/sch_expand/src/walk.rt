@@ -8,9 +8,9 @@ ghost use Rattle.sch_forms.specs.declared.sketch.Position.TheVariants.{Value};
 ghost use Rattle.sch_forms.specs.Measure.{sketch_measure};
 ghost use Rattle.sch_forms.specs.Sketch.{text};
 ghost use Rattle.sch_forms.specs.SketchView.{sketch_of};
-ghost use Rattle.sch_core.specs.DraftView.{draft_of};
-ghost use Rattle.sch_core.specs.Reads.{Reads};
-ghost use Rattle.sch_core.specs.Stacking.{Task, Holds, Goes, Ready, open_left, stack_left, next_left};
+ghost use Rattle.sch_expand.specs.DraftView.{draft_of};
+ghost use Rattle.sch_expand.specs.Reads.{Reads};
+ghost use Rattle.sch_expand.specs.Stacking.{Task, Holds, Goes, Ready, open_left, stack_left, next_left};
 
 use crate::draft::Draft;
 use crate::nodes::{assemble, draft_of_leaf, enter, nothing, position_in, width};
@@ -59,11 +59,19 @@ fn resume<'a>(
 ) -> Result<Next<'a>, Mem>
     ensures ready { (w : Task) (b : Option faults.Fault) → Goes w node.entry (reverse stack.old) scope.old b →
         IfOk result (λ next. Ready w next (reverse stack.new) scope.new b) }
-    ensures smaller { IfOk result (λ next. next_left next (reverse stack.new) < 1 + open_left node.entry + stack_left (reverse stack.old)) }
+    ensures smaller { IfOk result (λ next. next_left next (reverse stack.new)
+        < 1 + open_left node.entry + stack_left (reverse stack.old)) }
 {
     let mut node = node;
     let Some(part) = node.left.pop() else {
-        let Open { kind, level: _, position: _, depth: _, left: _, drafts } = node;
+        let Open {
+            kind,
+            level: _,
+            position: _,
+            depth: _,
+            left: _,
+            drafts,
+        } = node;
         let e = assemble(alloc, &kind, drafts)?;
         return Ok(Next::Up(e));
     };
@@ -88,9 +96,11 @@ fn down<'a>(
     fault: &mut Option<Fault>,
 ) -> Result<Next<'a>, Mem>
     ensures ready { (w : Task) → w.globals ≡ names_of globals.now →
-        ((m : Option faults.Fault) (e : _) → Reads w.globals level scope.old position (sketch_of sketch.entry) fault.old m e → Holds w (reverse stack.old) scope.old m e) →
+        ((m : Option faults.Fault) (e : _) → Reads w.globals level scope.old position (sketch_of sketch.entry) fault.old m e →
+        Holds w (reverse stack.old) scope.old m e) →
         IfOk result (λ next. Ready w next (reverse stack.new) scope.new fault.new) }
-    ensures smaller { IfOk result (λ next. next_left next (reverse stack.new) < 2 * sketch_measure (sketch_of sketch.entry) + stack_left (reverse stack.old)) }
+    ensures smaller { IfOk result (λ next. next_left next (reverse stack.new)
+        < 2 * sketch_measure (sketch_of sketch.entry) + stack_left (reverse stack.old)) }
 {
     match sketch {
         Sketch::Text(d) => {
@@ -145,7 +155,8 @@ fn up<'a>(
 ) -> Result<Next<'a>, Mem>
     ensures ready { (w : Task) (b : Option faults.Fault) → Holds w (node.entry ∷ reverse stack.old) scope.old b (draft_of e) →
         IfOk result (λ next. Ready w next (reverse stack.new) scope.new b) }
-    ensures smaller { IfOk result (λ next. next_left next (reverse stack.new) < 1 + open_left node.entry + stack_left (reverse stack.old)) }
+    ensures smaller { IfOk result (λ next. next_left next (reverse stack.new)
+        < 1 + open_left node.entry + stack_left (reverse stack.old)) }
 {
     let mut node = node;
     scope.leave(node.depth);
@@ -154,7 +165,7 @@ fn up<'a>(
 }
 
 /// The draft of a datum at a level, outside all variables, and the least fault so far.
-pub(crate) fn read(
+pub fn read(
     alloc: Global,
     globals: &Names,
     d: &Datum,
@@ -168,9 +179,7 @@ pub(crate) fn read(
     let mut next = Next::Down(Sketch::Text(d), level, Position::Value);
     loop {
         next = match next {
-            Next::Down(k, n, t) => {
-                down(alloc, globals, k, n, t, &mut stack, &mut scope, fault)?
-            }
+            Next::Down(k, n, t) => { down(alloc, globals, k, n, t, &mut stack, &mut scope, fault)? }
             Next::Up(e) => match stack.pop() {
                 None => return Ok(e),
                 Some(node) => up(alloc, e, node, &mut stack, &mut scope)?,

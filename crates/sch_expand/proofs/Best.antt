@@ -2,7 +2,7 @@
 use Rattle.std.proofs.Common.{◌≡◌, ◌⊎◌, inl, inr, ◌≤◌, ◌+◌, ℕ, Bool, true, false, cond, List, [], ◌∷◌, Option, Some, None, nat_le, refl, sym, ◌∙◌, arith}
 use Rattle.std.proofs.lemmas.Bool.{leb-true, leb-false}
 use Rattle.sch_forms.specs.declared.fault.Fault.{Fault}
-use Rattle.sch_core.specs.FaultOrder.{rank, reported, all_reported}
+use Rattle.sch_expand.specs.FaultOrder.{rank, reported, all_reported}
 
 -- some fault that is none after g
 pub record AtMost (b : Option Fault) (g : Fault) : Type 0 where
@@ -31,10 +31,10 @@ and_then {F} {G} {a} {b} {c} p q =
 -- the same faults by other words
 pub best_by : {F G : Fault → Type 0} {a b : Option Fault} → ((f : Fault) → F f → G f) → ((f : Fault) → G f → F f) → Best F a b → Best G a b
 best_by to back p = record {
-      from = λ f e. elim (p.from f e) [ inl h ↦ inl h | inr h ↦ inr (to f h) ];
-      below = λ g h. p.below g (back g h);
-      kept = p.kept;
-    }
+  from = λ f e. elim (p.from f e) [ inl h ↦ inl h | inr h ↦ inr (to f h) ];
+  below = λ g h. p.below g (back g h);
+  kept = p.kept;
+}
 
 pub some_is : {f g : Fault} → Some f ≡ Some g → f ≡ g
 some_is {f} {g} e = cc

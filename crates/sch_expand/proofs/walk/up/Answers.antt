@@ -1,6 +1,6 @@
 use Rattle.std.proofs.Common.{◌≡◌, refl, reverse}
-use Rattle.sch_core.proofs.Stacks.{part_made}
-use Rattle.sch_core.proofs.walk.up.Goals as goal
+use Rattle.sch_expand.proofs.Stacks.{part_made}
+use Rattle.sch_expand.proofs.walk.up.Goals as goal
 
 pub returns-clause-ready : goal.returns-clause-ready
 returns-clause-ready c = λ w b h.

@@ -12,14 +12,14 @@ use Rattle.sch_forms.specs.Measure.{sketch_measure, sketches_measure}
 use Rattle.sch_forms.specs.Outline.{outline_datum, outline}
 use Rattle.sch_forms.specs.Sketch.{Kind, Sketch, Sketches, text, rest, wrong, leaf, node, limited, no_sketch, and_sketch, how_many_parts, is_end, scope_in, position_in, width, assemble, nothing}
 use Rattle.sch_forms.proofs.Falls.{datum_falls, rest_falls}
-use Rattle.sch_core.specs.FaultOrder.{reported, all_reported}
-use Rattle.sch_core.specs.Expands.{IsLevel, AreFew, Expands, PartsExpand}
-use Rattle.sch_core.specs.Expands as ex
-use Rattle.sch_core.specs.Faults.{HasFault, PartHasFault}
-use Rattle.sch_core.specs.Faults as no
-use Rattle.sch_core.specs.Reads.{Reads, PartsRead, operand_faults}
-use Rattle.sch_core.specs.Reads as re
-use Rattle.sch_core.proofs.Best.{Best, none_new, and_then, best_by, one_new, none_some, none_before, none_reported}
+use Rattle.sch_expand.specs.FaultOrder.{reported, all_reported}
+use Rattle.sch_expand.specs.Expands.{IsLevel, AreFew, Expands, PartsExpand}
+use Rattle.sch_expand.specs.Expands as ex
+use Rattle.sch_expand.specs.Faults.{HasFault, PartHasFault}
+use Rattle.sch_expand.specs.Faults as no
+use Rattle.sch_expand.specs.Reads.{Reads, PartsRead, operand_faults}
+use Rattle.sch_expand.specs.Reads as re
+use Rattle.sch_expand.proofs.Best.{Best, none_new, and_then, best_by, one_new, none_some, none_before, none_reported}
 
 true_false : {b : Bool} → b ≡ true → b ≡ false → ⊥
 true_false e f = cc
@@ -60,7 +60,7 @@ module _ (globals : List (List ℕ)) where
     clean_each (ex.and_part k first n s t p ps e es x y) (no.here _ _ _ _ _ _ _ f q) = clean x q
     clean_each (ex.and_part k first n s t p ps e es x y) (no.there _ _ _ _ _ _ _ f q) = clean_each y q
 
--- ## The walk finds one thing
+  -- ## The walk finds one thing
 
   mutual
     pub one_fault : {n : ℕ} {s : Scope} {t : Position} {k : Sketch} {a b b' : Option Fault} {e e' : Draft} → Reads globals n s t k a b e → Reads globals n s t k a b' e' → b ≡ b'
@@ -157,7 +157,7 @@ module _ (globals : List (List ℕ)) where
         best_by (λ g h. elim h [ inl q ↦ no.here k first n s t p ps g q | inr q ↦ no.there k first n s t p ps g q ])
         (λ g h. elim h [ no.here _ _ _ _ _ _ _ _ q ↦ inl q | no.there _ _ _ _ _ _ _ _ q ↦ inr q ]) (and_then (read_best x) (parts_best y))
 
--- ## The draft
+  -- ## The draft
 
   leaf_level : (n at : ℕ) (a : Option Fault) (c : Bool) → nat_le n max_levels ≡ c → all_reported (cond c [] (Core at ∷ [])) a ≡ None → IsLevel n
   leaf_level n at a true l i = l

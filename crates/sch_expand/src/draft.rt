@@ -6,7 +6,7 @@ use sch_word::{Bytes, Const, List, Primitive};
 
 /// An expression whose globals are names and whose sites have no numbers.
 #[derive(Drop)]
-pub(crate) enum Draft {
+pub enum Draft {
     Constant(Const),
     /// The variable with this number of variables bound nearer.
     Local(u32),

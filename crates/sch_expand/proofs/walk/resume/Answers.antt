@@ -1,9 +1,9 @@
 use Rattle.std.proofs.Common.{◌≡◌, refl, reverse, ap, ◌∙◌, [], ◌∷◌, nat_eq}
 use Rattle.std.proofs.lemmas.List.{reverse-append}
-use Rattle.sch_core.specs.DraftView.{draft_of}
-use Rattle.sch_core.specs.Stacking.{stack_left}
-use Rattle.sch_core.proofs.Stacks.{no_part_left, next_part, smaller_part}
-use Rattle.sch_core.proofs.walk.resume.Goals as goal
+use Rattle.sch_expand.specs.DraftView.{draft_of}
+use Rattle.sch_expand.specs.Stacking.{stack_left}
+use Rattle.sch_expand.proofs.Stacks.{no_part_left, next_part, smaller_part}
+use Rattle.sch_expand.proofs.walk.resume.Goals as goal
 
 pub returns-in_default-clause-ready : goal.returns-in_default-clause-ready
 returns-in_default-clause-ready c = λ w b g.

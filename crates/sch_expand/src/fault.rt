@@ -1,7 +1,7 @@
 //! The order of faults, and the least of them.
 
 ghost use Rattle.std.specs.Prelude.{◌≡◌, ◌<◌, ◌^◌, ◌*◌, ◌+◌};
-ghost use Rattle.sch_core.specs.FaultOrder.{rank, reported};
+ghost use Rattle.sch_expand.specs.FaultOrder.{rank, reported};
 
 use sch_forms::Fault;
 
@@ -20,7 +20,7 @@ fn rank(f: &Fault) -> u64
 }
 
 /// One more fault: the least stays, and of two equals the first.
-pub(crate) fn report(so_far: &mut Option<Fault>, f: Fault)
+pub fn report(so_far: &mut Option<Fault>, f: Fault)
     ensures { so_far.new ≡ reported f so_far.old }
 {
     if let Some(g) = so_far {
