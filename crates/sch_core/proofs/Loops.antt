@@ -1,5 +1,5 @@
 -- What loops over data have built, and what is left.
-use Rattle.std.proofs.Common.{◌≡◌, ℕ, zero, suc, ◌<◌, ◌≤◌, List, [], ◌∷◌, ◌++◌, length, drop, get_or, refl, sym, ap, ◌∙◌, arith, drop-cons}
+use Rattle.std.proofs.Common.{◌≡◌, ℕ, zero, suc, ◌<◌, ◌≤◌, List, [], ◌∷◌, length, drop, get_or, sym, ap, ◌∙◌, arith, drop-cons}
 use Rattle.sch_read.specs.declared.datum.Datum.{Datum}
 use Rattle.sch_read.specs.Valid.{weight, weights}
 use Rattle.sch_read.specs.Views.{tree_of, data_of}

@@ -1,5 +1,5 @@
 -- A text has a draft or a fault, and never both.
-use Rattle.std.proofs.Common.{◌≡◌, inl, inr, ℕ, List, Option, Some, None, refl}
+use Rattle.std.proofs.Common.{inl, inr, ℕ, List, Option, Some, None, refl}
 use Rattle.sch_read.specs.Grammar.{Datum}
 use Rattle.sch_scope.specs.Scope.{Scope}
 use Rattle.sch_forms.specs.declared.fault.Fault.{Fault}

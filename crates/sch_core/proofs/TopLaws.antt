@@ -1,6 +1,6 @@
 -- A text without faults has one list of drafts, and one with a fault has none.
 use Rattle.std.proofs.Common.{◌≡◌, inl, inr, ℕ, true, false, List, [], ◌∷◌, ◌++◌, Option, Some, None, refl, sym, ◌∙◌, ap, subst, append_assoc, append-nil}
-use Rattle.sch_read.specs.Grammar.{Datum, Data, atom, list, dotted, vector, none, cons, symbol}
+use Rattle.sch_read.specs.Grammar.{Datum, Data, atom, list, dotted, none, cons, symbol}
 use Rattle.sch_scope.specs.declared.keyword.Keyword.{Keyword}
 use Rattle.sch_scope.specs.declared.keyword.Keyword.TheVariants as word
 use Rattle.sch_scope.specs.Words.{keyword_of}
@@ -10,12 +10,10 @@ use Rattle.sch_forms.specs.declared.sketch.Position.TheVariants.{Value}
 use Rattle.sch_forms.specs.Draft.{Draft, define}
 use Rattle.sch_forms.specs.Sketch.{text}
 use Rattle.sch_expand.specs.FaultOrder.{reported}
-use Rattle.sch_expand.specs.Expands.{Expands}
 use Rattle.sch_expand.specs.Faults.{HasFault}
-use Rattle.sch_expand.specs.Reads.{Reads}
 use Rattle.sch_core.specs.Forms.{by_word, word_of, unless_keyword, globals_of, TopExpands, FormsExpand, ValueHasFault, DefineHasFault, TopHasFault, SomeHasFault, Refuses, ExpressionReads, ValueReads, DefineReads, TopReads, FormsRead, TextExpands, IsFaultOf}
 use Rattle.sch_core.specs.Forms as fo
-use Rattle.sch_expand.proofs.Best.{Best, and_then, none_new, one_new, none_some, some_is, best_by, none_before, none_reported}
+use Rattle.sch_expand.proofs.Best.{Best, and_then, none_new, one_new, none_some, some_is, none_before, none_reported}
 use Rattle.sch_expand.proofs.Readings.{unique, clean, one_fault, read_best, read_made, is_read}
 
 false_true : false ≡ true → ⊥

@@ -1,10 +1,10 @@
 -- The steps over top-level forms, over plain values.
-use Rattle.std.proofs.Common.{◌≡◌, ℕ, suc, ◌+◌, ◌<◌, true, false, cond, subst, List, [], ◌∷◌, ◌++◌, Option, Some, None, length, drop, get_or, refl, ap, ◌∙◌, sym, add-one}
+use Rattle.std.proofs.Common.{◌≡◌, ℕ, suc, ◌+◌, ◌<◌, true, false, subst, List, [], ◌∷◌, ◌++◌, Option, Some, None, length, drop, get_or, refl, ap, ◌∙◌, sym, add-one}
 use Rattle.sch_read.specs.Grammar.{Datum, Data, atom, list, dotted, vector, none, cons, boolean, integer, character, text, symbol}
 use Rattle.sch_scope.specs.declared.keyword.Keyword.{Keyword}
 use Rattle.sch_scope.specs.declared.keyword.Keyword.TheVariants as word
 use Rattle.sch_forms.specs.declared.fault.Fault.{Fault}
-use Rattle.sch_forms.specs.declared.fault.Fault.TheVariants.{Unbuilt, BadForm, KeywordDefined}
+use Rattle.sch_forms.specs.declared.fault.Fault.TheVariants.{BadForm, KeywordDefined}
 use Rattle.sch_scope.specs.Words.{keyword_of}
 use Rattle.sch_expand.specs.FaultOrder.{reported}
 use Rattle.sch_read.specs.Parts.{offset}

@@ -1,12 +1,12 @@
 -- How large the drafts of a text are, and how many globals they name, by the weight of its data.
-use Rattle.std.proofs.Common.{◌≡◌, ◌≤◌, ℕ, zero, suc, ◌+◌, ◌*◌, Bool, List, [], ◌∷◌, ◌++◌, length, refl, subst, arith, length-append}
+use Rattle.std.proofs.Common.{◌≡◌, ◌≤◌, ℕ, ◌+◌, ◌*◌, Bool, List, [], ◌∷◌, ◌++◌, length, refl, subst, arith, length-append}
 use Rattle.sch_lang.specs.Measures.{node_and_bound, over, over_each}
 use Rattle.sch_read.specs.Grammar.{Datum, Data}
 use Rattle.sch_read.specs.Valid.{weight, weights}
 use Rattle.sch_scope.specs.Scope.{Scope}
 use Rattle.sch_forms.specs.declared.sketch.Position.{Position}
 use Rattle.sch_forms.specs.Draft.{Draft, Drafts, constant, local, global, define, branch, sequence, bind, operation, no_drafts, and_draft, drafts, count}
-use Rattle.sch_forms.specs.Measure.{datum_measure, sketch_measure, sketches_measure}
+use Rattle.sch_forms.specs.Measure.{sketch_measure, sketches_measure}
 use Rattle.sch_forms.specs.Sketch.{Kind, choosing, sequencing, binding, operating, Sketch, Sketches, leaf, front, last, assemble, bound_by}
 use Rattle.sch_forms.specs.Soundness.{IsAtom, HasParts, IsSound, AreSound as PartsSound}
 use Rattle.sch_forms.proofs.Falls.{datum_falls, rest_falls, datum_weighs}

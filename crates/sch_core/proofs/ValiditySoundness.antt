@@ -1,5 +1,5 @@
 -- Each draft that stands for a text is sound: one induction over the relation, with a line for each kind.
-use Rattle.std.proofs.Common.{◌≡◌, ◌≤◌, ◌<◌, ◌+◌, ℕ, zero, suc, Bool, true, false, List, [], ◌∷◌, length, Option, refl, ap, sym, subst, ◌∙◌, arith}
+use Rattle.std.proofs.Common.{◌≡◌, ◌≤◌, ℕ, zero, suc, Bool, true, false, List, length, Option, refl, ap, subst, arith}
 use Rattle.std.proofs.lemmas.Bool.{leb-true}
 use Rattle.sch_read.specs.Grammar.{Datum, Data}
 use Rattle.sch_scope.specs.Scope.{Scope, onto}

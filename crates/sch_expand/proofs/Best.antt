@@ -1,8 +1,8 @@
 -- The fault that is found is the least.
-use Rattle.std.proofs.Common.{◌≡◌, ◌⊎◌, inl, inr, ◌≤◌, ◌+◌, ℕ, Bool, true, false, cond, List, [], ◌∷◌, Option, Some, None, nat_le, refl, sym, ◌∙◌, arith}
+use Rattle.std.proofs.Common.{◌≡◌, ◌⊎◌, inl, inr, ◌≤◌, Bool, true, false, cond, Option, Some, None, nat_le, refl, sym, ◌∙◌, arith}
 use Rattle.std.proofs.lemmas.Bool.{leb-true, leb-false}
 use Rattle.sch_forms.specs.declared.fault.Fault.{Fault}
-use Rattle.sch_expand.specs.FaultOrder.{rank, reported, all_reported}
+use Rattle.sch_expand.specs.FaultOrder.{rank, reported}
 
 -- some fault that is none after g
 pub record AtMost (b : Option Fault) (g : Fault) : Type 0 where

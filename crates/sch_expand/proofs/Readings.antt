@@ -1,12 +1,10 @@
 -- The walk over a sketch finds its draft where it has no fault, and a least fault otherwise.
-use Rattle.std.proofs.Common.{◌≡◌, ◌⊎◌, inl, inr, ◌≤◌, ◌+◌, ℕ, suc, zero, Bool, true, false, cond, List, [], ◌∷◌, Option, Some, None, nat_le, refl, sym, ap, subst, ◌∙◌, arith}
+use Rattle.std.proofs.Common.{◌≡◌, ◌⊎◌, inl, inr, ◌≤◌, ◌+◌, ℕ, suc, zero, Bool, true, false, cond, List, [], ◌∷◌, Option, None, nat_le, refl, sym, ap, subst, arith}
 use Rattle.sch_word.specs.Shape.{max_levels, max_operands}
-use Rattle.sch_read.specs.Grammar.{Datum, Data}
 use Rattle.sch_scope.specs.Scope.{Scope}
 use Rattle.sch_forms.specs.declared.fault.Fault.{Fault}
 use Rattle.sch_forms.specs.declared.fault.Fault.TheVariants.{Operands, Core}
 use Rattle.sch_forms.specs.declared.sketch.Position.{Position}
-use Rattle.sch_forms.specs.declared.sketch.Row.{Row}
 use Rattle.sch_forms.specs.Draft.{Draft, Drafts, no_drafts, and_draft}
 use Rattle.sch_forms.specs.Measure.{sketch_measure, sketches_measure}
 use Rattle.sch_forms.specs.Outline.{outline_datum, outline}
@@ -19,7 +17,7 @@ use Rattle.sch_expand.specs.Faults.{HasFault, PartHasFault}
 use Rattle.sch_expand.specs.Faults as no
 use Rattle.sch_expand.specs.Reads.{Reads, PartsRead, operand_faults}
 use Rattle.sch_expand.specs.Reads as re
-use Rattle.sch_expand.proofs.Best.{Best, none_new, and_then, best_by, one_new, none_some, none_before, none_reported}
+use Rattle.sch_expand.proofs.Best.{Best, none_new, and_then, best_by, one_new, none_before, none_reported}
 
 true_false : {b : Bool} → b ≡ true → b ≡ false → ⊥
 true_false e f = cc

@@ -13,7 +13,7 @@ use Rattle.sch_forms.specs.declared.sketch.Sketch as code_sketch
 use Rattle.sch_forms.specs.Draft.{Draft, Drafts, drafts, no_drafts, and_draft}
 use Rattle.sch_forms.specs.Measure.{sketch_measure, sketches_measure}
 use Rattle.sch_forms.specs.Outline.{outline_datum, outline}
-use Rattle.sch_forms.specs.Sketch.{Kind, Sketch, Sketches, text, rest, wrong, leaf, node, limited, no_sketch, and_sketch, how_many_parts, is_end, scope_in, position_in, width, assemble, nothing}
+use Rattle.sch_forms.specs.Sketch.{Kind, Sketch, Sketches, text, rest, wrong, leaf, node, limited, and_sketch, how_many_parts, is_end, scope_in, position_in, width, assemble, nothing}
 use Rattle.sch_forms.specs.SketchView.{kind_of, sketch_of, sketches_of}
 use Rattle.sch_forms.proofs.Falls.{datum_falls, rest_falls, leaf_some}
 use Rattle.sch_expand.specs.declared.draft.Draft as code_draft
@@ -23,7 +23,7 @@ use Rattle.sch_expand.specs.FaultOrder.{reported, all_reported}
 use Rattle.sch_expand.specs.Following.{and_then}
 use Rattle.sch_expand.specs.Reads.{Reads, PartsRead, level_faults, operand_faults}
 use Rattle.sch_expand.specs.Reads as re
-use Rattle.sch_expand.specs.Stacking.{Task, Holds, Goes, around, open_left, stack_left}
+use Rattle.sch_expand.specs.Stacking.{Task, Holds, Goes, around, open_left}
 
 and_then_none : (es : List Draft) → and_then es no_drafts ≡ drafts es
 and_then_none [] = refl

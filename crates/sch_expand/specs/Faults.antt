@@ -9,7 +9,7 @@ use Rattle.sch_forms.specs.declared.sketch.Position.{Position}
 use Rattle.sch_forms.specs.declared.sketch.Row.{Row}
 use Rattle.sch_forms.specs.Draft.{Draft}
 use Rattle.sch_forms.specs.Outline.{outline_datum, outline}
-use Rattle.sch_forms.specs.Sketch.{Kind, Sketch, Sketches, text, rest, wrong, leaf, node, limited, no_sketch, and_sketch, how_many_parts, is_end, scope_in, position_in, width}
+use Rattle.sch_forms.specs.Sketch.{Kind, Sketch, Sketches, text, rest, wrong, leaf, node, limited, and_sketch, how_many_parts, is_end, scope_in, position_in, width}
 use Rattle.sch_expand.specs.Expands.{IsLevel}
 
 module _ (globals : List (List ℕ)) where

@@ -1,5 +1,5 @@
 -- The walk with a stack of its own.
-use Rattle.std.specs.Prelude.{◌≡◌, ◌-◌, ◌+◌, ◌*◌, ◌≤◌, ℕ, zero, Bool, List, [], ◌∷◌, Option, map, length, drop, reverse, nat_eq, false}
+use Rattle.std.specs.Prelude.{◌≡◌, ◌-◌, ◌+◌, ◌*◌, ◌≤◌, ℕ, zero, List, [], ◌∷◌, Option, map, length, drop, reverse, nat_eq, false}
 use Rattle.sch_scope.specs.Scope.{Scope}
 use Rattle.sch_forms.specs.declared.fault.Fault.{Fault}
 use Rattle.sch_forms.specs.declared.sketch.Position.{Position}

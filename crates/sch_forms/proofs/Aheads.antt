@@ -1,7 +1,6 @@
 -- Sketches that are made one after the other.
 use Rattle.std.proofs.Common.{◌≡◌, ◌<◌, ◌+◌, ℕ, suc, List, [], ◌∷◌, ◌++◌, length, drop, get_or, refl, sym, ap, ◌∙◌, add-one, drop-cons}
 use Rattle.sch_read.specs.declared.datum.Datum.{Datum}
-use Rattle.sch_read.specs.Grammar.{none, cons}
 use Rattle.sch_read.specs.Views.{tree_of, data_of}
 use Rattle.sch_forms.specs.declared.sketch.Sketch as code
 use Rattle.sch_forms.specs.Sketch.{Sketches, and_sketch, no_sketch}

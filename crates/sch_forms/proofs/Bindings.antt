@@ -1,5 +1,5 @@
 -- Lists of bindings and of symbols, step by step.
-use Rattle.std.proofs.Common.{◌≡◌, ◌<◌, ◌+◌, ℕ, suc, Bool, true, false, List, [], ◌∷◌, ◌++◌, length, drop, get_or, map, Option, Some, None, option_map, refl, sym, ap, ◌∙◌, add-one, drop-cons}
+use Rattle.std.proofs.Common.{◌≡◌, ◌<◌, ◌+◌, ℕ, suc, Bool, false, List, [], ◌∷◌, ◌++◌, length, drop, get_or, Option, Some, refl, sym, ap, ◌∙◌, add-one, drop-cons}
 use Rattle.std.proofs.lemmas.List.{map-append, append_assoc}
 use Rattle.std.specs.Borrow.{Bor}
 use Rattle.sch_read.specs.declared.datum.Datum.{Datum}
@@ -10,7 +10,7 @@ use Rattle.sch_forms.specs.declared.sketch.Sketch as code
 use Rattle.sch_forms.specs.Shapes.{IsNoBinding}
 use Rattle.sch_forms.specs.Sketch.{Names, Sketches, and_sketch, no_sketch}
 use Rattle.sch_forms.specs.Sketch as words
-use Rattle.sch_forms.specs.SketchView.{sketch_of, sketches_of, ahead}
+use Rattle.sch_forms.specs.SketchView.{sketch_of, ahead}
 use Rattle.sch_scope.specs.ScopeView.{given_names}
 use Rattle.sch_forms.specs.Binders.{inits, bound, are_bindings}
 use Rattle.sch_forms.proofs.Aheads.{ahead_more}

@@ -2,7 +2,6 @@
 use Rattle.std.proofs.Common.{◌≡◌, ◌<◌, ◌+◌, ℕ, zero, suc, nat_eq, arith, Bool, true, false, ◌&&◌, not, List, [], ◌∷◌, length, drop, get_or, refl, ap, sym, ◌∙◌, drop-cons, add-one}
 use Rattle.std.proofs.lemmas.Bool.Decides.{nat_tests}
 use Rattle.sch_read.specs.declared.datum.Datum as code
-use Rattle.sch_read.specs.Grammar.{Datum, Data, cons}
 use Rattle.sch_read.specs.Views.{tree_of, data_of}
 use Rattle.sch_scope.specs.Scope.{Scope}
 use Rattle.sch_forms.specs.Choices.{is_some_data, is_clause, are_clauses, is_case, are_cases}

@@ -1,18 +1,17 @@
 -- Worked rows of the table of forms (R5RS 4.1.5, 4.2.1, 4.2.2, 6.2.5 and 6.3.1): each sketch computes. A
 -- number stands at its own value.
-use Rattle.std.proofs.Common.{◌≡◌, ℕ, pos, true, false, List, [], ◌∷◌, Some, None, codes, refl}
+use Rattle.std.proofs.Common.{◌≡◌, ℕ, pos, true, false, [], ◌∷◌, Some, None, codes, refl}
 use Rattle.sch_word.specs.declared.constant.Const.TheVariants.{Fixnum, Boolean}
 use Rattle.sch_word.specs.declared.primitive.Primitive.TheVariants.{Add, Less, Eqv}
 use Rattle.sch_read.specs.Grammar.{Datum, Data, atom, list, none, cons, integer, symbol}
-use Rattle.sch_scope.specs.declared.keyword.Keyword.TheVariants.{And, Or, Cond, Case, Let, LetStar, Begin, Lambda}
-use Rattle.sch_scope.specs.declared.operation.Operation.TheVariants.{UnitAnd, Nested, Chained, Not}
-use Rattle.sch_scope.specs.Words.{keyword_of}
+use Rattle.sch_scope.specs.declared.keyword.Keyword.TheVariants.{And, Or, Cond, Case, Begin, Lambda}
+use Rattle.sch_scope.specs.declared.operation.Operation.TheVariants.{Not}
 use Rattle.sch_forms.specs.declared.fault.Fault.TheVariants.{Unbuilt, BadForm}
 use Rattle.sch_forms.specs.declared.sketch.Position.TheVariants.{Value, Test}
-use Rattle.sch_forms.specs.declared.sketch.Row.TheVariants.{Form, Body, Nest, Clauses, Cases, Tests, Chain, Join}
+use Rattle.sch_forms.specs.declared.sketch.Row.TheVariants.{Form, Nest, Clauses, Cases, Tests, Chain, Join}
 use Rattle.sch_forms.specs.Draft.{constant, local}
-use Rattle.sch_forms.specs.Sketch.{text, rest, wrong, leaf, node, limited, choosing, binding, operating, nothing, and_sketch}
-use Rattle.sch_forms.specs.Small.{one, two, three}
+use Rattle.sch_forms.specs.Sketch.{text, rest, wrong, leaf, node, choosing, binding, operating, nothing}
+use Rattle.sch_forms.specs.Small.{two, three}
 use Rattle.sch_forms.specs.Combinations.{combination, row_chain, row_join}
 use Rattle.sch_forms.specs.Choices.{row_clauses, row_cases, row_tests}
 use Rattle.sch_forms.specs.Binders.{row_nest}

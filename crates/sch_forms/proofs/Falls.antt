@@ -1,5 +1,5 @@
 -- Each row of the table leaves less text.
-use Rattle.std.proofs.Common.{◌≡◌, ◌≤◌, ◌<◌, ◌+◌, ◌*◌, ◌&&◌, ℕ, zero, suc, Bool, true, false, cond, List, [], ◌∷◌, length, Option, Some, None, refl, arith}
+use Rattle.std.proofs.Common.{◌≡◌, ◌≤◌, ◌<◌, ◌+◌, ◌*◌, ◌&&◌, ℕ, zero, suc, Bool, true, false, cond, List, length, Option, Some, None, refl, arith}
 use Rattle.sch_word.specs.declared.primitive.Primitive.{Primitive}
 use Rattle.sch_read.specs.Grammar.{Atom, Datum, Data, atom, list, dotted, vector, none, cons, boolean, integer, character, symbol}
 use Rattle.sch_read.specs.Grammar as grammar
@@ -16,9 +16,9 @@ use Rattle.sch_forms.specs.declared.sketch.Position.TheVariants.{Value, Test}
 use Rattle.sch_forms.specs.declared.sketch.Row.{Row}
 use Rattle.sch_forms.specs.declared.sketch.Row.TheVariants.{Form, Body, Nest, Clauses, Cases, Tests, Chain, Join}
 use Rattle.sch_forms.specs.Definitions.{is_definition}
-use Rattle.sch_forms.specs.Sketch.{Sketch, Sketches, text as datum, rest, no_sketch, and_sketch, but_one}
+use Rattle.sch_forms.specs.Sketch.{Sketch, Sketches, text as datum, rest, no_sketch, but_one}
 use Rattle.sch_forms.specs.Small.{one, texts, fresh_each, literal, quoted, either_of}
-use Rattle.sch_forms.specs.Choices.{row_if, row_and, row_or, row_cond, row_clauses, row_case, row_cases, row_tests, are_clauses, are_cases, clause, plain_clause, receiving, remaining, is_else, is_receiving, is_some_data, equals}
+use Rattle.sch_forms.specs.Choices.{row_if, row_and, row_or, row_cond, row_clauses, row_case, row_cases, row_tests, are_clauses, are_cases, clause, remaining, is_else, is_receiving, is_some_data}
 use Rattle.sch_forms.specs.Binders.{bound, inits, is_binding_form, are_bindings, is_body, body, row_body, row_let, row_let_star, row_nest, starred}
 use Rattle.sch_forms.specs.Combinations.{combination, denial, row_chain, row_join}
 use Rattle.sch_forms.specs.Outline.{row_quote, row_begin, row_form, outline, outline_name, outline_head, outline_datum}

@@ -1,6 +1,6 @@
 -- The rows of forms that bind variables (R5RS 4.2.2), and of bodies (R5RS 5.2.2).
-use Rattle.std.specs.Prelude.{ℕ, Bool, true, false, cond, ◌&&◌, not, List, [], ◌∷◌, ◌++◌, Option, Some, None}
-use Rattle.sch_read.specs.Grammar.{Datum, Data, atom, list, none, cons, symbol}
+use Rattle.std.specs.Prelude.{ℕ, Bool, true, false, cond, ◌&&◌, not, List, [], ◌∷◌, ◌++◌, Some, None}
+use Rattle.sch_read.specs.Grammar.{Data, atom, list, none, cons, symbol}
 use Rattle.sch_read.specs.Parts.{how_many, offset}
 use Rattle.sch_scope.specs.declared.keyword.Keyword.TheVariants.{Begin}
 use Rattle.sch_scope.specs.Scope.{Scope, is_among, onto}

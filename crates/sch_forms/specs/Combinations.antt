@@ -3,7 +3,7 @@ use Rattle.std.specs.Prelude.{ℕ, zero, suc, ◌+◌, true, false}
 use Rattle.sch_word.specs.declared.constant.Const.TheVariants.{Fixnum, Character}
 use Rattle.sch_word.specs.declared.primitive.Primitive.{Primitive}
 use Rattle.sch_word.specs.declared.primitive.Primitive.TheVariants.{Put}
-use Rattle.sch_read.specs.Grammar.{Datum, Data, none, cons}
+use Rattle.sch_read.specs.Grammar.{Data, none, cons}
 use Rattle.sch_read.specs.Parts.{how_many, offset}
 use Rattle.sch_scope.specs.declared.operation.Operation.{Operation}
 use Rattle.sch_scope.specs.declared.operation.Operation.TheVariants.{Exact, Unit, UnitAnd, Nested, Chained, Newline, Not}

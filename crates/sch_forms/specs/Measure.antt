@@ -1,6 +1,6 @@
 -- How much of a text is in a sketch. It falls with each row of the table, so that a walk ends; and no
 -- draft of a sketch has more nodes and bound variables.
-use Rattle.std.specs.Prelude.{ℕ, zero, suc, ◌+◌, ◌*◌}
+use Rattle.std.specs.Prelude.{ℕ, zero, ◌+◌, ◌*◌}
 use Rattle.sch_read.specs.Grammar.{Datum, Data, atom, list, dotted, vector, none, cons}
 use Rattle.sch_read.specs.Parts.{how_many}
 use Rattle.sch_forms.specs.declared.sketch.Row.{Row}

@@ -1,5 +1,5 @@
 -- What the values of the code stand for, in plain words.
-use Rattle.std.specs.Prelude.{ℕ, List, [], ◌∷◌, map}
+use Rattle.std.specs.Prelude.{List, [], ◌∷◌, map}
 use Rattle.sch_read.specs.Views.{tree_of, data_of}
 use Rattle.sch_scope.specs.ScopeView.{given_names}
 use Rattle.sch_forms.specs.declared.fault.Fault.{Fault}

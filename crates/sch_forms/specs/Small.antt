@@ -1,12 +1,12 @@
 -- Small sketches, of which the rows are made.
-use Rattle.std.specs.Prelude.{ℕ, Bool, true, false, List, [], ◌∷◌, Option, None}
+use Rattle.std.specs.Prelude.{ℕ, Bool, true, [], ◌∷◌, None}
 use Rattle.sch_word.specs.declared.constant.Const.TheVariants.{Fixnum, Character, Boolean, Nil}
 use Rattle.sch_read.specs.Grammar.{Atom, Datum, Data, atom, list, none, cons, boolean, integer, character}
 use Rattle.sch_read.specs.Parts.{offset}
 use Rattle.sch_forms.specs.declared.fault.Fault.TheVariants.{Unbuilt}
 use Rattle.sch_forms.specs.declared.sketch.Position.{Position}
 use Rattle.sch_forms.specs.declared.sketch.Position.TheVariants.{Value, Test}
-use Rattle.sch_forms.specs.Draft.{Draft, constant, local}
+use Rattle.sch_forms.specs.Draft.{constant, local}
 use Rattle.sch_forms.specs.Sketch.{Names, Sketch, Sketches, text, wrong, leaf, node, no_sketch, and_sketch, choosing, binding}
 
 abbrev pub one : Sketch → Sketches

@@ -1,6 +1,5 @@
 -- Sketches whose nodes have as many parts as they must, and whose variables are bound.
 use Rattle.std.specs.Prelude.{◌≡◌, ◌≤◌, ◌<◌, ◌+◌, ℕ, suc, Bool, true, false, length}
-use Rattle.sch_word.specs.declared.primitive.Primitive.{Primitive}
 use Rattle.sch_word.specs.Literals.{constant_known}
 use Rattle.sch_word.specs.Primitives.{operands_of}
 use Rattle.sch_read.specs.Grammar.{Data}

@@ -1,4 +1,4 @@
-use Rattle.std.proofs.Common.{◌≡◌, ◌+◌, ◌*◌, drop, map, List, Option}
+use Rattle.std.proofs.Common.{◌+◌, ◌*◌, drop, map, List, Option}
 use Rattle.sch_read.specs.Valid.{weight, weights}
 use Rattle.sch_read.specs.Views.{tree_of, data_of}
 use Rattle.sch_scope.specs.NamesView.{names_of}

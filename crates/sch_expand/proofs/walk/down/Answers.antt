@@ -1,4 +1,4 @@
-use Rattle.std.proofs.Common.{◌≡◌, refl, reverse, ap, sym, ◌∙◌}
+use Rattle.std.proofs.Common.{refl, ap, sym, ◌∙◌}
 use Rattle.std.proofs.lemmas.Result.{IfOk-weaker}
 use Rattle.sch_read.specs.Views.{tree_of}
 use Rattle.sch_scope.specs.NamesView.{names_of}

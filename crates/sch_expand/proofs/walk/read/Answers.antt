@@ -1,4 +1,4 @@
-use Rattle.std.proofs.Common.{◌≡◌, refl, reverse, [], ◌∷◌, arith, subst}
+use Rattle.std.proofs.Common.{refl, [], arith, subst}
 use Rattle.std.proofs.lemmas.List.{reverse-append}
 use Rattle.sch_read.specs.Views.{tree_of}
 use Rattle.sch_scope.specs.NamesView.{names_of}

@@ -1,4 +1,4 @@
-use Rattle.std.proofs.Common.{◌≡◌, refl, reverse, ap, ◌∙◌, [], ◌∷◌, nat_eq}
+use Rattle.std.proofs.Common.{refl, reverse, ap, nat_eq}
 use Rattle.std.proofs.lemmas.List.{reverse-append}
 use Rattle.sch_expand.specs.DraftView.{draft_of}
 use Rattle.sch_expand.specs.Stacking.{stack_left}

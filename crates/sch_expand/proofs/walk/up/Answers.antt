@@ -1,4 +1,4 @@
-use Rattle.std.proofs.Common.{◌≡◌, refl, reverse}
+use Rattle.std.proofs.Common.{refl, reverse}
 use Rattle.sch_expand.proofs.Stacks.{part_made}
 use Rattle.sch_expand.proofs.walk.up.Goals as goal
 

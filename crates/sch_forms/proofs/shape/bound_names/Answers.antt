@@ -1,4 +1,3 @@
-use Rattle.std.proofs.Common.{◌∙◌, sym}
 use Rattle.sch_forms.proofs.Bindings.{bound_next, bindings_next, bindings_stop}
 use Rattle.sch_forms.proofs.shape.bound_names.Goals as goal
 
