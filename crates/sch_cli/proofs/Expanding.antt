@@ -7,10 +7,12 @@ use Rattle.sch_word.specs.declared.constant.Const.TheVariants as const
 use Rattle.sch_word.specs.declared.primitive.Primitive.TheVariants.{Put}
 use Rattle.sch_read.specs.Grammar.{Atom, Datum, Data, atom, list, dotted, vector, none, cons, boolean, integer, character, text, symbol}
 use Rattle.sch_read.specs.Valid.{weight, weights}
-use Rattle.sch_core.specs.Words.{keyword_of}
-use Rattle.sch_core.specs.Operations.{operation_of}
-use Rattle.sch_core.specs.Draft.{Draft, constant, operation, no_drafts, and_draft, drafts}
-use Rattle.sch_core.specs.Expands as ex
+use Rattle.sch_scope.specs.Words.{keyword_of}
+use Rattle.sch_scope.specs.Operations.{operation_of}
+use Rattle.sch_forms.specs.declared.sketch.Position.TheVariants.{Value}
+use Rattle.sch_forms.specs.Draft.{Draft, constant, operation, no_drafts, and_draft, drafts}
+use Rattle.sch_forms.specs.Sketch.{operating, leaf, text as sketch, no_sketch, and_sketch}
+use Rattle.sch_expand.specs.Expands as ex
 use Rattle.sch_core.specs.Forms as fo
 use Rattle.sch_core.specs.Forms.{TopExpands, FormsExpand, TextExpands, defined, defined_by, firsts, globals_of}
 use Rattle.sch_core.specs.Numbered.{numbered_each, program_of, global_names_of_each}
@@ -47,15 +49,16 @@ record Good (d : Datum) (p : Piece) : Type 0 where
 
 -- the datum has this constant in each position
 abbrev IsConstant : ℕ → Atom → Piece → Type 0
-IsConstant at a p = (t : _) → ex.Expands [] 2 [] t (atom at a) (constant (constant_of p))
+IsConstant at a p = (t : _) → ex.Expands [] 2 [] t (sketch (atom at a)) (constant (constant_of p))
 
 displays : (at q p : ℕ) (a : Atom) (piece : Piece) → IsConstant p a piece →
     Good (list at (cons (atom q (symbol (codes "display"))) (cons (atom p a) none))) piece
 unfolding keyword_of operation_of
 displays at q p a piece e = record {
   free = refl;
-  form = fo.an_expression _ _ refl (ex.an_operation 1 [] _ at q (codes "display") (cons (atom p a) none) _ _ refl refl refl
-      (ex.and_operand 2 [] (atom p a) none _ _ (e _) (ex.no_operand 2 [])));
+  form = fo.an_expression _ _ refl (ex.a_datum 1 [] Value (list at (cons (atom q (symbol (codes "display"))) (cons (atom p a) none))) _
+      (ex.a_node 1 [] Value (operating Put) at (and_sketch (sketch (atom p a)) no_sketch) _ refl refl
+      (ex.and_part (operating Put) true 2 [] Value (sketch (atom p a)) no_sketch _ _ (e Value) (ex.no_part (operating Put) false 2 [] Value))));
   heavy = omega arith;
   placed = (at, refl);
 }
@@ -64,7 +67,10 @@ new_lines : (at q : ℕ) → Good (list at (cons (atom q (symbol (codes "newline
 unfolding keyword_of operation_of
 new_lines at q = record {
   free = refl;
-  form = fo.an_expression _ _ refl (ex.an_operation 1 [] _ at q (codes "newline") none _ no_drafts refl refl refl (ex.no_operand 2 []));
+  form = fo.an_expression _ _ refl (ex.a_datum 1 [] Value (list at (cons (atom q (symbol (codes "newline"))) none)) _
+      (ex.a_node 1 [] Value (operating Put) at (and_sketch (leaf at (constant (const.Character 10))) no_sketch) _ refl refl
+      (ex.and_part (operating Put) true 2 [] Value (leaf at (constant (const.Character 10))) no_sketch _ _
+      (ex.a_leaf 2 [] Value at (constant (const.Character 10)) refl) (ex.no_part (operating Put) false 2 [] Value))));
   heavy = omega arith;
   placed = (at, refl);
 }
@@ -77,9 +83,9 @@ named_display at q p x a piece piece' w same e =
     (subst (Good (list at (cons (atom q (symbol (codes "display"))) (cons (atom p a) none)))) (some_is same) (displays at q p a piece e))
 
 good_display : (at q : ℕ) (x : List ℕ) (xs : Data) (p : Piece) → x ≡ codes "display" → displayed xs ≡ Some p → Good (list at (cons (atom q (symbol x)) xs)) p
-good_display at q x (cons (atom a (integer z)) none) p w e = named_display at q a x (integer z) (Number z) p w e (λ t. ex.an_integer 2 [] t a z refl)
-good_display at q x (cons (atom a (character c)) none) p w e = named_display at q a x (character c) (Character c) p w e (λ t. ex.a_character 2 [] t a c refl)
-good_display at q x (cons (atom a (boolean b)) none) p w e = named_display at q a x (boolean b) (Boolean b) p w e (λ t. ex.a_boolean 2 [] t a b refl)
+good_display at q x (cons (atom a (integer z)) none) p w e = named_display at q a x (integer z) (Number z) p w e (λ t. ex.a_datum 2 [] t (atom a (integer z)) _ (ex.a_leaf 2 [] t a (constant (const.Fixnum z)) refl))
+good_display at q x (cons (atom a (character c)) none) p w e = named_display at q a x (character c) (Character c) p w e (λ t. ex.a_datum 2 [] t (atom a (character c)) _ (ex.a_leaf 2 [] t a (constant (const.Character c)) refl))
+good_display at q x (cons (atom a (boolean b)) none) p w e = named_display at q a x (boolean b) (Boolean b) p w e (λ t. ex.a_datum 2 [] t (atom a (boolean b)) _ (ex.a_leaf 2 [] t a (constant (const.Boolean b)) refl))
 good_display at q x (cons (atom a (text bs)) none) p w e = absurd cc
 good_display at q x (cons (atom a (symbol y)) none) p w e = absurd cc
 good_display at q x (cons (list a ys) none) p w e = absurd cc

@@ -14,7 +14,7 @@ use Rattle.sch_insn.specs.Behaves.{Ending}
 use Rattle.sch_lang.specs.Meaning.{Closure, Enter, each, enter}
 use Rattle.sch_lang.specs.Run.{outcome}
 use Rattle.sch_lang.specs.Tree.{Source}
-use Rattle.sch_core.specs.Draft.{drafts}
+use Rattle.sch_forms.specs.Draft.{drafts}
 use Rattle.sch_core.specs.Forms.{firsts}
 use Rattle.sch_core.specs.Numbered.{numbered_each, program_of, global_names_of_each, widths_of_each}
 use Rattle.sch_cli.specs.declared.piece.Piece.{Piece}

@@ -4,7 +4,7 @@ use Rattle.sch_lang.specs.Tree.{Source}
 use Rattle.sch_lang.specs.Valid.{constants_in_range, is_valid}
 use Rattle.sch_read.specs.Grammar.{Data}
 use Rattle.sch_read.specs.Valid.{max_weight, weights}
-use Rattle.sch_core.specs.Draft.{Draft}
+use Rattle.sch_forms.specs.Draft.{Draft}
 use Rattle.sch_core.specs.Forms.{TextExpands}
 use Rattle.sch_core.specs.Numbered.{program_of}
 use Rattle.sch_core.specs.Programs.{form_places, first_exceeding}

@@ -10,7 +10,7 @@ use Rattle.sch_lang.specs.View.{expressions_of, lambdas_of}
 use Rattle.sch_lang.specs.SourceView.{source_of}
 use Rattle.sch_lang.specs.Valid.{constants_in_range, in_range, shaped, within_limits, sites_once, statics_known, is_valid}
 use Rattle.sch_lang.proofs.Rows.{lambdas_of_list}
-use Rattle.sch_core.specs.Draft.{Draft, drafts}
+use Rattle.sch_forms.specs.Draft.{Draft, drafts}
 use Rattle.sch_core.specs.Forms.{firsts}
 use Rattle.sch_core.specs.Numbered.{global_names_of_each, numbered_each, widths_of_each, unset, program_of}
 

@@ -1,18 +1,18 @@
 -- Data have a program or an error, and never both.
-use Rattle.std.proofs.Common.{◌≡◌, ◌≢◌, ◌⊎◌, inl, inr, ℕ, List, Option, Some, None, refl, sym, ap, ◌∙◌, subst}
+use Rattle.std.proofs.Common.{◌≡◌, ◌≢◌, ◌⊎◌, inl, inr, ℕ, List, [], Option, Some, None, refl, sym, ap, ◌∙◌, subst}
 use Rattle.sch_lang.specs.Tree.{Source}
 use Rattle.sch_read.specs.Grammar.{Data}
 use Rattle.sch_core.specs.Answer.{IsErrorFor, IsErrorIn}
-use Rattle.sch_core.specs.Draft.{Draft}
-use Rattle.sch_core.specs.Forms.{globals_of, built_forms, least_forms, TextExpands, IsFaultOf}
+use Rattle.sch_forms.specs.Draft.{Draft}
+use Rattle.sch_core.specs.Forms.{globals_of, FormsRead, TextExpands, IsFaultOf}
 use Rattle.sch_core.specs.Numbered.{program_of}
 use Rattle.sch_core.specs.Programs.{IsProgramOf, ExceedsAt, form_places, first_exceeding}
 use Rattle.sch_core.specs.declared.error.CoreError.{CoreError}
 use Rattle.sch_core.specs.declared.error.CoreError.TheVariants as errors
 use Rattle.sch_core.specs.declared.error.Kind.TheVariants as kinds
-use Rattle.sch_core.specs.declared.fault.Fault.{Fault}
-use Rattle.sch_core.specs.declared.fault.Fault.TheVariants as fault
-use Rattle.sch_core.proofs.TopAgree.{forms_unique, forms_clean, text_fault, text_free}
+use Rattle.sch_forms.specs.declared.fault.Fault.{Fault}
+use Rattle.sch_forms.specs.declared.fault.Fault.TheVariants as fault
+use Rattle.sch_core.proofs.TopLaws.{forms_unique, forms_clean, forms_one, forms_walk, text_fault, text_drafts}
 
 -- ## A program or an error
 
@@ -33,20 +33,18 @@ counted : (items : Data) (es : List Draft) → TextExpands items es → (o : Opt
 counted items es h None e = inl (program_of es, record { drafts = es; expands = h; numbered = refl; fits = e })
 counted items es h (Some at) e = inr (errors.Limit kinds.Variables at, λ d. cc, record { drafts = es; expands = h; exceeding = e })
 
-expanded : (items : Data) (o : Option Fault) → least_forms (globals_of items) items None ≡ o → ((p : Source) × IsProgramOf items p) ⊎ Refused items
-expanded items None e =
-    counted items (built_forms (globals_of items) items) (text_free items e)
-    (first_exceeding (form_places items) (program_of (built_forms (globals_of items) items)).forms) refl
-expanded items (Some f) e = inr (refused items f (text_fault items f e))
+walked : (items : Data) (o : Option Fault) (fs : List Draft) → FormsRead (globals_of items) items None o [] fs → ((p : Source) × IsProgramOf items p) ⊎ Refused items
+walked items None fs r = counted items fs (text_drafts items fs r) (first_exceeding (form_places items) (program_of fs).forms) refl
+walked items (Some f) fs r = inr (refused items f (text_fault items f fs r))
 
 pub program_or_error : (items : Data) → ((p : Source) × IsProgramOf items p) ⊎ ((e : CoreError) × (e ≢ errors.Memory) × IsErrorIn items e)
-program_or_error items = expanded items (least_forms (globals_of items) items None) refl
+program_or_error items = let w = forms_walk (globals_of items) items None [] in walked items w.after w.drafts w.reads
 
 -- ## Never two
 
 -- data stand for one list of drafts
 pub drafts_one : (items : Data) (es fs : List Draft) → TextExpands items es → TextExpands items fs → es ≡ fs
-drafts_one items es fs a b = sym (forms_unique (globals_of items) a) ∙ forms_unique (globals_of items) b
+drafts_one items es fs a b = forms_unique (globals_of items) a b
 
 pub program_faultless : (items : Data) (p : Source) (f : Fault) → IsProgramOf items p → IsFaultOf items f → ⊥
 program_faultless items p f a b = forms_clean (globals_of items) a.expands f b.there
@@ -77,7 +75,7 @@ some_some : {A : Type 0} {a b : A} → Some a ≡ Some b → a ≡ b
 some_some e = cc
 
 fault_one : (items : Data) (f g : Fault) → IsFaultOf items f → IsFaultOf items g → f ≡ g
-fault_one items f g a b = some_some (sym a.first ∙ b.first)
+fault_one items f g a b = some_some (forms_one (globals_of items) items None (Some f) (Some g) [] [] a.drafts b.drafts a.first b.first)
 
 exceeds_one : (items : Data) (at at' : ℕ) → ExceedsAt items at → ExceedsAt items at' → at ≡ at'
 exceeds_one items at at' a b =

@@ -3,12 +3,12 @@ use Rattle.std.proofs.Common.{◌≡◌, List, ap, sym, ◌∙◌}
 use Rattle.std.specs.declared.alloc.Global.{Global}
 use Rattle.std.specs.declared.boxed.Box.{Box}
 use Rattle.sch_word.specs.declared.primitive.Primitive.{Primitive}
-use Rattle.sch_core.specs.declared.draft.Draft.{fold-roll-Draft}
-use Rattle.sch_core.specs.declared.draft.Draft as code
-use Rattle.sch_core.specs.declared.draft.Draft.TheOpen.{Draft-F}
-use Rattle.sch_core.specs.declared.draft.Draft.TheVariants.{If, rolls-If, Let, rolls-Let, Prim, rolls-Prim}
-use Rattle.sch_core.specs.Draft as plain
-use Rattle.sch_core.specs.DraftView.{draft_view, draft_of, drafts_of}
+use Rattle.sch_expand.specs.declared.draft.Draft.{fold-roll-Draft}
+use Rattle.sch_expand.specs.declared.draft.Draft as code
+use Rattle.sch_expand.specs.declared.draft.Draft.TheOpen.{Draft-F}
+use Rattle.sch_expand.specs.declared.draft.Draft.TheVariants.{If, rolls-If, Let, rolls-Let, Prim, rolls-Prim}
+use Rattle.sch_forms.specs.Draft as plain
+use Rattle.sch_expand.specs.DraftView.{draft_view, draft_of, drafts_of}
 
 pub branch_view : {d : code.Draft} (a b c : Box code.Draft Global) {x y z : code.Draft} → d ≡ If a b c → x ≡ a.value → y ≡ b.value → z ≡ c.value →
     draft_of d ≡ plain.branch (draft_of x) (draft_of y) (draft_of z)

@@ -7,9 +7,9 @@ use Rattle.sch_lang.specs.Tree.{Expression, Expressions, no_expressions, and_exp
 use Rattle.sch_lang.specs.declared.tree.Exp.{Exp}
 use Rattle.sch_lang.specs.View.{expression, expressions_of}
 use Rattle.sch_lang.proofs.Rows.{expressions_of_list}
-use Rattle.sch_core.specs.declared.draft.Draft as code
-use Rattle.sch_core.specs.Draft.{Draft, Drafts, branch, bind, operation, count}
-use Rattle.sch_core.specs.DraftView.{draft_of, drafts_of}
+use Rattle.sch_expand.specs.declared.draft.Draft as code
+use Rattle.sch_forms.specs.Draft.{Draft, Drafts, branch, bind, operation, count}
+use Rattle.sch_expand.specs.DraftView.{draft_of, drafts_of}
 use Rattle.sch_core.specs.Forms.{firsts}
 use Rattle.sch_core.specs.Numbered.{global_names, global_names_of_each, numbered, numbered_each, widths, widths_of_each}
 use Rattle.sch_core.proofs.TopSteps.{firsts_append}

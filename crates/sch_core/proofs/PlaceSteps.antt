@@ -3,11 +3,11 @@ use Rattle.std.proofs.Common.{◌≡◌, ℕ, suc, ◌+◌, ◌<◌, List, [], �
 use Rattle.sch_read.specs.Grammar.{Datum, Data, atom, list, dotted, vector, none, cons, boolean, integer, character, text, symbol}
 use Rattle.sch_read.specs.declared.datum.Datum as code
 use Rattle.sch_read.specs.Views.{tree_of, data_of}
-use Rattle.sch_core.specs.declared.keyword.Keyword.{Keyword}
-use Rattle.sch_core.specs.declared.keyword.Keyword.TheVariants as word
+use Rattle.sch_scope.specs.declared.keyword.Keyword.{Keyword}
+use Rattle.sch_scope.specs.declared.keyword.Keyword.TheVariants as word
 use Rattle.sch_core.specs.Shapes.{IsHeaded}
 use Rattle.sch_read.specs.Parts.{offset}
-use Rattle.sch_core.specs.Words.{keyword_of}
+use Rattle.sch_scope.specs.Words.{keyword_of}
 use Rattle.sch_core.specs.Forms.{by_word}
 use Rattle.sch_core.specs.Programs.{places_of, form_places}
 use Rattle.sch_core.proofs.Loops.{next_is}

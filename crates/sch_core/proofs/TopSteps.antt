@@ -1,22 +1,24 @@
 -- The steps over top-level forms, over plain values.
-use Rattle.std.proofs.Common.{◌≡◌, ℕ, suc, ◌+◌, ◌<◌, true, false, cond, subst, List, [], ◌∷◌, ◌++◌, Option, Some, None, length, drop, get_or, refl, ap, ◌∙◌, sym, add-one}
+use Rattle.std.proofs.Common.{◌≡◌, ℕ, suc, ◌+◌, ◌<◌, true, false, subst, List, [], ◌∷◌, ◌++◌, Option, Some, None, length, drop, get_or, refl, ap, ◌∙◌, sym, add-one}
 use Rattle.sch_read.specs.Grammar.{Datum, Data, atom, list, dotted, vector, none, cons, boolean, integer, character, text, symbol}
-use Rattle.sch_core.specs.declared.keyword.Keyword.{Keyword}
-use Rattle.sch_core.specs.declared.keyword.Keyword.TheVariants as word
-use Rattle.sch_core.specs.declared.fault.Fault.{Fault}
-use Rattle.sch_core.specs.declared.fault.Fault.TheVariants.{Unbuilt, BadForm, KeywordDefined}
-use Rattle.sch_core.specs.Words.{keyword_of}
-use Rattle.sch_core.specs.FaultOrder.{reported}
+use Rattle.sch_scope.specs.declared.keyword.Keyword.{Keyword}
+use Rattle.sch_scope.specs.declared.keyword.Keyword.TheVariants as word
+use Rattle.sch_forms.specs.declared.fault.Fault.{Fault}
+use Rattle.sch_forms.specs.declared.fault.Fault.TheVariants.{BadForm, KeywordDefined}
+use Rattle.sch_scope.specs.Words.{keyword_of}
+use Rattle.sch_expand.specs.FaultOrder.{reported}
 use Rattle.sch_read.specs.Parts.{offset}
 use Rattle.sch_core.specs.Shapes.{IsHeaded}
 use Rattle.sch_read.specs.Parts.{IsNoSymbol, IsNoProperList}
-use Rattle.sch_core.specs.Forms.{built_value, least_value, by_word, word_of, first_name, head_name, named_if, defined_name, defined_by, defined, firsts, is_listed, built_define, built_top, built_forms, least_define, least_top, least_forms}
-use Rattle.sch_core.specs.Builds.{built, least}
-use Rattle.sch_core.specs.NamesView.{with_name}
+use Rattle.sch_core.specs.Forms.{by_word, word_of, first_name, head_name, named_if, defined_name, defined_by, defined, firsts, is_listed, refused_as, ExpressionReads, ValueReads, DefineReads, TopReads, FormsRead}
+use Rattle.sch_scope.specs.NamesView.{with_name}
 use Rattle.sch_read.specs.declared.datum.Datum as code
 use Rattle.sch_read.specs.Views.{tree_of, data_of}
+use Rattle.sch_forms.specs.declared.sketch.Position.TheVariants.{Value}
+use Rattle.sch_forms.specs.Draft.{Draft, define}
+use Rattle.sch_forms.specs.Sketch.{text as sketch}
+use Rattle.sch_expand.specs.Reads.{Reads}
 use Rattle.sch_core.proofs.Loops.{next_is}
-use Rattle.sch_core.specs.declared.keyword.Position.TheVariants.{Value}
 
 pub no_symbol_first : (d : Datum) (xs : Data) → IsNoSymbol d → first_name (cons d xs) ≡ None
 no_symbol_first (atom p (boolean b)) xs h = refl
@@ -155,85 +157,83 @@ defined_expression (list p (cons (vector q x) xs)) h = refl
 defined_expression (dotted p xs x) h = refl
 defined_expression (vector p xs) h = refl
 
--- ## Forms
+-- ## What is read at top level
 
-module _ (g : List (List ℕ)) where
-  pub top_definition : {d : Datum} {xs : Data} → IsHeaded d word.Define xs → built_top g d ≡ built_define g xs
-  top_definition {d} {xs} h =
-      ap (built_top g) h.shape ∙ ap (λ w. by_word w (built_define g xs) (built_forms g xs) (built g 1 [] Value (list (offset d) (cons (atom h.name_place (symbol h.name)) xs)) ∷ [])) h.word
+false_true : false ≡ true → ⊥
+false_true e = cc
 
-  pub top_beginning : {d : Datum} {xs : Data} → IsHeaded d word.Begin xs → built_top g d ≡ built_forms g xs
-  top_beginning {d} {xs} h =
-      ap (built_top g) h.shape ∙ ap (λ w. by_word w (built_define g xs) (built_forms g xs) (built g 1 [] Value (list (offset d) (cons (atom h.name_place (symbol h.name)) xs)) ∷ [])) h.word
+expression_type : (A B C : Type 0) (w : Option Keyword) → by_word w false false true ≡ true → C → by_word w A B C
+expression_type A B C (Some word.Define) e c = absurd (false_true e)
+expression_type A B C (Some word.Begin) e c = absurd (false_true e)
+expression_type A B C _ e c = c
 
-  pub top_expression : (d : Datum) → IsExpression d → built_top g d ≡ built g 1 [] Value d ∷ []
-  top_expression (atom p a) h = refl
-  top_expression (list p none) h = refl
-  top_expression (list p (cons (atom q (symbol x)) xs)) h = expression_word (keyword_of x) _ _ _ h
-  top_expression (list p (cons (atom q (boolean x)) xs)) h = refl
-  top_expression (list p (cons (atom q (integer x)) xs)) h = refl
-  top_expression (list p (cons (atom q (character x)) xs)) h = refl
-  top_expression (list p (cons (atom q (text x)) xs)) h = refl
-  top_expression (list p (cons (list q x) xs)) h = refl
-  top_expression (list p (cons (dotted q x y) xs)) h = refl
-  top_expression (list p (cons (vector q x) xs)) h = refl
-  top_expression (dotted p xs x) h = refl
-  top_expression (vector p xs) h = refl
+module _ (g : List (List ℕ)) (a b : Option Fault) (es fs : List Draft) where
+  by_head : {d : Datum} {k : Keyword} {xs : Data} (h : IsHeaded d k xs) →
+      by_word (Some k) (DefineReads g (offset d) xs a b es fs) (FormsRead g xs a b es fs)
+      (ExpressionReads g (list (offset d) (cons (atom h.name_place (symbol h.name)) xs)) a b es fs) → TopReads g d a b es fs
+  by_head {d} {k} {xs} h p =
+      subst (λ y. TopReads g y a b es fs) (sym h.shape)
+      (subst (λ w. by_word w (DefineReads g (offset d) xs a b es fs) (FormsRead g xs a b es fs)
+      (ExpressionReads g (list (offset d) (cons (atom h.name_place (symbol h.name)) xs)) a b es fs)) (sym h.word) p)
 
-  pub least_definition : {d : Datum} {xs : Data} → IsHeaded d word.Define xs → (o : Option Fault) → least_top g d o ≡ least_define g (offset d) xs o
-  least_definition {d} {xs} h o =
-      ap (λ y. least_top g y o) h.shape ∙ ap (λ w. by_word w (least_define g (offset d) xs o) (least_forms g xs o) (least g 1 [] Value (list (offset d) (cons (atom h.name_place (symbol h.name)) xs)) o)) h.word
+  pub reads_definition : {d : Datum} {xs : Data} → IsHeaded d word.Define xs → DefineReads g (offset d) xs a b es fs → TopReads g d a b es fs
+  reads_definition h p = by_head h p
 
-  pub least_beginning : {d : Datum} {xs : Data} → IsHeaded d word.Begin xs → (o : Option Fault) → least_top g d o ≡ least_forms g xs o
-  least_beginning {d} {xs} h o =
-      ap (λ y. least_top g y o) h.shape ∙ ap (λ w. by_word w (least_define g (offset d) xs o) (least_forms g xs o) (least g 1 [] Value (list (offset d) (cons (atom h.name_place (symbol h.name)) xs)) o)) h.word
+  pub reads_beginning : {d : Datum} {xs : Data} → IsHeaded d word.Begin xs → FormsRead g xs a b es fs → TopReads g d a b es fs
+  reads_beginning h p = by_head h p
 
-  pub least_expression : (d : Datum) → IsExpression d → (o : Option Fault) → least_top g d o ≡ least g 1 [] Value d o
-  least_expression (atom p a) h o = refl
-  least_expression (list p none) h o = refl
-  least_expression (list p (cons (atom q (symbol x)) xs)) h o = expression_word (keyword_of x) _ _ _ h
-  least_expression (list p (cons (atom q (boolean x)) xs)) h o = refl
-  least_expression (list p (cons (atom q (integer x)) xs)) h o = refl
-  least_expression (list p (cons (atom q (character x)) xs)) h o = refl
-  least_expression (list p (cons (atom q (text x)) xs)) h o = refl
-  least_expression (list p (cons (list q x) xs)) h o = refl
-  least_expression (list p (cons (dotted q x y) xs)) h o = refl
-  least_expression (list p (cons (vector q x) xs)) h o = refl
-  least_expression (dotted p xs x) h o = refl
-  least_expression (vector p xs) h o = refl
+  pub reads_expression : (d : Datum) → IsExpression d → ExpressionReads g d a b es fs → TopReads g d a b es fs
+  reads_expression (atom p x) h r = r
+  reads_expression (list p none) h r = r
+  reads_expression (list p (cons (atom q (symbol x)) xs)) h r = expression_type _ _ _ (keyword_of x) h r
+  reads_expression (list p (cons (atom q (boolean x)) xs)) h r = r
+  reads_expression (list p (cons (atom q (integer x)) xs)) h r = r
+  reads_expression (list p (cons (atom q (character x)) xs)) h r = r
+  reads_expression (list p (cons (atom q (text x)) xs)) h r = r
+  reads_expression (list p (cons (list q x) xs)) h r = r
+  reads_expression (list p (cons (dotted q x y) xs)) h r = r
+  reads_expression (list p (cons (vector q x) xs)) h r = r
+  reads_expression (dotted p xs x) h r = r
+  reads_expression (vector p xs) h r = r
+
+  pub value_none : {xs : Data} (at : ℕ) (v : List ℕ) → xs ≡ none → b ≡ reported (BadForm at) a → fs ≡ es → ValueReads g at v xs a b es fs
+  value_none at v e h i = rw e (h, i)
+
+  pub value_more : {xs r r' : Data} {e e' : Datum} (at : ℕ) (v : List ℕ) → xs ≡ cons e r → r ≡ cons e' r' → b ≡ reported (BadForm at) a → fs ≡ es → ValueReads g at v xs a b es fs
+  value_more {e = e} at v i j h k = rw (i ∙ ap (cons e) j) (h, k)
+
+  pub value_one : {xs r : Data} {e : Datum} (at : ℕ) (v : List ℕ) (x : Draft) → xs ≡ cons e r → r ≡ none → fs ≡ es ++ define v x ∷ [] → Reads g 2 [] Value (sketch e) a b x → ValueReads g at v xs a b es fs
+  value_one {e = e} at v x i j h k = rw (i ∙ ap (cons e) j) (x, h, k)
+
+  pub define_none : {xs : Data} (at : ℕ) → xs ≡ none → b ≡ reported (BadForm at) a → fs ≡ es → DefineReads g at xs a b es fs
+  define_none at e h i = rw e (h, i)
 
   -- what is defined is neither a name nor a list, or is a list
-  pub define_other : {d : Datum} {xs rest : Data} → xs ≡ cons d rest → IsNoSymbol d → built_define g xs ≡ []
-  define_other {d = atom p (boolean b)} e h = ap (built_define g) e
-  define_other {d = atom p (integer b)} e h = ap (built_define g) e
-  define_other {d = atom p (character b)} e h = ap (built_define g) e
-  define_other {d = atom p (text b)} e h = ap (built_define g) e
-  define_other {d = atom p (symbol b)} e h = absurd h
-  define_other {d = list p ys} e h = ap (built_define g) e
-  define_other {d = dotted p ys y} e h = ap (built_define g) e
-  define_other {d = vector p ys} e h = ap (built_define g) e
+  define_other_is : (d : Datum) (rest : Data) (at : ℕ) → IsNoSymbol d → b ≡ reported (refused_as (is_listed d) at) a → fs ≡ es → DefineReads g at (cons d rest) a b es fs
+  define_other_is (atom p (boolean x)) rest at n h i = (h, i)
+  define_other_is (atom p (integer x)) rest at n h i = (h, i)
+  define_other_is (atom p (character x)) rest at n h i = (h, i)
+  define_other_is (atom p (text x)) rest at n h i = (h, i)
+  define_other_is (atom p (symbol x)) rest at n h i = absurd n
+  define_other_is (list p ys) rest at n h i = (h, i)
+  define_other_is (dotted p ys y) rest at n h i = (h, i)
+  define_other_is (vector p ys) rest at n h i = (h, i)
 
-  pub define_other_least : {d : Datum} {xs rest : Data} (at : ℕ) (o : Option Fault) → xs ≡ cons d rest → IsNoSymbol d → least_define g at xs o ≡ cond (is_listed d) (reported (Unbuilt at) o) (reported (BadForm at) o)
-  define_other_least {d = atom p (boolean b)} at o e h = ap (λ y. least_define g at y o) e
-  define_other_least {d = atom p (integer b)} at o e h = ap (λ y. least_define g at y o) e
-  define_other_least {d = atom p (character b)} at o e h = ap (λ y. least_define g at y o) e
-  define_other_least {d = atom p (text b)} at o e h = ap (λ y. least_define g at y o) e
-  define_other_least {d = atom p (symbol b)} at o e h = absurd h
-  define_other_least {d = list p ys} at o e h = ap (λ y. least_define g at y o) e
-  define_other_least {d = dotted p ys y} at o e h = ap (λ y. least_define g at y o) e
-  define_other_least {d = vector p ys} at o e h = ap (λ y. least_define g at y o) e
+  pub define_other : {d : Datum} {xs rest : Data} (at : ℕ) → xs ≡ cons d rest → IsNoSymbol d → b ≡ reported (refused_as (is_listed d) at) a → fs ≡ es → DefineReads g at xs a b es fs
+  define_other {d} {rest = rest} at e n h i = rw e (define_other_is d rest at n h i)
 
-  pub define_none : {xs : Data} → xs ≡ none → built_define g xs ≡ []
-  define_none e = ap (built_define g) e
+  pub define_keyword : {xs rest : Data} {d : Datum} {q : ℕ} {v : List ℕ} {k : Keyword} (at : ℕ) → xs ≡ cons d rest → d ≡ atom q (symbol v) → keyword_of v ≡ Some k →
+      b ≡ reported (KeywordDefined at) a → fs ≡ es → DefineReads g at xs a b es fs
+  define_keyword {rest = rest} at e e' w h i = rw (e ∙ ap (λ y. cons y rest) e', w) (h, i)
 
-  pub define_keyword : {xs rest : Data} {d : Datum} {q : ℕ} {v : List ℕ} {k : Keyword} → xs ≡ cons d rest → d ≡ atom q (symbol v) → keyword_of v ≡ Some k → built_define g xs ≡ []
-  define_keyword {rest = rest} e e' h = rw (e ∙ ap (λ y. cons y rest) e', h) refl
+  pub define_name : {xs rest : Data} {d : Datum} {q : ℕ} {v : List ℕ} (at : ℕ) → xs ≡ cons d rest → d ≡ atom q (symbol v) → keyword_of v ≡ None →
+      ValueReads g at v rest a b es fs → DefineReads g at xs a b es fs
+  define_name {rest = rest} at e e' w r = rw (e ∙ ap (λ y. cons y rest) e', w) r
 
-  pub define_keyword_least : {xs rest : Data} {d : Datum} {q : ℕ} {v : List ℕ} {k : Keyword} (at : ℕ) (o : Option Fault) → xs ≡ cons d rest → d ≡ atom q (symbol v) → keyword_of v ≡ Some k → least_define g at xs o ≡ reported (KeywordDefined at) o
-  define_keyword_least {rest = rest} at o e e' h = rw (e ∙ ap (λ y. cons y rest) e', h) refl
-
-  pub define_name : {xs rest : Data} {d : Datum} {q : ℕ} {v : List ℕ} → xs ≡ cons d rest → d ≡ atom q (symbol v) → keyword_of v ≡ None → built_define g xs ≡ built_value g v rest
-  define_name {rest = rest} e e' h = rw (e ∙ ap (λ y. cons y rest) e', h) refl
-
-  pub define_name_least : {xs rest : Data} {d : Datum} {q : ℕ} {v : List ℕ} (at : ℕ) (o : Option Fault) → xs ≡ cons d rest → d ≡ atom q (symbol v) → keyword_of v ≡ None → least_define g at xs o ≡ least_value g at rest o
-  define_name_least {rest = rest} at o e e' h = rw (e ∙ ap (λ y. cons y rest) e', h) refl
+-- one form, and then the others
+pub forms_next : (g : List (List ℕ)) (items : List code.Datum) (i : ℕ) (d : code.Datum) (a m b : Option Fault) (es gs fs : List Draft) → i < length items → d ≡ get_or items i d →
+    TopReads g (tree_of d) a m es gs → FormsRead g (data_of (drop (i + 1) items)) m b gs fs → FormsRead g (data_of (drop i items)) a b es fs
+forms_next g items i d a m b es gs fs l e t r =
+    let n = next_is items i d l e in
+    let r' = rw add-one at r in
+    rw n (m, gs, t, r')

@@ -7,7 +7,7 @@ use Rattle.sch_lang.specs.Valid.{constants_in_range, in_range, shaped, within_li
 use Rattle.sch_lang.proofs.SitesInOrder.{sites_in_order}
 use Rattle.sch_read.specs.Grammar.{Data}
 use Rattle.sch_read.specs.Valid.{max_weight, weights}
-use Rattle.sch_core.specs.Draft.{Draft, drafts}
+use Rattle.sch_forms.specs.Draft.{Draft, drafts}
 use Rattle.sch_core.specs.Forms.{firsts, globals_of, TextExpands}
 use Rattle.sch_core.specs.Numbered.{global_names_of_each, unset, program_of}
 use Rattle.sch_core.specs.Programs.{form_places, first_exceeding}
@@ -17,8 +17,8 @@ use Rattle.sch_core.proofs.ValiditySoundness.{sound_text}
 use Rattle.sch_core.proofs.ValidityNodes.{scoped_each, shaped_each, fitting_each}
 use Rattle.sch_core.proofs.ValidityNames.{named_each, all_among, firsts_length}
 use Rattle.sch_core.proofs.ValidityLevels.{levels_each_kept, level_text}
-use Rattle.sch_core.proofs.ValiditySizes.{size_each_kept, sized_text}
-use Rattle.sch_core.proofs.ValidityCounts.{names_text, places_text, count_drafts, fit_forms}
+use Rattle.sch_core.proofs.ValiditySizes.{size_each_kept, sized_text, named_text}
+use Rattle.sch_core.proofs.ValidityCounts.{places_text, count_drafts, fit_forms}
 
 -- the table of the globals of a program
 abbrev table : List Draft → List (List ℕ)
@@ -32,8 +32,8 @@ unset_known : (names : List (List ℕ)) (library : ℕ) → library_known librar
 unset_known [] library = refl
 unset_known (x ∷ names) library = unset_known names library
 
-table_length : (items : Data) (es : List Draft) → TextExpands items es → length (table es) ≤ weights items
-table_length items es h = omega (arith, firsts_length (global_names_of_each (drafts es)) [], names_text (globals_of items) h)
+table_length : (items : Data) (es : List Draft) → TextExpands items es → 7 * length (table es) ≤ 16 * weights items
+table_length items es h = omega (arith, firsts_length (global_names_of_each (drafts es)) [], named_text (globals_of items) h)
 
 -- Each form of the program has a place.
 pub as_many : (items : Data) (es : List Draft) → TextExpands items es → length (form_places items) ≡ tree.count (program_of es).forms

@@ -6,10 +6,10 @@ use Rattle.std.specs.Prelude.{◌≤◌}
 use Rattle.sch_word.specs.Shape.{constant_in_range}
 use Rattle.sch_lang.specs.Measures.{over, over_each, shape}
 use Rattle.sch_lang.specs.Valid.{constants_in_range}
-use Rattle.sch_core.specs.declared.draft.Draft as code
+use Rattle.sch_expand.specs.declared.draft.Draft as code
 use Rattle.sch_core.specs.Constants.{HasConstants, HaveConstants}
-use Rattle.sch_core.specs.Draft.{Draft, Drafts, constant, local, global, define, branch, sequence, bind, operation, no_drafts, and_draft, drafts}
-use Rattle.sch_core.specs.DraftView.{draft_of, drafts_of}
+use Rattle.sch_forms.specs.Draft.{Draft, Drafts, constant, local, global, define, branch, sequence, bind, operation, no_drafts, and_draft, drafts}
+use Rattle.sch_expand.specs.DraftView.{draft_of, drafts_of}
 use Rattle.sch_core.specs.Numbered.{widths, widths_of_each, numbered, numbered_each, program_of}
 use Rattle.sch_core.proofs.NumberedDrafts.{next_draft}
 

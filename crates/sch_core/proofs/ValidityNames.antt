@@ -6,11 +6,12 @@ use Rattle.std.proofs.lemmas.Slice.Eq.{bytes_eq-Decides}
 use Rattle.std.proofs.Common.{lt-ltb}
 use Rattle.sch_lang.specs.Measures.{over, over_each}
 use Rattle.sch_lang.specs.Valid.{named_here}
-use Rattle.sch_core.specs.Draft.{Draft, Drafts, constant, local, global, define, branch, sequence, bind, operation, no_drafts, and_draft, count}
-use Rattle.sch_core.specs.Scope.{is_among}
-use Rattle.sch_core.specs.NamesView.{with_name}
+use Rattle.sch_forms.specs.Draft.{Draft, Drafts, constant, local, global, define, branch, sequence, bind, operation, no_drafts, and_draft, count}
+use Rattle.sch_scope.specs.Scope.{is_among}
+use Rattle.sch_scope.specs.NamesView.{with_name}
 use Rattle.sch_core.specs.Forms.{firsts}
-use Rattle.sch_core.specs.Numbered.{global_names, global_names_of_each, widths, widths_of_each, number_of, numbered, numbered_each, unset}
+use Rattle.sch_scope.specs.NamesView.{number_of}
+use Rattle.sch_core.specs.Numbered.{global_names, global_names_of_each, widths, widths_of_each, numbered, numbered_each, unset}
 use Rattle.sch_core.proofs.ValiditySound.{Sound, AreSound}
 
 abbrev pub AreAmong : List (List ℕ) → List (List ℕ) → Type 0

@@ -6,7 +6,7 @@ use Rattle.sch_word.specs.declared.primitive.Primitive.{Primitive}
 use Rattle.sch_word.specs.Primitives.{operands_of}
 use Rattle.sch_lang.specs.Measures.{over, over_each}
 use Rattle.sch_lang.specs.Valid.{in_scope, each_in_scope, shaped_here, fits_here}
-use Rattle.sch_core.specs.Draft.{Draft, Drafts, constant, local, global, define, branch, sequence, bind, operation, no_drafts, and_draft, count}
+use Rattle.sch_forms.specs.Draft.{Draft, Drafts, constant, local, global, define, branch, sequence, bind, operation, no_drafts, and_draft, count}
 use Rattle.sch_core.specs.Numbered.{widths, widths_of_each, numbered, numbered_each}
 use Rattle.sch_core.proofs.ValiditySound.{Sound, AreSound}
 use Rattle.sch_core.proofs.ValiditySites.{count_numbered}

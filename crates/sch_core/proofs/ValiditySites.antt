@@ -4,7 +4,7 @@ use Rattle.sch_lang.specs.Tree as tree
 use Rattle.sch_lang.specs.Measures.{over, over_each, site_here}
 use Rattle.sch_lang.proofs.SitesInOrder as order
 use Rattle.sch_lang.proofs.SitesInOrder.{sites_in_order}
-use Rattle.sch_core.specs.Draft.{Draft, Drafts, constant, local, global, define, branch, sequence, bind, operation, no_drafts, and_draft, count}
+use Rattle.sch_forms.specs.Draft.{Draft, Drafts, constant, local, global, define, branch, sequence, bind, operation, no_drafts, and_draft, count}
 use Rattle.sch_core.specs.Numbered.{widths, widths_of_each, numbered, numbered_each}
 
 pub listed_split : (n : ℕ) (a b : List ℕ) → order.numbered n (a ++ b) ≡ order.numbered n a ++ order.numbered (n + length a) b

@@ -1,116 +1,114 @@
--- Each draft that stands for a datum is sound.
-use Rattle.std.proofs.Common.{◌≡◌, ◌<◌, ◌≤◌, ℕ, zero, suc, ◌+◌, Bool, true, false, cond, List, [], ◌∷◌, length, Option, Some, None, refl, sym, ap, ◌∙◌, subst, arith}
+-- Each draft that stands for a text is sound: one induction over the relation, with a line for each kind.
+use Rattle.std.proofs.Common.{◌≡◌, ◌≤◌, ℕ, zero, suc, Bool, true, false, List, length, Option, refl, ap, subst, arith}
 use Rattle.std.proofs.lemmas.Bool.{leb-true}
-use Rattle.sch_word.specs.declared.primitive.Primitive.{Primitive}
-use Rattle.sch_word.specs.Primitives.{operands_of}
 use Rattle.sch_read.specs.Grammar.{Datum, Data}
-use Rattle.sch_core.specs.declared.keyword.Keyword.{Keyword}
-use Rattle.sch_core.specs.declared.keyword.Position.{Position}
-use Rattle.sch_core.specs.declared.operation.Operation.{Operation}
-use Rattle.sch_core.specs.declared.operation.Operation.TheVariants.{Exact, Unit, UnitAnd, Nested, Chained, Newline}
-use Rattle.sch_core.specs.Draft.{Draft, Drafts, drafts, count}
-use Rattle.sch_core.specs.Scope.{Scope, find, is_named, farther, with_bindings}
-use Rattle.sch_read.specs.Parts.{how_many}
-use Rattle.sch_core.specs.Combined.{nested, nest, chained, chain, combined}
-use Rattle.sch_core.specs.Expands.{Expands, FormExpands, EachExpands, InitsExpand, PartsExpand}
-use Rattle.sch_core.specs.Expands as ex
+use Rattle.sch_scope.specs.Scope.{Scope, onto}
+use Rattle.sch_forms.specs.declared.sketch.Position.{Position}
+use Rattle.sch_forms.specs.Draft.{Draft, Drafts, constant, local, global, define, branch, sequence, bind, operation, no_drafts, and_draft, drafts, count}
+use Rattle.sch_forms.specs.Sketch.{Kind, choosing, sequencing, binding, operating, Sketch, Sketches, how_many_parts, is_end, scope_in, front, last, assemble, width}
+use Rattle.sch_forms.specs.Soundness.{IsAtom, HasParts, IsSound, AreSound as PartsSound}
+use Rattle.sch_forms.proofs.Sound.{onto_length, datum_sound, rest_sound}
+use Rattle.sch_expand.specs.Expands.{AreFew, Expands, PartsExpand}
+use Rattle.sch_expand.specs.Expands as ex
 use Rattle.sch_core.specs.Forms.{TopExpands, FormsExpand}
 use Rattle.sch_core.specs.Forms as fo
 use Rattle.sch_core.proofs.ValiditySound.{Sound, AreSound, sound_append}
-use Rattle.sch_core.proofs.ValidityOperations.{Admits, operation_admits}
 
-found_at : (b : Bool) (o : Option ℕ) (k m : ℕ) → cond b (Some zero) (farther o) ≡ Some k → ((j : ℕ) → o ≡ Some j → j < m) → k < suc m
-found_at true o k m e h = let f : zero ≡ k = cc in omega (arith, f)
-found_at false None k m e h = cc
-found_at false (Some j) k m e h = let f : suc j ≡ k = cc in omega (arith, f, h j refl)
+-- ## Parts
 
-find_below : (s : Scope) (x : List ℕ) (k : ℕ) → find s x ≡ Some k → k < length s
-find_below [] x k e = cc
-find_below (v ∷ s) x k e = found_at (is_named x v) (find s x) k (length s) e (find_below s x)
+pub front_count : (es : Drafts) (n : ℕ) → count es ≡ suc n → count (front es) ≡ n
+front_count no_drafts n h = absurd (omega (arith, h))
+front_count (and_draft e no_drafts) n h = omega (arith, h)
+front_count (and_draft e (and_draft f fs)) zero h = absurd (omega (arith, h))
+front_count (and_draft e (and_draft f fs)) (suc n) h = ap suc (front_count (and_draft f fs) n (omega (arith, h)))
 
--- ## Operations
+abbrev is_none : Drafts → Bool
+is_none no_drafts = true
+is_none (and_draft e es) = false
 
-nested_sound : (p : Primitive) (k j m : ℕ) → operands_of p ≡ 2 → k + j < m → Sound m (nested p k j)
-nested_sound p zero j m e h = omega (arith, h)
-nested_sound p (suc k) j m e h = (sym e, (nested_sound p k (j + 1) m e (omega (arith, h)), (omega (arith, h), tt)))
+-- each draft in the scope of its part
+abbrev InPlace : Kind → (first : Bool) → Scope → Drafts → Type 0
+InPlace k first s no_drafts = Unit {0}
+InPlace k first s (and_draft e es) = Sound (length (scope_in k first (is_none es) s)) e × InPlace k false s es
 
-nest_sound : (p : Primitive) (n m : ℕ) → 0 < n → n ≤ m → operands_of p ≡ 2 → Sound m (nest p n)
-nest_sound p zero m h l e = absurd (omega (arith, h))
-nest_sound p (suc k) m h l e = nested_sound p k 0 m e (omega (arith, l))
+-- a kind whose parts all stand in one scope
+abbrev IsEven : Kind → Scope → ℕ → Type 0
+IsEven k s m = (first final : Bool) → length (scope_in k first final s) ≡ m
 
-chained_sound : (p : Primitive) (j m : ℕ) → operands_of p ≡ 2 → j < m → Sound m (chained p j)
-chained_sound p zero m e h = refl
-chained_sound p (suc zero) m e h = (sym e, (omega (arith, h), (omega (arith, h), tt)))
-chained_sound p (suc (suc j)) m e h =
-    ((sym e, (omega (arith, h), (omega (arith, h), tt))), chained_sound p (suc j) m e (omega (arith, h)), refl)
+all_in : (k : Kind) (first : Bool) (m : ℕ) (s : Scope) (es : Drafts) → IsEven k s m → InPlace k first s es → AreSound m es
+all_in k first m s no_drafts h p = tt
+all_in k first m s (and_draft e es) h p = (subst (λ v. Sound v e) (h first (is_none es)) p.0, all_in k false m s es h p.1)
 
-chain_sound : (p : Primitive) (n m : ℕ) → n ≤ m → operands_of p ≡ 2 → Sound m (chain p n)
-chain_sound p zero m l e = refl
-chain_sound p (suc j) m l e = chained_sound p j m e (omega (arith, l))
+-- the inits of a binding stand outside its variables, and its body inside
+inits_in_place : (vs : List (Option (List ℕ))) (first : Bool) (s : Scope) (es : Drafts) → InPlace (binding vs) first s es → AreSound (length s) (front es)
+inits_in_place vs first s no_drafts p = tt
+inits_in_place vs first s (and_draft e no_drafts) p = tt
+inits_in_place vs first s (and_draft e (and_draft f fs)) p = (p.0, inits_in_place vs false s (and_draft f fs) p.1)
 
-combined_sound : (o : Operation) (n m : ℕ) (es : Drafts) → Admits o n → count es ≡ n → n ≤ 200 → AreSound m es → Sound m (combined o n es)
-combined_sound (Exact p) n m es a c l h = (c ∙ a, h)
-combined_sound (Unit p) n m es a c l h = refl
-combined_sound (UnitAnd p) n m es a c l h = (ap suc (c ∙ a.0) ∙ sym a.1, (refl, h))
-combined_sound (Nested p) n m es a c l h = (omega (arith, c, l), h, nest_sound p n (m + count es) (omega (arith, a.0)) (omega (arith, c)) a.1)
-combined_sound (Chained p) n m es a c l h = (omega (arith, c, l), h, chain_sound p n (m + count es) (omega (arith, c)) a.1)
-combined_sound Newline n m es a c l h = (refl, (refl, tt))
+body_in_place : (vs : List (Option (List ℕ))) (first : Bool) (s : Scope) (es : Drafts) → 1 ≤ count es → InPlace (binding vs) first s es → Sound (length (onto vs s)) (last es)
+body_in_place vs first s no_drafts c p = absurd (omega (arith, c))
+body_in_place vs first s (and_draft e no_drafts) c p = p.0
+body_in_place vs first s (and_draft e (and_draft f fs)) c p = body_in_place vs false s (and_draft f fs) (omega arith) p.1
 
--- ## Data
+branch_sound : (m : ℕ) (es : Drafts) → count es ≡ 3 → AreSound m es → Sound m (assemble choosing es)
+branch_sound m (and_draft a (and_draft b (and_draft c no_drafts))) n h = (h.0, h.1.0, h.1.1.0)
+branch_sound m (and_draft a (and_draft b (and_draft c (and_draft d ds)))) n h = absurd (omega (arith, n))
+branch_sound m (and_draft a (and_draft b no_drafts)) n h = absurd (omega (arith, n))
+branch_sound m (and_draft a no_drafts) n h = absurd (omega (arith, n))
+branch_sound m no_drafts n h = absurd (omega (arith, n))
+
+node_sound : (k : Kind) (s : Scope) (es : Drafts) → HasParts k (count es) → AreFew (width k (count es)) → InPlace k true s es → Sound (length s) (assemble k es)
+node_sound choosing s es c w p = branch_sound (length s) es c (all_in choosing true (length s) s es (λ f g. refl) p)
+node_sound sequencing s es c w p = (c, all_in sequencing true (length s) s es (λ f g. refl) p)
+node_sound (operating q) s es c w p = (c, all_in (operating q) true (length s) s es (λ f g. refl) p)
+node_sound (binding vs) s es c w p =
+    let x = front_count es (length vs) c in
+    let w' : AreFew (length vs) = rw c at w in
+    let b = body_in_place vs true s es (omega (arith, c)) p in (
+      omega (arith, x, leb-true _ _ w'),
+      inits_in_place vs true s es p,
+      subst (λ m. Sound m (last es)) (omega (arith, onto_length vs s, x)) b,
+    )
+
+atom_sound : (m : ℕ) (e : Draft) → IsAtom e m → Sound m e
+atom_sound m (constant c) h = h
+atom_sound m (local k) h = h
+atom_sound m (global x) h = tt
+atom_sound m (define x e) h = absurd h
+atom_sound m (branch a b c) h = absurd h
+atom_sound m (sequence es) h = absurd h
+atom_sound m (bind es e) h = absurd h
+atom_sound m (operation p es) h = absurd h
+
+-- ## Sketches
 
 module _ (globals : List (List ℕ)) where
-  pub each_count : {n : ℕ} {s : Scope} {xs : Data} {es : Drafts} → EachExpands globals n s xs es → count es ≡ how_many xs
-  each_count (ex.no_operand n s) = refl
-  each_count (ex.and_operand n s e es x xs p q) = ap suc (each_count q)
+  pub counted : {k : Kind} {first : Bool} {n : ℕ} {s : Scope} {t : Position} {ks : Sketches} {es : Drafts} → PartsExpand globals k first n s t ks es → how_many_parts ks ≡ count es
+  counted (ex.no_part k first n s t) = refl
+  counted (ex.and_part k first n s t p ps e es x y) = ap suc (counted y)
 
-  pub inits_count : {n : ℕ} {s : Scope} {xs : Data} {es : Drafts} → InitsExpand globals n s xs es → count es ≡ how_many xs
-  inits_count (ex.no_init n s) = refl
-  inits_count (ex.and_init n s at q v i bs x xs p r) = ap suc (inits_count r)
-
-  scope_length : {n : ℕ} {s : Scope} {xs : Data} {es : Drafts} (inner : Scope) → InitsExpand globals n s xs es → length (with_bindings xs inner) ≡ length inner + count es
-  scope_length inner (ex.no_init n s) = omega arith
-  scope_length inner (ex.and_init n s at q v i bs x xs p r) = scope_length (Some v ∷ inner) r ∙ omega arith
+  ends : {k : Kind} {first : Bool} {n : ℕ} {s : Scope} {t : Position} {ks : Sketches} {es : Drafts} → PartsExpand globals k first n s t ks es → is_end ks ≡ is_none es
+  ends (ex.no_part k first n s t) = refl
+  ends (ex.and_part k first n s t p ps e es x y) = refl
 
   mutual
-    pub sound : {n : ℕ} {s : Scope} {t : Position} {d : Datum} {e : Draft} → Expands globals n s t d e → Sound (length s) e
-    sound (ex.a_boolean n s t at b l) = refl
-    sound (ex.an_integer n s t at b l) = refl
-    sound (ex.a_character n s t at b l) = refl
-    sound (ex.a_local n s t at k x e l) = find_below s x k e
-    sound (ex.a_global n s t at x e w d l) = tt
-    sound (ex.a_form n s t at q x xs k e h r) = sound_form r
-    sound (ex.an_operation n s t at q x xs o es h w l r) =
-        combined_sound o (how_many xs) (length s) es (operation_admits globals s x (how_many xs) o h) (each_count r) (leb-true _ _ w) (sound_each r)
+    pub sound : {n : ℕ} {s : Scope} {t : Position} {k : Sketch} {e : Draft} → Expands globals n s t k e → IsSound s k → Sound (length s) e
+    sound (ex.a_datum n s t d e p) h = sound p (datum_sound globals s d)
+    sound (ex.a_rest n s t r at xs ys e p) h = sound p (rest_sound s t r at xs ys h)
+    sound (ex.a_leaf n s t at e l) h = atom_sound (length s) e h
+    sound (ex.a_node n s t k at ks es l w p) h =
+        node_sound k s es (subst (HasParts k) (counted p) h.0) (subst (λ m. AreFew (width k m)) (counted p) w) (sound_each p h.1)
+    sound (ex.within n s t at m k e w p) h = sound p h
 
-    sound_form : {k : Keyword} {n : ℕ} {s : Scope} {t : Position} {xs : Data} {e : Draft} → FormExpands globals k n s t xs e → Sound (length s) e
-    sound_form (ex.quote_boolean n s t q b l) = refl
-    sound_form (ex.quote_integer n s t q b l) = refl
-    sound_form (ex.quote_character n s t q b l) = refl
-    sound_form (ex.quote_nil n s t q l) = refl
-    sound_form (ex.if_both n s t a b c x y z l p q r) = (sound p, sound q, sound r)
-    sound_form (ex.if_one n s t a b x y l p q) = (sound p, sound q, refl)
-    sound_form (ex.lets n s t q bs e es is b h d w l p r) =
-        (omega (arith, inits_count p, leb-true _ _ w), sound_inits p, subst (λ m. Sound m b) (scope_length s p) (sound_form r))
-    sound_form (ex.begin_one n s t e x p) = sound p
-    sound_form (ex.begin_more n s t e e' es x xs l p q) = (omega arith, (sound p, sound_parts q))
-
-    sound_each : {n : ℕ} {s : Scope} {xs : Data} {es : Drafts} → EachExpands globals n s xs es → AreSound (length s) es
-    sound_each (ex.no_operand n s) = tt
-    sound_each (ex.and_operand n s e es x xs p q) = (sound p, sound_each q)
-
-    sound_inits : {n : ℕ} {s : Scope} {xs : Data} {es : Drafts} → InitsExpand globals n s xs es → AreSound (length s) es
-    sound_inits (ex.no_init n s) = tt
-    sound_inits (ex.and_init n s at q v d bs x xs p r) = (sound p, sound_inits r)
-
-    sound_parts : {n : ℕ} {s : Scope} {t : Position} {xs : Data} {es : Drafts} → PartsExpand globals n s t xs es → AreSound (length s) es
-    sound_parts (ex.last_part n s t e x p) = (sound p, tt)
-    sound_parts (ex.and_part n s t e e' es x xs p q) = (sound p, sound_parts q)
+    sound_each : {k : Kind} {first : Bool} {n : ℕ} {s : Scope} {t : Position} {ks : Sketches} {es : Drafts} → PartsExpand globals k first n s t ks es → PartsSound k first s ks → InPlace k first s es
+    sound_each (ex.no_part k first n s t) h = tt
+    sound_each (ex.and_part k first n s t p ps e es x y) h = (subst (λ b. Sound (length (scope_in k first b s)) e) (ends y) (sound x h.0), sound_each y h.1)
 
   mutual
     sound_top : {d : Datum} {es : List Draft} → TopExpands globals d es → AreSound 0 (drafts es)
-    sound_top (fo.a_definition at p q w v e x h k r) = (sound r, tt)
+    sound_top (fo.a_definition at p q w v e x h k r) = (sound r tt, tt)
     sound_top (fo.a_beginning at q w xs es h r) = sound_text r
-    sound_top (fo.an_expression d x h r) = (sound r, tt)
+    sound_top (fo.an_expression d x h r) = (sound r tt, tt)
 
     pub sound_text : {xs : Data} {es : List Draft} → FormsExpand globals xs es → AreSound 0 (drafts es)
     sound_text fo.no_form = tt

@@ -4,9 +4,9 @@ use Rattle.std.proofs.lemmas.List.{drop_all}
 use Rattle.std.proofs.lemmas.Bool.Decides.{nat_tests}
 use Rattle.sch_lang.specs.Measures.{one_unless}
 use Rattle.sch_word.specs.Shape.{max_variables}
-use Rattle.sch_core.specs.declared.draft.Draft as code
-use Rattle.sch_core.specs.Draft.{Draft, Drafts, bind, no_drafts, and_draft, drafts, count}
-use Rattle.sch_core.specs.DraftView.{draft_of, drafts_of}
+use Rattle.sch_expand.specs.declared.draft.Draft as code
+use Rattle.sch_forms.specs.Draft.{Draft, Drafts, bind, no_drafts, and_draft, drafts, count}
+use Rattle.sch_expand.specs.DraftView.{draft_of, drafts_of}
 use Rattle.sch_core.specs.Counted.{is_simple, variables_of, variables_of_each, variables_of_operands, variables_of_parts}
 use Rattle.sch_core.specs.Forms.{firsts}
 use Rattle.sch_core.specs.Numbered.{global_names_of_each, numbered_each, widths, program_of}

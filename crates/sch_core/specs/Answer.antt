@@ -1,8 +1,8 @@
 -- What the expansion of data answers.
 use Rattle.std.specs.Prelude.{◌≡◌}
 use Rattle.sch_read.specs.Grammar.{Data}
-use Rattle.sch_core.specs.declared.fault.Fault.{Fault}
-use Rattle.sch_core.specs.declared.fault.Fault.TheVariants as fault
+use Rattle.sch_forms.specs.declared.fault.Fault.{Fault}
+use Rattle.sch_forms.specs.declared.fault.Fault.TheVariants as fault
 use Rattle.sch_core.specs.declared.error.CoreError.{CoreError}
 use Rattle.sch_core.specs.declared.error.CoreError.TheVariants as errors
 use Rattle.sch_core.specs.declared.error.Kind.TheVariants as kinds

@@ -1,18 +1,7 @@
--- The constants that atoms are (R5RS 4.1.2), and drafts whose constants are those of a program.
-use Rattle.std.specs.Prelude.{◌≡◌, true, Option, Some, None}
-use Rattle.sch_word.specs.declared.constant.Const.{Const}
-use Rattle.sch_word.specs.declared.constant.Const.TheVariants.{Fixnum, Character, Boolean}
+-- Drafts whose constants are those of a program.
+use Rattle.std.specs.Prelude.{◌≡◌, true}
 use Rattle.sch_word.specs.Values.{is_constant}
-use Rattle.sch_read.specs.Grammar.{Atom, boolean, integer, character, text, symbol}
-use Rattle.sch_core.specs.Draft.{Draft, Drafts, constant, local, global, define, branch, sequence, bind, operation, no_drafts, and_draft}
-
--- a text and a symbol are no constants
-abbrev pub constant_of : Atom → Option Const
-constant_of (boolean b) = Some (Boolean b)
-constant_of (integer z) = Some (Fixnum z)
-constant_of (character c) = Some (Character c)
-constant_of (text bs) = None
-constant_of (symbol x) = None
+use Rattle.sch_forms.specs.Draft.{Draft, Drafts, constant, local, global, define, branch, sequence, bind, operation, no_drafts, and_draft}
 
 -- each constant of a draft is one that a program may have: a fixnum in range, or a character that is a byte
 abbrev mutual

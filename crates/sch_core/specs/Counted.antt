@@ -2,7 +2,7 @@
 -- bound counts once.
 use Rattle.std.specs.Prelude.{ℕ, ◌+◌, Bool, true, false, nat_lt}
 use Rattle.sch_lang.specs.Measures.{one_unless}
-use Rattle.sch_core.specs.Draft.{Draft, Drafts, constant, local, global, define, branch, sequence, bind, operation, no_drafts, and_draft, count}
+use Rattle.sch_forms.specs.Draft.{Draft, Drafts, constant, local, global, define, branch, sequence, bind, operation, no_drafts, and_draft, count}
 
 -- a constant, or one of the `bound` variables that are bound
 abbrev pub is_simple : Draft → (bound : ℕ) → Bool

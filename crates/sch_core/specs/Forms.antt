@@ -1,18 +1,19 @@
 -- The top-level forms of a text (R5RS 5.1 and 5.2), and their faults.
 use Rattle.std.specs.Prelude.{◌≡◌, ◌⊎◌, ◌≤◌, ℕ, Bool, true, false, List, [], ◌∷◌, ◌++◌, Option, Some, None}
 use Rattle.sch_read.specs.Grammar.{Datum, Data, atom, list, dotted, none, cons, symbol}
-use Rattle.sch_core.specs.declared.keyword.Keyword.{Keyword}
-use Rattle.sch_core.specs.declared.keyword.Keyword.TheVariants.{Define, Begin}
-use Rattle.sch_core.specs.declared.keyword.Position.TheVariants.{Value}
-use Rattle.sch_core.specs.declared.fault.Fault.{Fault}
-use Rattle.sch_core.specs.declared.fault.Fault.TheVariants.{Unbuilt, BadForm, KeywordDefined}
-use Rattle.sch_core.specs.Words.{keyword_of}
-use Rattle.sch_core.specs.Draft.{Draft, define}
-use Rattle.sch_core.specs.NamesView.{with_name}
-use Rattle.sch_core.specs.FaultOrder.{rank, reported}
-use Rattle.sch_core.specs.Expands.{Expands}
-use Rattle.sch_core.specs.Faults.{HasFault}
-use Rattle.sch_core.specs.Builds.{built, least}
+use Rattle.sch_scope.specs.declared.keyword.Keyword.{Keyword}
+use Rattle.sch_scope.specs.declared.keyword.Keyword.TheVariants.{Define, Begin}
+use Rattle.sch_scope.specs.NamesView.{with_name}
+use Rattle.sch_scope.specs.Words.{keyword_of}
+use Rattle.sch_forms.specs.declared.fault.Fault.{Fault}
+use Rattle.sch_forms.specs.declared.fault.Fault.TheVariants.{Unbuilt, BadForm, KeywordDefined}
+use Rattle.sch_forms.specs.declared.sketch.Position.TheVariants.{Value}
+use Rattle.sch_forms.specs.Draft.{Draft, define}
+use Rattle.sch_forms.specs.Sketch.{text}
+use Rattle.sch_expand.specs.FaultOrder.{rank, reported}
+use Rattle.sch_expand.specs.Expands.{Expands}
+use Rattle.sch_expand.specs.Faults.{HasFault}
+use Rattle.sch_expand.specs.Reads.{Reads}
 
 -- What the word at the head of a top-level form makes of it. No local variable shadows it, and no
 -- global one can.
@@ -79,11 +80,11 @@ module _ (globals : List (List ℕ)) where
     -- the forms that a datum at top level is
     pub data TopExpands : Datum → List Draft → Type 0 where
       a_definition : (at p q : ℕ) (w v : List ℕ) (e : Datum) (x : Draft) → keyword_of w ≡ Some Define → keyword_of v ≡ None →
-          Expands globals 2 [] Value e x →
+          Expands globals 2 [] Value (text e) x →
           TopExpands (list at (cons (atom q (symbol w)) (cons (atom p (symbol v)) (cons e none)))) (define v x ∷ [])
       a_beginning : (at q : ℕ) (w : List ℕ) (xs : Data) (es : List Draft) → keyword_of w ≡ Some Begin → FormsExpand xs es →
           TopExpands (list at (cons (atom q (symbol w)) xs)) es
-      an_expression : (d : Datum) (x : Draft) → by_word (word_of d) false false true ≡ true → Expands globals 1 [] Value d x →
+      an_expression : (d : Datum) (x : Draft) → by_word (word_of d) false false true ≡ true → Expands globals 1 [] Value (text d) x →
           TopExpands d (x ∷ [])
 
     pub data FormsExpand : Data → List Draft → Type 0 where
@@ -94,7 +95,7 @@ module _ (globals : List (List ℕ)) where
 
   -- `define` of a name, by what follows the name; that of a list is not built yet
   abbrev pub ValueHasFault : (at : ℕ) → Data → Fault → Type 0
-  ValueHasFault at (cons e none) f = HasFault globals 2 [] Value e f
+  ValueHasFault at (cons e none) f = HasFault globals 2 [] Value (text e) f
   ValueHasFault at _ f = f ≡ BadForm at
 
   abbrev pub DefineHasFault : (at : ℕ) → Data → Fault → Type 0
@@ -106,52 +107,43 @@ module _ (globals : List (List ℕ)) where
   abbrev mutual
     pub TopHasFault : Datum → Fault → Type 0
     TopHasFault (list at (cons (atom q (symbol x)) xs)) f =
-        by_word (keyword_of x) (DefineHasFault at xs f) (SomeHasFault xs f) (HasFault globals 1 [] Value (list at (cons (atom q (symbol x)) xs)) f)
-    TopHasFault d f = HasFault globals 1 [] Value d f
+        by_word (keyword_of x) (DefineHasFault at xs f) (SomeHasFault xs f) (HasFault globals 1 [] Value (text (list at (cons (atom q (symbol x)) xs))) f)
+    TopHasFault d f = HasFault globals 1 [] Value (text d) f
 
     pub SomeHasFault : Data → Fault → Type 0
     SomeHasFault none f = ⊥
     SomeHasFault (cons d ds) f = TopHasFault d f ⊎ SomeHasFault ds f
 
-  -- ## What is built, and the least fault
+  -- ## The walk in the order of the text: from the least fault and the drafts so far to those after it
 
-  abbrev pub built_value : List ℕ → Data → List Draft
-  built_value v (cons e none) = define v (built globals 2 [] Value e) ∷ []
-  built_value v _ = []
+  -- what is refused adds no draft
+  abbrev pub Refuses : Fault → (before after : Option Fault) → (drafts more : List Draft) → Type 0
+  Refuses f a b es fs = (b ≡ reported f a) × (fs ≡ es)
 
-  abbrev pub built_define : Data → List Draft
-  built_define (cons (atom p (symbol v)) rest) = unless_keyword (keyword_of v) (built_value v rest) []
-  built_define _ = []
+  abbrev pub ExpressionReads : Datum → (before after : Option Fault) → (drafts more : List Draft) → Type 0
+  ExpressionReads d a b es fs = (x : Draft) × (fs ≡ es ++ x ∷ []) × Reads globals 1 [] Value (text d) a b x
 
-  abbrev pub least_value : (at : ℕ) → Data → Option Fault → Option Fault
-  least_value at (cons e none) o = least globals 2 [] Value e o
-  least_value at _ o = reported (BadForm at) o
+  abbrev pub ValueReads : (at : ℕ) → List ℕ → Data → (before after : Option Fault) → (drafts more : List Draft) → Type 0
+  ValueReads at v (cons e none) a b es fs = (x : Draft) × (fs ≡ es ++ define v x ∷ []) × Reads globals 2 [] Value (text e) a b x
+  ValueReads at v _ a b es fs = Refuses (BadForm at) a b es fs
 
-  abbrev pub least_define : (at : ℕ) → Data → Option Fault → Option Fault
-  least_define at (cons (list q ys) rest) o = reported (Unbuilt at) o
-  least_define at (cons (dotted q ys y) rest) o = reported (Unbuilt at) o
-  least_define at (cons (atom p (symbol v)) rest) o = unless_keyword (keyword_of v) (least_value at rest o) (reported (KeywordDefined at) o)
-  least_define at _ o = reported (BadForm at) o
-
-  abbrev mutual
-    pub built_top : Datum → List Draft
-    built_top (list at (cons (atom q (symbol x)) xs)) =
-        by_word (keyword_of x) (built_define xs) (built_forms xs) (built globals 1 [] Value (list at (cons (atom q (symbol x)) xs)) ∷ [])
-    built_top d = built globals 1 [] Value d ∷ []
-
-    pub built_forms : Data → List Draft
-    built_forms none = []
-    built_forms (cons d ds) = built_top d ++ built_forms ds
+  abbrev pub DefineReads : (at : ℕ) → Data → (before after : Option Fault) → (drafts more : List Draft) → Type 0
+  DefineReads at (cons (list q ys) rest) a b es fs = Refuses (Unbuilt at) a b es fs
+  DefineReads at (cons (dotted q ys y) rest) a b es fs = Refuses (Unbuilt at) a b es fs
+  DefineReads at (cons (atom p (symbol v)) rest) a b es fs =
+      unless_keyword (keyword_of v) (ValueReads at v rest a b es fs) (Refuses (KeywordDefined at) a b es fs)
+  DefineReads at _ a b es fs = Refuses (BadForm at) a b es fs
 
   abbrev mutual
-    pub least_top : Datum → Option Fault → Option Fault
-    least_top (list at (cons (atom q (symbol x)) xs)) o =
-        by_word (keyword_of x) (least_define at xs o) (least_forms xs o) (least globals 1 [] Value (list at (cons (atom q (symbol x)) xs)) o)
-    least_top d o = least globals 1 [] Value d o
+    pub TopReads : Datum → (before after : Option Fault) → (drafts more : List Draft) → Type 0
+    TopReads (list at (cons (atom q (symbol x)) xs)) a b es fs =
+        by_word (keyword_of x) (DefineReads at xs a b es fs) (FormsRead xs a b es fs)
+        (ExpressionReads (list at (cons (atom q (symbol x)) xs)) a b es fs)
+    TopReads d a b es fs = ExpressionReads d a b es fs
 
-    pub least_forms : Data → Option Fault → Option Fault
-    least_forms none o = o
-    least_forms (cons d ds) o = least_forms ds (least_top d o)
+    pub FormsRead : Data → (before after : Option Fault) → (drafts more : List Draft) → Type 0
+    FormsRead none a b es fs = (b ≡ a) × (fs ≡ es)
+    FormsRead (cons d ds) a b es fs = (m : Option Fault) × (gs : List Draft) × TopReads d a m es gs × FormsRead ds m b gs fs
 
 -- ## Whole texts
 
@@ -164,10 +156,16 @@ TextExpands items es = FormsExpand (globals_of items) items es
 pub record IsFaultOf (items : Data) (f : Fault) : Type 0 where
   pub there : SomeHasFault (globals_of items) items f
   pub least : (g : Fault) → SomeHasFault (globals_of items) items g → rank f ≤ rank g
-  pub first : least_forms (globals_of items) items None ≡ Some f
+  pub drafts : List Draft
+  pub first : FormsRead (globals_of items) items None (Some f) [] drafts
 
 -- whether a datum is a list, with or without a dot
 abbrev pub is_listed : Datum → Bool
 is_listed (list q xs) = true
 is_listed (dotted q xs x) = true
 is_listed _ = false
+
+-- why what is no name is refused as the target of a definition: that of a list is not built yet
+abbrev pub refused_as : (listed : Bool) → (at : ℕ) → Fault
+refused_as true at = Unbuilt at
+refused_as false at = BadForm at

@@ -1,11 +1,11 @@
 -- The program of a list of drafts: globals are numbered in the order in which the drafts first name
 -- them, and sites in the order of the text, the outer before the inner.
-use Rattle.std.specs.Prelude.{ℕ, zero, suc, ◌+◌, cond, List, [], ◌∷◌, ◌++◌, length, Option, None}
-use Rattle.std.specs.Str.{bytes_eq}
+use Rattle.std.specs.Prelude.{ℕ, ◌+◌, List, [], ◌∷◌, ◌++◌, length, Option, None}
 use Rattle.sch_word.specs.Literals.{no_literals}
 use Rattle.sch_lang.specs.Tree as tree
 use Rattle.sch_lang.specs.Tree.{Expression, Expressions, Source, no_expressions, and_expression, no_lambdas}
-use Rattle.sch_core.specs.Draft.{Draft, Drafts, constant, local, global, define, branch, sequence, bind, operation, no_drafts, and_draft, drafts, count}
+use Rattle.sch_forms.specs.Draft.{Draft, Drafts, constant, local, global, define, branch, sequence, bind, operation, no_drafts, and_draft, drafts, count}
+use Rattle.sch_scope.specs.NamesView.{number_of}
 use Rattle.sch_core.specs.Forms.{firsts}
 
 -- the globals that a draft names, in its order
@@ -39,11 +39,6 @@ abbrev mutual
   pub widths_of_each : Drafts → List ℕ
   widths_of_each no_drafts = []
   widths_of_each (and_draft e es) = widths e ++ widths_of_each es
-
--- the number of a name is that of the names before it
-abbrev pub number_of : List ℕ → List (List ℕ) → ℕ
-number_of x [] = zero
-number_of x (y ∷ ys) = cond (bytes_eq x y) zero (suc (number_of x ys))
 
 -- a draft with its numbers; its sites have the numbers from n on
 module _ (globals : List (List ℕ)) where

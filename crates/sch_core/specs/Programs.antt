@@ -4,9 +4,9 @@ use Rattle.sch_lang.specs.Tree.{Expressions, and_expression, Source}
 use Rattle.sch_lang.specs.Measures.{variables}
 use Rattle.sch_word.specs.Shape.{max_variables}
 use Rattle.sch_read.specs.Grammar.{Datum, Data, atom, list, none, cons, symbol}
-use Rattle.sch_core.specs.Words.{keyword_of}
+use Rattle.sch_scope.specs.Words.{keyword_of}
 use Rattle.sch_read.specs.Parts.{offset}
-use Rattle.sch_core.specs.Draft.{Draft}
+use Rattle.sch_forms.specs.Draft.{Draft}
 use Rattle.sch_core.specs.Forms.{by_word, TextExpands}
 use Rattle.sch_core.specs.Numbered.{program_of}
 

@@ -4,7 +4,7 @@ ghost use Rattle.std.specs.Prelude.{◌≡◌};
 ghost use Rattle.sch_core.specs.Answer.{IsErrorFor};
 ghost use Rattle.sch_core.specs.declared.error.CoreError.TheVariants.{Memory};
 
-use crate::fault::Fault;
+use sch_forms::Fault;
 use sch_word::{Bytes, Mem};
 use thiserror::Error;
 

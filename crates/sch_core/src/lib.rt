@@ -1,24 +1,13 @@
 //! The expander: data to a program of the core language.
 #![tactic(auto)]
 
-mod body;
-mod combine;
-mod draft;
 mod error;
 mod expander;
-mod expression;
-mod fault;
-mod keyword;
 mod laws;
-mod names;
 mod nesting;
 mod numbering;
-mod operation;
 mod places;
 mod program;
-mod quotation;
-mod reports;
-mod scope;
 mod toplevel;
 mod variables;
 

@@ -5,14 +5,14 @@ ghost use Rattle.sch_word.specs.Values.{is_constant};
 ghost use Rattle.sch_lang.specs.Tree as tree;
 ghost use Rattle.sch_lang.specs.View.{expression, expressions_of};
 ghost use Rattle.sch_core.specs.Constants.{HasConstants, HaveConstants};
-ghost use Rattle.sch_core.specs.DraftView.{draft_of, drafts_of};
+ghost use Rattle.sch_expand.specs.DraftView.{draft_of, drafts_of};
 ghost use Rattle.sch_core.specs.Forms.{firsts};
-ghost use Rattle.sch_core.specs.NamesView.{names_of};
-ghost use Rattle.sch_core.specs.Numbered.{global_names, global_names_of_each, number_of, numbered, numbered_each, widths, widths_of_each};
+ghost use Rattle.sch_scope.specs.NamesView.{names_of, number_of};
+ghost use Rattle.sch_core.specs.Numbered.{global_names, global_names_of_each, numbered, numbered_each, widths, widths_of_each};
 
-use crate::draft::Draft;
-use crate::names::Names;
+use sch_expand::Draft;
 use sch_lang::Exp;
+use sch_scope::Names;
 use sch_word::{Const, List, Mem, Primitive};
 use std::alloc::Global;
 

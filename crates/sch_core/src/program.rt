@@ -3,14 +3,14 @@
 ghost use Rattle.std.specs.Prelude.{◌≡◌, IsTrue, IfOk, map, length, replicate, None};
 ghost use Rattle.sch_lang.specs.ProgramView.{source};
 ghost use Rattle.sch_lang.specs.Valid.{constants_in_range, is_valid};
-ghost use Rattle.sch_core.specs.DraftView.{draft_of};
-ghost use Rattle.sch_core.specs.NamesView.{names_of};
+ghost use Rattle.sch_expand.specs.DraftView.{draft_of};
+ghost use Rattle.sch_scope.specs.NamesView.{names_of};
 ghost use Rattle.sch_core.specs.Numbered.{program_of, unset};
 
-use crate::draft::Draft;
-use crate::names::Names;
 use crate::numbering::{name_globals_of_each, number_each};
+use sch_expand::Draft;
 use sch_lang::Program;
+use sch_scope::Names;
 use sch_word::{List, Mem};
 use std::alloc::Global;
 

@@ -1,28 +1,23 @@
 //! The top-level forms of a text.
 
-ghost use Rattle.std.specs.Prelude.{◌≡◌, ◌++◌, [], ◌∷◌, None, Some, cond, false, map, true, IfOk, OnOk, MatchOption, MatchResult};
+ghost use Rattle.std.specs.Prelude.{◌≡◌, [], ◌∷◌, None, Some, false, map, true, IfOk, OnOk, MatchOption, MatchResult};
 ghost use Rattle.sch_read.specs.Grammar.{none, cons, list, Data};
 ghost use Rattle.sch_read.specs.Views.{tree_of, data_of};
-ghost use Rattle.sch_core.specs.Draft.{define};
-ghost use Rattle.sch_core.specs.Draft as plain;
-ghost use Rattle.sch_core.specs.FaultOrder.{reported};
-ghost use Rattle.sch_core.specs.declared.fault.Fault.TheVariants.{BadForm, Unbuilt};
-ghost use Rattle.sch_core.specs.declared.keyword.Keyword.TheVariants.{Begin, Define};
-ghost use Rattle.sch_core.specs.declared.keyword.Position.TheVariants.{Value};
+ghost use Rattle.sch_scope.specs.declared.keyword.Keyword.TheVariants.{Begin, Define};
+ghost use Rattle.sch_scope.specs.NamesView.{names_of};
+ghost use Rattle.sch_forms.specs.declared.fault.Fault.TheVariants.{BadForm, Unbuilt};
+ghost use Rattle.sch_forms.specs.Draft as plain;
+ghost use Rattle.sch_forms.specs.Draft.{define};
 ghost use Rattle.sch_core.specs.declared.toplevel.TopForm.TheVariants.{Beginning, Definition, Expression};
-ghost use Rattle.sch_core.specs.Builds.{built, least};
-ghost use Rattle.sch_core.specs.DraftView.{draft_of};
-ghost use Rattle.sch_core.specs.NamesView.{names_of};
+ghost use Rattle.sch_expand.specs.DraftView.{draft_of};
+ghost use Rattle.sch_expand.specs.FaultOrder.{reported};
 ghost use Rattle.sch_core.specs.Shapes.{IsHeaded};
-ghost use Rattle.sch_core.specs.Forms.{by_word, word_of, first_name, head_name, named, named_if, defined_name, defined_by, defined, firsts, globals_of, is_listed, built_value, least_value, built_define, built_top, built_forms, least_define, least_top, least_forms, TextExpands, IsFaultOf};
+ghost use Rattle.sch_core.specs.Forms.{by_word, word_of, first_name, head_name, named, named_if, defined_name, defined_by, defined, firsts, globals_of, is_listed, refused_as, Refuses, ExpressionReads, ValueReads, DefineReads, TopReads, FormsRead, TextExpands, IsFaultOf};
 
-use crate::draft::Draft;
-use crate::expression::read;
-use crate::fault::{Fault, report};
-use crate::keyword::{Keyword, Position, keyword_of};
-use crate::names::Names;
-use crate::scope::Scope;
+use sch_expand::{Draft, read, report};
+use sch_forms::Fault;
 use sch_read::{Datum, Node};
+use sch_scope::{Keyword, Names, keyword_of};
 use sch_word::{List, Mem};
 use std::alloc::Global;
 
@@ -183,11 +178,10 @@ fn read_expression(
     all: &mut List<Draft>,
     fault: &mut Option<Fault>,
 ) -> Result<(), Mem>
-    ensures made { OnOk result (map draft_of all.new ≡ map draft_of all.old ++ built (names_of globals.now) 1 [] Value (tree_of d.now) ∷ []) }
-    ensures fault { OnOk result (fault.new ≡ least (names_of globals.now) 1 [] Value (tree_of d.now) fault.old) }
+    ensures { OnOk result (ExpressionReads (names_of globals.now) (tree_of d.now) fault.old fault.new
+        (map draft_of all.old) (map draft_of all.new)) }
 {
-    let mut scope = Scope::new(alloc);
-    let e = read(alloc, globals, d, 1, Position::Value, &mut scope, fault)?;
+    let e = read(alloc, globals, d, 1, fault)?;
     all.push(e)?;
     Ok(())
 }
@@ -202,8 +196,8 @@ fn read_value(
     all: &mut List<Draft>,
     fault: &mut Option<Fault>,
 ) -> Result<(), Mem>
-    ensures made { OnOk result (map draft_of all.new ≡ map draft_of all.old ++ built_value (names_of globals.now) v.now (data_of items.now)) }
-    ensures fault { OnOk result (fault.new ≡ least_value (names_of globals.now) at (data_of items.now) fault.old) }
+    ensures { OnOk result (ValueReads (names_of globals.now) at v.now (data_of items.now) fault.old fault.new
+        (map draft_of all.old) (map draft_of all.new)) }
 {
     let Some((e, others)) = Datum::split(items) else {
         report(fault, Fault::BadForm(at));
@@ -213,8 +207,7 @@ fn read_value(
         report(fault, Fault::BadForm(at));
         return Ok(());
     }
-    let mut scope = Scope::new(alloc);
-    let value = read(alloc, globals, e, 2, Position::Value, &mut scope, fault)?;
+    let value = read(alloc, globals, e, 2, fault)?;
     let definition = definition(alloc, v, value)?;
     all.push(definition)?;
     Ok(())
@@ -237,8 +230,8 @@ fn read_define(
     all: &mut List<Draft>,
     fault: &mut Option<Fault>,
 ) -> Result<(), Mem>
-    ensures made { OnOk result (map draft_of all.new ≡ map draft_of all.old ++ built_define (names_of globals.now) (data_of items.now)) }
-    ensures fault { OnOk result (fault.new ≡ least_define (names_of globals.now) at (data_of items.now) fault.old) }
+    ensures { OnOk result (DefineReads (names_of globals.now) at (data_of items.now) fault.old fault.new
+        (map draft_of all.old) (map draft_of all.new)) }
 {
     let Some((target, rest)) = Datum::split(items) else {
         report(fault, Fault::BadForm(at));
@@ -258,7 +251,7 @@ fn read_define(
 
 /// What is defined is no name.
 fn report_target(at: u32, listed: bool, fault: &mut Option<Fault>)
-    ensures { fault.new ≡ cond listed (reported (Unbuilt at) fault.old) (reported (BadForm at) fault.old) }
+    ensures { fault.new ≡ reported (refused_as listed at) fault.old }
 {
     if listed {
         report(fault, Fault::Unbuilt(at));
@@ -269,7 +262,6 @@ fn report_target(at: u32, listed: bool, fault: &mut Option<Fault>)
 
 /// Adds the forms that a datum at top level is.
 #[cycle(forms)]
-#[tactic(auto, using(crate::proofs::TopSteps::top_definition, crate::proofs::TopSteps::top_beginning, crate::proofs::TopSteps::top_expression, crate::proofs::TopSteps::least_definition, crate::proofs::TopSteps::least_beginning, crate::proofs::TopSteps::least_expression))]
 fn read_form(
     alloc: Global,
     globals: &Names,
@@ -277,8 +269,8 @@ fn read_form(
     all: &mut List<Draft>,
     fault: &mut Option<Fault>,
 ) -> Result<(), Mem>
-    ensures made { OnOk result (map draft_of all.new ≡ map draft_of all.old ++ built_top (names_of globals.now) (tree_of d.now)) }
-    ensures fault { OnOk result (fault.new ≡ least_top (names_of globals.now) (tree_of d.now) fault.old) }
+    ensures { OnOk result (TopReads (names_of globals.now) (tree_of d.now) fault.old fault.new
+        (map draft_of all.old) (map draft_of all.new)) }
 {
     let (form, items) = top_form(d);
     match form {
@@ -297,8 +289,8 @@ fn read_forms(
     all: &mut List<Draft>,
     fault: &mut Option<Fault>,
 ) -> Result<(), Mem>
-    ensures made { OnOk result (map draft_of all.new ≡ map draft_of all.old ++ built_forms (names_of globals.now) (data_of items.now)) }
-    ensures fault { OnOk result (fault.new ≡ least_forms (names_of globals.now) (data_of items.now) fault.old) }
+    ensures { OnOk result (FormsRead (names_of globals.now) (data_of items.now) fault.old fault.new
+        (map draft_of all.old) (map draft_of all.new)) }
 {
     for d in items {
         read_form(alloc, globals, d, all, fault)?;
@@ -308,8 +300,10 @@ fn read_forms(
 
 /// The drafts of the top-level forms of a text, or its fault.
 pub(crate) fn expand(alloc: Global, items: &[Datum]) -> Result<Result<List<Draft>, Fault>, Mem>
-    ensures found { IfOk result (λ r. MatchResult r (λ es. TextExpands (data_of items.now) (map draft_of es)) (λ f. IsFaultOf (data_of items.now) f)) }
-    ensures only { IfOk result (λ r. MatchResult r (λ es. (fs : List plain.Draft) → TextExpands (data_of items.now) fs → map draft_of es ≡ fs) (λ f. (fs : List plain.Draft) → ¬ TextExpands (data_of items.now) fs)) }
+    ensures found { IfOk result (λ r. MatchResult r (λ es. TextExpands (data_of items.now) (map draft_of es))
+        (λ f. IsFaultOf (data_of items.now) f)) }
+    ensures only { IfOk result (λ r. MatchResult r (λ es. (fs : List plain.Draft) → TextExpands (data_of items.now) fs → map draft_of es
+        ≡ fs) (λ f. (fs : List plain.Draft) → ¬ TextExpands (data_of items.now) fs)) }
 {
     let mut globals = Names::new(alloc);
     collect(alloc, items, &mut globals)?;

@@ -4,11 +4,11 @@ ghost use Rattle.std.specs.Prelude.{◌≡◌, ◌+◌, ◌<◌, ◌≤◌, cond
 ghost use Rattle.sch_lang.specs.Measures.{one_unless};
 ghost use Rattle.sch_word.specs.Shape.{max_variables};
 ghost use Rattle.sch_core.specs.Counted.{is_simple, variables_of, variables_of_each, variables_of_operands, variables_of_parts};
-ghost use Rattle.sch_core.specs.DraftView.{draft_of, drafts_of};
+ghost use Rattle.sch_expand.specs.DraftView.{draft_of, drafts_of};
 ghost use Rattle.sch_core.specs.Numbered.{program_of};
 ghost use Rattle.sch_core.specs.Programs.{first_exceeding};
 
-use crate::draft::Draft;
+use sch_expand::Draft;
 
 const MAX_VARIABLES: usize = 1000;
 

@@ -29,7 +29,7 @@ fn program_of(alloc: Global, text: &[u8]) -> Result<Program, CoreError> {
 // How many globals and sites the program of a text has.
 #[test]
 fn expands_each_form(rt: HostRuntime) -> Result<(), Fail> {
-    let rows: [(&[u8], usize, usize); 4] = [
+    let rows: [(&[u8], usize, usize); 6] = [
         (b"", 0, 0),
         (b"(display 1)(newline)(display #\\a)", 0, 3),
         (
@@ -42,12 +42,69 @@ fn expands_each_form(rt: HostRuntime) -> Result<(), Fail> {
             1,
             5,
         ),
+        (
+            b"(and 1 2 3)(or 1 2)(if (or 1 2) 3 4)(not 1)(let* ((x 1) (y x)) y)",
+            0,
+            3,
+        ),
+        (
+            b"(cond (1 2) (3) (else 4))(case 1 ((2 3) 4) (else 5))(let ((else 1)) (cond (else 2)))",
+            0,
+            5,
+        ),
     ];
     for (text, globals, sites) in rows {
         let program = program_of(rt.alloc(), text)?;
         assert_eq!(rt; program.globals.len(), globals);
         assert_eq!(rt; program.sites.len(), sites);
     }
+    Ok(())
+}
+
+// The place of the fault of a text that is badly formed, or not built yet.
+fn refused(alloc: Global, text: &[u8]) -> Option<(bool, u32)> {
+    match program_of(alloc, text) {
+        Err(CoreError::BadForm(at)) => Some((true, at)),
+        Err(CoreError::Unbuilt(at)) => Some((false, at)),
+        _ => None,
+    }
+}
+
+#[test]
+fn refuses_each_form(rt: HostRuntime) -> Result<(), Fail> {
+    let rows: [(&[u8], bool, u32); 11] = [
+        (b"(cond)", true, 0),
+        (b"(cond (else))", true, 0),
+        (b"(cond (else 1) (2))", true, 0),
+        (b"(cond (1 =>))", true, 9),
+        (b"(cond (1 => 2))", false, 6),
+        (b"(case 1)", true, 0),
+        (b"(case 1 ((2)))", true, 0),
+        (b"(case 1 ((x) 2))", false, 10),
+        (b"(let* ((x 1)))", true, 0),
+        (b"(let () (define x 1) x)", false, 8),
+        (b"(or (lambda () 1) 2)", false, 4),
+    ];
+    for (text, is_bad, at) in rows {
+        assert!(rt; matches!(refused(rt.alloc(), text), Some((b, p)) if b == is_bad && p == at));
+    }
+    Ok(())
+}
+
+// 998 bindings of nothing, each around an expression and the next, and a chain of comparisons in the last:
+// its second element would stand at level 2,001.
+#[test]
+fn counts_levels(rt: HostRuntime) -> Result<(), Fail> {
+    let mut text = Vec::new(rt.alloc());
+    for _ in 0..998 {
+        text.extend_from_slice(b"(let () 1 ")?;
+    }
+    text.extend_from_slice(b"(= 1 2 3 4)")?;
+    for _ in 0..998 {
+        text.push(b')')?;
+    }
+    let refused = program_of(rt.alloc(), text.as_slice());
+    assert!(rt; matches!(refused, Err(CoreError::Limit(Kind::Core, 9985))));
     Ok(())
 }
 

@@ -3,7 +3,7 @@ use Rattle.sch_lang.specs.ProgramView.{source}
 use Rattle.sch_lang.specs.Tree.{count}
 use Rattle.sch_lang.specs.Valid.{constants_in_range, is_valid}
 use Rattle.sch_read.specs.Views.{data_of}
-use Rattle.sch_core.specs.DraftView.{draft_of}
+use Rattle.sch_expand.specs.DraftView.{draft_of}
 use Rattle.sch_core.specs.Numbered.{program_of}
 use Rattle.sch_core.specs.Programs.{first_exceeding}
 use Rattle.sch_core.proofs.Answering.{is_sound, is_small}

@@ -1,4 +1,4 @@
-use Rattle.sch_core.specs.NamesView.{names_of}
+use Rattle.sch_scope.specs.NamesView.{names_of}
 use Rattle.sch_core.proofs.DraftViews.{branch_view, bind_view}
 use Rattle.sch_core.proofs.NumberedDrafts.{branch_names, bind_names, next_names}
 use Rattle.sch_core.proofs.numbering.+naming.Goals as goal

@@ -1,6 +1,6 @@
 use Rattle.std.proofs.Common.{◌≡◌, drop}
-use Rattle.sch_core.specs.DraftView.{drafts_of}
-use Rattle.sch_core.specs.NamesView.{names_of}
+use Rattle.sch_expand.specs.DraftView.{drafts_of}
+use Rattle.sch_scope.specs.NamesView.{names_of}
 use Rattle.sch_core.specs.Forms.{firsts}
 use Rattle.sch_core.specs.Numbered.{global_names_of_each}
 use Rattle.sch_core.proofs.numbering.+naming.Given as goal

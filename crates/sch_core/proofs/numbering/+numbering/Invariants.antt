@@ -1,8 +1,8 @@
 use Rattle.std.proofs.Common.{◌≡◌, ◌++◌, drop, length, map}
 use Rattle.sch_lang.specs.View.{expression}
 use Rattle.sch_core.specs.Constants.{HaveConstants}
-use Rattle.sch_core.specs.DraftView.{drafts_of}
-use Rattle.sch_core.specs.NamesView.{names_of}
+use Rattle.sch_expand.specs.DraftView.{drafts_of}
+use Rattle.sch_scope.specs.NamesView.{names_of}
 use Rattle.sch_core.specs.Numbered.{numbered_each, widths_of_each}
 use Rattle.sch_core.proofs.NumberedDrafts.{onto}
 use Rattle.sch_core.proofs.numbering.+numbering.Given as goal

@@ -1,7 +1,7 @@
 use Rattle.std.proofs.Common.{◌≡◌, ◌+◌, ◌*◌, drop}
 use Rattle.sch_read.specs.Valid.{weight, weights}
 use Rattle.sch_read.specs.Views.{tree_of, data_of}
-use Rattle.sch_core.specs.NamesView.{names_of}
+use Rattle.sch_scope.specs.NamesView.{names_of}
 use Rattle.sch_core.specs.Forms.{firsts, defined}
 use Rattle.sch_core.proofs.toplevel.+collecting.Given as goal
 

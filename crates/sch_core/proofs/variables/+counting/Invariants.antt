@@ -1,5 +1,5 @@
 use Rattle.std.proofs.Common.{◌≡◌, ◌+◌, ◌≤◌, drop}
-use Rattle.sch_core.specs.DraftView.{drafts_of}
+use Rattle.sch_expand.specs.DraftView.{drafts_of}
 use Rattle.sch_core.specs.Counted.{variables_of_each, variables_of_operands, variables_of_parts}
 use Rattle.sch_core.proofs.variables.+counting.Given as goal
 

@@ -1,5 +1,5 @@
 use Rattle.std.proofs.Common.{◌≡◌, map, false, true, sym, ◌∙◌, rules}
-use Rattle.sch_core.specs.DraftView.{draft_of}
+use Rattle.sch_expand.specs.DraftView.{draft_of}
 use Rattle.sch_core.proofs.VariableSteps.{exceeding_program, exceeding_here, exceeding_later, none_exceeding}
 use Rattle.sch_core.proofs.variables.first_exceeding.Goals as goal
 

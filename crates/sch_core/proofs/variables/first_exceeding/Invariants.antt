@@ -1,5 +1,5 @@
 use Rattle.std.proofs.Common.{◌≡◌, drop}
-use Rattle.sch_core.specs.DraftView.{drafts_of}
+use Rattle.sch_expand.specs.DraftView.{drafts_of}
 use Rattle.sch_core.proofs.VariableSteps.{exceeding_of}
 use Rattle.sch_core.proofs.variables.first_exceeding.Given as goal
 

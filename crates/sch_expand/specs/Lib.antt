@@ -1,0 +1,7 @@
+pub mod FaultOrder
+pub mod DraftView
+pub mod Expands
+pub mod Faults
+pub mod Reads
+pub mod Following
+pub mod Stacking

@@ -1,0 +1,7 @@
+pub mod Bodies
+pub mod Aheads
+pub mod Bindings
+pub mod ClauseLists
+pub mod Falls
+pub mod Sound
+mod Examples

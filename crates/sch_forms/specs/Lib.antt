@@ -1,0 +1,12 @@
+pub mod Draft
+pub mod Definitions
+pub mod Shapes
+pub mod Sketch
+pub mod SketchView
+pub mod Small
+pub mod Choices
+pub mod Binders
+pub mod Combinations
+pub mod Outline
+pub mod Measure
+pub mod Soundness

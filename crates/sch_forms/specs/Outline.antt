@@ -1,0 +1,84 @@
+-- The table of forms (R5RS 4, 5.2.2 and 7.3): which sketch stands for a datum, and for the rest of a form.
+use Rattle.std.specs.Prelude.{ℕ, Bool, true, false, List, Option, Some, None}
+use Rattle.sch_read.specs.Grammar.{Datum, Data, atom, list, dotted, vector, none, cons, symbol}
+use Rattle.sch_read.specs.Parts.{how_many, offset}
+use Rattle.sch_scope.specs.declared.keyword.Keyword.{Keyword}
+use Rattle.sch_scope.specs.declared.keyword.Keyword.TheVariants.{Quote, Lambda, If, Set, Cond, Case, And, Or, Let, LetStar, Letrec, Begin, Do}
+use Rattle.sch_scope.specs.Words.{keyword_of}
+use Rattle.sch_scope.specs.Scope.{Scope, find, is_among, Head, form, operating, calling, head_of}
+use Rattle.sch_forms.specs.declared.fault.Fault.TheVariants.{Unbuilt, BadForm, Unbound}
+use Rattle.sch_forms.specs.declared.sketch.Position.{Position}
+use Rattle.sch_forms.specs.declared.sketch.Row.{Row}
+use Rattle.sch_forms.specs.declared.sketch.Row.TheVariants.{Form, Body, Nest, Clauses, Cases, Tests, Chain, Join}
+use Rattle.sch_forms.specs.Draft.{local, global}
+use Rattle.sch_forms.specs.Sketch.{Sketch, text, rest, wrong, leaf, node, no_sketch, sequencing}
+use Rattle.sch_forms.specs.Small.{texts, literal, quoted}
+use Rattle.sch_forms.specs.Choices.{row_if, row_and, row_or, row_cond, row_case, row_clauses, row_cases, row_tests}
+use Rattle.sch_forms.specs.Binders.{row_let, row_let_star, row_nest, row_body}
+use Rattle.sch_forms.specs.Combinations.{combination, row_chain, row_join}
+
+abbrev pub row_quote : ℕ → Data → Sketch
+row_quote at (cons d none) = quoted at at d
+row_quote at _ = wrong (BadForm at)
+
+abbrev pub row_begin : ℕ → Data → Sketch
+row_begin at none = wrong (BadForm at)
+row_begin at (cons e none) = text e
+row_begin at (cons e (cons e' es)) = node sequencing at (texts (cons e (cons e' es)) no_sketch)
+
+-- Forms that are not built yet are refused, whatever their shape. The other keywords have no form here.
+abbrev pub row_form : Keyword → Scope → Position → ℕ → Data → Sketch
+row_form Quote s t at xs = row_quote at xs
+row_form If s t at xs = row_if at xs
+row_form Begin s t at xs = row_begin at xs
+row_form And s t at xs = row_and at xs
+row_form Or s t at xs = row_or t at xs
+row_form Cond s t at xs = row_cond s at xs
+row_form Case s t at xs = row_case s at xs
+row_form Let s t at xs = row_let s at xs
+row_form LetStar s t at xs = row_let_star s at xs
+row_form Lambda s t at xs = wrong (Unbuilt at)
+row_form Set s t at xs = wrong (Unbuilt at)
+row_form Letrec s t at xs = wrong (Unbuilt at)
+row_form Do s t at xs = wrong (Unbuilt at)
+row_form _ s t at xs = wrong (BadForm at)
+
+abbrev pub outline : Scope → Position → Row → ℕ → Data → Data → Sketch
+outline s t (Form k) at xs ys = row_form k s t at xs
+outline s t Body at xs ys = row_body s at xs
+outline s t (Nest outer) at xs ys = row_nest outer at xs ys
+outline s t Clauses at xs ys = row_clauses s t at xs
+outline s t Cases at xs ys = row_cases at xs
+outline s t Tests at xs ys = row_tests at xs
+outline s t (Chain p) at xs ys = row_chain p at xs
+outline s t (Join p k j) at xs ys = row_join p k j at
+
+-- ## Data
+
+-- a variable: it may be no keyword, and must be bound
+abbrev pub outline_name : Option ℕ → Option Keyword → (global : Bool) → ℕ → List ℕ → Sketch
+outline_name (Some k) w g at x = leaf at (local k)
+outline_name None (Some w) g at x = wrong (BadForm at)
+outline_name None None true at x = leaf at (global x)
+outline_name None None false at x = wrong (Unbound at x)
+
+-- a combination, by its head; a call is not built yet
+abbrev pub outline_head : Head → (at : ℕ) → Data → Sketch
+outline_head (form k) at xs = rest (Form k) at xs none
+outline_head (operating o) at xs = combination o at xs
+outline_head calling at xs = wrong (Unbuilt at)
+
+-- what is neither a list without a dot nor a name
+abbrev pub outline_other : Datum → Sketch
+outline_other (atom at a) = literal at at a
+outline_other d = wrong (BadForm (offset d))
+
+module _ (globals : List (List ℕ)) where
+  abbrev pub outline_datum : Scope → Datum → Sketch
+  outline_datum s (atom at (symbol x)) = outline_name (find s x) (keyword_of x) (is_among x globals) at x
+  outline_datum s (atom at a) = literal at at a
+  outline_datum s (list at (cons (atom q (symbol x)) xs)) = outline_head (head_of globals s x (how_many xs)) at xs
+  outline_datum s (list at (cons f xs)) = wrong (Unbuilt at)
+  outline_datum s (list at none) = wrong (BadForm at)
+  outline_datum s (dotted at xs x) = wrong (BadForm at)
+  outline_datum s (vector at xs) = wrong (BadForm at)

@@ -1,0 +1,60 @@
+-- Small sketches, of which the rows are made.
+use Rattle.std.specs.Prelude.{ℕ, Bool, true, [], ◌∷◌, None}
+use Rattle.sch_word.specs.declared.constant.Const.TheVariants.{Fixnum, Character, Boolean, Nil}
+use Rattle.sch_read.specs.Grammar.{Atom, Datum, Data, atom, list, none, cons, boolean, integer, character}
+use Rattle.sch_read.specs.Parts.{offset}
+use Rattle.sch_forms.specs.declared.fault.Fault.TheVariants.{Unbuilt}
+use Rattle.sch_forms.specs.declared.sketch.Position.{Position}
+use Rattle.sch_forms.specs.declared.sketch.Position.TheVariants.{Value, Test}
+use Rattle.sch_forms.specs.Draft.{constant, local}
+use Rattle.sch_forms.specs.Sketch.{Names, Sketch, Sketches, text, wrong, leaf, node, no_sketch, and_sketch, choosing, binding}
+
+abbrev pub one : Sketch → Sketches
+one a = and_sketch a no_sketch
+
+abbrev pub two : Sketch → Sketch → Sketches
+two a b = and_sketch a (one b)
+
+abbrev pub three : Sketch → Sketch → Sketch → Sketches
+three a b c = and_sketch a (two b c)
+
+abbrev pub truth : ℕ → Bool → Sketch
+truth at b = leaf at (constant (Boolean b))
+
+-- the data, and then others
+abbrev pub texts : Data → Sketches → Sketches
+texts none ks = ks
+texts (cons d ds) ks = and_sketch (text d) (texts ds ks)
+
+-- a variable that a rewriting adds, and one for each datum
+abbrev pub fresh : Names
+fresh = None ∷ []
+
+abbrev pub fresh_each : Data → Names
+fresh_each none = []
+fresh_each (cons d ds) = None ∷ fresh_each ds
+
+-- The constant that an atom is, at this place; what is none is not built yet, and is refused at the
+-- other place.
+abbrev pub literal : (at refused : ℕ) → Atom → Sketch
+literal at r (boolean b) = truth at b
+literal at r (integer z) = leaf at (constant (Fixnum z))
+literal at r (character c) = leaf at (constant (Character c))
+literal at r _ = wrong (Unbuilt r)
+
+-- the same of a quotation of a datum
+abbrev pub quoted : (at refused : ℕ) → Datum → Sketch
+quoted at r (atom q a) = literal at r a
+quoted at r (list q none) = leaf at (constant Nil)
+quoted at r _ = wrong (Unbuilt r)
+
+-- the place of a datum with which the rest begins, if there is one
+abbrev pub place_of : ℕ → Data → ℕ
+place_of at none = at
+place_of at (cons d ds) = offset d
+
+-- The value of the first, or what follows (R5RS 4.2.1). Where only the truth is asked for, no variable
+-- is needed.
+abbrev pub either_of : Position → ℕ → Sketch → Sketch → Sketch
+either_of Value at a k = node (binding fresh) at (two a (node choosing at (three (leaf at (local 0)) (leaf at (local 0)) k)))
+either_of Test at a k = node choosing at (three a (truth at true) k)
