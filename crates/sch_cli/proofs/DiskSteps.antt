@@ -4,11 +4,11 @@ use Rattle.std.specs.Prelude.{⊤, IsSomeAnd, IsErrAnd}
 use Rattle.std.specs.FinMap.{get}
 use Rattle.sch_io.specs.Files.{Files, Replaces, Spoils}
 use Rattle.sch_io.specs.Told.{Tells}
-use Rattle.sch_lang.specs.Tree as tree
+use Rattle.sch_driver.specs.Causes.{max_source_size}
 use Rattle.sch_cli.specs.Builds.{IsFileOf}
+use Rattle.sch_cli.specs.Command.{default_heap, default_depth}
 use Rattle.sch_cli.specs.Compiles.{Compiles, WroteProgram, written, not_read, not_written, refused, no_memory}
 use Rattle.sch_cli.specs.Files.{IsUnread, Reads}
-use Rattle.sch_cli.specs.Refusals.{IsBuilt, max_source_size}
 use Rattle.sch_cli.specs.Seen.{DiskChange, DiskState, StreamChange, TookNothing, SameFiles, FilesChange, FileIs, HadCalls, DiskFailed}
 use Rattle.sch_cli.specs.Steps as runs
 use Rattle.sch_cli.specs.Steps.{RunsSource, StepsImage, max_image_file_size}
@@ -69,26 +69,26 @@ both None (Some m) (Some a) P R Q same h r f = absurd same
 both (Some b) (Some m) (Some a) P R Q same h r f = f b m a same h r
 
 module _ (source target text file : List ℕ) (b m a : DiskState) (read : Reads source max_source_size text (record { before = b; after = m })) (same : SameFiles (record { before = b; after = m }))
-    (faults : b.faults ≤ m.faults) (calls : HadCalls 1 (record { before = b; after = m })) (calls' : HadCalls 1 (record { before = m; after = a })) (made : IsFileOf text file) where
+    (faults : b.faults ≤ m.faults) (calls : HadCalls 1 (record { before = b; after = m })) (calls' : HadCalls 1 (record { before = m; after = a })) (made : IsFileOf text default_heap default_depth file) where
   two_calls : HadCalls 2 (record { before = b; after = a })
   two_calls few = let one = calls (omega arith) in let two = calls' (omega arith) in omega arith
 
   program_for : (found : Option (List ℕ)) (before after : Files) → IsSomeAnd found (λ source_text. source_text ≡ text) → Replaces target file before after →
-      IsSomeAnd found (λ source_text. (made : List ℕ) × IsFileOf source_text made × Replaces target made before after)
+      IsSomeAnd found (λ source_text. (made : List ℕ) × IsFileOf source_text default_heap default_depth made × Replaces target made before after)
   program_for None before after h r = h
-  program_for (Some source_text) before after h r = (file, subst (λ t. IsFileOf t file) (sym h) made, r)
+  program_for (Some source_text) before after h r = (file, subst (λ t. IsFileOf t default_heap default_depth file) (sym h) made, r)
 
-  wrote : FilesChange (record { before = m; after = a }) (Replaces target file) → FilesChange (record { before = b; after = a }) (WroteProgram source target)
-  wrote r = both b.files m.files a.files (λ before _. IsSomeAnd (get before source) (λ source_text. source_text ≡ text)) (Replaces target file) (WroteProgram source target) same read.found r
+  wrote : FilesChange (record { before = m; after = a }) (Replaces target file) → FilesChange (record { before = b; after = a }) (WroteProgram source target default_heap default_depth)
+  wrote r = both b.files m.files a.files (λ before _. IsSomeAnd (get before source) (λ source_text. source_text ≡ text)) (Replaces target file) (WroteProgram source target default_heap default_depth) same read.found r
       (λ before middle after is found writes. program_for (get before source) before after found (subst (λ all. Replaces target file all after) is writes))
 
   spoiled : FilesChange (record { before = m; after = a }) (Spoils target) → FilesChange (record { before = b; after = a }) (Spoils target)
   spoiled s = both b.files m.files a.files (λ before _. IsSomeAnd (get before source) (λ source_text. source_text ≡ text)) (Spoils target) (Spoils target) same read.found s
       (λ before middle after is found spoils. subst (λ all. Spoils target all after) is spoils)
 
-  builds : FilesChange (record { before = m; after = a }) (Spoils target) → FileIs (record { before = b; after = a }) source (λ source_text. (p : tree.Source) × IsBuilt source_text p)
-  builds s = both b.files m.files a.files (λ before _. IsSomeAnd (get before source) (λ source_text. source_text ≡ text)) (Spoils target) (λ before _. IsSomeAnd (get before source) (λ source_text. (p : tree.Source) × IsBuilt source_text p)) same read.found s
-      (λ before middle after is found spoils. some_is (get before source) text (λ source_text. (p : tree.Source) × IsBuilt source_text p) found (made.program, made.built))
+  compiled : FilesChange (record { before = m; after = a }) (Spoils target) → FileIs (record { before = b; after = a }) source (λ source_text. (made : List ℕ) × IsFileOf source_text default_heap default_depth made)
+  compiled s = both b.files m.files a.files (λ before _. IsSomeAnd (get before source) (λ source_text. source_text ≡ text)) (Spoils target) (λ before _. IsSomeAnd (get before source) (λ source_text. (made : List ℕ) × IsFileOf source_text default_heap default_depth made)) same read.found s
+      (λ before middle after is found spoils. some_is (get before source) text (λ source_text. (made : List ℕ) × IsFileOf source_text default_heap default_depth made) found (file, made))
 
   failed : DiskFailed (record { before = m; after = a }) → DiskFailed (record { before = b; after = a })
   failed rose = omega (arith, faults, rose)
@@ -96,4 +96,4 @@ module _ (source target text file : List ℕ) (b m a : DiskState) (read : Reads 
   pub written_compiles : (answer : Result ⊤ Failure) → OnOk answer (FilesChange (record { before = m; after = a }) (Replaces target file)) → OnErr answer (FilesChange (record { before = m; after = a }) (Spoils target)) →
       OnErr answer (DiskFailed (record { before = m; after = a })) → IfErr answer (λ why. why ≡ failure.WriteFailed) → Compiles source target (record { before = b; after = a }) answer
   written_compiles (Ok done) ok err rose only = written (wrote ok) two_calls
-  written_compiles (Err why) ok err rose only = subst (λ why. Compiles source target (record { before = b; after = a }) (Err why)) (sym only) (not_written (failed rose) (builds err) (spoiled err) two_calls)
+  written_compiles (Err why) ok err rose only = subst (λ why. Compiles source target (record { before = b; after = a }) (Err why)) (sym only) (not_written (failed rose) (compiled err) (spoiled err) two_calls)

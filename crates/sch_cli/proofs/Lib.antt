@@ -1,17 +1,6 @@
-pub mod Appends
-pub mod Assembling
-pub mod Collecting
 pub mod Digits
 pub mod DiskSteps
-pub mod Expanding
-pub mod Following
 pub mod MachineEnds
 pub mod OneStatus
-pub mod PieceRuns
-pub mod Printing
 pub mod ProgramRuns
-pub mod Programs
 pub mod Saying
-pub mod Smallness
-pub mod Steps
-pub mod WriteLoop

@@ -1,6 +1,9 @@
 -- The causes of the statuses exclude one another.
-use Rattle.std.proofs.Common.{◌≡◌, ◌≢◌, ◌≤◌, ◌<◌, ℕ, List, length, Some, None, refl, sym, ap, ◌∙◌, subst, arith, Result, Ok, Err}
+use Rattle.std.proofs.Common.{◌≡◌, ◌≢◌, ◌≤◌, ◌<◌, ◌&&◌, cond, Bool, true, false, ℕ, List, [], ◌∷◌, length, Option, Some, None, refl, sym, ap, ◌∙◌, subst, arith, Result, Ok, Err, IsTrue}
 use Rattle.std.specs.Prelude.{⊤}
+use Rattle.sch_word.specs.ProgramLayout.{max_text_size}
+use Rattle.sch_lang.specs.Tree.{Expressions, no_expressions, and_expression, Source}
+use Rattle.sch_lang.specs.Straight.{are_straight, first_other, is_straight, is_straight_program, no_procedures}
 use Rattle.sch_read.specs.Answer as reading
 use Rattle.sch_read.specs.Fault.{Fault, Unclosed, StrayClose, DeepNesting, LiteralRange, Flawed}
 use Rattle.sch_read.specs.Grammar.{Data, bad_token, bad_number, bad_string}
@@ -11,15 +14,15 @@ use Rattle.sch_read.proofs.TextAnswers.{spells_faultless, spells_one, fault_one}
 use Rattle.sch_core.specs.Answer as expanding
 use Rattle.sch_core.specs.declared.error.CoreError.{CoreError}
 use Rattle.sch_core.specs.declared.error.CoreError.TheVariants as core
-use Rattle.sch_core.specs.Programs.{IsProgramOf}
-use Rattle.sch_core.proofs.DataLaws.{never_both, one_error}
+use Rattle.sch_core.specs.Programs.{IsProgramOf, form_places}
+use Rattle.sch_core.proofs.DataLaws.{never_both, one_error, one_program}
+use Rattle.sch_driver.specs.Causes.{IsBuilt, IsTooLarge, Means, max_source_size, text_bound}
+use Rattle.sch_driver.specs.declared.error.CompileError.TheVariants as compiling
 use Rattle.sch_cli.specs.declared.failure.Failure.{Failure}
 use Rattle.sch_cli.specs.declared.failure.Failure.TheVariants as failure
 use Rattle.sch_cli.specs.declared.status.Status.TheVariants.{OutOfMemory}
 use Rattle.sch_cli.specs.Failures.{core_status, read_status}
-use Rattle.sch_cli.specs.Laws.{HasOneVerdict, IsVerdict, built, refused}
-use Rattle.sch_cli.specs.Pieces.{first_other}
-use Rattle.sch_cli.specs.Refusals.{max_source_size}
+use Rattle.sch_cli.specs.Laws.{HasOneVerdict, IsVerdict, accepted, refused, but_for_size}
 
 -- ---- errors
 
@@ -47,25 +50,51 @@ read_fault text (read.LiteralRange at) h v = (LiteralRange at, h, refl)
 core_kept : (e : CoreError) → core_status e ≢ OutOfMemory → e ≢ core.Memory
 core_kept e v is = v (ap core_status is)
 
+-- ---- straight programs
+
+-- the tests of a form and of the forms behind it
+both_straight : (here rest : Bool) (at : ℕ) (other : Option ℕ) → IsTrue (here && rest) → (IsTrue rest → other ≡ None) → cond here other (Some at) ≡ None
+both_straight true rest at other h k = k h
+both_straight false rest at other h k = absurd cc
+
+no_other : (places : List ℕ) (es : Expressions) → IsTrue (are_straight es) → first_other places es ≡ None
+no_other [] es h = refl
+no_other (at ∷ places) no_expressions h = refl
+no_other (at ∷ places) (and_expression e es) h = both_straight (is_straight e) (are_straight es) at (first_other places es) h (no_other places es)
+
+second : (a b : Bool) → IsTrue (a && b) → IsTrue b
+second true b h = h
+second false b h = absurd cc
+
+-- a straight program has no form that is not straight
+none_other : (places : List ℕ) (p : Source) → IsTrue (is_straight_program p) → first_other places p.forms ≡ None
+none_other places p h = no_other places p.forms (second (no_procedures p.library) (are_straight p.forms) h)
+
 -- ---- what is found in a text
 
--- what is found in data: a program of data that are all built, or a first that is not, or an error
+-- what is found in data: a program that is straight, or whose first other form is at this place
 data InData (items : Data) : Result ⊤ Failure → Type 0 where
-  all : first_other items ≡ None → InData items (Ok tt)
-  other : (at : ℕ) → first_other items ≡ Some at → InData items (Err (failure.NotBuilt at))
+  straight : (p : Source) → IsProgramOf items p → IsTrue (is_straight_program p) → InData items (Ok tt)
+  other : (at : ℕ) (p : Source) → IsProgramOf items p → first_other (form_places items) p.forms ≡ Some at → InData items (Err (failure.Compile (compiling.NotBuilt at)))
 
 data InText (text : List ℕ) : Result ⊤ Failure → Type 0 where
   long : max_source_size < length text → InText text (Err failure.TooLong)
-  faulty : (e : ReadError) → length text ≤ max_source_size → (f : Fault) → HasFault text f → e ≡ error_of f → InText text (Err (failure.Read e))
-  wrong : (e : CoreError) → length text ≤ max_source_size → (items : Data) → Spells text items → expanding.IsErrorIn items e → e ≢ core.Memory → InText text (Err (failure.Expand e))
-  right : (answer : Result ⊤ Failure) → length text ≤ max_source_size → (items : Data) → Spells text items → (p : _) → IsProgramOf items p → InData items answer → InText text answer
+  faulty : (e : ReadError) → length text ≤ max_source_size → (f : Fault) → HasFault text f → e ≡ error_of f → InText text (Err (failure.Compile (compiling.Read e)))
+  wrong : (e : CoreError) → length text ≤ max_source_size → (items : Data) → Spells text items → expanding.IsErrorIn items e → e ≢ core.Memory → InText text (Err (failure.Compile (compiling.Core e)))
+  right : (verdict : Result ⊤ Failure) → length text ≤ max_source_size → (items : Data) → Spells text items → (p : Source) → IsProgramOf items p → InData items verdict → InText text verdict
 
-found : (text : List ℕ) (answer : Result ⊤ Failure) → IsVerdict text answer → InText text answer
-found text (Ok done) (built p is) = right (Ok tt) is.short is.means.items is.means.spells p is.means.program (all is.all)
+found_built : (text : List ℕ) (p : Source) → length text ≤ max_source_size → IsBuilt text p → InText text (Ok tt)
+found_built text p short is = right (Ok tt) short is.means.items is.means.spells p is.means.program (straight p is.means.program is.straight)
+
+found : (text : List ℕ) (verdict : Result ⊤ Failure) → IsVerdict text verdict → InText text (but_for_size verdict)
+found text (Ok done) (accepted p is) = found_built text p is.short is.built
 found text (Err e) (refused failure.TooLong h v) = long h
-found text (Err e) (refused (failure.Read error) h v) = let f = read_fault text error h.1 v in faulty error h.0 f.0 f.1 f.2
-found text (Err e) (refused (failure.Expand error) h v) = wrong error h.0 h.1.0 h.1.1 h.1.2 (core_kept error v)
-found text (Err e) (refused (failure.NotBuilt at) h v) = right (Err (failure.NotBuilt at)) h.0 h.1.means.items h.1.means.spells h.1.program h.1.means.program (other at h.1.other)
+found text (Err e) (refused (failure.Compile (compiling.Read error)) h v) = let f = read_fault text error h.1 v in faulty error h.0 f.0 f.1 f.2
+found text (Err e) (refused (failure.Compile (compiling.Core error)) h v) = wrong error h.0 h.1.0 h.1.1 h.1.2 (core_kept error v)
+found text (Err e) (refused (failure.Compile (compiling.NotBuilt at)) h v) =
+    right (Err (failure.Compile (compiling.NotBuilt at))) h.0 h.1.means.items h.1.means.spells h.1.program h.1.means.program (other at h.1.program h.1.means.program h.1.other)
+found text (Err e) (refused (failure.Compile (compiling.TextTooLarge bytes)) h v) = found_built text h.1.program h.0 h.1.built
+found text (Err e) (refused (failure.Compile compiling.Memory) h v) = absurd (v refl)
 found text (Err e) (refused failure.Memory h v) = absurd (v refl)
 found text (Err e) (refused failure.ReadFailed h v) = absurd h
 found text (Err e) (refused failure.WriteFailed h v) = absurd h
@@ -82,11 +111,18 @@ some_some e = cc
 none_some : {A : Type 0} {a : A} → None ≡ Some a → ⊥
 none_some e = cc
 
+-- the first other form of one program of the data is that of the other
+other_of : (items : Data) (p q : Source) (at : ℕ) → IsProgramOf items p → IsProgramOf items q → first_other (form_places items) q.forms ≡ Some at → first_other (form_places items) p.forms ≡ Some at
+other_of items p q at a b e = subst (λ r. first_other (form_places items) r.forms ≡ Some at) (sym (one_program items p q a b)) e
+
+not_straight : (items : Data) (p q : Source) (at : ℕ) → IsProgramOf items p → IsProgramOf items q → IsTrue (is_straight_program p) → first_other (form_places items) q.forms ≡ Some at → ⊥
+not_straight items p q at a b h e = none_some (sym (none_other (form_places items) p h) ∙ other_of items p q at a b e)
+
 one_in_data : (items : Data) (one two : Result ⊤ Failure) → InData items one → InData items two → one ≡ two
-one_in_data items _ _ (all e) (all e') = refl
-one_in_data items _ _ (all e) (other at e') = absurd (none_some (sym e ∙ e'))
-one_in_data items _ _ (other at e) (all e') = absurd (none_some (sym e' ∙ e))
-one_in_data items _ _ (other at e) (other at' e') = ap (λ q. Err (failure.NotBuilt q)) (some_some (sym e ∙ e'))
+one_in_data items _ _ (straight p a h) (straight q b k) = refl
+one_in_data items _ _ (straight p a h) (other at q b e) = absurd (not_straight items p q at a b h e)
+one_in_data items _ _ (other at p a e) (straight q b h) = absurd (not_straight items q p at b a h e)
+one_in_data items _ _ (other at p a e) (other at' q b e') = ap (λ place. Err (failure.Compile (compiling.NotBuilt place))) (some_some (sym e ∙ other_of items p q at' a b e'))
 
 one_in_text : (text : List ℕ) (one two : Result ⊤ Failure) → InText text one → InText text two → one ≡ two
 one_in_text text _ _ (long g) (long g') = refl
@@ -94,18 +130,51 @@ one_in_text text _ _ (long g) (faulty e h f a is) = absurd (both_lengths text g 
 one_in_text text _ _ (long g) (wrong e h xs a b k) = absurd (both_lengths text g h)
 one_in_text text _ _ (long g) (right r h xs a p b c) = absurd (both_lengths text g h)
 one_in_text text _ _ (faulty e h f a is) (long g) = absurd (both_lengths text g h)
-one_in_text text _ _ (faulty e h f a is) (faulty e' h' f' a' is') = ap (λ x. Err (failure.Read x)) (is ∙ ap error_of (fault_one text f f' a a') ∙ sym is')
+one_in_text text _ _ (faulty e h f a is) (faulty e' h' f' a' is') = ap (λ x. Err (failure.Compile (compiling.Read x))) (is ∙ ap error_of (fault_one text f f' a a') ∙ sym is')
 one_in_text text _ _ (faulty e h f a is) (wrong e' h' xs b c k) = absurd (spells_faultless text xs f b a)
 one_in_text text _ _ (faulty e h f a is) (right r h' xs b p c d) = absurd (spells_faultless text xs f b a)
 one_in_text text _ _ (wrong e h xs a b k) (long g) = absurd (both_lengths text g h)
 one_in_text text _ _ (wrong e h xs a b k) (faulty e' h' f c is) = absurd (spells_faultless text xs f a c)
 one_in_text text _ _ (wrong e h xs a b k) (wrong e' h' ys a' b' k') =
-    ap (λ x. Err (failure.Expand x)) (one_error xs e e' k k' b (subst (λ zs. expanding.IsErrorIn zs e') (sym (spells_one text xs ys a a')) b'))
+    ap (λ x. Err (failure.Compile (compiling.Core x))) (one_error xs e e' k k' b (subst (λ zs. expanding.IsErrorIn zs e') (sym (spells_one text xs ys a a')) b'))
 one_in_text text _ _ (wrong e h xs a b k) (right r h' ys a' p b' c) = absurd (k (never_both xs p e (subst (λ zs. IsProgramOf zs p) (sym (spells_one text xs ys a a')) b') b))
 one_in_text text _ _ (right r h xs a p b c) (long g) = absurd (both_lengths text g h)
 one_in_text text _ _ (right r h xs a p b c) (faulty e h' f d is) = absurd (spells_faultless text xs f a d)
 one_in_text text _ _ (right r h xs a p b c) (wrong e h' ys a' b' k) = absurd (k (never_both ys p e (subst (λ zs. IsProgramOf zs p) (spells_one text xs ys a a') b) b'))
 one_in_text text _ _ (right r h xs a p b c) (right r' h' ys a' p' b' c') = one_in_data xs r r' c (subst (λ zs. InData zs r') (sym (spells_one text xs ys a a')) c')
 
+same : (text : List ℕ) (one two : Result ⊤ Failure) → IsVerdict text one → IsVerdict text two → but_for_size one ≡ but_for_size two
+same text one two h k = one_in_text text (but_for_size one) (but_for_size two) (found text one h) (found text two k)
+
+-- ---- a text of a small program
+
+-- a text has one core program
+same_program : (text : List ℕ) (p q : Source) → Means text p → Means text q → p ≡ q
+same_program text p q m n = one_program m.items p q m.program (subst (λ items. IsProgramOf items q) (sym (spells_one text m.items n.items m.spells n.spells)) n.program)
+
+beyond : (low middle high : ℕ) → low < middle → middle ≤ high → high ≤ low → ⊥
+beyond low middle high a b c = omega (arith, a, b, c)
+
+not_too_large : (text : List ℕ) (p : Source) (bytes : ℕ) → IsBuilt text p → text_bound p ≤ max_text_size → IsTooLarge text bytes → ⊥
+not_too_large text p bytes is low large =
+    beyond max_text_size bytes (text_bound large.program) large.large large.bound
+    (subst (λ q. text_bound q ≤ max_text_size) (same_program text p large.program is.means large.built.means) low)
+
+whole : (text : List ℕ) (p : Source) → IsBuilt text p → text_bound p ≤ max_text_size → (verdict : Result ⊤ Failure) → IsVerdict text verdict → but_for_size verdict ≡ verdict
+whole text p is low (Ok done) (accepted q a) = refl
+whole text p is low (Err e) (refused failure.TooLong h v) = refl
+whole text p is low (Err e) (refused (failure.Compile (compiling.Read error)) h v) = refl
+whole text p is low (Err e) (refused (failure.Compile (compiling.Core error)) h v) = refl
+whole text p is low (Err e) (refused (failure.Compile (compiling.NotBuilt at)) h v) = refl
+whole text p is low (Err e) (refused (failure.Compile (compiling.TextTooLarge bytes)) h v) = absurd (not_too_large text p bytes is low h.1)
+whole text p is low (Err e) (refused (failure.Compile compiling.Memory) h v) = refl
+whole text p is low (Err e) (refused failure.Memory h v) = refl
+whole text p is low (Err e) (refused failure.ReadFailed h v) = refl
+whole text p is low (Err e) (refused failure.WriteFailed h v) = refl
+whole text p is low (Err e) (refused (failure.Image error) h v) = refl
+
 pub one_status : (text : List ℕ) → HasOneVerdict text
-one_status text = λ one other h k. one_in_text text one other (found text one h) (found text other k)
+one_status text = record {
+  same = λ one two h k. same text one two h k;
+  small = λ p is low one two h k. sym (whole text p is low one h) ∙ same text one two h k ∙ whole text p is low two k;
+}

@@ -1,12 +1,11 @@
 -- A program that was run ends as it means, and stops at a failed output only where the outlet failed.
-use Rattle.std.proofs.Common.{◌≡◌, ℕ, zero, suc, List, [], ◌∷◌, Bool, true, false, refl, sym, ap, ◌∙◌, subst, arith, drop}
-use Rattle.std.specs.Prelude.{All}
+use Rattle.std.proofs.Common.{◌≡◌, ℕ, zero, suc, List, [], refl, sym, ap, ◌∙◌, subst, arith}
+use Rattle.std.specs.Prelude.{slice_index_or}
 use Rattle.sch_word.specs.declared.answer.Answer.{Answer}
 use Rattle.sch_word.specs.declared.answer.Answer.TheVariants.{Took, Failed}
 use Rattle.sch_word.specs.declared.stop.Stop.{Stop}
 use Rattle.sch_word.specs.declared.stop.Stop.TheVariants.{WrongType, OutOfRange, NotProcedure, WrongCount, DivideByZero, Overflow, HeapLimit, DepthLimit, Unset, OutputFailed}
 use Rattle.sch_word.specs.Computation.{Outcome, State as states, gives, stops, spent}
-use Rattle.sch_word.specs.Put.{put}
 use Rattle.sch_word.specs.Runs.{End, Run, ended, going}
 use Rattle.sch_word.specs.Runs.{seen as observed}
 use Rattle.sch_word.specs.Stops.{status_of}
@@ -15,58 +14,22 @@ use Rattle.sch_elf.specs.declared.image.Image.{Image}
 use Rattle.sch_elf.specs.Layout.{memory}
 use Rattle.sch_insn.specs.Machine.{unknown_flags}
 use Rattle.sch_insn.specs.Step.{Progress, Runs, Exited, Stuck, mach}
-use Rattle.sch_insn.specs.Behaves.{Ending, FollowsRuns, Given, IsPrefix, output_of, exit_of}
+use Rattle.sch_insn.specs.Behaves.{FollowsRuns, Given, IsPrefix, output_of, exit_of}
+use Rattle.sch_lang.specs.Laws as laws
 use Rattle.sch_lang.specs.Tree as tree
 use Rattle.sch_lang.specs.Meaning.{Closure}
 use Rattle.sch_lang.specs.Run.{outcome, run}
+use Rattle.sch_lang.proofs.OutputFails.{fails_by_answer, refused_gives}
+use Rattle.sch_driver.specs.Headline.{IsImageOf}
 use Rattle.sch_step.specs.Run.{TakesNothing}
 use Rattle.sch_step.specs.declared.ends.RunEnd.{RunEnd}
 use Rattle.sch_cli.specs.declared.status.Status.{Status}
 use Rattle.sch_cli.specs.declared.status.Status.TheVariants.{Stopped}
-use Rattle.sch_cli.specs.Builds.{IsImageOf, orders_of}
-use Rattle.sch_cli.specs.Command.{default_heap, default_depth}
 use Rattle.sch_cli.specs.Executes.{ComesTo, Executes, end_of, started}
-use Rattle.sch_cli.specs.Pieces.{puts}
 use Rattle.sch_cli.specs.Seen.{StreamChange, StreamFailed}
 use Rattle.sch_cli.specs.Statuses.{end_status, exit_status, number_of}
 use Rattle.sch_cli.specs.Steps.{EndsAs, RunsProgram}
-use Rattle.sch_cli.proofs.PieceRuns.{ending_after}
 use Rattle.sch_cli.proofs.MachineEnds.{related}
-
--- ---- puts end with 74 only after an answer that takes nothing
-
-module _ (R : Type 0) where
-  -- an answer that takes nothing gives R
-  abbrev Gives : List Answer → Type 0
-  Gives answers = All (λ answer. TakesNothing answer → R) answers
-
-  later : (answer : Answer) (answers : List Answer) → Gives (answer ∷ answers) → Gives answers
-  later answer answers h = λ k d lt. h (suc k) d (omega arith)
-
-  left_gives : (piece : List ℕ) (answers : List Answer) → Gives answers → Gives (put piece answers).left
-  left_gives [] answers h = h
-  left_gives (b ∷ bs) [] h = h
-  left_gives (b ∷ bs) (Failed ∷ answers) h = later Failed answers h
-  left_gives (b ∷ bs) (Took zero ∷ answers) h = later (Took zero) answers h
-  left_gives (b ∷ bs) (Took (suc k) ∷ answers) h = left_gives (drop (suc k) (b ∷ bs)) answers (later (Took (suc k)) answers h)
-
-  cut_gives : (piece : List ℕ) (answers : List Answer) → Gives answers → (put piece answers).whole ≡ false → R
-  cut_gives [] answers h cut = absurd cc
-  cut_gives (b ∷ bs) [] h cut = absurd cc
-  cut_gives (b ∷ bs) (Failed ∷ answers) h cut = h 0 Failed (omega arith) tt
-  cut_gives (b ∷ bs) (Took zero ∷ answers) h cut = h 0 (Took zero) (omega arith) tt
-  cut_gives (b ∷ bs) (Took (suc k) ∷ answers) h cut = cut_gives (drop (suc k) (b ∷ bs)) answers (later (Took (suc k)) answers h) cut
-
-  next_gives : (whole : Bool) (taken : List ℕ) (left : List Answer) (rest : Ending) → (whole ≡ false → R) → (rest.status ≡ 74 → R) →
-      (ending_after (record { taken = taken; left = left; whole = whole }) rest).status ≡ 74 → R
-  next_gives true taken left rest now after is = after is
-  next_gives false taken left rest now after is = now refl
-
-  failed_gives : (pieces : List (List ℕ)) (answers : List Answer) → Gives answers → (puts pieces answers).status ≡ 74 → R
-  failed_gives [] answers h is = absurd cc
-  failed_gives (piece ∷ pieces) answers h is =
-      let this = put piece answers in
-      next_gives this.whole this.taken this.left (puts pieces this.left) (cut_gives piece answers h) (failed_gives pieces this.left (left_gives piece answers h)) is
 
 -- ---- a run ends with 0 or a stop's status
 
@@ -132,22 +95,27 @@ module _ (image : Image) (p : tree.Source) (table : List (List ℕ)) (heap depth
 end_number : (runs : List Answer → ℕ → Run) (steps : ℕ) (answers : List Answer) (status : Status) (output : List ℕ) → status ≡ Stopped OutputFailed → EndsAs runs steps answers status output → (runs answers steps).end ≡ ended 74
 end_number runs steps answers status output is h = (subst (λ s. EndsAs runs steps answers s output) is h).0
 
-pub runs_program : (text : List ℕ) (image : Image) (steps : ℕ) (end : RunEnd) (out : StreamChange) (made : IsImageOf text image) → Executes image steps end out →
-    RunsProgram made.program (orders_of made.program) default_heap default_depth steps end out
-unfolding status_of_end
-runs_program text image steps end out made executed =
-    let p = made.program in
-    let runs = run p (orders_of p) default_heap default_depth in
-    let end_is = ends_as image p (orders_of p) default_heap default_depth made.follows.runs steps in
+-- an answer that takes nothing by the core language does so by the machine
+same_nothing : (answer : Answer) → laws.TakesNothing answer → TakesNothing answer
+same_nothing (Took zero) h = tt
+same_nothing (Took (suc k)) h = absurd h
+same_nothing Failed h = tt
+
+pub runs_program : (p : tree.Source) (table : List (List ℕ)) (heap depth : ℕ) (image : Image) (steps : ℕ) (end : RunEnd) (out : StreamChange) → IsImageOf image p table heap depth → Executes image steps end out →
+    RunsProgram p table heap depth steps end out
+runs_program p table heap depth image steps end out does executed =
+    let runs = run p table heap depth in
+    let end_is = ends_as image p table heap depth does.follows.runs steps in
     let given = end_is executed.given end executed.output executed.under_given in
     record {
       image = image;
-      laid_out = made.laid_out;
-      follows = made.follows;
+      does = does;
       executed = executed;
       under_given = given;
       under_left = related out.before.left out.after.left (λ before after. ComesTo image steps before end executed.output) (λ before after. EndsAs runs steps before (end_status end) executed.output)
           (λ before after r. end_is before end executed.output r) executed.under_left;
-      output_failed = λ is. failed_gives (StreamFailed out) made.pieces executed.given executed.refused
-          (ap status_of_end (sym (made.prints.end executed.given steps) ∙ end_number runs steps executed.given (end_status end) executed.output is given));
+      output_failed = λ is.
+          refused_gives (StreamFailed out) executed.given
+          ((fails_by_answer p).nothing_taken table heap depth executed.given steps (end_number runs steps executed.given (end_status end) executed.output is given))
+          (λ k d lt h. executed.refused k d lt (same_nothing (slice_index_or executed.given k d) h));
     }

@@ -3,27 +3,27 @@ use Rattle.std.specs.Prelude.{◌≡◌, ℕ, List, [], Result, Ok, Err, ⊤, Is
 use Rattle.std.specs.FinMap.{get}
 use Rattle.sch_io.specs.Files.{Files, Replaces, Spoils}
 use Rattle.sch_cli.specs.Builds.{IsFileOf}
+use Rattle.sch_cli.specs.Command.{default_heap, default_depth}
 use Rattle.sch_cli.specs.Failures.{failure_line, failure_status}
 use Rattle.sch_cli.specs.Messages.{Says}
-use Rattle.sch_cli.specs.Refusals.{IsBuilt, IsRefused}
+use Rattle.sch_cli.specs.Refusals.{IsRefused}
 use Rattle.sch_cli.specs.Seen.{DiskChange, StreamChange, FilesChange, SameFiles, FileIs, HadCalls, DiskFailed}
 use Rattle.sch_cli.specs.Statuses.{number_of}
 use Rattle.sch_cli.specs.declared.failure.Failure.{Failure}
 use Rattle.sch_cli.specs.declared.failure.Failure.TheVariants.{ReadFailed, WriteFailed, Memory}
 use Rattle.sch_cli.specs.declared.status.Status.{Status}
 use Rattle.sch_cli.specs.declared.status.Status.TheVariants.{Done}
-use Rattle.sch_lang.specs.Tree as tree
 
--- From these files to those the target was replaced by a program for the source.
-abbrev pub WroteProgram : (source target : List ℕ) → Files → Files → Type 0
-WroteProgram source target before after = IsSomeAnd (get before source) (λ text. (file : List ℕ) × IsFileOf text file × Replaces target file before after)
+-- From these files to those the target was replaced by a program for the source, under these limits.
+abbrev pub WroteProgram : (source target : List ℕ) → (heap depth : ℕ) → Files → Files → Type 0
+WroteProgram source target heap depth before after = IsSomeAnd (get before source) (λ text. (file : List ℕ) × IsFileOf text heap depth file × Replaces target file before after)
 
 -- What `compile` did with the disk, by what it answers.
 pub data Compiles (source target : List ℕ) (disk : DiskChange) : Result ⊤ Failure → Type 0 where
-  written : FilesChange disk (WroteProgram source target) → HadCalls 2 disk → Compiles source target disk (Ok tt)
+  written : FilesChange disk (WroteProgram source target default_heap default_depth) → HadCalls 2 disk → Compiles source target disk (Ok tt)
   not_read : DiskFailed disk → SameFiles disk → HadCalls 1 disk → Compiles source target disk (Err ReadFailed)
   -- the source is one that compiles; a failed write leaves any bytes in the target
-  not_written : DiskFailed disk → FileIs disk source (λ text. (p : tree.Source) × IsBuilt text p) → FilesChange disk (Spoils target) → HadCalls 2 disk →
+  not_written : DiskFailed disk → FileIs disk source (λ text. (file : List ℕ) × IsFileOf text default_heap default_depth file) → FilesChange disk (Spoils target) → HadCalls 2 disk →
       Compiles source target disk (Err WriteFailed)
   refused : (failure : Failure) → FileIs disk source (λ text. IsRefused text failure) → SameFiles disk → HadCalls 1 disk →
       Compiles source target disk (Err failure)

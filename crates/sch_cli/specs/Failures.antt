@@ -7,6 +7,8 @@ use Rattle.sch_core.specs.declared.error.CoreError.{CoreError}
 use Rattle.sch_core.specs.declared.error.CoreError.TheVariants as core
 use Rattle.sch_core.specs.declared.error.Kind.{Kind}
 use Rattle.sch_core.specs.declared.error.Kind.TheVariants.{Operands, Core, Variables, Free}
+use Rattle.sch_driver.specs.declared.error.CompileError.{CompileError}
+use Rattle.sch_driver.specs.declared.error.CompileError.TheVariants as compiling
 use Rattle.sch_elf.specs.declared.error.ImageError.{ImageError}
 use Rattle.sch_elf.specs.declared.error.ImageError.TheVariants as image
 use Rattle.sch_cli.specs.declared.failure.Failure.{Failure}
@@ -31,6 +33,13 @@ core_status (core.Limit kind at) = PastLimit
 core_status core.Memory = OutOfMemory
 core_status (core.Unbuilt at) = NotBuilt
 
+abbrev pub refusal_status : CompileError → Status
+refusal_status (compiling.Read error) = read_status error
+refusal_status (compiling.Core error) = core_status error
+refusal_status (compiling.NotBuilt at) = NotBuilt
+refusal_status (compiling.TextTooLarge bytes) = PastLimit
+refusal_status compiling.Memory = OutOfMemory
+
 abbrev pub image_status : ImageError → Status
 image_status image.Memory = OutOfMemory
 image_status _ = BadImage
@@ -39,9 +48,7 @@ abbrev pub failure_status : Failure → Status
 failure_status failure.ReadFailed = ReadFailed
 failure_status failure.WriteFailed = WriteFailed
 failure_status failure.TooLong = PastLimit
-failure_status (failure.Read error) = read_status error
-failure_status (failure.Expand error) = core_status error
-failure_status (failure.NotBuilt at) = NotBuilt
+failure_status (failure.Compile error) = refusal_status error
 failure_status (failure.Image error) = image_status error
 failure_status failure.Memory = OutOfMemory
 
@@ -71,6 +78,13 @@ core_line name (core.Limit kind at) = place_line name at (limit_text kind) []
 core_line name core.Memory = out_of_memory_line
 core_line name (core.Unbuilt at) = place_line name at (codes "not built") []
 
+abbrev pub refusal_line : List ℕ → CompileError → List ℕ
+refusal_line name (compiling.Read error) = read_line name error
+refusal_line name (compiling.Core error) = core_line name error
+refusal_line name (compiling.NotBuilt at) = place_line name at (codes "not built") []
+refusal_line name (compiling.TextTooLarge bytes) = name ++ codes ": limit text\n"
+refusal_line name compiling.Memory = out_of_memory_line
+
 abbrev pub image_line : List ℕ → ImageError → List ℕ
 image_line name image.Short = name ++ codes ": short\n"
 image_line name image.NotElf = name ++ codes ": not ELF\n"
@@ -83,8 +97,6 @@ abbrev pub failure_line : List ℕ → Failure → List ℕ
 failure_line name failure.ReadFailed = name ++ codes ": read failed\n"
 failure_line name failure.WriteFailed = name ++ codes ": write failed\n"
 failure_line name failure.TooLong = name ++ codes ": limit file\n"
-failure_line name (failure.Read error) = read_line name error
-failure_line name (failure.Expand error) = core_line name error
-failure_line name (failure.NotBuilt at) = place_line name at (codes "not built") []
+failure_line name (failure.Compile error) = refusal_line name error
 failure_line name (failure.Image error) = image_line name error
 failure_line name failure.Memory = out_of_memory_line

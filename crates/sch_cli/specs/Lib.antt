@@ -5,11 +5,8 @@ pub mod Compiles
 pub mod Executes
 pub mod Failures
 pub mod Files
-pub mod Headline
 pub mod Laws
 pub mod Messages
-pub mod PieceCode
-pub mod Pieces
 pub mod Refusals
 pub mod Seen
 pub mod Statuses

@@ -8,22 +8,20 @@ use Rattle.sch_elf.specs.declared.error.ImageError.{ImageError}
 use Rattle.sch_elf.specs.declared.image.Image.{Image}
 use Rattle.sch_elf.specs.Refused as images
 use Rattle.sch_elf.specs.Stands.{StandsFor}
-use Rattle.sch_elf.specs.Layout.{memory}
 use Rattle.sch_insn.specs.Behaves.{IsPrefix}
 use Rattle.sch_lang.specs.Run.{run}
 use Rattle.sch_lang.specs.Tree as tree
+use Rattle.sch_driver.specs.Headline.{IsImageOf}
 use Rattle.sch_step.specs.declared.ends.RunEnd.{RunEnd}
 use Rattle.sch_cli.specs.declared.failure.Failure.{Failure}
 use Rattle.sch_cli.specs.declared.failure.Failure.TheVariants.{ReadFailed, TooLong, Image as NoImage, Memory}
 use Rattle.sch_cli.specs.declared.status.Status.{Status}
 use Rattle.sch_cli.specs.declared.status.Status.TheVariants.{StepsSpent, Stopped}
-use Rattle.sch_cli.specs.Builds.{orders_of}
 use Rattle.sch_cli.specs.Command.{default_heap, default_depth}
 use Rattle.sch_cli.specs.Executes.{Executes}
 use Rattle.sch_cli.specs.Failures.{failure_line, failure_status}
-use Rattle.sch_cli.specs.Headline.{Follows, IsLaidOut}
 use Rattle.sch_cli.specs.Messages.{Says, end_line}
-use Rattle.sch_cli.specs.Refusals.{IsBuilt, IsRefused}
+use Rattle.sch_cli.specs.Refusals.{IsAccepted, IsRefused}
 use Rattle.sch_cli.specs.Seen.{DiskChange, StreamChange, SameFiles, FileIs, HadCalls, DiskFailed, TookNothing, StreamFailed}
 use Rattle.sch_cli.specs.Statuses.{end_status, number_of}
 
@@ -56,19 +54,19 @@ EndsAs runs steps answers status output = ((runs answers steps).end ≡ ended (n
 -- A core program was run: an image that does what it means was executed, and ended as it means.
 pub record RunsProgram (p : tree.Source) (table : List (List ℕ)) (heap depth steps : ℕ) (end : RunEnd) (out : StreamChange) : Type 0 where
   pub image : Image
-  pub laid_out : IsLaidOut image
-  pub follows : Follows image.entry (memory image.segments) p table heap depth
+  pub does : IsImageOf image p table heap depth
   pub executed : Executes image steps end out
   pub under_given : EndsAs (run p table heap depth) steps executed.given (end_status end) executed.output
   pub under_left : Tells out.before.left out.after.left (λ before after. EndsAs (run p table heap depth) steps before (end_status end) executed.output)
   pub output_failed : end_status end ≡ Stopped OutputFailed → StreamFailed out
 
--- `run NAME`: the source was not read; or it is refused; or it is neither, and its program was run.
+-- `run NAME`: the source was not read; or it is refused; or it is neither, and its program was run, with
+-- some orders of its sites.
 pub data RunsSource (name : List ℕ) (steps : ℕ) (disk : DiskChange) (out : StreamChange) : Result RunEnd Failure → Type 0 where
   not_read : DiskFailed disk → TookNothing out → RunsSource name steps disk out (Err ReadFailed)
   no_memory : TookNothing out → RunsSource name steps disk out (Err Memory)
   refused : (failure : Failure) → FileIs disk name (λ text. IsRefused text failure) → TookNothing out → RunsSource name steps disk out (Err failure)
-  ran : (p : tree.Source) (end : RunEnd) → FileIs disk name (λ text. IsBuilt text p) → RunsProgram p (orders_of p) default_heap default_depth steps end out →
+  ran : (p : tree.Source) (orders : List (List ℕ)) (end : RunEnd) → FileIs disk name (λ text. IsAccepted text p) → RunsProgram p orders default_heap default_depth steps end out →
       RunsSource name steps disk out (Ok end)
 
 -- ---- the verbs

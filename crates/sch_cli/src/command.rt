@@ -5,8 +5,10 @@ ghost use Rattle.std.specs.Char.{is_ascii_digit};
 ghost use Rattle.std.specs.List.{list_all};
 ghost use Rattle.std.specs.Option.{option_map};
 ghost use Rattle.std.specs.Str.Parse.{digits_value};
-ghost use Rattle.sch_cli.specs.Command.{are_names, command, compile_of, is_name, is_steps, run, step, steps_in, with_steps};
+ghost use Rattle.sch_cli.specs.Command.{are_names, command, compile_of, default_depth, default_heap, is_name, is_steps, run, step, steps_in, with_steps};
 ghost use Rattle.sch_cli.specs.CommandView.{command_of};
+
+use sch_word::Limits;
 
 /// A command: the names are those in the words.
 #[derive(Clone, Copy)]
@@ -19,10 +21,26 @@ pub enum Command<'a> {
 /// The steps where the words give none.
 const DEFAULT_STEPS: u64 = 1_000_000_000;
 
+/// The heap of a program, 64 MiB, and its depth.
+const DEFAULT_HEAP: u64 = 1 << 26;
+
+const DEFAULT_DEPTH: u64 = 100_000;
+
 /// The most steps, and the most digits of their number.
 const MAX_STEPS: u64 = 1_000_000_000_000_000_000;
 
 const MAX_DIGITS: usize = 19;
+
+/// The limits of a program.
+pub fn default_limits() -> Limits
+    ensures heap { result.heap ≡ default_heap }
+    ensures depth { result.depth ≡ default_depth }
+{
+    let Some(limits) = Limits::new(DEFAULT_HEAP, DEFAULT_DEPTH) else {
+        unreachable!();
+    };
+    limits
+}
 
 /// The command that the words are, if they are one.
 pub fn read_words<'a>(words: &'a [String]) -> Option<Command<'a>>

@@ -7,10 +7,10 @@ ghost use Rattle.sch_cli.specs.Seen.{disk_change, stream_change};
 ghost use Rattle.sch_cli.specs.Statuses.{number_of};
 
 use crate::build::build;
-use crate::expansion::MAX_SOURCE_SIZE;
 use crate::failure::{Failure, say_failure};
 use crate::file::{read_file, write_file};
 use crate::status::Status;
+use sch_driver::MAX_SOURCE_SIZE;
 use sch_io::{Disk, Outlet};
 use std::alloc::Global;
 

@@ -2,7 +2,7 @@
 
 ghost use Rattle.std.specs.Prelude.{◌≡◌, ◌≢◌, ◌≤◌};
 ghost use Rattle.sch_core.specs.declared.error.Kind.{Kind};
-ghost use Rattle.sch_cli.specs.Failures.{core_line, core_status, failure_line, failure_status, image_line, image_status, limit_text, read_line, read_status};
+ghost use Rattle.sch_cli.specs.Failures.{core_line, core_status, failure_line, failure_status, image_line, image_status, limit_text, read_line, read_status, refusal_line, refusal_status};
 ghost use Rattle.sch_cli.specs.Messages.{Says};
 ghost use Rattle.sch_cli.specs.Seen.{stream_change};
 ghost use Rattle.sch_cli.specs.declared.failure.Failure.TheVariants as failure;
@@ -10,6 +10,7 @@ ghost use Rattle.sch_cli.specs.declared.failure.Failure.TheVariants as failure;
 use crate::message::{say, say_at, say_numbered, say_out_of_memory};
 use crate::status::Status;
 use sch_core::{CoreError, Kind};
+use sch_driver::CompileError;
 use sch_elf::ImageError;
 use sch_io::Outlet;
 use sch_read::ReadError;
@@ -24,31 +25,19 @@ pub enum Failure {
     WriteFailed,
     /// A file is longer than it may be.
     TooLong,
-    /// The reader does not accept the text.
-    Read(ReadError),
-    /// The data have no core program.
-    Expand(CoreError),
-    /// The datum at this place is the first that is not built today.
-    NotBuilt(u32),
+    /// The text is not compiled.
+    Compile(CompileError),
     /// The file stands for no image.
     Image(ImageError),
     /// There was no memory.
     Memory,
 }
 
-impl From<ReadError> for Failure {
-    ghost from_gives = { λ error e. e ≡ failure.Read error };
+impl From<CompileError> for Failure {
+    ghost from_gives = { λ error e. e ≡ failure.Compile error };
 
-    fn from(error: ReadError) -> Failure {
-        Failure::Read(error)
-    }
-}
-
-impl From<CoreError> for Failure {
-    ghost from_gives = { λ error e. e ≡ failure.Expand error };
-
-    fn from(error: CoreError) -> Failure {
-        Failure::Expand(error)
+    fn from(error: CompileError) -> Failure {
+        Failure::Compile(error)
     }
 }
 
@@ -78,12 +67,23 @@ impl Failure {
             Failure::ReadFailed => Status::ReadFailed,
             Failure::WriteFailed => Status::WriteFailed,
             Failure::TooLong => Status::PastLimit,
-            Failure::Read(error) => read_status(*error),
-            Failure::Expand(error) => core_status(error),
-            Failure::NotBuilt(_) => Status::NotBuilt,
+            Failure::Compile(error) => refusal_status(error),
             Failure::Image(error) => image_status(*error),
             Failure::Memory => Status::OutOfMemory,
         }
+    }
+}
+
+fn refusal_status(error: &CompileError) -> Status
+    ensures status { result ≡ refusal_status error.now }
+    ensures no_usage { result ≢ Status.Usage }
+{
+    match error {
+        CompileError::Read(error) => read_status(*error),
+        CompileError::Core(error) => core_status(error),
+        CompileError::NotBuilt(_) => Status::NotBuilt,
+        CompileError::TextTooLarge(_) => Status::PastLimit,
+        CompileError::Memory => Status::OutOfMemory,
     }
 }
 
@@ -130,11 +130,22 @@ pub fn say_failure<E: Outlet>(err: &mut E, name: &str, failure: &Failure)
         Failure::ReadFailed => say(err, name, ": read failed\n"),
         Failure::WriteFailed => say(err, name, ": write failed\n"),
         Failure::TooLong => say(err, name, ": limit file\n"),
-        Failure::Read(error) => say_read_error(err, name, *error),
-        Failure::Expand(error) => say_core_error(err, name, error),
-        Failure::NotBuilt(at) => say_at(err, name, *at, "not built", b""),
+        Failure::Compile(error) => say_refusal(err, name, error),
         Failure::Image(error) => say_image_error(err, name, *error),
         Failure::Memory => say_out_of_memory(err),
+    }
+}
+
+fn say_refusal<E: Outlet>(err: &mut E, name: &str, error: &CompileError)
+    ensures line { Says (refusal_line name.now error.now) (stream_change E.bytes E.left E.faults err.old err.new) }
+    ensures faults { E.faults err.old ≤ E.faults err.new }
+{
+    match error {
+        CompileError::Read(error) => say_read_error(err, name, *error),
+        CompileError::Core(error) => say_core_error(err, name, error),
+        CompileError::NotBuilt(at) => say_at(err, name, *at, "not built", b""),
+        CompileError::TextTooLarge(_) => say(err, name, ": limit text\n"),
+        CompileError::Memory => say_out_of_memory(err),
     }
 }
 

@@ -8,11 +8,11 @@ ghost use Rattle.sch_cli.specs.Steps.{RunsSource, StepsImage, run_line, run_stat
 
 use crate::build::image_of;
 use crate::execute::execute;
-use crate::expansion::MAX_SOURCE_SIZE;
 use crate::failure::{Failure, say_failure};
 use crate::file::read_file;
 use crate::message::say_end;
 use crate::status::Status;
+use sch_driver::MAX_SOURCE_SIZE;
 use sch_elf::read_image;
 use sch_io::{Disk, Outlet};
 use sch_step::RunEnd;

@@ -9,6 +9,9 @@ use std::alloc::Global;
 use std::io::{Error, ErrorKind};
 use std::test::Fail;
 
+/// The most bytes of a file that a call writes.
+const ROOM: u64 = 100_000;
+
 // What a call answered, what the file `b` then holds, and what was said.
 #[derive(Drop)]
 struct Outcome {
@@ -34,12 +37,12 @@ fn call(
         Bytes::from_slice(alloc, b"a")?,
         Bytes::from_slice(alloc, source)?,
     )];
-    let mut disk = MemDisk::new(alloc, &files, 20_000, failing)?;
+    let mut disk = MemDisk::new(alloc, &files, ROOM, failing)?;
     let mut out = MemOutlet::new(alloc, &[], 0)?;
     let mut err = MemOutlet::new(alloc, plan, 1000)?;
     let status = schc(alloc, all.as_slice(), &mut disk, &mut out, &mut err);
     let said = Vec::from_slice(alloc, err.taken())?;
-    let target = disk.read(alloc, "b", 20_000).ok();
+    let target = disk.read(alloc, "b", ROOM).ok();
     Ok(Outcome {
         status,
         target,
@@ -53,7 +56,7 @@ fn compile(alloc: Global, source: &[u8]) -> Result<Outcome, Fail> {
 
 #[test]
 fn texts_that_compile(rt: HostRuntime) -> Result<(), Fail> {
-    let texts: [&[u8]; 8] = [
+    let texts: [&[u8]; 12] = [
         b"",
         b" \t\n\r\x0c",
         b"; a comment",
@@ -62,6 +65,10 @@ fn texts_that_compile(rt: HostRuntime) -> Result<(), Fail> {
         b"( display\t\n 1152921504606846975 ) (\nNewline )",
         b"(display -1152921504606846976)(display #\\space)",
         b"(display #t)(display #f)",
+        b"(begin (newline))",
+        b"(define x 1)",
+        b"(display 1)(display (+))1",
+        b"(display '1)2 3",
     ];
     for text in texts {
         let outcome = compile(rt.alloc(), text)?;
@@ -74,7 +81,7 @@ fn texts_that_compile(rt: HostRuntime) -> Result<(), Fail> {
 
 #[test]
 fn texts_that_are_refused(rt: HostRuntime) -> Result<(), Fail> {
-    let rows: [(&[u8], u8, &[u8]); 18] = [
+    let rows: [(&[u8], u8, &[u8]); 14] = [
         (b"(display (list 1 2", 4, b"a: byte 9: unclosed\n"),
         (b"(display 1", 4, b"a: byte 0: unclosed\n"),
         (b")", 4, b"a: byte 0: stray close\n"),
@@ -91,11 +98,11 @@ fn texts_that_are_refused(rt: HostRuntime) -> Result<(), Fail> {
         ),
         (b"(display \"a\")", 11, b"a: byte 9: not built\n"),
         (b"(newlin)", 11, b"a: byte 0: not built\n"),
-        (b"(begin (newline))", 11, b"a: byte 0: not built\n"),
-        (b"(define x 1)", 11, b"a: byte 0: not built\n"),
-        (b"(display 1)(display (+))1", 11, b"a: byte 11: not built\n"),
-        (b"(display 1)2 3", 11, b"a: byte 11: not built\n"),
-        (b"(display '1)", 11, b"a: byte 0: not built\n"),
+        (
+            b"(newline)(display (car 1))",
+            11,
+            b"a: byte 18: not built\n",
+        ),
         (b"(display)", 11, b"a: byte 0: not built\n"),
     ];
     for (source, status, said) in rows {
@@ -135,32 +142,19 @@ fn texts_past_a_limit(rt: HostRuntime) -> Result<(), Fail> {
     Ok(())
 }
 
-// The places of the numbers are those of the ELF-64 header and program headers; the code is as GNU as
-// writes it.
+// The places of the numbers are those of the ELF-64 header and program headers.
 #[test]
-fn program_has_its_bytes(rt: HostRuntime) -> Result<(), Fail> {
+fn program_has_its_header(rt: HostRuntime) -> Result<(), Fail> {
     let outcome = compile(rt.alloc(), b"(display -42)\n(newline)\n")?;
     let file = outcome.target.ok_or("no file")?;
-    let file = file.as_slice();
-    assert_eq!(rt; file.len(), 0x2004);
-    let places: [(usize, &[u8]); 11] = [
+    let places: [(usize, &[u8]); 4] = [
         (0, &[0x7f, b'E', b'L', b'F', 2, 1, 1, 0]),
         (24, &[0, 0, 0x40, 0, 0, 0, 0, 0]),
         (80, &[0, 0, 0x40, 0, 0, 0, 0, 0]),
         (136, &[0, 0, 0, 0x10, 0, 0, 0, 0]),
-        (0x1000, &[0xe9, 60, 0, 0, 0]),
-        (
-            0x1015,
-            &[0x48, 0x81, 0xf8, 0, 0, 0, 0, 0x0f, 0x8e, 15, 0, 0, 0],
-        ),
-        (0x1041, &[0x48, 0xc7, 0xc6, 0, 0, 0, 0x10]),
-        (0x1048, &[0x48, 0xc7, 0xc2, 3, 0, 0, 0]),
-        (0x104f, &[0x4c, 0x8d, 0x3d, 5, 0, 0, 0]),
-        (0x1056, &[0xe9, 0xaa, 0xff, 0xff, 0xff]),
-        (0x2000, b"-42\n"),
     ];
     for (place, bytes) in places {
-        let (_, rest) = file.split_at_checked(place).ok_or("too short")?;
+        let (_, rest) = file.as_slice().split_at_checked(place).ok_or("too short")?;
         assert!(rt; rest.starts_with(bytes), "at {place}");
     }
     Ok(())
@@ -271,16 +265,21 @@ fn a_source_of_the_greatest_length(rt: HostRuntime) -> Result<(), Fail> {
     Ok(())
 }
 
-// What a verb answered that runs something, what was printed, and what was said.
+/// What a verb answered that runs something, what was printed, and what was said.
 #[derive(Drop)]
-struct Ending {
-    status: u8,
-    printed: Vec<u8>,
-    said: Vec<u8>,
+pub struct Ending {
+    pub status: u8,
+    pub printed: Vec<u8>,
+    pub said: Vec<u8>,
 }
 
-// Calls the program on a disk whose only file is `a`, over an outlet that answers by this plan.
-fn perform(alloc: Global, words: &[&str], file: &[u8], plan: &[Answer]) -> Result<Ending, Fail> {
+/// Calls the program on a disk whose only file is `a`, over an outlet that answers by this plan.
+pub fn perform(
+    alloc: Global,
+    words: &[&str],
+    file: &[u8],
+    plan: &[Answer],
+) -> Result<Ending, Fail> {
     let mut all = Vec::new(alloc);
     for word in words {
         all.push(String::from_str(alloc, word)?)?;

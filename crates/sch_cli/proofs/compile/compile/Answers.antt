@@ -1,5 +1,6 @@
 use Rattle.std.proofs.Common.{subst, sym}
 use Rattle.sch_cli.specs.Builds.{IsFileOf}
+use Rattle.sch_cli.specs.Command.{default_heap, default_depth}
 use Rattle.sch_cli.specs.Compiles.{Compiles, refused}
 use Rattle.sch_cli.specs.Refusals.{IsRefused}
 use Rattle.sch_cli.specs.Seen.{disk_change}
@@ -31,7 +32,7 @@ returns g c =
     let file = c.as_slice-2.result.now in
     let lent = c.as_slice.result.now in
     let text = c.in_ok-text.text in
-    let made = subst (λ t. IsFileOf t file) c.as_slice.ensures (subst (IsFileOf lent) (sym c.as_slice-2.ensures) c.in_ok-file.ensures.made) in
+    let made = subst (λ t. IsFileOf t default_heap default_depth file) c.as_slice.ensures (subst (IsFileOf lent default_heap default_depth) (sym c.as_slice-2.ensures) c.in_ok-file.ensures.made) in
     let before = (disk_change g.D.Disk.files g.D.Disk.faults g.D.Disk.calls c.args.disk.now c.read_file.new.disk).before in
     let change = disk_change g.D.Disk.files g.D.Disk.faults g.D.Disk.calls c.read_file.new.disk c.write_file.new.disk in
     written_compiles c.args.source.now c.args.target.now text file before change.before change.after c.in_ok-text.ensures.read c.read_file.ensures.unchanged c.read_file.ensures.faults c.read_file.ensures.calls

@@ -1,6 +1,7 @@
 use Rattle.std.proofs.Common.{subst, sym}
-use Rattle.sch_cli.specs.Builds.{IsImageOf}
-use Rattle.sch_cli.specs.Refusals.{IsBuilt, IsRefused}
+use Rattle.sch_cli.specs.Builds.{DoesText}
+use Rattle.sch_cli.specs.Command.{default_heap, default_depth}
+use Rattle.sch_cli.specs.Refusals.{IsAccepted, IsRefused}
 use Rattle.sch_cli.specs.Seen.{TookNothing, disk_change, stream_change}
 use Rattle.sch_cli.specs.Steps.{RunsSource, no_memory, ran, refused}
 use Rattle.sch_cli.specs.declared.failure.Failure.TheVariants.{Memory}
@@ -43,6 +44,6 @@ returns-clause-ran g c =
     let out = stream_change g.O.Outlet.bytes g.O.Outlet.left g.O.Outlet.faults c.args.out.now c.execute.new.out in
     let text = c.in_ok-text.text in
     let image = c.in_ok-image.image in
-    let made = subst (λ lent. IsImageOf lent image) c.as_slice.ensures c.in_ok-image.ensures.made in
-    ran made.program c.in_ok-end.end (file_is disk name text (λ file. IsBuilt file made.program) c.in_ok-text.ensures.read.found made.built)
-    (runs_program text image c.args.steps c.in_ok-end.end out made c.in_ok-end.ensures.ok)
+    let made = subst (λ lent. DoesText lent default_heap default_depth image) c.as_slice.ensures c.in_ok-image.ensures.made in
+    ran made.program made.orders c.in_ok-end.end (file_is disk name text (λ file. IsAccepted file made.program) c.in_ok-text.ensures.read.found made.accepted)
+    (runs_program made.program made.orders default_heap default_depth image c.args.steps c.in_ok-end.end out made.does c.in_ok-end.ensures.ok)

@@ -1,0 +1,109 @@
+//! Straight code, run over memory.
+
+use crate::program::perform;
+use std::test::Fail;
+
+#[test]
+fn straight_code_prints(rt: HostRuntime) -> Result<(), Fail> {
+    let rows: [(&[u8], &[u8]); 9] = [
+        (
+            b"(define x 7)(let ((y (* x 6))) (if (< y 40) (display 0) (display (- y 50))))",
+            b"-8",
+        ),
+        (
+            b"(display (integer->char 255))(display (char->integer (integer->char 255)))",
+            b"\xff255",
+        ),
+        (
+            b"(display (< -1 0))(display (> 1152921504606846975 -1152921504606846976))(display (<= 1 1))",
+            b"#t#t#t",
+        ),
+        (
+            b"(display (>= 0 1))(display (= 5 5 6))(display (< 1 2 3))",
+            b"#f#f#t",
+        ),
+        (
+            b"(display (quotient -7 2))(display (remainder -7 2))(display (modulo -7 2))",
+            b"-3-11",
+        ),
+        (
+            b"(display (quotient 7 -2))(display (remainder 7 -2))(display (modulo 7 -2))",
+            b"-31-1",
+        ),
+        (
+            b"(define a -1152921504606846976)(define b 1152921504606846975)(display (quotient a b))(display (remainder a b))(display (modulo a b))(display (quotient b a))(display (remainder b a))(display (modulo b a))",
+            b"-1-1115292150460684697401152921504606846975-1",
+        ),
+        (
+            b"(display (remainder -1152921504606846976 -1))(display (quotient 1152921504606846975 -1))",
+            b"0-1152921504606846975",
+        ),
+        (
+            b"(display (eqv? 1 1))(display (null? '()))(display (char? 1))(display (boolean? #f))",
+            b"#t#t#f#t",
+        ),
+    ];
+    for (source, printed) in rows {
+        let ending = perform(rt.alloc(), &["run", "a"], source, &[])?;
+        assert_eq!(rt; ending.status, 0);
+        assert_eq!(rt; ending.printed.as_slice(), printed);
+        assert_eq!(rt; ending.said.as_slice(), [].as_slice());
+    }
+    Ok(())
+}
+
+#[test]
+fn straight_code_stops(rt: HostRuntime) -> Result<(), Fail> {
+    let rows: [(&[u8], u8, &[u8], &[u8]); 8] = [
+        (
+            b"(display (quotient 7 (- 2 2)))",
+            69,
+            b"",
+            b"stop 69: division by zero\n",
+        ),
+        (
+            b"(display 1)(display (modulo 1 0))",
+            69,
+            b"1",
+            b"stop 69: division by zero\n",
+        ),
+        (
+            b"(display x)(define x 1)",
+            73,
+            b"",
+            b"stop 73: unset variable\n",
+        ),
+        (
+            b"(display (+ 1152921504606846975 1))",
+            70,
+            b"",
+            b"stop 70: fixnum overflow\n",
+        ),
+        (
+            b"(display (* -1152921504606846976 -1))",
+            70,
+            b"",
+            b"stop 70: fixnum overflow\n",
+        ),
+        (
+            b"(display (quotient -1152921504606846976 -1))",
+            70,
+            b"",
+            b"stop 70: fixnum overflow\n",
+        ),
+        (b"(display (< 1 #t))", 65, b"", b"stop 65: wrong type\n"),
+        (
+            b"(display (integer->char 256))",
+            66,
+            b"",
+            b"stop 66: out of range\n",
+        ),
+    ];
+    for (source, status, printed, said) in rows {
+        let ending = perform(rt.alloc(), &["run", "a"], source, &[])?;
+        assert_eq!(rt; ending.status, status);
+        assert_eq!(rt; ending.printed.as_slice(), printed);
+        assert_eq!(rt; ending.said.as_slice(), said);
+    }
+    Ok(())
+}
