@@ -4,7 +4,7 @@
 //! functions that do nothing.
 #![tactic(auto)]
 
-ghost use Rattle.std.specs.Prelude.{◌≡◌, ◌≤◌, ◌*◌, IsTrue, IfOk, true, ℕ, List};
+ghost use Rattle.std.specs.Prelude.{◌≡◌, ◌≤◌, ◌<◌, ◌^◌, ◌*◌, IsTrue, IfOk};
 ghost use Rattle.sch_control.specs.Sizes.{expressions_size};
 ghost use Rattle.sch_word.specs.Orders.{is_order_table};
 ghost use Rattle.sch_control.specs.ProgramView as control;
@@ -25,9 +25,10 @@ use sch_word::{List, Mem};
 use std::alloc::Global;
 
 pub fn normalize(alloc: Global, p: &FlatProgram) -> Result<ControlProgram, Mem>
+    requires few { measures.program_size (source p.now) < 2 ^ 32 }
+    ensures listed { IfOk result (λ q. q.sites ≡ p.now.sites) }
     ensures runs { IfOk result (λ q. SameRun (source p.now) (control.source q)) }
     ensures fits { IfOk result (λ q. IsTrue (table_fits (control.source q) (given_table (control.source q)))) }
-    ensures orders { IfOk result (λ q. (table : List (List ℕ)) → table_fits (control.source q) table ≡ true → IsTrue (is_order_table p.now.sites table)) }
     ensures straight { IfOk result (λ q. IsTrue (is_straight_program (source p.now)) → IsTrue (control_straight.is_straight_program (control.source q))) }
     ensures size { IfOk result (λ q. IsTrue (is_straight_program (source p.now)) → expressions_size (control.source q).bodies ≤ 4 * measures.program_size (source p.now)) }
 {
@@ -35,7 +36,9 @@ pub fn normalize(alloc: Global, p: &FlatProgram) -> Result<ControlProgram, Mem>
 }
 
 pub fn given_orders(alloc: Global, p: &ControlProgram) -> Result<List<List<u32>>, Mem>
-    ensures { IfOk result (λ orders. orders ≡ given_table (control.source p.now)) }
+    ensures orders { IfOk result (λ orders. orders ≡ given_table (control.source p.now)) }
+    ensures fits { IfOk result (λ orders. IsTrue (table_fits (control.source p.now) orders)) }
+    ensures permutations { IfOk result (λ orders. IsTrue (is_order_table p.now.sites orders)) }
 {
     Err(Mem)
 }
