@@ -28,7 +28,12 @@ use Rattle.sch_control.specs.Run as control_run
 use Rattle.sch_frames.specs.Does.{Follows, SameRuns}
 use Rattle.sch_frames.specs.Tree as frames
 use Rattle.sch_select.specs.Follows.{FollowsFrames}
+use Rattle.sch_lang.specs.Measures.{program_size}
+use Rattle.sch_lang.specs.Tree as lang
 use Rattle.sch_driver.specs.declared.error.CompileError.{CompileError}
+use Rattle.sch_driver.specs.declared.error.CompileError.TheVariants as compile_error
+use Rattle.sch_driver.specs.Causes as causes
+use Rattle.sch_driver.specs.Causes.{IsBuilt, text_bound}
 use Rattle.sch_driver.specs.Assembled.{IsAssembled, IsUnfit, assembled_bound, of_assembly}
 
 -- the memory of an image is its text and its data
@@ -75,3 +80,12 @@ unfit p n Memory h t = tt
 pub refused_for : {A : Type 0} (p : control.Source) (r : Result A CompileError) (cause : AsmError) → IsErrAnd r (λ e. e ≡ of_assembly cause) → IsUnfit p (of_assembly cause) → IfErr r (IsUnfit p)
 refused_for p (Ok a) cause h u = tt
 refused_for p (Err e) cause h u = subst (IsUnfit p) (sym h) u
+
+-- the bound by the control program is one by the core program
+pub bound_chain : (p : lang.Source) (q : control.Source) (code : List Insn) → length (flat_map spelling code) ≤ assembled_bound q → expressions_size q.bodies ≤ 4 * program_size p
+    → length (flat_map spelling code) ≤ text_bound p
+bound_chain p q code h size = omega (arith, h, size)
+
+-- a text that is built, and too large for its control program
+pub too_large : (text : List ℕ) (p : lang.Source) (q : control.Source) (bytes : ℕ) → IsBuilt text p → expressions_size q.bodies ≤ 4 * program_size p → IsUnfit q (compile_error.TextTooLarge bytes) → causes.IsTooLarge text bytes
+too_large text p q bytes built size unfit = record { program = p; built = built; large = unfit.0; bound = omega (arith, unfit.1, size) }
