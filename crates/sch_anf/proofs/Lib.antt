@@ -20,3 +20,10 @@ pub mod Table
 pub mod Examples
 pub mod TestsKept
 pub mod CallsKept
+pub mod ScopeTables
+pub mod Loops
+pub mod PlacedLists
+pub mod OrderLists
+pub mod CodeLists
+pub mod StraightKept
+pub mod ProgramMade

@@ -1,63 +1,102 @@
 //! From flat closures to control: operands become simple, and a body says where its procedure returns.
-//!
-//! What normalizing makes of a program is defined here, and what holds of it is said by laws: contracts of
-//! functions that do nothing.
 #![tactic(auto)]
 
-ghost use Rattle.std.specs.Prelude.{◌≡◌, ◌≤◌, ◌*◌, IsTrue, IfOk, true, ℕ, List};
-ghost use Rattle.sch_control.specs.Sizes.{expressions_size};
+ghost use Rattle.std.specs.Prelude.{◌≡◌, ◌+◌, ◌*◌, ◌≤◌, ◌<◌, ◌^◌, ℕ, IsTrue, length, map, nat_eq, slice_index, IfOk};
+ghost use Rattle.std.specs.List.{count_by};
+ghost use Rattle.std.specs.List.Sorted.{IsNonDecreasing};
 ghost use Rattle.sch_word.specs.Orders.{is_order_table};
-ghost use Rattle.sch_control.specs.ProgramView as control;
-ghost use Rattle.sch_control.specs.Straight as control_straight;
-ghost use Rattle.sch_flat.specs.Straight.{is_straight_program};
+ghost use Rattle.sch_word.specs.StaticsView.{statics};
 ghost use Rattle.sch_control.specs.Fits.{table_fits};
-ghost use Rattle.sch_control.specs.Valid.{is_valid};
+ghost use Rattle.sch_control.specs.ProgramView as control;
+ghost use Rattle.sch_control.specs.Sizes.{expressions_size};
+ghost use Rattle.sch_control.specs.Straight as straight;
+ghost use Rattle.sch_control.specs.Valid.{sites_of_each};
 ghost use Rattle.sch_flat.specs.Measures as measures;
 ghost use Rattle.sch_flat.specs.ProgramView.{source};
-ghost use Rattle.sch_anf.specs.Normal.{normal_source};
+ghost use Rattle.sch_flat.specs.Straight.{is_straight_program};
+ghost use Rattle.sch_anf.specs.Normal.{new_label, normal_source};
 ghost use Rattle.sch_anf.specs.SameRun.{SameRun};
 ghost use Rattle.sch_anf.specs.Table.{given_table};
 ghost use Rattle.sch_anf.specs.Tests.{tests_of};
 
-use sch_flat::FlatProgram;
+mod body;
+mod normalizing;
+mod order_table;
+mod places;
+mod simple;
+mod steps;
+mod variables;
+
+use crate::body::normalize_bodies;
+use crate::order_table::orders_of;
+use crate::places::bound_parts;
+use crate::simple::new_labels;
 use sch_control::ControlProgram;
+use sch_flat::FlatProgram;
 use sch_word::{List, Mem};
 use std::alloc::Global;
 
+/// The program of the language Control: what is no simple operand is bound before, from left to right, and each
+/// call is bound, tested, in tail position or the last of a form. It does what `p` does.
+///
+/// `(f (g x) 1)` -> y is the value of `(g x)`, and then the tail call `(f y 1)`.
+///
+/// It takes time in proportion to the size of `p`, where a label is looked for among the places of the forms by
+/// halves, and stack in proportion to the levels of `p`.
 pub fn normalize(alloc: Global, p: &FlatProgram) -> Result<ControlProgram, Mem>
+    requires few { measures.program_size (source p.now) < 2 ^ 32 }
+    ensures made { IfOk result (λ q. control.source q ≡ normal_source (source p.now)) }
+    // Under every order table that fits it, limits, answers of a kernel and number of entries it runs as `p` does,
+    // and is never wrong.
     ensures runs { IfOk result (λ q. SameRun (source p.now) (control.source q)) }
+    // The table that lists, at each site, what is bound and then the other parts by number fits it.
     ensures fits { IfOk result (λ q. IsTrue (table_fits (control.source q) (given_table (control.source q)))) }
-    ensures orders { IfOk result (λ q. (table : List (List ℕ)) → table_fits (control.source q) table ≡ true → IsTrue (is_order_table p.now.sites table)) }
-    ensures straight { IfOk result (λ q. IsTrue (is_straight_program (source p.now)) → IsTrue (control_straight.is_straight_program (control.source q))) }
-    ensures size { IfOk result (λ q. IsTrue (is_straight_program (source p.now)) → expressions_size (control.source q).bodies ≤ 4 * measures.program_size (source p.now)) }
+    ensures statics { IfOk result (λ q. statics q.statics ≡ statics p.now.statics) }
+    ensures listed { IfOk result (λ q. q.sites ≡ p.now.sites) }
+    ensures tests { IfOk result (λ q. tests_of (control.source q).bodies ≡ measures.tests_of (source p.now)) }
+    // The nodes with a site are the calls and primitives of `p`.
+    ensures calls { IfOk result (λ q. (site : ℕ) → count_by (λ at. nat_eq at.0 site) (sites_of_each (control.source q).bodies) ≡ count_by (λ x. nat_eq x site) (measures.call_sites_of (source p.now))) }
+    // Of straight code it makes straight code.
+    ensures straight { IfOk result (λ q. IsTrue (is_straight_program (source p.now)) → IsTrue (straight.is_straight_program (control.source q))) }
+    // It is at most four times as large.
+    ensures size { IfOk result (λ q. IsTrue (is_straight_program (source p.now)) →
+        expressions_size (control.source q).bodies ≤ 4 * measures.program_size (source p.now)) }
 {
-    Err(Mem)
+    normal_program(alloc, p)
 }
 
+fn normal_program(alloc: Global, p: &FlatProgram) -> Result<ControlProgram, Mem>
+    requires few { measures.program_size (source p.now) < 2 ^ 32 }
+    ensures { IfOk result (λ q. control.source q ≡ normal_source (source p.now)) }
+{
+    let starts = p.starts.as_slice();
+    let flat_bodies = p.bodies.as_slice();
+    let bodies = normalize_bodies(alloc, starts, flat_bodies, &p.forms)?;
+    let library = new_labels(alloc, starts, p.library.as_slice())?;
+    let bound = bound_parts(alloc, flat_bodies, &p.forms, p.sites.len())?;
+    let statics = p.statics.copy(alloc)?;
+    let sites = List::from_slice(alloc, p.sites.as_slice())?;
+    Ok(ControlProgram {
+        statics,
+        library,
+        bodies,
+        sites,
+        bound,
+    })
+}
+
+/// The order table that lists, at each site, what `p` binds, in order, and then the other parts by number. It is
+/// one permutation for each site.
 pub fn given_orders(alloc: Global, p: &ControlProgram) -> Result<List<List<u32>>, Mem>
-    ensures { IfOk result (λ orders. orders ≡ given_table (control.source p.now)) }
+    ensures orders { IfOk result (λ orders. orders ≡ given_table (control.source p.now)) }
+    ensures fits { IfOk result (λ orders. IsTrue (table_fits (control.source p.now) orders)) }
+    ensures permutations { IfOk result (λ orders. IsTrue (is_order_table p.now.sites orders)) }
 {
-    Err(Mem)
+    orders_of(alloc, p.sites.as_slice(), p.bound.as_slice())
 }
 
-/// The normal form of a program runs as the program does under every order table that fits it, and is never
-/// wrong.
-pub fn a_normal_form_runs_as_its_program(p: &FlatProgram)
-    ensures { SameRun (source p.now) (normal_source (source p.now)) }
-{}
-
-/// The normal form of a program is a valid program of the language Control.
-pub fn a_normal_form_is_valid(p: &FlatProgram)
-    ensures { IsTrue (is_valid (normal_source (source p.now))) }
-{}
-
-/// The order table that lists, at each site, what the normal form binds and then the other parts by number
-/// fits it.
-pub fn the_given_order_table_fits(p: &FlatProgram)
-    ensures { IsTrue (table_fits (normal_source (source p.now)) (given_table (normal_source (source p.now)))) }
-{}
-
-/// A normal form has as many tests as its program.
-pub fn a_normal_form_has_as_many_tests(p: &FlatProgram)
-    ensures { tests_of (normal_source (source p.now)).bodies ≡ measures.tests_of (source p.now) }
+/// A table that fits a program has one permutation for each of its sites.
+pub fn a_table_that_fits_is_an_order_table(p: &ControlProgram, orders: &List<List<u32>>)
+    requires { IsTrue (table_fits (control.source p.now) orders.now) }
+    ensures { IsTrue (is_order_table p.now.sites orders.now) }
 {}

@@ -1,6 +1,6 @@
 -- The image of a program whose items follow the runs of its frames.
 use Rattle.std.proofs.Common.{◌≡◌, ◌≤◌, ℕ, ◌+◌, ◌*◌, List, [], ◌∷◌, ◌++◌, length, Option, Some, None, refl, sym, ap, ◌∙◌, subst, arith}
-use Rattle.std.specs.Prelude.{IsTrue, replicate, false}
+use Rattle.std.specs.Prelude.{IsTrue, IfErr, IsErrAnd, Result, Ok, Err, replicate, false}
 use Rattle.std.specs.List.{flat_map}
 use Rattle.std.proofs.lemmas.List.{append-nil}
 use Rattle.sch_word.specs.declared.answer.Answer.{Answer}
@@ -28,7 +28,13 @@ use Rattle.sch_control.specs.Run as control_run
 use Rattle.sch_frames.specs.Does.{Follows, SameRuns}
 use Rattle.sch_frames.specs.Tree as frames
 use Rattle.sch_select.specs.Follows.{FollowsFrames}
-use Rattle.sch_driver.specs.Assembled.{IsAssembled, IsUnfit, of_assembly}
+use Rattle.sch_lang.specs.Measures.{program_size}
+use Rattle.sch_lang.specs.Tree as lang
+use Rattle.sch_driver.specs.declared.error.CompileError.{CompileError}
+use Rattle.sch_driver.specs.declared.error.CompileError.TheVariants as compile_error
+use Rattle.sch_driver.specs.Causes as causes
+use Rattle.sch_driver.specs.Causes.{IsBuilt, text_bound}
+use Rattle.sch_driver.specs.Assembled.{IsAssembled, IsUnfit, assembled_bound, of_assembly}
 
 -- the memory of an image is its text and its data
 memory_is : (text words : List ℕ) (zeros : ℕ) (image : Image) → IsProgramImage text words zeros image → memory image.segments ≡ text_at text ∷ data_at (words ++ replicate zeros 0) ∷ []
@@ -47,12 +53,14 @@ not_wrong a b r e = subst (λ o. Follows o b → b ≡ Some r) (sym e) (λ f. f)
 
 pub assembled : (p : control.Source) (f : frames.Source) (heap depth : ℕ) (a routines : Asm) (code : List Insn) (marks : List Mark) (words text : List ℕ) (zeros : ℕ) (image : Image)
     → SameRuns p f → FollowsFrames f heap depth a.items a.words a.zeros → AreEffective routines.items → AreResolved (a.items ++ routines.items) a.words code marks words → AllValid code
-    → length (flat_map spelling code) ≤ max_text_size → text ≡ flat_map spelling code → zeros ≡ a.zeros → IsProgramImage text words zeros image → IsAssembled p heap depth image
-assembled p f heap depth a routines code marks words text zeros image same follows effective resolved valid fits text_is zeros_are lies =
+    → length (flat_map spelling code) ≤ max_text_size → length (flat_map spelling code) ≤ assembled_bound p
+    → text ≡ flat_map spelling code → zeros ≡ a.zeros → IsProgramImage text words zeros image → IsAssembled p heap depth image
+assembled p f heap depth a routines code marks words text zeros image same follows effective resolved valid fits bound text_is zeros_are lies =
     let lies' : IsProgramImage (flat_map spelling code) words a.zeros image =
         subst (λ t. IsProgramImage t words a.zeros image) text_is (subst (λ z. IsProgramImage text words z image) zeros_are lies) in
     record {
-      laid_out = record { code = code; valid = valid; words = words; zeros = a.zeros; lies = lies' };
+      laid_out = record { code = code; valid = valid; short = fits; words = words; zeros = a.zeros; lies = lies' };
+      bound = bound;
       follows = λ runs are.
           image_follows (flat_map spelling code) words a.zeros image runs lies'
           (follows.follows routines.items code marks words effective a.marked routines.marked resolved valid fits runs
@@ -68,3 +76,16 @@ text_within a routines f size text few short = let e = size_append a routines in
 pub unfit : (p : control.Source) (n : ℕ) (error : AsmError) → n ≤ 65536 + 128 * expressions_size p.bodies → IsTooLarge n error → IsUnfit p (of_assembly error)
 unfit p n (TextTooLarge bytes) h t = (t.1, subst (λ k. k ≤ 65536 + 128 * expressions_size p.bodies) (sym t.0) h)
 unfit p n Memory h t = tt
+
+pub refused_for : {A : Type 0} (p : control.Source) (r : Result A CompileError) (cause : AsmError) → IsErrAnd r (λ e. e ≡ of_assembly cause) → IsUnfit p (of_assembly cause) → IfErr r (IsUnfit p)
+refused_for p (Ok a) cause h u = tt
+refused_for p (Err e) cause h u = subst (IsUnfit p) (sym h) u
+
+-- the bound by the control program is one by the core program
+pub bound_chain : (p : lang.Source) (q : control.Source) (code : List Insn) → length (flat_map spelling code) ≤ assembled_bound q → expressions_size q.bodies ≤ 4 * program_size p
+    → length (flat_map spelling code) ≤ text_bound p
+bound_chain p q code h size = omega (arith, h, size)
+
+-- a text that is built, and too large for its control program
+pub too_large : (text : List ℕ) (p : lang.Source) (q : control.Source) (bytes : ℕ) → IsBuilt text p → expressions_size q.bodies ≤ 4 * program_size p → IsUnfit q (compile_error.TextTooLarge bytes) → causes.IsTooLarge text bytes
+too_large text p q bytes built size unfit = record { program = p; built = built; large = unfit.0; bound = omega (arith, unfit.1, size) }

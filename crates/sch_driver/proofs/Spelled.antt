@@ -20,7 +20,7 @@ pub spelled_more : (text text' : List ℕ) (code : List Insn) (i : ℕ) (other :
     → text ++ flat_map spelling (drop i code) ≡ flat_map spelling code → text' ++ flat_map spelling (drop (i + 1) code) ≡ flat_map spelling code
 spelled_more text text' code i other lt e h =
     ap (λ t. t ++ flat_map spelling (drop (i + 1) code)) e
-    ∙ ap (λ j. (text ++ spelling (slice_index_or code i other)) ++ flat_map spelling (drop j code)) (add-one {i})
+    ∙ ap (λ j. (text ++ spelling (slice_index_or code i other)) ++ flat_map spelling (drop j code)) (add-one i)
     ∙ append_assoc text (spelling (slice_index_or code i other)) (flat_map spelling (drop (suc i) code))
     ∙ ap (λ t. text ++ t) (sym (spelled_next code i other lt))
     ∙ h

@@ -1,9 +1,11 @@
 -- What an image owes to the control program that it is made of.
-use Rattle.std.specs.Prelude.{◌≡◌, ◌<◌, ◌≤◌, ◌+◌, ◌*◌, ℕ, List, Some}
+use Rattle.std.specs.Prelude.{◌≡◌, ◌<◌, ◌≤◌, ◌+◌, ◌*◌, ℕ, List, length, Some}
+use Rattle.std.specs.List.{flat_map}
 use Rattle.sch_word.specs.declared.answer.Answer.{Answer}
 use Rattle.sch_word.specs.Runs.{Run}
 use Rattle.sch_word.specs.ProgramLayout.{max_text_size}
 use Rattle.sch_insn.specs.Behaves.{FollowsRuns}
+use Rattle.sch_insn.specs.Spelling.{spelling}
 use Rattle.sch_asm.specs.declared.error.AsmError.{AsmError}
 use Rattle.sch_asm.specs.declared.error.AsmError.TheVariants as asm
 use Rattle.sch_elf.specs.declared.image.Image.{Image}
@@ -11,19 +13,26 @@ use Rattle.sch_elf.specs.Layout.{memory}
 use Rattle.sch_control.specs.Sizes.{expressions_size}
 use Rattle.sch_control.specs.Tree.{Source}
 use Rattle.sch_control.specs.Run.{run}
+use Rattle.sch_driver.specs.Causes.{text_base}
 use Rattle.sch_driver.specs.Headline.{HasProgramLayout}
 use Rattle.sch_driver.specs.declared.error.CompileError.{CompileError}
 use Rattle.sch_driver.specs.declared.error.CompileError.TheVariants.{TextTooLarge, Memory}
 
+-- the most bytes of the text, by the size of the control program
+abbrev pub assembled_bound : Source → ℕ
+assembled_bound p = text_base + 128 * expressions_size p.bodies
+
 -- The image is laid out as a program's, and where the control program is never wrong, it follows its runs.
 pub record IsAssembled (p : Source) (heap depth : ℕ) (image : Image) : Type 0 where
   pub laid_out : HasProgramLayout image
-  pub follows : (runs : List Answer → ℕ → Run) → ((answers : List Answer) (entries : ℕ) → run p heap depth answers entries ≡ Some (runs answers entries)) →
-      FollowsRuns image.entry (memory image.segments) runs
+  pub bound : length (flat_map spelling laid_out.code) ≤ assembled_bound p
+  pub follows : (runs : List Answer → ℕ → Run)
+      → ((answers : List Answer) (entries : ℕ) → run p heap depth answers entries ≡ Some (runs answers entries))
+      → FollowsRuns image.entry (memory image.segments) runs
 
 -- Why there is no image of a control program: its text would be too large, or there was no memory.
 abbrev pub IsUnfit : Source → CompileError → Type 0
-IsUnfit p (TextTooLarge bytes) = (max_text_size < bytes) × (bytes ≤ 65536 + 128 * expressions_size p.bodies)
+IsUnfit p (TextTooLarge bytes) = (max_text_size < bytes) × (bytes ≤ assembled_bound p)
 IsUnfit p Memory = Unit {0}
 IsUnfit p _ = ⊥
 

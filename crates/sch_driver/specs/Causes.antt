@@ -5,9 +5,13 @@ use Rattle.sch_lang.specs.Tree as tree
 use Rattle.sch_lang.specs.Measures.{program_size}
 use Rattle.sch_lang.specs.Straight.{is_straight_program, first_other}
 use Rattle.sch_read.specs.Answer as reading
+use Rattle.sch_read.specs.declared.error.ReadError.{ReadError}
+use Rattle.sch_read.specs.declared.error.ReadError.TheVariants as read
 use Rattle.sch_read.specs.Grammar.{Data}
 use Rattle.sch_read.specs.Text.{Spells}
 use Rattle.sch_core.specs.Answer as expanding
+use Rattle.sch_core.specs.declared.error.CoreError.{CoreError}
+use Rattle.sch_core.specs.declared.error.CoreError.TheVariants as core
 use Rattle.sch_core.specs.Programs.{IsProgramOf, form_places}
 use Rattle.sch_driver.specs.declared.error.CompileError.{CompileError}
 use Rattle.sch_driver.specs.declared.error.CompileError.TheVariants.{Read, Core, NotBuilt, TextTooLarge, Memory}
@@ -33,21 +37,37 @@ pub record IsNotBuilt (text : List ℕ) (at : ℕ) : Type 0 where
   pub means : Means text program
   pub other : first_other (form_places means.items) program.forms ≡ Some at
 
--- the most bytes of the text of an image, by the size of its core program
-abbrev pub text_bound : tree.Source → ℕ
-text_bound p = 65536 + 512 * program_size p
+-- the most bytes of the text of an image, by the size of its core program: a part for the routines and the
+-- starts of forms, and a part for each unit of the size
+abbrev pub text_base : ℕ
+text_base = 2 ^ 16
 
--- a text that is built, whose image would have so large a text
+abbrev pub text_bound : tree.Source → ℕ
+text_bound p = text_base + 512 * program_size p
+
+-- A text that is built, and a number of bytes that is more than the text of an image may have, and no more
+-- than what that of its core program has at most.
 pub record IsTooLarge (text : List ℕ) (bytes : ℕ) : Type 0 where
   pub program : tree.Source
   pub built : IsBuilt text program
   pub large : max_text_size < bytes
   pub bound : bytes ≤ text_bound program
 
--- The error is one of the text. Out of memory may come in place of any other.
+-- The error is one of the text. Out of memory may come in place of any other, and is named so alone.
 abbrev pub IsErrorOf : List ℕ → CompileError → Type 0
+IsErrorOf text (Read read.Memory) = ⊥
 IsErrorOf text (Read error) = reading.IsErrorIn text error
+IsErrorOf text (Core core.Memory) = ⊥
 IsErrorOf text (Core error) = (items : Data) × Spells text items × expanding.IsErrorIn items error
 IsErrorOf text (NotBuilt at) = IsNotBuilt text at
 IsErrorOf text (TextTooLarge bytes) = IsTooLarge text bytes
 IsErrorOf text Memory = Unit {0}
+
+-- the error of a text that is not read, and of data that are not expanded
+abbrev pub of_reading : ReadError → CompileError
+of_reading read.Memory = Memory
+of_reading error = Read error
+
+abbrev pub of_expanding : CoreError → CompileError
+of_expanding core.Memory = Memory
+of_expanding error = Core error

@@ -1,11 +1,15 @@
 -- What is compiled of a text.
-use Rattle.std.specs.Prelude.{ℕ, List}
+use Rattle.std.specs.Prelude.{◌≤◌, ℕ, List, length}
+use Rattle.std.specs.List.{flat_map}
+use Rattle.sch_insn.specs.Spelling.{spelling}
 use Rattle.sch_lang.specs.Tree as tree
-use Rattle.sch_driver.specs.Causes.{IsBuilt}
+use Rattle.sch_driver.specs.Causes.{IsBuilt, text_bound}
 use Rattle.sch_driver.specs.Headline.{IsProgram}
 
--- The file is a program for the core program of a text, under these limits and the orders that are listed.
+-- The file is a program for the core program of a text, under these limits and the orders that are listed. Its
+-- text is no longer than the size of the core program allows.
 pub record IsCompiled (text : List ℕ) (heap depth : ℕ) (file : List ℕ) (orders : List (List ℕ)) : Type 0 where
   pub program : tree.Source
   pub built : IsBuilt text program
   pub is_program : IsProgram file program orders heap depth
+  pub bound : length (flat_map spelling is_program.does.laid_out.code) ≤ text_bound program

@@ -1,8 +1,9 @@
 -- What it is for a memory, and for a file, to do what a core program means.
-use Rattle.std.specs.Prelude.{◌≡◌, ℕ, List, IsTrue}
+use Rattle.std.specs.Prelude.{◌≡◌, ◌≤◌, ℕ, List, length, IsTrue}
 use Rattle.std.specs.List.{flat_map}
 use Rattle.sch_word.specs.Memory.{Segment}
 use Rattle.sch_word.specs.Orders.{is_order_table}
+use Rattle.sch_word.specs.ProgramLayout.{max_text_size}
 use Rattle.sch_insn.specs.Spelling.{AllValid, spelling}
 use Rattle.sch_insn.specs.declared.insn.Insn.{Insn}
 use Rattle.sch_insn.specs.Behaves.{FollowsRuns}
@@ -21,11 +22,12 @@ pub record Follows (entry : ℕ) (segments : List Segment) (p : tree.Source) (ta
   pub runs : FollowsRuns entry segments (run p table heap depth)
   pub orders : IsTrue (is_order_table p.sites table)
 
--- The image is laid out as a compiled program is: its text is the spellings of instructions, one after
--- the other, and beside its text and its data there is nothing.
+-- The image is laid out as that of a compiled program: its text is the spellings of instructions, one after
+-- the other, within the limit on texts, and beside its text and its data there is nothing.
 pub record HasProgramLayout (image : Image) : Type 0 where
   pub code : List Insn
   pub valid : AllValid code
+  pub short : length (flat_map spelling code) ≤ max_text_size
   pub words : List ℕ
   pub zeros : ℕ
   pub lies : IsProgramImage (flat_map spelling code) words zeros image

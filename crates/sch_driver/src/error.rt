@@ -2,6 +2,7 @@
 
 ghost use Rattle.std.specs.Prelude.{◌≡◌};
 ghost use Rattle.sch_driver.specs.Assembled.{of_assembly};
+ghost use Rattle.sch_driver.specs.Causes.{of_expanding, of_reading};
 ghost use Rattle.sch_driver.specs.declared.error.CompileError.TheVariants as error;
 
 use sch_asm::AsmError;
@@ -13,10 +14,10 @@ use thiserror::Error;
 /// Why a text is not compiled.
 #[derive(Debug, Drop, Error)]
 pub enum CompileError {
-    /// The reader does not accept the text.
+    /// The reader does not accept the text, for another cause than a lack of memory.
     #[error("not read")]
     Read(ReadError),
-    /// The data have no core program.
+    /// The data have no core program, for another cause than a lack of memory.
     #[error("not expanded")]
     Core(CoreError),
     /// The top-level form at this place is the first that is not straight code.
@@ -25,23 +26,30 @@ pub enum CompileError {
     /// The text of the image would have this number of bytes, more than 16,777,216.
     #[error("text of {0} bytes")]
     TextTooLarge(u64),
+    /// Out of memory, wherever it came up.
     #[error("out of memory")]
     Memory,
 }
 
 impl From<ReadError> for CompileError {
-    ghost from_gives = { λ cause e. e ≡ error.Read cause };
+    ghost from_gives = { λ cause e. e ≡ of_reading cause };
 
     fn from(cause: ReadError) -> CompileError {
-        CompileError::Read(cause)
+        match cause {
+            ReadError::Memory => CompileError::Memory,
+            _ => CompileError::Read(cause),
+        }
     }
 }
 
 impl From<CoreError> for CompileError {
-    ghost from_gives = { λ cause e. e ≡ error.Core cause };
+    ghost from_gives = { λ cause e. e ≡ of_expanding cause };
 
     fn from(cause: CoreError) -> CompileError {
-        CompileError::Core(cause)
+        match cause {
+            CoreError::Memory => CompileError::Memory,
+            _ => CompileError::Core(cause),
+        }
     }
 }
 

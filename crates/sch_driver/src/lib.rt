@@ -24,7 +24,7 @@ use std::alloc::Global;
 pub const MAX_SOURCE_SIZE: u64 = 1 << 20;
 
 /// What is listed of a program that is compiled: for each site of its core program the order in which the
-/// parts of the site are evaluated.
+/// parts of the site are evaluated (R5RS 4.1.3 leaves it open).
 #[derive(Drop)]
 pub struct Listing {
     pub orders: List<List<u32>>,
@@ -40,7 +40,7 @@ pub struct Compiled {
 /// Compiles a text: the file, an executable for x86-64, does what the text means, under limits of heap and
 /// depth and with the orders that are listed.
 ///
-/// An error has its cause in the text. Time and memory are linear in the text.
+/// An error has its cause in the text, or is out of memory. No pass is quadratic in the text.
 pub fn compile(alloc: Global, text: &[u8], limits: Limits) -> Result<Compiled, CompileError>
     requires short { length text.now ≤ max_source_size }
     ensures compiled { IfOk result (λ c. IsCompiled text.now limits.heap limits.depth c.image c.listing.orders) }
@@ -50,9 +50,9 @@ pub fn compile(alloc: Global, text: &[u8], limits: Limits) -> Result<Compiled, C
     let control = control_program(alloc, &program)?;
     let image = assemble(alloc, &control, limits)?;
     let orders = given_orders(alloc, &control)?;
-    let image = write_image(alloc, &image)?;
+    let file = write_image(alloc, &image)?;
     Ok(Compiled {
-        image,
+        image: file,
         listing: Listing { orders },
     })
 }

@@ -31,5 +31,6 @@ pub(crate) fn control_program(alloc: Global, p: &Program) -> Result<ControlProgr
     let renamed = rename(alloc, p)?;
     let converted = convert_assign(alloc, &renamed)?;
     let flat = close(alloc, &converted)?;
-    normalize(alloc, &flat)
+    let control = normalize(alloc, &flat)?;
+    Ok(control)
 }

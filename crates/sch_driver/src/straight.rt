@@ -76,9 +76,10 @@ fn are_straight(es: &List<Exp>) -> bool
 pub(crate) fn first_other(places: &[u32], forms: &[Exp]) -> Option<u32>
     ensures { result ≡ first_other places.now (expressions_of forms.now) }
 {
-    for (at, e) in places.iter().zip(forms) {
-        if !is_straight(e) {
-            return Some(*at);
+    let n = places.len().min(forms.len());
+    for i in 0..n {
+        if !is_straight(&forms[i]) {
+            return Some(places[i]);
         }
     }
     None

@@ -22,7 +22,8 @@ use Rattle.sch_frames.specs.declared.instruction.Instruction.{Instruction}
 use Rattle.sch_frames.specs.declared.instruction.Instruction.TheVariants.{Do, Store, Copy, Load, Pass, Fix, Call, Tail, Return, End, IfFalse, Jump, Label, Mark}
 use Rattle.sch_frames.specs.Layout.{slots_layout}
 use Rattle.sch_frames.specs.Run.{run}
-use Rattle.sch_frames.specs.Sizes.{entry_size, expression_size, instructions_size, largest_frame, most_variables, program_size}
+use Rattle.sch_control.specs.Sizes.{expression_size}
+use Rattle.sch_frames.specs.Sizes.{entry_size, instructions_size, largest_frame, most_variables, program_size}
 use Rattle.sch_frames.specs.Straight.{is_straight_code, is_straight_program}
 use Rattle.sch_frames.specs.Tree.{Code, Source}
 use Rattle.sch_frames.specs.Valid.{code_valid, is_valid, placed, forward}

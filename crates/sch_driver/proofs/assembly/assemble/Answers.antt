@@ -1,13 +1,12 @@
-use Rattle.std.proofs.Common.{◌∙◌, ap, subst, sym}
+use Rattle.std.proofs.Common.{◌≤◌, ◌∙◌, ap, subst, sym}
 use Rattle.std.specs.List.{flat_map}
 use Rattle.sch_insn.specs.Spelling.{spelling}
-use Rattle.std.specs.Prelude.{IfErr}
 use Rattle.sch_control.specs.ProgramView.{source}
 use Rattle.sch_control.specs.Sizes.{expressions_size}
 use Rattle.sch_frames.specs.ProgramView as frames
 use Rattle.sch_frames.specs.Sizes.{program_size}
-use Rattle.sch_driver.specs.Assembled.{IsUnfit}
-use Rattle.sch_driver.proofs.Images.{assembled, text_within, unfit}
+use Rattle.sch_driver.specs.Assembled.{assembled_bound}
+use Rattle.sch_driver.proofs.Images.{assembled, refused_for, text_within, unfit}
 use Rattle.sch_driver.proofs.assembly.assemble.Goals as goal
 
 pub returns-in_err-resolved-clause-refused : goal.returns-in_err-resolved-clause-refused
@@ -15,12 +14,15 @@ returns-in_err-resolved-clause-refused c =
     let p = source c.args.p.now in
     let f = frames.source c.in_ok-frames.frames in
     let n = text_within c.in_ok-code.code.items c.in_ok-routines.routines.items (program_size f) (expressions_size p.bodies) c.in_ok-code.ensures.text c.in_ok-frames.ensures.size c.in_ok-routines.ensures.short in
-    subst (λ r. IfErr r (IsUnfit p)) (sym c.from_residual-in_err-resolved.ensures) (unfit p _ c.in_err-resolved.field-0.0 n c.in_err-resolved.ensures.too_large)
+    refused_for p c.from_residual-in_err-resolved.result c.in_err-resolved.field-0.0 c.from_residual-in_err-resolved.ensures.1 (unfit p _ c.in_err-resolved.field-0.0 n c.in_err-resolved.ensures.too_large)
 
 pub returns-clause-does : goal.returns-clause-does
 returns-clause-does c =
     let r = c.in_ok-resolved in
+    let p = source c.args.p.now in
+    let f = frames.source c.in_ok-frames.frames in
+    let n = text_within c.in_ok-code.code.items c.in_ok-routines.routines.items (program_size f) (expressions_size p.bodies) c.in_ok-code.ensures.text c.in_ok-frames.ensures.size c.in_ok-routines.ensures.short in
     assembled (source c.args.p.now) (frames.source c.in_ok-frames.frames) c.args.limits.heap c.args.limits.depth c.in_ok-code.code c.in_ok-routines.routines
     r.resolved.code r.resolved.marks r.resolved.words c.in_ok-text.text r.resolved.zeros c.in_ok-image.image
-    c.in_ok-frames.ensures.same c.in_ok-code.ensures.follows c.in_ok-routines.ensures.effective r.ensures.stands r.ensures.valid r.ensures.fits
+    c.in_ok-frames.ensures.same c.in_ok-code.ensures.follows c.in_ok-routines.ensures.effective r.ensures.stands r.ensures.valid r.ensures.fits (subst (λ k. k ≤ assembled_bound p) (sym r.ensures.size) n)
     (c.in_ok-text.ensures ∙ ap (flat_map spelling) c.as_slice.ensures) r.ensures.zeros c.in_ok-image.ensures.layout

@@ -1,0 +1,32 @@
+use Rattle.std.proofs.Common.{◌∙◌, Result, Ok, Err, IfOk, IsTrue, length, ap, sym, subst}
+use Rattle.sch_word.specs.Orders.{is_order_table}
+use Rattle.sch_control.specs.Fits.{table_fits}
+use Rattle.sch_control.specs.ProgramView.{source}
+use Rattle.sch_anf.specs.Table.{given_orders}
+use Rattle.sch_anf.proofs.OrderLists.{as_many}
+use Rattle.sch_anf.proofs.ProgramMade.{fitting_orders}
+use Rattle.sch_anf.proofs.Table.{given_table_fits}
+use Rattle.sch_anf.proofs.given_orders.Goals as goal
+
+if_ok : {A E : Type 0} (r : Result A E) (P Q : A → Type 0) → IfOk r P → ((a : A) → P a → Q a) → IfOk r Q
+if_ok (Ok a) P Q h f = f a h
+if_ok (Err e) P Q h f = h
+
+pub orders_of-requires : goal.orders_of-requires
+orders_of-requires c = let p = c.args.p.now in ap length c.as_slice.ensures ∙ as_many p.sites p.bound p.ordered ∙ sym (ap length c.as_slice-2.ensures)
+
+pub returns-clause-orders : goal.returns-clause-orders
+returns-clause-orders c =
+    if_ok c.orders_of.result _ _ c.orders_of.ensures (λ q made. made ∙ ap (λ s. given_orders s c.as_slice-2.result.now) c.as_slice.ensures ∙ ap (given_orders c.args.p.now.sites) c.as_slice-2.ensures)
+
+pub returns-clause-fits : goal.returns-clause-fits
+returns-clause-fits c =
+    let p = c.args.p.now in
+    if_ok c.orders_of.result _ _ c.orders_of.ensures
+    (λ q made. subst (λ t. IsTrue (table_fits (source p) t)) (sym (made ∙ ap (λ s. given_orders s c.as_slice-2.result.now) c.as_slice.ensures ∙ ap (given_orders p.sites) c.as_slice-2.ensures)) (given_table_fits (source p) p.ordered))
+
+pub returns-clause-permutations : goal.returns-clause-permutations
+returns-clause-permutations c =
+    let p = c.args.p.now in
+    if_ok c.orders_of.result _ _ c.orders_of.ensures
+    (λ q made. subst (λ t. IsTrue (is_order_table p.sites t)) (sym (made ∙ ap (λ s. given_orders s c.as_slice-2.result.now) c.as_slice.ensures ∙ ap (given_orders p.sites) c.as_slice-2.ensures)) (fitting_orders p.sites p.bound (given_orders p.sites p.bound) (given_table_fits (source p) p.ordered)))

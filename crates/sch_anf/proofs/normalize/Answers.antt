@@ -1,0 +1,59 @@
+use Rattle.std.proofs.Common.{◌∙◌, ◌≤◌, ◌*◌, Result, Ok, Err, IfOk, IsTrue, sym, subst, ap}
+use Rattle.sch_flat.specs.ProgramView.{source}
+use Rattle.sch_control.specs.Fits.{table_fits}
+use Rattle.sch_control.specs.Sizes.{expressions_size}
+use Rattle.sch_control.specs.Straight.{is_straight_program}
+use Rattle.sch_flat.specs.Measures.{program_size}
+use Rattle.sch_control.specs.Valid.{sites_of_each}
+use Rattle.std.specs.Prelude.{nat_eq}
+use Rattle.std.specs.List.{count_by}
+use Rattle.sch_anf.specs.Normal.{normal_source}
+use Rattle.sch_anf.specs.SameRun.{SameRun}
+use Rattle.sch_anf.specs.Table.{given_table}
+use Rattle.sch_anf.specs.Tests.{tests_of}
+use Rattle.sch_anf.proofs.CallsKept.{program_calls}
+use Rattle.sch_anf.proofs.Program.{normal_runs}
+use Rattle.sch_anf.proofs.StraightKept.{program_straight}
+use Rattle.sch_anf.proofs.StraightSize.{straight_size}
+use Rattle.sch_anf.proofs.Table.{given_table_fits}
+use Rattle.sch_anf.proofs.TestsKept.{program_tests}
+use Rattle.sch_anf.proofs.ValidProgram.{bound_known}
+use Rattle.sch_anf.proofs.normalize.Goals as goal
+
+if_ok : {A E : Type 0} (r : Result A E) (P Q : A → Type 0) → IfOk r P → ((a : A) → P a → Q a) → IfOk r Q
+if_ok (Ok a) P Q h f = f a h
+if_ok (Err e) P Q h f = h
+
+pub returns-clause-runs : goal.returns-clause-runs
+returns-clause-runs c =
+    let p = c.args.p.now in
+    if_ok c.normal_program.result _ _ c.normal_program.ensures (λ q made. subst (λ s. SameRun (source p) s) (sym made) (normal_runs (source p) p.closed p.formed p.ordered p.sited))
+
+pub returns-clause-fits : goal.returns-clause-fits
+returns-clause-fits c =
+    let p = c.args.p.now in
+    if_ok c.normal_program.result _ _ c.normal_program.ensures
+    (λ q made. subst (λ s. IsTrue (table_fits s (given_table s))) (sym made) (given_table_fits (normal_source (source p)) (bound_known (source p) p.closed p.formed p.ordered p.sited p.ready p.words)))
+
+pub returns-clause-statics : goal.returns-clause-statics
+returns-clause-statics c = if_ok c.normal_program.result _ _ c.normal_program.ensures (λ q made. ap (λ s. s.statics) made)
+
+pub returns-clause-listed : goal.returns-clause-listed
+returns-clause-listed c = if_ok c.normal_program.result _ _ c.normal_program.ensures (λ q made. ap (λ s. s.sites) made)
+
+pub returns-clause-tests : goal.returns-clause-tests
+returns-clause-tests c = if_ok c.normal_program.result _ _ c.normal_program.ensures (λ q made. ap (λ s. tests_of s.bodies) made ∙ program_tests (source c.args.p.now))
+
+pub returns-clause-calls : goal.returns-clause-calls
+returns-clause-calls c =
+    if_ok c.normal_program.result _ _ c.normal_program.ensures
+    (λ q made site. ap (λ s. count_by (λ at. nat_eq at.0 site) (sites_of_each s.bodies)) made ∙ program_calls (source c.args.p.now) site)
+
+pub returns-clause-straight : goal.returns-clause-straight
+returns-clause-straight c =
+    if_ok c.normal_program.result _ _ c.normal_program.ensures (λ q made h. subst (λ s. IsTrue (is_straight_program s)) (sym made) (program_straight (source c.args.p.now) h))
+
+pub returns-clause-size : goal.returns-clause-size
+returns-clause-size c =
+    if_ok c.normal_program.result _ _ c.normal_program.ensures
+    (λ q made h. subst (λ s. expressions_size s.bodies ≤ 4 * program_size (source c.args.p.now)) (sym made) (straight_size (source c.args.p.now) h))

@@ -1,0 +1,33 @@
+use Rattle.std.proofs.Common.{◌≡◌, subst}
+use Rattle.std.specs.Prelude.{IsTrue}
+use Rattle.sch_word.specs.Orders.{is_order_table}
+use Rattle.sch_lang.specs.ProgramView.{source}
+use Rattle.sch_lang.specs.Run.{run}
+use Rattle.sch_control.specs.ProgramView as control
+use Rattle.sch_driver.proofs.Images.{bound_chain}
+use Rattle.sch_driver.proofs.compile.Goals as goal
+
+pub returns-clause-compiled : goal.returns-clause-compiled
+returns-clause-compiled c =
+    let p = source c.in_ok-program.program in
+    let orders = c.in_ok-orders.orders in
+    let runs = c.in_ok-control.ensures.runs in
+    let does = c.in_ok-image.ensures.does in
+    let limits = c.args.limits in
+    record {
+      program = p;
+      built = c.in_ok-program.ensures.built;
+      is_program = record {
+        image = c.in_ok-image.image;
+        does = record {
+          laid_out = does.laid_out;
+          follows = record {
+            runs = does.follows (run p orders limits.heap limits.depth) (λ answers entries. runs.same orders c.in_ok-orders.ensures.fits limits.heap limits.depth answers entries);
+            orders = subst (λ sites. IsTrue (is_order_table sites orders)) runs.sites c.in_ok-orders.ensures.permutations;
+          };
+        };
+        bytes = c.in_ok-file.ensures.bytes;
+        stands = c.in_ok-file.ensures.stands;
+      };
+      bound = bound_chain p (control.source c.in_ok-control.control) does.laid_out.code does.bound c.in_ok-control.ensures.size;
+    }
