@@ -37,6 +37,8 @@ use std::alloc::Global;
 /// proportion to the levels of `p`.
 pub fn close(alloc: Global, p: &CellProgram<Boxed>) -> Result<FlatProgram, Mem>
     requires few { length (bodies_of (source p.now)) < 2 ^ 32 - 2 ^ 10 }
+    // What closing is defined to make: the bodies in the order of the text, and for each form where its own begin.
+    ensures made { IfOk result (λ q. view.source q ≡ closed_source (source p.now)) }
     // Under every order table, limits, answers of a kernel and number of entries it runs as `p` does.
     ensures runs { IfOk result (λ q. SameRuns (run (source p.now)) (meaning.run (view.source q))) }
     ensures statics { IfOk result (λ q. statics q.statics ≡ statics p.now.statics) }

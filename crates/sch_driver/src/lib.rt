@@ -10,6 +10,7 @@ mod error;
 mod passes;
 mod reading;
 mod straight;
+mod walkable;
 
 use crate::assembly::assemble;
 use crate::passes::control_program;

@@ -8,12 +8,14 @@ ghost use Rattle.sch_driver.specs.Causes.{IsBuilt, IsErrorOf, max_source_size};
 
 use crate::error::CompileError;
 use crate::straight::first_other;
+use crate::walkable::are_walkable;
 use sch_core::{core, form_places};
 use sch_lang::Program;
 use sch_read::read_all;
 use std::alloc::Global;
 
-/// The core program of a text whose forms are all straight code.
+/// The core program of a text whose forms are all straight code. A form whose sequences have more than 10,000
+/// parts together is out of memory.
 pub(crate) fn read_program(alloc: Global, text: &[u8]) -> Result<Program, CompileError>
     requires short { length text.now ≤ max_source_size }
     ensures built { IfOk result (λ p. IsBuilt text.now (source p)) }
@@ -23,8 +25,11 @@ pub(crate) fn read_program(alloc: Global, text: &[u8]) -> Result<Program, Compil
     let items = read_all(alloc, text)?;
     let program = core(alloc, items.as_slice())?;
     let places = form_places(alloc, items.as_slice())?;
-    match first_other(places.as_slice(), program.forms.as_slice()) {
-        None => Ok(program),
-        Some(at) => Err(CompileError::NotBuilt(at)),
+    if let Some(at) = first_other(places.as_slice(), program.forms.as_slice()) {
+        return Err(CompileError::NotBuilt(at));
     }
+    if !are_walkable(program.forms.as_slice()) {
+        return Err(CompileError::Memory);
+    }
+    Ok(program)
 }

@@ -41,6 +41,9 @@ fn frame_bodies(alloc: Global, bodies: &[Body]) -> Result<List<FrameBody>, Mem>
 pub fn frame_program(alloc: Global, p: &ControlProgram) -> Result<FrameProgram, Mem>
     requires straight { IsTrue (control_straight.is_straight_program (control.source p.now)) }
     ensures same { IfOk result (λ q. SameRuns (control.source p.now) (source q)) }
+    // One frame body for each body, in their order, which does what the body does.
+    ensures frames { IfOk result (λ q. FramesOf (control_bodies.codes_of p.now.bodies) (codes_of q.bodies)) }
+    ensures library { IfOk result (λ q. q.library ≡ p.now.library) }
     ensures straight { IfOk result (λ q. IsTrue (is_straight_program (source q))) }
     ensures statics { IfOk result (λ q. statics q.statics ≡ statics p.now.statics) }
     ensures size { IfOk result (λ q. program_size (source q) ≤ 2 * expressions_size (control_bodies.codes_of p.now.bodies)) }

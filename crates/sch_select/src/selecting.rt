@@ -199,6 +199,7 @@ pub fn select(alloc: Global, p: &FrameProgram, limits: Limits) -> Result<Asm, Me
     ensures follows { IfOk result (λ a. FollowsFrames (source p.now) limits.heap limits.depth a.items a.words a.zeros) }
     ensures own { IfOk result (λ a. AreOwn a.items) }
     ensures text { IfOk result (λ a. text_size a.items ≤ 512 + 64 * program_size (source p.now)) }
+    ensures zeros { IfOk result (λ a. a.zeros ≡ program_zeros (source p.now) limits.heap) }
     ensures ends { IfOk result (λ a. data_address + (8 * length a.words + a.zeros) < 2 ^ 31) }
 {
     let globals = p.statics.globals.len();

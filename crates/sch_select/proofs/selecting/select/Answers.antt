@@ -70,3 +70,6 @@ returns-clause-text c =
     let l = c.args.limits in
     let i = sym (whole_items q l.heap l.depth _ _ _ _ c.lay_out-layout.ensures.stack c.lay_out-layout.ensures.heap c.len-globals.ensures c.in_ok-items.ensures) in
     subst (λ is. text_size is ≤ 512 + 64 * program_size q) i (text_small q l.heap l.depth)
+
+pub returns-clause-zeros : goal.returns-clause-zeros
+returns-clause-zeros c = whole_zeros (source c.args.p.now) c.args.limits.heap _ _ c.len-globals.ensures c.lay_out-layout.ensures.zeros

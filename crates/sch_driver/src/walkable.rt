@@ -1,0 +1,51 @@
+//! Which forms the walks have stack for.
+
+use sch_lang::Exp;
+use sch_word::List;
+
+/// The most parts that the sequences of a form have together, since each is a level of the trees that are made
+/// of the form.
+const MAX_PARTS: usize = 10_000;
+
+/// Whether the stack has room for the walks over what is made of these forms.
+pub(crate) fn are_walkable(forms: &[Exp]) -> bool {
+    for e in forms {
+        if after_parts(e, MAX_PARTS).is_none() {
+            return false;
+        }
+    }
+    true
+}
+
+/// What is left of `left` parts after those of an expression's sequences, if there are so many.
+#[cycle(parts)]
+fn after_parts(e: &Exp, left: usize) -> Option<usize> {
+    match e {
+        Exp::SetGlobal(_, e) | Exp::Define(_, e) => after_parts(e, left),
+        Exp::If(a, b, c) => {
+            let left = after_parts(a, left)?;
+            let left = after_parts(b, left)?;
+            after_parts(c, left)
+        }
+        Exp::Seq(es) => {
+            let left = left.checked_sub(es.len())?;
+            after_each(es, left)
+        }
+        Exp::Let(_, es, e) => {
+            let left = after_each(es, left)?;
+            after_parts(e, left)
+        }
+        Exp::Prim(_, _, es) => after_each(es, left),
+        _ => Some(left),
+    }
+}
+
+/// The same of several expressions.
+#[cycle(parts)]
+fn after_each(es: &List<Exp>, left: usize) -> Option<usize> {
+    let mut left = left;
+    for e in es.as_slice() {
+        left = after_parts(e, left)?;
+    }
+    Some(left)
+}
