@@ -15,7 +15,7 @@ use Rattle.sch_control.specs.Tree as to
 use Rattle.sch_control.specs.Tree.{Expression}
 use Rattle.sch_control.specs.Sizes.{operand_size, operands_size, expression_size, expressions_size}
 use Rattle.sch_word.specs.Bindings.{with_variables}
-use Rattle.sch_anf.specs.Normal.{Scope, init_numbers, inits_bind, is_atom, are_atoms, is_simple, simple_operand, atoms_of, binds, part_binds, operand_binds, operand_at, operands_at, ends_in_call, bound_unless, normal, normal_parts, with_operands, with_inits, procedure_code, form_code, normal_bodies, normal_source}
+use Rattle.sch_anf.specs.Normal.{Scope, init_numbers, inits_bind, is_simple, simple_operand, atoms_of, binds, operand_binds, operand_at, operands_at, ends_in_call, bound_unless, normal, normal_parts, with_operands, with_inits, procedure_code, form_code, normal_bodies, normal_source}
 
 abbrev size : Tree → ℕ
 size = over 0 (λ a b. a + b) size_of
@@ -125,9 +125,9 @@ module _ (starts : List ℕ) where
     parts_size (and_tree e (and_tree e' es)) h scope n =
         let p = and_parts (is_straight e) (are_straight (and_tree e' es)) h in
         let s = step_size (ends_in_call e) n (normal starts false e scope (suc n)) (normal starts false e scope n)
-            (normal_parts starts false (and_tree e' es) scope (suc n + binds e)) (normal_parts starts false (and_tree e' es) scope (n + binds e))
-            (4 * size e) (4 * sizes (and_tree e' es) + 4) (normal_size e p.0 scope (suc n)) (normal_size e p.0 scope n)
-            (parts_size (and_tree e' es) p.1 scope (suc n + binds e)) (parts_size (and_tree e' es) p.1 scope (n + binds e)) in
+        (normal_parts starts false (and_tree e' es) scope (suc n + binds e)) (normal_parts starts false (and_tree e' es) scope (n + binds e))
+        (4 * size e) (4 * sizes (and_tree e' es) + 4) (normal_size e p.0 scope (suc n)) (normal_size e p.0 scope n)
+        (parts_size (and_tree e' es) p.1 scope (suc n + binds e)) (parts_size (and_tree e' es) p.1 scope (n + binds e)) in
         omega (arith, s)
 
     operands_within : (es : Trees) → are_straight es ≡ true → (scope : Scope) (n : ℕ) (body : Expression) →

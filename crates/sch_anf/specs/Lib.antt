@@ -6,3 +6,4 @@ pub mod ScopeTable
 pub mod Steps
 pub mod LabelsFit
 pub mod Placed
+pub mod Kept

@@ -1,20 +1,17 @@
 //! From flat closures to control: operands become simple, and a body says where its procedure returns.
 #![tactic(auto)]
 
-ghost use Rattle.std.specs.Prelude.{◌≡◌, ◌+◌, ◌*◌, ◌≤◌, ◌<◌, ◌^◌, ℕ, IsTrue, length, map, nat_eq, slice_index, IfOk};
-ghost use Rattle.std.specs.List.{count_by};
-ghost use Rattle.std.specs.List.Sorted.{IsNonDecreasing};
+ghost use Rattle.std.specs.Prelude.{◌≡◌, ◌≤◌, ◌<◌, ◌*◌, ◌^◌, IsTrue, IfOk};
 ghost use Rattle.sch_word.specs.Orders.{is_order_table};
 ghost use Rattle.sch_word.specs.StaticsView.{statics};
 ghost use Rattle.sch_control.specs.Fits.{table_fits};
 ghost use Rattle.sch_control.specs.ProgramView as control;
 ghost use Rattle.sch_control.specs.Sizes.{expressions_size};
-ghost use Rattle.sch_control.specs.Straight as straight;
-ghost use Rattle.sch_control.specs.Valid.{sites_of_each};
 ghost use Rattle.sch_flat.specs.Measures as measures;
 ghost use Rattle.sch_flat.specs.ProgramView.{source};
 ghost use Rattle.sch_flat.specs.Straight.{is_straight_program};
-ghost use Rattle.sch_anf.specs.Normal.{new_label, normal_source};
+ghost use Rattle.sch_anf.specs.Kept.{SameCalls, StaysStraight};
+ghost use Rattle.sch_anf.specs.Normal.{normal_source};
 ghost use Rattle.sch_anf.specs.SameRun.{SameRun};
 ghost use Rattle.sch_anf.specs.Table.{given_table};
 ghost use Rattle.sch_anf.specs.Tests.{tests_of};
@@ -55,10 +52,10 @@ pub fn normalize(alloc: Global, p: &FlatProgram) -> Result<ControlProgram, Mem>
     ensures listed { IfOk result (λ q. q.sites ≡ p.now.sites) }
     ensures tests { IfOk result (λ q. tests_of (control.source q).bodies ≡ measures.tests_of (source p.now)) }
     // The nodes with a site are the calls and primitives of `p`.
-    ensures calls { IfOk result (λ q. (site : ℕ) → count_by (λ at. nat_eq at.0 site) (sites_of_each (control.source q).bodies) ≡ count_by (λ x. nat_eq x site) (measures.call_sites_of (source p.now))) }
+    ensures calls { IfOk result (λ q. SameCalls (source p.now) (control.source q)) }
     // Of straight code it makes straight code.
-    ensures straight { IfOk result (λ q. IsTrue (is_straight_program (source p.now)) → IsTrue (straight.is_straight_program (control.source q))) }
-    // It is at most four times as large.
+    ensures straight { IfOk result (λ q. StaysStraight (source p.now) (control.source q)) }
+    // What it makes of straight code is at most four times as large.
     ensures size { IfOk result (λ q. IsTrue (is_straight_program (source p.now)) →
         expressions_size (control.source q).bodies ≤ 4 * measures.program_size (source p.now)) }
 {

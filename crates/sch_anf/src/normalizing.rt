@@ -210,7 +210,8 @@ fn normalize_bound(
     requires labels { LabelsFit (length starts.now) (tree e.now) }
     requires few { v.old.next + suc (binds (tree e.now)) < 2 ^ 32 }
     ensures number { IfOk result (λ x. x ≡ v.old.next) }
-    ensures steps { OnOk result (Adds steps.old.items steps.new.items (bound_before starts.now (tree e.now) (scope_of v.old.bound.items) v.old.next)) }
+    ensures steps { OnOk result (Adds steps.old.items steps.new.items
+        (bound_before starts.now (tree e.now) (scope_of v.old.bound.items) v.old.next)) }
     ensures next { OnOk result (v.new.next ≡ v.old.next + suc (binds (tree e.now))) }
     ensures scope { OnOk result (v.new.bound.items ≡ v.old.bound.items) }
 {
@@ -236,7 +237,8 @@ fn normalize_part(
     requires labels { LabelsFit (length starts.now) (tree e.now) }
     requires few { v.old.next + operand_binds (tree e.now) < 2 ^ 32 }
     ensures operand { IfOk result (λ o. o ≡ operand_at (scope_of v.old.bound.items) (tree e.now) v.old.next) }
-    ensures steps { OnOk result (Adds steps.old.items steps.new.items (part_before starts.now (tree e.now) (scope_of v.old.bound.items) v.old.next)) }
+    ensures steps { OnOk result (Adds steps.old.items steps.new.items
+        (part_before starts.now (tree e.now) (scope_of v.old.bound.items) v.old.next)) }
     ensures next { OnOk result (v.new.next ≡ v.old.next + operand_binds (tree e.now)) }
     ensures scope { OnOk result (v.new.bound.items ≡ v.old.bound.items) }
 {
@@ -260,7 +262,8 @@ fn normalize_operands(
     requires labels { LabelsFitEach (length starts.now) (trees_of es.now) }
     requires few { v.old.next + operands_bind (trees_of es.now) < 2 ^ 32 }
     ensures operands { IfOk result (λ all. all ≡ operands_at (scope_of v.old.bound.items) (trees_of es.now) v.old.next) }
-    ensures steps { OnOk result (Adds steps.old.items steps.new.items (with_operands starts.now (trees_of es.now) (scope_of v.old.bound.items) v.old.next)) }
+    ensures steps { OnOk result (Adds steps.old.items steps.new.items
+        (with_operands starts.now (trees_of es.now) (scope_of v.old.bound.items) v.old.next)) }
     ensures next { OnOk result (v.new.next ≡ v.old.next + operands_bind (trees_of es.now)) }
     ensures scope { OnOk result (v.new.bound.items ≡ v.old.bound.items) }
 {
@@ -284,7 +287,8 @@ fn normalize_inits(
     requires labels { LabelsFitEach (length starts.now) (trees_of es.now) }
     requires few { v.old.next + inits_bind (trees_of es.now) < 2 ^ 32 }
     ensures numbers { IfOk result (λ all. all ≡ init_numbers (trees_of es.now) v.old.next) }
-    ensures steps { OnOk result (Adds steps.old.items steps.new.items (with_inits starts.now (trees_of es.now) (scope_of v.old.bound.items) v.old.next)) }
+    ensures steps { OnOk result (Adds steps.old.items steps.new.items
+        (with_inits starts.now (trees_of es.now) (scope_of v.old.bound.items) v.old.next)) }
     ensures next { OnOk result (v.new.next ≡ v.old.next + inits_bind (trees_of es.now)) }
     ensures scope { OnOk result (v.new.bound.items ≡ v.old.bound.items) }
 {
@@ -307,7 +311,8 @@ fn normalize_dropped(
     requires sorted { IsNonDecreasing starts.now }
     requires labels { LabelsFit (length starts.now) (tree e.now) }
     requires few { v.old.next + cond (specs.ends_in_call (tree e.now)) (suc (binds (tree e.now))) (binds (tree e.now)) < 2 ^ 32 }
-    ensures steps { OnOk result (Adds steps.old.items steps.new.items (dropped_before starts.now (tree e.now) (scope_of v.old.bound.items) v.old.next)) }
+    ensures steps { OnOk result (Adds steps.old.items steps.new.items
+        (dropped_before starts.now (tree e.now) (scope_of v.old.bound.items) v.old.next)) }
     ensures next { OnOk result (v.new.next ≡ v.old.next + cond (specs.ends_in_call (tree e.now)) (suc (binds (tree e.now))) (binds (tree e.now))) }
     ensures scope { OnOk result (v.new.bound.items ≡ v.old.bound.items) }
 {

@@ -141,7 +141,8 @@ impl Variables {
     /// New variables for a group of the flat body.
     pub fn bind_group(&mut self, first: u32, count: usize) -> Result<(), Mem>
         requires { self.old.next + count < 2 ^ 32 }
-        ensures scope { OnOk result (scope_of self.new.bound.items ≡ with_variables first (numbers self.old.next count) (scope_of self.old.bound.items)) }
+        ensures scope { OnOk result (scope_of self.new.bound.items ≡
+            with_variables first (numbers self.old.next count) (scope_of self.old.bound.items)) }
         ensures kept { OnOk result (take (length self.old.bound.items) self.new.bound.items ≡ self.old.bound.items) }
         ensures next { OnOk result (self.new.next ≡ self.old.next + count) }
     {
@@ -167,7 +168,8 @@ impl Variables {
     /// New variables for a group of closures.
     pub fn bind_closures(&mut self, first: u32, closures: &List<Made>) -> Result<(), Mem>
         requires { self.old.next + length (map made closures.now) < 2 ^ 32 }
-        ensures scope { OnOk result (scope_of self.new.bound.items ≡ with_variables first (numbers_for (map made closures.now) self.old.next) (scope_of self.old.bound.items)) }
+        ensures scope { OnOk result (scope_of self.new.bound.items ≡
+            with_variables first (numbers_for (map made closures.now) self.old.next) (scope_of self.old.bound.items)) }
         ensures kept { OnOk result (take (length self.old.bound.items) self.new.bound.items ≡ self.old.bound.items) }
         ensures next { OnOk result (self.new.next ≡ self.old.next + length (map made closures.now)) }
     {
@@ -177,7 +179,8 @@ impl Variables {
     /// New variables for those of new cells.
     pub fn bind_cells(&mut self, cells: &List<NewCell>) -> Result<(), Mem>
         requires { self.old.next + length (map new_cell cells.now) < 2 ^ 32 }
-        ensures scope { OnOk result (scope_of self.new.bound.items ≡ cells_scope (map new_cell cells.now) self.old.next (scope_of self.old.bound.items)) }
+        ensures scope { OnOk result (scope_of self.new.bound.items ≡
+            cells_scope (map new_cell cells.now) self.old.next (scope_of self.old.bound.items)) }
         ensures kept { OnOk result (take (length self.old.bound.items) self.new.bound.items ≡ self.old.bound.items) }
         ensures next { OnOk result (self.new.next ≡ self.old.next + length (map new_cell cells.now)) }
     {

@@ -1,4 +1,4 @@
--- When a text is built.
+-- When a text is built, and when it is not.
 use Rattle.std.proofs.Common.{◌≡◌, ℕ, Bool, true, false, List, [], ◌∷◌, length, Option, Some, None, refl, ap, arith}
 use Rattle.std.specs.Prelude.{◌&&◌, cond, IsTrue}
 use Rattle.std.proofs.lemmas.Bool.{and_from}
@@ -7,7 +7,7 @@ use Rattle.sch_read.specs.Text.{Spells}
 use Rattle.sch_core.specs.Programs.{IsProgramOf, form_places}
 use Rattle.sch_lang.specs.Tree.{Expressions, no_expressions, and_expression, count, Source}
 use Rattle.sch_lang.specs.Straight.{is_straight, are_straight, no_procedures, first_other}
-use Rattle.sch_driver.specs.Causes.{IsBuilt}
+use Rattle.sch_driver.specs.Causes.{IsBuilt, IsNotBuilt}
 
 one_other : (b rest : Bool) (found : Option ℕ) (at : ℕ) → cond b found (Some at) ≡ None → (found ≡ None → rest ≡ true) → (b && rest) ≡ true
 one_other true rest found at h k = k h
@@ -25,3 +25,6 @@ built text items p spells program places none = record {
   means = record { items = items; spells = spells; program = program };
   straight = and_from _ _ (ap (λ q. no_procedures q.library) program.numbered) (none_other (form_places items) p.forms places none);
 }
+
+pub not_built : (text : List ℕ) (items : Data) (p : Source) (at : ℕ) → Spells text items → IsProgramOf items p → first_other (form_places items) p.forms ≡ Some at → IsNotBuilt text at
+not_built text items p at spells program other = record { program = p; means = record { items = items; spells = spells; program = program }; other = other }

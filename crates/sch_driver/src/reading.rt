@@ -25,11 +25,9 @@ pub(crate) fn read_program(alloc: Global, text: &[u8]) -> Result<Program, Compil
     let items = read_all(alloc, text)?;
     let program = core(alloc, items.as_slice())?;
     let places = form_places(alloc, items.as_slice())?;
-    if let Some(at) = first_other(places.as_slice(), program.forms.as_slice()) {
-        return Err(CompileError::NotBuilt(at));
+    match first_other(places.as_slice(), program.forms.as_slice()) {
+        Some(at) => Err(CompileError::NotBuilt(at)),
+        None if are_walkable(program.forms.as_slice()) => Ok(program),
+        None => Err(CompileError::Memory),
     }
-    if !are_walkable(program.forms.as_slice()) {
-        return Err(CompileError::Memory);
-    }
-    Ok(program)
 }

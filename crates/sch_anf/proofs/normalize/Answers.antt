@@ -2,11 +2,8 @@ use Rattle.std.proofs.Common.{◌∙◌, ◌≤◌, ◌*◌, Result, Ok, Err, If
 use Rattle.sch_flat.specs.ProgramView.{source}
 use Rattle.sch_control.specs.Fits.{table_fits}
 use Rattle.sch_control.specs.Sizes.{expressions_size}
-use Rattle.sch_control.specs.Straight.{is_straight_program}
 use Rattle.sch_flat.specs.Measures.{program_size}
-use Rattle.sch_control.specs.Valid.{sites_of_each}
-use Rattle.std.specs.Prelude.{nat_eq}
-use Rattle.std.specs.List.{count_by}
+use Rattle.sch_anf.specs.Kept.{SameCalls, StaysStraight}
 use Rattle.sch_anf.specs.Normal.{normal_source}
 use Rattle.sch_anf.specs.SameRun.{SameRun}
 use Rattle.sch_anf.specs.Table.{given_table}
@@ -47,11 +44,11 @@ returns-clause-tests c = if_ok c.normal_program.result _ _ c.normal_program.ensu
 pub returns-clause-calls : goal.returns-clause-calls
 returns-clause-calls c =
     if_ok c.normal_program.result _ _ c.normal_program.ensures
-    (λ q made site. ap (λ s. count_by (λ at. nat_eq at.0 site) (sites_of_each s.bodies)) made ∙ program_calls (source c.args.p.now) site)
+    (λ q made. subst (λ s. SameCalls (source c.args.p.now) s) (sym made) (program_calls (source c.args.p.now)))
 
 pub returns-clause-straight : goal.returns-clause-straight
 returns-clause-straight c =
-    if_ok c.normal_program.result _ _ c.normal_program.ensures (λ q made h. subst (λ s. IsTrue (is_straight_program s)) (sym made) (program_straight (source c.args.p.now) h))
+    if_ok c.normal_program.result _ _ c.normal_program.ensures (λ q made. subst (λ s. StaysStraight (source c.args.p.now) s) (sym made) (program_straight (source c.args.p.now)))
 
 pub returns-clause-size : goal.returns-clause-size
 returns-clause-size c =
