@@ -9,7 +9,7 @@ use Rattle.sch_forms.specs.declared.sketch.Position.{Position}
 use Rattle.sch_forms.specs.Draft.{Draft, Drafts, constant, local, global, define, branch, sequence, bind, operation, no_drafts, and_draft, drafts, count}
 use Rattle.sch_forms.specs.Sketch.{Kind, choosing, sequencing, binding, operating, Sketch, Sketches, front, last, assemble}
 use Rattle.sch_forms.specs.Soundness.{IsAtom, HasParts, IsSound, AreSound as PartsSound}
-use Rattle.sch_forms.proofs.Sound.{datum_sound, rest_sound}
+use Rattle.sch_forms.proofs.SoundRows.{datum_sound, rest_sound}
 use Rattle.sch_core.specs.Numbered.{widths, widths_of_each, numbered, numbered_each}
 use Rattle.sch_expand.specs.Expands.{IsLevel, Expands, PartsExpand}
 use Rattle.sch_expand.specs.Expands as ex

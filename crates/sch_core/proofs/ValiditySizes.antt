@@ -10,7 +10,7 @@ use Rattle.sch_forms.specs.Measure.{sketch_measure, sketches_measure}
 use Rattle.sch_forms.specs.Sketch.{Kind, choosing, sequencing, binding, operating, Sketch, Sketches, leaf, front, last, assemble, bound_by}
 use Rattle.sch_forms.specs.Soundness.{IsAtom, HasParts, IsSound, AreSound as PartsSound}
 use Rattle.sch_forms.proofs.Falls.{datum_falls, rest_falls, datum_weighs}
-use Rattle.sch_forms.proofs.Sound.{datum_sound, rest_sound}
+use Rattle.sch_forms.proofs.SoundRows.{datum_sound, rest_sound}
 use Rattle.sch_core.specs.Numbered.{widths, widths_of_each, global_names, global_names_of_each, numbered, numbered_each}
 use Rattle.sch_expand.specs.Expands.{Expands, PartsExpand}
 use Rattle.sch_expand.specs.Expands as ex

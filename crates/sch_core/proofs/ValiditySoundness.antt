@@ -7,7 +7,7 @@ use Rattle.sch_forms.specs.declared.sketch.Position.{Position}
 use Rattle.sch_forms.specs.Draft.{Draft, Drafts, constant, local, global, define, branch, sequence, bind, operation, no_drafts, and_draft, drafts, count}
 use Rattle.sch_forms.specs.Sketch.{Kind, choosing, sequencing, binding, operating, Sketch, Sketches, how_many_parts, is_end, scope_in, front, last, assemble, width}
 use Rattle.sch_forms.specs.Soundness.{IsAtom, HasParts, IsSound, AreSound as PartsSound}
-use Rattle.sch_forms.proofs.Sound.{onto_length, datum_sound, rest_sound}
+use Rattle.sch_forms.proofs.SoundRows.{onto_length, datum_sound, rest_sound}
 use Rattle.sch_expand.specs.Expands.{AreFew, Expands, PartsExpand}
 use Rattle.sch_expand.specs.Expands as ex
 use Rattle.sch_core.specs.Forms.{TopExpands, FormsExpand}

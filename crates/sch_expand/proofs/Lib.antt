@@ -1,5 +1,5 @@
 pub mod Best
 pub mod Readings
 pub mod Sketches
-pub mod Taking
+pub mod LastDraft
 pub mod Stacks

@@ -23,7 +23,7 @@ use Rattle.sch_expand.specs.FaultOrder.{reported, all_reported}
 use Rattle.sch_expand.specs.Following.{and_then}
 use Rattle.sch_expand.specs.Reads.{Reads, PartsRead, level_faults, operand_faults}
 use Rattle.sch_expand.specs.Reads as re
-use Rattle.sch_expand.specs.Stacking.{Task, Holds, Goes, around, open_left}
+use Rattle.sch_expand.specs.WalkStack.{Task, Holds, Goes, around, open_left}
 
 and_then_none : (es : List Draft) → and_then es no_drafts ≡ drafts es
 and_then_none [] = refl

@@ -4,4 +4,4 @@ pub mod Expands
 pub mod Faults
 pub mod Reads
 pub mod Following
-pub mod Stacking
+pub mod WalkStack

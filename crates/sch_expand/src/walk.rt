@@ -10,7 +10,7 @@ ghost use Rattle.sch_forms.specs.Sketch.{text};
 ghost use Rattle.sch_forms.specs.SketchView.{sketch_of};
 ghost use Rattle.sch_expand.specs.DraftView.{draft_of};
 ghost use Rattle.sch_expand.specs.Reads.{Reads};
-ghost use Rattle.sch_expand.specs.Stacking.{Task, Holds, Goes, Ready, open_left, stack_left, next_left};
+ghost use Rattle.sch_expand.specs.WalkStack.{Task, Holds, Goes, Ready, open_left, stack_left, next_left};
 
 use crate::draft::Draft;
 use crate::nodes::{assemble, draft_of_leaf, enter, nothing, position_in, width};
@@ -131,13 +131,12 @@ fn down<'a>(
                 report_deep(at, fault);
                 return Ok(Next::Up(nothing()));
             };
-            let left = reversed(parts);
             let node = Open {
                 kind,
                 level: next,
                 position,
                 depth: scope.depth(),
-                left,
+                left: reversed(parts),
                 drafts: List::new(alloc),
             };
             resume(alloc, node, stack, scope)

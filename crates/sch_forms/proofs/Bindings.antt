@@ -13,7 +13,7 @@ use Rattle.sch_forms.specs.Sketch as words
 use Rattle.sch_forms.specs.SketchView.{sketch_of, ahead}
 use Rattle.sch_scope.specs.ScopeView.{given_names}
 use Rattle.sch_forms.specs.Binders.{inits, bound, are_bindings}
-use Rattle.sch_forms.proofs.Aheads.{ahead_more}
+use Rattle.sch_forms.proofs.PartLists.{ahead_more}
 
 next_is : (items : List Datum) (i : ℕ) (d : Datum) → i < length items → d ≡ get_or items i d → drop i items ≡ d ∷ drop (suc i) items
 next_is items i d l e = drop-cons items i d l ∙ ap (λ a. a ∷ drop (suc i) items) (sym e)

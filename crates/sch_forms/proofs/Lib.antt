@@ -1,7 +1,7 @@
 pub mod Bodies
-pub mod Aheads
+pub mod PartLists
 pub mod Bindings
 pub mod ClauseLists
 pub mod Falls
-pub mod Sound
+pub mod SoundRows
 mod Examples

@@ -133,24 +133,6 @@ tabled_less s t b e f i =
       shadows = shadows.1;
     }
 
--- the same of a variable without a name
-pub tabled_fresh : (s t : Inside) → t.bound.items ≡ s.bound.items ++ None ∷ [] → t.nearest.entries ≡ s.nearest.entries → IsTabled s → IsTabled t
-tabled_fresh s t e f i =
-    let whole : reverse t.bound.items ≡ None ∷ reverse s.bound.items = ap reverse e ∙ last_first s.bound.items None in
-    record {
-      nearest = λ x. ap (λ es. option_flatten (entry x es)) f ∙ i.nearest x ∙ ap (farther_than x) (sym whole);
-      shadows = subst AreShadows (sym whole) (tt, i.shadows);
-    }
-
-pub tabled_unfresh : (s t : Inside) → s.bound.items ≡ t.bound.items ++ None ∷ [] → t.nearest.entries ≡ s.nearest.entries → IsTabled s → IsTabled t
-tabled_unfresh s t e f i =
-    let whole : reverse s.bound.items ≡ None ∷ reverse t.bound.items = ap reverse e ∙ last_first t.bound.items None in
-    let shadows = subst AreShadows whole i.shadows in
-    record {
-      nearest = λ x. ap (λ es. option_flatten (entry x es)) f ∙ i.nearest x ∙ ap (farther_than x) whole;
-      shadows = shadows.1;
-    }
-
 -- a name that is bound is in the table
 pub tabled_last : (s : Inside) (b : Binding) (front : List (Option Binding)) → s.bound.items ≡ front ++ Some b ∷ [] → IsTabled s → entry b.name.items s.nearest.entries ≡ None → ⊥
 tabled_last s b front e i n =

@@ -108,6 +108,20 @@ fn counts_levels(rt: HostRuntime) -> Result<(), Fail> {
     Ok(())
 }
 
+// A choice of 1,997 levels is walked, and then a name that is nowhere bound.
+#[test]
+fn walks_deep_forms(rt: HostRuntime) -> Result<(), Fail> {
+    let mut text = Vec::new(rt.alloc());
+    text.extend_from_slice(b"(or")?;
+    for _ in 0..999 {
+        text.extend_from_slice(b" 1")?;
+    }
+    text.extend_from_slice(b") x")?;
+    let refused = program_of(rt.alloc(), text.as_slice());
+    assert!(rt; matches!(refused, Err(CoreError::Unbound(2003, _))));
+    Ok(())
+}
+
 // A part of a form at top level with this body inside the bindings of 1,000 variables.
 fn exceeding(alloc: Global, body: &[u8]) -> Result<Vec<u8>, Fail> {
     let mut text = Vec::new(alloc);

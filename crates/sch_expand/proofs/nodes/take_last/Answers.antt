@@ -1,7 +1,7 @@
 use Rattle.std.proofs.Common.{ap, sym, ◌∙◌}
 use Rattle.sch_forms.specs.Sketch.{last, front}
 use Rattle.sch_expand.specs.DraftView.{drafts_of}
-use Rattle.sch_expand.proofs.Taking.{last_of, front_of}
+use Rattle.sch_expand.proofs.LastDraft.{last_of, front_of}
 use Rattle.sch_expand.proofs.nodes.take_last.Goals as goal
 
 pub returns-in-Some-clause-taken : goal.returns-in-Some-clause-taken

@@ -37,7 +37,7 @@ pub returns-in-Some-clause-ready : goal.returns-in-Some-clause-ready
 returns-in-Some-clause-ready c = λ w h f.
     c.resume.ensures.ready w _ (node_opened w _ _ _ c.args.level _ _ c.args.position c.in-Node.parts (sketch_of c.args.sketch) c.args.fault.now _ (node_view _ _ _ c.in-Node.is)
     (c.width.ensures ∙ ap (λ m. width (kind_of c.in-Node.kind) m) (c.len.ensures ∙ sym (how_many_is c.in-Node.parts))) c.report_operands-in-Node.ensures
-    c.in-Some.ensures.0 c.in-Some.ensures.1 refl c.depth.ensures c.reversed-left.ensures c.new.ensures f)
+    c.in-Some.ensures.0 c.in-Some.ensures.1 refl c.depth.ensures c.reversed.ensures c.new.ensures f)
 
 pub returns-in_default-clause-smaller : goal.returns-in_default-clause-smaller
 returns-in_default-clause-smaller c = smaller_deep _ (node_view _ _ _ c.in-Node.is)
@@ -60,4 +60,4 @@ returns-in-Limited-clause-smaller c = smaller_limited _ (limited_view _ _ _ c.in
 pub returns-in-Some-clause-smaller : goal.returns-in-Some-clause-smaller
 returns-in-Some-clause-smaller c =
     IfOk-weaker c.resume.result _ _
-    (λ x l. smaller_node c.in-Node.parts c.reversed-left.result (sketch_of c.args.sketch) _ _ (node_view _ _ _ c.in-Node.is) c.reversed-left.ensures l) c.resume.ensures.smaller
+    (λ x l. smaller_node c.in-Node.parts c.reversed.result (sketch_of c.args.sketch) _ _ (node_view _ _ _ c.in-Node.is) c.reversed.ensures l) c.resume.ensures.smaller

@@ -5,7 +5,7 @@ use Rattle.sch_scope.specs.NamesView.{names_of}
 use Rattle.sch_forms.specs.declared.sketch.Position.TheVariants.{Value}
 use Rattle.sch_forms.specs.Sketch.{text}
 use Rattle.sch_expand.specs.Reads.{Reads}
-use Rattle.sch_expand.specs.Stacking.{Task}
+use Rattle.sch_expand.specs.WalkStack.{Task}
 use Rattle.sch_expand.proofs.Sketches.{text_view}
 use Rattle.sch_expand.proofs.walk.read.Goals as goal
 

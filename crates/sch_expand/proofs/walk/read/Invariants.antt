@@ -3,7 +3,7 @@ use Rattle.sch_read.specs.Views.{tree_of}
 use Rattle.sch_scope.specs.NamesView.{names_of}
 use Rattle.sch_forms.specs.declared.sketch.Position.TheVariants.{Value}
 use Rattle.sch_forms.specs.Sketch.{text}
-use Rattle.sch_expand.specs.Stacking.{Ready, next_left}
+use Rattle.sch_expand.specs.WalkStack.{Ready, next_left}
 use Rattle.sch_expand.proofs.walk.read.Given as goal
 
 abbrev pub invariant-loop-next : goal.invariant-loop-next

@@ -1,7 +1,7 @@
 use Rattle.std.proofs.Common.{refl, reverse, ap, nat_eq}
 use Rattle.std.proofs.lemmas.List.{reverse-append}
 use Rattle.sch_expand.specs.DraftView.{draft_of}
-use Rattle.sch_expand.specs.Stacking.{stack_left}
+use Rattle.sch_expand.specs.WalkStack.{stack_left}
 use Rattle.sch_expand.proofs.Stacks.{no_part_left, next_part, smaller_part}
 use Rattle.sch_expand.proofs.walk.resume.Goals as goal
 

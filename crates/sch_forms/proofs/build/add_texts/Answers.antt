@@ -1,5 +1,5 @@
 use Rattle.std.proofs.Common.{◌∙◌}
-use Rattle.sch_forms.proofs.Aheads.{texts_next}
+use Rattle.sch_forms.proofs.PartLists.{texts_next}
 use Rattle.sch_forms.proofs.build.add_texts.Goals as goal
 
 pub loop-d-preserved : goal.loop-d-preserved

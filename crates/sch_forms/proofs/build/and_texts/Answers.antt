@@ -3,7 +3,7 @@ use Rattle.sch_read.specs.Views.{data_of}
 use Rattle.sch_forms.specs.Small as table
 use Rattle.sch_forms.specs.Sketch as words
 use Rattle.sch_forms.specs.SketchView.{kind_of}
-use Rattle.sch_forms.proofs.Aheads.{made_after}
+use Rattle.sch_forms.proofs.PartLists.{made_after}
 use Rattle.sch_forms.proofs.build.and_texts.Goals as goal
 
 pub returns : goal.returns

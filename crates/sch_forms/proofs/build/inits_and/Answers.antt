@@ -3,7 +3,7 @@ use Rattle.sch_read.specs.Views.{data_of}
 use Rattle.sch_forms.specs.Binders as table
 use Rattle.sch_forms.specs.Sketch as words
 use Rattle.sch_forms.specs.SketchView.{kind_of}
-use Rattle.sch_forms.proofs.Aheads.{made_and}
+use Rattle.sch_forms.proofs.PartLists.{made_and}
 use Rattle.sch_forms.proofs.build.inits_and.Goals as goal
 
 pub returns : goal.returns

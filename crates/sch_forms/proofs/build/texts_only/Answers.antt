@@ -3,7 +3,7 @@ use Rattle.sch_read.specs.Views.{data_of}
 use Rattle.sch_forms.specs.Small as table
 use Rattle.sch_forms.specs.Sketch as words
 use Rattle.sch_forms.specs.SketchView.{kind_of}
-use Rattle.sch_forms.proofs.Aheads.{made_all}
+use Rattle.sch_forms.proofs.PartLists.{made_all}
 use Rattle.sch_forms.proofs.build.texts_only.Goals as goal
 
 pub returns : goal.returns
