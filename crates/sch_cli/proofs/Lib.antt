@@ -1,3 +1,4 @@
+pub mod CompiledFiles
 pub mod Digits
 pub mod DiskSteps
 pub mod MachineEnds

@@ -16,7 +16,7 @@ use Rattle.sch_core.specs.declared.error.CoreError.{CoreError}
 use Rattle.sch_core.specs.declared.error.CoreError.TheVariants as core
 use Rattle.sch_core.specs.Programs.{IsProgramOf, form_places}
 use Rattle.sch_core.proofs.DataLaws.{never_both, one_error, one_program}
-use Rattle.sch_driver.specs.Causes.{IsBuilt, IsTooLarge, Means, max_source_size, text_bound}
+use Rattle.sch_driver.specs.Causes.{IsBuilt, IsErrorOf, IsTooLarge, Means, max_source_size, text_bound}
 use Rattle.sch_driver.specs.declared.error.CompileError.TheVariants as compiling
 use Rattle.sch_cli.specs.declared.failure.Failure.{Failure}
 use Rattle.sch_cli.specs.declared.failure.Failure.TheVariants as failure
@@ -86,11 +86,31 @@ data InText (text : List ℕ) : Result ⊤ Failure → Type 0 where
 found_built : (text : List ℕ) (p : Source) → length text ≤ max_source_size → IsBuilt text p → InText text (Ok tt)
 found_built text p short is = right (Ok tt) short is.means.items is.means.spells p is.means.program (straight p is.means.program is.straight)
 
+-- an error of the driver's that is no lack of memory is one of the reader or of the expander
+reading_of : (text : List ℕ) (error : ReadError) → IsErrorOf text (compiling.Read error) → reading.IsErrorIn text error
+reading_of text (read.Unclosed at) h = h
+reading_of text (read.StrayClose at) h = h
+reading_of text (read.BadToken at) h = h
+reading_of text (read.BadNumber at) h = h
+reading_of text (read.BadString at) h = h
+reading_of text (read.DeepNesting at) h = h
+reading_of text (read.LiteralRange at) h = h
+reading_of text read.Memory h = absurd h
+
+expanding_of : (text : List ℕ) (error : CoreError) → IsErrorOf text (compiling.Core error) → (items : Data) × Spells text items × expanding.IsErrorIn items error
+expanding_of text (core.BadForm at) h = h
+expanding_of text (core.Unbound at name) h = h
+expanding_of text (core.KeywordDefined at) h = h
+expanding_of text (core.Limit kind at) h = h
+expanding_of text (core.Unbuilt at) h = h
+expanding_of text core.Memory h = absurd h
+
 found : (text : List ℕ) (verdict : Result ⊤ Failure) → IsVerdict text verdict → InText text (but_for_size verdict)
 found text (Ok done) (accepted p is) = found_built text p is.short is.built
 found text (Err e) (refused failure.TooLong h v) = long h
-found text (Err e) (refused (failure.Compile (compiling.Read error)) h v) = let f = read_fault text error h.1 v in faulty error h.0 f.0 f.1 f.2
-found text (Err e) (refused (failure.Compile (compiling.Core error)) h v) = wrong error h.0 h.1.0 h.1.1 h.1.2 (core_kept error v)
+found text (Err e) (refused (failure.Compile (compiling.Read error)) h v) = let f = read_fault text error (reading_of text error h.1) v in faulty error h.0 f.0 f.1 f.2
+found text (Err e) (refused (failure.Compile (compiling.Core error)) h v) =
+    let k = expanding_of text error h.1 in wrong error h.0 k.0 k.1 k.2 (core_kept error v)
 found text (Err e) (refused (failure.Compile (compiling.NotBuilt at)) h v) =
     right (Err (failure.Compile (compiling.NotBuilt at))) h.0 h.1.means.items h.1.means.spells h.1.program h.1.means.program (other at h.1.program h.1.means.program h.1.other)
 found text (Err e) (refused (failure.Compile (compiling.TextTooLarge bytes)) h v) = found_built text h.1.program h.0 h.1.built

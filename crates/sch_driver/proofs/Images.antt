@@ -57,7 +57,7 @@ pub assembled : (p : control.Source) (f : frames.Source) (heap depth : ℕ) (a r
     → text ≡ flat_map spelling code → zeros ≡ a.zeros → IsProgramImage text words zeros image → IsAssembled p heap depth image
 assembled p f heap depth a routines code marks words text zeros image same follows effective resolved valid fits bound text_is zeros_are lies =
     let lies' : IsProgramImage (flat_map spelling code) words a.zeros image =
-        subst (λ t. IsProgramImage t words a.zeros image) text_is (subst (λ z. IsProgramImage text words z image) zeros_are lies) in
+    subst (λ t. IsProgramImage t words a.zeros image) text_is (subst (λ z. IsProgramImage text words z image) zeros_are lies) in
     record {
       laid_out = record { code = code; valid = valid; short = fits; words = words; zeros = a.zeros; lies = lies' };
       bound = bound;
