@@ -22,6 +22,9 @@ TEXTS = {
     "(display -7)\\n": forms(b"(display -7)\n"),
     "(display 1)": forms(b"(display 1)"),
     "19 digits": forms(b"(display 1123456789012345678)"),
+    "(define x (+ 1 2))": forms(b"(define x (+ 1 2))"),
+    "let and if": forms(b"(let ((y (* 7 6))) (if (< y 40) (display 0) (display (- y 50))))"),
+    "cond": forms(b"(display (cond ((= 1 2) 3) ((eq? 4 5) 6) (else (remainder 7 8))))"),
 }
 
 

@@ -1,11 +1,13 @@
 //! Straight code, run over memory.
 
 use crate::program::perform;
+use sch_word::{Bytes, Mem};
+use std::alloc::Global;
 use std::test::Fail;
 
 #[test]
 fn straight_code_prints(rt: HostRuntime) -> Result<(), Fail> {
-    let rows: [(&[u8], &[u8]); 9] = [
+    let rows: [(&[u8], &[u8]); 13] = [
         (
             b"(define x 7)(let ((y (* x 6))) (if (< y 40) (display 0) (display (- y 50))))",
             b"-8",
@@ -42,6 +44,19 @@ fn straight_code_prints(rt: HostRuntime) -> Result<(), Fail> {
             b"(display (eqv? 1 1))(display (null? '()))(display (char? 1))(display (boolean? #f))",
             b"#t#t#f#t",
         ),
+        (
+            b"(display (let* ((a 1) (b (+ a 1))) (cond ((= a b) 1) ((and (< a b) (not (eq? a b))) (quotient 100 (- b 9))) (else 0))))",
+            b"-14",
+        ),
+        (
+            b"(display (case (remainder 17 5) ((0 1) #f) ((2 3) #\\a) (else 0)))",
+            b"a",
+        ),
+        (
+            b"(display (or #f (and 1 2) 3))(display (cond (#f 1) (5)))(display (or))",
+            b"25#f",
+        ),
+        (b"(let ((t 5) (if 1)) (display (or #f t if)))", b"5"),
     ];
     for (source, printed) in rows {
         let ending = perform(rt.alloc(), &["run", "a"], source, &[])?;
@@ -105,5 +120,30 @@ fn straight_code_stops(rt: HostRuntime) -> Result<(), Fail> {
         assert_eq!(rt; ending.printed.as_slice(), printed);
         assert_eq!(rt; ending.said.as_slice(), said);
     }
+    Ok(())
+}
+
+// Comparisons of 200 operands, whose text would be longer than that of an image may be.
+fn many_comparisons(alloc: Global) -> Result<Bytes, Mem> {
+    let mut form = Bytes::new(alloc);
+    form.extend_from_slice(b"(< 0")?;
+    for _ in 0..199 {
+        form.extend_from_slice(b" 0")?;
+    }
+    form.extend_from_slice(b")\n")?;
+    let mut source = Bytes::new(alloc);
+    for _ in 0..2_580 {
+        source.extend_from_slice(form.as_slice())?;
+    }
+    Ok(source)
+}
+
+#[test]
+fn a_text_past_the_limit_is_refused(rt: HostRuntime) -> Result<(), Fail> {
+    let source = many_comparisons(rt.alloc())?;
+    let ending = perform(rt.alloc(), &["run", "a"], source.as_slice(), &[])?;
+    assert_eq!(rt; ending.status, 7);
+    assert_eq!(rt; ending.printed.as_slice(), [].as_slice());
+    assert_eq!(rt; ending.said.as_slice(), b"a: limit text\n".as_slice());
     Ok(())
 }
