@@ -4,13 +4,13 @@ use Rattle.std.specs.Prelude.{slice_get, nat_eq, nat_lt, ◌||◌}
 use Rattle.std.proofs.lemmas.Bool.{eq-eqb, eqb-true}
 use Rattle.sch_word.specs.declared.primitive.Primitive.{Primitive}
 use Rattle.sch_word.specs.declared.primitive.Primitive.TheVariants.{Eq, Eqv, IsBoolean, IsPair, IsNull, IsSymbol, IsInteger, IsChar, IsString, IsVector, IsProcedure}
-use Rattle.sch_word.specs.Values.{Value, constant_value}
-use Rattle.sch_word.specs.Store.{Store}
-use Rattle.sch_word.specs.NumberSets.{has}
-use Rattle.sch_word.specs.Bindings.{value_or, value_of, with_variables, scope_with}
-use Rattle.sch_word.specs.Primitives.{operands_of}
-use Rattle.sch_word.specs.PrimitiveRows.{primitive, unary, binary}
-use Rattle.sch_word.specs.Computation.{Outcome, Action, gives, State, in_store, read_literal, in_order, blanks}
+use Rattle.sch_word.specs.values.Values.{Value, constant_value}
+use Rattle.sch_word.specs.runs.Store.{Store}
+use Rattle.sch_word.specs.trees.NumberSets.{has}
+use Rattle.sch_word.specs.trees.Bindings.{value_or, value_of, with_variables, scope_with}
+use Rattle.sch_word.specs.values.Primitives.{operands_of}
+use Rattle.sch_word.specs.values.PrimitiveRows.{primitive, unary, binary}
+use Rattle.sch_word.specs.runs.Computation.{Outcome, Action, gives, State, in_store, read_literal, in_order, blanks}
 use Rattle.sch_flat.specs.Tree.{Tree, Trees, Variable, bound, free, constant, literal, variable, operation, no_trees, and_tree, count}
 use Rattle.sch_flat.specs.Meaning as from
 use Rattle.sch_flat.specs.Meaning.{Closure, value_in, values_in, and_values}

@@ -4,7 +4,7 @@ use Rattle.std.specs.Prelude.{nat_eq}
 use Rattle.std.specs.List.{count_by, sum_by}
 use Rattle.std.proofs.lemmas.List.{map-append}
 use Rattle.std.proofs.lemmas.List.Sums.{sum_by-append}
-use Rattle.sch_word.specs.Shape as shapes
+use Rattle.sch_word.specs.trees.Shape as shapes
 use Rattle.sch_flat.specs.Tree as flat
 use Rattle.sch_flat.specs.Tree.{Tree, Trees, Body, Source, constant, literal, variable, global, set_global, define, branch, sequence, bind, make_closure, fix_closures, call, operation, new_cells, cell_get, cell_set, no_trees, and_tree}
 use Rattle.sch_flat.specs.Measures.{over, over_each, over_bodies, call_sites_of}

@@ -12,7 +12,7 @@ use Rattle.sch_flat.specs.declared.tree.Body as flat_body
 use Rattle.sch_flat.specs.Tree.{Tree, Trees, Made, Body, constant, literal, variable, global, set_global, define, branch, sequence, bind, make_closure, fix_closures, call, operation, new_cells, cell_get, cell_set, no_trees, and_tree, count}
 use Rattle.sch_flat.specs.Valid.{ascending, scoped, scoped_each, body_scoped, has_fields, is_made, is_known, is_content, all_new, cell_variables, cells_scope}
 use Rattle.sch_flat.specs.View.{tree, body}
-use Rattle.sch_word.specs.Bindings.{numbers, scope_with, with_variables}
+use Rattle.sch_word.specs.trees.Bindings.{numbers, scope_with, with_variables}
 use Rattle.sch_control.specs.declared.body.Body as control_body
 use Rattle.sch_control.specs.SourceView.{code_of, codes_of}
 use Rattle.sch_control.specs.Tree.{Code, Expression, end}

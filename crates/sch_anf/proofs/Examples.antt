@@ -5,8 +5,8 @@ use Rattle.std.specs.List.{list_all}
 use Rattle.std.specs.Fmt.{signed_decimal}
 use Rattle.sch_word.specs.declared.constant.Const.TheVariants.{Fixnum}
 use Rattle.sch_word.specs.declared.primitive.Primitive.TheVariants.{Add, Car, Cons, IsPair, Put}
-use Rattle.sch_word.specs.Literals.{no_literals}
-use Rattle.sch_word.specs.Runs.{ended}
+use Rattle.sch_word.specs.values.Literals.{no_literals}
+use Rattle.sch_word.specs.runs.Runs.{ended}
 use Rattle.sch_flat.specs.Tree as flat
 use Rattle.sch_flat.specs.Tree.{Tree, Trees, constant, global, set_global, branch, sequence, bind, call, operation, make_closure, variable, trees}
 use Rattle.sch_control.specs.declared.operation.Atom.TheVariants as atom

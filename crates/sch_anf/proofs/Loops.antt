@@ -2,7 +2,7 @@
 use Rattle.std.proofs.Common.{◌≡◌, ℕ, zero, suc, ◌+◌, ◌<◌, ◌≤◌, ◌^◌, Bool, true, false, cond, List, [], ◌∷◌, ◌++◌, length, map, drop, get_or, refl, sym, ap, ◌∙◌, subst, arith, add-one, append_assoc, append-nil, Result, Ok, Err}
 use Rattle.std.specs.Prelude.{nat_le, Some, OnOk}
 use Rattle.std.proofs.lemmas.List.{drop_all, get_or_default}
-use Rattle.sch_word.specs.Bindings.{numbers}
+use Rattle.sch_word.specs.trees.Bindings.{numbers}
 use Rattle.sch_word.proofs.Walking.{next_is, next_left, next_count}
 use Rattle.sch_flat.specs.declared.tree.Exp.{Exp}
 use Rattle.sch_flat.specs.declared.tree.Made as flat_made

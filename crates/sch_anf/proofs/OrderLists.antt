@@ -3,8 +3,8 @@ use Rattle.std.proofs.Common.{◌≡◌, ℕ, suc, ◌+◌, ◌-◌, ◌<◌, �
 use Rattle.std.specs.Prelude.{nat_lt, ◌&&◌}
 use Rattle.std.specs.List.{list_all}
 use Rattle.std.proofs.lemmas.List.{drop_all, get_or_default}
-use Rattle.sch_word.specs.NumberSets.{has, unless}
-use Rattle.sch_word.specs.Bindings.{numbers}
+use Rattle.sch_word.specs.trees.NumberSets.{has, unless}
+use Rattle.sch_word.specs.trees.Bindings.{numbers}
 use Rattle.sch_word.proofs.Walking.{next_is}
 use Rattle.sch_control.specs.Valid.{bound_parts, without_repeats}
 use Rattle.sch_anf.proofs.Orders.{and_right}

@@ -6,11 +6,11 @@ use Rattle.std.proofs.lemmas.Bool.{eq-eqb, eqb-true, eqb-false, ltb-true, ltb-fa
 use Rattle.std.proofs.lemmas.List.{length-set}
 use Rattle.std.proofs.lemmas.List.Sums.{sum_by-append, sum_by-cons}
 use Rattle.std.proofs.lemmas.Option.{slice_get_past, slice_get_within}
-use Rattle.sch_word.specs.Values.{Value, unspecified}
-use Rattle.sch_word.specs.NumberSets.{has}
-use Rattle.sch_word.specs.Bindings.{numbers}
-use Rattle.sch_word.specs.Computation.{Outcome, gives, at_place, in_order}
-use Rattle.sch_word.specs.Orders.{is_permutation}
+use Rattle.sch_word.specs.values.Values.{Value, unspecified}
+use Rattle.sch_word.specs.trees.NumberSets.{has}
+use Rattle.sch_word.specs.trees.Bindings.{numbers}
+use Rattle.sch_word.specs.runs.Computation.{Outcome, gives, at_place, in_order}
+use Rattle.sch_word.specs.runs.Orders.{is_permutation}
 use Rattle.sch_control.specs.Fits.{begins_with}
 
 -- ## Lists

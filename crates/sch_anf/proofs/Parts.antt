@@ -7,12 +7,12 @@ use Rattle.std.proofs.lemmas.List.{length-map}
 use Rattle.sch_word.specs.declared.primitive.Primitive.{Primitive}
 use Rattle.sch_word.specs.declared.primitive.Primitive.TheVariants.{Eq, Eqv, IsBoolean, IsPair, IsNull, IsSymbol, IsInteger, IsChar, IsString, IsVector, IsProcedure}
 use Rattle.sch_word.specs.declared.constant.Const.TheVariants.{Unspecified}
-use Rattle.sch_word.specs.Bindings.{numbers, scope_with, with_variables}
-use Rattle.sch_word.specs.Literals.{constant_known}
-use Rattle.sch_word.specs.Primitives.{operands_of}
-use Rattle.sch_word.specs.Values.{is_constant}
-use Rattle.sch_word.specs.Shape as shapes
-use Rattle.sch_word.specs.Shape.{Shape, names_known, constant_in_range, well_formed, fits, max_operands, max_variables, max_free_variables}
+use Rattle.sch_word.specs.trees.Bindings.{numbers, scope_with, with_variables}
+use Rattle.sch_word.specs.values.Literals.{constant_known}
+use Rattle.sch_word.specs.values.Primitives.{operands_of}
+use Rattle.sch_word.specs.values.Values.{is_constant}
+use Rattle.sch_word.specs.trees.Shape as shapes
+use Rattle.sch_word.specs.trees.Shape.{Shape, names_known, constant_in_range, well_formed, fits, max_operands, max_variables, max_free_variables}
 use Rattle.sch_flat.specs.Tree as flat
 use Rattle.sch_flat.specs.Tree.{Tree, Trees, Variable, Body, Made, NewCell, constant, literal, variable, global, set_global, define, branch, sequence, bind, make_closure, fix_closures, call, operation, new_cells, cell_get, cell_set, no_trees, and_tree, count}
 use Rattle.sch_flat.specs.Measures.{made_shapes, dropped, over, over_each, over_bodies, over_source}

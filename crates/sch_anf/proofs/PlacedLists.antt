@@ -4,8 +4,8 @@ use Rattle.std.specs.Prelude.{nat_eq}
 use Rattle.std.proofs.lemmas.Bool.{eq-eqb, eqb-true}
 use Rattle.std.proofs.lemmas.List.{drop_all}
 use Rattle.std.proofs.Math.Seq.{take-suc, take-length}
-use Rattle.sch_word.specs.Bindings.{Bindings, bound_to, numbers}
-use Rattle.sch_word.specs.Orders.{order_or_none}
+use Rattle.sch_word.specs.trees.Bindings.{Bindings, bound_to, numbers}
+use Rattle.sch_word.specs.runs.Orders.{order_or_none}
 use Rattle.sch_word.proofs.Walking.{next_left}
 use Rattle.sch_flat.specs.declared.tree.Exp.{Exp}
 use Rattle.sch_flat.specs.declared.tree.Body as body

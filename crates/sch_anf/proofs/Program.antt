@@ -4,15 +4,15 @@ use Rattle.std.specs.Prelude.{slice_get, nat_eq, nat_lt, ◌&&◌}
 use Rattle.std.specs.List.{list_all}
 use Rattle.std.proofs.lemmas.Bool.{eqb-true, ltb-true}
 use Rattle.sch_word.specs.declared.answer.Answer.{Answer}
-use Rattle.sch_word.specs.Values.{Value, unspecified}
-use Rattle.sch_word.specs.Literals.{Literals, count_literals, literal_values}
-use Rattle.sch_word.specs.Bindings.{bound_to, scope_with}
-use Rattle.sch_word.specs.Computation.{Outcome, gives, stops, spent, State, on_value}
-use Rattle.sch_word.specs.Runs.{seen, starting_store, starting_state}
-use Rattle.sch_word.specs.Orders.{order_at}
-use Rattle.sch_word.specs.Shape.{names_known, well_formed, fits, is_width, max_variables}
-use Rattle.sch_word.specs.Shape as shapes
-use Rattle.sch_word.proofs.LiteralObjects.{literal_values_length}
+use Rattle.sch_word.specs.values.Values.{Value, unspecified}
+use Rattle.sch_word.specs.values.Literals.{Literals, count_literals, literal_values}
+use Rattle.sch_word.specs.trees.Bindings.{bound_to, scope_with}
+use Rattle.sch_word.specs.runs.Computation.{Outcome, gives, stops, spent, State, on_value}
+use Rattle.sch_word.specs.runs.Runs.{seen, starting_store, starting_state}
+use Rattle.sch_word.specs.runs.Orders.{order_at}
+use Rattle.sch_word.specs.trees.Shape.{names_known, well_formed, fits, is_width, max_variables}
+use Rattle.sch_word.specs.trees.Shape as shapes
+use Rattle.sch_word.proofs.values.LiteralObjects.{literal_values_length}
 use Rattle.sch_flat.specs.Tree.{Tree, Body, Source, count}
 use Rattle.sch_flat.specs.Measures.{over, over_each, over_bodies, over_source, sites_of}
 use Rattle.sch_flat.specs.Meaning.{Closure}

@@ -6,8 +6,8 @@ use Rattle.std.specs.List.Sorted.{IsNonDecreasing}
 use Rattle.std.proofs.lemmas.Bool.{eqb-true}
 use Rattle.std.proofs.lemmas.List.{drop_all, length-map}
 use Rattle.sch_word.specs.declared.statics.Statics.{Statics}
-use Rattle.sch_word.specs.StaticsView.{statics}
-use Rattle.sch_word.specs.Orders.{is_permutation, is_order_table}
+use Rattle.sch_word.specs.values.StaticsView.{statics}
+use Rattle.sch_word.specs.runs.Orders.{is_permutation, is_order_table}
 use Rattle.sch_word.proofs.Walking.{next_left}
 use Rattle.sch_flat.specs.declared.tree.Body as flat_body
 use Rattle.sch_flat.specs.declared.tree.Exp.{Exp}

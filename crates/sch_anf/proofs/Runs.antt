@@ -5,12 +5,12 @@ use Rattle.std.specs.List.{list_all}
 use Rattle.std.proofs.lemmas.Bool.{eqb-true, ltb-true}
 use Rattle.std.proofs.lemmas.List.{length-map}
 use Rattle.std.proofs.lemmas.Option.{slice_get-map}
-use Rattle.sch_word.specs.Values.{Value, unspecified, procedure}
-use Rattle.sch_word.specs.Store.{Store}
-use Rattle.sch_word.specs.Bindings.{numbers, scope_with, with_variables, value_or}
-use Rattle.sch_word.specs.Computation as computation
-use Rattle.sch_word.specs.Computation.{Outcome, gives, stops, spent, State, on_value, in_store, take_entry, taken, in_turn}
-use Rattle.sch_word.specs.Charges.{fit}
+use Rattle.sch_word.specs.values.Values.{Value, unspecified, procedure}
+use Rattle.sch_word.specs.runs.Store.{Store}
+use Rattle.sch_word.specs.trees.Bindings.{numbers, scope_with, with_variables, value_or}
+use Rattle.sch_word.specs.runs.Computation as computation
+use Rattle.sch_word.specs.runs.Computation.{Outcome, gives, stops, spent, State, on_value, in_store, take_entry, taken, in_turn}
+use Rattle.sch_word.specs.runs.Charges.{fit}
 use Rattle.sch_word.proofs.SameStore.{fit_length}
 use Rattle.sch_word.proofs.Steady.{OutcomeGrows, quiet, steady_fit}
 use Rattle.sch_flat.specs.Tree.{Tree, Trees, Body, no_trees, and_tree, count}

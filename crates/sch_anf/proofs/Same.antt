@@ -7,14 +7,14 @@ use Rattle.std.proofs.lemmas.List.Folds.{list_all-append}
 use Rattle.std.proofs.Math.Seq.{set-append_seam}
 use Rattle.sch_word.specs.declared.constant.Const.{Const}
 use Rattle.sch_word.specs.declared.primitive.Primitive.{Primitive}
-use Rattle.sch_word.specs.Values.{Value, unspecified, cell, constant_value, is_true, procedure}
-use Rattle.sch_word.specs.Store.{Store}
-use Rattle.sch_word.specs.Bindings.{numbers, scope_with, with_variables}
-use Rattle.sch_word.specs.Computation as computation
-use Rattle.sch_word.specs.Computation.{Outcome, Action, gives, stops, spent, State, on_value, in_store, with_rest, read_literal, read_global, write_global, read_cell, write_cell, set_or_stop, numbers_from, procedures_from, new_procedure, in_order, in_turn, all_values, blanks, call_with}
-use Rattle.sch_word.specs.Charges.{charge, charge_each, procedure_bytes, cell_bytes}
-use Rattle.sch_word.specs.CellBytes.{cells_bytes}
-use Rattle.sch_word.specs.PrimitiveRows.{primitive}
+use Rattle.sch_word.specs.values.Values.{Value, unspecified, cell, constant_value, is_true, procedure}
+use Rattle.sch_word.specs.runs.Store.{Store}
+use Rattle.sch_word.specs.trees.Bindings.{numbers, scope_with, with_variables}
+use Rattle.sch_word.specs.runs.Computation as computation
+use Rattle.sch_word.specs.runs.Computation.{Outcome, Action, gives, stops, spent, State, on_value, in_store, with_rest, read_literal, read_global, write_global, read_cell, write_cell, set_or_stop, numbers_from, procedures_from, new_procedure, in_order, in_turn, all_values, blanks, call_with}
+use Rattle.sch_word.specs.runs.Charges.{charge, charge_each, procedure_bytes, cell_bytes}
+use Rattle.sch_word.specs.values.CellBytes.{cells_bytes}
+use Rattle.sch_word.specs.values.PrimitiveRows.{primitive}
 use Rattle.sch_word.proofs.Lengths.{procedures_length}
 use Rattle.sch_word.proofs.Steady.{OutcomeGrows, steady_charge, steady_charge_each, steady_read_global, steady_write_global, steady_primitive}
 use Rattle.sch_flat.specs.Tree.{Tree, Trees, Variable, bound, free, Made, NewCell, constant, literal, variable, global, set_global, define, branch, sequence, bind, make_closure, fix_closures, call, operation, new_cells, cell_get, cell_set, no_trees, and_tree, count}

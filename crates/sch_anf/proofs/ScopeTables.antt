@@ -5,7 +5,7 @@ use Rattle.std.specs.List.{list_all}
 use Rattle.std.proofs.lemmas.Bool.{eq-eqb, eqb-true, lt-ltb, ltb-true, false≢true}
 use Rattle.std.proofs.lemmas.List.{get_or-set_same, get_or-set_other, get_or_append_left, set-append_left, set-get_or, set-set, length-set, reverse-append}
 use Rattle.std.proofs.lemmas.List.Folds.{list_all-append}
-use Rattle.sch_word.specs.Bindings.{numbers, with_variables}
+use Rattle.sch_word.specs.trees.Bindings.{numbers, with_variables}
 use Rattle.sch_word.proofs.Walking.{next_left}
 use Rattle.sch_flat.specs.declared.tree.NewCell.{NewCell}
 use Rattle.sch_flat.specs.View.{new_cell}

@@ -3,8 +3,8 @@ use Rattle.std.proofs.Common.{◌≡◌, ℕ, zero, suc, ◌+◌, Bool, true, fa
 use Rattle.std.specs.Prelude.{slice_get, nat_eq, nat_lt, ◌&&◌, ◌||◌}
 use Rattle.std.specs.List.{list_all}
 use Rattle.std.proofs.lemmas.Bool.{eq-eqb}
-use Rattle.sch_word.specs.NumberSets.{has}
-use Rattle.sch_word.specs.Bindings.{numbers, scope_with, with_variables}
+use Rattle.sch_word.specs.trees.NumberSets.{has}
+use Rattle.sch_word.specs.trees.Bindings.{numbers, scope_with, with_variables}
 use Rattle.sch_flat.specs.Tree as flat
 use Rattle.sch_flat.specs.Tree.{Tree, Trees, Variable, Body, Made, NewCell, constant, literal, variable, global, set_global, define, branch, sequence, bind, make_closure, fix_closures, call, operation, new_cells, cell_get, cell_set, no_trees, and_tree, count}
 use Rattle.sch_flat.specs.Valid.{is_known, is_content, is_made, all_new, cell_variables, cells_scope, scoped, scoped_each, has_fields}

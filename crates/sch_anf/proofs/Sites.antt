@@ -6,11 +6,11 @@ use Rattle.std.proofs.lemmas.Bool.{eq-eqb, eqb-true}
 use Rattle.std.proofs.lemmas.List.{map-append}
 use Rattle.std.proofs.lemmas.List.Sums.{sum_by-append, sum_by-cons}
 use Rattle.std.proofs.lemmas.Option.{slice_get_within, slice_get-map}
-use Rattle.sch_word.specs.Bindings.{Bindings, bound_to, this_or, numbers}
-use Rattle.sch_word.specs.Computation.{numbers_from}
-use Rattle.sch_word.specs.Orders.{order_or_none, order_at, is_permutation}
-use Rattle.sch_word.specs.Shape as shapes
-use Rattle.sch_word.specs.Shape.{is_width, sites_once}
+use Rattle.sch_word.specs.trees.Bindings.{Bindings, bound_to, this_or, numbers}
+use Rattle.sch_word.specs.runs.Computation.{numbers_from}
+use Rattle.sch_word.specs.runs.Orders.{order_or_none, order_at, is_permutation}
+use Rattle.sch_word.specs.trees.Shape as shapes
+use Rattle.sch_word.specs.trees.Shape.{is_width, sites_once}
 use Rattle.sch_flat.specs.Tree as flat
 use Rattle.sch_flat.specs.Tree.{Tree, Trees, Body, Source, constant, literal, variable, global, set_global, define, branch, sequence, bind, make_closure, fix_closures, call, operation, new_cells, cell_get, cell_set, no_trees, and_tree, count}
 use Rattle.sch_flat.specs.Measures.{over_bodies, sites_of}

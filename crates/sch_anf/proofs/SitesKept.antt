@@ -14,11 +14,11 @@ use Rattle.sch_control.specs.Parts.{operand_sites, operands_sites, operation_sit
 use Rattle.sch_control.specs.Tree as tree
 use Rattle.sch_control.specs.Tree.{Expression}
 use Rattle.sch_control.specs.Valid as to
-use Rattle.sch_word.specs.Bindings.{with_variables}
+use Rattle.sch_word.specs.trees.Bindings.{with_variables}
 use Rattle.sch_anf.specs.Normal.{Scope, init_numbers, source_of, is_read, is_atom, are_atoms, is_simple, atoms_of, simple_operand, operand_at, operands_at, operand_binds, ends_in_call, part_binds, binds, operands_bind, inits_bind, finished, called, bound_unless, normal, normal_parts, with_operands, with_inits, with_new_cells, cell_operation}
 use Rattle.sch_anf.proofs.Orders.{and_left, and_right}
-use Rattle.sch_word.specs.Shape as shapes
-use Rattle.sch_word.specs.Shape.{Shape}
+use Rattle.sch_word.specs.trees.Shape as shapes
+use Rattle.sch_word.specs.trees.Shape.{Shape}
 use Rattle.sch_flat.specs.Measures.{over, over_each}
 
 -- the site of a call or a primitive, with its width

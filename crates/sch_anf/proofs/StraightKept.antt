@@ -2,8 +2,8 @@
 use Rattle.std.proofs.Common.{◌≡◌, ℕ, zero, suc, ◌+◌, ◌-◌, Bool, true, false, cond, List, [], ◌∷◌, map, take, drop, refl, ap, ◌∙◌}
 use Rattle.std.specs.Prelude.{◌&&◌}
 use Rattle.std.specs.List.{list_all}
-use Rattle.sch_word.specs.Bindings.{with_variables}
-use Rattle.sch_word.specs.Straight.{is_straight_primitive, is_empty}
+use Rattle.sch_word.specs.trees.Bindings.{with_variables}
+use Rattle.sch_word.specs.trees.Straight.{is_straight_primitive, is_empty}
 use Rattle.sch_flat.specs.Tree as flat
 use Rattle.sch_flat.specs.Tree.{Tree, Trees, Body, constant, literal, variable, global, set_global, define, branch, sequence, bind, make_closure, fix_closures, call, operation, new_cells, cell_get, cell_set, no_trees, and_tree}
 use Rattle.sch_flat.specs.Straight as from

@@ -1,8 +1,8 @@
 -- The expression of a straight tree is at most four times as large, and so are the bodies of a straight program.
 use Rattle.std.proofs.Common.{◌≡◌, ℕ, zero, suc, ◌+◌, ◌*◌, ◌-◌, ◌≤◌, Bool, true, false, cond, List, [], ◌∷◌, ◌++◌, length, map, take, drop, refl, arith}
 use Rattle.std.proofs.lemmas.Bool.{and_parts}
-use Rattle.sch_word.specs.Shape.{size_of}
-use Rattle.sch_word.specs.Straight.{is_empty}
+use Rattle.sch_word.specs.trees.Shape.{size_of}
+use Rattle.sch_word.specs.trees.Straight.{is_empty}
 use Rattle.sch_flat.specs.Tree as from
 use Rattle.sch_flat.specs.Tree.{Tree, Trees, bound, free, constant, literal, variable, global, set_global, define, branch, sequence, make_closure, fix_closures, call, operation, new_cells, cell_get, cell_set, no_trees, and_tree, count}
 use Rattle.sch_flat.specs.Measures.{over, over_each, program_size}
@@ -14,7 +14,7 @@ use Rattle.sch_control.specs.declared.operation.Operation.TheVariants as does
 use Rattle.sch_control.specs.Tree as to
 use Rattle.sch_control.specs.Tree.{Expression}
 use Rattle.sch_control.specs.Sizes.{operand_size, operands_size, expression_size, expressions_size}
-use Rattle.sch_word.specs.Bindings.{with_variables}
+use Rattle.sch_word.specs.trees.Bindings.{with_variables}
 use Rattle.sch_anf.specs.Normal.{Scope, init_numbers, inits_bind, is_simple, simple_operand, atoms_of, binds, operand_binds, operand_at, operands_at, ends_in_call, bound_unless, normal, normal_parts, with_operands, with_inits, procedure_code, form_code, normal_bodies, normal_source}
 
 abbrev size : Tree → ℕ

@@ -4,9 +4,9 @@ use Rattle.std.specs.Prelude.{nat_eq, nat_lt, ◌&&◌, ◌||◌}
 use Rattle.std.specs.List.{list_all, sum_by}
 use Rattle.std.proofs.lemmas.Bool.{eq-eqb, eqb-true, eqb-false, ltb-true, ltb-false}
 use Rattle.std.proofs.lemmas.List.Sums.{sum_by-append, sum_by-cons}
-use Rattle.sch_word.specs.NumberSets.{has, unless}
-use Rattle.sch_word.specs.Bindings.{numbers}
-use Rattle.sch_word.specs.Orders.{is_permutation}
+use Rattle.sch_word.specs.trees.NumberSets.{has, unless}
+use Rattle.sch_word.specs.trees.Bindings.{numbers}
+use Rattle.sch_word.specs.runs.Orders.{is_permutation}
 use Rattle.sch_control.specs.Tree.{Source}
 use Rattle.sch_control.specs.Fits.{begins_with, fits, table_fits}
 use Rattle.sch_control.specs.Valid.{bound_parts, bound_known, without_repeats}

@@ -1,7 +1,7 @@
 -- A normal form has the tests of the flat tree.
 use Rattle.std.proofs.Common.{◌≡◌, ℕ, zero, suc, ◌+◌, ◌-◌, Bool, true, false, cond, List, [], ◌∷◌, ◌++◌, length, map, take, drop, refl, ap, ◌∙◌, arith}
-use Rattle.sch_word.specs.Shape as shapes
-use Rattle.sch_word.specs.Bindings.{numbers, with_variables}
+use Rattle.sch_word.specs.trees.Shape as shapes
+use Rattle.sch_word.specs.trees.Bindings.{numbers, with_variables}
 use Rattle.sch_flat.specs.Tree as flat
 use Rattle.sch_flat.specs.Tree.{Tree, Trees, Body, NewCell, constant, literal, variable, global, set_global, define, branch, sequence, bind, make_closure, fix_closures, call, operation, new_cells, cell_get, cell_set, no_trees, and_tree}
 use Rattle.sch_flat.specs.Measures.{over, over_each, over_bodies}

@@ -3,8 +3,8 @@ use Rattle.std.proofs.Common.{◌≡◌, ℕ, zero, suc, ◌+◌, ◌≤◌, Boo
 use Rattle.std.specs.Prelude.{slice_get, nat_le, nat_lt, not, ◌&&◌, ◌||◌}
 use Rattle.std.specs.List.{list_all}
 use Rattle.std.proofs.lemmas.Bool.{le-leb, leb-true, lt-ltb, ltb-true}
-use Rattle.sch_word.specs.Bindings.{numbers, scope_with, with_variables}
-use Rattle.sch_word.specs.Shape.{max_operands, max_variables, max_free_variables}
+use Rattle.sch_word.specs.trees.Bindings.{numbers, scope_with, with_variables}
+use Rattle.sch_word.specs.trees.Shape.{max_operands, max_variables, max_free_variables}
 use Rattle.sch_flat.specs.Tree.{Tree, Body}
 use Rattle.sch_flat.specs.Measures.{variables, body_variables}
 use Rattle.sch_flat.specs.Valid.{scoped, body_scoped, body_fits}

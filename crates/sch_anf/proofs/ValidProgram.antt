@@ -5,12 +5,12 @@ use Rattle.std.specs.List.{list_all, sum_by, count_by}
 use Rattle.std.proofs.lemmas.Bool.{eq-eqb, eqb-true, lt-ltb}
 use Rattle.std.proofs.lemmas.List.{length-map}
 use Rattle.std.proofs.lemmas.List.Sums.{sum_by-append, sum_by-cons}
-use Rattle.sch_word.specs.NumberSets.{has}
-use Rattle.sch_word.specs.Bindings.{Bindings, bound_to, this_or, numbers}
-use Rattle.sch_word.specs.Orders.{order_or_none}
-use Rattle.sch_word.specs.Runs.{statics_valid, statics_in_range}
-use Rattle.sch_word.specs.Shape as shapes
-use Rattle.sch_word.specs.Shape.{Shape, names_known, constant_in_range, well_formed, fits, is_width, max_variables, max_free_variables}
+use Rattle.sch_word.specs.trees.NumberSets.{has}
+use Rattle.sch_word.specs.trees.Bindings.{Bindings, bound_to, this_or, numbers}
+use Rattle.sch_word.specs.runs.Orders.{order_or_none}
+use Rattle.sch_word.specs.runs.Runs.{statics_valid, statics_in_range}
+use Rattle.sch_word.specs.trees.Shape as shapes
+use Rattle.sch_word.specs.trees.Shape.{Shape, names_known, constant_in_range, well_formed, fits, is_width, max_variables, max_free_variables}
 use Rattle.sch_flat.specs.Tree.{Tree, Trees, Body, Source, constant, literal, variable, global, set_global, define, branch, sequence, bind, make_closure, fix_closures, call, operation, new_cells, cell_get, cell_set, no_trees, and_tree, count}
 use Rattle.sch_flat.specs.Measures.{over, over_each, over_bodies, over_source, sites_of, variables}
 use Rattle.sch_flat.specs.Valid.{has_fields, body_scoped, scoped, scoped_each, is_closed, is_formed, in_order, sited, ascending, body_fits, forms_fit, statics_known, constants_in_range}

@@ -3,12 +3,12 @@ use Rattle.std.proofs.Common.{◌≡◌, ℕ, zero, suc, Bool, true, List, [], �
 use Rattle.std.specs.Prelude.{slice_get, nat_lt}
 use Rattle.std.specs.List.{list_all}
 use Rattle.std.proofs.lemmas.Option.{slice_get-map}
-use Rattle.sch_word.specs.Values.{Value, unspecified, fixnum, character, boolean, nil, symbol, object, procedure, cell}
-use Rattle.sch_word.specs.Store.{Store, Constants}
-use Rattle.sch_word.specs.Checked.{Checked, passes, refused, exhausted, unreachable, on_passed}
-use Rattle.sch_word.specs.Handed.{handed}
-use Rattle.sch_word.specs.Computation.{Outcome, gives, stops, spent, State, on_value, with_rest, checked, call_with, callee, known_procedure, depth_left, entry_left, operands, Entry}
-use Rattle.sch_word.specs.Orders.{Orders}
+use Rattle.sch_word.specs.values.Values.{Value, unspecified, fixnum, character, boolean, nil, symbol, object, procedure, cell}
+use Rattle.sch_word.specs.runs.Store.{Store, Constants}
+use Rattle.sch_word.specs.values.Checked.{Checked, passes, refused, exhausted, unreachable, on_passed}
+use Rattle.sch_word.specs.runs.Handed.{handed}
+use Rattle.sch_word.specs.runs.Computation.{Outcome, gives, stops, spent, State, on_value, with_rest, checked, call_with, callee, known_procedure, depth_left, entry_left, operands, Entry}
+use Rattle.sch_word.specs.runs.Orders.{Orders}
 use Rattle.sch_word.proofs.SameStore.{Gives}
 use Rattle.sch_word.proofs.Steady.{OutcomeGrows}
 use Rattle.sch_flat.specs.Tree.{Body}

@@ -1,6 +1,6 @@
 -- What stands before an expression: values that are bound, and values that are dropped.
 use Rattle.std.specs.Prelude.{◌≡◌, ℕ, suc, false, cond, List, Option, Some, None}
-use Rattle.sch_word.specs.Walk.{onto}
+use Rattle.sch_word.specs.trees.Walk.{onto}
 use Rattle.sch_flat.specs.Tree.{Tree}
 use Rattle.sch_control.specs.Tree as to
 use Rattle.sch_control.specs.Tree.{Expression}

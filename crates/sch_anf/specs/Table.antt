@@ -1,8 +1,8 @@
 -- The order table under which a normal program runs: at each site what is bound, in order, then the other parts by
 -- their numbers.
 use Rattle.std.specs.Prelude.{ℕ, List, [], ◌∷◌, ◌++◌}
-use Rattle.sch_word.specs.NumberSets.{has, unless}
-use Rattle.sch_word.specs.Bindings.{numbers}
+use Rattle.sch_word.specs.trees.NumberSets.{has, unless}
+use Rattle.sch_word.specs.trees.Bindings.{numbers}
 use Rattle.sch_control.specs.Tree.{Source}
 
 -- the numbers of a list that are not among these

@@ -2,8 +2,8 @@
 #![tactic(auto)]
 
 ghost use Rattle.std.specs.Prelude.{◌≡◌, ◌≤◌, ◌<◌, ◌*◌, ◌^◌, IsTrue, IfOk};
-ghost use Rattle.sch_word.specs.Orders.{is_order_table};
-ghost use Rattle.sch_word.specs.StaticsView.{statics};
+ghost use Rattle.sch_word.specs.runs.Orders.{is_order_table};
+ghost use Rattle.sch_word.specs.values.StaticsView.{statics};
 ghost use Rattle.sch_control.specs.Fits.{table_fits};
 ghost use Rattle.sch_control.specs.ProgramView as control;
 ghost use Rattle.sch_control.specs.Sizes.{expressions_size};

@@ -1,7 +1,7 @@
 //! The order table under which a normal program runs.
 
 ghost use Rattle.std.specs.Prelude.{◌≡◌, ◌++◌, [], length, IfOk, OnOk};
-ghost use Rattle.sch_word.specs.NumberSets.{has, unless};
+ghost use Rattle.sch_word.specs.trees.NumberSets.{has, unless};
 ghost use Rattle.sch_anf.specs.Table as table;
 
 use sch_word::{List, Mem};

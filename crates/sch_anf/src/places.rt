@@ -1,7 +1,7 @@
 //! Which parts are bound at each site of a program, and the order table that lists them first.
 
 ghost use Rattle.std.specs.Prelude.{◌≡◌, ◌+◌, ◌++◌, ◌<◌, ◌^◌, ℕ, suc, [], List, map, replicate, slice_set, IfOk, OnOk};
-ghost use Rattle.sch_word.specs.Bindings.{numbers};
+ghost use Rattle.sch_word.specs.trees.Bindings.{numbers};
 ghost use Rattle.sch_flat.specs.Tree.{and_tree, count, no_trees};
 ghost use Rattle.sch_flat.specs.View.{body, tree, trees_of};
 ghost use Rattle.sch_anf.specs.Normal as normal;

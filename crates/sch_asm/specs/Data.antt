@@ -1,9 +1,9 @@
 -- The data of a program, from their address on.
 use Rattle.std.specs.Prelude.{◌≡◌, ℕ, ◌+◌, ◌-◌, ◌^◌, ◌<◌, ◌≤◌, List, ◌++◌, length, drop, true, false, ℤ, pos, ◌+ℤ◌, ◌*ℤ◌, ◌⊎◌}
 use Rattle.std.specs.Int.{w64, to_le_bytes, from_le_bytes}
-use Rattle.sch_word.specs.Fixnum.{IsFixnum}
-use Rattle.sch_word.specs.Memory.{Segment}
-use Rattle.sch_word.specs.ProgramLayout.{data_address}
+use Rattle.sch_word.specs.values.Fixnum.{IsFixnum}
+use Rattle.sch_word.specs.values.Memory.{Segment}
+use Rattle.sch_word.specs.runs.ProgramLayout.{data_address}
 use Rattle.sch_insn.specs.Machine.{put_bytes}
 
 abbrev pub data_at : List ℕ → Segment

@@ -2,9 +2,9 @@
 use Rattle.std.specs.Prelude.{◌≡◌, ℕ, ◌+◌, ◌*◌, ◌^◌, ◌<◌, ◌≤◌, List, [], ◌++◌, length, drop, Bool, true, false, ◌||◌, ◌==◌, ℤ}
 use Rattle.std.specs.Fmt.{signed_decimal}
 use Rattle.sch_word.specs.declared.answer.Answer.{Answer}
-use Rattle.sch_word.specs.ProgramLayout.{data_address}
-use Rattle.sch_word.specs.Put.{put}
-use Rattle.sch_word.specs.Stops.{status_of}
+use Rattle.sch_word.specs.runs.ProgramLayout.{data_address}
+use Rattle.sch_word.specs.values.Put.{put}
+use Rattle.sch_word.specs.runs.Stops.{status_of}
 use Rattle.sch_insn.specs.declared.register.TheConstants.{RAX, RCX, RDX, R11}
 use Rattle.sch_insn.specs.Step.{Exited, step}
 use Rattle.sch_asm.specs.declared.item.Item.{Item}

@@ -1,6 +1,6 @@
 -- What items and words keep before they have addresses.
 use Rattle.std.specs.Prelude.{◌≡◌, ◌≢◌, ℕ, ◌<◌, ◌≤◌, nat_le, nat_lt, List, [], ◌∷◌, ◌++◌, All, AllPairs, Bool, true, false, not, ◌&&◌, ◌||◌, ◌==◌, IsTrue}
-use Rattle.sch_word.specs.ProgramLayout.{data_address}
+use Rattle.sch_word.specs.runs.ProgramLayout.{data_address}
 use Rattle.sch_insn.specs.declared.insn.Arg.{Arg}
 use Rattle.sch_insn.specs.declared.insn.Arg.TheVariants.{Rip}
 use Rattle.sch_insn.specs.declared.insn.Insn.{Insn}

@@ -1,7 +1,7 @@
 -- Tables of a text: the number of the item at which each label stands, and the address of each item. Items
 -- are numbered from 0.
 use Rattle.std.specs.Prelude.{◌≡◌, ℕ, ◌+◌, ◌<◌, List, [], ◌∷◌, ◌++◌, length, max, slice_set, slice_index, map, Option, Some, None, ℤ, pos, ◌-ℤ◌}
-use Rattle.sch_word.specs.ProgramLayout.{text_address}
+use Rattle.sch_word.specs.runs.ProgramLayout.{text_address}
 use Rattle.sch_insn.specs.declared.insn.Arg.TheVariants.{Rip}
 use Rattle.sch_insn.specs.declared.insn.Insn.{Insn}
 use Rattle.sch_insn.specs.declared.insn.Insn.TheVariants as insn

@@ -1,6 +1,6 @@
 -- The labels of the run-time routines.
 use Rattle.std.specs.Prelude.{ℕ, ◌-◌}
-use Rattle.sch_word.specs.Stops.{status_of}
+use Rattle.sch_word.specs.runs.Stops.{status_of}
 use Rattle.sch_asm.specs.declared.routine.Routine.{Routine}
 use Rattle.sch_asm.specs.declared.routine.Routine.TheVariants.{End, Stop, Put, PutFixnum}
 

@@ -1,7 +1,7 @@
 -- That items stand in a text, whatever forms their instructions have and however long these are.
 use Rattle.std.specs.Prelude.{◌≡◌, ℕ, ◌+◌, ◌≤◌, List, [], ◌∷◌, ◌++◌, length, Some, ℤ, cond, ◌==◌}
-use Rattle.sch_word.specs.Memory.{Segment}
-use Rattle.sch_word.specs.ProgramLayout.{data_address}
+use Rattle.sch_word.specs.values.Memory.{Segment}
+use Rattle.sch_word.specs.runs.ProgramLayout.{data_address}
 use Rattle.sch_insn.specs.declared.insn.Arg.TheVariants.{Rip}
 use Rattle.sch_insn.specs.declared.insn.Insn.{Insn}
 use Rattle.sch_insn.specs.declared.insn.Insn.TheVariants as insn

@@ -1,7 +1,7 @@
 -- A machine that runs a program: its state by parts, with the program's text and data for memory.
 use Rattle.std.specs.Prelude.{ℕ, List, [], ◌∷◌, true, false}
-use Rattle.sch_word.specs.Memory.{Segment}
-use Rattle.sch_word.specs.ProgramLayout.{text_address}
+use Rattle.sch_word.specs.values.Memory.{Segment}
+use Rattle.sch_word.specs.runs.ProgramLayout.{text_address}
 use Rattle.sch_word.specs.declared.answer.Answer.{Answer}
 use Rattle.sch_insn.specs.declared.machine.Flags.{Flags}
 use Rattle.sch_insn.specs.Machine.{State}

@@ -1,7 +1,7 @@
 //! Where items stand: label to item to address.
 
 ghost use Rattle.std.specs.Prelude.{◌≡◌, ◌+◌, ◌*◌, ◌^◌, ◌<◌, ◌≤◌, ◌++◌, EachIndex, IfOk, OnOk, length, map, replicate, slice_index};
-ghost use Rattle.sch_word.specs.ProgramLayout.{max_text_size, text_address};
+ghost use Rattle.sch_word.specs.runs.ProgramLayout.{max_text_size, text_address};
 ghost use Rattle.sch_asm.specs.Items.{AreItems};
 ghost use Rattle.sch_asm.specs.Codes.{item_size};
 ghost use Rattle.sch_asm.specs.Layout.{IsSized, StandBelow, addresses_from, entered, label_bound, numbered, placed_by, raised, total};

@@ -2,7 +2,7 @@
 
 ghost use Rattle.std.specs.Prelude.{◌≡◌, ◌+◌, ◌*◌, ◌^◌, ◌<◌, ◌≤◌, ◌++◌, length, map, IfOk, IfErr, OnOk, slice_index};
 ghost use Rattle.std.specs.List.{flat_map};
-ghost use Rattle.sch_word.specs.ProgramLayout.{max_text_size};
+ghost use Rattle.sch_word.specs.runs.ProgramLayout.{max_text_size};
 ghost use Rattle.sch_insn.specs.Spelling.{AllValid, IsCondition, IsValid, spelling};
 ghost use Rattle.sch_asm.specs.Items.{AreItems, AreOwn, AreRoutines, IsItem};
 ghost use Rattle.sch_asm.specs.Codes.{AreResolved, IsTooLarge, bytes_of, item_size, text_size, value_of as word_value};

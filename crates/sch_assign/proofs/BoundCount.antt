@@ -2,7 +2,7 @@
 use Rattle.std.proofs.Common.{◌≡◌, ℕ, zero, suc, ◌+◌, Bool, true, false, cond, List, [], ◌∷◌, ◌++◌, length, refl, sym, ap, ◌∙◌, arith, length-append}
 use Rattle.std.specs.List.{count_by}
 use Rattle.std.proofs.lemmas.List.Sums.{sum_by-append}
-use Rattle.sch_word.specs.Bindings.{numbers, scope_with}
+use Rattle.sch_word.specs.trees.Bindings.{numbers, scope_with}
 use Rattle.sch_cells.specs.declared.tree.NewCell.{NewCell}
 use Rattle.sch_cells.specs.Tree.{Tree, Trees, Lambdas, Source, constant, literal, variable, global, set_variable, set_global, define, branch, sequence, bind, fix, letrec, lambda, call, operation, new_cells, cell_get, cell_set, no_trees, and_tree, no_lambdas, and_lambda, count, count_lambdas}
 use Rattle.sch_cells.specs.Variables.{cells_bound, bound, bound_each, bound_lambdas}
@@ -10,9 +10,9 @@ use Rattle.sch_cells.specs.Valid.{bound_of}
 use Rattle.sch_assign.specs.Celled.{celled_in, celled_of}
 use Rattle.sch_assign.specs.Converted.{and_cell, cells_for, empty_cells, filling, reading, wrapped, converted, converted_each, converted_lambdas, converted_source, AllAre, Right, RightEach, RightLambdas}
 use Rattle.sch_assign.proofs.Lookups.{no_cells}
-use Rattle.sch_assign.proofs.FreeMoved.{count_same, count_lambdas_same}
+use Rattle.sch_assign.proofs.kept.FreeMoved.{count_same, count_lambdas_same}
 use Rattle.sch_assign.proofs.ConversionIsRight.{IsRight}
-use Rattle.sch_assign.proofs.NumbersKept.{same_keys, wrapped_bound}
+use Rattle.sch_assign.proofs.kept.NumbersKept.{same_keys, wrapped_bound}
 
 keys_length : (cs : List NewCell) → length (cells_bound cs) ≡ length cs
 keys_length [] = refl

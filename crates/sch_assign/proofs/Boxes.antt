@@ -3,10 +3,10 @@ use Rattle.std.proofs.Common.{◌≡◌, ℕ, zero, suc, ◌+◌, ◌<◌, Bool,
 use Rattle.std.specs.Prelude.{slice_get}
 use Rattle.std.proofs.lemmas.List.{append-nil}
 use Rattle.sch_word.specs.declared.answer.Answer.{Answer}
-use Rattle.sch_word.specs.Values.{Value, unspecified}
-use Rattle.sch_word.specs.Store.{Store}
-use Rattle.sch_word.specs.Computation.{Outcome, gives, stops, spent, State, Action, Computation, Enter, with_rest, in_store, after, set_or_stop, read_cell, write_cell, new_cells, new_procedure, new_group, new_fix, some_each, numbers_from, procedures_from, Entry, call_with}
-use Rattle.sch_word.specs.Runs.{seen, starting_state}
+use Rattle.sch_word.specs.values.Values.{Value, unspecified}
+use Rattle.sch_word.specs.runs.Store.{Store}
+use Rattle.sch_word.specs.runs.Computation.{Outcome, gives, stops, spent, State, Action, Computation, Enter, with_rest, in_store, after, set_or_stop, read_cell, write_cell, new_cells, new_procedure, new_group, new_fix, some_each, numbers_from, procedures_from, Entry, call_with}
+use Rattle.sch_word.specs.runs.Runs.{seen, starting_state}
 use Rattle.sch_word.proofs.Similar.{Correspondence, Similar, SimilarOutcome, Same, similar_checked, similar_after}
 use Rattle.sch_word.proofs.SameStore.{Gives, Pairs, no_pairs, and_pair, pairs_length, pairs_append, SameEntry, checked_call_same}
 use Rattle.sch_assign.proofs.Worlds.{World, Cells, Grows, stays, on, Holds, holds_none, holds_plain, holds_boxed, boxes, rank, get_plain, get_boxed, set_holds, set_boxes, holds_append, boxes_append, get_grow, rank_grow}

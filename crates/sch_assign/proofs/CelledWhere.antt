@@ -3,8 +3,8 @@
 use Rattle.std.proofs.Common.{◌≡◌, ℕ, Bool, true, false, List, ◌++◌, refl, sym, ◌∙◌}
 use Rattle.std.specs.Prelude.{IsTrue, ◌||◌, ◌&&◌, nat_eq}
 use Rattle.std.proofs.lemmas.Bool.{eqb-true}
-use Rattle.sch_word.specs.NumberSets.{has}
-use Rattle.sch_word.specs.Bindings.{numbers, scope_with}
+use Rattle.sch_word.specs.trees.NumberSets.{has}
+use Rattle.sch_word.specs.trees.Bindings.{numbers, scope_with}
 use Rattle.sch_word.proofs.Shaped.{parts}
 use Rattle.sch_cells.specs.Tree.{Tree, Trees, Lambdas, constant, literal, variable, global, set_variable, set_global, define, branch, sequence, bind, fix, letrec, lambda, call, operation, new_cells, cell_get, cell_set, no_trees, and_tree, no_lambdas, and_lambda, count, count_lambdas}
 use Rattle.sch_cells.specs.Variables.{scope_of, cells_bound, cells_used, all_in, assigns, assigns_each, assigns_lambdas, bound, bound_each, bound_lambdas, closed, closed_each, closed_lambdas}

@@ -2,10 +2,10 @@
 use Rattle.std.proofs.Common.{◌≡◌, ℕ, zero, suc, ◌+◌, ◌<◌, Bool, true, false, List, [], ◌∷◌, ◌++◌, length, refl, ◌∙◌, arith}
 use Rattle.std.specs.Prelude.{IsTrue, ◌||◌, ◌&&◌, not, nat_eq, nat_lt}
 use Rattle.std.proofs.lemmas.Bool.{eqb-true, ltb-true}
-use Rattle.sch_word.specs.NumberSets.{has}
-use Rattle.sch_word.specs.Bindings.{numbers, scope_with}
-use Rattle.sch_word.specs.Literals.{count_literals}
-use Rattle.sch_word.specs.Shape.{names_known, well_formed}
+use Rattle.sch_word.specs.trees.NumberSets.{has}
+use Rattle.sch_word.specs.trees.Bindings.{numbers, scope_with}
+use Rattle.sch_word.specs.values.Literals.{count_literals}
+use Rattle.sch_word.specs.trees.Shape.{names_known, well_formed}
 use Rattle.sch_word.proofs.Shaped.{parts}
 use Rattle.sch_cells.specs.Tree.{Tree, Trees, Lambdas, Source, constant, literal, variable, global, set_variable, set_global, define, branch, sequence, bind, fix, letrec, lambda, call, operation, new_cells, cell_get, cell_set, no_trees, and_tree, no_lambdas, and_lambda, count, count_lambdas}
 use Rattle.sch_cells.specs.Variables.{assigns, assigns_lambdas, bound, bound_each, bound_lambdas, closed, closed_each, closed_lambdas, distinct, below}
@@ -16,7 +16,7 @@ use Rattle.sch_cells.proofs.Clearing.{Parts, distinct_parts, has_append, not_has
 use Rattle.sch_assign.specs.Celled.{celled, celled_each, celled_lambdas, celled_in}
 use Rattle.sch_assign.specs.Converted.{Low, Right, RightEach, RightLambdas}
 use Rattle.sch_assign.proofs.Lookups.{self, in_deeper}
-use Rattle.sch_assign.proofs.FreeMoved.{group_has}
+use Rattle.sch_assign.proofs.kept.FreeMoved.{group_has}
 use Rattle.sch_assign.proofs.CelledWhere.{not_celled, none_celled, no_lambda_celled, only_assigned, lambdas_only_assigned, not_used, not_first, not_second}
 
 -- nodes of a tree without cells, in which no variable of a Fix is assigned

@@ -2,7 +2,7 @@
 use Rattle.std.proofs.Common.{◌≡◌, ℕ, ◌+◌, Bool, false, List, [], length, replicate, suc, zero, refl, sym, ap, ◌∙◌, subst, Result, Ok, Err}
 use Rattle.std.specs.Prelude.{IsTrue, IfOk, ◌||◌}
 use Rattle.sch_word.specs.declared.statics.Statics as declared
-use Rattle.sch_word.specs.StaticsView.{statics}
+use Rattle.sch_word.specs.values.StaticsView.{statics}
 use Rattle.sch_cells.specs.declared.tree.Exp.{Exp}
 use Rattle.sch_cells.specs.declared.tree.Lambda.{Lambda}
 use Rattle.sch_cells.specs.SourceView.{source_of}
@@ -13,13 +13,9 @@ use Rattle.sch_assign.specs.Celled.{celled_in, celled_each, celled_lambdas}
 use Rattle.sch_assign.specs.Converted.{converted_each, converted_lambdas, converted_source}
 use Rattle.sch_assign.specs.InRange.{EachInRange, LambdasInRange}
 use Rattle.sch_assign.specs.Table.{table, each_marked, lambdas_marked}
-use Rattle.sch_assign.proofs.BodiesKept.{nothing_low}
+use Rattle.sch_assign.proofs.kept.BodiesKept.{nothing_low}
 use Rattle.sch_assign.proofs.ConversionIsRight.{program_right}
 use Rattle.sch_assign.proofs.TableMarked.{each_in_range, lambdas_in_range, walked_each, walked_lambdas}
-
-pub if_ok : {V E : Type 0} (r : Result V E) (P Q : V → Type 0) → IfOk r P → ((v : V) → P v → Q v) → IfOk r Q
-if_ok (Ok v) P Q h f = f v h
-if_ok (Err e) P Q h f = h
 
 pub record WholeInRange (n : ℕ) (p : Source) : Type 0 where
   pub library : LambdasInRange n p.library

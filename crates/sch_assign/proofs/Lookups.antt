@@ -2,11 +2,11 @@
 use Rattle.std.proofs.Common.{◌≡◌, ℕ, zero, suc, ◌+◌, ◌<◌, Bool, true, false, List, [], ◌∷◌, length, Option, Some, refl, ap, ◌∙◌, arith}
 use Rattle.std.specs.Prelude.{nat_eq, slice_get, ◌||◌}
 use Rattle.std.proofs.lemmas.Bool.{eqb-true, eq-eqb}
-use Rattle.sch_word.specs.NumberSets.{has}
-use Rattle.sch_word.specs.Values.{Value, cell}
-use Rattle.sch_word.specs.Computation.{numbers_from}
-use Rattle.sch_word.specs.CellBytes.{cells_bytes, where_assigned}
-use Rattle.sch_word.specs.Bindings.{Bindings, bound_to, with_variables, scope_with}
+use Rattle.sch_word.specs.trees.NumberSets.{has}
+use Rattle.sch_word.specs.values.Values.{Value, cell}
+use Rattle.sch_word.specs.runs.Computation.{numbers_from}
+use Rattle.sch_word.specs.values.CellBytes.{cells_bytes, where_assigned}
+use Rattle.sch_word.specs.trees.Bindings.{Bindings, bound_to, with_variables, scope_with}
 use Rattle.sch_cells.specs.Variables.{assigns, cells_of}
 use Rattle.sch_cells.specs.Tree.{Tree}
 use Rattle.sch_cells.specs.BoxedMeaning.{with_cells, contents}
@@ -22,7 +22,7 @@ apart a b h = go (nat_eq a b) refl
     go true e = absurd (h (eqb-true a b e))
     go false e = refl
 
--- y is none of so many from x on
+-- y is none of the m from x on
 pub record Apart (x m y : ℕ) : Type 0 where
   pub at : (i : ℕ) → i < m → y ≡ x + i → ⊥
 
@@ -99,7 +99,7 @@ numbers_length k [] = refl
 numbers_length k (v ∷ vs) = ap suc (numbers_length (suc k) vs)
 
 module _ (has_cell : ℕ → Bool) (n : ℕ) where
-  -- how many of so many variables from x on become cells
+  -- how many of the variables from x on become cells
   abbrev pub one_more_if : Bool → ℕ → ℕ
   one_more_if true k = suc k
   one_more_if false k = k

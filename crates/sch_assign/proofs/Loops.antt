@@ -8,7 +8,7 @@ use Rattle.sch_cells.specs.Tree as plain
 use Rattle.sch_cells.specs.Tree.{Tree, Trees, Lambdas, cell_set, variable, and_tree, no_trees, and_lambda, no_lambdas, trees, lambdas, count}
 use Rattle.sch_cells.specs.View.{tree, trees_of, lambdas_of, function}
 use Rattle.sch_cells.proofs.Rows.{trees_of_list, lambdas_of_list}
-use Rattle.sch_word.specs.Walk.{onto}
+use Rattle.sch_word.specs.trees.Walk.{onto}
 use Rattle.sch_word.proofs.Walking.{next_item, next_left, end_items}
 use Rattle.sch_assign.specs.Converted.{and_cell, cells_for, empty_cells, filling, converted, converted_each, converted_lambdas}
 use Rattle.sch_assign.specs.InRange.{EachInRange, LambdasInRange}

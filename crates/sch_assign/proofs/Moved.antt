@@ -1,9 +1,9 @@
 -- Free variables under a conversion: a variable that becomes a cell is seen by its cell's number.
 use Rattle.std.proofs.Common.{◌≡◌, ℕ, zero, suc, ◌+◌, ◌<◌, Bool, true, false, List, [], ◌∷◌, map, refl, sym, ap, ◌∙◌, arith}
-use Rattle.sch_word.specs.NumberSets.{has, unless, insert, union}
+use Rattle.sch_word.specs.trees.NumberSets.{has, unless, insert, union}
 use Rattle.sch_cells.specs.declared.tree.NewCell.{NewCell}
 use Rattle.sch_cells.specs.Tree.{Tree}
-use Rattle.sch_word.specs.Bindings.{remove, without}
+use Rattle.sch_word.specs.trees.Bindings.{remove, without}
 use Rattle.sch_cells.specs.Variables.{without_each, cells_bound, cells_used, free}
 use Rattle.sch_assign.specs.Converted.{and_cell, cells_for, wrapped, Low}
 use Rattle.sch_assign.proofs.Lookups.{self, Apart, apart_next, apart_first, Where, inside, outside, where_is}

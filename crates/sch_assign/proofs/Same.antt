@@ -2,17 +2,17 @@
 use Rattle.std.proofs.Common.{◌≡◌, ℕ, zero, suc, ◌+◌, ◌<◌, Bool, true, false, List, [], ◌∷◌, length, Option, Some, None, refl, sym, ap, ◌∙◌, subst, arith}
 use Rattle.std.specs.Prelude.{slice_get}
 use Rattle.std.proofs.lemmas.List.{append-nil}
-use Rattle.sch_word.specs.Values.{Value, unspecified, is_true, cell}
-use Rattle.sch_word.specs.Computation.{Outcome, gives, stops, spent, State, Computation, on_value, after, in_turn, in_store, read_literal, read_global, write_global, read_cell, write_cell, write_cells, some_each, unset_each, numbers_from, take_entry}
-use Rattle.sch_word.specs.Computation as computation
-use Rattle.sch_word.specs.Charges.{charge, charge_each, fit, procedure_bytes}
-use Rattle.sch_word.specs.PrimitiveRows.{primitive}
-use Rattle.sch_word.specs.Runs.{SameRuns, starting_store}
+use Rattle.sch_word.specs.values.Values.{Value, unspecified, is_true, cell}
+use Rattle.sch_word.specs.runs.Computation.{Outcome, gives, stops, spent, State, Computation, on_value, after, in_turn, in_store, read_literal, read_global, write_global, read_cell, write_cell, write_cells, some_each, unset_each, numbers_from, take_entry}
+use Rattle.sch_word.specs.runs.Computation as computation
+use Rattle.sch_word.specs.runs.Charges.{charge, charge_each, fit, procedure_bytes}
+use Rattle.sch_word.specs.values.PrimitiveRows.{primitive}
+use Rattle.sch_word.specs.runs.Runs.{SameRuns, starting_store}
 use Rattle.sch_word.proofs.Similar.{Correspondence, Similar, Same, EachSimilar, no_similar, and_similar, similar_gives, similar_spent, similar_either, similar_after, similar_then, similar_all_values, similar_in_turn}
 use Rattle.sch_word.proofs.SameStore.{Pairs, no_pairs, and_pair, fit_length}
 use Rattle.sch_cells.specs.Tree.{Tree, Trees, Lambdas, Source, constant, literal, variable, global, set_variable, set_global, define, branch, sequence, bind, fix, letrec, lambda, call, operation, new_cells, cell_get, cell_set, no_trees, and_tree, no_lambdas, and_lambda, count, count_lambdas}
-use Rattle.sch_word.specs.CellBytes.{cells_bytes}
-use Rattle.sch_word.specs.Bindings.{Bindings, bound_to, value_or, value_of, with_variables, scope_with}
+use Rattle.sch_word.specs.values.CellBytes.{cells_bytes}
+use Rattle.sch_word.specs.trees.Bindings.{Bindings, bound_to, value_or, value_of, with_variables, scope_with}
 use Rattle.sch_cells.specs.declared.tree.NewCell.{NewCell}
 use Rattle.sch_cells.specs.Clear.{In}
 use Rattle.sch_cells.specs.Variables.{cells_of}
@@ -21,9 +21,9 @@ use Rattle.sch_cells.specs.UnboxedMeaning.{with_cell}
 use Rattle.sch_cells.specs.Procedures.{Closure, closures, lambda_bytes, lambdas_bytes}
 use Rattle.sch_cells.specs.BoxedMeaning as to
 use Rattle.sch_cells.specs.BoxedMeaning.{with_cells, contents, content}
-use Rattle.sch_word.specs.Orders.{Orders, order_at}
+use Rattle.sch_word.specs.runs.Orders.{Orders, order_at}
 use Rattle.sch_assign.specs.Converted.{cells_for, empty_cells, wrapped, reading, filling, converted, converted_each, converted_lambdas, converted_source, Agree, AllAre, Low, Right, RightEach, RightLambdas}
-use Rattle.sch_assign.proofs.FreeMoved.{AllLow, low_with, count_lambdas_same, lambda_free}
+use Rattle.sch_assign.proofs.kept.FreeMoved.{AllLow, low_with, count_lambdas_same, lambda_free}
 use Rattle.sch_assign.proofs.Worlds.{World, Grows, stays, on, Holds, holds_none, holds_plain, holds_boxed, boxes, rank, get_grow, rank_grow}
 use Rattle.sch_assign.proofs.Lookups.{Apart, Where, inside, outside, where_is, in_outside, in_group, outside_variables, inside_variables, numbers_get, numbers_length, one_more_if, count_before, charges_same, outside_cells, inside_cells, and_content, chosen, contents_are, chosen_length, all_next, all_first}
 use Rattle.sch_assign.proofs.Boxes as boxes_lib

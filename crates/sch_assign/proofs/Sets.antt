@@ -2,8 +2,8 @@
 use Rattle.std.proofs.Common.{◌≡◌, ℕ, zero, suc, Bool, true, false, List, [], ◌∷◌, map, refl, sym, ap, ◌∙◌}
 use Rattle.std.specs.Prelude.{IsTrue, ◌||◌, ◌&&◌, not, nat_eq}
 use Rattle.std.proofs.lemmas.Bool.{eqb-true}
-use Rattle.sch_word.specs.NumberSets.{has, unless, insert, union}
-use Rattle.sch_word.specs.Bindings.{numbers, remove, without}
+use Rattle.sch_word.specs.trees.NumberSets.{has, unless, insert, union}
+use Rattle.sch_word.specs.trees.Bindings.{numbers, remove, without}
 use Rattle.sch_word.proofs.Shaped.{both_true}
 use Rattle.sch_cells.specs.Variables.{without_each, distinct}
 

@@ -1,8 +1,8 @@
 -- The table after a walk tells which variables get a cell; and a valid program's variables are in range.
 use Rattle.std.proofs.Common.{◌≡◌, ℕ, zero, suc, ◌<◌, Bool, true, false, List, [], ◌∷◌, length, refl, sym, ap, ◌∙◌, arith}
 use Rattle.std.specs.Prelude.{◌||◌, nat_eq, slice_set}
-use Rattle.sch_word.specs.NumberSets.{has}
-use Rattle.sch_word.specs.Bindings.{numbers, scope_with}
+use Rattle.sch_word.specs.trees.NumberSets.{has}
+use Rattle.sch_word.specs.trees.Bindings.{numbers, scope_with}
 use Rattle.sch_cells.specs.Tree.{Tree, Trees, Lambdas, constant, literal, variable, global, set_variable, set_global, define, branch, sequence, bind, fix, letrec, lambda, call, operation, new_cells, cell_get, cell_set, no_trees, and_tree, no_lambdas, and_lambda, count, count_lambdas}
 use Rattle.sch_assign.specs.Celled.{celled, celled_each, celled_lambdas}
 use Rattle.sch_assign.specs.Converted.{Low, Right, RightEach, RightLambdas}
@@ -10,7 +10,7 @@ use Rattle.sch_assign.specs.InRange.{InRange, EachInRange, LambdasInRange}
 use Rattle.sch_assign.specs.Table.{table, group_marked, marked, each_marked, lambdas_marked}
 use Rattle.sch_assign.proofs.Lookups.{apart, low_first, low_next}
 use Rattle.sch_assign.proofs.Loops.{marked_size}
-use Rattle.sch_assign.proofs.FreeMoved.{AllLow, low_with, same_test}
+use Rattle.sch_assign.proofs.kept.FreeMoved.{AllLow, low_with, same_test}
 
 or_assoc : (a b c : Bool) → ((a || b) || c) ≡ (a || (b || c))
 or_assoc true b c = refl

@@ -1,8 +1,8 @@
 -- Which variables get a cell: those that are assigned anywhere, and those of a Rec.
 use Rattle.std.specs.Prelude.{ℕ, Bool, false, ◌||◌, nat_eq}
 use Rattle.std.specs.List.{count_by}
-use Rattle.sch_word.specs.NumberSets.{has}
-use Rattle.sch_word.specs.Bindings.{numbers}
+use Rattle.sch_word.specs.trees.NumberSets.{has}
+use Rattle.sch_word.specs.trees.Bindings.{numbers}
 use Rattle.sch_cells.specs.Tree.{Tree, Trees, Lambdas, Source, constant, literal, variable, global, set_variable, set_global, define, branch, sequence, bind, fix, letrec, lambda, call, operation, new_cells, cell_get, cell_set, no_trees, and_tree, no_lambdas, and_lambda, count}
 use Rattle.sch_cells.specs.Valid.{bound_of}
 

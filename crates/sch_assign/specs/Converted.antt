@@ -1,7 +1,7 @@
 -- The tree without assignments for a tree with them.
 use Rattle.std.specs.Prelude.{◌≡◌, ℕ, zero, suc, ◌+◌, ◌<◌, Bool, true, false, List, [], ◌∷◌, Some, None}
 use Rattle.sch_cells.specs.Tree.{Tree, Trees, Lambdas, Source, constant, literal, variable, global, set_variable, set_global, define, branch, sequence, bind, fix, letrec, lambda, call, operation, new_cells, cell_get, cell_set, no_trees, and_tree, no_lambdas, and_lambda, count, count_lambdas}
-use Rattle.sch_word.specs.Bindings.{scope_with}
+use Rattle.sch_word.specs.trees.Bindings.{scope_with}
 use Rattle.sch_cells.specs.declared.tree.NewCell.{NewCell}
 use Rattle.sch_cells.specs.Variables.{assigns}
 use Rattle.sch_cells.specs.Clear.{In}
@@ -20,12 +20,12 @@ module _ (n : ℕ) where
   reading true x = cell_get (x + n)
   reading false x = variable x
 
-  -- the values of so many variables go into their cells
+  -- the values of m variables from x on go into their cells
   abbrev pub filling : (x m : ℕ) → Tree → Trees
   filling x zero e = and_tree e no_trees
   filling x (suc m) e = and_tree (cell_set (x + n) (variable x)) (filling (suc x) m e)
 
-  -- so many variables from x on are below n
+  -- the m variables from x on are below n
   pub record Low (x m : ℕ) : Type 0 where
     pub at : (i : ℕ) → i < m → x + i < n
 
@@ -35,7 +35,7 @@ wrapped (c ∷ cs) e = new_cells (c ∷ cs) e
 
 -- `has_cell` tells which variables have cells.
 module _ (has_cell : ℕ → Bool) (n : ℕ) where
-  -- a cell for each of so many variables from x on that becomes one
+  -- a cell for each of the m variables from x on that becomes one
   abbrev pub cells_for : (x m : ℕ) → List NewCell
   cells_for x zero = []
   cells_for x (suc m) = and_cell n (has_cell x) x (cells_for (suc x) m)

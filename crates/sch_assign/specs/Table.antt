@@ -9,7 +9,7 @@ told None = false
 abbrev pub table : List Bool → ℕ → Bool
 table bs x = told (slice_get bs x)
 
--- so many variables from x on get cells
+-- m variables from x on get cells
 abbrev pub group_marked : (x m : ℕ) → List Bool → List Bool
 group_marked x zero bs = bs
 group_marked x (suc m) bs = group_marked (suc x) m (slice_set bs x true)

@@ -2,8 +2,8 @@
 #![tactic(auto)]
 
 ghost use Rattle.std.specs.Prelude.{◌≡◌, ◌+◌, ◌*◌, ◌<◌, ◌≤◌, ◌^◌, ◌-◌, ℕ, false, length, replicate, IfOk, IsTrue};
-ghost use Rattle.sch_word.specs.Runs.{SameRuns};
-ghost use Rattle.sch_word.specs.StaticsView.{statics};
+ghost use Rattle.sch_word.specs.runs.Runs.{SameRuns};
+ghost use Rattle.sch_word.specs.values.StaticsView.{statics};
 ghost use Rattle.sch_cells.specs.Bodies.{bodies_of};
 ghost use Rattle.sch_cells.specs.BoxedMeaning as boxed;
 ghost use Rattle.sch_cells.specs.Measures.{call_sites_of, dropped_of, program_size, sites_of, tests_of};

@@ -26,7 +26,7 @@ pub(crate) fn variable_at(first: u32, place: usize) -> u32
     first + place as u32
 }
 
-// Each of so many variables from one on gets a cell.
+// Each of `count` variables from the first on gets a cell.
 fn mark_group(first: u32, count: usize, celled: &mut Vec<bool>)
     requires low { Low (length celled.old.items) first count }
     requires small { length celled.old.items < 2 ^ 32 }

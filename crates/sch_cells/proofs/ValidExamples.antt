@@ -3,7 +3,7 @@ use Rattle.std.proofs.Common.{◌≡◌, refl, ℕ, zero, suc, true, false, [], 
 use Rattle.std.specs.Prelude.{replicate}
 use Rattle.sch_word.specs.declared.constant.Const.TheVariants.{Character}
 use Rattle.sch_word.specs.declared.primitive.Primitive.TheVariants.{Car}
-use Rattle.sch_word.specs.Shape.{Procedure, procedure_fits, max_variables}
+use Rattle.sch_word.specs.trees.Shape.{Procedure, procedure_fits, max_variables}
 use Rattle.sch_cells.specs.Tree.{Tree, Source, constant, variable, global, literal, set_variable, branch, sequence, bind, fix, lambda, call, new_cells, cell_get, no_lambdas, and_lambda, trees}
 use Rattle.sch_cells.specs.Valid.{is_valid}
 use Rattle.sch_cells.specs.Examples.{number, put, two, function, apply, new_cell, program, let_of, assigned_formal, assigned_formal_boxed, unset_init}

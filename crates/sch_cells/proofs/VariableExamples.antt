@@ -4,9 +4,9 @@
 use Rattle.std.proofs.Common.{◌≡◌, ℕ, refl, false, List, [], ◌∷◌, None, Some}
 use Rattle.sch_word.specs.declared.constant.Const.TheVariants.{Boolean}
 use Rattle.sch_word.specs.declared.primitive.Primitive.TheVariants.{Add, Eq}
-use Rattle.sch_word.specs.Literals.{no_literals}
-use Rattle.sch_word.specs.Orders.{in_text_order}
-use Rattle.sch_word.specs.Runs.{Run}
+use Rattle.sch_word.specs.values.Literals.{no_literals}
+use Rattle.sch_word.specs.runs.Orders.{in_text_order}
+use Rattle.sch_word.specs.runs.Runs.{Run}
 use Rattle.sch_cells.specs.BoxedMeaning as boxed
 use Rattle.sch_cells.specs.Examples.{number, function, apply, new_cell, two, ends}
 use Rattle.sch_cells.specs.Tree.{Tree, Source, constant, variable, set_variable, set_global, define, branch, sequence, bind, fix, letrec, new_cells, cell_get, cell_set, no_lambdas, and_lambda, trees}

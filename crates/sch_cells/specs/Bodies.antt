@@ -1,8 +1,8 @@
 -- The bodies of a program, and how many variables each may need in the languages to come.
 use Rattle.std.specs.Prelude.{ℕ, zero, suc, ◌+◌, Bool, true, false, not, List, [], ◌∷◌, ◌++◌, length, codes, Option, Some, None}
 use Rattle.sch_cells.specs.Tree.{Tree, Trees, Lambdas, Source, constant, literal, variable, global, set_variable, set_global, define, branch, sequence, bind, fix, letrec, lambda, call, operation, new_cells, cell_get, cell_set, no_trees, and_tree, no_lambdas, and_lambda, count, count_lambdas}
-use Rattle.sch_word.specs.Bindings.{Bindings, bound_to, with_variables, without}
-use Rattle.sch_word.specs.Shape.{Procedure}
+use Rattle.sch_word.specs.trees.Bindings.{Bindings, bound_to, with_variables, without}
+use Rattle.sch_word.specs.trees.Shape.{Procedure}
 use Rattle.sch_cells.specs.declared.tree.NewCell.{NewCell}
 use Rattle.sch_cells.specs.Variables.{free, assigns}
 
@@ -28,7 +28,7 @@ abbrev pub one_unless : Bool → ℕ
 one_unless true = 0
 one_unless false = 1
 
--- of so many variables from x on, which are not assigned
+-- of the m variables from x on, which are not assigned
 abbrev pub unassigned : (x m : ℕ) → Tree → List Bool
 unassigned x zero e = []
 unassigned x (suc m) e = not (assigns e x) ∷ unassigned (suc x) m e

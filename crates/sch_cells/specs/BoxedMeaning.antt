@@ -2,15 +2,15 @@
 -- number of a cell.
 use Rattle.std.specs.Prelude.{ℕ, zero, suc, Bool, true, false, List, [], ◌∷◌, length, Option, Some, None}
 use Rattle.sch_word.specs.declared.answer.Answer.{Answer}
-use Rattle.sch_word.specs.Values.{Value, unspecified, constant_value, is_true, cell}
-use Rattle.sch_word.specs.Computation as computation
-use Rattle.sch_word.specs.Computation.{Outcome, State, Computation, gives, spent, unreached, after, either, in_store, all_values, in_turn, read_literal, read_global, write_global, read_cell, write_cell, new_procedure, new_group, take_entry, call_with}
-use Rattle.sch_word.specs.Charges.{charge, charge_each, fit}
-use Rattle.sch_word.specs.CellBytes.{cells_bytes}
-use Rattle.sch_word.specs.Bindings.{Bindings, with_variables, value_of}
-use Rattle.sch_word.specs.Orders.{Orders, order_at}
-use Rattle.sch_word.specs.PrimitiveRows.{primitive}
-use Rattle.sch_word.specs.Runs.{Runs, seen, starting_store, starting_state}
+use Rattle.sch_word.specs.values.Values.{Value, unspecified, constant_value, is_true, cell}
+use Rattle.sch_word.specs.runs.Computation as computation
+use Rattle.sch_word.specs.runs.Computation.{Outcome, State, Computation, gives, spent, unreached, after, either, in_store, all_values, in_turn, read_literal, read_global, write_global, read_cell, write_cell, new_procedure, new_group, take_entry, call_with}
+use Rattle.sch_word.specs.runs.Charges.{charge, charge_each, fit}
+use Rattle.sch_word.specs.values.CellBytes.{cells_bytes}
+use Rattle.sch_word.specs.trees.Bindings.{Bindings, with_variables, value_of}
+use Rattle.sch_word.specs.runs.Orders.{Orders, order_at}
+use Rattle.sch_word.specs.values.PrimitiveRows.{primitive}
+use Rattle.sch_word.specs.runs.Runs.{Runs, seen, starting_store, starting_state}
 use Rattle.sch_cells.specs.declared.tree.NewCell.{NewCell}
 use Rattle.sch_cells.specs.Tree.{Tree, Trees, Source, constant, literal, variable, global, set_variable, set_global, define, branch, sequence, bind, fix, letrec, lambda, call, operation, new_cells, cell_get, cell_set, no_trees, and_tree, count_lambdas}
 use Rattle.sch_cells.specs.Procedures.{Closure, closures, lambda_bytes, lambdas_bytes}
@@ -110,6 +110,6 @@ outcome p table heap depth answers entries =
     (starting_state (starting_store p.statics heap answers entries) (closures p.library []))
 
 -- what is seen of the run under an order table, with limits of heap and depth, against the answers of a
--- kernel and with at most so many procedure entries
+-- kernel and with at most a number of procedure entries
 abbrev pub run : Source → Runs
 run p table heap depth answers entries = seen answers entries (outcome p table heap depth answers entries)

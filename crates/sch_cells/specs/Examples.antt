@@ -4,8 +4,8 @@ use Rattle.std.specs.Prelude.{ℕ, false, pos, List, [], ◌∷◌, Option, Some
 use Rattle.sch_word.specs.declared.constant.Const.TheVariants.{Fixnum}
 use Rattle.sch_word.specs.declared.primitive.Primitive.{Primitive}
 use Rattle.sch_word.specs.declared.primitive.Primitive.TheVariants.{Add, Subtract, Equal, Put}
-use Rattle.sch_word.specs.Literals.{no_literals}
-use Rattle.sch_word.specs.Runs.{Run, ended}
+use Rattle.sch_word.specs.values.Literals.{no_literals}
+use Rattle.sch_word.specs.runs.Runs.{Run, ended}
 use Rattle.sch_cells.specs.declared.tree.NewCell.{NewCell}
 use Rattle.sch_cells.specs.Tree.{Tree, constant, variable, set_variable, branch, sequence, bind, fix, letrec, lambda, call, operation, new_cells, cell_get, cell_set, no_lambdas, and_lambda, trees, Source}
 
@@ -30,7 +30,7 @@ apply site f es = call site false f (trees es)
 abbrev pub new_cell : (variable : ℕ) → (content : Option ℕ) → NewCell
 new_cell x content = record { variable = x; content = content }
 
--- a program of forms, with so many variables and no globals
+-- a program of forms, with a number of variables and no globals
 abbrev pub program : (variables : ℕ) → (sites : List ℕ) → List Tree → Source
 program variables sites forms = record {
   statics = record { symbols = []; literals = no_literals; globals = [] };

@@ -1,8 +1,8 @@
 -- What is counted over a tree: any measure of its nodes, and its levels.
 use Rattle.std.specs.Prelude.{ℕ, ◌+◌, max, Bool, true, ◌&&◌, List, [], ◌++◌, length}
 use Rattle.sch_cells.specs.Tree.{Tree, Trees, Lambdas, Source, constant, literal, variable, global, set_variable, set_global, define, branch, sequence, bind, fix, letrec, lambda, call, operation, new_cells, cell_get, cell_set, no_trees, and_tree, no_lambdas, and_lambda, count, count_lambdas}
-use Rattle.sch_word.specs.Shape as shapes
-use Rattle.sch_word.specs.Shape.{Shape, site_of, call_site_of, tests_in, dropped_in, size_of, procedures_size}
+use Rattle.sch_word.specs.trees.Shape as shapes
+use Rattle.sch_word.specs.trees.Shape.{Shape, site_of, call_site_of, tests_in, dropped_in, size_of, procedures_size}
 use Rattle.sch_cells.specs.Bodies.{procedure, procedures}
 
 -- A measure of nodes over a whole tree: `here` at each node, the outer before the inner, in the order

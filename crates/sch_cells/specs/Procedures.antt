@@ -1,7 +1,7 @@
 -- The procedures of a run of a cell program, and what they are charged.
 use Rattle.std.specs.Prelude.{ℕ, Bool, List, [], ◌∷◌, length}
-use Rattle.sch_word.specs.Charges.{procedure_bytes}
-use Rattle.sch_word.specs.Bindings.{Bindings, without}
+use Rattle.sch_word.specs.runs.Charges.{procedure_bytes}
+use Rattle.sch_word.specs.trees.Bindings.{Bindings, without}
 use Rattle.sch_cells.specs.Tree.{Tree, Lambdas, no_lambdas, and_lambda}
 use Rattle.sch_cells.specs.Variables.{free}
 
@@ -18,7 +18,7 @@ abbrev pub closures : {A : Type 0} → Lambdas → Bindings A → List (Closure 
 closures no_lambdas environment = []
 closures (and_lambda name first formals rest e ls) environment = record { first = first; formals = formals; rest = rest; body = e; environment = environment } ∷ closures ls environment
 
--- what a procedure of so many formals from a variable on and this body is charged
+-- what a procedure of this body is charged, with its formals from a variable on
 abbrev pub lambda_bytes : (first formals : ℕ) → Tree → ℕ
 lambda_bytes first formals e = procedure_bytes (length (without first formals (free e)))
 

@@ -1,7 +1,7 @@
 -- The plain data of a program, from its parts.
 use Rattle.std.specs.Prelude.{ℕ, List}
 use Rattle.sch_word.specs.declared.statics.Statics as declared
-use Rattle.sch_word.specs.StaticsView.{statics}
+use Rattle.sch_word.specs.values.StaticsView.{statics}
 use Rattle.sch_cells.specs.declared.tree.Exp.{Exp}
 use Rattle.sch_cells.specs.declared.tree.Lambda.{Lambda}
 use Rattle.sch_cells.specs.Tree.{Source}

@@ -1,6 +1,6 @@
 -- Which programs are straight code.
 use Rattle.std.specs.Prelude.{Bool, true, false, ◌&&◌}
-use Rattle.sch_word.specs.Straight.{is_straight_node}
+use Rattle.sch_word.specs.trees.Straight.{is_straight_node}
 use Rattle.sch_cells.specs.Tree.{Tree, Trees, Lambdas, no_lambdas, and_lambda, Source}
 use Rattle.sch_cells.specs.Measures.{over, over_each, shape}
 

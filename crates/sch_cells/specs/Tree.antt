@@ -3,7 +3,7 @@
 use Rattle.std.specs.Prelude.{ℕ, suc, Bool, List, [], ◌∷◌}
 use Rattle.sch_word.specs.declared.constant.Const.{Const}
 use Rattle.sch_word.specs.declared.primitive.Primitive.{Primitive}
-use Rattle.sch_word.specs.Runs.{Statics}
+use Rattle.sch_word.specs.runs.Runs.{Statics}
 use Rattle.sch_cells.specs.declared.tree.NewCell.{NewCell}
 
 -- `first` is the number of the first variable that a node binds; the others follow it. `new_cells` binds

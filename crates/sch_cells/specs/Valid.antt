@@ -1,9 +1,9 @@
 -- Which cell programs are valid.
 use Rattle.std.specs.Prelude.{ℕ, zero, suc, ◌*◌, Bool, true, false, ◌&&◌, ◌||◌, not, nat_le, List, [], ◌++◌, length}
-use Rattle.sch_word.specs.Literals.{count_literals}
-use Rattle.sch_word.specs.Runs.{statics_valid, statics_in_range}
-use Rattle.sch_word.specs.Shape as shapes
-use Rattle.sch_word.specs.Shape.{Shape, names_known, constant_in_range, well_formed, fits, procedures_fit, sites_once, max_levels, max_variables}
+use Rattle.sch_word.specs.values.Literals.{count_literals}
+use Rattle.sch_word.specs.runs.Runs.{statics_valid, statics_in_range}
+use Rattle.sch_word.specs.trees.Shape as shapes
+use Rattle.sch_word.specs.trees.Shape.{Shape, names_known, constant_in_range, well_formed, fits, procedures_fit, sites_once, max_levels, max_variables}
 use Rattle.sch_cells.specs.Tree.{Tree, Trees, Lambdas, Source, fix, no_trees, and_tree, count_lambdas}
 use Rattle.sch_cells.specs.Variables.{assigns, assigns_lambdas, bound_each, bound_lambdas, closed_each, closed_lambdas, distinct, below}
 use Rattle.sch_cells.specs.Bodies.{variables, procedures}
@@ -30,7 +30,7 @@ has_form boxed shapes.cell_get = boxed
 has_form boxed shapes.cell_set = boxed
 has_form boxed _ = true
 
--- none of so many variables from x on is assigned
+-- none of the m variables from x on is assigned
 abbrev pub none_assigned : (x m : ℕ) → Lambdas → Tree → Bool
 none_assigned x zero ls e = true
 none_assigned x (suc m) ls e = not (assigns_lambdas ls x || assigns e x) && none_assigned (suc x) m ls e

@@ -1,8 +1,8 @@
 -- Which variables are free, which are assigned, and which are bound.
 use Rattle.std.specs.Prelude.{ℕ, zero, suc, Bool, true, false, not, ◌&&◌, ◌||◌, nat_eq, nat_lt, List, [], ◌∷◌, ◌++◌, Option, Some, None}
-use Rattle.sch_word.specs.NumberSets.{has, insert, union}
-use Rattle.sch_word.specs.Bindings.{numbers, scope_with, remove, without}
-use Rattle.sch_word.specs.CellBytes.{where_assigned}
+use Rattle.sch_word.specs.trees.NumberSets.{has, insert, union}
+use Rattle.sch_word.specs.trees.Bindings.{numbers, scope_with, remove, without}
+use Rattle.sch_word.specs.values.CellBytes.{where_assigned}
 use Rattle.sch_cells.specs.declared.tree.NewCell.{NewCell}
 use Rattle.sch_cells.specs.Tree.{Tree, Trees, Lambdas, constant, literal, variable, global, set_variable, set_global, define, branch, sequence, bind, fix, letrec, lambda, call, operation, new_cells, cell_get, cell_set, no_trees, and_tree, no_lambdas, and_lambda, count, count_lambdas}
 
@@ -124,7 +124,7 @@ abbrev mutual
   bound_lambdas no_lambdas = []
   bound_lambdas (and_lambda name first formals rest e ls) = numbers first formals ++ (bound e ++ bound_lambdas ls)
 
--- the charges for the cells of so many variables from x on: one for each that the tree assigns
+-- the charges for the cells of m variables from x on: one for each that the tree assigns
 abbrev pub cells_of : (x m : ℕ) → Tree → List ℕ
 cells_of x zero e = []
 cells_of x (suc m) e = where_assigned (assigns e x) (cells_of (suc x) m e)

@@ -1,7 +1,7 @@
 -- The causes of the statuses exclude one another.
 use Rattle.std.proofs.Common.{◌≡◌, ◌≢◌, ◌≤◌, ◌<◌, ◌&&◌, cond, Bool, true, false, ℕ, List, [], ◌∷◌, length, Option, Some, None, refl, sym, ap, ◌∙◌, subst, arith, Result, Ok, Err, IsTrue}
 use Rattle.std.specs.Prelude.{⊤}
-use Rattle.sch_word.specs.ProgramLayout.{max_text_size}
+use Rattle.sch_word.specs.runs.ProgramLayout.{max_text_size}
 use Rattle.sch_lang.specs.Tree.{Expressions, no_expressions, and_expression, Source}
 use Rattle.sch_lang.specs.Straight.{are_straight, first_other, is_straight, is_straight_program, no_procedures}
 use Rattle.sch_read.specs.Answer as reading
@@ -10,7 +10,7 @@ use Rattle.sch_read.specs.Grammar.{Data, bad_token, bad_number, bad_string}
 use Rattle.sch_read.specs.Text.{Spells, HasFault}
 use Rattle.sch_read.specs.declared.error.ReadError.{ReadError}
 use Rattle.sch_read.specs.declared.error.ReadError.TheVariants as read
-use Rattle.sch_read.proofs.TextAnswers.{spells_faultless, spells_one, fault_one}
+use Rattle.sch_read.proofs.texts.TextAnswers.{spells_faultless, spells_one, fault_one}
 use Rattle.sch_core.specs.Answer as expanding
 use Rattle.sch_core.specs.declared.error.CoreError.{CoreError}
 use Rattle.sch_core.specs.declared.error.CoreError.TheVariants as core

@@ -2,26 +2,24 @@
 use Rattle.std.proofs.Common.{◌≡◌, ℕ, zero, suc, List, [], refl, sym, ap, ◌∙◌, subst, arith}
 use Rattle.std.specs.Prelude.{slice_index_or}
 use Rattle.sch_word.specs.declared.answer.Answer.{Answer}
-use Rattle.sch_word.specs.declared.answer.Answer.TheVariants.{Took, Failed}
 use Rattle.sch_word.specs.declared.stop.Stop.{Stop}
 use Rattle.sch_word.specs.declared.stop.Stop.TheVariants.{WrongType, OutOfRange, NotProcedure, WrongCount, DivideByZero, Overflow, HeapLimit, DepthLimit, Unset, OutputFailed}
-use Rattle.sch_word.specs.Computation.{Outcome, State as states, gives, stops, spent}
-use Rattle.sch_word.specs.Runs.{End, Run, ended, going}
-use Rattle.sch_word.specs.Runs.{seen as observed}
-use Rattle.sch_word.specs.Stops.{status_of}
-use Rattle.sch_word.specs.Values.{Value}
+use Rattle.sch_word.specs.runs.Computation.{Outcome, State as states, gives, stops, spent}
+use Rattle.sch_word.specs.runs.Runs.{End, Run, ended, going}
+use Rattle.sch_word.specs.runs.Runs.{seen as observed}
+use Rattle.sch_word.specs.runs.Stops.{status_of}
+use Rattle.sch_word.specs.values.Values.{Value}
 use Rattle.sch_elf.specs.declared.image.Image.{Image}
 use Rattle.sch_elf.specs.Layout.{memory}
 use Rattle.sch_insn.specs.Machine.{unknown_flags}
 use Rattle.sch_insn.specs.Step.{Progress, Runs, Exited, Stuck, mach}
 use Rattle.sch_insn.specs.Behaves.{FollowsRuns, Given, IsPrefix, output_of, exit_of}
-use Rattle.sch_lang.specs.Laws as laws
 use Rattle.sch_lang.specs.Tree as tree
 use Rattle.sch_lang.specs.Meaning.{Closure}
 use Rattle.sch_lang.specs.Run.{outcome, run}
 use Rattle.sch_lang.proofs.OutputFails.{fails_by_answer, refused_gives}
 use Rattle.sch_driver.specs.Headline.{IsImageOf}
-use Rattle.sch_step.specs.Run.{TakesNothing}
+use Rattle.sch_word.specs.runs.Answers.{TakesNothing}
 use Rattle.sch_step.specs.declared.ends.RunEnd.{RunEnd}
 use Rattle.sch_cli.specs.declared.status.Status.{Status}
 use Rattle.sch_cli.specs.declared.status.Status.TheVariants.{Stopped}
@@ -95,12 +93,6 @@ module _ (image : Image) (p : tree.Source) (table : List (List ℕ)) (heap depth
 end_number : (runs : List Answer → ℕ → Run) (steps : ℕ) (answers : List Answer) (status : Status) (output : List ℕ) → status ≡ Stopped OutputFailed → EndsAs runs steps answers status output → (runs answers steps).end ≡ ended 74
 end_number runs steps answers status output is h = (subst (λ s. EndsAs runs steps answers s output) is h).0
 
--- an answer that takes nothing by the core language does so by the machine
-same_nothing : (answer : Answer) → laws.TakesNothing answer → TakesNothing answer
-same_nothing (Took zero) h = tt
-same_nothing (Took (suc k)) h = absurd h
-same_nothing Failed h = tt
-
 pub runs_program : (p : tree.Source) (table : List (List ℕ)) (heap depth : ℕ) (image : Image) (steps : ℕ) (end : RunEnd) (out : StreamChange) → IsImageOf image p table heap depth → Executes image steps end out →
     RunsProgram p table heap depth steps end out
 runs_program p table heap depth image steps end out does executed =
@@ -117,5 +109,5 @@ runs_program p table heap depth image steps end out does executed =
       output_failed = λ is.
           refused_gives (StreamFailed out) executed.given
           ((fails_by_answer p).nothing_taken table heap depth executed.given steps (end_number runs steps executed.given (end_status end) executed.output is given))
-          (λ k d lt h. executed.refused k d lt (same_nothing (slice_index_or executed.given k d) h));
+          executed.refused;
     }

@@ -7,7 +7,7 @@ use Rattle.sch_elf.specs.Layout.{memory}
 use Rattle.sch_insn.specs.Machine.{State}
 use Rattle.sch_insn.specs.Step.{Progress, Runs, Exited, Stuck, mach}
 use Rattle.sch_insn.specs.Behaves.{output_of, start, zeros}
-use Rattle.sch_step.specs.Run.{TakesNothing}
+use Rattle.sch_word.specs.runs.Answers.{TakesNothing}
 use Rattle.sch_step.specs.declared.ends.RunEnd.{RunEnd}
 use Rattle.sch_step.specs.declared.ends.RunEnd.TheVariants as run_end
 use Rattle.sch_cli.specs.Seen.{StreamChange, BytesChange, StreamFailed}

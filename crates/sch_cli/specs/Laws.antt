@@ -1,6 +1,6 @@
 -- That the causes of the statuses exclude one another.
 use Rattle.std.specs.Prelude.{◌≡◌, ◌≢◌, ◌≤◌, ℕ, List, Result, Ok, Err, ⊤}
-use Rattle.sch_word.specs.ProgramLayout.{max_text_size}
+use Rattle.sch_word.specs.runs.ProgramLayout.{max_text_size}
 use Rattle.sch_lang.specs.Tree as tree
 use Rattle.sch_driver.specs.Causes.{IsBuilt, text_bound}
 use Rattle.sch_driver.specs.declared.error.CompileError.TheVariants.{TextTooLarge}

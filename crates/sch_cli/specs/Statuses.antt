@@ -1,6 +1,6 @@
 -- The program's exit statuses.
 use Rattle.std.specs.Prelude.{ℕ, ◌==◌, Option, Some, None, if◌then◌else◌}
-use Rattle.sch_word.specs.Stops.{status_of, stop_of}
+use Rattle.sch_word.specs.runs.Stops.{status_of, stop_of}
 use Rattle.sch_word.specs.declared.stop.Stop.{Stop}
 use Rattle.sch_step.specs.declared.ends.RunEnd.{RunEnd}
 use Rattle.sch_step.specs.declared.ends.RunEnd.TheVariants as run_end

@@ -2,7 +2,7 @@
 use Rattle.std.specs.Prelude.{◌≡◌, ◌≤◌, ◌<◌, ℕ, List, length, Result, Ok, Err}
 use Rattle.sch_word.specs.declared.answer.Answer.{Answer}
 use Rattle.sch_word.specs.declared.stop.Stop.TheVariants.{OutputFailed}
-use Rattle.sch_word.specs.Runs.{Run, ended}
+use Rattle.sch_word.specs.runs.Runs.{Run, ended}
 use Rattle.sch_io.specs.Told.{Tells}
 use Rattle.sch_elf.specs.declared.error.ImageError.{ImageError}
 use Rattle.sch_elf.specs.declared.image.Image.{Image}

@@ -5,8 +5,8 @@ use Rattle.std.proofs.lemmas.Bool.{eqb-true, eq-eqb, lt-ltb, leb-true}
 use Rattle.std.proofs.Math.Dec.{leb-suc-zero, leb-suc-suc}
 use Rattle.std.proofs.lemmas.List.{reverse-append, drop_all, get_or_default}
 use Rattle.std.proofs.Math.Seq.{take-suc, take-length}
-use Rattle.sch_word.specs.NumberSets.{has, unless, insert, union}
-use Rattle.sch_word.specs.Bindings.{numbers, remove, without}
+use Rattle.sch_word.specs.trees.NumberSets.{has, unless, insert, union}
+use Rattle.sch_word.specs.trees.Bindings.{numbers, remove, without}
 use Rattle.sch_word.proofs.Walking.{next_left}
 use Rattle.sch_cells.specs.declared.tree.Exp.{Exp}
 use Rattle.sch_cells.specs.declared.tree.Lambda.{Lambda}

@@ -3,7 +3,7 @@ use Rattle.std.proofs.Common.{◌≡◌, ℕ, zero, suc, ◌+◌, ◌<◌, ◌�
 use Rattle.std.specs.Prelude.{nat_eq, slice_get, slice_set, Option, Some, None}
 use Rattle.std.proofs.lemmas.List.{drop_all, get_or_default}
 use Rattle.std.proofs.lemmas.Bool.{eq-eqb}
-use Rattle.sch_word.specs.Walk.{onto}
+use Rattle.sch_word.specs.trees.Walk.{onto}
 use Rattle.sch_word.proofs.Walking.{next_made, next_count, next_left, end_made}
 use Rattle.sch_cells.specs.declared.tree.Exp.{Exp}
 use Rattle.sch_cells.specs.declared.tree.Lambda.{Lambda}

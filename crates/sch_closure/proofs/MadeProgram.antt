@@ -1,7 +1,7 @@
 -- What the two walks make of a program is its flat program.
 use Rattle.std.proofs.Common.{◌≡◌, ℕ, suc, ◌+◌, ◌<◌, ◌≤◌, List, [], ◌++◌, length, map, reverse, refl, sym, ap, ◌∙◌, arith, append-nil, length-append}
 use Rattle.sch_word.specs.declared.statics.Statics as declared
-use Rattle.sch_word.specs.StaticsView.{statics}
+use Rattle.sch_word.specs.values.StaticsView.{statics}
 use Rattle.sch_cells.specs.Tree.{Source, Tree, Trees, Lambdas, constant, literal, variable, global, set_variable, set_global, define, branch, sequence, bind, fix, letrec, lambda, call, operation, new_cells, cell_get, cell_set, no_trees, and_tree, no_lambdas, and_lambda}
 use Rattle.sch_cells.specs.Bodies as bodies
 use Rattle.sch_flat.specs.declared.tree.Exp as to

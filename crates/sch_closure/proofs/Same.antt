@@ -2,15 +2,15 @@
 use Rattle.std.proofs.Common.{◌≡◌, ℕ, zero, suc, ◌+◌, Bool, true, false, List, [], ◌∷◌, ◌++◌, length, map, Option, Some, None, refl, sym, ap, ◌∙◌, arith, append_assoc, length-append}
 use Rattle.std.specs.Prelude.{slice_get, nat_eq, ◌||◌}
 use Rattle.std.proofs.lemmas.Bool.{eqb-true}
-use Rattle.sch_word.specs.Values.{Value, unspecified, is_true, cell, fixnum, character, boolean, nil, symbol, object, procedure}
-use Rattle.sch_word.specs.NumberSets.{has, union}
-use Rattle.sch_word.specs.Bindings.{Bindings, bound_to, this_or, value_or, value_of, with_variables, numbers, scope_with, remove, without}
-use Rattle.sch_word.specs.Computation.{Computation, read_literal, read_global, write_global, take_entry}
-use Rattle.sch_word.specs.Charges.{charge, charge_each, procedure_bytes, fit}
-use Rattle.sch_word.specs.CellBytes.{cells_bytes}
-use Rattle.sch_word.specs.Orders.{Orders, order_at}
-use Rattle.sch_word.specs.PrimitiveRows.{primitive}
-use Rattle.sch_word.specs.Runs.{SameRuns, starting_store}
+use Rattle.sch_word.specs.values.Values.{Value, unspecified, is_true, cell, fixnum, character, boolean, nil, symbol, object, procedure}
+use Rattle.sch_word.specs.trees.NumberSets.{has, union}
+use Rattle.sch_word.specs.trees.Bindings.{Bindings, bound_to, this_or, value_or, value_of, with_variables, numbers, scope_with, remove, without}
+use Rattle.sch_word.specs.runs.Computation.{Computation, read_literal, read_global, write_global, take_entry}
+use Rattle.sch_word.specs.runs.Charges.{charge, charge_each, procedure_bytes, fit}
+use Rattle.sch_word.specs.values.CellBytes.{cells_bytes}
+use Rattle.sch_word.specs.runs.Orders.{Orders, order_at}
+use Rattle.sch_word.specs.values.PrimitiveRows.{primitive}
+use Rattle.sch_word.specs.runs.Runs.{SameRuns, starting_store}
 use Rattle.sch_word.proofs.Similar.{EachSimilar, no_similar, and_similar, similar_gives, similar_spent, similar_unreached, similar_either, similar_then, similar_all_values, similar_in_turn}
 use Rattle.sch_word.proofs.SameStore.{same_store, Pairs, no_pairs, and_pair, DoesSame, same_in_store, keeps_in_store, same_read_cell, same_write_cell, same_new_procedure, keeps_new_cells, keeps_new_group, same_keeping, same_call, same_seen, fit_length}
 use Rattle.sch_cells.specs.declared.tree.NewCell.{NewCell}

@@ -3,8 +3,8 @@ use Rattle.std.proofs.Common.{◌≡◌, ℕ, zero, suc, Bool, true, false, List
 use Rattle.std.specs.Prelude.{nat_eq}
 use Rattle.std.proofs.lemmas.Bool.{eqb-true, eq-eqb}
 use Rattle.std.specs.Prelude.{◌||◌}
-use Rattle.sch_word.specs.NumberSets.{has, unless, insert, union}
-use Rattle.sch_word.specs.Bindings.{remove, without, scope_with}
+use Rattle.sch_word.specs.trees.NumberSets.{has, unless, insert, union}
+use Rattle.sch_word.specs.trees.Bindings.{remove, without, scope_with}
 use Rattle.sch_cells.specs.Clear.{In}
 use Rattle.sch_cells.specs.Variables.{scope_of, without_each}
 

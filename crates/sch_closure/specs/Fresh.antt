@@ -1,7 +1,7 @@
 -- What holds of the trees of a valid program: no variable that a body binds is a field of its record, and the
 -- nodes are those without assignments. And where the bodies of a tree stand.
 use Rattle.std.specs.Prelude.{◌≡◌, ℕ, suc, ◌+◌, Bool, List, slice_get, Some}
-use Rattle.sch_word.specs.Bindings.{numbers}
+use Rattle.sch_word.specs.trees.Bindings.{numbers}
 use Rattle.sch_cells.specs.Tree.{Tree, Trees, Lambdas, constant, literal, variable, global, set_variable, set_global, define, branch, sequence, bind, fix, letrec, lambda, call, operation, new_cells, cell_get, cell_set, no_trees, and_tree, no_lambdas, and_lambda, count, count_lambdas}
 use Rattle.sch_cells.specs.Variables.{cells_bound}
 use Rattle.sch_cells.specs.Clear.{Apart}

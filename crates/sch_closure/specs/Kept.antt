@@ -2,7 +2,7 @@
 -- each without those inside it.
 use Rattle.std.specs.Prelude.{◌≡◌, Bool, false, List, [], ◌∷◌, ◌++◌}
 use Rattle.std.specs.List.{count_by}
-use Rattle.sch_word.specs.Shape.{Procedure}
+use Rattle.sch_word.specs.trees.Shape.{Procedure}
 use Rattle.sch_cells.specs.Tree as from
 use Rattle.sch_cells.specs.Bodies.{bodies_lambdas, bodies_each, form, form_name}
 use Rattle.sch_flat.specs.Tree as to

@@ -1,8 +1,8 @@
 -- What the walks over a tree add to what they have found and made before. The free variables are found from
 -- the end of the text to its beginning, and bodies are made from its beginning on.
 use Rattle.std.specs.Prelude.{ℕ, List, [], ◌∷◌, ◌++◌, length}
-use Rattle.sch_word.specs.NumberSets.{insert, union}
-use Rattle.sch_word.specs.Bindings.{without}
+use Rattle.sch_word.specs.trees.NumberSets.{insert, union}
+use Rattle.sch_word.specs.trees.Bindings.{without}
 use Rattle.sch_cells.specs.declared.tree.NewCell.{NewCell}
 use Rattle.sch_cells.specs.Tree.{Tree, Trees, Lambdas, constant, literal, variable, global, set_variable, set_global, define, branch, sequence, bind, fix, letrec, lambda, call, operation, new_cells, cell_get, cell_set, no_trees, and_tree, no_lambdas, and_lambda, count, count_lambdas}
 use Rattle.sch_cells.specs.Variables.{cells_bound, and_some, without_each}

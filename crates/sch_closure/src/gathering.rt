@@ -6,8 +6,8 @@
 
 ghost use Rattle.std.specs.Prelude.{◌≡◌, [], ◌∷◌, reverse, IfOk, OnOk};
 ghost use Rattle.sch_cells.specs.Tree as plain;
-ghost use Rattle.sch_word.specs.Bindings.{numbers, without};
-ghost use Rattle.sch_word.specs.NumberSets.{has, insert, union};
+ghost use Rattle.sch_word.specs.trees.Bindings.{numbers, without};
+ghost use Rattle.sch_word.specs.trees.NumberSets.{has, insert, union};
 ghost use Rattle.sch_cells.specs.Variables.{cells_bound, without_each};
 ghost use Rattle.sch_cells.specs.View.{tree, trees_of, lambdas_of};
 ghost use Rattle.sch_closure.specs.Walked.{found, found_cells, found_each, found_lambdas, fields_found, fields_of_each, fields_of_lambdas};
@@ -48,7 +48,7 @@ fn insert_each(more: &[u32], xs: &mut Vec<u32>) -> Result<(), Mem>
     Ok(())
 }
 
-// Those that are none of so many variables from one on.
+// Those that are none of the `count` variables from the first on.
 fn outside_group(alloc: Global, first: u32, count: usize, xs: &[u32]) -> Result<Vec<u32>, Mem>
     ensures { IfOk result (λ left. reverse left.items ≡ without first count (reverse xs.now)) }
 {
@@ -61,7 +61,7 @@ fn outside_group(alloc: Global, first: u32, count: usize, xs: &[u32]) -> Result<
     Ok(left)
 }
 
-// Whether a variable is one of so many from one on.
+// Whether a variable is one of the `count` from the first on.
 fn is_in_group(x: u32, first: u32, count: usize) -> bool
     ensures { result ≡ has x (numbers first count) }
 {

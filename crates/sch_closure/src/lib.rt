@@ -2,8 +2,8 @@
 #![tactic(auto)]
 
 ghost use Rattle.std.specs.Prelude.{◌≡◌, ◌<◌, ◌^◌, ◌-◌, length, map, IfOk, IsTrue};
-ghost use Rattle.sch_word.specs.Runs.{SameRuns};
-ghost use Rattle.sch_word.specs.StaticsView.{statics};
+ghost use Rattle.sch_word.specs.runs.Runs.{SameRuns};
+ghost use Rattle.sch_word.specs.values.StaticsView.{statics};
 ghost use Rattle.sch_cells.specs.Bodies.{bodies_of};
 ghost use Rattle.sch_cells.specs.BoxedMeaning.{run};
 ghost use Rattle.sch_cells.specs.ProgramView.{source};

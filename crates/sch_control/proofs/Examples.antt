@@ -5,10 +5,10 @@ use Rattle.std.specs.List.{list_all}
 use Rattle.std.specs.Fmt.{signed_decimal}
 use Rattle.sch_word.specs.declared.constant.Const.TheVariants.{Fixnum, Boolean, Nil}
 use Rattle.sch_word.specs.declared.primitive.Primitive.TheVariants.{Subtract, Multiply, Less, Equal, Put, IsNull}
-use Rattle.sch_word.specs.Literals.{no_literals}
-use Rattle.sch_word.specs.Values.{fixnum, boolean, procedure}
-use Rattle.sch_word.specs.Computation.{gives}
-use Rattle.sch_word.specs.Runs.{Run, End, ended, going, starting_store, starting_state}
+use Rattle.sch_word.specs.values.Literals.{no_literals}
+use Rattle.sch_word.specs.values.Values.{fixnum, boolean, procedure}
+use Rattle.sch_word.specs.runs.Computation.{gives}
+use Rattle.sch_word.specs.runs.Runs.{Run, End, ended, going, starting_store, starting_state}
 use Rattle.sch_control.specs.declared.mark.MarkKind.TheVariants.{Save, Restore, Call, Return}
 use Rattle.sch_control.specs.declared.operation.Atom.TheVariants.{Constant, Variable}
 use Rattle.sch_control.specs.declared.operation.Operand.{Operand}
@@ -54,7 +54,7 @@ program globals bodies sites bound = record {
   bound = bound;
 }
 
--- the run of a program with 4,096 bytes of heap, no kernel answers, and so much depth and so many entries
+-- the run of a program with 4,096 bytes of heap, no kernel answers, and limits of depth and entries
 abbrev pub runs : Source → (depth entries : ℕ) → Option Run
 runs p depth entries = run p 4096 depth [] entries
 

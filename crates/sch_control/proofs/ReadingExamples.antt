@@ -2,8 +2,8 @@
 use Rattle.std.proofs.Common.{◌≡◌, refl, ℕ, Bool, true, false, List, [], ◌∷◌, Option, Some, None}
 use Rattle.std.specs.Prelude.{not, nat_eq, ◌||◌, cond}
 use Rattle.sch_word.specs.declared.primitive.Primitive.TheVariants.{IsNull}
-use Rattle.sch_word.specs.Values.{Value, procedure}
-use Rattle.sch_word.specs.Computation.{gives}
+use Rattle.sch_word.specs.values.Values.{Value, procedure}
+use Rattle.sch_word.specs.runs.Computation.{gives}
 use Rattle.sch_control.specs.declared.mark.MarkKind.{MarkKind}
 use Rattle.sch_control.specs.declared.mark.MarkKind.TheVariants.{Enter, Save, Restore, Spill, Temp, Argument, Call, Return, Tail}
 use Rattle.sch_control.specs.declared.operation.Operation.TheVariants as operation

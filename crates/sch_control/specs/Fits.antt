@@ -1,6 +1,6 @@
 -- Which order tables fit a program.
 use Rattle.std.specs.Prelude.{ℕ, Bool, true, false, ◌&&◌, nat_eq, List, [], ◌∷◌}
-use Rattle.sch_word.specs.Orders.{is_permutation}
+use Rattle.sch_word.specs.runs.Orders.{is_permutation}
 use Rattle.sch_control.specs.Tree.{Source}
 
 abbrev pub begins_with : List ℕ → List ℕ → Bool

@@ -1,11 +1,11 @@
 -- What a body does. One evaluator serves all readings of the tree; they differ in what a call keeps and in
 -- which marks are left.
 use Rattle.std.specs.Prelude.{ℕ, zero, suc, Bool, true, false, ◌||◌, cond, nat_eq, List, [], ◌∷◌, ◌++◌, length, Option, Some, None, slice_get}
-use Rattle.sch_word.specs.Values.{Value, unspecified, is_true}
-use Rattle.sch_word.specs.NumberSets.{has, unless}
-use Rattle.sch_word.specs.Checked.{Checked, passes, refused, exhausted, unreachable}
-use Rattle.sch_word.specs.Computation.{unreached, Outcome, gives, stops, spent, State, in_store, procedures_from, Entry, checked_call}
-use Rattle.sch_word.specs.Charges.{charge_each}
+use Rattle.sch_word.specs.values.Values.{Value, unspecified, is_true}
+use Rattle.sch_word.specs.trees.NumberSets.{has, unless}
+use Rattle.sch_word.specs.values.Checked.{Checked, passes, refused, exhausted, unreachable}
+use Rattle.sch_word.specs.runs.Computation.{unreached, Outcome, gives, stops, spent, State, in_store, procedures_from, Entry, checked_call}
+use Rattle.sch_word.specs.runs.Charges.{charge_each}
 use Rattle.sch_control.specs.declared.mark.MarkKind.{MarkKind}
 use Rattle.sch_control.specs.declared.mark.MarkKind.TheVariants.{Save, Restore, Spill, Call, Return, Tail}
 use Rattle.sch_control.specs.declared.operation.Member.{Member}

@@ -1,10 +1,10 @@
 -- What is seen of a program's run.
 use Rattle.std.specs.Prelude.{ℕ, zero, suc, List, [], ◌∷◌, Option, Some, None, slice_get}
 use Rattle.sch_word.specs.declared.answer.Answer.{Answer}
-use Rattle.sch_word.specs.Values.{Value, unspecified}
-use Rattle.sch_word.specs.Computation.{gives, spent, in_store, take_entry}
-use Rattle.sch_word.specs.Charges.{fit}
-use Rattle.sch_word.specs.Runs.{Run, Statics, seen_in, starting_store, starting_state}
+use Rattle.sch_word.specs.values.Values.{Value, unspecified}
+use Rattle.sch_word.specs.runs.Computation.{gives, spent, in_store, take_entry}
+use Rattle.sch_word.specs.runs.Charges.{fit}
+use Rattle.sch_word.specs.runs.Runs.{Run, Statics, seen_in, starting_store, starting_state}
 use Rattle.sch_control.specs.declared.mark.MarkKind.TheVariants.{Enter}
 use Rattle.sch_control.specs.declared.body.Entry.{Entry}
 use Rattle.sch_control.specs.Tree.{Code, Source}
@@ -86,7 +86,7 @@ abbrev pub seen_of : List Answer → (entries : ℕ) → Result → Option Run
 seen_of answers entries None = None
 seen_of answers entries (Some o) = Some (seen_in (λ w. w.state.store) answers entries o)
 
--- the run, with limits of heap and depth, against the answers of a kernel and with at most so many procedure
+-- the run, with limits of heap and depth, against the answers of a kernel and with at most a number of procedure
 -- entries; none where the program is wrong
 abbrev pub run : Source → (heap depth : ℕ) → List Answer → (entries : ℕ) → Option Run
 run p heap depth answers entries =

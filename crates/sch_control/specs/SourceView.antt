@@ -1,7 +1,7 @@
 -- The plain data of a program of the program's type, from its parts.
 use Rattle.std.specs.Prelude.{ℕ, List, [], ◌∷◌}
 use Rattle.sch_word.specs.declared.statics.Statics.{Statics}
-use Rattle.sch_word.specs.StaticsView as view
+use Rattle.sch_word.specs.values.StaticsView as view
 use Rattle.sch_control.specs.declared.body.Body.{Body}
 use Rattle.sch_control.specs.Tree.{Code, Source}
 use Rattle.sch_control.specs.View.{code}

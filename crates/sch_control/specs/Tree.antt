@@ -1,7 +1,7 @@
 -- The language Control as plain data. After the language of flat closures: operands are simple, what is
 -- not is bound, and a body says where its procedure returns.
 use Rattle.std.specs.Prelude.{ℕ, List, Option}
-use Rattle.sch_word.specs.Runs.{Statics}
+use Rattle.sch_word.specs.runs.Runs.{Statics}
 use Rattle.sch_control.specs.declared.body.Entry.{Entry}
 use Rattle.sch_control.specs.declared.operation.Operation.{Operation}
 use Rattle.sch_control.specs.declared.operation.Application.{Application}

@@ -3,12 +3,12 @@ use Rattle.std.specs.Prelude.{ℕ, ◌+◌, Bool, true, false, ◌&&◌, ◌||�
 use Rattle.std.specs.List.{list_all, count_by}
 use Rattle.sch_word.specs.declared.primitive.Primitive.{Primitive}
 use Rattle.sch_word.specs.declared.primitive.Primitive.TheVariants.{Eq, Eqv, IsBoolean, IsPair, IsNull, IsSymbol, IsInteger, IsChar, IsString, IsVector, IsProcedure}
-use Rattle.sch_word.specs.Primitives.{operands_of}
-use Rattle.sch_word.specs.Values.{is_constant}
-use Rattle.sch_word.specs.Literals.{count_literals, constant_known}
-use Rattle.sch_word.specs.NumberSets.{has}
-use Rattle.sch_word.specs.Runs.{statics_valid, statics_in_range}
-use Rattle.sch_word.specs.Shape.{max_operands, max_variables, max_free_variables, is_width}
+use Rattle.sch_word.specs.values.Primitives.{operands_of}
+use Rattle.sch_word.specs.values.Values.{is_constant}
+use Rattle.sch_word.specs.values.Literals.{count_literals, constant_known}
+use Rattle.sch_word.specs.trees.NumberSets.{has}
+use Rattle.sch_word.specs.runs.Runs.{statics_valid, statics_in_range}
+use Rattle.sch_word.specs.trees.Shape.{max_operands, max_variables, max_free_variables, is_width}
 use Rattle.sch_control.specs.declared.body.Entry.{Entry}
 use Rattle.sch_control.specs.declared.operation.Atom.{Atom}
 use Rattle.sch_control.specs.declared.operation.Atom.TheVariants.{Constant, Literal, Variable}

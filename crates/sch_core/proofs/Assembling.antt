@@ -1,15 +1,15 @@
 -- The program of drafts, from the parts that were made.
 use Rattle.std.proofs.Common.{◌≡◌, ℕ, Bool, true, false, List, [], ◌∷◌, ◌++◌, length, replicate, Option, None, refl, ap, ◌∙◌, ◌&&◌}
 use Rattle.sch_word.specs.declared.literal.Lit.{Lit}
-use Rattle.sch_word.specs.LiteralView.{literals_of}
-use Rattle.sch_word.proofs.LiteralRows.{literals_of_list}
+use Rattle.sch_word.specs.values.LiteralView.{literals_of}
+use Rattle.sch_word.proofs.worked.LiteralRows.{literals_of_list}
 use Rattle.sch_lang.specs.declared.tree.Exp.{Exp}
 use Rattle.sch_lang.specs.declared.tree.Lambda.{Lambda}
 use Rattle.sch_lang.specs.Tree.{Source}
 use Rattle.sch_lang.specs.View.{expressions_of, lambdas_of}
 use Rattle.sch_lang.specs.SourceView.{source_of}
 use Rattle.sch_lang.specs.Valid.{constants_in_range, in_range, shaped, within_limits, sites_once, statics_known, is_valid}
-use Rattle.sch_lang.proofs.Rows.{lambdas_of_list}
+use Rattle.sch_lang.proofs.worked.Rows.{lambdas_of_list}
 use Rattle.sch_forms.specs.Draft.{Draft, drafts}
 use Rattle.sch_core.specs.Forms.{firsts}
 use Rattle.sch_core.specs.Numbered.{global_names_of_each, numbered_each, widths_of_each, unset, program_of}

@@ -6,7 +6,7 @@ use Rattle.sch_lang.specs.Tree as tree
 use Rattle.sch_lang.specs.Tree.{Expression, Expressions, no_expressions, and_expression, expressions}
 use Rattle.sch_lang.specs.declared.tree.Exp.{Exp}
 use Rattle.sch_lang.specs.View.{expression, expressions_of}
-use Rattle.sch_lang.proofs.Rows.{expressions_of_list}
+use Rattle.sch_lang.proofs.worked.Rows.{expressions_of_list}
 use Rattle.sch_expand.specs.declared.draft.Draft as code
 use Rattle.sch_forms.specs.Draft.{Draft, Drafts, branch, bind, operation, count}
 use Rattle.sch_expand.specs.DraftView.{draft_of, drafts_of}

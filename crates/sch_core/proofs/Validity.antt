@@ -1,7 +1,7 @@
 -- The program of a text without a fault is valid, and not large.
 use Rattle.std.proofs.Common.{◌≡◌, ◌≤◌, ◌*◌, ℕ, suc, true, List, [], ◌∷◌, length, None, refl, ap, ◌∙◌, sym, arith}
 use Rattle.std.proofs.lemmas.Bool.{and_from, le-leb}
-use Rattle.sch_word.specs.Runs.{library_known}
+use Rattle.sch_word.specs.runs.Runs.{library_known}
 use Rattle.sch_lang.specs.Tree as tree
 use Rattle.sch_lang.specs.Valid.{constants_in_range, in_range, shaped, within_limits, sites_once, statics_known, is_valid}
 use Rattle.sch_lang.proofs.SitesInOrder.{sites_in_order}
@@ -12,13 +12,13 @@ use Rattle.sch_core.specs.Forms.{firsts, globals_of, TextExpands}
 use Rattle.sch_core.specs.Numbered.{global_names_of_each, unset, program_of}
 use Rattle.sch_core.specs.Programs.{form_places, first_exceeding}
 use Rattle.sch_lang.specs.Measures.{nodes_and_bound}
-use Rattle.sch_core.proofs.ValiditySites.{count_numbered, sites_each}
-use Rattle.sch_core.proofs.ValiditySoundness.{sound_text}
-use Rattle.sch_core.proofs.ValidityNodes.{scoped_each, shaped_each, fitting_each}
-use Rattle.sch_core.proofs.ValidityNames.{named_each, all_among, firsts_length}
-use Rattle.sch_core.proofs.ValidityLevels.{levels_each_kept, level_text}
-use Rattle.sch_core.proofs.ValiditySizes.{size_each_kept, sized_text, named_text}
-use Rattle.sch_core.proofs.ValidityCounts.{places_text, count_drafts, fit_forms}
+use Rattle.sch_core.proofs.validity.ValiditySites.{count_numbered, sites_each}
+use Rattle.sch_core.proofs.validity.ValiditySoundness.{sound_text}
+use Rattle.sch_core.proofs.validity.ValidityNodes.{scoped_each, shaped_each, fitting_each}
+use Rattle.sch_core.proofs.validity.ValidityNames.{named_each, all_among, firsts_length}
+use Rattle.sch_core.proofs.validity.ValidityLevels.{levels_each_kept, level_text}
+use Rattle.sch_core.proofs.validity.ValiditySizes.{size_each_kept, sized_text, named_text}
+use Rattle.sch_core.proofs.validity.ValidityCounts.{places_text, count_drafts, fit_forms}
 
 -- the table of the globals of a program
 abbrev table : List Draft → List (List ℕ)

@@ -2,7 +2,7 @@
 use Rattle.std.proofs.Common.{◌≡◌, ℕ, zero, suc, ◌+◌, Bool, true, false, not, nat_lt, List, [], ◌∷◌, ◌++◌, map, length, slice_get, refl, ap, sym, ◌∙◌, arith}
 use Rattle.std.proofs.lemmas.Bool.{or_from}
 use Rattle.std.proofs.lemmas.Bool.Decides.{nat_tests}
-use Rattle.sch_word.specs.Bindings.{numbers}
+use Rattle.sch_word.specs.trees.Bindings.{numbers}
 use Rattle.sch_lang.specs.Tree as tree
 use Rattle.sch_lang.specs.Tree.{Expression, Expressions}
 use Rattle.sch_lang.specs.Measures.{once_or_not, counts_nothing, one_unless, onto_assigned, onto_all, twice_if, bound_count, variables, variables_each, variables_operands, variables_parts}
@@ -10,7 +10,7 @@ use Rattle.sch_lang.specs.Variables.{assigns, assigns_each}
 use Rattle.sch_forms.specs.Draft.{Draft, Drafts, constant, local, global, define, branch, sequence, bind, operation, no_drafts, and_draft, count}
 use Rattle.sch_core.specs.Numbered.{numbered, numbered_each, widths, widths_of_each}
 use Rattle.sch_core.specs.Counted.{is_simple, variables_of, variables_of_each, variables_of_operands, variables_of_parts}
-use Rattle.sch_core.proofs.ValiditySites.{count_numbered}
+use Rattle.sch_core.proofs.validity.ValiditySites.{count_numbered}
 
 -- `bound` variables, each of which counts once
 abbrev pub all_once : ℕ → List Bool

@@ -3,7 +3,7 @@ use Rattle.std.proofs.Common.{◌≡◌, ℕ, zero, suc, ◌+◌, ◌<◌, ◌�
 use Rattle.std.proofs.lemmas.List.{drop_all}
 use Rattle.std.proofs.lemmas.Bool.Decides.{nat_tests}
 use Rattle.sch_lang.specs.Measures.{one_unless}
-use Rattle.sch_word.specs.Shape.{max_variables}
+use Rattle.sch_word.specs.trees.Shape.{max_variables}
 use Rattle.sch_expand.specs.declared.draft.Draft as code
 use Rattle.sch_forms.specs.Draft.{Draft, Drafts, bind, no_drafts, and_draft, drafts, count}
 use Rattle.sch_expand.specs.DraftView.{draft_of, drafts_of}

@@ -1,6 +1,6 @@
 -- Drafts whose constants are those of a program.
 use Rattle.std.specs.Prelude.{◌≡◌, true}
-use Rattle.sch_word.specs.Values.{is_constant}
+use Rattle.sch_word.specs.values.Values.{is_constant}
 use Rattle.sch_forms.specs.Draft.{Draft, Drafts, constant, local, global, define, branch, sequence, bind, operation, no_drafts, and_draft}
 
 -- each constant of a draft is one that a program may have: a fixnum in range, or a character that is a byte

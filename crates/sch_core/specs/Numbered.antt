@@ -1,7 +1,7 @@
 -- The program of a list of drafts: globals are numbered in the order in which the drafts first name
 -- them, and sites in the order of the text, the outer before the inner.
 use Rattle.std.specs.Prelude.{ℕ, ◌+◌, List, [], ◌∷◌, ◌++◌, length, Option, None}
-use Rattle.sch_word.specs.Literals.{no_literals}
+use Rattle.sch_word.specs.values.Literals.{no_literals}
 use Rattle.sch_lang.specs.Tree as tree
 use Rattle.sch_lang.specs.Tree.{Expression, Expressions, Source, no_expressions, and_expression, no_lambdas}
 use Rattle.sch_forms.specs.Draft.{Draft, Drafts, constant, local, global, define, branch, sequence, bind, operation, no_drafts, and_draft, drafts, count}

@@ -2,7 +2,7 @@
 use Rattle.std.specs.Prelude.{◌≡◌, ℕ, cond, nat_le, List, [], ◌∷◌, ◌++◌, Option, Some, None}
 use Rattle.sch_lang.specs.Tree.{Expressions, and_expression, Source}
 use Rattle.sch_lang.specs.Measures.{variables}
-use Rattle.sch_word.specs.Shape.{max_variables}
+use Rattle.sch_word.specs.trees.Shape.{max_variables}
 use Rattle.sch_read.specs.Grammar.{Datum, Data, atom, list, none, cons, symbol}
 use Rattle.sch_scope.specs.Words.{keyword_of}
 use Rattle.sch_read.specs.Parts.{offset}

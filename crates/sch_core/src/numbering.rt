@@ -1,7 +1,7 @@
 //! From drafts to expressions: globals and sites have their numbers.
 
 ghost use Rattle.std.specs.Prelude.{◌≡◌, ◌++◌, ◌∷◌, [], length, true, IfOk, OnOk};
-ghost use Rattle.sch_word.specs.Values.{is_constant};
+ghost use Rattle.sch_word.specs.values.Values.{is_constant};
 ghost use Rattle.sch_lang.specs.Tree as tree;
 ghost use Rattle.sch_lang.specs.View.{expression, expressions_of};
 ghost use Rattle.sch_core.specs.Constants.{HasConstants, HaveConstants};

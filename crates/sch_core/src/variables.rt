@@ -2,7 +2,7 @@
 
 ghost use Rattle.std.specs.Prelude.{◌≡◌, ◌+◌, ◌<◌, ◌≤◌, cond, map, nat_le, MatchOption};
 ghost use Rattle.sch_lang.specs.Measures.{one_unless};
-ghost use Rattle.sch_word.specs.Shape.{max_variables};
+ghost use Rattle.sch_word.specs.trees.Shape.{max_variables};
 ghost use Rattle.sch_core.specs.Counted.{is_simple, variables_of, variables_of_each, variables_of_operands, variables_of_parts};
 ghost use Rattle.sch_expand.specs.DraftView.{draft_of, drafts_of};
 ghost use Rattle.sch_core.specs.Numbered.{program_of};

@@ -1,8 +1,8 @@
 -- The passes one after the other: runs, orders and sizes.
 use Rattle.std.proofs.Common.{◌≡◌, ℕ, ◌+◌, List, true, Some, sym, ap, ◌∙◌, subst}
 use Rattle.std.specs.Prelude.{IsTrue, ◌&&◌}
-use Rattle.sch_word.specs.Runs.{Runs, SameRuns}
-use Rattle.sch_word.specs.Shape.{size_of, procedures_size}
+use Rattle.sch_word.specs.runs.Runs.{Runs, SameRuns}
+use Rattle.sch_word.specs.trees.Shape.{size_of, procedures_size}
 use Rattle.sch_lang.specs.Measures as measures
 use Rattle.sch_lang.specs.Straight as lang_straight
 use Rattle.sch_lang.specs.Tree as lang

@@ -4,8 +4,8 @@ use Rattle.std.specs.Prelude.{IsTrue, IfErr, IsErrAnd, Result, Ok, Err, replicat
 use Rattle.std.specs.List.{flat_map}
 use Rattle.std.proofs.lemmas.List.{append-nil}
 use Rattle.sch_word.specs.declared.answer.Answer.{Answer}
-use Rattle.sch_word.specs.ProgramLayout.{max_text_size}
-use Rattle.sch_word.specs.Runs.{Run}
+use Rattle.sch_word.specs.runs.ProgramLayout.{max_text_size}
+use Rattle.sch_word.specs.runs.Runs.{Run}
 use Rattle.sch_insn.specs.declared.insn.Insn.{Insn}
 use Rattle.sch_insn.specs.Behaves.{FollowsRuns}
 use Rattle.sch_insn.specs.Spelling.{AllValid, spelling}

@@ -2,11 +2,11 @@
 use Rattle.std.proofs.Common.{◌≡◌, ℕ, suc, ◌+◌, ◌*◌, ◌≤◌, true, sym, ◌∙◌, arith}
 use Rattle.std.specs.Prelude.{◌&&◌, IsTrue}
 use Rattle.std.proofs.lemmas.Bool.{and_parts}
-use Rattle.sch_word.specs.Straight.{is_straight_primitive}
+use Rattle.sch_word.specs.trees.Straight.{is_straight_primitive}
 use Rattle.sch_lang.specs.Tree.{Expression, Expressions, Lambdas, constant, literal, local, global, set_local, set_global, define, branch, sequence, bind, fix, letrec, lambda, call, operation, no_expressions, and_expression, no_lambdas, and_lambda, count, Source}
 use Rattle.sch_lang.specs.Measures.{over, over_each, over_lambdas, node_and_bound, node_size, nodes_and_bound, procedures, program_size}
 use Rattle.sch_lang.specs.Straight.{is_straight, are_straight, is_straight_program, no_procedures}
-use Rattle.sch_word.specs.Shape.{procedures_size}
+use Rattle.sch_word.specs.trees.Shape.{procedures_size}
 use Rattle.sch_driver.proofs.StraightTrees.{each_straight, every_part}
 
 abbrev size : Expression → ℕ

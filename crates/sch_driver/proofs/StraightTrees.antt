@@ -1,13 +1,13 @@
 -- Whether trees are straight, by their parts and by the turns of a loop over them.
 use Rattle.std.proofs.Common.{◌≡◌, ℕ, zero, suc, ◌+◌, ◌<◌, ◌≤◌, min, Bool, true, false, cond, List, [], ◌∷◌, length, map, drop, Option, Some, None, refl, sym, ap, ◌∙◌, arith, add-one}
 use Rattle.std.specs.Prelude.{◌&&◌, slice_index_or}
-use Rattle.sch_word.specs.Straight.{is_straight_node}
+use Rattle.sch_word.specs.trees.Straight.{is_straight_node}
 use Rattle.sch_lang.specs.declared.tree.Exp.{Exp}
 use Rattle.sch_lang.specs.Measures.{over_each, shape}
 use Rattle.sch_lang.specs.Straight.{is_straight, are_straight, first_other}
 use Rattle.sch_lang.specs.Tree.{Expressions, no_expressions, and_expression, expressions}
 use Rattle.sch_lang.specs.View.{expression, expressions_of}
-use Rattle.sch_lang.proofs.Rows.{expressions_of_list}
+use Rattle.sch_lang.proofs.worked.Rows.{expressions_of_list}
 
 -- ## Parts of a node
 

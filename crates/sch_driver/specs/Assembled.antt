@@ -2,8 +2,8 @@
 use Rattle.std.specs.Prelude.{◌≡◌, ◌<◌, ◌≤◌, ◌+◌, ◌*◌, ℕ, List, length, Some}
 use Rattle.std.specs.List.{flat_map}
 use Rattle.sch_word.specs.declared.answer.Answer.{Answer}
-use Rattle.sch_word.specs.Runs.{Run}
-use Rattle.sch_word.specs.ProgramLayout.{max_text_size}
+use Rattle.sch_word.specs.runs.Runs.{Run}
+use Rattle.sch_word.specs.runs.ProgramLayout.{max_text_size}
 use Rattle.sch_insn.specs.Behaves.{FollowsRuns}
 use Rattle.sch_insn.specs.Spelling.{spelling}
 use Rattle.sch_asm.specs.declared.error.AsmError.{AsmError}

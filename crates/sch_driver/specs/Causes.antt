@@ -1,6 +1,6 @@
 -- What a text means, and why one is not compiled.
 use Rattle.std.specs.Prelude.{◌≡◌, ◌<◌, ◌≤◌, ℕ, ◌+◌, ◌*◌, ◌^◌, List, IsTrue, Some}
-use Rattle.sch_word.specs.ProgramLayout.{max_text_size}
+use Rattle.sch_word.specs.runs.ProgramLayout.{max_text_size}
 use Rattle.sch_lang.specs.Tree as tree
 use Rattle.sch_lang.specs.Measures.{program_size}
 use Rattle.sch_lang.specs.Straight.{is_straight_program, first_other}

@@ -1,9 +1,9 @@
 -- What it is for a memory, and for a file, to do what a core program means.
 use Rattle.std.specs.Prelude.{◌≡◌, ◌≤◌, ℕ, List, length, IsTrue}
 use Rattle.std.specs.List.{flat_map}
-use Rattle.sch_word.specs.Memory.{Segment}
-use Rattle.sch_word.specs.Orders.{is_order_table}
-use Rattle.sch_word.specs.ProgramLayout.{max_text_size}
+use Rattle.sch_word.specs.values.Memory.{Segment}
+use Rattle.sch_word.specs.runs.Orders.{is_order_table}
+use Rattle.sch_word.specs.runs.ProgramLayout.{max_text_size}
 use Rattle.sch_insn.specs.Spelling.{AllValid, spelling}
 use Rattle.sch_insn.specs.declared.insn.Insn.{Insn}
 use Rattle.sch_insn.specs.Behaves.{FollowsRuns}

@@ -1,7 +1,7 @@
 //! Which forms of a program are straight code.
 
 ghost use Rattle.std.specs.Prelude.{◌≡◌};
-ghost use Rattle.sch_word.specs.Straight.{is_straight_constant, is_straight_primitive};
+ghost use Rattle.sch_word.specs.trees.Straight.{is_straight_constant, is_straight_primitive};
 ghost use Rattle.sch_lang.specs.Straight.{are_straight, first_other, is_straight};
 ghost use Rattle.sch_lang.specs.View.{expression, expressions_of};
 

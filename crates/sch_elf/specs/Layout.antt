@@ -1,6 +1,6 @@
 -- How the segments of an image lie in memory.
 use Rattle.std.specs.Prelude.{◌≤◌, ◌<◌, ℕ, ◌+◌, ◌^◌, List, ◌++◌, length, map, sum_by, replicate, All, AllPairs}
-use Rattle.sch_word.specs.Memory as words
+use Rattle.sch_word.specs.values.Memory as words
 use Rattle.sch_elf.specs.Constants.{max_image_size, max_segments}
 use Rattle.sch_elf.specs.declared.image.Segment.{Segment}
 

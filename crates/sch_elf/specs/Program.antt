@@ -1,6 +1,6 @@
 -- How the image of a compiled program lies in memory.
 use Rattle.std.specs.Prelude.{◌≡◌, ℕ, List, [], ◌∷◌, true, false}
-use Rattle.sch_word.specs.ProgramLayout as layout
+use Rattle.sch_word.specs.runs.ProgramLayout as layout
 use Rattle.sch_elf.specs.declared.image.Segment.{Segment}
 use Rattle.sch_elf.specs.declared.image.Image.{Image}
 

@@ -1,6 +1,6 @@
 -- The walk over a sketch finds its draft where it has no fault, and a least fault otherwise.
 use Rattle.std.proofs.Common.{◌≡◌, ◌⊎◌, inl, inr, ◌≤◌, ◌+◌, ℕ, suc, zero, Bool, true, false, cond, List, [], ◌∷◌, Option, None, nat_le, refl, sym, ap, subst, arith}
-use Rattle.sch_word.specs.Shape.{max_levels, max_operands}
+use Rattle.sch_word.specs.trees.Shape.{max_levels, max_operands}
 use Rattle.sch_scope.specs.Scope.{Scope}
 use Rattle.sch_forms.specs.declared.fault.Fault.{Fault}
 use Rattle.sch_forms.specs.declared.fault.Fault.TheVariants.{Operands, Core}

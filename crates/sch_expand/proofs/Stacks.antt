@@ -2,7 +2,7 @@
 use Rattle.std.proofs.Common.{◌≡◌, ◌+◌, ◌-◌, ◌*◌, ◌≤◌, ◌<◌, ℕ, suc, Bool, true, false, List, [], ◌∷◌, ◌++◌, map, length, drop, reverse, Option, nat_le, nat_eq, refl, sym, ap, ◌∙◌, arith}
 use Rattle.std.proofs.lemmas.List.{reverse-append, reverse-reverse, length-reverse, length-append, length-drop, map-append}
 use Rattle.std.proofs.lemmas.Bool.Decides.{nat_tests}
-use Rattle.sch_word.specs.Shape.{max_levels}
+use Rattle.sch_word.specs.trees.Shape.{max_levels}
 use Rattle.sch_read.specs.Grammar.{Datum, Data}
 use Rattle.sch_scope.specs.Scope.{Scope}
 use Rattle.sch_forms.specs.declared.fault.Fault.{Fault}

@@ -3,7 +3,7 @@
 -- forms says which sketch stands for a datum. Levels are those of the expressions, the outermost is at
 -- level 1, and none may lie deeper than the limit.
 use Rattle.std.specs.Prelude.{◌≡◌, ℕ, ◌+◌, Bool, true, false, List, nat_le}
-use Rattle.sch_word.specs.Shape.{max_levels, max_operands}
+use Rattle.sch_word.specs.trees.Shape.{max_levels, max_operands}
 use Rattle.sch_read.specs.Grammar.{Datum, Data}
 use Rattle.sch_scope.specs.Scope.{Scope}
 use Rattle.sch_forms.specs.declared.sketch.Position.{Position}

@@ -1,6 +1,6 @@
 -- The faults of texts. Inside a form that is bad, not built yet or too deep, nothing more is looked at.
 use Rattle.std.specs.Prelude.{◌≡◌, ℕ, ◌+◌, Bool, true, false, List, nat_le}
-use Rattle.sch_word.specs.Shape.{max_levels, max_operands}
+use Rattle.sch_word.specs.trees.Shape.{max_levels, max_operands}
 use Rattle.sch_read.specs.Grammar.{Datum, Data}
 use Rattle.sch_scope.specs.Scope.{Scope}
 use Rattle.sch_forms.specs.declared.fault.Fault.{Fault}

@@ -1,7 +1,7 @@
 -- The walk over a sketch in the order of the text: the least fault before it and after it, and the draft
 -- that is built. Where a fault was found, the draft says nothing.
 use Rattle.std.specs.Prelude.{◌≡◌, ℕ, ◌+◌, Bool, true, false, cond, List, [], ◌∷◌, Option, nat_le}
-use Rattle.sch_word.specs.Shape.{max_levels, max_operands}
+use Rattle.sch_word.specs.trees.Shape.{max_levels, max_operands}
 use Rattle.sch_read.specs.Grammar.{Datum, Data}
 use Rattle.sch_scope.specs.Scope.{Scope}
 use Rattle.sch_forms.specs.declared.fault.Fault.{Fault}

@@ -1,7 +1,7 @@
 //! Faults that are reported.
 
 ghost use Rattle.std.specs.Prelude.{◌≡◌, ◌+◌, ◌<◌, ◌≤◌, true, false, nat_le, MatchOption, OnOk};
-ghost use Rattle.sch_word.specs.Shape.{max_levels, max_operands};
+ghost use Rattle.sch_word.specs.trees.Shape.{max_levels, max_operands};
 ghost use Rattle.sch_forms.specs.declared.fault.Fault.TheVariants.{Core};
 ghost use Rattle.sch_forms.specs.SketchView.{fault_of};
 ghost use Rattle.sch_expand.specs.FaultOrder.{reported, all_reported};

@@ -1,14 +1,14 @@
 -- What a flat tree does: a variable that the body binds holds a value, which may be a cell, and so does a
 -- field of the record that was entered.
 use Rattle.std.specs.Prelude.{ℕ, zero, suc, Bool, true, false, List, [], ◌∷◌, length, slice_get, Option, Some, None}
-use Rattle.sch_word.specs.Values.{Value, unspecified, constant_value, is_true, cell}
-use Rattle.sch_word.specs.Computation as computation
-use Rattle.sch_word.specs.Computation.{Computation, gives, spent, unreached, after, either, in_store, all_values, in_turn, read_literal, read_global, write_global, read_cell, write_cell, new_cells, new_procedure, new_group, take_entry, call_with}
-use Rattle.sch_word.specs.Charges.{charge, charge_each, procedure_bytes, fit}
-use Rattle.sch_word.specs.CellBytes.{cells_bytes}
-use Rattle.sch_word.specs.Orders.{Orders}
-use Rattle.sch_word.specs.PrimitiveRows.{primitive}
-use Rattle.sch_word.specs.Bindings.{Bindings, value_or, value_of, with_variables}
+use Rattle.sch_word.specs.values.Values.{Value, unspecified, constant_value, is_true, cell}
+use Rattle.sch_word.specs.runs.Computation as computation
+use Rattle.sch_word.specs.runs.Computation.{Computation, gives, spent, unreached, after, either, in_store, all_values, in_turn, read_literal, read_global, write_global, read_cell, write_cell, new_cells, new_procedure, new_group, take_entry, call_with}
+use Rattle.sch_word.specs.runs.Charges.{charge, charge_each, procedure_bytes, fit}
+use Rattle.sch_word.specs.values.CellBytes.{cells_bytes}
+use Rattle.sch_word.specs.runs.Orders.{Orders}
+use Rattle.sch_word.specs.values.PrimitiveRows.{primitive}
+use Rattle.sch_word.specs.trees.Bindings.{Bindings, value_or, value_of, with_variables}
 use Rattle.sch_flat.specs.Tree.{Variable, bound, free, Made, NewCell, Tree, Trees, Body, constant, literal, variable, global, set_global, define, branch, sequence, bind, make_closure, fix_closures, call, operation, cell_get, cell_set, no_trees, and_tree}
 use Rattle.sch_flat.specs.Tree as tree
 

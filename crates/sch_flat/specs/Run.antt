@@ -1,10 +1,10 @@
 -- What is seen of a flat program's run.
 use Rattle.std.specs.Prelude.{ℕ, List, [], ◌∷◌}
 use Rattle.sch_word.specs.declared.answer.Answer.{Answer}
-use Rattle.sch_word.specs.Values.{Value, unspecified}
-use Rattle.sch_word.specs.Computation.{Outcome, State, in_turn}
-use Rattle.sch_word.specs.Runs.{Runs, seen, starting_store, starting_state}
-use Rattle.sch_word.specs.Orders.{order_at}
+use Rattle.sch_word.specs.values.Values.{Value, unspecified}
+use Rattle.sch_word.specs.runs.Computation.{Outcome, State, in_turn}
+use Rattle.sch_word.specs.runs.Runs.{Runs, seen, starting_store, starting_state}
+use Rattle.sch_word.specs.runs.Orders.{order_at}
 use Rattle.sch_flat.specs.Tree.{Source}
 use Rattle.sch_flat.specs.Meaning.{Closure, Environment, each, enter}
 
@@ -24,6 +24,6 @@ outcome p table heap depth answers entries =
     (starting_state (starting_store p.statics heap answers entries) (library_closures p.library))
 
 -- the run under an order table, with limits of heap and depth, against the answers of a kernel and with at
--- most so many procedure entries
+-- most a number of procedure entries
 abbrev pub run : Source → Runs
 run p table heap depth answers entries = seen answers entries (outcome p table heap depth answers entries)

@@ -1,7 +1,7 @@
 -- The plain data of a program, from its parts.
 use Rattle.std.specs.Prelude.{ℕ, List, map}
 use Rattle.sch_word.specs.declared.statics.Statics.{Statics}
-use Rattle.sch_word.specs.StaticsView.{statics}
+use Rattle.sch_word.specs.values.StaticsView.{statics}
 use Rattle.sch_flat.specs.declared.tree.Body.{Body}
 use Rattle.sch_flat.specs.declared.tree.Exp.{Exp}
 use Rattle.sch_flat.specs.Tree.{Source}

@@ -1,6 +1,6 @@
 -- Which programs are straight code.
 use Rattle.std.specs.Prelude.{Bool, true, ◌&&◌}
-use Rattle.sch_word.specs.Straight.{is_straight_node, is_empty}
+use Rattle.sch_word.specs.trees.Straight.{is_straight_node, is_empty}
 use Rattle.sch_flat.specs.Tree.{Tree, Trees, Source}
 use Rattle.sch_flat.specs.Measures.{over, over_each}
 

@@ -3,7 +3,7 @@
 use Rattle.std.specs.Prelude.{ℕ, suc, Bool, List, [], ◌∷◌, Option}
 use Rattle.sch_word.specs.declared.constant.Const.{Const}
 use Rattle.sch_word.specs.declared.primitive.Primitive.{Primitive}
-use Rattle.sch_word.specs.Runs.{Statics}
+use Rattle.sch_word.specs.runs.Runs.{Statics}
 
 -- a variable that the body binds, by its number, or a field of the record that was entered, by its place
 pub data Variable : Type 0 where

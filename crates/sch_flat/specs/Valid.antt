@@ -1,11 +1,11 @@
 -- Which flat programs are valid.
 use Rattle.std.specs.Prelude.{ℕ, ◌*◌, Bool, true, false, ◌&&◌, ◌||◌, not, nat_eq, nat_lt, nat_le, List, [], ◌∷◌, length, slice_get, Option, Some, None}
 use Rattle.std.specs.List.{list_all}
-use Rattle.sch_word.specs.Literals.{count_literals}
-use Rattle.sch_word.specs.Runs.{statics_valid, statics_in_range}
-use Rattle.sch_word.specs.NumberSets.{has}
-use Rattle.sch_word.specs.Bindings.{numbers, scope_with}
-use Rattle.sch_word.specs.Shape.{names_known, constant_in_range, well_formed, fits, max_operands, max_levels, max_variables, max_free_variables, sites_once}
+use Rattle.sch_word.specs.values.Literals.{count_literals}
+use Rattle.sch_word.specs.runs.Runs.{statics_valid, statics_in_range}
+use Rattle.sch_word.specs.trees.NumberSets.{has}
+use Rattle.sch_word.specs.trees.Bindings.{numbers, scope_with}
+use Rattle.sch_word.specs.trees.Shape.{names_known, constant_in_range, well_formed, fits, max_operands, max_levels, max_variables, max_free_variables, sites_once}
 use Rattle.sch_flat.specs.Tree.{Variable, bound, free, Made, NewCell, Tree, Trees, Body, Source, constant, literal, variable, global, set_global, define, branch, sequence, bind, make_closure, fix_closures, call, operation, new_cells, cell_get, cell_set, no_trees, and_tree, count}
 use Rattle.sch_flat.specs.Measures.{over_source, sites_of, variables, body_variables, levels, levels_each}
 

@@ -1,7 +1,7 @@
 -- Each row of the table makes a sound sketch.
 use Rattle.std.proofs.Common.{◌≡◌, ◌≤◌, ◌<◌, ◌+◌, ◌&&◌, ℕ, zero, suc, Bool, true, false, cond, List, [], ◌∷◌, length, Option, Some, None, refl, ap, sym, ◌∙◌, arith}
 use Rattle.sch_word.specs.declared.primitive.Primitive.{Primitive}
-use Rattle.sch_word.specs.Primitives.{operands_of}
+use Rattle.sch_word.specs.values.Primitives.{operands_of}
 use Rattle.sch_read.specs.Grammar.{Atom, Datum, Data, atom, list, dotted, vector, none, cons, boolean, integer, character, symbol}
 use Rattle.sch_read.specs.Grammar as grammar
 use Rattle.sch_read.specs.Parts.{how_many, offset}

@@ -1,7 +1,7 @@
 -- Sketches whose nodes have as many parts as they must, and whose variables are bound.
 use Rattle.std.specs.Prelude.{◌≡◌, ◌≤◌, ◌<◌, ◌+◌, ℕ, suc, Bool, true, false, length}
-use Rattle.sch_word.specs.Literals.{constant_known}
-use Rattle.sch_word.specs.Primitives.{operands_of}
+use Rattle.sch_word.specs.values.Literals.{constant_known}
+use Rattle.sch_word.specs.values.Primitives.{operands_of}
 use Rattle.sch_read.specs.Grammar.{Data}
 use Rattle.sch_read.specs.Parts.{how_many}
 use Rattle.sch_scope.specs.Scope.{Scope}

@@ -4,7 +4,7 @@ use Rattle.std.specs.Prelude.{slice_get}
 use Rattle.std.specs.List.{list_all}
 use Rattle.std.proofs.lemmas.Bool.{ne_eqb, and_from, lt-ltb, cases_eq}
 use Rattle.sch_word.specs.declared.place.Place.{Place}
-use Rattle.sch_word.specs.Values.{Value}
+use Rattle.sch_word.specs.values.Values.{Value}
 use Rattle.sch_control.specs.declared.body.Entry.{Entry}
 use Rattle.sch_control.specs.Meaning.{World, Result, Callee}
 use Rattle.sch_control.specs.Run as control_run

@@ -7,9 +7,9 @@ use Rattle.sch_word.specs.declared.constant.Const.TheVariants.{Fixnum, Boolean}
 use Rattle.sch_word.specs.declared.place.Place.{Place}
 use Rattle.sch_word.specs.declared.place.Place.TheVariants.{Reg, Slot}
 use Rattle.sch_word.specs.declared.primitive.Primitive.TheVariants.{Eq, Subtract, Multiply, Less, Put}
-use Rattle.sch_word.specs.Literals.{no_literals}
-use Rattle.sch_word.specs.Runs as runs_of
-use Rattle.sch_word.specs.Runs.{Run, ended, going}
+use Rattle.sch_word.specs.values.Literals.{no_literals}
+use Rattle.sch_word.specs.runs.Runs as runs_of
+use Rattle.sch_word.specs.runs.Runs.{Run, ended, going}
 use Rattle.sch_control.specs.declared.mark.MarkKind.TheVariants as mark
 use Rattle.sch_control.specs.declared.operation.Atom.TheVariants.{Constant, Variable}
 use Rattle.sch_control.specs.declared.operation.Operand.{Operand}

@@ -1,9 +1,9 @@
 -- Results that follow others, through the ways in which they are made.
 use Rattle.std.proofs.Common.{◌≡◌, List, Option, Some, None, Bool, true, false, refl, sym, ap, ◌∙◌, subst}
-use Rattle.sch_word.specs.Values.{Value}
-use Rattle.sch_word.specs.Store.{Store}
-use Rattle.sch_word.specs.Checked.{Checked, passes, refused, exhausted, unreachable}
-use Rattle.sch_word.specs.Computation.{Outcome, gives, stops, spent, State}
+use Rattle.sch_word.specs.values.Values.{Value}
+use Rattle.sch_word.specs.runs.Store.{Store}
+use Rattle.sch_word.specs.values.Checked.{Checked, passes, refused, exhausted, unreachable}
+use Rattle.sch_word.specs.runs.Computation.{Outcome, gives, stops, spent, State}
 use Rattle.sch_control.specs.declared.mark.MarkKind.{MarkKind}
 use Rattle.sch_control.specs.Operations.{Procedure, Ending, with_some, and_value, read}
 use Rattle.sch_control.specs.Meaning.{World, Result, with_value, on_outcome, on_ending, on_return, on_checked, either}

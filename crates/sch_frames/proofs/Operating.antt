@@ -1,9 +1,9 @@
 -- An operation whose variables are in their places does the same.
 use Rattle.std.proofs.Common.{ℕ, List, [], ◌∷◌, ◌++◌, Option, Some, None, refl, ap}
 use Rattle.sch_word.specs.declared.place.Place.{Place}
-use Rattle.sch_word.specs.Values.{Value}
-use Rattle.sch_word.specs.Store.{Store}
-use Rattle.sch_word.specs.Computation.{State}
+use Rattle.sch_word.specs.values.Values.{Value}
+use Rattle.sch_word.specs.runs.Store.{Store}
+use Rattle.sch_word.specs.runs.Computation.{State}
 use Rattle.sch_control.specs.declared.operation.Atom.{Atom}
 use Rattle.sch_control.specs.declared.operation.Atom.TheVariants.{Constant, Literal, Variable}
 use Rattle.sch_control.specs.declared.operation.Operand.{Operand}

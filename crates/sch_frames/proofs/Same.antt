@@ -4,8 +4,8 @@ use Rattle.std.specs.Prelude.{nat_eq}
 use Rattle.std.proofs.lemmas.Bool.{eqb-true, eqb-false, eq-eqb, ne_eqb, and_parts}
 use Rattle.sch_word.specs.declared.place.Place.{Place}
 use Rattle.sch_word.specs.declared.place.Place.TheVariants.{Reg, Slot}
-use Rattle.sch_word.specs.Values.{Value, is_true}
-use Rattle.sch_word.specs.Computation.{gives}
+use Rattle.sch_word.specs.values.Values.{Value, is_true}
+use Rattle.sch_word.specs.runs.Computation.{gives}
 use Rattle.sch_control.specs.declared.mark.MarkKind.TheVariants as mark
 use Rattle.sch_control.specs.Meaning.{World, Result, Environment, Then, Callee, plain, marked, with_value, either, put, no_region, evaluate}
 use Rattle.sch_control.specs.Operations.{operate}

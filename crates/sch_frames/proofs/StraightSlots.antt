@@ -3,7 +3,7 @@ use Rattle.std.proofs.Common.{◌≡◌, ℕ, suc, ◌+◌, List, [], ◌∷◌,
 use Rattle.std.specs.Prelude.{◌&&◌}
 use Rattle.std.specs.List.{list_all}
 use Rattle.std.proofs.lemmas.Bool.{and_parts, and_from}
-use Rattle.sch_word.specs.Straight.{is_straight_primitive}
+use Rattle.sch_word.specs.trees.Straight.{is_straight_primitive}
 use Rattle.sch_word.specs.declared.place.Place.{Place}
 use Rattle.sch_control.specs.declared.body.Entry.{Entry}
 use Rattle.sch_control.specs.declared.operation.Atom.{Atom}

@@ -4,11 +4,11 @@ use Rattle.std.specs.Prelude.{slice_get}
 use Rattle.std.specs.List.{list_all}
 use Rattle.std.proofs.lemmas.Bool.{and_parts, and_from}
 use Rattle.sch_word.specs.declared.answer.Answer.{Answer}
-use Rattle.sch_word.specs.Values.{Value, unspecified}
-use Rattle.sch_word.specs.Store.{Store}
-use Rattle.sch_word.specs.Computation.{Outcome, gives, stops, spent, in_store, with_rest, take_entry}
-use Rattle.sch_word.specs.Charges.{fit}
-use Rattle.sch_word.specs.Runs.{Statics}
+use Rattle.sch_word.specs.values.Values.{Value, unspecified}
+use Rattle.sch_word.specs.runs.Store.{Store}
+use Rattle.sch_word.specs.runs.Computation.{Outcome, gives, stops, spent, in_store, with_rest, take_entry}
+use Rattle.sch_word.specs.runs.Charges.{fit}
+use Rattle.sch_word.specs.runs.Runs.{Statics}
 use Rattle.sch_word.proofs.SameStore.{Gives, fit_length}
 use Rattle.sch_control.specs.declared.body.Entry.{Entry}
 use Rattle.sch_control.specs.declared.mark.MarkKind.{MarkKind}

@@ -2,7 +2,7 @@
 use Rattle.std.specs.Prelude.{◌≡◌, ℕ, List, [], ◌∷◌, length, Option, Some, None, IsTrue}
 use Rattle.std.specs.List.{list_all}
 use Rattle.sch_word.specs.declared.answer.Answer.{Answer}
-use Rattle.sch_word.specs.Values.{Value}
+use Rattle.sch_word.specs.values.Values.{Value}
 use Rattle.sch_control.specs.Operations.{Procedure}
 use Rattle.sch_control.specs.Meaning.{World, Callee}
 use Rattle.sch_control.specs.Tree as control

@@ -2,9 +2,9 @@
 use Rattle.std.specs.Prelude.{ℕ, zero, suc, Bool, true, false, cond, nat_eq, List, [], ◌∷◌, length, Option, Some, None, slice_get}
 use Rattle.sch_word.specs.declared.place.Place.{Place}
 use Rattle.sch_word.specs.declared.place.Place.TheVariants.{Reg, Slot}
-use Rattle.sch_word.specs.Values.{Value, unspecified, is_true}
-use Rattle.sch_word.specs.Computation.{gives, in_store, procedures_from}
-use Rattle.sch_word.specs.Charges.{charge_each}
+use Rattle.sch_word.specs.values.Values.{Value, unspecified, is_true}
+use Rattle.sch_word.specs.runs.Computation.{gives, in_store, procedures_from}
+use Rattle.sch_word.specs.runs.Charges.{charge_each}
 use Rattle.sch_control.specs.declared.body.Entry.{Entry}
 use Rattle.sch_control.specs.declared.operation.Member.{Member}
 use Rattle.sch_control.specs.Operations.{operand_value, operate, and_value, member_bytes, members_made, with_procedures}

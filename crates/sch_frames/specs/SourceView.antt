@@ -1,7 +1,7 @@
 -- The plain data of a program of the program's type, from its parts.
 use Rattle.std.specs.Prelude.{ℕ, List, [], ◌∷◌}
 use Rattle.sch_word.specs.declared.statics.Statics.{Statics}
-use Rattle.sch_word.specs.StaticsView as view
+use Rattle.sch_word.specs.values.StaticsView as view
 use Rattle.sch_frames.specs.declared.body.FrameBody.{FrameBody}
 use Rattle.sch_frames.specs.Tree.{Code, Source}
 

@@ -1,7 +1,7 @@
 -- Which programs are straight code.
 use Rattle.std.specs.Prelude.{Bool, true, false, ◌&&◌, List, ◌∷◌}
 use Rattle.std.specs.List.{list_all}
-use Rattle.sch_word.specs.Straight.{is_empty}
+use Rattle.sch_word.specs.trees.Straight.{is_empty}
 use Rattle.sch_control.specs.Straight.{is_form, is_straight_operation}
 use Rattle.sch_frames.specs.declared.instruction.Instruction.{Instruction}
 use Rattle.sch_frames.specs.declared.instruction.Instruction.TheVariants.{Do, Store, End, IfFalse, Jump, Label}

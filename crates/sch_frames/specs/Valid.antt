@@ -3,10 +3,10 @@ use Rattle.std.specs.Prelude.{ℕ, ◌+◌, Bool, true, ◌&&◌, ◌||◌, not,
 use Rattle.std.specs.List.{list_all}
 use Rattle.sch_word.specs.declared.place.Place.{Place}
 use Rattle.sch_word.specs.declared.place.Place.TheVariants.{Reg, Slot}
-use Rattle.sch_word.specs.Literals.{count_literals}
-use Rattle.sch_word.specs.NumberSets.{has}
-use Rattle.sch_word.specs.Runs.{statics_valid, statics_in_range}
-use Rattle.sch_word.specs.Shape.{max_operands}
+use Rattle.sch_word.specs.values.Literals.{count_literals}
+use Rattle.sch_word.specs.trees.NumberSets.{has}
+use Rattle.sch_word.specs.runs.Runs.{statics_valid, statics_in_range}
+use Rattle.sch_word.specs.trees.Shape.{max_operands}
 use Rattle.sch_control.specs.declared.body.Entry.{Entry}
 use Rattle.sch_control.specs.declared.operation.Atom.{Atom}
 use Rattle.sch_control.specs.declared.operation.Atom.TheVariants.{Variable}

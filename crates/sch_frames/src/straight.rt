@@ -2,7 +2,7 @@
 
 ghost use Rattle.std.specs.Prelude.{◌≡◌, ◌≤◌, ◌*◌, IfOk, IsTrue};
 ghost use Rattle.std.specs.List.{list_all};
-ghost use Rattle.sch_word.specs.StaticsView.{statics};
+ghost use Rattle.sch_word.specs.values.StaticsView.{statics};
 ghost use Rattle.sch_control.specs.ProgramView as control;
 ghost use Rattle.sch_control.specs.SourceView as control_bodies;
 ghost use Rattle.sch_control.specs.Straight as control_straight;

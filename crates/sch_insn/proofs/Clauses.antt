@@ -2,9 +2,9 @@
 -- entries has ended, or lasts for more than n steps where that run goes on.
 use Rattle.std.proofs.Common.{◌≡◌, ◌≢◌, ℕ, ◌+◌, List, length, Some, refl, sym, ap, ◌∙◌, subst, arith, ⊎_elim}
 use Rattle.std.proofs.lemmas.Bool.{cases_lt}
-use Rattle.sch_word.specs.Memory.{Segment}
+use Rattle.sch_word.specs.values.Memory.{Segment}
 use Rattle.sch_word.specs.declared.answer.Answer.{Answer}
-use Rattle.sch_word.specs.Runs.{Run, End, ended, going}
+use Rattle.sch_word.specs.runs.Runs.{Run, End, ended, going}
 use Rattle.sch_insn.specs.declared.machine.StuckCause.{StuckCause}
 use Rattle.sch_insn.specs.Machine.{State}
 use Rattle.sch_insn.specs.Step.{Progress, Runs, Exited, Stuck, mach}

@@ -4,7 +4,7 @@ use Rattle.std.specs.List.{flat_map}
 use Rattle.std.proofs.lemmas.Bool.Decides.{nat_tests}
 use Rattle.std.proofs.lemmas.List.{drop-append-le, drop-drop}
 use Rattle.std.proofs.Math.Seq.{drop-append_seam, take-append_seam, drop-append-add}
-use Rattle.sch_word.specs.Memory.{Segment}
+use Rattle.sch_word.specs.values.Memory.{Segment}
 use Rattle.sch_insn.specs.declared.insn.Insn.{Insn}
 use Rattle.sch_insn.specs.declared.insn.Insn.TheVariants.{MovTo, MovFrom, MovNumber, MovWord, StoreByte, LoadByte, Lea, AddTo, OrTo, AndTo, SubTo, XorTo, CmpTo, AddFrom, OrFrom, AndFrom, SubFrom, XorFrom, CmpFrom, AddNumber, OrNumber, AndNumber, SubNumber, XorNumber, CmpNumber, TestTo, Imul, Neg, Idiv, Cqo, Shl, Shr, Sar, Jump, JumpTo, JumpIf, Syscall}
 use Rattle.sch_insn.specs.declared.register.TheConstants.{RDX, RSI}

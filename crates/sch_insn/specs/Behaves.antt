@@ -1,9 +1,9 @@
 -- What a memory does when it is run: the words of a theorem on a compiled program.
 use Rattle.std.specs.Prelude.{◌≡◌, ◌≢◌, ℕ, ◌<◌, ◌^◌, List, [], ◌++◌, Option, Some, None, All}
 use Rattle.std.proofs.Common.{arith, lit<}
-use Rattle.sch_word.specs.Memory.{Segment}
+use Rattle.sch_word.specs.values.Memory.{Segment}
 use Rattle.sch_word.specs.declared.answer.Answer.{Answer}
-use Rattle.sch_word.specs.Runs.{Run, ended}
+use Rattle.sch_word.specs.runs.Runs.{Run, ended}
 use Rattle.sch_insn.specs.declared.machine.Flags.{Flags}
 use Rattle.sch_insn.specs.declared.machine.StuckCause.{StuckCause}
 use Rattle.sch_insn.specs.Machine.{State, unknown_flags}

@@ -3,7 +3,7 @@
 -- Source: Intel SDM, volume 1, section 3.4 (basic program execution registers).
 use Rattle.std.specs.Prelude.{slice_index, ℕ, ◌+◌, ◌-◌, ◌*◌, ◌/◌, ◌%◌, ◌^◌, List, [], ◌∷◌, ◌++◌, length, take, drop, Bool, true, false, cond, ◌&&◌, ◌||◌, not, nat_lt, nat_le, ◌==◌, Option, Some, None, ℤ, Result, Ok, Err, if◌then◌else◌}
 use Rattle.std.specs.Int.{w64, cast_unsigned, to_le_bytes, from_le_bytes}
-use Rattle.sch_word.specs.Memory.{Segment}
+use Rattle.sch_word.specs.values.Memory.{Segment}
 use Rattle.sch_word.specs.declared.answer.Answer.{Answer}
 use Rattle.sch_insn.specs.declared.insn.Arg.{Arg}
 use Rattle.sch_insn.specs.declared.insn.Arg.TheVariants.{Reg, Base, Base32, Rip}

@@ -2,7 +2,7 @@
 -- An instruction begins where the machine stands at its address and has a row for it.
 use Rattle.std.specs.Prelude.{◌≡◌, ℕ, zero, suc, ◌<◌, ◌≤◌, List, [], ◌∷◌, length}
 use Rattle.std.specs.List.{flat_map}
-use Rattle.sch_word.specs.Runs.{End, ended, going}
+use Rattle.sch_word.specs.runs.Runs.{End, ended, going}
 use Rattle.sch_insn.specs.Machine.{State}
 use Rattle.sch_insn.specs.Step.{Progress, Runs, Exited, Stuck, step, standing}
 

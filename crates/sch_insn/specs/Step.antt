@@ -2,7 +2,7 @@
 -- Source: Intel SDM, volume 2, the pages of the mnemonics; Linux on x86-64, the calls `write` (1) and
 -- `exit` (60) (System V ABI, AMD64 supplement, appendix A.2).
 use Rattle.std.specs.Prelude.{ℕ, zero, suc, ◌+◌, ◌-◌, ◌*◌, ◌/◌, ◌%◌, ◌^◌, min, List, [], ◌∷◌, ◌++◌, length, take, Bool, cond, ◌&&◌, nat_lt, nat_le, ◌==◌, Option, Some, None, ℤ, Result, Ok, Err, bit_and, bit_or, bit_xor}
-use Rattle.sch_word.specs.Memory.{Segment}
+use Rattle.sch_word.specs.values.Memory.{Segment}
 use Rattle.sch_word.specs.declared.answer.Answer.{Answer}
 use Rattle.sch_word.specs.declared.answer.Answer.TheVariants.{Took, Failed}
 use Rattle.sch_insn.specs.declared.insn.Arg.{Arg}

@@ -1,7 +1,7 @@
 -- A put to an outlet, by the answers that it met.
 use Rattle.std.specs.Prelude.{◌≡◌, ◌++◌, ℕ, List, Bool, Option}
 use Rattle.sch_word.specs.declared.answer.Answer.{Answer}
-use Rattle.sch_word.specs.Put.{put}
+use Rattle.sch_word.specs.values.Put.{put}
 use Rattle.sch_io.specs.Told.{Tells}
 
 -- An outlet that told these bytes and answers before, and tells these after, has met the put of the

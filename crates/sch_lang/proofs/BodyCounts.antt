@@ -1,6 +1,6 @@
 -- A program has no more bodies than nodes and bound variables.
 use Rattle.std.proofs.Common.{ℕ, suc, ◌+◌, ◌≤◌, List, length, ◌++◌, arith, length-append}
-use Rattle.sch_word.specs.Shape.{Procedure}
+use Rattle.sch_word.specs.trees.Shape.{Procedure}
 use Rattle.sch_lang.specs.Tree.{Expression, Expressions, Lambdas, constant, literal, local, global, set_local, set_global, define, branch, sequence, bind, fix, letrec, lambda, call, operation, no_expressions, and_expression, no_lambdas, and_lambda, Source}
 use Rattle.sch_lang.specs.Bodies.{bodies, bodies_each, bodies_lambdas, bodies_forms, bodies_of}
 use Rattle.sch_lang.specs.Measures.{over, over_each, over_lambdas, node_and_bound, nodes_and_bound}

@@ -2,8 +2,8 @@
 use Rattle.std.proofs.Common.{◌≡◌, ℕ, suc, Bool, true, false, List, [], ◌∷◌, ◌++◌, reverse, map, cond, refl, ap, ◌∙◌, append_assoc}
 use Rattle.std.specs.List.{filter}
 use Rattle.std.proofs.lemmas.List.{reverse-append}
-use Rattle.sch_word.specs.Charges.{cell_bytes}
-use Rattle.sch_word.specs.CellBytes.{where_assigned}
+use Rattle.sch_word.specs.runs.Charges.{cell_bytes}
+use Rattle.sch_word.specs.values.CellBytes.{where_assigned}
 use Rattle.sch_lang.specs.Tree.{Expression}
 use Rattle.sch_lang.specs.Variables.{assigns, nearest, cells_of}
 use Rattle.sch_lang.specs.Meaning.{onto}

@@ -4,13 +4,13 @@ use Rattle.std.proofs.Common.{◌≡◌, ℕ, zero, suc, ◌+◌, ◌-◌, ◌�
 use Rattle.std.specs.Prelude.{codes, slice_get, int_le, ◌-ℤ◌, ltb, leb}
 use Rattle.std.proofs.lemmas.Bool.{leb-true, ltb-true, false_from_ne_true}
 use Rattle.sch_word.specs.declared.primitive.Primitive.TheVariants.{Subtract, Equal}
-use Rattle.sch_word.specs.Fixnum.{is_fixnum}
-use Rattle.sch_word.specs.Values.{Value, fixnum, unspecified, object, procedure, string}
-use Rattle.sch_word.specs.Computation.{Outcome, State, gives, spent, on_value, in_turn}
-use Rattle.sch_word.specs.Runs.{seen}
-use Rattle.sch_word.proofs.Fixnums.{lesser_fixnum}
+use Rattle.sch_word.specs.values.Fixnum.{is_fixnum}
+use Rattle.sch_word.specs.values.Values.{Value, fixnum, unspecified, object, procedure, string}
+use Rattle.sch_word.specs.runs.Computation.{Outcome, State, gives, spent, on_value, in_turn}
+use Rattle.sch_word.specs.runs.Runs.{seen}
+use Rattle.sch_word.proofs.values.Fixnums.{lesser_fixnum}
 use Rattle.sch_word.proofs.Ahead.{more_than, more_than_is}
-use Rattle.sch_word.specs.Orders.{Orders, order_at, in_text_order}
+use Rattle.sch_word.specs.runs.Orders.{Orders, order_at, in_text_order}
 use Rattle.sch_lang.specs.Tree.{literal, local, global, branch}
 use Rattle.sch_lang.specs.Meaning.{Closure, evaluate, enter}
 use Rattle.sch_lang.specs.Examples.{number, two, put, apply, plain_run, ends, goes_on, loop_of}
@@ -73,7 +73,7 @@ spent_round e c k cells here fits = rw (here, never_zero k, here, one_less k, fi
 
 -- ## All rounds
 
--- an outcome after the last round, with so many entries left
+-- an outcome after the last round, with the entries that are left
 record Finished (left : ℕ) (o : Outcome (State Closure) Value) : Type 0 where
   cells : List (Option Value)
   is : o ≡ gives unspecified (looping cells (codes "ok") left)

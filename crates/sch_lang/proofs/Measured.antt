@@ -1,7 +1,7 @@
 -- Two measures of the same tree go together where they do so at each node.
 use Rattle.std.proofs.Common.{◌+◌, ◌≤◌, arith}
-use Rattle.sch_word.specs.Shape.{procedures_size}
-use Rattle.sch_word.specs.BoundVariables.{formals_in, bound_in}
+use Rattle.sch_word.specs.trees.Shape.{procedures_size}
+use Rattle.sch_word.specs.trees.BoundVariables.{formals_in, bound_in}
 use Rattle.sch_word.proofs.Shaped.{Joins, AtMost, at_most_joins}
 use Rattle.sch_lang.specs.Tree.{Expression, Expressions, Lambdas, constant, literal, local, global, set_local, set_global, define, branch, sequence, bind, fix, letrec, lambda, call, operation, no_expressions, and_expression, no_lambdas, and_lambda, count_lambdas, Source}
 use Rattle.sch_lang.specs.Measures.{over, over_each, over_lambdas, over_source, procedures, shape, node_size, program_size, variables_bound, node_and_bound, nodes_and_bound}

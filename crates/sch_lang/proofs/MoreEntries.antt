@@ -3,15 +3,15 @@ use Rattle.std.proofs.Common.{◌≡◌, ℕ, zero, suc, ◌+◌, ◌-◌, ◌�
 use Rattle.std.specs.Prelude.{slice_get}
 use Rattle.std.proofs.lemmas.List.{append-nil}
 use Rattle.sch_word.specs.declared.answer.Answer.{Answer}
-use Rattle.sch_word.specs.Values.{Value, unspecified, is_true}
-use Rattle.sch_word.specs.Growth.{GrowsTo}
-use Rattle.sch_word.specs.Computation.{Outcome, gives, stops, spent, State, Action, Computation, in_store, after, all_values, new_cells, write_cells, some_each, unset_each}
-use Rattle.sch_word.specs.Charges.{charge_each}
-use Rattle.sch_word.specs.Runs.{Run, End, ended, going, run_with, seen, starting_store, starting_state}
+use Rattle.sch_word.specs.values.Values.{Value, unspecified, is_true}
+use Rattle.sch_word.specs.trees.Growth.{GrowsTo}
+use Rattle.sch_word.specs.runs.Computation.{Outcome, gives, stops, spent, State, Action, Computation, in_store, after, all_values, new_cells, write_cells, some_each, unset_each}
+use Rattle.sch_word.specs.runs.Charges.{charge_each}
+use Rattle.sch_word.specs.runs.Runs.{Run, End, ended, going, run_with, seen, starting_store, starting_state}
 use Rattle.sch_word.proofs.Steady.{Steady, steady_charge, steady_charge_each, steady_fit, steady_primitive, steady_read_global, steady_write_global, steady_read_literal}
 use Rattle.sch_word.proofs.Ahead.{more_than, more_than_is, Grows, grows_gives, grows_stops, grows_spent, grows_either, grows_in_store, grows_after, EachGrows, no_growth, and_growth, grows_all_values, grows_in_turn, grows_read_cell, grows_write_cell, grows_write_cells, grows_new_cells, grows_new_procedure, grows_new_fix, grows_take_entry, grows_call, ahead, AheadOutcome, Ahead, ahead_gives, ahead_stops, ahead_spent, ahead_either, ahead_after, ahead_in_store, EachAhead, no_ahead, and_ahead, ahead_all_values, ahead_in_turn, ahead_read_cell, ahead_write_cell, ahead_write_cells, ahead_new_cells, ahead_new_procedure, ahead_new_fix, ahead_take_entry, ahead_call}
-use Rattle.sch_word.specs.Orders.{Orders, order_at}
-use Rattle.sch_word.specs.CellBytes.{cells_bytes}
+use Rattle.sch_word.specs.runs.Orders.{Orders, order_at}
+use Rattle.sch_word.specs.values.CellBytes.{cells_bytes}
 use Rattle.sch_lang.specs.Tree.{Expression, Expressions, constant, literal, local, global, set_local, set_global, define, branch, sequence, bind, fix, letrec, lambda, call, operation, no_expressions, and_expression, count, count_lambdas, Source}
 use Rattle.sch_lang.specs.Variables.{cells_of}
 use Rattle.sch_lang.specs.Meaning.{Closure, Enter, with_cell, onto, closures, lambda_bytes, lambdas_bytes, evaluate, each, parts, enter}

@@ -10,22 +10,23 @@ use Rattle.sch_word.specs.declared.stop.Stop.{Stop}
 use Rattle.sch_word.specs.declared.stop.Stop.TheVariants.{HeapLimit, OutputFailed}
 use Rattle.sch_word.specs.declared.primitive.Primitive.{Primitive}
 use Rattle.sch_word.specs.declared.primitive.Primitive.TheVariants.{Put}
-use Rattle.sch_word.specs.Put.{put}
-use Rattle.sch_word.specs.Values.{Value, fixnum, character, unspecified, symbol, object, procedure, Object, pair, vector, string, is_true}
-use Rattle.sch_word.specs.Store.{Store}
-use Rattle.sch_word.specs.Stops.{status_of}
-use Rattle.sch_word.specs.Checked.{Checked, passes, refused, exhausted, unreachable, on_passed}
-use Rattle.sch_word.specs.Computation.{Outcome, gives, stops, spent, State, Action, Computation, with_rest, in_store, on_value, after, either, require, at_place, in_order, in_turn, blanks, all_values, set_or_stop, read_cell, write_cell, write_cells, new_procedure, new_fix, new_cells, some_each, unset_each, read_global, write_global, known_value, read_literal, known_procedure, callee, depth_left, entry_left, checked, checked_call, call_with, taken, take_entry}
-use Rattle.sch_word.specs.Charges.{charge, charge_each, new_object, new_list, fit}
-use Rattle.sch_word.specs.CellBytes.{cells_bytes}
-use Rattle.sch_word.specs.Orders.{Orders, order_at}
-use Rattle.sch_word.specs.PrimitiveRows.{unary, binary, ternary, as_fixnum, as_character, known_name, as_symbol, object_at, pair_or_stop, vector_or_stop, string_or_stop, as_pair, as_vector, as_string, object_test, write_object, element, piece, put_piece, primitive}
-use Rattle.sch_word.specs.Runs.{End, ended, going, seen, starting_store, starting_state}
+use Rattle.sch_word.specs.values.Put.{put}
+use Rattle.sch_word.specs.values.Values.{Value, fixnum, character, unspecified, symbol, object, procedure, Object, pair, vector, string, is_true}
+use Rattle.sch_word.specs.runs.Store.{Store}
+use Rattle.sch_word.specs.runs.Stops.{status_of}
+use Rattle.sch_word.specs.values.Checked.{Checked, passes, refused, exhausted, unreachable, on_passed}
+use Rattle.sch_word.specs.runs.Computation.{Outcome, gives, stops, spent, State, Action, Computation, with_rest, in_store, on_value, after, either, require, at_place, in_order, in_turn, blanks, all_values, set_or_stop, read_cell, write_cell, write_cells, new_procedure, new_fix, new_cells, some_each, unset_each, read_global, write_global, known_value, read_literal, known_procedure, callee, depth_left, entry_left, checked, checked_call, call_with, taken, take_entry}
+use Rattle.sch_word.specs.runs.Charges.{charge, charge_each, new_object, new_list, fit}
+use Rattle.sch_word.specs.values.CellBytes.{cells_bytes}
+use Rattle.sch_word.specs.runs.Orders.{Orders, order_at}
+use Rattle.sch_word.specs.values.PrimitiveRows.{unary, binary, ternary, as_fixnum, as_character, known_name, as_symbol, object_at, pair_or_stop, vector_or_stop, string_or_stop, as_pair, as_vector, as_string, object_test, write_object, element, piece, put_piece, primitive}
+use Rattle.sch_word.specs.runs.Runs.{End, ended, going, seen, starting_store, starting_state}
 use Rattle.sch_lang.specs.Tree.{Expression, Expressions, constant, literal, local, global, set_local, set_global, define, branch, sequence, bind, fix, letrec, lambda, call, operation, no_expressions, and_expression, count, count_lambdas, Source}
 use Rattle.sch_lang.specs.Variables.{cells_of}
 use Rattle.sch_lang.specs.Meaning.{Closure, Enter, with_cell, onto, closures, lambda_bytes, lambdas_bytes, evaluate, each, parts, enter}
 use Rattle.sch_lang.specs.Run.{outcome, run}
-use Rattle.sch_lang.specs.Laws.{TakesNothing, FailsByAnswer}
+use Rattle.sch_word.specs.runs.Answers.{TakesNothing}
+use Rattle.sch_lang.specs.Laws.{FailsByAnswer}
 
 module _ (R : Type 0) where
   -- each answer that takes nothing gives R

@@ -3,10 +3,10 @@ use Rattle.std.proofs.Common.{◌≡◌, ℕ, suc, ◌+◌, ◌<◌, ◌≤◌, 
 use Rattle.std.specs.Prelude.{slice_get, nat_eq}
 use Rattle.std.specs.List.{list_all, count_by, fold}
 use Rattle.std.proofs.lemmas.Bool.{eqb-true, eqb-false}
-use Rattle.sch_word.specs.Computation.{numbers_from}
+use Rattle.sch_word.specs.runs.Computation.{numbers_from}
 use Rattle.sch_lang.specs.Tree.{Source}
 use Rattle.sch_lang.specs.Measures.{sites_of}
-use Rattle.sch_word.specs.Shape.{is_width}
+use Rattle.sch_word.specs.trees.Shape.{is_width}
 use Rattle.sch_lang.specs.Valid.{sites_once}
 
 -- these widths with the numbers from n on

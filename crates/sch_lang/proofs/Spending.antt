@@ -4,28 +4,28 @@ use Rattle.std.proofs.Common.{◌≡◌, ℕ, zero, suc, ◌≤◌, Bool, true, 
 use Rattle.std.specs.Prelude.{slice_get, slice_set}
 use Rattle.sch_word.specs.declared.answer.Answer.{Answer}
 use Rattle.sch_word.specs.declared.stop.Stop.{Stop}
-use Rattle.sch_word.specs.Values.{Value, unspecified, is_true}
-use Rattle.sch_word.specs.Store.{Store}
-use Rattle.sch_word.specs.Checked.{Checked, passes, refused, exhausted, unreachable}
-use Rattle.sch_word.specs.Computation.{Outcome, gives, stops, spent, State, Action, Computation, with_rest, in_store, on_value, after, either, at_place, in_order, in_turn, blanks, all_values, set_or_stop, read_cell, write_cell, write_cells, new_procedure, new_fix, new_cells, some_each, unset_each, checked, checked_call, call_with, taken, take_entry}
-use Rattle.sch_word.specs.Runs.{going, seen, starting_store, starting_state}
+use Rattle.sch_word.specs.values.Values.{Value, unspecified, is_true}
+use Rattle.sch_word.specs.runs.Store.{Store}
+use Rattle.sch_word.specs.values.Checked.{Checked, passes, refused, exhausted, unreachable}
+use Rattle.sch_word.specs.runs.Computation.{Outcome, gives, stops, spent, State, Action, Computation, with_rest, in_store, on_value, after, either, at_place, in_order, in_turn, blanks, all_values, set_or_stop, read_cell, write_cell, write_cells, new_procedure, new_fix, new_cells, some_each, unset_each, checked, checked_call, call_with, taken, take_entry}
+use Rattle.sch_word.specs.runs.Runs.{going, seen, starting_store, starting_state}
 use Rattle.sch_word.proofs.Steady.{OutcomeGrows, NeverSpent, Steady, steady_charge, steady_charge_each, steady_fit, steady_read_global, steady_write_global, steady_read_literal, steady_primitive}
 use Rattle.sch_word.proofs.NoEntryLeft.{Exhausts, exhausts_checked_call}
-use Rattle.sch_word.specs.Orders.{Orders, order_at}
-use Rattle.sch_word.specs.CellBytes.{cells_bytes}
+use Rattle.sch_word.specs.runs.Orders.{Orders, order_at}
+use Rattle.sch_word.specs.values.CellBytes.{cells_bytes}
 use Rattle.sch_lang.specs.Tree.{Expression, Expressions, constant, literal, local, global, set_local, set_global, define, branch, sequence, bind, fix, letrec, lambda, call, operation, no_expressions, and_expression, count, count_lambdas, Source}
 use Rattle.sch_lang.specs.Variables.{cells_of}
 use Rattle.sch_lang.specs.Meaning.{Closure, Enter, with_cell, onto, closures, lambda_bytes, lambdas_bytes, evaluate, each, parts, enter}
 use Rattle.sch_lang.specs.Run.{outcome}
 use Rattle.sch_lang.specs.Laws.{GoesOnWhenSpent}
 
--- an outcome that leaves at most so many entries, and none where it is spent
+-- an outcome that leaves at most n entries, and none where it is spent
 abbrev Within : {V : Type 0} → ℕ → Outcome (State Closure) V → Type 0
 Within n (gives v s) = s.store.entries ≤ n
 Within n (stops why s) = s.store.entries ≤ n
 Within n (spent s) = s.store.entries ≡ 0
 
--- a computation that is spent only where no entry is left, from at most so many
+-- a computation that is spent only where no entry is left, from at most n
 record Spends (n : ℕ) {V : Type 0} (c : Computation Closure V) : Type 0 where
   from : (s : State Closure) → s.store.entries ≤ n → Within n (c s)
 

@@ -1,7 +1,7 @@
 -- The bodies of a program in the order of a listing: the library's procedures, each followed by the
 -- procedures inside it, and then the top-level forms, each followed by those inside it.
 use Rattle.std.specs.Prelude.{ℕ, max, false, List, [], ◌∷◌, ◌++◌, codes}
-use Rattle.sch_word.specs.Shape.{Procedure}
+use Rattle.sch_word.specs.trees.Shape.{Procedure}
 use Rattle.sch_lang.specs.Tree.{Expression, Expressions, Lambdas, constant, literal, local, global, set_local, set_global, define, branch, sequence, bind, fix, letrec, lambda, call, operation, no_expressions, and_expression, no_lambdas, and_lambda, Source}
 use Rattle.sch_lang.specs.Measures.{variables, procedure}
 

@@ -3,10 +3,10 @@ use Rattle.std.specs.Prelude.{ℕ, zero, suc, Bool, true, false, ℤ, pos, negsu
 use Rattle.sch_word.specs.declared.constant.Const.TheVariants.{Fixnum, Character, Boolean, Nil, Symbol}
 use Rattle.sch_word.specs.declared.primitive.Primitive.{Primitive}
 use Rattle.sch_word.specs.declared.primitive.Primitive.TheVariants.{Eq, Cons, Car, Cdr, SetCar, Add, Subtract, Quotient, Modulo, Equal, StringSet, MakeVector, VectorRef, Put, SymbolLength}
-use Rattle.sch_word.specs.Literals.{Literals, text, list, elements, no_literals, and_literal}
-use Rattle.sch_word.specs.Literals as literals
-use Rattle.sch_word.specs.Runs.{Run, ended, going}
-use Rattle.sch_word.specs.Orders.{in_text_order}
+use Rattle.sch_word.specs.values.Literals.{Literals, text, list, elements, no_literals, and_literal}
+use Rattle.sch_word.specs.values.Literals as literals
+use Rattle.sch_word.specs.runs.Runs.{Run, ended, going}
+use Rattle.sch_word.specs.runs.Orders.{in_text_order}
 use Rattle.sch_lang.specs.Tree.{Expression, constant, literal, local, global, set_local, set_global, define, branch, sequence, bind, fix, letrec, lambda, call, operation, no_lambdas, and_lambda, expressions, Source}
 use Rattle.sch_lang.specs.Run.{run}
 
@@ -37,7 +37,7 @@ function formals e = lambda [] formals false e
 abbrev pub apply : (site : ℕ) → Expression → List Expression → Expression
 apply site f es = call site f (expressions es)
 
--- a program of forms, with so many globals, which are unset
+-- a program of forms, with a number of globals, which are unset
 abbrev pub program : (globals : ℕ) → (sites : List ℕ) → List Expression → Source
 program globals sites forms = record {
   statics = record { symbols = []; literals = no_literals; globals = replicate globals None };
@@ -220,7 +220,7 @@ abbrev pub pairs_from : (site count : ℕ) → List Expression
 pairs_from site zero = []
 pairs_from site (suc count) = two site Cons (number (pos 1)) (number (pos 2)) ∷ pairs_from (suc site) count
 
--- so many forms (cons 1 2)
+-- n forms (cons 1 2)
 abbrev pub pairs : ℕ → Source
 pairs count = program 0 (replicate count 2) (pairs_from 0 count)
 
@@ -228,7 +228,7 @@ abbrev pub calls_from : (site count : ℕ) → List Expression
 calls_from site zero = []
 calls_from site (suc count) = apply site (global 0) (number (pos 0) ∷ []) ∷ calls_from (suc site) count
 
--- (define (f n) (set! n 1)) and so many forms (f 0)
+-- (define (f n) (set! n 1)) and a number of forms (f 0)
 abbrev pub assigned_formals : ℕ → Source
 assigned_formals count = program 1 (replicate count 2) (define 0 (function 1 (set_local 0 (number (pos 1)))) ∷ calls_from 0 count)
 

@@ -1,11 +1,11 @@
 -- Laws of runs, in the words of the contracts that state them.
-use Rattle.std.specs.Prelude.{◌≡◌, ℕ, zero, suc, ◌+◌, ◌≤◌, ◌++◌, List, [], ◌∷◌, Any}
+use Rattle.std.specs.Prelude.{◌≡◌, ℕ, ◌+◌, ◌≤◌, ◌++◌, List, [], ◌∷◌, Any}
 use Rattle.sch_word.specs.declared.answer.Answer.{Answer}
-use Rattle.sch_word.specs.declared.answer.Answer.TheVariants.{Took, Failed}
 use Rattle.sch_word.specs.declared.stop.Stop.TheVariants.{OutputFailed}
-use Rattle.sch_word.specs.Stops.{status_of}
-use Rattle.sch_word.specs.Runs.{Run, ended, going}
-use Rattle.sch_word.specs.Orders.{Orders, order_at}
+use Rattle.sch_word.specs.runs.Answers.{TakesNothing}
+use Rattle.sch_word.specs.runs.Stops.{status_of}
+use Rattle.sch_word.specs.runs.Runs.{Run, ended, going}
+use Rattle.sch_word.specs.runs.Orders.{Orders, order_at}
 use Rattle.sch_lang.specs.Tree.{Source}
 use Rattle.sch_lang.specs.Measures.{sites_of}
 use Rattle.sch_lang.specs.Run.{run}
@@ -36,12 +36,6 @@ pub record MoreEntries (p : Source) : Type 0 where
 -- a run goes on only where all its entries are taken
 pub record GoesOnWhenSpent (p : Source) : Type 0 where
   pub all_taken : (table : List (List ℕ)) (heap depth : ℕ) (answers : List Answer) (entries : ℕ) → (run p table heap depth answers entries).end ≡ going → (run p table heap depth answers entries).entries ≡ entries
-
--- an answer that takes nothing
-abbrev pub TakesNothing : Answer → Type 0
-TakesNothing (Took zero) = Unit {0}
-TakesNothing (Took (suc k)) = ⊥
-TakesNothing Failed = Unit {0}
 
 -- a run stops with a failed output only where one of the kernel's answers takes nothing
 pub record FailsByAnswer (p : Source) : Type 0 where

@@ -1,12 +1,12 @@
 -- What an expression does (R5RS 4.1, 4.2.2, 4.2.3 and 7.2, over an explicit store).
 use Rattle.std.specs.Prelude.{ℕ, zero, suc, Bool, true, false, List, [], ◌∷◌, ◌++◌, length, reverse, Option, Some, None, slice_get}
-use Rattle.sch_word.specs.Values.{Value, unspecified, constant_value, is_true}
-use Rattle.sch_word.specs.Computation as computation
-use Rattle.sch_word.specs.Computation.{Computation, gives, spent, unreached, after, either, in_store, all_values, in_turn, read_literal, read_global, write_global, read_cell, write_cell, write_cells, new_cells, some_each, unset_each, new_procedure, new_fix, take_entry, call_with}
-use Rattle.sch_word.specs.Charges.{charge, charge_each, procedure_bytes, fit}
-use Rattle.sch_word.specs.CellBytes.{cells_bytes}
-use Rattle.sch_word.specs.Orders.{Orders}
-use Rattle.sch_word.specs.PrimitiveRows.{primitive}
+use Rattle.sch_word.specs.values.Values.{Value, unspecified, constant_value, is_true}
+use Rattle.sch_word.specs.runs.Computation as computation
+use Rattle.sch_word.specs.runs.Computation.{Computation, gives, spent, unreached, after, either, in_store, all_values, in_turn, read_literal, read_global, write_global, read_cell, write_cell, write_cells, new_cells, some_each, unset_each, new_procedure, new_fix, take_entry, call_with}
+use Rattle.sch_word.specs.runs.Charges.{charge, charge_each, procedure_bytes, fit}
+use Rattle.sch_word.specs.values.CellBytes.{cells_bytes}
+use Rattle.sch_word.specs.runs.Orders.{Orders}
+use Rattle.sch_word.specs.values.PrimitiveRows.{primitive}
 use Rattle.sch_lang.specs.Tree.{Expression, Expressions, Lambdas, constant, literal, local, global, set_local, set_global, define, branch, sequence, bind, fix, letrec, lambda, call, operation, no_expressions, and_expression, no_lambdas, and_lambda, count, count_lambdas}
 use Rattle.sch_lang.specs.Variables.{free, outside, cells_of}
 
@@ -34,7 +34,7 @@ abbrev pub closures : Lambdas → List ℕ → List Closure
 closures no_lambdas environment = []
 closures (and_lambda name formals rest e ls) environment = record { formals = formals; rest = rest; body = e; environment = environment } ∷ closures ls environment
 
--- what a procedure of so many formals and this body is charged
+-- what a procedure of n formals and this body is charged
 abbrev pub lambda_bytes : ℕ → Expression → ℕ
 lambda_bytes formals e = procedure_bytes (length (outside formals (free e)))
 

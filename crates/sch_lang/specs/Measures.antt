@@ -1,11 +1,11 @@
 -- What is counted over a tree: any measure of its nodes, its levels, the variables of its bodies, and
 -- the measures of the shapes of nodes that all languages have.
 use Rattle.std.specs.Prelude.{ℕ, zero, suc, ◌+◌, max, Bool, true, false, ◌&&◌, not, List, [], ◌∷◌, ◌++◌, map, length, slice_get, Option, Some, None}
-use Rattle.sch_word.specs.Bindings.{numbers}
+use Rattle.sch_word.specs.trees.Bindings.{numbers}
 use Rattle.sch_lang.specs.Tree.{Expression, Expressions, Lambdas, constant, literal, local, global, set_local, set_global, define, branch, sequence, bind, fix, letrec, lambda, call, operation, no_expressions, and_expression, no_lambdas, and_lambda, count, count_lambdas, Source}
-use Rattle.sch_word.specs.Shape as shapes
-use Rattle.sch_word.specs.Shape.{Procedure, Shape, site_of, call_site_of, tests_in, dropped_in, procedures_size, size_of}
-use Rattle.sch_word.specs.BoundVariables.{formals_in, bound_in}
+use Rattle.sch_word.specs.trees.Shape as shapes
+use Rattle.sch_word.specs.trees.Shape.{Procedure, Shape, site_of, call_site_of, tests_in, dropped_in, procedures_size, size_of}
+use Rattle.sch_word.specs.trees.BoundVariables.{formals_in, bound_in}
 use Rattle.sch_lang.specs.Variables.{free, outside, assigns}
 
 -- A measure of nodes over a whole tree: `here` at each node, the outer before the inner, in the order
@@ -98,11 +98,11 @@ abbrev pub one_unless : Bool → ℕ
 one_unless true = 0
 one_unless false = 1
 
--- the nearest variables of a tree, so many, in front of the others, each with whether it counts once
+-- the n nearest variables of a tree, in front of the others, each with whether it counts once
 abbrev pub onto_assigned : ℕ → Expression → List Bool → List Bool
 onto_assigned bound e once = map (λ j. not (assigns e j)) (numbers 0 bound) ++ once
 
--- so many variables that all count once, or none of which does
+-- n variables that all count once, or none of which does
 abbrev pub onto_all : ℕ → Bool → List Bool → List Bool
 onto_all zero each once = once
 onto_all (suc bound) each once = each ∷ onto_all bound each once
@@ -111,7 +111,7 @@ abbrev pub twice_if : Bool → ℕ
 twice_if true = 2
 twice_if false = 1
 
--- what the nearest variables of a tree count, so many
+-- what the n nearest variables of a tree count
 abbrev pub bound_count : ℕ → Expression → ℕ
 bound_count zero e = 0
 bound_count (suc bound) e = twice_if (assigns e bound) + bound_count bound e

@@ -1,7 +1,7 @@
 -- The plain data of a program of the program's type, from its parts.
 use Rattle.std.specs.Prelude.{ℕ, List, Option}
 use Rattle.sch_word.specs.declared.literal.Lit.{Lit}
-use Rattle.sch_word.specs.LiteralView.{literals_of}
+use Rattle.sch_word.specs.values.LiteralView.{literals_of}
 use Rattle.sch_lang.specs.declared.tree.Exp.{Exp}
 use Rattle.sch_lang.specs.declared.tree.Lambda.{Lambda}
 use Rattle.sch_lang.specs.Tree.{Source}

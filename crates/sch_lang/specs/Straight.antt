@@ -1,6 +1,6 @@
 -- Which programs are straight code, and which form is the first that is not.
 use Rattle.std.specs.Prelude.{ℕ, Bool, true, false, ◌&&◌, cond, List, ◌∷◌, Option, Some, None}
-use Rattle.sch_word.specs.Straight.{is_straight_node}
+use Rattle.sch_word.specs.trees.Straight.{is_straight_node}
 use Rattle.sch_lang.specs.Tree.{Expression, Expressions, Lambdas, no_expressions, and_expression, no_lambdas, and_lambda, Source}
 use Rattle.sch_lang.specs.Measures.{every, shape}
 

@@ -1,16 +1,16 @@
 -- Which programs are valid.
 use Rattle.std.specs.Prelude.{ℕ, zero, suc, ◌+◌, Bool, true, ◌&&◌, ◌||◌, not, nat_lt, nat_le, [], length}
-use Rattle.sch_word.specs.Literals.{count_literals}
-use Rattle.sch_word.specs.Runs.{statics_valid, statics_in_range}
-use Rattle.sch_word.specs.Shape as shapes
-use Rattle.sch_word.specs.Shape.{max_levels, max_variables, names_known, constant_in_range, well_formed, fits, procedures_fit}
+use Rattle.sch_word.specs.values.Literals.{count_literals}
+use Rattle.sch_word.specs.runs.Runs.{statics_valid, statics_in_range}
+use Rattle.sch_word.specs.trees.Shape as shapes
+use Rattle.sch_word.specs.trees.Shape.{max_levels, max_variables, names_known, constant_in_range, well_formed, fits, procedures_fit}
 use Rattle.sch_lang.specs.Tree.{Expression, Expressions, Lambdas, constant, literal, local, global, set_local, set_global, define, branch, sequence, bind, fix, letrec, lambda, call, operation, no_expressions, and_expression, no_lambdas, and_lambda, count, count_lambdas, Source}
 use Rattle.sch_lang.specs.Variables.{assigns, assigns_lambdas}
 use Rattle.sch_lang.specs.Measures.{over_source, levels_each, levels_lambdas, variables, procedures, shape, sites_of}
 
 -- ## Numbers in range
 
--- each local variable is one of those in scope, so many
+-- each local variable is one of the n in scope
 abbrev mutual
   pub in_scope : Expression → ℕ → Bool
   in_scope (constant c) bound = true
@@ -58,7 +58,7 @@ constants_in_range p =
 
 -- ## Shape
 
--- none of the nearest variables is assigned, so many
+-- none of the n nearest variables is assigned
 abbrev pub none_assigned : ℕ → Lambdas → Expression → Bool
 none_assigned zero ls e = true
 none_assigned (suc bound) ls e = not (assigns_lambdas ls bound || assigns e bound) && none_assigned bound ls e

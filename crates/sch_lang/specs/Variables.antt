@@ -1,11 +1,11 @@
 -- Which variables are free, and which are assigned.
 use Rattle.std.specs.Prelude.{ℕ, zero, suc, ◌+◌, Bool, false, ◌||◌, nat_eq, List, [], ◌∷◌, map}
 use Rattle.std.specs.List.{filter}
-use Rattle.sch_word.specs.NumberSets.{union}
-use Rattle.sch_word.specs.Charges.{cell_bytes}
+use Rattle.sch_word.specs.trees.NumberSets.{union}
+use Rattle.sch_word.specs.runs.Charges.{cell_bytes}
 use Rattle.sch_lang.specs.Tree.{Expression, Expressions, Lambdas, constant, literal, local, global, set_local, set_global, define, branch, sequence, bind, fix, letrec, lambda, call, operation, no_expressions, and_expression, no_lambdas, and_lambda, count, count_lambdas}
 
--- variables as they are seen from outside a binding of one variable, and of so many
+-- variables as they are seen from outside a binding of one variable, and of n
 abbrev pub outside_one : List ℕ → List ℕ
 outside_one [] = []
 outside_one (zero ∷ xs) = outside_one xs

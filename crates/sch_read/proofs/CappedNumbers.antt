@@ -1,7 +1,7 @@
 -- A number that is capped at each digit is the whole number capped, and the cap is no fixnum.
 use Rattle.std.proofs.Common.{◌≡◌, ℕ, ◌+◌, ◌-◌, ◌*◌, ◌^◌, ◌<◌, ◌≤◌, ◌⊎◌, inl, inr, min, arith, sym, ◌∙◌, ap, Bool, true, false, List, refl, T}
 use Rattle.std.specs.Prelude.{ℤ, pos, neg_ℤ, cond, int_le, ◌&&◌, if◌then◌else◌}
-use Rattle.sch_word.specs.Fixnum.{IsFixnum}
+use Rattle.sch_word.specs.values.Fixnum.{IsFixnum}
 use Rattle.sch_word.specs.declared.fix.TheConstants.{FIXNUM_MIN, FIXNUM_MAX}
 use Rattle.std.specs.Str.Parse.{digits_value, starts_with_minus, without_leading_sign, signed_digits_value}
 use Rattle.std.proofs.Math.Nat.{mul-le-mul_left}
@@ -9,7 +9,7 @@ use Rattle.std.proofs.lemmas.Bool.{cases_lt}
 use Rattle.std.proofs.lemmas.Bool.Decides.{nat_tests}
 use Rattle.sch_read.specs.Grammar.{Plain, Huge, Bad, bad_number, integer}
 use Rattle.sch_read.specs.Lexer.Token.{integer_at, are_digits, number_at}
-use Rattle.sch_word.specs.Fixnum.{is_fixnum}
+use Rattle.sch_word.specs.values.Fixnum.{is_fixnum}
 
 pub capped_step : (v base d most : ℕ) → 1 ≤ base → min (min (min v most * base) most + d) most ≡ min (v * base + d) most
 capped_step v base d most h =

@@ -5,11 +5,9 @@ pub mod Longest
 pub mod DataLists
 pub mod FrameStack
 pub mod CappedNumbers
-pub mod StringContents
-pub mod ScannedText
-pub mod TextAnswers
 pub mod Weights
 pub mod Validity
 pub mod RoundTrip
 pub mod ReleaseEffort
 pub mod PrinterTasks
+pub mod texts

@@ -1,7 +1,7 @@
 -- The levels of data, and data without their places.
 use Rattle.std.specs.Prelude.{◌≡◌, ℕ, suc, max, true}
 use Rattle.sch_read.specs.Grammar.{Atom, boolean, integer, character, text, symbol, Datum, Data, atom, list, dotted, vector, none, cons}
-use Rattle.sch_word.specs.Fixnum.{is_fixnum}
+use Rattle.sch_word.specs.values.Fixnum.{is_fixnum}
 
 -- each list and each vector is a level
 abbrev mutual

@@ -7,7 +7,7 @@ ghost use Rattle.sch_read.specs.Printed.{atom_text, datum_text, items_text, more
 ghost use Rattle.sch_read.specs.Levels.{depth, HasFixnums, HaveFixnums, IsFixnumAtom};
 ghost use Rattle.sch_read.specs.Printer.Tasks.{task_text, tasks_text, TaskHasFixnums, TasksHaveFixnums, task_load, tasks_load, Came};
 ghost use Rattle.sch_read.specs.Text.{max_nesting};
-ghost use Rattle.sch_word.specs.Fixnum.{is_fixnum};
+ghost use Rattle.sch_word.specs.values.Fixnum.{is_fixnum};
 ghost use Rattle.sch_read.specs.Valid.{IsValid, weight, weights};
 ghost use Rattle.sch_read.specs.Views.{atom_of, tree_of, data_of};
 

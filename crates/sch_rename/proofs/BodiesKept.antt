@@ -1,7 +1,7 @@
 -- Numbering keeps the bodies of a program, and how many variables each of them may need.
 use Rattle.std.proofs.Common.{◌≡◌, ℕ, zero, suc, ◌+◌, Bool, true, false, List, [], ◌∷◌, ◌++◌, map, length, refl, sym, ap, ◌∙◌, subst, arith}
 use Rattle.std.specs.Prelude.{not}
-use Rattle.sch_word.specs.Bindings.{Bindings, with_variables, scope_with, numbers}
+use Rattle.sch_word.specs.trees.Bindings.{Bindings, with_variables, scope_with, numbers}
 use Rattle.sch_lang.specs.Tree.{Expression, Expressions, Lambdas, Source, constant, literal, local, global, set_local, set_global, define, branch, sequence, bind, fix, letrec, lambda, call, operation, no_expressions, and_expression, no_lambdas, and_lambda, count, count_lambdas}
 use Rattle.sch_lang.specs.Variables.{assigns}
 use Rattle.sch_lang.specs.Meaning.{onto}
@@ -18,7 +18,7 @@ use Rattle.sch_rename.proofs.Same.{Fits, fits_with}
 
 -- ## Which variables count once
 
--- which of so many variables are not assigned, the farthest first
+-- which of n variables are not assigned, the farthest first
 abbrev flags : ℕ → Expression → List Bool
 flags zero e = []
 flags (suc m) e = not (assigns e m) ∷ flags m e

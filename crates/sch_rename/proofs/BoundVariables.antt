@@ -1,6 +1,6 @@
 -- The numbers that renaming gives are as many as the variables that the program binds.
 use Rattle.std.proofs.Common.{◌≡◌, ℕ, ◌+◌, refl, arith}
-use Rattle.sch_word.specs.BoundVariables.{formals_in, bound_in}
+use Rattle.sch_word.specs.trees.BoundVariables.{formals_in, bound_in}
 use Rattle.sch_lang.specs.Tree.{Expression, Expressions, Lambdas, Source, constant, literal, local, global, set_local, set_global, define, branch, sequence, bind, fix, letrec, lambda, call, operation, no_expressions, and_expression, no_lambdas, and_lambda}
 use Rattle.sch_lang.specs.Measures.{over, over_each, over_lambdas, shape, procedures, variables_bound}
 use Rattle.sch_rename.specs.Made.{binds, binds_each, binds_lambdas}

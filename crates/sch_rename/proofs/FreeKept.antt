@@ -6,7 +6,7 @@ use Rattle.sch_cells.specs.Tree as tree
 use Rattle.sch_cells.specs.Variables as to
 use Rattle.sch_rename.specs.Made.{number_at, binds, binds_each, binds_lambdas, renamed, renamed_each, renamed_lambdas}
 use Rattle.sch_lang.specs.InScope.{InScope, EachInScope, LambdasInScope}
-use Rattle.sch_word.specs.Bindings.{scope_with, without}
+use Rattle.sch_word.specs.trees.Bindings.{scope_with, without}
 use Rattle.sch_rename.proofs.Scopes.{Falls, falls_more, falls_with, inside, Under, union_under, outside_under, both, outside_map}
 
 mutual

@@ -1,6 +1,6 @@
 -- Numbering keeps how deep the nodes are nested.
 use Rattle.std.proofs.Common.{◌≡◌, ℕ, ◌+◌, List, refl}
-use Rattle.sch_word.specs.Bindings.{scope_with}
+use Rattle.sch_word.specs.trees.Bindings.{scope_with}
 use Rattle.sch_lang.specs.Tree.{Expression, Expressions, Lambdas, constant, literal, local, global, set_local, set_global, define, branch, sequence, bind, fix, letrec, lambda, call, operation, no_expressions, and_expression, no_lambdas, and_lambda, count, count_lambdas}
 use Rattle.sch_lang.specs.Measures.{levels, levels_each, levels_lambdas}
 use Rattle.sch_cells.specs.Measures as to

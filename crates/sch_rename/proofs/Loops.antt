@@ -5,9 +5,9 @@ use Rattle.sch_lang.specs.declared.tree.Exp.{Exp}
 use Rattle.sch_lang.specs.declared.tree.Lambda.{Lambda}
 use Rattle.sch_lang.specs.Tree.{Expressions, Lambdas, Source, expressions, lambdas, count, count_lambdas}
 use Rattle.sch_lang.specs.View.{expression, expressions_of, lambdas_of, function}
-use Rattle.sch_lang.proofs.Rows.{expressions_of_list, lambdas_of_list}
+use Rattle.sch_lang.proofs.worked.Rows.{expressions_of_list, lambdas_of_list}
 use Rattle.sch_word.specs.declared.statics.Statics as declared
-use Rattle.sch_word.specs.StaticsView.{statics}
+use Rattle.sch_word.specs.values.StaticsView.{statics}
 use Rattle.sch_cells.specs.SourceView.{source_of}
 use Rattle.sch_cells.specs.declared.tree.Exp as to
 use Rattle.sch_cells.specs.declared.tree.Lambda as to_lambda
@@ -17,8 +17,8 @@ use Rattle.sch_cells.specs.View.{tree, trees_of, function as cells_function, lam
 use Rattle.sch_cells.proofs.Rows.{trees_of_list, lambdas_of_list as cells_lambdas_of_list}
 use Rattle.sch_rename.specs.Made.{number_at, binds, binds_each, binds_lambdas, renamed, renamed_each, renamed_function, renamed_lambdas, renamed_source}
 use Rattle.sch_lang.specs.InScope.{EachInScope, LambdasInScope}
-use Rattle.sch_word.specs.Bindings.{scope_with}
-use Rattle.sch_word.specs.Walk.{onto}
+use Rattle.sch_word.specs.trees.Bindings.{scope_with}
+use Rattle.sch_word.specs.trees.Walk.{onto}
 use Rattle.sch_word.proofs.Walking.{next_made, next_count, next_left, end_made}
 
 length_of : (es : List Exp) → count (expressions (map expression es)) ≡ length es

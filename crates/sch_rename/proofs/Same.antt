@@ -1,11 +1,11 @@
 -- A tree with numbers runs as the tree that it was made from.
 use Rattle.std.proofs.Common.{◌≡◌, ℕ, zero, suc, ◌+◌, ◌<◌, Bool, true, false, List, [], ◌∷◌, length, Option, Some, None, refl, ap, ◌∙◌, arith}
 use Rattle.std.specs.Prelude.{slice_get}
-use Rattle.sch_word.specs.Values.{Value, unspecified, is_true}
-use Rattle.sch_word.specs.Computation.{Computation, read_literal, read_global, write_global, some_each, unset_each, take_entry}
-use Rattle.sch_word.specs.Charges.{charge, charge_each, fit}
-use Rattle.sch_word.specs.PrimitiveRows.{primitive}
-use Rattle.sch_word.specs.Runs.{SameRuns, starting_store}
+use Rattle.sch_word.specs.values.Values.{Value, unspecified, is_true}
+use Rattle.sch_word.specs.runs.Computation.{Computation, read_literal, read_global, write_global, some_each, unset_each, take_entry}
+use Rattle.sch_word.specs.runs.Charges.{charge, charge_each, fit}
+use Rattle.sch_word.specs.values.PrimitiveRows.{primitive}
+use Rattle.sch_word.specs.runs.Runs.{SameRuns, starting_store}
 use Rattle.sch_word.proofs.Lengths.{some_length, unset_length}
 use Rattle.sch_word.proofs.Similar.{EachSimilar, no_similar, and_similar, similar_gives, similar_unreached, similar_spent, similar_either, similar_then, similar_all_values, similar_in_turn}
 use Rattle.sch_word.proofs.SameStore.{same_store, Pairs, no_pairs, and_pair, DoesSame, same_in_store, keeps_in_store, same_read_cell, same_write_cell, same_write_cells, same_new_procedure, keeps_new_cells, keeps_new_fix, same_keeping, same_call, same_seen, fit_length}
@@ -13,12 +13,12 @@ use Rattle.sch_lang.specs.Tree.{Expression, Expressions, Lambdas, Source, consta
 use Rattle.sch_lang.specs.Variables.{cells_of}
 use Rattle.sch_lang.specs.Meaning as from
 use Rattle.sch_lang.specs.Meaning.{with_cell, lambda_bytes, lambdas_bytes}
-use Rattle.sch_word.specs.CellBytes.{cells_bytes}
-use Rattle.sch_word.specs.Orders.{Orders, order_at}
+use Rattle.sch_word.specs.values.CellBytes.{cells_bytes}
+use Rattle.sch_word.specs.runs.Orders.{Orders, order_at}
 use Rattle.sch_lang.specs.Run as source
 use Rattle.sch_cells.specs.UnboxedMeaning as to
 use Rattle.sch_cells.specs.Procedures as procedures
-use Rattle.sch_word.specs.Bindings.{Bindings, bound_to, with_variables, scope_with}
+use Rattle.sch_word.specs.trees.Bindings.{Bindings, bound_to, with_variables, scope_with}
 use Rattle.sch_rename.specs.Made.{number_at, binds, binds_each, binds_lambdas, renamed, renamed_each, renamed_lambdas, renamed_source}
 use Rattle.sch_lang.specs.InScope.{InScope, EachInScope, LambdasInScope, IsClosed}
 use Rattle.sch_rename.proofs.Scopes.{self, Falls, falls_more, falls_with, at_below, differs, inside}

@@ -2,10 +2,10 @@
 use Rattle.std.proofs.Common.{◌≡◌, ℕ, zero, suc, ◌+◌, ◌<◌, Bool, true, false, List, [], ◌∷◌, length, map, refl, ap, ◌∙◌, subst, arith}
 use Rattle.std.specs.Prelude.{nat_eq, ◌||◌}
 use Rattle.std.proofs.lemmas.Bool.{eqb-true, eq-eqb}
-use Rattle.sch_word.specs.NumberSets.{has, unless, insert, union}
+use Rattle.sch_word.specs.trees.NumberSets.{has, unless, insert, union}
 use Rattle.sch_lang.specs.Variables.{outside_one, outside}
 use Rattle.sch_rename.specs.Made.{number_at}
-use Rattle.sch_word.specs.Bindings.{scope_with, remove, without}
+use Rattle.sch_word.specs.trees.Bindings.{scope_with, remove, without}
 
 pub self : (x : ℕ) → nat_eq x x ≡ true
 self x = eq-eqb x x refl

@@ -1,8 +1,8 @@
 -- Numbering keeps the shape of each node, and so everything that is counted of shapes.
 use Rattle.std.proofs.Common.{◌≡◌, ℕ, ◌+◌, List, [], length, refl, ap, arith}
-use Rattle.sch_word.specs.Bindings.{scope_with}
-use Rattle.sch_word.specs.Shape as shapes
-use Rattle.sch_word.specs.Shape.{Shape}
+use Rattle.sch_word.specs.trees.Bindings.{scope_with}
+use Rattle.sch_word.specs.trees.Shape as shapes
+use Rattle.sch_word.specs.trees.Shape.{Shape}
 use Rattle.sch_word.proofs.Shaped.{Joins, equal_joins}
 use Rattle.sch_lang.specs.Tree.{Expression, Expressions, Lambdas, Source, constant, literal, local, global, set_local, set_global, define, branch, sequence, bind, fix, letrec, lambda, call, operation, no_expressions, and_expression, no_lambdas, and_lambda, count, count_lambdas}
 use Rattle.sch_lang.specs.Measures as from

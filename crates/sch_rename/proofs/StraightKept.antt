@@ -1,7 +1,7 @@
 -- Straight code is numbered to straight code, and no other code is.
 use Rattle.std.proofs.Common.{◌≡◌, ℕ, true, List, [], refl, ap, ◌∙◌}
 use Rattle.std.specs.Prelude.{◌&&◌}
-use Rattle.sch_word.specs.Straight.{is_straight_node}
+use Rattle.sch_word.specs.trees.Straight.{is_straight_node}
 use Rattle.sch_word.proofs.Shaped.{equal_joins}
 use Rattle.sch_lang.specs.Tree.{Expressions, Lambdas, Source, no_expressions, and_expression, no_lambdas, and_lambda}
 use Rattle.sch_lang.specs.Measures.{over_each, shape}

@@ -2,7 +2,7 @@
 use Rattle.std.specs.Prelude.{ℕ, zero, suc, ◌+◌, false, List, [], ◌∷◌}
 use Rattle.sch_lang.specs.Tree.{Expression, Expressions, Lambdas, Function, Source, constant, literal, local, global, set_local, set_global, define, branch, sequence, bind, fix, letrec, lambda, call, operation, no_expressions, and_expression, no_lambdas, and_lambda, count, count_lambdas}
 use Rattle.sch_cells.specs.Tree as to
-use Rattle.sch_word.specs.Bindings.{scope_with}
+use Rattle.sch_word.specs.trees.Bindings.{scope_with}
 
 -- the number of the variable with k bound nearer
 abbrev pub number_at : List ℕ → ℕ → ℕ

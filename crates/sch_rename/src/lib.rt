@@ -2,8 +2,8 @@
 #![tactic(auto)]
 
 ghost use Rattle.std.specs.Prelude.{◌≡◌, ◌<◌, ◌^◌, ◌-◌, IfOk};
-ghost use Rattle.sch_word.specs.Runs.{SameRuns};
-ghost use Rattle.sch_word.specs.StaticsView.{statics, statics_of};
+ghost use Rattle.sch_word.specs.runs.Runs.{SameRuns};
+ghost use Rattle.sch_word.specs.values.StaticsView.{statics, statics_of};
 ghost use Rattle.sch_lang.specs.Bodies.{bodies_of};
 ghost use Rattle.sch_lang.specs.Measures.{call_sites_of, dropped_of, program_size, sites_of, tests_of, variables_bound};
 ghost use Rattle.sch_lang.specs.ProgramView.{source};

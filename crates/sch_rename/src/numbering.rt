@@ -1,7 +1,7 @@
 //! Each variable gets a number of its own, in the order of the text.
 
 ghost use Rattle.std.specs.Prelude.{◌≡◌, ◌+◌, ◌<◌, ◌^◌, length, reverse, take, IfOk, OnOk};
-ghost use Rattle.sch_word.specs.Bindings.{scope_with};
+ghost use Rattle.sch_word.specs.trees.Bindings.{scope_with};
 ghost use Rattle.sch_lang.specs.Tree as source;
 ghost use Rattle.sch_lang.specs.View.{expression, expressions_of, function, lambdas_of};
 ghost use Rattle.sch_cells.specs.View as view;

@@ -3,7 +3,7 @@ use Rattle.std.proofs.Common.{◌≡◌, ℕ, ◌<◌, ◌%◌, List, [], ◌∷
 use Rattle.std.specs.List.{AllByRecursion}
 use Rattle.sch_word.specs.declared.stop.Stop.{Stop}
 use Rattle.sch_word.specs.declared.stop.Stop.TheVariants.{WrongType, OutOfRange, NotProcedure, WrongCount, DivideByZero, Overflow, HeapLimit, DepthLimit, Unset, OutputFailed}
-use Rattle.sch_word.specs.Stops.{status_of}
+use Rattle.sch_word.specs.runs.Stops.{status_of}
 use Rattle.sch_asm.specs.declared.item.Item.{Item}
 use Rattle.sch_asm.specs.declared.item.Item.TheVariants.{Label}
 use Rattle.sch_asm.specs.declared.routine.Routine.{Routine}

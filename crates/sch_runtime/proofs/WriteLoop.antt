@@ -5,7 +5,7 @@ use Rattle.std.specs.Prelude.{pos, not}
 use Rattle.std.proofs.lemmas.Bool.{cases_lt, ne_eqb}
 use Rattle.std.proofs.lemmas.List.{take_all, drop_all}
 use Rattle.std.proofs.Math.Seq.{take-append_seam, take-length}
-use Rattle.sch_word.specs.Put.{put}
+use Rattle.sch_word.specs.values.Put.{put}
 use Rattle.sch_word.specs.declared.answer.Answer.{Answer}
 use Rattle.sch_word.specs.declared.answer.Answer.TheVariants.{Took, Failed}
 use Rattle.sch_insn.specs.declared.insn.Arg.TheVariants.{Reg}

@@ -5,7 +5,7 @@ use Rattle.sch_insn.specs.declared.insn.Arg.TheVariants.{Reg, Base}
 use Rattle.sch_insn.specs.declared.insn.Insn.TheVariants.{MovTo, MovNumber, StoreByte, AddTo, SubTo, AddNumber, SubNumber, CmpNumber, Neg, Idiv, Sar, JumpTo, Syscall}
 use Rattle.sch_insn.specs.declared.condition.TheConstants.{E, NE, GE, LE}
 use Rattle.sch_insn.specs.declared.register.TheConstants.{RAX, RCX, RDX, RSI, RDI, R11}
-use Rattle.sch_word.specs.ProgramLayout.{data_address}
+use Rattle.sch_word.specs.runs.ProgramLayout.{data_address}
 use Rattle.sch_word.specs.declared.stop.Stop.TheVariants.{OutputFailed}
 use Rattle.sch_asm.specs.declared.item.Item.{Item}
 use Rattle.sch_asm.specs.declared.item.Item.TheVariants.{Label, Plain, Jump, JumpIf, LoadWord, StoreWord}

@@ -5,7 +5,7 @@ use Rattle.std.specs.Prelude.{ℕ, zero, suc, ℤ, pos, cond, nat_eq, List, Opti
 use Rattle.std.specs.Str.{bytes_eq}
 use Rattle.sch_word.specs.declared.primitive.Primitive.{Primitive}
 use Rattle.sch_word.specs.declared.primitive.Primitive.TheVariants.{Eq, Eqv, IsBoolean, IsNull, IsInteger, IsChar, IsProcedure, Add, Subtract, Multiply, Quotient, Remainder, Modulo, Equal, Less, Greater, LessEqual, GreaterEqual, CharToInteger, IntegerToChar, Put}
-use Rattle.sch_word.specs.Primitives.{name_of, operands_of}
+use Rattle.sch_word.specs.values.Primitives.{name_of, operands_of}
 use Rattle.sch_scope.specs.declared.operation.Operation.{Operation}
 use Rattle.sch_scope.specs.declared.operation.Operation.TheVariants.{Exact, Unit, UnitAnd, Nested, Chained, Newline, Not}
 

@@ -2,7 +2,7 @@
 
 ghost use Rattle.std.specs.Prelude.{◌≡◌};
 ghost use Rattle.std.specs.Str.{bytes_eq};
-ghost use Rattle.sch_word.specs.Primitives.{name_of};
+ghost use Rattle.sch_word.specs.values.Primitives.{name_of};
 ghost use Rattle.sch_scope.specs.Operations.{unit_of, exactly, arithmetic, comparison, number_operation, operation_of};
 
 use sch_word::Primitive;

@@ -3,7 +3,7 @@ use Rattle.std.proofs.Common.{◌≡◌, ℕ, ◌+◌, ◌^◌, ◌<◌, ◌≤�
 use Rattle.std.specs.Prelude.{pos, not, nat_eq}
 use Rattle.std.specs.List.{list_all}
 use Rattle.std.proofs.lemmas.Bool.{and_parts, eqb-true}
-use Rattle.sch_word.specs.Values.{Value, is_true}
+use Rattle.sch_word.specs.values.Values.{Value, is_true}
 use Rattle.sch_control.specs.declared.mark.MarkKind as control
 use Rattle.sch_control.specs.Meaning.{World, Result, Callee, with_value, either, marked}
 use Rattle.sch_frames.specs.declared.instruction.Instruction.{Instruction}

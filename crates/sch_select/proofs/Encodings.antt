@@ -5,17 +5,17 @@ use Rattle.std.proofs.lemmas.Bool.{ne_eqb, ltb-true, eqb-true, eqb-false}
 use Rattle.std.proofs.lemmas.Int.{ints}
 use Rattle.sch_word.specs.declared.constant.Const.{Const}
 use Rattle.sch_word.specs.declared.constant.Const.TheVariants.{Fixnum, Character, Boolean, Nil, Unspecified, Symbol}
-use Rattle.sch_word.specs.Fixnum.{IsFixnum}
-use Rattle.sch_word.specs.Values.{Value, fixnum, character, boolean, nil, unspecified, symbol, object, procedure, cell, constant_value, is_constant, is_true, same_value}
-use Rattle.sch_word.specs.PrimitiveRows.{is_integer, is_character, is_boolean, is_null}
-use Rattle.sch_word.proofs.Fixnums.{is_fixnum_says}
+use Rattle.sch_word.specs.values.Fixnum.{IsFixnum}
+use Rattle.sch_word.specs.values.Values.{Value, fixnum, character, boolean, nil, unspecified, symbol, object, procedure, cell, constant_value, is_constant, is_true, same_value}
+use Rattle.sch_word.specs.values.PrimitiveRows.{is_integer, is_character, is_boolean, is_null}
+use Rattle.sch_word.proofs.values.Fixnums.{is_fixnum_says}
 use Rattle.sch_insn.specs.Machine.{word}
 use Rattle.sch_insn.proofs.Conditions.{compared_e}
 use Rattle.sch_asm.specs.Data.{FixnumWord}
 use Rattle.sch_select.specs.Encoded.{IsWord, constant_number}
 use Rattle.sch_select.proofs.Signs.{tag_zero}
 use Rattle.sch_select.proofs.Comparisons.{tests_equal}
-use Rattle.sch_word.specs.Straight.{is_straight_constant}
+use Rattle.sch_word.specs.trees.Straight.{is_straight_constant}
 
 pub fits : (v : Value) (x : ℕ) → IsWord v x → x < 2 ^ 64
 fits (fixnum n) x h = h.fits

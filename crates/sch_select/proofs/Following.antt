@@ -1,9 +1,9 @@
 -- What a machine owes to a result: it comes back, exits, or goes on, and its steps are paid for.
 use Rattle.std.proofs.Common.{◌≡◌, ℕ, ◌+◌, ◌*◌, ◌≤◌, List, [], ◌++◌, length, map, Some, None, refl, sym, ap, ◌∙◌, arith, append_assoc}
 use Rattle.sch_word.specs.declared.stop.Stop.{Stop}
-use Rattle.sch_word.specs.Stops.{status_of}
-use Rattle.sch_word.specs.Store.{Store}
-use Rattle.sch_word.specs.Computation.{gives, stops, spent}
+use Rattle.sch_word.specs.runs.Stops.{status_of}
+use Rattle.sch_word.specs.runs.Store.{Store}
+use Rattle.sch_word.specs.runs.Computation.{gives, stops, spent}
 use Rattle.sch_control.specs.Meaning.{World, Result}
 use Rattle.sch_insn.specs.Step.{Exited, step}
 use Rattle.sch_insn.proofs.Paths.{leads_then, leads_on}

@@ -3,10 +3,10 @@ use Rattle.std.proofs.Common.{◌≡◌, ℕ, suc, ◌+◌, ◌≤◌, List, [],
 use Rattle.std.specs.Prelude.{slice_get}
 use Rattle.std.specs.List.{list_all}
 use Rattle.std.proofs.lemmas.Bool.{and_parts}
-use Rattle.sch_word.specs.Values.{unspecified}
-use Rattle.sch_word.specs.Store.{Store}
-use Rattle.sch_word.specs.Stops.{status_of}
-use Rattle.sch_word.specs.Computation.{gives, stops, spent}
+use Rattle.sch_word.specs.values.Values.{unspecified}
+use Rattle.sch_word.specs.runs.Store.{Store}
+use Rattle.sch_word.specs.runs.Stops.{status_of}
+use Rattle.sch_word.specs.runs.Computation.{gives, stops, spent}
 use Rattle.sch_control.specs.declared.body.Entry.{Entry}
 use Rattle.sch_control.specs.declared.mark.MarkKind.TheVariants as control
 use Rattle.sch_control.specs.Meaning.{World, Result, Callee, marked, on_return}

@@ -5,9 +5,9 @@ use Rattle.std.proofs.lemmas.Bool.{and_parts, ne_eqb}
 use Rattle.sch_word.specs.declared.place.Place.{Place}
 use Rattle.sch_word.specs.declared.primitive.Primitive.{Primitive}
 use Rattle.sch_word.specs.declared.primitive.Primitive.TheVariants.{Put}
-use Rattle.sch_word.specs.Values.{Value, is_constant, constant_value}
-use Rattle.sch_word.specs.Store.{Store}
-use Rattle.sch_word.specs.Computation.{Outcome, gives, stops, spent}
+use Rattle.sch_word.specs.values.Values.{Value, is_constant, constant_value}
+use Rattle.sch_word.specs.runs.Store.{Store}
+use Rattle.sch_word.specs.runs.Computation.{Outcome, gives, stops, spent}
 use Rattle.sch_control.specs.declared.operation.Atom.{Atom}
 use Rattle.sch_control.specs.declared.operation.Atom.TheVariants.{Constant, Literal, Variable}
 use Rattle.sch_control.specs.declared.operation.Operand.{Operand}
@@ -34,7 +34,7 @@ use Rattle.sch_select.proofs.Primitives.{unary_here, binary_here}
 use Rattle.sch_select.proofs.Places.{Plan, Room, PlacesAt, places_kept, loaded, held_value}
 use Rattle.sch_select.proofs.Selected.{atom_selected, read_selected, operand_selected, takes}
 use Rattle.sch_control.specs.Valid.{only_reads}
-use Rattle.sch_word.specs.Straight.{is_straight_constant}
+use Rattle.sch_word.specs.trees.Straight.{is_straight_constant}
 
 not_true : (b : Bool) → not b ≡ true → b ≡ false
 not_true true e = absurd (let bad : false ≡ true = e in cc)

@@ -7,12 +7,12 @@ use Rattle.sch_word.specs.declared.place.Place.{Place}
 use Rattle.sch_word.specs.declared.primitive.Primitive.{Primitive}
 use Rattle.sch_word.specs.declared.primitive.Primitive.TheVariants as prim
 use Rattle.sch_word.specs.declared.stop.Stop.TheVariants.{Unset, OutputFailed}
-use Rattle.sch_word.specs.Stops.{status_of}
-use Rattle.sch_word.specs.Values.{Value, unspecified}
-use Rattle.sch_word.specs.Store.{Store}
-use Rattle.sch_word.specs.Put.{put}
-use Rattle.sch_word.specs.Computation.{Outcome, gives, stops, spent, read_global, set_or_stop, with_rest, in_store, require}
-use Rattle.sch_word.specs.PrimitiveRows.{primitive, put_piece}
+use Rattle.sch_word.specs.runs.Stops.{status_of}
+use Rattle.sch_word.specs.values.Values.{Value, unspecified}
+use Rattle.sch_word.specs.runs.Store.{Store}
+use Rattle.sch_word.specs.values.Put.{put}
+use Rattle.sch_word.specs.runs.Computation.{Outcome, gives, stops, spent, read_global, set_or_stop, with_rest, in_store, require}
+use Rattle.sch_word.specs.values.PrimitiveRows.{primitive, put_piece}
 use Rattle.sch_control.specs.declared.operation.Operand.{Operand}
 use Rattle.sch_control.specs.declared.operation.Operation.{Operation}
 use Rattle.sch_control.specs.declared.operation.Operation.TheVariants as operation

@@ -6,8 +6,8 @@ use Rattle.std.proofs.lemmas.Option.{slice_get_within}
 use Rattle.sch_word.specs.declared.answer.Answer.{Answer}
 use Rattle.sch_word.specs.declared.place.Place.{Place}
 use Rattle.sch_word.specs.declared.place.Place.TheVariants.{Reg, Slot}
-use Rattle.sch_word.specs.Values.{Value}
-use Rattle.sch_word.specs.Store.{Store}
+use Rattle.sch_word.specs.values.Values.{Value}
+use Rattle.sch_word.specs.runs.Store.{Store}
 use Rattle.sch_frames.specs.Meaning.{Cell, Is, Link, Junk, value_in, set}
 use Rattle.sch_frames.specs.Valid.{is_place, is_register}
 use Rattle.sch_insn.specs.declared.insn.Arg.TheVariants as arg

@@ -7,12 +7,12 @@ use Rattle.std.proofs.lemmas.Int.{ints}
 use Rattle.sch_word.specs.declared.primitive.Primitive.{Primitive}
 use Rattle.sch_word.specs.declared.primitive.Primitive.TheVariants.{Eq, Eqv, IsBoolean, IsPair, IsNull, IsSymbol, IsInteger, IsChar, IsString, IsVector, IsProcedure, Add, Subtract, Multiply, Quotient, Remainder, Modulo, Equal, Less, Greater, LessEqual, GreaterEqual, CharToInteger, IntegerToChar, Put}
 use Rattle.sch_word.specs.declared.stop.Stop.TheVariants.{OutOfRange, DivideByZero, Overflow}
-use Rattle.sch_word.specs.Fixnum.{IsFixnum}
-use Rattle.sch_word.specs.Values.{Value, fixnum, character, boolean, nil, unspecified, symbol, object, procedure, cell, same_value}
-use Rattle.sch_word.specs.Store.{Store}
-use Rattle.sch_word.specs.Computation.{Outcome, gives, stops, spent, Action, require}
-use Rattle.sch_word.specs.PrimitiveRows.{primitive, as_fixnum, fixnum_or_stop, is_zero, is_index, in_range, signs_differ, int_modulo, object_at, is_pair, is_vector, is_string, is_symbol, is_procedure}
-use Rattle.sch_word.proofs.Fixnums.{is_fixnum_holds}
+use Rattle.sch_word.specs.values.Fixnum.{IsFixnum}
+use Rattle.sch_word.specs.values.Values.{Value, fixnum, character, boolean, nil, unspecified, symbol, object, procedure, cell, same_value}
+use Rattle.sch_word.specs.runs.Store.{Store}
+use Rattle.sch_word.specs.runs.Computation.{Outcome, gives, stops, spent, Action, require}
+use Rattle.sch_word.specs.values.PrimitiveRows.{primitive, as_fixnum, fixnum_or_stop, is_zero, is_index, in_range, signs_differ, int_modulo, object_at, is_pair, is_vector, is_string, is_symbol, is_procedure}
+use Rattle.sch_word.proofs.values.Fixnums.{is_fixnum_holds}
 use Rattle.sch_insn.specs.declared.condition.TheConstants.{A, E, L, GE, G, LE}
 use Rattle.sch_insn.specs.declared.insn.Arg.TheVariants.{Reg}
 use Rattle.sch_insn.specs.declared.insn.Insn.{Insn}

@@ -7,8 +7,8 @@ use Rattle.std.proofs.lemmas.Bool.Decides.{nat_tests}
 use Rattle.std.proofs.lemmas.Int.{ints}
 use Rattle.std.proofs.Math.Nat.{mul_comm, mul_left_comm, mul-add}
 use lib.IntN.{neg_ℤ}
-use Rattle.sch_word.specs.Fixnum.{IsFixnum, is_fixnum}
-use Rattle.sch_word.proofs.Fixnums.{is_fixnum_says, is_fixnum_holds}
+use Rattle.sch_word.specs.values.Fixnum.{IsFixnum, is_fixnum}
+use Rattle.sch_word.proofs.values.Fixnums.{is_fixnum_says, is_fixnum_holds}
 use Rattle.sch_insn.specs.Machine.{is_negative, differ, magnitude, product_fits, product_of, shift_right_signed}
 use Rattle.sch_asm.specs.Data.{FixnumWord}
 use Rattle.sch_select.proofs.Signs.{positive, negative, not_fixnum, low_word, high_word}

@@ -5,9 +5,9 @@ use Rattle.std.specs.List.{list_all, AllByRecursion}
 use Rattle.std.proofs.lemmas.Bool.{and_parts, and_from, leb-true}
 use Rattle.std.proofs.lemmas.List.Elements.{All-from_recursion}
 use Rattle.std.proofs.lemmas.List.{length-replicate}
-use Rattle.sch_word.specs.Literals.{literals_known}
-use Rattle.sch_word.specs.ProgramLayout.{data_address}
-use Rattle.sch_word.specs.Runs.{max_statics, statics_size, statics_valid, statics_in_range, library_known}
+use Rattle.sch_word.specs.values.Literals.{literals_known}
+use Rattle.sch_word.specs.runs.ProgramLayout.{data_address}
+use Rattle.sch_word.specs.runs.Runs.{max_statics, statics_size, statics_valid, statics_in_range, library_known}
 use Rattle.sch_frames.specs.declared.body.FrameBody.{FrameBody}
 use Rattle.sch_frames.specs.declared.program.FrameProgram.{FrameProgram}
 use Rattle.sch_frames.specs.ProgramView.{source}

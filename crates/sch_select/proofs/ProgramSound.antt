@@ -10,8 +10,8 @@ use Rattle.sch_word.specs.declared.place.Place.{Place}
 use Rattle.sch_word.specs.declared.place.Place.TheVariants.{Reg, Slot}
 use Rattle.sch_word.specs.declared.primitive.Primitive.{Primitive}
 use Rattle.sch_word.specs.declared.primitive.Primitive.TheVariants.{IsBoolean, Eq}
-use Rattle.sch_word.specs.Values.{is_constant}
-use Rattle.sch_word.proofs.Fixnums.{is_fixnum_says}
+use Rattle.sch_word.specs.values.Values.{is_constant}
+use Rattle.sch_word.proofs.values.Fixnums.{is_fixnum_says}
 use Rattle.sch_control.specs.declared.operation.Atom.{Atom}
 use Rattle.sch_control.specs.declared.operation.Atom.TheVariants.{Constant, Literal, Variable}
 use Rattle.sch_control.specs.declared.operation.Operand.{Operand}
@@ -34,7 +34,7 @@ use Rattle.sch_select.proofs.Sound.{items_valid, arg_valid, fits_32, fits_64, it
 use Rattle.sch_select.proofs.Selected.{atom_selected, read_selected, operand_selected, operation_selected, instruction_selected, form_selected, is_unset, marks_settled, selects, takes}
 use Rattle.sch_control.specs.Straight.{is_form}
 use Rattle.sch_control.specs.Valid.{only_reads}
-use Rattle.sch_word.specs.Straight.{is_straight_constant}
+use Rattle.sch_word.specs.trees.Straight.{is_straight_constant}
 
 -- what is valid in front of what is
 pub in_front : (a b : Bool) → a ≡ true → (a && b) ≡ b

@@ -5,10 +5,10 @@ use Rattle.std.specs.Fmt.{signed_decimal}
 use Rattle.std.proofs.lemmas.Bool.{ne_eqb}
 use Rattle.std.proofs.lemmas.List.{drop-drop, take-append-drop}
 use Rattle.sch_word.specs.declared.answer.Answer.{Answer}
-use Rattle.sch_word.specs.Values.{Value, fixnum, character, boolean, nil, unspecified, symbol, object, procedure, cell}
-use Rattle.sch_word.specs.Store.{Store}
-use Rattle.sch_word.specs.PrimitiveRows.{piece}
-use Rattle.sch_word.specs.Put.{put}
+use Rattle.sch_word.specs.values.Values.{Value, fixnum, character, boolean, nil, unspecified, symbol, object, procedure, cell}
+use Rattle.sch_word.specs.runs.Store.{Store}
+use Rattle.sch_word.specs.values.PrimitiveRows.{piece}
+use Rattle.sch_word.specs.values.Put.{put}
 use Rattle.sch_insn.specs.declared.condition.TheConstants.{E, NE}
 use Rattle.sch_insn.specs.declared.insn.Arg.TheVariants.{Reg}
 use Rattle.sch_insn.specs.declared.insn.Insn.TheVariants.{MovNumber, AddNumber, CmpNumber, Shr}

@@ -4,9 +4,9 @@ use Rattle.std.specs.Prelude.{ℕ, Bool, true, false, ◌&&◌, not, nat_eq, nat
 use Rattle.std.specs.List.{list_all}
 use Rattle.sch_word.specs.declared.place.Place.{Place}
 use Rattle.sch_word.specs.declared.primitive.Primitive.{Primitive}
-use Rattle.sch_word.specs.Primitives.{operands_of}
-use Rattle.sch_word.specs.Straight.{is_straight_constant, is_straight_primitive}
-use Rattle.sch_word.specs.Values.{is_constant}
+use Rattle.sch_word.specs.values.Primitives.{operands_of}
+use Rattle.sch_word.specs.trees.Straight.{is_straight_constant, is_straight_primitive}
+use Rattle.sch_word.specs.values.Values.{is_constant}
 use Rattle.sch_control.specs.declared.operation.Atom.{Atom}
 use Rattle.sch_control.specs.declared.operation.Atom.TheVariants.{Constant, Literal, Variable}
 use Rattle.sch_control.specs.declared.operation.Operand.{Operand}

@@ -4,8 +4,8 @@ use Rattle.std.specs.Prelude.{ℤ, pos, negsuc, ◌+ℤ◌, ◌*ℤ◌, ◌≤�
 use Rattle.std.proofs.lemmas.Bool.{cases_Bool}
 use Rattle.std.proofs.lemmas.Bool.Decides.{nat_tests}
 use Rattle.std.proofs.lemmas.Int.{ints}
-use Rattle.sch_word.specs.Fixnum.{IsFixnum, is_fixnum}
-use Rattle.sch_word.proofs.Fixnums.{is_fixnum_says}
+use Rattle.sch_word.specs.values.Fixnum.{IsFixnum, is_fixnum}
+use Rattle.sch_word.proofs.values.Fixnums.{is_fixnum_says}
 use Rattle.sch_insn.specs.Machine.{is_negative}
 use Rattle.sch_asm.specs.Data.{FixnumWord}
 

@@ -4,11 +4,11 @@ use Rattle.std.specs.Prelude.{ℤ, pos, not, bit_and}
 use Rattle.std.proofs.lemmas.Bool.{ne_eqb}
 use Rattle.sch_word.specs.declared.stop.Stop.{Stop}
 use Rattle.sch_word.specs.declared.stop.Stop.TheVariants.{WrongType, Overflow}
-use Rattle.sch_word.specs.Fixnum.{is_fixnum}
-use Rattle.sch_word.specs.Values.{Value, fixnum, character, boolean, nil, unspecified, symbol, object, procedure, cell}
-use Rattle.sch_word.specs.Store.{Store}
-use Rattle.sch_word.specs.Computation.{Outcome, gives, stops, spent, Action, require}
-use Rattle.sch_word.specs.PrimitiveRows.{as_fixnum, as_character, fixnum_or_stop}
+use Rattle.sch_word.specs.values.Fixnum.{is_fixnum}
+use Rattle.sch_word.specs.values.Values.{Value, fixnum, character, boolean, nil, unspecified, symbol, object, procedure, cell}
+use Rattle.sch_word.specs.runs.Store.{Store}
+use Rattle.sch_word.specs.runs.Computation.{Outcome, gives, stops, spent, Action, require}
+use Rattle.sch_word.specs.values.PrimitiveRows.{as_fixnum, as_character, fixnum_or_stop}
 use Rattle.sch_insn.specs.declared.condition.TheConstants.{O, E, NE}
 use Rattle.sch_insn.specs.declared.insn.Arg.TheVariants.{Reg}
 use Rattle.sch_insn.specs.declared.insn.Insn.TheVariants.{MovTo, MovNumber, AndNumber, CmpNumber}

@@ -7,11 +7,11 @@ use Rattle.sch_word.specs.declared.place.Place.{Place}
 use Rattle.sch_word.specs.declared.place.Place.TheVariants.{Reg, Slot}
 use Rattle.sch_word.specs.declared.primitive.Primitive.{Primitive}
 use Rattle.sch_word.specs.declared.primitive.Primitive.TheVariants.{Eq}
-use Rattle.sch_word.specs.Literals.{constant_known, literals_known}
-use Rattle.sch_word.specs.Primitives.{operands_of}
-use Rattle.sch_word.specs.Runs.{statics_size, max_statics, statics_valid, statics_in_range, library_known}
-use Rattle.sch_word.specs.Straight.{is_straight_constant, is_straight_primitive, is_empty}
-use Rattle.sch_word.specs.Values.{is_constant}
+use Rattle.sch_word.specs.values.Literals.{constant_known, literals_known}
+use Rattle.sch_word.specs.values.Primitives.{operands_of}
+use Rattle.sch_word.specs.runs.Runs.{statics_size, max_statics, statics_valid, statics_in_range, library_known}
+use Rattle.sch_word.specs.trees.Straight.{is_straight_constant, is_straight_primitive, is_empty}
+use Rattle.sch_word.specs.values.Values.{is_constant}
 use Rattle.sch_control.specs.declared.operation.Atom.{Atom}
 use Rattle.sch_control.specs.declared.operation.Atom.TheVariants.{Constant, Literal, Variable}
 use Rattle.sch_control.specs.declared.operation.Operand.{Operand}

@@ -4,8 +4,8 @@ use Rattle.std.proofs.Common.{◌≡◌, ℕ, ◌+◌, ◌^◌, ◌<◌, Bool, t
 use Rattle.std.specs.Prelude.{ℤ, ◌+ℤ◌, ◌-ℤ◌, not}
 use Rattle.std.proofs.lemmas.Bool.{cases_lt}
 use Rattle.std.proofs.lemmas.Int.{ints}
-use Rattle.sch_word.specs.Fixnum.{IsFixnum, is_fixnum}
-use Rattle.sch_word.proofs.Fixnums.{is_fixnum_holds}
+use Rattle.sch_word.specs.values.Fixnum.{IsFixnum, is_fixnum}
+use Rattle.sch_word.proofs.values.Fixnums.{is_fixnum_holds}
 use Rattle.sch_insn.specs.Machine.{Computed, is_negative, differ, add64, sub64, sum_of, difference_of}
 use Rattle.sch_asm.specs.Data.{IsShifted, FixnumWord}
 use Rattle.sch_select.proofs.Signs.{IsLow, IsHigh, positive, negative, not_fixnum, least, most, low_small, high_large}

@@ -4,11 +4,11 @@ use Rattle.std.specs.Prelude.{pos, slice_get}
 use Rattle.std.specs.List.{list_all}
 use Rattle.std.proofs.lemmas.Option.{slice_get_within}
 use Rattle.sch_word.specs.declared.answer.Answer.{Answer}
-use Rattle.sch_word.specs.Stops.{status_of}
-use Rattle.sch_word.specs.Store.{Store}
-use Rattle.sch_word.specs.Values.{Value}
-use Rattle.sch_word.specs.Computation.{gives, stops, spent}
-use Rattle.sch_word.specs.Runs.{Run, ended, going, run_with, starting_store, starting_values}
+use Rattle.sch_word.specs.runs.Stops.{status_of}
+use Rattle.sch_word.specs.runs.Store.{Store}
+use Rattle.sch_word.specs.values.Values.{Value}
+use Rattle.sch_word.specs.runs.Computation.{gives, stops, spent}
+use Rattle.sch_word.specs.runs.Runs.{Run, ended, going, run_with, starting_store, starting_values}
 use Rattle.sch_control.specs.Meaning.{World, Result, Callee}
 use Rattle.sch_control.specs.Run.{seen_of, enter, entry_at, starting_world}
 use Rattle.sch_frames.specs.Tree.{Source}

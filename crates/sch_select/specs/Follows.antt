@@ -2,7 +2,7 @@
 use Rattle.std.specs.Prelude.{◌≡◌, ℕ, ◌≤◌, List, [], ◌∷◌, ◌++◌, length, replicate, Some, IsTrue, false}
 use Rattle.std.specs.List.{flat_map}
 use Rattle.sch_word.specs.declared.answer.Answer.{Answer}
-use Rattle.sch_word.specs.Runs.{Run}
+use Rattle.sch_word.specs.runs.Runs.{Run}
 use Rattle.sch_frames.specs.Tree.{Source}
 use Rattle.sch_frames.specs.Run.{run}
 use Rattle.sch_insn.specs.declared.insn.Insn.{Insn}

@@ -1,7 +1,7 @@
 //! A frame program's items and data: `select`.
 
 ghost use Rattle.std.specs.Prelude.{◌≡◌, ◌+◌, ◌*◌, ◌^◌, ◌<◌, ◌≤◌, ◌++◌, [], ◌∷◌, IfOk, IsTrue, OnOk, length, pos, replicate};
-ghost use Rattle.sch_word.specs.ProgramLayout.{data_address};
+ghost use Rattle.sch_word.specs.runs.ProgramLayout.{data_address};
 ghost use Rattle.sch_asm.specs.Codes.{text_size};
 ghost use Rattle.sch_asm.specs.Items.{AreOwn};
 ghost use Rattle.sch_asm.specs.declared.item.Item.TheVariants as item;

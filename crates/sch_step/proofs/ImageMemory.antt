@@ -4,7 +4,7 @@ use Rattle.std.specs.Prelude.{replicate, All}
 use Rattle.std.proofs.lemmas.Bool.Decides.{nat_tests}
 use Rattle.std.proofs.Math.Seq.{take-append_seam}
 use Rattle.std.proofs.lemmas.List.{drop-replicate, length-map, length-replicate}
-use Rattle.sch_word.specs.Memory as words
+use Rattle.sch_word.specs.values.Memory as words
 use Rattle.sch_insn.specs.Machine.{holds}
 use Rattle.sch_elf.specs.declared.image.Segment.{Segment}
 use Rattle.sch_elf.specs.Layout as image

@@ -4,7 +4,7 @@ use Rattle.std.proofs.lemmas.Bool.Decides.{nat_tests}
 use Rattle.std.proofs.lemmas.List.{length-take-le, map-set, length-map, length-set}
 use Rattle.std.specs.Prelude.{map, Result, Ok, Err}
 use Rattle.std.specs.Result.{result_err}
-use Rattle.sch_word.specs.Memory as words
+use Rattle.sch_word.specs.values.Memory as words
 use Rattle.sch_insn.specs.declared.machine.StuckCause.{StuckCause}
 use Rattle.sch_insn.specs.declared.machine.StuckCause.TheVariants.{Access}
 use Rattle.sch_insn.specs.Machine.{Core, holds, bytes_from, put_bytes, with_bytes, behind_segment, stored, or_access, when_ok, with_segments, write_bytes}

@@ -6,7 +6,8 @@ use Rattle.sch_word.specs.declared.answer.Answer.TheVariants.{Took, Failed}
 use Rattle.sch_io.specs.Told.{Tells}
 use Rattle.sch_io.specs.Counters.{Rose}
 use Rattle.sch_io.specs.Answers.{AnswersNext, IsWithin, IsRefusal, taken}
-use Rattle.sch_step.specs.Run.{Does, TakesNothing}
+use Rattle.sch_word.specs.runs.Answers.{TakesNothing}
+use Rattle.sch_step.specs.Run.{Does}
 
 told_still : {A : Type 0} (o : Option A) (R : A → A → Type 0) → ((a : A) → R a a) → Tells o o R
 told_still None R h = tt

@@ -2,7 +2,7 @@
 use Rattle.std.specs.Prelude.{◌≡◌, ℕ, ◌+◌, ◌<◌, ◌≤◌, ◌^◌, List, [], length, map, true, false, Vec}
 use Rattle.std.proofs.Common.{get_or}
 use Rattle.std.specs.declared.alloc.Global.{Global}
-use Rattle.sch_word.specs.Memory as words
+use Rattle.sch_word.specs.values.Memory as words
 use Rattle.sch_insn.specs.Machine.{holds}
 use Rattle.sch_step.specs.declared.segment.Segment.{Segment}
 

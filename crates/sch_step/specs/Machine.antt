@@ -1,7 +1,7 @@
 -- A machine of the program, as what a machine has come to.
 use Rattle.std.specs.Prelude.{◌≡◌, ◌≢◌, ℕ, List, [], length, Option, Some, None}
 use Rattle.sch_word.specs.declared.answer.Answer.{Answer}
-use Rattle.sch_word.specs.Memory.{Segment}
+use Rattle.sch_word.specs.values.Memory.{Segment}
 use Rattle.sch_io.specs.Told.{Tells}
 use Rattle.sch_insn.specs.Machine.{Core, State}
 use Rattle.sch_insn.specs.Step.{Progress, Runs, Exited, Stuck, step, mach, go_on}

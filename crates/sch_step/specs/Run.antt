@@ -1,7 +1,7 @@
 -- What a machine does over an outlet, which may tell what it takes and which answers it holds, or not.
 use Rattle.std.specs.Prelude.{◌≡◌, ℕ, zero, suc, ◌≤◌, List, [], ◌++◌, Option, Some, None, All}
 use Rattle.sch_word.specs.declared.answer.Answer.{Answer}
-use Rattle.sch_word.specs.declared.answer.Answer.TheVariants.{Took, Failed}
+use Rattle.sch_word.specs.runs.Answers.{TakesNothing}
 use Rattle.sch_io.specs.Told.{Tells}
 use Rattle.sch_io.specs.Counters.{Rose}
 use Rattle.sch_insn.specs.declared.insn.Insn.{Insn}
@@ -28,12 +28,6 @@ abbrev pub reached_by_run : RunEnd → Core → List ℕ → List Answer → Pro
 reached_by_run run_end.Spent c bytes answers = Runs (state_of c bytes answers)
 reached_by_run (run_end.Exited status) c bytes answers = Exited status (state_of c bytes answers)
 reached_by_run (run_end.Stuck stuck) c bytes answers = Stuck stuck.cause (state_of c bytes answers)
-
--- An answer that takes nothing.
-abbrev pub TakesNothing : Answer → Type 0
-TakesNothing (Took zero) = Unit {0}
-TakesNothing (Took (suc k)) = ⊥
-TakesNothing Failed = Unit {0}
 
 -- Something was done over an outlet. `P bytes answers bytes' answers'` says that with these bytes written
 -- and these answers of the kernel before it there are those after it. It took some bytes and was given

@@ -1,7 +1,7 @@
 -- How long the lists are that computations make.
 use Rattle.std.proofs.Common.{◌≡◌, ℕ, zero, suc, List, [], ◌∷◌, length, refl, ap}
-use Rattle.sch_word.specs.Values.{Value}
-use Rattle.sch_word.specs.Computation.{blanks, numbers_from, procedures_from, some_each, unset_each}
+use Rattle.sch_word.specs.values.Values.{Value}
+use Rattle.sch_word.specs.runs.Computation.{blanks, numbers_from, procedures_from, some_each, unset_each}
 
 pub blanks_length : {A : Type 0} (xs : List A) → length (blanks xs) ≡ length xs
 blanks_length [] = refl

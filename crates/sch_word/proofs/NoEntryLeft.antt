@@ -1,11 +1,11 @@
 -- The checks of a call find that no entry is left only where there is none.
 use Rattle.std.proofs.Common.{◌≡◌, ℕ, zero, suc, Bool, true, false, List, ◌∷◌, Option, Some, None, refl}
 use Rattle.std.specs.Prelude.{slice_get}
-use Rattle.sch_word.specs.Values.{Value, procedure, Object}
-use Rattle.sch_word.specs.Store.{Store}
-use Rattle.sch_word.specs.Checked.{Checked, passes, refused, exhausted, unreachable, on_passed}
-use Rattle.sch_word.specs.Handed.{handed}
-use Rattle.sch_word.specs.Computation.{known_procedure, callee, operands, depth_left, entry_left, checked_call}
+use Rattle.sch_word.specs.values.Values.{Value, procedure, Object}
+use Rattle.sch_word.specs.runs.Store.{Store}
+use Rattle.sch_word.specs.values.Checked.{Checked, passes, refused, exhausted, unreachable, on_passed}
+use Rattle.sch_word.specs.runs.Handed.{handed}
+use Rattle.sch_word.specs.runs.Computation.{known_procedure, callee, operands, depth_left, entry_left, checked_call}
 
 -- with this many entries left
 abbrev pub Exhausts : {A : Type 0} → ℕ → Checked A → Type 0

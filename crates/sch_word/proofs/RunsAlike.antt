@@ -1,6 +1,6 @@
 -- Programs with the same runs, along a chain of passes.
 use Rattle.std.proofs.Common.{ℕ, List, refl, sym, ◌∙◌}
-use Rattle.sch_word.specs.Runs.{Runs, SameRuns, SameOrderedRuns}
+use Rattle.sch_word.specs.runs.Runs.{Runs, SameRuns, SameOrderedRuns}
 
 pub same_runs_self : (a : Runs) → SameRuns a a
 same_runs_self a = record { same = λ table heap depth answers entries. refl }

@@ -7,12 +7,12 @@ use Rattle.std.proofs.lemmas.List.{length-take-le}
 use Rattle.sch_word.specs.declared.answer.Answer.{Answer}
 use Rattle.sch_word.specs.declared.stop.Stop.{Stop}
 use Rattle.sch_word.specs.declared.stop.Stop.TheVariants.{NotProcedure, WrongCount}
-use Rattle.sch_word.specs.Values.{Value, unspecified, procedure}
-use Rattle.sch_word.specs.Store.{Store}
-use Rattle.sch_word.specs.Handed.{handed}
-use Rattle.sch_word.specs.Computation.{Outcome, gives, stops, spent, State, Action, Computation, with_rest, in_store, on_value, after, require, set_or_stop, read_cell, write_cell, write_cells, new_procedure, new_group, new_fix, new_cells, numbers_from, procedures_from, known_procedure, callee, operands, depth_left, Entry, checked_call, call_with, entry_left, Enter}
-use Rattle.sch_word.specs.Charges.{new_list, fit}
-use Rattle.sch_word.specs.Runs.{seen, starting_state}
+use Rattle.sch_word.specs.values.Values.{Value, unspecified, procedure}
+use Rattle.sch_word.specs.runs.Store.{Store}
+use Rattle.sch_word.specs.runs.Handed.{handed}
+use Rattle.sch_word.specs.runs.Computation.{Outcome, gives, stops, spent, State, Action, Computation, with_rest, in_store, on_value, after, require, set_or_stop, read_cell, write_cell, write_cells, new_procedure, new_group, new_fix, new_cells, numbers_from, procedures_from, known_procedure, callee, operands, depth_left, Entry, checked_call, call_with, entry_left, Enter}
+use Rattle.sch_word.specs.runs.Charges.{new_list, fit}
+use Rattle.sch_word.specs.runs.Runs.{seen, starting_state}
 use Rattle.sch_word.proofs.Lengths.{numbers_length, procedures_length}
 use Rattle.sch_word.proofs.Similar.{Correspondence, Similar, SimilarOutcome, Same, BothChecked, both_pass, both_refused, both_exhausted, both_unreachable, both_self, both_on_passed, similar_gives, similar_checked, similar_keeping, similar_then, similar_seen}
 

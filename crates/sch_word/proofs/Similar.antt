@@ -5,12 +5,12 @@ use Rattle.std.specs.Prelude.{slice_get, slice_set}
 use Rattle.std.proofs.lemmas.List.{length-set}
 use Rattle.sch_word.specs.declared.answer.Answer.{Answer}
 use Rattle.sch_word.specs.declared.stop.Stop.{Stop}
-use Rattle.sch_word.specs.Values.{Value, unspecified}
+use Rattle.sch_word.specs.values.Values.{Value, unspecified}
 use Rattle.sch_word.proofs.Lengths.{blanks_length}
-use Rattle.sch_word.specs.Store.{Store}
-use Rattle.sch_word.specs.Runs.{seen_in}
-use Rattle.sch_word.specs.Checked.{Checked, passes, refused, exhausted, unreachable, on_passed}
-use Rattle.sch_word.specs.Computation.{Outcome, gives, stops, spent, on_value, after, either, require, unreached, checked, at_place, in_order, in_turn, blanks, all_values}
+use Rattle.sch_word.specs.runs.Store.{Store}
+use Rattle.sch_word.specs.runs.Runs.{seen_in}
+use Rattle.sch_word.specs.values.Checked.{Checked, passes, refused, exhausted, unreachable, on_passed}
+use Rattle.sch_word.specs.runs.Computation.{Outcome, gives, stops, spent, on_value, after, either, require, unreached, checked, at_place, in_order, in_turn, blanks, all_values}
 
 -- checks that let related things pass, or end alike
 pub data BothChecked {A B : Type 0} (R : A → B → Type 0) : Checked A → Checked B → Type 0 where

@@ -9,14 +9,14 @@ use Rattle.sch_word.specs.declared.stop.Stop.{Stop}
 use Rattle.sch_word.specs.declared.stop.Stop.TheVariants.{HeapLimit, OutputFailed}
 use Rattle.sch_word.specs.declared.primitive.Primitive.{Primitive}
 use Rattle.sch_word.specs.declared.primitive.Primitive.TheVariants.{Eq, Eqv, IsBoolean, IsPair, IsNull, IsSymbol, IsInteger, IsChar, IsString, IsVector, IsProcedure, Cons, Car, Cdr, SetCar, SetCdr, Add, Subtract, Multiply, Quotient, Remainder, Modulo, Equal, Less, Greater, LessEqual, GreaterEqual, CharToInteger, IntegerToChar, MakeString, StringLength, StringRef, StringSet, MakeVector, VectorLength, VectorRef, VectorSet, Put, SymbolLength, SymbolRef}
-use Rattle.sch_word.specs.Fixnum.{is_fixnum}
-use Rattle.sch_word.specs.Put as puts
-use Rattle.sch_word.specs.Values.{Value, fixnum, character, boolean, nil, unspecified, symbol, object, procedure, cell, Object, pair, vector, string}
-use Rattle.sch_word.specs.Store.{Store}
-use Rattle.sch_word.specs.Growth.{GrowsTo}
-use Rattle.sch_word.specs.Computation.{Outcome, gives, stops, spent, Action, on_value, after, require, set_or_stop, read_global, write_global, known_value, read_literal}
-use Rattle.sch_word.specs.Charges.{string_bytes, vector_bytes, charge, charge_each, new_object, charged_object, linked, list_value, new_list, fit}
-use Rattle.sch_word.specs.PrimitiveRows.{unary, binary, ternary, as_fixnum, as_character, known_name, as_symbol, object_at, pair_or_stop, vector_or_stop, string_or_stop, as_pair, as_vector, as_string, in_range, as_length, fixnum_or_stop, arithmetic, comparison, division, object_test, is_pair, is_vector, is_string, int_modulo, is_natural, is_index, write_object, element, piece, put_piece, primitive}
+use Rattle.sch_word.specs.values.Fixnum.{is_fixnum}
+use Rattle.sch_word.specs.values.Put as puts
+use Rattle.sch_word.specs.values.Values.{Value, fixnum, character, boolean, nil, unspecified, symbol, object, procedure, cell, Object, pair, vector, string}
+use Rattle.sch_word.specs.runs.Store.{Store}
+use Rattle.sch_word.specs.trees.Growth.{GrowsTo}
+use Rattle.sch_word.specs.runs.Computation.{Outcome, gives, stops, spent, Action, on_value, after, require, set_or_stop, read_global, write_global, known_value, read_literal}
+use Rattle.sch_word.specs.runs.Charges.{string_bytes, vector_bytes, charge, charge_each, new_object, charged_object, linked, list_value, new_list, fit}
+use Rattle.sch_word.specs.values.PrimitiveRows.{unary, binary, ternary, as_fixnum, as_character, known_name, as_symbol, object_at, pair_or_stop, vector_or_stop, string_or_stop, as_pair, as_vector, as_string, in_range, as_length, fixnum_or_stop, arithmetic, comparison, division, object_test, is_pair, is_vector, is_string, int_modulo, is_natural, is_index, write_object, element, piece, put_piece, primitive}
 
 -- ## Growth
 

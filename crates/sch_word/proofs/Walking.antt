@@ -2,7 +2,7 @@
 -- that what is made, and then what is left, is the whole.
 use Rattle.std.proofs.Common.{◌≡◌, ℕ, suc, ◌+◌, ◌<◌, ◌≤◌, List, [], ◌∷◌, ◌++◌, length, drop, get_or, refl, ap, ◌∙◌, sym, subst, arith, add-one, drop-cons}
 use Rattle.std.proofs.lemmas.List.{drop_all}
-use Rattle.sch_word.specs.Walk.{onto}
+use Rattle.sch_word.specs.trees.Walk.{onto}
 
 onto_more : {B Q : Type 0} (cons : B → Q → Q) (bs : List B) (b : B) (rest : Q) → onto cons (bs ++ b ∷ []) rest ≡ onto cons bs (cons b rest)
 onto_more cons [] b rest = refl

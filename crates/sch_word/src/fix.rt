@@ -1,7 +1,7 @@
 //! Fixnums: the integers of a program, with exact arithmetic.
 
 ghost use Rattle.std.specs.Prelude.{◌≡◌, ℤ, ◌+ℤ◌, ◌-ℤ◌, ◌*ℤ◌, SomeIff};
-ghost use Rattle.sch_word.specs.Fixnum.{IsFixnum};
+ghost use Rattle.sch_word.specs.values.Fixnum.{IsFixnum};
 
 use std::marker::Model;
 

@@ -1,5 +1,5 @@
 ghost use Rattle.std.specs.Prelude.{◌≡◌, ◌≤◌, ◌%◌, ◌↔◌, IsSome, IfSome};
-ghost use Rattle.sch_word.specs.Limits.{AreLimits};
+ghost use Rattle.sch_word.specs.runs.Limits.{AreLimits};
 
 /// The least heap of a run, in bytes.
 pub const MIN_HEAP: u64 = 4_096;

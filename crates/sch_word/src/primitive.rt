@@ -1,5 +1,5 @@
 ghost use Rattle.std.specs.Prelude.{◌≡◌};
-ghost use Rattle.sch_word.specs.Primitives.{name_of, operands_of};
+ghost use Rattle.sch_word.specs.values.Primitives.{name_of, operands_of};
 
 /// A primitive: an operation that a program names and that is never a call.
 ///

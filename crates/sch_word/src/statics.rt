@@ -1,8 +1,8 @@
 //! What stands ready when a program starts, the same in every language, and copies of it.
 
 ghost use Rattle.std.specs.Prelude.{◌≡◌, IfOk};
-ghost use Rattle.sch_word.specs.LiteralView.{literal, literals_of};
-ghost use Rattle.sch_word.specs.StaticsView.{statics, statics_of};
+ghost use Rattle.sch_word.specs.values.LiteralView.{literal, literals_of};
+ghost use Rattle.sch_word.specs.values.StaticsView.{statics, statics_of};
 
 use crate::list::{Bytes, List};
 use crate::literal::Lit;

@@ -1,5 +1,5 @@
 ghost use Rattle.std.specs.Prelude.{◌≡◌};
-ghost use Rattle.sch_word.specs.Tags.{tag_bits};
+ghost use Rattle.sch_word.specs.values.Tags.{tag_bits};
 
 /// How many low bits of a fixnum's word are 0; its number stands above them. The word of any other
 /// value has another low bit, so it is told from a fixnum by these bits alone.

@@ -1,5 +1,6 @@
 use Rattle.std.proofs.Common.{◌∙◌, Result, Ok, Err, IfOk, IsTrue, length, ap, sym, subst}
-use Rattle.sch_word.specs.Orders.{is_order_table}
+use Rattle.sch_word.proofs.WhenOk.{if_ok}
+use Rattle.sch_word.specs.runs.Orders.{is_order_table}
 use Rattle.sch_control.specs.Fits.{table_fits}
 use Rattle.sch_control.specs.ProgramView.{source}
 use Rattle.sch_anf.specs.Table.{given_orders}
@@ -7,10 +8,6 @@ use Rattle.sch_anf.proofs.OrderLists.{as_many}
 use Rattle.sch_anf.proofs.ProgramMade.{fitting_orders}
 use Rattle.sch_anf.proofs.Table.{given_table_fits}
 use Rattle.sch_anf.proofs.given_orders.Goals as goal
-
-if_ok : {A E : Type 0} (r : Result A E) (P Q : A → Type 0) → IfOk r P → ((a : A) → P a → Q a) → IfOk r Q
-if_ok (Ok a) P Q h f = f a h
-if_ok (Err e) P Q h f = h
 
 pub orders_of-requires : goal.orders_of-requires
 orders_of-requires c = let p = c.args.p.now in ap length c.as_slice.ensures ∙ as_many p.sites p.bound p.ordered ∙ sym (ap length c.as_slice-2.ensures)

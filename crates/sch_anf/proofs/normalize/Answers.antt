@@ -1,4 +1,5 @@
 use Rattle.std.proofs.Common.{◌∙◌, ◌≤◌, ◌*◌, Result, Ok, Err, IfOk, IsTrue, sym, subst, ap}
+use Rattle.sch_word.proofs.WhenOk.{if_ok}
 use Rattle.sch_flat.specs.ProgramView.{source}
 use Rattle.sch_control.specs.Fits.{table_fits}
 use Rattle.sch_control.specs.Sizes.{expressions_size}
@@ -16,10 +17,6 @@ use Rattle.sch_anf.proofs.Table.{given_table_fits}
 use Rattle.sch_anf.proofs.TestsKept.{program_tests}
 use Rattle.sch_anf.proofs.ValidProgram.{bound_known}
 use Rattle.sch_anf.proofs.normalize.Goals as goal
-
-if_ok : {A E : Type 0} (r : Result A E) (P Q : A → Type 0) → IfOk r P → ((a : A) → P a → Q a) → IfOk r Q
-if_ok (Ok a) P Q h f = f a h
-if_ok (Err e) P Q h f = h
 
 pub returns-clause-runs : goal.returns-clause-runs
 returns-clause-runs c =

@@ -1,6 +1,7 @@
 use Rattle.std.specs.Prelude.{IsTrue}
 use Rattle.std.proofs.Common.{◌∙◌, ℕ, ◌*◌, ◌≤◌, length, sym, subst, ap}
-use Rattle.sch_word.specs.Runs.{SameRuns}
+use Rattle.sch_word.proofs.WhenOk.{if_ok}
+use Rattle.sch_word.specs.runs.Runs.{SameRuns}
 use Rattle.sch_cells.specs.Bodies.{bodies_of}
 use Rattle.sch_cells.specs.BoxedMeaning as boxed
 use Rattle.sch_cells.specs.Measures.{call_sites_of, dropped_of, program_size, sites_of, tests_of}
@@ -8,16 +9,15 @@ use Rattle.sch_cells.specs.ProgramView.{source}
 use Rattle.sch_cells.specs.UnboxedMeaning as unboxed
 use Rattle.sch_cells.specs.Valid.{bound_of}
 use Rattle.sch_assign.specs.Table.{table}
-use Rattle.sch_assign.proofs.BodiesKept.{program_bodies}
+use Rattle.sch_assign.proofs.kept.BodiesKept.{program_bodies}
 use Rattle.sch_assign.proofs.BoundCount.{program_bound}
 use Rattle.sch_assign.proofs.ConversionIsRight.{program_right}
 use Rattle.sch_assign.proofs.Same.{runs_alike}
-use Rattle.sch_assign.proofs.Laws.{if_ok}
-use Rattle.sch_assign.proofs.MeasuresKept.{calls_kept, tests_kept, dropped_kept}
-use Rattle.sch_assign.proofs.SizeKept.{program_size_kept}
+use Rattle.sch_assign.proofs.kept.MeasuresKept.{calls_kept, tests_kept, dropped_kept}
+use Rattle.sch_assign.proofs.kept.SizeKept.{program_size_kept}
 use Rattle.sch_assign.specs.SameTrees.{SameTrees}
-use Rattle.sch_assign.proofs.StraightKept.{trees_kept}
-use Rattle.sch_assign.proofs.ValidKept.{sites_kept}
+use Rattle.sch_assign.proofs.kept.StraightKept.{trees_kept}
+use Rattle.sch_assign.proofs.kept.ValidKept.{sites_kept}
 use Rattle.sch_assign.proofs.convert_assign.Goals as goal
 
 pub returns-clause-runs : goal.returns-clause-runs

@@ -5,7 +5,7 @@ use Rattle.sch_cells.specs.Valid.{scoped, formed, constants_in_range, within_lim
 use Rattle.sch_assign.specs.Table.{table}
 use Rattle.sch_assign.proofs.ConversionIsRight.{program_right}
 use Rattle.sch_assign.proofs.Laws.{in_range, made_program}
-use Rattle.sch_assign.proofs.ValidKept.{scoped_kept, formed_kept, words_kept, limited_kept, sited_kept, ready_kept}
+use Rattle.sch_assign.proofs.kept.ValidKept.{scoped_kept, formed_kept, words_kept, limited_kept, sited_kept, ready_kept}
 use Rattle.sch_assign.proofs.convert_program.Goals as goal
 
 pub convert_lambdas-requires-clause-within : goal.convert_lambdas-requires-clause-within

@@ -1,6 +1,7 @@
 use Rattle.std.specs.Prelude.{IsTrue}
 use Rattle.std.proofs.Common.{◌∙◌, Result, Ok, Err, IfOk, sym, subst, ap, map}
-use Rattle.sch_word.specs.Runs.{SameRuns}
+use Rattle.sch_word.proofs.WhenOk.{if_ok}
+use Rattle.sch_word.specs.runs.Runs.{SameRuns}
 use Rattle.sch_cells.specs.BoxedMeaning.{run}
 use Rattle.sch_cells.specs.ProgramView.{source}
 use Rattle.sch_cells.specs.Measures as from
@@ -8,14 +9,10 @@ use Rattle.sch_flat.specs.Measures.{sites_of, call_sites_of, tests_of, dropped_o
 use Rattle.sch_flat.specs.Run as meaning
 use Rattle.sch_flat.specs.Straight.{is_straight_program}
 use Rattle.sch_closure.specs.Kept.{SameItems, flat_forms, procedure_of}
-use Rattle.sch_closure.proofs.ValidKept.{Given, same_runs, clears, fresh_library, fresh_forms}
-use Rattle.sch_closure.proofs.ProgramKept.{sites_kept, calls_kept, tests_kept, dropped_kept, bodies_kept, forms_kept, size_kept}
-use Rattle.sch_closure.proofs.StraightKept.{straight_kept}
+use Rattle.sch_closure.proofs.kept.ValidKept.{Given, same_runs, clears, fresh_library, fresh_forms}
+use Rattle.sch_closure.proofs.kept.ProgramKept.{sites_kept, calls_kept, tests_kept, dropped_kept, bodies_kept, forms_kept, size_kept}
+use Rattle.sch_closure.proofs.kept.StraightKept.{straight_kept}
 use Rattle.sch_closure.proofs.close.Goals as goal
-
-if_ok : {A E : Type 0} (r : Result A E) (P Q : A → Type 0) → IfOk r P → ((a : A) → P a → Q a) → IfOk r Q
-if_ok (Ok a) P Q h f = f a h
-if_ok (Err e) P Q h f = h
 
 pub returns-clause-runs : goal.returns-clause-runs
 returns-clause-runs c =

@@ -6,7 +6,7 @@ use Rattle.sch_closure.specs.Closed.{captured, procedures_lambdas, made_each}
 use Rattle.sch_closure.specs.Walked.{with_bodies_lambdas}
 use Rattle.sch_closure.proofs.Standing.{stands_library, stands_forms}
 use Rattle.sch_closure.proofs.MadeProgram.{fields_made, made_program, library_length, few_procedures}
-use Rattle.sch_closure.proofs.ValidKept.{Given, short, closed_kept, formed_kept, constants_kept, nested_kept, ordered_kept, sited_kept, ready_kept}
+use Rattle.sch_closure.proofs.kept.ValidKept.{Given, short, closed_kept, formed_kept, constants_kept, nested_kept, ordered_kept, sited_kept, ready_kept}
 use Rattle.sch_closure.proofs.close_program.Goals as goal
 
 pub close_lambdas-requires-clause-short : goal.close_lambdas-requires-clause-short

@@ -1,6 +1,6 @@
 use Rattle.std.proofs.Common.{◌≡◌, subst}
 use Rattle.std.specs.Prelude.{IsTrue}
-use Rattle.sch_word.specs.Orders.{is_order_table}
+use Rattle.sch_word.specs.runs.Orders.{is_order_table}
 use Rattle.sch_lang.specs.ProgramView.{source}
 use Rattle.sch_lang.specs.Run.{run}
 use Rattle.sch_control.specs.ProgramView as control

@@ -10,7 +10,7 @@ use Rattle.std.proofs.lemmas.Bool.Decides.{nat_tests}
 use Rattle.sch_read.specs.Lexer.Letters.{is_one_of, is_word_byte}
 use Rattle.sch_read.specs.Grammar.{integer}
 use Rattle.sch_read.specs.Lexer.Token.{word_at, number_at, integer_at, are_digits, numeral_of, is_character, is_number_like, has_base}
-use Rattle.sch_word.specs.Fixnum.{is_fixnum}
+use Rattle.sch_word.specs.values.Fixnum.{is_fixnum}
 use Rattle.sch_read.specs.Printed.{atom_text}
 use Rattle.sch_read.proofs.Validity.{and-parts, and-whole, or-left}
 use Rattle.sch_read.proofs.RoundTrip.AtomTexts.{IsAtomText, plain-digit, skip, word-atom, no-mark}

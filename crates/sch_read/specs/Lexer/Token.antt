@@ -4,7 +4,7 @@ use Rattle.std.specs.List.{list_all}
 use Rattle.std.specs.Str.{bytes_eq}
 use Rattle.std.specs.Char.{digit_value, is_ascii_digit, to_ascii_lowercase}
 use Rattle.std.specs.Str.Parse.{without_leading_sign, signed_digits_value}
-use Rattle.sch_word.specs.Fixnum.{is_fixnum}
+use Rattle.sch_word.specs.values.Fixnum.{is_fixnum}
 use Rattle.sch_read.specs.Lexer.Letters.{is_white, is_one_of, folded, is_initial, is_subsequent}
 use Rattle.sch_read.specs.Lexer.Lexeme.{is_empty}
 use Rattle.sch_read.specs.Grammar.{Token, Open, Close, Dot, Plain, Huge, Bad, parenthesis, hash_parenthesis, quote_mark, bad_token, bad_number, bad_string, boolean, integer, character, text, symbol}

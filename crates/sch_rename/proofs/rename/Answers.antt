@@ -1,6 +1,7 @@
 use Rattle.std.proofs.Common.{◌∙◌, ◌+◌, ◌++◌, [], Result, Ok, Err, IfOk, sym, subst, ap}
-use Rattle.sch_word.specs.Runs.{SameRuns}
-use Rattle.sch_word.specs.Shape.{site_of, call_site_of, tests_in, dropped_in}
+use Rattle.sch_word.proofs.WhenOk.{if_ok}
+use Rattle.sch_word.specs.runs.Runs.{SameRuns}
+use Rattle.sch_word.specs.trees.Shape.{site_of, call_site_of, tests_in, dropped_in}
 use Rattle.sch_lang.specs.ProgramView.{source}
 use Rattle.sch_lang.specs.Run.{run}
 use Rattle.sch_lang.proofs.Scopes.{program_is_closed}
@@ -14,10 +15,6 @@ use Rattle.sch_rename.proofs.Same.{runs_alike}
 use Rattle.sch_rename.proofs.ShapesKept.{measure_kept, size_kept}
 use Rattle.sch_rename.proofs.StraightKept.{straight_kept}
 use Rattle.sch_rename.proofs.rename.Goals as goal
-
-if_ok : {A E : Type 0} (r : Result A E) (P Q : A → Type 0) → IfOk r P → ((a : A) → P a → Q a) → IfOk r Q
-if_ok (Ok a) P Q h f = f a h
-if_ok (Err e) P Q h f = h
 
 pub returns-clause-made : goal.returns-clause-made
 returns-clause-made c = c.rename_program.ensures

@@ -1,5 +1,5 @@
 use Rattle.std.proofs.Common.{◌≡◌, ◌∙◌, [], IsTrue, ap, sym, subst, arith}
-use Rattle.sch_word.specs.Bindings.{numbers, with_variables}
+use Rattle.sch_word.specs.trees.Bindings.{numbers, with_variables}
 use Rattle.sch_flat.specs.View.{body}
 use Rattle.sch_control.specs.Valid.{in_scope_whole, numbered, ended, shaped_whole, fields_known}
 use Rattle.sch_anf.specs.Normal.{procedure_code}

@@ -1,5 +1,5 @@
 use Rattle.std.proofs.Common.{◌≡◌, drop}
-use Rattle.sch_word.specs.NumberSets.{has}
+use Rattle.sch_word.specs.trees.NumberSets.{has}
 use Rattle.sch_anf.proofs.order_table.is_in.Given as goal
 
 abbrev pub invariant-loop-y : goal.invariant-loop-y

@@ -1,5 +1,5 @@
 use Rattle.std.proofs.Common.{◌∙◌, length, ap, sym, refl, arith}
-use Rattle.sch_word.specs.Bindings.{numbers}
+use Rattle.sch_word.specs.trees.Bindings.{numbers}
 use Rattle.sch_anf.proofs.PlacedLists.{few_items, numbers_turn, numbers_end, count_is}
 use Rattle.sch_anf.proofs.places.init_places.Goals as goal
 

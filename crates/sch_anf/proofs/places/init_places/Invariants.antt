@@ -1,5 +1,5 @@
 use Rattle.std.proofs.Common.{◌≡◌, ◌++◌, ◌-◌, length}
-use Rattle.sch_word.specs.Bindings.{numbers}
+use Rattle.sch_word.specs.trees.Bindings.{numbers}
 use Rattle.sch_anf.proofs.places.init_places.Given as goal
 
 abbrev pub invariant-loop-place : goal.invariant-loop-place

@@ -1,5 +1,5 @@
 use Rattle.std.proofs.Common.{◌≡◌, ◌+◌, length, drop, map}
-use Rattle.sch_word.specs.Walk.{onto}
+use Rattle.sch_word.specs.trees.Walk.{onto}
 use Rattle.sch_cells.specs.View.{trees_of, lambdas_of}
 use Rattle.sch_flat.specs.View.{body}
 use Rattle.sch_closure.specs.Closed.{procedures_each, procedures_lambdas, captured, closed_each, made_each}

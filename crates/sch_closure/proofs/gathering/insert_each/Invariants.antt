@@ -1,5 +1,5 @@
 use Rattle.std.proofs.Common.{◌≡◌, reverse, drop}
-use Rattle.sch_word.specs.NumberSets.{union}
+use Rattle.sch_word.specs.trees.NumberSets.{union}
 use Rattle.sch_closure.proofs.gathering.insert_each.Given as goal
 
 abbrev pub invariant-loop-x : goal.invariant-loop-x

@@ -1,5 +1,5 @@
 use Rattle.std.proofs.Common.{◌∙◌, sym, ap}
-use Rattle.sch_word.specs.NumberSets.{has}
+use Rattle.sch_word.specs.trees.NumberSets.{has}
 use Rattle.sch_closure.proofs.Loops.{inserted, not_inserted}
 use Rattle.sch_closure.proofs.gathering.insert_variable.Goals as goal
 

@@ -1,5 +1,5 @@
 use Rattle.std.proofs.Common.{◌≡◌, drop}
-use Rattle.sch_word.specs.NumberSets.{has}
+use Rattle.sch_word.specs.trees.NumberSets.{has}
 use Rattle.sch_cells.specs.Variables.{cells_bound}
 use Rattle.sch_closure.proofs.gathering.is_cell.Given as goal
 

@@ -1,5 +1,5 @@
 use Rattle.std.proofs.Common.{◌∙◌, sym, ap}
-use Rattle.sch_word.specs.Bindings.{numbers, without}
+use Rattle.sch_word.specs.trees.Bindings.{numbers, without}
 use Rattle.sch_closure.proofs.Loops.{stays, goes, none_left, without_append, without_one, without_none}
 use Rattle.sch_closure.proofs.gathering.outside_group.Goals as goal
 use Rattle.sch_closure.proofs.gathering.outside_group.Goals.{then-not-is_in_group+in_ok-push, else-not-is_in_group}

@@ -1,5 +1,5 @@
 use Rattle.std.proofs.Common.{◌≡◌, ◌++◌, reverse, drop}
-use Rattle.sch_word.specs.Bindings.{without}
+use Rattle.sch_word.specs.trees.Bindings.{without}
 use Rattle.sch_closure.proofs.gathering.outside_group.Given as goal
 
 abbrev pub invariant-loop-x : goal.invariant-loop-x

@@ -1,7 +1,7 @@
 use Rattle.sch_scope.specs.NamesView.{names_of}
 use Rattle.sch_core.proofs.DraftViews.{bind_view, operation_view}
 use Rattle.sch_core.proofs.NumberedDrafts.{width_is, bind_sites, operation_sites, operation_made, next_numbered, next_sites, end_numbered}
-use Rattle.sch_core.proofs.ValidityConstants.{next_constants, end_constants}
+use Rattle.sch_core.proofs.validity.ValidityConstants.{next_constants, end_constants}
 use Rattle.sch_core.proofs.numbering.+numbering.Goals as goal
 
 pub number-returns-in_ok-made-in-Let-clause-sites : goal.number-returns-in_ok-made-in-Let-clause-sites

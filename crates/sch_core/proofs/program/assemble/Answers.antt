@@ -4,7 +4,7 @@ use Rattle.sch_lang.specs.Valid.{is_valid}
 use Rattle.sch_expand.specs.DraftView.{draft_of}
 use Rattle.sch_scope.specs.NamesView.{names_of}
 use Rattle.sch_core.specs.Numbered.{program_of}
-use Rattle.sch_core.proofs.ValidityConstants.{constants_of}
+use Rattle.sch_core.proofs.validity.ValidityConstants.{constants_of}
 use Rattle.sch_core.proofs.Assembling.{assembled, ranged, words, formed, limited, sited, ready}
 use Rattle.sch_core.proofs.program.assemble.Goals as goal
 

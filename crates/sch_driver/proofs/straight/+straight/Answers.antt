@@ -1,6 +1,6 @@
 use Rattle.std.proofs.Common.{◌≡◌, refl, sym, ap, ◌∙◌, arith, true, false}
 use Rattle.std.specs.Prelude.{◌&&◌}
-use Rattle.sch_word.specs.Straight.{is_straight_primitive}
+use Rattle.sch_word.specs.trees.Straight.{is_straight_primitive}
 use Rattle.sch_lang.specs.Straight.{is_straight}
 use Rattle.sch_lang.specs.View.{expression, expressions_of}
 use Rattle.sch_driver.proofs.StraightTrees.{all_is, all_of, both_true, each_straight, ended, every_part, failed, first_false, passed}

@@ -1,4 +1,4 @@
-use Rattle.sch_read.proofs.TextAnswers.{fault_one}
+use Rattle.sch_read.proofs.texts.TextAnswers.{fault_one}
 use Rattle.sch_read.proofs.laws.a_text_has_one_fault.Goals as goal
 
 pub returns : goal.returns

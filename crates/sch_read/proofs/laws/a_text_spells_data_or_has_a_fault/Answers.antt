@@ -1,4 +1,4 @@
-use Rattle.sch_read.proofs.TextAnswers.{spells_or_faulty, spells_faultless}
+use Rattle.sch_read.proofs.texts.TextAnswers.{spells_or_faulty, spells_faultless}
 use Rattle.sch_read.proofs.laws.a_text_spells_data_or_has_a_fault.Goals as goal
 
 pub returns-clause-one : goal.returns-clause-one

@@ -3,7 +3,7 @@ use Rattle.std.specs.Prelude.{slice_range}
 use Rattle.sch_read.specs.Parser.Stack.{runs}
 use Rattle.sch_read.specs.Lexer.Token.{token_at}
 use Rattle.sch_read.specs.Parser.StackView.{state_of, Fails}
-use Rattle.sch_read.proofs.ScannedText.{left_last}
+use Rattle.sch_read.proofs.texts.ScannedText.{left_last}
 use Rattle.sch_read.proofs.reader.feed_last.Goals as goal
 
 pub returns-clause-ok : goal.returns-clause-ok

@@ -1,4 +1,4 @@
-use Rattle.sch_read.proofs.TextAnswers.{found_of, fault_of, only_of, only_fault_of, valid_of, light_of}
+use Rattle.sch_read.proofs.texts.TextAnswers.{found_of, fault_of, only_of, only_fault_of, valid_of, light_of}
 use Rattle.sch_read.proofs.reader.read_all.Goals as goal
 
 pub returns-clause-found : goal.returns-clause-found

@@ -1,7 +1,7 @@
 use Rattle.std.proofs.Common.{ap, ◌∙◌}
 use Rattle.sch_read.specs.Parser.Stack.{runs}
 use Rattle.sch_read.specs.Parser.StackView.{state_of}
-use Rattle.sch_read.proofs.ScannedText.{met_more, left_more, met_next, left_next}
+use Rattle.sch_read.proofs.texts.ScannedText.{met_more, left_more, met_next, left_next}
 use Rattle.sch_read.proofs.reader.turn.Goals as goal
 
 pub returns-in-Some-clause-met : goal.returns-in-Some-clause-met

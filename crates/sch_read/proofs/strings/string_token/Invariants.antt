@@ -1,6 +1,6 @@
 use Rattle.std.proofs.Common.{◌≡◌, ◌+◌}
 use Rattle.sch_read.specs.Lexer.Token.{content}
-use Rattle.sch_read.proofs.StringContents.{with_bytes, left}
+use Rattle.sch_read.proofs.texts.StringContents.{with_bytes, left}
 use Rattle.sch_read.proofs.strings.string_token.Given as goal
 
 -- what was read stands before what is left

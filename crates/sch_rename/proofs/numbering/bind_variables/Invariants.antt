@@ -1,5 +1,5 @@
 use Rattle.std.proofs.Common.{◌≡◌, ◌+◌, ◌-◌, length, reverse, take}
-use Rattle.sch_word.specs.Bindings.{scope_with}
+use Rattle.sch_word.specs.trees.Bindings.{scope_with}
 use Rattle.sch_rename.proofs.numbering.bind_variables.Given as goal
 
 abbrev pub invariant-loop-x : goal.invariant-loop-x

@@ -1,5 +1,5 @@
 use Rattle.std.proofs.Common.{◌+◌, ◌*◌, ◌^◌, ◌<◌, ◌≤◌, length, sym, subst}
-use Rattle.sch_word.specs.ProgramLayout.{data_address}
+use Rattle.sch_word.specs.runs.ProgramLayout.{data_address}
 use Rattle.std.specs.Prelude.{IsTrue, false}
 use Rattle.sch_asm.specs.Items.{AreItems, AreKnown, AreOwn, IsEachOnce, labels_in, marks_arrive}
 use Rattle.sch_asm.specs.Codes.{text_size}

@@ -1,8 +1,8 @@
 use Rattle.std.proofs.Common.{◌≡◌, ℕ, List, [], length, Option, true, ◌&&◌, refl, ap, ◌∙◌}
-use Rattle.sch_word.specs.Literals.{Literals, no_literals}
-use Rattle.sch_word.specs.LiteralView.{literals_of}
-use Rattle.sch_word.proofs.LiteralRows.{literals_of_list}
-use Rattle.sch_word.specs.Runs.{Statics, statics_valid, statics_in_range}
+use Rattle.sch_word.specs.values.Literals.{Literals, no_literals}
+use Rattle.sch_word.specs.values.LiteralView.{literals_of}
+use Rattle.sch_word.proofs.worked.LiteralRows.{literals_of_list}
+use Rattle.sch_word.specs.runs.Runs.{Statics, statics_valid, statics_in_range}
 use Rattle.sch_tests_passes.proofs.frames.makes_a_program.Goals as goal
 
 abbrev statics_from : List (List ℕ) → Literals → List (Option ℕ) → Statics

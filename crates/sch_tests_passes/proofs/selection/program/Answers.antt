@@ -1,9 +1,9 @@
 use Rattle.std.proofs.Common.{◌≡◌, ℕ, List, [], ◌∷◌, ◌++◌, Option, None, refl, ap, ◌∙◌}
 use Rattle.sch_word.specs.declared.constant.Const.TheVariants.{Character}
 use Rattle.sch_word.specs.declared.primitive.Primitive.TheVariants as primitives
-use Rattle.sch_word.specs.Literals.{Literals, no_literals}
-use Rattle.sch_word.specs.LiteralView.{literals_of}
-use Rattle.sch_word.proofs.LiteralRows.{literals_of_list}
+use Rattle.sch_word.specs.values.Literals.{Literals, no_literals}
+use Rattle.sch_word.specs.values.LiteralView.{literals_of}
+use Rattle.sch_word.proofs.worked.LiteralRows.{literals_of_list}
 use Rattle.sch_control.specs.declared.body.Entry.{Entry}
 use Rattle.sch_control.specs.declared.operation.Atom.TheVariants.{Constant}
 use Rattle.sch_control.specs.declared.operation.Operand.TheVariants as operands

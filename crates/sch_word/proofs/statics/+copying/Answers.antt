@@ -1,7 +1,7 @@
 use Rattle.std.proofs.Common.{◌∙◌, ap, map}
 use Rattle.std.proofs.lemmas.List.{take_all}
-use Rattle.sch_word.specs.LiteralView.{literal}
-use Rattle.sch_word.proofs.LiteralRows.{same_literals}
+use Rattle.sch_word.specs.values.LiteralView.{literal}
+use Rattle.sch_word.proofs.worked.LiteralRows.{same_literals}
 use Rattle.sch_word.proofs.statics.+copying.Goals as goal
 
 pub copy_literals-returns : goal.copy_literals-returns

@@ -1,5 +1,5 @@
 use Rattle.std.proofs.Common.{◌≡◌, take, map}
-use Rattle.sch_word.specs.LiteralView.{literal}
+use Rattle.sch_word.specs.values.LiteralView.{literal}
 use Rattle.sch_word.proofs.statics.+copying.Given as goal
 
 abbrev pub invariant-copy_literals-loop-l : goal.invariant-copy_literals-loop-l

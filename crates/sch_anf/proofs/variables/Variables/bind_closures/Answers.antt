@@ -1,6 +1,6 @@
 use Rattle.std.proofs.Common.{◌∙◌, Result, Ok, Err, ap}
 use Rattle.std.specs.Prelude.{OnOk}
-use Rattle.sch_word.specs.Bindings.{numbers, with_variables}
+use Rattle.sch_word.specs.trees.Bindings.{numbers, with_variables}
 use Rattle.sch_flat.specs.View.{made}
 use Rattle.sch_anf.specs.ScopeTable.{scope_of}
 use Rattle.sch_anf.proofs.Loops.{numbers_are}

@@ -1,5 +1,5 @@
 use Rattle.std.proofs.Common.{◌≡◌, ◌+◌, ◌≤◌, length, take, drop}
-use Rattle.sch_word.specs.Bindings.{with_variables}
+use Rattle.sch_word.specs.trees.Bindings.{with_variables}
 use Rattle.sch_anf.specs.ScopeTable.{scope_of}
 use Rattle.sch_anf.proofs.variables.Variables.bind_each.Given as goal
 

@@ -3,7 +3,7 @@ use Rattle.std.specs.Prelude.{nat_le}
 use Rattle.std.specs.List.{list_all}
 use Rattle.std.proofs.lemmas.Bool.{and_from, le-leb}
 use Rattle.sch_control.specs.ProgramView as control
-use Rattle.sch_word.specs.StaticsView.{statics}
+use Rattle.sch_word.specs.values.StaticsView.{statics}
 use Rattle.sch_frames.specs.Does.{SameRuns}
 use Rattle.sch_frames.specs.Sizes.{largest_frame}
 use Rattle.sch_frames.specs.SourceView.{codes_of}

@@ -1,0 +1,10 @@
+pub mod BodiesKept
+pub mod FreeMoved
+pub mod LevelsKept
+pub mod MeasuresKept
+pub mod NumbersKept
+pub mod ScopesKept
+pub mod ShapesKept
+pub mod SizeKept
+pub mod StraightKept
+pub mod ValidKept

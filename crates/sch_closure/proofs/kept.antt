@@ -1,0 +1,8 @@
+pub mod CountsKept
+pub mod FormedKept
+pub mod LevelsKept
+pub mod ProgramKept
+pub mod ScopedKept
+pub mod StraightKept
+pub mod ValidKept
+pub mod VariablesKept

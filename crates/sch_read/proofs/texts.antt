@@ -1,0 +1,3 @@
+pub mod ScannedText
+pub mod StringContents
+pub mod TextAnswers

@@ -1,0 +1,4 @@
+pub mod Fixnums
+pub mod LiteralObjects
+pub mod StopStatus
+pub mod TagsApart

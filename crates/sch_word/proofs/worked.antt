@@ -1,0 +1,5 @@
+mod Examples
+pub mod LiteralRows
+mod PrimitiveExamples
+mod StraightRows
+mod TypeRows

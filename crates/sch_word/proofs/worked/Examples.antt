@@ -1,0 +1,59 @@
+-- Worked values of small definitions.
+use Rattle.std.proofs.Common.{◌≡◌, ℕ, true, false, [], ◌∷◌, pos, refl}
+use Rattle.std.specs.Prelude.{◌+ℤ◌, ◌-ℤ◌}
+use Rattle.sch_word.specs.declared.fix.TheConstants.{FIXNUM_MIN, FIXNUM_MAX}
+use Rattle.sch_word.specs.declared.constant.Const.TheVariants.{Fixnum, Character, Nil}
+use Rattle.sch_word.specs.declared.stop.Stop.TheVariants.{NotProcedure, DepthLimit}
+use Rattle.sch_word.specs.values.Values.{fixnum, procedure, is_constant, are_bytes}
+use Rattle.sch_word.specs.values.Checked.{passes, refused, exhausted, unreachable}
+use Rattle.sch_word.specs.runs.Handed.{handed}
+use Rattle.sch_word.specs.runs.Computation.{callee, depth_left, entry_left}
+use Rattle.sch_word.specs.values.Literals.{constant, text, list, elements, literals, literal_in_range, literal_levels}
+
+-- ## Constants
+
+constants_are_words :
+    (is_constant (Fixnum FIXNUM_MAX) ≡ true)
+    × (is_constant (Fixnum (FIXNUM_MAX +ℤ pos 1)) ≡ false)
+    × (is_constant (Fixnum FIXNUM_MIN) ≡ true)
+    × (is_constant (Fixnum (FIXNUM_MIN -ℤ pos 1)) ≡ false)
+    × (is_constant (Character 255) ≡ true)
+    × (is_constant (Character 256) ≡ false)
+constants_are_words = (refl, refl, refl, refl, refl, refl)
+
+texts_are_bytes : (are_bytes (0 ∷ 255 ∷ []) ≡ true) × (are_bytes (0 ∷ 256 ∷ []) ≡ false)
+texts_are_bytes = (refl, refl)
+
+-- `((300) . "a")` with a character, and `#("a" 300)` with a byte of a text
+literals_out_of_range :
+    (literal_in_range (list (literals (list (literals (constant (Character 300) ∷ [])) (constant Nil) ∷ [])) (text (97 ∷ []))) ≡ false)
+    × (literal_in_range (list (literals (list (literals (constant (Character 97) ∷ [])) (constant Nil) ∷ [])) (text (300 ∷ []))) ≡ false)
+    × (literal_in_range (elements (literals (text (97 ∷ []) ∷ constant (Fixnum (pos 300)) ∷ []))) ≡ true)
+literals_out_of_range = (refl, refl, refl)
+
+-- `(1 (2))`, `(1 . #(2))` and `#()`
+levels_of_literals :
+    (literal_levels (list (literals (constant (Fixnum (pos 1)) ∷ list (literals (constant (Fixnum (pos 2)) ∷ [])) (constant Nil) ∷ [])) (constant Nil)) ≡ 3)
+    × (literal_levels (list (literals (constant (Fixnum (pos 1)) ∷ [])) (elements (literals (constant (Fixnum (pos 2)) ∷ [])))) ≡ 3)
+    × (literal_levels (elements (literals [])) ≡ 1)
+levels_of_literals = (refl, refl, refl)
+
+-- ## Calls
+
+arguments_are_the_values : handed (fixnum (pos 1) ∷ fixnum (pos 2) ∷ []) false [] ≡ passes (fixnum (pos 1) ∷ fixnum (pos 2) ∷ [])
+arguments_are_the_values = refl
+
+-- among two procedures, which are known by 8 and 9
+operators :
+    (callee {P = ℕ} (8 ∷ 9 ∷ []) (procedure 1 ∷ fixnum (pos 0) ∷ []) ≡ passes 9)
+    × (callee {P = ℕ} (8 ∷ 9 ∷ []) (procedure 2 ∷ []) ≡ unreachable)
+    × (callee {P = ℕ} (8 ∷ 9 ∷ []) (fixnum (pos 1) ∷ procedure 0 ∷ []) ≡ refused NotProcedure)
+operators = (refl, refl, refl)
+
+depths :
+    (depth_left true 0 ≡ passes 0) × (depth_left true 3 ≡ passes 3)
+    × (depth_left false 0 ≡ refused DepthLimit) × (depth_left false 3 ≡ passes 2)
+depths = (refl, refl, refl, refl)
+
+entries : (entry_left {V = ℕ} 0 8 ≡ exhausted) × (entry_left {V = ℕ} 2 8 ≡ passes 8)
+entries = (refl, refl)

@@ -1,0 +1,55 @@
+-- Worked rows of straight code: which constants, primitives and nodes are of it.
+use Rattle.std.proofs.Common.{◌≡◌, refl, true, false, [], pos}
+use Rattle.sch_word.specs.declared.constant.Const.TheVariants.{Fixnum, Nil, Symbol}
+use Rattle.sch_word.specs.declared.primitive.Primitive.TheVariants.{Car, Cons, IsPair, Multiply, Put, StringRef}
+use Rattle.sch_word.specs.trees.Shape.{constant, literal, set_variable, global, lambda, call, operation, new_cells, field}
+use Rattle.sch_word.specs.trees.Straight.{is_straight_constant, is_straight_primitive, is_straight_node}
+
+number_row : is_straight_constant (Fixnum (pos 7)) ≡ true
+number_row = refl
+
+symbol_row : is_straight_node (constant (Symbol 0)) ≡ false
+symbol_row = refl
+
+nil_row : is_straight_node (constant Nil) ≡ true
+nil_row = refl
+
+literal_row : is_straight_node (literal 0) ≡ false
+literal_row = refl
+
+product_row : is_straight_node (operation 0 Multiply 2) ≡ true
+product_row = refl
+
+put_row : is_straight_primitive Put ≡ true
+put_row = refl
+
+-- a test for a pair is straight, taking one apart is not
+test_row : is_straight_primitive IsPair ≡ true
+test_row = refl
+
+pair_row : is_straight_primitive Cons ≡ false
+pair_row = refl
+
+part_row : is_straight_node (operation 0 Car 1) ≡ false
+part_row = refl
+
+string_row : is_straight_primitive StringRef ≡ false
+string_row = refl
+
+global_row : is_straight_node (global 3) ≡ true
+global_row = refl
+
+assigned_row : is_straight_node set_variable ≡ false
+assigned_row = refl
+
+call_row : is_straight_node (call 0 2 false) ≡ false
+call_row = refl
+
+cells_row : is_straight_node (new_cells 1) ≡ false
+cells_row = refl
+
+field_row : is_straight_node field ≡ false
+field_row = refl
+
+procedure_row : is_straight_node (lambda (record { name = []; formals = 0; rest = false; free = 0; variables = 0 })) ≡ false
+procedure_row = refl

@@ -1,0 +1,10 @@
+pub mod Answers
+pub mod Charges
+pub mod Computation
+pub mod Handed
+pub mod Limits
+pub mod Orders
+pub mod ProgramLayout
+pub mod Runs
+pub mod Stops
+pub mod Store

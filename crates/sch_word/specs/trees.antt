@@ -1,0 +1,7 @@
+pub mod Bindings
+pub mod BoundVariables
+pub mod Growth
+pub mod NumberSets
+pub mod Shape
+pub mod Straight
+pub mod Walk

@@ -1,0 +1,51 @@
+-- Environments of the languages in which a variable is a number: lists of variables, each with what it
+-- has there, the last bound first.
+use Rattle.std.specs.Prelude.{ℕ, zero, suc, Bool, true, false, nat_eq, List, [], ◌∷◌, Option, Some, None}
+use Rattle.sch_word.specs.trees.NumberSets.{unless}
+use Rattle.sch_word.specs.values.Values.{Value, unspecified}
+
+abbrev pub Bindings : Type 0 → Type 0
+Bindings A = List (ℕ × A)
+
+abbrev pub this_or : {A : Type 0} → Bool → A → Option A → Option A
+this_or true a other = Some a
+this_or false a other = other
+
+-- what a variable has
+abbrev pub bound_to : {A : Type 0} → ℕ → Bindings A → Option A
+bound_to x [] = None
+bound_to x (b ∷ environment) = this_or (nat_eq x b.0) b.1 (bound_to x environment)
+
+-- the variables from x on have these, and the last is nearest
+abbrev pub with_variables : {A : Type 0} → ℕ → List A → Bindings A → Bindings A
+with_variables x [] environment = environment
+with_variables x (a ∷ more) environment = with_variables (suc x) more ((x, a) ∷ environment)
+
+abbrev pub value_or : Option Value → Value
+value_or None = unspecified
+value_or (Some v) = v
+
+-- the value of a variable; one that is not bound has the unspecified value
+abbrev pub value_of : ℕ → Bindings Value → Value
+value_of x environment = value_or (bound_to x environment)
+
+-- ## Groups of variables
+
+-- the numbers from x on, as many as the count says
+abbrev pub numbers : (x count : ℕ) → List ℕ
+numbers x zero = []
+numbers x (suc count) = x ∷ numbers (suc x) count
+
+-- a scope with the variables from x on, as many as the count, the last of them nearest
+abbrev pub scope_with : (x count : ℕ) → List ℕ → List ℕ
+scope_with x zero scope = scope
+scope_with x (suc count) scope = scope_with (suc x) count (x ∷ scope)
+
+-- a set without a number, and without a count of them from x on
+abbrev pub remove : ℕ → List ℕ → List ℕ
+remove y [] = []
+remove y (x ∷ xs) = unless (nat_eq x y) x (remove y xs)
+
+abbrev pub without : (x count : ℕ) → List ℕ → List ℕ
+without x zero xs = xs
+without x (suc count) xs = remove x (without (suc x) count xs)

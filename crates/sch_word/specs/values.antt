@@ -1,0 +1,12 @@
+pub mod CellBytes
+pub mod Checked
+pub mod Fixnum
+pub mod LiteralView
+pub mod Literals
+pub mod Memory
+pub mod PrimitiveRows
+pub mod Primitives
+pub mod Put
+pub mod StaticsView
+pub mod Tags
+pub mod Values
