@@ -10,7 +10,7 @@ use Rattle.sch_control.specs.Meaning.{World, Result, Callee}
 use Rattle.sch_control.specs.Run as control_run
 use Rattle.sch_frames.specs.declared.instruction.Instruction.{Instruction}
 use Rattle.sch_frames.specs.declared.instruction.Instruction.TheVariants.{Copy}
-use Rattle.sch_frames.specs.Does.{Follows}
+use Rattle.sch_frames.specs.Does.{EndsAs}
 use Rattle.sch_frames.specs.Meaning.{Cell, Is, Link, Frame, link_register, closure_register, same_place, set, with_place, cell_of, execute_each, entry_places, beginning}
 use Rattle.sch_frames.specs.Valid.{is_place, instruction_placed, formals_of}
 use Rattle.sch_frames.specs.Layout.{own_slot, arrival, arrivals, entering, arrival_slots}
@@ -80,8 +80,8 @@ module _ (base formals : ℕ) (before : (j : ℕ) → suc (suc (suc (suc (suc (s
 
   module _ (callee : Callee) (depth : ℕ) where
     arrive : (count from : ℕ) (rest : List Instruction) (f : Frame) (w : World) (r : Result) → from + count ≡ formals → Arrived from f.places
-        → ((f : Frame) → Arrived formals f.places → Follows r (execute_each callee depth rest None f w))
-        → Follows r (execute_each callee depth (arrivals base from count rest) None f w)
+        → ((f : Frame) → Arrived formals f.places → EndsAs r (execute_each callee depth rest None f w))
+        → EndsAs r (execute_each callee depth (arrivals base from count rest) None f w)
     arrive zero from rest f w r e a go = go f (subst (λ n. Arrived n f.places) (omega (arith, e)) a)
     arrive (suc count) from rest f w r e a go =
         arrive count (suc from) rest (with_place f (own_slot base (suc (suc from))) (f.places (arrival from))) w r (omega (arith, e))
@@ -110,8 +110,8 @@ nothing_there v h = absurd (cc)
 
 -- what is done behind the entering code is done from the values of the formals in their slots
 pub enters : (entry : Option Entry) (self : Value) (arguments : List Value) → length arguments ≡ formals_of entry → (callee : Callee) (depth : ℕ) (rest : List Instruction) (w : World) (r : Result)
-    → ((f : Frame) → Agrees (own_slot (arrival_slots entry)) (control_run.beginning entry self arguments) f.places → Follows r (execute_each callee depth rest None f w))
-    → Follows r (execute_each callee depth (entering (arrival_slots entry) entry rest) None (beginning entry self arguments) w)
+    → ((f : Frame) → Agrees (own_slot (arrival_slots entry)) (control_run.beginning entry self arguments) f.places → EndsAs r (execute_each callee depth rest None f w))
+    → EndsAs r (execute_each callee depth (entering (arrival_slots entry) entry rest) None (beginning entry self arguments) w)
 enters None self arguments l callee depth rest w r go =
     go (beginning None self arguments) (record { variables = λ x v h. nothing_there v h; link = λ v h. nothing_there v h })
 enters (Some e) self arguments l callee depth rest w r go =

@@ -17,7 +17,7 @@ use Rattle.sch_control.specs.declared.operation.Operand.TheVariants as operand
 use Rattle.sch_control.specs.declared.operation.Source.TheVariants as source
 use Rattle.sch_control.specs.declared.operation.Operation.TheVariants as operation
 use Rattle.sch_control.specs.Tree as control
-use Rattle.sch_control.specs.Tree.{Expression, perform, bind, branch, return, end}
+use Rattle.sch_control.specs.Tree.{Expression, perform, bind, branch, fix, return, end}
 use Rattle.sch_frames.specs.declared.instruction.Instruction.{Instruction}
 use Rattle.sch_frames.specs.declared.instruction.Instruction.TheVariants.{Do, Store, Copy, Load, Pass, Fix, Call, Tail, Return, End, IfFalse, Jump, Label, Mark}
 use Rattle.sch_frames.specs.Layout.{slots_layout}
@@ -99,6 +99,12 @@ entering_layout : slots_layout (record { name = []; entry = Some (record { forma
     Copy (Slot 2) (Reg 14) ∷ Copy (Slot 3) (Reg 3) ∷ Copy (Slot 4) (Reg 8) ∷ Copy (Slot 5) (Reg 9) ∷ Copy (Slot 6) (Reg 10) ∷ Copy (Slot 7) (Reg 6) ∷ Copy (Slot 8) (Reg 7) ∷ Copy (Slot 9) (Slot 0)
     ∷ Do (operation.Operand (held_in (Slot 9))) ∷ Mark mark.Return ∷ Return ∷ []
 entering_layout = refl
+
+-- the members of a group are bound where they are put, and what follows reads them there
+group_layout : slots_layout (record { name = []; entry = None; variables = 4; expression = fix (record { at = 2; closure = record { label = 1; fields = source.Atom (Variable 3) ∷ [] } } ∷ record { at = 3; closure = record { label = 2; fields = source.Atom (Variable 2) ∷ [] } } ∷ []) (end (perform (operation.Operand (held_in 3)))) }) ≡
+    Fix (record { at = Slot 2; closure = record { label = 1; fields = source.Atom (Variable (Slot 3)) ∷ [] } } ∷ record { at = Slot 3; closure = record { label = 2; fields = source.Atom (Variable (Slot 2)) ∷ [] } } ∷ [])
+    ∷ Do (operation.Operand (held_in (Slot 3))) ∷ End ∷ []
+group_layout = refl
 
 -- ## Calls: seven operands, of which the last is passed in a slot; what a call leaves in a register
 

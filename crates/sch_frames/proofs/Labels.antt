@@ -70,7 +70,7 @@ module _ (place : ℕ → Place) where
       ∙ ap (λ t. t || there l rest) (not_two l n (labels a) (labels b) (labels c) h))))
   outside (return e) n test rest l h = outside e n None _ l h
   outside (end e) n test rest l h = outside e n None _ l h
-  outside (fix members e) n test rest l h = refl
+  outside (fix members e) n test rest l h = outside e n test rest l h
   outside (call a restores) n test rest l h = refl
   outside (tail_call a) n test rest l h = refl
   outside (save saves e) n test rest l h = refl
@@ -154,7 +154,7 @@ module _ (place : ℕ → Place) where
       second
   right (return e) n test rest f a r = right e n None _ f tt (record { once = r.once; ahead = r.ahead })
   right (end e) n test rest f a r = right e n None _ f tt (record { once = r.once; ahead = r.ahead })
-  right (fix members e) n test rest f a r = r
+  right (fix members e) n test rest f a r = let inner = right e n test rest f a r in record { once = inner.once; ahead = inner.ahead }
   right (call x restores) n test rest f a r = r
   right (tail_call x) n test rest f a r = r
   right (save saves e) n test rest f a r = r
@@ -176,7 +176,7 @@ module _ (place : ℕ → Place) where
       (and_from _ _ (lt-ltb (suc n) most (omega (arith, le))) h))))
   lay_below (return e) n test rest most le h = lay_below e n None _ most le h
   lay_below (end e) n test rest most le h = lay_below e n None _ most le h
-  lay_below (fix members e) n test rest most le h = h
+  lay_below (fix members e) n test rest most le h = lay_below e n test rest most le h
   lay_below (call a restores) n test rest most le h = h
   lay_below (tail_call a) n test rest most le h = h
   lay_below (save saves e) n test rest most le h = h

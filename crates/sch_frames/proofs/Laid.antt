@@ -11,17 +11,19 @@ use Rattle.sch_control.specs.declared.operation.Operand.{Operand}
 use Rattle.sch_control.specs.declared.operation.Operand.TheVariants as operand
 use Rattle.sch_control.specs.declared.operation.Source.{Source}
 use Rattle.sch_control.specs.declared.operation.Source.TheVariants as source
+use Rattle.sch_control.specs.declared.operation.Member.{Member}
 use Rattle.sch_control.specs.declared.operation.Operation.{Operation}
 use Rattle.sch_control.specs.declared.operation.Operation.TheVariants as operation
-use Rattle.sch_control.specs.Parts.{operand_atoms, operands_atoms, source_atom, source_atoms, operation_atoms}
+use Rattle.sch_control.specs.Parts.{operand_atoms, operands_atoms, source_atom, source_atoms, operation_atoms, member_atoms}
 use Rattle.sch_control.specs.Tree.{Expression, perform, bind, sequence, branch, fix, call, tail_call, return, end, save}
-use Rattle.sch_control.specs.Valid.{operand_shaped, operands_shaped, operation_shaped, each_part, shaped, Names, atom_known, atoms_known, closure_known, operation_known, application_known, group_known}
+use Rattle.sch_control.specs.Callless.{is_callless}
+use Rattle.sch_control.specs.Valid.{operand_shaped, operands_shaped, operation_shaped, members_shaped, group_shaped, each_part, shaped, Names, atom_known, atoms_known, closure_known, members_known, operation_known, application_known, group_known}
 use Rattle.sch_frames.specs.declared.instruction.Instruction.{Instruction}
-use Rattle.sch_frames.specs.declared.instruction.Instruction.TheVariants.{Do, Store, Return, End, IfFalse, Jump, Label, Mark}
-use Rattle.sch_frames.specs.Valid.{is_place, is_atom, instruction_placed, instruction_shaped, instruction_known}
-use Rattle.sch_frames.specs.Layout.{straight, source_at, sources_at, atom_at, atoms_at, operand_at, operands_at, operation_at, leave, lay}
+use Rattle.sch_frames.specs.declared.instruction.Instruction.TheVariants.{Do, Store, Fix, Return, End, IfFalse, Jump, Label, Mark}
+use Rattle.sch_frames.specs.Valid.{is_place, is_atom, are_members, instruction_placed, instruction_shaped, instruction_known}
+use Rattle.sch_frames.specs.Layout.{source_at, sources_at, atom_at, atoms_at, operand_at, operands_at, members_at, operation_at, leave, lay}
 use Rattle.sch_frames.proofs.Operating.{AtomHas, AtomsHave, have_left, have_right}
-use Rattle.sch_frames.proofs.Same.{Uses}
+use Rattle.sch_frames.proofs.Same.{MembersUse, Uses, length_members, length_sources}
 
 -- the instructions that say where to go on pass a test
 pub record Steers (test : Instruction → Bool) : Type 0 where
@@ -50,7 +52,7 @@ module _ (place : ℕ → Place) (test : Instruction → Bool) (steers : Steers 
   Passes (branch a b c) = Passes a × (Passes b × Passes c)
   Passes (return e) = Passes e
   Passes (end e) = Passes e
-  Passes (fix members e) = Unit {0}
+  Passes (fix members e) = (test (Fix (members_at place members)) ≡ true) × Passes e
   Passes (call a restores) = Unit {0}
   Passes (tail_call a) = Unit {0}
   Passes (save saves e) = Unit {0}
@@ -67,7 +69,7 @@ module _ (place : ℕ → Place) (test : Instruction → Bool) (steers : Steers 
       lay_passes a p.0 _ _ _ (lay_passes b p.1.0 _ _ _ (and_from _ _ (steers.jump _) (and_from _ _ (steers.label _) (lay_passes c p.1.1 _ _ _ (and_from _ _ (steers.label _) h)))))
   lay_passes (return e) p n to rest h = lay_passes e p _ _ _ (and_from _ _ steers.return_mark (and_from _ _ steers.return h))
   lay_passes (end e) p n to rest h = lay_passes e p _ _ _ (and_from _ _ steers.end h)
-  lay_passes (fix members e) p n to rest h = h
+  lay_passes (fix members e) p n to rest h = and_from _ _ p.0 (lay_passes e p.1 _ _ _ h)
   lay_passes (call a restores) p n to rest h = h
   lay_passes (tail_call a) p n to rest h = h
   lay_passes (save saves e) p n to rest h = h
@@ -113,7 +115,17 @@ module _ (place : ℕ → Place) (words : ℕ) (P : ℕ → Type 0) (there : (x 
   operation_placed (operation.CellSet c o) h = and_from _ _ (source_placed c h.0) (operand_placed o h.1)
   operation_placed (operation.MakeClosure c) h = sources_placed c.fields h
 
-  pub uses_placed : (e : Expression) → straight e ≡ true → Uses P e → Passes place (instruction_placed words) (placed_steers words) e
+  members_placed : (members : List (Member ℕ)) → MembersUse P members → are_members words (members_at place members) ≡ true
+  members_placed [] u = refl
+  members_placed (m ∷ members) u = and_from _ _ (there m.at u.0) (members_placed members u.1)
+
+  member_atoms_placed : (members : List (Member ℕ)) → AtomsHave P (member_atoms members) → list_all (is_atom words) (member_atoms (members_at place members)) ≡ true
+  member_atoms_placed [] h = refl
+  member_atoms_placed (m ∷ members) h =
+      list_all-append (is_atom words) (source_atoms (sources_at place m.closure.fields)) _
+      ∙ and_from _ _ (sources_placed m.closure.fields (have_left P (source_atoms m.closure.fields) _ h)) (member_atoms_placed members (have_right P (source_atoms m.closure.fields) _ h))
+
+  pub uses_placed : (e : Expression) → is_callless e ≡ true → Uses P e → Passes place (instruction_placed words) (placed_steers words) e
   uses_placed (perform o) s h = operation_placed o h
   uses_placed (bind x a b) s h = let parts = and_parts _ _ s in (there x h.0, (uses_placed a parts.0 h.1.0, uses_placed b parts.1 h.1.1))
   uses_placed (sequence a b) s h = let parts = and_parts _ _ s in (uses_placed a parts.0 h.0, uses_placed b parts.1 h.1)
@@ -123,7 +135,7 @@ module _ (place : ℕ → Place) (words : ℕ) (P : ℕ → Type 0) (there : (x 
       (uses_placed a parts.0 h.0, (uses_placed b arms.0 h.1.0, uses_placed c arms.1 h.1.1))
   uses_placed (return e) s h = uses_placed e s h
   uses_placed (end e) s h = uses_placed e s h
-  uses_placed (fix members e) s h = tt
+  uses_placed (fix members e) s h = (and_from _ _ (members_placed members h.0) (member_atoms_placed members h.1.0), uses_placed e s h.1.1)
   uses_placed (call a restores) s h = tt
   uses_placed (tail_call a) s h = tt
   uses_placed (save saves e) s h = tt
@@ -147,10 +159,6 @@ module _ (place : ℕ → Place) where
   operands_same_shape [] = refl
   operands_same_shape (o ∷ operands) = rw (operand_same_shape o, operands_same_shape operands) refl
 
-  length_sources : (cs : List (Source ℕ)) → length (sources_at place cs) ≡ length cs
-  length_sources [] = refl
-  length_sources (c ∷ cs) = ap suc (length_sources cs)
-
   operation_same_shape : (o : Operation ℕ) → operation_shaped (operation_at place o) ≡ operation_shaped o
   operation_same_shape (operation.Operand o) = operand_same_shape o
   operation_same_shape (operation.Prim site which operands) = rw (length_operands operands, operands_same_shape operands) refl
@@ -161,9 +169,16 @@ module _ (place : ℕ → Place) where
   operation_same_shape operation.UnsetCell = refl
   operation_same_shape (operation.CellGet c) = refl
   operation_same_shape (operation.CellSet c o) = operand_same_shape o
-  operation_same_shape (operation.MakeClosure c) = rw (length_sources c.fields) refl
+  operation_same_shape (operation.MakeClosure c) = rw (length_sources place c.fields) refl
 
-  pub parts_shaped : (e : Expression) → straight e ≡ true → shaped e ≡ true → Passes place instruction_shaped shaped_steers e
+  members_same_shape : (members : List (Member ℕ)) → members_shaped (members_at place members) ≡ members_shaped members
+  members_same_shape [] = refl
+  members_same_shape (m ∷ members) = rw (length_sources place m.closure.fields, members_same_shape members) refl
+
+  group_same_shape : (members : List (Member ℕ)) → group_shaped (members_at place members) ≡ group_shaped members
+  group_same_shape members = rw (length_members place members, members_same_shape members) refl
+
+  pub parts_shaped : (e : Expression) → is_callless e ≡ true → shaped e ≡ true → Passes place instruction_shaped shaped_steers e
   parts_shaped (perform o) s h = operation_same_shape o ∙ h
   parts_shaped (bind x a b) s h = let parts = and_parts _ _ s in let more = and_parts _ _ h in (refl, (parts_shaped a parts.0 more.0, parts_shaped b parts.1 more.1))
   parts_shaped (sequence a b) s h = let parts = and_parts _ _ s in let more = and_parts _ _ h in (parts_shaped a parts.0 more.0, parts_shaped b parts.1 more.1)
@@ -175,7 +190,7 @@ module _ (place : ℕ → Place) where
       (parts_shaped a parts.0 more.0, (parts_shaped b arms.0 most.0, parts_shaped c arms.1 most.1))
   parts_shaped (return e) s h = parts_shaped e s h
   parts_shaped (end e) s h = parts_shaped e s h
-  parts_shaped (fix members e) s h = tt
+  parts_shaped (fix members e) s h = let parts = and_parts _ _ h in (group_same_shape members ∙ parts.0, parts_shaped e s parts.1)
   parts_shaped (call a restores) s h = tt
   parts_shaped (tail_call a) s h = tt
   parts_shaped (save saves e) s h = tt
@@ -230,12 +245,25 @@ module _ (place : ℕ → Place) where
     operation_same_names (operation.CellGet c) = rw (source_same_name c) refl
     operation_same_names (operation.CellSet c o) = rw (source_same_name c, operand_same_names o) refl
     operation_same_names (operation.MakeClosure c) =
-        rw (length_sources c.fields) (ap (λ t. t && (true && closure_known names.entries c)) (ap (atoms_known names) (sources_atoms_at c.fields) ∙ atoms_same_names (source_atoms c.fields)))
+        rw (length_sources place c.fields) (ap (λ t. t && (true && closure_known names.entries c)) (ap (atoms_known names) (sources_atoms_at c.fields) ∙ atoms_same_names (source_atoms c.fields)))
+
+    member_atoms_at : (members : List (Member ℕ)) → member_atoms (members_at place members) ≡ atoms_at place (member_atoms members)
+    member_atoms_at [] = refl
+    member_atoms_at (m ∷ members) = rw (sources_atoms_at m.closure.fields, member_atoms_at members) (sym (atoms_at_append (source_atoms m.closure.fields) (member_atoms members)))
+
+    members_same_names : (members : List (Member ℕ)) → members_known names.entries (members_at place members) ≡ members_known names.entries members
+    members_same_names [] = refl
+    members_same_names (m ∷ members) = rw (length_sources place m.closure.fields, members_same_names members) refl
+
+    group_same_names : (members : List (Member ℕ)) → group_known names (members_at place members) ≡ group_known names members
+    group_same_names members =
+        ap (λ b. b && members_known names.entries (members_at place members)) (ap (atoms_known names) (member_atoms_at members) ∙ atoms_same_names (member_atoms members))
+        ∙ ap (λ b. atoms_known names (member_atoms members) && b) (members_same_names members)
 
     abbrev parts_known : Expression → Bool
     parts_known e = each_part (record { operation = operation_known names; application = application_known names; group = group_known names }) e
 
-    pub parts_named : (e : Expression) → straight e ≡ true → parts_known e ≡ true → Passes place (instruction_known names) (known_steers names) e
+    pub parts_named : (e : Expression) → is_callless e ≡ true → parts_known e ≡ true → Passes place (instruction_known names) (known_steers names) e
     parts_named (perform o) s h = operation_same_names o ∙ h
     parts_named (bind x a b) s h = let parts = and_parts _ _ s in let more = and_parts _ _ h in (refl, (parts_named a parts.0 more.0, parts_named b parts.1 more.1))
     parts_named (sequence a b) s h = let parts = and_parts _ _ s in let more = and_parts _ _ h in (parts_named a parts.0 more.0, parts_named b parts.1 more.1)
@@ -247,7 +275,7 @@ module _ (place : ℕ → Place) where
         (parts_named a parts.0 more.0, (parts_named b arms.0 most.0, parts_named c arms.1 most.1))
     parts_named (return e) s h = parts_named e s h
     parts_named (end e) s h = parts_named e s h
-    parts_named (fix members e) s h = tt
+    parts_named (fix members e) s h = let parts = and_parts _ _ h in (group_same_names members ∙ parts.0, parts_named e s parts.1)
     parts_named (call a restores) s h = tt
     parts_named (tail_call a) s h = tt
     parts_named (save saves e) s h = tt

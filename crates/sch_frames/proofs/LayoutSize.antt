@@ -1,20 +1,21 @@
 -- The layout of a body has at most twice the size of the body.
 use Rattle.std.proofs.Common.{◌≡◌, ℕ, zero, suc, ◌+◌, ◌*◌, ◌≤◌, List, [], ◌∷◌, length, Option, Some, None, refl, ap, arith}
-use Rattle.std.proofs.lemmas.List.{length-map}
+use Rattle.std.proofs.lemmas.List.{length-append, length-map}
 use Rattle.sch_word.specs.declared.place.Place.{Place}
 use Rattle.sch_control.specs.declared.body.Entry.{Entry}
 use Rattle.sch_control.specs.declared.operation.Operand.{Operand}
 use Rattle.sch_control.specs.declared.operation.Operand.TheVariants as operand
 use Rattle.sch_control.specs.declared.operation.Operation.{Operation}
 use Rattle.sch_control.specs.declared.operation.Operation.TheVariants as operation
+use Rattle.sch_control.specs.declared.operation.Member.{Member}
 use Rattle.sch_control.specs.declared.operation.Source.{Source}
-use Rattle.sch_control.specs.Parts.{source_atoms, operand_atoms}
+use Rattle.sch_control.specs.Parts.{source_atoms, operand_atoms, member_atoms}
 use Rattle.sch_control.specs.Tree as control
 use Rattle.sch_control.specs.Tree.{Expression, perform, bind, sequence, branch, fix, call, tail_call, return, end, save}
 use Rattle.sch_frames.specs.declared.instruction.Instruction.{Instruction}
 use Rattle.sch_frames.specs.declared.instruction.Instruction.TheVariants.{Store, Return, End, Jump, Label, Mark}
 use Rattle.sch_control.specs.declared.mark.MarkKind.TheVariants as mark
-use Rattle.sch_frames.specs.Layout.{leave, labels, lay, atom_at, operand_at, operands_at, sources_at, operation_at, own_slot, arrivals, entering, arrival_slots, slots_layout}
+use Rattle.sch_frames.specs.Layout.{leave, labels, lay, atom_at, operand_at, operands_at, sources_at, members_at, operation_at, own_slot, arrivals, entering, arrival_slots, slots_layout}
 use Rattle.sch_control.specs.Sizes.{operand_size, operands_size, operation_size, expression_size}
 use Rattle.sch_frames.specs.Sizes.{instructions_size, entry_size}
 
@@ -49,6 +50,15 @@ module _ (place : ℕ → Place) where
   operation_kept (operation.CellSet c o) = ap suc (atoms_kept o)
   operation_kept (operation.MakeClosure c) = sources_kept c.fields
 
+  members_kept : (members : List (Member ℕ)) → length (member_atoms (members_at place members)) ≡ length (member_atoms members)
+  members_kept [] = refl
+  members_kept (m ∷ members) =
+      let l = length-append (source_atoms (sources_at place m.closure.fields)) (member_atoms (members_at place members)) in
+      let r = length-append (source_atoms m.closure.fields) (member_atoms members) in
+      let h = sources_kept m.closure.fields in
+      let h' = members_kept members in
+      omega (arith, l, r, h, h')
+
   -- ## Expressions
 
   leave_work : (test : Option ℕ) (rest : List Instruction) → instructions_size (leave test rest) ≤ suc (instructions_size rest)
@@ -73,7 +83,7 @@ module _ (place : ℕ → Place) where
       omega (arith, h, h', h'')
   lay_work (return e) n test rest = let h = lay_work e n None (Mark mark.Return ∷ (Return ∷ rest)) in omega (arith, h)
   lay_work (end e) n test rest = let h = lay_work e n None (End ∷ rest) in omega (arith, h)
-  lay_work (fix members e) n test rest = omega arith
+  lay_work (fix members e) n test rest = let h = lay_work e n test rest in let k = members_kept members in omega (arith, h, k)
   lay_work (call a restores) n test rest = omega arith
   lay_work (tail_call a) n test rest = omega arith
   lay_work (save saves e) n test rest = omega arith

@@ -33,7 +33,7 @@ module _ (callee : Callee) (depth : ℕ) (place : ℕ → Place) where
       ∙ past_label (suc n) l rest f w (omega (arith, lt)))))
   past (return e) n test rest l f w lt = past e n None _ l f w lt
   past (end e) n test rest l f w lt = past e n None _ l f w lt
-  past (fix members e) n test rest l f w lt = refl
+  past (fix members e) n test rest l f w lt = past e n test rest l f w lt
   past (call a restores) n test rest l f w lt = refl
   past (tail_call a) n test rest l f w lt = refl
   past (save saves e) n test rest l f w lt = refl

@@ -7,6 +7,8 @@ use Rattle.sch_word.specs.declared.place.Place.{Place}
 use Rattle.sch_control.specs.declared.body.Entry.{Entry}
 use Rattle.sch_control.specs.declared.operation.Atom.{Atom}
 use Rattle.sch_control.specs.declared.operation.Atom.TheVariants.{Constant, Literal, Variable}
+use Rattle.sch_control.specs.declared.operation.Member.{Member}
+use Rattle.sch_control.specs.Callless.{is_callless}
 use Rattle.sch_control.specs.Meaning.{nothing, falls_off}
 use Rattle.sch_control.specs.Run as control_run
 use Rattle.sch_control.specs.Tree as control
@@ -14,16 +16,16 @@ use Rattle.sch_control.specs.Tree.{Expression, perform, bind, sequence, branch, 
 use Rattle.sch_control.specs.Valid.{first_bound, in_scope_whole, numbered, shaped_whole, entry_shaped, without_repeats}
 use Rattle.sch_frames.specs.declared.instruction.Instruction.{Instruction}
 use Rattle.sch_frames.specs.declared.instruction.Instruction.TheVariants.{Jump, Label}
-use Rattle.sch_frames.specs.Does.{FrameOf}
+use Rattle.sch_frames.specs.Does.{FrameOf, world}
 use Rattle.sch_frames.specs.Tree.{Code}
 use Rattle.sch_frames.specs.Valid.{is_place, placed, forward, shaped, formals_of, labels_in, jumps_ahead, instruction_placed, instruction_shaped, instruction_known}
-use Rattle.sch_frames.specs.Layout.{straight, leave, labels, lay, own_slot, arrivals, entering, arrival_slots, slots_layout}
+use Rattle.sch_frames.specs.Layout.{leave, labels, lay, own_slot, arrivals, entering, arrival_slots, slots_layout}
 use Rattle.sch_frames.specs.Sizes.{nodes}
 use Rattle.sch_frames.proofs.Entering.{own_apart, enters, entering_placed, entering_passes}
 use Rattle.sch_frames.proofs.Labels.{Right, right, lay_below}
 use Rattle.sch_frames.proofs.Laid.{lay_passes, placed_steers, uses_placed, shaped_steers, parts_shaped, known_steers, parts_named}
 use Rattle.sch_frames.proofs.Operating.{AtomsHave}
-use Rattle.sch_frames.proofs.Same.{Uses, same}
+use Rattle.sch_frames.proofs.Same.{MembersUse, Uses, same}
 use Rattle.sch_frames.proofs.Used.{Within, Numbered, numbered_is, code_uses}
 
 -- what has a property has a weaker one
@@ -33,6 +35,10 @@ atoms_weaker f (Constant c ∷ atoms) h = (tt, atoms_weaker f atoms h.1)
 atoms_weaker f (Literal n ∷ atoms) h = (tt, atoms_weaker f atoms h.1)
 atoms_weaker f (Variable x ∷ atoms) h = (f x h.0, atoms_weaker f atoms h.1)
 
+members_weaker : {P Q : ℕ → Type 0} → ((x : ℕ) → P x → Q x) → (members : List (Member ℕ)) → MembersUse P members → MembersUse Q members
+members_weaker f [] u = tt
+members_weaker f (m ∷ members) u = (f m.at u.0, members_weaker f members u.1)
+
 weaker : {P Q : ℕ → Type 0} → ((x : ℕ) → P x → Q x) → (e : Expression) → Uses P e → Uses Q e
 weaker f (perform o) u = atoms_weaker f _ u
 weaker f (bind x a b) u = (f x u.0, (weaker f a u.1.0, weaker f b u.1.1))
@@ -40,7 +46,7 @@ weaker f (sequence a b) u = (weaker f a u.0, weaker f b u.1)
 weaker f (branch a b c) u = (weaker f a u.0, (weaker f b u.1.0, weaker f c u.1.1))
 weaker f (return e) u = weaker f e u
 weaker f (end e) u = weaker f e u
-weaker f (fix members e) u = tt
+weaker f (fix members e) u = (members_weaker f members u.0, (atoms_weaker f _ u.1.0, weaker f e u.1.1))
 weaker f (call a restores) u = tt
 weaker f (tail_call a) u = tt
 weaker f (save saves e) u = tt
@@ -62,7 +68,7 @@ formals_most : (entry : Option Entry) → entry_shaped entry ≡ true → formal
 formals_most None h = omega arith
 formals_most (Some e) h = leb-true _ _ (and_parts _ _ h).0
 
-module _ (c : control.Code) (s : straight c.expression ≡ true) (scoped : in_scope_whole c ≡ true) (counted : numbered c ≡ true) where
+module _ (c : control.Code) (s : is_callless c.expression ≡ true) (scoped : in_scope_whole c ≡ true) (counted : numbered c ≡ true) where
   numbers : Numbered c
   numbers = numbered_is c counted
 
@@ -89,10 +95,10 @@ module _ (c : control.Code) (s : straight c.expression ≡ true) (scoped : in_sc
   pub slots_does : FrameOf c (slots_of c)
   slots_does = record {
     entry = refl;
-    does = λ callee callee' follow depth self arguments l w.
-        enters c.entry self arguments l callee' depth _ w _
+    does = λ callee callee' follow depth self arguments l state marks marks'.
+        enters c.entry self arguments l callee' depth _ (world state marks') _
         (λ f a. same (own_slot (arrival_slots c.entry)) (own_apart (arrival_slots c.entry)) callee callee' depth c.expression s (weaker (λ x h. h.0) c.expression uses) 0 None [] tt
-        (control_run.beginning c.entry self arguments) nothing f w falls_off a (λ v environment saved f w r e. tt));
+        (control_run.beginning c.entry self arguments) nothing f state marks marks' falls_off a (λ v environment saved f s marks marks' r e. tt));
     names = λ names h.
         entering_passes (instruction_known names) (λ to from. refl) c.entry (arrival_slots c.entry) _
         (lay_passes (own_slot (arrival_slots c.entry)) (instruction_known names) (known_steers names) c.expression (parts_named (own_slot (arrival_slots c.entry)) names c.expression s h) 0 None [] refl);
@@ -127,7 +133,7 @@ slots_forward c =
 
 -- ## Shape
 
-pub slots_shaped : (c : control.Code) → straight c.expression ≡ true → shaped_whole c ≡ true → shaped c.entry (slots_layout c) ≡ true
+pub slots_shaped : (c : control.Code) → is_callless c.expression ≡ true → shaped_whole c ≡ true → shaped c.entry (slots_layout c) ≡ true
 slots_shaped c s h =
     let parts = and_parts _ _ h in
     and_from _ _ parts.0
@@ -162,7 +168,7 @@ lay_size place (return e) n test rest =
 lay_size place (end e) n test rest =
     let h : length (lay place (end e) n test rest) ≤ 3 * nodes e + suc (length rest) = lay_size place e n None _ in
     omega (arith, h)
-lay_size place (fix members e) n test rest = omega arith
+lay_size place (fix members e) n test rest = let h = lay_size place e n test rest in omega (arith, h)
 lay_size place (call a restores) n test rest = omega arith
 lay_size place (tail_call a) n test rest = omega arith
 lay_size place (save saves e) n test rest = omega arith
@@ -190,7 +196,7 @@ labels_size (sequence a b) = let h = labels_size a in let h' = labels_size b in 
 labels_size (branch a b c) = let h = labels_size a in let h' = labels_size b in let h'' = labels_size c in omega (arith, h, h', h'')
 labels_size (return e) = let h = labels_size e in omega (arith, h)
 labels_size (end e) = let h = labels_size e in omega (arith, h)
-labels_size (fix members e) = omega arith
+labels_size (fix members e) = let h = labels_size e in omega (arith, h)
 labels_size (call a restores) = omega arith
 labels_size (tail_call a) = omega arith
 labels_size (save saves e) = omega arith

@@ -12,32 +12,33 @@ use Rattle.sch_control.specs.declared.operation.Operand.{Operand}
 use Rattle.sch_control.specs.declared.operation.Operand.TheVariants as operand
 use Rattle.sch_control.specs.declared.operation.Operation.{Operation}
 use Rattle.sch_control.specs.declared.operation.Operation.TheVariants as operation
+use Rattle.sch_control.specs.Callless.{is_callless}
 use Rattle.sch_control.specs.Straight as control_straight
 use Rattle.sch_control.specs.Straight.{is_straight, is_straight_atom, is_straight_operand, is_straight_operation}
 use Rattle.sch_control.specs.Tree as control
 use Rattle.sch_control.specs.Tree.{Expression, perform, bind, sequence, branch, fix, call, tail_call, return, end, save}
 use Rattle.sch_frames.specs.declared.instruction.Instruction.{Instruction}
 use Rattle.sch_frames.specs.declared.instruction.Instruction.TheVariants.{Store, End, Jump, Label}
-use Rattle.sch_frames.specs.Layout.{straight, leave, labels, lay, atom_at, atoms_at, operand_at, operands_at, operation_at, own_slot}
+use Rattle.sch_frames.specs.Layout.{leave, labels, lay, atom_at, atoms_at, operand_at, operands_at, operation_at, own_slot}
 use Rattle.sch_frames.specs.Straight.{begins_with_operation, is_straight_instruction, is_straight_code}
 use Rattle.sch_frames.proofs.SlotsFrame.{slots_of}
 
--- ## What is laid out so far
+-- ## Straight code makes no calls
 
-pub laid_out : (e : Expression) → is_straight e ≡ true → straight e ≡ true
-laid_out (perform o) h = refl
-laid_out (bind x a b) h = let p = and_parts _ _ h in and_from _ _ (laid_out a p.0) (laid_out b p.1)
-laid_out (sequence a b) h = let p = and_parts _ _ h in and_from _ _ (laid_out a p.0) (laid_out b p.1)
-laid_out (branch a b c) h =
+pub straight_callless : (e : Expression) → is_straight e ≡ true → is_callless e ≡ true
+straight_callless (perform o) h = refl
+straight_callless (bind x a b) h = let p = and_parts _ _ h in and_from _ _ (straight_callless a p.0) (straight_callless b p.1)
+straight_callless (sequence a b) h = let p = and_parts _ _ h in and_from _ _ (straight_callless a p.0) (straight_callless b p.1)
+straight_callless (branch a b c) h =
     let p = and_parts _ _ h in
     let q = and_parts _ _ p.1 in
-    and_from _ _ (laid_out a p.0) (and_from _ _ (laid_out b q.0) (laid_out c q.1))
-laid_out (end e) h = laid_out e h
-laid_out (fix members e) h = absurd cc
-laid_out (call a restores) h = absurd cc
-laid_out (tail_call a) h = absurd cc
-laid_out (return e) h = absurd cc
-laid_out (save saves e) h = absurd cc
+    and_from _ _ (straight_callless a p.0) (and_from _ _ (straight_callless b q.0) (straight_callless c q.1))
+straight_callless (end e) h = straight_callless e h
+straight_callless (fix members e) h = absurd cc
+straight_callless (call a restores) h = absurd cc
+straight_callless (tail_call a) h = absurd cc
+straight_callless (return e) h = absurd cc
+straight_callless (save saves e) h = absurd cc
 
 -- ## Operations
 

@@ -1,6 +1,6 @@
 -- The layout of a body: its tree in order, as instructions. What follows is an argument, so nothing is
 -- appended, and each variable has a place.
-use Rattle.std.specs.Prelude.{◌≡◌, ℕ, zero, suc, ◌+◌, ◌-◌, Bool, true, false, ◌&&◌, List, [], ◌∷◌, ◌++◌, Option, Some, None, map}
+use Rattle.std.specs.Prelude.{◌≡◌, ℕ, zero, suc, ◌+◌, ◌-◌, List, [], ◌∷◌, ◌++◌, Option, Some, None, map}
 use Rattle.sch_word.specs.declared.place.Place.{Place}
 use Rattle.sch_word.specs.declared.place.Place.TheVariants.{Reg, Slot}
 use Rattle.sch_control.specs.declared.body.Entry.{Entry}
@@ -12,25 +12,15 @@ use Rattle.sch_control.specs.declared.operation.Operand.TheVariants as operand
 use Rattle.sch_control.specs.declared.operation.Source.{Source}
 use Rattle.sch_control.specs.declared.operation.Source.TheVariants as source
 use Rattle.sch_control.specs.declared.operation.Closure.{Closure}
+use Rattle.sch_control.specs.declared.operation.Member.{Member}
 use Rattle.sch_control.specs.declared.operation.Operation.{Operation}
 use Rattle.sch_control.specs.declared.operation.Operation.TheVariants as operation
 use Rattle.sch_control.specs.Tree as control
 use Rattle.sch_control.specs.Tree.{Expression, perform, bind, sequence, branch, fix, call, tail_call, return, end, save}
 use Rattle.sch_frames.specs.declared.instruction.Instruction.{Instruction}
-use Rattle.sch_frames.specs.declared.instruction.Instruction.TheVariants.{Do, Store, Copy, Return, End, IfFalse, Jump, Label, Mark}
+use Rattle.sch_frames.specs.declared.instruction.Instruction.TheVariants.{Do, Store, Copy, Fix, Return, End, IfFalse, Jump, Label, Mark}
 use Rattle.sch_frames.specs.Meaning.{argument_register, argument_slot, closure_register}
 use Rattle.sch_frames.specs.Valid.{formals_of}
-
--- ## Bodies that are laid out so far: without calls and groups of closures
-
-abbrev pub straight : Expression → Bool
-straight (perform o) = true
-straight (bind x a b) = straight a && straight b
-straight (sequence a b) = straight a && straight b
-straight (branch a b c) = straight a && (straight b && straight c)
-straight (return e) = straight e
-straight (end e) = straight e
-straight _ = false
 
 -- ## Labels
 
@@ -44,6 +34,7 @@ abbrev pub labels : Expression → ℕ
 labels (bind x a b) = labels a + labels b
 labels (sequence a b) = labels a + labels b
 labels (branch a b c) = suc (suc (labels a + (labels b + labels c)))
+labels (fix members e) = labels e
 labels (return e) = labels e
 labels (end e) = labels e
 labels _ = zero
@@ -92,6 +83,12 @@ module _ (place : ℕ → Place) where
   operation_at (operation.CellSet c o) = operation.CellSet (source_at c) (operand_at o)
   operation_at (operation.MakeClosure c) = operation.MakeClosure (closure_at c)
 
+  abbrev pub member_at : Member ℕ → Member Place
+  member_at m = record { at = place m.at; closure = closure_at m.closure }
+
+  abbrev pub members_at : List (Member ℕ) → List (Member Place)
+  members_at = map member_at
+
   -- ## Expressions
 
   -- the instructions of an expression, whose labels are numbered from n on, and then the rest
@@ -103,6 +100,7 @@ module _ (place : ℕ → Place) where
       lay a (suc (suc n)) (Some n)
       (lay b (suc (suc (n + labels a))) test
       (Jump (suc n) ∷ (Label n ∷ lay c (suc (suc (n + labels a + labels b))) test (Label (suc n) ∷ rest))))
+  lay (fix members e) n test rest = Fix (members_at members) ∷ lay e n test rest
   lay (return e) n test rest = lay e n None (Mark mark.Return ∷ (Return ∷ rest))
   lay (end e) n test rest = lay e n None (End ∷ rest)
   lay _ n test rest = rest

@@ -6,6 +6,7 @@ mod assembly;
 mod body;
 mod instruction;
 mod layout;
+mod places;
 mod program;
 mod slots;
 mod straight;

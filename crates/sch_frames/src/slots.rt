@@ -1,11 +1,12 @@
 //! Bodies with a slot for each variable.
 
 ghost use Rattle.std.specs.Prelude.{◌≡◌, ◌≤◌, ◌+◌, ◌*◌, length, true, IfOk, IsTrue};
+ghost use Rattle.sch_control.specs.Callless.{is_callless};
 ghost use Rattle.sch_control.specs.SourceView as control;
 ghost use Rattle.sch_control.specs.Straight as control_straight;
 ghost use Rattle.sch_control.specs.View.{expression};
 ghost use Rattle.sch_frames.specs.Does.{FrameOf};
-ghost use Rattle.sch_frames.specs.Layout.{arrival_slots, labels, slots_layout, straight};
+ghost use Rattle.sch_frames.specs.Layout.{arrival_slots, labels, slots_layout};
 ghost use Rattle.sch_control.specs.Sizes.{expression_size};
 ghost use Rattle.sch_frames.specs.Sizes.{entry_size, instructions_size, nodes};
 ghost use Rattle.sch_frames.specs.SourceView.{code_of};
@@ -33,14 +34,13 @@ fn laid_out(alloc: Global, b: &Body) -> Result<Writer, Mem>
     Ok(out)
 }
 
-/// The frame body of a body, with a slot for each variable. It stands for a body without calls and
-/// without groups of closures that know one another.
+/// The frame body of a body, with a slot for each variable. It stands for a body without calls.
 ///
 /// Memory is used as the answer's instructions need it: at most three for each node of the body, one for each
 /// formal and one more. A label past the numbers of 32 bits, for which a body needs 2^31 nodes, is answered as
 /// out of memory too.
 pub fn frame_slots(alloc: Global, b: &Body) -> Result<FrameBody, Mem>
-    requires straight { IsTrue (straight (expression b.now.exp)) }
+    requires callless { IsTrue (is_callless (expression b.now.exp)) }
     ensures same { IfOk result (λ f. FrameOf (control.code_of b.now) (code_of f)) }
     ensures straight { IfOk result (λ f.
         IsTrue (control_straight.is_straight_code (control.code_of b.now)) → IsTrue (is_straight_code (code_of f))) }

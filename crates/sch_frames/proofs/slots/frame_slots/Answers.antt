@@ -12,15 +12,15 @@ invariant_of-result c =
     let l = c.in_ok-out.ensures.labels in
     let a = c.arrival_slots.ensures in
     record {
-      placed = rw (i, a) (slots_placed (control.code_of b) c.requires.straight b.scoped b.numbered b.shaped);
+      placed = rw (i, a) (slots_placed (control.code_of b) c.requires.callless b.scoped b.numbered b.shaped);
       forward = rw (i, l) (slots_forward (control.code_of b));
-      shaped = rw i (slots_shaped (control.code_of b) c.requires.straight b.shaped);
+      shaped = rw i (slots_shaped (control.code_of b) c.requires.callless b.shaped);
     }
 
 pub returns-clause-same : goal.returns-clause-same
 returns-clause-same c =
     let b = c.args.b.now in
-    rw (c.in_ok-out.ensures.instructions, c.in_ok-out.ensures.labels, c.arrival_slots.ensures) (slots_does (control.code_of b) c.requires.straight b.scoped b.numbered)
+    rw (c.in_ok-out.ensures.instructions, c.in_ok-out.ensures.labels, c.arrival_slots.ensures) (slots_does (control.code_of b) c.requires.callless b.scoped b.numbered)
 
 pub returns-clause-size : goal.returns-clause-size
 returns-clause-size c = rw c.in_ok-out.ensures.instructions (slots_size (control.code_of c.args.b.now))

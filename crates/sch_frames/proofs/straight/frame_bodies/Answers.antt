@@ -1,12 +1,12 @@
 use Rattle.sch_frames.proofs.FrameBodies.{body_straight, frames_next, straight_next, size_next, words_next}
-use Rattle.sch_frames.proofs.StraightSlots.{laid_out}
+use Rattle.sch_frames.proofs.StraightSlots.{straight_callless}
 use Rattle.std.proofs.lemmas.Bool.{and_parts}
 use Rattle.sch_control.specs.View.{expression}
 use Rattle.sch_frames.proofs.straight.frame_bodies.Goals as goal
 
 pub frame_slots-requires : goal.frame_slots-requires
 frame_slots-requires c = record {
-  straight = laid_out (expression c.b-item.result.exp)
+  callless = straight_callless (expression c.b-item.result.exp)
       (and_parts _ _ (body_straight c.args.bodies.now c.loop-b.b-index c.b-item.result c.loop-b-test.true c.b-item.is c.requires.straight)).1;
 }
 
