@@ -23,7 +23,7 @@ use Rattle.sch_frames.specs.declared.instruction.Instruction.TheVariants.{Do, St
 use Rattle.sch_frames.specs.Layout.{slots_layout}
 use Rattle.sch_frames.specs.Run.{run}
 use Rattle.sch_control.specs.Sizes.{expression_size}
-use Rattle.sch_frames.specs.Sizes.{entry_size, instructions_size, largest_frame, most_variables, program_size}
+use Rattle.sch_frames.specs.Sizes.{entry_size, instructions_size, largest_frame, most_words, program_size}
 use Rattle.sch_frames.specs.Straight.{is_straight_code, is_straight_program}
 use Rattle.sch_frames.specs.Tree.{Code, Source}
 use Rattle.sch_frames.specs.Valid.{code_valid, is_valid, placed, forward}
@@ -227,6 +227,6 @@ size_rows :
     × (instructions_size (slots_layout displays) ≡ 14)
     × (instructions_size (Label 0 ∷ shows) ≡ 3)
     × (program_size (program [] (form 2 0 shows ∷ (form 2 1 (Label 0 ∷ shows) ∷ [])) 2) ≡ 6)
-    × (most_variables (displays ∷ []) ≡ 4)
+    × (most_words (displays ∷ []) ≡ 4)
     × (entry_size (Some (record { formals = 3; rest = false; fields = 0 })) ≡ 4)
 size_rows = (refl, refl, refl, refl, refl, refl, refl)

@@ -1,4 +1,5 @@
 mod Arriving
+mod CalllessSlots
 mod Entering
 mod Examples
 mod Following

@@ -134,6 +134,10 @@ entering base (Some e) rest = Copy (own_slot base 1) closure_register ∷ arriva
 abbrev pub arrival_slots : Option Entry → ℕ
 arrival_slots entry = formals_of entry - 6
 
+-- the size of the frame, which has a slot for each variable
+abbrev pub slots_words : control.Code → ℕ
+slots_words c = arrival_slots c.entry + c.variables
+
 abbrev pub slots_layout : control.Code → List Instruction
 slots_layout c =
     let base = arrival_slots c.entry in

@@ -7,6 +7,7 @@ use Rattle.sch_control.specs.Tree as control
 use Rattle.sch_control.specs.Tree.{Expression, perform, bind, sequence, branch, fix, call, tail_call, return, end, save}
 use Rattle.sch_frames.specs.declared.instruction.Instruction.{Instruction}
 use Rattle.sch_frames.specs.declared.instruction.Instruction.TheVariants.{Do, Load, Pass, Fix, Label, Mark}
+use Rattle.sch_frames.specs.Layout.{slots_words}
 use Rattle.sch_frames.specs.Tree.{Code, Source}
 
 -- how many nodes an expression has
@@ -27,10 +28,10 @@ abbrev pub largest_frame : List Code → ℕ
 largest_frame [] = 0
 largest_frame (c ∷ codes) = max c.words (largest_frame codes)
 
--- the most variables of a body, the return address and the closure among them, and 0 where there are no bodies
-abbrev pub most_variables : List control.Code → ℕ
-most_variables [] = 0
-most_variables (c ∷ codes) = max c.variables (most_variables codes)
+-- the size of the largest frame that bodies need with a slot for each variable, and 0 where there are none
+abbrev pub most_words : List control.Code → ℕ
+most_words [] = 0
+most_words (c ∷ codes) = max (slots_words c) (most_words codes)
 
 -- ## Instructions
 
@@ -60,3 +61,8 @@ program_size p = codes_size p.bodies
 abbrev pub entry_size : Option Entry → ℕ
 entry_size None = 0
 entry_size (Some e) = suc e.formals
+
+-- what the procedures among some bodies store as they are entered
+abbrev pub entries_size : List control.Code → ℕ
+entries_size [] = 0
+entries_size (c ∷ codes) = entry_size c.entry + entries_size codes

@@ -9,10 +9,10 @@ mod layout;
 mod places;
 mod program;
 mod slots;
-mod straight;
+mod bodies;
 
 pub use body::FrameBody;
 pub use instruction::Instruction;
 pub use program::FrameProgram;
 pub use slots::frame_slots;
-pub use straight::frame_program;
+pub use bodies::frame_program;

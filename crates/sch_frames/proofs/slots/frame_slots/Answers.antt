@@ -1,6 +1,7 @@
 use Rattle.sch_control.specs.SourceView as control
 use Rattle.sch_control.specs.View.{expression}
 use Rattle.sch_frames.proofs.SlotsFrame.{slots_placed, slots_does, slots_forward, slots_shaped, slots_size, labels_size}
+use Rattle.sch_frames.proofs.CalllessSlots.{slots_begin, slots_callless}
 use Rattle.sch_frames.proofs.LayoutSize.{slots_work}
 use Rattle.sch_frames.proofs.StraightSlots.{slots_straight}
 use Rattle.sch_frames.proofs.slots.frame_slots.Goals as goal
@@ -33,3 +34,9 @@ returns-clause-straight c s = rw c.in_ok-out.ensures.instructions (slots_straigh
 
 pub returns-clause-work : goal.returns-clause-work
 returns-clause-work c = rw c.in_ok-out.ensures.instructions (slots_work (control.code_of c.args.b.now))
+
+pub returns-clause-begins : goal.returns-clause-begins
+returns-clause-begins c = rw c.in_ok-out.ensures.instructions (slots_begin (control.code_of c.args.b.now) c.requires.callless)
+
+pub returns-clause-callless : goal.returns-clause-callless
+returns-clause-callless c h = rw c.in_ok-out.ensures.instructions (slots_callless (control.code_of c.args.b.now) h)
