@@ -94,9 +94,9 @@ straight_runs = refl
 straight_valid : (is_valid straight_program && list_all code_valid straight_program.bodies) ≡ true
 straight_valid = refl
 
--- a procedure has its closure and its formals in slots, of which the seventh arrives in one
+-- a procedure has its return address, its closure and its formals in slots, of which the seventh arrives in one
 entering_layout : slots_layout (record { name = []; entry = Some (record { formals = 7; rest = false; fields = 0 }); variables = 9; expression = return (perform (operation.Operand (held_in 8))) }) ≡
-    Copy (Slot 2) (Reg 14) ∷ Copy (Slot 3) (Reg 3) ∷ Copy (Slot 4) (Reg 8) ∷ Copy (Slot 5) (Reg 9) ∷ Copy (Slot 6) (Reg 10) ∷ Copy (Slot 7) (Reg 6) ∷ Copy (Slot 8) (Reg 7) ∷ Copy (Slot 9) (Slot 0)
+    Copy (Slot 1) (Reg 15) ∷ Copy (Slot 2) (Reg 14) ∷ Copy (Slot 3) (Reg 3) ∷ Copy (Slot 4) (Reg 8) ∷ Copy (Slot 5) (Reg 9) ∷ Copy (Slot 6) (Reg 10) ∷ Copy (Slot 7) (Reg 6) ∷ Copy (Slot 8) (Reg 7) ∷ Copy (Slot 9) (Slot 0)
     ∷ Do (operation.Operand (held_in (Slot 9))) ∷ Mark mark.Return ∷ Return ∷ []
 entering_layout = refl
 
@@ -228,5 +228,5 @@ size_rows :
     × (instructions_size (Label 0 ∷ shows) ≡ 3)
     × (program_size (program [] (form 2 0 shows ∷ (form 2 1 (Label 0 ∷ shows) ∷ [])) 2) ≡ 6)
     × (most_words (displays ∷ []) ≡ 4)
-    × (entry_size (Some (record { formals = 3; rest = false; fields = 0 })) ≡ 4)
+    × (entry_size (Some (record { formals = 3; rest = false; fields = 0 })) ≡ 5)
 size_rows = (refl, refl, refl, refl, refl, refl, refl)

@@ -1,15 +1,15 @@
 -- Results that follow others, through the ways in which they are made.
-use Rattle.std.proofs.Common.{◌≡◌, List, Option, Some, None, Bool, true, false, refl, sym, ap, ◌∙◌, subst}
+use Rattle.std.proofs.Common.{◌≡◌, ℕ, List, [], ◌∷◌, Option, Some, None, Bool, true, false, refl, sym, ap, ◌∙◌, subst}
 use Rattle.sch_word.specs.values.Values.{Value}
 use Rattle.sch_word.specs.runs.Store.{Store}
 use Rattle.sch_word.specs.values.Checked.{Checked, passes, refused, exhausted, unreachable}
-use Rattle.sch_word.specs.runs.Computation.{Outcome, gives, stops, spent, State}
+use Rattle.sch_word.specs.runs.Computation.{Outcome, gives, stops, spent, State, Entry, checked_call}
 use Rattle.sch_control.specs.declared.mark.MarkKind.{MarkKind}
 use Rattle.sch_control.specs.Operations.{Procedure, Ending, with_some, and_value, read, with_procedures}
-use Rattle.sch_control.specs.Meaning.{World, Result, with_value, on_outcome, on_ending, on_return, on_checked, either}
+use Rattle.sch_control.specs.Meaning.{World, Result, with_value, on_outcome, on_ending, on_return, on_checked, either, Callee, entered, call_in}
 use Rattle.sch_word.specs.declared.primitive.Primitive.{Primitive}
 use Rattle.sch_word.specs.declared.stop.Stop.{Stop}
-use Rattle.sch_frames.specs.Does.{Follows, unmarked, EndsAs, world}
+use Rattle.sch_frames.specs.Does.{Follows, unmarked, EndsAs, world, CalleesFollow}
 
 pub follows_same : {A : Type 0} (a : Option A) → Follows a a
 follows_same None = tt
@@ -109,6 +109,16 @@ on_checked_ends (passes v) s marks marks' next next' h = h v
 on_checked_ends (refused why) s marks marks' next next' h = refl
 on_checked_ends exhausted s marks marks' next next' h = refl
 on_checked_ends unreachable s marks marks' next next' h = refl
+
+entered_ends : (callee callee' : Callee) → CalleesFollow callee callee' → (vs : List Value) (s : State Procedure) (marks marks' : List MarkKind) (e : Entry Procedure)
+    → EndsAs (entered callee vs (world s marks) e) (entered callee' vs (world s marks') e)
+entered_ends callee callee' follow [] s marks marks' e = tt
+entered_ends callee callee' follow (operator ∷ vs) s marks marks' e = follow operator e.procedure e.arguments e.depth s marks marks'
+
+pub call_in_ends : (callee callee' : Callee) → CalleesFollow callee callee' → (spread tail : Bool) (depth : ℕ) (vs : List Value) (s : State Procedure) (marks marks' : List MarkKind)
+    → EndsAs (call_in callee spread tail depth vs (world s marks)) (call_in callee' spread tail depth vs (world s marks'))
+call_in_ends callee callee' follow spread tail depth vs s marks marks' =
+    on_checked_ends (checked_call s.procedures s.store spread tail depth vs) s marks marks' _ _ (entered_ends callee callee' follow vs s marks marks')
 
 pub either_ends : (b : Bool) (x y x' y' : Result) → (b ≡ true → EndsAs x x') → (b ≡ false → EndsAs y y') → EndsAs (either b x y) (either b x' y')
 either_ends true x y x' y' f g = f refl

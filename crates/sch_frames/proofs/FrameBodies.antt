@@ -13,7 +13,7 @@ use Rattle.sch_frames.specs.declared.body.FrameBody.{FrameBody}
 use Rattle.sch_frames.specs.Does.{FrameOf, FramesOf}
 use Rattle.sch_frames.specs.Layout.{slots_words}
 use Rattle.sch_control.specs.Sizes.{expression_size, expressions_size}
-use Rattle.sch_frames.specs.Sizes.{codes_size, entries_size, entry_size, instructions_size, largest_frame, most_words}
+use Rattle.sch_frames.specs.Sizes.{call_parts, calls_parts, codes_size, entries_size, entry_size, instructions_size, largest_frame, most_words}
 use Rattle.sch_frames.specs.SourceView.{code_of, codes_of}
 use Rattle.sch_frames.specs.Tree.{Code}
 
@@ -41,10 +41,10 @@ largest_more cs fs c f h e =
     ∙ ap (max (most_words cs)) e
     ∙ sym (max_push most_words (λ c. slots_words c) refl (λ x xs. refl) cs c)
 
-sizes_more : (cs : List tree.Code) (fs : List Code) (c : tree.Code) (f : Code) → codes_size fs ≤ 2 * expressions_size cs + entries_size cs
-    → instructions_size f.instructions ≤ 2 * expression_size c.expression + entry_size c.entry
-    → codes_size (fs ++ f ∷ []) ≤ 2 * expressions_size (cs ++ c ∷ []) + entries_size (cs ++ c ∷ [])
-sizes_more cs fs c f h e = let a = codes_push fs f in let b = expressions_push cs c in let d = entries_push cs c in omega (arith, a, b, d, h, e)
+sizes_more : (cs : List tree.Code) (fs : List Code) (c : tree.Code) (f : Code) → codes_size fs ≤ 2 * expressions_size cs + 4 * calls_parts cs + entries_size cs
+    → instructions_size f.instructions ≤ 2 * expression_size c.expression + 4 * call_parts c.expression + entry_size c.entry
+    → codes_size (fs ++ f ∷ []) ≤ 2 * expressions_size (cs ++ c ∷ []) + 4 * calls_parts (cs ++ c ∷ []) + entries_size (cs ++ c ∷ [])
+sizes_more cs fs c f h e = let a = codes_push fs f in let b = expressions_push cs c in let d = entries_push cs c in let p = parts_push cs c in omega (arith, a, b, d, p, h, e)
   where
     codes_push : (fs : List Code) (f : Code) → codes_size (fs ++ f ∷ []) ≡ codes_size fs + instructions_size f.instructions
     codes_push [] f = omega arith
@@ -53,6 +53,10 @@ sizes_more cs fs c f h e = let a = codes_push fs f in let b = expressions_push c
     expressions_push : (cs : List tree.Code) (c : tree.Code) → expressions_size (cs ++ c ∷ []) ≡ expressions_size cs + expression_size c.expression
     expressions_push [] c = omega arith
     expressions_push (x ∷ cs) c = let e = expressions_push cs c in omega (arith, e)
+
+    parts_push : (cs : List tree.Code) (c : tree.Code) → calls_parts (cs ++ c ∷ []) ≡ calls_parts cs + call_parts c.expression
+    parts_push [] c = omega arith
+    parts_push (x ∷ cs) c = let e = parts_push cs c in omega (arith, e)
 
     entries_push : (cs : List tree.Code) (c : tree.Code) → entries_size (cs ++ c ∷ []) ≡ entries_size cs + entry_size c.entry
     entries_push [] c = omega arith
@@ -91,12 +95,12 @@ module _ (bodies : List Body) (i : ℕ) (b : Body) (lt : i < length bodies) (is 
     pub all_next : (p : Code → Bool) → list_all p (codes_of made) ≡ true → p (code_of f) ≡ true → list_all p (codes_of next) ≡ true
     all_next p h g = ap (list_all p) grown ∙ list_all-append p (codes_of made) (code_of f ∷ []) ∙ and_from _ _ h (and_from _ _ g refl)
 
-    pub size_next : codes_size (codes_of made) ≤ 2 * expressions_size (control.codes_of (take i bodies)) + entries_size (control.codes_of (take i bodies))
-        → instructions_size f.instructions ≤ 2 * expression_size (expression b.exp) + entry_size b.entry
-        → codes_size (codes_of next) ≤ 2 * expressions_size (control.codes_of (take (i + 1) bodies)) + entries_size (control.codes_of (take (i + 1) bodies))
+    pub size_next : codes_size (codes_of made) ≤ 2 * expressions_size (control.codes_of (take i bodies)) + 4 * calls_parts (control.codes_of (take i bodies)) + entries_size (control.codes_of (take i bodies))
+        → instructions_size f.instructions ≤ 2 * expression_size (expression b.exp) + 4 * call_parts (expression b.exp) + entry_size b.entry
+        → codes_size (codes_of next) ≤ 2 * expressions_size (control.codes_of (take (i + 1) bodies)) + 4 * calls_parts (control.codes_of (take (i + 1) bodies)) + entries_size (control.codes_of (take (i + 1) bodies))
     size_next h g =
-        subst (λ fs. codes_size fs ≤ 2 * expressions_size (control.codes_of (take (i + 1) bodies)) + entries_size (control.codes_of (take (i + 1) bodies))) (sym grown)
-        (subst (λ cs. codes_size (codes_of made ++ code_of f ∷ []) ≤ 2 * expressions_size cs + entries_size cs) (sym taken)
+        subst (λ fs. codes_size fs ≤ 2 * expressions_size (control.codes_of (take (i + 1) bodies)) + 4 * calls_parts (control.codes_of (take (i + 1) bodies)) + entries_size (control.codes_of (take (i + 1) bodies))) (sym grown)
+        (subst (λ cs. codes_size (codes_of made ++ code_of f ∷ []) ≤ 2 * expressions_size cs + 4 * calls_parts cs + entries_size cs) (sym taken)
         (sizes_more (control.codes_of (take i bodies)) (codes_of made) (control.code_of b) (code_of f) h g))
 
     pub words_next : largest_frame (codes_of made) ≡ most_words (control.codes_of (take i bodies)) → f.words ≡ slots_words (control.code_of b)

@@ -1,3 +1,5 @@
+mod Agrees
+mod Arguments
 mod Arriving
 mod CalllessSlots
 mod Entering

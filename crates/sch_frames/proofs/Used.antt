@@ -10,7 +10,7 @@ use Rattle.sch_control.specs.declared.operation.Member.{Member}
 use Rattle.sch_control.specs.Tree.{Expression, perform, bind, sequence, branch, fix, call, tail_call, return, end, save, Code}
 use Rattle.sch_control.specs.Valid.{in_scope_atoms, in_scope, with_variable, with_members, member_variables, bound_in, first_scope, first_bound, numbered, max_body_variables}
 use Rattle.sch_frames.proofs.Operating.{AtomsHave}
-use Rattle.sch_frames.proofs.Same.{MembersUse, Uses, Behind}
+use Rattle.sch_frames.proofs.Agrees.{MembersUse, Uses, Behind, Within}
 
 -- each number of a list has a property
 abbrev pub EachHas : (ℕ → Type 0) → List ℕ → Type 0
@@ -72,13 +72,9 @@ module _ (P : ℕ → Type 0) where
       let group = each_left P (member_variables members) _ b in
       let inside = with_group members scope group f in
       (members_used members group, (atoms_used (with_members members scope) inside _ parts.0, used e (with_members members scope) parts.1 inside (each_right P (member_variables members) _ b)))
-  used (call a restores) scope h f b = tt
-  used (tail_call a) scope h f b = tt
-  used (save saves e) scope h f b = tt
-
--- behind the return address, and below a number
-abbrev pub Within : ℕ → ℕ → Type 0
-Within n x = Behind x × (x < n)
+  used (call a restores) scope h f b = atoms_used scope f _ h
+  used (tail_call a) scope h f b = atoms_used scope f _ h
+  used (save saves e) scope h f b = used e scope h f b
 
 behind : (x : ℕ) → 0 < x → Behind x
 behind zero h = omega (arith, h)

@@ -23,6 +23,23 @@ nodes (return e) = 1 + nodes e
 nodes (end e) = 1 + nodes e
 nodes (save saves e) = 1 + nodes e
 
+-- what calls hand over, the operators among it
+abbrev pub call_parts : Expression → ℕ
+call_parts (perform o) = 0
+call_parts (bind x a b) = call_parts a + call_parts b
+call_parts (sequence a b) = call_parts a + call_parts b
+call_parts (branch a b c) = call_parts a + (call_parts b + call_parts c)
+call_parts (fix members e) = call_parts e
+call_parts (call a restores) = suc (length a.operands)
+call_parts (tail_call a) = suc (length a.operands)
+call_parts (return e) = call_parts e
+call_parts (end e) = call_parts e
+call_parts (save saves e) = call_parts e
+
+abbrev pub calls_parts : List control.Code → ℕ
+calls_parts [] = 0
+calls_parts (c ∷ codes) = call_parts c.expression + calls_parts codes
+
 -- the size of the largest frame of some bodies, and 0 where there are none
 abbrev pub largest_frame : List Code → ℕ
 largest_frame [] = 0
@@ -57,10 +74,10 @@ codes_size (c ∷ codes) = instructions_size c.instructions + codes_size codes
 abbrev pub program_size : Source → ℕ
 program_size p = codes_size p.bodies
 
--- a procedure stores its closure and its arguments
+-- a procedure stores its return address, its closure and its arguments
 abbrev pub entry_size : Option Entry → ℕ
 entry_size None = 0
-entry_size (Some e) = suc e.formals
+entry_size (Some e) = suc (suc e.formals)
 
 -- what the procedures among some bodies store as they are entered
 abbrev pub entries_size : List control.Code → ℕ

@@ -11,7 +11,7 @@ ghost use Rattle.sch_control.specs.Straight as control_straight;
 ghost use Rattle.sch_frames.specs.Callless.{code_begins, each_begins, is_callless_code, is_callless_program};
 ghost use Rattle.sch_frames.specs.Does.{FramesOf, SameRuns};
 ghost use Rattle.sch_frames.specs.ProgramView.{source};
-ghost use Rattle.sch_frames.specs.Sizes.{codes_size, entries_size, largest_frame, most_words, program_size};
+ghost use Rattle.sch_frames.specs.Sizes.{calls_parts, codes_size, entries_size, largest_frame, most_words, program_size};
 ghost use Rattle.sch_frames.specs.SourceView.{codes_of};
 ghost use Rattle.sch_frames.specs.Straight.{is_straight_code, is_straight_program};
 
@@ -24,14 +24,15 @@ use std::alloc::Global;
 
 /// A frame body for each body, in their order.
 fn frame_bodies(alloc: Global, bodies: &[Body]) -> Result<List<FrameBody>, Mem>
-    requires callless { IsTrue (list_all control_callless.is_callless_code (control_bodies.codes_of bodies.now)) }
     ensures frames { IfOk result (λ made. FramesOf (control_bodies.codes_of bodies.now) (codes_of made)) }
     ensures begin { IfOk result (λ made. IsTrue (list_all code_begins (codes_of made))) }
-    ensures callless { IfOk result (λ made. IsTrue (list_all is_callless_code (codes_of made))) }
+    ensures callless { IfOk result (λ made.
+        IsTrue (list_all control_callless.is_callless_code (control_bodies.codes_of bodies.now)) → IsTrue (list_all is_callless_code (codes_of made))) }
     ensures straight { IfOk result (λ made.
         IsTrue (list_all control_straight.is_straight_code (control_bodies.codes_of bodies.now)) → IsTrue (list_all is_straight_code (codes_of made))) }
     ensures size { IfOk result (λ made. codes_size (codes_of made)
-        ≤ 2 * expressions_size (control_bodies.codes_of bodies.now) + entries_size (control_bodies.codes_of bodies.now)) }
+        ≤ 2 * expressions_size (control_bodies.codes_of bodies.now) + 4 * calls_parts (control_bodies.codes_of bodies.now)
+        + entries_size (control_bodies.codes_of bodies.now)) }
     ensures words { IfOk result (λ made. largest_frame (codes_of made) ≡ most_words (control_bodies.codes_of bodies.now)) }
 {
     let mut made = List::new(alloc);
@@ -41,24 +42,28 @@ fn frame_bodies(alloc: Global, bodies: &[Body]) -> Result<List<FrameBody>, Mem>
     Ok(made)
 }
 
-/// The frame program of a program that makes no calls, with a slot for each variable of each body.
+/// The frame program of a program, with a slot for each variable of each body.
 ///
 /// Time and memory are linear in the program.
 pub fn frame_program(alloc: Global, p: &ControlProgram) -> Result<FrameProgram, Mem>
-    requires callless { IsTrue (control_callless.is_callless_program (control.source p.now)) }
     ensures same { IfOk result (λ q. SameRuns (control.source p.now) (source q)) }
     // One frame body for each body, in their order, which does what the body does.
     ensures frames { IfOk result (λ q. FramesOf (control_bodies.codes_of p.now.bodies) (codes_of q.bodies)) }
     ensures library { IfOk result (λ q. q.library ≡ p.now.library) }
     ensures statics { IfOk result (λ q. statics q.statics ≡ statics p.now.statics) }
     ensures begin { IfOk result (λ q. IsTrue (each_begins (source q))) }
-    ensures callless { IfOk result (λ q. IsTrue (is_callless_program (source q))) }
+    ensures callless { IfOk result (λ q.
+        IsTrue (control_callless.is_callless_program (control.source p.now)) → IsTrue (is_callless_program (source q))) }
     ensures straight { IfOk result (λ q.
         IsTrue (control_straight.is_straight_program (control.source p.now)) → IsTrue (is_straight_program (source q))) }
     ensures size { IfOk result (λ q. program_size (source q)
-        ≤ 2 * expressions_size (control_bodies.codes_of p.now.bodies) + entries_size (control_bodies.codes_of p.now.bodies)) }
+        ≤ 2 * expressions_size (control_bodies.codes_of p.now.bodies) + 4 * calls_parts (control_bodies.codes_of p.now.bodies)
+        + entries_size (control_bodies.codes_of p.now.bodies)) }
+    ensures straight_size { IfOk result (λ q. IsTrue (control_straight.is_straight_program (control.source p.now))
+        → program_size (source q) ≤ 2 * expressions_size (control_bodies.codes_of p.now.bodies)) }
     ensures words { IfOk result (λ q. q.words ≡ most_words (control_bodies.codes_of p.now.bodies)) }
 {
     let bodies = frame_bodies(alloc, p.bodies.as_slice())?;
-    FrameProgram::new(alloc, p, bodies)
+    let q = FrameProgram::new(alloc, p, bodies)?;
+    Ok(q)
 }

@@ -7,59 +7,15 @@ ghost use Rattle.sch_control.specs.declared.mark.MarkKind.TheVariants as mark;
 ghost use Rattle.sch_frames.specs.declared.instruction.Instruction.{Instruction};
 ghost use Rattle.sch_frames.specs.declared.instruction.Instruction.TheVariants.{Do, Store, Fix, Return, End, Jump, Label, Mark};
 ghost use Rattle.sch_frames.specs.Valid.{formals_of};
-ghost use Rattle.sch_frames.specs.Layout.{operation_at, members_at, own_slot, leave, labels, lay, arrival, arrivals, entering, arrival_slots, Writes};
+ghost use Rattle.sch_frames.specs.Layout.{operation_at, members_at, own_slot, own_slots, leave, labels, lay, arrivals, entering, Writes};
 
+use crate::calls::{CLOSURE, LINK, arrival, write_call, write_tail_call};
 use crate::instruction::Instruction;
+use crate::writer::{Slots, Writer, leave, new_label, put};
 use crate::places::{members_at, operation_at, own_slot};
 use sch_control::{Entry, Exp, MarkKind, Member, Operation};
 use sch_word::{List, Mem, Place};
 use std::alloc::Global;
-
-/// R14, where the closure of an activation is as it is entered.
-const CLOSURE: u8 = 14;
-
-/// Instructions as they are written, and how many labels there are among them.
-#[derive(Drop)]
-pub(crate) struct Writer {
-    pub instructions: List<Instruction>,
-    pub labels: u32,
-}
-
-/// The next label.
-fn new_label(out: &mut Writer) -> Result<u32, Mem>
-    ensures number { IfOk result (λ l. l ≡ out.old.labels) }
-    ensures labels { OnOk result (out.new.labels ≡ out.old.labels + 1) }
-    ensures instructions { out.new.instructions ≡ out.old.instructions }
-{
-    let label = out.labels;
-    match label.checked_add(1) {
-        Some(next) => {
-            out.labels = next;
-            Ok(label)
-        }
-        None => Err(Mem),
-    }
-}
-
-/// One instruction more.
-fn put(out: &mut Writer, i: Instruction) -> Result<(), Mem>
-    ensures instructions { OnOk result (out.new.instructions ≡ out.old.instructions ++ i ∷ []) }
-    ensures labels { out.new.labels ≡ out.old.labels }
-{
-    out.instructions.push(i)?;
-    Ok(())
-}
-
-/// A value is left in the accumulator, or tested, and goes on behind the label where it is `#f`.
-fn leave(out: &mut Writer, test: Option<u32>) -> Result<(), Mem>
-    ensures instructions { OnOk result (Writes out.old.instructions out.new.instructions (leave test)) }
-    ensures labels { out.new.labels ≡ out.old.labels }
-{
-    match test {
-        Some(label) => put(out, Instruction::IfFalse(label)),
-        None => Ok(()),
-    }
-}
 
 // What is written between the parts of an expression stands in functions of its own, so that the walk over the
 // parts, which is as deep as they nest, has a small frame.
@@ -139,66 +95,52 @@ fn write_end(out: &mut Writer) -> Result<(), Mem>
 /// value is left in the accumulator.
 pub(crate) fn lay(
     alloc: Global,
-    base: u32,
+    slots: Slots,
     e: &Exp<()>,
     test: Option<u32>,
     out: &mut Writer,
 ) -> Result<(), Mem>
     ensures instructions { OnOk result (Writes out.old.instructions out.new.instructions
-        (lay (own_slot base) (expression e.now) out.old.labels test)) }
+        (lay (own_slots slots.base slots.aside slots.entered) (expression e.now) out.old.labels test)) }
     ensures labels { OnOk result (out.new.labels ≡ out.old.labels + labels (expression e.now)) }
 {
     match e {
-        Exp::Do(o) => write_operation(alloc, base, o, test, out),
+        Exp::Do(o) => write_operation(alloc, slots.base, o, test, out),
         Exp::Bind(x, a, b) => {
-            lay(alloc, base, a, None, out)?;
-            write_store(base, *x, out)?;
-            lay(alloc, base, b, test, out)
+            lay(alloc, slots, a, None, out)?;
+            write_store(slots.base, *x, out)?;
+            lay(alloc, slots, b, test, out)
         }
         Exp::Seq(a, b) => {
-            lay(alloc, base, a, None, out)?;
-            lay(alloc, base, b, test, out)
+            lay(alloc, slots, a, None, out)?;
+            lay(alloc, slots, b, test, out)
         }
         Exp::If(a, b, c) => {
             let no = new_label(out)?;
             let end = new_label(out)?;
-            lay(alloc, base, a, Some(no), out)?;
-            lay(alloc, base, b, test, out)?;
+            lay(alloc, slots, a, Some(no), out)?;
+            lay(alloc, slots, b, test, out)?;
             write_else(no, end, out)?;
-            lay(alloc, base, c, test, out)?;
+            lay(alloc, slots, c, test, out)?;
             write_label(end, out)?;
             Ok(())
         }
         Exp::Fix(members, e) => {
-            write_group(alloc, base, members.as_slice(), out)?;
-            lay(alloc, base, e, test, out)
+            write_group(alloc, slots.base, members.as_slice(), out)?;
+            lay(alloc, slots, e, test, out)
         }
         Exp::Return(e) => {
-            lay(alloc, base, e, None, out)?;
+            lay(alloc, slots, e, None, out)?;
             write_return(out)?;
             Ok(())
         }
         Exp::End(e) => {
-            lay(alloc, base, e, None, out)?;
+            lay(alloc, slots, e, None, out)?;
             write_end(out)?;
             Ok(())
         }
-        _ => Ok(()),
-    }
-}
-
-/// Where an argument arrives: in RBX, R8, R9, R10, RSI or RDI, and behind the sixth in a slot.
-fn arrival(k: u32) -> Place
-    ensures { result ≡ arrival k }
-{
-    match k {
-        0 => Place::Reg(3),
-        1 => Place::Reg(8),
-        2 => Place::Reg(9),
-        3 => Place::Reg(10),
-        4 => Place::Reg(6),
-        5 => Place::Reg(7),
-        _ => Place::Slot(k - 6),
+        Exp::Call(a, _) => write_call(alloc, slots, a, test, out),
+        Exp::TailCall(a) => write_tail_call(alloc, slots, a, out),
     }
 }
 
@@ -214,7 +156,7 @@ fn arrive(base: u32, formals: u32, out: &mut Writer) -> Result<(), Mem>
     Ok(())
 }
 
-/// A procedure stores its closure and its arguments in their slots.
+/// A procedure stores its return address, its closure and its arguments in their slots.
 pub(crate) fn enter(base: u32, entry: Option<Entry>, out: &mut Writer) -> Result<(), Mem>
     requires { formals_of entry ≤ 200 }
     ensures instructions { OnOk result (Writes out.old.instructions out.new.instructions (entering base entry)) }
@@ -223,22 +165,10 @@ pub(crate) fn enter(base: u32, entry: Option<Entry>, out: &mut Writer) -> Result
     match entry {
         None => Ok(()),
         Some(e) => {
-            put(
-                out,
-                Instruction::Copy(own_slot(base, 1)?, Place::Reg(CLOSURE)),
-            )?;
+            put(out, Instruction::Copy(Place::Slot(base), LINK))?;
+            put(out, Instruction::Copy(own_slot(base, 1)?, CLOSURE))?;
             arrive(base, e.formals, out)?;
             Ok(())
         }
-    }
-}
-
-/// How many arguments arrive in slots.
-pub(crate) fn arrival_slots(entry: Option<Entry>) -> u32
-    ensures { result ≡ arrival_slots entry }
-{
-    match entry {
-        None => 0,
-        Some(e) => e.formals.saturating_sub(6),
     }
 }

@@ -3,12 +3,10 @@
 ghost use Rattle.std.specs.Prelude.{◌≡◌, IfOk, take};
 ghost use Rattle.sch_frames.specs.Layout.{atom_at, atoms_at, operand_at, operands_at, source_at, sources_at, closure_at, member_at, members_at, operation_at, own_slot};
 
+use crate::calls::LINK;
 use sch_control::{Atom, Closure, Member, Operand, Operation, Source};
 use sch_word::{List, Mem, Place};
 use std::alloc::Global;
-
-/// R15, where the return address of an activation is.
-const LINK: u8 = 15;
 
 /// The place of a variable: a slot of its own, from `base` on, but for the return address. A slot past the
 /// numbers of 32 bits is out of memory.
@@ -16,7 +14,7 @@ pub(crate) fn own_slot(base: u32, x: u32) -> Result<Place, Mem>
     ensures { IfOk result (λ p. p ≡ own_slot base x) }
 {
     if x == 0 {
-        return Ok(Place::Reg(LINK));
+        return Ok(LINK);
     }
     match base.checked_add(x) {
         Some(slot) => Ok(Place::Slot(slot)),
@@ -44,7 +42,7 @@ fn atoms_at(alloc: Global, base: u32, atoms: &[Atom<u32>]) -> Result<List<Atom<P
     Ok(made)
 }
 
-fn operand_at(alloc: Global, base: u32, o: &Operand<u32>) -> Result<Operand<Place>, Mem>
+pub(crate) fn operand_at(alloc: Global, base: u32, o: &Operand<u32>) -> Result<Operand<Place>, Mem>
     ensures { IfOk result (λ p. p ≡ operand_at (own_slot base) o.now) }
 {
     match o {

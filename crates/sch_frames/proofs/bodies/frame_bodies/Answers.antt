@@ -5,11 +5,6 @@ use Rattle.sch_frames.specs.Straight.{is_straight_code}
 use Rattle.sch_frames.proofs.FrameBodies.{body_passes, frames_next, all_next, size_next, words_next}
 use Rattle.sch_frames.proofs.bodies.frame_bodies.Goals as goal
 
-pub frame_slots-requires : goal.frame_slots-requires
-frame_slots-requires c = record {
-  callless = body_passes c.args.bodies.now c.loop-b.b-index c.b-item.result c.loop-b-test.true c.b-item.is control_callless.is_callless_code c.requires.callless;
-}
-
 pub loop-b-preserved : goal.loop-b-preserved
 loop-b-preserved c =
     let bodies = c.args.bodies.now in
@@ -24,8 +19,8 @@ loop-b-preserved c =
     record {
       frames = frames_next bodies i b here is made next f more c.loop-b.invariant.frames c.in_ok-frame_slots.ensures.same;
       begin = all_next bodies i b here is made next f more code_begins c.loop-b.invariant.begin c.in_ok-frame_slots.ensures.begins;
-      callless = all_next bodies i b here is made next f more is_callless_code c.loop-b.invariant.callless
-          (c.in_ok-frame_slots.ensures.callless (body_passes bodies i b here is control_callless.is_callless_code c.requires.callless));
+      callless = λ s. all_next bodies i b here is made next f more is_callless_code (c.loop-b.invariant.callless s)
+          (c.in_ok-frame_slots.ensures.callless (body_passes bodies i b here is control_callless.is_callless_code s));
       straight = λ s. all_next bodies i b here is made next f more is_straight_code (c.loop-b.invariant.straight s)
           (c.in_ok-frame_slots.ensures.straight (body_passes bodies i b here is control_straight.is_straight_code s));
       size = size_next bodies i b here is made next f more c.loop-b.invariant.size c.in_ok-frame_slots.ensures.work;
