@@ -1,3 +1,4 @@
+pub mod Callless
 pub mod Fits
 pub mod Meaning
 pub mod Operations

@@ -17,13 +17,13 @@ use Rattle.sch_control.specs.declared.operation.Operand.TheVariants as operand
 use Rattle.sch_control.specs.declared.operation.Source.TheVariants as source
 use Rattle.sch_control.specs.declared.operation.Operation.TheVariants as operation
 use Rattle.sch_control.specs.Tree as control
-use Rattle.sch_control.specs.Tree.{Expression, perform, bind, branch, return, end}
+use Rattle.sch_control.specs.Tree.{Expression, perform, bind, branch, fix, return, end}
 use Rattle.sch_frames.specs.declared.instruction.Instruction.{Instruction}
 use Rattle.sch_frames.specs.declared.instruction.Instruction.TheVariants.{Do, Store, Copy, Load, Pass, Fix, Call, Tail, Return, End, IfFalse, Jump, Label, Mark}
 use Rattle.sch_frames.specs.Layout.{slots_layout}
 use Rattle.sch_frames.specs.Run.{run}
 use Rattle.sch_control.specs.Sizes.{expression_size}
-use Rattle.sch_frames.specs.Sizes.{entry_size, instructions_size, largest_frame, most_variables, program_size}
+use Rattle.sch_frames.specs.Sizes.{entry_size, instructions_size, largest_frame, most_words, program_size}
 use Rattle.sch_frames.specs.Straight.{is_straight_code, is_straight_program}
 use Rattle.sch_frames.specs.Tree.{Code, Source}
 use Rattle.sch_frames.specs.Valid.{code_valid, is_valid, placed, forward}
@@ -94,11 +94,17 @@ straight_runs = refl
 straight_valid : (is_valid straight_program && list_all code_valid straight_program.bodies) ≡ true
 straight_valid = refl
 
--- a procedure has its closure and its formals in slots, of which the seventh arrives in one
+-- a procedure has its return address, its closure and its formals in slots, of which the seventh arrives in one
 entering_layout : slots_layout (record { name = []; entry = Some (record { formals = 7; rest = false; fields = 0 }); variables = 9; expression = return (perform (operation.Operand (held_in 8))) }) ≡
-    Copy (Slot 2) (Reg 14) ∷ Copy (Slot 3) (Reg 3) ∷ Copy (Slot 4) (Reg 8) ∷ Copy (Slot 5) (Reg 9) ∷ Copy (Slot 6) (Reg 10) ∷ Copy (Slot 7) (Reg 6) ∷ Copy (Slot 8) (Reg 7) ∷ Copy (Slot 9) (Slot 0)
+    Copy (Slot 1) (Reg 15) ∷ Copy (Slot 2) (Reg 14) ∷ Copy (Slot 3) (Reg 3) ∷ Copy (Slot 4) (Reg 8) ∷ Copy (Slot 5) (Reg 9) ∷ Copy (Slot 6) (Reg 10) ∷ Copy (Slot 7) (Reg 6) ∷ Copy (Slot 8) (Reg 7) ∷ Copy (Slot 9) (Slot 0)
     ∷ Do (operation.Operand (held_in (Slot 9))) ∷ Mark mark.Return ∷ Return ∷ []
 entering_layout = refl
+
+-- the members of a group are bound where they are put, and what follows reads them there
+group_layout : slots_layout (record { name = []; entry = None; variables = 4; expression = fix (record { at = 2; closure = record { label = 1; fields = source.Atom (Variable 3) ∷ [] } } ∷ record { at = 3; closure = record { label = 2; fields = source.Atom (Variable 2) ∷ [] } } ∷ []) (end (perform (operation.Operand (held_in 3)))) }) ≡
+    Fix (record { at = Slot 2; closure = record { label = 1; fields = source.Atom (Variable (Slot 3)) ∷ [] } } ∷ record { at = Slot 3; closure = record { label = 2; fields = source.Atom (Variable (Slot 2)) ∷ [] } } ∷ [])
+    ∷ Do (operation.Operand (held_in (Slot 3))) ∷ End ∷ []
+group_layout = refl
 
 -- ## Calls: seven operands, of which the last is passed in a slot; what a call leaves in a register
 
@@ -221,6 +227,6 @@ size_rows :
     × (instructions_size (slots_layout displays) ≡ 14)
     × (instructions_size (Label 0 ∷ shows) ≡ 3)
     × (program_size (program [] (form 2 0 shows ∷ (form 2 1 (Label 0 ∷ shows) ∷ [])) 2) ≡ 6)
-    × (most_variables (displays ∷ []) ≡ 4)
-    × (entry_size (Some (record { formals = 3; rest = false; fields = 0 })) ≡ 4)
+    × (most_words (displays ∷ []) ≡ 4)
+    × (entry_size (Some (record { formals = 3; rest = false; fields = 0 })) ≡ 5)
 size_rows = (refl, refl, refl, refl, refl, refl, refl)

@@ -1,4 +1,7 @@
+mod Agrees
+mod Arguments
 mod Arriving
+mod CalllessSlots
 mod Entering
 mod Examples
 mod Following

@@ -10,12 +10,13 @@ use Rattle.sch_control.specs.declared.operation.Operand.{Operand}
 use Rattle.sch_control.specs.declared.operation.Operand.TheVariants as operand
 use Rattle.sch_control.specs.declared.operation.Source.{Source}
 use Rattle.sch_control.specs.declared.operation.Source.TheVariants as source
+use Rattle.sch_control.specs.declared.operation.Member.{Member}
 use Rattle.sch_control.specs.declared.operation.Operation.{Operation}
 use Rattle.sch_control.specs.declared.operation.Operation.TheVariants as operation
-use Rattle.sch_control.specs.Operations.{Procedure, atom_value, atom_values, operand_value, operand_values, field, source_value, source_values, operate}
-use Rattle.sch_control.specs.Parts.{operand_atoms, operands_atoms, source_atom, source_atoms, operation_atoms}
+use Rattle.sch_control.specs.Operations.{Procedure, atom_value, atom_values, operand_value, operand_values, field, source_value, source_values, operate, members_made}
+use Rattle.sch_control.specs.Parts.{operand_atoms, operands_atoms, source_atom, source_atoms, operation_atoms, member_atoms}
 use Rattle.sch_frames.specs.Does.{Follows}
-use Rattle.sch_frames.specs.Layout.{atom_at, atoms_at, operand_at, operands_at, operation_at, source_at, sources_at}
+use Rattle.sch_frames.specs.Layout.{atom_at, atoms_at, operand_at, operands_at, operation_at, source_at, sources_at, members_at}
 use Rattle.sch_frames.proofs.Following.{follows_same, onto, and_value_follows, read_follows, with_some_follows}
 
 -- each variable among atoms has a property
@@ -71,6 +72,12 @@ module _ (place : ℕ → Place) (P : ℕ → Type 0) (at : ℕ → Option Value
   sources_follow : (s : State Procedure) (cs : List (Source ℕ)) → AtomsHave P (source_atoms cs) → Follows (source_values at s cs) (source_values at' s (sources_at place cs))
   sources_follow s [] h = refl
   sources_follow s (c ∷ cs) h = and_value_follows _ _ _ _ (source_follows s c h.0) (sources_follow s cs h.1)
+
+  pub members_follow : (s : State Procedure) (members : List (Member ℕ)) → AtomsHave P (member_atoms members) → Follows (members_made at s members) (members_made at' s (members_at place members))
+  members_follow s [] h = refl
+  members_follow s (m ∷ members) h =
+      and_value_follows _ _ _ _ (with_some_follows _ _ _ _ (sources_follow s m.closure.fields (have_left P (source_atoms m.closure.fields) _ h)) (λ vs. refl))
+      (members_follow s members (have_right P (source_atoms m.closure.fields) _ h))
 
   pub operate_follows : (o : Operation ℕ) (s : State Procedure) → AtomsHave P (operation_atoms o)
       → Follows (operate at o s) (operate at' (operation_at place o) s)

@@ -1,68 +1,59 @@
 -- The layout with a slot for each variable is a valid frame body of its body.
-use Rattle.std.proofs.Common.{◌≡◌, ℕ, zero, suc, ◌+◌, ◌*◌, ◌≤◌, List, [], ◌∷◌, length, Option, Some, None, true, refl, ap, ◌∙◌, arith}
-use Rattle.std.specs.Prelude.{nat_lt}
+use Rattle.std.proofs.Common.{◌≡◌, ℕ, zero, suc, ◌+◌, ◌-◌, ◌≤◌, List, [], ◌∷◌, Option, Some, None, Bool, true, false, refl, ap, ◌∙◌, arith}
+use Rattle.std.specs.Prelude.{max, nat_lt}
 use Rattle.std.specs.List.{list_all}
+use Rattle.std.proofs.Math.Nat.{le-max_left, le-max_right, max-le}
 use Rattle.std.proofs.lemmas.Bool.{and_parts, and_from, le-leb, leb-true, lt-ltb}
 use Rattle.sch_word.specs.declared.place.Place.{Place}
 use Rattle.sch_control.specs.declared.body.Entry.{Entry}
-use Rattle.sch_control.specs.declared.operation.Atom.{Atom}
-use Rattle.sch_control.specs.declared.operation.Atom.TheVariants.{Constant, Literal, Variable}
 use Rattle.sch_control.specs.Meaning.{nothing, falls_off}
 use Rattle.sch_control.specs.Run as control_run
 use Rattle.sch_control.specs.Tree as control
 use Rattle.sch_control.specs.Tree.{Expression, perform, bind, sequence, branch, fix, call, tail_call, return, end, save}
-use Rattle.sch_control.specs.Valid.{first_bound, in_scope_whole, numbered, shaped_whole, entry_shaped, without_repeats}
+use Rattle.sch_control.specs.Valid.{shaped as expression_shaped, first_bound, in_scope_whole, numbered, ended, shaped_whole, entry_shaped, without_repeats}
 use Rattle.sch_frames.specs.declared.instruction.Instruction.{Instruction}
-use Rattle.sch_frames.specs.declared.instruction.Instruction.TheVariants.{Jump, Label}
-use Rattle.sch_frames.specs.Does.{FrameOf}
+use Rattle.sch_frames.specs.Does.{FrameOf, world}
 use Rattle.sch_frames.specs.Tree.{Code}
 use Rattle.sch_frames.specs.Valid.{is_place, placed, forward, shaped, formals_of, labels_in, jumps_ahead, instruction_placed, instruction_shaped, instruction_known}
-use Rattle.sch_frames.specs.Layout.{straight, leave, labels, lay, own_slot, arrivals, entering, arrival_slots, slots_layout}
-use Rattle.sch_frames.specs.Sizes.{nodes}
+use Rattle.sch_frames.specs.Layout.{labels, lay, restored, own_slot, home_of, is_entered, most_operands, arrivals, entering, slots_base, slots_for, slots_words, slots_layout}
+use Rattle.sch_frames.proofs.Agrees.{Uses, Within}
 use Rattle.sch_frames.proofs.Entering.{own_apart, enters, entering_placed, entering_passes}
 use Rattle.sch_frames.proofs.Labels.{Right, right, lay_below}
-use Rattle.sch_frames.proofs.Laid.{lay_passes, placed_steers, uses_placed, shaped_steers, parts_shaped, known_steers, parts_named}
-use Rattle.sch_frames.proofs.Operating.{AtomsHave}
-use Rattle.sch_frames.proofs.Same.{Uses, same}
-use Rattle.sch_frames.proofs.Used.{Within, Numbered, numbered_is, code_uses}
-
--- what has a property has a weaker one
-atoms_weaker : {P Q : ℕ → Type 0} → ((x : ℕ) → P x → Q x) → (atoms : List (Atom ℕ)) → AtomsHave P atoms → AtomsHave Q atoms
-atoms_weaker f [] h = tt
-atoms_weaker f (Constant c ∷ atoms) h = (tt, atoms_weaker f atoms h.1)
-atoms_weaker f (Literal n ∷ atoms) h = (tt, atoms_weaker f atoms h.1)
-atoms_weaker f (Variable x ∷ atoms) h = (f x h.0, atoms_weaker f atoms h.1)
-
-weaker : {P Q : ℕ → Type 0} → ((x : ℕ) → P x → Q x) → (e : Expression) → Uses P e → Uses Q e
-weaker f (perform o) u = atoms_weaker f _ u
-weaker f (bind x a b) u = (f x u.0, (weaker f a u.1.0, weaker f b u.1.1))
-weaker f (sequence a b) u = (weaker f a u.0, weaker f b u.1)
-weaker f (branch a b c) u = (weaker f a u.0, (weaker f b u.1.0, weaker f c u.1.1))
-weaker f (return e) u = weaker f e u
-weaker f (end e) u = weaker f e u
-weaker f (fix members e) u = tt
-weaker f (call a restores) u = tt
-weaker f (tail_call a) u = tt
-weaker f (save saves e) u = tt
+use Rattle.sch_frames.proofs.Laid.{Roomy, lay_passes, placed_steers, uses_placed, shaped_steers, parts_shaped, known_steers, parts_named}
+use Rattle.sch_frames.proofs.Same.{same}
+use Rattle.sch_frames.proofs.Used.{Numbered, numbered_is, code_uses}
 
 -- the frame body of a body
 abbrev pub slots_of : control.Code → Code
-slots_of c = record { entry = c.entry; words = arrival_slots c.entry + c.variables; labels = labels c.expression; instructions = slots_layout c }
+slots_of c = record { entry = c.entry; words = slots_words c; labels = labels c.expression; instructions = slots_layout c }
 
 -- ## Places
 
-six_more : (entry : Option Entry) → formals_of entry ≤ 6 + arrival_slots entry
-six_more entry = omega arith
-
-own_placed : (base n x : ℕ) → Within n x → is_place (base + n) (own_slot base x) ≡ true
-own_placed base n zero h = absurd h.0
-own_placed base n (suc x) h = lt-ltb (base + suc x) (base + n) (omega (arith, h.1))
+own_placed : (base n words x : ℕ) → base + n ≤ words → Within n x → is_place words (own_slot base x) ≡ true
+own_placed base n words zero le h = absurd h.0
+own_placed base n words (suc x) le h = lt-ltb (base + suc x) words (omega (arith, le, h.1))
 
 formals_most : (entry : Option Entry) → entry_shaped entry ≡ true → formals_of entry ≤ 200
 formals_most None h = omega arith
 formals_most (Some e) h = leb-true _ _ (and_parts _ _ h).0
 
-module _ (c : control.Code) (s : straight c.expression ≡ true) (scoped : in_scope_whole c ≡ true) (counted : numbered c ≡ true) where
+-- no call has more than 200 operands
+pub operands_most : (e : Expression) → expression_shaped e ≡ true → most_operands e ≤ 200
+operands_most (perform o) h = omega arith
+operands_most (bind x a b) h = let parts = and_parts _ _ h in max-le (operands_most a parts.0) (operands_most b parts.1)
+operands_most (sequence a b) h = let parts = and_parts _ _ h in max-le (operands_most a parts.0) (operands_most b parts.1)
+operands_most (branch a b c) h =
+    let parts = and_parts _ _ h in
+    let arms = and_parts _ _ parts.1 in
+    max-le (operands_most a parts.0) (max-le (operands_most b arms.0) (operands_most c arms.1))
+operands_most (fix members e) h = operands_most e (and_parts _ _ h).1
+operands_most (call a restores) h = leb-true _ _ (and_parts _ _ h).0
+operands_most (tail_call a) h = leb-true _ _ (and_parts _ _ h).0
+operands_most (return e) h = operands_most e h
+operands_most (end e) h = operands_most e h
+operands_most (save saves e) h = operands_most e h
+
+module _ (c : control.Code) (scoped : in_scope_whole c ≡ true) (counted : numbered c ≡ true) where
   numbers : Numbered c
   numbers = numbered_is c counted
 
@@ -75,27 +66,46 @@ module _ (c : control.Code) (s : straight c.expression ≡ true) (scoped : in_sc
     by None h = omega (arith, h)
     by (Some e) h = omega (arith, h)
 
-  pub slots_placed : shaped_whole c ≡ true → placed c.entry (arrival_slots c.entry + c.variables) (slots_layout c) ≡ true
+  formals_fit : formals_of c.entry - 6 ≤ slots_base c
+  formals_fit = let h = le-max_left (formals_of c.entry) (most_operands c.expression) in omega (arith, h)
+
+  operands_fit : most_operands c.expression ≤ 6 + (slots_base c + c.variables)
+  operands_fit = let h = le-max_right (formals_of c.entry) (most_operands c.expression) in omega (arith, h)
+
+  roomy : Roomy (slots_for c) (slots_words c) (most_operands c.expression)
+  roomy = record { aside = omega arith; before = operands_fit; back = by (is_entered c.entry) } where
+    by : (entered : Bool) (rest : List Instruction) → list_all (instruction_placed (slots_words c)) rest ≡ true → list_all (instruction_placed (slots_words c)) (restored (home_of entered (slots_base c)) rest) ≡ true
+    by true rest h = let two = first_two in and_from _ _ (lt-ltb (slots_base c) (slots_words c) (omega (arith, two))) h
+    by false rest h = h
+
+  pub slots_placed : shaped_whole c ≡ true → placed c.entry (slots_words c) (slots_layout c) ≡ true
   slots_placed h =
-      let few = formals_most c.entry (and_parts _ _ h).0 in
-      let six = six_more c.entry in
-      and_from _ _ (le-leb (arrival_slots c.entry + c.variables) 2048 (omega (arith, few, numbers.most)))
-      (and_from _ _ (le-leb (formals_of c.entry) (6 + (arrival_slots c.entry + c.variables)) (omega (arith, six)))
-      (entering_placed c.entry (arrival_slots c.entry + c.variables) _ (omega (arith, first_two))
-      (lay_passes (own_slot (arrival_slots c.entry)) (instruction_placed (arrival_slots c.entry + c.variables)) (placed_steers _) c.expression
-      (uses_placed (own_slot (arrival_slots c.entry)) (arrival_slots c.entry + c.variables) (Within c.variables) (λ x w. own_placed (arrival_slots c.entry) c.variables x w) c.expression s uses)
+      let shape = and_parts _ _ h in
+      let few = formals_most c.entry shape.0 in
+      let most = operands_most c.expression shape.1 in
+      let both : max (formals_of c.entry) (most_operands c.expression) ≤ 200 = max-le few most in
+      let fit = formals_fit in
+      let two = first_two in
+      let variables = numbers.most in
+      and_from _ _ (le-leb (slots_words c) 2048 (omega (arith, both, most, variables)))
+      (and_from _ _ (le-leb (formals_of c.entry) (6 + slots_words c) (omega (arith, fit)))
+      (entering_placed c.entry (slots_base c) (slots_words c) _ fit (omega (arith, two))
+      (lay_passes (slots_for c) (instruction_placed (slots_words c)) (placed_steers _) c.expression
+      (uses_placed (slots_for c) (slots_words c) (most_operands c.expression) (Within c.variables) (λ x w. own_placed (slots_base c) c.variables (slots_words c) x (omega arith) w) roomy
+      c.expression (omega arith) uses)
       0 None [] refl)))
 
-  pub slots_does : FrameOf c (slots_of c)
-  slots_does = record {
+  pub slots_does : ended c ≡ true → FrameOf c (slots_of c)
+  slots_does bare = record {
     entry = refl;
-    does = λ callee callee' follow depth self arguments l w.
-        enters c.entry self arguments l callee' depth _ w _
-        (λ f a. same (own_slot (arrival_slots c.entry)) (own_apart (arrival_slots c.entry)) callee callee' depth c.expression s (weaker (λ x h. h.0) c.expression uses) 0 None [] tt
-        (control_run.beginning c.entry self arguments) nothing f w falls_off a (λ v environment saved f w r e. tt));
+    does = λ callee callee' follow depth self arguments l state marks marks'.
+        enters c.entry (slots_base c) (slots_base c + c.variables) c.variables formals_fit self arguments l callee' depth _ (world state marks') _
+        (λ f a. same (slots_for c) c.variables (own_apart (slots_base c) c.variables (is_entered c.entry) (let two = first_two in omega (arith, two))) callee callee' follow depth
+        c.expression (and_parts _ _ bare).0 uses operands_fit 0 None [] tt
+        (control_run.beginning c.entry self arguments) nothing f state marks marks' falls_off a (λ v environment saved f s marks marks' r e. tt));
     names = λ names h.
-        entering_passes (instruction_known names) (λ to from. refl) c.entry (arrival_slots c.entry) _
-        (lay_passes (own_slot (arrival_slots c.entry)) (instruction_known names) (known_steers names) c.expression (parts_named (own_slot (arrival_slots c.entry)) names c.expression s h) 0 None [] refl);
+        entering_passes (instruction_known names) (λ to from. refl) c.entry (slots_base c) _
+        (lay_passes (slots_for c) (instruction_known names) (known_steers names) c.expression (parts_named (slots_for c) names c.expression h) 0 None [] refl);
   }
 
 -- ## Labels
@@ -118,79 +128,18 @@ entering_ahead base (Some e) rest = arrivals_ahead base e.formals 0 rest
 
 pub slots_forward : (c : control.Code) → forward (labels c.expression) (slots_layout c) ≡ true
 slots_forward c =
-    let laid = lay (own_slot (arrival_slots c.entry)) c.expression 0 None [] in
-    let r : Right (own_slot (arrival_slots c.entry)) laid = right (own_slot (arrival_slots c.entry)) c.expression 0 None [] (λ l h h'. refl) tt (record { once = refl; ahead = refl }) in
-    let e = entering_labels (arrival_slots c.entry) c.entry laid in
+    let laid = lay (slots_for c) c.expression 0 None [] in
+    let r : Right (slots_for c) laid = right (slots_for c) c.expression 0 None [] (λ l h h'. refl) tt (record { once = refl; ahead = refl }) in
+    let e = entering_labels (slots_base c) c.entry laid in
     and_from _ _
-    (ap (list_all (λ l. nat_lt l (labels c.expression))) e ∙ lay_below (own_slot (arrival_slots c.entry)) c.expression 0 None [] (labels c.expression) (omega arith) refl)
-    (and_from _ _ (ap without_repeats e ∙ r.once) (entering_ahead (arrival_slots c.entry) c.entry laid ∙ r.ahead))
+    (ap (list_all (λ l. nat_lt l (labels c.expression))) e ∙ lay_below (slots_for c) c.expression 0 None [] (labels c.expression) (omega arith) refl)
+    (and_from _ _ (ap without_repeats e ∙ r.once) (entering_ahead (slots_base c) c.entry laid ∙ r.ahead))
 
 -- ## Shape
 
-pub slots_shaped : (c : control.Code) → straight c.expression ≡ true → shaped_whole c ≡ true → shaped c.entry (slots_layout c) ≡ true
-slots_shaped c s h =
+pub slots_shaped : (c : control.Code) → shaped_whole c ≡ true → shaped c.entry (slots_layout c) ≡ true
+slots_shaped c h =
     let parts = and_parts _ _ h in
     and_from _ _ parts.0
-    (entering_passes instruction_shaped (λ to from. refl) c.entry (arrival_slots c.entry) _
-    (lay_passes (own_slot (arrival_slots c.entry)) instruction_shaped shaped_steers c.expression (parts_shaped (own_slot (arrival_slots c.entry)) c.expression s parts.1) 0 None [] refl))
-
--- ## Sizes
-
-leave_size : (test : Option ℕ) (rest : List Instruction) → length (leave test rest) ≤ suc (length rest)
-leave_size None rest = omega arith
-leave_size (Some l) rest = omega arith
-
-lay_size : (place : ℕ → Place) (e : Expression) (n : ℕ) (test : Option ℕ) (rest : List Instruction) → length (lay place e n test rest) ≤ 3 * nodes e + length rest
-lay_size place (perform o) n test rest = let h = leave_size test rest in omega (arith, h)
-lay_size place (bind x a b) n test rest =
-    let h : length (lay place (bind x a b) n test rest) ≤ 3 * nodes a + suc (length (lay place b (n + labels a) test rest)) = lay_size place a n None _ in
-    let h' = lay_size place b (n + labels a) test rest in
-    omega (arith, h, h')
-lay_size place (sequence a b) n test rest =
-    let h = lay_size place a n None (lay place b (n + labels a) test rest) in
-    let h' = lay_size place b (n + labels a) test rest in
-    omega (arith, h, h')
-lay_size place (branch a b c) n test rest =
-    let h'' : length (lay place c (suc (suc (n + labels a + labels b))) test (Label (suc n) ∷ rest)) ≤ 3 * nodes c + suc (length rest) = lay_size place c _ test _ in
-    let tail = lay place c (suc (suc (n + labels a + labels b))) test (Label (suc n) ∷ rest) in
-    let h' : length (lay place b (suc (suc (n + labels a))) test (Jump (suc n) ∷ (Label n ∷ tail))) ≤ 3 * nodes b + suc (suc (length tail)) = lay_size place b _ test _ in
-    let h : length (lay place (branch a b c) n test rest) ≤ 3 * nodes a + length (lay place b (suc (suc (n + labels a))) test (Jump (suc n) ∷ (Label n ∷ tail))) = lay_size place a _ (Some n) _ in
-    omega (arith, h, h', h'')
-lay_size place (return e) n test rest =
-    let h : length (lay place (return e) n test rest) ≤ 3 * nodes e + suc (suc (length rest)) = lay_size place e n None _ in
-    omega (arith, h)
-lay_size place (end e) n test rest =
-    let h : length (lay place (end e) n test rest) ≤ 3 * nodes e + suc (length rest) = lay_size place e n None _ in
-    omega (arith, h)
-lay_size place (fix members e) n test rest = omega arith
-lay_size place (call a restores) n test rest = omega arith
-lay_size place (tail_call a) n test rest = omega arith
-lay_size place (save saves e) n test rest = omega arith
-
-arrivals_size : (base count from : ℕ) (rest : List Instruction) → length (arrivals base from count rest) ≡ count + length rest
-arrivals_size base zero from rest = omega arith
-arrivals_size base (suc count) from rest = let h = arrivals_size base count (suc from) rest in omega (arith, h)
-
-pub slots_size : (c : control.Code) → length (slots_layout c) ≤ 3 * nodes c.expression + (formals_of c.entry + 1)
-slots_size c = by c.entry where
-  inner : (place : ℕ → Place) → length (lay place c.expression 0 None []) ≤ 3 * nodes c.expression
-  inner place = let h : length (lay place c.expression 0 None []) ≤ 3 * nodes c.expression + 0 = lay_size place c.expression 0 None [] in omega (arith, h)
-
-  by : (o : Option Entry) → length (entering (arrival_slots o) o (lay (own_slot (arrival_slots o)) c.expression 0 None [])) ≤ 3 * nodes c.expression + (formals_of o + 1)
-  by None = let h = inner (own_slot (arrival_slots None)) in omega (arith, h)
-  by (Some e) =
-      let h = inner (own_slot (arrival_slots (Some e))) in
-      let h' = arrivals_size (arrival_slots (Some e)) e.formals 0 (lay (own_slot (arrival_slots (Some e))) c.expression 0 None []) in
-      omega (arith, h, h')
-
-pub labels_size : (e : Expression) → labels e ≤ 2 * nodes e
-labels_size (perform o) = omega arith
-labels_size (bind x a b) = let h = labels_size a in let h' = labels_size b in omega (arith, h, h')
-labels_size (sequence a b) = let h = labels_size a in let h' = labels_size b in omega (arith, h, h')
-labels_size (branch a b c) = let h = labels_size a in let h' = labels_size b in let h'' = labels_size c in omega (arith, h, h', h'')
-labels_size (return e) = let h = labels_size e in omega (arith, h)
-labels_size (end e) = let h = labels_size e in omega (arith, h)
-labels_size (fix members e) = omega arith
-labels_size (call a restores) = omega arith
-labels_size (tail_call a) = omega arith
-labels_size (save saves e) = omega arith
+    (entering_passes instruction_shaped (λ to from. refl) c.entry (slots_base c) _
+    (lay_passes (slots_for c) instruction_shaped shaped_steers c.expression (parts_shaped (slots_for c) c.expression parts.1) 0 None [] refl))

@@ -1,5 +1,5 @@
 -- The layout of straight code is straight code.
-use Rattle.std.proofs.Common.{◌≡◌, ℕ, suc, ◌+◌, List, [], ◌∷◌, Option, Some, None, true, refl, ap, ◌∙◌}
+use Rattle.std.proofs.Common.{◌≡◌, ◌≤◌, ℕ, suc, ◌+◌, ◌*◌, List, [], ◌∷◌, Option, Some, None, true, refl, ap, ◌∙◌, arith}
 use Rattle.std.specs.Prelude.{◌&&◌}
 use Rattle.std.specs.List.{list_all}
 use Rattle.std.proofs.lemmas.Bool.{and_parts, and_from}
@@ -13,31 +13,60 @@ use Rattle.sch_control.specs.declared.operation.Operand.TheVariants as operand
 use Rattle.sch_control.specs.declared.operation.Operation.{Operation}
 use Rattle.sch_control.specs.declared.operation.Operation.TheVariants as operation
 use Rattle.sch_control.specs.Straight as control_straight
-use Rattle.sch_control.specs.Straight.{is_straight, is_straight_atom, is_straight_operand, is_straight_operation}
+use Rattle.sch_control.specs.Straight.{is_form, is_straight, is_straight_atom, is_straight_operand, is_straight_operation}
 use Rattle.sch_control.specs.Tree as control
 use Rattle.sch_control.specs.Tree.{Expression, perform, bind, sequence, branch, fix, call, tail_call, return, end, save}
 use Rattle.sch_frames.specs.declared.instruction.Instruction.{Instruction}
 use Rattle.sch_frames.specs.declared.instruction.Instruction.TheVariants.{Store, End, Jump, Label}
-use Rattle.sch_frames.specs.Layout.{straight, leave, labels, lay, atom_at, atoms_at, operand_at, operands_at, operation_at, own_slot}
+use Rattle.sch_frames.specs.Layout.{Slots, leave, labels, lay, atom_at, atoms_at, operand_at, operands_at, operation_at, entering, slots_base, slots_for}
+use Rattle.sch_control.specs.Sizes.{expressions_size}
+use Rattle.sch_frames.specs.Sizes.{call_parts, calls_parts, entry_size, entries_size}
 use Rattle.sch_frames.specs.Straight.{begins_with_operation, is_straight_instruction, is_straight_code}
 use Rattle.sch_frames.proofs.SlotsFrame.{slots_of}
 
--- ## What is laid out so far
+-- ## Straight code hands nothing over
 
-pub laid_out : (e : Expression) → is_straight e ≡ true → straight e ≡ true
-laid_out (perform o) h = refl
-laid_out (bind x a b) h = let p = and_parts _ _ h in and_from _ _ (laid_out a p.0) (laid_out b p.1)
-laid_out (sequence a b) h = let p = and_parts _ _ h in and_from _ _ (laid_out a p.0) (laid_out b p.1)
-laid_out (branch a b c) h =
+pub straight_parts : (e : Expression) → is_straight e ≡ true → call_parts e ≡ 0
+straight_parts (perform o) h = refl
+straight_parts (bind x a b) h = let p = and_parts _ _ h in let i = straight_parts a p.0 in let j = straight_parts b p.1 in omega (arith, i, j)
+straight_parts (sequence a b) h = let p = and_parts _ _ h in let i = straight_parts a p.0 in let j = straight_parts b p.1 in omega (arith, i, j)
+straight_parts (branch a b c) h =
     let p = and_parts _ _ h in
     let q = and_parts _ _ p.1 in
-    and_from _ _ (laid_out a p.0) (and_from _ _ (laid_out b q.0) (laid_out c q.1))
-laid_out (end e) h = laid_out e h
-laid_out (fix members e) h = absurd cc
-laid_out (call a restores) h = absurd cc
-laid_out (tail_call a) h = absurd cc
-laid_out (return e) h = absurd cc
-laid_out (save saves e) h = absurd cc
+    let i = straight_parts a p.0 in
+    let j = straight_parts b q.0 in
+    let k = straight_parts c q.1 in
+    omega (arith, i, j, k)
+straight_parts (end e) h = straight_parts e h
+straight_parts (fix members e) h = absurd cc
+straight_parts (call a restores) h = absurd cc
+straight_parts (tail_call a) h = absurd cc
+straight_parts (return e) h = absurd cc
+straight_parts (save saves e) h = absurd cc
+
+-- a form stores nothing as it is entered
+form_stores : (entry : Option Entry) → is_form entry ≡ true → entry_size entry ≡ 0
+form_stores None h = refl
+form_stores (Some e) h = absurd cc
+
+straight_hand_over : (cs : List control.Code) → list_all control_straight.is_straight_code cs ≡ true → (calls_parts cs ≡ 0) × (entries_size cs ≡ 0)
+straight_hand_over [] h = (refl, refl)
+straight_hand_over (c ∷ cs) h =
+    let p = and_parts _ _ h in
+    let q = and_parts _ _ p.0 in
+    let i = straight_parts c.expression q.1 in
+    let j = form_stores c.entry q.0 in
+    let k = straight_hand_over cs p.1 in
+    let k0 = k.0 in
+    let k1 = k.1 in
+    (omega (arith, i, k0), omega (arith, j, k1))
+
+-- so what is bounded with it is bounded without it
+pub straight_bounded : (cs : List control.Code) (n : ℕ) → list_all control_straight.is_straight_code cs ≡ true
+    → n ≤ 2 * expressions_size cs + 4 * calls_parts cs + entries_size cs → n ≤ 2 * expressions_size cs
+straight_bounded cs n h le = by (straight_hand_over cs h) where
+  by : (calls_parts cs ≡ 0) × (entries_size cs ≡ 0) → n ≤ 2 * expressions_size cs
+  by none = let parts = none.0 in let entries = none.1 in omega (arith, parts, entries, le)
 
 -- ## Operations
 
@@ -71,26 +100,27 @@ module _ (place : ℕ → Place) where
   operation_kept (operation.CellSet c o) = refl
   operation_kept (operation.MakeClosure c) = refl
 
-  -- ## Expressions
+-- ## Expressions
 
+module _ (slots : Slots) where
   leave_straight : (test : Option ℕ) (rest : List Instruction) → list_all is_straight_instruction rest ≡ true → list_all is_straight_instruction (leave test rest) ≡ true
   leave_straight None rest h = h
   leave_straight (Some l) rest h = h
 
   lay_straight : (e : Expression) → is_straight e ≡ true → (n : ℕ) (test : Option ℕ) (rest : List Instruction) → list_all is_straight_instruction rest ≡ true
-      → list_all is_straight_instruction (lay place e n test rest) ≡ true
-  lay_straight (perform o) s n test rest h = and_from _ _ (operation_kept o ∙ s) (leave_straight test rest h)
+      → list_all is_straight_instruction (lay slots e n test rest) ≡ true
+  lay_straight (perform o) s n test rest h = and_from _ _ (operation_kept slots.place o ∙ s) (leave_straight test rest h)
   lay_straight (bind x a b) s n test rest h =
       let p = and_parts _ _ s in
-      lay_straight a p.0 n None (Store (place x) ∷ lay place b (n + labels a) test rest) (lay_straight b p.1 (n + labels a) test rest h)
+      lay_straight a p.0 n None (Store (slots.place x) ∷ lay slots b (n + labels a) test rest) (lay_straight b p.1 (n + labels a) test rest h)
   lay_straight (sequence a b) s n test rest h =
       let p = and_parts _ _ s in
-      lay_straight a p.0 n None (lay place b (n + labels a) test rest) (lay_straight b p.1 (n + labels a) test rest h)
+      lay_straight a p.0 n None (lay slots b (n + labels a) test rest) (lay_straight b p.1 (n + labels a) test rest h)
   lay_straight (branch a b c) s n test rest h =
       let p = and_parts _ _ s in
       let q = and_parts _ _ p.1 in
-      let tail = lay place c (suc (suc (n + labels a + labels b))) test (Label (suc n) ∷ rest) in
-      lay_straight a p.0 (suc (suc n)) (Some n) (lay place b (suc (suc (n + labels a))) test (Jump (suc n) ∷ (Label n ∷ tail)))
+      let tail = lay slots c (suc (suc (n + labels a + labels b))) test (Label (suc n) ∷ rest) in
+      lay_straight a p.0 (suc (suc n)) (Some n) (lay slots b (suc (suc (n + labels a))) test (Jump (suc n) ∷ (Label n ∷ tail)))
       (lay_straight b q.0 (suc (suc (n + labels a))) test (Jump (suc n) ∷ (Label n ∷ tail))
       (lay_straight c q.1 (suc (suc (n + labels a + labels b))) test (Label (suc n) ∷ rest) h))
   lay_straight (end e) s n test rest h = lay_straight e s n None (End ∷ rest) h
@@ -100,13 +130,13 @@ module _ (place : ℕ → Place) where
   lay_straight (return e) s n test rest h = absurd cc
   lay_straight (save saves e) s n test rest h = absurd cc
 
-  lay_begins : (e : Expression) → is_straight e ≡ true → (n : ℕ) (test : Option ℕ) (rest : List Instruction) → begins_with_operation (lay place e n test rest) ≡ true
+  lay_begins : (e : Expression) → is_straight e ≡ true → (n : ℕ) (test : Option ℕ) (rest : List Instruction) → begins_with_operation (lay slots e n test rest) ≡ true
   lay_begins (perform o) s n test rest = refl
-  lay_begins (bind x a b) s n test rest = lay_begins a (and_parts _ _ s).0 n None (Store (place x) ∷ lay place b (n + labels a) test rest)
-  lay_begins (sequence a b) s n test rest = lay_begins a (and_parts _ _ s).0 n None (lay place b (n + labels a) test rest)
+  lay_begins (bind x a b) s n test rest = lay_begins a (and_parts _ _ s).0 n None (Store (slots.place x) ∷ lay slots b (n + labels a) test rest)
+  lay_begins (sequence a b) s n test rest = lay_begins a (and_parts _ _ s).0 n None (lay slots b (n + labels a) test rest)
   lay_begins (branch a b c) s n test rest =
       lay_begins a (and_parts _ _ s).0 (suc (suc n)) (Some n)
-      (lay place b (suc (suc (n + labels a))) test (Jump (suc n) ∷ (Label n ∷ lay place c (suc (suc (n + labels a + labels b))) test (Label (suc n) ∷ rest))))
+      (lay slots b (suc (suc (n + labels a))) test (Jump (suc n) ∷ (Label n ∷ lay slots c (suc (suc (n + labels a + labels b))) test (Label (suc n) ∷ rest))))
   lay_begins (end e) s n test rest = lay_begins e s n None (End ∷ rest)
   lay_begins (fix members e) s n test rest = absurd cc
   lay_begins (call a restores) s n test rest = absurd cc
@@ -116,8 +146,13 @@ module _ (place : ℕ → Place) where
 
 -- ## Bodies
 
+form_straight : (base : ℕ) (entry : Option Entry) (rest : List Instruction) → is_form entry ≡ true → (begins_with_operation rest && list_all is_straight_instruction rest) ≡ true
+    → (is_form entry && (begins_with_operation (entering base entry rest) && list_all is_straight_instruction (entering base entry rest))) ≡ true
+form_straight base None rest f h = h
+form_straight base (Some e) rest f h = absurd cc
+
 pub slots_straight : (c : control.Code) → control_straight.is_straight_code c ≡ true → is_straight_code (slots_of c) ≡ true
-slots_straight c h = by c.entry refl (and_parts _ _ h).0 where
-  by : (o : Option Entry) → c.entry ≡ o → control_straight.is_form o ≡ true → is_straight_code (slots_of c) ≡ true
-  by None e f = let s = (and_parts _ _ h).1 in rw e (and_from _ _ (lay_begins (own_slot 0) c.expression s 0 None []) (lay_straight (own_slot 0) c.expression s 0 None [] refl))
-  by (Some n) e f = absurd cc
+slots_straight c h =
+    let parts = and_parts _ _ h in
+    form_straight (slots_base c) c.entry _ parts.0
+    (and_from _ _ (lay_begins (slots_for c) c.expression parts.1 0 None []) (lay_straight (slots_for c) c.expression parts.1 0 None [] refl))

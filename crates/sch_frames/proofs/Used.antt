@@ -6,10 +6,11 @@ use Rattle.std.proofs.lemmas.Bool.{and_parts, or_cases, eqb-true, ltb-true, leb-
 use Rattle.sch_control.specs.declared.body.Entry.{Entry}
 use Rattle.sch_control.specs.declared.operation.Atom.{Atom}
 use Rattle.sch_control.specs.declared.operation.Atom.TheVariants.{Constant, Literal, Variable}
+use Rattle.sch_control.specs.declared.operation.Member.{Member}
 use Rattle.sch_control.specs.Tree.{Expression, perform, bind, sequence, branch, fix, call, tail_call, return, end, save, Code}
-use Rattle.sch_control.specs.Valid.{in_scope_atoms, in_scope, with_variable, bound_in, first_scope, first_bound, numbered, max_body_variables}
+use Rattle.sch_control.specs.Valid.{in_scope_atoms, in_scope, with_variable, with_members, member_variables, bound_in, first_scope, first_bound, numbered, max_body_variables}
 use Rattle.sch_frames.proofs.Operating.{AtomsHave}
-use Rattle.sch_frames.proofs.Same.{Uses, Behind}
+use Rattle.sch_frames.proofs.Agrees.{MembersUse, Uses, Behind, Within}
 
 -- each number of a list has a property
 abbrev pub EachHas : (ℕ → Type 0) → List ℕ → Type 0
@@ -41,6 +42,15 @@ module _ (P : ℕ → Type 0) where
     by (inl e) = subst P (sym (eqb-true y x e)) p
     by (inr e) = f y e
 
+  -- members one by one
+  with_group : (members : List (Member ℕ)) (scope : ℕ → Bool) → EachHas P (member_variables members) → ((y : ℕ) → scope y ≡ true → P y) → (y : ℕ) → with_members members scope y ≡ true → P y
+  with_group [] scope p f = f
+  with_group (m ∷ members) scope p f = with_group members (with_variable m.at scope) p.1 (with_one m.at scope p.0 f)
+
+  members_used : (members : List (Member ℕ)) → EachHas P (member_variables members) → MembersUse P members
+  members_used [] p = tt
+  members_used (m ∷ members) p = (p.0, members_used members p.1)
+
   -- what is in scope and what is bound has the property
   pub used : (e : Expression) (scope : ℕ → Bool) → in_scope e scope ≡ true → ((x : ℕ) → scope x ≡ true → P x) → EachHas P (bound_in e) → Uses P e
   used (perform o) scope h f b = atoms_used scope f _ h
@@ -57,14 +67,14 @@ module _ (P : ℕ → Type 0) where
       (used a scope parts.0 f (each_left P (bound_in a) _ b), (used e scope more.0 f (each_left P (bound_in e) _ rest), used e' scope more.1 f (each_right P (bound_in e) _ rest)))
   used (return e) scope h f b = used e scope h f b
   used (end e) scope h f b = used e scope h f b
-  used (fix members e) scope h f b = tt
-  used (call a restores) scope h f b = tt
-  used (tail_call a) scope h f b = tt
-  used (save saves e) scope h f b = tt
-
--- behind the return address, and below a number
-abbrev pub Within : ℕ → ℕ → Type 0
-Within n x = Behind x × (x < n)
+  used (fix members e) scope h f b =
+      let parts = and_parts _ _ h in
+      let group = each_left P (member_variables members) _ b in
+      let inside = with_group members scope group f in
+      (members_used members group, (atoms_used (with_members members scope) inside _ parts.0, used e (with_members members scope) parts.1 inside (each_right P (member_variables members) _ b)))
+  used (call a restores) scope h f b = atoms_used scope f _ h
+  used (tail_call a) scope h f b = atoms_used scope f _ h
+  used (save saves e) scope h f b = used e scope h f b
 
 behind : (x : ℕ) → 0 < x → Behind x
 behind zero h = omega (arith, h)

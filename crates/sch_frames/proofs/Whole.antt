@@ -1,14 +1,14 @@
 -- A program whose bodies are followed by frame bodies is followed by the frame program.
-use Rattle.std.proofs.Common.{◌≡◌, ℕ, zero, suc, ◌+◌, List, [], ◌∷◌, length, Option, Some, None, true, refl, sym, ap, ◌∙◌, subst, arith}
+use Rattle.std.proofs.Common.{◌≡◌, ℕ, zero, suc, ◌+◌, List, [], ◌∷◌, ◌++◌, length, Option, Some, None, true, refl, sym, ap, ◌∙◌, subst, arith}
 use Rattle.std.specs.Prelude.{slice_get}
 use Rattle.std.specs.List.{list_all}
 use Rattle.std.proofs.lemmas.Bool.{and_parts, and_from}
 use Rattle.sch_word.specs.declared.answer.Answer.{Answer}
 use Rattle.sch_word.specs.values.Values.{Value, unspecified}
 use Rattle.sch_word.specs.runs.Store.{Store}
-use Rattle.sch_word.specs.runs.Computation.{Outcome, gives, stops, spent, in_store, with_rest, take_entry}
+use Rattle.sch_word.specs.runs.Computation.{Outcome, gives, stops, spent, State, in_store, with_rest, take_entry}
 use Rattle.sch_word.specs.runs.Charges.{fit}
-use Rattle.sch_word.specs.runs.Runs.{Statics}
+use Rattle.sch_word.specs.runs.Runs.{Run, Statics, seen}
 use Rattle.sch_word.proofs.SameStore.{Gives, fit_length}
 use Rattle.sch_control.specs.declared.body.Entry.{Entry}
 use Rattle.sch_control.specs.declared.mark.MarkKind.{MarkKind}
@@ -19,11 +19,11 @@ use Rattle.sch_control.specs.Run as control_run
 use Rattle.sch_control.specs.Run.{Bodies, enter, enter_body, do_forms, entry_at, known_entry, outcome_of, seen_of, starting_world}
 use Rattle.sch_control.specs.Tree as control
 use Rattle.sch_control.specs.Valid as valid
-use Rattle.sch_frames.specs.Does.{Follows, CalleesFollow, FramesOf, SameRuns}
+use Rattle.sch_frames.specs.Does.{Follows, unmarked, EndsAs, world, CalleesFollow, FramesOf, SameRuns}
 use Rattle.sch_frames.specs.Run as run
 use Rattle.sch_frames.specs.Tree.{Code, Source}
 use Rattle.sch_frames.specs.Valid.{formals_of, names_of, instruction_known, all_known, library_known}
-use Rattle.sch_frames.proofs.Following.{on_outcome_follows, on_return_follows}
+use Rattle.sch_frames.proofs.Following.{on_outcome_ends, on_return_ends}
 
 -- ## Bodies by their labels
 
@@ -35,67 +35,84 @@ same_entries (c ∷ cs) [] h = absurd h
 same_entries (c ∷ cs) (f ∷ fs) h = ap (λ e. e ∷ run.entries_of fs) h.0.entry ∙ ap (λ es. c.entry ∷ es) (same_entries cs fs h.1)
 
 -- a body is followed, from as many arguments as it has formals
-module _ (callee callee' : Callee) (follow : CalleesFollow callee callee') (depth : ℕ) (self : Value) (arguments : List Value) (w : World) where
+module _ (callee callee' : Callee) (follow : CalleesFollow callee callee') (depth : ℕ) (self : Value) (arguments : List Value) (s : State Procedure) (marks marks' : List MarkKind) where
   body_follows : (cs : List control.Code) (fs : List Code) → FramesOf cs fs → (label : ℕ) → (length arguments ≡ formals_of (entry_at (valid.entries_of cs) label))
-      → Follows (control_run.bodies_of cs label callee depth self arguments w) (run.bodies_of fs label callee' depth self arguments w)
+      → EndsAs (control_run.bodies_of cs label callee depth self arguments (world s marks)) (run.bodies_of fs label callee' depth self arguments (world s marks'))
   body_follows [] fs h label l = tt
   body_follows (c ∷ cs) [] h label l = absurd h
-  body_follows (c ∷ cs) (f ∷ fs) h zero l = h.0.does callee callee' follow depth self arguments l w
+  body_follows (c ∷ cs) (f ∷ fs) h zero l = h.0.does callee callee' follow depth self arguments l s marks marks'
   body_follows (c ∷ cs) (f ∷ fs) h (suc label) l = body_follows cs fs h.1 label l
 
 -- ## Entering
 
-outcome_with : {V : Type 0} (Promise : V → Type 0) (marks : List MarkKind) (cells : List (Option Value)) (procedures : List Procedure) (o : Outcome Store V) (next next' : V → World → Result)
-    → Gives Promise o → ((v : V) → Promise v → (w : World) → Follows (next v w) (next' v w))
-    → Follows (on_outcome marks (with_rest cells procedures o) next) (on_outcome marks (with_rest cells procedures o) next')
-outcome_with Promise marks cells procedures (gives v t) next next' p h = h v p _
-outcome_with Promise marks cells procedures (stops why t) next next' p h = refl
-outcome_with Promise marks cells procedures (spent t) next next' p h = refl
+outcome_with : {V : Type 0} (Promise : V → Type 0) (marks marks' : List MarkKind) (cells : List (Option Value)) (procedures : List Procedure) (o : Outcome Store V) (next next' : V → World → Result)
+    → Gives Promise o → ((v : V) → Promise v → (s : State Procedure) → EndsAs (next v (world s marks)) (next' v (world s marks')))
+    → EndsAs (on_outcome marks (with_rest cells procedures o) next) (on_outcome marks' (with_rest cells procedures o) next')
+outcome_with Promise marks marks' cells procedures (gives v t) next next' p h = h v p _
+outcome_with Promise marks marks' cells procedures (stops why t) next next' p h = refl
+outcome_with Promise marks marks' cells procedures (spent t) next next' p h = refl
 
 module _ (cs : List control.Code) (fs : List Code) (frames : FramesOf cs fs) where
-  entered : (callee callee' : Callee) → CalleesFollow callee callee' → (entry : Option Entry) (self : Value) (p : Procedure) (vs : List Value) (depth : ℕ) (w : World)
+  entered : (callee callee' : Callee) → CalleesFollow callee callee' → (entry : Option Entry) (self : Value) (p : Procedure) (vs : List Value) (depth : ℕ) (s : State Procedure) (marks marks' : List MarkKind)
       → entry_at (valid.entries_of cs) p.label ≡ entry
-      → Follows (enter_body (control_run.bodies_of cs) callee entry self p vs depth w) (enter_body (run.bodies_of fs) callee' entry self p vs depth w)
-  entered callee callee' follow None self p vs depth w e = tt
-  entered callee callee' follow (Some entry) self p vs depth w e =
-      outcome_with (λ ws. length ws ≡ entry.formals) w.marks w.state.cells w.state.procedures (fit entry.formals entry.rest vs w.state.store) _ _
-      (fit_length entry.formals entry.rest vs w.state.store)
-      (λ ws l w. on_outcome_follows w.marks (in_store take_entry w.state) _ _
-      (λ _ w. body_follows callee callee' follow depth self ws (marked (Enter p.label) w) cs fs frames p.label (l ∙ sym (ap formals_of e))))
+      → EndsAs (enter_body (control_run.bodies_of cs) callee entry self p vs depth (world s marks)) (enter_body (run.bodies_of fs) callee' entry self p vs depth (world s marks'))
+  entered callee callee' follow None self p vs depth s marks marks' e = tt
+  entered callee callee' follow (Some entry) self p vs depth s marks marks' e =
+      outcome_with (λ ws. length ws ≡ entry.formals) marks marks' s.cells s.procedures (fit entry.formals entry.rest vs s.store) _ _
+      (fit_length entry.formals entry.rest vs s.store)
+      (λ ws l s. on_outcome_ends marks marks' (in_store take_entry s) _ _
+      (λ _ s. body_follows callee callee' follow depth self ws s (marks ++ Enter p.label ∷ []) (marks' ++ Enter p.label ∷ []) cs fs frames p.label (l ∙ sym (ap formals_of e))))
 
   callees_follow : (n : ℕ) → CalleesFollow (enter (entry_at (valid.entries_of cs)) (control_run.bodies_of cs) n) (enter (entry_at (valid.entries_of cs)) (run.bodies_of fs) n)
-  callees_follow zero self p vs depth w = refl
-  callees_follow (suc n) self p vs depth w =
+  callees_follow zero self p vs depth s marks marks' = refl
+  callees_follow (suc n) self p vs depth s marks marks' =
       entered (enter (entry_at (valid.entries_of cs)) (control_run.bodies_of cs) n) (enter (entry_at (valid.entries_of cs)) (run.bodies_of fs) n) (callees_follow n)
-      (entry_at (valid.entries_of cs) p.label) self p vs depth w refl
+      (entry_at (valid.entries_of cs) p.label) self p vs depth s marks marks' refl
 
   -- ## Forms
 
   module _ (callee callee' : Callee) (follow : CalleesFollow callee callee') (depth : ℕ) where
-    forms_follow : (entries : List (Option Entry)) (label : ℕ) → ((k : ℕ) → slice_get entries k ≡ slice_get (valid.entries_of cs) (label + k)) → (w : World)
-        → Follows (do_forms entries label (control_run.bodies_of cs) callee depth w) (do_forms entries label (run.bodies_of fs) callee' depth w)
-    forms_follow [] label same w = refl
-    forms_follow (Some e ∷ entries) label same w = forms_follow entries (suc label) (λ k. same (suc k) ∙ ap (slice_get (valid.entries_of cs)) (omega arith)) w
-    forms_follow (None ∷ entries) label same w =
-        on_return_follows _ _ _ _
-        (body_follows callee callee' follow depth unspecified [] (marked (Enter label) w) cs fs frames label
+    forms_follow : (entries : List (Option Entry)) (label : ℕ) → ((k : ℕ) → slice_get entries k ≡ slice_get (valid.entries_of cs) (label + k)) → (s : State Procedure) (marks marks' : List MarkKind)
+        → EndsAs (do_forms entries label (control_run.bodies_of cs) callee depth (world s marks)) (do_forms entries label (run.bodies_of fs) callee' depth (world s marks'))
+    forms_follow [] label same s marks marks' = refl
+    forms_follow (Some e ∷ entries) label same s marks marks' = forms_follow entries (suc label) (λ k. same (suc k) ∙ ap (slice_get (valid.entries_of cs)) (omega arith)) s marks marks'
+    forms_follow (None ∷ entries) label same s marks marks' =
+        on_return_ends _ _ _ _
+        (body_follows callee callee' follow depth unspecified [] s (marks ++ Enter label ∷ []) (marks' ++ Enter label ∷ []) cs fs frames label
         (sym (ap formals_of (ap known_entry (ap (slice_get (valid.entries_of cs)) (zero_more label) ∙ sym (same 0))))))
-        (λ v w. forms_follow entries (suc label) (λ k. same (suc k) ∙ ap (slice_get (valid.entries_of cs)) (omega arith)) w) where
+        (λ v s marks marks'. forms_follow entries (suc label) (λ k. same (suc k) ∙ ap (slice_get (valid.entries_of cs)) (omega arith)) s marks marks') where
           zero_more : (label : ℕ) → label ≡ label + 0
           zero_more label = omega arith
 
-  outcome_follows : (depth entries : ℕ) (w : World)
-      → Follows (outcome_of (valid.entries_of cs) (control_run.bodies_of cs) depth entries w) (outcome_of (run.entries_of fs) (run.bodies_of fs) depth entries w)
-  outcome_follows depth entries w =
-      subst (λ es. Follows (outcome_of (valid.entries_of cs) (control_run.bodies_of cs) depth entries w) (outcome_of es (run.bodies_of fs) depth entries w)) (sym (same_entries cs fs frames))
+  outcome_follows : (depth entries : ℕ) (s : State Procedure) (marks : List MarkKind)
+      → EndsAs (outcome_of (valid.entries_of cs) (control_run.bodies_of cs) depth entries (world s marks)) (outcome_of (run.entries_of fs) (run.bodies_of fs) depth entries (world s marks))
+  outcome_follows depth entries s marks =
+      subst (λ es. EndsAs (outcome_of (valid.entries_of cs) (control_run.bodies_of cs) depth entries (world s marks)) (outcome_of es (run.bodies_of fs) depth entries (world s marks))) (sym (same_entries cs fs frames))
       (forms_follow (enter (entry_at (valid.entries_of cs)) (control_run.bodies_of cs) entries) (enter (entry_at (valid.entries_of cs)) (run.bodies_of fs) entries) (callees_follow entries) depth
-      (valid.entries_of cs) 0 (λ k. ap (slice_get (valid.entries_of cs)) (omega arith)) w)
+      (valid.entries_of cs) 0 (λ k. ap (slice_get (valid.entries_of cs)) (omega arith)) s marks marks)
 
 -- ## Programs
 
-seen_follows : (answers : List Answer) (entries : ℕ) (r r' : Result) → Follows r r' → Follows (seen_of answers entries r) (seen_of answers entries r')
-seen_follows answers entries None r' h = tt
-seen_follows answers entries (Some o) r' h = ap (seen_of answers entries) h
+-- what is seen of the end of a run
+abbrev seen_ended : List Answer → (entries : ℕ) → Option (Outcome (State Procedure) Value) → Option Run
+seen_ended answers entries None = None
+seen_ended answers entries (Some o) = Some (seen answers entries o)
+
+-- what is seen shows no marks
+seen_unmarked : (answers : List Answer) (entries : ℕ) (r : Result) → seen_of answers entries r ≡ seen_ended answers entries (unmarked r)
+seen_unmarked answers entries None = refl
+seen_unmarked answers entries (Some (gives v w)) = refl
+seen_unmarked answers entries (Some (stops why w)) = refl
+seen_unmarked answers entries (Some (spent w)) = refl
+
+seen_follows : (answers : List Answer) (entries : ℕ) (r r' : Result) → EndsAs r r' → Follows (seen_of answers entries r) (seen_of answers entries r')
+seen_follows answers entries r r' h = by (seen_of answers entries r) (unmarked r) (seen_unmarked answers entries r) h where
+  by : (a : Option Run) (u : Option (Outcome (State Procedure) Value)) → a ≡ seen_ended answers entries u → Follows u (unmarked r') → Follows a (seen_of answers entries r')
+  by None u e h = tt
+  by (Some a) u e h = seen_unmarked answers entries r' ∙ (first u e h) where
+    first : (u : Option (Outcome (State Procedure) Value)) → Some a ≡ seen_ended answers entries u → Follows u (unmarked r') → seen_ended answers entries (unmarked r') ≡ Some a
+    first None e h = absurd (cc)
+    first (Some o) e h = ap (seen_ended answers entries) h ∙ sym e
 
 -- the frame program of a program, with frame bodies for its bodies
 abbrev pub frames_of : control.Source → List Code → ℕ → Source
@@ -103,7 +120,7 @@ frames_of p fs words = record { statics = p.statics; library = p.library; bodies
 
 pub same_runs : (p : control.Source) (fs : List Code) (words : ℕ) → FramesOf p.bodies fs → SameRuns p (frames_of p fs words)
 same_runs p fs words frames heap depth answers entries =
-    seen_follows answers entries _ _ (outcome_follows p.bodies fs frames depth entries (starting_world p.statics p.library heap answers entries))
+    seen_follows answers entries _ _ (outcome_follows p.bodies fs frames depth entries (starting_world p.statics p.library heap answers entries).state [])
 
 -- ## Validity
 

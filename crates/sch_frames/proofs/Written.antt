@@ -1,12 +1,18 @@
 -- A body whose code of entry and expression are written one after the other is laid out whole.
-use Rattle.std.proofs.Common.{◌≡◌, ℕ, List, [], ◌++◌, None, refl, sym, ◌∙◌, append-nil}
-use Rattle.sch_control.specs.Tree.{Code}
+use Rattle.std.proofs.Common.{◌≡◌, ℕ, ◌+◌, Bool, List, [], ◌++◌, None, Option, refl, sym, ◌∙◌, append-nil}
+use Rattle.sch_control.specs.declared.body.Entry.{Entry}
+use Rattle.sch_control.specs.Tree.{Expression, Code}
 use Rattle.sch_frames.specs.declared.instruction.Instruction.{Instruction}
-use Rattle.sch_frames.specs.Layout.{lay, own_slot, entering, arrival_slots, slots_layout}
+use Rattle.sch_frames.specs.Layout.{Slots, lay, own_slots, is_entered, entering, slots_base, slots_layout}
 
-pub whole_written : (c : Code) (base n : ℕ) (start first second : List Instruction) → start ≡ [] → base ≡ arrival_slots c.entry → n ≡ 0
-    → ((rest : List Instruction) → first ++ rest ≡ start ++ entering base c.entry rest)
-    → ((rest : List Instruction) → second ++ rest ≡ first ++ lay (own_slot base) c.expression n None rest)
-    → second ≡ slots_layout c
-whole_written c base n start first second s b e h h' =
-    sym (append-nil second) ∙ (h' [] ∙ (h _ ∙ rw (s, b, e) refl))
+pub whole_written : (slots : Slots) (entry : Option Entry) (e : Expression) (base n : ℕ) (start first second : List Instruction) → start ≡ [] → n ≡ 0
+    → ((rest : List Instruction) → first ++ rest ≡ start ++ entering base entry rest)
+    → ((rest : List Instruction) → second ++ rest ≡ first ++ lay slots e n None rest)
+    → second ≡ entering base entry (lay slots e 0 None [])
+whole_written slots entry e base n start first second s z h h' =
+    sym (append-nil second) ∙ (h' [] ∙ (h _ ∙ rw (s, z) refl))
+
+-- what is written with the room that a body needs is its layout
+pub layout_written : (c : Code) (instructions : List Instruction) (base aside : ℕ) (entered : Bool) → base ≡ slots_base c → aside ≡ slots_base c + c.variables → entered ≡ is_entered c.entry
+    → instructions ≡ entering base c.entry (lay (own_slots base aside entered) c.expression 0 None []) → instructions ≡ slots_layout c
+layout_written c instructions base aside entered b a e i = i ∙ rw (b, a, e) refl

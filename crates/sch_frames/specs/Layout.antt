@@ -1,6 +1,6 @@
 -- The layout of a body: its tree in order, as instructions. What follows is an argument, so nothing is
 -- appended, and each variable has a place.
-use Rattle.std.specs.Prelude.{◌≡◌, ℕ, zero, suc, ◌+◌, ◌-◌, Bool, true, false, ◌&&◌, List, [], ◌∷◌, ◌++◌, Option, Some, None, map}
+use Rattle.std.specs.Prelude.{◌≡◌, ℕ, zero, suc, ◌+◌, ◌-◌, max, Bool, true, false, List, [], ◌∷◌, ◌++◌, length, Option, Some, None, map}
 use Rattle.sch_word.specs.declared.place.Place.{Place}
 use Rattle.sch_word.specs.declared.place.Place.TheVariants.{Reg, Slot}
 use Rattle.sch_control.specs.declared.body.Entry.{Entry}
@@ -12,25 +12,16 @@ use Rattle.sch_control.specs.declared.operation.Operand.TheVariants as operand
 use Rattle.sch_control.specs.declared.operation.Source.{Source}
 use Rattle.sch_control.specs.declared.operation.Source.TheVariants as source
 use Rattle.sch_control.specs.declared.operation.Closure.{Closure}
+use Rattle.sch_control.specs.declared.operation.Member.{Member}
 use Rattle.sch_control.specs.declared.operation.Operation.{Operation}
 use Rattle.sch_control.specs.declared.operation.Operation.TheVariants as operation
+use Rattle.sch_control.specs.declared.operation.Application.{Application}
 use Rattle.sch_control.specs.Tree as control
 use Rattle.sch_control.specs.Tree.{Expression, perform, bind, sequence, branch, fix, call, tail_call, return, end, save}
 use Rattle.sch_frames.specs.declared.instruction.Instruction.{Instruction}
-use Rattle.sch_frames.specs.declared.instruction.Instruction.TheVariants.{Do, Store, Copy, Return, End, IfFalse, Jump, Label, Mark}
-use Rattle.sch_frames.specs.Meaning.{argument_register, argument_slot, closure_register}
+use Rattle.sch_frames.specs.declared.instruction.Instruction.TheVariants.{Do, Store, Copy, Load, Pass, Fix, Call, Tail, Return, End, IfFalse, Jump, Label, Mark}
+use Rattle.sch_frames.specs.Meaning.{argument_register, argument_slot, closure_register, link_register}
 use Rattle.sch_frames.specs.Valid.{formals_of}
-
--- ## Bodies that are laid out so far: without calls and groups of closures
-
-abbrev pub straight : Expression → Bool
-straight (perform o) = true
-straight (bind x a b) = straight a && straight b
-straight (sequence a b) = straight a && straight b
-straight (branch a b c) = straight a && (straight b && straight c)
-straight (return e) = straight e
-straight (end e) = straight e
-straight _ = false
 
 -- ## Labels
 
@@ -44,8 +35,10 @@ abbrev pub labels : Expression → ℕ
 labels (bind x a b) = labels a + labels b
 labels (sequence a b) = labels a + labels b
 labels (branch a b c) = suc (suc (labels a + (labels b + labels c)))
+labels (fix members e) = labels e
 labels (return e) = labels e
 labels (end e) = labels e
+labels (save saves e) = labels e
 labels _ = zero
 
 -- what writing adds to instructions: code in front of whatever follows
@@ -92,27 +85,18 @@ module _ (place : ℕ → Place) where
   operation_at (operation.CellSet c o) = operation.CellSet (source_at c) (operand_at o)
   operation_at (operation.MakeClosure c) = operation.MakeClosure (closure_at c)
 
-  -- ## Expressions
+  abbrev pub member_at : Member ℕ → Member Place
+  member_at m = record { at = place m.at; closure = closure_at m.closure }
 
-  -- the instructions of an expression, whose labels are numbered from n on, and then the rest
-  abbrev pub lay : Expression → (n : ℕ) → (test : Option ℕ) → List Instruction → List Instruction
-  lay (perform o) n test rest = Do (operation_at o) ∷ leave test rest
-  lay (bind x a b) n test rest = lay a n None (Store (place x) ∷ lay b (n + labels a) test rest)
-  lay (sequence a b) n test rest = lay a n None (lay b (n + labels a) test rest)
-  lay (branch a b c) n test rest =
-      lay a (suc (suc n)) (Some n)
-      (lay b (suc (suc (n + labels a))) test
-      (Jump (suc n) ∷ (Label n ∷ lay c (suc (suc (n + labels a + labels b))) test (Label (suc n) ∷ rest))))
-  lay (return e) n test rest = lay e n None (Mark mark.Return ∷ (Return ∷ rest))
-  lay (end e) n test rest = lay e n None (End ∷ rest)
-  lay _ n test rest = rest
+  abbrev pub members_at : List (Member ℕ) → List (Member Place)
+  members_at = map member_at
 
--- ## A slot for each variable
+  -- each operand of a call has a slot of its own, from one slot on
+  abbrev pub set_aside : (slot : ℕ) → List (Operand ℕ) → List Instruction → List Instruction
+  set_aside slot [] rest = rest
+  set_aside slot (o ∷ operands) rest = Load (Slot slot) (operand_at o) ∷ set_aside (suc slot) operands rest
 
--- R15 for the return address, and for each other variable a slot of its own from a base on
-abbrev pub own_slot : (base : ℕ) → ℕ → Place
-own_slot base zero = Reg 15
-own_slot base (suc x) = Slot (base + suc x)
+-- ## Calls
 
 abbrev pub in_either : Option ℕ → ℕ → Place
 in_either (Some r) j = Reg r
@@ -122,6 +106,75 @@ in_either None j = Slot j
 abbrev pub arrival : ℕ → Place
 arrival k = in_either (argument_register k) (argument_slot k)
 
+-- what a place holds is passed on in a register, or in a slot of the frame that the call opens
+abbrev pub passed : Option ℕ → ℕ → Place → Instruction
+passed (Some r) j p = Copy (Reg r) p
+passed None j p = Pass j (operand.Atom (Variable p))
+
+-- What a place holds is handed over as the operand with k before it. A tail call hands over where the own
+-- arguments have arrived.
+abbrev pub handed : (tail : Bool) → (k : ℕ) → Place → Instruction
+handed true k p = Copy (arrival k) p
+handed false k p = passed (argument_register k) (argument_slot k) p
+
+-- the operands that are set aside, from one on
+abbrev pub hand_over : (tail : Bool) → (aside from count : ℕ) → List Instruction → List Instruction
+hand_over tail aside from zero rest = rest
+hand_over tail aside from (suc count) rest = handed tail from (Slot (aside + from)) ∷ hand_over tail aside (suc from) count rest
+
+-- the return address is back in its register, where there is one
+abbrev pub restored : (home : Option Place) → List Instruction → List Instruction
+restored None rest = rest
+restored (Some p) rest = Copy link_register p ∷ rest
+
+-- ## Expressions
+
+-- Where a body keeps what it has: each variable; the operands of its calls, from one slot on; and, if it is a
+-- procedure's, its return address round calls.
+pub record Slots : Type 0 where
+  pub place : ℕ → Place
+  pub aside : ℕ
+  pub home : Option Place
+
+module _ (slots : Slots) where
+  -- the operator's closure and the operands stand where a call takes them
+  abbrev pub prepared : (tail : Bool) → Application ℕ → List Instruction → List Instruction
+  prepared tail a rest =
+      Load closure_register (operand_at slots.place a.operator)
+      ∷ set_aside slots.place slots.aside a.operands (hand_over tail slots.aside 0 (length a.operands) rest)
+
+  -- the instructions of an expression, whose labels are numbered from n on, and then the rest
+  abbrev pub lay : Expression → (n : ℕ) → (test : Option ℕ) → List Instruction → List Instruction
+  lay (perform o) n test rest = Do (operation_at slots.place o) ∷ leave test rest
+  lay (bind x a b) n test rest = lay a n None (Store (slots.place x) ∷ lay b (n + labels a) test rest)
+  lay (sequence a b) n test rest = lay a n None (lay b (n + labels a) test rest)
+  lay (branch a b c) n test rest =
+      lay a (suc (suc n)) (Some n)
+      (lay b (suc (suc (n + labels a))) test
+      (Jump (suc n) ∷ (Label n ∷ lay c (suc (suc (n + labels a + labels b))) test (Label (suc n) ∷ rest))))
+  lay (fix members e) n test rest = Fix (members_at slots.place members) ∷ lay e n test rest
+  lay (call a restores) n test rest =
+      prepared false a (Mark (mark.Call a.site) ∷ (Call a.spread (length a.operands) ∷ restored slots.home (leave test rest)))
+  lay (tail_call a) n test rest = prepared true a (Mark (mark.Tail a.site) ∷ (Tail a.spread (length a.operands) ∷ rest))
+  lay (return e) n test rest = lay e n None (Mark mark.Return ∷ (Return ∷ rest))
+  lay (end e) n test rest = lay e n None (End ∷ rest)
+  lay (save saves e) n test rest = lay e n test rest
+
+-- ## A slot for each variable
+
+-- R15 for the return address, and for each other variable a slot of its own from a base on
+abbrev pub own_slot : (base : ℕ) → ℕ → Place
+own_slot base zero = link_register
+own_slot base (suc x) = Slot (base + suc x)
+
+-- the return address of a procedure has the slot at the base
+abbrev pub home_of : (entered : Bool) → (base : ℕ) → Option Place
+home_of true base = Some (Slot base)
+home_of false base = None
+
+abbrev pub own_slots : (base aside : ℕ) → (entered : Bool) → Slots
+own_slots base aside entered = record { place = own_slot base; aside = aside; home = home_of entered base }
+
 -- each formal from one on is stored in its slot
 abbrev pub arrivals : (base from count : ℕ) → List Instruction → List Instruction
 arrivals base from zero rest = rest
@@ -130,13 +183,36 @@ arrivals base from (suc count) rest = Copy (own_slot base (suc (suc from))) (arr
 -- a procedure stores what it has in registers and in the slots below the base
 abbrev pub entering : (base : ℕ) → Option Entry → List Instruction → List Instruction
 entering base None rest = rest
-entering base (Some e) rest = Copy (own_slot base 1) closure_register ∷ arrivals base 0 e.formals rest
+entering base (Some e) rest =
+    Copy (Slot base) link_register ∷ (Copy (own_slot base 1) closure_register ∷ arrivals base 0 e.formals rest)
 
--- the slots in which arguments arrive
-abbrev pub arrival_slots : Option Entry → ℕ
-arrival_slots entry = formals_of entry - 6
+abbrev pub is_entered : Option Entry → Bool
+is_entered None = false
+is_entered (Some e) = true
+
+-- the most operands of one call
+abbrev pub most_operands : Expression → ℕ
+most_operands (perform o) = 0
+most_operands (bind x a b) = max (most_operands a) (most_operands b)
+most_operands (sequence a b) = max (most_operands a) (most_operands b)
+most_operands (branch a b c) = max (most_operands a) (max (most_operands b) (most_operands c))
+most_operands (fix members e) = most_operands e
+most_operands (call a restores) = length a.operands
+most_operands (tail_call a) = length a.operands
+most_operands (return e) = most_operands e
+most_operands (end e) = most_operands e
+most_operands (save saves e) = most_operands e
+
+-- the slots in which arguments arrive or tail calls hand them over, which are those before the base
+abbrev pub slots_base : control.Code → ℕ
+slots_base c = max (formals_of c.entry) (most_operands c.expression) - 6
+
+abbrev pub slots_for : control.Code → Slots
+slots_for c = own_slots (slots_base c) (slots_base c + c.variables) (is_entered c.entry)
+
+-- the size of the frame, which has a slot for each variable and one for each operand of a call
+abbrev pub slots_words : control.Code → ℕ
+slots_words c = slots_base c + c.variables + most_operands c.expression
 
 abbrev pub slots_layout : control.Code → List Instruction
-slots_layout c =
-    let base = arrival_slots c.entry in
-    entering base c.entry (lay (own_slot base) c.expression 0 None [])
+slots_layout c = entering (slots_base c) c.entry (lay (slots_for c) c.expression 0 None [])

@@ -1,3 +1,4 @@
+pub mod Callless
 pub mod Does
 pub mod Layout
 pub mod Meaning

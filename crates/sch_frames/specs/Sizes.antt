@@ -7,6 +7,7 @@ use Rattle.sch_control.specs.Tree as control
 use Rattle.sch_control.specs.Tree.{Expression, perform, bind, sequence, branch, fix, call, tail_call, return, end, save}
 use Rattle.sch_frames.specs.declared.instruction.Instruction.{Instruction}
 use Rattle.sch_frames.specs.declared.instruction.Instruction.TheVariants.{Do, Load, Pass, Fix, Label, Mark}
+use Rattle.sch_frames.specs.Layout.{slots_words}
 use Rattle.sch_frames.specs.Tree.{Code, Source}
 
 -- how many nodes an expression has
@@ -22,15 +23,32 @@ nodes (return e) = 1 + nodes e
 nodes (end e) = 1 + nodes e
 nodes (save saves e) = 1 + nodes e
 
+-- what calls hand over, the operators among it
+abbrev pub call_parts : Expression → ℕ
+call_parts (perform o) = 0
+call_parts (bind x a b) = call_parts a + call_parts b
+call_parts (sequence a b) = call_parts a + call_parts b
+call_parts (branch a b c) = call_parts a + (call_parts b + call_parts c)
+call_parts (fix members e) = call_parts e
+call_parts (call a restores) = suc (length a.operands)
+call_parts (tail_call a) = suc (length a.operands)
+call_parts (return e) = call_parts e
+call_parts (end e) = call_parts e
+call_parts (save saves e) = call_parts e
+
+abbrev pub calls_parts : List control.Code → ℕ
+calls_parts [] = 0
+calls_parts (c ∷ codes) = call_parts c.expression + calls_parts codes
+
 -- the size of the largest frame of some bodies, and 0 where there are none
 abbrev pub largest_frame : List Code → ℕ
 largest_frame [] = 0
 largest_frame (c ∷ codes) = max c.words (largest_frame codes)
 
--- the most variables of a body, the return address and the closure among them, and 0 where there are no bodies
-abbrev pub most_variables : List control.Code → ℕ
-most_variables [] = 0
-most_variables (c ∷ codes) = max c.variables (most_variables codes)
+-- the size of the largest frame that bodies need with a slot for each variable, and 0 where there are none
+abbrev pub most_words : List control.Code → ℕ
+most_words [] = 0
+most_words (c ∷ codes) = max (slots_words c) (most_words codes)
 
 -- ## Instructions
 
@@ -56,7 +74,12 @@ codes_size (c ∷ codes) = instructions_size c.instructions + codes_size codes
 abbrev pub program_size : Source → ℕ
 program_size p = codes_size p.bodies
 
--- a procedure stores its closure and its arguments
+-- a procedure stores its return address, its closure and its arguments
 abbrev pub entry_size : Option Entry → ℕ
 entry_size None = 0
-entry_size (Some e) = suc e.formals
+entry_size (Some e) = suc (suc e.formals)
+
+-- what the procedures among some bodies store as they are entered
+abbrev pub entries_size : List control.Code → ℕ
+entries_size [] = 0
+entries_size (c ∷ codes) = entry_size c.entry + entries_size codes

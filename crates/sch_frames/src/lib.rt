@@ -3,15 +3,18 @@
 #![tactic(auto)]
 
 mod assembly;
+mod bodies;
 mod body;
+mod calls;
 mod instruction;
 mod layout;
+mod places;
 mod program;
 mod slots;
-mod straight;
+mod writer;
 
+pub use bodies::frame_program;
 pub use body::FrameBody;
 pub use instruction::Instruction;
 pub use program::FrameProgram;
 pub use slots::frame_slots;
-pub use straight::frame_program;

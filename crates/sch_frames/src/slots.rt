@@ -1,60 +1,143 @@
 //! Bodies with a slot for each variable.
 
-ghost use Rattle.std.specs.Prelude.{◌≡◌, ◌≤◌, ◌+◌, ◌*◌, length, true, IfOk, IsTrue};
+ghost use Rattle.std.specs.Prelude.{◌≡◌, ◌≤◌, ◌+◌, ◌*◌, ◌-◌, [], length, max, None, IfOk, IsTrue};
+ghost use Rattle.sch_control.specs.Callless as control_callless;
 ghost use Rattle.sch_control.specs.SourceView as control;
 ghost use Rattle.sch_control.specs.Straight as control_straight;
 ghost use Rattle.sch_control.specs.View.{expression};
+ghost use Rattle.sch_frames.specs.Callless.{code_begins, is_callless_code};
 ghost use Rattle.sch_frames.specs.Does.{FrameOf};
-ghost use Rattle.sch_frames.specs.Layout.{arrival_slots, labels, slots_layout, straight};
+ghost use Rattle.sch_frames.specs.Layout.{entering, is_entered, labels, lay, most_operands, own_slots, slots_base, slots_words};
 ghost use Rattle.sch_control.specs.Sizes.{expression_size};
-ghost use Rattle.sch_frames.specs.Sizes.{entry_size, instructions_size, nodes};
+ghost use Rattle.sch_frames.specs.Sizes.{call_parts, entry_size, instructions_size, nodes};
 ghost use Rattle.sch_frames.specs.SourceView.{code_of};
 ghost use Rattle.sch_frames.specs.Straight.{is_straight_code};
 ghost use Rattle.sch_frames.specs.Valid.{formals_of};
 
 use crate::body::FrameBody;
-use crate::layout::{Writer, arrival_slots, enter, lay};
-use sch_control::Body;
+use crate::layout::{enter, lay};
+use crate::writer::{Slots, Writer};
+use sch_control::{Body, Entry, Exp};
 use sch_word::{List, Mem};
 use std::alloc::Global;
 
+/// The larger of two numbers.
+fn larger(a: usize, b: usize) -> usize
+    ensures { result ≡ max a b }
+{
+    if a < b { b } else { a }
+}
+
+/// The most operands of one call.
+fn most_operands(e: &Exp<()>) -> usize
+    ensures { result ≡ most_operands (expression e.now) }
+{
+    match e {
+        Exp::Do(_) => 0,
+        Exp::Bind(_, a, b) => larger(most_operands(a), most_operands(b)),
+        Exp::Seq(a, b) => larger(most_operands(a), most_operands(b)),
+        Exp::If(a, b, c) => {
+            let arms = larger(most_operands(b), most_operands(c));
+            larger(most_operands(a), arms)
+        }
+        Exp::Fix(_, e) => most_operands(e),
+        Exp::Call(a, _) => a.operands.len(),
+        Exp::TailCall(a) => a.operands.len(),
+        Exp::Return(e) => most_operands(e),
+        Exp::End(e) => most_operands(e),
+    }
+}
+
+fn formals_of(entry: Option<Entry>) -> u32
+    ensures { result ≡ formals_of entry }
+{
+    match entry {
+        None => 0,
+        Some(e) => e.formals,
+    }
+}
+
+/// Where a body keeps what it has, and the size of its frame.
+#[derive(Clone, Copy)]
+struct Room {
+    slots: Slots,
+    words: u32,
+}
+
+/// The room for variables, where a call has at most this many operands.
+fn room_with(entry: Option<Entry>, variables: u32, most: u32) -> Room
+    requires formals { formals_of entry ≤ 200 }
+    requires variables { variables ≤ 1002 }
+    requires most { most ≤ 200 }
+    ensures base { result.slots.base ≡ max (formals_of entry) most - 6 }
+    ensures aside { result.slots.aside ≡ max (formals_of entry) most - 6 + variables }
+    ensures entered { result.slots.entered ≡ is_entered entry }
+    ensures words { result.words ≡ max (formals_of entry) most - 6 + variables + most }
+{
+    let formals = formals_of(entry);
+    let base = larger(formals as usize, most as usize).saturating_sub(6) as u32;
+    let aside = base + variables;
+    let slots = Slots {
+        base,
+        aside,
+        entered: entry.is_some(),
+    };
+    Room {
+        slots,
+        words: aside + most,
+    }
+}
+
+/// The room that a body needs.
+fn room_for(b: &Body) -> Room
+    ensures base { result.slots.base ≡ slots_base (control.code_of b.now) }
+    ensures aside { result.slots.aside ≡ slots_base (control.code_of b.now) + b.now.variables }
+    ensures entered { result.slots.entered ≡ is_entered b.now.entry }
+    ensures words { result.words ≡ slots_words (control.code_of b.now) }
+{
+    room_with(b.entry, b.variables, most_operands(&b.exp) as u32)
+}
+
 /// The instructions of a body.
-fn laid_out(alloc: Global, b: &Body) -> Result<Writer, Mem>
-    ensures instructions { IfOk result (λ out. out.instructions ≡ slots_layout (control.code_of b.now)) }
+fn laid_out(alloc: Global, slots: Slots, b: &Body) -> Result<Writer, Mem>
+    requires formals { formals_of b.now.entry ≤ 200 }
+    ensures instructions { IfOk result (λ out. out.instructions
+        ≡ entering slots.base b.now.entry (lay (own_slots slots.base slots.aside slots.entered) (expression b.now.exp) 0 None [])) }
     ensures labels { IfOk result (λ out. out.labels ≡ labels (expression b.now.exp)) }
 {
-    let base = arrival_slots(b.entry);
     let mut out = Writer {
         instructions: List::new(alloc),
         labels: 0,
     };
-    enter(base, b.entry, &mut out)?;
-    lay(alloc, base, &b.exp, None, &mut out)?;
+    enter(slots.base, b.entry, &mut out)?;
+    lay(alloc, slots, &b.exp, None, &mut out)?;
     Ok(out)
 }
 
-/// The frame body of a body, with a slot for each variable. It stands for a body without calls and
-/// without groups of closures that know one another.
+/// The frame body of a body, with a slot for each variable.
 ///
-/// Memory is used as the answer's instructions need it: at most three for each node of the body, one for each
-/// formal and one more. A label past the numbers of 32 bits, for which a body needs 2^31 nodes, is answered as
-/// out of memory too.
+/// A call sets each operand aside in a slot of its own and then hands it over, and a procedure keeps its return
+/// address in a slot. Memory is used as the answer's instructions need it: at most three for each node of the
+/// body, two for each operand of a call, and one for each formal. What is past the numbers of 32 bits, for which
+/// a body needs 2^31 nodes, is answered as out of memory too.
 pub fn frame_slots(alloc: Global, b: &Body) -> Result<FrameBody, Mem>
-    requires straight { IsTrue (straight (expression b.now.exp)) }
     ensures same { IfOk result (λ f. FrameOf (control.code_of b.now) (code_of f)) }
+    ensures begins { IfOk result (λ f. IsTrue (code_begins (code_of f))) }
+    ensures callless { IfOk result (λ f. IsTrue (control_callless.is_callless_code (control.code_of b.now)) → IsTrue (is_callless_code (code_of f))) }
     ensures straight { IfOk result (λ f.
         IsTrue (control_straight.is_straight_code (control.code_of b.now)) → IsTrue (is_straight_code (code_of f))) }
-    ensures words { IfOk result (λ f. f.words ≡ arrival_slots b.now.entry + b.now.variables) }
-    ensures size { IfOk result (λ f. length f.instructions ≤ 3 * nodes (expression b.now.exp) + (formals_of b.now.entry + 1)) }
-    ensures work { IfOk result (λ f.
-        instructions_size f.instructions ≤ 2 * expression_size (expression b.now.exp) + entry_size b.now.entry) }
+    ensures words { IfOk result (λ f. f.words ≡ slots_words (control.code_of b.now)) }
+    ensures size { IfOk result (λ f. length f.instructions
+        ≤ 3 * nodes (expression b.now.exp) + 2 * call_parts (expression b.now.exp) + (formals_of b.now.entry + 2)) }
+    ensures work { IfOk result (λ f. instructions_size f.instructions
+        ≤ 2 * expression_size (expression b.now.exp) + 4 * call_parts (expression b.now.exp) + entry_size b.now.entry) }
     ensures labels { IfOk result (λ f. f.labels ≤ 2 * nodes (expression b.now.exp)) }
 {
-    let out = laid_out(alloc, b)?;
-    let words = arrival_slots(b.entry) + b.variables;
+    let room = room_for(b);
+    let out = laid_out(alloc, room.slots, b)?;
     Ok(FrameBody {
         entry: b.entry,
-        words,
+        words: room.words,
         labels: out.labels,
         instructions: out.instructions,
     })

@@ -1,35 +1,56 @@
+use Rattle.std.proofs.Common.{◌≡◌}
 use Rattle.sch_control.specs.SourceView as control
 use Rattle.sch_control.specs.View.{expression}
-use Rattle.sch_frames.proofs.SlotsFrame.{slots_placed, slots_does, slots_forward, slots_shaped, slots_size, labels_size}
-use Rattle.sch_frames.proofs.LayoutSize.{slots_work}
+use Rattle.sch_frames.specs.Layout.{slots_layout}
+use Rattle.sch_frames.proofs.CalllessSlots.{slots_begin, slots_callless}
+use Rattle.sch_frames.proofs.LayoutSize.{slots_size, slots_work, labels_size}
+use Rattle.sch_frames.proofs.SlotsFrame.{slots_placed, slots_does, slots_forward, slots_shaped}
 use Rattle.sch_frames.proofs.StraightSlots.{slots_straight}
+use Rattle.sch_frames.proofs.Written.{layout_written}
 use Rattle.sch_frames.proofs.slots.frame_slots.Goals as goal
 
 pub invariant_of-result : goal.invariant_of-result
 invariant_of-result c =
     let b = c.args.b.now in
-    let i = c.in_ok-out.ensures.instructions in
+    let i : c.in_ok-out.out.instructions ≡ slots_layout (control.code_of c.args.b.now) = layout_written (control.code_of c.args.b.now) _ _ _ _ c.room_for-room.ensures.base c.room_for-room.ensures.aside c.room_for-room.ensures.entered c.in_ok-out.ensures.instructions in
     let l = c.in_ok-out.ensures.labels in
-    let a = c.arrival_slots.ensures in
+    let words = c.room_for-room.ensures.words in
     record {
-      placed = rw (i, a) (slots_placed (control.code_of b) c.requires.straight b.scoped b.numbered b.shaped);
+      placed = rw (i, words) (slots_placed (control.code_of b) b.scoped b.numbered b.shaped);
       forward = rw (i, l) (slots_forward (control.code_of b));
-      shaped = rw i (slots_shaped (control.code_of b) c.requires.straight b.shaped);
+      shaped = rw i (slots_shaped (control.code_of b) b.shaped);
     }
 
 pub returns-clause-same : goal.returns-clause-same
 returns-clause-same c =
     let b = c.args.b.now in
-    rw (c.in_ok-out.ensures.instructions, c.in_ok-out.ensures.labels, c.arrival_slots.ensures) (slots_does (control.code_of b) c.requires.straight b.scoped b.numbered)
+    let i : c.in_ok-out.out.instructions ≡ slots_layout (control.code_of c.args.b.now) = layout_written (control.code_of c.args.b.now) _ _ _ _ c.room_for-room.ensures.base c.room_for-room.ensures.aside c.room_for-room.ensures.entered c.in_ok-out.ensures.instructions in
+    rw (i, c.in_ok-out.ensures.labels, c.room_for-room.ensures.words) (slots_does (control.code_of b) b.scoped b.numbered b.ended)
+
+pub returns-clause-begins : goal.returns-clause-begins
+returns-clause-begins c =
+    let i : c.in_ok-out.out.instructions ≡ slots_layout (control.code_of c.args.b.now) = layout_written (control.code_of c.args.b.now) _ _ _ _ c.room_for-room.ensures.base c.room_for-room.ensures.aside c.room_for-room.ensures.entered c.in_ok-out.ensures.instructions in
+    rw i (slots_begin (control.code_of c.args.b.now))
+
+pub returns-clause-callless : goal.returns-clause-callless
+returns-clause-callless c h =
+    let i : c.in_ok-out.out.instructions ≡ slots_layout (control.code_of c.args.b.now) = layout_written (control.code_of c.args.b.now) _ _ _ _ c.room_for-room.ensures.base c.room_for-room.ensures.aside c.room_for-room.ensures.entered c.in_ok-out.ensures.instructions in
+    rw i (slots_callless (control.code_of c.args.b.now) h)
+
+pub returns-clause-straight : goal.returns-clause-straight
+returns-clause-straight c s =
+    let i : c.in_ok-out.out.instructions ≡ slots_layout (control.code_of c.args.b.now) = layout_written (control.code_of c.args.b.now) _ _ _ _ c.room_for-room.ensures.base c.room_for-room.ensures.aside c.room_for-room.ensures.entered c.in_ok-out.ensures.instructions in
+    rw i (slots_straight (control.code_of c.args.b.now) s)
 
 pub returns-clause-size : goal.returns-clause-size
-returns-clause-size c = rw c.in_ok-out.ensures.instructions (slots_size (control.code_of c.args.b.now))
+returns-clause-size c =
+    let i : c.in_ok-out.out.instructions ≡ slots_layout (control.code_of c.args.b.now) = layout_written (control.code_of c.args.b.now) _ _ _ _ c.room_for-room.ensures.base c.room_for-room.ensures.aside c.room_for-room.ensures.entered c.in_ok-out.ensures.instructions in
+    rw i (slots_size (control.code_of c.args.b.now))
+
+pub returns-clause-work : goal.returns-clause-work
+returns-clause-work c =
+    let i : c.in_ok-out.out.instructions ≡ slots_layout (control.code_of c.args.b.now) = layout_written (control.code_of c.args.b.now) _ _ _ _ c.room_for-room.ensures.base c.room_for-room.ensures.aside c.room_for-room.ensures.entered c.in_ok-out.ensures.instructions in
+    rw i (slots_work (control.code_of c.args.b.now))
 
 pub returns-clause-labels : goal.returns-clause-labels
 returns-clause-labels c = rw c.in_ok-out.ensures.labels (labels_size (expression c.args.b.now.exp))
-
-pub returns-clause-straight : goal.returns-clause-straight
-returns-clause-straight c s = rw c.in_ok-out.ensures.instructions (slots_straight (control.code_of c.args.b.now) s)
-
-pub returns-clause-work : goal.returns-clause-work
-returns-clause-work c = rw c.in_ok-out.ensures.instructions (slots_work (control.code_of c.args.b.now))

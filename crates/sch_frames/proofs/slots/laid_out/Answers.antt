@@ -1,8 +1,10 @@
-use Rattle.sch_control.specs.SourceView as control
+use Rattle.sch_control.specs.View.{expression}
+use Rattle.sch_frames.specs.Layout.{own_slots}
 use Rattle.sch_frames.proofs.Written.{whole_written}
 use Rattle.sch_frames.proofs.slots.laid_out.Goals as goal
 
 pub returns-clause-instructions : goal.returns-clause-instructions
 returns-clause-instructions c =
-    whole_written (control.code_of c.args.b.now) c.arrival_slots-base.result _ _ _ _ c.new.ensures c.arrival_slots-base.ensures c.in_ok-enter.ensures.labels
+    let slots = c.args.slots in
+    whole_written (own_slots slots.base slots.aside slots.entered) c.args.b.now.entry (expression c.args.b.now.exp) slots.base _ _ _ _ c.new.ensures c.in_ok-enter.ensures.labels
     c.in_ok-enter.ensures.instructions c.in_ok-lay.ensures.instructions
