@@ -9,7 +9,7 @@ use Rattle.sch_core.specs.Forms.{TextExpands}
 use Rattle.sch_core.specs.Numbered.{program_of}
 use Rattle.sch_core.specs.Programs.{form_places, first_exceeding}
 use Rattle.sch_lang.specs.Measures.{nodes_and_bound}
-use Rattle.sch_core.proofs.Validity.{valid_of, size_of}
+use Rattle.sch_core.proofs.ValidPrograms.{valid_of, size_of}
 
 module _ (items : Data) (places empty : List ℕ) (es : List Draft) (e : empty ≡ []) (h : places ≡ empty ++ form_places items) (t : TextExpands items es) where
   same : places ≡ form_places items

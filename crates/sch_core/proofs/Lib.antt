@@ -7,7 +7,7 @@ pub mod DataLaws
 pub mod NumberedDrafts
 pub mod DraftViews
 pub mod PlaceSteps
-pub mod Validity
+pub mod ValidPrograms
 pub mod VariableCounts
 pub mod VariableSteps
 pub mod Assembling

@@ -7,7 +7,7 @@ use Rattle.sch_expand.specs.DraftView.{draft_of}
 use Rattle.sch_core.specs.Numbered.{program_of}
 use Rattle.sch_core.specs.Programs.{first_exceeding}
 use Rattle.sch_core.proofs.Answering.{is_sound, is_small}
-use Rattle.sch_core.proofs.Validity.{as_many}
+use Rattle.sch_core.proofs.ValidPrograms.{as_many}
 use Rattle.sch_core.proofs.expander.core.Goals as goal
 
 pub assemble-requires : goal.assemble-requires
