@@ -26,9 +26,9 @@ use Rattle.sch_frames.specs.declared.instruction.Instruction.TheVariants.{Do, St
 use Rattle.sch_frames.specs.Meaning.{closure_register, link_register, argument_register, argument_slot}
 use Rattle.sch_frames.specs.Valid.{is_place, is_atom, are_members, instruction_placed, instruction_shaped, instruction_known}
 use Rattle.sch_frames.specs.Layout.{Slots, source_at, sources_at, atom_at, atoms_at, operand_at, operands_at, members_at, operation_at, set_aside, arrival, passed, handed, hand_over, prepared, restored, leave, most_operands, lay}
-use Rattle.sch_frames.proofs.Operating.{AtomHas, AtomsHave, have_left, have_right}
-use Rattle.sch_frames.proofs.Agrees.{MembersUse, Uses}
-use Rattle.sch_frames.proofs.Same.{length_members, length_sources}
+use Rattle.sch_frames.proofs.runs.Operating.{AtomHas, AtomsHave, have_left, have_right}
+use Rattle.sch_frames.proofs.runs.Agrees.{MembersUse, Uses}
+use Rattle.sch_frames.proofs.runs.Same.{length_members, length_sources}
 
 -- the instructions that say where to go on pass a test
 pub record Steers (test : Instruction → Bool) : Type 0 where

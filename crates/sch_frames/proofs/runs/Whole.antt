@@ -23,7 +23,7 @@ use Rattle.sch_frames.specs.Does.{Follows, unmarked, EndsAs, world, CalleesFollo
 use Rattle.sch_frames.specs.Run as run
 use Rattle.sch_frames.specs.Tree.{Code, Source}
 use Rattle.sch_frames.specs.Valid.{formals_of, names_of, instruction_known, all_known, library_known}
-use Rattle.sch_frames.proofs.Following.{on_outcome_ends, on_return_ends}
+use Rattle.sch_frames.proofs.runs.Following.{on_outcome_ends, on_return_ends}
 
 -- ## Bodies by their labels
 

@@ -16,12 +16,12 @@ use Rattle.sch_frames.specs.Does.{FrameOf, world}
 use Rattle.sch_frames.specs.Tree.{Code}
 use Rattle.sch_frames.specs.Valid.{is_place, placed, forward, shaped, formals_of, labels_in, jumps_ahead, instruction_placed, instruction_shaped, instruction_known}
 use Rattle.sch_frames.specs.Layout.{labels, lay, restored, own_slot, home_of, is_entered, most_operands, arrivals, entering, slots_base, slots_for, slots_words, slots_layout}
-use Rattle.sch_frames.proofs.Agrees.{Uses, Within}
-use Rattle.sch_frames.proofs.Entering.{own_apart, enters, entering_placed, entering_passes}
-use Rattle.sch_frames.proofs.Labels.{Right, right, lay_below}
-use Rattle.sch_frames.proofs.Laid.{Roomy, lay_passes, placed_steers, uses_placed, shaped_steers, parts_shaped, known_steers, parts_named}
-use Rattle.sch_frames.proofs.Same.{same}
-use Rattle.sch_frames.proofs.Used.{Numbered, numbered_is, code_uses}
+use Rattle.sch_frames.proofs.runs.Agrees.{Uses, Within}
+use Rattle.sch_frames.proofs.runs.Entering.{own_apart, enters, entering_placed, entering_passes}
+use Rattle.sch_frames.proofs.layouts.Labels.{Right, right, lay_below}
+use Rattle.sch_frames.proofs.layouts.Laid.{Roomy, lay_passes, placed_steers, uses_placed, shaped_steers, parts_shaped, known_steers, parts_named}
+use Rattle.sch_frames.proofs.runs.Same.{same}
+use Rattle.sch_frames.proofs.layouts.Used.{Numbered, numbered_is, code_uses}
 
 -- the frame body of a body
 abbrev pub slots_of : control.Code → Code

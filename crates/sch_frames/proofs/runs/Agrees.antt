@@ -12,7 +12,7 @@ use Rattle.sch_control.specs.Tree.{Expression, perform, bind, sequence, branch, 
 use Rattle.sch_frames.specs.Does.{Follows}
 use Rattle.sch_frames.specs.Meaning.{Cell, Is, Link, Junk, Frame, link_register, value_in, held, same_place, set, with_place, with_members}
 use Rattle.sch_frames.specs.Layout.{Slots, members_at}
-use Rattle.sch_frames.proofs.Operating.{AtomsHave}
+use Rattle.sch_frames.proofs.runs.Operating.{AtomsHave}
 
 -- ## Variables that an expression uses
 
