@@ -24,7 +24,7 @@ use Rattle.sch_control.specs.Tree as control
 use Rattle.sch_control.specs.Tree.{Expression, perform, bind, branch, fix, call, tail_call, return, end}
 use Rattle.sch_control.specs.Valid as control_valid
 use Rattle.sch_frames.specs.declared.instruction.Instruction.{Instruction}
-use Rattle.sch_frames.specs.declared.instruction.Instruction.TheVariants.{Do, Store, Copy, Load, Pass, Fix, Call, Tail, Return, End, IfFalse, Jump, Label, Mark}
+use Rattle.sch_frames.specs.declared.instruction.Instruction.TheVariants.{Do, Store, Copy, Load, Pass, Call, Tail, Return, End, IfFalse, Jump, Label, Mark}
 use Rattle.sch_frames.specs.CallFree.{is_call_free_program, each_begins, begins}
 use Rattle.sch_frames.specs.Layout.{slots_layout, slots_words, labels, most_operands}
 use Rattle.sch_frames.specs.Run.{run}

@@ -1,4 +1,4 @@
-use Rattle.std.proofs.Common.{◌≤◌, ◌<◌, subst, sym, arith}
+use Rattle.std.proofs.Common.{◌≤◌, arith}
 use Rattle.std.proofs.lemmas.Bool.{and_parts}
 use Rattle.sch_control.specs.View.{expression}
 use Rattle.sch_frames.specs.Layout.{most_operands}
