@@ -1,4 +1,3 @@
-pub mod Callless
 pub mod Fits
 pub mod Meaning
 pub mod Operations

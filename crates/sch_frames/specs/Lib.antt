@@ -1,4 +1,4 @@
-pub mod Callless
+pub mod CallFree
 pub mod Does
 pub mod Layout
 pub mod Meaning

@@ -86,6 +86,16 @@ fn slot_behind(first: u32, k: u32) -> Result<Place, Mem>
     }
 }
 
+/// The next slot.
+fn following(slot: u32) -> Result<u32, Mem>
+    ensures { IfOk result (λ n. n ≡ slot + 1) }
+{
+    match slot.checked_add(1) {
+        Some(n) => Ok(n),
+        None => Err(Mem),
+    }
+}
+
 /// Each operand is loaded into a slot of its own.
 fn set_aside(
     alloc: Global,
@@ -93,7 +103,8 @@ fn set_aside(
     operands: &[Operand<u32>],
     out: &mut Writer,
 ) -> Result<(), Mem>
-    ensures instructions { OnOk result (Writes out.old.instructions out.new.instructions (set_aside (own_slot slots.base) slots.aside operands.now)) }
+    ensures instructions { OnOk result (Writes out.old.instructions out.new.instructions
+        (set_aside (own_slot slots.base) slots.aside operands.now)) }
     ensures labels { OnOk result (out.new.labels ≡ out.old.labels) }
 {
     let mut next = slots.aside;
@@ -105,16 +116,6 @@ fn set_aside(
         next = following(next)?;
     }
     Ok(())
-}
-
-/// The next slot.
-fn following(slot: u32) -> Result<u32, Mem>
-    ensures { IfOk result (λ n. n ≡ slot + 1) }
-{
-    match slot.checked_add(1) {
-        Some(n) => Ok(n),
-        None => Err(Mem),
-    }
 }
 
 /// The operands that are set aside are handed over.
@@ -172,7 +173,8 @@ pub(crate) fn write_call(
 ) -> Result<(), Mem>
     ensures instructions { OnOk result (Writes out.old.instructions out.new.instructions
         (λ rest. prepared (own_slots slots.base slots.aside slots.entered) false a.now
-        (Mark (mark.Call a.now.site) ∷ (Call a.now.spread (length a.now.operands) ∷ restored (home_of slots.entered slots.base) (leave test rest))))) }
+        (Mark (mark.Call a.now.site) ∷ (Call a.now.spread (length a.now.operands)
+        ∷ restored (home_of slots.entered slots.base) (leave test rest))))) }
     ensures labels { OnOk result (out.new.labels ≡ out.old.labels) }
 {
     let count = prepare(alloc, slots, false, a, out)?;

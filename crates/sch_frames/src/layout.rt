@@ -50,7 +50,8 @@ fn write_group(
     members: &[Member<u32>],
     out: &mut Writer,
 ) -> Result<(), Mem>
-    ensures instructions { OnOk result (Writes out.old.instructions out.new.instructions (λ rest. Fix (members_at (own_slot base) members.now) ∷ rest)) }
+    ensures instructions { OnOk result (Writes out.old.instructions out.new.instructions
+        (λ rest. Fix (members_at (own_slot base) members.now) ∷ rest)) }
     ensures labels { OnOk result (out.new.labels ≡ out.old.labels) }
 {
     put(out, Instruction::Fix(members_at(alloc, base, members)?))?;

@@ -1,8 +1,6 @@
 //! Frame bodies and frame programs.
 
-ghost use Rattle.std.specs.Prelude.{◌≡◌, true, IfOk};
-ghost use Rattle.sch_control.specs.View.{expression};
-ghost use Rattle.sch_control.specs.Callless.{is_callless};
+ghost use Rattle.std.specs.Prelude.{◌≡◌, IfOk};
 
 use sch_control::{Atom, Body, ControlProgram, Exp, Operand, Operation};
 use sch_frames::{FrameProgram, frame_slots};
@@ -12,7 +10,6 @@ use std::test::Fail;
 
 // The form `(display #\a)`.
 fn shown(alloc: Global) -> Result<Body, Mem>
-    ensures callless { IfOk result (λ b. is_callless (expression b.exp) ≡ true) }
     ensures variables { IfOk result (λ b. b.variables ≡ 2) }
 {
     let mut operands = List::new(alloc);

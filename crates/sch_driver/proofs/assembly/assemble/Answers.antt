@@ -13,7 +13,7 @@ pub returns-in_err-resolved-clause-refused : goal.returns-in_err-resolved-clause
 returns-in_err-resolved-clause-refused c =
     let p = source c.args.p.now in
     let f = frames.source c.in_ok-frames.frames in
-    let n = text_within c.in_ok-code.code.items c.in_ok-routines.routines.items (program_size f) (expressions_size p.bodies) c.in_ok-code.ensures.text c.in_ok-frames.ensures.size c.in_ok-routines.ensures.short in
+    let n = text_within c.in_ok-code.code.items c.in_ok-routines.routines.items (program_size f) (expressions_size p.bodies) c.in_ok-code.ensures.text (c.in_ok-frames.ensures.straight_size c.requires.straight) c.in_ok-routines.ensures.short in
     refused_for p c.from_residual-in_err-resolved.result c.in_err-resolved.field-0.0 c.from_residual-in_err-resolved.ensures.1 (unfit p _ c.in_err-resolved.field-0.0 n c.in_err-resolved.ensures.too_large)
 
 pub returns-clause-does : goal.returns-clause-does
@@ -21,7 +21,7 @@ returns-clause-does c =
     let r = c.in_ok-resolved in
     let p = source c.args.p.now in
     let f = frames.source c.in_ok-frames.frames in
-    let n = text_within c.in_ok-code.code.items c.in_ok-routines.routines.items (program_size f) (expressions_size p.bodies) c.in_ok-code.ensures.text c.in_ok-frames.ensures.size c.in_ok-routines.ensures.short in
+    let n = text_within c.in_ok-code.code.items c.in_ok-routines.routines.items (program_size f) (expressions_size p.bodies) c.in_ok-code.ensures.text (c.in_ok-frames.ensures.straight_size c.requires.straight) c.in_ok-routines.ensures.short in
     assembled (source c.args.p.now) (frames.source c.in_ok-frames.frames) c.args.limits.heap c.args.limits.depth c.in_ok-code.code c.in_ok-routines.routines
     r.resolved.code r.resolved.marks r.resolved.words c.in_ok-text.text r.resolved.zeros c.in_ok-image.image
     c.in_ok-frames.ensures.same c.in_ok-code.ensures.follows c.in_ok-routines.ensures.effective r.ensures.stands r.ensures.valid r.ensures.fits (subst (λ k. k ≤ assembled_bound p) (sym r.ensures.size) n)

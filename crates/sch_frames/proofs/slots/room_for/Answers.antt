@@ -1,8 +1,8 @@
-use Rattle.std.proofs.Common.{◌≤◌, ◌<◌, subst, sym, arith}
+use Rattle.std.proofs.Common.{◌≤◌, arith}
 use Rattle.std.proofs.lemmas.Bool.{and_parts}
 use Rattle.sch_control.specs.View.{expression}
 use Rattle.sch_frames.specs.Layout.{most_operands}
-use Rattle.sch_frames.proofs.SlotsFrame.{operands_most}
+use Rattle.sch_frames.proofs.layouts.SlotsFrame.{operands_most}
 use Rattle.sch_frames.proofs.slots.room_for.Goals as goal
 
 pub overflow_cast-most_operands : goal.overflow_cast-most_operands

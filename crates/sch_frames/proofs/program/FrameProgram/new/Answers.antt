@@ -8,7 +8,7 @@ use Rattle.sch_frames.specs.Does.{SameRuns}
 use Rattle.sch_frames.specs.Sizes.{largest_frame}
 use Rattle.sch_frames.specs.SourceView.{codes_of}
 use Rattle.sch_frames.specs.Valid.{all_known, library_known, statics_known}
-use Rattle.sch_frames.proofs.Whole.{same_runs, frames_known, frames_library, made}
+use Rattle.sch_frames.proofs.runs.Whole.{same_runs, frames_known, frames_library, made}
 use Rattle.sch_frames.proofs.WordsWithin.{each_within}
 use Rattle.sch_frames.proofs.program.FrameProgram.new.Goals as goal
 

@@ -1,5 +1,5 @@
 -- What a body's places hold: the values of its variables, and where it returns.
-use Rattle.std.proofs.Common.{◌≡◌, ◌≢◌, ℕ, zero, suc, ◌+◌, ◌<◌, ◌≤◌, List, [], ◌∷◌, length, Option, Some, None, Bool, true, false, cond, refl, sym, ap, ◌∙◌, subst, arith}
+use Rattle.std.proofs.Common.{◌≡◌, ◌≢◌, ℕ, zero, suc, ◌<◌, List, [], ◌∷◌, Option, Some, None, Bool, true, false, cond, refl, sym, ap, ◌∙◌, subst, arith}
 use Rattle.std.specs.Prelude.{nat_eq}
 use Rattle.std.proofs.lemmas.Bool.{eqb-true, eqb-false, eq-eqb, ne_eqb}
 use Rattle.sch_word.specs.declared.place.Place.{Place}
@@ -12,7 +12,7 @@ use Rattle.sch_control.specs.Tree.{Expression, perform, bind, sequence, branch, 
 use Rattle.sch_frames.specs.Does.{Follows}
 use Rattle.sch_frames.specs.Meaning.{Cell, Is, Link, Junk, Frame, link_register, value_in, held, same_place, set, with_place, with_members}
 use Rattle.sch_frames.specs.Layout.{Slots, members_at}
-use Rattle.sch_frames.proofs.Operating.{AtomsHave}
+use Rattle.sch_frames.proofs.runs.Operating.{AtomsHave}
 
 -- ## Variables that an expression uses
 

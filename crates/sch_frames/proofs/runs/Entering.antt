@@ -1,5 +1,5 @@
 -- A procedure's arguments come into the slots of its formals.
-use Rattle.std.proofs.Common.{◌≡◌, ◌≢◌, ℕ, zero, suc, ◌+◌, ◌-◌, ◌<◌, ◌≤◌, List, [], ◌∷◌, length, Option, Some, None, Bool, true, false, refl, sym, ap, ◌∙◌, subst, arith, ◌⊎◌, inl, inr}
+use Rattle.std.proofs.Common.{◌≡◌, ◌≢◌, ℕ, zero, suc, ◌+◌, ◌-◌, ◌<◌, ◌≤◌, List, length, Option, Some, None, Bool, true, false, refl, sym, ap, ◌∙◌, subst, arith, ◌⊎◌, inl, inr}
 use Rattle.std.specs.Prelude.{slice_get}
 use Rattle.std.specs.List.{list_all}
 use Rattle.std.proofs.lemmas.Bool.{ne_eqb, and_from, lt-ltb, cases_eq}
@@ -13,11 +13,11 @@ use Rattle.sch_frames.specs.declared.instruction.Instruction.{Instruction}
 use Rattle.sch_frames.specs.declared.instruction.Instruction.TheVariants.{Copy}
 use Rattle.sch_frames.specs.Does.{EndsAs}
 use Rattle.sch_frames.specs.Meaning.{Cell, Is, Link, Frame, link_register, closure_register, same_place, set, with_place, cell_of, execute_each, entry_places, beginning}
-use Rattle.sch_frames.specs.Valid.{is_place, instruction_placed, formals_of}
+use Rattle.sch_frames.specs.Valid.{instruction_placed, formals_of}
 use Rattle.sch_frames.specs.Layout.{own_slot, own_slots, home_of, is_entered, arrival, arrivals, entering}
-use Rattle.sch_frames.proofs.Agrees.{HomeApart, Apart, Agrees, set_other, set_self}
-use Rattle.sch_frames.proofs.Arguments.{below_length}
-use Rattle.sch_frames.proofs.Laid.{arrival_placed}
+use Rattle.sch_frames.proofs.runs.Agrees.{HomeApart, Apart, Agrees, set_other, set_self}
+use Rattle.sch_frames.proofs.runs.Arguments.{below_length}
+use Rattle.sch_frames.proofs.layouts.Laid.{arrival_placed}
 
 slots_apart : (base x y : ℕ) → x ≢ y → same_place (own_slot base x) (own_slot base y) ≡ false
 slots_apart base zero zero n = absurd (n refl)

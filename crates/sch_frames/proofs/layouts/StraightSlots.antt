@@ -22,7 +22,7 @@ use Rattle.sch_frames.specs.Layout.{Slots, leave, labels, lay, atom_at, atoms_at
 use Rattle.sch_control.specs.Sizes.{expressions_size}
 use Rattle.sch_frames.specs.Sizes.{call_parts, calls_parts, entry_size, entries_size}
 use Rattle.sch_frames.specs.Straight.{begins_with_operation, is_straight_instruction, is_straight_code}
-use Rattle.sch_frames.proofs.SlotsFrame.{slots_of}
+use Rattle.sch_frames.proofs.layouts.SlotsFrame.{slots_of}
 
 -- ## Straight code hands nothing over
 
@@ -71,7 +71,7 @@ straight_bounded cs n h le = by (straight_hand_over cs h) where
 -- ## Operations
 
 module _ (place : ℕ → Place) where
-  atom_kept : (a : Atom ℕ) → is_straight_atom (atom_at place a) ≡ is_straight_atom a
+  pub atom_kept : (a : Atom ℕ) → is_straight_atom (atom_at place a) ≡ is_straight_atom a
   atom_kept (Constant c) = refl
   atom_kept (Literal n) = refl
   atom_kept (Variable x) = refl
@@ -80,11 +80,11 @@ module _ (place : ℕ → Place) where
   atoms_kept [] = refl
   atoms_kept (a ∷ atoms) = ap (λ b. b && list_all is_straight_atom (atoms_at place atoms)) (atom_kept a) ∙ ap (λ b. is_straight_atom a && b) (atoms_kept atoms)
 
-  operand_kept : (o : Operand ℕ) → is_straight_operand (operand_at place o) ≡ is_straight_operand o
+  pub operand_kept : (o : Operand ℕ) → is_straight_operand (operand_at place o) ≡ is_straight_operand o
   operand_kept (operand.Atom a) = atom_kept a
   operand_kept (operand.Read site which atoms) = ap (λ b. is_straight_primitive which && b) (atoms_kept atoms)
 
-  operands_kept : (os : List (Operand ℕ)) → list_all is_straight_operand (operands_at place os) ≡ list_all is_straight_operand os
+  pub operands_kept : (os : List (Operand ℕ)) → list_all is_straight_operand (operands_at place os) ≡ list_all is_straight_operand os
   operands_kept [] = refl
   operands_kept (o ∷ os) = ap (λ b. b && list_all is_straight_operand (operands_at place os)) (operand_kept o) ∙ ap (λ b. is_straight_operand o && b) (operands_kept os)
 

@@ -1,6 +1,6 @@
 -- Tests that each instruction of a layout passes.
 use Rattle.std.proofs.Common.{◌≡◌, ℕ, zero, suc, ◌+◌, ◌<◌, ◌≤◌, List, [], ◌∷◌, ◌++◌, length, Option, Some, None, Bool, true, false, ◌&&◌, refl, sym, ap, ◌∙◌, arith}
-use Rattle.std.specs.Prelude.{max, nat_le}
+use Rattle.std.specs.Prelude.{max}
 use Rattle.std.specs.List.{list_all}
 use Rattle.std.proofs.Math.Nat.{le-max_left, le-max_right}
 use Rattle.std.proofs.lemmas.Bool.{and_parts, and_from, le-leb, lt-ltb}
@@ -26,9 +26,9 @@ use Rattle.sch_frames.specs.declared.instruction.Instruction.TheVariants.{Do, St
 use Rattle.sch_frames.specs.Meaning.{closure_register, link_register, argument_register, argument_slot}
 use Rattle.sch_frames.specs.Valid.{is_place, is_atom, are_members, instruction_placed, instruction_shaped, instruction_known}
 use Rattle.sch_frames.specs.Layout.{Slots, source_at, sources_at, atom_at, atoms_at, operand_at, operands_at, members_at, operation_at, set_aside, arrival, passed, handed, hand_over, prepared, restored, leave, most_operands, lay}
-use Rattle.sch_frames.proofs.Operating.{AtomHas, AtomsHave, have_left, have_right}
-use Rattle.sch_frames.proofs.Agrees.{MembersUse, Uses}
-use Rattle.sch_frames.proofs.Same.{length_members, length_sources}
+use Rattle.sch_frames.proofs.runs.Operating.{AtomHas, AtomsHave, have_left, have_right}
+use Rattle.sch_frames.proofs.runs.Agrees.{MembersUse, Uses}
+use Rattle.sch_frames.proofs.runs.Same.{length_members, length_sources}
 
 -- the instructions that say where to go on pass a test
 pub record Steers (test : Instruction → Bool) : Type 0 where

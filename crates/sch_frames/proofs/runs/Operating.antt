@@ -17,7 +17,7 @@ use Rattle.sch_control.specs.Operations.{Procedure, atom_value, atom_values, ope
 use Rattle.sch_control.specs.Parts.{operand_atoms, operands_atoms, source_atom, source_atoms, operation_atoms, member_atoms}
 use Rattle.sch_frames.specs.Does.{Follows}
 use Rattle.sch_frames.specs.Layout.{atom_at, atoms_at, operand_at, operands_at, operation_at, source_at, sources_at, members_at}
-use Rattle.sch_frames.proofs.Following.{follows_same, onto, and_value_follows, read_follows, with_some_follows}
+use Rattle.sch_frames.proofs.runs.Following.{follows_same, onto, and_value_follows, read_follows, with_some_follows}
 
 -- each variable among atoms has a property
 abbrev pub AtomHas : (ℕ → Type 0) → Atom ℕ → Type 0

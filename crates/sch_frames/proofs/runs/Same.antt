@@ -1,6 +1,6 @@
 -- The layout of an expression does what the expression does.
-use Rattle.std.proofs.Common.{◌≡◌, ℕ, zero, suc, ◌+◌, ◌<◌, ◌≤◌, List, [], ◌∷◌, ◌++◌, length, Option, Some, None, Bool, true, false, cond, refl, sym, ap, ◌∙◌, subst, arith}
-use Rattle.std.specs.Prelude.{max, slice_get}
+use Rattle.std.proofs.Common.{◌≡◌, ℕ, suc, ◌+◌, ◌<◌, ◌≤◌, List, [], ◌∷◌, ◌++◌, length, Option, Some, None, true, false, cond, refl, sym, ap, ◌∙◌, subst, arith}
+use Rattle.std.specs.Prelude.{max}
 use Rattle.std.proofs.Math.Nat.{le-max_left, le-max_right}
 use Rattle.std.proofs.lemmas.Bool.{eq-eqb, ne_eqb, and_parts}
 use Rattle.sch_word.specs.declared.place.Place.{Place}
@@ -22,13 +22,13 @@ use Rattle.sch_control.specs.Valid.{is_bare}
 use Rattle.sch_frames.specs.declared.instruction.Instruction.{Instruction}
 use Rattle.sch_frames.specs.declared.instruction.Instruction.TheVariants.{Fix, Call, Tail, Return, Jump, Label, Mark}
 use Rattle.sch_frames.specs.Does.{unmarked, EndsAs, world, CalleesFollow}
-use Rattle.sch_frames.specs.Meaning.{Cell, Is, Link, Frame, link_register, argument_register, argument_slot, value_in, held, same_place, with_place, with_members, argument_in, parts, kept, after_call, if_link, execute_each}
-use Rattle.sch_frames.specs.Layout.{Slots, sources_at, members_at, operation_at, in_either, arrival, prepared, restored, leave, labels, most_operands, lay}
-use Rattle.sch_frames.proofs.Agrees.{MembersUse, Uses, Within, Before, HomeApart, Apart, Holds, Agrees, at_slot, set_other, set_self, found, bound, members_bound}
-use Rattle.sch_frames.proofs.Arguments.{Values, values_are, values_length, aside_other, below_length, parts_are, outgoing_view, moved_out, SlotsOf, call_moves, own_view, moved_in, LinkOf, tail_moves, Ready, put_aside, prepared_does}
-use Rattle.sch_frames.proofs.Following.{onto_end, with_value_ends, on_outcome_ends, on_ending_ends, on_return_ends, call_in_ends, with_procedures_follow, either_ends}
-use Rattle.sch_frames.proofs.Operating.{AtomsHave, operate_follows, members_follow}
-use Rattle.sch_frames.proofs.Skip.{past, past_label}
+use Rattle.sch_frames.specs.Meaning.{Cell, Is, Frame, link_register, argument_register, argument_slot, value_in, held, same_place, with_place, with_members, argument_in, parts, kept, after_call, if_link, execute_each}
+use Rattle.sch_frames.specs.Layout.{Slots, sources_at, members_at, operation_at, in_either, prepared, restored, leave, labels, most_operands, lay}
+use Rattle.sch_frames.proofs.runs.Agrees.{MembersUse, Uses, Within, Before, HomeApart, Apart, Holds, Agrees, at_slot, set_other, set_self, found, bound, members_bound}
+use Rattle.sch_frames.proofs.runs.Arguments.{Values, values_are, values_length, aside_other, below_length, parts_are, outgoing_view, moved_out, SlotsOf, call_moves, own_view, moved_in, LinkOf, tail_moves, put_aside, prepared_does}
+use Rattle.sch_frames.proofs.runs.Following.{onto_end, with_value_ends, on_outcome_ends, on_ending_ends, on_return_ends, call_in_ends, with_procedures_follow, either_ends}
+use Rattle.sch_frames.proofs.runs.Operating.{AtomsHave, operate_follows, members_follow}
+use Rattle.sch_frames.proofs.runs.Skip.{past, past_label}
 
 -- ## Groups in their places
 

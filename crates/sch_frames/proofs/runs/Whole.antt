@@ -14,7 +14,7 @@ use Rattle.sch_control.specs.declared.body.Entry.{Entry}
 use Rattle.sch_control.specs.declared.mark.MarkKind.{MarkKind}
 use Rattle.sch_control.specs.declared.mark.MarkKind.TheVariants.{Enter}
 use Rattle.sch_control.specs.Operations.{Procedure}
-use Rattle.sch_control.specs.Meaning.{World, Result, Callee, marked, on_outcome}
+use Rattle.sch_control.specs.Meaning.{World, Result, Callee, on_outcome}
 use Rattle.sch_control.specs.Run as control_run
 use Rattle.sch_control.specs.Run.{Bodies, enter, enter_body, do_forms, entry_at, known_entry, outcome_of, seen_of, starting_world}
 use Rattle.sch_control.specs.Tree as control
@@ -23,7 +23,7 @@ use Rattle.sch_frames.specs.Does.{Follows, unmarked, EndsAs, world, CalleesFollo
 use Rattle.sch_frames.specs.Run as run
 use Rattle.sch_frames.specs.Tree.{Code, Source}
 use Rattle.sch_frames.specs.Valid.{formals_of, names_of, instruction_known, all_known, library_known}
-use Rattle.sch_frames.proofs.Following.{on_outcome_ends, on_return_ends}
+use Rattle.sch_frames.proofs.runs.Following.{on_outcome_ends, on_return_ends}
 
 -- ## Bodies by their labels
 

@@ -1,10 +1,9 @@
 -- The layout with a slot for each variable is a valid frame body of its body.
-use Rattle.std.proofs.Common.{◌≡◌, ℕ, zero, suc, ◌+◌, ◌-◌, ◌≤◌, List, [], ◌∷◌, Option, Some, None, Bool, true, false, refl, ap, ◌∙◌, arith}
+use Rattle.std.proofs.Common.{◌≡◌, ℕ, zero, suc, ◌+◌, ◌-◌, ◌≤◌, List, [], Option, Some, None, Bool, true, false, refl, ap, ◌∙◌, arith}
 use Rattle.std.specs.Prelude.{max, nat_lt}
 use Rattle.std.specs.List.{list_all}
 use Rattle.std.proofs.Math.Nat.{le-max_left, le-max_right, max-le}
 use Rattle.std.proofs.lemmas.Bool.{and_parts, and_from, le-leb, leb-true, lt-ltb}
-use Rattle.sch_word.specs.declared.place.Place.{Place}
 use Rattle.sch_control.specs.declared.body.Entry.{Entry}
 use Rattle.sch_control.specs.Meaning.{nothing, falls_off}
 use Rattle.sch_control.specs.Run as control_run
@@ -16,12 +15,12 @@ use Rattle.sch_frames.specs.Does.{FrameOf, world}
 use Rattle.sch_frames.specs.Tree.{Code}
 use Rattle.sch_frames.specs.Valid.{is_place, placed, forward, shaped, formals_of, labels_in, jumps_ahead, instruction_placed, instruction_shaped, instruction_known}
 use Rattle.sch_frames.specs.Layout.{labels, lay, restored, own_slot, home_of, is_entered, most_operands, arrivals, entering, slots_base, slots_for, slots_words, slots_layout}
-use Rattle.sch_frames.proofs.Agrees.{Uses, Within}
-use Rattle.sch_frames.proofs.Entering.{own_apart, enters, entering_placed, entering_passes}
-use Rattle.sch_frames.proofs.Labels.{Right, right, lay_below}
-use Rattle.sch_frames.proofs.Laid.{Roomy, lay_passes, placed_steers, uses_placed, shaped_steers, parts_shaped, known_steers, parts_named}
-use Rattle.sch_frames.proofs.Same.{same}
-use Rattle.sch_frames.proofs.Used.{Numbered, numbered_is, code_uses}
+use Rattle.sch_frames.proofs.runs.Agrees.{Uses, Within}
+use Rattle.sch_frames.proofs.runs.Entering.{own_apart, enters, entering_placed, entering_passes}
+use Rattle.sch_frames.proofs.layouts.Labels.{Right, right, lay_below}
+use Rattle.sch_frames.proofs.layouts.Laid.{Roomy, lay_passes, placed_steers, uses_placed, shaped_steers, parts_shaped, known_steers, parts_named}
+use Rattle.sch_frames.proofs.runs.Same.{same}
+use Rattle.sch_frames.proofs.layouts.Used.{Numbered, numbered_is, code_uses}
 
 -- the frame body of a body
 abbrev pub slots_of : control.Code → Code

@@ -13,11 +13,11 @@ use Rattle.sch_control.specs.Operations.{and_value, operand_value, operand_value
 use Rattle.sch_control.specs.Parts.{operand_atoms, operands_atoms, application_atoms}
 use Rattle.sch_frames.specs.declared.instruction.Instruction.{Instruction}
 use Rattle.sch_frames.specs.Does.{Follows, EndsAs}
-use Rattle.sch_frames.specs.Meaning.{Cell, Is, Junk, Frame, closure_register, link_register, argument_register, argument_slot, value_in, held, cell_of, same_place, set, with_place, with_outgoing, argument_in, argument, arguments, parts, execute_each}
+use Rattle.sch_frames.specs.Meaning.{Cell, Is, Frame, closure_register, link_register, argument_register, argument_slot, value_in, held, cell_of, same_place, set, with_place, with_outgoing, argument, arguments, parts, execute_each}
 use Rattle.sch_frames.specs.Layout.{Slots, operand_at, set_aside, in_either, arrival, passed, handed, hand_over, prepared}
-use Rattle.sch_frames.proofs.Agrees.{Within, Apart, Agrees, set_other, set_self, agrees_kept, found}
-use Rattle.sch_frames.proofs.Following.{onto_end}
-use Rattle.sch_frames.proofs.Operating.{AtomsHave, have_left, have_right, operand_follows}
+use Rattle.sch_frames.proofs.runs.Agrees.{Within, Apart, Agrees, set_other, set_self, agrees_kept, found}
+use Rattle.sch_frames.proofs.runs.Following.{onto_end}
+use Rattle.sch_frames.proofs.runs.Operating.{AtomsHave, have_left, have_right, operand_follows}
 
 -- ## Values of operands
 

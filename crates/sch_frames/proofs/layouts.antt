@@ -1,0 +1,7 @@
+pub mod CallFreeSlots
+pub mod Labels
+pub mod Laid
+pub mod LayoutSize
+pub mod SlotsFrame
+pub mod StraightSlots
+pub mod Used

@@ -1,0 +1,198 @@
+-- Worked rows: the layout of calls and tail calls, and what programs with them do.
+use Rattle.std.proofs.Common.{◌≡◌, refl, ℕ, Bool, true, false, List, [], ◌∷◌, Option, Some, None, map, pos, negsuc}
+use Rattle.std.specs.Prelude.{codes, ◌&&◌}
+use Rattle.std.specs.Fmt.{signed_decimal}
+use Rattle.std.specs.List.{list_all}
+use Rattle.sch_word.specs.declared.constant.Const.TheVariants.{Fixnum, Boolean}
+use Rattle.sch_word.specs.declared.place.Place.{Place}
+use Rattle.sch_word.specs.declared.place.Place.TheVariants.{Reg, Slot}
+use Rattle.sch_word.specs.declared.primitive.Primitive.TheVariants.{Subtract, Equal, Eq, Put}
+use Rattle.sch_word.specs.values.Literals.{no_literals}
+use Rattle.sch_word.specs.runs.Runs as runs_of
+use Rattle.sch_word.specs.runs.Runs.{Run, ended, going}
+use Rattle.sch_control.specs.declared.mark.MarkKind.TheVariants as mark
+use Rattle.sch_control.specs.declared.operation.Application.{Application}
+use Rattle.sch_control.specs.declared.operation.Atom.TheVariants.{Constant, Variable}
+use Rattle.sch_control.specs.declared.operation.Operand.{Operand}
+use Rattle.sch_control.specs.declared.operation.Operand.TheVariants as operand
+use Rattle.sch_control.specs.declared.operation.Source.TheVariants as source
+use Rattle.sch_control.specs.declared.operation.Operation.TheVariants as operation
+use Rattle.sch_control.specs.CallFree as control_call_free
+use Rattle.sch_control.specs.Run as control_run
+use Rattle.sch_control.specs.Sizes.{expression_size}
+use Rattle.sch_control.specs.Tree as control
+use Rattle.sch_control.specs.Tree.{Expression, perform, bind, branch, fix, call, tail_call, return, end}
+use Rattle.sch_control.specs.Valid as control_valid
+use Rattle.sch_frames.specs.declared.instruction.Instruction.{Instruction}
+use Rattle.sch_frames.specs.declared.instruction.Instruction.TheVariants.{Do, Store, Copy, Load, Pass, Call, Tail, Return, End, IfFalse, Jump, Label, Mark}
+use Rattle.sch_frames.specs.CallFree.{is_call_free_program, each_begins, begins}
+use Rattle.sch_frames.specs.Layout.{slots_layout, slots_words, labels, most_operands}
+use Rattle.sch_frames.specs.Run.{run}
+use Rattle.sch_frames.specs.Sizes.{call_parts, calls_parts, entries_size, instructions_size, most_words, nodes}
+use Rattle.sch_frames.specs.Tree.{Code, Source}
+use Rattle.sch_frames.specs.Valid.{code_valid, is_valid}
+
+-- ## Words for the rows
+
+abbrev number : {V : Type 0} → ℕ → Operand V
+number n = operand.Atom (Constant (Fixnum (pos n)))
+
+abbrev held_in : {V : Type 0} → V → Operand V
+held_in v = operand.Atom (Variable v)
+
+abbrev applied : (site operator : ℕ) → List (Operand ℕ) → Application ℕ
+applied site operator operands = record { site = site; spread = false; operator = held_in operator; operands = operands }
+
+abbrev form : (variables : ℕ) → Expression → control.Code
+form variables e = record { name = []; entry = None; variables = variables; expression = e }
+
+abbrev lambda : (formals fields variables : ℕ) → Expression → control.Code
+lambda formals fields variables e = record { name = []; entry = Some (record { formals = formals; rest = false; fields = fields }); variables = variables; expression = e }
+
+abbrev program : List control.Code → (sites : List ℕ) → (bound : List (List ℕ)) → control.Source
+program bodies sites bound = record {
+  statics = record { symbols = []; literals = no_literals; globals = [] };
+  library = [];
+  bodies = bodies;
+  sites = sites;
+  bound = bound;
+}
+
+abbrev frame : control.Code → Code
+frame c = record { entry = c.entry; words = slots_words c; labels = labels c.expression; instructions = slots_layout c }
+
+-- the frame program of a program
+abbrev framed : control.Source → Source
+framed p = record { statics = p.statics; library = p.library; bodies = map frame p.bodies; words = most_words p.bodies }
+
+abbrev seen : List ℕ → (entries charged : ℕ) → runs_of.End → Option Run
+seen output entries charged how = Some (record { output = output; entries = entries; charged = charged; answers = 0; end = how })
+
+-- a program and its frame program both have a run, with so much depth and so many entries
+abbrev Both : control.Source → (depth entries : ℕ) → Option Run → Type 0
+Both p depth entries r = (control_run.run p 4096 depth [] entries ≡ r) × (run (framed p) 4096 depth [] entries ≡ r)
+
+abbrev both_valid : control.Source → Bool
+both_valid p =
+    control_valid.is_valid p && (list_all control_valid.code_valid p.bodies && (is_valid (framed p) && (list_all code_valid (framed p).bodies && each_begins (framed p))))
+
+-- ## Layouts
+
+-- (lambda (f x) (f (f x))): the operand is set aside in slot 5 and handed over; the return address is back behind
+-- the call that is not in tail position
+abbrev twice : control.Code
+twice = lambda 2 0 5 (bind 4 (call (applied 0 2 (held_in 3 ∷ [])) []) (tail_call (applied 1 2 (held_in 4 ∷ []))))
+
+twice_layout : slots_layout twice ≡
+    Copy (Slot 0) (Reg 15) ∷ Copy (Slot 1) (Reg 14) ∷ Copy (Slot 2) (Reg 3) ∷ Copy (Slot 3) (Reg 8)
+    ∷ Load (Reg 14) (held_in (Slot 2)) ∷ Load (Slot 5) (held_in (Slot 3)) ∷ Copy (Reg 3) (Slot 5) ∷ Mark (mark.Call 0) ∷ Call false 1
+    ∷ Copy (Reg 15) (Slot 0) ∷ Store (Slot 4)
+    ∷ Load (Reg 14) (held_in (Slot 2)) ∷ Load (Slot 5) (held_in (Slot 4)) ∷ Copy (Reg 3) (Slot 5) ∷ Mark (mark.Tail 1) ∷ Tail false 1 ∷ []
+twice_layout = refl
+
+abbrev eight : List (Operand ℕ)
+eight = number 0 ∷ number 1 ∷ number 2 ∷ number 3 ∷ number 4 ∷ number 5 ∷ number 6 ∷ held_in 2 ∷ []
+
+abbrev eight_aside : (first : ℕ) → Operand Place → List Instruction → List Instruction
+eight_aside first last rest =
+    Load (Slot 6) (number 0) ∷ Load (Slot 7) (number 1) ∷ Load (Slot 8) (number 2) ∷ Load (Slot 9) (number 3) ∷ Load (Slot 10) (number 4) ∷ Load (Slot 11) (number 5)
+    ∷ Load (Slot 12) (number 6) ∷ Load (Slot 13) last
+    ∷ Copy (Reg 3) (Slot 6) ∷ Copy (Reg 8) (Slot 7) ∷ Copy (Reg 9) (Slot 8) ∷ Copy (Reg 10) (Slot 9) ∷ Copy (Reg 6) (Slot 10) ∷ Copy (Reg 7) (Slot 11) ∷ rest
+
+-- the seventh operand and the eighth of a call go into the frame that it opens; a form keeps no return address
+call_layout : slots_layout (form 4 (bind 2 (perform (operation.MakeClosure (record { label = 1; fields = [] }))) (end (branch (call (applied 0 2 eight) []) (perform (operation.Operand (number 0))) (perform (operation.Operand (number 1))))))) ≡
+    Do (operation.MakeClosure (record { label = 1; fields = [] })) ∷ Store (Slot 4) ∷ Load (Reg 14) (held_in (Slot 4))
+    ∷ eight_aside 6 (held_in (Slot 4)) (Pass 0 (held_in (Slot 12)) ∷ Pass 1 (held_in (Slot 13)) ∷ Mark (mark.Call 0) ∷ Call false 8 ∷ IfFalse 0
+    ∷ Do (operation.Operand (number 0)) ∷ Jump 1 ∷ Label 0 ∷ Do (operation.Operand (number 1)) ∷ Label 1 ∷ End ∷ [])
+call_layout = refl
+
+-- those of a tail call go where the own arguments arrive, before the slots of variables
+tail_layout : slots_layout (lambda 1 0 4 (tail_call (applied 0 2 eight))) ≡
+    Copy (Slot 2) (Reg 15) ∷ Copy (Slot 3) (Reg 14) ∷ Copy (Slot 4) (Reg 3) ∷ Load (Reg 14) (held_in (Slot 4))
+    ∷ eight_aside 6 (held_in (Slot 4)) (Copy (Slot 0) (Slot 12) ∷ Copy (Slot 1) (Slot 13) ∷ Mark (mark.Tail 0) ∷ Tail false 8 ∷ [])
+tail_layout = refl
+
+-- ## Programs
+
+-- (display (f 7)), where f is (lambda (n) (- ((lambda () (- n 2))) n)): the inner call is not in tail position
+abbrev calling : control.Source
+calling = program
+    (form 4 (bind 2 (perform (operation.MakeClosure (record { label = 1; fields = [] }))) (bind 3 (call (applied 0 2 (number 7 ∷ [])) []) (end (perform (operation.Prim 1 Put (held_in 3 ∷ []))))))
+    ∷ lambda 1 0 5 (bind 3 (perform (operation.MakeClosure (record { label = 2; fields = source.Atom (Variable 2) ∷ [] }))) (bind 4 (call (applied 2 3 []) []) (return (perform (operation.Prim 3 Subtract (held_in 4 ∷ held_in 2 ∷ []))))))
+    ∷ lambda 0 1 3 (bind 2 (perform (operation.Field 1 0)) (return (perform (operation.Prim 4 Subtract (held_in 2 ∷ number 2 ∷ [])))))
+    ∷ []) (2 ∷ 1 ∷ 1 ∷ 2 ∷ 2 ∷ []) ([] ∷ (0 ∷ []) ∷ [] ∷ (0 ∷ []) ∷ (0 ∷ []) ∷ [])
+
+calling_runs : Both calling 2 2 (seen (signed_decimal (negsuc 1)) 2 32 (ended 0))
+calling_runs = (refl, refl)
+
+-- at depth 1 the second call stops with 72, and with one entry it goes on
+calling_stops : Both calling 1 2 (seen [] 1 32 (ended 72))
+calling_stops = (refl, refl)
+
+calling_goes_on : Both calling 2 1 (seen [] 1 32 going)
+calling_goes_on = (refl, refl)
+
+calling_valid : both_valid calling ≡ true
+calling_valid = refl
+
+-- a procedure of seven formals that calls itself in tail position as often as its first says, and gives its seventh
+abbrev looping : control.Source
+looping = program
+    (form 4 (bind 2 (perform (operation.MakeClosure (record { label = 1; fields = [] })))
+    (bind 3 (call (applied 0 2 (number 3 ∷ number 1 ∷ number 2 ∷ number 3 ∷ number 4 ∷ number 5 ∷ operand.Atom (Constant (Boolean true)) ∷ [])) []) (end (perform (operation.Prim 1 Put (held_in 3 ∷ []))))))
+    ∷ lambda 7 0 10 (branch (perform (operation.Prim 2 Equal (held_in 2 ∷ number 0 ∷ []))) (return (perform (operation.Operand (held_in 8))))
+    (bind 9 (perform (operation.Prim 3 Subtract (held_in 2 ∷ number 1 ∷ []))) (tail_call (applied 4 1 (held_in 9 ∷ held_in 3 ∷ held_in 4 ∷ held_in 5 ∷ held_in 6 ∷ held_in 7 ∷ held_in 8 ∷ [])))))
+    ∷ []) (8 ∷ 1 ∷ 2 ∷ 2 ∷ 8 ∷ []) ([] ∷ (0 ∷ []) ∷ [] ∷ [] ∷ (0 ∷ []) ∷ [])
+
+looping_runs : Both looping 1 4 (seen (codes "#t") 4 16 (ended 0))
+looping_runs = (refl, refl)
+
+looping_valid : both_valid looping ≡ true
+looping_valid = refl
+
+-- a procedure is made, and is the same object as itself; none is entered
+abbrev call_free : control.Source
+call_free = program
+    (form 3 (fix (record { at = 2; closure = record { label = 1; fields = source.Atom (Variable 2) ∷ [] } } ∷ [])
+    (end (perform (operation.Prim 0 Put (operand.Read 1 Eq (Variable 2 ∷ Variable 2 ∷ []) ∷ [])))))
+    ∷ lambda 1 1 3 (return (perform (operation.Field 1 0)))
+    ∷ []) (1 ∷ 2 ∷ []) ([] ∷ [] ∷ [])
+
+call_free_runs : Both call_free 1 1 (seen (codes "#t") 0 16 (ended 0))
+call_free_runs = (refl, refl)
+
+call_free_valid : both_valid call_free ≡ true
+call_free_valid = refl
+
+call_free_rows :
+    (control_call_free.is_call_free_program call_free ≡ true)
+    × (is_call_free_program (framed call_free) ≡ true)
+    × (control_call_free.is_call_free_program calling ≡ false)
+    × (is_call_free_program (framed calling) ≡ false)
+    × (control_call_free.is_call_free_program (program (twice ∷ []) [] []) ≡ false)
+    × (control_call_free.is_call_free (tail_call (applied 0 2 [])) ≡ false)
+call_free_rows = (refl, refl, refl, refl, refl, refl)
+
+-- a label or a mark is nothing that is done
+begins_rows :
+    (begins [] ≡ false)
+    × (begins (Label 0 ∷ Return ∷ []) ≡ false)
+    × (begins (Mark mark.Return ∷ Return ∷ []) ≡ false)
+    × (begins (Copy (Slot 0) (Reg 15) ∷ []) ≡ true)
+begins_rows = (refl, refl, refl, refl)
+
+-- ## Sizes: two calls of one operand each; seven formals are more than the operands of a call, or fewer
+
+size_rows :
+    (call_parts twice.expression ≡ 4)
+    × (calls_parts (twice ∷ twice ∷ []) ≡ 8)
+    × (nodes twice.expression ≡ 3)
+    × (expression_size twice.expression ≡ 7)
+    × (instructions_size (slots_layout twice) ≡ 18)
+    × (entries_size (twice ∷ form 2 (end (perform (operation.Operand (number 1)))) ∷ []) ≡ 4)
+    × (most_operands (bind 3 (call (applied 0 2 eight) []) (tail_call (applied 1 2 (number 1 ∷ [])))) ≡ 8)
+    × (slots_words twice ≡ 6)
+    × (slots_words (lambda 9 0 11 (return (perform (operation.Operand (held_in 10))))) ≡ 14)
+    × (slots_words (lambda 1 0 4 (tail_call (applied 0 2 eight))) ≡ 14)
+    × (most_words (twice ∷ lambda 1 0 4 (tail_call (applied 0 2 eight)) ∷ form 2 (end (perform (operation.Operand (number 1)))) ∷ []) ≡ 14)
+size_rows = (refl, refl, refl, refl, refl, refl, refl, refl, refl, refl, refl)
