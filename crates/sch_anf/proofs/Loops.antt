@@ -19,7 +19,7 @@ use Rattle.sch_control.specs.Tree.{Expression}
 use Rattle.sch_control.specs.View.{expression}
 use Rattle.sch_anf.specs.declared.steps.Step.{Step}
 use Rattle.sch_anf.specs.LabelsFit.{LabelsOfMade, LabelsFit, LabelsFitEach}
-use Rattle.sch_anf.specs.Normal.{Scope, is_atom, are_atoms, atom_of, atoms_of, ends_in_call, last_in_call, binds, binds_parts, operand_binds, operands_bind, inits_bind, operand_at, operands_at, init_numbers, numbers_for, closure_of, members_of, with_operands, with_inits, with_new_cells, cell_operation, normal, normal_parts, forms_before}
+use Rattle.sch_normal.specs.Normal.{Scope, is_atom, are_atoms, atom_of, atoms_of, ends_in_call, last_in_call, binds, binds_parts, operand_binds, operands_bind, inits_bind, operand_at, operands_at, init_numbers, numbers_for, closure_of, members_of, with_operands, with_inits, with_new_cells, cell_operation, normal, normal_parts, forms_before}
 use Rattle.sch_anf.specs.Steps.{after, before, Adds, bound_before, part_before, dropped_before}
 
 -- the trees of the items of a list

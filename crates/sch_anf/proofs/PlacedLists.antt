@@ -13,7 +13,7 @@ use Rattle.sch_flat.specs.Tree.{Tree, Trees, Body, constant, literal, variable, 
 use Rattle.sch_flat.specs.View as view
 use Rattle.sch_flat.specs.View.{tree, trees_of}
 use Rattle.sch_flat.proofs.Rows.{trees_of_list}
-use Rattle.sch_anf.specs.Normal.{bound_places, operator_place, bound_rows, bound_rows_each, bound_rows_bodies}
+use Rattle.sch_normal.specs.Normal.{bound_places, operator_place, bound_rows, bound_rows_each, bound_rows_bodies}
 use Rattle.sch_anf.specs.Placed.{size, size_each, size_bodies, placed, placed_each, placed_bodies}
 use Rattle.sch_anf.proofs.Loops.{left}
 

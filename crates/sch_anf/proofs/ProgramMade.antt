@@ -20,13 +20,13 @@ use Rattle.sch_control.specs.Fits.{fits, begins_with}
 use Rattle.sch_control.specs.SourceView.{source_of, codes_of}
 use Rattle.sch_control.specs.Valid.{code_valid}
 use Rattle.sch_anf.specs.LabelsFit.{LabelsFitEach, LabelsOfBodies}
-use Rattle.sch_anf.specs.Normal.{new_label, normal_bodies, normal_source}
+use Rattle.sch_normal.specs.Normal.{new_label, normal_bodies, normal_source}
 use Rattle.sch_anf.specs.Placed.{size_each, size_bodies, placed_bodies, placed_each}
-use Rattle.sch_anf.proofs.Orders.{and_left, and_right}
-use Rattle.sch_anf.proofs.Parts.{both}
+use Rattle.sch_normal.proofs.runs.Orders.{and_left, and_right}
+use Rattle.sch_normal.proofs.valid.Parts.{both}
 use Rattle.sch_anf.proofs.PlacedLists.{bound_is}
 use Rattle.sch_anf.proofs.CodeLists.{sorted, label_fits, labels_fit_each, labels_fit_bodies}
-use Rattle.sch_anf.proofs.ValidProgram.{bodies_valid}
+use Rattle.sch_normal.proofs.valid.ValidProgram.{bodies_valid}
 
 -- ## Labels
 
@@ -112,15 +112,3 @@ pub made_program : (p : Source) (ready : Statics) (library sites : List ℕ) (bo
 made_program p ready library sites bodies bound n a b c d e f =
     let g = f ∙ bound_is p.bodies p.forms n in
     rw (a, b, c, d, g, e) refl
-
--- ## Order tables
-
-pub fitting_orders : (sites : List ℕ) (bound orders : List (List ℕ)) → fits sites bound orders ≡ true → is_order_table sites orders ≡ true
-fitting_orders [] [] [] h = refl
-fitting_orders (width ∷ sites) (parts ∷ bound) (order ∷ orders) h =
-    both (is_permutation width order) (is_order_table sites orders) (and_left (is_permutation width order) (begins_with parts order && fits sites bound orders) h)
-    (fitting_orders sites bound orders (and_right (begins_with parts order) (fits sites bound orders) (and_right (is_permutation width order) (begins_with parts order && fits sites bound orders) h)))
-fitting_orders [] (parts ∷ bound) orders h = absurd (cc)
-fitting_orders [] [] (order ∷ orders) h = absurd (cc)
-fitting_orders (width ∷ sites) [] orders h = absurd (cc)
-fitting_orders (width ∷ sites) (parts ∷ bound) [] h = absurd (cc)

@@ -10,10 +10,10 @@ use Rattle.sch_word.proofs.Walking.{next_left}
 use Rattle.sch_flat.specs.declared.tree.NewCell.{NewCell}
 use Rattle.sch_flat.specs.View.{new_cell}
 use Rattle.sch_anf.specs.declared.variables.Binding.{Binding}
-use Rattle.sch_anf.specs.Normal.{Scope, number_of, cells_scope}
+use Rattle.sch_normal.specs.Normal.{Scope, number_of, cells_scope}
 use Rattle.sch_anf.specs.ScopeTable.{pairs_of, scope_of, undoes, is_table}
-use Rattle.sch_anf.proofs.Orders.{and_left, and_right}
-use Rattle.sch_anf.proofs.Parts.{both}
+use Rattle.sch_normal.proofs.runs.Orders.{and_left, and_right}
+use Rattle.sch_normal.proofs.valid.Parts.{both}
 
 differs : (x y : ℕ) → nat_eq x y ≡ false → x ≢ y
 differs x y e h = false≢true (sym e ∙ eq-eqb x y h)

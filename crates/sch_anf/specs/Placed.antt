@@ -4,7 +4,7 @@ use Rattle.sch_word.specs.trees.Bindings.{numbers}
 use Rattle.sch_word.specs.trees.Shape.{size_of}
 use Rattle.sch_flat.specs.Tree.{Tree, Trees, Body, constant, literal, variable, global, set_global, define, branch, sequence, bind, make_closure, fix_closures, call, operation, new_cells, cell_get, cell_set, no_trees, and_tree, count}
 use Rattle.sch_flat.specs.Measures.{over, over_each, over_bodies}
-use Rattle.sch_anf.specs.Normal.{bound_places, operator_place}
+use Rattle.sch_normal.specs.Normal.{bound_places, operator_place}
 
 -- how many nodes a tree has, and variables that it binds
 abbrev pub size : Tree → ℕ

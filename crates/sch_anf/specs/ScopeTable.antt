@@ -3,7 +3,7 @@
 use Rattle.std.specs.Prelude.{ℕ, Bool, ◌&&◌, nat_eq, nat_lt, List, [], ◌∷◌, length, reverse, slice_index, slice_set}
 use Rattle.std.specs.List.{list_all}
 use Rattle.sch_anf.specs.declared.variables.Binding.{Binding}
-use Rattle.sch_anf.specs.Normal.{Scope}
+use Rattle.sch_normal.specs.Normal.{Scope}
 
 abbrev pub pairs_of : List Binding → Scope
 pairs_of [] = []

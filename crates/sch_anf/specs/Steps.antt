@@ -6,7 +6,7 @@ use Rattle.sch_control.specs.Tree as to
 use Rattle.sch_control.specs.Tree.{Expression}
 use Rattle.sch_control.specs.View.{expression}
 use Rattle.sch_anf.specs.declared.steps.Step.{Step}
-use Rattle.sch_anf.specs.Normal.{Scope, is_simple, ends_in_call, bound_unless, normal}
+use Rattle.sch_normal.specs.Normal.{Scope, is_simple, ends_in_call, bound_unless, normal}
 
 abbrev pub step_before : Option ℕ → (value body : Expression) → Expression
 step_before (Some x) value body = to.bind x value body

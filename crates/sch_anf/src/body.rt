@@ -9,7 +9,7 @@ ghost use Rattle.sch_flat.specs.View.{body, tree, trees_of};
 ghost use Rattle.sch_control.specs.SourceView.{code_of, codes_of};
 ghost use Rattle.sch_control.specs.Valid.{code_valid};
 ghost use Rattle.sch_anf.specs.LabelsFit.{LabelsFit, LabelsFitEach, LabelsOfBodies};
-ghost use Rattle.sch_anf.specs.Normal.{form_code, normal_bodies, procedure_code};
+ghost use Rattle.sch_normal.specs.Normal.{form_code, normal_bodies, procedure_code};
 
 use crate::normalizing::normalize_expression;
 use crate::variables::Variables;

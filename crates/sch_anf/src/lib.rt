@@ -2,7 +2,6 @@
 #![tactic(auto)]
 
 ghost use Rattle.std.specs.Prelude.{◌≡◌, ◌≤◌, ◌<◌, ◌*◌, ◌^◌, IsTrue, IfOk};
-ghost use Rattle.sch_word.specs.runs.Orders.{is_order_table};
 ghost use Rattle.sch_word.specs.values.StaticsView.{statics};
 ghost use Rattle.sch_control.specs.Fits.{table_fits};
 ghost use Rattle.sch_control.specs.ProgramView as control;
@@ -10,22 +9,20 @@ ghost use Rattle.sch_control.specs.Sizes.{expressions_size};
 ghost use Rattle.sch_flat.specs.Measures as measures;
 ghost use Rattle.sch_flat.specs.ProgramView.{source};
 ghost use Rattle.sch_flat.specs.Straight.{is_straight_program};
-ghost use Rattle.sch_anf.specs.Kept.{SameCalls, StaysStraight};
-ghost use Rattle.sch_anf.specs.Normal.{normal_source};
-ghost use Rattle.sch_anf.specs.SameRun.{SameRun};
-ghost use Rattle.sch_anf.specs.Table.{given_table};
-ghost use Rattle.sch_anf.specs.Tests.{tests_of};
+ghost use Rattle.sch_normal.specs.Kept.{SameCalls, StaysStraight};
+ghost use Rattle.sch_normal.specs.Normal.{normal_source};
+ghost use Rattle.sch_normal.specs.SameRun.{SameRun};
+ghost use Rattle.sch_orders.specs.Table.{given_table};
+ghost use Rattle.sch_normal.specs.Tests.{tests_of};
 
 mod body;
 mod normalizing;
-mod order_table;
 mod places;
 mod simple;
 mod steps;
 mod variables;
 
 use crate::body::normalize_bodies;
-use crate::order_table::orders_of;
 use crate::places::bound_parts;
 use crate::simple::new_labels;
 use sch_control::ControlProgram;
@@ -81,19 +78,3 @@ fn normal_program(alloc: Global, p: &FlatProgram) -> Result<ControlProgram, Mem>
         bound,
     })
 }
-
-/// The order table that lists, at each site, what `p` binds, in order, and then the other parts by number. It is
-/// one permutation for each site.
-pub fn given_orders(alloc: Global, p: &ControlProgram) -> Result<List<List<u32>>, Mem>
-    ensures orders { IfOk result (λ orders. orders ≡ given_table (control.source p.now)) }
-    ensures fits { IfOk result (λ orders. IsTrue (table_fits (control.source p.now) orders)) }
-    ensures permutations { IfOk result (λ orders. IsTrue (is_order_table p.now.sites orders)) }
-{
-    orders_of(alloc, p.sites.as_slice(), p.bound.as_slice())
-}
-
-/// A table that fits a program has one permutation for each of its sites.
-pub fn a_table_that_fits_is_an_order_table(p: &ControlProgram, orders: &List<List<u32>>)
-    requires { IsTrue (table_fits (control.source p.now) orders.now) }
-    ensures { IsTrue (is_order_table p.now.sites orders.now) }
-{}

@@ -8,8 +8,8 @@ ghost use Rattle.sch_control.specs.declared.operation.Operation.TheVariants as d
 ghost use Rattle.sch_control.specs.Tree.{perform};
 ghost use Rattle.sch_control.specs.View.{expression};
 ghost use Rattle.sch_anf.specs.LabelsFit.{LabelsFit, LabelsFitEach};
-ghost use Rattle.sch_anf.specs.Normal.{binds, binds_parts, called, finished, init_numbers, inits_bind, normal, normal_parts, operand_at, operand_binds, operands_at, operands_bind, with_inits, with_new_cells, with_operands};
-ghost use Rattle.sch_anf.specs.Normal as specs;
+ghost use Rattle.sch_normal.specs.Normal.{binds, binds_parts, called, finished, init_numbers, inits_bind, normal, normal_parts, operand_at, operand_binds, operands_at, operands_bind, with_inits, with_new_cells, with_operands};
+ghost use Rattle.sch_normal.specs.Normal as specs;
 ghost use Rattle.sch_anf.specs.ScopeTable.{scope_of};
 ghost use Rattle.sch_anf.specs.Steps.{Adds, after, bound_before, dropped_before, part_before};
 

@@ -4,7 +4,7 @@ ghost use Rattle.std.specs.Prelude.{◌≡◌, ◌+◌, ◌++◌, ◌<◌, ◌^�
 ghost use Rattle.sch_word.specs.trees.Bindings.{numbers};
 ghost use Rattle.sch_flat.specs.Tree.{and_tree, count, no_trees};
 ghost use Rattle.sch_flat.specs.View.{body, tree, trees_of};
-ghost use Rattle.sch_anf.specs.Normal as normal;
+ghost use Rattle.sch_normal.specs.Normal as normal;
 ghost use Rattle.sch_anf.specs.Placed.{placed, placed_bodies, placed_each, size, size_bodies, size_each};
 
 use crate::simple::is_simple;

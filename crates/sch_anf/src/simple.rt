@@ -4,7 +4,7 @@ ghost use Rattle.std.specs.Prelude.{◌≡◌, ◌+◌, ◌<◌, ◌^◌, ℕ, m
 ghost use Rattle.std.specs.List.Sorted.{IsNonDecreasing};
 ghost use Rattle.sch_flat.specs.View.{made, new_cell, tree, trees_of, used};
 ghost use Rattle.sch_anf.specs.LabelsFit.{LabelsOfMade};
-ghost use Rattle.sch_anf.specs.Normal as normal;
+ghost use Rattle.sch_normal.specs.Normal as normal;
 ghost use Rattle.sch_anf.specs.ScopeTable.{scope_of};
 
 use crate::variables::Variables;

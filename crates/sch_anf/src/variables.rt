@@ -3,7 +3,7 @@
 ghost use Rattle.std.specs.Prelude.{◌≡◌, ◌+◌, ◌-◌, ◌<◌, ◌^◌, suc, [], ◌∷◌, ◌++◌, length, map, take, replicate, slice_index, IsTrue, OnOk};
 ghost use Rattle.sch_flat.specs.View.{made, new_cell};
 ghost use Rattle.sch_word.specs.trees.Bindings.{numbers, with_variables};
-ghost use Rattle.sch_anf.specs.Normal.{number_of, numbers_for, cells_scope};
+ghost use Rattle.sch_normal.specs.Normal.{number_of, numbers_for, cells_scope};
 ghost use Rattle.sch_anf.specs.ScopeTable.{scope_of, is_table};
 
 use sch_flat::{Made, NewCell};

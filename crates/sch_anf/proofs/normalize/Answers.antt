@@ -4,18 +4,18 @@ use Rattle.sch_flat.specs.ProgramView.{source}
 use Rattle.sch_control.specs.Fits.{table_fits}
 use Rattle.sch_control.specs.Sizes.{expressions_size}
 use Rattle.sch_flat.specs.Measures.{program_size}
-use Rattle.sch_anf.specs.Kept.{SameCalls, StaysStraight}
-use Rattle.sch_anf.specs.Normal.{normal_source}
-use Rattle.sch_anf.specs.SameRun.{SameRun}
-use Rattle.sch_anf.specs.Table.{given_table}
-use Rattle.sch_anf.specs.Tests.{tests_of}
-use Rattle.sch_anf.proofs.CallsKept.{program_calls}
-use Rattle.sch_anf.proofs.Program.{normal_runs}
-use Rattle.sch_anf.proofs.StraightKept.{program_straight}
-use Rattle.sch_anf.proofs.StraightSize.{straight_size}
-use Rattle.sch_anf.proofs.Table.{given_table_fits}
-use Rattle.sch_anf.proofs.TestsKept.{program_tests}
-use Rattle.sch_anf.proofs.ValidProgram.{bound_known}
+use Rattle.sch_normal.specs.Kept.{SameCalls, StaysStraight}
+use Rattle.sch_normal.specs.Normal.{normal_source}
+use Rattle.sch_normal.specs.SameRun.{SameRun}
+use Rattle.sch_orders.specs.Table.{given_table}
+use Rattle.sch_normal.specs.Tests.{tests_of}
+use Rattle.sch_normal.proofs.kept.CallsKept.{program_calls}
+use Rattle.sch_normal.proofs.runs.Program.{normal_runs}
+use Rattle.sch_normal.proofs.kept.StraightKept.{program_straight}
+use Rattle.sch_normal.proofs.kept.StraightSize.{straight_size}
+use Rattle.sch_orders.proofs.Table.{given_table_fits}
+use Rattle.sch_normal.proofs.kept.TestsKept.{program_tests}
+use Rattle.sch_normal.proofs.valid.ValidProgram.{bound_known}
 use Rattle.sch_anf.proofs.normalize.Goals as goal
 
 pub returns-clause-runs : goal.returns-clause-runs

@@ -5,7 +5,7 @@ use Rattle.sch_flat.specs.View.{body, trees_of}
 use Rattle.sch_control.specs.SourceView.{codes_of}
 use Rattle.sch_control.specs.Valid.{code_valid}
 use Rattle.sch_anf.specs.LabelsFit.{LabelsFitEach, LabelsOfBodies}
-use Rattle.sch_anf.specs.Normal.{normal_bodies}
+use Rattle.sch_normal.specs.Normal.{normal_bodies}
 use Rattle.sch_anf.proofs.Loops.{left}
 use Rattle.sch_anf.proofs.body.normalize_bodies.Given as goal
 

@@ -4,7 +4,7 @@ use Rattle.sch_flat.proofs.Rows.{trees_of_list}
 use Rattle.sch_control.specs.View.{expression}
 use Rattle.sch_anf.specs.declared.steps.Step.{Step}
 use Rattle.sch_anf.specs.LabelsFit.{LabelsFitEach}
-use Rattle.sch_anf.specs.Normal.{binds_parts, operands_bind, inits_bind, operands_at, init_numbers, normal_parts, with_operands, with_inits}
+use Rattle.sch_normal.specs.Normal.{binds_parts, operands_bind, inits_bind, operands_at, init_numbers, normal_parts, with_operands, with_inits}
 use Rattle.sch_anf.specs.ScopeTable.{scope_of}
 use Rattle.sch_anf.specs.Steps.{after, bound_before, dropped_before}
 use Rattle.sch_anf.proofs.Loops.{left, adds_one, bound_is, dropped_is, no_items, labels_next, parts_turn, few_parts_next, few_dropped, on_any}

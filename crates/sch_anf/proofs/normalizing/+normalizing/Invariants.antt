@@ -3,7 +3,7 @@ use Rattle.sch_flat.specs.declared.tree.Exp.{Exp}
 use Rattle.sch_flat.specs.View.{tree, trees_of}
 use Rattle.sch_control.specs.Tree.{Expression}
 use Rattle.sch_anf.specs.LabelsFit.{LabelsFit, LabelsFitEach}
-use Rattle.sch_anf.specs.Normal.{operands_bind, inits_bind, binds_parts, operands_at, init_numbers, with_operands, with_inits, normal_parts}
+use Rattle.sch_normal.specs.Normal.{operands_bind, inits_bind, binds_parts, operands_at, init_numbers, with_operands, with_inits, normal_parts}
 use Rattle.sch_anf.specs.ScopeTable.{scope_of}
 use Rattle.sch_anf.specs.Steps.{after}
 use Rattle.sch_anf.proofs.Loops.{left, dropped_binds}

@@ -1,7 +1,7 @@
 use Rattle.std.proofs.Common.{◌++◌, ◌∙◌, ap, sym, refl, arith}
 use Rattle.sch_flat.specs.View.{trees_of}
 use Rattle.sch_flat.proofs.Rows.{trees_of_list}
-use Rattle.sch_anf.specs.Normal.{bound_places}
+use Rattle.sch_normal.specs.Normal.{bound_places}
 use Rattle.sch_anf.proofs.PlacedLists.{few_items, places_turn, places_end}
 use Rattle.sch_anf.proofs.places.add_places.Goals as goal
 

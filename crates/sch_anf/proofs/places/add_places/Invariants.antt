@@ -1,6 +1,6 @@
 use Rattle.std.proofs.Common.{◌≡◌, ◌++◌, ◌+◌, ℕ, List, drop}
 use Rattle.sch_flat.specs.View.{trees_of}
-use Rattle.sch_anf.specs.Normal.{bound_places}
+use Rattle.sch_normal.specs.Normal.{bound_places}
 use Rattle.sch_anf.proofs.Loops.{left}
 use Rattle.sch_anf.proofs.places.add_places.Given as goal
 

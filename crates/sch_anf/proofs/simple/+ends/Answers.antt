@@ -1,5 +1,5 @@
 use Rattle.std.proofs.Common.{◌∙◌, ◌-◌, length, ap, sym, arith}
-use Rattle.sch_anf.specs.Normal.{last_in_call}
+use Rattle.sch_normal.specs.Normal.{last_in_call}
 use Rattle.sch_anf.proofs.Loops.{last_is, no_items}
 use Rattle.sch_anf.proofs.simple.+ends.Goals as goal
 

@@ -1,7 +1,7 @@
 use Rattle.std.proofs.Common.{◌∙◌, ap, sym}
 use Rattle.sch_flat.specs.View.{trees_of}
 use Rattle.sch_flat.proofs.Rows.{trees_of_list}
-use Rattle.sch_anf.specs.Normal.{are_atoms}
+use Rattle.sch_normal.specs.Normal.{are_atoms}
 use Rattle.sch_anf.proofs.Loops.{atoms_stop, atoms_turn, atoms_end}
 use Rattle.sch_anf.proofs.simple.are_atoms.Goals as goal
 

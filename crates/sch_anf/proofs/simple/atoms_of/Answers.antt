@@ -1,7 +1,7 @@
 use Rattle.std.proofs.Common.{◌∙◌, ◌∷◌, [], ◌++◌, ap, sym}
 use Rattle.sch_flat.specs.View.{trees_of}
 use Rattle.sch_flat.proofs.Rows.{trees_of_list}
-use Rattle.sch_anf.specs.Normal.{atoms_of}
+use Rattle.sch_normal.specs.Normal.{atoms_of}
 use Rattle.sch_anf.specs.ScopeTable.{scope_of}
 use Rattle.sch_anf.proofs.Loops.{atoms_next, atoms_all}
 use Rattle.sch_anf.proofs.simple.atoms_of.Goals as goal

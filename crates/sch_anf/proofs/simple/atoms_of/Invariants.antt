@@ -1,6 +1,6 @@
 use Rattle.std.proofs.Common.{◌≡◌, ◌++◌, drop}
 use Rattle.sch_flat.specs.View.{trees_of}
-use Rattle.sch_anf.specs.Normal.{atoms_of}
+use Rattle.sch_normal.specs.Normal.{atoms_of}
 use Rattle.sch_anf.specs.ScopeTable.{scope_of}
 use Rattle.sch_anf.proofs.Loops.{left}
 use Rattle.sch_anf.proofs.simple.atoms_of.Given as goal

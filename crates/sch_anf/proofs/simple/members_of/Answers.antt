@@ -1,7 +1,7 @@
 use Rattle.std.proofs.Common.{◌∙◌, length, map, ap, sym, subst, arith, refl}
 use Rattle.sch_flat.specs.View.{made}
 use Rattle.sch_anf.specs.LabelsFit.{LabelsOfMade}
-use Rattle.sch_anf.specs.Normal.{members_of}
+use Rattle.sch_normal.specs.Normal.{members_of}
 use Rattle.sch_anf.specs.ScopeTable.{scope_of}
 use Rattle.sch_anf.proofs.Loops.{members_turn, made_turn, members_end, length_is}
 use Rattle.sch_anf.proofs.simple.members_of.Goals as goal

@@ -1,7 +1,7 @@
 use Rattle.std.proofs.Common.{◌≡◌, ◌++◌, ◌+◌, drop, map, length}
 use Rattle.sch_flat.specs.View.{made}
 use Rattle.sch_anf.specs.LabelsFit.{LabelsOfMade}
-use Rattle.sch_anf.specs.Normal.{members_of}
+use Rattle.sch_normal.specs.Normal.{members_of}
 use Rattle.sch_anf.specs.ScopeTable.{scope_of}
 use Rattle.sch_anf.proofs.simple.members_of.Given as goal
 

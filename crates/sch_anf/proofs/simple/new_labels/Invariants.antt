@@ -1,5 +1,5 @@
 use Rattle.std.proofs.Common.{◌≡◌, ◌++◌, drop, map}
-use Rattle.sch_anf.specs.Normal.{new_label}
+use Rattle.sch_normal.specs.Normal.{new_label}
 use Rattle.sch_anf.proofs.simple.new_labels.Given as goal
 
 abbrev pub invariant-loop-label : goal.invariant-loop-label

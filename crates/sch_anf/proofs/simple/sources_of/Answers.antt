@@ -1,7 +1,7 @@
 use Rattle.std.proofs.Common.{◌∙◌, sym}
 use Rattle.std.proofs.lemmas.Simd.{map-map}
 use Rattle.sch_flat.specs.View.{used}
-use Rattle.sch_anf.specs.Normal.{source_of}
+use Rattle.sch_normal.specs.Normal.{source_of}
 use Rattle.sch_anf.specs.ScopeTable.{scope_of}
 use Rattle.sch_anf.proofs.simple.sources_of.Goals as goal
 

@@ -1,6 +1,6 @@
 use Rattle.std.proofs.Common.{◌≡◌, ◌+◌, ◌≤◌, length, map, take, drop}
 use Rattle.sch_flat.specs.View.{new_cell}
-use Rattle.sch_anf.specs.Normal.{cells_scope}
+use Rattle.sch_normal.specs.Normal.{cells_scope}
 use Rattle.sch_anf.specs.ScopeTable.{scope_of}
 use Rattle.sch_anf.proofs.variables.Variables.bind_cells.Given as goal
 

@@ -1,0 +1,4 @@
+pub mod runs
+pub mod valid
+pub mod kept
+pub mod Examples

@@ -1,0 +1,4 @@
+pub mod CallsKept
+pub mod TestsKept
+pub mod StraightKept
+pub mod StraightSize

@@ -1,0 +1,4 @@
+pub mod Normal
+pub mod Kept
+pub mod SameRun
+pub mod Tests
