@@ -1,5 +1,3 @@
-pub mod ScopeTables
 pub mod Loops
-pub mod PlacedLists
 pub mod CodeLists
 pub mod ProgramMade

@@ -9,24 +9,24 @@ ghost use Rattle.sch_control.specs.Sizes.{expressions_size};
 ghost use Rattle.sch_flat.specs.Measures as measures;
 ghost use Rattle.sch_flat.specs.ProgramView.{source};
 ghost use Rattle.sch_flat.specs.Straight.{is_straight_program};
+ghost use Rattle.sch_normal.specs.Counted.{BindNoMore};
+ghost use Rattle.sch_normal.specs.Dropped.{dropped_of};
 ghost use Rattle.sch_normal.specs.Kept.{SameCalls, StaysStraight};
 ghost use Rattle.sch_normal.specs.Normal.{normal_source};
 ghost use Rattle.sch_normal.specs.SameRun.{SameRun};
 ghost use Rattle.sch_orders.specs.Table.{given_table};
 ghost use Rattle.sch_normal.specs.Tests.{tests_of};
+ghost use Rattle.sch_normal.specs.Weight.{weight};
 
 mod body;
 mod normalizing;
-mod places;
-mod simple;
 mod steps;
-mod variables;
 
 use crate::body::normalize_bodies;
-use crate::places::bound_parts;
-use crate::simple::new_labels;
 use sch_control::ControlProgram;
 use sch_flat::FlatProgram;
+use sch_operands::new_labels;
+use sch_simple::bound_parts;
 use sch_word::{List, Mem};
 use std::alloc::Global;
 
@@ -52,7 +52,12 @@ pub fn normalize(alloc: Global, p: &FlatProgram) -> Result<ControlProgram, Mem>
     ensures calls { IfOk result (λ q. SameCalls (source p.now) (control.source q)) }
     // Of straight code it makes straight code.
     ensures straight { IfOk result (λ q. StaysStraight (source p.now) (control.source q)) }
-    // What it makes of straight code is at most four times as large.
+    // It drops as many atoms.
+    ensures dropped { IfOk result (λ q. dropped_of (control.source q).bodies ≡ measures.dropped_of (source p.now)) }
+    // No body has more variables than its flat body may need.
+    ensures variables { IfOk result (λ q. BindNoMore (source p.now) (control.source q)) }
+    // What it makes is no larger than what the nodes of `p` weigh, and of straight code at most four times as large.
+    ensures weight { IfOk result (λ q. expressions_size (control.source q).bodies ≤ weight (source p.now)) }
     ensures size { IfOk result (λ q. IsTrue (is_straight_program (source p.now)) →
         expressions_size (control.source q).bodies ≤ 4 * measures.program_size (source p.now)) }
 {
@@ -67,7 +72,7 @@ fn normal_program(alloc: Global, p: &FlatProgram) -> Result<ControlProgram, Mem>
     let flat_bodies = p.bodies.as_slice();
     let bodies = normalize_bodies(alloc, starts, flat_bodies, &p.forms)?;
     let library = new_labels(alloc, starts, p.library.as_slice())?;
-    let bound = bound_parts(alloc, flat_bodies, &p.forms, p.sites.len())?;
+    let bound = bound_parts(alloc, p)?;
     let statics = p.statics.copy(alloc)?;
     let sites = List::from_slice(alloc, p.sites.as_slice())?;
     Ok(ControlProgram {

@@ -7,20 +7,20 @@ ghost use Rattle.sch_control.specs.declared.operation.Operand.TheVariants as ope
 ghost use Rattle.sch_control.specs.declared.operation.Operation.TheVariants as does;
 ghost use Rattle.sch_control.specs.Tree.{perform};
 ghost use Rattle.sch_control.specs.View.{expression};
-ghost use Rattle.sch_anf.specs.LabelsFit.{LabelsFit, LabelsFitEach};
+ghost use Rattle.sch_normal.specs.LabelsFit.{LabelsFit, LabelsFitEach};
 ghost use Rattle.sch_normal.specs.Normal.{binds, binds_parts, called, finished, init_numbers, inits_bind, normal, normal_parts, operand_at, operand_binds, operands_at, operands_bind, with_inits, with_new_cells, with_operands};
 ghost use Rattle.sch_normal.specs.Normal as specs;
-ghost use Rattle.sch_anf.specs.ScopeTable.{scope_of};
+ghost use Rattle.sch_operands.specs.ScopeTable.{scope_of};
 ghost use Rattle.sch_anf.specs.Steps.{Adds, after, bound_before, dropped_before, part_before};
 
-use crate::simple::{
-    cell_operation, closure_of, ends_in_call, is_simple, members_of, simple_operand, source_of,
-};
 use crate::steps::{Step, put_after};
-use crate::variables::Variables;
 use sch_control as control;
 use sch_control::{Application, Atom, Operand, Operation};
 use sch_flat::{Exp, NewCell, Variable};
+use sch_operands::{
+    Variables, cell_operation, closure_of, members_of, simple_operand, source_of,
+};
+use sch_simple::{is_simple, needs_variable};
 use sch_word::{Const, List, Mem};
 use std::alloc::Global;
 
@@ -299,7 +299,7 @@ fn normalize_inits(
     Ok(all)
 }
 
-// A part of a sequence before the last, which is bound where its value may be that of a call.
+// A part of a sequence before the last, which is bound where it needs a variable.
 #[cycle(normalizing)]
 fn normalize_dropped(
     alloc: Global,
@@ -310,13 +310,13 @@ fn normalize_dropped(
 ) -> Result<(), Mem>
     requires sorted { IsNonDecreasing starts.now }
     requires labels { LabelsFit (length starts.now) (tree e.now) }
-    requires few { v.old.next + cond (specs.ends_in_call (tree e.now)) (suc (binds (tree e.now))) (binds (tree e.now)) < 2 ^ 32 }
+    requires few { v.old.next + cond (specs.needs_variable (tree e.now)) (suc (binds (tree e.now))) (binds (tree e.now)) < 2 ^ 32 }
     ensures steps { OnOk result (Adds steps.old.items steps.new.items
         (dropped_before starts.now (tree e.now) (scope_of v.old.bound.items) v.old.next)) }
-    ensures next { OnOk result (v.new.next ≡ v.old.next + cond (specs.ends_in_call (tree e.now)) (suc (binds (tree e.now))) (binds (tree e.now))) }
+    ensures next { OnOk result (v.new.next ≡ v.old.next + cond (specs.needs_variable (tree e.now)) (suc (binds (tree e.now))) (binds (tree e.now))) }
     ensures scope { OnOk result (v.new.bound.items ≡ v.old.bound.items) }
 {
-    if ends_in_call(e) {
+    if needs_variable(e) {
         normalize_bound(alloc, starts, e, v, steps)?;
         return Ok(());
     }

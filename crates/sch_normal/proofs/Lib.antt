@@ -2,3 +2,4 @@ pub mod runs
 pub mod valid
 pub mod kept
 pub mod Examples
+pub mod Items

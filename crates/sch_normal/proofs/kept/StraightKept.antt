@@ -13,7 +13,7 @@ use Rattle.sch_control.specs.declared.operation.Operation.TheVariants as does
 use Rattle.sch_control.specs.Straight.{is_straight, is_straight_atom, is_straight_operand, is_straight_code, is_straight_program}
 use Rattle.sch_control.specs.Tree as tree
 use Rattle.sch_control.specs.Tree.{Expression, Code}
-use Rattle.sch_normal.specs.Normal.{Scope, is_simple, atom_of, atoms_of, simple_operand, ends_in_call, part_binds, binds, inits_bind, init_numbers, operand_at, operands_at, bound_unless, normal, normal_parts, with_operands, with_inits, normal_bodies, normal_source, new_label}
+use Rattle.sch_normal.specs.Normal.{Scope, is_simple, atom_of, atoms_of, simple_operand, needs_variable, part_binds, binds, inits_bind, init_numbers, operand_at, operands_at, bound_unless, normal, normal_parts, with_operands, with_inits, normal_bodies, normal_source, new_label}
 use Rattle.sch_normal.proofs.runs.Orders.{and_left, and_right}
 use Rattle.sch_normal.proofs.valid.Parts.{both}
 
@@ -106,7 +106,7 @@ module _ (starts : List ℕ) where
     parts_straight (and_tree e (and_tree e' es)) scope n h =
         let here = and_left (from.is_straight e) (from.are_straight (and_tree e' es)) h in
         let rest = and_right (from.is_straight e) (from.are_straight (and_tree e' es)) h in
-        go (ends_in_call e) (straight_kept e scope n here) (straight_kept e scope (suc n) here) (parts_straight (and_tree e' es) scope (suc n + binds e) rest) (parts_straight (and_tree e' es) scope (n + binds e) rest)
+        go (needs_variable e) (straight_kept e scope n here) (straight_kept e scope (suc n) here) (parts_straight (and_tree e' es) scope (suc n + binds e) rest) (parts_straight (and_tree e' es) scope (n + binds e) rest)
       where
         go : (b : Bool) → is_straight (normal starts false e scope n) ≡ true → is_straight (normal starts false e scope (suc n)) ≡ true → is_straight (normal_parts starts false (and_tree e' es) scope (suc n + binds e)) ≡ true → is_straight (normal_parts starts false (and_tree e' es) scope (n + binds e)) ≡ true
             → is_straight (cond b (tree.bind n (normal starts false e scope (suc n)) (normal_parts starts false (and_tree e' es) scope (suc n + binds e))) (tree.sequence (normal starts false e scope n) (normal_parts starts false (and_tree e' es) scope (n + binds e)))) ≡ true

@@ -11,7 +11,7 @@ use Rattle.sch_control.specs.declared.operation.Operation.TheVariants as does
 use Rattle.sch_control.specs.declared.operation.Application.{Application}
 use Rattle.sch_control.specs.Tree as tree
 use Rattle.sch_control.specs.Tree.{Expression, Code}
-use Rattle.sch_normal.specs.Normal.{Scope, is_read, is_atom, are_atoms, is_simple, ends_in_call, part_binds, binds, operands_bind, inits_bind, init_numbers, finished, called, bound_unless, normal, normal_parts, with_operands, with_inits, with_new_cells, procedure_code, form_code, normal_bodies, normal_source}
+use Rattle.sch_normal.specs.Normal.{Scope, is_read, is_atom, are_atoms, is_simple, needs_variable, part_binds, binds, operands_bind, inits_bind, init_numbers, finished, called, bound_unless, normal, normal_parts, with_operands, with_inits, with_new_cells, procedure_code, form_code, normal_bodies, normal_source}
 use Rattle.sch_normal.specs.Normal as normal
 use Rattle.sch_normal.specs.Tests.{tests_in, tests_of}
 use Rattle.sch_normal.proofs.runs.Orders.{and_left, and_right}
@@ -101,7 +101,7 @@ module _ (starts : List ℕ) where
     parts_kept : (tail : Bool) (es : Trees) (scope : Scope) (n : ℕ) → tests_in (normal_parts starts tail es scope n) ≡ flat_tests_each es
     parts_kept tail no_trees scope n = finished_none tail _
     parts_kept tail (and_tree e no_trees) scope n = let h = tests_kept tail e scope n in omega (arith, h)
-    parts_kept tail (and_tree e (and_tree e' es)) scope n = go (ends_in_call e) (λ m. tests_kept false e scope m) (λ m. parts_kept tail (and_tree e' es) scope m)
+    parts_kept tail (and_tree e (and_tree e' es)) scope n = go (needs_variable e) (λ m. tests_kept false e scope m) (λ m. parts_kept tail (and_tree e' es) scope m)
       where
         go : (b : Bool) → ((m : ℕ) → tests_in (normal starts false e scope m) ≡ flat_tests e) → ((m : ℕ) → tests_in (normal_parts starts tail (and_tree e' es) scope m) ≡ flat_tests_each (and_tree e' es))
             → tests_in (cond b (tree.bind n (normal starts false e scope (suc n)) (normal_parts starts tail (and_tree e' es) scope (suc n + binds e))) (tree.sequence (normal starts false e scope n) (normal_parts starts tail (and_tree e' es) scope (n + binds e)))) ≡ flat_tests_each (and_tree e (and_tree e' es))

@@ -35,7 +35,7 @@ use Rattle.sch_control.specs.Operations.{Procedure, operand_value, operand_value
 use Rattle.sch_control.specs.Operations as operations
 use Rattle.sch_control.specs.Meaning as to
 use Rattle.sch_control.specs.Meaning.{World, Result, Then, Callee, plain, no_region, marked, with_value, on_outcome, on_return, call_in, put, put_each, put_inside, note_members}
-use Rattle.sch_normal.specs.Normal.{Scope, number_of, source_of, is_simple, simple_operand, operand_at, operands_at, operand_binds, part_binds, operands_bind, inits_bind, init_numbers, numbers_for, binds, ends_in_call, finished, called, bound_unless, normal, normal_parts, with_operands, with_inits, with_new_cells, cell_operation, closure_of, members_of, bound_places, operator_place}
+use Rattle.sch_normal.specs.Normal.{Scope, number_of, source_of, is_simple, simple_operand, operand_at, operands_at, operand_binds, part_binds, operands_bind, inits_bind, init_numbers, numbers_for, binds, needs_variable, finished, called, bound_unless, normal, normal_parts, with_operands, with_inits, with_new_cells, cell_operation, closure_of, members_of, bound_places, operator_place}
 use Rattle.sch_normal.specs.Normal as normal
 use Rattle.sch_normal.proofs.runs.Orders.{and_left, and_right, Parts}
 use Rattle.sch_normal.proofs.runs.Worlds.{Setting, Reached, Same, SameEnter, image, images, state_of, world_of, is_procedure_of, reached_self, reached_on, reached_store, same_after, same_action, same_call}
@@ -652,7 +652,7 @@ module _ (a : Setting) (start : State Closure) (fields : ℕ) (enter : from.Ente
       same_after a start (value e h tail s) (in_turn []) k _ (claims.0 tail names scope n h environment saved s marks k next fine.0 w r g)
   parts_same (and_tree e (and_tree e' es)) claims tail names scope n h environment saved s marks v k next i fine w r g =
       same_after a start (value e h false s) (in_turn (from.parts a.orders enter (and_tree e' es) h depth tail)) k _
-      (either_part (ends_in_call e) e claims.0 es e' tail names scope n h environment saved s marks k next fine.0 w r
+      (either_part (needs_variable e) e claims.0 es e' tail names scope n h environment saved s marks k next fine.0 w r
       (λ u t after m last q b l. parts_same (and_tree e' es) claims.1 tail names scope last h after saved t m u k next tt fine.1
       (agrees_below a start fields names scope n last h environment after l b w) q (goes_on tail n last environment after saved k next w.two l b g)))
 

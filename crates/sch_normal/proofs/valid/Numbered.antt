@@ -11,7 +11,7 @@ use Rattle.sch_flat.specs.Measures.{one_unless_simple, variables, variables_each
 use Rattle.sch_control.specs.Tree as tree
 use Rattle.sch_control.specs.Tree.{Expression}
 use Rattle.sch_control.specs.Valid.{bound_in, member_variables, without_repeats}
-use Rattle.sch_normal.specs.Normal.{Scope, is_simple, ends_in_call, part_binds, binds, binds_parts, operands_bind, inits_bind, finished, called, bound_unless, normal, normal_parts, with_operands, with_inits, with_new_cells, members_of}
+use Rattle.sch_normal.specs.Normal.{Scope, is_simple, needs_variable, part_binds, binds, binds_parts, operands_bind, inits_bind, finished, called, bound_unless, normal, normal_parts, with_operands, with_inits, with_new_cells, members_of}
 
 -- ## Numbers in a row
 
@@ -82,7 +82,7 @@ module _ (starts : List ℕ) where
     bound_parts tail no_trees scope n = finished_bound tail _
     bound_parts tail (and_tree e no_trees) scope n = bound tail e scope n
     bound_parts tail (and_tree e (and_tree e' es)) scope n =
-        go (ends_in_call e) (bound false e scope n) (bound false e scope (suc n)) (λ m. bound_parts tail (and_tree e' es) scope m)
+        go (needs_variable e) (bound false e scope n) (bound false e scope (suc n)) (λ m. bound_parts tail (and_tree e' es) scope m)
       where
         go : (b : Bool) → bound_in (normal starts false e scope n) ≡ numbers n (binds e) → bound_in (normal starts false e scope (suc n)) ≡ numbers (suc n) (binds e) → ((m : ℕ) → bound_in (normal_parts starts tail (and_tree e' es) scope m) ≡ numbers m (binds_parts (and_tree e' es)))
             → bound_in (cond b (tree.bind n (normal starts false e scope (suc n)) (normal_parts starts tail (and_tree e' es) scope (suc n + binds e))) (tree.sequence (normal starts false e scope n) (normal_parts starts tail (and_tree e' es) scope (n + binds e))))
@@ -129,13 +129,13 @@ part_few (new_cells cs e) h = omega (arith, h)
 part_few (cell_get v) h = omega (arith, h)
 part_few (cell_set v e) h = omega (arith, h)
 
-dropped_few : (e : Tree) → binds e ≤ variables e → cond (ends_in_call e) (suc (binds e)) (binds e) ≤ one_unless_simple e + variables e
+dropped_few : (e : Tree) → binds e ≤ variables e → cond (needs_variable e) (suc (binds e)) (binds e) ≤ one_unless_simple e + variables e
 dropped_few (constant c) h = omega arith
 dropped_few (literal k) h = omega arith
 dropped_few (variable v) h = omega arith
-dropped_few e h = go e (ends_in_call e) refl h
+dropped_few e h = go e (needs_variable e) refl h
   where
-    go : (e : Tree) (b : Bool) → ends_in_call e ≡ b → binds e ≤ variables e → cond b (suc (binds e)) (binds e) ≤ one_unless_simple e + variables e
+    go : (e : Tree) (b : Bool) → needs_variable e ≡ b → binds e ≤ variables e → cond b (suc (binds e)) (binds e) ≤ one_unless_simple e + variables e
     go e false i h = omega (arith, h)
     go (constant c) true i h = absurd (cc)
     go (literal k) true i h = absurd (cc)

@@ -30,7 +30,7 @@ use Rattle.sch_control.specs.Parts.{operand_atoms, operands_atoms, source_atom, 
 use Rattle.sch_control.specs.Tree as tree
 use Rattle.sch_control.specs.Tree.{Expression}
 use Rattle.sch_control.specs.Valid.{Tests, each_part, only_reads, operand_shaped, operands_shaped, closure_shaped, members_shaped, operation_shaped, application_shaped, group_shaped, source_field, closure_fields, operation_field, group_fields, Names, atom_known, enters, closure_known, members_known, atoms_known, operation_known, application_known, group_known}
-use Rattle.sch_normal.specs.Normal.{Scope, number_of, source_of, is_read, is_atom, are_atoms, is_simple, atom_of, atoms_of, simple_operand, operand_at, operands_at, operand_binds, ends_in_call, part_binds, binds, operands_bind, inits_bind, init_numbers, numbers_for, new_label, finished, called, bound_unless, normal, normal_parts, with_operands, with_inits, with_new_cells, cell_operation, closure_of, members_of}
+use Rattle.sch_normal.specs.Normal.{Scope, number_of, source_of, is_read, is_atom, are_atoms, is_simple, atom_of, atoms_of, simple_operand, operand_at, operands_at, operand_binds, needs_variable, part_binds, binds, operands_bind, inits_bind, init_numbers, numbers_for, new_label, finished, called, bound_unless, normal, normal_parts, with_operands, with_inits, with_new_cells, cell_operation, closure_of, members_of}
 use Rattle.sch_normal.specs.Normal as normal
 use Rattle.sch_normal.proofs.runs.Orders.{and_left, and_right}
 
@@ -405,7 +405,7 @@ module _ (starts : List ℕ) (bodies : List Body) (names : Names)
     pass_parts no_trees tail known scope n s h = simple_operation tail (op.Atom (atom.Constant Unspecified)) (refl, refl)
     pass_parts (and_tree e no_trees) tail known scope n s h = all_pass e tail known scope n (and_left (scoped bodies e known fields) true s) (and_left (good e) true h)
     pass_parts (and_tree e (and_tree e' es)) tail known scope n s h =
-        go (ends_in_call e) (λ m. all_pass e false known scope m (and_left (scoped bodies e known fields) (scoped_each bodies (and_tree e' es) known fields) s) (and_left (good e) (good_each (and_tree e' es)) h))
+        go (needs_variable e) (λ m. all_pass e false known scope m (and_left (scoped bodies e known fields) (scoped_each bodies (and_tree e' es) known fields) s) (and_left (good e) (good_each (and_tree e' es)) h))
         (λ m. pass_parts (and_tree e' es) tail known scope m (and_right (scoped bodies e known fields) (scoped_each bodies (and_tree e' es) known fields) s) (and_right (good e) (good_each (and_tree e' es)) h))
       where
         go : (b : Bool) → ((m : ℕ) → passes (normal starts false e scope m)) → ((m : ℕ) → passes (normal_parts starts tail (and_tree e' es) scope m))

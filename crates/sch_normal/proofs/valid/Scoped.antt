@@ -19,7 +19,7 @@ use Rattle.sch_control.specs.Parts.{operand_atoms, operands_atoms, source_atom, 
 use Rattle.sch_control.specs.Tree as tree
 use Rattle.sch_control.specs.Tree.{Expression}
 use Rattle.sch_control.specs.Valid.{with_variable, with_members, in_scope_atom, in_scope_atoms, in_scope}
-use Rattle.sch_normal.specs.Normal.{Scope, number_of, source_of, is_read, is_atom, are_atoms, is_simple, atom_of, atoms_of, simple_operand, operand_at, operands_at, operand_binds, ends_in_call, part_binds, binds, operands_bind, inits_bind, init_numbers, numbers_for, finished, called, bound_unless, normal, normal_parts, with_operands, with_inits, with_new_cells, cell_operation, closure_of, members_of}
+use Rattle.sch_normal.specs.Normal.{Scope, number_of, source_of, is_read, is_atom, are_atoms, is_simple, atom_of, atoms_of, simple_operand, operand_at, operands_at, operand_binds, needs_variable, part_binds, binds, operands_bind, inits_bind, init_numbers, numbers_for, finished, called, bound_unless, normal, normal_parts, with_operands, with_inits, with_new_cells, cell_operation, closure_of, members_of}
 use Rattle.sch_normal.specs.Normal as normal
 use Rattle.sch_normal.proofs.runs.Orders.{and_left, and_right}
 
@@ -244,7 +244,7 @@ module _ (starts : List ℕ) (bodies : List Body) (fields : ℕ) where
     in_scope_parts no_trees tail names scope n s f h = finished_scoped tail _ s refl
     in_scope_parts (and_tree e no_trees) tail names scope n s f h = in_scope_all e tail names scope n s (and_left (scoped bodies e names fields) true f) h
     in_scope_parts (and_tree e (and_tree e' es)) tail names scope n s f h =
-        go (ends_in_call e) (in_scope_all e false names scope n s here h) (in_scope_all e false names scope (suc n) s here h)
+        go (needs_variable e) (in_scope_all e false names scope n s here h) (in_scope_all e false names scope (suc n) s here h)
         (λ m t w. in_scope_parts (and_tree e' es) tail names scope m t (and_right (scoped bodies e names fields) (scoped_each bodies (and_tree e' es) names fields) f) (inside_wider names scope s t w h))
       where
         here : scoped bodies e names fields ≡ true

@@ -15,7 +15,7 @@ use Rattle.sch_control.specs.Tree as tree
 use Rattle.sch_control.specs.Tree.{Expression}
 use Rattle.sch_control.specs.Valid as to
 use Rattle.sch_word.specs.trees.Bindings.{with_variables}
-use Rattle.sch_normal.specs.Normal.{Scope, init_numbers, source_of, is_read, is_atom, are_atoms, is_simple, atoms_of, simple_operand, operand_at, operands_at, operand_binds, ends_in_call, part_binds, binds, operands_bind, inits_bind, finished, called, bound_unless, normal, normal_parts, with_operands, with_inits, with_new_cells, cell_operation}
+use Rattle.sch_normal.specs.Normal.{Scope, init_numbers, source_of, is_read, is_atom, are_atoms, is_simple, atoms_of, simple_operand, operand_at, operands_at, operand_binds, needs_variable, part_binds, binds, operands_bind, inits_bind, finished, called, bound_unless, normal, normal_parts, with_operands, with_inits, with_new_cells, cell_operation}
 use Rattle.sch_normal.proofs.runs.Orders.{and_left, and_right}
 use Rattle.sch_word.specs.trees.Shape as shapes
 use Rattle.sch_word.specs.trees.Shape.{Shape}
@@ -189,7 +189,7 @@ module _ (starts : List ℕ) (f : ℕ × ℕ → ℕ) where
     kept_parts tail no_trees scope n = finished_sites tail (does.Operand (op.Atom (atom.Constant Unspecified)))
     kept_parts tail (and_tree e no_trees) scope n = let p = kept tail e scope n in omega (arith, p, both (sites_in e) [])
     kept_parts tail (and_tree e (and_tree e' es)) scope n =
-        go (ends_in_call e) (λ m. kept false e scope m) (λ m. kept_parts tail (and_tree e' es) scope m)
+        go (needs_variable e) (λ m. kept false e scope m) (λ m. kept_parts tail (and_tree e' es) scope m)
       where
         go : (b : Bool) → ((m : ℕ) → made (normal starts false e scope m) ≡ total (sites_in e)) → ((m : ℕ) → made (normal_parts starts tail (and_tree e' es) scope m) ≡ total (sites_in_each (and_tree e' es)))
             → made (cond b (tree.bind n (normal starts false e scope (suc n)) (normal_parts starts tail (and_tree e' es) scope (suc n + binds e))) (tree.sequence (normal starts false e scope n) (normal_parts starts tail (and_tree e' es) scope (n + binds e)))) ≡ total (sites_in_each (and_tree e (and_tree e' es)))

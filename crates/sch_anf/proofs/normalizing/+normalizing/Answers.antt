@@ -3,11 +3,12 @@ use Rattle.sch_flat.specs.View.{tree, trees_of}
 use Rattle.sch_flat.proofs.Rows.{trees_of_list}
 use Rattle.sch_control.specs.View.{expression}
 use Rattle.sch_anf.specs.declared.steps.Step.{Step}
-use Rattle.sch_anf.specs.LabelsFit.{LabelsFitEach}
+use Rattle.sch_normal.specs.LabelsFit.{LabelsFitEach}
 use Rattle.sch_normal.specs.Normal.{binds_parts, operands_bind, inits_bind, operands_at, init_numbers, normal_parts, with_operands, with_inits}
-use Rattle.sch_anf.specs.ScopeTable.{scope_of}
+use Rattle.sch_operands.specs.ScopeTable.{scope_of}
 use Rattle.sch_anf.specs.Steps.{after, bound_before, dropped_before}
-use Rattle.sch_anf.proofs.Loops.{left, adds_one, bound_is, dropped_is, no_items, labels_next, parts_turn, few_parts_next, few_dropped, on_any}
+use Rattle.sch_normal.proofs.Items.{left, no_items}
+use Rattle.sch_anf.proofs.Loops.{adds_one, bound_is, dropped_is, labels_next, parts_turn, few_parts_next, few_dropped, on_any}
 use Rattle.sch_anf.proofs.normalizing.+normalizing.Goals as goal
 
 pub normalize_bound-returns-clause-steps : goal.normalize_bound-returns-clause-steps
@@ -23,7 +24,7 @@ normalize_dropped-returns-clause-steps t c =
     let v = c.args.v.now in
     let s : Step = record { variable = None; value = c.in_ok-value.value } in
     adds_one c.args.steps.now.items c.push.new.self.items s (dropped_before c.args.starts.now (tree c.args.e.now) (scope_of v.bound.items) v.next) c.in_ok-push.ensures.items
-    (dropped_is c.args.starts.now (tree c.args.e.now) v.next (scope_of v.bound.items) (expression c.in_ok-value.value) (sym c.ends_in_call.ensures ∙ c.if-ends_in_call.false) c.in_ok-value.ensures.made)
+    (dropped_is c.args.starts.now (tree c.args.e.now) v.next (scope_of v.bound.items) (expression c.in_ok-value.value) (sym c.needs_variable.ensures ∙ c.if-needs_variable.false) c.in_ok-value.ensures.made)
 
 pub normalize_operands-loop-e-init : goal.normalize_operands-loop-e-init
 normalize_operands-loop-e-init t c =

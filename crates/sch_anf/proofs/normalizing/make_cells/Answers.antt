@@ -2,7 +2,7 @@ use Rattle.std.proofs.Common.{None, get_or, refl, ap, arith}
 use Rattle.std.proofs.lemmas.List.{get_or_default}
 use Rattle.sch_flat.specs.declared.tree.NewCell.{NewCell}
 use Rattle.sch_control.specs.Tree.{perform}
-use Rattle.sch_anf.specs.ScopeTable.{scope_of}
+use Rattle.sch_operands.specs.ScopeTable.{scope_of}
 use Rattle.sch_anf.proofs.Loops.{cells_turn}
 use Rattle.sch_anf.proofs.normalizing.make_cells.Goals as goal
 
