@@ -17,11 +17,11 @@ use Rattle.sch_control.specs.declared.body.Body as control_body
 use Rattle.sch_control.specs.SourceView.{code_of, codes_of}
 use Rattle.sch_control.specs.Tree.{Code, Expression, end}
 use Rattle.sch_control.specs.Valid.{code_valid, in_scope_whole, numbered, ended, shaped_whole, fields_known, max_body_variables}
-use Rattle.sch_anf.specs.LabelsFit.{LabelsOfMade, LabelsFit, LabelsFitEach, LabelsOfBodies}
-use Rattle.sch_anf.specs.Normal.{Scope, binds, normal, procedure_code, form_code, normal_bodies}
-use Rattle.sch_anf.proofs.Orders.{and_left, and_right}
-use Rattle.sch_anf.proofs.Bodies.{ascending_last}
-use Rattle.sch_anf.proofs.Loops.{left}
+use Rattle.sch_normal.specs.LabelsFit.{LabelsOfMade, LabelsFit, LabelsFitEach, LabelsOfBodies}
+use Rattle.sch_normal.specs.Normal.{Scope, binds, normal, procedure_code, form_code, normal_bodies}
+use Rattle.sch_normal.proofs.runs.Orders.{and_left, and_right}
+use Rattle.sch_normal.proofs.runs.Bodies.{ascending_last}
+use Rattle.sch_normal.proofs.Items.{left}
 
 -- ## Valid bodies
 

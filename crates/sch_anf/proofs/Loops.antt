@@ -1,30 +1,21 @@
 -- The turns of the loops of the walk.
-use Rattle.std.proofs.Common.{◌≡◌, ℕ, zero, suc, ◌+◌, ◌<◌, ◌≤◌, ◌^◌, Bool, true, false, cond, List, [], ◌∷◌, ◌++◌, length, map, drop, get_or, refl, sym, ap, ◌∙◌, subst, arith, add-one, append_assoc, append-nil, Result, Ok, Err}
-use Rattle.std.specs.Prelude.{nat_le, Some, OnOk}
+use Rattle.std.proofs.Common.{◌≡◌, ℕ, suc, ◌+◌, ◌<◌, ◌≤◌, ◌^◌, Bool, true, false, cond, List, [], ◌∷◌, ◌++◌, length, map, drop, get_or, refl, sym, ap, ◌∙◌, subst, arith, add-one, append_assoc, append-nil, Result, Ok, Err}
+use Rattle.std.specs.Prelude.{Some, OnOk}
 use Rattle.std.proofs.lemmas.List.{drop_all, get_or_default}
-use Rattle.sch_word.specs.trees.Bindings.{numbers}
 use Rattle.sch_word.proofs.Walking.{next_is, next_left, next_count}
 use Rattle.sch_flat.specs.declared.tree.Exp.{Exp}
-use Rattle.sch_flat.specs.declared.tree.Made as flat_made
 use Rattle.sch_flat.specs.declared.tree.NewCell as flat_cell
-use Rattle.sch_flat.specs.Tree.{Tree, Trees, and_tree, no_trees, trees}
-use Rattle.sch_flat.specs.View.{tree, trees_of, made, new_cell}
-use Rattle.sch_flat.proofs.Rows.{trees_of_list}
-use Rattle.sch_control.specs.declared.operation.Atom.{Atom}
+use Rattle.sch_flat.specs.Tree.{Tree, Trees, and_tree}
+use Rattle.sch_flat.specs.View.{tree, trees_of, new_cell}
 use Rattle.sch_control.specs.declared.operation.Operand.{Operand}
-use Rattle.sch_control.specs.declared.operation.Closure.{Closure}
-use Rattle.sch_control.specs.declared.operation.Member.{Member}
 use Rattle.sch_control.specs.Tree as to
 use Rattle.sch_control.specs.Tree.{Expression}
 use Rattle.sch_control.specs.View.{expression}
 use Rattle.sch_anf.specs.declared.steps.Step.{Step}
-use Rattle.sch_anf.specs.LabelsFit.{LabelsOfMade, LabelsFit, LabelsFitEach}
-use Rattle.sch_anf.specs.Normal.{Scope, is_atom, are_atoms, atom_of, atoms_of, ends_in_call, last_in_call, binds, binds_parts, operand_binds, operands_bind, inits_bind, operand_at, operands_at, init_numbers, numbers_for, closure_of, members_of, with_operands, with_inits, with_new_cells, cell_operation, normal, normal_parts, forms_before}
+use Rattle.sch_normal.specs.LabelsFit.{LabelsFit, LabelsFitEach}
+use Rattle.sch_normal.specs.Normal.{Scope, needs_variable, binds, binds_parts, operand_binds, operands_bind, inits_bind, operand_at, operands_at, init_numbers, with_operands, with_inits, with_new_cells, cell_operation, normal, normal_parts}
 use Rattle.sch_anf.specs.Steps.{after, before, Adds, bound_before, part_before, dropped_before}
-
--- the trees of the items of a list
-abbrev pub left : List Exp → Trees
-left es = trees (map tree es)
+use Rattle.sch_normal.proofs.Items.{left}
 
 -- ## Steps
 
@@ -49,76 +40,14 @@ pub bound_is : (starts : List ℕ) (e : Tree) (x n next : ℕ) (scope scope' : S
 bound_is starts e x n next scope scope' value p q r h body = rw (h, p, q, r) refl
 
 -- a part whose value is dropped
-pub dropped_is : (starts : List ℕ) (e : Tree) (n : ℕ) (scope : Scope) (value : Expression) → ends_in_call e ≡ false → value ≡ normal starts false e scope n → (body : Expression) → to.sequence value body ≡ dropped_before starts e scope n body
+pub dropped_is : (starts : List ℕ) (e : Tree) (n : ℕ) (scope : Scope) (value : Expression) → needs_variable e ≡ false → value ≡ normal starts false e scope n → (body : Expression) → to.sequence value body ≡ dropped_before starts e scope n body
 dropped_is starts e n scope value p h body = rw (h, p) refl
 
--- ## Atoms
-
-module _ (items : List Exp) (i : ℕ) (e : Exp) (l : i < length items) (is : e ≡ get_or items i e) where
-  pub atoms_stop : (whole : Bool) → is_atom (tree e) ≡ false → are_atoms (left (drop i items)) ≡ whole → false ≡ whole
-  atoms_stop whole a h = let t = rw a at (next_left items i (λ r. are_atoms (left r) ≡ whole) e l is h) in t
-
-  pub atoms_turn : (whole : Bool) → is_atom (tree e) ≡ true → are_atoms (left (drop i items)) ≡ whole → are_atoms (left (drop (i + 1) items)) ≡ whole
-  atoms_turn whole a h = let t = rw a at (next_left items i (λ r. are_atoms (left r) ≡ whole) e l is h) in rw add-one t
-
-  pub atoms_next : (scope : Scope) (all all' whole : List (Atom ℕ)) → all' ≡ all ++ atom_of scope (tree e) ∷ [] → all ++ atoms_of scope (left (drop i items)) ≡ whole → all' ++ atoms_of scope (left (drop (i + 1) items)) ≡ whole
-  atoms_next scope all all' whole p h =
-      rw (p, add-one, append_assoc all (atom_of scope (tree e) ∷ []) (atoms_of scope (left (drop (suc i) items)))) (next_left items i (λ r. all ++ atoms_of scope (left r) ≡ whole) e l is h)
-
-pub atoms_end : (items : List Exp) (i : ℕ) (whole : Bool) → length items ≤ i → are_atoms (left (drop i items)) ≡ whole → true ≡ whole
-atoms_end items i whole l h = let t = rw (drop_all i items l) at h in t
-
-pub atoms_all : (scope : Scope) (items : List Exp) (i : ℕ) (all whole : List (Atom ℕ)) → length items ≤ i → all ++ atoms_of scope (left (drop i items)) ≡ whole → all ≡ whole
-atoms_all scope items i all whole l h = let t = rw (drop_all i items l, append-nil all) at h in t
-
--- ## The last part
-
-last_left : (items : List Exp) (k : ℕ) (e : Exp) → suc k ≡ length items → e ≡ get_or items k e → last_in_call (left items) ≡ ends_in_call (tree e)
-last_left [] k e l is = absurd (omega (arith, l))
-last_left (x ∷ []) zero e l is = ap (λ y. ends_in_call (tree y)) (sym is)
-last_left (x ∷ []) (suc k) e l is = absurd (omega (arith, l))
-last_left (x ∷ (y ∷ items)) zero e l is = absurd (omega (arith, l))
-last_left (x ∷ (y ∷ items)) (suc k) e l is = last_left (y ∷ items) k e (omega (arith, l)) is
-
-pub last_is : (items es : List Exp) (k : ℕ) (e : Exp) → items ≡ es → suc k ≡ length items → e ≡ get_or items k e → last_in_call (trees_of es) ≡ ends_in_call (tree e)
-last_is items es k e same l is = ap (λ l. last_in_call (trees_of l)) (sym same) ∙ ap last_in_call (trees_of_list items) ∙ last_left items k e l is
-
-none_left : (items : List Exp) → length items ≡ 0 → left items ≡ no_trees
-none_left [] l = refl
-none_left (x ∷ items) l = absurd (omega (arith, l))
-
-pub no_items : (items es : List Exp) → items ≡ es → length items ≡ 0 → trees_of es ≡ no_trees
-no_items items es same l = ap trees_of (sym same) ∙ trees_of_list items ∙ none_left items l
-
--- ## Labels
-
--- in a list in which those below a number stand first, so many are below
-pub before_is : (xs : List ℕ) (i label : ℕ) → i ≤ length xs → ((k : ℕ) → k < i → nat_le (get_or xs k 0) label ≡ true) → ((k : ℕ) → i ≤ k → k < length xs → nat_le (get_or xs k 0) label ≡ false) → forms_before xs label ≡ i
-before_is [] i label l h k = omega (arith, l)
-before_is (x ∷ xs) zero label l h k = rw (k 0 (omega arith) (omega arith)) (let r = before_is xs zero label (omega arith) (λ j a. absurd (omega (arith, a))) (λ j a b. k (suc j) (omega arith) (omega (arith, b))) in omega (arith, r))
-before_is (x ∷ xs) (suc i) label l h k =
-    rw (h 0 (omega arith)) (let r = before_is xs i label (omega (arith, l)) (λ j a. h (suc j) (omega (arith, a))) (λ j a b. k (suc j) (omega (arith, a)) (omega (arith, b))) in omega (arith, r))
-
--- ## Closures and cells
-
-module _ (starts : List ℕ) (scope : Scope) (items : List flat_made.Made) (i : ℕ) (m : flat_made.Made) (l : i < length items) (is : m ≡ get_or items i m) where
-  pub members_turn : (at at' : ℕ) (all all' whole : List (Member ℕ)) (q : Closure ℕ) → at' ≡ at + 1 → q ≡ closure_of starts scope (made m) → all' ≡ all ++ record { at = at; closure = q } ∷ []
-      → all ++ members_of starts scope (map made (drop i items)) at ≡ whole → all' ++ members_of starts scope (map made (drop (i + 1) items)) at' ≡ whole
-  members_turn at at' all all' whole q n p h k =
-      let b : Member ℕ = record { at = at; closure = q } in
-      let k' = next_left items i (λ r. all ++ members_of starts scope (map made r) at ≡ whole) m l is k in
-      let n' : at' ≡ suc at = omega (arith, n) in
-      rw (h, n', add-one, append_assoc all (b ∷ []) (members_of starts scope (map made (drop (suc i) items)) (suc at)), p) k'
-
-  pub made_turn : (more : ℕ) → LabelsOfMade more (map made (drop i items)) → (m.label + more < 2 ^ 32) × LabelsOfMade more (map made (drop (i + 1) items))
-  made_turn more h = rw add-one (next_left items i (λ r. LabelsOfMade more (map made r)) m l is h)
-
-pub members_end : (starts : List ℕ) (scope : Scope) (items : List flat_made.Made) (i at : ℕ) (all whole : List (Member ℕ)) → length items ≤ i → all ++ members_of starts scope (map made (drop i items)) at ≡ whole → all ≡ whole
-members_end starts scope items i at all whole l h = let t = rw (drop_all i items l, append-nil all) at h in t
+-- ## Cells
 
 -- new cells, one after another
 module _ (scope : Scope) (items : List flat_cell.NewCell) (i : ℕ) (c : flat_cell.NewCell) (l : i < length items) (is : c ≡ get_or items i c) where
-  pub cells_turn : (at at' : ℕ) (steps steps' : List Step) (s : Step) (whole : Expression → Expression) → at' ≡ at + 1 → s.variable ≡ Some at → expression s.value ≡ to.perform (cell_operation scope (new_cell c).content) → steps' ≡ steps ++ s ∷ []
+  pub cells_turn : (at at' : ℕ) (steps steps' : List Step) (s : Step) (whole : Expression → Expression) → at' ≡ at + 1 → s.variable ≡ Some at → expression s.value.value ≡ to.perform (cell_operation scope (new_cell c).content) → steps' ≡ steps ++ s ∷ []
       → ((body : Expression) → after steps (with_new_cells scope (map new_cell (drop i items)) at body) ≡ whole body) → (body : Expression) → after steps' (with_new_cells scope (map new_cell (drop (i + 1) items)) at' body) ≡ whole body
   cells_turn at at' steps steps' s whole n v p h k body =
       let k' = next_left items i (λ r. after steps (with_new_cells scope (map new_cell r) at body) ≡ whole body) c l is (k body) in
@@ -200,11 +129,11 @@ few_inits_all items i x total l h = let t = rw (drop_all i items l) at h in omeg
 
 -- how many variables a part before the last binds
 abbrev pub dropped_binds : Tree → ℕ
-dropped_binds e = cond (ends_in_call e) (suc (binds e)) (binds e)
+dropped_binds e = cond (needs_variable e) (suc (binds e)) (binds e)
 
 module _ (starts : List ℕ) (tail : Bool) (scope : Scope) where
   parts_unfold : (e e' : Tree) (es : Trees) (n : ℕ) → normal_parts starts tail (and_tree e (and_tree e' es)) scope n ≡ dropped_before starts e scope n (normal_parts starts tail (and_tree e' es) scope (n + dropped_binds e))
-  parts_unfold e e' es n = go (ends_in_call e)
+  parts_unfold e e' es n = go (needs_variable e)
     where
       go : (b : Bool) → cond b (to.bind n (normal starts false e scope (suc n)) (normal_parts starts tail (and_tree e' es) scope (suc n + binds e))) (to.sequence (normal starts false e scope n) (normal_parts starts tail (and_tree e' es) scope (n + binds e)))
           ≡ cond b (to.bind n (normal starts false e scope (suc n)) (normal_parts starts tail (and_tree e' es) scope (n + cond b (suc (binds e)) (binds e)))) (to.sequence (normal starts false e scope n) (normal_parts starts tail (and_tree e' es) scope (n + cond b (suc (binds e)) (binds e))))
@@ -258,15 +187,7 @@ few_dropped starts tail scope items es i e x first l is same h few =
     let m = ap (λ l. first + binds_parts (trees_of l)) same in
     omega (arith, n, m, few)
 
--- ## Numbers
-
-pub numbers_are : {A B : Type 0} (f : A → B) (xs : List A) (n : ℕ) → numbers n (length xs) ≡ numbers_for (map f xs) n
-numbers_are f [] n = refl
-numbers_are f (x ∷ xs) n = ap (λ l. n ∷ l) (numbers_are f xs (suc n))
-
-pub length_is : {A B : Type 0} (f : A → B) (xs : List A) → length (map f xs) ≡ length xs
-length_is f [] = refl
-length_is f (x ∷ xs) = ap suc (length_is f xs)
+-- ## Answers
 
 pub on_any : {A E P : Type 0} (r : Result A E) → P → OnOk r P
 on_any (Ok a) p = p

@@ -1,14 +1,12 @@
 -- What is needed to make a whole program, and what is made of its parts.
-use Rattle.std.proofs.Common.{◌≡◌, ℕ, zero, suc, ◌+◌, ◌<◌, ◌≤◌, ◌^◌, Bool, true, List, [], ◌∷◌, ◌++◌, length, map, drop, get_or, replicate, refl, sym, ap, ◌∙◌, subst, arith, add-one, append_assoc, append-nil}
+use Rattle.std.proofs.Common.{◌≡◌, ℕ, zero, suc, ◌+◌, ◌<◌, ◌≤◌, ◌^◌, Bool, true, List, [], ◌∷◌, length, map, get_or, refl, sym, ap, ◌∙◌, subst, arith}
 use Rattle.std.specs.Prelude.{nat_eq, slice_get, ◌&&◌}
 use Rattle.std.specs.List.{list_all}
 use Rattle.std.specs.List.Sorted.{IsNonDecreasing}
 use Rattle.std.proofs.lemmas.Bool.{eqb-true}
-use Rattle.std.proofs.lemmas.List.{drop_all, length-map}
+use Rattle.std.proofs.lemmas.List.{length-map}
 use Rattle.sch_word.specs.declared.statics.Statics.{Statics}
 use Rattle.sch_word.specs.values.StaticsView.{statics}
-use Rattle.sch_word.specs.runs.Orders.{is_permutation, is_order_table}
-use Rattle.sch_word.proofs.Walking.{next_left}
 use Rattle.sch_flat.specs.declared.tree.Body as flat_body
 use Rattle.sch_flat.specs.declared.tree.Exp.{Exp}
 use Rattle.sch_flat.specs.Tree.{Source, Body, count}
@@ -16,27 +14,13 @@ use Rattle.sch_flat.specs.Measures.{bodies_size, program_size}
 use Rattle.sch_flat.specs.Valid.{is_closed, is_formed, in_order, sited, statics_known, constants_in_range, ascending, body_scoped, scoped_each, has_fields}
 use Rattle.sch_flat.specs.View.{body, trees_of}
 use Rattle.sch_control.specs.declared.body.Body as control_body
-use Rattle.sch_control.specs.Fits.{fits, begins_with}
 use Rattle.sch_control.specs.SourceView.{source_of, codes_of}
 use Rattle.sch_control.specs.Valid.{code_valid}
-use Rattle.sch_anf.specs.LabelsFit.{LabelsFitEach, LabelsOfBodies}
-use Rattle.sch_anf.specs.Normal.{new_label, normal_bodies, normal_source}
-use Rattle.sch_anf.specs.Placed.{size_each, size_bodies, placed_bodies, placed_each}
-use Rattle.sch_anf.proofs.Orders.{and_left, and_right}
-use Rattle.sch_anf.proofs.Parts.{both}
-use Rattle.sch_anf.proofs.PlacedLists.{bound_is}
+use Rattle.sch_normal.specs.LabelsFit.{LabelsFitEach, LabelsOfBodies}
+use Rattle.sch_normal.specs.Normal.{new_label, normal_bodies, normal_source, bound_parts}
+use Rattle.sch_normal.proofs.runs.Orders.{and_left, and_right}
 use Rattle.sch_anf.proofs.CodeLists.{sorted, label_fits, labels_fit_each, labels_fit_bodies}
-use Rattle.sch_anf.proofs.ValidProgram.{bodies_valid}
-
--- ## Labels
-
-pub labels_turn : (starts labels : List ℕ) (i : ℕ) (all all' whole : List ℕ) (label : ℕ) → i < length labels → label ≡ get_or labels i label → all' ≡ all ++ new_label starts label ∷ []
-    → all ++ map (new_label starts) (drop i labels) ≡ whole → all' ++ map (new_label starts) (drop (i + 1) labels) ≡ whole
-labels_turn starts labels i all all' whole label l is p h =
-    rw (p, add-one, append_assoc all (new_label starts label ∷ []) (map (new_label starts) (drop (suc i) labels))) (next_left labels i (λ r. all ++ map (new_label starts) r ≡ whole) label l is h)
-
-pub labels_end : (starts labels : List ℕ) (i : ℕ) (all whole : List ℕ) → length labels ≤ i → all ++ map (new_label starts) (drop i labels) ≡ whole → all ≡ whole
-labels_end starts labels i all whole l h = let t = rw (drop_all i labels l, append-nil all) at h in t
+use Rattle.sch_normal.proofs.valid.ValidProgram.{bodies_valid}
 
 -- ## What the walk is given
 
@@ -53,12 +37,6 @@ few_bodies [] = omega arith
 few_bodies (b ∷ bs) = let h = few_bodies bs in omega (arith, h)
 
 module _ (p : Source) (few : program_size p < 2 ^ 32) where
-  pub small_bodies : size_bodies p.bodies < 2 ^ 32
-  small_bodies = omega (arith, few)
-
-  pub small_forms : size_each p.forms < 2 ^ 32
-  small_forms = omega (arith, few)
-
   module _ (closed : is_closed p ≡ true) (ascends : in_order p ≡ true) where
     abbrev forms_scoped : Bool
     forms_scoped = scoped_each p.bodies p.forms [] 0
@@ -107,20 +85,6 @@ given starts bodies forms p s b f few closed formed ascends once ready words = r
 
 -- ## The program
 
-pub made_program : (p : Source) (ready : Statics) (library sites : List ℕ) (bodies : List control_body.Body) (bound : List (List ℕ)) (n : ℕ) → statics ready ≡ p.statics → library ≡ map (new_label p.starts) p.library → codes_of bodies ≡ normal_bodies p.starts 0 p.bodies p.forms p.starts
-    → sites ≡ p.sites → n ≡ length p.sites → bound ≡ placed_bodies p.bodies (placed_each p.forms (replicate n [])) → source_of ready library bodies sites bound ≡ normal_source p
-made_program p ready library sites bodies bound n a b c d e f =
-    let g = f ∙ bound_is p.bodies p.forms n in
-    rw (a, b, c, d, g, e) refl
-
--- ## Order tables
-
-pub fitting_orders : (sites : List ℕ) (bound orders : List (List ℕ)) → fits sites bound orders ≡ true → is_order_table sites orders ≡ true
-fitting_orders [] [] [] h = refl
-fitting_orders (width ∷ sites) (parts ∷ bound) (order ∷ orders) h =
-    both (is_permutation width order) (is_order_table sites orders) (and_left (is_permutation width order) (begins_with parts order && fits sites bound orders) h)
-    (fitting_orders sites bound orders (and_right (begins_with parts order) (fits sites bound orders) (and_right (is_permutation width order) (begins_with parts order && fits sites bound orders) h)))
-fitting_orders [] (parts ∷ bound) orders h = absurd (cc)
-fitting_orders [] [] (order ∷ orders) h = absurd (cc)
-fitting_orders (width ∷ sites) [] orders h = absurd (cc)
-fitting_orders (width ∷ sites) (parts ∷ bound) [] h = absurd (cc)
+pub made_program : (p : Source) (ready : Statics) (library sites : List ℕ) (bodies : List control_body.Body) (bound : List (List ℕ)) → statics ready ≡ p.statics → library ≡ map (new_label p.starts) p.library → codes_of bodies ≡ normal_bodies p.starts 0 p.bodies p.forms p.starts
+    → sites ≡ p.sites → bound ≡ bound_parts p → source_of ready library bodies sites bound ≡ normal_source p
+made_program p ready library sites bodies bound a b c d e = rw (a, b, c, d, e) refl

@@ -6,14 +6,14 @@ use Rattle.sch_control.specs.Tree as to
 use Rattle.sch_control.specs.Tree.{Expression}
 use Rattle.sch_control.specs.View.{expression}
 use Rattle.sch_anf.specs.declared.steps.Step.{Step}
-use Rattle.sch_anf.specs.Normal.{Scope, is_simple, ends_in_call, bound_unless, normal}
+use Rattle.sch_normal.specs.Normal.{Scope, is_simple, needs_variable, bound_unless, normal}
 
 abbrev pub step_before : Option ℕ → (value body : Expression) → Expression
 step_before (Some x) value body = to.bind x value body
 step_before None value body = to.sequence value body
 
 abbrev pub before : Step → Expression → Expression
-before s body = step_before s.variable (expression s.value) body
+before s body = step_before s.variable (expression s.value.value) body
 
 -- an expression after some steps, of which the first is the outermost
 abbrev pub after : List Step → Expression → Expression
@@ -37,4 +37,4 @@ module _ (starts : List ℕ) where
   -- a part of a sequence before the last
   abbrev pub dropped_before : Tree → Scope → (n : ℕ) → Expression → Expression
   dropped_before e scope n body =
-      cond (ends_in_call e) (to.bind n (normal starts false e scope (suc n)) body) (to.sequence (normal starts false e scope n) body)
+      cond (needs_variable e) (to.bind n (normal starts false e scope (suc n)) body) (to.sequence (normal starts false e scope n) body)

@@ -8,14 +8,14 @@ ghost use Rattle.sch_flat.specs.Valid.{ascending};
 ghost use Rattle.sch_flat.specs.View.{body, tree, trees_of};
 ghost use Rattle.sch_control.specs.SourceView.{code_of, codes_of};
 ghost use Rattle.sch_control.specs.Valid.{code_valid};
-ghost use Rattle.sch_anf.specs.LabelsFit.{LabelsFit, LabelsFitEach, LabelsOfBodies};
-ghost use Rattle.sch_anf.specs.Normal.{form_code, normal_bodies, procedure_code};
+ghost use Rattle.sch_normal.specs.LabelsFit.{LabelsFit, LabelsFitEach, LabelsOfBodies};
+ghost use Rattle.sch_normal.specs.Normal.{form_code, normal_bodies, procedure_code};
 
 use crate::normalizing::normalize_expression;
-use crate::variables::Variables;
 use sch_control as control;
 use sch_control::Entry;
 use sch_flat::{Body, Exp};
+use sch_operands::Variables;
 use sch_word::{List, Mem};
 use std::alloc::Global;
 
@@ -47,7 +47,7 @@ fn normalize_procedure(
         name,
         entry: Some(entry),
         variables: v.next,
-        exp,
+        exp: Box::into_inner(exp),
     })
 }
 
@@ -67,7 +67,7 @@ fn normalize_form(
 {
     v.begin();
     let exp = normalize_expression(alloc, starts, e, false, v)?;
-    let exp = control::Exp::End(Box::new(alloc, exp)?);
+    let exp = control::Exp::End(exp);
     let name = List::from_slice(alloc, b"form")?;
     Ok(control::Body {
         name,

@@ -2,7 +2,6 @@
 #![tactic(auto)]
 
 ghost use Rattle.std.specs.Prelude.{◌≡◌, ◌≤◌, ◌<◌, ◌*◌, ◌^◌, IsTrue, IfOk};
-ghost use Rattle.sch_word.specs.runs.Orders.{is_order_table};
 ghost use Rattle.sch_word.specs.values.StaticsView.{statics};
 ghost use Rattle.sch_control.specs.Fits.{table_fits};
 ghost use Rattle.sch_control.specs.ProgramView as control;
@@ -10,26 +9,24 @@ ghost use Rattle.sch_control.specs.Sizes.{expressions_size};
 ghost use Rattle.sch_flat.specs.Measures as measures;
 ghost use Rattle.sch_flat.specs.ProgramView.{source};
 ghost use Rattle.sch_flat.specs.Straight.{is_straight_program};
-ghost use Rattle.sch_anf.specs.Kept.{SameCalls, StaysStraight};
-ghost use Rattle.sch_anf.specs.Normal.{normal_source};
-ghost use Rattle.sch_anf.specs.SameRun.{SameRun};
-ghost use Rattle.sch_anf.specs.Table.{given_table};
-ghost use Rattle.sch_anf.specs.Tests.{tests_of};
+ghost use Rattle.sch_normal.specs.Counted.{BindNoMore};
+ghost use Rattle.sch_normal.specs.Dropped.{dropped_of};
+ghost use Rattle.sch_normal.specs.Kept.{SameCalls, StaysStraight};
+ghost use Rattle.sch_normal.specs.Normal.{normal_source};
+ghost use Rattle.sch_normal.specs.SameRun.{SameRun};
+ghost use Rattle.sch_orders.specs.Table.{given_table};
+ghost use Rattle.sch_normal.specs.Tests.{tests_of};
+ghost use Rattle.sch_normal.specs.Weight.{weight};
 
 mod body;
 mod normalizing;
-mod order_table;
-mod places;
-mod simple;
 mod steps;
-mod variables;
 
 use crate::body::normalize_bodies;
-use crate::order_table::orders_of;
-use crate::places::bound_parts;
-use crate::simple::new_labels;
 use sch_control::ControlProgram;
 use sch_flat::FlatProgram;
+use sch_operands::new_labels;
+use sch_simple::bound_parts;
 use sch_word::{List, Mem};
 use std::alloc::Global;
 
@@ -55,7 +52,12 @@ pub fn normalize(alloc: Global, p: &FlatProgram) -> Result<ControlProgram, Mem>
     ensures calls { IfOk result (λ q. SameCalls (source p.now) (control.source q)) }
     // Of straight code it makes straight code.
     ensures straight { IfOk result (λ q. StaysStraight (source p.now) (control.source q)) }
-    // What it makes of straight code is at most four times as large.
+    // It drops as many atoms.
+    ensures dropped { IfOk result (λ q. dropped_of (control.source q).bodies ≡ measures.dropped_of (source p.now)) }
+    // No body has more variables than its flat body may need.
+    ensures variables { IfOk result (λ q. BindNoMore (source p.now) (control.source q)) }
+    // What it makes is no larger than what the nodes of `p` weigh, and of straight code at most four times as large.
+    ensures weight { IfOk result (λ q. expressions_size (control.source q).bodies ≤ weight (source p.now)) }
     ensures size { IfOk result (λ q. IsTrue (is_straight_program (source p.now)) →
         expressions_size (control.source q).bodies ≤ 4 * measures.program_size (source p.now)) }
 {
@@ -70,7 +72,7 @@ fn normal_program(alloc: Global, p: &FlatProgram) -> Result<ControlProgram, Mem>
     let flat_bodies = p.bodies.as_slice();
     let bodies = normalize_bodies(alloc, starts, flat_bodies, &p.forms)?;
     let library = new_labels(alloc, starts, p.library.as_slice())?;
-    let bound = bound_parts(alloc, flat_bodies, &p.forms, p.sites.len())?;
+    let bound = bound_parts(alloc, p)?;
     let statics = p.statics.copy(alloc)?;
     let sites = List::from_slice(alloc, p.sites.as_slice())?;
     Ok(ControlProgram {
@@ -81,19 +83,3 @@ fn normal_program(alloc: Global, p: &FlatProgram) -> Result<ControlProgram, Mem>
         bound,
     })
 }
-
-/// The order table that lists, at each site, what `p` binds, in order, and then the other parts by number. It is
-/// one permutation for each site.
-pub fn given_orders(alloc: Global, p: &ControlProgram) -> Result<List<List<u32>>, Mem>
-    ensures orders { IfOk result (λ orders. orders ≡ given_table (control.source p.now)) }
-    ensures fits { IfOk result (λ orders. IsTrue (table_fits (control.source p.now) orders)) }
-    ensures permutations { IfOk result (λ orders. IsTrue (is_order_table p.now.sites orders)) }
-{
-    orders_of(alloc, p.sites.as_slice(), p.bound.as_slice())
-}
-
-/// A table that fits a program has one permutation for each of its sites.
-pub fn a_table_that_fits_is_an_order_table(p: &ControlProgram, orders: &List<List<u32>>)
-    requires { IsTrue (table_fits (control.source p.now) orders.now) }
-    ensures { IsTrue (is_order_table p.now.sites orders.now) }
-{}

@@ -13,3 +13,4 @@ pub mod Valid
 pub mod Variables
 pub mod View
 pub mod CallFree
+pub mod Recursive

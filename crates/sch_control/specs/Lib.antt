@@ -11,3 +11,4 @@ pub mod Tree
 pub mod Valid
 pub mod View
 pub mod CallFree
+pub mod Weights

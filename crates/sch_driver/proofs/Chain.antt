@@ -15,7 +15,7 @@ use Rattle.sch_flat.specs.Tree as flat
 use Rattle.sch_flat.specs.Run as flat_run
 use Rattle.sch_control.specs.Tree as control
 use Rattle.sch_assign.specs.SameTrees.{SameTrees}
-use Rattle.sch_anf.specs.SameRun.{SameRun}
+use Rattle.sch_normal.specs.SameRun.{SameRun}
 use Rattle.sch_driver.specs.Chain.{RunsAs}
 
 pub runs_as : (p : lang.Source) (a b : Runs) (f : flat.Source) (q : control.Source) → SameRuns (from.run p) a → SameRuns a b → SameRuns b (flat_run.run f) → SameRun f q

@@ -16,7 +16,7 @@ use crate::assembly::assemble;
 use crate::passes::control_program;
 use crate::reading::read_program;
 pub use error::CompileError;
-use sch_anf::given_orders;
+use sch_orders::given_orders;
 use sch_elf::write_image;
 use sch_word::{Bytes, Limits, List};
 use std::alloc::Global;

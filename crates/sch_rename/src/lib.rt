@@ -1,17 +1,18 @@
 //! From the core language to the cell language: each variable gets a number of its own.
 #![tactic(auto)]
 
-ghost use Rattle.std.specs.Prelude.{◌≡◌, ◌<◌, ◌^◌, ◌-◌, IfOk};
+ghost use Rattle.std.specs.Prelude.{◌≡◌, ◌+◌, ◌<◌, ◌^◌, ◌-◌, IfOk};
 ghost use Rattle.sch_word.specs.runs.Runs.{SameRuns};
 ghost use Rattle.sch_word.specs.values.StaticsView.{statics, statics_of};
 ghost use Rattle.sch_lang.specs.Bodies.{bodies_of};
-ghost use Rattle.sch_lang.specs.Measures.{call_sites_of, dropped_of, program_size, sites_of, tests_of, variables_bound};
+ghost use Rattle.sch_lang.specs.Measures.{call_sites_of, dropped_of, over_source, program_size, shape, sites_of, tests_of, variables_bound};
 ghost use Rattle.sch_lang.specs.ProgramView.{source};
 ghost use Rattle.sch_lang.specs.Run.{run};
 ghost use Rattle.sch_lang.specs.Straight.{is_straight_program};
 ghost use Rattle.sch_cells.specs.Bodies as bodies;
 ghost use Rattle.sch_cells.specs.Measures as measures;
 ghost use Rattle.sch_cells.specs.ProgramView as view;
+ghost use Rattle.sch_cells.specs.Recursive.{recursive_in, recursive_of};
 ghost use Rattle.sch_cells.specs.Straight as straight;
 ghost use Rattle.sch_cells.specs.UnboxedMeaning as meaning;
 ghost use Rattle.sch_rename.specs.Made.{renamed_source};
@@ -48,6 +49,8 @@ pub fn rename(alloc: Global, p: &Program) -> Result<CellProgram<Unboxed>, Mem>
     // Each body has its name, its formals, its free variables and its count of variables.
     ensures bodies { IfOk result (λ q. bodies.bodies_of (view.source q) ≡ bodies_of (source p.now)) }
     ensures size { IfOk result (λ q. measures.program_size (view.source q) ≡ program_size (source p.now)) }
+    // As many variables belong to a Rec.
+    ensures recursive { IfOk result (λ q. recursive_of (view.source q) ≡ over_source 0 (λ a b. a + b) (λ e. recursive_in (shape e)) (source p.now)) }
     ensures straight { IfOk result (λ q. straight.is_straight_program (view.source q) ≡ is_straight_program (source p.now)) }
 {
     rename_program(alloc, p)

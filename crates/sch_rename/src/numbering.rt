@@ -165,6 +165,7 @@ fn rename_expression(
 
 // The same on the heap. As a function of its own it keeps the frames of the walk small.
 #[cycle(renaming)]
+#[inline(never)]
 fn rename_boxed(
     alloc: Global,
     e: &Box<Exp>,
@@ -183,6 +184,7 @@ fn rename_boxed(
 
 /// Each of some expressions, one after another.
 #[cycle(renaming)]
+#[inline(never)]
 pub(crate) fn rename_each(
     alloc: Global,
     es: &List<Exp>,
@@ -204,6 +206,7 @@ pub(crate) fn rename_each(
 
 /// The procedure; its formals have the first of the new numbers.
 #[cycle(renaming)]
+#[inline(never)]
 fn rename_lambda(
     alloc: Global,
     l: &Lambda,
@@ -234,6 +237,7 @@ fn rename_lambda(
 
 /// Each of some lambdas, one after another.
 #[cycle(renaming)]
+#[inline(never)]
 pub(crate) fn rename_lambdas(
     alloc: Global,
     ls: &List<Lambda>,

@@ -1,12 +1,11 @@
-use Rattle.std.proofs.Common.{◌<◌, ◌+◌, ◌^◌, ◌∙◌, ℕ, IsTrue, length, map, replicate, [], get_or, refl, ap, sym, subst}
+use Rattle.std.proofs.Common.{◌<◌, ◌+◌, ◌^◌, ◌∙◌, ℕ, IsTrue, length, map, get_or, refl, ap, sym, subst}
 use Rattle.std.specs.List.Sorted.{IsNonDecreasing}
 use Rattle.sch_flat.specs.ProgramView.{source}
 use Rattle.sch_flat.specs.View.{body, trees_of}
 use Rattle.sch_control.specs.Valid.{all_known, bound_known, library_known, sites_once, statics_known}
-use Rattle.sch_anf.specs.Normal.{new_label, normal_bodies}
-use Rattle.sch_anf.specs.Placed.{size_bodies, placed_bodies, placed_each}
-use Rattle.sch_anf.proofs.ProgramMade.{Given, given, small_bodies, small_forms, library_fits, made_program}
-use Rattle.sch_anf.proofs.ValidProgram as valid
+use Rattle.sch_normal.specs.Normal.{new_label, normal_bodies}
+use Rattle.sch_anf.proofs.ProgramMade.{Given, given, library_fits, made_program}
+use Rattle.sch_normal.proofs.valid.ValidProgram as valid
 use Rattle.sch_anf.proofs.normal_program.Goals as goal
 
 pub normalize_bodies-requires : goal.normalize_bodies-requires
@@ -26,25 +25,16 @@ new_labels-requires c =
           (subst (λ labels. (k : ℕ) → k < length labels → get_or labels k 0 + length p.starts < 2 ^ 32) (sym c.as_slice.ensures) (library_fits (source p) c.requires.few p.closed p.ordered));
     }
 
-pub bound_parts-requires : goal.bound_parts-requires
-bound_parts-requires c =
-    let p = c.args.p.now in
-    record {
-      bodies = subst (λ bs. size_bodies (map body bs) < 2 ^ 32) (sym c.as_slice-flat_bodies.ensures) (small_bodies (source p) c.requires.few);
-      forms = small_forms (source p) c.requires.few;
-    }
-
 pub returns : goal.returns
 returns c =
     let p = c.args.p.now in
     let s = c.as_slice-starts.ensures in
     let b = c.as_slice-flat_bodies.ensures in
     let forms = trees_of p.forms in
-    made_program (source p) _ _ _ _ _ c.len.result c.in_ok-statics.ensures
+    made_program (source p) _ _ _ _ _ c.in_ok-statics.ensures
     (c.in_ok-library.ensures ∙ ap (λ starts. map (new_label starts) c.as_slice.result.now) s ∙ ap (map (new_label p.starts)) c.as_slice.ensures)
     (c.in_ok-bodies.ensures ∙ ap (λ starts. normal_bodies starts 0 (map body c.as_slice-flat_bodies.result.now) forms starts) s ∙ ap (λ bs. normal_bodies p.starts 0 (map body bs) forms p.starts) b)
-    (c.in_ok-sites.ensures ∙ c.as_slice-2.ensures) c.len.ensures
-    (c.in_ok-bound.ensures ∙ ap (λ bs. placed_bodies (map body bs) (placed_each forms (replicate c.len.result []))) b)
+    (c.in_ok-sites.ensures ∙ c.as_slice-2.ensures) c.in_ok-bound.ensures
 
 pub invariant_of-result : goal.invariant_of-result
 invariant_of-result c =
@@ -53,11 +43,10 @@ invariant_of-result c =
     let b = c.as_slice-flat_bodies.ensures in
     let forms = trees_of p.forms in
     let whole =
-    made_program (source p) _ _ _ _ _ c.len.result c.in_ok-statics.ensures
+    made_program (source p) _ _ _ _ _ c.in_ok-statics.ensures
     (c.in_ok-library.ensures ∙ ap (λ starts. map (new_label starts) c.as_slice.result.now) s ∙ ap (map (new_label p.starts)) c.as_slice.ensures)
     (c.in_ok-bodies.ensures ∙ ap (λ starts. normal_bodies starts 0 (map body c.as_slice-flat_bodies.result.now) forms starts) s ∙ ap (λ bs. normal_bodies p.starts 0 (map body bs) forms p.starts) b)
-    (c.in_ok-sites.ensures ∙ c.as_slice-2.ensures) c.len.ensures
-    (c.in_ok-bound.ensures ∙ ap (λ bs. placed_bodies (map body bs) (placed_each forms (replicate c.len.result []))) b) in
+    (c.in_ok-sites.ensures ∙ c.as_slice-2.ensures) c.in_ok-bound.ensures in
     record {
       known = subst (λ q. IsTrue (all_known q)) (sym whole) (valid.all_known (source p) p.closed p.formed p.ordered p.sited p.ready p.words);
       sited = subst (λ q. IsTrue (sites_once q)) (sym whole) (valid.sites_once (source p) p.closed p.formed p.ordered p.sited p.ready p.words);

@@ -1,21 +1,26 @@
-use Rattle.std.proofs.Common.{◌∙◌, ◌≤◌, ◌*◌, Result, Ok, Err, IfOk, IsTrue, sym, subst, ap}
+use Rattle.std.proofs.Common.{◌∙◌, ◌≤◌, ◌*◌, IsTrue, sym, subst, ap}
 use Rattle.sch_word.proofs.WhenOk.{if_ok}
 use Rattle.sch_flat.specs.ProgramView.{source}
 use Rattle.sch_control.specs.Fits.{table_fits}
 use Rattle.sch_control.specs.Sizes.{expressions_size}
 use Rattle.sch_flat.specs.Measures.{program_size}
-use Rattle.sch_anf.specs.Kept.{SameCalls, StaysStraight}
-use Rattle.sch_anf.specs.Normal.{normal_source}
-use Rattle.sch_anf.specs.SameRun.{SameRun}
-use Rattle.sch_anf.specs.Table.{given_table}
-use Rattle.sch_anf.specs.Tests.{tests_of}
-use Rattle.sch_anf.proofs.CallsKept.{program_calls}
-use Rattle.sch_anf.proofs.Program.{normal_runs}
-use Rattle.sch_anf.proofs.StraightKept.{program_straight}
-use Rattle.sch_anf.proofs.StraightSize.{straight_size}
-use Rattle.sch_anf.proofs.Table.{given_table_fits}
-use Rattle.sch_anf.proofs.TestsKept.{program_tests}
-use Rattle.sch_anf.proofs.ValidProgram.{bound_known}
+use Rattle.sch_normal.specs.Kept.{SameCalls, StaysStraight}
+use Rattle.sch_normal.specs.Normal.{normal_source}
+use Rattle.sch_normal.specs.SameRun.{SameRun}
+use Rattle.sch_orders.specs.Table.{given_table}
+use Rattle.sch_normal.specs.Tests.{tests_of}
+use Rattle.sch_normal.proofs.kept.CallsKept.{program_calls}
+use Rattle.sch_normal.proofs.runs.Program.{normal_runs}
+use Rattle.sch_normal.proofs.kept.StraightKept.{program_straight}
+use Rattle.sch_normal.specs.Counted.{BindNoMore}
+use Rattle.sch_normal.specs.Dropped.{dropped_of}
+use Rattle.sch_normal.specs.Weight.{weight}
+use Rattle.sch_normal.proofs.kept.BindNoMore.{program_binds}
+use Rattle.sch_normal.proofs.kept.DroppedKept.{program_dropped}
+use Rattle.sch_normal.proofs.kept.Size.{straight_size, program_weight}
+use Rattle.sch_orders.proofs.Table.{given_table_fits}
+use Rattle.sch_normal.proofs.kept.TestsKept.{program_tests}
+use Rattle.sch_normal.proofs.valid.ValidProgram.{bound_known}
 use Rattle.sch_anf.proofs.normalize.Goals as goal
 
 pub returns-clause-runs : goal.returns-clause-runs
@@ -51,3 +56,15 @@ pub returns-clause-size : goal.returns-clause-size
 returns-clause-size c =
     if_ok c.normal_program.result _ _ c.normal_program.ensures
     (λ q made h. subst (λ s. expressions_size s.bodies ≤ 4 * program_size (source c.args.p.now)) (sym made) (straight_size (source c.args.p.now) h))
+
+pub returns-clause-dropped : goal.returns-clause-dropped
+returns-clause-dropped c = if_ok c.normal_program.result _ _ c.normal_program.ensures (λ q made. ap (λ s. dropped_of s.bodies) made ∙ program_dropped (source c.args.p.now))
+
+pub returns-clause-variables : goal.returns-clause-variables
+returns-clause-variables c =
+    if_ok c.normal_program.result _ _ c.normal_program.ensures (λ q made. subst (λ s. BindNoMore (source c.args.p.now) s) (sym made) (program_binds (source c.args.p.now)))
+
+pub returns-clause-weight : goal.returns-clause-weight
+returns-clause-weight c =
+    if_ok c.normal_program.result _ _ c.normal_program.ensures
+    (λ q made. subst (λ s. expressions_size s.bodies ≤ weight (source c.args.p.now)) (sym made) (program_weight (source c.args.p.now)))

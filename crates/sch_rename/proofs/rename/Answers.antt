@@ -14,6 +14,7 @@ use Rattle.sch_rename.proofs.BoundVariables.{program_binds}
 use Rattle.sch_rename.proofs.Same.{runs_alike}
 use Rattle.sch_rename.proofs.ShapesKept.{measure_kept, size_kept}
 use Rattle.sch_rename.proofs.StraightKept.{straight_kept}
+use Rattle.sch_cells.specs.Recursive.{recursive_in, recursive_of}
 use Rattle.sch_rename.proofs.rename.Goals as goal
 
 pub returns-clause-made : goal.returns-clause-made
@@ -78,3 +79,9 @@ returns-clause-straight c =
     let p = source c.args.p.now in
     let closed = program_is_closed p c.args.p.now.numbered in
     if_ok c.rename_program.result _ _ c.rename_program.ensures (λ q made. ap is_straight_program made ∙ straight_kept p closed)
+
+pub returns-clause-recursive : goal.returns-clause-recursive
+returns-clause-recursive c =
+    let p = source c.args.p.now in
+    let closed = program_is_closed p c.args.p.now.numbered in
+    if_ok c.rename_program.result _ _ c.rename_program.ensures (λ q made. ap recursive_of made ∙ measure_kept 0 (λ a b. a + b) recursive_in p closed)

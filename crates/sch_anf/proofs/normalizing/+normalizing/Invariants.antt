@@ -2,11 +2,12 @@ use Rattle.std.proofs.Common.{◌≡◌, ◌<◌, ◌^◌, suc, ◌++◌, ◌+�
 use Rattle.sch_flat.specs.declared.tree.Exp.{Exp}
 use Rattle.sch_flat.specs.View.{tree, trees_of}
 use Rattle.sch_control.specs.Tree.{Expression}
-use Rattle.sch_anf.specs.LabelsFit.{LabelsFit, LabelsFitEach}
-use Rattle.sch_anf.specs.Normal.{operands_bind, inits_bind, binds_parts, operands_at, init_numbers, with_operands, with_inits, normal_parts}
-use Rattle.sch_anf.specs.ScopeTable.{scope_of}
+use Rattle.sch_normal.specs.LabelsFit.{LabelsFit, LabelsFitEach}
+use Rattle.sch_normal.specs.Normal.{operands_bind, inits_bind, binds_parts, operands_at, init_numbers, with_operands, with_inits, normal_parts}
+use Rattle.sch_operands.specs.ScopeTable.{scope_of}
 use Rattle.sch_anf.specs.Steps.{after}
-use Rattle.sch_anf.proofs.Loops.{left, dropped_binds}
+use Rattle.sch_normal.proofs.Items.{left}
+use Rattle.sch_anf.proofs.Loops.{dropped_binds}
 use Rattle.sch_anf.proofs.normalizing.+normalizing.Given as goal
 
 abbrev pub invariant-normalize_operands-loop-e : goal.invariant-normalize_operands-loop-e

@@ -1,8 +1,8 @@
 use Rattle.std.proofs.Common.{◌≡◌, ◌+◌, drop, map}
 use Rattle.sch_flat.specs.View.{new_cell}
 use Rattle.sch_control.specs.Tree.{Expression}
-use Rattle.sch_anf.specs.Normal.{with_new_cells}
-use Rattle.sch_anf.specs.ScopeTable.{scope_of}
+use Rattle.sch_normal.specs.Normal.{with_new_cells}
+use Rattle.sch_operands.specs.ScopeTable.{scope_of}
 use Rattle.sch_anf.specs.Steps.{after}
 use Rattle.sch_anf.proofs.normalizing.make_cells.Given as goal
 

@@ -1,0 +1,5 @@
+pub mod runs
+pub mod valid
+pub mod kept
+pub mod Examples
+pub mod Items

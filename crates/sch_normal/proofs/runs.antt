@@ -1,0 +1,10 @@
+pub mod Agree
+pub mod Bodies
+pub mod Fine
+pub mod Orders
+pub mod Program
+pub mod Ready
+pub mod Runs
+pub mod Same
+pub mod Sites
+pub mod Worlds

@@ -1,0 +1,20 @@
+use Rattle.std.proofs.Common.{◌<◌, ◌^◌, ◌∙◌, [], length, map, replicate, ap, sym, subst}
+use Rattle.sch_flat.specs.ProgramView.{source}
+use Rattle.sch_flat.specs.View.{body, trees_of}
+use Rattle.sch_simple.specs.Placed.{size_bodies, placed_bodies, placed_each}
+use Rattle.sch_simple.proofs.PlacedLists.{bound_is, small_bodies, small_forms}
+use Rattle.sch_simple.proofs.bound_parts.Goals as goal
+
+pub place_each-requires : goal.place_each-requires
+place_each-requires c = small_forms (source c.args.p.now) c.requires
+
+pub place_bodies-requires : goal.place_bodies-requires
+place_bodies-requires c = subst (λ bs. size_bodies (map body bs) < 2 ^ 32) (sym c.as_slice.ensures) (small_bodies (source c.args.p.now) c.requires)
+
+pub returns : goal.returns
+returns c =
+    let p = c.args.p.now in
+    let forms = trees_of p.forms in
+    let bodies = map body c.as_slice.result.now in
+    c.from_vec.ensures ∙ c.in_ok-place_bodies.ensures ∙ ap (placed_bodies bodies) (c.in_ok-place_each.ensures ∙ ap (placed_each forms) (c.in_ok-bound.ensures ∙ ap (λ n. replicate n []) c.len.ensures))
+    ∙ ap (λ bs. placed_bodies (map body bs) (placed_each forms (replicate (length p.sites) []))) c.as_slice.ensures ∙ bound_is (map body p.bodies) forms (length p.sites)

@@ -1,0 +1,27 @@
+use Rattle.std.proofs.Common.{◌++◌, ◌∙◌, ap, sym, refl, arith}
+use Rattle.sch_flat.specs.View.{trees_of}
+use Rattle.sch_flat.proofs.Rows.{trees_of_list}
+use Rattle.sch_normal.specs.Normal.{bound_places}
+use Rattle.sch_simple.proofs.PlacedLists.{few_items, places_turn, places_end}
+use Rattle.sch_simple.proofs.places.add_places.Goals as goal
+
+pub loop-e-init : goal.loop-e-init
+loop-e-init c = record {
+  places = λ last. ap (λ ts. c.args.all.now ++ bound_places c.args.first ts last) (sym (trees_of_list c.as_slice-e-items.result.now));
+  place = omega arith;
+}
+
+pub overflow_add-place : goal.overflow_add-place
+overflow_add-place c =
+    let n = few_items c.as_slice-e-items.result.now c.args.es.now c.as_slice-e-items.ensures in
+    omega (arith, n, c.requires, c.loop-e.invariant.place, c.loop-e-test.true)
+
+pub loop-e-preserved : goal.loop-e-preserved
+loop-e-preserved c = record {
+  places = places_turn c.as_slice-e-items.result.now c.loop-e.e-index c.e-item.result c.loop-e-test.true c.e-item.is c.loop-e.place _ c.loop-e.all _ _ refl c.in_ok-add_place.ensures c.loop-e.invariant.places;
+  place = omega (arith, c.loop-e.invariant.place);
+}
+
+pub returns : goal.returns
+returns c = places_end c.as_slice-e-items.result.now c.loop-e.e-index c.loop-e.place c.loop-e.all _ c.loop-e-test.false
+    (λ last. c.loop-e.invariant.places last ∙ ap (λ es. c.args.all.now ++ bound_places c.args.first (trees_of es) last) c.as_slice-e-items.ensures)
