@@ -4,3 +4,4 @@ pub mod DroppedKept
 pub mod StraightKept
 pub mod Size
 pub mod BindNoMore
+pub mod CallFreeKept
