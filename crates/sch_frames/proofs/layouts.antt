@@ -5,3 +5,4 @@ pub mod LayoutSize
 pub mod SlotsFrame
 pub mod StraightSlots
 pub mod Used
+pub mod SettledSlots

@@ -1,5 +1,5 @@
 -- The relation of a store and of an activation to the machine, after a global is written and after a routine.
-use Rattle.std.proofs.Common.{◌≡◌, ℕ, zero, suc, ◌+◌, ◌-◌, ◌*◌, ◌^◌, ◌<◌, ◌≤◌, List, [], ◌∷◌, length, take, drop, Bool, true, false, Option, Some, refl, sym, ap, ◌∙◌, subst, arith, ◌==◌, ⊎_elim, inl, inr, ◌⊎◌}
+use Rattle.std.proofs.Common.{◌≡◌, ℕ, ◌+◌, ◌-◌, ◌*◌, ◌^◌, ◌<◌, ◌≤◌, List, length, take, drop, Bool, true, false, Option, Some, refl, sym, ap, ◌∙◌, subst, arith, ◌==◌, ⊎_elim, inl, inr, ◌⊎◌}
 use Rattle.std.specs.Prelude.{slice_get, slice_set}
 use Rattle.std.specs.Int.{w64, from_le_bytes}
 use Rattle.std.proofs.lemmas.Bool.{eqb-true, eqb-false, cases_lt}
@@ -8,29 +8,18 @@ use Rattle.sch_word.specs.declared.answer.Answer.{Answer}
 use Rattle.sch_word.specs.declared.place.Place.{Place}
 use Rattle.sch_word.specs.declared.place.Place.TheVariants.{Reg, Slot}
 use Rattle.sch_word.specs.values.Values.{Value}
-use Rattle.sch_word.specs.runs.Store.{Store}
+use Rattle.sch_word.specs.runs.Computation.{State}
+use Rattle.sch_control.specs.Operations.{Procedure}
 use Rattle.sch_frames.specs.Meaning.{Cell}
 use Rattle.sch_asm.specs.Data.{Inside, word_in, with_word}
 use Rattle.sch_asm.specs.Effects.{is_scratch}
 use Rattle.sch_asm.proofs.Words.{word_same, word_other, size_kept, before_word}
-use Rattle.sch_select.specs.Encoded.{IsWord, IsHeld}
+use Rattle.sch_heap.specs.Parts.{Parts}
+use Rattle.sch_heap.specs.Encoded.{IsWord, IsHeld}
+use Rattle.sch_heap.proofs.Contents.{heap_kept, set_same, set_other}
 use Rattle.sch_select.specs.Select.{global_address}
-use Rattle.sch_select.proofs.Encodings.{fits}
-use Rattle.sch_select.proofs.Places.{Plan, Room, StoreAt, PlacesAt, Holds, same_word, no_scratch}
-
--- ---- an element that is replaced
-
-set_same : (xs : List (Option Value)) (g : ℕ) (v : Option Value) → g < length xs → slice_get (slice_set xs g v) g ≡ Some v
-set_same [] g v lt = absurd (omega (arith, lt))
-set_same (x ∷ xs) zero v lt = refl
-set_same (x ∷ xs) (suc g) v lt = set_same xs g v (omega (arith, lt))
-
-set_other : (xs : List (Option Value)) (g k : ℕ) (v : Option Value) → (k ≡ g → ⊥) → slice_get (slice_set xs g v) k ≡ slice_get xs k
-set_other [] g k v ne = refl
-set_other (x ∷ xs) zero zero v ne = absurd (ne refl)
-set_other (x ∷ xs) zero (suc k) v ne = refl
-set_other (x ∷ xs) (suc g) zero v ne = refl
-set_other (x ∷ xs) (suc g) (suc k) v ne = set_other xs g k v (λ e. ne (ap suc e))
+use Rattle.sch_heap.proofs.Encodings.{fits}
+use Rattle.sch_select.proofs.Places.{Plan, code_of, Room, StoreAt, PlacesAt, Holds, same_word, no_scratch}
 
 -- ---- words behind the routines' own
 
@@ -49,70 +38,83 @@ module _ (plan : Plan) where
 
   -- ---- a global has a value
 
-  pub global_written : (t : Store) (g : ℕ) (v : Value) (x : ℕ) (bytes output : List ℕ) (answers : List Answer) → g < globals → heap ≤ 0x10000000 + size → IsWord v x → StoreAt plan t bytes output answers → StoreAt plan (record t { globals = slice_set t.globals g (Some v) }) (with_word bytes (global_address g) x) output answers
-  global_written t g v x bytes output answers lt le h s =
-      let within = global_inside g bytes lt le s.size_is in
+  pub global_written : (parts : Parts) (s : State Procedure) (g : ℕ) (v : Value) (x : ℕ) (bytes output : List ℕ) (answers : List Answer) → g < globals → heap ≤ 0x10000000 + size → IsWord parts v x → StoreAt plan parts s bytes output answers → StoreAt plan parts (record s { store = record s.store { globals = slice_set s.store.globals g (Some v) } }) (with_word bytes (global_address g) x) output answers
+  global_written parts s g v x bytes output answers lt le h at =
+      let within = global_inside g bytes lt le at.size_is in
+      let b = at.begins in let cl = plan.closures_low in
       record {
-        size_is = size_kept bytes (global_address g) x within ∙ s.size_is;
-        printed = s.printed;
-        left = s.left;
-        within = s.within;
-        count = length-set t.globals g (Some v) ∙ s.count;
+        size_is = size_kept bytes (global_address g) x within ∙ at.size_is;
+        printed = at.printed;
+        left = at.left;
+        limit = at.limit;
+        within = at.within;
+        begins = at.begins;
+        ends = at.ends;
+        count = length-set s.store.globals g (Some v) ∙ at.count;
         global = λ k o e. by k o e (k == g) refl;
-        texts = before_word bytes (global_address g) x 512 280 within (omega arith) ∙ s.texts;
+        texts = before_word bytes (global_address g) x 512 288 within (omega arith) ∙ at.texts;
+        contents = heap_kept (code_of plan) parts s.cells s.procedures bytes (with_word bytes (global_address g) x) (λ a lo hi. word_other bytes (global_address g) x a within (omega (arith, lo, b, cl)) (inr (omega (arith, lo, b, cl, lt)))) at.contents;
+        new = at.new;
       }
     where
-      by : (k : ℕ) (o : Option Value) → slice_get (slice_set t.globals g (Some v)) k ≡ Some o → (b : Bool) → (k == g) ≡ b → IsHeld o (word_in (with_word bytes (global_address g) x) (global_address k))
+      by : (k : ℕ) (o : Option Value) → slice_get (slice_set s.store.globals g (Some v)) k ≡ Some o → (b : Bool) → (k == g) ≡ b → IsHeld parts o (word_in (with_word bytes (global_address g) x) (global_address k))
       by k o e true b =
           let same : k ≡ g = eqb-true k g b in
-          let c = s.count in
-          let put : Some (Some v) ≡ Some o = sym (set_same t.globals g (Some v) (omega (arith, c, lt))) ∙ ap (slice_get (slice_set t.globals g (Some v))) (sym same) ∙ e in
+          let c = at.count in
+          let put : Some (Some v) ≡ Some o = sym (set_same s.store.globals g (Some v) (omega (arith, c, lt))) ∙ ap (slice_get (slice_set s.store.globals g (Some v))) (sym same) ∙ e in
           let is : Some v ≡ o = cc in
-          subst (λ o. IsHeld o (word_in (with_word bytes (global_address g) x) (global_address k))) is
-          (subst (λ k. IsWord v (word_in (with_word bytes (global_address g) x) (global_address k))) (sym same)
-          (subst (IsWord v) (sym (word_same bytes (global_address g) x (global_inside g bytes lt le s.size_is) (fits v x h))) h))
+          subst (λ o. IsHeld parts o (word_in (with_word bytes (global_address g) x) (global_address k))) is
+          (subst (λ k. IsWord parts v (word_in (with_word bytes (global_address g) x) (global_address k))) (sym same)
+          (subst (IsWord parts v) (sym (word_same bytes (global_address g) x (global_inside g bytes lt le at.size_is) (fits parts v x h))) h))
       by k o e false b =
           let ne = eqb-false k g b in
           let far : (global_address k + 8 ≤ global_address g) ⊎ (global_address g + 8 ≤ global_address k) = ⊎_elim (λ lt. inl (omega (arith, lt))) (λ ge. ⊎_elim (λ lt. inr (omega (arith, lt))) (λ le. absurd (ne (omega (arith, ge, le)))) (cases_lt g k)) (cases_lt k g) in
-          subst (IsHeld o) (sym (word_other bytes (global_address g) x (global_address k) (global_inside g bytes lt le s.size_is) (omega arith) far))
-          (s.global k o (sym (set_other t.globals g k (Some v) ne) ∙ e))
+          subst (IsHeld parts o) (sym (word_other bytes (global_address g) x (global_address k) (global_inside g bytes lt le at.size_is) (omega arith) far))
+          (at.global k o (sym (set_other s.store.globals g k (Some v) ne) ∙ e))
 
   -- ---- after a routine
 
-  pub store_behind : (t : Store) (bytes bytes' output output' : List ℕ) (answers answers' : List Answer) → length bytes' ≡ length bytes → drop 512 bytes' ≡ drop 512 bytes → StoreAt plan t bytes output answers → StoreAt plan (record t { output = output'; answers = answers' }) bytes' output' answers'
-  store_behind t bytes bytes' output output' answers answers' n e s = record {
-    size_is = n ∙ s.size_is;
-    printed = refl;
-    left = refl;
-    within = s.within;
-    count = s.count;
-    global = λ k o g. subst (IsHeld o) (sym (word_behind bytes bytes' (global_address k) e (omega arith))) (s.global k o g);
-    texts = ap (take 280) e ∙ s.texts;
-  }
+  pub store_behind : (parts : Parts) (s : State Procedure) (bytes bytes' output output' : List ℕ) (answers answers' : List Answer) → length bytes' ≡ length bytes → drop 512 bytes' ≡ drop 512 bytes → StoreAt plan parts s bytes output answers → StoreAt plan parts (record s { store = record s.store { output = output'; answers = answers' } }) bytes' output' answers'
+  store_behind parts s bytes bytes' output output' answers answers' n e at =
+      let b = at.begins in let cl = plan.closures_low in
+      record {
+        size_is = n ∙ at.size_is;
+        printed = refl;
+        left = refl;
+        limit = at.limit;
+        within = at.within;
+        begins = at.begins;
+        ends = at.ends;
+        count = at.count;
+        global = λ k o g. subst (IsHeld parts o) (sym (word_behind bytes bytes' (global_address k) e (omega arith))) (at.global k o g);
+        texts = ap (take 288) e ∙ at.texts;
+        contents = heap_kept (code_of plan) parts s.cells s.procedures bytes bytes' (λ a lo hi. word_behind bytes bytes' a e (omega (arith, lo, b, cl))) at.contents;
+        new = at.new;
+      }
 
   module _ (back fr d : ℕ) (back_fits : back < 2 ^ 64) (room : Room plan fr d) where
     -- a store to a global leaves the frame
-    pub places_written : (charged : ℕ) (places : Place → Cell) (registers : ℕ → ℕ) (bytes : List ℕ) (g x : ℕ) → g < globals → heap ≤ 0x10000000 + size → length bytes ≡ size → PlacesAt plan back fr d back_fits room charged places registers bytes → PlacesAt plan back fr d back_fits room charged places registers (with_word bytes (global_address g) x)
-    places_written charged places registers bytes g x lt le e p = record {
+    pub places_written : (parts : Parts) (charged : ℕ) (places : Place → Cell) (registers : ℕ → ℕ) (bytes : List ℕ) (g x : ℕ) → g < globals → heap ≤ 0x10000000 + size → length bytes ≡ size → PlacesAt plan back fr d back_fits room parts charged places registers bytes → PlacesAt plan back fr d back_fits room parts charged places registers (with_word bytes (global_address g) x)
+    places_written parts charged places registers bytes g x lt le e p = record {
       frame = p.frame;
       depth = p.depth;
       free = p.free;
       register = p.register;
       slot = λ j lj. let low = room.low in let hl = heap_low in let sl = stack_low in
-          subst (Holds back (places (Slot j))) (sym (word_other bytes (global_address g) x (fr + 8 * j) (global_inside g bytes lt le e) (omega (arith, low, hl, sl)) (inr (omega (arith, low, hl, sl, lt))))) (p.slot j lj);
+          subst (Holds back parts (places (Slot j))) (sym (word_other bytes (global_address g) x (fr + 8 * j) (global_inside g bytes lt le e) (omega (arith, low, hl, sl)) (inr (omega (arith, low, hl, sl, lt))))) (p.slot j lj);
     }
 
     pub below_written : (bytes : List ℕ) (g x : ℕ) → g < globals → heap ≤ 0x10000000 + size → length bytes ≡ size → (a : ℕ) → stack ≤ a → word_in (with_word bytes (global_address g) x) a ≡ word_in bytes a
     below_written bytes g x lt le e a low = let hl = heap_low in let sl = stack_low in word_other bytes (global_address g) x a (global_inside g bytes lt le e) (omega (arith, low, hl, sl)) (inr (omega (arith, low, hl, sl, lt)))
 
     -- after a routine, which keeps registers whose words fit
-    pub places_behind : (charged : ℕ) (places : Place → Cell) (registers registers' : ℕ → ℕ) (bytes bytes' : List ℕ) → heap + charged < 2 ^ 64 → ((r : ℕ) → is_scratch r ≡ false → registers r < 2 ^ 64 → registers' r ≡ registers r) → drop 512 bytes' ≡ drop 512 bytes → PlacesAt plan back fr d back_fits room charged places registers bytes → PlacesAt plan back fr d back_fits room charged places registers' bytes'
-    places_behind charged places registers registers' bytes bytes' far k e p =
+    pub places_behind : (parts : Parts) (charged : ℕ) (places : Place → Cell) (registers registers' : ℕ → ℕ) (bytes bytes' : List ℕ) → heap + charged < 2 ^ 64 → ((r : ℕ) → is_scratch r ≡ false → registers r < 2 ^ 64 → registers' r ≡ registers r) → drop 512 bytes' ≡ drop 512 bytes → PlacesAt plan back fr d back_fits room parts charged places registers bytes → PlacesAt plan back fr d back_fits room parts charged places registers' bytes'
+    places_behind parts charged places registers registers' bytes bytes' far k e p =
         let low = room.low in let high = room.high in let s = small in let few = room.few in let f = p.frame in let dp = p.depth in let fe = p.free in
         record {
           frame = k 5 refl (omega (arith, f, high, s)) ∙ p.frame;
           depth = k 13 refl (omega (arith, dp, few)) ∙ p.depth;
           free = k 12 refl (omega (arith, fe, far)) ∙ p.free;
-          register = λ r i. same_word back back_fits (places (Reg r)) (registers r) (registers' r) (p.register r i) (k r (no_scratch r i));
-          slot = λ j lj. let hl = heap_low in let sl = stack_low in subst (Holds back (places (Slot j))) (sym (word_behind bytes bytes' (fr + 8 * j) e (omega (arith, low, hl, sl)))) (p.slot j lj);
+          register = λ r i. same_word back parts back_fits (places (Reg r)) (registers r) (registers' r) (p.register r i) (k r (no_scratch r i));
+          slot = λ j lj. let hl = heap_low in let sl = stack_low in subst (Holds back parts (places (Slot j))) (sym (word_behind bytes bytes' (fr + 8 * j) e (omega (arith, low, hl, sl)))) (p.slot j lj);
         }

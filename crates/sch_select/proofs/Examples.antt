@@ -7,7 +7,7 @@ use Rattle.sch_word.specs.declared.answer.Answer.TheVariants.{Took, Failed}
 use Rattle.sch_word.specs.declared.constant.Const.{Const}
 use Rattle.sch_word.specs.declared.constant.Const.TheVariants.{Fixnum, Character, Boolean, Nil, Unspecified}
 use Rattle.sch_word.specs.declared.place.Place.{Place}
-use Rattle.sch_word.specs.declared.place.Place.TheVariants.{Slot}
+use Rattle.sch_word.specs.declared.place.Place.TheVariants.{Reg, Slot}
 use Rattle.sch_word.specs.declared.primitive.Primitive.{Primitive}
 use Rattle.sch_word.specs.declared.primitive.Primitive.TheVariants as prim
 use Rattle.sch_word.specs.values.Literals.{no_literals}
@@ -16,8 +16,10 @@ use Rattle.sch_control.specs.declared.operation.Operand.{Operand}
 use Rattle.sch_control.specs.declared.operation.Operand.TheVariants as operand
 use Rattle.sch_control.specs.declared.operation.Operation.TheVariants as operation
 use Rattle.sch_frames.specs.declared.instruction.Instruction.{Instruction}
-use Rattle.sch_frames.specs.declared.instruction.Instruction.TheVariants.{Do, Store, End, IfFalse, Jump, Label}
-use Rattle.sch_frames.specs.Straight.{is_straight_program}
+use Rattle.sch_frames.specs.declared.instruction.Instruction.TheVariants.{Do, Store, Fix, Return, End, IfFalse, Jump, Label}
+use Rattle.sch_control.specs.declared.operation.Source as closure
+use Rattle.sch_control.specs.declared.operation.Source.TheVariants as source
+use Rattle.sch_select.specs.Covered.{is_covered_program}
 use Rattle.sch_frames.specs.Tree.{Source}
 use Rattle.sch_insn.specs.Decode.{escaped_of, long_of, narrow_of, operand_of, rexed_of, wide_of}
 use Rattle.sch_insn.specs.Machine.{test_of}
@@ -41,8 +43,9 @@ one_form labels instructions = record {
   words = 2;
 }
 
-abbrev items_of : Source → List Item
-items_of p = program_code p 16 1 ++ routine_items
+-- the items, with a limit of the heap
+abbrev items_of : (heap : ℕ) → Source → List Item
+items_of heap p = program_code p heap 1 ++ routine_items
 
 abbrev text_of : List Item → List ℕ
 text_of items =
@@ -50,9 +53,12 @@ text_of items =
     let addresses = addresses_from 0x400000 (map item_size items) in
     flat_map spelling (emitted (placed_by numbers addresses) (slice_index addresses) 0 items)
 
--- how a program ends within 400 steps
+-- how a program ends within 400 steps, with a limit of the heap
+abbrev ends_in : (heap : ℕ) → Source → List Answer → Option (ℕ × List ℕ)
+ends_in heap p answers = exit_of (mach 400 (start 0x400000 (text_at (text_of (items_of heap p)) ∷ data_at (flat_map (bytes_of (λ l. 0)) (program_words p) ++ replicate (program_zeros p heap) 0) ∷ []) zeros answers))
+
 abbrev ends : Source → List Answer → Option (ℕ × List ℕ)
-ends p answers = exit_of (mach 400 (start 0x400000 (text_at (text_of (items_of p)) ∷ data_at (flat_map (bytes_of (λ l. 0)) (program_words p) ++ replicate (program_zeros p 16) 0) ∷ []) zeros answers))
+ends = ends_in 16
 
 abbrev number : ℤ → Operand Place
 number n = operand.Atom (Constant (Fixnum n))
@@ -65,7 +71,7 @@ abbrev shows : Primitive → ℤ → ℤ → Source
 shows which a b = one_form 0 (Do (operation.Prim 1 which (number a ∷ number b ∷ [])) ∷ Store (Slot 1) ∷ puts (operand.Atom (Variable (Slot 1))))
 
 products :
-    (is_straight_program (shows prim.Multiply (pos 6) (negsuc 6)) ≡ true)
+    (is_covered_program (shows prim.Multiply (pos 6) (negsuc 6)) ≡ true)
     × (ends (shows prim.Multiply (pos 6) (negsuc 6)) [] ≡ Some (0, codes "-42"))
     × (ends (shows prim.Multiply (pos 1073741824) (pos 1073741824)) [] ≡ Some (70, []))
     × (ends (shows prim.Add (pos 1152921504606846975) (pos 1)) [] ≡ Some (70, []))
@@ -116,3 +122,71 @@ stops :
     × (ends (one_form 0 (Do (operation.Global 0) ∷ End ∷ [])) [] ≡ Some (73, []))
 unfolding escaped_of narrow_of operand_of rexed_of wide_of long_of test_of
 stops = (refl, refl, refl, refl, refl)
+
+-- ---- cells
+
+abbrev slot : ℕ → closure.Source Place
+slot k = source.Atom (Variable (Slot k))
+
+abbrev fixed : ℤ → closure.Source Place
+fixed n = source.Atom (Constant (Fixnum n))
+
+-- what a slot has is put
+abbrev shown : ℕ → List Instruction
+shown k = puts (operand.Atom (Variable (Slot k)))
+
+-- two cells with 1 and 2; the first is set to 3, and the cell in this slot is read
+abbrev two_cells : ℕ → Source
+two_cells k = one_form 0 (Do (operation.NewCell (fixed (pos 1))) ∷ Store (Slot 0) ∷ Do (operation.NewCell (fixed (pos 2))) ∷ Store (Slot 1) ∷ Do (operation.CellSet (slot 0) (number (pos 3))) ∷ Do (operation.CellGet (slot k)) ∷ Store (Slot 0) ∷ shown 0)
+
+-- a cell that is unset, and no cell
+abbrev unset : Source
+unset = one_form 0 (Do operation.UnsetCell ∷ Store (Slot 0) ∷ Do (operation.CellGet (slot 0)) ∷ End ∷ [])
+
+abbrev no_cell : Source
+no_cell = one_form 0 (Do (operation.CellGet (fixed (pos 1))) ∷ End ∷ [])
+
+-- the limit of the heap is met before anything is written
+cells :
+    (is_covered_program (two_cells 0) ≡ true)
+    × (ends_in 32 (two_cells 0) [] ≡ Some (0, codes "3"))
+    × (ends_in 32 (two_cells 1) [] ≡ Some (0, codes "2"))
+    × (ends_in 16 (two_cells 1) [] ≡ Some (71, []))
+    × (ends_in 16 unset [] ≡ Some (73, []))
+    × (ends_in 0 unset [] ≡ Some (71, []))
+    × (ends_in 16 no_cell [] ≡ Some (73, []))
+unfolding escaped_of narrow_of operand_of rexed_of wide_of long_of test_of
+cells = (refl, refl, refl, refl, refl, refl, refl)
+
+-- ---- closures
+
+-- a form, and a procedure that nothing enters, which is in the library and in the global
+abbrev with_procedure : List Instruction → Source
+with_procedure instructions = record {
+  statics = record { symbols = []; literals = no_literals; globals = Some 0 ∷ [] };
+  library = 1 ∷ [];
+  bodies = record { entry = None; words = 2; labels = 0; instructions = instructions } ∷ record { entry = Some (record { formals = 0; rest = false; fields = 2 }); words = 2; labels = 0; instructions = Do (operation.Field (Reg 14) 1) ∷ Return ∷ [] } ∷ [];
+  words = 2;
+}
+
+-- a closure with two fields, of which this one is put
+abbrev captures : ℕ → Source
+captures k = with_procedure (Do (operation.MakeClosure (record { label = 1; fields = fixed (pos 5) ∷ fixed (pos 6) ∷ [] })) ∷ Store (Slot 0) ∷ Do (operation.Field (Slot 0) k) ∷ Store (Slot 1) ∷ shown 1)
+
+-- two that know one another: the second field of the first's first field
+abbrev group : Source
+group = with_procedure (Fix (record { at = Slot 0; closure = record { label = 1; fields = slot 1 ∷ fixed (pos 3) ∷ [] } } ∷ record { at = Slot 1; closure = record { label = 1; fields = slot 0 ∷ fixed (pos 4) ∷ [] } } ∷ []) ∷ Do (operation.Field (Slot 0) 0) ∷ Store (Slot 0) ∷ Do (operation.Field (Slot 0) 1) ∷ Store (Slot 1) ∷ shown 1)
+
+abbrev library : Source
+library = with_procedure (Do (operation.Global 0) ∷ Store (Slot 1) ∷ shown 1)
+
+closures :
+    (is_covered_program group ≡ true)
+    × (ends_in 32 (captures 0) [] ≡ Some (0, codes "5"))
+    × (ends_in 32 (captures 1) [] ≡ Some (0, codes "6"))
+    × (ends_in 16 (captures 0) [] ≡ Some (71, []))
+    × (ends_in 64 group [] ≡ Some (0, codes "4"))
+    × (ends_in 48 group [] ≡ Some (71, []))
+    × (ends library [] ≡ Some (0, codes "#<procedure>"))
+unfolding escaped_of narrow_of operand_of rexed_of wide_of long_of test_of
+closures = (refl, refl, refl, refl, refl, refl, refl)

@@ -3,6 +3,8 @@ use Rattle.std.proofs.Common.{◌≡◌, ℕ, ◌+◌, ◌*◌, ◌≤◌, List,
 use Rattle.sch_word.specs.declared.stop.Stop.{Stop}
 use Rattle.sch_word.specs.runs.Stops.{status_of}
 use Rattle.sch_word.specs.runs.Store.{Store}
+use Rattle.sch_heap.specs.Parts.{Parts}
+use Rattle.sch_heap.specs.Encoded.{Words}
 use Rattle.sch_word.specs.runs.Computation.{gives, stops, spent}
 use Rattle.sch_control.specs.Meaning.{World, Result}
 use Rattle.sch_insn.specs.Step.{Exited, step}
@@ -55,7 +57,8 @@ module _ (plan : Plan) (body_steps : ℕ) where
     pub marked : map kind_of w.marks ≡ before ++ (events ++ ahead)
 
   -- The machine comes to an address, with its frame, its depth and what lies below its frame as they were.
-  pub record Lands (back fr d : ℕ) (before : List MarkKind) (t : Store) (x : View) (c : ℕ) (w : World) : Type 0 where
+  -- Words of values stay words.
+  pub record Lands (back fr d : ℕ) (parts : Parts) (before : List MarkKind) (t : Store) (x : View) (c : ℕ) (w : World) : Type 0 where
     pub y : View
     pub events : List MarkKind
     pub least : ℕ
@@ -69,15 +72,17 @@ module _ (plan : Plan) (body_steps : ℕ) where
     pub depth : y.registers 13 ≡ d
     pub free : y.registers 12 ≡ heap + w.state.store.charged
     pub below : (a : ℕ) → stack ≤ a → a + 8 ≤ fr → word_in y.bytes a ≡ word_in x.bytes a
-    pub world : StoreAt plan w.state.store y.bytes y.output y.answers
+    pub parts_after : Parts
+    pub words : Words parts parts_after
+    pub world : StoreAt plan parts_after w.state y.bytes y.output y.answers
     pub marked : map kind_of w.marks ≡ before ++ events
 
   -- Nothing is owed where a body is wrong.
-  abbrev pub Sim : (back fr d : ℕ) → List MarkKind → Store → View → ℕ → Result → Type 0
-  Sim back fr d before t x c None = Unit {0}
-  Sim back fr d before t x c (Some (gives v w)) = Lands back fr d before t x c w
-  Sim back fr d before t x c (Some (stops why w)) = Ends before t x c (status_of why) w
-  Sim back fr d before t x c (Some (spent w)) = Goes_on before t x w
+  abbrev pub Sim : (back fr d : ℕ) → Parts → List MarkKind → Store → View → ℕ → Result → Type 0
+  Sim back fr d parts before t x c None = Unit {0}
+  Sim back fr d parts before t x c (Some (gives v w)) = Lands back fr d parts before t x c w
+  Sim back fr d parts before t x c (Some (stops why w)) = Ends before t x c (status_of why) w
+  Sim back fr d parts before t x c (Some (spent w)) = Goes_on before t x w
 
   -- ---- what is ahead, after some steps
 
@@ -95,11 +100,11 @@ module _ (plan : Plan) (body_steps : ℕ) where
     silent = e.silent;
   }
 
-  pub after : (back fr d : ℕ) (before events : List MarkKind) (t t' : Store) (x y : View) (a b c most : ℕ) (r : Result) → Leads setting a b events x y →
+  pub after : (back fr d : ℕ) (parts parts' : Parts) → Words parts parts' → (before events : List MarkKind) (t t' : Store) (x y : View) (a b c most : ℕ) (r : Result) → Leads setting a b events x y →
       ((p : ℕ) → stack ≤ p → p + 8 ≤ fr → word_in y.bytes p ≡ word_in x.bytes p) →
-      t.entries ≤ a + t'.entries → t'.entries ≤ t.entries → b + c + paid t' ≤ most + paid t → Sim back fr d (before ++ events) t' y c r → Sim back fr d before t x most r
-  after back fr d before events t t' x y a b c most None p low l1 l2 le s = tt
-  after back fr d before events t t' x y a b c most (Some (gives v w)) p low l1 l2 le s = record {
+      t.entries ≤ a + t'.entries → t'.entries ≤ t.entries → b + c + paid t' ≤ most + paid t → Sim back fr d parts' (before ++ events) t' y c r → Sim back fr d parts before t x most r
+  after back fr d parts parts' words before events t t' x y a b c most None p low l1 l2 le s = tt
+  after back fr d parts parts' words before events t t' x y a b c most (Some (gives v w)) p low l1 l2 le s = record {
     y = s.y;
     events = events ++ s.events;
     least = a + s.least;
@@ -113,11 +118,13 @@ module _ (plan : Plan) (body_steps : ℕ) where
     depth = s.depth;
     free = s.free;
     below = λ p lo hi. s.below p lo hi ∙ low p lo hi;
+    parts_after = s.parts_after;
+    words = λ v n h. s.words v n (words v n h);
     world = s.world;
     marked = s.marked ∙ append_assoc before events s.events;
   }
-  after back fr d before events t t' x y a b c most (Some (stops why w)) p low l1 l2 le s = ends_after before events t t' x y a b c most (status_of why) w p le s
-  after back fr d before events t t' x y a b c most (Some (spent w)) p low l1 l2 le s = record {
+  after back fr d parts parts' words before events t t' x y a b c most (Some (stops why w)) p low l1 l2 le s = ends_after before events t t' x y a b c most (status_of why) w p le s
+  after back fr d parts parts' words before events t t' x y a b c most (Some (spent w)) p low l1 l2 le s = record {
     last = s.last;
     events = events ++ s.events;
     least = a + s.least;

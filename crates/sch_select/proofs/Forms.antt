@@ -24,29 +24,30 @@ use Rattle.sch_asm.specs.Routines.{label_of}
 use Rattle.sch_asm.specs.Stands.{Stands}
 use Rattle.sch_asm.specs.Views.{View, Leads}
 use Rattle.sch_asm.proofs.EachItem.{jumps}
-use Rattle.sch_select.specs.Select.{kind_of, body_code}
-use Rattle.sch_select.specs.Program.{form_code, forms_code, labels_end}
+use Rattle.sch_heap.specs.Parts.{Parts}
+use Rattle.sch_select.specs.Select.{kind_of, body_label, body_code}
+use Rattle.sch_select.specs.Program.{passed_code, form_code, forms_code, labels_end}
 use Rattle.sch_select.proofs.Places.{Plan, Room, StoreAt, PlacesAt}
-use Rattle.sch_select.proofs.Appending.{body_appends, Behind, behind}
+use Rattle.sch_select.proofs.Appending.{body_appends, behind}
 use Rattle.sch_select.proofs.Following.{Ends, Goes_on, Sim, Laid, ends_after, paid}
 use Rattle.sch_select.proofs.Bodies.{body_cost, body_sim, map_one}
-use Rattle.sch_select.proofs.Selected.{form_selected, instruction_selected}
-use Rattle.sch_control.specs.Straight.{is_form}
+use Rattle.sch_select.proofs.Selected.{form_selected}
 
 -- how many steps forms take at most
 abbrev pub forms_cost : List Code → ℕ
 forms_cost [] = 4
-forms_cost (c ∷ cs) = body_cost c.instructions + forms_cost cs
+forms_cost (c ∷ cs) = suc (body_cost c.instructions) + forms_cost cs
 
 module _ (plan : Plan) (body_steps : ℕ) (laid : Laid plan body_steps) (depth : ℕ) (room : Room plan plan.stack depth) (all : List Code) (callee : Callee) where
   open plan use {setting, words, globals, heap, stack, labels}
 
-  -- between two forms
+  -- between two forms, with some parts of the heap
   pub record Ready (w : World) (x : View) : Type 0 where
+    pub parts : Parts
     pub frame : x.registers 5 ≡ stack
     pub deep : x.registers 13 ≡ depth
     pub free : x.registers 12 ≡ heap + w.state.store.charged
-    pub world : StoreAt plan w.state.store x.bytes x.output x.answers
+    pub world : StoreAt plan parts w.state x.bytes x.output x.answers
 
   -- what is owed for all forms that are left
   abbrev pub Owed : List MarkKind → Store → View → ℕ → Result → Type 0
@@ -82,47 +83,57 @@ module _ (plan : Plan) (body_steps : ℕ) (laid : Laid plan body_steps) (depth :
   abbrev Rest : List Code → ℕ → List Item → Type 0
   Rest cs label code = (before : List MarkKind) (w : World) (x : View) → Stands setting [] x.place code → Ready w x → map kind_of w.marks ≡ before → Owed before w.state.store x (forms_cost cs) (do_forms (entries_of cs) label (bodies_of all) callee depth w)
 
-  one_form : (c : Code) (cs : List Code) (label n : ℕ) (following : List Item) → form_selected words globals c ≡ true → slice_get all label ≡ Some c → Rest cs (suc label) following → (before : List MarkKind) (w : World) (x : View) → Stands setting [] x.place (item.Mark (Enter label) ∷ form_code n c following) → Ready w x → map kind_of w.marks ≡ before → Owed before w.state.store x (body_cost c.instructions + forms_cost cs) (do_forms (c.entry ∷ entries_of cs) label (bodies_of all) callee depth w)
-  one_form c cs label n following e at rec before w x h r m = by c.entry refl
-    where
-      selected : (is_form c.entry ≡ true) × (list_all (instruction_selected words globals) c.instructions ≡ true)
-      selected = and_parts (is_form c.entry) (list_all (instruction_selected words globals) c.instructions) e
+  -- what stands from the mark of a body on
+  abbrev entered_code : (label n : ℕ) → Code → List Item → List Item
+  entered_code label n c following = item.Mark (Enter label) ∷ body_code n (n + c.labels) stack (n + c.labels + 1) c.instructions (item.Label (n + c.labels) ∷ following)
 
+  -- what stands behind a body
+  after_body : (label n a : ℕ) (c : Code) (following : List Item) → Stands setting [] a (entered_code label n c following) → Stands setting [] (setting.place_of (n + c.labels)) following
+  after_body label n a c following h =
+      let out = n + c.labels in
+      let b = behind setting (body_code n out stack (n + c.labels + 1) c.instructions []) (item.Label out ∷ following) (Enter label ∷ []) a (subst (Stands setting (Enter label ∷ []) a) (body_appends n out stack (n + c.labels + 1) c.instructions (item.Label out ∷ following)) h) in
+      subst (λ a. Stands setting [] a following) (sym b.stands.1) b.stands.2
+
+  one_form : (c : Code) (cs : List Code) (label n : ℕ) (following : List Item) → form_selected words globals c ≡ true → slice_get all label ≡ Some c → Rest cs (suc label) following → (before : List MarkKind) (w : World) (x : View) → Stands setting [] x.place (form_code stack label n c following) → Ready w x → map kind_of w.marks ≡ before → Owed before w.state.store x (suc (body_cost c.instructions) + forms_cost cs) (do_forms (c.entry ∷ entries_of cs) label (bodies_of all) callee depth w)
+  one_form c cs label n following e at rec before w x h r m = by c.entry refl h
+    where
       out : ℕ
       out = n + c.labels
-
-      b : Behind setting (item.Label out ∷ following)
-      b = behind setting (body_code n out (n + c.labels + 1) c.instructions []) (item.Label out ∷ following) (Enter label ∷ []) x.place (subst (Stands setting (Enter label ∷ []) x.place) (body_appends n out (n + c.labels + 1) c.instructions (item.Label out ∷ following)) h)
-
-      next : Stands setting [] (setting.place_of out) following
-      next = subst (λ a. Stands setting [] a following) (sym b.stands.1) b.stands.2
 
       entered : World
       entered = marked (control.Enter label) w
 
-      here : PlacesAt plan (setting.place_of out) stack depth (labels out) room w.state.store.charged (beginning None unspecified []).places x.registers x.bytes
+      here : PlacesAt plan (setting.place_of out) stack depth (labels out) room r.parts w.state.store.charged (beginning None unspecified []).places x.registers x.bytes
       here = record { frame = r.frame; depth = r.deep; free = r.free; register = λ k i. tt; slot = λ j lt. tt }
 
-      done : Sim plan body_steps (setting.place_of out) stack depth before w.state.store x (body_cost c.instructions) (execute_each callee depth c.instructions None (beginning None unspecified []) entered)
-      done = body_sim plan body_steps laid (setting.place_of out) stack depth (labels out) room n out refl callee depth (n + c.labels + 1) c.instructions (item.Label out ∷ following) selected.1
-          None before (Enter label ∷ []) (beginning None unspecified []) entered x h here r.world tt (map_one w.marks (control.Enter label) ∙ ap (λ l. l ++ Enter label ∷ []) m)
+      done : Stands setting [] x.place (entered_code label n c following) → Sim plan body_steps (setting.place_of out) stack depth r.parts before w.state.store x (body_cost c.instructions) (execute_each callee depth c.instructions None (beginning None unspecified []) entered)
+      done h = body_sim plan body_steps laid (setting.place_of out) stack depth (labels out) room n out refl callee depth (n + c.labels + 1) c.instructions (item.Label out ∷ following) e
+          None r.parts before (Enter label ∷ []) (beginning None unspecified []) entered x h here r.world tt (map_one w.marks (control.Enter label) ∙ ap (λ l. l ++ Enter label ∷ []) m)
 
-      goes_on : (res : Result) → Sim plan body_steps (setting.place_of out) stack depth before w.state.store x (body_cost c.instructions) res → Owed before w.state.store x (body_cost c.instructions + forms_cost cs) (on_return res (λ v u. do_forms (entries_of cs) (suc label) (bodies_of all) callee depth u))
-      goes_on None s = tt
-      goes_on (Some (stops why u)) s = record { last = s.last; events = s.events; least = s.least; steps = s.steps; leads = s.leads; cost = (let k = s.cost in omega (arith, k)); exits = s.exits; output_is = s.output_is; marked = s.marked; silent = s.silent }
-      goes_on (Some (spent u)) s = s
-      goes_on (Some (gives v u)) s =
-          owed_after before s.events w.state.store u.state.store x s.y s.least s.steps (forms_cost cs) (body_cost c.instructions + forms_cost cs) _ s.leads s.entries (let k = s.cost in omega (arith, k))
-          (rec (before ++ s.events) u s.y (subst (λ a. Stands setting [] a following) (sym s.at) next) (record { frame = s.frame; deep = s.depth; free = s.free; world = s.world }) s.marked)
+      goes_on : Stands setting [] (setting.place_of out) following → (res : Result) → Sim plan body_steps (setting.place_of out) stack depth r.parts before w.state.store x (body_cost c.instructions) res → Owed before w.state.store x (suc (body_cost c.instructions) + forms_cost cs) (on_return res (λ v u. do_forms (entries_of cs) (suc label) (bodies_of all) callee depth u))
+      goes_on next None s = tt
+      goes_on next (Some (stops why u)) s = record { last = s.last; events = s.events; least = s.least; steps = s.steps; leads = s.leads; cost = (let k = s.cost in omega (arith, k)); exits = s.exits; output_is = s.output_is; marked = s.marked; silent = s.silent }
+      goes_on next (Some (spent u)) s = s
+      goes_on next (Some (gives v u)) s =
+          owed_after before s.events w.state.store u.state.store x s.y s.least s.steps (forms_cost cs) (suc (body_cost c.instructions) + forms_cost cs) _ s.leads s.entries (let k = s.cost in omega (arith, k))
+          (rec (before ++ s.events) u s.y (subst (λ a. Stands setting [] a following) (sym s.at) next) (record { parts = s.parts_after; frame = s.frame; deep = s.depth; free = s.free; world = s.world }) s.marked)
 
-      by : (o : Option Entry) → c.entry ≡ o → Owed before w.state.store x (body_cost c.instructions + forms_cost cs) (do_forms (o ∷ entries_of cs) label (bodies_of all) callee depth w)
-      by (Some q) i = absurd (let bad : is_form (Some q) ≡ true = ap is_form (sym i) ∙ selected.0 in cc)
-      by None i =
-          subst (λ k. Owed before w.state.store x (body_cost c.instructions + forms_cost cs) (on_return (do_known k callee depth unspecified [] entered) (λ v u. do_forms (entries_of cs) (suc label) (bodies_of all) callee depth u))) (sym at)
-          (subst (λ o. Owed before w.state.store x (body_cost c.instructions + forms_cost cs) (on_return (execute_each callee depth c.instructions None (beginning o unspecified []) entered) (λ v u. do_forms (entries_of cs) (suc label) (bodies_of all) callee depth u))) (sym i)
-          (goes_on _ done))
+      -- a procedure's body is jumped over
+      passed : (q : Entry) → Stands setting [] x.place (item.Jump out ∷ (item.Label (body_label label) ∷ entered_code label n c following)) → Owed before w.state.store x (suc (body_cost c.instructions) + forms_cost cs) (do_forms (entries_of cs) (suc label) (bodies_of all) callee depth w)
+      passed q h =
+          let y : View = record x { place = setting.place_of out } in
+          let next = after_body label n (x.place + h.0) c following h.4.2 in
+          owed_after before [] w.state.store w.state.store x y 1 1 (forms_cost cs) (suc (body_cost c.instructions) + forms_cost cs) _ (jumps setting x out (item.Label (body_label label) ∷ entered_code label n c following) [] h) (omega arith) (omega arith)
+          (subst (λ l. Owed l w.state.store y (forms_cost cs) (do_forms (entries_of cs) (suc label) (bodies_of all) callee depth w)) (sym (append-nil before)) (rec before w y next (record { parts = r.parts; frame = r.frame; deep = r.deep; free = r.free; world = r.world }) m))
 
-  pub forms_sim : (cs : List Code) (label n : ℕ) (behind_all : List Item) → list_all (form_selected words globals) cs ≡ true → Are label cs → (before : List MarkKind) (w : World) (x : View) → Stands setting [] x.place (forms_code label n cs (rest_code behind_all)) → Ready w x → map kind_of w.marks ≡ before → Owed before w.state.store x (forms_cost cs) (do_forms (entries_of cs) label (bodies_of all) callee depth w)
+      by : (o : Option Entry) → c.entry ≡ o → Stands setting [] x.place (passed_code o out (item.Label (body_label label) ∷ entered_code label n c following)) → Owed before w.state.store x (suc (body_cost c.instructions) + forms_cost cs) (do_forms (o ∷ entries_of cs) label (bodies_of all) callee depth w)
+      by (Some q) i h = passed q h
+      by None i h =
+          subst (λ k. Owed before w.state.store x (suc (body_cost c.instructions) + forms_cost cs) (on_return (do_known k callee depth unspecified [] entered) (λ v u. do_forms (entries_of cs) (suc label) (bodies_of all) callee depth u))) (sym at)
+          (subst (λ o. Owed before w.state.store x (suc (body_cost c.instructions) + forms_cost cs) (on_return (execute_each callee depth c.instructions None (beginning o unspecified []) entered) (λ v u. do_forms (entries_of cs) (suc label) (bodies_of all) callee depth u))) (sym i)
+          (goes_on (after_body label n x.place c following h.2) _ (done h.2)))
+
+  pub forms_sim : (cs : List Code) (label n : ℕ) (behind_all : List Item) → list_all (form_selected words globals) cs ≡ true → Are label cs → (before : List MarkKind) (w : World) (x : View) → Stands setting [] x.place (forms_code stack label n cs (rest_code behind_all)) → Ready w x → map kind_of w.marks ≡ before → Owed before w.state.store x (forms_cost cs) (do_forms (entries_of cs) label (bodies_of all) callee depth w)
   forms_sim [] label n behind_all e at before w x h r m =
       let y : View = record x { place = setting.place_of (label_of routine.End) } in
       let s = laid.routine routine.End y refl in
@@ -142,6 +153,6 @@ module _ (plan : Plan) (body_steps : ℕ) (laid : Laid plan body_steps) (depth :
   forms_sim (c ∷ cs) label n behind_all e at before w x h r m =
       let parts = and_parts (form_selected words globals c) (list_all (form_selected words globals) cs) e in
       let sum : label + 0 ≡ label = omega arith in
-      one_form c cs label n (forms_code (suc label) (labels_end n c) cs (rest_code behind_all)) parts.0 (ap (slice_get all) (sym sum) ∙ at 0 c refl)
+      one_form c cs label n (forms_code stack (suc label) (labels_end n c) cs (rest_code behind_all)) parts.0 (ap (slice_get all) (sym sum) ∙ at 0 c refl)
       (λ before w x h r m. forms_sim cs (suc label) (labels_end n c) behind_all parts.1 (λ j k i. let sum : label + suc j ≡ suc label + j = omega arith in ap (slice_get all) (sym sum) ∙ at (suc j) k i) before w x h r m)
       before w x h r m

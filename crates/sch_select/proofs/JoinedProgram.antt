@@ -1,10 +1,12 @@
 -- A program joined with its routines and resolved follows its runs.
-use Rattle.std.proofs.Common.{◌≡◌, ℕ, suc, ◌+◌, ◌*◌, ◌^◌, ◌<◌, ◌≤◌, List, [], ◌∷◌, ◌++◌, length, replicate, true, false, refl, sym, ap, subst, arith, ◌&&◌}
+use Rattle.std.proofs.Common.{◌≡◌, ℕ, suc, ◌+◌, ◌-◌, ◌*◌, ◌^◌, ◌<◌, ◌≤◌, List, [], ◌∷◌, ◌++◌, length, replicate, Option, Some, None, true, false, refl, sym, ap, subst, arith}
 use Rattle.std.specs.Prelude.{IsTrue}
 use Rattle.std.specs.List.{list_all, flat_map}
 use Rattle.std.proofs.lemmas.Bool.{and_parts}
 use Rattle.sch_word.specs.declared.answer.Answer.{Answer}
 use Rattle.sch_word.specs.runs.Runs.{Run}
+use Rattle.sch_word.specs.runs.Runs.{library_known}
+use Rattle.sch_control.specs.declared.body.Entry.{Entry}
 use Rattle.sch_frames.specs.Tree.{Code, Source}
 use Rattle.sch_insn.specs.declared.insn.Insn.{Insn}
 use Rattle.sch_insn.specs.Behaves.{FollowsRuns}
@@ -15,7 +17,7 @@ use Rattle.sch_asm.specs.declared.item.Mark as mark
 use Rattle.sch_asm.specs.declared.item.MarkKind.TheVariants.{Enter}
 use Rattle.sch_asm.specs.declared.routine.Routine.TheVariants as routine
 use Rattle.sch_asm.specs.Routines.{label_of}
-use Rattle.sch_asm.specs.Codes.{AreResolved}
+use Rattle.sch_asm.specs.Codes.{AreResolved, bytes_of}
 use Rattle.sch_asm.specs.Data.{data_at}
 use Rattle.sch_asm.specs.Effects.{AreEffective}
 use Rattle.sch_asm.specs.Items.{marks_arrive}
@@ -23,76 +25,82 @@ use Rattle.sch_asm.specs.Stands.{Setting, Stands}
 use Rattle.sch_asm.specs.Views.{text_at}
 use Rattle.sch_asm.proofs.Joined.{joined}
 use Rattle.sch_asm.proofs.Standing.{setting_of}
-use Rattle.sch_select.specs.Select.{put_label, globals_address, body_code}
-use Rattle.sch_select.specs.Program.{first_label, forms_code, form_code, labels_end, put_value_code, program_code, program_words, program_zeros, static_bytes, heap_address, stack_address, stack_bytes}
+use Rattle.sch_select.specs.Select.{put_label, globals_address, body_label, body_code}
+use Rattle.sch_select.specs.Program.{own_label, passed_code, forms_code, form_code, labels_end, put_value_code, program_code, program_words, program_zeros, static_bytes, closures_address, heap_of, stack_bytes}
 use Rattle.sch_select.specs.Follows.{AreRuns, FollowsFrames}
 use Rattle.sch_select.proofs.Places.{Plan, Room}
 use Rattle.sch_select.proofs.Appending.{Appends, then_appends, body_appends, behind}
 use Rattle.sch_select.proofs.Following.{Laid}
-use Rattle.sch_select.proofs.Starting.{all_bytes, bytes_count, texts_there, unset_globals}
+use Rattle.sch_select.proofs.Starting.{parts_at_start, bytes_count, texts_there, values_there, first_is, ends_at, contents_there, new_there}
 use Rattle.sch_select.proofs.Whole.{Starts, program_follows}
-use Rattle.sch_select.proofs.Selected.{form_selected, is_unset, marks_settled, selects}
+use Rattle.sch_select.proofs.Selected.{form_selected, selects}
+use Rattle.sch_select.specs.Covered.{marks_settled}
 
 -- ---- what stands behind the forms
 
-form_appends : (n : ℕ) (c : Code) → Appends (form_code n c)
-form_appends n c rest = then_appends (body_code n (n + c.labels) (n + c.labels + 1) c.instructions) (λ rest. item.Label (n + c.labels) ∷ rest) (body_appends n (n + c.labels) (n + c.labels + 1) c.instructions) (λ rest. refl) rest
+passed_appends : (o : Option Entry) (out : ℕ) → Appends (passed_code o out)
+passed_appends None out rest = refl
+passed_appends (Some e) out rest = refl
 
-forms_appends : (label n : ℕ) (cs : List Code) → Appends (forms_code label n cs)
-forms_appends label n [] rest = refl
-forms_appends label n (c ∷ cs) rest = ap (λ l. item.Mark (Enter label) ∷ l) (then_appends (form_code n c) (forms_code (suc label) (labels_end n c) cs) (form_appends n c) (forms_appends (suc label) (labels_end n c) cs) rest)
+form_appends : (heap_end label n : ℕ) (c : Code) → Appends (form_code heap_end label n c)
+form_appends heap_end label n c rest =
+    then_appends (passed_code c.entry (n + c.labels)) (λ rest. item.Label (body_label label) ∷ (item.Mark (Enter label) ∷ body_code n (n + c.labels) heap_end (n + c.labels + 1) c.instructions (item.Label (n + c.labels) ∷ rest))) (passed_appends c.entry (n + c.labels))
+    (λ rest. ap (λ l. item.Label (body_label label) ∷ (item.Mark (Enter label) ∷ l)) (then_appends (body_code n (n + c.labels) heap_end (n + c.labels + 1) c.instructions) (λ rest. item.Label (n + c.labels) ∷ rest) (body_appends n (n + c.labels) heap_end (n + c.labels + 1) c.instructions) (λ rest. refl) rest)) rest
+
+forms_appends : (heap_end label n : ℕ) (cs : List Code) → Appends (forms_code heap_end label n cs)
+forms_appends heap_end label n [] rest = refl
+forms_appends heap_end label n (c ∷ cs) rest = then_appends (form_code heap_end label n c) (forms_code heap_end (suc label) (labels_end n c) cs) (form_appends heap_end label n c) (forms_appends heap_end (suc label) (labels_end n c) cs) rest
 
 abbrev last_code : List Item
 last_code = item.Jump (label_of routine.End) ∷ (item.Label put_label ∷ put_value_code)
 
 -- the program's own routine stands where its label does
-put_there : (setting : Setting) (label n : ℕ) (cs : List Code) (a : ℕ) → Stands setting [] a (forms_code label n cs last_code) → Stands setting [] (setting.place_of put_label) put_value_code
-put_there setting label n cs a h =
-    let b = behind setting (forms_code label n cs []) last_code [] a (subst (Stands setting [] a) (forms_appends label n cs last_code) h) in
+put_there : (setting : Setting) (heap_end label n : ℕ) (cs : List Code) (a : ℕ) → Stands setting [] a (forms_code heap_end label n cs last_code) → Stands setting [] (setting.place_of put_label) put_value_code
+put_there setting heap_end label n cs a h =
+    let b = behind setting (forms_code heap_end label n cs []) last_code [] a (subst (Stands setting [] a) (forms_appends heap_end label n cs last_code) h) in
     subst (λ a. Stands setting [] a put_value_code) (sym b.stands.4.1) b.stands.4.2
 
 -- ---- where things lie
 
-module _ (p : Source) (limit depth : ℕ) (words_few : p.words ≤ 2048) (globals_few : length p.statics.globals ≤ 29360128) (limit_few : limit ≤ 1073741824) (depth_few : depth ≤ 10000000) where
+module _ (p : Source) (limit depth : ℕ) (words_few : p.words ≤ 2048) (globals_few : length p.statics.globals ≤ 29360128) (library_few : length p.library ≤ 1048576) (limit_few : limit ≤ 1073741824) (depth_few : depth ≤ 10000000) where
   abbrev globals : ℕ
   globals = length p.statics.globals
 
-  heap_above : globals_address + 8 * globals ≤ heap_address globals
-  heap_above = omega arith
-
-  heap_close : heap_address globals ≤ globals_address + 8 * globals + 15
+  heap_close : heap_of p ≤ globals_address + 8 * globals + 15 + 16 * length p.library
   heap_close = omega arith
 
   abbrev stack_size : ℕ
   stack_size = stack_bytes p.words
 
-  total : 792 + 8 * globals + program_zeros p limit + 0x10000000 ≡ stack_address globals limit + stack_size
-  total = let a = heap_above in omega (arith, a)
+  abbrev bytes_at : (ℕ → ℕ) → List ℕ
+  bytes_at place_of = flat_map (bytes_of place_of) (program_words p) ++ replicate (program_zeros p limit) 0
 
   plan_of : (setting : Setting) → ((l : ℕ) → setting.place_of l < 2 ^ 31) → Plan
   plan_of setting labels = record {
     setting = setting;
-    size = 792 + 8 * globals + program_zeros p limit;
+    size = heap_of p + program_zeros p limit - 0x10000000;
     words = p.words;
     globals = globals;
-    heap = heap_address globals;
-    stack = stack_address globals limit;
+    closures = closures_address globals;
+    heap = heap_of p;
+    stack = heap_of p + limit;
     static = static_bytes;
-    heap_low = heap_above;
+    closures_low = omega arith;
+    heap_low = omega arith;
+    closures_high = omega arith;
     stack_low = omega arith;
-    small = let t = total in let c = heap_close in omega (arith, t, c, globals_few, limit_few, words_few);
+    near = let c = heap_close in omega (arith, c, globals_few, limit_few, library_few);
+    small = let c = heap_close in omega (arith, c, globals_few, limit_few, words_few, library_few);
     narrow = words_few;
     labels = λ l. let k = labels l in omega (arith, k);
   }
 
-  pub frames_follow : selects p ≡ true → FollowsFrames p limit depth (program_code p limit depth) (program_words p) (program_zeros p limit)
+  pub frames_follow : selects p ≡ true → library_known (length p.library) p.statics.globals ≡ true → FollowsFrames p limit depth (program_code p limit depth) (program_words p) (program_zeros p limit)
   unfolding plan_of
-  frames_follow selected = record { follows = at }
+  frames_follow selected known = record { follows = at }
     where
-      parts : (list_all (form_selected p.words globals) p.bodies ≡ true) × (list_all is_unset p.statics.globals ≡ true)
-      parts =
-          let both = and_parts (list_all (form_selected p.words globals) p.bodies) (list_all is_unset p.statics.globals && list_all (λ c. marks_settled true c.instructions) p.bodies) selected in
-          (both.0, (and_parts (list_all is_unset p.statics.globals) (list_all (λ c. marks_settled true c.instructions) p.bodies) both.1).0)
+      forms : list_all (form_selected p.words globals) p.bodies ≡ true
+      forms = (and_parts (list_all (form_selected p.words globals) p.bodies) (list_all (λ c. marks_settled true c.instructions) p.bodies) selected).0
 
       at : (routines : List Item) (code : List Insn) (marks : List mark.Mark) (words : List ℕ) → AreEffective routines → IsTrue (marks_arrive false (program_code p limit depth)) → IsTrue (marks_arrive false routines)
           → AreResolved (program_code p limit depth ++ routines) (program_words p) code marks words → AllValid code → length (flat_map spelling code) ≤ 16777216
@@ -103,13 +111,24 @@ module _ (p : Source) (limit depth : ℕ) (words_few : p.words ≤ 2048) (global
           let setting = setting_of (text_at (flat_map spelling code)) r.place_of marks j.apart in
           let plan = plan_of setting r.small in
           let zeros = program_zeros p limit in
-          let bytes = all_bytes r.place_of globals zeros in
           let laid : Laid plan 0 = record {
             routine = effective.does setting j.second.0 j.second.1;
-            put_stands = put_there setting 0 first_label p.bodies _ j.first.2.2.2;
+            put_stands = put_there setting (heap_of p + limit) 0 (own_label p) p.bodies _ j.first.2.2.2;
             static_is = refl;
           } in
-          let room : Room plan plan.stack depth = record { low = omega arith; high = (let t = total in omega (arith, t)); few = omega (arith, depth_few) } in
-          let starts : Starts plan 0 laid depth room bytes = record { size_is = bytes_count r.place_of globals zeros; unset = unset_globals r.place_of globals zeros; texts = texts_there r.place_of globals zeros } in
+          let room : Room plan plan.stack depth = record { low = omega arith; high = omega arith; few = omega (arith, depth_few) } in
+          let parts = parts_at_start r.place_of r.small p.statics.globals p.library zeros globals_few library_few in
+          let count = bytes_count r.place_of r.small p.statics.globals p.library zeros globals_few library_few in
+          let starts : Starts plan 0 laid depth room parts p limit (bytes_at r.place_of) = record {
+            size_is = omega (arith, count);
+            texts = texts_there r.place_of r.small p.statics.globals p.library zeros globals_few library_few;
+            count = refl;
+            values = values_there r.place_of r.small p.statics.globals p.library zeros globals_few library_few known;
+            first = first_is r.place_of r.small p.statics.globals p.library zeros globals_few library_few;
+            next = ends_at r.place_of r.small p.statics.globals p.library zeros globals_few library_few;
+            limited = refl;
+            contents = contents_there r.place_of r.small p.statics.globals p.library zeros globals_few library_few;
+            new = new_there r.place_of r.small p.statics.globals p.library zeros globals_few library_few;
+          } in
           subst (λ w. FollowsRuns 0x400000 (text_at (flat_map spelling code) ∷ data_at (w ++ replicate zeros 0) ∷ []) runs) (sym r.bytes)
-          (program_follows plan 0 laid depth room p limit bytes (item.Label put_label ∷ put_value_code) runs parts.0 parts.1 refl j.first starts are)
+          (program_follows plan 0 laid depth room p limit parts (bytes_at r.place_of) (item.Label put_label ∷ put_value_code) runs forms j.first starts are)

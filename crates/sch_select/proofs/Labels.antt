@@ -9,12 +9,15 @@ use Rattle.sch_control.specs.declared.operation.Atom.{Atom}
 use Rattle.sch_control.specs.declared.operation.Atom.TheVariants.{Constant, Literal, Variable}
 use Rattle.sch_control.specs.declared.operation.Operand.{Operand}
 use Rattle.sch_control.specs.declared.operation.Operand.TheVariants as operand
+use Rattle.sch_control.specs.declared.operation.Source.{Source}
+use Rattle.sch_control.specs.declared.operation.Source.TheVariants as source
+use Rattle.sch_control.specs.declared.operation.Member.{Member}
 use Rattle.sch_control.specs.declared.operation.Operation.{Operation}
 use Rattle.sch_control.specs.declared.operation.Operation.TheVariants as operation
 use Rattle.sch_asm.specs.declared.item.Item.{Item}
 use Rattle.sch_asm.specs.Items.{is_among, labels_in}
 use Rattle.sch_asm.proofs.Tables.{repeats}
-use Rattle.sch_select.specs.Select.{atom_code, unary_code, binary_code, read_code, operand_code, second_code, operation_code}
+use Rattle.sch_select.specs.Select.{atom_code, unary_code, binary_code, read_code, operand_code, second_code, source_code, fields_code, closure_bytes, places_code, records_code, group_code, operation_code}
 
 -- ---- lists whose elements are all different, in a range
 
@@ -176,33 +179,58 @@ operand_labelled : (n : ℕ) (o : Operand Place) → Labelled (operand_code n o)
 operand_labelled n (operand.Atom a) rest = atom_labelled 0 a rest
 operand_labelled n (operand.Read site which atoms) rest = read_labelled n which atoms rest
 
-second_labelled : (n : ℕ) (o : Operand Place) → Labelled (second_code n o) (operand_labels n o)
+pub second_labelled : (n : ℕ) (o : Operand Place) → Labelled (second_code n o) (operand_labels n o)
 second_labelled n (operand.Atom a) rest = atom_labelled 1 a rest
 second_labelled n (operand.Read site which atoms) rest = read_labelled n which atoms _
 
-operand_block : (n : ℕ) (o : Operand Place) → Block n (n + 4) (operand_labels n o)
+pub operand_block : (n : ℕ) (o : Operand Place) → Block n (n + 4) (operand_labels n o)
 operand_block n (operand.Atom a) = no_labels n (n + 4)
 operand_block n (operand.Read site which atoms) = read_block n which atoms
+
+source_labelled : (r : ℕ) (x : Source Place) → Labelled (source_code r x) []
+source_labelled r (source.Atom a) rest = atom_labelled r a rest
+source_labelled r (source.Field p k) rest = refl
+
+fields_labelled : (offset : ℕ) (sources : List (Source Place)) → Labelled (fields_code offset sources) []
+fields_labelled offset [] rest = refl
+fields_labelled offset (x ∷ sources) rest = source_labelled 1 x _ ∙ fields_labelled (offset + 8) sources rest
+
+places_labelled : (offset : ℕ) (members : List (Member Place)) → Labelled (places_code offset members) []
+places_labelled offset [] rest = refl
+places_labelled offset (m ∷ members) rest = places_labelled (offset + closure_bytes m.closure) members rest
+
+records_labelled : (offset : ℕ) (members : List (Member Place)) → Labelled (records_code offset members) []
+records_labelled offset [] rest = refl
+records_labelled offset (m ∷ members) rest = fields_labelled (offset + 8) m.closure.fields _ ∙ records_labelled (offset + closure_bytes m.closure) members rest
+
+pub group_labelled : (heap_end : ℕ) (members : List (Member Place)) → Labelled (group_code heap_end members) []
+group_labelled heap_end members rest = places_labelled 0 members _ ∙ records_labelled 0 members _
 
 abbrev pub operation_labels : ℕ → Operation Place → List ℕ
 operation_labels n (operation.Operand o) = operand_labels n o
 operation_labels n (operation.Prim site which (o ∷ [])) = operand_labels n o ++ unary_labels (n + 8) which
 operation_labels n (operation.Prim site which (o ∷ (q ∷ []))) = operand_labels n o ++ (operand_labels (n + 4) q ++ binary_labels (n + 8) which)
 operation_labels n (operation.SetGlobal g o) = operand_labels n o
+operation_labels n (operation.CellSet x o) = operand_labels n o
 operation_labels n _ = []
 
-pub operation_labelled : (n : ℕ) (o : Operation Place) → Labelled (operation_code n o) (operation_labels n o)
-operation_labelled n (operation.Operand o) rest = operand_labelled n o rest
-operation_labelled n (operation.Prim site which []) rest = refl
-operation_labelled n (operation.Prim site which (o ∷ [])) rest = operand_labelled n o (unary_code (n + 8) which rest) ∙ ap (λ l. operand_labels n o ++ l) (unary_labelled (n + 8) which rest) ∙ sym (append_assoc (operand_labels n o) (unary_labels (n + 8) which) (labels_in rest))
-operation_labelled n (operation.Prim site which (o ∷ (q ∷ []))) rest =
+pub operation_labelled : (heap_end n : ℕ) (o : Operation Place) → Labelled (operation_code heap_end n o) (operation_labels n o)
+operation_labelled heap_end n (operation.Operand o) rest = operand_labelled n o rest
+operation_labelled heap_end n (operation.Prim site which []) rest = refl
+operation_labelled heap_end n (operation.Prim site which (o ∷ [])) rest = operand_labelled n o (unary_code (n + 8) which rest) ∙ ap (λ l. operand_labels n o ++ l) (unary_labelled (n + 8) which rest) ∙ sym (append_assoc (operand_labels n o) (unary_labels (n + 8) which) (labels_in rest))
+operation_labelled heap_end n (operation.Prim site which (o ∷ (q ∷ []))) rest =
     operand_labelled n o (second_code (n + 4) q (binary_code (n + 8) which rest))
     ∙ ap (λ l. operand_labels n o ++ l) (second_labelled (n + 4) q (binary_code (n + 8) which rest) ∙ ap (λ l. operand_labels (n + 4) q ++ l) (binary_labelled (n + 8) which rest) ∙ sym (append_assoc (operand_labels (n + 4) q) (binary_labels (n + 8) which) (labels_in rest)))
     ∙ sym (append_assoc (operand_labels n o) (operand_labels (n + 4) q ++ binary_labels (n + 8) which) (labels_in rest))
-operation_labelled n (operation.Prim site which (o ∷ (q ∷ (r ∷ operands)))) rest = refl
-operation_labelled n (operation.Global g) rest = refl
-operation_labelled n (operation.SetGlobal g o) rest = operand_labelled n o _
-operation_labelled n _ rest = refl
+operation_labelled heap_end n (operation.Prim site which (o ∷ (q ∷ (r ∷ operands)))) rest = refl
+operation_labelled heap_end n (operation.Global g) rest = refl
+operation_labelled heap_end n (operation.SetGlobal g o) rest = operand_labelled n o _
+operation_labelled heap_end n (operation.Field p k) rest = refl
+operation_labelled heap_end n (operation.NewCell x) rest = source_labelled 0 x _
+operation_labelled heap_end n operation.UnsetCell rest = refl
+operation_labelled heap_end n (operation.CellGet x) rest = source_labelled 0 x _
+operation_labelled heap_end n (operation.CellSet x o) rest = operand_labelled n o _ ∙ ap (λ l. operand_labels n o ++ l) (source_labelled 1 x _)
+operation_labelled heap_end n (operation.MakeClosure c) rest = fields_labelled 8 c.fields _
 
 pub operation_block : (n : ℕ) (o : Operation Place) → Block n (n + 12) (operation_labels n o)
 operation_block n (operation.Operand o) = wider n (n + 12) n (n + 4) _ (omega arith) (omega arith) (operand_block n o)
@@ -212,5 +240,6 @@ operation_block n (operation.Prim site which (o ∷ (q ∷ []))) =
     wider n (n + 12) n (n + 8 + 4) _ (omega arith) (omega arith) (blocks n (n + 4) (n + 4) (n + 8 + 4) _ _ (omega arith) (omega arith) (omega arith) (operand_block n o)
     (blocks (n + 4) (n + 4 + 4) (n + 8) (n + 8 + 4) _ _ (omega arith) (omega arith) (omega arith) (operand_block (n + 4) q) (binary_block (n + 8) which)))
 operation_block n (operation.Prim site which (o ∷ (q ∷ (r ∷ operands)))) = no_labels n (n + 12)
+operation_block n (operation.CellSet x o) = wider n (n + 12) n (n + 4) _ (omega arith) (omega arith) (operand_block n o)
 operation_block n (operation.SetGlobal g o) = wider n (n + 12) n (n + 4) _ (omega arith) (omega arith) (operand_block n o)
 operation_block n _ = no_labels n (n + 12)

@@ -26,9 +26,10 @@ use Rattle.sch_asm.specs.Stands.{Stands}
 use Rattle.sch_asm.specs.Effects.{is_scratch}
 use Rattle.sch_asm.specs.Views.{View, Leads}
 use Rattle.sch_asm.proofs.EachItem.{goes}
-use Rattle.sch_select.specs.Encoded.{IsWord, constant_number}
+use Rattle.sch_heap.specs.Parts.{Parts}
+use Rattle.sch_heap.specs.Encoded.{IsWord, constant_number}
 use Rattle.sch_select.specs.Select.{atom_code, unary_code, binary_code, read_code, operand_code, second_code}
-use Rattle.sch_select.proofs.Encodings.{constant_word}
+use Rattle.sch_heap.proofs.Encodings.{constant_word}
 use Rattle.sch_select.proofs.Straight.{is_free, Kept, kept_set, kept_then, moved_to, Yields, Comes, yields_after}
 use Rattle.sch_select.proofs.Primitives.{unary_here, binary_here}
 use Rattle.sch_select.proofs.Places.{Plan, Room, PlacesAt, places_kept, loaded, held_value}
@@ -47,14 +48,14 @@ free_scratch registers registers' k r e = k r (rw (other 0 refl, other 1 refl, o
     other : (s : ℕ) → is_scratch s ≡ true → (r == s) ≡ false
     other s g = ne_eqb r s (λ same. let bad : true ≡ false = sym g ∙ ap is_scratch (sym same) ∙ e in absurd cc)
 
-module _ (plan : Plan) (back fr d : ℕ) (back_fits : back < 2 ^ 64) (room : Room plan fr d) where
+module _ (plan : Plan) (back fr d : ℕ) (back_fits : back < 2 ^ 64) (room : Room plan fr d) (parts : Parts) where
   open plan use {setting, size, words, globals}
 
   abbrev Std : List MarkKind → ℕ → List Item → Type 0
   Std waiting a is = Stands setting waiting a is
 
   abbrev At : ℕ → Frame → View → Type 0
-  At charged f x = PlacesAt plan back fr d back_fits room charged f.places x.registers x.bytes
+  At charged f x = PlacesAt plan back fr d back_fits room parts charged f.places x.registers x.bytes
 
   -- ---- atoms
 
@@ -63,39 +64,39 @@ module _ (plan : Plan) (back fr d : ℕ) (back_fits : back < 2 ^ 64) (room : Roo
     pub value : ℕ
     pub place : ℕ
     pub leads : Leads setting 1 1 waiting x (moved_to x (set_register x.registers r value) x.flags place)
-    pub word : (v : Value) → o ≡ Some v → IsWord v value
+    pub word : (v : Value) → o ≡ Some v → IsWord parts v value
     pub ahead : Std [] place rest
 
   pub atomic : (r : ℕ) (a : Atom Place) (charged : ℕ) (f : Frame) (t : Store) (x : View) (waiting : List MarkKind) (rest : List Item) → atom_selected words globals a ≡ true → At charged f x → length x.bytes ≡ size → Std waiting x.place (atom_code r a rest) → Atomic r x waiting rest (atom_value (held f) t a)
   atomic r (Constant c) charged f t x waiting rest e p s h =
-      let parts = and_parts (is_constant c) (is_straight_constant c) e in
+      let both = and_parts (is_constant c) (is_straight_constant c) e in
       let n = word (constant_number c) in
       record {
         value = n;
         place = x.place + h.0;
         leads = goes setting x _ (MovWord r (constant_number c)) h.0 waiting h.1 refl;
-        word = λ v g. let same : constant_value c ≡ v = cc in subst (λ v. IsWord v n) same (constant_word c parts.0 parts.1);
+        word = λ v g. let same : constant_value c ≡ v = cc in subst (λ v. IsWord parts v n) same (constant_word parts c both.0 both.1);
         ahead = h.2;
       }
   atomic r (Variable q) charged f t x waiting rest e p s h =
-      let l = loaded plan back fr d back_fits room charged f.places q r x waiting rest e p s h in
-      record { value = l.value; place = l.place; leads = l.leads; word = λ v g. held_value back (f.places q) l.value v l.holds g; ahead = l.ahead }
+      let l = loaded plan back fr d back_fits room parts charged f.places q r x waiting rest e p s h in
+      record { value = l.value; place = l.place; leads = l.leads; word = λ v g. held_value back parts (f.places q) l.value v l.holds g; ahead = l.ahead }
   atomic r (Literal n) charged f t x waiting rest e p s h = absurd (let bad : false ≡ true = e in cc)
 
   -- ---- one operand, in RAX
 
   abbrev pub Reads : View → List MarkKind → ℕ → List Item → Option Value → Type 0
   Reads x waiting most rest None = Unit {0}
-  Reads x waiting most rest (Some v) = Yields setting is_free x waiting most v rest
+  Reads x waiting most rest (Some v) = Yields setting parts is_free x waiting most v rest
 
-  given_yields : (x : View) (waiting : List MarkKind) (c : ℕ) (t : Store) (rest : List Item) (o : Outcome Store Value) → Comes setting is_free x waiting c t rest o → Reads x waiting c rest (given o)
+  given_yields : (x : View) (waiting : List MarkKind) (c : ℕ) (t : Store) (rest : List Item) (o : Outcome Store Value) → Comes setting parts is_free x waiting c t rest o → Reads x waiting c rest (given o)
   given_yields x waiting c t rest (gives v u) s = s.1
   given_yields x waiting c t rest (stops why u) s = tt
   given_yields x waiting c t rest (spent u) s = absurd s
 
   reads_after : (x : View) (registers : ℕ → ℕ) (flags : Flags) (place : ℕ) (waiting : List MarkKind) (a b c most : ℕ) (rest : List Item) (o : Option Value) → Leads setting a b waiting x (moved_to x registers flags place) → Kept is_free x.registers registers → b + c ≤ most → Reads (moved_to x registers flags place) [] c rest o → Reads x waiting most rest o
   reads_after x registers flags place waiting a b c most rest None p k le s = tt
-  reads_after x registers flags place waiting a b c most rest (Some v) p k le s = yields_after setting is_free x registers flags place waiting a b c most v rest p k le s
+  reads_after x registers flags place waiting a b c most rest (Some v) p k le s = yields_after setting parts is_free x registers flags place waiting a b c most v rest p k le s
 
   reads_no_put : (which : Primitive) → only_reads which ≡ true → which ≡ Put → ⊥
   reads_no_put which r e = let bad : only_reads Put ≡ true = subst (λ p. only_reads p ≡ true) e r in absurd cc
@@ -103,28 +104,28 @@ module _ (plan : Plan) (back fr d : ℕ) (back_fits : back < 2 ^ 64) (room : Roo
   read_here : (n : ℕ) (which : Primitive) (atoms : List (Atom Place)) (charged : ℕ) (f : Frame) (t : Store) (x : View) (waiting : List MarkKind) (rest : List Item) → read_selected words globals which atoms ≡ true → At charged f x → length x.bytes ≡ size → Std waiting x.place (read_code n which atoms rest) → Reads x waiting 32 rest (read which t (atom_values (held f) t atoms))
   read_here n which (a ∷ []) charged f t x waiting rest e p s h = by (atom_value (held f) t a) refl
     where
-      parts : ((only_reads which && takes 1 which) ≡ true) × (atom_selected words globals a ≡ true)
-      parts = and_parts (only_reads which && takes 1 which) (atom_selected words globals a) e
+      checks : ((only_reads which && takes 1 which) ≡ true) × (atom_selected words globals a ≡ true)
+      checks = and_parts (only_reads which && takes 1 which) (atom_selected words globals a) e
 
       reads : (only_reads which ≡ true) × (takes 1 which ≡ true)
-      reads = and_parts (only_reads which) (takes 1 which) parts.0
+      reads = and_parts (only_reads which) (takes 1 which) checks.0
 
       l : Atomic 0 x waiting (unary_code n which rest) (atom_value (held f) t a)
-      l = atomic 0 a charged f t x waiting (unary_code n which rest) parts.1 p s h
+      l = atomic 0 a charged f t x waiting (unary_code n which rest) checks.1 p s h
 
       by : (o : Option Value) → atom_value (held f) t a ≡ o → Reads x waiting 32 rest (read which t (and_value o (Some [])))
       by None g = tt
       by (Some v) g =
           let y = moved_to x (set_register x.registers 0 l.value) x.flags l.place in
           reads_after x y.registers y.flags y.place waiting 1 1 20 32 rest _ l.leads (kept_set is_free x.registers 0 l.value refl) (omega arith)
-          (given_yields y [] 20 t rest _ (unary_here setting n which v y [] t rest reads.1 (reads_no_put which reads.0) (l.word v g) l.ahead))
+          (given_yields y [] 20 t rest _ (unary_here setting parts n which v y [] t rest reads.1 (reads_no_put which reads.0) (l.word v g) l.ahead))
   read_here n which (a ∷ (b ∷ [])) charged f t x waiting rest e p s h = by (atom_value (held f) t a) (atom_value (held f) t b) refl refl
     where
-      parts : (takes 2 which ≡ true) × ((atom_selected words globals a && atom_selected words globals b) ≡ true)
-      parts = and_parts (takes 2 which) (atom_selected words globals a && atom_selected words globals b) e
+      checks : (takes 2 which ≡ true) × ((atom_selected words globals a && atom_selected words globals b) ≡ true)
+      checks = and_parts (takes 2 which) (atom_selected words globals a && atom_selected words globals b) e
 
       both : (atom_selected words globals a ≡ true) × (atom_selected words globals b ≡ true)
-      both = and_parts (atom_selected words globals a) (atom_selected words globals b) parts.1
+      both = and_parts (atom_selected words globals a) (atom_selected words globals b) checks.1
 
       l : Atomic 0 x waiting (atom_code 1 b (binary_code n which rest)) (atom_value (held f) t a)
       l = atomic 0 a charged f t x waiting (atom_code 1 b (binary_code n which rest)) both.0 p s h
@@ -133,7 +134,7 @@ module _ (plan : Plan) (back fr d : ℕ) (back_fits : back < 2 ^ 64) (room : Roo
       y = moved_to x (set_register x.registers 0 l.value) x.flags l.place
 
       m : Atomic 1 y [] (binary_code n which rest) (atom_value (held f) t b)
-      m = atomic 1 b charged f t y [] (binary_code n which rest) both.1 (places_kept plan back fr d back_fits room charged f.places x.registers y.registers x.bytes (kept_set is_scratch x.registers 0 l.value refl) p) s l.ahead
+      m = atomic 1 b charged f t y [] (binary_code n which rest) both.1 (places_kept plan back fr d back_fits room parts charged f.places x.registers y.registers x.bytes (kept_set is_scratch x.registers 0 l.value refl) p) s l.ahead
 
       by : (o q : Option Value) → atom_value (held f) t a ≡ o → atom_value (held f) t b ≡ q → Reads x waiting 32 rest (read which t (and_value o (and_value q (Some []))))
       by None None g i = tt
@@ -142,7 +143,7 @@ module _ (plan : Plan) (back fr d : ℕ) (back_fits : back < 2 ^ 64) (room : Roo
       by (Some v) (Some u) g i =
           let z = moved_to x (set_register y.registers 1 m.value) x.flags m.place in
           reads_after x z.registers z.flags z.place waiting 2 2 30 32 rest _ (leads_on setting.marks l.leads m.leads) (kept_then is_free x.registers y.registers z.registers (kept_set is_free x.registers 0 l.value refl) (kept_set is_free y.registers 1 m.value refl)) (omega arith)
-          (given_yields z [] 30 t rest _ (binary_here setting n which v u z [] t rest parts.0 (l.word v g) (m.word u i) m.ahead))
+          (given_yields z [] 30 t rest _ (binary_here setting parts n which v u z [] t rest checks.0 (l.word v g) (m.word u i) m.ahead))
   read_here n which [] charged f t x waiting rest e p s h = absurd (let bad : false ≡ true = e in cc)
   read_here n which (a ∷ (b ∷ (c ∷ atoms))) charged f t x waiting rest e p s h = absurd (let bad : false ≡ true = e in cc)
 
@@ -180,7 +181,7 @@ module _ (plan : Plan) (back fr d : ℕ) (back_fits : back < 2 ^ 64) (room : Roo
     pub few : steps ≤ most
     pub kept : Kept is_scratch x.registers registers
     pub first : registers 0 ≡ x.registers 0
-    pub second : IsWord v (registers 1)
+    pub second : IsWord parts v (registers 1)
     pub ahead : Std [] place rest
 
   abbrev pub ReadsSecond : View → List MarkKind → ℕ → List Item → Option Value → Type 0
@@ -217,7 +218,7 @@ module _ (plan : Plan) (back fr d : ℕ) (back_fits : back < 2 ^ 64) (room : Roo
       y = moved_to x (set_register x.registers 11 (x.registers 0)) x.flags (x.place + h.0)
 
       r : Reads y [] 32 behind (read which t (atom_values (held f) t atoms))
-      r = read_here n which atoms charged f t y [] behind e (places_kept plan back fr d back_fits room charged f.places x.registers y.registers x.bytes (kept_set is_scratch x.registers 11 (x.registers 0) refl) p) s h.2
+      r = read_here n which atoms charged f t y [] behind e (places_kept plan back fr d back_fits room parts charged f.places x.registers y.registers x.bytes (kept_set is_scratch x.registers 11 (x.registers 0) refl) p) s h.2
 
       by : (o : Option Value) → Reads y [] 32 behind o → ReadsSecond x waiting 35 rest o
       by None r = tt

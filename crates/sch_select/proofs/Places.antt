@@ -7,7 +7,8 @@ use Rattle.sch_word.specs.declared.answer.Answer.{Answer}
 use Rattle.sch_word.specs.declared.place.Place.{Place}
 use Rattle.sch_word.specs.declared.place.Place.TheVariants.{Reg, Slot}
 use Rattle.sch_word.specs.values.Values.{Value}
-use Rattle.sch_word.specs.runs.Store.{Store}
+use Rattle.sch_word.specs.runs.Computation.{State}
+use Rattle.sch_control.specs.Operations.{Procedure}
 use Rattle.sch_frames.specs.Meaning.{Cell, Is, Link, Junk, value_in, set}
 use Rattle.sch_frames.specs.Valid.{is_place, is_register}
 use Rattle.sch_insn.specs.declared.insn.Arg.TheVariants as arg
@@ -22,26 +23,37 @@ use Rattle.sch_asm.specs.Effects.{is_scratch}
 use Rattle.sch_asm.specs.Views.{View, Leads}
 use Rattle.sch_asm.proofs.EachItem.{goes, loads_word, stores_word}
 use Rattle.sch_asm.proofs.Words.{word_same, word_other, size_kept, before_word}
-use Rattle.sch_select.specs.Encoded.{IsWord, IsHeld}
-use Rattle.sch_select.specs.Select.{place_operand, globals_address, global_address}
-use Rattle.sch_select.proofs.Encodings.{fits}
+use Rattle.sch_heap.specs.Parts.{Parts, end_of}
+use Rattle.sch_heap.specs.Encoded.{IsWord, IsHeld, Words}
+use Rattle.sch_heap.specs.Heap.{HeapAt, AreNew}
+use Rattle.sch_heap.proofs.Contents.{heap_kept}
+use Rattle.sch_select.specs.Select.{place_operand, globals_address, global_address, body_label}
+use Rattle.sch_heap.proofs.Encodings.{fits}
 use Rattle.sch_select.proofs.Straight.{Kept, moved_to}
 
 -- Where a program lies: its text, the size of its data and of its frames, how many globals there are, and
--- where its heap and its stack begin. The static bytes of puts stand before the globals.
+-- where its closures, its heap and its stack begin. The static bytes of puts stand before the globals.
 pub record Plan : Type 0 where
   pub setting : Setting
   pub size : ℕ
   pub words : ℕ
   pub globals : ℕ
+  pub closures : ℕ
   pub heap : ℕ
   pub stack : ℕ
   pub static : List ℕ
+  pub closures_low : globals_address + 8 * globals ≤ closures
   pub heap_low : globals_address + 8 * globals ≤ heap
+  pub closures_high : closures ≤ heap
   pub stack_low : heap ≤ stack
+  pub near : stack < 2 ^ 31
   pub small : 0x10000000 + size < 2 ^ 63
   pub narrow : words ≤ 2048
   pub labels : (l : ℕ) → setting.place_of l < 2 ^ 64
+
+-- where the code of a body is
+abbrev pub code_of : Plan → ℕ → ℕ
+code_of plan label = plan.setting.place_of (body_label label)
 
 -- registers of variables are none of the others
 pub not_register : (r k : ℕ) → is_register r ≡ true → is_register k ≡ false → (r == k) ≡ false
@@ -51,24 +63,29 @@ pub no_scratch : (r : ℕ) → is_register r ≡ true → is_scratch r ≡ false
 no_scratch r e = rw (not_register r 0 e refl, not_register r 1 e refl, not_register r 2 e refl, not_register r 11 e refl) refl
 
 -- What a word is to what a place holds, in an activation that returns to an address.
-abbrev pub Holds : ℕ → Cell → ℕ → Type 0
-Holds back (Is v) x = IsWord v x
-Holds back Link x = x ≡ back
-Holds back Junk x = Unit {0}
+abbrev pub Holds : ℕ → Parts → Cell → ℕ → Type 0
+Holds back parts (Is v) x = IsWord parts v x
+Holds back parts Link x = x ≡ back
+Holds back parts Junk x = Unit {0}
 
-pub held_value : (back : ℕ) (c : Cell) (x : ℕ) (v : Value) → Holds back c x → value_in c ≡ Some v → IsWord v x
-held_value back (Is u) x v h e = let same : u ≡ v = cc in subst (λ v. IsWord v x) same h
-held_value back Link x v h e = absurd cc
-held_value back Junk x v h e = absurd cc
+pub held_value : (back : ℕ) (parts : Parts) (c : Cell) (x : ℕ) (v : Value) → Holds back parts c x → value_in c ≡ Some v → IsWord parts v x
+held_value back parts (Is u) x v h e = let same : u ≡ v = cc in subst (λ v. IsWord parts v x) same h
+held_value back parts Link x v h e = absurd cc
+held_value back parts Junk x v h e = absurd cc
+
+pub holds_words : (back : ℕ) (before after : Parts) → Words before after → (c : Cell) (x : ℕ) → Holds back before c x → Holds back after c x
+holds_words back before after w (Is v) x h = w v x h
+holds_words back before after w Link x h = h
+holds_words back before after w Junk x h = tt
 
 -- only a value or a link has to fit a word
-pub same_word : (back : ℕ) → back < 2 ^ 64 → (c : Cell) (x y : ℕ) → Holds back c x → (x < 2 ^ 64 → y ≡ x) → Holds back c y
-same_word back small (Is v) x y h e = subst (IsWord v) (sym (e (fits v x h))) h
-same_word back small Link x y h e = e (subst (λ x. x < 2 ^ 64) (sym h) small) ∙ h
-same_word back small Junk x y h e = tt
+pub same_word : (back : ℕ) (parts : Parts) → back < 2 ^ 64 → (c : Cell) (x y : ℕ) → Holds back parts c x → (x < 2 ^ 64 → y ≡ x) → Holds back parts c y
+same_word back parts small (Is v) x y h e = subst (IsWord parts v) (sym (e (fits parts v x h))) h
+same_word back parts small Link x y h e = e (subst (λ x. x < 2 ^ 64) (sym h) small) ∙ h
+same_word back parts small Junk x y h e = tt
 
 module _ (plan : Plan) where
-  open plan use {setting, size, words, globals, heap, stack, static, heap_low, stack_low, small, narrow, labels}
+  open plan use {setting, size, words, globals, closures, heap, stack, static, closures_low, heap_low, closures_high, stack_low, small, narrow, labels}
 
   -- The frame begins at fr and lies in the data, and the depth that is left fits a register.
   pub record Room (fr d : ℕ) : Type 0 where
@@ -76,32 +93,37 @@ module _ (plan : Plan) where
     pub high : fr + 8 * words ≤ 0x10000000 + size
     pub few : d < 2 ^ 63
 
-  -- What the store has stands in the data: the globals, and the static bytes of puts.
-  pub record StoreAt (t : Store) (bytes : List ℕ) (output : List ℕ) (answers : List Answer) : Type 0 where
+  -- What the state has stands in the data: the globals, the static bytes of puts, and the heap.
+  pub record StoreAt (parts : Parts) (s : State Procedure) (bytes : List ℕ) (output : List ℕ) (answers : List Answer) : Type 0 where
     pub size_is : length bytes ≡ size
-    pub printed : output ≡ t.output
-    pub left : answers ≡ t.answers
-    pub within : heap + t.charged ≤ stack
-    pub count : length t.globals ≡ globals
-    pub global : (g : ℕ) (o : Option Value) → slice_get t.globals g ≡ Some o → IsHeld o (word_in bytes (global_address g))
-    pub texts : take 280 (drop 512 bytes) ≡ static
+    pub printed : output ≡ s.store.output
+    pub left : answers ≡ s.store.answers
+    pub limit : heap + s.store.constants.heap ≡ stack
+    pub within : heap + s.store.charged ≤ stack
+    pub begins : 16 * parts.first ≡ closures
+    pub ends : 16 * end_of parts ≡ heap + s.store.charged
+    pub count : length s.store.globals ≡ globals
+    pub global : (g : ℕ) (o : Option Value) → slice_get s.store.globals g ≡ Some o → IsHeld parts o (word_in bytes (global_address g))
+    pub texts : take 288 (drop 512 bytes) ≡ static
+    pub contents : HeapAt (code_of plan) parts s.cells s.procedures bytes
+    pub new : AreNew parts (length s.cells) (length s.procedures)
 
   -- An activation returns to `back`, has its frame at fr and a depth of d left.
   module _ (back fr d : ℕ) (back_fits : back < 2 ^ 64) (room : Room fr d) where
-    pub record PlacesAt (charged : ℕ) (places : Place → Cell) (registers : ℕ → ℕ) (bytes : List ℕ) : Type 0 where
+    pub record PlacesAt (parts : Parts) (charged : ℕ) (places : Place → Cell) (registers : ℕ → ℕ) (bytes : List ℕ) : Type 0 where
       pub frame : registers 5 ≡ fr
       pub depth : registers 13 ≡ d
       pub free : registers 12 ≡ heap + charged
-      pub register : (r : ℕ) → is_register r ≡ true → Holds back (places (Reg r)) (registers r)
-      pub slot : (j : ℕ) → j < words → Holds back (places (Slot j)) (word_in bytes (fr + 8 * j))
+      pub register : (r : ℕ) → is_register r ≡ true → Holds back parts (places (Reg r)) (registers r)
+      pub slot : (j : ℕ) → j < words → Holds back parts (places (Slot j)) (word_in bytes (fr + 8 * j))
 
     -- other scratch registers
-    pub places_kept : (charged : ℕ) (places : Place → Cell) (registers registers' : ℕ → ℕ) (bytes : List ℕ) → Kept is_scratch registers registers' → PlacesAt charged places registers bytes → PlacesAt charged places registers' bytes
-    places_kept charged places registers registers' bytes k p = record {
+    pub places_kept : (parts : Parts) (charged : ℕ) (places : Place → Cell) (registers registers' : ℕ → ℕ) (bytes : List ℕ) → Kept is_scratch registers registers' → PlacesAt parts charged places registers bytes → PlacesAt parts charged places registers' bytes
+    places_kept parts charged places registers registers' bytes k p = record {
       frame = k 5 refl ∙ p.frame;
       depth = k 13 refl ∙ p.depth;
       free = k 12 refl ∙ p.free;
-      register = λ r e. subst (Holds back (places (Reg r))) (sym (k r (no_scratch r e))) (p.register r e);
+      register = λ r e. subst (Holds back parts (places (Reg r))) (sym (k r (no_scratch r e))) (p.register r e);
       slot = p.slot;
     }
 
@@ -113,22 +135,22 @@ module _ (plan : Plan) where
 
     -- ---- a place into a register
 
-    pub record Loaded (c : Cell) (r : ℕ) (x : View) (waiting : List MarkKind) (rest : List Item) : Type 0 where
+    pub record Loaded (parts : Parts) (c : Cell) (r : ℕ) (x : View) (waiting : List MarkKind) (rest : List Item) : Type 0 where
       pub value : ℕ
       pub place : ℕ
       pub leads : Leads setting 1 1 waiting x (moved_to x (set_register x.registers r value) x.flags place)
-      pub holds : Holds back c value
+      pub holds : Holds back parts c value
       pub ahead : Stands setting [] place rest
 
-    pub loaded : (charged : ℕ) (places : Place → Cell) (p : Place) (r : ℕ) (x : View) (waiting : List MarkKind) (rest : List Item) → is_place words p ≡ true → PlacesAt charged places x.registers x.bytes → length x.bytes ≡ size → Stands setting waiting x.place (Plain (MovFrom r (place_operand p)) ∷ rest) → Loaded (places p) r x waiting rest
-    loaded charged places (Reg q) r x waiting rest e f s h = record {
+    pub loaded : (parts : Parts) (charged : ℕ) (places : Place → Cell) (p : Place) (r : ℕ) (x : View) (waiting : List MarkKind) (rest : List Item) → is_place words p ≡ true → PlacesAt parts charged places x.registers x.bytes → length x.bytes ≡ size → Stands setting waiting x.place (Plain (MovFrom r (place_operand p)) ∷ rest) → Loaded parts (places p) r x waiting rest
+    loaded parts charged places (Reg q) r x waiting rest e f s h = record {
       value = x.registers q;
       place = x.place + h.0;
       leads = goes setting x _ (MovFrom r (arg.Reg q)) h.0 waiting h.1 refl;
       holds = f.register q e;
       ahead = h.2;
     }
-    loaded charged places (Slot j) r x waiting rest e f s h =
+    loaded parts charged places (Slot j) r x waiting rest e f s h =
         let lt = ltb-true j words e in
         record {
           value = word_in x.bytes (fr + 8 * j);
@@ -138,48 +160,57 @@ module _ (plan : Plan) where
           ahead = h.2;
         }
 
-    -- ---- a store that stays, where a word above the globals is written
+    -- ---- a state that stays, where a word of the stack is written
 
-    pub store_kept : (t : Store) (bytes : List ℕ) (output : List ℕ) (answers : List Answer) (a v : ℕ) → Inside (length bytes) a → globals_address + 8 * globals ≤ a → StoreAt t bytes output answers → StoreAt t (with_word bytes a v) output answers
-    store_kept t bytes output answers a v within above g = record {
-      size_is = size_kept bytes a v within ∙ g.size_is;
-      printed = g.printed;
-      left = g.left;
-      within = g.within;
-      count = g.count;
-      global = λ k o e. let lt = slice_get_within t.globals k o e in let c = g.count in
-          subst (IsHeld o) (sym (word_other bytes a v (global_address k) within (omega arith) (inl (omega (arith, lt, c, above))))) (g.global k o e);
-      texts = before_word bytes a v 512 280 within (omega (arith, above)) ∙ g.texts;
-    }
+    pub store_kept : (parts : Parts) (s : State Procedure) (bytes : List ℕ) (output : List ℕ) (answers : List Answer) (a v : ℕ) → Inside (length bytes) a → stack ≤ a → StoreAt parts s bytes output answers → StoreAt parts s (with_word bytes a v) output answers
+    store_kept parts s bytes output answers a v within above g =
+        let hl = heap_low in let sl = stack_low in let cl = closures_low in
+        let w = g.within in let b = g.begins in let e = g.ends in
+        record {
+          size_is = size_kept bytes a v within ∙ g.size_is;
+          printed = g.printed;
+          left = g.left;
+          limit = g.limit;
+          within = g.within;
+          begins = g.begins;
+          ends = g.ends;
+          count = g.count;
+          global = λ k o i. let lt = slice_get_within s.store.globals k o i in let c = g.count in
+              subst (IsHeld parts o) (sym (word_other bytes a v (global_address k) within (omega arith) (inl (omega (arith, lt, c, above, hl, sl))))) (g.global k o i);
+          texts = before_word bytes a v 512 288 within (omega (arith, above, hl, sl)) ∙ g.texts;
+          contents = heap_kept (code_of plan) parts s.cells s.procedures bytes (with_word bytes a v) (λ p lo hi. word_other bytes a v p within (omega (arith, lo, b, cl)) (inl (omega (arith, hi, e, w, above)))) g.contents;
+          new = g.new;
+        }
 
     -- ---- a register into a place
 
-    pub record Written (t : Store) (places : Place → Cell) (x : View) (waiting : List MarkKind) (rest : List Item) : Type 0 where
+    pub record Written (parts : Parts) (charged : ℕ) (places : Place → Cell) (x : View) (waiting : List MarkKind) (rest : List Item) : Type 0 where
       pub y : View
       pub leads : Leads setting 1 1 waiting x y
       pub ahead : Stands setting [] y.place rest
-      pub places_at : PlacesAt t.charged places y.registers y.bytes
-      pub world : StoreAt t y.bytes y.output y.answers
+      pub places_at : PlacesAt parts charged places y.registers y.bytes
+      pub world : (ps : Parts) (s : State Procedure) → StoreAt ps s x.bytes x.output x.answers → StoreAt ps s y.bytes y.output y.answers
+      pub size : length y.bytes ≡ length x.bytes
       pub accumulator : y.registers 0 ≡ x.registers 0
       pub below : (a : ℕ) → stack ≤ a → a + 8 ≤ fr → word_in y.bytes a ≡ word_in x.bytes a
 
-    either_holds : (b : Bool) (c e : Cell) (x y : ℕ) → Holds back c x → Holds back e y → Holds back (cond b c e) (cond b x y)
-    either_holds true c e x y h g = h
-    either_holds false c e x y h g = g
+    either_holds : (parts : Parts) (b : Bool) (c e : Cell) (x y : ℕ) → Holds back parts c x → Holds back parts e y → Holds back parts (cond b c e) (cond b x y)
+    either_holds parts true c e x y h g = h
+    either_holds parts false c e x y h g = g
 
-    slot_written : (places : Place → Cell) (c : Cell) (v i j : ℕ) (bytes : List ℕ) → length bytes ≡ size → i < words → j < words → Holds back c v → Holds back (places (Slot i)) (word_in bytes (fr + 8 * i)) →
-        (b : Bool) → nat_eq i j ≡ b → Holds back (cond b c (places (Slot i))) (word_in (with_word bytes (fr + 8 * j) v) (fr + 8 * i))
-    slot_written places c v i j bytes s li lj h g true e =
+    slot_written : (parts : Parts) (places : Place → Cell) (c : Cell) (v i j : ℕ) (bytes : List ℕ) → length bytes ≡ size → i < words → j < words → Holds back parts c v → Holds back parts (places (Slot i)) (word_in bytes (fr + 8 * i)) →
+        (b : Bool) → nat_eq i j ≡ b → Holds back parts (cond b c (places (Slot i))) (word_in (with_word bytes (fr + 8 * j) v) (fr + 8 * i))
+    slot_written parts places c v i j bytes s li lj h g true e =
         let same : i ≡ j = eqb-true i j e in
-        subst (λ i. Holds back c (word_in (with_word bytes (fr + 8 * j) v) (fr + 8 * i))) (sym same)
-        (same_word back back_fits c v _ h (λ f. word_same bytes (fr + 8 * j) v (slot_inside j bytes s lj) f))
-    slot_written places c v i j bytes s li lj h g false e =
+        subst (λ i. Holds back parts c (word_in (with_word bytes (fr + 8 * j) v) (fr + 8 * i))) (sym same)
+        (same_word back parts back_fits c v _ h (λ f. word_same bytes (fr + 8 * j) v (slot_inside j bytes s lj) f))
+    slot_written parts places c v i j bytes s li lj h g false e =
         let l = (slot_inside i bytes s li).low in
         let far : (fr + 8 * i + 8 ≤ fr + 8 * j) ⊎ (fr + 8 * j + 8 ≤ fr + 8 * i) = ⊎_elim (λ lt. inl (omega (arith, lt))) (λ le. ⊎_elim (λ lt. inr (omega (arith, lt))) (λ ge. absurd (eqb-false i j e (omega (arith, le, ge)))) (cases_lt j i)) (cases_lt i j) in
-        subst (Holds back (places (Slot i))) (sym (word_other bytes (fr + 8 * j) v (fr + 8 * i) (slot_inside j bytes s lj) l far)) g
+        subst (Holds back parts (places (Slot i))) (sym (word_other bytes (fr + 8 * j) v (fr + 8 * i) (slot_inside j bytes s lj) l far)) g
 
-    pub written : (t : Store) (places : Place → Cell) (p : Place) (c : Cell) (r : ℕ) (x : View) (waiting : List MarkKind) (rest : List Item) → is_place words p ≡ true → Holds back c (x.registers r) → PlacesAt t.charged places x.registers x.bytes → StoreAt t x.bytes x.output x.answers → Stands setting waiting x.place (Plain (MovTo (place_operand p) r) ∷ rest) → Written t (set places p c) x waiting rest
-    written t places (Reg q) c r x waiting rest e h f g st =
+    pub written : (parts : Parts) (charged : ℕ) (places : Place → Cell) (p : Place) (c : Cell) (r : ℕ) (x : View) (waiting : List MarkKind) (rest : List Item) → is_place words p ≡ true → Holds back parts c (x.registers r) → PlacesAt parts charged places x.registers x.bytes → length x.bytes ≡ size → Stands setting waiting x.place (Plain (MovTo (place_operand p) r) ∷ rest) → Written parts charged (set places p c) x waiting rest
+    written parts charged places (Reg q) c r x waiting rest e h f g st =
         let y : View = record x { registers = set_register x.registers q (x.registers r); place = x.place + st.0 } in
         record {
           y = y;
@@ -189,34 +220,36 @@ module _ (plan : Plan) where
             frame = other 5 refl ∙ f.frame;
             depth = other 13 refl ∙ f.depth;
             free = other 12 refl ∙ f.free;
-            register = λ k i. either_holds (k == q) c (places (Reg k)) (x.registers r) (x.registers k) h (f.register k i);
+            register = λ k i. either_holds parts (k == q) c (places (Reg k)) (x.registers r) (x.registers k) h (f.register k i);
             slot = f.slot;
           };
-          world = g;
+          world = λ ps s at. at;
+          size = refl;
           accumulator = other 0 refl;
           below = λ a lo hi. refl;
         }
       where
         other : (k : ℕ) → is_register k ≡ false → set_register x.registers q (x.registers r) k ≡ x.registers k
         other k i = ap (λ b. cond b (x.registers r) (x.registers k)) (ne_eqb k q (λ same. let bad : true ≡ false = sym e ∙ ap is_register (sym same) ∙ i in absurd cc))
-    written t places (Slot j) c r x waiting rest e h f g st =
+    written parts charged places (Slot j) c r x waiting rest e h f g st =
         let lt = ltb-true j words e in
-        let s = g.size_is in
-        let within = slot_inside j x.bytes s lt in
+        let z = g in
+        let within = slot_inside j x.bytes z lt in
         let y : View = record x { bytes = with_word x.bytes (fr + 8 * j) (x.registers r); place = x.place + st.0 } in
         let low = room.low in let hl = heap_low in let sl = stack_low in
         record {
           y = y;
-          leads = stores_word setting x r st.0 (fr + 8 * j) (arg.Base32 5 (pos (8 * j))) waiting st.1 (slot_named j x s lt f.frame) within;
+          leads = stores_word setting x r st.0 (fr + 8 * j) (arg.Base32 5 (pos (8 * j))) waiting st.1 (slot_named j x z lt f.frame) within;
           ahead = st.2;
           places_at = record {
             frame = f.frame;
             depth = f.depth;
             free = f.free;
             register = f.register;
-            slot = λ i li. slot_written places c (x.registers r) i j x.bytes s li lt h (f.slot i li) (nat_eq i j) refl;
+            slot = λ i li. slot_written parts places c (x.registers r) i j x.bytes z li lt h (f.slot i li) (nat_eq i j) refl;
           };
-          world = store_kept t x.bytes x.output x.answers (fr + 8 * j) (x.registers r) within (omega (arith, low, hl, sl)) g;
+          world = λ ps s at. store_kept ps s x.bytes x.output x.answers (fr + 8 * j) (x.registers r) within (omega (arith, low)) at;
+          size = size_kept x.bytes (fr + 8 * j) (x.registers r) within;
           accumulator = refl;
           below = λ a lo hi. word_other x.bytes (fr + 8 * j) (x.registers r) a within (omega (arith, lo, hl, sl)) (inl (omega (arith, hi)));
         }

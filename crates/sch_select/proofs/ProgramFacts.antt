@@ -1,5 +1,5 @@
 -- What the type of frame programs keeps, as select needs it, and that a program's labels are its own.
-use Rattle.std.proofs.Common.{◌≡◌, ℕ, ◌+◌, ◌*◌, ◌^◌, ◌<◌, ◌≤◌, List, [], ◌∷◌, ◌++◌, length, Bool, true, false, refl, sym, ap, ◌∙◌, subst, arith, ◌==◌, ◌&&◌, ◌||◌, eq-eqb, length-append}
+use Rattle.std.proofs.Common.{◌≡◌, ℕ, suc, ◌+◌, ◌*◌, ◌%◌, ◌^◌, ◌<◌, ◌≤◌, List, [], ◌∷◌, ◌++◌, length, Bool, true, false, refl, sym, ap, ◌∙◌, subst, arith, ◌==◌, ◌&&◌, ◌||◌, eq-eqb}
 use Rattle.std.specs.Prelude.{nat_le, pos, replicate}
 use Rattle.std.specs.List.{list_all, AllByRecursion}
 use Rattle.std.proofs.lemmas.Bool.{and_parts, and_from, leb-true}
@@ -22,9 +22,10 @@ use Rattle.sch_asm.specs.Items.{AreOwn, is_among, labels_in}
 use Rattle.sch_insn.specs.declared.insn.Insn.TheVariants.{MovWord}
 use Rattle.sch_asm.specs.declared.assembly.Word.{Word}
 use Rattle.sch_asm.specs.declared.assembly.Word.TheVariants.{Fixed}
-use Rattle.sch_select.specs.Select.{put_label, globals_address}
-use Rattle.sch_select.specs.Program.{first_label, forms_code, program_code, program_words, program_zeros, put_value_code, stack_address, heap_address, stack_bytes, static_bytes, word_list}
-use Rattle.sch_select.proofs.ProgramLabels.{forms_block, forms_labels, forms_labelled, low_end}
+use Rattle.sch_select.specs.Select.{put_label, body_label}
+use Rattle.sch_select.specs.Program.{forms_code, program_code, program_words, program_zeros, put_value_code, closures_address, heap_address, heap_of, own_label, static_bytes, word_list, global_words, padding, closure_words}
+use Rattle.sch_select.proofs.ProgramLabels.{labels_low, forms_labels, forms_labelled}
+use Rattle.sch_select.proofs.Starting.{five_count, globals_count, closures_count}
 
 pub words_few : (p : FrameProgram) → p.words ≤ 2048
 words_few p = leb-true p.words max_words (and_parts (nat_le p.words max_words) (list_all (λ c. nat_le c.words p.words) (codes_of p.bodies)) p.within).0
@@ -57,38 +58,37 @@ each_append (x ∷ xs) ys low a b = (a.0, each_append xs ys low a.1 b)
 pub program_own : (p : Source) (limit depth : ℕ) → list_all (λ c. forward c.labels c.instructions) p.bodies ≡ true → AreOwn (program_code p limit depth)
 program_own p limit depth e =
     let rest = item.Jump (label_of routine.End) ∷ (item.Label put_label ∷ put_value_code) in
-    let forms = forms_labels first_label p.bodies in
-    let b = forms_block first_label p.bodies e in
-    let is : labels_in (program_code p limit depth) ≡ forms ++ labels_in rest = forms_labelled 0 first_label p.bodies rest in
+    let forms = forms_labels 0 (own_label p) p.bodies in
+    let is : labels_in (program_code p limit depth) ≡ forms ++ labels_in rest = forms_labelled (heap_of p + limit) 0 (own_label p) p.bodies rest in
     All-from_recursion (λ l. 1024 ≤ l) (labels_in (program_code p limit depth))
-    (subst (AllByRecursion (λ l. 1024 ≤ l)) (sym is) (each_append forms (labels_in rest) 1024 (each forms 1024 (λ y h. let lo = low_end b y h in omega (arith, lo))) (omega arith, (omega arith, (omega arith, (omega arith, (omega arith, tt)))))))
+    (subst (AllByRecursion (λ l. 1024 ≤ l)) (sym is) (each_append forms (labels_in rest) 1024 (each forms 1024 (λ y h. let lo = labels_low p e y h in omega (arith, lo))) (omega arith, (omega arith, (omega arith, (omega arith, (omega arith, (omega arith, tt))))))))
 
 -- ---- what is made
 
-pub whole_items : (p : Source) (limit depth stack heap g : ℕ) (items : List Item) → stack ≡ stack_address g limit → heap ≡ heap_address g → g ≡ length p.statics.globals
-    → items ≡ item.Plain (MovWord 5 (pos stack)) ∷ (item.Plain (MovWord 12 (pos heap)) ∷ (item.Plain (MovWord 13 (pos depth)) ∷ forms_code 0 first_label p.bodies (item.Jump (label_of routine.End) ∷ (item.Label put_label ∷ put_value_code))))
+pub whole_items : (p : Source) (limit depth stack heap g l n : ℕ) (items : List Item) → stack ≡ heap_address g l + limit → heap ≡ heap_address g l → g ≡ length p.statics.globals → l ≡ length p.library → n ≡ length p.bodies
+    → items ≡ item.Plain (MovWord 5 (pos stack)) ∷ (item.Plain (MovWord 12 (pos heap)) ∷ (item.Plain (MovWord 13 (pos depth)) ∷ forms_code stack 0 (body_label n) p.bodies (item.Jump (label_of routine.End) ∷ (item.Label put_label ∷ put_value_code))))
     → items ≡ program_code p limit depth
-whole_items p limit depth stack heap g items a b c e =
-    let rest = item.Plain (MovWord 13 (pos depth)) ∷ forms_code 0 first_label p.bodies (item.Jump (label_of routine.End) ∷ (item.Label put_label ∷ put_value_code)) in
-    e ∙ ap (λ s. item.Plain (MovWord 5 (pos s)) ∷ (item.Plain (MovWord 12 (pos heap)) ∷ rest)) (a ∙ ap (λ g. stack_address g limit) c)
-    ∙ ap (λ h. item.Plain (MovWord 5 (pos (stack_address (length p.statics.globals) limit))) ∷ (item.Plain (MovWord 12 (pos h)) ∷ rest)) (b ∙ ap heap_address c)
-
-pub whole_words : (p : Source) (g : ℕ) (words : List Word) → g ≡ length p.statics.globals → words ≡ replicate 64 (Fixed 0) ++ (word_list static_bytes ++ replicate g (Fixed 38)) → words ≡ program_words p
-whole_words p g words c e = e ∙ ap (λ g. replicate 64 (Fixed 0) ++ (word_list static_bytes ++ replicate g (Fixed 38))) c
-
-pub whole_zeros : (p : Source) (limit g zeros : ℕ) → g ≡ length p.statics.globals → zeros + (globals_address + 8 * g) ≡ stack_address g limit + stack_bytes p.words → zeros ≡ program_zeros p limit
-whole_zeros p limit g zeros c e =
-    let f : zeros + (globals_address + 8 * length p.statics.globals) ≡ stack_address (length p.statics.globals) limit + stack_bytes p.words = subst (λ g. zeros + (globals_address + 8 * g) ≡ stack_address g limit + stack_bytes p.words) c e in
-    omega (arith, f)
+whole_items p limit depth stack heap g l n items a b c d f e =
+    let at : ℕ → ℕ → ℕ → List Item = λ stack heap n. item.Plain (MovWord 5 (pos stack)) ∷ (item.Plain (MovWord 12 (pos heap)) ∷ (item.Plain (MovWord 13 (pos depth)) ∷ forms_code stack 0 (body_label n) p.bodies (item.Jump (label_of routine.End) ∷ (item.Label put_label ∷ put_value_code)))) in
+    let h : heap_address g l ≡ heap_of p = ap (λ g. heap_address g l) c ∙ ap (heap_address (length p.statics.globals)) d in
+    e ∙ ap (λ s. at s heap n) (a ∙ ap (λ h. h + limit) h) ∙ ap (λ k. at (heap_of p + limit) k n) (b ∙ h) ∙ ap (at (heap_of p + limit) (heap_of p)) f
 
 -- ---- where the data end
 
-three_count : (xs ys zs : List Word) (k m n : ℕ) → length xs ≡ k → length ys ≡ m → length zs ≡ n → length (xs ++ (ys ++ zs)) ≡ k + m + n
-three_count xs ys zs k m n e f g = let a = length-append xs (ys ++ zs) in let b = length-append ys zs in omega (arith, a, b, e, f, g)
+pub words_are : (p : Source) → length (program_words p) ≡ 100 + length p.statics.globals + length p.statics.globals % 2 + 2 * length p.library
+words_are p =
+    five_count (replicate 64 (Fixed 0)) (word_list static_bytes) (global_words (closures_address (length p.statics.globals)) p.statics.globals) (padding (length p.statics.globals)) (closure_words p.library) 64 36 (length p.statics.globals) (length p.statics.globals % 2) (2 * length p.library)
+    refl refl (globals_count (closures_address (length p.statics.globals)) p.statics.globals) (length-replicate (length p.statics.globals % 2) (Fixed 0)) (closures_count p.library)
 
-words_count : (p : Source) → length (program_words p) ≡ 99 + length p.statics.globals
-words_count p = three_count (replicate 64 (Fixed 0)) (word_list static_bytes) (replicate (length p.statics.globals) (Fixed 38)) 64 35 (length p.statics.globals) refl refl (length-replicate (length p.statics.globals) (Fixed 38))
-
-pub data_end : (p : Source) (limit : ℕ) → p.words ≤ 2048 → length p.statics.globals ≤ 29360128 → limit ≤ 1073741824
+pub data_end : (p : Source) (limit : ℕ) → p.words ≤ 2048 → length p.statics.globals ≤ 29360128 → length p.library ≤ 1048576 → limit ≤ 1073741824
     → data_address + (8 * length (program_words p) + program_zeros p limit) < 2 ^ 31
-data_end p limit words globals heap = let n = words_count p in omega (arith, n, words, globals, heap)
+data_end p limit words globals library heap = let n = words_are p in omega (arith, n, words, globals, library, heap)
+
+pub bodies_count : (bodies : List FrameBody) → length (codes_of bodies) ≡ length bodies
+bodies_count [] = refl
+bodies_count (b ∷ bodies) = ap suc (bodies_count bodies)
+
+pub whole_words : (p : Source) (closures : ℕ) (g : ℕ) {words : List Word} → closures ≡ closures_address g → g ≡ length p.statics.globals
+    → words ≡ replicate 64 (Fixed 0) ++ (word_list static_bytes ++ (global_words closures p.statics.globals ++ (padding (length p.statics.globals) ++ closure_words p.library))) → words ≡ program_words p
+whole_words p closures g a c e =
+    e ∙ ap (λ k. replicate 64 (Fixed 0) ++ (word_list static_bytes ++ (global_words k p.statics.globals ++ (padding (length p.statics.globals) ++ closure_words p.library)))) (a ∙ ap closures_address c)

@@ -1,5 +1,5 @@
 -- No label stands twice in a program's items.
-use Rattle.std.proofs.Common.{◌≡◌, ◌≢◌, ℕ, suc, ◌+◌, ◌*◌, ◌<◌, ◌≤◌, List, [], ◌∷◌, ◌++◌, length, Bool, true, false, refl, sym, ap, ◌∙◌, subst, arith, append_assoc, ◌==◌, ◌&&◌, ◌||◌, eq-eqb}
+use Rattle.std.proofs.Common.{◌≡◌, ◌≢◌, ℕ, suc, ◌+◌, ◌*◌, ◌<◌, ◌≤◌, List, [], ◌∷◌, ◌++◌, length, Bool, true, false, Option, Some, None, refl, sym, ap, ◌∙◌, subst, arith, append_assoc, ◌==◌, ◌&&◌, ◌||◌, eq-eqb}
 use Rattle.std.specs.Prelude.{not, nat_eq, nat_lt}
 use Rattle.std.specs.List.{list_all}
 use Rattle.std.proofs.lemmas.Bool.{and_parts, ne_eqb, ltb-true, ltb-false, eqb-true}
@@ -7,6 +7,7 @@ use Rattle.sch_word.specs.trees.NumberSets.{has}
 use Rattle.sch_control.specs.Valid.{without_repeats}
 use Rattle.sch_frames.specs.declared.instruction.Instruction.{Instruction}
 use Rattle.sch_frames.specs.declared.instruction.Instruction.TheVariants.{Do, Store, Copy, Load, Pass, Fix, Call, Tail, Return, End, IfFalse, Jump, Label, Mark}
+use Rattle.sch_control.specs.declared.body.Entry.{Entry}
 use Rattle.sch_frames.specs.Tree.{Code, Source}
 use Rattle.sch_frames.specs.Valid as frames
 use Rattle.sch_frames.specs.Valid.{forward, jumps_ahead}
@@ -15,9 +16,9 @@ use Rattle.sch_asm.specs.declared.routine.Routine.TheVariants as routine
 use Rattle.sch_asm.specs.Routines.{label_of}
 use Rattle.sch_asm.specs.Items.{IsEachOnce, is_among, labels_in}
 use Rattle.sch_asm.proofs.Tables.{each_once, repeats}
-use Rattle.sch_select.specs.Select.{put_label, instruction_code, body_code}
-use Rattle.sch_select.specs.Program.{form_code, forms_code, labels_end, first_label, put_value_code, program_code}
-use Rattle.sch_select.proofs.Labels.{Block, Apart, Labelled, among_append, either_false, distinct_append, blocks, no_labels, operation_labels, operation_labelled, operation_block}
+use Rattle.sch_select.specs.Select.{put_label, body_label, instruction_code, body_code}
+use Rattle.sch_select.specs.Program.{passed_code, form_code, forms_code, labels_end, heap_of, own_label, put_value_code, program_code}
+use Rattle.sch_select.proofs.Labels.{Block, Apart, Labelled, among_append, either_false, distinct_append, operand_labels, second_labelled, operand_block, group_labelled, operation_labels, operation_labelled, operation_block}
 
 -- elements of one list that another one has not
 apart_by : (xs ys : List ℕ) → ((x : ℕ) → is_among xs x ≡ true → is_among ys x ≡ false) → Apart xs ys
@@ -43,9 +44,10 @@ high_end {a} {b} {ls} p y e = by (nat_lt y b) refl
     by true f = ltb-true y b f
     by false f = absurd (let bad : true ≡ false = sym e ∙ p.above y (ltb-false y b f) in cc)
 
-module _ (base out : ℕ) where
+module _ (base : ℕ) where
   abbrev pub instruction_labels : ℕ → Instruction → List ℕ
   instruction_labels n (Do o) = operation_labels n o
+  instruction_labels n (Load p o) = operand_labels n o
   instruction_labels n (Label l) = (base + l) ∷ []
   instruction_labels n _ = []
 
@@ -53,15 +55,18 @@ module _ (base out : ℕ) where
   body_labels n [] = []
   body_labels n (i ∷ instructions) = instruction_labels n i ++ body_labels (n + 12) instructions
 
-  instruction_labelled : (n : ℕ) (i : Instruction) → Labelled (instruction_code base out n i) (instruction_labels n i)
-  instruction_labelled n (Do o) rest = operation_labelled n o rest
-  instruction_labelled n _ rest = refl
+  module _ (out heap_end : ℕ) where
+    instruction_labelled : (n : ℕ) (i : Instruction) → Labelled (instruction_code base out heap_end n i) (instruction_labels n i)
+    instruction_labelled n (Do o) rest = operation_labelled heap_end n o rest
+    instruction_labelled n (Load p o) rest = second_labelled n o _
+    instruction_labelled n (Fix members) rest = group_labelled heap_end members rest
+    instruction_labelled n _ rest = refl
 
-  pub body_labelled : (n : ℕ) (instructions : List Instruction) → Labelled (body_code base out n instructions) (body_labels n instructions)
-  body_labelled n [] rest = refl
-  body_labelled n (i ∷ instructions) rest =
-      instruction_labelled n i (body_code base out (n + 12) instructions rest) ∙ ap (λ l. instruction_labels n i ++ l) (body_labelled (n + 12) instructions rest)
-      ∙ sym (append_assoc (instruction_labels n i) (body_labels (n + 12) instructions) (labels_in rest))
+    pub body_labelled : (n : ℕ) (instructions : List Instruction) → Labelled (body_code base out heap_end n instructions) (body_labels n instructions)
+    body_labelled n [] rest = refl
+    body_labelled n (i ∷ instructions) rest =
+        instruction_labelled n i (body_code base out heap_end (n + 12) instructions rest) ∙ ap (λ l. instruction_labels n i ++ l) (body_labelled (n + 12) instructions rest)
+        ∙ sym (append_assoc (instruction_labels n i) (body_labels (n + 12) instructions) (labels_in rest))
 
   absent : (y n : ℕ) (instructions : List Instruction) → y < n → ((l : ℕ) → has l (frames.labels_in instructions) ≡ true → y ≢ base + l) → is_among (body_labels n instructions) y ≡ false
   absent y n [] lt h = refl
@@ -73,7 +78,7 @@ module _ (base out : ℕ) where
   absent y n (Do o ∷ instructions) lt h = among_append (operation_labels n o) (body_labels (n + 12) instructions) y ((operation_block n o).below y lt) (absent y (n + 12) instructions (omega (arith, lt)) h)
   absent y n (Store q ∷ instructions) lt h = absent y (n + 12) instructions (omega (arith, lt)) h
   absent y n (Copy to from ∷ instructions) lt h = absent y (n + 12) instructions (omega (arith, lt)) h
-  absent y n (Load q o ∷ instructions) lt h = absent y (n + 12) instructions (omega (arith, lt)) h
+  absent y n (Load q o ∷ instructions) lt h = among_append (operand_labels n o) (body_labels (n + 12) instructions) y ((operand_block n o).below y lt) (absent y (n + 12) instructions (omega (arith, lt)) h)
   absent y n (Pass j o ∷ instructions) lt h = absent y (n + 12) instructions (omega (arith, lt)) h
   absent y n (Fix members ∷ instructions) lt h = absent y (n + 12) instructions (omega (arith, lt)) h
   absent y n (Call spread count ∷ instructions) lt h = absent y (n + 12) instructions (omega (arith, lt)) h
@@ -102,7 +107,7 @@ module _ (base out : ℕ) where
     beyond y n (Do o ∷ instructions) e le far = among_append (operation_labels n o) (body_labels (n + 12) instructions) y ((operation_block n o).above y (omega (arith, far))) (beyond y (n + 12) instructions e (omega (arith, le)) (omega (arith, far)))
     beyond y n (Store q ∷ instructions) e le far = beyond y (n + 12) instructions e (omega (arith, le)) (omega (arith, far))
     beyond y n (Copy to from ∷ instructions) e le far = beyond y (n + 12) instructions e (omega (arith, le)) (omega (arith, far))
-    beyond y n (Load q o ∷ instructions) e le far = beyond y (n + 12) instructions e (omega (arith, le)) (omega (arith, far))
+    beyond y n (Load q o ∷ instructions) e le far = among_append (operand_labels n o) (body_labels (n + 12) instructions) y ((operand_block n o).above y (omega (arith, far))) (beyond y (n + 12) instructions e (omega (arith, le)) (omega (arith, far)))
     beyond y n (Pass j o ∷ instructions) e le far = beyond y (n + 12) instructions e (omega (arith, le)) (omega (arith, far))
     beyond y n (Fix members ∷ instructions) e le far = beyond y (n + 12) instructions e (omega (arith, le)) (omega (arith, far))
     beyond y n (Call spread count ∷ instructions) e le far = beyond y (n + 12) instructions e (omega (arith, le)) (omega (arith, far))
@@ -132,7 +137,10 @@ module _ (base out : ℕ) where
         absent x (n + 12) instructions hi (λ l k s. let small = local_small (frames.labels_in instructions) l e k in omega (arith, s, lo, le, small))))
     different n (Store q ∷ instructions) e d le = different (n + 12) instructions e d (omega (arith, le))
     different n (Copy to from ∷ instructions) e d le = different (n + 12) instructions e d (omega (arith, le))
-    different n (Load q o ∷ instructions) e d le = different (n + 12) instructions e d (omega (arith, le))
+    different n (Load q o ∷ instructions) e d le =
+        distinct_append (operand_labels n o) (body_labels (n + 12) instructions) (operand_block n o).distinct (different (n + 12) instructions e d (omega (arith, le)))
+        (apart_by (operand_labels n o) (body_labels (n + 12) instructions) (λ x h. let hi = high_end (operand_block n o) x h in let lo = low_end (operand_block n o) x h in
+        absent x (n + 12) instructions (omega (arith, hi)) (λ l k s. let small = local_small (frames.labels_in instructions) l e k in omega (arith, s, lo, le, small))))
     different n (Pass j o ∷ instructions) e d le = different (n + 12) instructions e d (omega (arith, le))
     different n (Fix members ∷ instructions) e d le = different (n + 12) instructions e d (omega (arith, le))
     different n (Call spread count ∷ instructions) e d le = different (n + 12) instructions e d (omega (arith, le))
@@ -158,65 +166,95 @@ module _ (base out : ℕ) where
         let p = and_parts (list_all (λ l. nat_lt l labels) (frames.labels_in instructions)) (without_repeats (frames.labels_in instructions) && jumps_ahead instructions) e in
         absent y n instructions lt (λ l h s. let small = local_small (frames.labels_in instructions) l p.0 h in omega (arith, s, le, small))
 
--- ---- forms
+-- ---- bodies
 
-abbrev pub form_labels : ℕ → Code → List ℕ
-form_labels n c = body_labels n (n + c.labels) (n + c.labels + 1) c.instructions ++ (n + c.labels) ∷ []
+abbrev pub own_labels : ℕ → Code → List ℕ
+own_labels n c = body_labels n (n + c.labels + 1) c.instructions ++ (n + c.labels) ∷ []
 
-form_labelled : (n : ℕ) (c : Code) → Labelled (form_code n c) (form_labels n c)
-form_labelled n c rest =
-    body_labelled n (n + c.labels) (n + c.labels + 1) c.instructions (item.Label (n + c.labels) ∷ rest)
-    ∙ sym (append_assoc (body_labels n (n + c.labels) (n + c.labels + 1) c.instructions) ((n + c.labels) ∷ []) (labels_in rest))
+abbrev pub form_labels : (label n : ℕ) → Code → List ℕ
+form_labels label n c = body_label label ∷ own_labels n c
 
-form_block : (n : ℕ) (c : Code) → forward c.labels c.instructions ≡ true → Block n (labels_end n c) (form_labels n c)
-form_block n c e =
-    let b = body_block n (n + c.labels) c.labels (n + c.labels + 1) c.instructions e (omega arith) in
-    let body = body_labels n (n + c.labels) (n + c.labels + 1) c.instructions in
+passed_labelled : (o : Option Entry) (out : ℕ) → Labelled (passed_code o out) []
+passed_labelled None out rest = refl
+passed_labelled (Some e) out rest = refl
+
+form_labelled : (heap_end label n : ℕ) (c : Code) → Labelled (form_code heap_end label n c) (form_labels label n c)
+form_labelled heap_end label n c rest =
+    passed_labelled c.entry (n + c.labels) _
+    ∙ ap (λ l. body_label label ∷ l)
+    (body_labelled n (n + c.labels) heap_end (n + c.labels + 1) c.instructions (item.Label (n + c.labels) ∷ rest)
+    ∙ sym (append_assoc (body_labels n (n + c.labels + 1) c.instructions) ((n + c.labels) ∷ []) (labels_in rest)))
+
+own_block : (n : ℕ) (c : Code) → forward c.labels c.instructions ≡ true → Block n (labels_end n c) (own_labels n c)
+own_block n c e =
+    let b = body_block n c.labels (n + c.labels + 1) c.instructions e (omega arith) in
+    let body = body_labels n (n + c.labels + 1) c.instructions in
     record {
       distinct = distinct_append body ((n + c.labels) ∷ []) b.distinct refl (apart_by body ((n + c.labels) ∷ []) (λ x h. either_false (n + c.labels == x) false (ne_eqb (n + c.labels) x (λ s. other x h (sym s))) refl));
       below = λ y lt. among_append body ((n + c.labels) ∷ []) y (b.below y lt) (either_false (n + c.labels == y) false (ne_eqb (n + c.labels) y (λ s. omega (arith, s, lt))) refl);
       above = λ y far. among_append body ((n + c.labels) ∷ []) y (b.above y far) (either_false (n + c.labels == y) false (ne_eqb (n + c.labels) y (λ s. omega (arith, s, far))) refl);
     }
   where
-    other : (x : ℕ) → is_among (body_labels n (n + c.labels) (n + c.labels + 1) c.instructions) x ≡ true → x ≢ n + c.labels
+    other : (x : ℕ) → is_among (body_labels n (n + c.labels + 1) c.instructions) x ≡ true → x ≢ n + c.labels
     other x h s =
-        let g = absent_end n (n + c.labels) c.labels (n + c.labels) (n + c.labels + 1) c.instructions e (omega arith) (omega arith) in
-        let bad : true ≡ false = sym h ∙ ap (is_among (body_labels n (n + c.labels) (n + c.labels + 1) c.instructions)) s ∙ g in cc
+        let g = absent_end n c.labels (n + c.labels) (n + c.labels + 1) c.instructions e (omega arith) (omega arith) in
+        let bad : true ≡ false = sym h ∙ ap (is_among (body_labels n (n + c.labels + 1) c.instructions)) s ∙ g in cc
 
-abbrev pub forms_labels : ℕ → List Code → List ℕ
-forms_labels n [] = []
-forms_labels n (c ∷ cs) = form_labels n c ++ forms_labels (labels_end n c) cs
+abbrev pub forms_labels : (label n : ℕ) → List Code → List ℕ
+forms_labels label n [] = []
+forms_labels label n (c ∷ cs) = form_labels label n c ++ forms_labels (suc label) (labels_end n c) cs
 
 abbrev pub forms_end : ℕ → List Code → ℕ
 forms_end n [] = n
 forms_end n (c ∷ cs) = forms_end (labels_end n c) cs
 
-pub forms_labelled : (label n : ℕ) (cs : List Code) → Labelled (forms_code label n cs) (forms_labels n cs)
-forms_labelled label n [] rest = refl
-forms_labelled label n (c ∷ cs) rest =
-    form_labelled n c (forms_code (suc label) (labels_end n c) cs rest) ∙ ap (λ l. form_labels n c ++ l) (forms_labelled (suc label) (labels_end n c) cs rest)
-    ∙ sym (append_assoc (form_labels n c) (forms_labels (labels_end n c) cs) (labels_in rest))
+pub forms_labelled : (heap_end label n : ℕ) (cs : List Code) → Labelled (forms_code heap_end label n cs) (forms_labels label n cs)
+forms_labelled heap_end label n [] rest = refl
+forms_labelled heap_end label n (c ∷ cs) rest =
+    form_labelled heap_end label n c (forms_code heap_end (suc label) (labels_end n c) cs rest) ∙ ap (λ l. form_labels label n c ++ l) (forms_labelled heap_end (suc label) (labels_end n c) cs rest)
+    ∙ sym (append_assoc (form_labels label n c) (forms_labels (suc label) (labels_end n c) cs) (labels_in rest))
 
 end_above : (n : ℕ) (cs : List Code) → n ≤ forms_end n cs
 end_above n [] = omega arith
 end_above n (c ∷ cs) = let h = end_above (labels_end n c) cs in omega (arith, h)
 
-pub forms_block : (n : ℕ) (cs : List Code) → list_all (λ c. forward c.labels c.instructions) cs ≡ true → Block n (forms_end n cs) (forms_labels n cs)
-forms_block n [] e = no_labels n n
-forms_block n (c ∷ cs) e =
+-- The labels of bodies are one block, and those of their own are another, which lies behind it.
+pub record AreLabels (label n : ℕ) (cs : List Code) : Type 0 where
+  pub distinct : repeats (forms_labels label n cs) ≡ false
+  pub below : (y : ℕ) → y < body_label label → is_among (forms_labels label n cs) y ≡ false
+  pub between : (y : ℕ) → body_label (label + length cs) ≤ y → y < n → is_among (forms_labels label n cs) y ≡ false
+
+pub forms_block : (label n : ℕ) (cs : List Code) → body_label (label + length cs) ≤ n → list_all (λ c. forward c.labels c.instructions) cs ≡ true → AreLabels label n cs
+forms_block label n [] le e = record { distinct = refl; below = λ y lt. refl; between = λ y lo hi. refl }
+forms_block label n (c ∷ cs) le e =
     let p = and_parts (forward c.labels c.instructions) (list_all (λ c. forward c.labels c.instructions) cs) e in
-    let h = end_above (labels_end n c) cs in
-    blocks n (labels_end n c) (labels_end n c) (forms_end (labels_end n c) cs) (form_labels n c) (forms_labels (labels_end n c) cs) (omega arith) (omega arith) h (form_block n c p.0) (forms_block (labels_end n c) cs p.1)
+    let own = own_block n c p.0 in
+    let rest = forms_labels (suc label) (labels_end n c) cs in
+    let others = forms_block (suc label) (labels_end n c) cs (omega (arith, le)) p.1 in
+    record {
+      distinct = either_false (is_among (own_labels n c ++ rest) (body_label label)) (repeats (own_labels n c ++ rest))
+          (among_append (own_labels n c) rest (body_label label) (own.below (body_label label) (omega (arith, le))) (others.below (body_label label) (omega arith)))
+          (distinct_append (own_labels n c) rest own.distinct others.distinct (apart_by (own_labels n c) rest (λ x h. let lo = low_end own x h in let hi = high_end own x h in others.between x (omega (arith, lo, le)) hi)));
+      below = λ y lt. either_false (body_label label == y) _ (ne_eqb (body_label label) y (λ s. omega (arith, s, lt))) (among_append (own_labels n c) rest y (own.below y (omega (arith, lt, le))) (others.below y (omega (arith, lt))));
+      between = λ y lo hi. either_false (body_label label == y) _ (ne_eqb (body_label label) y (λ s. omega (arith, s, lo))) (among_append (own_labels n c) rest y (own.below y hi) (others.between y (omega (arith, lo)) (omega (arith, hi))));
+    }
 
 -- ---- the program
+
+pub labels_low : (p : Source) → list_all (λ c. forward c.labels c.instructions) p.bodies ≡ true → (y : ℕ) → is_among (forms_labels 0 (own_label p) p.bodies) y ≡ true → 1032 ≤ y
+labels_low p e y h = by (nat_lt y 1032) refl
+  where
+    by : (t : Bool) → nat_lt y 1032 ≡ t → 1032 ≤ y
+    by false f = ltb-false y 1032 f
+    by true f = absurd (let bad : true ≡ false = sym h ∙ (forms_block 0 (own_label p) p.bodies (omega arith) e).below y (ltb-true y 1032 f) in cc)
 
 pub program_once : (p : Source) (limit depth : ℕ) → list_all (λ c. forward c.labels c.instructions) p.bodies ≡ true → IsEachOnce (labels_in (program_code p limit depth))
 program_once p limit depth e =
     let rest = item.Jump (label_of routine.End) ∷ (item.Label put_label ∷ put_value_code) in
-    let forms = forms_labels first_label p.bodies in
-    let b = forms_block first_label p.bodies e in
-    let all : labels_in (program_code p limit depth) ≡ forms ++ labels_in rest = forms_labelled 0 first_label p.bodies rest in
-    subst IsEachOnce (sym all) (each_once (forms ++ labels_in rest) (distinct_append forms (labels_in rest) b.distinct refl (apart_by forms (labels_in rest) (λ x h. let lo = low_end b x h in own x lo))))
+    let forms = forms_labels 0 (own_label p) p.bodies in
+    let b = forms_block 0 (own_label p) p.bodies (omega arith) e in
+    let all : labels_in (program_code p limit depth) ≡ forms ++ labels_in rest = forms_labelled (heap_of p + limit) 0 (own_label p) p.bodies rest in
+    subst IsEachOnce (sym all) (each_once (forms ++ labels_in rest) (distinct_append forms (labels_in rest) b.distinct refl (apart_by forms (labels_in rest) (λ x h. own x (labels_low p e x h)))))
   where
-    own : (x : ℕ) → 1032 ≤ x → is_among (1024 ∷ (1025 ∷ (1026 ∷ (1027 ∷ (1028 ∷ []))))) x ≡ false
-    own x le = either_false (1024 == x) _ (ne_eqb 1024 x (λ s. omega (arith, s, le))) (either_false (1025 == x) _ (ne_eqb 1025 x (λ s. omega (arith, s, le))) (either_false (1026 == x) _ (ne_eqb 1026 x (λ s. omega (arith, s, le))) (either_false (1027 == x) _ (ne_eqb 1027 x (λ s. omega (arith, s, le))) (either_false (1028 == x) false (ne_eqb 1028 x (λ s. omega (arith, s, le))) refl))))
+    own : (x : ℕ) → 1032 ≤ x → is_among (1024 ∷ (1025 ∷ (1026 ∷ (1027 ∷ (1028 ∷ (1029 ∷ [])))))) x ≡ false
+    own x le = either_false (1024 == x) _ (ne_eqb 1024 x (λ s. omega (arith, s, le))) (either_false (1025 == x) _ (ne_eqb 1025 x (λ s. omega (arith, s, le))) (either_false (1026 == x) _ (ne_eqb 1026 x (λ s. omega (arith, s, le))) (either_false (1027 == x) _ (ne_eqb 1027 x (λ s. omega (arith, s, le))) (either_false (1028 == x) _ (ne_eqb 1028 x (λ s. omega (arith, s, le))) (either_false (1029 == x) false (ne_eqb 1029 x (λ s. omega (arith, s, le))) refl)))))

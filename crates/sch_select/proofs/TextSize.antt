@@ -1,5 +1,6 @@
--- How long the text of a program is: 64 bytes for each instruction, operand and atom, and what every program has.
-use Rattle.std.proofs.Common.{ℕ, suc, ◌+◌, ◌*◌, ◌≤◌, List, [], ◌∷◌, length, refl, arith}
+-- How long the text of a program is: 64 bytes for each instruction, operand, atom, closure of a group and
+-- procedure, and what every program has.
+use Rattle.std.proofs.Common.{ℕ, suc, ◌+◌, ◌*◌, ◌≤◌, ◌≡◌, List, [], ◌∷◌, length, length-append, Option, Some, None, refl, ap, arith}
 use Rattle.std.specs.Prelude.{pos}
 use Rattle.std.proofs.lemmas.Bool.{leb-true}
 use Rattle.sch_word.specs.declared.place.Place.{Place}
@@ -9,24 +10,46 @@ use Rattle.sch_control.specs.declared.operation.Atom.{Atom}
 use Rattle.sch_control.specs.declared.operation.Atom.TheVariants.{Constant, Literal, Variable}
 use Rattle.sch_control.specs.declared.operation.Operand.{Operand}
 use Rattle.sch_control.specs.declared.operation.Operand.TheVariants as operand
+use Rattle.sch_control.specs.declared.body.Entry.{Entry}
+use Rattle.sch_control.specs.declared.operation.Source.{Source}
+use Rattle.sch_control.specs.declared.operation.Source.TheVariants as source
+use Rattle.sch_control.specs.declared.operation.Closure.{Closure}
+use Rattle.sch_control.specs.declared.operation.Member.{Member}
+use Rattle.sch_control.specs.Parts.{operand_atoms, source_atoms, member_atoms}
 use Rattle.sch_control.specs.declared.operation.Operation.{Operation}
 use Rattle.sch_control.specs.declared.operation.Operation.TheVariants as operation
 use Rattle.sch_frames.specs.declared.instruction.Instruction.{Instruction}
 use Rattle.sch_frames.specs.declared.instruction.Instruction.TheVariants as instruction
 use Rattle.sch_control.specs.Sizes.{operand_size, operands_size, operation_size}
 use Rattle.sch_frames.specs.Sizes.{instruction_size, instructions_size, codes_size, program_size}
-use Rattle.sch_frames.specs.Tree.{Code, Source}
-use Rattle.sch_insn.specs.declared.insn.Arg.TheVariants.{Reg}
-use Rattle.sch_insn.specs.declared.insn.Insn.TheVariants.{MovTo, MovFrom, MovNumber, MovWord, JumpTo}
+use Rattle.sch_frames.specs.Tree.{Code}
+use Rattle.sch_frames.specs.Tree as tree
+use Rattle.sch_insn.specs.declared.insn.Arg.TheVariants.{Reg, Base32}
+use Rattle.sch_insn.specs.declared.insn.Insn.TheVariants.{MovTo, MovFrom, MovNumber, MovWord, AddNumber, CmpNumber, JumpTo}
+use Rattle.sch_insn.specs.declared.condition.TheConstants.{E}
+use Rattle.sch_asm.specs.declared.item.MarkKind.TheVariants.{Enter}
 use Rattle.sch_insn.proofs.PrefixCode.{spelling_short}
 use Rattle.sch_asm.specs.declared.item.Item.{Item}
 use Rattle.sch_asm.specs.declared.item.Item.TheVariants as item
 use Rattle.sch_asm.specs.declared.routine.Routine.TheVariants as routine
 use Rattle.sch_asm.specs.Codes.{text_size}
 use Rattle.sch_asm.specs.Routines.{label_of}
-use Rattle.sch_select.specs.Encoded.{constant_number}
-use Rattle.sch_select.specs.Select.{place_operand, atom_code, unary_code, binary_code, read_code, operand_code, second_code, primitive_code, operation_code, instruction_code, body_code, global_address, put_label}
-use Rattle.sch_select.specs.Program.{first_label, forms_code, labels_end, program_code, put_value_code, heap_address, stack_address}
+use Rattle.sch_heap.specs.Encoded.{constant_number}
+use Rattle.sch_select.specs.Select.{place_operand, atom_code, unary_code, binary_code, read_code, operand_code, second_code, primitive_code, operation_code, instruction_code, body_code, global_address, put_label, stop_label, body_label, source_code, check_cell, cell_operand, check_heap, part_code, part_operand, fields_code, record_code, closure_bytes, group_bytes, places_code, records_code, group_code}
+use Rattle.sch_select.specs.Program.{passed_code, forms_code, labels_end, own_label, heap_of, program_code, put_value_code}
+use Rattle.sch_select.specs.Sizes.{grouped, jumped, closures_in}
+use Rattle.sch_word.specs.declared.stop.Stop.TheVariants.{Unset}
+
+-- ## Atoms
+
+sources_counts : (sources : List (Source Place)) → length (source_atoms sources) ≡ length sources
+sources_counts [] = refl
+sources_counts (x ∷ sources) = ap suc (sources_counts sources)
+
+-- an operand has as many atoms as it counts, but for its primitive
+operand_counts : (o : Operand Place) → operand_size o ≤ suc (length (operand_atoms o))
+operand_counts (operand.Atom a) = omega arith
+operand_counts (operand.Read site which atoms) = omega arith
 
 -- ## Operations
 
@@ -75,60 +98,154 @@ primitive_adds n which (o ∷ (q ∷ [])) rest =
     omega (arith, h, k, l)
 primitive_adds n which (o ∷ (q ∷ (r ∷ operands))) rest = omega arith
 
-operation_adds : (n : ℕ) (o : Operation Place) (rest : List Item) → text_size (operation_code n o rest) ≤ 64 * suc (operation_size o) + text_size rest
-operation_adds n (operation.Operand o) rest = let h = operand_adds n o rest in omega (arith, h)
-operation_adds n (operation.Prim site which operands) rest = primitive_adds n which operands rest
-operation_adds n (operation.Global g) rest = omega arith
-operation_adds n (operation.SetGlobal g o) rest =
+source_adds : (r : ℕ) (x : Source Place) (rest : List Item) → text_size (source_code r x rest) ≤ 30 + text_size rest
+source_adds r (source.Atom a) rest = let h = atom_adds r a rest in omega (arith, h)
+source_adds r (source.Field p k) rest =
+    let s = spelling_short (MovFrom r (place_operand p)) in
+    let t = spelling_short (MovFrom r (Base32 r (pos (4 + 8 * k)))) in
+    omega (arith, s, t)
+
+-- the test of the heap for room, and the ends of what makes a part
+heap_adds : (heap_end bytes : ℕ) (rest : List Item) → text_size (check_heap heap_end bytes rest) ≤ 23 + text_size rest
+heap_adds heap_end bytes rest = omega arith
+
+part_adds : (tag bytes : ℕ) (rest : List Item) → text_size (part_code tag bytes rest) ≤ 17 + text_size rest
+part_adds tag bytes rest = omega arith
+
+fields_add : (offset : ℕ) (sources : List (Source Place)) (rest : List Item) → text_size (fields_code offset sources rest) ≤ 45 * length sources + text_size rest
+fields_add offset [] rest = omega arith
+fields_add offset (x ∷ sources) rest =
+    let h = source_adds 1 x (item.Plain (MovTo (part_operand offset) 1) ∷ fields_code (offset + 8) sources rest) in
+    let s = spelling_short (MovTo (part_operand offset) 1) in
+    let k = fields_add (offset + 8) sources rest in
+    omega (arith, h, s, k)
+
+record_adds : (offset : ℕ) (c : Closure Place) (rest : List Item) → text_size (record_code offset c rest) ≤ 15 + (45 * length c.fields + text_size rest)
+record_adds offset c rest = let h = fields_add (offset + 8) c.fields rest in omega (arith, h)
+
+operation_adds : (heap_end n : ℕ) (o : Operation Place) (rest : List Item) → text_size (operation_code heap_end n o rest) ≤ 64 * suc (operation_size o) + text_size rest
+operation_adds heap_end n (operation.Operand o) rest = let h = operand_adds n o rest in omega (arith, h)
+operation_adds heap_end n (operation.Prim site which operands) rest = primitive_adds n which operands rest
+operation_adds heap_end n (operation.Global g) rest = omega arith
+operation_adds heap_end n (operation.SetGlobal g o) rest =
     let h = operand_adds n o (item.StoreWord (global_address g) 0 ∷ (item.Plain (MovNumber (Reg 0) (pos 30)) ∷ rest)) in
     omega (arith, h)
-operation_adds n _ rest = omega arith
+operation_adds heap_end n (operation.Field p k) rest = let h = source_adds 0 (source.Field p k) rest in omega (arith, h)
+operation_adds heap_end n (operation.NewCell x) rest =
+    let stored = item.Plain (MovTo (part_operand 0) 0) ∷ part_code 7 16 rest in
+    let h = source_adds 0 x (check_heap heap_end 16 stored) in
+    let k = heap_adds heap_end 16 stored in
+    let l = part_adds 7 16 rest in
+    omega (arith, h, k, l)
+operation_adds heap_end n operation.UnsetCell rest =
+    let k = heap_adds heap_end 16 (item.Plain (MovNumber (part_operand 0) (pos 38)) ∷ part_code 7 16 rest) in
+    let l = part_adds 7 16 rest in
+    omega (arith, k, l)
+operation_adds heap_end n (operation.CellGet x) rest =
+    let h = source_adds 0 x (check_cell 0 (item.Plain (MovFrom 0 (cell_operand 0)) ∷ (item.Plain (CmpNumber (Reg 0) (pos 38)) ∷ (item.JumpIf E (stop_label Unset) ∷ rest)))) in
+    omega (arith, h)
+operation_adds heap_end n (operation.CellSet x o) rest =
+    let written = check_cell 1 (item.Plain (MovTo (cell_operand 1) 0) ∷ (item.Plain (MovNumber (Reg 0) (pos 30)) ∷ rest)) in
+    let h = operand_adds n o (source_code 1 x written) in
+    let k = source_adds 1 x written in
+    let c = operand_counts o in
+    omega (arith, h, k, c)
+operation_adds heap_end n (operation.MakeClosure c) rest =
+    let last = part_code 4 (closure_bytes c) rest in
+    let h = heap_adds heap_end (closure_bytes c) (record_code 0 c last) in
+    let k = record_adds 0 c last in
+    let l = part_adds 4 (closure_bytes c) rest in
+    let m = sources_counts c.fields in
+    omega (arith, h, k, l, m)
+
+-- ## Groups
+
+places_add : (offset : ℕ) (members : List (Member Place)) (rest : List Item) → text_size (places_code offset members rest) ≤ 25 * length members + text_size rest
+places_add offset [] rest = omega arith
+places_add offset (m ∷ members) rest =
+    let h = places_add (offset + closure_bytes m.closure) members rest in
+    let s = spelling_short (MovTo (place_operand m.at) 1) in
+    omega (arith, h, s)
+
+records_add : (offset : ℕ) (members : List (Member Place)) (rest : List Item) → text_size (records_code offset members rest) ≤ 15 * length members + (45 * length (member_atoms members) + text_size rest)
+records_add offset [] rest = omega arith
+records_add offset (m ∷ members) rest =
+    let h = record_adds offset m.closure (records_code (offset + closure_bytes m.closure) members rest) in
+    let k = records_add (offset + closure_bytes m.closure) members rest in
+    let c = sources_counts m.closure.fields in
+    let a = length-append (source_atoms m.closure.fields) (member_atoms members) in
+    omega (arith, h, k, c, a)
+
+group_adds : (heap_end : ℕ) (members : List (Member Place)) (rest : List Item) → text_size (group_code heap_end members rest) ≤ 64 * (suc (length (member_atoms members)) + length members) + text_size rest
+group_adds heap_end members rest =
+    let last = item.Plain (AddNumber (Reg 12) (pos (group_bytes members))) ∷ rest in
+    let h = heap_adds heap_end (group_bytes members) (places_code 0 members (records_code 0 members last)) in
+    let k = places_add 0 members (records_code 0 members last) in
+    let l = records_add 0 members last in
+    omega (arith, h, k, l)
 
 -- ## Bodies
 
-instruction_adds : (base out n : ℕ) (i : Instruction) (rest : List Item) → text_size (instruction_code base out n i rest) ≤ 64 * instruction_size i + text_size rest
-instruction_adds base out n (instruction.Do o) rest = operation_adds n o rest
-instruction_adds base out n (instruction.Store p) rest = let s = spelling_short (MovTo (place_operand p) 0) in omega (arith, s)
-instruction_adds base out n (instruction.Copy to from) rest =
+instruction_adds : (base out heap_end n : ℕ) (i : Instruction) (rest : List Item) → text_size (instruction_code base out heap_end n i rest) ≤ 64 * (instruction_size i + grouped (i ∷ [])) + text_size rest
+instruction_adds base out heap_end n (instruction.Do o) rest = let h = operation_adds heap_end n o rest in omega (arith, h)
+instruction_adds base out heap_end n (instruction.Store p) rest = let s = spelling_short (MovTo (place_operand p) 0) in omega (arith, s)
+instruction_adds base out heap_end n (instruction.Copy to from) rest =
     let s = spelling_short (MovFrom 1 (place_operand from)) in
     let t = spelling_short (MovTo (place_operand to) 1) in
     omega (arith, s, t)
-instruction_adds base out n instruction.Return rest = let s = spelling_short (JumpTo (Reg 15)) in omega (arith, s)
-instruction_adds base out n instruction.End rest = omega arith
-instruction_adds base out n (instruction.IfFalse l) rest = omega arith
-instruction_adds base out n (instruction.Jump l) rest = omega arith
-instruction_adds base out n (instruction.Label l) rest = omega arith
-instruction_adds base out n (instruction.Mark m) rest = omega arith
-instruction_adds base out n _ rest = omega arith
+instruction_adds base out heap_end n (instruction.Load p o) rest =
+    let h = second_adds n o (item.Plain (MovTo (place_operand p) 1) ∷ rest) in
+    let s = spelling_short (MovTo (place_operand p) 1) in
+    omega (arith, h, s)
+instruction_adds base out heap_end n (instruction.Fix members) rest = let h = group_adds heap_end members rest in omega (arith, h)
+instruction_adds base out heap_end n instruction.Return rest = let s = spelling_short (JumpTo (Reg 15)) in omega (arith, s)
+instruction_adds base out heap_end n instruction.End rest = omega arith
+instruction_adds base out heap_end n (instruction.IfFalse l) rest = omega arith
+instruction_adds base out heap_end n (instruction.Jump l) rest = omega arith
+instruction_adds base out heap_end n (instruction.Label l) rest = omega arith
+instruction_adds base out heap_end n (instruction.Mark m) rest = omega arith
+instruction_adds base out heap_end n _ rest = omega arith
 
-body_adds : (base out n : ℕ) (is : List Instruction) (rest : List Item) → text_size (body_code base out n is rest) ≤ 64 * instructions_size is + text_size rest
-body_adds base out n [] rest = omega arith
-body_adds base out n (i ∷ is) rest =
-    let h = instruction_adds base out n i (body_code base out (n + 12) is rest) in
-    let k = body_adds base out (n + 12) is rest in
-    omega (arith, h, k)
+grouped_first : (i : Instruction) (is : List Instruction) → grouped (i ∷ is) ≡ grouped (i ∷ []) + grouped is
+grouped_first (instruction.Fix members) is = omega arith
+grouped_first (instruction.Do o) is = omega arith
+grouped_first _ is = omega arith
 
-forms_adds : (label n : ℕ) (cs : List Code) (rest : List Item) → text_size (forms_code label n cs rest) ≤ 64 * codes_size cs + text_size rest
-forms_adds label n [] rest = omega arith
-forms_adds label n (c ∷ cs) rest =
-    let others = forms_code (suc label) (labels_end n c) cs rest in
-    let h = body_adds n (n + c.labels) (n + c.labels + 1) c.instructions (item.Label (n + c.labels) ∷ others) in
-    let k = forms_adds (suc label) (labels_end n c) cs rest in
-    omega (arith, h, k)
+body_adds : (base out heap_end n : ℕ) (is : List Instruction) (rest : List Item) → text_size (body_code base out heap_end n is rest) ≤ 64 * (instructions_size is + grouped is) + text_size rest
+body_adds base out heap_end n [] rest = omega arith
+body_adds base out heap_end n (i ∷ is) rest =
+    let h = instruction_adds base out heap_end n i (body_code base out heap_end (n + 12) is rest) in
+    let k = body_adds base out heap_end (n + 12) is rest in
+    let g = grouped_first i is in
+    omega (arith, h, k, g)
+
+passed_adds : (o : Option Entry) (out : ℕ) (rest : List Item) → text_size (passed_code o out rest) ≤ 64 * jumped o + text_size rest
+passed_adds None out rest = omega arith
+passed_adds (Some e) out rest = omega arith
+
+forms_adds : (heap_end label n : ℕ) (cs : List Code) (rest : List Item) → text_size (forms_code heap_end label n cs rest) ≤ 64 * (codes_size cs + closures_in cs) + text_size rest
+forms_adds heap_end label n [] rest = omega arith
+forms_adds heap_end label n (c ∷ cs) rest =
+    let others = forms_code heap_end (suc label) (labels_end n c) cs rest in
+    let body = body_code n (n + c.labels) heap_end (n + c.labels + 1) c.instructions (item.Label (n + c.labels) ∷ others) in
+    let g = passed_adds c.entry (n + c.labels) (item.Label (body_label label) ∷ (item.Mark (Enter label) ∷ body)) in
+    let h = body_adds n (n + c.labels) heap_end (n + c.labels + 1) c.instructions (item.Label (n + c.labels) ∷ others) in
+    let k = forms_adds heap_end (suc label) (labels_end n c) cs rest in
+    omega (arith, g, h, k)
 
 -- ## Programs
 
 abbrev last_code : List Item
 last_code = item.Jump (label_of routine.End) ∷ (item.Label put_label ∷ put_value_code)
 
-last_small : text_size last_code ≤ 450
-last_small = leb-true (text_size last_code) 450 refl
+last_small : text_size last_code ≤ 460
+last_small = leb-true (text_size last_code) 460 refl
 
-pub text_small : (p : Source) (heap depth : ℕ) → text_size (program_code p heap depth) ≤ 512 + 64 * program_size p
+pub text_small : (p : tree.Source) (heap depth : ℕ) → text_size (program_code p heap depth) ≤ 512 + 64 * (program_size p + closures_in p.bodies)
 text_small p heap depth =
-    let a = spelling_short (MovWord 5 (pos (stack_address (length p.statics.globals) heap))) in
-    let b = spelling_short (MovWord 12 (pos (heap_address (length p.statics.globals)))) in
+    let a = spelling_short (MovWord 5 (pos (heap_of p + heap))) in
+    let b = spelling_short (MovWord 12 (pos (heap_of p))) in
     let c = spelling_short (MovWord 13 (pos depth)) in
-    let h = forms_adds 0 first_label p.bodies last_code in
+    let h = forms_adds (heap_of p + heap) 0 (own_label p) p.bodies last_code in
     let k = last_small in
     omega (arith, a, b, c, h, k)

@@ -1,16 +1,15 @@
 -- A whole program follows its runs.
-use Rattle.std.proofs.Common.{◌≡◌, ℕ, zero, suc, ◌+◌, ◌<◌, List, [], ◌∷◌, length, take, drop, true, false, Option, Some, None, refl, sym, ap, ◌∙◌, subst, arith}
+use Rattle.std.proofs.Common.{◌≡◌, ℕ, zero, suc, ◌+◌, ◌*◌, List, [], ◌∷◌, length, take, drop, true, Option, Some, None, refl, sym, ap, ◌∙◌, subst, arith}
 use Rattle.std.specs.Prelude.{pos, slice_get}
 use Rattle.std.specs.List.{list_all}
-use Rattle.std.proofs.lemmas.Option.{slice_get_within}
 use Rattle.sch_word.specs.declared.answer.Answer.{Answer}
 use Rattle.sch_word.specs.runs.Stops.{status_of}
 use Rattle.sch_word.specs.runs.Store.{Store}
 use Rattle.sch_word.specs.values.Values.{Value}
 use Rattle.sch_word.specs.runs.Computation.{gives, stops, spent}
-use Rattle.sch_word.specs.runs.Runs.{Run, ended, going, run_with, starting_store, starting_values}
+use Rattle.sch_word.specs.runs.Runs.{Run, ended, going, run_with, starting_store, starting_value, starting_values}
 use Rattle.sch_control.specs.Meaning.{World, Result, Callee}
-use Rattle.sch_control.specs.Run.{seen_of, enter, entry_at, starting_world}
+use Rattle.sch_control.specs.Run.{seen_of, enter, entry_at, starting_world, library_procedures}
 use Rattle.sch_frames.specs.Tree.{Source}
 use Rattle.sch_frames.specs.Run.{bodies_of, entries_of}
 use Rattle.sch_insn.specs.declared.insn.Insn.TheVariants.{MovWord}
@@ -27,29 +26,36 @@ use Rattle.sch_asm.specs.Stands.{Stands}
 use Rattle.sch_asm.specs.Data.{data_at, word_in}
 use Rattle.sch_asm.specs.Views.{View, Leads, full}
 use Rattle.sch_asm.proofs.EachItem.{goes}
-use Rattle.sch_select.specs.Encoded.{IsHeld}
+use Rattle.sch_heap.specs.Parts.{Parts, end_of}
+use Rattle.sch_heap.specs.Encoded.{IsHeld}
+use Rattle.sch_heap.specs.Heap.{HeapAt, AreNew}
 use Rattle.sch_select.specs.Select.{global_address}
-use Rattle.sch_select.specs.Program.{first_label, forms_code}
+use Rattle.sch_select.specs.Program.{own_label, forms_code}
 use Rattle.sch_select.specs.Follows.{AreRuns}
-use Rattle.sch_select.proofs.Places.{Plan, Room, StoreAt}
+use Rattle.sch_select.proofs.Places.{Plan, code_of, Room, StoreAt}
 use Rattle.sch_select.proofs.Following.{Ends, Laid}
 use Rattle.sch_select.proofs.Forms.{Owed, forms_sim, forms_cost}
-use Rattle.sch_select.proofs.Selected.{form_selected, is_unset}
+use Rattle.sch_select.proofs.Selected.{form_selected}
 
--- ---- globals that are unset
+-- ---- globals, when a program starts
 
-unset_values : (gs : List (Option ℕ)) (g : ℕ) (o : Option Value) → list_all is_unset gs ≡ true → slice_get (starting_values gs) g ≡ Some o → o ≡ None
-unset_values [] g o e h = absurd cc
-unset_values (None ∷ gs) zero o e h = let same : None ≡ o = cc in sym same
-unset_values (None ∷ gs) (suc g) o e h = unset_values gs g o e h
-unset_values (Some n ∷ gs) g o e h = absurd (let bad : false ≡ true = e in cc)
+-- what a global holds then
+record Begins (globals : List (Option ℕ)) (g : ℕ) (o : Option Value) : Type 0 where
+  held : Option ℕ
+  there : slice_get globals g ≡ Some held
+  is : o ≡ starting_value held
+
+begins : (globals : List (Option ℕ)) (g : ℕ) (o : Option Value) → slice_get (starting_values globals) g ≡ Some o → Begins globals g o
+begins [] g o h = absurd (let bad : None ≡ Some o = h in cc)
+begins (x ∷ globals) zero o h = let e : Some (starting_value x) ≡ Some o = h in let same : starting_value x ≡ o = cc in record { held = x; there = refl; is = sym same }
+begins (x ∷ globals) (suc g) o h = let b = begins globals g o h in record { held = b.held; there = b.there; is = b.is }
 
 pub values_count : (gs : List (Option ℕ)) → length (starting_values gs) ≡ length gs
 values_count [] = refl
 values_count (g ∷ gs) = ap suc (values_count gs)
 
 module _ (plan : Plan) (body_steps : ℕ) (laid : Laid plan body_steps) (depth : ℕ) (room : Room plan plan.stack depth) where
-  open plan use {setting, size, words, globals, heap, stack, static, labels}
+  open plan use {setting, size, words, globals, closures, heap, stack, static, labels}
 
   -- RBP, R12 and R13 are set, and the forms follow
   abbrev pub started : List Item → List Item
@@ -73,15 +79,21 @@ module _ (plan : Plan) (body_steps : ℕ) (laid : Laid plan body_steps) (depth :
       subst (λ r. Does (full setting x) n r.end r.output) same
       (record { way = q.way; last = full setting s.last; path = q.path; long = (let a = q.at_least in let b = s.long in omega (arith, a, b, e)); output_is = s.output_is })
 
-  -- the data of a program at its start
-  pub record Starts (bytes : List ℕ) : Type 0 where
+  -- the data of a program at its start, with the records of the library's procedures
+  pub record Starts (parts : Parts) (p : Source) (limit : ℕ) (bytes : List ℕ) : Type 0 where
     pub size_is : length bytes ≡ size
-    pub unset : (g : ℕ) → g < globals → word_in bytes (global_address g) ≡ 38
-    pub texts : take 280 (drop 512 bytes) ≡ static
+    pub texts : take 288 (drop 512 bytes) ≡ static
+    pub count : length p.statics.globals ≡ globals
+    pub values : (g : ℕ) (o : Option ℕ) → slice_get p.statics.globals g ≡ Some o → IsHeld parts (starting_value o) (word_in bytes (global_address g))
+    pub first : 16 * parts.first ≡ closures
+    pub next : 16 * end_of parts ≡ heap
+    pub limited : heap + limit ≡ stack
+    pub contents : HeapAt (code_of plan) parts [] (library_procedures p.library) bytes
+    pub new : AreNew parts 0 (length (library_procedures p.library))
 
-  pub program_follows : (p : Source) (limit : ℕ) (bytes : List ℕ) (rest : List Item) (runs : List Answer → ℕ → Run) → list_all (form_selected words globals) p.bodies ≡ true → list_all is_unset p.statics.globals ≡ true → length p.statics.globals ≡ globals →
-      Stands setting [] 0x400000 (started (forms_code 0 first_label p.bodies (item.Jump (label_of routine.End) ∷ rest))) → Starts bytes → AreRuns p limit depth runs → FollowsRuns 0x400000 (setting.text ∷ data_at bytes ∷ []) runs
-  program_follows p limit bytes rest runs selected unset count h s r = follows 0x400000 (setting.text ∷ data_at bytes ∷ []) runs at
+  pub program_follows : (p : Source) (limit : ℕ) (parts : Parts) (bytes : List ℕ) (rest : List Item) (runs : List Answer → ℕ → Run) → list_all (form_selected words globals) p.bodies ≡ true →
+      Stands setting [] 0x400000 (started (forms_code stack 0 (own_label p) p.bodies (item.Jump (label_of routine.End) ∷ rest))) → Starts parts p limit bytes → AreRuns p limit depth runs → FollowsRuns 0x400000 (setting.text ∷ data_at bytes ∷ []) runs
+  program_follows p limit parts bytes rest runs selected h s r = follows 0x400000 (setting.text ∷ data_at bytes ∷ []) runs at
     where
       at : (g : Given) (answers : List Answer) (n : ℕ) → Does (start 0x400000 (setting.text ∷ data_at bytes ∷ []) g answers) n (runs answers n).end (runs answers n).output
       at g answers n =
@@ -93,17 +105,21 @@ module _ (plan : Plan) (body_steps : ℕ) (laid : Laid plan body_steps) (depth :
           let y2 : View = record y1 { registers = set_register y1.registers 12 heap; place = y1.place + h.2.0 } in
           let z : View = record y2 { registers = set_register y2.registers 13 depth; place = y2.place + h.2.2.0 } in
           let free : heap ≡ heap + 0 = omega arith in
-          let world : StoreAt plan t bytes [] answers = record {
+          let world : StoreAt plan parts w.state bytes [] answers = record {
             size_is = s.size_is;
             printed = refl;
             left = refl;
+            limit = s.limited;
             within = (let a = plan.stack_low in omega (arith, a));
-            count = values_count p.statics.globals ∙ count;
-            global = λ i o e. let lt = slice_get_within (starting_values p.statics.globals) i o e in let m = values_count p.statics.globals in
-                subst (λ o. IsHeld o (word_in bytes (global_address i))) (sym (unset_values p.statics.globals i o unset e)) (s.unset i (omega (arith, lt, m, count)));
+            begins = s.first;
+            ends = s.next ∙ free;
+            count = values_count p.statics.globals ∙ s.count;
+            global = λ i o e. let b = begins p.statics.globals i o e in subst (λ o. IsHeld parts o (word_in bytes (global_address i))) (sym b.is) (s.values i b.held b.there);
             texts = s.texts;
+            contents = s.contents;
+            new = s.new;
           } in
           seen_does p callee t x z (forms_cost p.bodies) n answers _ (runs answers n) refl
           (leads_on setting.marks (leads_on setting.marks (goes setting x y1 (MovWord 5 (pos stack)) h.0 [] h.1 refl) (goes setting y1 y2 (MovWord 12 (pos heap)) h.2.0 [] h.2.1 refl)) (goes setting y2 z (MovWord 13 (pos depth)) h.2.2.0 [] h.2.2.1 refl))
-          (forms_sim plan body_steps laid depth room p.bodies callee p.bodies 0 first_label rest selected (λ j c e. let sum : 0 + j ≡ j = omega arith in ap (slice_get p.bodies) sum ∙ e) [] w z h.2.2.2 (record { frame = refl; deep = refl; free = free; world = world }) refl)
+          (forms_sim plan body_steps laid depth room p.bodies callee p.bodies 0 (own_label p) rest selected (λ j c e. let sum : 0 + j ≡ j = omega arith in ap (slice_get p.bodies) sum ∙ e) [] w z h.2.2.2 (record { parts = parts; frame = refl; deep = refl; free = free; world = world }) refl)
           (r.are answers n)

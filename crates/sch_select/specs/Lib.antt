@@ -1,4 +1,5 @@
-pub mod Encoded
 pub mod Select
 pub mod Program
+pub mod Covered
+pub mod Sizes
 pub mod Follows

@@ -1,18 +1,23 @@
 -- The items of each instruction of a body. What follows is an argument, so nothing is appended. RAX is the
 -- accumulator, RCX has a second operand, RDX and R11 are free, and RBP has the address of the frame.
-use Rattle.std.specs.Prelude.{ℕ, ◌+◌, ◌*◌, List, [], ◌∷◌, pos}
+use Rattle.std.specs.Prelude.{ℕ, ◌+◌, ◌*◌, List, [], ◌∷◌, length, pos, negsuc}
 use Rattle.sch_word.specs.declared.place.Place.{Place}
 use Rattle.sch_word.specs.declared.place.Place.TheVariants as place
 use Rattle.sch_word.specs.declared.primitive.Primitive.{Primitive}
 use Rattle.sch_word.specs.declared.primitive.Primitive.TheVariants.{Eq, Eqv, IsBoolean, IsPair, IsNull, IsSymbol, IsInteger, IsChar, IsString, IsVector, IsProcedure, Add, Subtract, Multiply, Quotient, Remainder, Modulo, Equal, Less, Greater, LessEqual, GreaterEqual, CharToInteger, IntegerToChar, Put}
 use Rattle.sch_word.specs.declared.stop.Stop.{Stop}
-use Rattle.sch_word.specs.declared.stop.Stop.TheVariants.{WrongType, OutOfRange, DivideByZero, Overflow, Unset}
+use Rattle.sch_word.specs.declared.stop.Stop.TheVariants.{WrongType, OutOfRange, DivideByZero, Overflow, HeapLimit, Unset}
+use Rattle.sch_word.specs.runs.Charges.{cell_bytes, procedure_bytes}
 use Rattle.sch_control.specs.declared.mark.MarkKind as control
 use Rattle.sch_control.specs.declared.mark.MarkKind.TheVariants as mark
 use Rattle.sch_control.specs.declared.operation.Atom.{Atom}
 use Rattle.sch_control.specs.declared.operation.Atom.TheVariants.{Constant, Literal, Variable}
 use Rattle.sch_control.specs.declared.operation.Operand.{Operand}
 use Rattle.sch_control.specs.declared.operation.Operand.TheVariants as operand
+use Rattle.sch_control.specs.declared.operation.Source.{Source}
+use Rattle.sch_control.specs.declared.operation.Source.TheVariants as source
+use Rattle.sch_control.specs.declared.operation.Closure.{Closure}
+use Rattle.sch_control.specs.declared.operation.Member.{Member}
 use Rattle.sch_control.specs.declared.operation.Operation.{Operation}
 use Rattle.sch_control.specs.declared.operation.Operation.TheVariants as operation
 use Rattle.sch_frames.specs.declared.instruction.Instruction.{Instruction}
@@ -21,14 +26,14 @@ use Rattle.sch_insn.specs.declared.condition.TheConstants.{O, E, NE, A, L, GE, L
 use Rattle.sch_insn.specs.declared.insn.Arg.{Arg}
 use Rattle.sch_insn.specs.declared.insn.Arg.TheVariants.{Reg, Base32}
 use Rattle.sch_insn.specs.declared.insn.Insn.TheVariants.{MovTo, MovFrom, MovNumber, MovWord, AddTo, SubTo, CmpTo, AddNumber, AndNumber, CmpNumber, Imul, Idiv, Cqo, Shl, Shr, Sar, JumpTo}
-use Rattle.sch_insn.specs.declared.register.TheConstants.{RAX, RCX, RDX, RBP, R11, R15}
+use Rattle.sch_insn.specs.declared.register.TheConstants.{RAX, RCX, RDX, RBP, R11, R12, R15}
 use Rattle.sch_asm.specs.declared.item.Item.{Item}
 use Rattle.sch_asm.specs.declared.item.Item.TheVariants.{Label, Plain, Jump, JumpIf, LoadLabel, LoadWord, StoreWord, Mark}
 use Rattle.sch_asm.specs.declared.item.MarkKind as asm
 use Rattle.sch_asm.specs.declared.item.MarkKind.TheVariants as asm_mark
 use Rattle.sch_asm.specs.declared.routine.Routine.TheVariants as routine
 use Rattle.sch_asm.specs.Routines.{label_of}
-use Rattle.sch_select.specs.Encoded.{true_word, false_word, nil_word, unspecified_word, unset_word, character_tag, constant_number}
+use Rattle.sch_heap.specs.Encoded.{true_word, false_word, nil_word, unspecified_word, unset_word, character_tag, procedure_tag, cell_tag, constant_number}
 
 abbrev pub stop_label : Stop → ℕ
 stop_label why = label_of (routine.Stop why)
@@ -42,10 +47,24 @@ abbrev pub texts_address : ℕ
 texts_address = 0x10000300
 
 abbrev pub globals_address : ℕ
-globals_address = 0x10000318
+globals_address = 0x10000320
 
 abbrev pub global_address : ℕ → ℕ
 global_address g = globals_address + 8 * g
+
+-- ## Labels
+
+-- puts of values are by a routine of the program's own
+abbrev pub put_label : ℕ
+put_label = 1024
+
+-- the labels of the program's own routine are below this one, and the bodies' are from it on
+abbrev pub first_label : ℕ
+first_label = 1032
+
+-- where the code of a body begins
+abbrev pub body_label : ℕ → ℕ
+body_label label = first_label + label
 
 -- ## Places
 
@@ -107,10 +126,6 @@ modulo_code n rest =
     ∷ (Label (n + 1) ∷ (Plain (CmpNumber (Reg RCX) (pos 0)) ∷ (JumpIf L n
     ∷ (Label (n + 2) ∷ (Plain (AddTo (Reg RAX) RCX) ∷ (Label n ∷ rest)))))))))))
 
--- puts of values are by a routine of the program's own
-abbrev pub put_label : ℕ
-put_label = 1024
-
 abbrev pub put_code : (n : ℕ) → List Item → List Item
 put_code n rest = LoadLabel R11 n ∷ (Jump put_label ∷ (Label n ∷ (Plain (MovNumber (Reg RAX) (pos unspecified_word)) ∷ rest)))
 
@@ -166,6 +181,49 @@ second_code n (operand.Atom a) rest = atom_code RCX a rest
 second_code n (operand.Read site which atoms) rest =
     Plain (MovTo (Reg R11) RAX) ∷ read_code n which atoms (Plain (MovTo (Reg RCX) RAX) ∷ (Plain (MovTo (Reg RAX) R11) ∷ rest))
 
+-- ## Cells and closures
+
+-- what a closure captures, or a cell that is read or set, into a register
+abbrev pub source_code : (r : ℕ) → Source Place → List Item → List Item
+source_code r (source.Atom a) rest = atom_code r a rest
+source_code r (source.Field p k) rest =
+    Plain (MovFrom r (place_operand p)) ∷ (Plain (MovFrom r (Base32 r (pos (4 + 8 * k)))) ∷ rest)
+
+-- a register has a cell, or stop 73
+abbrev pub check_cell : (r : ℕ) → List Item → List Item
+check_cell r rest = low_bits r 7 (Plain (CmpNumber (Reg RDX) (pos cell_tag)) ∷ (JumpIf NE (stop_label Unset) ∷ rest))
+
+-- the word of a cell that is checked
+abbrev pub cell_operand : (r : ℕ) → Arg
+cell_operand r = Base32 r (negsuc 6)
+
+-- The heap has so many bytes left, or stop 71. R12 has the address of the next part, and RDX is overwritten.
+abbrev pub check_heap : (heap_end bytes : ℕ) → List Item → List Item
+check_heap heap_end bytes rest =
+    Plain (MovTo (Reg RDX) R12) ∷ (Plain (AddNumber (Reg RDX) (pos bytes))
+    ∷ (Plain (CmpNumber (Reg RDX) (pos heap_end)) ∷ (JumpIf A (stop_label HeapLimit) ∷ rest)))
+
+-- R12 has the address of a part with so many bytes: its word with a tag into RAX, and the next part
+abbrev pub part_code : (tag bytes : ℕ) → List Item → List Item
+part_code tag bytes rest =
+    Plain (MovTo (Reg RAX) R12) ∷ (Plain (AddNumber (Reg RAX) (pos tag)) ∷ (Plain (AddNumber (Reg R12) (pos bytes)) ∷ rest))
+
+-- the operand at an offset from the address of the next part
+abbrev pub part_operand : (offset : ℕ) → Arg
+part_operand offset = Base32 R12 (pos offset)
+
+-- the fields of a record, from an offset on
+abbrev pub fields_code : (offset : ℕ) → List (Source Place) → List Item → List Item
+fields_code offset [] rest = rest
+fields_code offset (x ∷ sources) rest = source_code RCX x (Plain (MovTo (part_operand offset) RCX) ∷ fields_code (offset + 8) sources rest)
+
+-- a record at an offset: the address of its code, and its fields
+abbrev pub record_code : (offset : ℕ) → Closure Place → List Item → List Item
+record_code offset c rest = LoadLabel RCX (body_label c.label) ∷ (Plain (MovTo (part_operand offset) RCX) ∷ fields_code (offset + 8) c.fields rest)
+
+abbrev pub closure_bytes : Closure Place → ℕ
+closure_bytes c = procedure_bytes (length c.fields)
+
 -- ## Operations; the labels from n to n + 11 are theirs
 
 abbrev pub primitive_code : (n : ℕ) → Primitive → List (Operand Place) → List Item → List Item
@@ -173,14 +231,48 @@ primitive_code n which (a ∷ []) rest = operand_code n a (unary_code (n + 8) wh
 primitive_code n which (a ∷ (b ∷ [])) rest = operand_code n a (second_code (n + 4) b (binary_code (n + 8) which rest))
 primitive_code n which _ rest = rest
 
-abbrev pub operation_code : (n : ℕ) → Operation Place → List Item → List Item
-operation_code n (operation.Operand o) rest = operand_code n o rest
-operation_code n (operation.Prim site which operands) rest = primitive_code n which operands rest
-operation_code n (operation.Global g) rest =
-    LoadWord RAX (global_address g) ∷ (Plain (CmpNumber (Reg RAX) (pos unset_word)) ∷ (JumpIf E (stop_label Unset) ∷ rest))
-operation_code n (operation.SetGlobal g o) rest =
-    operand_code n o (StoreWord (global_address g) RAX ∷ (Plain (MovNumber (Reg RAX) (pos unspecified_word)) ∷ rest))
-operation_code n _ rest = rest
+module _ (heap_end : ℕ) where
+  abbrev pub operation_code : (n : ℕ) → Operation Place → List Item → List Item
+  operation_code n (operation.Operand o) rest = operand_code n o rest
+  operation_code n (operation.Prim site which operands) rest = primitive_code n which operands rest
+  operation_code n (operation.Global g) rest =
+      LoadWord RAX (global_address g) ∷ (Plain (CmpNumber (Reg RAX) (pos unset_word)) ∷ (JumpIf E (stop_label Unset) ∷ rest))
+  operation_code n (operation.SetGlobal g o) rest =
+      operand_code n o (StoreWord (global_address g) RAX ∷ (Plain (MovNumber (Reg RAX) (pos unspecified_word)) ∷ rest))
+  operation_code n (operation.Field p k) rest = source_code RAX (source.Field p k) rest
+  operation_code n (operation.NewCell x) rest =
+      source_code RAX x (check_heap heap_end cell_bytes (Plain (MovTo (part_operand 0) RAX) ∷ part_code cell_tag cell_bytes rest))
+  operation_code n operation.UnsetCell rest =
+      check_heap heap_end cell_bytes (Plain (MovNumber (part_operand 0) (pos unset_word)) ∷ part_code cell_tag cell_bytes rest)
+  operation_code n (operation.CellGet x) rest =
+      source_code RAX x (check_cell RAX (Plain (MovFrom RAX (cell_operand RAX))
+      ∷ (Plain (CmpNumber (Reg RAX) (pos unset_word)) ∷ (JumpIf E (stop_label Unset) ∷ rest))))
+  operation_code n (operation.CellSet x o) rest =
+      operand_code n o (source_code RCX x (check_cell RCX (Plain (MovTo (cell_operand RCX) RAX)
+      ∷ (Plain (MovNumber (Reg RAX) (pos unspecified_word)) ∷ rest))))
+  operation_code n (operation.MakeClosure c) rest =
+      check_heap heap_end (closure_bytes c) (record_code 0 c (part_code procedure_tag (closure_bytes c) rest))
+
+-- ## Groups: the heap has room for all of them, each has its word in its place, and then each has its record
+
+abbrev pub group_bytes : List (Member Place) → ℕ
+group_bytes [] = 0
+group_bytes (m ∷ members) = closure_bytes m.closure + group_bytes members
+
+abbrev pub places_code : (offset : ℕ) → List (Member Place) → List Item → List Item
+places_code offset [] rest = rest
+places_code offset (m ∷ members) rest =
+    Plain (MovTo (Reg RCX) R12) ∷ (Plain (AddNumber (Reg RCX) (pos (offset + procedure_tag)))
+    ∷ (Plain (MovTo (place_operand m.at) RCX) ∷ places_code (offset + closure_bytes m.closure) members rest))
+
+abbrev pub records_code : (offset : ℕ) → List (Member Place) → List Item → List Item
+records_code offset [] rest = rest
+records_code offset (m ∷ members) rest = record_code offset m.closure (records_code (offset + closure_bytes m.closure) members rest)
+
+abbrev pub group_code : (heap_end : ℕ) → List (Member Place) → List Item → List Item
+group_code heap_end members rest =
+    check_heap heap_end (group_bytes members) (places_code 0 members (records_code 0 members
+    (Plain (AddNumber (Reg R12) (pos (group_bytes members))) ∷ rest)))
 
 -- ## Instructions
 
@@ -195,12 +287,14 @@ kind_of (mark.Call site) = asm_mark.Call site
 kind_of mark.Return = asm_mark.Return
 kind_of (mark.Tail site) = asm_mark.Tail site
 
--- The labels of a body are numbered from `base` on, and `out` stands behind the body of a form.
-module _ (base out : ℕ) where
+-- The labels of a body are numbered from `base` on, and `out` stands behind it.
+module _ (base out heap_end : ℕ) where
   abbrev pub instruction_code : (n : ℕ) → Instruction → List Item → List Item
-  instruction_code n (instruction.Do o) rest = operation_code n o rest
+  instruction_code n (instruction.Do o) rest = operation_code heap_end n o rest
   instruction_code n (instruction.Store p) rest = Plain (MovTo (place_operand p) RAX) ∷ rest
   instruction_code n (instruction.Copy to from) rest = Plain (MovFrom RCX (place_operand from)) ∷ (Plain (MovTo (place_operand to) RCX) ∷ rest)
+  instruction_code n (instruction.Load p o) rest = second_code n o (Plain (MovTo (place_operand p) RCX) ∷ rest)
+  instruction_code n (instruction.Fix members) rest = group_code heap_end members rest
   instruction_code n instruction.Return rest = Plain (JumpTo (Reg R15)) ∷ rest
   instruction_code n instruction.End rest = Jump out ∷ rest
   instruction_code n (instruction.IfFalse l) rest = Plain (CmpNumber (Reg RAX) (pos false_word)) ∷ (JumpIf E (base + l) ∷ rest)

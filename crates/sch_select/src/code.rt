@@ -1,36 +1,27 @@
-//! The items of operations.
+//! The items of atoms, operands and primitives.
 
 ghost use Rattle.std.specs.Prelude.{◌≡◌, ◌+◌, ◌++◌, IfOk, IsTrue, OnOk, List, int_le, nat_abs, pos};
 ghost use Rattle.sch_word.specs.declared.primitive.Primitive.TheVariants.{CharToInteger, IntegerToChar};
 ghost use Rattle.sch_asm.specs.declared.item.Item.{Item};
-ghost use Rattle.sch_select.specs.Encoded.{constant_number};
-ghost use Rattle.sch_select.specs.Select.{atom_code, binary_code, boolean_code, check_character, check_fixnum, compare_code, comparison_code, division_code, global_address, modulo_code, operand_code, operation_code, overflow_code, place_operand, primitive_code, put_code, read_code, second_code, stop_label, test_code, unary_code};
+ghost use Rattle.sch_select.specs.Select.{atom_code, binary_code, body_label, boolean_code, check_character, check_fixnum, compare_code, comparison_code, division_code, global_address, modulo_code, operand_code, overflow_code, place_operand, primitive_code, put_code, read_code, second_code, stop_label, test_code, unary_code};
 
 use sch_asm::{Item, Routine};
-use sch_control::{Atom, Operand, Operation};
+use sch_control::{Atom, Operand};
+use sch_heap::constant_number;
+use sch_heap::word::{CHARACTER, FALSE, NIL, TRUE, UNSPECIFIED};
 use sch_insn::condition::{A, E, G, GE, L, LE, NE, O};
 use sch_insn::register::{R11, RAX, RBP, RCX, RDX};
 use sch_insn::{Arg, Insn};
-use sch_word::{Const, List, Mem, Place, Prim, Stop};
-
-// The words of values that are no fixnums, as `specs/Encoded` has them.
-const FALSE: i32 = 6;
-
-const TRUE: i32 = 134;
-
-const NIL: i32 = 22;
-
-const UNSPECIFIED: i32 = 30;
-
-const UNSET: i32 = 38;
-
-const CHARACTER: i32 = 46;
+use sch_word::{List, Mem, Place, Prim, Stop};
 
 /// Where the globals stand in the data.
-pub(crate) const GLOBALS_ADDRESS: u64 = 0x1000_0318;
+pub(crate) const GLOBALS_ADDRESS: u64 = 0x1000_0320;
 
 /// The label of the routine that puts any value.
 pub(crate) const PUT_LABEL: u32 = 1024;
+
+/// The labels of bodies are numbered from here on.
+const FIRST_LABEL: u32 = 1032;
 
 /// A label behind another one. One past the numbers of 32 bits is want of memory.
 pub(crate) fn above(n: u32, k: u32) -> Result<u32, Mem>
@@ -42,25 +33,17 @@ pub(crate) fn above(n: u32, k: u32) -> Result<u32, Mem>
     }
 }
 
-fn stop(why: Stop) -> u32
+/// Where the code of a body begins.
+pub(crate) fn body_label(label: u32) -> Result<u32, Mem>
+    ensures { IfOk result (λ m. m ≡ body_label label) }
+{
+    above(FIRST_LABEL, label)
+}
+
+pub(crate) fn stop(why: Stop) -> u32
     ensures { result ≡ stop_label why }
 {
     Routine::Stop(why).label()
-}
-
-/// The word of a constant, as a number with a sign.
-fn constant_number(c: Const) -> i64
-    ensures { result ≡ constant_number c }
-{
-    match c {
-        Const::Fixnum(n) => 8 * n.get(),
-        Const::Character(byte) => 256 * byte as i64 + CHARACTER as i64,
-        Const::Boolean(true) => TRUE as i64,
-        Const::Boolean(false) => FALSE as i64,
-        Const::Nil => NIL as i64,
-        Const::Unspecified => UNSPECIFIED as i64,
-        Const::Symbol(_) => 0,
-    }
 }
 
 /// A place as an operand. A slot past the displacements of 32 bits is want of memory.
@@ -87,7 +70,7 @@ pub(crate) fn global_address(g: u32) -> u64
 }
 
 /// An atom into a register.
-fn atom(out: &mut List<Item>, register: u8, a: &Atom<Place>) -> Result<(), Mem>
+pub(crate) fn atom(out: &mut List<Item>, register: u8, a: &Atom<Place>) -> Result<(), Mem>
     ensures { OnOk result ((rest : List Item) → out.new ++ rest ≡ out.old ++ atom_code register a.now rest) }
 {
     match a {
@@ -333,7 +316,7 @@ fn read(out: &mut List<Item>, n: u32, which: Prim, atoms: &[Atom<Place>]) -> Res
 }
 
 /// An operand into RAX.
-fn operand(out: &mut List<Item>, n: u32, o: &Operand<Place>) -> Result<(), Mem>
+pub(crate) fn operand(out: &mut List<Item>, n: u32, o: &Operand<Place>) -> Result<(), Mem>
     ensures { OnOk result ((rest : List Item) → out.new ++ rest ≡ out.old ++ operand_code n o.now rest) }
 {
     match o {
@@ -343,7 +326,7 @@ fn operand(out: &mut List<Item>, n: u32, o: &Operand<Place>) -> Result<(), Mem>
 }
 
 /// A second operand into RCX, while RAX keeps the first.
-fn second(out: &mut List<Item>, n: u32, o: &Operand<Place>) -> Result<(), Mem>
+pub(crate) fn second(out: &mut List<Item>, n: u32, o: &Operand<Place>) -> Result<(), Mem>
     ensures { OnOk result ((rest : List Item) → out.new ++ rest ≡ out.old ++ second_code n o.now rest) }
 {
     match o {
@@ -360,7 +343,7 @@ fn second(out: &mut List<Item>, n: u32, o: &Operand<Place>) -> Result<(), Mem>
 }
 
 /// A primitive.
-fn primitive(
+pub(crate) fn primitive(
     out: &mut List<Item>,
     n: u32,
     which: Prim,
@@ -377,29 +360,6 @@ fn primitive(
             operand(out, n, o)?;
             second(out, above(n, 4)?, q)?;
             binary(out, above(n, 8)?, which)
-        }
-        _ => Ok(()),
-    }
-}
-
-/// An operation, whose value is left in RAX. Its labels are from n on.
-pub(crate) fn operation(out: &mut List<Item>, n: u32, o: &Operation<Place>) -> Result<(), Mem>
-    ensures { OnOk result ((rest : List Item) → out.new ++ rest ≡ out.old ++ operation_code n o.now rest) }
-{
-    match o {
-        Operation::Operand(o) => operand(out, n, o),
-        Operation::Prim(_, which, operands) => primitive(out, n, *which, operands.as_slice()),
-        Operation::Global(g) => out.extend_from_slice(&[
-            Item::LoadWord(RAX, global_address(*g)),
-            Item::Plain(Insn::CmpNumber(Arg::Reg(RAX), UNSET)),
-            Item::JumpIf(E, stop(Stop::Unset)),
-        ]),
-        Operation::SetGlobal(g, o) => {
-            operand(out, n, o)?;
-            out.extend_from_slice(&[
-                Item::StoreWord(global_address(*g), RAX),
-                Item::Plain(Insn::MovNumber(Arg::Reg(RAX), UNSPECIFIED)),
-            ])
         }
         _ => Ok(()),
     }

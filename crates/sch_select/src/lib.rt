@@ -3,6 +3,8 @@
 #![tactic(auto)]
 
 mod code;
+mod heap;
+mod operation;
 mod selecting;
 mod walk;
 

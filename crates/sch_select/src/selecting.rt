@@ -11,21 +11,22 @@ ghost use Rattle.sch_asm.specs.Routines.{label_of};
 ghost use Rattle.sch_frames.specs.ProgramView.{source};
 ghost use Rattle.sch_frames.specs.Sizes.{program_size};
 ghost use Rattle.sch_frames.specs.SourceView.{codes_of};
-ghost use Rattle.sch_frames.specs.Straight.{is_straight_program};
 ghost use Rattle.sch_insn.specs.declared.insn.Insn.TheVariants.{MovWord};
-ghost use Rattle.sch_select.specs.Encoded.{unset_word};
+ghost use Rattle.sch_select.specs.Covered.{is_covered_program};
 ghost use Rattle.sch_select.specs.Follows.{FollowsFrames};
-ghost use Rattle.sch_select.specs.Program.{first_label, forms_code, heap_address, program_code, program_words, program_zeros, put_value_code, stack_address, stack_bytes, static_bytes, word_list};
-ghost use Rattle.sch_select.specs.Select.{globals_address, put_label};
+ghost use Rattle.sch_select.specs.Program.{closure_words, closures_address, forms_code, global_word, global_words, heap_address, padding, program_zeros, put_value_code, stack_bytes, static_bytes, word_list};
+ghost use Rattle.sch_select.specs.Select.{body_label, put_label};
+ghost use Rattle.sch_select.specs.Sizes.{closures_in};
 
-use crate::code::{GLOBALS_ADDRESS, PUT_LABEL};
+use crate::code::{body_label, GLOBALS_ADDRESS, PUT_LABEL};
 use crate::walk::forms;
 use sch_asm::{Asm, Item, Routine, Word};
 use sch_frames::FrameProgram;
+use sch_heap::word::{CELL, PROCEDURE};
 use sch_insn::condition::{E, NE};
 use sch_insn::register::{R12, R13, RAX, RBP, RDX};
 use sch_insn::{Arg, Insn};
-use sch_word::{Limits, List, Mem};
+use sch_word::{Limits, List, Mem, Stop};
 use std::alloc::Global;
 
 // The labels in the routine that puts any value.
@@ -37,8 +38,7 @@ const NOT_FALSE: u32 = 1027;
 
 const NOT_NIL: u32 = 1028;
 
-// The labels of forms are numbered from here on.
-const FIRST_LABEL: u32 = 1032;
+const PROCEDURE_TEXT: u32 = 1029;
 
 // Where the bytes and the texts that are put stand.
 const BYTES_ADDRESS: i32 = 0x1000_0200;
@@ -46,7 +46,7 @@ const BYTES_ADDRESS: i32 = 0x1000_0200;
 const TEXTS_ADDRESS: i32 = 0x1000_0300;
 
 /// The routine that puts any value, whose word is in RAX. It returns through R11.
-fn put_items() -> [Item; 34]
+fn put_items() -> [Item; 42]
     ensures { result ≡ item.Label put_label ∷ put_value_code }
 {
     [
@@ -54,6 +54,10 @@ fn put_items() -> [Item; 34]
         Item::Plain(Insn::MovTo(Arg::Reg(RDX), RAX)),
         Item::Plain(Insn::AndNumber(Arg::Reg(RDX), 7)),
         Item::JumpIf(E, Routine::PutFixnum.label()),
+        Item::Plain(Insn::CmpNumber(Arg::Reg(RDX), PROCEDURE)),
+        Item::JumpIf(E, PROCEDURE_TEXT),
+        Item::Plain(Insn::CmpNumber(Arg::Reg(RDX), CELL)),
+        Item::JumpIf(E, Routine::Stop(Stop::WrongType).label()),
         Item::Plain(Insn::MovTo(Arg::Reg(RDX), RAX)),
         Item::Plain(Insn::AndNumber(Arg::Reg(RDX), 255)),
         Item::Plain(Insn::CmpNumber(Arg::Reg(RDX), 46)),
@@ -84,33 +88,44 @@ fn put_items() -> [Item; 34]
         Item::Plain(Insn::MovNumber(Arg::Reg(RAX), TEXTS_ADDRESS + 6)),
         Item::Plain(Insn::MovNumber(Arg::Reg(RDX), 14)),
         Item::Jump(Routine::Put.label()),
+        Item::Label(PROCEDURE_TEXT),
+        Item::Plain(Insn::MovNumber(Arg::Reg(RAX), TEXTS_ADDRESS + 20)),
+        Item::Plain(Insn::MovNumber(Arg::Reg(RDX), 12)),
+        Item::Jump(Routine::Put.label()),
     ]
 }
 
-/// Where the heap and the stack are, and how many bytes of zeros stand behind the words of the data.
+/// Where the closures, the heap and the stack are, and how many bytes of zeros stand behind the words of the data.
 #[derive(Clone, Copy)]
 struct Layout {
+    closures: u64,
     heap: u64,
-    stack: u64,
+    stack: u32,
     zeros: u64,
 }
 
-fn lay_out(globals: u64, words: u32, limits: Limits) -> Layout
+fn lay_out(globals: u64, library: u64, words: u32, limits: Limits) -> Layout
     requires few { globals ≤ 29360128 }
-    ensures heap { result.heap ≡ heap_address globals }
-    ensures stack { result.stack ≡ stack_address globals limits.heap }
-    ensures zeros { result.zeros + (globals_address + 8 * globals) ≡ stack_address globals limits.heap + stack_bytes words }
-    ensures low { (result.heap ≤ result.stack) × (result.stack ≤ 2147483647) }
+    requires library { library ≤ 1048576 }
+    ensures closures { result.closures ≡ closures_address globals }
+    ensures heap { result.heap ≡ heap_address globals library }
+    ensures stack { result.stack ≡ heap_address globals library + limits.heap }
+    ensures zeros { result.zeros ≡ limits.heap + stack_bytes words }
+    ensures low { (result.closures ≤ 1073741824) × (result.heap ≤ 2147483647) }
 {
     let end = GLOBALS_ADDRESS + 8 * globals;
-    let heap = (end + 15) / 16 * 16;
-    let stack = heap + limits.heap;
-    let zeros = stack - end + 8 * words as u64;
-    Layout { heap, stack, zeros }
+    let closures = (end + 15) / 16 * 16;
+    let heap = closures + 16 * library;
+    Layout {
+        closures,
+        heap,
+        stack: (heap + limits.heap) as u32,
+        zeros: limits.heap + 8 * words as u64,
+    }
 }
 
 /// The words in front of the globals: those of the routines, and the static bytes.
-fn static_words() -> [Word; 35]
+fn static_words() -> [Word; 36]
     ensures { result ≡ word_list static_bytes }
 {
     [
@@ -148,7 +163,8 @@ fn static_words() -> [Word; 35]
         Word::Fixed(0xFFFEFDFCFBFAF9F8),
         Word::Fixed(0x3C23292866237423),
         Word::Fixed(0x6669636570736E75),
-        Word::Fixed(0x3E646569),
+        Word::Fixed(0x72703C233E646569),
+        Word::Fixed(0x3E6572756465636F),
     ]
 }
 
@@ -159,53 +175,106 @@ fn same_words(alloc: Global, word: Word, count: usize) -> Result<List<Word>, Mem
     Ok(List::from_vec(vec![in alloc; word; count]?))
 }
 
-/// The data of a program with so many globals.
-fn words_of(alloc: Global, globals: usize) -> Result<List<Word>, Mem>
-    ensures { IfOk result (λ words. words ≡ replicate 64 (Fixed 0) ++ (word_list static_bytes ++ replicate globals (Fixed unset_word))) }
+/// The word of a global when a program starts.
+fn global_word(closures: u64, g: Option<u32>) -> Word
+    requires few { closures ≤ 1073741824 }
+    ensures { result ≡ global_word closures g }
+{
+    match g {
+        None => Word::Fixed(38),
+        Some(n) => Word::Fixed(closures + 16 * n as u64 + 4),
+    }
+}
+
+/// The words of the globals.
+fn push_globals(words: &mut List<Word>, closures: u64, globals: &[Option<u32>]) -> Result<(), Mem>
+    requires few { closures ≤ 1073741824 }
+    ensures { OnOk result (words.new ≡ words.old ++ global_words closures globals.now) }
+{
+    for g in globals {
+        words.push(global_word(closures, *g))?;
+    }
+    Ok(())
+}
+
+/// The records of the library's procedures.
+fn push_closures(words: &mut List<Word>, library: &[u32]) -> Result<(), Mem>
+    ensures { OnOk result (words.new ≡ words.old ++ closure_words library.now) }
+{
+    for label in library {
+        let code = body_label(*label)?;
+        words.push(Word::Address(code))?;
+        words.push(Word::Fixed(0))?;
+    }
+    Ok(())
+}
+
+/// The words in front of the globals.
+fn first_words(alloc: Global) -> Result<List<Word>, Mem>
+    ensures { IfOk result (λ words. words ≡ replicate 64 (Fixed 0) ++ word_list static_bytes) }
 {
     let mut words = same_words(alloc, Word::Fixed(0), 64)?;
     words.extend_from_slice(&static_words())?;
-    words.append(same_words(alloc, Word::Fixed(38), globals)?)?;
+    Ok(words)
+}
+
+/// The data of a program.
+fn words_of(alloc: Global, p: &FrameProgram, closures: u64) -> Result<List<Word>, Mem>
+    requires few { closures ≤ 1073741824 }
+    ensures { IfOk result (λ words. words ≡ replicate 64 (Fixed 0) ++ (word_list static_bytes ++ (global_words closures p.now.statics.globals ++ (padding (length p.now.statics.globals) ++ closure_words p.now.library)))) }
+{
+    let globals = p.statics.globals.as_slice();
+    let mut words = first_words(alloc)?;
+    push_globals(&mut words, closures, globals)?;
+    words.append(same_words(alloc, Word::Fixed(0), globals.len() % 2)?)?;
+    push_closures(&mut words, p.library.as_slice())?;
     Ok(words)
 }
 
 /// The items of a program that lies so, with its depth.
 fn items_of(alloc: Global, p: &FrameProgram, layout: Layout, depth: u64) -> Result<List<Item>, Mem>
-    requires stack { layout.stack ≤ 2147483647 }
-    requires heap { layout.heap ≤ layout.stack }
+    requires heap { layout.heap ≤ 2147483647 }
     requires depth { depth ≤ 10000000 }
-    ensures { IfOk result (λ items. items ≡ item.Plain (MovWord RBP (pos layout.stack)) ∷ (item.Plain (MovWord R12 (pos layout.heap)) ∷ (item.Plain (MovWord R13 (pos depth)) ∷ forms_code 0 first_label (codes_of p.now.bodies) (item.Jump (label_of routine.End) ∷ (item.Label put_label ∷ put_value_code))))) }
+    ensures { IfOk result (λ items. items ≡ item.Plain (MovWord RBP (pos layout.stack)) ∷ (item.Plain (MovWord R12 (pos layout.heap)) ∷ (item.Plain (MovWord R13 (pos depth)) ∷ forms_code layout.stack 0 (body_label (length p.now.bodies)) (codes_of p.now.bodies) (item.Jump (label_of routine.End) ∷ (item.Label put_label ∷ put_value_code))))) }
 {
+    let bodies = p.bodies.as_slice();
+    let own = match u32::try_from(bodies.len()) {
+        Ok(count) => body_label(count)?,
+        Err(_) => return Err(Mem),
+    };
     let mut items = List::new(alloc);
     items.extend_from_slice(&[
         Item::Plain(Insn::MovWord(RBP, layout.stack as i64)),
         Item::Plain(Insn::MovWord(R12, layout.heap as i64)),
         Item::Plain(Insn::MovWord(R13, depth as i64)),
     ])?;
-    forms(&mut items, FIRST_LABEL, p.bodies.as_slice())?;
+    forms(&mut items, layout.stack, own, bodies)?;
     items.push(Item::Jump(Routine::End.label()))?;
     items.extend_from_slice(&put_items())?;
     Ok(items)
 }
 
-/// The items and data of a frame program under limits of heap and depth. RBP, R12 and R13 are set, the forms
-/// follow one after the other, and behind them the routine that puts any value.
+/// The items and data of a frame program under limits of heap and depth. RBP, R12 and R13 are set, the bodies
+/// follow one after the other, those of procedures jumped over, and behind them the routine that puts any value.
 ///
 /// Resolved with the run-time routines, they do what the program does, whatever the machine is given and
-/// whatever the kernel answers. Only straight programs have their code yet. Time and memory are linear in the
-/// instructions, the labels and the globals. The addresses of the data are numbers of 31 bits.
+/// whatever the kernel answers. Programs with calls, literals, symbols or objects have no code yet. Time and
+/// memory are linear in the instructions, the labels, the globals and the library. The addresses of the data are
+/// numbers of 31 bits.
 pub fn select(alloc: Global, p: &FrameProgram, limits: Limits) -> Result<Asm, Mem>
-    requires straight { IsTrue (is_straight_program (source p.now)) }
+    requires covered { IsTrue (is_covered_program (source p.now)) }
     ensures follows { IfOk result (λ a. FollowsFrames (source p.now) limits.heap limits.depth a.items a.words a.zeros) }
     ensures own { IfOk result (λ a. AreOwn a.items) }
-    ensures text { IfOk result (λ a. text_size a.items ≤ 512 + 64 * program_size (source p.now)) }
+    ensures text { IfOk result (λ a. text_size a.items ≤ 512 + 64 * (program_size (source p.now) + closures_in (source p.now).bodies)) }
+    ensures words { IfOk result (λ a. length a.words ≤ 101 + length p.now.statics.globals + 2 * length p.now.library) }
     ensures zeros { IfOk result (λ a. a.zeros ≡ program_zeros (source p.now) limits.heap) }
     ensures ends { IfOk result (λ a. data_address + (8 * length a.words + a.zeros) < 2 ^ 31) }
 {
     let globals = p.statics.globals.len();
-    let layout = lay_out(globals as u64, p.words, limits);
+    let library = p.library.len();
+    let layout = lay_out(globals as u64, library as u64, p.words, limits);
     let items = items_of(alloc, p, layout, limits.depth)?;
-    let words = words_of(alloc, globals)?;
+    let words = words_of(alloc, p, layout.closures)?;
     Ok(Asm {
         items,
         words,

@@ -1,14 +1,16 @@
-//! The items of bodies and of the forms of a program.
+//! The items of bodies.
 
 ghost use Rattle.std.specs.Prelude.{◌≡◌, ◌+◌, ◌++◌, ◌*◌, IfOk, OnOk, List, length};
 ghost use Rattle.sch_asm.specs.declared.item.Item.{Item};
 ghost use Rattle.sch_frames.specs.SourceView.{codes_of, code_of};
 ghost use Rattle.sch_select.specs.Select.{body_code, instruction_code, kind_of};
-ghost use Rattle.sch_select.specs.Program.{form_code, forms_code, labels_end};
+ghost use Rattle.sch_select.specs.Program.{form_code, forms_code, labels_end, passed_code};
 
-use crate::code::{above, operation, place_operand};
+use crate::code::{above, body_label, place_operand, second};
+use crate::heap::group;
+use crate::operation::operation;
 use sch_asm::{Item, MarkKind};
-use sch_control::MarkKind as ControlMark;
+use sch_control::{Entry, MarkKind as ControlMark};
 use sch_frames::{FrameBody, Instruction};
 use sch_insn::condition::E;
 use sch_insn::register::{R15, RAX, RCX};
@@ -32,19 +34,20 @@ fn kind_of(mark: ControlMark) -> MarkKind
     }
 }
 
-/// Where the labels of a body are: its own from `base` on, and `end` behind it.
+/// Where the labels of a body are, its own from `base` on, and `end` behind it; and where the heap ends.
 #[derive(Clone, Copy)]
-pub(crate) struct Labels {
-    pub base: u32,
-    pub end: u32,
+struct Labels {
+    base: u32,
+    end: u32,
+    heap_end: u32,
 }
 
 /// One instruction, whose own labels are from n on.
 fn instruction(out: &mut List<Item>, labels: Labels, n: u32, i: &Instruction) -> Result<(), Mem>
-    ensures { OnOk result ((rest : List Item) → out.new ++ rest ≡ out.old ++ instruction_code labels.base labels.end n i.now rest) }
+    ensures { OnOk result ((rest : List Item) → out.new ++ rest ≡ out.old ++ instruction_code labels.base labels.end labels.heap_end n i.now rest) }
 {
     match i {
-        Instruction::Do(o) => operation(out, n, o),
+        Instruction::Do(o) => operation(out, labels.heap_end, n, o),
         Instruction::Store(p) => {
             let place = place_operand(*p)?;
             out.push(Item::Plain(Insn::MovTo(place, RAX)))
@@ -55,6 +58,12 @@ fn instruction(out: &mut List<Item>, labels: Labels, n: u32, i: &Instruction) ->
             out.push(Item::Plain(Insn::MovFrom(RCX, from)))?;
             out.push(Item::Plain(Insn::MovTo(to, RCX)))
         }
+        Instruction::Load(p, o) => {
+            let place = place_operand(*p)?;
+            second(out, n, o)?;
+            out.push(Item::Plain(Insn::MovTo(place, RCX)))
+        }
+        Instruction::Fix(members) => group(out, labels.heap_end, members.as_slice()),
         Instruction::Return => out.push(Item::Plain(Insn::JumpTo(Arg::Reg(R15)))),
         Instruction::End => out.push(Item::Jump(labels.end)),
         Instruction::IfFalse(l) => {
@@ -82,7 +91,7 @@ fn body(
     n: u32,
     instructions: &[Instruction],
 ) -> Result<u32, Mem>
-    ensures items { OnOk result ((rest : List Item) → out.new ++ rest ≡ out.old ++ body_code labels.base labels.end n instructions.now rest) }
+    ensures items { OnOk result ((rest : List Item) → out.new ++ rest ≡ out.old ++ body_code labels.base labels.end labels.heap_end n instructions.now rest) }
     ensures next { IfOk result (λ m. m ≡ n + 12 * length instructions.now) }
 {
     let mut next = n;
@@ -93,28 +102,44 @@ fn body(
     Ok(next)
 }
 
-/// A form, whose labels are from n on, and the number behind these.
-fn form(out: &mut List<Item>, n: u32, b: &FrameBody) -> Result<u32, Mem>
-    ensures items { OnOk result ((rest : List Item) → out.new ++ rest ≡ out.old ++ form_code n (code_of b.now) rest) }
+/// A procedure's body is jumped over.
+fn passed(out: &mut List<Item>, entry: &Option<Entry>, end: u32) -> Result<(), Mem>
+    ensures { OnOk result ((rest : List Item) → out.new ++ rest ≡ out.old ++ passed_code entry.now end rest) }
+{
+    match entry {
+        None => Ok(()),
+        Some(_) => out.push(Item::Jump(end)),
+    }
+}
+
+/// The body of a label, with labels of its own from n on, and the number behind these.
+fn form(out: &mut List<Item>, heap_end: u32, label: u32, n: u32, b: &FrameBody) -> Result<u32, Mem>
+    ensures items { OnOk result ((rest : List Item) → out.new ++ rest ≡ out.old ++ form_code heap_end label n (code_of b.now) rest) }
     ensures next { IfOk result (λ m. m ≡ labels_end n (code_of b.now)) }
 {
     let end = above(n, b.labels)?;
     let first = above(end, 1)?;
-    let labels = Labels { base: n, end };
+    let labels = Labels {
+        base: n,
+        end,
+        heap_end,
+    };
+    passed(out, &b.entry, end)?;
+    let own = body_label(label)?;
+    out.extend_from_slice(&[Item::Label(own), Item::Mark(MarkKind::Enter(label))])?;
     let next = body(out, labels, first, b.instructions.as_slice())?;
     out.push(Item::Label(end))?;
     Ok(next)
 }
 
-/// The forms, in their order, with labels from n on.
-pub(crate) fn forms(out: &mut List<Item>, n: u32, bodies: &[FrameBody]) -> Result<(), Mem>
-    ensures { OnOk result ((rest : List Item) → out.new ++ rest ≡ out.old ++ forms_code 0 n (codes_of bodies.now) rest) }
+/// The bodies, in their order, with labels of their own from n on.
+pub(crate) fn forms(out: &mut List<Item>, heap_end: u32, n: u32, bodies: &[FrameBody]) -> Result<(), Mem>
+    ensures { OnOk result ((rest : List Item) → out.new ++ rest ≡ out.old ++ forms_code heap_end 0 n (codes_of bodies.now) rest) }
 {
     let mut next = n;
     let mut label = 0;
     for b in bodies {
-        out.push(Item::Mark(MarkKind::Enter(label)))?;
-        next = form(out, next, b)?;
+        next = form(out, heap_end, label, next, b)?;
         label = above(label, 1)?;
     }
     Ok(())

@@ -20,8 +20,8 @@ use Rattle.sch_control.specs.Tree as control
 use Rattle.sch_control.specs.Tree.{Expression, perform, bind, sequence, branch, fix, call, tail_call, return, end, save}
 use Rattle.sch_frames.specs.declared.instruction.Instruction.{Instruction}
 use Rattle.sch_frames.specs.declared.instruction.Instruction.TheVariants.{Store, Return, End, Jump, Label, Mark}
-use Rattle.sch_frames.specs.CallFree.{is_call_free_instruction, is_call_free_code, begins, code_begins}
-use Rattle.sch_frames.specs.Layout.{Slots, operand_at, source_at, sources_at, members_at, operation_at, labels, lay, entering, slots_base, slots_for}
+use Rattle.sch_frames.specs.CallFree.{is_call_free_instruction, begins, code_begins}
+use Rattle.sch_frames.specs.Layout.{Slots, operand_at, source_at, sources_at, members_at, operation_at, labels, lay, entering, slots_base, slots_for, slots_layout}
 use Rattle.sch_frames.specs.Sizes.{call_parts, calls_parts, entries_size}
 use Rattle.sch_frames.proofs.runs.Entering.{entering_passes}
 use Rattle.sch_frames.proofs.layouts.Laid.{Steers, Passes, lay_passes}
@@ -87,8 +87,8 @@ module _ (slots : Slots) where
   lay_begins (tail_call a) n test rest = refl
   lay_begins (save saves e) n test rest = lay_begins e n test rest
 
-pub slots_call_free : (c : control.Code) → control_call_free.is_call_free_code c ≡ true → is_call_free_code (slots_of c) ≡ true
-slots_call_free c h =
+pub slots_free : (c : control.Code) → control_call_free.is_call_free_code c ≡ true → list_all is_call_free_instruction (slots_layout c) ≡ true
+slots_free c h =
     entering_passes is_call_free_instruction (λ to from. refl) c.entry (slots_base c) _
     (lay_passes (slots_for c) is_call_free_instruction call_free_steers c.expression (parts_call_free (slots_for c) c.expression h) 0 None [] refl)
 

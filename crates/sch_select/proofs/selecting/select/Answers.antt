@@ -1,35 +1,42 @@
-use Rattle.std.proofs.Common.{◌+◌, ◌*◌, ◌^◌, ◌<◌, ◌≤◌, length, sym, subst}
-use Rattle.sch_word.specs.runs.ProgramLayout.{data_address}
+use Rattle.std.proofs.Common.{◌+◌, ◌*◌, ◌^◌, ◌<◌, ◌≤◌, length, sym, subst, arith}
 use Rattle.std.specs.Prelude.{IsTrue, false}
+use Rattle.sch_word.specs.runs.ProgramLayout.{data_address}
 use Rattle.sch_asm.specs.Items.{AreItems, AreKnown, AreOwn, IsEachOnce, labels_in, marks_arrive}
 use Rattle.sch_asm.specs.Codes.{text_size}
 use Rattle.sch_frames.specs.ProgramView.{source}
 use Rattle.sch_frames.specs.Sizes.{program_size}
 use Rattle.sch_select.specs.Follows.{FollowsFrames}
-use Rattle.sch_select.specs.Program.{program_code, program_words, program_zeros}
+use Rattle.sch_select.specs.Program.{program_words, program_zeros}
+use Rattle.sch_select.specs.Sizes.{closures_in}
+use Rattle.sch_select.proofs.CoveredPrograms.{covered_selected, globals_known, labels_known, library_small, procedures_known}
 use Rattle.sch_select.proofs.JoinedProgram.{frames_follow}
-use Rattle.sch_select.proofs.ProgramFacts.{all_forward, data_end, globals_few, program_own, whole_items, whole_words, whole_zeros, words_few}
+use Rattle.sch_select.proofs.ProgramFacts.{all_forward, bodies_count, data_end, globals_few, program_own, whole_items, whole_words, words_are, words_few}
 use Rattle.sch_select.proofs.ProgramKnown.{program_known}
 use Rattle.sch_select.proofs.ProgramLabels.{program_once}
 use Rattle.sch_select.proofs.ProgramMarks.{program_marked}
 use Rattle.sch_select.proofs.ProgramSound.{program_sound}
-use Rattle.sch_select.proofs.StraightPrograms.{straight_selected}
 use Rattle.sch_select.proofs.TextSize.{text_small}
 use Rattle.sch_select.proofs.selecting.select.Goals as goal
+
+pub lay_out-layout-requires-clause-few : goal.lay_out-layout-requires-clause-few
+lay_out-layout-requires-clause-few c = let e = c.len-globals.ensures in let f = globals_few c.args.p.now in omega (arith, e, f)
+
+pub lay_out-layout-requires-clause-library : goal.lay_out-layout-requires-clause-library
+lay_out-layout-requires-clause-library c = let e = c.len-library.ensures in let f = library_small c.args.p.now c.requires.covered in omega (arith, e, f)
 
 pub invariant_of-result : goal.invariant_of-result
 invariant_of-result c =
     let p = c.args.p.now in
     let q = source p in
     let l = c.args.limits in
-    let code = program_code q l.heap l.depth in
-    let i = sym (whole_items q l.heap l.depth _ _ _ _ c.lay_out-layout.ensures.stack c.lay_out-layout.ensures.heap c.len-globals.ensures c.in_ok-items.ensures) in
-    let w = sym (whole_words q _ _ c.len-globals.ensures c.in_ok-words.ensures) in
+    let i = sym (whole_items q l.heap l.depth _ _ _ _ _ _ c.lay_out-layout.ensures.stack c.lay_out-layout.ensures.heap c.len-globals.ensures c.len-library.ensures (sym (bodies_count p.bodies)) c.in_ok-items.ensures) in
+    let w = sym (whole_words q _ _ c.lay_out-layout.ensures.closures c.len-globals.ensures c.in_ok-words.ensures) in
+    let s = covered_selected p c.requires.covered in
     record {
-      sound = subst AreItems i (program_sound q l.heap l.depth (words_few p) (globals_few p) l.admitted.heap_high l.admitted.depth_high (straight_selected p c.requires.straight));
+      sound = subst AreItems i (program_sound q l.heap l.depth (words_few p) (globals_few p) (library_small p c.requires.covered) l.admitted.heap_high l.admitted.depth_high s);
       once = subst (λ is. IsEachOnce (labels_in is)) i (program_once q l.heap l.depth (all_forward p.bodies));
-      known = subst (λ ws. AreKnown c.in_ok-items.items ws) w (subst (λ is. AreKnown is (program_words q)) i (program_known q l.heap l.depth (all_forward p.bodies)));
-      marked = subst (λ is. IsTrue (marks_arrive false is)) i (program_marked q l.heap l.depth (straight_selected p c.requires.straight));
+      known = subst (λ ws. AreKnown c.in_ok-items.items ws) w (subst (λ is. AreKnown is (program_words q)) i (program_known q l.heap l.depth (all_forward p.bodies) (labels_known p) (procedures_known p)));
+      marked = subst (λ is. IsTrue (marks_arrive false is)) i (program_marked q l.heap l.depth s);
     }
 
 pub returns-clause-follows : goal.returns-clause-follows
@@ -37,39 +44,44 @@ returns-clause-follows c =
     let p = c.args.p.now in
     let q = source p in
     let l = c.args.limits in
-    let i = sym (whole_items q l.heap l.depth _ _ _ _ c.lay_out-layout.ensures.stack c.lay_out-layout.ensures.heap c.len-globals.ensures c.in_ok-items.ensures) in
-    let w = sym (whole_words q _ _ c.len-globals.ensures c.in_ok-words.ensures) in
-    let z = sym (whole_zeros q l.heap _ _ c.len-globals.ensures c.lay_out-layout.ensures.zeros) in
-    subst (λ z. FollowsFrames q l.heap l.depth c.in_ok-items.items c.in_ok-words.words z) z
+    let i = sym (whole_items q l.heap l.depth _ _ _ _ _ _ c.lay_out-layout.ensures.stack c.lay_out-layout.ensures.heap c.len-globals.ensures c.len-library.ensures (sym (bodies_count p.bodies)) c.in_ok-items.ensures) in
+    let w = sym (whole_words q _ _ c.lay_out-layout.ensures.closures c.len-globals.ensures c.in_ok-words.ensures) in
+    subst (λ z. FollowsFrames q l.heap l.depth c.in_ok-items.items c.in_ok-words.words z) (sym c.lay_out-layout.ensures.zeros)
     (subst (λ ws. FollowsFrames q l.heap l.depth c.in_ok-items.items ws (program_zeros q l.heap)) w
     (subst (λ is. FollowsFrames q l.heap l.depth is (program_words q) (program_zeros q l.heap)) i
-    (frames_follow q l.heap l.depth (words_few p) (globals_few p) l.admitted.heap_high l.admitted.depth_high (straight_selected p c.requires.straight))))
+    (frames_follow q l.heap l.depth (words_few p) (globals_few p) (library_small p c.requires.covered) l.admitted.heap_high l.admitted.depth_high (covered_selected p c.requires.covered) (globals_known p))))
 
 pub returns-clause-own : goal.returns-clause-own
 returns-clause-own c =
     let p = c.args.p.now in
     let q = source p in
     let l = c.args.limits in
-    let i = sym (whole_items q l.heap l.depth _ _ _ _ c.lay_out-layout.ensures.stack c.lay_out-layout.ensures.heap c.len-globals.ensures c.in_ok-items.ensures) in
+    let i = sym (whole_items q l.heap l.depth _ _ _ _ _ _ c.lay_out-layout.ensures.stack c.lay_out-layout.ensures.heap c.len-globals.ensures c.len-library.ensures (sym (bodies_count p.bodies)) c.in_ok-items.ensures) in
     subst AreOwn i (program_own q l.heap l.depth (all_forward p.bodies))
-
-pub returns-clause-ends : goal.returns-clause-ends
-returns-clause-ends c =
-    let p = c.args.p.now in
-    let q = source p in
-    let l = c.args.limits in
-    let w = sym (whole_words q _ _ c.len-globals.ensures c.in_ok-words.ensures) in
-    let z = sym (whole_zeros q l.heap _ _ c.len-globals.ensures c.lay_out-layout.ensures.zeros) in
-    subst (λ ws. data_address + (8 * length ws + c.lay_out-layout.result.zeros) < 2 ^ 31) w
-    (subst (λ z. data_address + (8 * length (program_words q) + z) < 2 ^ 31) z (data_end q l.heap (words_few p) (globals_few p) l.admitted.heap_high))
 
 pub returns-clause-text : goal.returns-clause-text
 returns-clause-text c =
     let p = c.args.p.now in
     let q = source p in
     let l = c.args.limits in
-    let i = sym (whole_items q l.heap l.depth _ _ _ _ c.lay_out-layout.ensures.stack c.lay_out-layout.ensures.heap c.len-globals.ensures c.in_ok-items.ensures) in
-    subst (λ is. text_size is ≤ 512 + 64 * program_size q) i (text_small q l.heap l.depth)
+    let i = sym (whole_items q l.heap l.depth _ _ _ _ _ _ c.lay_out-layout.ensures.stack c.lay_out-layout.ensures.heap c.len-globals.ensures c.len-library.ensures (sym (bodies_count p.bodies)) c.in_ok-items.ensures) in
+    subst (λ is. text_size is ≤ 512 + 64 * (program_size q + closures_in q.bodies)) i (text_small q l.heap l.depth)
+
+pub returns-clause-words : goal.returns-clause-words
+returns-clause-words c =
+    let q = source c.args.p.now in
+    let w = sym (whole_words q _ _ c.lay_out-layout.ensures.closures c.len-globals.ensures c.in_ok-words.ensures) in
+    let n = words_are q in
+    subst (λ ws. length ws ≤ 101 + length q.statics.globals + 2 * length q.library) w (omega (arith, n))
+
+pub returns-clause-ends : goal.returns-clause-ends
+returns-clause-ends c =
+    let p = c.args.p.now in
+    let q = source p in
+    let l = c.args.limits in
+    let w = sym (whole_words q _ _ c.lay_out-layout.ensures.closures c.len-globals.ensures c.in_ok-words.ensures) in
+    subst (λ ws. data_address + (8 * length ws + c.lay_out-layout.result.zeros) < 2 ^ 31) w
+    (subst (λ z. data_address + (8 * length (program_words q) + z) < 2 ^ 31) (sym c.lay_out-layout.ensures.zeros) (data_end q l.heap (words_few p) (globals_few p) (library_small p c.requires.covered) l.admitted.heap_high))
 
 pub returns-clause-zeros : goal.returns-clause-zeros
-returns-clause-zeros c = whole_zeros (source c.args.p.now) c.args.limits.heap _ _ c.len-globals.ensures c.lay_out-layout.ensures.zeros
+returns-clause-zeros c = c.lay_out-layout.ensures.zeros

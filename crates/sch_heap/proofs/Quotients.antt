@@ -9,9 +9,9 @@ use lib.IntN.{neg_ℤ}
 use Rattle.sch_insn.specs.Machine.{is_negative, differ, magnitude, signed, product_of}
 use Rattle.sch_insn.specs.Step.{quotient_of, dividend_magnitude, is_quotient, sign_word}
 use Rattle.sch_asm.specs.Data.{FixnumWord}
-use Rattle.sch_select.proofs.Signs.{positive, negative, low_word, high_word}
-use Rattle.sch_select.proofs.Sums.{Computes}
-use Rattle.sch_select.proofs.Products.{IsNear, IsNumber, product_computes}
+use Rattle.sch_heap.proofs.Signs.{positive, negative, low_word, high_word}
+use Rattle.sch_heap.proofs.Sums.{Computes}
+use Rattle.sch_heap.proofs.Products.{IsNear, IsNumber, product_computes}
 
 -- a multiple of eight by another
 part : (m n : ℕ) → 8 * m / (8 * n) ≡ m / n

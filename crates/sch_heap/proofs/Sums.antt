@@ -8,7 +8,7 @@ use Rattle.sch_word.specs.values.Fixnum.{IsFixnum, is_fixnum}
 use Rattle.sch_word.proofs.values.Fixnums.{is_fixnum_holds}
 use Rattle.sch_insn.specs.Machine.{Computed, is_negative, differ, add64, sub64, sum_of, difference_of}
 use Rattle.sch_asm.specs.Data.{IsShifted, FixnumWord}
-use Rattle.sch_select.proofs.Signs.{IsLow, IsHigh, positive, negative, not_fixnum, least, most, low_small, high_large}
+use Rattle.sch_heap.proofs.Signs.{IsLow, IsHigh, positive, negative, not_fixnum, least, most, low_small, high_large}
 
 -- What was computed is the word of a number, and overflow is set where that is no fixnum.
 pub record Computes (n : ℤ) (c : Computed) : Type 0 where

@@ -11,8 +11,8 @@ use Rattle.sch_word.specs.values.Fixnum.{IsFixnum, is_fixnum}
 use Rattle.sch_word.proofs.values.Fixnums.{is_fixnum_says, is_fixnum_holds}
 use Rattle.sch_insn.specs.Machine.{is_negative, differ, magnitude, product_fits, product_of, shift_right_signed}
 use Rattle.sch_asm.specs.Data.{FixnumWord}
-use Rattle.sch_select.proofs.Signs.{positive, negative, not_fixnum, low_word, high_word}
-use Rattle.sch_select.proofs.Sums.{Computes}
+use Rattle.sch_heap.proofs.Signs.{positive, negative, not_fixnum, low_word, high_word}
+use Rattle.sch_heap.proofs.Sums.{Computes}
 
 -- The number itself, in two's complement of 64 bits.
 abbrev pub IsNumber : ℤ → ℕ → Type 0

@@ -6,7 +6,7 @@ use Rattle.std.proofs.Common.{eq-eqb}
 use Rattle.std.proofs.lemmas.Int.{ints}
 use Rattle.sch_insn.specs.Machine.{is_negative, differ, sub64, difference_of, condition, test_of}
 use Rattle.sch_asm.specs.Data.{FixnumWord}
-use Rattle.sch_select.proofs.Signs.{IsLow, IsHigh, positive, negative, low_small, high_large}
+use Rattle.sch_heap.proofs.Signs.{IsLow, IsHigh, positive, negative, low_small, high_large}
 
 -- ---- tests of numbers
 

@@ -1,0 +1,50 @@
+//! The words of constants.
+
+ghost use Rattle.std.specs.Prelude.{◌≡◌};
+ghost use Rattle.sch_heap.specs.Encoded.{constant_number};
+
+use sch_word::Const;
+
+/// The words of values that are no fixnums, as `specs/Encoded` has them.
+pub mod word {
+    /// `#f`.
+    pub const FALSE: i32 = 6;
+
+    /// `#t`.
+    pub const TRUE: i32 = 134;
+
+    /// The empty list.
+    pub const NIL: i32 = 22;
+
+    /// The unspecified value.
+    pub const UNSPECIFIED: i32 = 30;
+
+    /// What stands where a global or a cell has no value.
+    pub const UNSET: i32 = 38;
+
+    /// The low byte of a character's word.
+    pub const CHARACTER: i32 = 46;
+
+    /// The low three bits of a procedure's word.
+    pub const PROCEDURE: i32 = 4;
+
+    /// The low three bits of a cell's word.
+    pub const CELL: i32 = 7;
+}
+
+use word::{CHARACTER, FALSE, NIL, TRUE, UNSPECIFIED};
+
+/// The word of a constant, as a number with a sign. Symbols have none yet.
+pub fn constant_number(c: Const) -> i64
+    ensures { result ≡ constant_number c }
+{
+    match c {
+        Const::Fixnum(n) => 8 * n.get(),
+        Const::Character(byte) => 256 * byte as i64 + CHARACTER as i64,
+        Const::Boolean(true) => TRUE as i64,
+        Const::Boolean(false) => FALSE as i64,
+        Const::Nil => NIL as i64,
+        Const::Unspecified => UNSPECIFIED as i64,
+        Const::Symbol(_) => 0,
+    }
+}

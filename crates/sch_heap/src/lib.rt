@@ -1,0 +1,7 @@
+//! The words of values, and the heap: which part is whose, and what it holds.
+#![tactic(auto)]
+
+mod constant;
+
+pub use constant::constant_number;
+pub use constant::word;

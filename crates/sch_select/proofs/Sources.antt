@@ -1,0 +1,220 @@
+-- What a closure captures is read, and the heap is tested for room.
+use Rattle.std.proofs.Common.{◌≡◌, ℕ, ◌+◌, ◌*◌, ◌%◌, ◌^◌, ◌<◌, ◌≤◌, List, [], ◌∷◌, Bool, true, false, cond, Option, Some, None, refl, sym, ap, ◌∙◌, subst, arith, ◌==◌, eq-eqb}
+use Rattle.std.specs.Prelude.{pos, not, nat_le, nat_lt, slice_get}
+use Rattle.std.proofs.lemmas.Bool.{and_parts}
+use Rattle.std.proofs.lemmas.Option.{slice_get_within}
+use Rattle.sch_word.specs.declared.place.Place.{Place}
+use Rattle.sch_word.specs.declared.stop.Stop.TheVariants.{HeapLimit}
+use Rattle.sch_word.specs.values.Values.{Value, fixnum, character, boolean, nil, unspecified, symbol, object, procedure, cell}
+use Rattle.sch_word.specs.runs.Computation.{State}
+use Rattle.sch_control.specs.declared.operation.Source.{Source}
+use Rattle.sch_control.specs.declared.operation.Source.TheVariants as source
+use Rattle.sch_control.specs.Operations.{Procedure, field, field_of, atom_value, source_value}
+use Rattle.sch_frames.specs.Meaning.{Cell, Is, Link, Junk, Frame, value_in, held}
+use Rattle.sch_frames.specs.Valid.{is_place}
+use Rattle.sch_insn.specs.declared.condition.TheConstants.{A}
+use Rattle.sch_insn.specs.declared.insn.Arg.TheVariants.{Reg, Base32}
+use Rattle.sch_insn.specs.declared.insn.Insn.TheVariants.{MovTo, MovFrom, AddNumber, CmpNumber}
+use Rattle.sch_insn.specs.declared.machine.Flags.{Flags}
+use Rattle.sch_insn.specs.Machine.{set_register, sum_of, difference_of, condition, add64, word}
+use Rattle.sch_insn.proofs.Conditions.{compared_a}
+use Rattle.sch_insn.proofs.Paths.{leads_on}
+use Rattle.sch_asm.specs.declared.item.Item.{Item}
+use Rattle.sch_asm.specs.declared.item.Item.TheVariants as item
+use Rattle.sch_asm.specs.declared.item.MarkKind.{MarkKind}
+use Rattle.sch_asm.specs.Stands.{Stands}
+use Rattle.sch_asm.specs.Data.{word_in}
+use Rattle.sch_asm.specs.Views.{View, Leads}
+use Rattle.sch_asm.proofs.EachItem.{goes, branches, loads_word}
+use Rattle.sch_heap.specs.Parts.{Parts, a_procedure}
+use Rattle.sch_heap.specs.Encoded.{IsWord, Names}
+use Rattle.sch_heap.specs.Heap.{field_address}
+use Rattle.sch_heap.proofs.Spots.{spot_within}
+use Rattle.sch_heap.proofs.Contents.{Stay, words_by}
+use Rattle.sch_select.specs.Select.{source_code, check_heap, stop_label}
+use Rattle.sch_select.proofs.Straight.{Halts, Kept, kept_set, kept_then, moved_to}
+use Rattle.sch_select.proofs.Places.{Plan, Room, StoreAt, PlacesAt, Holds, loaded}
+use Rattle.sch_select.proofs.Operands.{Atomic, atomic}
+use Rattle.sch_select.proofs.HeapWrites.{heap_inside}
+use Rattle.sch_select.proofs.Selected.{source_selected}
+
+-- one register alone
+abbrev pub is_one : ℕ → ℕ → Bool
+is_one r k = k == r
+
+pub set_one : (registers : ℕ → ℕ) (r v : ℕ) → set_register registers r v r ≡ v
+set_one registers r v = ap (λ b. cond b v (registers r)) (eq-eqb r r refl)
+
+-- the procedure whose field is read
+record Reads (o : Option Value) (k : ℕ) (procedures : List Procedure) (v : Value) : Type 0 where
+  n : ℕ
+  p : Procedure
+  is : o ≡ Some (procedure n)
+  there : slice_get procedures n ≡ Some p
+  value : slice_get p.fields k ≡ Some v
+
+field_reads : (o : Option Value) (k : ℕ) (procedures : List Procedure) (v : Value) → field o k procedures ≡ Some v → Reads o k procedures v
+field_reads (Some (procedure n)) k procedures v e = by (slice_get procedures n) refl e
+  where
+    by : (q : Option Procedure) → slice_get procedures n ≡ q → field_of q k ≡ Some v → Reads (Some (procedure n)) k procedures v
+    by None s e = absurd (let bad : None ≡ Some v = e in cc)
+    by (Some p) s e = record { n = n; p = p; is = refl; there = s; value = e }
+field_reads None k procedures v e = absurd (let bad : None ≡ Some v = e in cc)
+field_reads (Some (fixnum m)) k procedures v e = absurd (let bad : None ≡ Some v = e in cc)
+field_reads (Some (character m)) k procedures v e = absurd (let bad : None ≡ Some v = e in cc)
+field_reads (Some (boolean m)) k procedures v e = absurd (let bad : None ≡ Some v = e in cc)
+field_reads (Some nil) k procedures v e = absurd (let bad : None ≡ Some v = e in cc)
+field_reads (Some unspecified) k procedures v e = absurd (let bad : None ≡ Some v = e in cc)
+field_reads (Some (symbol m)) k procedures v e = absurd (let bad : None ≡ Some v = e in cc)
+field_reads (Some (object m)) k procedures v e = absurd (let bad : None ≡ Some v = e in cc)
+field_reads (Some (cell m)) k procedures v e = absurd (let bad : None ≡ Some v = e in cc)
+
+-- The places may hold words of parts that the state has not yet.
+module _ (plan : Plan) (back fr d : ℕ) (back_fits : back < 2 ^ 64) (room : Room plan fr d) (old parts : Parts) (stay : Stay old parts) where
+  open plan use {setting, size, words, globals, closures, heap, stack, near}
+
+  abbrev Std : List MarkKind → ℕ → List Item → Type 0
+  Std waiting a is = Stands setting waiting a is
+
+  -- a register has a word of the value, and the others keep theirs
+  pub record Sourced (r : ℕ) (x : View) (waiting : List MarkKind) (v : Value) (rest : List Item) : Type 0 where
+    pub registers : ℕ → ℕ
+    pub place : ℕ
+    pub least : ℕ
+    pub steps : ℕ
+    pub leads : Leads setting least steps waiting x (moved_to x registers x.flags place)
+    pub few : steps ≤ 2
+    pub kept : Kept (is_one r) x.registers registers
+    pub value : IsWord parts v (registers r)
+    pub ahead : Std [] place rest
+
+  abbrev pub Sources : ℕ → View → List MarkKind → List Item → Option Value → Type 0
+  Sources r x waiting rest None = Unit {0}
+  Sources r x waiting rest (Some v) = Sourced r x waiting v rest
+
+  -- a field of the record that a word names
+  field_word : (s : State Procedure) (x : View) (n k : ℕ) (p : Procedure) (v : Value) (w : ℕ) → StoreAt plan old s x.bytes x.output x.answers → slice_get s.procedures n ≡ Some p → slice_get p.fields k ≡ Some v → Names parts (a_procedure n) 4 w
+      → (unit : ℕ) × (w ≡ 16 * unit + 4) × (closures ≤ field_address unit k) × (field_address unit k + 8 ≤ stack) × IsWord parts v (word_in x.bytes (field_address unit k))
+  field_word s x n k p v w g e f name =
+      let r = g.contents.procedure n p e in
+      let inside = spot_within old (a_procedure n) r.at r.there in
+      let low = inside.0 in let high = inside.1 in let room = r.room in
+      let lt = slice_get_within p.fields k v f in
+      let same : Some name.at ≡ Some r.at = sym name.there ∙ stay (a_procedure n) r.at r.there in
+      let at : name.at ≡ r.at = cc in
+      let b = g.begins in let z = g.ends in let i = g.within in
+      (r.at.unit, name.is ∙ ap (λ s. 16 * s.unit + 4) at, omega (arith, low, b), omega (arith, high, room, lt, z, i), words_by old parts stay v _ (r.field k v f))
+
+  pub source_here : (r : ℕ) (q : Source Place) (charged : ℕ) (f : Frame) (s : State Procedure) (x : View) (waiting : List MarkKind) (rest : List Item) → source_selected words globals q ≡ true → PlacesAt plan back fr d back_fits room parts charged f.places x.registers x.bytes → StoreAt plan old s x.bytes x.output x.answers → Std waiting x.place (source_code r q rest) → Sources r x waiting rest (source_value (held f) s q)
+  source_here r (source.Atom a) charged f s x waiting rest e p g h = by (atom_value (held f) s.store a) refl
+    where
+      l : Atomic plan back fr d back_fits room parts r x waiting rest (atom_value (held f) s.store a)
+      l = atomic plan back fr d back_fits room parts r a charged f s.store x waiting rest e p g.size_is h
+
+      by : (o : Option Value) → atom_value (held f) s.store a ≡ o → Sources r x waiting rest o
+      by None i = tt
+      by (Some v) i = record {
+        registers = set_register x.registers r l.value;
+        place = l.place;
+        least = 1;
+        steps = 1;
+        leads = l.leads;
+        few = omega arith;
+        kept = kept_set (is_one r) x.registers r l.value (eq-eqb r r refl);
+        value = subst (IsWord parts v) (sym (set_one x.registers r l.value)) (l.word v i);
+        ahead = l.ahead;
+      }
+  source_here r (source.Field q k) charged f s x waiting rest e p g h = by (field (held f q) k s.procedures) refl
+    where
+      behind : List Item
+      behind = item.Plain (MovFrom r (Base32 r (pos (4 + 8 * k)))) ∷ rest
+
+      by : (o : Option Value) → field (held f q) k s.procedures ≡ o → Sources r x waiting rest o
+      by None i = tt
+      by (Some v) i =
+          let l = loaded plan back fr d back_fits room parts charged f.places q r x waiting behind (and_parts (is_place words q) (nat_lt k 1000) e).0 p g.size_is h in
+          let reads = field_reads (held f q) k s.procedures v i in
+          let hv = by_cell (f.places q) l.value (procedure reads.n) l.holds reads.is in
+          let w = field_word s x reads.n k reads.p v l.value g reads.there reads.value hv in
+          let y = moved_to x (set_register x.registers r l.value) x.flags l.place in
+          let a = field_address w.0 k in
+          let v0 : set_register x.registers r l.value r ≡ 16 * w.0 + 4 = set_one x.registers r l.value ∙ w.1 in
+          let top = plan.near in let w3 = w.3 in
+          let named : add64 (y.registers r) (word (pos (4 + 8 * k))) ≡ a = ap (λ n. add64 n (word (pos (4 + 8 * k)))) v0 ∙ (let m : (16 * w.0 + 4 + (4 + 8 * k)) % 2 ^ 64 ≡ field_address w.0 k = omega (arith, w3, top) in m) in
+          let n = word_in x.bytes a in
+          record {
+            registers = set_register y.registers r n;
+            place = l.place + l.ahead.0;
+            least = 2;
+            steps = 2;
+            leads = leads_on setting.marks l.leads (loads_word setting y r l.ahead.0 a (Base32 r (pos (4 + 8 * k))) [] l.ahead.1 named (heap_inside plan back fr d back_fits room a x.bytes g.size_is w.2 w.3));
+            few = omega arith;
+            kept = kept_then (is_one r) x.registers y.registers (set_register y.registers r n) (kept_set (is_one r) x.registers r l.value (eq-eqb r r refl)) (kept_set (is_one r) y.registers r n (eq-eqb r r refl));
+            value = subst (IsWord parts v) (sym (set_one y.registers r n)) w.4;
+            ahead = l.ahead.2;
+          }
+        where
+          by_cell : (c : Cell) (n : ℕ) (v : Value) → Holds back parts c n → value_in c ≡ Some v → IsWord parts v n
+          by_cell (Is u) n v h e = let same : u ≡ v = cc in subst (λ v. IsWord parts v n) same h
+          by_cell Link n v h e = absurd (let bad : None ≡ Some v = e in cc)
+          by_cell Junk n v h e = absurd (let bad : None ≡ Some v = e in cc)
+
+  -- ---- room in the heap
+
+  -- RDX has where a new part would end
+  pub record HasRoom (x : View) (waiting : List MarkKind) (rest : List Item) : Type 0 where
+    pub registers : ℕ → ℕ
+    pub flags : Flags
+    pub place : ℕ
+    pub leads : Leads setting 4 4 waiting x (moved_to x registers flags place)
+    pub kept : Kept (is_one 2) x.registers registers
+    pub ahead : Std [] place rest
+
+  abbrev pub Tested : Bool → View → List MarkKind → List Item → Type 0
+  Tested true x waiting rest = HasRoom x waiting rest
+  Tested false x waiting rest = Halts setting x waiting 4 HeapLimit
+
+  pub room_here : (next bytes : ℕ) (x : View) (waiting : List MarkKind) (rest : List Item) → x.registers 12 ≡ next → next ≤ stack → bytes < 2 ^ 31 → Std waiting x.place (check_heap stack bytes rest) → Tested (nat_le (next + bytes) stack) x waiting rest
+  room_here next bytes x waiting rest at low small h = by (nat_le (next + bytes) stack) refl
+    where
+      y : View
+      y = moved_to x (set_register x.registers 2 (x.registers 12)) x.flags (x.place + h.0)
+
+      sum : ℕ
+      sum = (sum_of (x.registers 12) bytes).value
+
+      z : View
+      z = moved_to x (set_register y.registers 2 sum) (sum_of (x.registers 12) bytes).flags (y.place + h.2.0)
+
+      u : View
+      u = moved_to x z.registers (difference_of sum stack).flags (z.place + h.2.2.0)
+
+      sum_is : sum ≡ next + bytes
+      sum_is = let n = plan.near in omega (arith, at, low, small, n)
+
+      first : Leads setting 3 3 waiting x u
+      first = leads_on setting.marks (leads_on setting.marks (goes setting x y (MovTo (Reg 2) 12) h.0 waiting h.1 refl) (goes setting y z (AddNumber (Reg 2) (pos bytes)) h.2.0 [] h.2.1 refl)) (goes setting z u (CmpNumber (Reg 2) (pos stack)) h.2.2.0 [] h.2.2.1 refl)
+
+      kept : Kept (is_one 2) x.registers z.registers
+      kept = kept_then (is_one 2) x.registers y.registers z.registers (kept_set (is_one 2) x.registers 2 (x.registers 12) refl) (kept_set (is_one 2) y.registers 2 sum refl)
+
+      above : (b : Bool) → nat_le (next + bytes) stack ≡ b → condition u.flags A ≡ Some (not b)
+      above b e = compared_a sum stack (let n = plan.near in let s = sum_is in omega (arith, s, low, small, n)) (let n = plan.near in omega (arith, n)) ∙ ap (λ k. Some (not (nat_le k stack))) sum_is ∙ ap (λ b. Some (not b)) e
+
+      by : (b : Bool) → nat_le (next + bytes) stack ≡ b → Tested b x waiting rest
+      by true e = record {
+        registers = z.registers;
+        flags = u.flags;
+        place = u.place + h.2.2.2.0;
+        leads = leads_on setting.marks first (branches setting u A (stop_label HeapLimit) rest [] false h.2.2.2 (above true e));
+        kept = kept;
+        ahead = h.2.2.2.4;
+      }
+      by false e = record {
+        registers = z.registers;
+        flags = u.flags;
+        least = 4;
+        steps = 4;
+        leads = leads_on setting.marks first (branches setting u A (stop_label HeapLimit) rest [] true h.2.2.2 (above false e));
+        few = omega arith;
+      }

@@ -1,0 +1,70 @@
+-- Which frame programs have their code yet: those without calls, literals, symbols and objects. Bodies of
+-- procedures are laid out, and closures of them are made, though nothing enters them.
+use Rattle.std.specs.Prelude.{ℕ, Bool, true, false, ◌&&◌, not, nat_le, nat_lt, List, [], ◌∷◌, length}
+use Rattle.std.specs.List.{list_all}
+use Rattle.sch_word.specs.declared.place.Place.{Place}
+use Rattle.sch_word.specs.trees.Shape.{max_free_variables}
+use Rattle.sch_control.specs.declared.operation.Source.{Source}
+use Rattle.sch_control.specs.declared.operation.Source.TheVariants as source
+use Rattle.sch_control.specs.declared.operation.Closure.{Closure}
+use Rattle.sch_control.specs.declared.operation.Member.{Member}
+use Rattle.sch_control.specs.declared.operation.Operation.{Operation}
+use Rattle.sch_control.specs.declared.operation.Operation.TheVariants as operation
+use Rattle.sch_control.specs.Straight.{is_straight_atom, is_straight_operand, is_straight_operation}
+use Rattle.sch_frames.specs.declared.instruction.Instruction.{Instruction}
+use Rattle.sch_frames.specs.declared.instruction.Instruction.TheVariants.{Do, Load, Pass, Fix, Call, Tail, Label, Mark}
+use Rattle.sch_frames.specs.Tree.{Code}
+use Rattle.sch_frames.specs.Tree as tree
+
+-- ## Operations
+
+-- a field has one of the numbers that fields have
+abbrev pub is_covered_source : Source Place → Bool
+is_covered_source (source.Atom a) = is_straight_atom a
+is_covered_source (source.Field p k) = nat_lt k max_free_variables
+
+abbrev pub is_covered_closure : Closure Place → Bool
+is_covered_closure c = list_all is_covered_source c.fields
+
+abbrev pub is_covered_group : List (Member Place) → Bool
+is_covered_group = list_all (λ m. is_covered_closure m.closure)
+
+abbrev pub is_covered_operation : Operation Place → Bool
+is_covered_operation (operation.Field p k) = nat_lt k max_free_variables
+is_covered_operation (operation.NewCell x) = is_covered_source x
+is_covered_operation operation.UnsetCell = true
+is_covered_operation (operation.CellGet x) = is_covered_source x
+is_covered_operation (operation.CellSet x o) = is_covered_source x && is_straight_operand o
+is_covered_operation (operation.MakeClosure c) = is_covered_closure c
+is_covered_operation o = is_straight_operation o
+
+-- ## Bodies
+
+abbrev pub is_covered_instruction : Instruction → Bool
+is_covered_instruction (Do o) = is_covered_operation o
+is_covered_instruction (Load p o) = is_straight_operand o
+is_covered_instruction (Pass k o) = false
+is_covered_instruction (Fix members) = is_covered_group members
+is_covered_instruction (Call spread count) = false
+is_covered_instruction (Tail spread count) = false
+is_covered_instruction _ = true
+
+-- Each mark has an instruction behind it, and no label between. Whether one waits for the first instruction.
+abbrev pub marks_settled : (waiting : Bool) → List Instruction → Bool
+marks_settled waiting [] = not waiting
+marks_settled waiting (Mark m ∷ instructions) = marks_settled true instructions
+marks_settled waiting (Label l ∷ instructions) = not waiting && marks_settled false instructions
+marks_settled waiting (_ ∷ instructions) = marks_settled false instructions
+
+-- the mark of the body itself waits for its first instruction
+abbrev pub is_covered_code : Code → Bool
+is_covered_code c = list_all is_covered_instruction c.instructions && marks_settled true c.instructions
+
+-- ## Programs
+
+-- so many procedures a library may have
+abbrev pub max_library : ℕ
+max_library = 1048576
+
+abbrev pub is_covered_program : tree.Source → Bool
+is_covered_program p = nat_le (length p.library) max_library && list_all is_covered_code p.bodies
