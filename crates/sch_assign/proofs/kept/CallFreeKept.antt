@@ -1,5 +1,5 @@
 -- Call-free code stays call-free.
-use Rattle.std.proofs.Common.{◌≡◌, ℕ, Bool, true, refl}
+use Rattle.std.proofs.Common.{◌≡◌, ℕ, Bool, true, false, refl}
 use Rattle.std.specs.Prelude.{IsTrue, ◌&&◌}
 use Rattle.sch_word.specs.trees.Shape.{Shape}
 use Rattle.sch_word.specs.trees.Straight.{is_call_free_node}

@@ -1,13 +1,12 @@
 -- In the layout of a valid call-free body each field has a number that a field may have, and each mark has an
 -- instruction behind it.
-use Rattle.std.proofs.Common.{◌≡◌, ◌≤◌, ℕ, zero, suc, ◌+◌, List, [], ◌∷◌, Option, Some, None, Bool, true, false, refl, ap, ◌∙◌, arith}
-use Rattle.std.specs.Prelude.{◌&&◌, not, nat_lt, nat_le, nat_eq}
+use Rattle.std.proofs.Common.{◌≡◌, ◌≤◌, ℕ, zero, suc, List, [], ◌∷◌, Option, Some, None, true, false, refl, arith}
+use Rattle.std.specs.Prelude.{◌&&◌, nat_lt, nat_le, nat_eq}
 use Rattle.std.specs.List.{list_all}
 use Rattle.std.proofs.lemmas.Bool.{and_parts, and_from, ltb-true, lt-ltb, leb-true}
 use Rattle.sch_word.specs.declared.place.Place.{Place}
 use Rattle.sch_word.specs.trees.Shape.{max_operands, max_free_variables}
 use Rattle.sch_control.specs.declared.body.Entry.{Entry}
-use Rattle.sch_control.specs.declared.mark.MarkKind.TheVariants as mark
 use Rattle.sch_control.specs.declared.operation.Member.{Member}
 use Rattle.sch_control.specs.declared.operation.Operation.{Operation}
 use Rattle.sch_control.specs.declared.operation.Operation.TheVariants as operation
@@ -17,11 +16,11 @@ use Rattle.sch_control.specs.CallFree as control_call_free
 use Rattle.sch_control.specs.CallFree.{is_call_free}
 use Rattle.sch_control.specs.Tree as control
 use Rattle.sch_control.specs.Tree.{Expression, perform, bind, sequence, branch, fix, call, tail_call, return, end, save}
-use Rattle.sch_control.specs.Valid.{source_field, closure_fields, operation_field, group_fields, fields_of, fields_there, entry_shaped, fields_known, shaped_whole, shaped}
+use Rattle.sch_control.specs.Valid.{source_field, operation_field, group_fields, fields_of, fields_there, entry_shaped, fields_known, shaped_whole, shaped}
 use Rattle.sch_frames.specs.declared.instruction.Instruction.{Instruction}
-use Rattle.sch_frames.specs.declared.instruction.Instruction.TheVariants.{Store, Return, End, Jump, Label, Mark}
-use Rattle.sch_frames.specs.CallFree.{is_call_free_instruction, is_call_free_code, source_low, closure_low, member_low, operation_low, instruction_low, marks_settled, begins}
-use Rattle.sch_frames.specs.Layout.{Slots, source_at, sources_at, members_at, operation_at, labels, lay, leave, arrivals, entering, slots_base, slots_for, slots_layout}
+use Rattle.sch_frames.specs.declared.instruction.Instruction.TheVariants.{Label, Mark}
+use Rattle.sch_frames.specs.CallFree.{is_call_free_code, source_low, member_low, operation_low, instruction_low, marks_settled, begins}
+use Rattle.sch_frames.specs.Layout.{Slots, source_at, sources_at, members_at, operation_at, lay, leave, arrivals, entering, slots_base, slots_for, slots_layout}
 use Rattle.sch_frames.proofs.runs.Entering.{entering_passes}
 use Rattle.sch_frames.proofs.layouts.CallFreeSlots.{slots_free, slots_begin}
 use Rattle.sch_frames.proofs.layouts.Laid.{Steers, Passes, lay_passes}
