@@ -47,7 +47,7 @@ dropped_is starts e n scope value p h body = rw (h, p) refl
 
 -- new cells, one after another
 module _ (scope : Scope) (items : List flat_cell.NewCell) (i : ℕ) (c : flat_cell.NewCell) (l : i < length items) (is : c ≡ get_or items i c) where
-  pub cells_turn : (at at' : ℕ) (steps steps' : List Step) (s : Step) (whole : Expression → Expression) → at' ≡ at + 1 → s.variable ≡ Some at → expression s.value ≡ to.perform (cell_operation scope (new_cell c).content) → steps' ≡ steps ++ s ∷ []
+  pub cells_turn : (at at' : ℕ) (steps steps' : List Step) (s : Step) (whole : Expression → Expression) → at' ≡ at + 1 → s.variable ≡ Some at → expression s.value.value ≡ to.perform (cell_operation scope (new_cell c).content) → steps' ≡ steps ++ s ∷ []
       → ((body : Expression) → after steps (with_new_cells scope (map new_cell (drop i items)) at body) ≡ whole body) → (body : Expression) → after steps' (with_new_cells scope (map new_cell (drop (i + 1) items)) at' body) ≡ whole body
   cells_turn at at' steps steps' s whole n v p h k body =
       let k' = next_left items i (λ r. after steps (with_new_cells scope (map new_cell r) at body) ≡ whole body) c l is (k body) in

@@ -13,7 +13,7 @@ step_before (Some x) value body = to.bind x value body
 step_before None value body = to.sequence value body
 
 abbrev pub before : Step → Expression → Expression
-before s body = step_before s.variable (expression s.value) body
+before s body = step_before s.variable (expression s.value.value) body
 
 -- an expression after some steps, of which the first is the outermost
 abbrev pub after : List Step → Expression → Expression

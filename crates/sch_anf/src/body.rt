@@ -47,7 +47,7 @@ fn normalize_procedure(
         name,
         entry: Some(entry),
         variables: v.next,
-        exp,
+        exp: Box::into_inner(exp),
     })
 }
 
@@ -67,7 +67,7 @@ fn normalize_form(
 {
     v.begin();
     let exp = normalize_expression(alloc, starts, e, false, v)?;
-    let exp = control::Exp::End(Box::new(alloc, exp)?);
+    let exp = control::Exp::End(exp);
     let name = List::from_slice(alloc, b"form")?;
     Ok(control::Body {
         name,

@@ -2,10 +2,11 @@
 
 ghost use Rattle.std.specs.Prelude.{◌≡◌, ◌+◌, ◌<◌, ◌^◌, suc, [], true, false, cond, map, length, IfOk, OnOk};
 ghost use Rattle.std.specs.List.Sorted.{IsNonDecreasing};
-ghost use Rattle.sch_flat.specs.View.{new_cell, tree, trees_of};
+ghost use Rattle.sch_flat.specs.Tree.{variable};
+ghost use Rattle.sch_flat.specs.View.{made, new_cell, tree, trees_of, used};
 ghost use Rattle.sch_control.specs.declared.operation.Operand.TheVariants as operand;
 ghost use Rattle.sch_control.specs.declared.operation.Operation.TheVariants as does;
-ghost use Rattle.sch_control.specs.Tree.{perform};
+ghost use Rattle.sch_control.specs.Tree.{branch, fix, perform};
 ghost use Rattle.sch_control.specs.View.{expression};
 ghost use Rattle.sch_normal.specs.LabelsFit.{LabelsFit, LabelsFitEach};
 ghost use Rattle.sch_normal.specs.Normal.{binds, binds_parts, called, finished, init_numbers, inits_bind, normal, normal_parts, operand_at, operand_binds, operands_at, operands_bind, with_inits, with_new_cells, with_operands};
@@ -15,26 +16,27 @@ ghost use Rattle.sch_anf.specs.Steps.{Adds, after, bound_before, dropped_before,
 
 use crate::steps::{Step, put_after};
 use sch_control as control;
-use sch_control::{Application, Atom, Operand, Operation};
-use sch_flat::{Exp, NewCell, Variable};
-use sch_operands::{
-    Variables, cell_operation, closure_of, members_of, simple_operand, source_of,
-};
+use sch_control::{Application, Atom, Member, Operand, Operation, Source};
+use sch_flat::{Exp, Made, NewCell, Variable};
+use sch_operands::{Variables, cell_operation, closure_of, members_of, simple_operand, source_of};
 use sch_simple::{is_simple, needs_variable};
-use sch_word::{Const, List, Mem};
+use sch_word::{Const, List, Mem, Prim};
 use std::alloc::Global;
 
 // An operation, which ends a body in a tail context with its value.
-fn finish(alloc: Global, tail: bool, o: Operation<u32>) -> Result<control::Exp<()>, Mem>
-    ensures { IfOk result (λ q. expression q ≡ finished tail (perform o)) }
+#[inline(never)]
+fn finish(alloc: Global, tail: bool, o: Operation<u32>) -> Result<Box<control::Exp<()>>, Mem>
+    ensures { IfOk result (λ q. expression q.value ≡ finished tail (perform o)) }
 {
-    let o = control::Exp::Do(o);
+    let o = Box::new(alloc, control::Exp::Do(o))?;
     if tail {
-        Ok(control::Exp::Return(Box::new(alloc, o)?))
+        Ok(Box::new(alloc, control::Exp::Return(o))?)
     } else {
         Ok(o)
     }
 }
+
+// What is done after some steps is made by functions of its own, so that the frames of the walk stay small.
 
 // An operation after some steps.
 fn finish_after(
@@ -42,34 +44,172 @@ fn finish_after(
     tail: bool,
     steps: Vec<Step>,
     o: Operation<u32>,
-) -> Result<control::Exp<()>, Mem>
-    ensures { IfOk result (λ q. expression q ≡ after steps.items (finished tail (perform o))) }
+) -> Result<Box<control::Exp<()>>, Mem>
+    ensures { IfOk result (λ q. expression q.value ≡ after steps.items (finished tail (perform o))) }
 {
     let e = finish(alloc, tail, o)?;
     put_after(alloc, steps, e)
 }
 
-// A call after some steps.
-fn call_after(
+// A primitive over operands, after some steps.
+#[inline(never)]
+fn apply_after(
     alloc: Global,
     tail: bool,
     steps: Vec<Step>,
-    a: Application<u32>,
-) -> Result<control::Exp<()>, Mem>
-    ensures { IfOk result (λ q. expression q ≡ after steps.items (called tail a)) }
+    applied: (u32, Prim),
+    operands: List<Operand<u32>>,
+) -> Result<Box<control::Exp<()>>, Mem>
+    ensures { IfOk result (λ q. expression q.value ≡ after steps.items (finished tail (perform (does.Prim applied.0 applied.1 operands)))) }
 {
-    let e = if tail {
+    let (site, which) = applied;
+    finish_after(alloc, tail, steps, Operation::Prim(site, which, operands))
+}
+
+// A global that gets the value of an operand, after some steps.
+#[inline(never)]
+fn set_after(
+    alloc: Global,
+    tail: bool,
+    steps: Vec<Step>,
+    global: u32,
+    value: Operand<u32>,
+) -> Result<Box<control::Exp<()>>, Mem>
+    ensures { IfOk result (λ q. expression q.value ≡ after steps.items (finished tail (perform (does.SetGlobal global value)))) }
+{
+    finish_after(alloc, tail, steps, Operation::SetGlobal(global, value))
+}
+
+// A cell that gets the value of an operand, after some steps.
+#[inline(never)]
+fn fill_after(
+    alloc: Global,
+    tail: bool,
+    steps: Vec<Step>,
+    cell: Source<u32>,
+    value: Operand<u32>,
+) -> Result<Box<control::Exp<()>>, Mem>
+    ensures { IfOk result (λ q. expression q.value ≡ after steps.items (finished tail (perform (does.CellSet cell value)))) }
+{
+    finish_after(alloc, tail, steps, Operation::CellSet(cell, value))
+}
+
+// Which call it is, whether its last operand is spread, and whether it stands in a tail context.
+#[derive(Clone, Copy)]
+struct Kind {
+    site: u32,
+    spread: bool,
+    tail: bool,
+}
+
+// A call of an operator with operands, after some steps.
+#[inline(never)]
+fn call_after(
+    alloc: Global,
+    steps: Vec<Step>,
+    kind: Kind,
+    operator: Operand<u32>,
+    operands: List<Operand<u32>>,
+) -> Result<Box<control::Exp<()>>, Mem>
+    ensures { IfOk result (λ q. expression q.value ≡
+        after steps.items (called kind.tail (record { site = kind.site; spread = kind.spread; operator = operator; operands = operands }))) }
+{
+    let a = Application {
+        site: kind.site,
+        spread: kind.spread,
+        operator,
+        operands,
+    };
+    let e = if kind.tail {
         control::Exp::TailCall(a)
     } else {
         control::Exp::Call(a, ())
     };
+    let e = Box::new(alloc, e)?;
     put_after(alloc, steps, e)
 }
 
-fn read_atom(alloc: Global, tail: bool, a: Atom<u32>) -> Result<control::Exp<()>, Mem>
-    ensures { IfOk result (λ q. expression q ≡ finished tail (perform (does.Operand (operand.Atom a)))) }
+// A choice.
+#[inline(never)]
+fn branch_of(
+    alloc: Global,
+    test: Box<control::Exp<()>>,
+    yes: Box<control::Exp<()>>,
+    no: Box<control::Exp<()>>,
+) -> Result<Box<control::Exp<()>>, Mem>
+    ensures { IfOk result (λ q. expression q.value ≡ branch (expression test.value) (expression yes.value) (expression no.value)) }
+{
+    Ok(Box::new(alloc, control::Exp::If(test, yes, no))?)
+}
+
+// A group of closures.
+#[inline(never)]
+fn group_of(
+    alloc: Global,
+    members: List<Member<u32>>,
+    body: Box<control::Exp<()>>,
+) -> Result<Box<control::Exp<()>>, Mem>
+    ensures { IfOk result (λ q. expression q.value ≡ fix members (expression body.value)) }
+{
+    Ok(Box::new(alloc, control::Exp::Fix(members, body))?)
+}
+
+#[inline(never)]
+fn read_atom(alloc: Global, tail: bool, a: Atom<u32>) -> Result<Box<control::Exp<()>>, Mem>
+    ensures { IfOk result (λ q. expression q.value ≡ finished tail (perform (does.Operand (operand.Atom a)))) }
 {
     finish(alloc, tail, Operation::Operand(Operand::Atom(a)))
+}
+
+#[inline(never)]
+fn read_variable(
+    alloc: Global,
+    tail: bool,
+    x: Variable,
+    v: &Variables,
+) -> Result<Box<control::Exp<()>>, Mem>
+    ensures { IfOk result (λ q. expression q.value ≡ normal [] tail (variable (used x)) (scope_of v.now.bound.items) 0) }
+{
+    match x {
+        Variable::Bound(x) => read_atom(alloc, tail, Atom::Variable(v.number(x))),
+        Variable::Free(k) => finish(alloc, tail, Operation::Field(1, k)),
+    }
+}
+
+#[inline(never)]
+fn read_global(alloc: Global, tail: bool, g: u32) -> Result<Box<control::Exp<()>>, Mem>
+    ensures { IfOk result (λ q. expression q.value ≡ finished tail (perform (does.Global g))) }
+{
+    finish(alloc, tail, Operation::Global(g))
+}
+
+#[inline(never)]
+fn read_cell(
+    alloc: Global,
+    tail: bool,
+    x: Variable,
+    v: &Variables,
+) -> Result<Box<control::Exp<()>>, Mem>
+    ensures { IfOk result (λ q. expression q.value ≡ finished tail (perform (does.CellGet (specs.source_of (scope_of v.now.bound.items) (used x))))) }
+{
+    finish(alloc, tail, Operation::CellGet(source_of(x, v)))
+}
+
+#[inline(never)]
+fn make_closure(
+    alloc: Global,
+    starts: &[u32],
+    tail: bool,
+    m: &Made,
+    v: &Variables,
+) -> Result<Box<control::Exp<()>>, Mem>
+    requires sorted { IsNonDecreasing starts.now }
+    requires labels { m.now.label + length starts.now < 2 ^ 32 }
+    ensures { IfOk result (λ q. expression q.value ≡
+        finished tail (perform (does.MakeClosure (specs.closure_of starts.now (scope_of v.now.bound.items) (made m.now))))) }
+{
+    let closure = closure_of(alloc, starts, m, v)?;
+    finish(alloc, tail, Operation::MakeClosure(closure))
 }
 
 /// The expression in which every operand is simple.
@@ -80,30 +220,29 @@ pub(crate) fn normalize_expression(
     e: &Exp,
     tail: bool,
     v: &mut Variables,
-) -> Result<control::Exp<()>, Mem>
+) -> Result<Box<control::Exp<()>>, Mem>
     requires sorted { IsNonDecreasing starts.now }
     requires labels { LabelsFit (length starts.now) (tree e.now) }
     requires few { v.old.next + binds (tree e.now) < 2 ^ 32 }
-    ensures made { IfOk result (λ q. expression q ≡ normal starts.now tail (tree e.now) (scope_of v.old.bound.items) v.old.next) }
+    ensures made { IfOk result (λ q. expression q.value ≡ normal starts.now tail (tree e.now) (scope_of v.old.bound.items) v.old.next) }
     ensures next { OnOk result (v.new.next ≡ v.old.next + binds (tree e.now)) }
     ensures scope { OnOk result (v.new.bound.items ≡ v.old.bound.items) }
 {
     match e {
         Exp::Constant(c) => read_atom(alloc, tail, Atom::Constant(*c)),
         Exp::Literal(k) => read_atom(alloc, tail, Atom::Literal(*k)),
-        Exp::Var(Variable::Bound(x)) => read_atom(alloc, tail, Atom::Variable(v.number(*x))),
-        Exp::Var(Variable::Free(k)) => finish(alloc, tail, Operation::Field(1, *k)),
-        Exp::Global(g) => finish(alloc, tail, Operation::Global(*g)),
+        Exp::Var(x) => read_variable(alloc, tail, *x, v),
+        Exp::Global(g) => read_global(alloc, tail, *g),
         Exp::SetGlobal(g, value) | Exp::Define(g, value) => {
             let mut steps = Vec::new(alloc);
             let value = normalize_part(alloc, starts, value, v, &mut steps)?;
-            finish_after(alloc, tail, steps, Operation::SetGlobal(*g, value))
+            set_after(alloc, tail, steps, *g, value)
         }
         Exp::If(test, yes, no) => {
-            let test = normalize_boxed(alloc, starts, test, false, v)?;
-            let yes = normalize_boxed(alloc, starts, yes, tail, v)?;
-            let no = normalize_boxed(alloc, starts, no, tail, v)?;
-            Ok(control::Exp::If(test, yes, no))
+            let test = normalize_expression(alloc, starts, test, false, v)?;
+            let yes = normalize_expression(alloc, starts, yes, tail, v)?;
+            let no = normalize_expression(alloc, starts, no, tail, v)?;
+            branch_of(alloc, test, yes, no)
         }
         Exp::Seq(parts) => normalize_parts(alloc, starts, parts, tail, v),
         Exp::Let {
@@ -120,10 +259,7 @@ pub(crate) fn normalize_expression(
             v.release(depth);
             put_after(alloc, steps, body)
         }
-        Exp::MakeClosure(m) => {
-            let closure = closure_of(alloc, starts, m, v)?;
-            finish(alloc, tail, Operation::MakeClosure(closure))
-        }
+        Exp::MakeClosure(m) => make_closure(alloc, starts, tail, m, v),
         Exp::FixClosures {
             first,
             closures,
@@ -133,9 +269,9 @@ pub(crate) fn normalize_expression(
             let depth = v.depth();
             v.bind_closures(*first, closures)?;
             let members = members_of(alloc, starts, closures, number, v)?;
-            let body = normalize_boxed(alloc, starts, body, tail, v)?;
+            let body = normalize_expression(alloc, starts, body, tail, v)?;
             v.release(depth);
-            Ok(control::Exp::Fix(members, body))
+            group_of(alloc, members, body)
         }
         Exp::Call {
             site,
@@ -146,18 +282,17 @@ pub(crate) fn normalize_expression(
             let mut steps = Vec::new(alloc);
             let operands = normalize_operands(alloc, starts, operands, v, &mut steps)?;
             let operator = normalize_part(alloc, starts, operator, v, &mut steps)?;
-            let a = Application {
+            let kind = Kind {
                 site: *site,
                 spread: *spread,
-                operator,
-                operands,
+                tail,
             };
-            call_after(alloc, tail, steps, a)
+            call_after(alloc, steps, kind, operator, operands)
         }
         Exp::Prim(site, which, operands) => {
             let mut steps = Vec::new(alloc);
             let operands = normalize_operands(alloc, starts, operands, v, &mut steps)?;
-            finish_after(alloc, tail, steps, Operation::Prim(*site, *which, operands))
+            apply_after(alloc, tail, steps, (*site, *which), operands)
         }
         Exp::NewCells(cells, body) => {
             let steps = make_cells(alloc, cells, v)?;
@@ -167,38 +302,19 @@ pub(crate) fn normalize_expression(
             v.release(depth);
             put_after(alloc, steps, body)
         }
-        Exp::CellGet(x) => finish(alloc, tail, Operation::CellGet(source_of(*x, v))),
+        Exp::CellGet(x) => read_cell(alloc, tail, *x, v),
         Exp::CellSet(x, value) => {
             let cell = source_of(*x, v);
             let mut steps = Vec::new(alloc);
             let value = normalize_part(alloc, starts, value, v, &mut steps)?;
-            finish_after(alloc, tail, steps, Operation::CellSet(cell, value))
+            fill_after(alloc, tail, steps, cell, value)
         }
     }
 }
 
-// The same on the heap. As a function of its own it keeps the frames of the walk small.
-#[cycle(normalizing)]
-fn normalize_boxed(
-    alloc: Global,
-    starts: &[u32],
-    e: &Box<Exp>,
-    tail: bool,
-    v: &mut Variables,
-) -> Result<Box<control::Exp<()>>, Mem>
-    requires sorted { IsNonDecreasing starts.now }
-    requires labels { LabelsFit (length starts.now) (tree e.now.value) }
-    requires few { v.old.next + binds (tree e.now.value) < 2 ^ 32 }
-    ensures made { IfOk result (λ q. expression q.value ≡ normal starts.now tail (tree e.now.value) (scope_of v.old.bound.items) v.old.next) }
-    ensures next { OnOk result (v.new.next ≡ v.old.next + binds (tree e.now.value)) }
-    ensures scope { OnOk result (v.new.bound.items ≡ v.old.bound.items) }
-{
-    let e = normalize_expression(alloc, starts, e, tail, v)?;
-    Ok(Box::new(alloc, e)?)
-}
-
 // A part that is bound to a new variable.
 #[cycle(normalizing)]
+#[inline(never)]
 fn normalize_bound(
     alloc: Global,
     starts: &[u32],
@@ -226,6 +342,7 @@ fn normalize_bound(
 
 // The operand for a part. A part that is not simple is bound to a new variable.
 #[cycle(normalizing)]
+#[inline(never)]
 fn normalize_part(
     alloc: Global,
     starts: &[u32],
@@ -251,6 +368,7 @@ fn normalize_part(
 
 // The operands for some parts, from left to right.
 #[cycle(normalizing)]
+#[inline(never)]
 fn normalize_operands(
     alloc: Global,
     starts: &[u32],
@@ -276,6 +394,7 @@ fn normalize_operands(
 
 // The variables to which inits are bound, from left to right.
 #[cycle(normalizing)]
+#[inline(never)]
 fn normalize_inits(
     alloc: Global,
     starts: &[u32],
@@ -301,6 +420,7 @@ fn normalize_inits(
 
 // A part of a sequence before the last, which is bound where it needs a variable.
 #[cycle(normalizing)]
+#[inline(never)]
 fn normalize_dropped(
     alloc: Global,
     starts: &[u32],
@@ -330,17 +450,18 @@ fn normalize_dropped(
 
 // The parts of a sequence. The last is in the context of the whole.
 #[cycle(normalizing)]
+#[inline(never)]
 fn normalize_parts(
     alloc: Global,
     starts: &[u32],
     es: &List<Exp>,
     tail: bool,
     v: &mut Variables,
-) -> Result<control::Exp<()>, Mem>
+) -> Result<Box<control::Exp<()>>, Mem>
     requires sorted { IsNonDecreasing starts.now }
     requires labels { LabelsFitEach (length starts.now) (trees_of es.now) }
     requires few { v.old.next + binds_parts (trees_of es.now) < 2 ^ 32 }
-    ensures made { IfOk result (λ q. expression q ≡ normal_parts starts.now tail (trees_of es.now) (scope_of v.old.bound.items) v.old.next) }
+    ensures made { IfOk result (λ q. expression q.value ≡ normal_parts starts.now tail (trees_of es.now) (scope_of v.old.bound.items) v.old.next) }
     ensures next { OnOk result (v.new.next ≡ v.old.next + binds_parts (trees_of es.now)) }
     ensures scope { OnOk result (v.new.bound.items ≡ v.old.bound.items) }
 {
@@ -358,6 +479,7 @@ fn normalize_parts(
 }
 
 // New cells, one after another, in variables that are not yet taken.
+#[inline(never)]
 fn make_cells(alloc: Global, cells: &List<NewCell>, v: &Variables) -> Result<Vec<Step>, Mem>
     requires { v.now.next + length (map new_cell cells.now) < 2 ^ 32 }
     ensures { IfOk result (λ steps. Adds [] steps.items (with_new_cells (scope_of v.now.bound.items) (map new_cell cells.now) v.now.next)) }
@@ -365,7 +487,7 @@ fn make_cells(alloc: Global, cells: &List<NewCell>, v: &Variables) -> Result<Vec
     let mut steps = Vec::new(alloc);
     let mut at = v.next;
     for cell in cells.as_slice() {
-        let value = control::Exp::Do(cell_operation(cell, v));
+        let value = Box::new(alloc, control::Exp::Do(cell_operation(cell, v)))?;
         steps.push(Step {
             variable: Some(at),
             value,

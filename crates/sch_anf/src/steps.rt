@@ -12,25 +12,29 @@ use std::alloc::Global;
 #[derive(Drop)]
 pub(crate) struct Step {
     pub variable: Option<u32>,
-    pub value: Exp<()>,
+    pub value: Box<Exp<()>>,
 }
 
 // The expression after one step.
-fn put_before(alloc: Global, step: Step, body: Exp<()>) -> Result<Exp<()>, Mem>
-    ensures { IfOk result (λ q. expression q ≡ before step (expression body)) }
+fn put_before(alloc: Global, step: Step, body: Box<Exp<()>>) -> Result<Box<Exp<()>>, Mem>
+    ensures { IfOk result (λ q. expression q.value ≡ before step (expression body.value)) }
 {
     let Step { variable, value } = step;
-    let value = Box::new(alloc, value)?;
-    let body = Box::new(alloc, body)?;
-    match variable {
-        Some(x) => Ok(Exp::Bind(x, value, body)),
-        None => Ok(Exp::Seq(value, body)),
-    }
+    let whole = match variable {
+        Some(x) => Exp::Bind(x, value, body),
+        None => Exp::Seq(value, body),
+    };
+    Ok(Box::new(alloc, whole)?)
 }
 
 /// The expression after some steps.
-pub(crate) fn put_after(alloc: Global, steps: Vec<Step>, body: Exp<()>) -> Result<Exp<()>, Mem>
-    ensures { IfOk result (λ q. expression q ≡ after steps.items (expression body)) }
+#[inline(never)]
+pub(crate) fn put_after(
+    alloc: Global,
+    steps: Vec<Step>,
+    body: Box<Exp<()>>,
+) -> Result<Box<Exp<()>>, Mem>
+    ensures { IfOk result (λ q. expression q.value ≡ after steps.items (expression body.value)) }
 {
     let mut left = steps;
     let mut whole = body;

@@ -8,3 +8,4 @@ pub mod ShapesKept
 pub mod SizeKept
 pub mod StraightKept
 pub mod ValidKept
+pub mod WeightKept

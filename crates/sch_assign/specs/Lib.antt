@@ -3,3 +3,4 @@ pub mod Converted
 pub mod InRange
 pub mod SameTrees
 pub mod Table
+pub mod Weight

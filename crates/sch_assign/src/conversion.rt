@@ -37,6 +37,7 @@ fn add_cell(celled: &[bool], n: u32, x: u32, all: &mut List<NewCell>) -> Result<
 }
 
 // The cells of a group of variables.
+#[inline(never)]
 fn cells(
     alloc: Global,
     celled: &[bool],
@@ -68,6 +69,7 @@ fn empty_cell(n: u32, x: u32) -> NewCell
 }
 
 // Cells with nothing in them for a group of variables.
+#[inline(never)]
 fn no_values(alloc: Global, n: u32, first: u32, count: usize) -> Result<List<NewCell>, Mem>
     requires low { Low n first count }
     requires few { n + n < 2 ^ 32 }
@@ -81,16 +83,18 @@ fn no_values(alloc: Global, n: u32, first: u32, count: usize) -> Result<List<New
 }
 
 // An expression under its cells, if there are any.
-fn wrap(alloc: Global, cs: List<NewCell>, e: Exp) -> Result<Exp, Mem>
-    ensures { IfOk result (λ q. tree q ≡ wrapped cs (tree e)) }
+#[inline(never)]
+fn wrap(alloc: Global, cs: List<NewCell>, e: Box<Exp>) -> Result<Box<Exp>, Mem>
+    ensures { IfOk result (λ q. tree q.value ≡ wrapped cs (tree e.value)) }
 {
     if cs.is_empty() {
         return Ok(e);
     }
-    Ok(Exp::NewCells(cs, Box::new(alloc, e)?))
+    Ok(Box::new(alloc, Exp::NewCells(cs, e))?)
 }
 
 // A variable's value goes into its cell.
+#[inline(never)]
 fn fill_one(alloc: Global, n: u32, x: u32) -> Result<Exp, Mem>
     requires { x + n < 2 ^ 32 }
     ensures { IfOk result (λ q. tree q ≡ plain.cell_set (x + n) (plain.variable x)) }
@@ -100,6 +104,7 @@ fn fill_one(alloc: Global, n: u32, x: u32) -> Result<Exp, Mem>
 }
 
 // The values of a group of variables go into their cells, and then an expression.
+#[inline(never)]
 fn fill(alloc: Global, n: u32, first: u32, count: usize, e: Exp) -> Result<List<Exp>, Mem>
     requires low { Low n first count }
     requires few { n + n < 2 ^ 32 }
@@ -114,6 +119,7 @@ fn fill(alloc: Global, n: u32, first: u32, count: usize, e: Exp) -> Result<List<
 }
 
 // A Rec with cells: they are new and empty, the inits have their values, and these go into the cells.
+#[inline(never)]
 fn recursive(
     alloc: Global,
     cs: List<NewCell>,
@@ -182,8 +188,8 @@ fn convert(alloc: Global, celled: &[bool], n: u32, e: &Exp) -> Result<Exp, Mem>
         } => {
             let cs = cells(alloc, celled, n, *first, count(inits))?;
             let inits = convert_each(alloc, celled, n, inits)?;
-            let body = convert(alloc, celled, n, body)?;
-            let body = Box::new(alloc, wrap(alloc, cs, body)?)?;
+            let body = convert_boxed(alloc, celled, n, body)?;
+            let body = wrap(alloc, cs, body)?;
             Ok(Exp::Let {
                 site: *site,
                 first: *first,
@@ -213,12 +219,12 @@ fn convert(alloc: Global, celled: &[bool], n: u32, e: &Exp) -> Result<Exp, Mem>
             let count = count(inits);
             let cs = no_values(alloc, n, *first, count)?;
             let inits = convert_each(alloc, celled, n, inits)?;
-            let body = convert(alloc, celled, n, body)?;
-            let parts = fill(alloc, n, *first, count, body)?;
+            let body = convert_boxed(alloc, celled, n, body)?;
+            let parts = fill(alloc, n, *first, count, Box::into_inner(body))?;
             recursive(alloc, cs, *site, *first, inits, parts)
         }
         Exp::Lambda(l) => {
-            let l = Box::new(alloc, convert_lambda(alloc, celled, n, l)?)?;
+            let l = convert_procedure(alloc, celled, n, l)?;
             Ok(Exp::Lambda(l))
         }
         Exp::Call {
@@ -246,10 +252,11 @@ fn convert(alloc: Global, celled: &[bool], n: u32, e: &Exp) -> Result<Exp, Mem>
 
 // The same on the heap. As a function of its own it keeps the frames of the walk small.
 #[cycle(converting)]
-fn convert_boxed(alloc: Global, celled: &[bool], n: u32, e: &Box<Exp>) -> Result<Box<Exp>, Mem>
-    requires within { InRange n (tree e.now.value) }
+#[inline(never)]
+fn convert_boxed(alloc: Global, celled: &[bool], n: u32, e: &Exp) -> Result<Box<Exp>, Mem>
+    requires within { InRange n (tree e.now) }
     requires few { n + n < 2 ^ 32 }
-    ensures { IfOk result (λ q. tree q.value ≡ converted (table celled.now) n (tree e.now.value)) }
+    ensures { IfOk result (λ q. tree q.value ≡ converted (table celled.now) n (tree e.now)) }
 {
     let e = convert(alloc, celled, n, e)?;
     Ok(Box::new(alloc, e)?)
@@ -257,6 +264,7 @@ fn convert_boxed(alloc: Global, celled: &[bool], n: u32, e: &Box<Exp>) -> Result
 
 /// The same for each of some expressions.
 #[cycle(converting)]
+#[inline(never)]
 pub(crate) fn convert_each(
     alloc: Global,
     celled: &[bool],
@@ -275,6 +283,7 @@ pub(crate) fn convert_each(
 }
 
 #[cycle(converting)]
+#[inline(never)]
 fn convert_lambda(alloc: Global, celled: &[bool], n: u32, l: &Lambda) -> Result<Lambda, Mem>
     requires low { Low n l.now.first l.now.formals }
     requires within { InRange n (tree l.now.body) }
@@ -282,7 +291,7 @@ fn convert_lambda(alloc: Global, celled: &[bool], n: u32, l: &Lambda) -> Result<
     ensures { IfOk result (λ q. plain.lambda q.name q.first q.formals q.rest (tree q.body) ≡ converted (table celled.now) n (plain.lambda l.now.name l.now.first l.now.formals l.now.rest (tree l.now.body))) }
 {
     let cs = cells(alloc, celled, n, l.first, l.formals as usize)?;
-    let body = convert(alloc, celled, n, &l.body)?;
+    let body = convert_boxed(alloc, celled, n, &l.body)?;
     let body = wrap(alloc, cs, body)?;
     let name = List::from_slice(alloc, l.name.as_slice())?;
     Ok(Lambda {
@@ -290,12 +299,32 @@ fn convert_lambda(alloc: Global, celled: &[bool], n: u32, l: &Lambda) -> Result<
         first: l.first,
         formals: l.formals,
         rest: l.rest,
-        body,
+        body: Box::into_inner(body),
     })
+}
+
+// The same on the heap.
+#[cycle(converting)]
+#[inline(never)]
+fn convert_procedure(
+    alloc: Global,
+    celled: &[bool],
+    n: u32,
+    l: &Lambda,
+) -> Result<Box<Lambda>, Mem>
+    requires low { Low n l.now.first l.now.formals }
+    requires within { InRange n (tree l.now.body) }
+    requires few { n + n < 2 ^ 32 }
+    ensures { IfOk result (λ q. plain.lambda q.value.name q.value.first q.value.formals q.value.rest (tree q.value.body) ≡
+        converted (table celled.now) n (plain.lambda l.now.name l.now.first l.now.formals l.now.rest (tree l.now.body))) }
+{
+    let l = convert_lambda(alloc, celled, n, l)?;
+    Ok(Box::new(alloc, l)?)
 }
 
 /// The same for each of some lambdas.
 #[cycle(converting)]
+#[inline(never)]
 pub(crate) fn convert_lambdas(
     alloc: Global,
     celled: &[bool],

@@ -28,6 +28,7 @@ fn place_variable(fields: &[u32], x: u32) -> Variable
 }
 
 // Each of some variables in a body whose record has these fields.
+#[inline(never)]
 fn place_each(alloc: Global, fields: &[u32], xs: &[u32]) -> Result<List<Variable>, Mem>
     requires { length fields.now < 2 ^ 32 }
     ensures { IfOk result (λ vs. map view.used vs ≡ map (place fields.now) xs.now) }
@@ -54,6 +55,7 @@ fn place_cell(fields: &[u32], c: &sch_cells::NewCell) -> flat::NewCell
 }
 
 // Each of some new cells in a body whose record has these fields.
+#[inline(never)]
 fn place_cells(
     alloc: Global,
     fields: &[u32],
@@ -182,6 +184,7 @@ fn close_expression(
 
 // The same on the heap. As a function of its own it keeps the frames of the walk small.
 #[cycle(closing)]
+#[inline(never)]
 fn close_boxed(
     alloc: Global,
     e: &Box<Exp>,
@@ -203,6 +206,7 @@ fn close_boxed(
 
 /// Each of some expressions, one after another.
 #[cycle(closing)]
+#[inline(never)]
 fn close_each(
     alloc: Global,
     es: &List<Exp>,
@@ -227,6 +231,7 @@ fn close_each(
 
 /// The record of a procedure in a body whose record has these fields.
 #[cycle(closing)]
+#[inline(never)]
 fn close_lambda(
     alloc: Global,
     l: &Lambda,
@@ -264,6 +269,7 @@ fn close_lambda(
 }
 
 // What stands in the place of a body until its code is made.
+#[inline(never)]
 fn unmade_body(alloc: Global) -> Body {
     Body {
         name: List::new(alloc),
@@ -277,6 +283,7 @@ fn unmade_body(alloc: Global) -> Body {
 
 /// Each of some lambdas, one after another.
 #[cycle(closing)]
+#[inline(never)]
 pub(crate) fn close_lambdas(
     alloc: Global,
     ls: &List<Lambda>,

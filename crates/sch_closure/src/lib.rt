@@ -16,7 +16,7 @@ ghost use Rattle.sch_flat.specs.Run as meaning;
 ghost use Rattle.sch_flat.specs.Straight as straight;
 ghost use Rattle.sch_flat.specs.View.{body, made, trees_of};
 ghost use Rattle.sch_closure.specs.Closed.{closed_source};
-ghost use Rattle.sch_closure.specs.Kept.{SameItems, flat_forms, forms_in, procedure_of, procedures_in};
+ghost use Rattle.sch_closure.specs.Kept.{SameItems, SameWeight, flat_forms, forms_in, procedure_of, procedures_in};
 
 mod closing;
 mod gathering;
@@ -52,6 +52,8 @@ pub fn close(alloc: Global, p: &CellProgram<Boxed>) -> Result<FlatProgram, Mem>
     ensures bodies { IfOk result (λ q. map procedure_of (map body q.bodies) ≡ procedures_in (source p.now)) }
     ensures forms { IfOk result (λ q. flat_forms (trees_of q.forms) ≡ forms_in (trees p.now.forms)) }
     ensures size { IfOk result (λ q. measures.program_size (view.source q) ≡ program_size (source p.now)) }
+    // Its nodes weigh what those of `p` do.
+    ensures weight { IfOk result (λ q. SameWeight (source p.now) (view.source q)) }
     ensures straight { IfOk result (λ q. IsTrue (is_straight_program (source p.now)) → IsTrue (straight.is_straight_program (view.source q))) }
 {
     close_program(alloc, p)

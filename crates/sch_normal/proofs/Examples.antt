@@ -1,5 +1,5 @@
 -- Worked rows: what normalizing makes, and how it runs.
-use Rattle.std.proofs.Common.{◌≡◌, refl, ℕ, true, false, [], ◌∷◌, Some, None, pos, negsuc}
+use Rattle.std.proofs.Common.{map, ◌≡◌, refl, ℕ, true, false, [], ◌∷◌, Some, None, pos, negsuc}
 use Rattle.std.specs.Prelude.{◌&&◌}
 use Rattle.std.specs.List.{list_all}
 use Rattle.std.specs.Fmt.{signed_decimal}
@@ -8,7 +8,7 @@ use Rattle.sch_word.specs.declared.primitive.Primitive.TheVariants.{Add, Car, Co
 use Rattle.sch_word.specs.values.Literals.{no_literals}
 use Rattle.sch_word.specs.runs.Runs.{ended}
 use Rattle.sch_flat.specs.Tree as flat
-use Rattle.sch_flat.specs.Tree.{Tree, Trees, constant, global, set_global, branch, sequence, bind, call, operation, make_closure, variable, trees}
+use Rattle.sch_flat.specs.Tree.{Tree, Trees, constant, global, set_global, branch, sequence, bind, call, operation, make_closure, variable, cell_set, trees}
 use Rattle.sch_control.specs.declared.operation.Atom.TheVariants as atom
 use Rattle.sch_control.specs.declared.operation.Operand.{Operand}
 use Rattle.sch_control.specs.declared.operation.Operand.TheVariants as operand
@@ -16,6 +16,12 @@ use Rattle.sch_control.specs.declared.operation.Operation.TheVariants as does
 use Rattle.sch_control.specs.Tree as to
 use Rattle.sch_control.specs.Tree.{Expression}
 use Rattle.sch_control.specs.Run as control
+use Rattle.sch_control.specs.Sizes.{expression_size, expressions_size}
+use Rattle.sch_control.specs.Weights.{weight_of}
+use Rattle.sch_word.specs.trees.Shape as shapes
+use Rattle.sch_normal.specs.Counted.{most_variables, bind_within}
+use Rattle.sch_normal.specs.Dropped.{dropped_in}
+use Rattle.sch_normal.specs.Weight.{weight}
 use Rattle.sch_control.specs.Valid.{is_valid, code_valid}
 use Rattle.sch_normal.specs.Normal.{normal, normal_source, new_label}
 
@@ -58,6 +64,21 @@ dropped_normal : normal [] false (sequence (trees (number 1 ∷ call 0 false (gl
     (to.bind 2 (to.bind 3 (to.perform (does.Global 0)) (to.call (record { site = 0; spread = false; operator = held 3; operands = [] }) [])) (to.perform (does.Operand (fixed 2))))
 dropped_normal = refl
 
+-- (begin (begin 1) 2): nothing but an atom is left of the first part, so it is bound
+wrapped_normal : normal [] false (sequence (trees (sequence (trees (number 1 ∷ [])) ∷ number 2 ∷ []))) [] 2 ≡ to.bind 2 (to.perform (does.Operand (fixed 1))) (to.perform (does.Operand (fixed 2)))
+wrapped_normal = refl
+
+-- (begin 1 x 2) drops two atoms, a field among them
+two_dropped : dropped_in (normal [] false (sequence (trees (number 1 ∷ variable (flat.free 0) ∷ number 2 ∷ []))) [] 2) ≡ 2
+two_dropped = refl
+
+-- an assignment of a cell in one of a cell is done, bound, and names cell and value
+nested_sets : expression_size (normal [] false (cell_set (flat.bound 0) (cell_set (flat.bound 0) (number 1))) ((0, 2) ∷ []) 3) ≡ 7
+nested_sets = refl
+
+weights : map weight_of (shapes.new_cells 2 ∷ shapes.make_closure (record { label = 0; fields = 2 }) ∷ shapes.fix_closures 1 (record { label = 0; fields = 2 } ∷ []) ∷ shapes.branch ∷ shapes.sequence 0 0 ∷ shapes.sequence 1 0 ∷ shapes.cell_set ∷ []) ≡ 6 ∷ 5 ∷ 3 ∷ 0 ∷ 4 ∷ 0 ∷ 4 ∷ []
+weights = refl
+
 -- ## (define f (lambda (x) (display x))) (f (car (cons -8 8)))
 
 abbrev two_forms : flat.Source
@@ -82,3 +103,16 @@ two_valid = refl
 
 two_runs : control.run (normal_source two_forms) 4096 1 [] 1 ≡ Some (record { output = signed_decimal (negsuc 7); entries = 1; charged = 32; answers = 0; end = ended 0 })
 two_runs = refl
+
+-- each form before its procedures; with the return address and the closure these are exactly the variables
+variables_row : most_variables two_forms ≡ 1 ∷ 1 ∷ 3 ∷ []
+variables_row = refl
+
+within_row : bind_within (normal_source two_forms).bodies (1 ∷ 1 ∷ 3 ∷ []) ≡ true
+within_row = refl
+
+too_few_row : bind_within (normal_source two_forms).bodies (1 ∷ 1 ∷ 2 ∷ []) ≡ false
+too_few_row = refl
+
+size_row : (expressions_size (normal_source two_forms).bodies ∷ weight two_forms ∷ []) ≡ 21 ∷ 33 ∷ []
+size_row = refl

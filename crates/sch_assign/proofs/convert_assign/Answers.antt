@@ -1,5 +1,4 @@
-use Rattle.std.specs.Prelude.{IsTrue}
-use Rattle.std.proofs.Common.{◌∙◌, ℕ, ◌*◌, ◌≤◌, length, sym, subst, ap}
+use Rattle.std.proofs.Common.{◌+◌, ◌∙◌, ℕ, ◌*◌, ◌≤◌, length, sym, subst, ap}
 use Rattle.sch_word.proofs.WhenOk.{if_ok}
 use Rattle.sch_word.specs.runs.Runs.{SameRuns}
 use Rattle.sch_cells.specs.Bodies.{bodies_of}
@@ -15,6 +14,9 @@ use Rattle.sch_assign.proofs.ConversionIsRight.{program_right}
 use Rattle.sch_assign.proofs.Same.{runs_alike}
 use Rattle.sch_assign.proofs.kept.MeasuresKept.{calls_kept, tests_kept, dropped_kept}
 use Rattle.sch_assign.proofs.kept.SizeKept.{program_size_kept}
+use Rattle.sch_assign.proofs.kept.WeightKept.{program_weight}
+use Rattle.sch_assign.specs.Weight.{weight}
+use Rattle.sch_cells.specs.Recursive.{recursive_of}
 use Rattle.sch_assign.specs.SameTrees.{SameTrees}
 use Rattle.sch_assign.proofs.kept.StraightKept.{trees_kept}
 use Rattle.sch_assign.proofs.kept.ValidKept.{sites_kept}
@@ -90,3 +92,12 @@ returns-clause-straight c =
     let has_cell = table c.as_slice.result.now in
     let same = λ (y : ℕ). ap (λ bs. table bs y) c.as_slice.ensures.value ∙ c.in_ok-celled.ensures y in
     if_ok c.convert_program.result _ _ c.convert_program.ensures (λ q made s. subst (SameTrees (source v)) (sym made) (trees_kept has_cell v.variables (source v) same s))
+
+pub returns-clause-weight : goal.returns-clause-weight
+returns-clause-weight c =
+    let v = c.args.p.now in
+    let has_cell = table c.as_slice.result.now in
+    let same = λ (y : ℕ). ap (λ bs. table bs y) c.as_slice.ensures.value ∙ c.in_ok-celled.ensures y in
+    let r = program_right has_cell (source v) same v.scoped v.formed in
+    if_ok c.convert_program.result _ _ c.convert_program.ensures
+    (λ q made. subst (λ s. weight s ≤ 4 * program_size (source v) + 7 * recursive_of (source v)) (sym made) (program_weight has_cell v.variables (source v) r))

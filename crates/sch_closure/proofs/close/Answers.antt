@@ -1,5 +1,5 @@
 use Rattle.std.specs.Prelude.{IsTrue}
-use Rattle.std.proofs.Common.{◌∙◌, Result, Ok, Err, IfOk, sym, subst, ap, map}
+use Rattle.std.proofs.Common.{◌∙◌, sym, subst, ap, map}
 use Rattle.sch_word.proofs.WhenOk.{if_ok}
 use Rattle.sch_word.specs.runs.Runs.{SameRuns}
 use Rattle.sch_cells.specs.BoxedMeaning.{run}
@@ -8,9 +8,9 @@ use Rattle.sch_cells.specs.Measures as from
 use Rattle.sch_flat.specs.Measures.{sites_of, call_sites_of, tests_of, dropped_of, program_size}
 use Rattle.sch_flat.specs.Run as meaning
 use Rattle.sch_flat.specs.Straight.{is_straight_program}
-use Rattle.sch_closure.specs.Kept.{SameItems, flat_forms, procedure_of}
+use Rattle.sch_closure.specs.Kept.{SameWeight, SameItems, flat_forms, procedure_of}
 use Rattle.sch_closure.proofs.kept.ValidKept.{Given, same_runs, clears, fresh_library, fresh_forms}
-use Rattle.sch_closure.proofs.kept.ProgramKept.{sites_kept, calls_kept, tests_kept, dropped_kept, bodies_kept, forms_kept, size_kept}
+use Rattle.sch_closure.proofs.kept.ProgramKept.{weight_kept, sites_kept, calls_kept, tests_kept, dropped_kept, bodies_kept, forms_kept, size_kept}
 use Rattle.sch_closure.proofs.kept.StraightKept.{straight_kept}
 use Rattle.sch_closure.proofs.close.Goals as goal
 
@@ -74,3 +74,10 @@ pub returns-clause-straight : goal.returns-clause-straight
 returns-clause-straight c =
     let p = source c.args.p.now in
     if_ok c.close_program.result _ _ c.close_program.ensures (λ q made s. subst (λ t. IsTrue (is_straight_program t)) (sym made) (straight_kept p s))
+
+pub returns-clause-weight : goal.returns-clause-weight
+returns-clause-weight c =
+    let p = source c.args.p.now in
+    let v = c.args.p.now in
+    let g : Given p = record { scoped = v.scoped; formed = v.formed; limited = v.limited } in
+    if_ok c.close_program.result _ _ c.close_program.ensures (λ q made. subst (SameWeight p) (sym made) (weight_kept p (fresh_library p g) (fresh_forms p g)))

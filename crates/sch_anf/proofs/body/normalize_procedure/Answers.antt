@@ -2,6 +2,7 @@ use Rattle.std.proofs.Common.{◌≡◌, ◌∙◌, [], IsTrue, ap, sym, subst, 
 use Rattle.sch_word.specs.trees.Bindings.{numbers, with_variables}
 use Rattle.sch_flat.specs.View.{body}
 use Rattle.sch_control.specs.Valid.{in_scope_whole, numbered, ended, shaped_whole, fields_known}
+use Rattle.sch_control.specs.View.{expression}
 use Rattle.sch_normal.specs.Normal.{procedure_code}
 use Rattle.sch_operands.specs.ScopeTable.{scope_of}
 use Rattle.sch_anf.proofs.CodeLists.{promises, procedure_is}
@@ -17,7 +18,7 @@ invariant_of-result c =
     ∙ ap (λ bs. with_variables b.first (numbers 2 b.formals) (scope_of bs)) (c.begin.ensures.bound ∙ c.requires.none) in
     let whole =
     procedure_is starts (body b) c.in_ok-name.name c.bind_group.new.self.next c.release.new.self.next (scope_of c.bind_group.new.self.bound.items) _ (c.in_ok-name.ensures ∙ c.as_slice.ensures) scope
-    (omega (arith, g.next, c.begin.ensures.next)) (c.release.ensures.next ∙ c.in_ok-exp.ensures.next) c.in_ok-exp.ensures.made in
+    (omega (arith, g.next, c.begin.ensures.next)) (c.release.ensures.next ∙ c.in_ok-exp.ensures.next) (ap expression c.into_inner.ensures ∙ c.in_ok-exp.ensures.made) in
     let p = promises (procedure_code starts (body b)) c.requires.valid in
     record {
       scoped = subst (λ q. IsTrue (in_scope_whole q)) (sym whole) p.scoped;

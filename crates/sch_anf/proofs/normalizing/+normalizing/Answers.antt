@@ -17,14 +17,14 @@ normalize_bound-returns-clause-steps t c =
     let f = c.fresh-number.ensures in
     let s : Step = record { variable = Some c.fresh-number.result; value = c.in_ok-value.value } in
     adds_one c.args.steps.now.items c.push.new.self.items s (bound_before c.args.starts.now (tree c.args.e.now) (scope_of v.bound.items) v.next) c.in_ok-push.ensures.items
-    (bound_is c.args.starts.now (tree c.args.e.now) c.fresh-number.result v.next c.fresh-number.new.self.next (scope_of v.bound.items) (scope_of c.fresh-number.new.self.bound.items) (expression c.in_ok-value.value) f.number (ap scope_of f.bound) f.next c.in_ok-value.ensures.made)
+    (bound_is c.args.starts.now (tree c.args.e.now) c.fresh-number.result v.next c.fresh-number.new.self.next (scope_of v.bound.items) (scope_of c.fresh-number.new.self.bound.items) (expression c.in_ok-value.value.value) f.number (ap scope_of f.bound) f.next c.in_ok-value.ensures.made)
 
 pub normalize_dropped-returns-clause-steps : goal.normalize_dropped-returns-clause-steps
 normalize_dropped-returns-clause-steps t c =
     let v = c.args.v.now in
     let s : Step = record { variable = None; value = c.in_ok-value.value } in
     adds_one c.args.steps.now.items c.push.new.self.items s (dropped_before c.args.starts.now (tree c.args.e.now) (scope_of v.bound.items) v.next) c.in_ok-push.ensures.items
-    (dropped_is c.args.starts.now (tree c.args.e.now) v.next (scope_of v.bound.items) (expression c.in_ok-value.value) (sym c.needs_variable.ensures ∙ c.if-needs_variable.false) c.in_ok-value.ensures.made)
+    (dropped_is c.args.starts.now (tree c.args.e.now) v.next (scope_of v.bound.items) (expression c.in_ok-value.value.value) (sym c.needs_variable.ensures ∙ c.if-needs_variable.false) c.in_ok-value.ensures.made)
 
 pub normalize_operands-loop-e-init : goal.normalize_operands-loop-e-init
 normalize_operands-loop-e-init t c =
@@ -56,7 +56,7 @@ pub normalize_parts-returns-then-count-eq0-clause-made : goal.normalize_parts-re
 normalize_parts-returns-then-count-eq0-clause-made t c =
     let v = c.args.v.now in
     let none = no_items c.as_slice-items.result.now c.args.es.now c.as_slice-items.ensures (omega arith) in
-    subst (λ ts. IfOk c.read_atom.result (λ q. expression q ≡ normal_parts c.args.starts.now c.args.tail ts (scope_of v.bound.items) v.next)) (sym none) c.read_atom.ensures
+    subst (λ ts. IfOk c.read_atom.result (λ q. expression q.value ≡ normal_parts c.args.starts.now c.args.tail ts (scope_of v.bound.items) v.next)) (sym none) c.read_atom.ensures
 
 pub normalize_parts-returns-then-count-eq0-clause-next : goal.normalize_parts-returns-then-count-eq0-clause-next
 normalize_parts-returns-then-count-eq0-clause-next t c =

@@ -11,5 +11,5 @@ after_last (a ∷ steps) s body = ap (before a) (after_last steps s body)
 
 pub loop-step-preserved : goal.loop-step-preserved
 loop-step-preserved c =
-    ap (after c.pop.new.self.items) c.in_ok-whole.ensures ∙ sym (after_last c.pop.new.self.items c.in-Some.step (expression c.loop-step.whole))
-    ∙ ap (λ steps. after steps (expression c.loop-step.whole)) (sym c.in-Some.ensures.items) ∙ c.loop-step.invariant
+    ap (after c.pop.new.self.items) c.in_ok-whole.ensures ∙ sym (after_last c.pop.new.self.items c.in-Some.step (expression c.loop-step.whole.value))
+    ∙ ap (λ steps. after steps (expression c.loop-step.whole.value)) (sym c.in-Some.ensures.items) ∙ c.loop-step.invariant
