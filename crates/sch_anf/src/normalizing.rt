@@ -18,9 +18,7 @@ use crate::steps::{Step, put_after};
 use sch_control as control;
 use sch_control::{Application, Atom, Member, Operand, Operation, Source};
 use sch_flat::{Exp, Made, NewCell, Variable};
-use sch_operands::{
-    Variables, cell_operation, closure_of, members_of, simple_operand, source_of,
-};
+use sch_operands::{Variables, cell_operation, closure_of, members_of, simple_operand, source_of};
 use sch_simple::{is_simple, needs_variable};
 use sch_word::{Const, List, Mem, Prim};
 use std::alloc::Global;
@@ -207,7 +205,8 @@ fn make_closure(
 ) -> Result<Box<control::Exp<()>>, Mem>
     requires sorted { IsNonDecreasing starts.now }
     requires labels { m.now.label + length starts.now < 2 ^ 32 }
-    ensures { IfOk result (λ q. expression q.value ≡ finished tail (perform (does.MakeClosure (specs.closure_of starts.now (scope_of v.now.bound.items) (made m.now))))) }
+    ensures { IfOk result (λ q. expression q.value ≡
+        finished tail (perform (does.MakeClosure (specs.closure_of starts.now (scope_of v.now.bound.items) (made m.now))))) }
 {
     let closure = closure_of(alloc, starts, m, v)?;
     finish(alloc, tail, Operation::MakeClosure(closure))

@@ -1,6 +1,6 @@
 -- What holds of a valid program without cells and the table of its variables that get cells.
-use Rattle.std.proofs.Common.{◌≡◌, ℕ, ◌+◌, Bool, false, List, [], length, replicate, suc, zero, refl, sym, ap, ◌∙◌, subst, Result, Ok, Err}
-use Rattle.std.specs.Prelude.{IsTrue, IfOk, ◌||◌}
+use Rattle.std.proofs.Common.{◌≡◌, ℕ, ◌+◌, Bool, false, List, [], length, replicate, suc, zero, refl, sym, ap, ◌∙◌, subst}
+use Rattle.std.specs.Prelude.{IsTrue, ◌||◌}
 use Rattle.sch_word.specs.declared.statics.Statics as declared
 use Rattle.sch_word.specs.values.StaticsView.{statics}
 use Rattle.sch_cells.specs.declared.tree.Exp.{Exp}

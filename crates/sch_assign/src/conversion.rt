@@ -315,7 +315,8 @@ fn convert_procedure(
     requires low { Low n l.now.first l.now.formals }
     requires within { InRange n (tree l.now.body) }
     requires few { n + n < 2 ^ 32 }
-    ensures { IfOk result (λ q. plain.lambda q.value.name q.value.first q.value.formals q.value.rest (tree q.value.body) ≡ converted (table celled.now) n (plain.lambda l.now.name l.now.first l.now.formals l.now.rest (tree l.now.body))) }
+    ensures { IfOk result (λ q. plain.lambda q.value.name q.value.first q.value.formals q.value.rest (tree q.value.body) ≡
+        converted (table celled.now) n (plain.lambda l.now.name l.now.first l.now.formals l.now.rest (tree l.now.body))) }
 {
     let l = convert_lambda(alloc, celled, n, l)?;
     Ok(Box::new(alloc, l)?)

@@ -26,7 +26,7 @@ atoms_all scope items i all whole l h = let t = rw (drop_all i items l, append-n
 
 -- ## Labels
 
--- in a list in which those below a number stand first, so many are below
+-- in a list in which those below a number stand first, their count is where the others begin
 pub before_is : (xs : List ℕ) (i label : ℕ) → i ≤ length xs → ((k : ℕ) → k < i → nat_le (get_or xs k 0) label ≡ true) → ((k : ℕ) → i ≤ k → k < length xs → nat_le (get_or xs k 0) label ≡ false) → forms_before xs label ≡ i
 before_is [] i label l h k = omega (arith, l)
 before_is (x ∷ xs) zero label l h k = rw (k 0 (omega arith) (omega arith)) (let r = before_is xs zero label (omega arith) (λ j a. absurd (omega (arith, a))) (λ j a b. k (suc j) (omega arith) (omega (arith, b))) in omega (arith, r))

@@ -4,7 +4,5 @@
 mod operands;
 mod variables;
 
-pub use operands::{
-    cell_operation, closure_of, members_of, new_labels, simple_operand, source_of,
-};
+pub use operands::{cell_operation, closure_of, members_of, new_labels, simple_operand, source_of};
 pub use variables::{Binding, Variables};

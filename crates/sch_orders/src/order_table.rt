@@ -29,7 +29,7 @@ fn add_other(k: u32, parts: &[u32], all: &mut List<u32>) -> Result<(), Mem>
     Ok(())
 }
 
-// These parts, and then the others of so many by their numbers.
+// These parts, and then the others below `width` by their numbers.
 fn order_of(alloc: Global, width: u32, parts: &[u32]) -> Result<List<u32>, Mem>
     ensures { IfOk result (λ order. order ≡ table.given_order width parts.now) }
 {

@@ -9,11 +9,10 @@ ghost use Rattle.sch_normal.specs.Normal as normal;
 mod places;
 mod simple;
 
-pub use simple::{is_simple, needs_variable};
-
 use crate::places::{nothing_bound, place_bodies, place_each};
 use sch_flat::FlatProgram;
 use sch_word::{List, Mem};
+pub use simple::{is_simple, needs_variable};
 use std::alloc::Global;
 
 /// The numbers of the parts that are bound at each site of `p`, in the order in which they are bound.

@@ -133,7 +133,11 @@ fn place_expression(alloc: Global, e: &Exp, bound: &mut Vec<List<u32>>) -> Resul
 
 /// The same for each of some expressions, from the last to the first.
 #[cycle(placing)]
-pub(crate) fn place_each(alloc: Global, es: &List<Exp>, bound: &mut Vec<List<u32>>) -> Result<(), Mem>
+pub(crate) fn place_each(
+    alloc: Global,
+    es: &List<Exp>,
+    bound: &mut Vec<List<u32>>,
+) -> Result<(), Mem>
     requires { size_each (trees_of es.now) < 2 ^ 32 }
     ensures { OnOk result (bound.new.items ≡ placed_each (trees_of es.now) bound.old.items) }
 {
@@ -146,7 +150,7 @@ pub(crate) fn place_each(alloc: Global, es: &List<Exp>, bound: &mut Vec<List<u32
     Ok(())
 }
 
-// A table with nothing bound at each of so many sites.
+// A table with nothing bound at each of `sites` sites.
 pub(crate) fn nothing_bound(alloc: Global, sites: usize) -> Result<Vec<List<u32>>, Mem>
     ensures { IfOk result (λ bound. bound.items ≡ replicate sites []) }
 {
@@ -158,7 +162,11 @@ pub(crate) fn nothing_bound(alloc: Global, sites: usize) -> Result<Vec<List<u32>
 }
 
 // The same for each of some bodies.
-pub(crate) fn place_bodies(alloc: Global, bodies: &[Body], bound: &mut Vec<List<u32>>) -> Result<(), Mem>
+pub(crate) fn place_bodies(
+    alloc: Global,
+    bodies: &[Body],
+    bound: &mut Vec<List<u32>>,
+) -> Result<(), Mem>
     requires { size_bodies (map body bodies.now) < 2 ^ 32 }
     ensures { OnOk result (bound.new.items ≡ placed_bodies (map body bodies.now) bound.old.items) }
 {

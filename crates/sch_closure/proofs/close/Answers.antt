@@ -1,5 +1,5 @@
 use Rattle.std.specs.Prelude.{IsTrue}
-use Rattle.std.proofs.Common.{◌∙◌, Result, Ok, Err, IfOk, sym, subst, ap, map}
+use Rattle.std.proofs.Common.{◌∙◌, sym, subst, ap, map}
 use Rattle.sch_word.proofs.WhenOk.{if_ok}
 use Rattle.sch_word.specs.runs.Runs.{SameRuns}
 use Rattle.sch_cells.specs.BoxedMeaning.{run}

@@ -17,7 +17,7 @@ use Rattle.sch_normal.specs.Normal.{is_simple, bound_places, operator_place}
 use Rattle.sch_normal.proofs.runs.Orders.{and_left, and_right, begins, Parts, settled}
 use Rattle.sch_normal.proofs.runs.Worlds.{Setting}
 
--- an order of so many parts, in which these come first
+-- an order of all parts, in which these come first
 abbrev pub FitsSite : (width : ℕ) → (parts order : List ℕ) → Type 0
 FitsSite width parts order = (is_permutation width order && begins_with parts order) ≡ true
 

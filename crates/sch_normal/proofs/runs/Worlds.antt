@@ -20,7 +20,7 @@ use Rattle.sch_control.specs.Meaning.{World, Result, Callee, on_outcome, on_chec
 use Rattle.sch_normal.specs.Normal.{new_label}
 
 -- What does not change in a run: the flat bodies, the places of the forms among them, the constants of the
--- store with so many literals, and the orders of the sites.
+-- store with as many literals, and the orders of the sites.
 pub record Setting : Type 0 where
   pub bodies : List Body
   pub starts : List ℕ

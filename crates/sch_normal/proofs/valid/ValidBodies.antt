@@ -25,7 +25,7 @@ numbers_length : (x n : ℕ) → length (numbers x n) ≡ n
 numbers_length x zero = refl
 numbers_length x (suc n) = ap suc (numbers_length (suc x) n)
 
--- the variables of a body whose expression binds so many numbers in a row
+-- the variables of a body whose expression binds n numbers in a row
 numbered_by : (c : Code) (n : ℕ) → bound_in c.expression ≡ numbers (first_bound c.entry) n → c.variables ≡ first_bound c.entry + n → c.variables ≤ max_body_variables → numbered c ≡ true
 numbered_by c n e v l =
     both (nat_le c.variables max_body_variables) (nat_le (first_bound c.entry) c.variables && (list_all (λ x. nat_le (first_bound c.entry) x && nat_lt x c.variables) (bound_in c.expression) && without_repeats (bound_in c.expression)))
