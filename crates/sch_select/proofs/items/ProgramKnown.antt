@@ -35,10 +35,10 @@ use Rattle.sch_asm.specs.Routines.{label_of}
 use Rattle.sch_asm.specs.Items.{AreKnown, is_among, is_routine, labels_in, uses_in, word_uses}
 use Rattle.sch_select.specs.Select.{put_label, body_label, source_code, fields_code, record_code, closure_bytes, places_code, records_code, atom_code, unary_code, binary_code, read_code, operand_code, second_code, operation_code, body_code}
 use Rattle.sch_select.specs.Program.{passed_code, form_code, forms_code, labels_end, heap_of, own_label, put_value_code, program_code, program_words, word_list, static_bytes, global_words, padding, closure_words, closures_address}
-use Rattle.sch_select.proofs.Selected.{members_few, operation_few, labels_few}
-use Rattle.sch_select.proofs.ProgramSound.{in_front}
-use Rattle.sch_select.proofs.Labels.{unary_labels, binary_labels, read_labels, operand_labels, operation_labels}
-use Rattle.sch_select.proofs.ProgramLabels.{body_labels, own_labels, form_labels, forms_labels, forms_labelled}
+use Rattle.sch_select.proofs.programs.Selected.{members_few, operation_few, labels_few}
+use Rattle.sch_select.proofs.items.ProgramSound.{in_front}
+use Rattle.sch_select.proofs.items.Labels.{unary_labels, binary_labels, read_labels, operand_labels, operation_labels}
+use Rattle.sch_select.proofs.items.ProgramLabels.{body_labels, own_labels, form_labels, forms_labels, forms_labelled}
 
 or_true : (b : Bool) → (b || true) ≡ true
 or_true true = refl
