@@ -9,3 +9,4 @@ pub mod ProgramKnown
 pub mod TextSize
 pub mod ProgramFacts
 pub mod MarkCounts
+pub mod JumpsAhead

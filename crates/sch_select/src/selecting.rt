@@ -11,7 +11,8 @@ ghost use Rattle.sch_frames.specs.Sizes.{program_size};
 ghost use Rattle.sch_frames.specs.SourceView.{codes_of};
 ghost use Rattle.sch_select.specs.Covered.{is_covered_program};
 ghost use Rattle.sch_select.specs.Follows.{FollowsFrames};
-ghost use Rattle.sch_select.specs.Program.{closure_words, closures_address, data_words, laid_code, global_word, global_words, heap_address, program_zeros, put_value_code, stack_bytes, static_bytes, word_list};
+ghost use Rattle.sch_select.specs.Jumps.{jumps_ahead};
+ghost use Rattle.sch_select.specs.Program.{own_label, closure_words, closures_address, data_words, laid_code, global_word, global_words, heap_address, program_zeros, put_value_code, stack_bytes, static_bytes, word_list};
 ghost use Rattle.sch_select.specs.Select.{body_label, put_label};
 ghost use Rattle.sch_select.specs.Sizes.{bodies_marked, closures_in, marks_in};
 
@@ -263,6 +264,7 @@ pub fn select(alloc: Global, p: &FrameProgram, limits: Limits) -> Result<Asm, Me
     ensures follows { IfOk result (λ a. FollowsFrames (source p.now) limits.heap limits.depth a.items a.words a.zeros) }
     ensures own { IfOk result (λ a. AreOwn a.items) }
     ensures text { IfOk result (λ a. text_size a.items ≤ 512 + 64 * (program_size (source p.now) + closures_in (source p.now).bodies)) }
+    ensures ahead { IfOk result (λ a. IsTrue (jumps_ahead (own_label (source p.now)) a.items)) }
     ensures marks { IfOk result (λ a. marks_in a.items ≡ bodies_marked (source p.now).bodies) }
     ensures words { IfOk result (λ a. length a.words ≤ 101 + length p.now.statics.globals + 2 * length p.now.library) }
     ensures zeros { IfOk result (λ a. a.zeros ≡ program_zeros (source p.now) limits.heap) }

@@ -6,7 +6,7 @@ use Rattle.sch_asm.specs.Codes.{text_size}
 use Rattle.sch_frames.specs.ProgramView.{source}
 use Rattle.sch_frames.specs.Sizes.{program_size}
 use Rattle.sch_select.specs.Follows.{FollowsFrames}
-use Rattle.sch_select.specs.Program.{program_words, program_zeros}
+use Rattle.sch_select.specs.Program.{program_words, program_zeros, own_label}
 use Rattle.sch_select.specs.Sizes.{bodies_marked, closures_in, marks_in}
 use Rattle.sch_select.proofs.programs.CoveredPrograms.{covered_selected, globals_known, labels_known, library_small, procedures_known}
 use Rattle.sch_select.proofs.programs.JoinedProgram.{frames_follow}
@@ -16,6 +16,8 @@ use Rattle.sch_select.proofs.items.ProgramLabels.{program_once}
 use Rattle.sch_select.proofs.items.ProgramMarks.{program_marked}
 use Rattle.sch_select.proofs.items.ProgramSound.{program_sound}
 use Rattle.sch_select.proofs.items.MarkCounts.{program_marks}
+use Rattle.sch_select.proofs.items.JumpsAhead.{program_ahead}
+use Rattle.sch_select.specs.Jumps.{jumps_ahead}
 use Rattle.sch_select.proofs.items.TextSize.{text_small}
 use Rattle.sch_select.proofs.selecting.select.Goals as goal
 
@@ -67,6 +69,14 @@ returns-clause-text c =
     let l = c.args.limits in
     let i = sym (whole_items q l.heap l.depth _ _ _ _ _ _ c.lay_out-layout.ensures.stack c.lay_out-layout.ensures.heap c.len-globals.ensures c.len-library.ensures (sym (bodies_count p.bodies)) c.in_ok-items.ensures) in
     subst (λ is. text_size is ≤ 512 + 64 * (program_size q + closures_in q.bodies)) i (text_small q l.heap l.depth)
+
+pub returns-clause-ahead : goal.returns-clause-ahead
+returns-clause-ahead c =
+    let p = c.args.p.now in
+    let q = source p in
+    let l = c.args.limits in
+    let i = sym (whole_items q l.heap l.depth _ _ _ _ _ _ c.lay_out-layout.ensures.stack c.lay_out-layout.ensures.heap c.len-globals.ensures c.len-library.ensures (sym (bodies_count p.bodies)) c.in_ok-items.ensures) in
+    subst (λ is. IsTrue (jumps_ahead (own_label q) is)) i (program_ahead q l.heap l.depth (all_forward p.bodies))
 
 pub returns-clause-marks : goal.returns-clause-marks
 returns-clause-marks c =
