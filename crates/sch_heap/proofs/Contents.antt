@@ -160,7 +160,7 @@ cell_set code_of parts cells procedures bytes n contents at x lt there held with
         let room = r.room in
         let far : (r.at.unit + suc r.at.more ≤ at.unit) ⊎ (at.unit + suc at.more ≤ r.at.unit) = spots_apart parts (a_procedure k) (a_cell n) r.at at r.there there refl in
         let same : (a : ℕ) → 16 * r.at.unit ≤ a → a + 8 ≤ 16 * r.at.unit + 16 * suc r.at.more → word_in (with_word bytes (16 * at.unit) x) a ≡ word_in bytes a =
-            λ a lo hi. word_other bytes (16 * at.unit) x a within (omega (arith, low, w, lo)) (⊎_elim (λ le. inl (omega (arith, le, hi))) (λ le. inr (omega (arith, le, lo))) far) in
+        λ a lo hi. word_other bytes (16 * at.unit) x a within (omega (arith, low, w, lo)) (⊎_elim (λ le. inl (omega (arith, le, hi))) (λ le. inr (omega (arith, le, lo))) far) in
         record {
           at = r.at;
           there = r.there;

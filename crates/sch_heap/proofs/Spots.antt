@@ -67,11 +67,11 @@ apart_from unit [] a b s t e f n = absurd (let bad : None ≡ Some s = e in cc)
 apart_from unit (p ∷ parts) a b s t e f n =
     by_first unit p parts a s (AreApart s t) e
     (λ i is. by_first unit p parts b t (AreApart s t) f
-        (λ j js. let both : same_owner a b ≡ true = subst (λ x. same_owner x b ≡ true) (same_says p.owner a i) j in absurd (let bad : true ≡ false = sym both ∙ n in cc))
-        (λ j js. let u : unit ≡ s.unit = ap (λ t. t.unit) is in let m : p.more ≡ s.more = ap (λ t. t.more) is in let w = (within_from (unit + suc p.more) parts b t js).0 in inl (omega (arith, u, m, w))))
+    (λ j js. let both : same_owner a b ≡ true = subst (λ x. same_owner x b ≡ true) (same_says p.owner a i) j in absurd (let bad : true ≡ false = sym both ∙ n in cc))
+    (λ j js. let u : unit ≡ s.unit = ap (λ t. t.unit) is in let m : p.more ≡ s.more = ap (λ t. t.more) is in let w = (within_from (unit + suc p.more) parts b t js).0 in inl (omega (arith, u, m, w))))
     (λ i is. by_first unit p parts b t (AreApart s t) f
-        (λ j js. let u : unit ≡ t.unit = ap (λ t. t.unit) js in let m : p.more ≡ t.more = ap (λ t. t.more) js in let w = (within_from (unit + suc p.more) parts a s is).0 in inr (omega (arith, u, m, w)))
-        (λ j js. apart_from (unit + suc p.more) parts a b s t is js n))
+    (λ j js. let u : unit ≡ t.unit = ap (λ t. t.unit) js in let m : p.more ≡ t.more = ap (λ t. t.more) js in let w = (within_from (unit + suc p.more) parts a s is).0 in inr (omega (arith, u, m, w)))
+    (λ j js. apart_from (unit + suc p.more) parts a b s t is js n))
 
 pub spots_apart : (parts : Parts) (a b : Owner) (s t : Spot) → spot parts a ≡ Some s → spot parts b ≡ Some t → same_owner a b ≡ false → AreApart s t
 spots_apart parts a b s t e f n = apart_from parts.first parts.list a b s t e f n

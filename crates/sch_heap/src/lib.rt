@@ -3,5 +3,4 @@
 
 mod constant;
 
-pub use constant::constant_number;
-pub use constant::word;
+pub use constant::{constant_number, word};

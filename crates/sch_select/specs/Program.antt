@@ -108,12 +108,16 @@ own_label p = body_label (length p.bodies)
 abbrev pub heap_of : Source → ℕ
 heap_of p = heap_address (length p.statics.globals) (length p.library)
 
-abbrev pub program_code : Source → (heap depth : ℕ) → List Item
-program_code p heap depth =
-    item.Plain (MovWord RBP (pos (heap_of p + heap)))
-    ∷ (item.Plain (MovWord R12 (pos (heap_of p)))
+-- bodies, so many of them, with what stands in front of them and behind
+abbrev pub laid_code : (heap_end heap depth count : ℕ) → List Code → List Item
+laid_code heap_end heap depth count bodies =
+    item.Plain (MovWord RBP (pos heap_end))
+    ∷ (item.Plain (MovWord R12 (pos heap))
     ∷ (item.Plain (MovWord R13 (pos depth))
-    ∷ forms_code (heap_of p + heap) 0 (own_label p) p.bodies (item.Jump (label_of routine.End) ∷ (item.Label put_label ∷ put_value_code))))
+    ∷ forms_code heap_end 0 (body_label count) bodies (item.Jump (label_of routine.End) ∷ (item.Label put_label ∷ put_value_code))))
+
+abbrev pub program_code : Source → (heap depth : ℕ) → List Item
+program_code p heap depth = laid_code (heap_of p + heap) (heap_of p) depth (length p.bodies) p.bodies
 
 -- numbers one after the other
 abbrev pub ascending : (first count : ℕ) → List ℕ
@@ -150,11 +154,13 @@ abbrev pub closure_words : List ℕ → List Word
 closure_words [] = []
 closure_words (label ∷ library) = Address (body_label label) ∷ (Fixed 0 ∷ closure_words library)
 
-abbrev pub program_words : Source → List Word
-program_words p =
+abbrev pub data_words : (closures : ℕ) → (globals : List (Option ℕ)) → (library : List ℕ) → List Word
+data_words closures globals library =
     replicate 64 (Fixed 0) ++ (word_list static_bytes
-    ++ (global_words (closures_address (length p.statics.globals)) p.statics.globals
-    ++ (padding (length p.statics.globals) ++ closure_words p.library)))
+    ++ (global_words closures globals ++ (padding (length globals) ++ closure_words library)))
+
+abbrev pub program_words : Source → List Word
+program_words p = data_words (closures_address (length p.statics.globals)) p.statics.globals p.library
 
 -- the heap and the stack
 abbrev pub program_zeros : Source → (heap : ℕ) → ℕ

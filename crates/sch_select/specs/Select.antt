@@ -208,9 +208,28 @@ abbrev pub part_code : (tag bytes : ℕ) → List Item → List Item
 part_code tag bytes rest =
     Plain (MovTo (Reg RAX) R12) ∷ (Plain (AddNumber (Reg RAX) (pos tag)) ∷ (Plain (AddNumber (Reg R12) (pos bytes)) ∷ rest))
 
+-- RAX has the word of a cell, whose contents are read into it, or stop 73
+abbrev pub read_cell_code : List Item → List Item
+read_cell_code rest =
+    check_cell RAX (Plain (MovFrom RAX (cell_operand RAX))
+    ∷ (Plain (CmpNumber (Reg RAX) (pos unset_word)) ∷ (JumpIf E (stop_label Unset) ∷ rest)))
+
+-- RCX has the word of a cell, which is set to RAX, or stop 73
+abbrev pub write_cell_code : List Item → List Item
+write_cell_code rest =
+    check_cell RCX (Plain (MovTo (cell_operand RCX) RAX) ∷ (Plain (MovNumber (Reg RAX) (pos unspecified_word)) ∷ rest))
+
 -- the operand at an offset from the address of the next part
 abbrev pub part_operand : (offset : ℕ) → Arg
 part_operand offset = Base32 R12 (pos offset)
+
+-- a new cell with what RAX has, and one that is unset
+abbrev pub new_cell_code : (heap_end : ℕ) → List Item → List Item
+new_cell_code heap_end rest = check_heap heap_end cell_bytes (Plain (MovTo (part_operand 0) RAX) ∷ part_code cell_tag cell_bytes rest)
+
+abbrev pub unset_cell_code : (heap_end : ℕ) → List Item → List Item
+unset_cell_code heap_end rest =
+    check_heap heap_end cell_bytes (Plain (MovNumber (part_operand 0) (pos unset_word)) ∷ part_code cell_tag cell_bytes rest)
 
 -- the fields of a record, from an offset on
 abbrev pub fields_code : (offset : ℕ) → List (Source Place) → List Item → List Item
@@ -223,6 +242,11 @@ record_code offset c rest = LoadLabel RCX (body_label c.label) ∷ (Plain (MovTo
 
 abbrev pub closure_bytes : Closure Place → ℕ
 closure_bytes c = procedure_bytes (length c.fields)
+
+-- a new closure
+abbrev pub closure_code : (heap_end : ℕ) → Closure Place → List Item → List Item
+closure_code heap_end c rest =
+    check_heap heap_end (closure_bytes c) (record_code 0 c (part_code procedure_tag (closure_bytes c) rest))
 
 -- ## Operations; the labels from n to n + 11 are theirs
 
@@ -240,18 +264,11 @@ module _ (heap_end : ℕ) where
   operation_code n (operation.SetGlobal g o) rest =
       operand_code n o (StoreWord (global_address g) RAX ∷ (Plain (MovNumber (Reg RAX) (pos unspecified_word)) ∷ rest))
   operation_code n (operation.Field p k) rest = source_code RAX (source.Field p k) rest
-  operation_code n (operation.NewCell x) rest =
-      source_code RAX x (check_heap heap_end cell_bytes (Plain (MovTo (part_operand 0) RAX) ∷ part_code cell_tag cell_bytes rest))
-  operation_code n operation.UnsetCell rest =
-      check_heap heap_end cell_bytes (Plain (MovNumber (part_operand 0) (pos unset_word)) ∷ part_code cell_tag cell_bytes rest)
-  operation_code n (operation.CellGet x) rest =
-      source_code RAX x (check_cell RAX (Plain (MovFrom RAX (cell_operand RAX))
-      ∷ (Plain (CmpNumber (Reg RAX) (pos unset_word)) ∷ (JumpIf E (stop_label Unset) ∷ rest))))
-  operation_code n (operation.CellSet x o) rest =
-      operand_code n o (source_code RCX x (check_cell RCX (Plain (MovTo (cell_operand RCX) RAX)
-      ∷ (Plain (MovNumber (Reg RAX) (pos unspecified_word)) ∷ rest))))
-  operation_code n (operation.MakeClosure c) rest =
-      check_heap heap_end (closure_bytes c) (record_code 0 c (part_code procedure_tag (closure_bytes c) rest))
+  operation_code n (operation.NewCell x) rest = source_code RAX x (new_cell_code heap_end rest)
+  operation_code n operation.UnsetCell rest = unset_cell_code heap_end rest
+  operation_code n (operation.CellGet x) rest = source_code RAX x (read_cell_code rest)
+  operation_code n (operation.CellSet x o) rest = operand_code n o (source_code RCX x (write_cell_code rest))
+  operation_code n (operation.MakeClosure c) rest = closure_code heap_end c rest
 
 -- ## Groups: the heap has room for all of them, each has its word in its place, and then each has its record
 

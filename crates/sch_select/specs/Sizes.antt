@@ -1,9 +1,11 @@
--- What a program's text has beside its instructions.
-use Rattle.std.specs.Prelude.{ℕ, ◌+◌, List, [], ◌∷◌, length, Option, Some, None}
+-- What a program has beside its instructions: closures, procedures and marks.
+use Rattle.std.specs.Prelude.{ℕ, suc, ◌+◌, List, [], ◌∷◌, length, Option, Some, None}
 use Rattle.sch_control.specs.declared.body.Entry.{Entry}
 use Rattle.sch_frames.specs.declared.instruction.Instruction.{Instruction}
-use Rattle.sch_frames.specs.declared.instruction.Instruction.TheVariants.{Fix}
+use Rattle.sch_frames.specs.declared.instruction.Instruction.TheVariants.{Fix, Mark}
 use Rattle.sch_frames.specs.Tree.{Code}
+use Rattle.sch_asm.specs.declared.item.Item.{Item}
+use Rattle.sch_asm.specs.declared.item.Item.TheVariants as item
 
 -- the closures that groups make
 abbrev pub grouped : List Instruction → ℕ
@@ -20,3 +22,21 @@ jumped (Some e) = 1
 abbrev pub closures_in : List Code → ℕ
 closures_in [] = 0
 closures_in (c ∷ codes) = jumped c.entry + (grouped c.instructions + closures_in codes)
+
+-- ## Marks
+
+-- the marks that stand among items
+abbrev pub marks_in : List Item → ℕ
+marks_in [] = 0
+marks_in (item.Mark m ∷ is) = suc (marks_in is)
+marks_in (_ ∷ is) = marks_in is
+
+abbrev pub marked : List Instruction → ℕ
+marked [] = 0
+marked (Mark m ∷ instructions) = suc (marked instructions)
+marked (_ ∷ instructions) = marked instructions
+
+-- the marks of bodies, each with its own where it is entered
+abbrev pub bodies_marked : List Code → ℕ
+bodies_marked [] = 0
+bodies_marked (c ∷ codes) = suc (marked c.instructions) + bodies_marked codes

@@ -1,13 +1,9 @@
 //! The items of cells and closures.
 
-ghost use Rattle.std.specs.Prelude.{◌≡◌, ◌+◌, ◌*◌, ◌++◌, ◌∷◌, IfOk, OnOk, List, length, pos};
-ghost use Rattle.sch_word.specs.declared.stop.Stop.TheVariants as why;
+ghost use Rattle.std.specs.Prelude.{◌≡◌, ◌+◌, ◌*◌, ◌++◌, IfOk, OnOk, List, pos};
 ghost use Rattle.sch_asm.specs.declared.item.Item.{Item};
-ghost use Rattle.sch_asm.specs.declared.item.Item.TheVariants as item;
-ghost use Rattle.sch_insn.specs.declared.condition.TheConstants as condition;
-ghost use Rattle.sch_insn.specs.declared.insn.Arg.TheVariants.{Base32, Reg};
-ghost use Rattle.sch_insn.specs.declared.insn.Insn.TheVariants.{CmpNumber, MovFrom, MovNumber, MovTo};
-ghost use Rattle.sch_select.specs.Select.{cell_operand, check_cell, check_heap, closure_bytes, fields_code, group_bytes, group_code, part_code, part_operand, places_code, record_code, records_code, source_code, stop_label};
+ghost use Rattle.sch_insn.specs.declared.insn.Arg.TheVariants.{Base32};
+ghost use Rattle.sch_select.specs.Select.{cell_operand, check_cell, check_heap, closure_bytes, closure_code, fields_code, group_bytes, group_code, new_cell_code, part_code, part_operand, places_code, read_cell_code, record_code, records_code, source_code, unset_cell_code, write_cell_code};
 
 use crate::code::{above, atom, body_label, place_operand, stop};
 use sch_asm::Item;
@@ -94,7 +90,7 @@ fn cell_operand(register: u8) -> Arg
 
 /// Reads the cell that RAX has into RAX.
 pub(crate) fn read_cell(out: &mut List<Item>) -> Result<(), Mem>
-    ensures { OnOk result ((rest : List Item) → out.new ++ rest ≡ out.old ++ check_cell 0 (item.Plain (MovFrom 0 (cell_operand 0)) ∷ (item.Plain (CmpNumber (Reg 0) (pos 38)) ∷ (item.JumpIf condition.E (stop_label why.Unset) ∷ rest)))) }
+    ensures { OnOk result ((rest : List Item) → out.new ++ rest ≡ out.old ++ read_cell_code rest) }
 {
     out.extend_from_slice(&cell_checked(RAX))?;
     out.extend_from_slice(&[
@@ -106,7 +102,7 @@ pub(crate) fn read_cell(out: &mut List<Item>) -> Result<(), Mem>
 
 /// Sets the cell that RCX has to RAX.
 pub(crate) fn write_cell(out: &mut List<Item>) -> Result<(), Mem>
-    ensures { OnOk result ((rest : List Item) → out.new ++ rest ≡ out.old ++ check_cell 1 (item.Plain (MovTo (cell_operand 1) 0) ∷ (item.Plain (MovNumber (Reg 0) (pos 30)) ∷ rest))) }
+    ensures { OnOk result ((rest : List Item) → out.new ++ rest ≡ out.old ++ write_cell_code rest) }
 {
     out.extend_from_slice(&cell_checked(RCX))?;
     out.extend_from_slice(&[
@@ -144,7 +140,7 @@ fn part(out: &mut List<Item>, tag: u32, bytes: u32) -> Result<(), Mem>
 
 /// A new cell, which has what RAX has.
 pub(crate) fn new_cell(out: &mut List<Item>, heap_end: u32) -> Result<(), Mem>
-    ensures { OnOk result ((rest : List Item) → out.new ++ rest ≡ out.old ++ check_heap heap_end 16 (item.Plain (MovTo (part_operand 0) 0) ∷ part_code 7 16 rest)) }
+    ensures { OnOk result ((rest : List Item) → out.new ++ rest ≡ out.old ++ new_cell_code heap_end rest) }
 {
     check_heap(out, heap_end, CELL_BYTES)?;
     out.push(Item::Plain(Insn::MovTo(Arg::Base32(R12, 0), RAX)))?;
@@ -153,7 +149,7 @@ pub(crate) fn new_cell(out: &mut List<Item>, heap_end: u32) -> Result<(), Mem>
 
 /// A new cell that is unset.
 pub(crate) fn unset_cell(out: &mut List<Item>, heap_end: u32) -> Result<(), Mem>
-    ensures { OnOk result ((rest : List Item) → out.new ++ rest ≡ out.old ++ check_heap heap_end 16 (item.Plain (MovNumber (part_operand 0) (pos 38)) ∷ part_code 7 16 rest)) }
+    ensures { OnOk result ((rest : List Item) → out.new ++ rest ≡ out.old ++ unset_cell_code heap_end rest) }
 {
     check_heap(out, heap_end, CELL_BYTES)?;
     out.push(Item::Plain(Insn::MovNumber(Arg::Base32(R12, 0), UNSET)))?;
@@ -192,13 +188,16 @@ fn record(out: &mut List<Item>, offset: u32, c: &Closure<Place>) -> Result<(), M
 {
     let label = body_label(c.label)?;
     let place = part_operand(offset)?;
-    out.extend_from_slice(&[Item::LoadLabel(RCX, label), Item::Plain(Insn::MovTo(place, RCX))])?;
+    out.extend_from_slice(&[
+        Item::LoadLabel(RCX, label),
+        Item::Plain(Insn::MovTo(place, RCX)),
+    ])?;
     fields(out, above(offset, 8)?, c.fields.as_slice())
 }
 
 /// A new closure.
 pub(crate) fn closure(out: &mut List<Item>, heap_end: u32, c: &Closure<Place>) -> Result<(), Mem>
-    ensures { OnOk result ((rest : List Item) → out.new ++ rest ≡ out.old ++ check_heap heap_end (closure_bytes c.now) (record_code 0 c.now (part_code 4 (closure_bytes c.now) rest))) }
+    ensures { OnOk result ((rest : List Item) → out.new ++ rest ≡ out.old ++ closure_code heap_end c.now rest) }
 {
     let bytes = closure_bytes(c)?;
     check_heap(out, heap_end, bytes)?;
@@ -249,7 +248,11 @@ fn records(out: &mut List<Item>, offset: u32, members: &[Member<Place>]) -> Resu
 
 /// A group of closures that know one another: all are charged, each has its word in its place, and then each
 /// has its record.
-pub(crate) fn group(out: &mut List<Item>, heap_end: u32, members: &[Member<Place>]) -> Result<(), Mem>
+pub(crate) fn group(
+    out: &mut List<Item>,
+    heap_end: u32,
+    members: &[Member<Place>],
+) -> Result<(), Mem>
     ensures { OnOk result ((rest : List Item) → out.new ++ rest ≡ out.old ++ group_code heap_end members.now rest) }
 {
     let bytes = group_bytes(members)?;

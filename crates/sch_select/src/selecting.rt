@@ -6,19 +6,17 @@ ghost use Rattle.sch_asm.specs.Codes.{text_size};
 ghost use Rattle.sch_asm.specs.Items.{AreOwn};
 ghost use Rattle.sch_asm.specs.declared.item.Item.TheVariants as item;
 ghost use Rattle.sch_asm.specs.declared.assembly.Word.TheVariants.{Fixed};
-ghost use Rattle.sch_asm.specs.declared.routine.Routine.TheVariants as routine;
-ghost use Rattle.sch_asm.specs.Routines.{label_of};
 ghost use Rattle.sch_frames.specs.ProgramView.{source};
 ghost use Rattle.sch_frames.specs.Sizes.{program_size};
 ghost use Rattle.sch_frames.specs.SourceView.{codes_of};
-ghost use Rattle.sch_insn.specs.declared.insn.Insn.TheVariants.{MovWord};
 ghost use Rattle.sch_select.specs.Covered.{is_covered_program};
 ghost use Rattle.sch_select.specs.Follows.{FollowsFrames};
-ghost use Rattle.sch_select.specs.Program.{closure_words, closures_address, forms_code, global_word, global_words, heap_address, padding, program_zeros, put_value_code, stack_bytes, static_bytes, word_list};
+ghost use Rattle.sch_select.specs.Jumps.{jumps_ahead};
+ghost use Rattle.sch_select.specs.Program.{own_label, closure_words, closures_address, data_words, laid_code, global_word, global_words, heap_address, program_zeros, put_value_code, stack_bytes, static_bytes, word_list};
 ghost use Rattle.sch_select.specs.Select.{body_label, put_label};
-ghost use Rattle.sch_select.specs.Sizes.{closures_in};
+ghost use Rattle.sch_select.specs.Sizes.{bodies_marked, closures_in, marks_in};
 
-use crate::code::{body_label, GLOBALS_ADDRESS, PUT_LABEL};
+use crate::code::{GLOBALS_ADDRESS, PUT_LABEL, body_label};
 use crate::walk::forms;
 use sch_asm::{Asm, Item, Routine, Word};
 use sch_frames::FrameProgram;
@@ -221,7 +219,7 @@ fn first_words(alloc: Global) -> Result<List<Word>, Mem>
 /// The data of a program.
 fn words_of(alloc: Global, p: &FrameProgram, closures: u64) -> Result<List<Word>, Mem>
     requires few { closures ≤ 1073741824 }
-    ensures { IfOk result (λ words. words ≡ replicate 64 (Fixed 0) ++ (word_list static_bytes ++ (global_words closures p.now.statics.globals ++ (padding (length p.now.statics.globals) ++ closure_words p.now.library)))) }
+    ensures { IfOk result (λ words. words ≡ data_words closures p.now.statics.globals p.now.library) }
 {
     let globals = p.statics.globals.as_slice();
     let mut words = first_words(alloc)?;
@@ -235,7 +233,7 @@ fn words_of(alloc: Global, p: &FrameProgram, closures: u64) -> Result<List<Word>
 fn items_of(alloc: Global, p: &FrameProgram, layout: Layout, depth: u64) -> Result<List<Item>, Mem>
     requires heap { layout.heap ≤ 2147483647 }
     requires depth { depth ≤ 10000000 }
-    ensures { IfOk result (λ items. items ≡ item.Plain (MovWord RBP (pos layout.stack)) ∷ (item.Plain (MovWord R12 (pos layout.heap)) ∷ (item.Plain (MovWord R13 (pos depth)) ∷ forms_code layout.stack 0 (body_label (length p.now.bodies)) (codes_of p.now.bodies) (item.Jump (label_of routine.End) ∷ (item.Label put_label ∷ put_value_code))))) }
+    ensures { IfOk result (λ items. items ≡ laid_code layout.stack layout.heap depth (length p.now.bodies) (codes_of p.now.bodies)) }
 {
     let bodies = p.bodies.as_slice();
     let own = match u32::try_from(bodies.len()) {
@@ -266,6 +264,8 @@ pub fn select(alloc: Global, p: &FrameProgram, limits: Limits) -> Result<Asm, Me
     ensures follows { IfOk result (λ a. FollowsFrames (source p.now) limits.heap limits.depth a.items a.words a.zeros) }
     ensures own { IfOk result (λ a. AreOwn a.items) }
     ensures text { IfOk result (λ a. text_size a.items ≤ 512 + 64 * (program_size (source p.now) + closures_in (source p.now).bodies)) }
+    ensures ahead { IfOk result (λ a. IsTrue (jumps_ahead (own_label (source p.now)) a.items)) }
+    ensures marks { IfOk result (λ a. marks_in a.items ≡ bodies_marked (source p.now).bodies) }
     ensures words { IfOk result (λ a. length a.words ≤ 101 + length p.now.statics.globals + 2 * length p.now.library) }
     ensures zeros { IfOk result (λ a. a.zeros ≡ program_zeros (source p.now) limits.heap) }
     ensures ends { IfOk result (λ a. data_address + (8 * length a.words + a.zeros) < 2 ^ 31) }

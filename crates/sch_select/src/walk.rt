@@ -133,7 +133,12 @@ fn form(out: &mut List<Item>, heap_end: u32, label: u32, n: u32, b: &FrameBody) 
 }
 
 /// The bodies, in their order, with labels of their own from n on.
-pub(crate) fn forms(out: &mut List<Item>, heap_end: u32, n: u32, bodies: &[FrameBody]) -> Result<(), Mem>
+pub(crate) fn forms(
+    out: &mut List<Item>,
+    heap_end: u32,
+    n: u32,
+    bodies: &[FrameBody],
+) -> Result<(), Mem>
     ensures { OnOk result ((rest : List Item) → out.new ++ rest ≡ out.old ++ forms_code heap_end 0 n (codes_of bodies.now) rest) }
 {
     let mut next = n;

@@ -11,7 +11,7 @@ use Rattle.sch_asm.specs.declared.assembly.Asm.{Asm}
 use Rattle.sch_frames.specs.Straight.{is_straight_program}
 use Rattle.sch_frames.specs.Tree.{Source}
 use Rattle.sch_select.specs.Sizes.{closures_in}
-use Rattle.sch_select.proofs.StraightPrograms.{straight_covered, straight_closures}
+use Rattle.sch_select.proofs.programs.StraightPrograms.{straight_covered, straight_closures}
 use Rattle.sch_driver.specs.Assembled.{assembled_bound}
 use Rattle.sch_driver.proofs.Images.{assembled, refused_for, text_within, unfit}
 use Rattle.sch_driver.proofs.assembly.assemble.Goals as goal

@@ -1,4 +1,4 @@
-use Rattle.std.proofs.Common.{◌+◌, ◌*◌, ◌^◌, ◌<◌, ◌≤◌, length, sym, subst, arith}
+use Rattle.std.proofs.Common.{◌≡◌, ◌+◌, ◌*◌, ◌^◌, ◌<◌, ◌≤◌, length, sym, subst, arith}
 use Rattle.std.specs.Prelude.{IsTrue, false}
 use Rattle.sch_word.specs.runs.ProgramLayout.{data_address}
 use Rattle.sch_asm.specs.Items.{AreItems, AreKnown, AreOwn, IsEachOnce, labels_in, marks_arrive}
@@ -6,16 +6,19 @@ use Rattle.sch_asm.specs.Codes.{text_size}
 use Rattle.sch_frames.specs.ProgramView.{source}
 use Rattle.sch_frames.specs.Sizes.{program_size}
 use Rattle.sch_select.specs.Follows.{FollowsFrames}
-use Rattle.sch_select.specs.Program.{program_words, program_zeros}
-use Rattle.sch_select.specs.Sizes.{closures_in}
-use Rattle.sch_select.proofs.CoveredPrograms.{covered_selected, globals_known, labels_known, library_small, procedures_known}
-use Rattle.sch_select.proofs.JoinedProgram.{frames_follow}
-use Rattle.sch_select.proofs.ProgramFacts.{all_forward, bodies_count, data_end, globals_few, program_own, whole_items, whole_words, words_are, words_few}
-use Rattle.sch_select.proofs.ProgramKnown.{program_known}
-use Rattle.sch_select.proofs.ProgramLabels.{program_once}
-use Rattle.sch_select.proofs.ProgramMarks.{program_marked}
-use Rattle.sch_select.proofs.ProgramSound.{program_sound}
-use Rattle.sch_select.proofs.TextSize.{text_small}
+use Rattle.sch_select.specs.Program.{program_words, program_zeros, own_label}
+use Rattle.sch_select.specs.Sizes.{bodies_marked, closures_in, marks_in}
+use Rattle.sch_select.proofs.programs.CoveredPrograms.{covered_selected, globals_known, labels_known, library_small, procedures_known}
+use Rattle.sch_select.proofs.programs.JoinedProgram.{frames_follow}
+use Rattle.sch_select.proofs.items.ProgramFacts.{all_forward, bodies_count, data_end, globals_few, program_own, whole_items, whole_words, words_are, words_few}
+use Rattle.sch_select.proofs.items.ProgramKnown.{program_known}
+use Rattle.sch_select.proofs.items.ProgramLabels.{program_once}
+use Rattle.sch_select.proofs.items.ProgramMarks.{program_marked}
+use Rattle.sch_select.proofs.items.ProgramSound.{program_sound}
+use Rattle.sch_select.proofs.items.MarkCounts.{program_marks}
+use Rattle.sch_select.proofs.items.JumpsAhead.{program_ahead}
+use Rattle.sch_select.specs.Jumps.{jumps_ahead}
+use Rattle.sch_select.proofs.items.TextSize.{text_small}
 use Rattle.sch_select.proofs.selecting.select.Goals as goal
 
 pub lay_out-layout-requires-clause-few : goal.lay_out-layout-requires-clause-few
@@ -66,6 +69,22 @@ returns-clause-text c =
     let l = c.args.limits in
     let i = sym (whole_items q l.heap l.depth _ _ _ _ _ _ c.lay_out-layout.ensures.stack c.lay_out-layout.ensures.heap c.len-globals.ensures c.len-library.ensures (sym (bodies_count p.bodies)) c.in_ok-items.ensures) in
     subst (λ is. text_size is ≤ 512 + 64 * (program_size q + closures_in q.bodies)) i (text_small q l.heap l.depth)
+
+pub returns-clause-ahead : goal.returns-clause-ahead
+returns-clause-ahead c =
+    let p = c.args.p.now in
+    let q = source p in
+    let l = c.args.limits in
+    let i = sym (whole_items q l.heap l.depth _ _ _ _ _ _ c.lay_out-layout.ensures.stack c.lay_out-layout.ensures.heap c.len-globals.ensures c.len-library.ensures (sym (bodies_count p.bodies)) c.in_ok-items.ensures) in
+    subst (λ is. IsTrue (jumps_ahead (own_label q) is)) i (program_ahead q l.heap l.depth (all_forward p.bodies))
+
+pub returns-clause-marks : goal.returns-clause-marks
+returns-clause-marks c =
+    let p = c.args.p.now in
+    let q = source p in
+    let l = c.args.limits in
+    let i = sym (whole_items q l.heap l.depth _ _ _ _ _ _ c.lay_out-layout.ensures.stack c.lay_out-layout.ensures.heap c.len-globals.ensures c.len-library.ensures (sym (bodies_count p.bodies)) c.in_ok-items.ensures) in
+    subst (λ is. marks_in is ≡ bodies_marked q.bodies) i (program_marks q l.heap l.depth)
 
 pub returns-clause-words : goal.returns-clause-words
 returns-clause-words c =

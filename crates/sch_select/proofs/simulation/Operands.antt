@@ -30,10 +30,10 @@ use Rattle.sch_heap.specs.Parts.{Parts}
 use Rattle.sch_heap.specs.Encoded.{IsWord, constant_number}
 use Rattle.sch_select.specs.Select.{atom_code, unary_code, binary_code, read_code, operand_code, second_code}
 use Rattle.sch_heap.proofs.Encodings.{constant_word}
-use Rattle.sch_select.proofs.Straight.{is_free, Kept, kept_set, kept_then, moved_to, Yields, Comes, yields_after}
-use Rattle.sch_select.proofs.Primitives.{unary_here, binary_here}
-use Rattle.sch_select.proofs.Places.{Plan, Room, PlacesAt, places_kept, loaded, held_value}
-use Rattle.sch_select.proofs.Selected.{atom_selected, read_selected, operand_selected, takes}
+use Rattle.sch_select.proofs.simulation.Straight.{is_free, Kept, kept_set, kept_then, moved_to, Yields, Comes, yields_after}
+use Rattle.sch_select.proofs.simulation.Primitives.{unary_here, binary_here}
+use Rattle.sch_select.proofs.simulation.Places.{Plan, Room, PlacesAt, places_kept, loaded, held_value}
+use Rattle.sch_select.proofs.programs.Selected.{atom_selected, read_selected, operand_selected, takes}
 use Rattle.sch_control.specs.Valid.{only_reads}
 use Rattle.sch_word.specs.trees.Straight.{is_straight_constant}
 

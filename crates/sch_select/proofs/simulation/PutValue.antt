@@ -33,7 +33,7 @@ use Rattle.sch_heap.specs.Encoded.{IsWord}
 use Rattle.sch_select.specs.Select.{stop_label, low_bits, texts_address, bytes_address}
 use Rattle.sch_select.specs.Program.{put_value_code, procedure_put, text_code, either_text, character_put, false_code, nil_code, unspecified_code, texts_code, ascending, static_bytes, all_texts}
 use Rattle.sch_heap.proofs.Encodings.{tag_of, tag_tested, integer_tested, character_tested, procedure_tested, cell_tested}
-use Rattle.sch_select.proofs.Straight.{Halts, Kept, kept_set, kept_then, moved_to, tagged, Masked, masked, by_7, by_255}
+use Rattle.sch_select.proofs.simulation.Straight.{Halts, Kept, kept_set, kept_then, moved_to, tagged, Masked, masked, by_7, by_255}
 
 -- ---- static bytes
 

@@ -28,12 +28,12 @@ use Rattle.sch_asm.proofs.Standing.{setting_of}
 use Rattle.sch_select.specs.Select.{put_label, globals_address, body_label, body_code}
 use Rattle.sch_select.specs.Program.{own_label, passed_code, forms_code, form_code, labels_end, put_value_code, program_code, program_words, program_zeros, static_bytes, closures_address, heap_of, stack_bytes}
 use Rattle.sch_select.specs.Follows.{AreRuns, FollowsFrames}
-use Rattle.sch_select.proofs.Places.{Plan, Room}
-use Rattle.sch_select.proofs.Appending.{Appends, then_appends, body_appends, behind}
-use Rattle.sch_select.proofs.Following.{Laid}
-use Rattle.sch_select.proofs.Starting.{parts_at_start, bytes_count, texts_there, values_there, first_is, ends_at, contents_there, new_there}
-use Rattle.sch_select.proofs.Whole.{Starts, program_follows}
-use Rattle.sch_select.proofs.Selected.{form_selected, selects}
+use Rattle.sch_select.proofs.simulation.Places.{Plan, Room}
+use Rattle.sch_select.proofs.items.Appending.{Appends, then_appends, body_appends, behind}
+use Rattle.sch_select.proofs.simulation.Following.{Laid}
+use Rattle.sch_select.proofs.programs.Starting.{parts_at_start, bytes_count, texts_there, values_there, first_is, ends_at, contents_there, new_there}
+use Rattle.sch_select.proofs.programs.Whole.{Starts, program_follows}
+use Rattle.sch_select.proofs.programs.Selected.{form_selected, selects}
 use Rattle.sch_select.specs.Covered.{marks_settled}
 
 -- ---- what stands behind the forms

@@ -29,7 +29,7 @@ use Rattle.sch_heap.specs.Heap.{HeapAt, AreNew}
 use Rattle.sch_heap.proofs.Contents.{heap_kept}
 use Rattle.sch_select.specs.Select.{place_operand, globals_address, global_address, body_label}
 use Rattle.sch_heap.proofs.Encodings.{fits}
-use Rattle.sch_select.proofs.Straight.{Kept, moved_to}
+use Rattle.sch_select.proofs.simulation.Straight.{Kept, moved_to}
 
 -- Where a program lies: its text, the size of its data and of its frames, how many globals there are, and
 -- where its closures, its heap and its stack begin. The static bytes of puts stand before the globals.

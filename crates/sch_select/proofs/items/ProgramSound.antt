@@ -38,10 +38,10 @@ use Rattle.sch_asm.specs.declared.routine.Routine.TheVariants as routine
 use Rattle.sch_heap.specs.Encoded.{constant_number}
 use Rattle.sch_select.specs.Select.{atom_code, unary_code, binary_code, read_code, operand_code, second_code, source_code, check_heap, part_code, part_operand, fields_code, record_code, closure_bytes, group_bytes, places_code, records_code, group_code, operation_code, global_address, place_operand, instruction_code, body_code, put_label}
 use Rattle.sch_select.specs.Program.{passed_code, forms_code, labels_end, put_value_code, program_code, own_label, heap_of}
-use Rattle.sch_select.proofs.Records.{bytes_are}
-use Rattle.sch_select.proofs.Closures.{group_small}
-use Rattle.sch_select.proofs.Sound.{items_valid, arg_valid, fits_32, fits_64, items_say}
-use Rattle.sch_select.proofs.Selected.{atom_selected, read_selected, operand_selected, source_selected, closure_selected, members_selected, operation_selected, instruction_selected, form_selected, selects, takes}
+use Rattle.sch_select.proofs.simulation.Records.{bytes_are}
+use Rattle.sch_select.proofs.simulation.Closures.{group_small}
+use Rattle.sch_select.proofs.items.Sound.{items_valid, arg_valid, fits_32, fits_64, items_say}
+use Rattle.sch_select.proofs.programs.Selected.{atom_selected, read_selected, operand_selected, source_selected, closure_selected, members_selected, operation_selected, instruction_selected, form_selected, selects, takes}
 use Rattle.sch_select.specs.Covered.{marks_settled}
 use Rattle.sch_control.specs.Valid.{only_reads}
 use Rattle.sch_word.specs.trees.Straight.{is_straight_constant}

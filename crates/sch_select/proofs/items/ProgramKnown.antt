@@ -35,22 +35,22 @@ use Rattle.sch_asm.specs.Routines.{label_of}
 use Rattle.sch_asm.specs.Items.{AreKnown, is_among, is_routine, labels_in, uses_in, word_uses}
 use Rattle.sch_select.specs.Select.{put_label, body_label, source_code, fields_code, record_code, closure_bytes, places_code, records_code, atom_code, unary_code, binary_code, read_code, operand_code, second_code, operation_code, body_code}
 use Rattle.sch_select.specs.Program.{passed_code, form_code, forms_code, labels_end, heap_of, own_label, put_value_code, program_code, program_words, word_list, static_bytes, global_words, padding, closure_words, closures_address}
-use Rattle.sch_select.proofs.Selected.{members_few, operation_few, labels_few}
-use Rattle.sch_select.proofs.ProgramSound.{in_front}
-use Rattle.sch_select.proofs.Labels.{unary_labels, binary_labels, read_labels, operand_labels, operation_labels}
-use Rattle.sch_select.proofs.ProgramLabels.{body_labels, own_labels, form_labels, forms_labels, forms_labelled}
+use Rattle.sch_select.proofs.programs.Selected.{members_few, operation_few, labels_few}
+use Rattle.sch_select.proofs.items.ProgramSound.{in_front}
+use Rattle.sch_select.proofs.items.Labels.{unary_labels, binary_labels, read_labels, operand_labels, operation_labels}
+use Rattle.sch_select.proofs.items.ProgramLabels.{body_labels, own_labels, form_labels, forms_labels, forms_labelled}
 
-or_true : (b : Bool) → (b || true) ≡ true
+pub or_true : (b : Bool) → (b || true) ≡ true
 or_true true = refl
 or_true false = refl
 
-first_in : (n : ℕ) (ls : List ℕ) → is_among (n ∷ ls) n ≡ true
+pub first_in : (n : ℕ) (ls : List ℕ) → is_among (n ∷ ls) n ≡ true
 first_in n ls = ap (λ b. b || is_among ls n) (eq-eqb n n refl)
 
-later_in : (m n : ℕ) (ls : List ℕ) → is_among ls n ≡ true → is_among (m ∷ ls) n ≡ true
+pub later_in : (m n : ℕ) (ls : List ℕ) → is_among ls n ≡ true → is_among (m ∷ ls) n ≡ true
 later_in m n ls e = ap (λ b. (m == n) || b) e ∙ or_true (m == n)
 
-left_in : (xs ys : List ℕ) (y : ℕ) → is_among xs y ≡ true → is_among (xs ++ ys) y ≡ true
+pub left_in : (xs ys : List ℕ) (y : ℕ) → is_among xs y ≡ true → is_among (xs ++ ys) y ≡ true
 left_in [] ys y e = absurd (let bad : false ≡ true = e in cc)
 left_in (x ∷ xs) ys y e = by (x == y) e (left_in xs ys y)
   where
@@ -58,9 +58,31 @@ left_in (x ∷ xs) ys y e = by (x == y) e (left_in xs ys y)
     by true e rec = refl
     by false e rec = rec e
 
-right_in : (xs ys : List ℕ) (y : ℕ) → is_among ys y ≡ true → is_among (xs ++ ys) y ≡ true
+pub right_in : (xs ys : List ℕ) (y : ℕ) → is_among ys y ≡ true → is_among (xs ++ ys) y ≡ true
 right_in [] ys y e = e
 right_in (x ∷ xs) ys y e = ap (λ b. (x == y) || b) (right_in xs ys y e) ∙ or_true (x == y)
+
+-- a label that stands in a body
+pub label_in : (base n l : ℕ) (instructions : List Instruction) → has l (frames.labels_in instructions) ≡ true → is_among (body_labels base n instructions) (base + l) ≡ true
+label_in base n l [] e = absurd (let bad : false ≡ true = e in cc)
+label_in base n l (Label k ∷ instructions) e = by (nat_eq l k) refl e (label_in base (n + 12) l instructions)
+  where
+    by : (b : Bool) → nat_eq l k ≡ b → (b || has l (frames.labels_in instructions)) ≡ true → (has l (frames.labels_in instructions) ≡ true → is_among (body_labels base (n + 12) instructions) (base + l) ≡ true) → is_among ((base + k) ∷ body_labels base (n + 12) instructions) (base + l) ≡ true
+    by true q e rec = let same : l ≡ k = eqb-true l k q in ap (λ b. b || is_among (body_labels base (n + 12) instructions) (base + l)) (eq-eqb (base + k) (base + l) (omega (arith, same)))
+    by false q e rec = later_in (base + k) (base + l) (body_labels base (n + 12) instructions) (rec e)
+label_in base n l (Do o ∷ instructions) e = right_in (operation_labels n o) (body_labels base (n + 12) instructions) (base + l) (label_in base (n + 12) l instructions e)
+label_in base n l (Store q ∷ instructions) e = label_in base (n + 12) l instructions e
+label_in base n l (Copy to from ∷ instructions) e = label_in base (n + 12) l instructions e
+label_in base n l (Load q o ∷ instructions) e = right_in (operand_labels n o) (body_labels base (n + 12) instructions) (base + l) (label_in base (n + 12) l instructions e)
+label_in base n l (Pass j o ∷ instructions) e = label_in base (n + 12) l instructions e
+label_in base n l (Fix members ∷ instructions) e = label_in base (n + 12) l instructions e
+label_in base n l (Call spread count ∷ instructions) e = label_in base (n + 12) l instructions e
+label_in base n l (Tail spread count ∷ instructions) e = label_in base (n + 12) l instructions e
+label_in base n l (Return ∷ instructions) e = label_in base (n + 12) l instructions e
+label_in base n l (Mark m ∷ instructions) e = label_in base (n + 12) l instructions e
+label_in base n l (End ∷ instructions) e = label_in base (n + 12) l instructions e
+label_in base n l (IfFalse j ∷ instructions) e = label_in base (n + 12) l instructions e
+label_in base n l (Jump j ∷ instructions) e = label_in base (n + 12) l instructions e
 
 -- All these labels stand in the program.
 module _ (all : List ℕ) where
@@ -176,36 +198,14 @@ module _ (all : List ℕ) where
     operation_uses n (operation.MakeClosure c) f h rest = record_uses 0 c f _
 
     module _ (base out : ℕ) (out_in : is_among all out ≡ true) where
-      -- a label that stands in a body
-      label_in : (n : ℕ) (l : ℕ) (instructions : List Instruction) → has l (frames.labels_in instructions) ≡ true → is_among (body_labels base n instructions) (base + l) ≡ true
-      label_in n l [] e = absurd (let bad : false ≡ true = e in cc)
-      label_in n l (Label k ∷ instructions) e = by (nat_eq l k) refl e (label_in (n + 12) l instructions)
-        where
-          by : (b : Bool) → nat_eq l k ≡ b → (b || has l (frames.labels_in instructions)) ≡ true → (has l (frames.labels_in instructions) ≡ true → is_among (body_labels base (n + 12) instructions) (base + l) ≡ true) → is_among ((base + k) ∷ body_labels base (n + 12) instructions) (base + l) ≡ true
-          by true q e rec = let same : l ≡ k = eqb-true l k q in ap (λ b. b || is_among (body_labels base (n + 12) instructions) (base + l)) (eq-eqb (base + k) (base + l) (omega (arith, same)))
-          by false q e rec = later_in (base + k) (base + l) (body_labels base (n + 12) instructions) (rec e)
-      label_in n l (Do o ∷ instructions) e = right_in (operation_labels n o) (body_labels base (n + 12) instructions) (base + l) (label_in (n + 12) l instructions e)
-      label_in n l (Store q ∷ instructions) e = label_in (n + 12) l instructions e
-      label_in n l (Copy to from ∷ instructions) e = label_in (n + 12) l instructions e
-      label_in n l (Load q o ∷ instructions) e = right_in (operand_labels n o) (body_labels base (n + 12) instructions) (base + l) (label_in (n + 12) l instructions e)
-      label_in n l (Pass j o ∷ instructions) e = label_in (n + 12) l instructions e
-      label_in n l (Fix members ∷ instructions) e = label_in (n + 12) l instructions e
-      label_in n l (Call spread count ∷ instructions) e = label_in (n + 12) l instructions e
-      label_in n l (Tail spread count ∷ instructions) e = label_in (n + 12) l instructions e
-      label_in n l (Return ∷ instructions) e = label_in (n + 12) l instructions e
-      label_in n l (Mark m ∷ instructions) e = label_in (n + 12) l instructions e
-      label_in n l (End ∷ instructions) e = label_in (n + 12) l instructions e
-      label_in n l (IfFalse j ∷ instructions) e = label_in (n + 12) l instructions e
-      label_in n l (Jump j ∷ instructions) e = label_in (n + 12) l instructions e
-
       body_uses : (n : ℕ) (instructions : List Instruction) → jumps_ahead instructions ≡ true → list_all (labels_few count) instructions ≡ true → Among (body_labels base n instructions) → Uses (body_code base out heap_end n instructions)
       body_uses n [] e f h rest = refl
       body_uses n (IfFalse l ∷ instructions) e f h rest =
           let p = and_parts (has l (frames.labels_in instructions)) (jumps_ahead instructions) e in
-          one (base + l) (uses_in (body_code base out heap_end (n + 12) instructions rest)) (h (base + l) (label_in (n + 12) l instructions p.0)) ∙ body_uses (n + 12) instructions p.1 f h rest
+          one (base + l) (uses_in (body_code base out heap_end (n + 12) instructions rest)) (h (base + l) (label_in base (n + 12) l instructions p.0)) ∙ body_uses (n + 12) instructions p.1 f h rest
       body_uses n (Jump l ∷ instructions) e f h rest =
           let p = and_parts (has l (frames.labels_in instructions)) (jumps_ahead instructions) e in
-          one (base + l) (uses_in (body_code base out heap_end (n + 12) instructions rest)) (h (base + l) (label_in (n + 12) l instructions p.0)) ∙ body_uses (n + 12) instructions p.1 f h rest
+          one (base + l) (uses_in (body_code base out heap_end (n + 12) instructions rest)) (h (base + l) (label_in base (n + 12) l instructions p.0)) ∙ body_uses (n + 12) instructions p.1 f h rest
       body_uses n (End ∷ instructions) e f h rest = one out (uses_in (body_code base out heap_end (n + 12) instructions rest)) out_in ∙ body_uses (n + 12) instructions e f h rest
       body_uses n (Label l ∷ instructions) e f h rest = body_uses (n + 12) instructions e f (among_right ((base + l) ∷ []) (body_labels base (n + 12) instructions) h) rest
       body_uses n (Do o ∷ instructions) e f h rest =

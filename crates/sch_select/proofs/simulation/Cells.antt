@@ -36,14 +36,14 @@ use Rattle.sch_heap.proofs.Spots.{spot_within, spot_newest}
 use Rattle.sch_heap.proofs.Encodings.{fits, is_cell, cell_tested, unset_tested}
 use Rattle.sch_heap.proofs.Contents.{words_stay, held_words, held_fits, cell_taken, cell_there}
 use Rattle.sch_select.specs.Select.{kind_of, stop_label, source_code, check_heap, check_cell, part_code, part_operand, cell_operand, operation_code}
-use Rattle.sch_select.proofs.Straight.{halts_after, Halts, Kept, kept_set, kept_then, moved_to, Masked, masked, tagged, by_7}
-use Rattle.sch_select.proofs.Places.{Plan, Room, StoreAt, PlacesAt, places_kept}
-use Rattle.sch_select.proofs.Operands.{Reads, operand_here, free_scratch}
-use Rattle.sch_select.proofs.HeapWrites.{Wrote, wrote_one, store_wrote, heap_inside, places_wrote, places_grown, store_grown, cell_written, room_tested}
-use Rattle.sch_select.proofs.Sources.{is_one, Sources, source_here, Tested, room_here}
-use Rattle.sch_select.proofs.Following.{after, Laid, stops_here}
-use Rattle.sch_select.proofs.Operations.{Std, FrameOf, StoreOf, SimOf, Rest, next_of, onward, none_waits}
-use Rattle.sch_select.proofs.Selected.{source_selected, operand_selected}
+use Rattle.sch_select.proofs.simulation.Straight.{halts_after, Halts, Kept, kept_set, kept_then, moved_to, Masked, masked, tagged, by_7}
+use Rattle.sch_select.proofs.simulation.Places.{Plan, Room, StoreAt, PlacesAt, places_kept}
+use Rattle.sch_select.proofs.simulation.Operands.{Reads, operand_here, free_scratch}
+use Rattle.sch_select.proofs.simulation.HeapWrites.{Wrote, wrote_one, store_wrote, heap_inside, places_wrote, places_grown, store_grown, cell_written, room_tested}
+use Rattle.sch_select.proofs.simulation.Sources.{is_one, Sources, source_here, Tested, room_here}
+use Rattle.sch_select.proofs.simulation.Following.{after, Laid, stops_here}
+use Rattle.sch_select.proofs.simulation.Operations.{Std, FrameOf, StoreOf, SimOf, Rest, next_of, onward, none_waits}
+use Rattle.sch_select.proofs.programs.Selected.{source_selected, operand_selected}
 
 -- one register that is a scratch register
 pub one_scratch : (r : ℕ) (registers registers' : ℕ → ℕ) → is_scratch r ≡ true → Kept (is_one r) registers registers' → Kept is_scratch registers registers'
@@ -445,8 +445,8 @@ module _ (plan : Plan) (body_steps : ℕ) (laid : Laid plan body_steps) (back fr
                     let z3 : View = record z2 { registers = set_register i.registers 0 30; place = z2.place + i.ahead.2.0 } in
                     let w' : World = record w { state = record w.state { cells = slice_set w.state.cells m (Some u) } } in
                     let kept = kept_then is_scratch x.registers s.registers z3.registers (free_scratch x.registers s.registers s.kept)
-                        (kept_then is_scratch s.registers r.registers z3.registers (one_scratch 1 s.registers r.registers refl r.kept)
-                        (kept_then is_scratch r.registers i.registers z3.registers (one_scratch 2 r.registers i.registers refl i.kept) (kept_set is_scratch i.registers 0 30 refl))) in
+                    (kept_then is_scratch s.registers r.registers z3.registers (one_scratch 1 s.registers r.registers refl r.kept)
+                    (kept_then is_scratch r.registers i.registers z3.registers (one_scratch 2 r.registers i.registers refl i.kept) (kept_set is_scratch i.registers 0 30 refl))) in
                     let low : 0x10000320 ≤ a0 = (let b = there.inside.low in let k = g.begins in let sw = (spot_within parts (a_cell m) there.at there.there).0 in let cl = plan.closures_low in omega (arith, b, k, sw, cl)) in
                     let wrote : Wrote a0 (a0 + 8) x.bytes bytes = wrote_one a0 (a0 + 8) a0 (i.registers 0) x.bytes there.inside low (omega arith) (omega arith) in
                     let sa = s.few in let ra = r.few in let be = there.below in

@@ -24,8 +24,8 @@ use Rattle.sch_asm.specs.declared.assembly.Word.{Word}
 use Rattle.sch_asm.specs.declared.assembly.Word.TheVariants.{Fixed}
 use Rattle.sch_select.specs.Select.{put_label, body_label}
 use Rattle.sch_select.specs.Program.{forms_code, program_code, program_words, program_zeros, put_value_code, closures_address, heap_address, heap_of, own_label, static_bytes, word_list, global_words, padding, closure_words}
-use Rattle.sch_select.proofs.ProgramLabels.{labels_low, forms_labels, forms_labelled}
-use Rattle.sch_select.proofs.Starting.{five_count, globals_count, closures_count}
+use Rattle.sch_select.proofs.items.ProgramLabels.{labels_low, forms_labels, forms_labelled}
+use Rattle.sch_select.proofs.programs.Starting.{five_count, globals_count, closures_count}
 
 pub words_few : (p : FrameProgram) → p.words ≤ 2048
 words_few p = leb-true p.words max_words (and_parts (nat_le p.words max_words) (list_all (λ c. nat_le c.words p.words) (codes_of p.bodies)) p.within).0

@@ -32,12 +32,12 @@ use Rattle.sch_heap.proofs.Spots.{spot_newest, end_grown}
 use Rattle.sch_heap.proofs.Encodings.{fits}
 use Rattle.sch_heap.proofs.Contents.{Stay, procedure_taken}
 use Rattle.sch_select.specs.Select.{body_label, part_operand, fields_code, record_code, closure_bytes, group_bytes, records_code}
-use Rattle.sch_select.proofs.Straight.{Kept, kept_set, kept_then, moved_to}
-use Rattle.sch_select.proofs.Places.{Plan, code_of, Room, StoreAt, PlacesAt, places_kept}
-use Rattle.sch_select.proofs.HeapWrites.{Wrote, wrote_none, wrote_one, wrote_then, wrote_within, store_wrote, heap_inside, places_wrote}
-use Rattle.sch_select.proofs.Sources.{is_one, Sourced, Sources, source_here}
-use Rattle.sch_select.proofs.Cells.{one_scratch}
-use Rattle.sch_select.proofs.Selected.{source_selected, closure_selected, members_selected}
+use Rattle.sch_select.proofs.simulation.Straight.{Kept, kept_set, kept_then, moved_to}
+use Rattle.sch_select.proofs.simulation.Places.{Plan, code_of, Room, StoreAt, PlacesAt, places_kept}
+use Rattle.sch_select.proofs.simulation.HeapWrites.{Wrote, wrote_none, wrote_one, wrote_then, wrote_within, store_wrote, heap_inside, places_wrote}
+use Rattle.sch_select.proofs.simulation.Sources.{is_one, Sourced, Sources, source_here}
+use Rattle.sch_select.proofs.simulation.Cells.{one_scratch}
+use Rattle.sch_select.proofs.programs.Selected.{source_selected, closure_selected, members_selected}
 
 -- ---- sizes
 
@@ -72,8 +72,7 @@ pub group_spots : (parts : Parts) (cells n next : ℕ) (members : List (Member P
 group_spots parts cells n next [] new at = tt
 group_spots parts cells n next (m ∷ members) new at =
     let one : List Part = record { owner = a_procedure n; more = more_of m.closure } ∷ [] in
-    let e = end_grown parts one in let b = bytes_are m.closure in
-    (
+    let e = end_grown parts one in let b = bytes_are m.closure in (
       (record { unit = end_of parts; more = more_of m.closure }, spot_newest parts (a_procedure n) (more_of m.closure) (group_parts (suc n) members) (new.procedure n (omega arith)), at, refl),
       subst (λ l. AreSpots (record parts { list = l }) (next + closure_bytes m.closure) (suc n) members) (append_assoc parts.list one (group_parts (suc n) members))
           (group_spots (grown parts one) cells (suc n) (next + closure_bytes m.closure) members (procedure_taken parts cells n (more_of m.closure) new) (omega (arith, e, b, at))),
@@ -327,8 +326,8 @@ module _ (plan : Plan) (back fr d : ℕ) (back_fits : back < 2 ^ 64) (room : Roo
       let at = spots.0.0 in let there = spots.0.1 in let unit = spots.0.2 in let more = spots.0.3 in
       let size = closure_bytes m.closure in
       let first : Recorded o n b.0 x (records_code (o + size) members following) =
-          subst (λ p. Recorded o n p x (records_code (o + size) members following)) own.is
-          (recorded o n m.closure own.vs at x (records_code (o + size) members following) shaped.0 own.values there unit more (omega (arith, le)) p g h) in
+      subst (λ p. Recorded o n p x (records_code (o + size) members following)) own.is
+      (recorded o n m.closure own.vs at x (records_code (o + size) members following) shaped.0 own.values there unit more (omega (arith, le)) p g h) in
       let fields : length b.0.fields ≡ length m.closure.fields = ap (λ p. length p.fields) (sym own.is) ∙ values_count m.closure.fields own.vs own.values in
       let fit = fields_fit m.closure in let sz = bytes_are m.closure in
       let z : View = record x { registers = first.registers; bytes = first.bytes; place = first.place } in

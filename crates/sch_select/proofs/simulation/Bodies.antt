@@ -30,16 +30,16 @@ use Rattle.sch_heap.specs.Parts.{Parts}
 use Rattle.sch_heap.specs.Encoded.{IsWord}
 use Rattle.sch_select.specs.Select.{kind_of, place_operand, instruction_code, body_code}
 use Rattle.sch_heap.proofs.Encodings.{fits, false_tested}
-use Rattle.sch_select.proofs.Straight.{kept_set, moved_to}
-use Rattle.sch_select.proofs.Places.{Plan, Room, Holds, held_value, loaded, written, places_kept}
-use Rattle.sch_select.proofs.Appending.{instruction_appends, Behind, behind}
-use Rattle.sch_select.proofs.Following.{Laid}
-use Rattle.sch_select.proofs.Operations.{Std, FrameOf, StoreOf, SimOf, onward, none_waits}
-use Rattle.sch_select.proofs.EachOperation.{operation_cost, operation_sim}
-use Rattle.sch_select.proofs.Closures.{group_sim}
-use Rattle.sch_select.proofs.Records.{records_cost}
-use Rattle.sch_select.proofs.Operands.{ReadsSecond, second_here}
-use Rattle.sch_select.proofs.Selected.{instruction_selected, operand_selected, members_selected}
+use Rattle.sch_select.proofs.simulation.Straight.{kept_set, moved_to}
+use Rattle.sch_select.proofs.simulation.Places.{Plan, Room, Holds, held_value, loaded, written, places_kept}
+use Rattle.sch_select.proofs.items.Appending.{instruction_appends, Behind, behind}
+use Rattle.sch_select.proofs.simulation.Following.{Laid}
+use Rattle.sch_select.proofs.simulation.Operations.{Std, FrameOf, StoreOf, SimOf, onward, none_waits}
+use Rattle.sch_select.proofs.simulation.EachOperation.{operation_cost, operation_sim}
+use Rattle.sch_select.proofs.simulation.Closures.{group_sim}
+use Rattle.sch_select.proofs.simulation.Records.{records_cost}
+use Rattle.sch_select.proofs.simulation.Operands.{ReadsSecond, second_here}
+use Rattle.sch_select.proofs.programs.Selected.{instruction_selected, operand_selected, members_selected}
 
 pub map_one : (ms : List control.MarkKind) (m : control.MarkKind) → map kind_of (ms ++ m ∷ []) ≡ map kind_of ms ++ kind_of m ∷ []
 map_one [] m = refl

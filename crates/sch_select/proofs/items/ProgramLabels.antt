@@ -18,7 +18,7 @@ use Rattle.sch_asm.specs.Items.{IsEachOnce, is_among, labels_in}
 use Rattle.sch_asm.proofs.Tables.{each_once, repeats}
 use Rattle.sch_select.specs.Select.{put_label, body_label, instruction_code, body_code}
 use Rattle.sch_select.specs.Program.{passed_code, form_code, forms_code, labels_end, heap_of, own_label, put_value_code, program_code}
-use Rattle.sch_select.proofs.Labels.{Block, Apart, Labelled, among_append, either_false, distinct_append, operand_labels, second_labelled, operand_block, group_labelled, operation_labels, operation_labelled, operation_block}
+use Rattle.sch_select.proofs.items.Labels.{Block, Apart, Labelled, among_append, either_false, distinct_append, operand_labels, second_labelled, operand_block, group_labelled, operation_labels, operation_labelled, operation_block}
 
 -- elements of one list that another one has not
 apart_by : (xs ys : List ℕ) → ((x : ℕ) → is_among xs x ≡ true → is_among ys x ≡ false) → Apart xs ys

@@ -32,11 +32,11 @@ use Rattle.sch_heap.specs.Heap.{field_address}
 use Rattle.sch_heap.proofs.Spots.{spot_within}
 use Rattle.sch_heap.proofs.Contents.{Stay, words_by}
 use Rattle.sch_select.specs.Select.{source_code, check_heap, stop_label}
-use Rattle.sch_select.proofs.Straight.{Halts, Kept, kept_set, kept_then, moved_to}
-use Rattle.sch_select.proofs.Places.{Plan, Room, StoreAt, PlacesAt, Holds, loaded}
-use Rattle.sch_select.proofs.Operands.{Atomic, atomic}
-use Rattle.sch_select.proofs.HeapWrites.{heap_inside}
-use Rattle.sch_select.proofs.Selected.{source_selected}
+use Rattle.sch_select.proofs.simulation.Straight.{Halts, Kept, kept_set, kept_then, moved_to}
+use Rattle.sch_select.proofs.simulation.Places.{Plan, Room, StoreAt, PlacesAt, Holds, loaded}
+use Rattle.sch_select.proofs.simulation.Operands.{Atomic, atomic}
+use Rattle.sch_select.proofs.simulation.HeapWrites.{heap_inside}
+use Rattle.sch_select.proofs.programs.Selected.{source_selected}
 
 -- one register alone
 abbrev pub is_one : ℕ → ℕ → Bool

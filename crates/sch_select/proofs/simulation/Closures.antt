@@ -37,15 +37,15 @@ use Rattle.sch_heap.specs.Heap.{RecordAt, AreNew}
 use Rattle.sch_heap.proofs.Spots.{spot_stays, spot_newest}
 use Rattle.sch_heap.proofs.Contents.{words_stay, procedure_taken}
 use Rattle.sch_select.specs.Select.{kind_of, part_code, record_code, closure_bytes, group_bytes, places_code, records_code, group_code, operation_code}
-use Rattle.sch_select.proofs.Straight.{Halts, kept_set, kept_then, moved_to}
-use Rattle.sch_select.proofs.Places.{Plan, code_of, Room, StoreAt, PlacesAt, places_kept, Holds, holds_words, written}
-use Rattle.sch_select.proofs.HeapWrites.{Wrote, wrote_within, store_wrote, places_wrote, places_grown, store_grown, room_tested}
-use Rattle.sch_select.proofs.Sources.{is_one, HasRoom, Tested, room_here}
-use Rattle.sch_select.proofs.Records.{more_of, bytes_are, fields_fit, values_count, group_parts, group_units, AreSpots, group_spots, group_new, recorded, records_made, records_cost, both_there}
-use Rattle.sch_select.proofs.Following.{after, Laid, stops_here}
-use Rattle.sch_select.proofs.Operations.{Std, FrameOf, StoreOf, SimOf, Rest, next_of, none_waits}
-use Rattle.sch_select.proofs.Cells.{one_scratch}
-use Rattle.sch_select.proofs.Selected.{source_selected, closure_selected, members_selected}
+use Rattle.sch_select.proofs.simulation.Straight.{Halts, kept_set, kept_then, moved_to}
+use Rattle.sch_select.proofs.simulation.Places.{Plan, code_of, Room, StoreAt, PlacesAt, places_kept, Holds, holds_words, written}
+use Rattle.sch_select.proofs.simulation.HeapWrites.{Wrote, wrote_within, store_wrote, places_wrote, places_grown, store_grown, room_tested}
+use Rattle.sch_select.proofs.simulation.Sources.{is_one, HasRoom, Tested, room_here}
+use Rattle.sch_select.proofs.simulation.Records.{more_of, bytes_are, fields_fit, values_count, group_parts, group_units, AreSpots, group_spots, group_new, recorded, records_made, records_cost, both_there}
+use Rattle.sch_select.proofs.simulation.Following.{after, Laid, stops_here}
+use Rattle.sch_select.proofs.simulation.Operations.{Std, FrameOf, StoreOf, SimOf, Rest, next_of, none_waits}
+use Rattle.sch_select.proofs.simulation.Cells.{one_scratch}
+use Rattle.sch_select.proofs.programs.Selected.{source_selected, closure_selected, members_selected}
 
 -- ---- charges
 
@@ -305,8 +305,8 @@ module _ (plan : Plan) (body_steps : ℕ) (laid : Laid plan body_steps) (back fr
 
     pub group_sim : (members : List (Member Place)) → nat_le (length members) 200 ≡ true → members_selected words globals members ≡ true → Holds back parts f.accumulator (x.registers 0) → Here waiting x.place (group_code stack members rest)
         → Owed parts before w x (250 + (3 * length members + records_cost members) + c)
-            (on_outcome w.marks (in_store (charge_each (member_bytes members)) w.state)
-            (λ _ w. with_value (with_procedures w.state (members_made (held (with_members f members (procedures_from (length w.state.procedures) (length members)))) w.state members)) (λ s. k (with_members f members (procedures_from (length w.state.procedures) (length members))) (record { state = s; marks = w.marks }))))
+        (on_outcome w.marks (in_store (charge_each (member_bytes members)) w.state)
+        (λ _ w. with_value (with_procedures w.state (members_made (held (with_members f members (procedures_from (length w.state.procedures) (length members)))) w.state members)) (λ s. k (with_members f members (procedures_from (length w.state.procedures) (length members))) (record { state = s; marks = w.marks }))))
     group_sim members few e acc h = subst (λ o. Owed parts before w x cost (result o)) (sym all.outcome) (by_room (nat_le (t.charged + charged_all (member_bytes members)) t.constants.heap) refl)
       where
         t : Store

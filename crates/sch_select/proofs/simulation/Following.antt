@@ -19,8 +19,8 @@ use Rattle.sch_asm.specs.Effects.{Effect}
 use Rattle.sch_asm.specs.Views.{View, full, Leads}
 use Rattle.sch_select.specs.Select.{stop_label, put_label, kind_of}
 use Rattle.sch_select.specs.Program.{put_value_code, static_bytes}
-use Rattle.sch_select.proofs.Straight.{moved_to, Halts}
-use Rattle.sch_select.proofs.Places.{Plan, StoreAt}
+use Rattle.sch_select.proofs.simulation.Straight.{moved_to, Halts}
+use Rattle.sch_select.proofs.simulation.Places.{Plan, StoreAt}
 
 -- A procedure entry pays for as many steps as a body has at most, and an answer of the kernel for ten.
 module _ (plan : Plan) (body_steps : ℕ) where

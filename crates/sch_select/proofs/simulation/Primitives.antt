@@ -38,8 +38,8 @@ use Rattle.sch_heap.proofs.Quotients.{Divides, divides, quotient_computes, posit
 use Rattle.sch_heap.proofs.Comparisons.{is_less, is_not_less, at_most_is, tests_equal, tests_less, tests_greater, tests_less_equal, tests_greater_equal}
 use Rattle.sch_heap.specs.Parts.{Parts}
 use Rattle.sch_heap.proofs.Encodings.{fits, tag_of, tag_tested, integer_tested, character_tested, boolean_tested, null_tested, procedure_tested, same_tested}
-use Rattle.sch_select.proofs.Straight.{is_free, kept_set, kept_then, moved_to, tagged, Comes, comes_after, yields_after, fixnum_checked, character_checked, booleans, tests, ends_fixnum, by_7, by_127, by_255}
-use Rattle.sch_select.proofs.Selected.{takes}
+use Rattle.sch_select.proofs.simulation.Straight.{is_free, kept_set, kept_then, moved_to, tagged, Comes, comes_after, yields_after, fixnum_checked, character_checked, booleans, tests, ends_fixnum, by_7, by_127, by_255}
+use Rattle.sch_select.proofs.programs.Selected.{takes}
 
 -- ---- types that no word has yet
 

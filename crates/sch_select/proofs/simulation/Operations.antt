@@ -35,14 +35,14 @@ use Rattle.sch_heap.specs.Parts.{Parts}
 use Rattle.sch_heap.specs.Encoded.{IsWord}
 use Rattle.sch_select.specs.Select.{global_address, put_label, kind_of, operand_code, second_code, unary_code, binary_code, put_code, operation_code, stop_label}
 use Rattle.sch_heap.proofs.Encodings.{fits, unset_tested}
-use Rattle.sch_select.proofs.Straight.{halts_after, is_free, kept_set, kept_then, moved_to, Yields, Comes, comes_after}
-use Rattle.sch_select.proofs.Primitives.{unary_here, binary_here}
-use Rattle.sch_select.proofs.Places.{Plan, Room, StoreAt, PlacesAt, places_kept, Holds}
-use Rattle.sch_select.proofs.Operands.{Reads, ReadsSecond, operand_here, second_here, free_scratch}
-use Rattle.sch_select.proofs.PutValue.{PutsPiece, puts_value}
-use Rattle.sch_select.proofs.Changes.{global_inside, global_written, store_behind, places_written, below_written, places_behind, word_behind}
-use Rattle.sch_select.proofs.Following.{Ends, Sim, after, Laid, stops_here}
-use Rattle.sch_select.proofs.Selected.{operand_selected, takes}
+use Rattle.sch_select.proofs.simulation.Straight.{halts_after, is_free, kept_set, kept_then, moved_to, Yields, Comes, comes_after}
+use Rattle.sch_select.proofs.simulation.Primitives.{unary_here, binary_here}
+use Rattle.sch_select.proofs.simulation.Places.{Plan, Room, StoreAt, PlacesAt, places_kept, Holds}
+use Rattle.sch_select.proofs.simulation.Operands.{Reads, ReadsSecond, operand_here, second_here, free_scratch}
+use Rattle.sch_select.proofs.simulation.PutValue.{PutsPiece, puts_value}
+use Rattle.sch_select.proofs.simulation.Changes.{global_inside, global_written, store_behind, places_written, below_written, places_behind, word_behind}
+use Rattle.sch_select.proofs.simulation.Following.{Ends, Sim, after, Laid, stops_here}
+use Rattle.sch_select.proofs.programs.Selected.{operand_selected, takes}
 
 pub none_waits : (l before waiting : List MarkKind) → l ≡ before ++ waiting → l ≡ (before ++ waiting) ++ []
 none_waits l before waiting e = e ∙ sym (append-nil (before ++ waiting))

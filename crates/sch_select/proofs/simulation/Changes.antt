@@ -19,7 +19,7 @@ use Rattle.sch_heap.specs.Encoded.{IsWord, IsHeld}
 use Rattle.sch_heap.proofs.Contents.{heap_kept, set_same, set_other}
 use Rattle.sch_select.specs.Select.{global_address}
 use Rattle.sch_heap.proofs.Encodings.{fits}
-use Rattle.sch_select.proofs.Places.{Plan, code_of, Room, StoreAt, PlacesAt, Holds, same_word, no_scratch}
+use Rattle.sch_select.proofs.simulation.Places.{Plan, code_of, Room, StoreAt, PlacesAt, Holds, same_word, no_scratch}
 
 -- ---- words behind the routines' own
 

@@ -30,8 +30,8 @@ use Rattle.sch_asm.specs.Routines.{label_of}
 use Rattle.sch_asm.specs.Items.{marks_arrive}
 use Rattle.sch_select.specs.Select.{put_label, place_operand, atom_code, unary_code, binary_code, read_code, operand_code, second_code, source_code, fields_code, record_code, closure_bytes, places_code, records_code, operation_code, instruction_code, body_code}
 use Rattle.sch_select.specs.Program.{passed_code, forms_code, labels_end, put_value_code, program_code, own_label, heap_of}
-use Rattle.sch_select.proofs.ProgramSound.{in_front}
-use Rattle.sch_select.proofs.Selected.{atom_selected, read_selected, operand_selected, source_selected, closure_selected, members_selected, operation_selected, instruction_selected, form_selected, selects, takes}
+use Rattle.sch_select.proofs.items.ProgramSound.{in_front}
+use Rattle.sch_select.proofs.programs.Selected.{atom_selected, read_selected, operand_selected, source_selected, closure_selected, members_selected, operation_selected, instruction_selected, form_selected, selects, takes}
 use Rattle.sch_select.specs.Covered.{marks_settled}
 use Rattle.sch_control.specs.Valid.{only_reads}
 

@@ -19,7 +19,7 @@ use Rattle.sch_heap.specs.Encoded.{IsWord, IsHeld, Words}
 use Rattle.sch_heap.specs.Heap.{CellAt, RecordAt, AreNew}
 use Rattle.sch_heap.proofs.Spots.{spot_within, end_grown}
 use Rattle.sch_heap.proofs.Contents.{heap_kept, heap_grows, words_stay, held_words, cells_added, procedures_added, cell_set}
-use Rattle.sch_select.proofs.Places.{Plan, code_of, Room, StoreAt, PlacesAt, Holds, holds_words, not_register}
+use Rattle.sch_select.proofs.simulation.Places.{Plan, code_of, Room, StoreAt, PlacesAt, Holds, holds_words, not_register}
 
 -- Words from an address to another may have changed, and none else.
 pub record Wrote (from to : ℕ) (before after : List ℕ) : Type 0 where

@@ -1,0 +1,12 @@
+-- The items of a program: their labels, marks, sizes and shapes.
+pub mod Appending
+pub mod Labels
+pub mod ProgramLabels
+pub mod Sound
+pub mod ProgramSound
+pub mod ProgramMarks
+pub mod ProgramKnown
+pub mod TextSize
+pub mod ProgramFacts
+pub mod MarkCounts
+pub mod JumpsAhead

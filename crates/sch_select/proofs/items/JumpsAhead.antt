@@ -1,0 +1,210 @@
+-- Jumps to the own labels of bodies go forward.
+use Rattle.std.proofs.Common.{◌≡◌, ℕ, suc, ◌+◌, ◌<◌, ◌≤◌, List, [], ◌∷◌, Bool, true, Option, Some, None, refl, ap, ◌∙◌, arith, ◌&&◌, ◌||◌}
+use Rattle.std.specs.Prelude.{nat_lt}
+use Rattle.std.specs.List.{list_all}
+use Rattle.std.proofs.lemmas.Bool.{and_parts, lt-ltb}
+use Rattle.sch_word.specs.declared.place.Place.{Place}
+use Rattle.sch_word.specs.declared.primitive.Primitive.{Primitive}
+use Rattle.sch_word.specs.declared.primitive.Primitive.TheVariants.{Eq, Eqv, IsBoolean, IsPair, IsNull, IsSymbol, IsInteger, IsChar, IsString, IsVector, IsProcedure, Add, Subtract, Multiply, Quotient, Remainder, Modulo, Equal, Less, Greater, LessEqual, GreaterEqual, CharToInteger, IntegerToChar, Put}
+use Rattle.sch_word.specs.trees.NumberSets.{has}
+use Rattle.sch_control.specs.Valid.{without_repeats}
+use Rattle.sch_control.specs.declared.body.Entry.{Entry}
+use Rattle.sch_control.specs.declared.operation.Atom.{Atom}
+use Rattle.sch_control.specs.declared.operation.Atom.TheVariants.{Constant, Literal, Variable}
+use Rattle.sch_control.specs.declared.operation.Operand.{Operand}
+use Rattle.sch_control.specs.declared.operation.Operand.TheVariants as operand
+use Rattle.sch_control.specs.declared.operation.Source.{Source}
+use Rattle.sch_control.specs.declared.operation.Source.TheVariants as source
+use Rattle.sch_control.specs.declared.operation.Member.{Member}
+use Rattle.sch_control.specs.declared.operation.Operation.{Operation}
+use Rattle.sch_control.specs.declared.operation.Operation.TheVariants as operation
+use Rattle.sch_frames.specs.declared.instruction.Instruction.{Instruction}
+use Rattle.sch_frames.specs.declared.instruction.Instruction.TheVariants as instruction
+use Rattle.sch_frames.specs.Tree.{Code}
+use Rattle.sch_frames.specs.Tree as tree
+use Rattle.sch_frames.specs.Valid as frames
+use Rattle.sch_frames.specs.Valid.{forward}
+use Rattle.sch_asm.specs.declared.item.Item.{Item}
+use Rattle.sch_asm.specs.declared.item.Item.TheVariants as item
+use Rattle.sch_asm.specs.Items.{is_among, labels_in}
+use Rattle.sch_select.specs.Select.{body_label, atom_code, unary_code, binary_code, read_code, operand_code, second_code, source_code, fields_code, closure_bytes, places_code, records_code, operation_code, body_code}
+use Rattle.sch_select.specs.Program.{passed_code, forms_code, labels_end, heap_of, own_label, program_code, put_value_code}
+use Rattle.sch_select.specs.Jumps.{goes_ahead, jumps_ahead}
+use Rattle.sch_select.proofs.items.ProgramSound.{in_front}
+use Rattle.sch_select.proofs.items.ProgramLabels.{body_labels, body_labelled}
+use Rattle.sch_select.proofs.items.ProgramKnown.{or_true, first_in, later_in, left_in, right_in, label_in}
+
+module _ (own : ℕ) (low : 1030 ≤ own) where
+  abbrev Ahead : (List Item → List Item) → Type 0
+  Ahead f = (rest : List Item) → jumps_ahead own (f rest) ≡ jumps_ahead own rest
+
+  -- a label that is no body's own
+  away : (l : ℕ) → l < 1030 → (t b : Bool) → ((nat_lt l own || t) && b) ≡ b
+  away l lt t b = ap (λ a. (a || t) && b) (lt-ltb l own (let k = low in omega (arith, lt, k)))
+
+  -- a label that stands behind
+  near : (l : ℕ) (t b : Bool) → t ≡ true → ((nat_lt l own || t) && b) ≡ b
+  near l t b e = in_front (nat_lt l own || t) b (ap (λ t. nat_lt l own || t) e ∙ or_true (nat_lt l own))
+
+  stop : (l : ℕ) → l < 1030 → (is : List Item) → (goes_ahead own l is && jumps_ahead own is) ≡ jumps_ahead own is
+  stop l lt is = away l lt (is_among (labels_in is) l) (jumps_ahead own is)
+
+  here : (n : ℕ) (ls : List ℕ) (b : Bool) → ((nat_lt n own || is_among (n ∷ ls) n) && b) ≡ b
+  here n ls b = near n (is_among (n ∷ ls) n) b (first_in n ls)
+
+  unary_ahead : (n : ℕ) (which : Primitive) → Ahead (unary_code n which)
+  unary_ahead n IsBoolean rest = here n (labels_in rest) (jumps_ahead own rest)
+  unary_ahead n IsPair rest = here n (labels_in rest) (jumps_ahead own rest)
+  unary_ahead n IsNull rest = here n (labels_in rest) (jumps_ahead own rest)
+  unary_ahead n IsSymbol rest = here n (labels_in rest) (jumps_ahead own rest)
+  unary_ahead n IsInteger rest = here n (labels_in rest) (jumps_ahead own rest)
+  unary_ahead n IsChar rest = here n (labels_in rest) (jumps_ahead own rest)
+  unary_ahead n IsString rest = here n (labels_in rest) (jumps_ahead own rest)
+  unary_ahead n IsVector rest = here n (labels_in rest) (jumps_ahead own rest)
+  unary_ahead n IsProcedure rest = here n (labels_in rest) (jumps_ahead own rest)
+  unary_ahead n CharToInteger rest = stop 1 (omega arith) rest
+  unary_ahead n IntegerToChar rest = away 1 (omega arith) (is_among (labels_in rest) 1) ((nat_lt 2 own || is_among (labels_in rest) 2) && jumps_ahead own rest) ∙ stop 2 (omega arith) rest
+  unary_ahead n Put rest = away 1024 (omega arith) (is_among (n ∷ labels_in rest) 1024) (jumps_ahead own rest)
+  unary_ahead n _ rest = refl
+
+  -- a comparison of two fixnums
+  two : (n : ℕ) (ls : List ℕ) (b : Bool) → ((nat_lt 1 own || is_among (n ∷ ls) 1) && ((nat_lt 1 own || is_among (n ∷ ls) 1) && ((nat_lt n own || is_among (n ∷ ls) n) && b))) ≡ b
+  two n ls b = away 1 (omega arith) (is_among (n ∷ ls) 1) _ ∙ away 1 (omega arith) (is_among (n ∷ ls) 1) _ ∙ here n ls b
+
+  -- what computes a fixnum
+  three : (a t u v b : Bool) (l : ℕ) → l < 1030 → ((nat_lt 1 own || t) && ((nat_lt 1 own || u) && ((nat_lt l own || v) && b))) ≡ b
+  three a t u v b l lt = away 1 (omega arith) t _ ∙ away 1 (omega arith) u _ ∙ away l lt v b
+
+  binary_ahead : (n : ℕ) (which : Primitive) → Ahead (binary_code n which)
+  binary_ahead n Eq rest = here n (labels_in rest) (jumps_ahead own rest)
+  binary_ahead n Eqv rest = here n (labels_in rest) (jumps_ahead own rest)
+  binary_ahead n Add rest = three true (is_among (labels_in rest) 1) (is_among (labels_in rest) 1) (is_among (labels_in rest) 6) (jumps_ahead own rest) 6 (omega arith)
+  binary_ahead n Subtract rest = three true (is_among (labels_in rest) 1) (is_among (labels_in rest) 1) (is_among (labels_in rest) 6) (jumps_ahead own rest) 6 (omega arith)
+  binary_ahead n Multiply rest = three true (is_among (labels_in rest) 1) (is_among (labels_in rest) 1) (is_among (labels_in rest) 6) (jumps_ahead own rest) 6 (omega arith)
+  binary_ahead n Quotient rest = three true (is_among (labels_in rest) 1) (is_among (labels_in rest) 1) (is_among (labels_in rest) 5) _ 5 (omega arith) ∙ stop 6 (omega arith) rest
+  binary_ahead n Remainder rest = three true (is_among (labels_in rest) 1) (is_among (labels_in rest) 1) (is_among (labels_in rest) 5) (jumps_ahead own rest) 5 (omega arith)
+  binary_ahead n Modulo rest =
+      let ls = labels_in rest in
+      let all : List ℕ = (n + 1) ∷ ((n + 2) ∷ (n ∷ ls)) in
+      let last : List ℕ = (n + 2) ∷ (n ∷ ls) in
+      let in_all : is_among all n ≡ true = later_in (n + 1) n last (later_in (n + 2) n (n ∷ ls) (first_in n ls)) in
+      three true (is_among all 1) (is_among all 1) (is_among all 5) _ 5 (omega arith)
+      ∙ near n (is_among all n) _ in_all ∙ near (n + 1) (is_among all (n + 1)) _ (first_in (n + 1) last)
+      ∙ near n (is_among all n) _ in_all ∙ near (n + 2) (is_among all (n + 2)) _ (later_in (n + 1) (n + 2) last (first_in (n + 2) (n ∷ ls)))
+      ∙ near n (is_among last n) (jumps_ahead own rest) (later_in (n + 2) n (n ∷ ls) (first_in n ls))
+  binary_ahead n Equal rest = two n (labels_in rest) (jumps_ahead own rest)
+  binary_ahead n Less rest = two n (labels_in rest) (jumps_ahead own rest)
+  binary_ahead n Greater rest = two n (labels_in rest) (jumps_ahead own rest)
+  binary_ahead n LessEqual rest = two n (labels_in rest) (jumps_ahead own rest)
+  binary_ahead n GreaterEqual rest = two n (labels_in rest) (jumps_ahead own rest)
+  binary_ahead n _ rest = refl
+
+  atom_ahead : (r : ℕ) (a : Atom Place) → Ahead (atom_code r a)
+  atom_ahead r (Constant c) rest = refl
+  atom_ahead r (Variable p) rest = refl
+  atom_ahead r (Literal n) rest = refl
+
+  read_ahead : (n : ℕ) (which : Primitive) (atoms : List (Atom Place)) → Ahead (read_code n which atoms)
+  read_ahead n which [] rest = refl
+  read_ahead n which (a ∷ []) rest = atom_ahead 0 a (unary_code n which rest) ∙ unary_ahead n which rest
+  read_ahead n which (a ∷ (b ∷ [])) rest = atom_ahead 0 a (atom_code 1 b (binary_code n which rest)) ∙ atom_ahead 1 b (binary_code n which rest) ∙ binary_ahead n which rest
+  read_ahead n which (a ∷ (b ∷ (c ∷ atoms))) rest = refl
+
+  operand_ahead : (n : ℕ) (o : Operand Place) → Ahead (operand_code n o)
+  operand_ahead n (operand.Atom a) rest = atom_ahead 0 a rest
+  operand_ahead n (operand.Read site which atoms) rest = read_ahead n which atoms rest
+
+  second_ahead : (n : ℕ) (o : Operand Place) → Ahead (second_code n o)
+  second_ahead n (operand.Atom a) rest = atom_ahead 1 a rest
+  second_ahead n (operand.Read site which atoms) rest = read_ahead n which atoms _
+
+  source_ahead : (r : ℕ) (x : Source Place) → Ahead (source_code r x)
+  source_ahead r (source.Atom a) rest = atom_ahead r a rest
+  source_ahead r (source.Field p k) rest = refl
+
+  fields_ahead : (offset : ℕ) (sources : List (Source Place)) → Ahead (fields_code offset sources)
+  fields_ahead offset [] rest = refl
+  fields_ahead offset (x ∷ sources) rest = source_ahead 1 x _ ∙ fields_ahead (offset + 8) sources rest
+
+  places_ahead : (offset : ℕ) (members : List (Member Place)) → Ahead (places_code offset members)
+  places_ahead offset [] rest = refl
+  places_ahead offset (m ∷ members) rest = places_ahead (offset + closure_bytes m.closure) members rest
+
+  records_ahead : (offset : ℕ) (members : List (Member Place)) → Ahead (records_code offset members)
+  records_ahead offset [] rest = refl
+  records_ahead offset (m ∷ members) rest = fields_ahead (offset + 8) m.closure.fields _ ∙ records_ahead (offset + closure_bytes m.closure) members rest
+
+  operation_ahead : (heap_end n : ℕ) (o : Operation Place) → Ahead (operation_code heap_end n o)
+  operation_ahead heap_end n (operation.Operand o) rest = operand_ahead n o rest
+  operation_ahead heap_end n (operation.Prim site which []) rest = refl
+  operation_ahead heap_end n (operation.Prim site which (o ∷ [])) rest = operand_ahead n o (unary_code (n + 8) which rest) ∙ unary_ahead (n + 8) which rest
+  operation_ahead heap_end n (operation.Prim site which (o ∷ (q ∷ []))) rest =
+      operand_ahead n o (second_code (n + 4) q (binary_code (n + 8) which rest)) ∙ second_ahead (n + 4) q (binary_code (n + 8) which rest) ∙ binary_ahead (n + 8) which rest
+  operation_ahead heap_end n (operation.Prim site which (o ∷ (q ∷ (r ∷ operands)))) rest = refl
+  operation_ahead heap_end n (operation.Global g) rest = stop 9 (omega arith) rest
+  operation_ahead heap_end n (operation.SetGlobal g o) rest = operand_ahead n o _
+  operation_ahead heap_end n (operation.Field p k) rest = refl
+  operation_ahead heap_end n (operation.NewCell x) rest = source_ahead 0 x _ ∙ stop 7 (omega arith) rest
+  operation_ahead heap_end n operation.UnsetCell rest = stop 7 (omega arith) rest
+  operation_ahead heap_end n (operation.CellGet x) rest = source_ahead 0 x _ ∙ away 9 (omega arith) (is_among (labels_in rest) 9) _ ∙ stop 9 (omega arith) rest
+  operation_ahead heap_end n (operation.CellSet x o) rest = operand_ahead n o _ ∙ source_ahead 1 x _ ∙ stop 9 (omega arith) rest
+  operation_ahead heap_end n (operation.MakeClosure c) rest = away 7 (omega arith) _ _ ∙ fields_ahead 8 c.fields _
+
+  -- ---- bodies
+
+  -- a label behind a body
+  behind_body : (base out heap_end n l : ℕ) (is : List Instruction) (rest : List Item) → is_among (labels_in rest) l ≡ true → is_among (labels_in (body_code base out heap_end n is rest)) l ≡ true
+  behind_body base out heap_end n l is rest e = ap (λ ls. is_among ls l) (body_labelled base out heap_end n is rest) ∙ right_in (body_labels base n is) (labels_in rest) l e
+
+  within_body : (base out heap_end n l : ℕ) (is : List Instruction) (rest : List Item) → has l (frames.labels_in is) ≡ true → is_among (labels_in (body_code base out heap_end n is rest)) (base + l) ≡ true
+  within_body base out heap_end n l is rest e = ap (λ ls. is_among ls (base + l)) (body_labelled base out heap_end n is rest) ∙ left_in (body_labels base n is) (labels_in rest) (base + l) (label_in base n l is e)
+
+  body_ahead : (base out heap_end n : ℕ) (is : List Instruction) (rest : List Item) → frames.jumps_ahead is ≡ true → is_among (labels_in rest) out ≡ true → jumps_ahead own (body_code base out heap_end n is rest) ≡ jumps_ahead own rest
+  body_ahead base out heap_end n [] rest e o = refl
+  body_ahead base out heap_end n (instruction.IfFalse l ∷ is) rest e o =
+      let p = and_parts (has l (frames.labels_in is)) (frames.jumps_ahead is) e in
+      near (base + l) _ _ (within_body base out heap_end (n + 12) l is rest p.0) ∙ body_ahead base out heap_end (n + 12) is rest p.1 o
+  body_ahead base out heap_end n (instruction.Jump l ∷ is) rest e o =
+      let p = and_parts (has l (frames.labels_in is)) (frames.jumps_ahead is) e in
+      near (base + l) _ _ (within_body base out heap_end (n + 12) l is rest p.0) ∙ body_ahead base out heap_end (n + 12) is rest p.1 o
+  body_ahead base out heap_end n (instruction.End ∷ is) rest e o = near out _ _ (behind_body base out heap_end (n + 12) out is rest o) ∙ body_ahead base out heap_end (n + 12) is rest e o
+  body_ahead base out heap_end n (instruction.Do q ∷ is) rest e o = operation_ahead heap_end n q (body_code base out heap_end (n + 12) is rest) ∙ body_ahead base out heap_end (n + 12) is rest e o
+  body_ahead base out heap_end n (instruction.Load p q ∷ is) rest e o = second_ahead n q _ ∙ body_ahead base out heap_end (n + 12) is rest e o
+  body_ahead base out heap_end n (instruction.Fix members ∷ is) rest e o =
+      away 7 (omega arith) _ _ ∙ places_ahead 0 members _ ∙ records_ahead 0 members _ ∙ body_ahead base out heap_end (n + 12) is rest e o
+  body_ahead base out heap_end n (instruction.Store p ∷ is) rest e o = body_ahead base out heap_end (n + 12) is rest e o
+  body_ahead base out heap_end n (instruction.Copy p q ∷ is) rest e o = body_ahead base out heap_end (n + 12) is rest e o
+  body_ahead base out heap_end n (instruction.Pass j q ∷ is) rest e o = body_ahead base out heap_end (n + 12) is rest e o
+  body_ahead base out heap_end n (instruction.Call spread count ∷ is) rest e o = body_ahead base out heap_end (n + 12) is rest e o
+  body_ahead base out heap_end n (instruction.Tail spread count ∷ is) rest e o = body_ahead base out heap_end (n + 12) is rest e o
+  body_ahead base out heap_end n (instruction.Return ∷ is) rest e o = body_ahead base out heap_end (n + 12) is rest e o
+  body_ahead base out heap_end n (instruction.Label l ∷ is) rest e o = body_ahead base out heap_end (n + 12) is rest e o
+  body_ahead base out heap_end n (instruction.Mark m ∷ is) rest e o = body_ahead base out heap_end (n + 12) is rest e o
+
+  passed_ahead : (q : Option Entry) (out : ℕ) (rest : List Item) → is_among (labels_in rest) out ≡ true → jumps_ahead own (passed_code q out rest) ≡ jumps_ahead own rest
+  passed_ahead None out rest e = refl
+  passed_ahead (Some q) out rest e = near out (is_among (labels_in rest) out) (jumps_ahead own rest) e
+
+  forms_ahead : (heap_end label n : ℕ) (cs : List Code) (rest : List Item) → list_all (λ c. forward c.labels c.instructions) cs ≡ true → jumps_ahead own (forms_code heap_end label n cs rest) ≡ jumps_ahead own rest
+  forms_ahead heap_end label n [] rest e = refl
+  forms_ahead heap_end label n (c ∷ cs) rest e =
+      let p = and_parts (forward c.labels c.instructions) (list_all (λ c. forward c.labels c.instructions) cs) e in
+      let q = and_parts (list_all (λ l. nat_lt l c.labels) (frames.labels_in c.instructions)) (without_repeats (frames.labels_in c.instructions) && frames.jumps_ahead c.instructions) p.0 in
+      let r = and_parts (without_repeats (frames.labels_in c.instructions)) (frames.jumps_ahead c.instructions) q.1 in
+      let out = n + c.labels in
+      let others = forms_code heap_end (suc label) (labels_end n c) cs rest in
+      let last = item.Label out ∷ others in
+      let there : is_among (labels_in last) out ≡ true = first_in out (labels_in others) in
+      let body = body_code n out heap_end (n + c.labels + 1) c.instructions last in
+      passed_ahead c.entry out _ (later_in (body_label label) out (labels_in body) (behind_body n out heap_end (n + c.labels + 1) out c.instructions last there))
+      ∙ body_ahead n out heap_end (n + c.labels + 1) c.instructions last r.1 there ∙ forms_ahead heap_end (suc label) (labels_end n c) cs rest p.1
+
+-- the jumps of the program's own routine are to labels below those of bodies
+last_ahead : (own : ℕ) → 1030 ≤ own → jumps_ahead own (item.Jump 0 ∷ (item.Label 1024 ∷ put_value_code)) ≡ true
+last_ahead own low =
+    away own low 0 (omega arith) _ _ ∙ away own low 12 (omega arith) _ _ ∙ away own low 1029 (omega arith) _ _ ∙ away own low 1 (omega arith) _ _ ∙ away own low 1025 (omega arith) _ _
+    ∙ away own low 11 (omega arith) _ _ ∙ away own low 1026 (omega arith) _ _ ∙ away own low 11 (omega arith) _ _ ∙ away own low 1027 (omega arith) _ _ ∙ away own low 11 (omega arith) _ _
+    ∙ away own low 1028 (omega arith) _ _ ∙ away own low 11 (omega arith) _ _ ∙ away own low 11 (omega arith) _ _ ∙ away own low 11 (omega arith) _ _
+
+pub program_ahead : (p : tree.Source) (heap depth : ℕ) → list_all (λ c. forward c.labels c.instructions) p.bodies ≡ true → jumps_ahead (own_label p) (program_code p heap depth) ≡ true
+program_ahead p heap depth e = forms_ahead (own_label p) (omega arith) (heap_of p + heap) 0 (own_label p) p.bodies _ e ∙ last_ahead (own_label p) (omega arith)

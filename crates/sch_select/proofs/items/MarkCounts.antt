@@ -1,0 +1,118 @@
+-- How many marks the items of a program have: those of its bodies.
+use Rattle.std.proofs.Common.{◌≡◌, ℕ, suc, ◌+◌, List, [], ◌∷◌, Option, Some, None, refl, ◌∙◌, arith}
+use Rattle.sch_word.specs.declared.place.Place.{Place}
+use Rattle.sch_word.specs.declared.primitive.Primitive.{Primitive}
+use Rattle.sch_word.specs.declared.primitive.Primitive.TheVariants.{IsBoolean, Eq}
+use Rattle.sch_control.specs.declared.body.Entry.{Entry}
+use Rattle.sch_control.specs.declared.operation.Atom.{Atom}
+use Rattle.sch_control.specs.declared.operation.Atom.TheVariants.{Constant, Literal, Variable}
+use Rattle.sch_control.specs.declared.operation.Operand.{Operand}
+use Rattle.sch_control.specs.declared.operation.Operand.TheVariants as operand
+use Rattle.sch_control.specs.declared.operation.Source.{Source}
+use Rattle.sch_control.specs.declared.operation.Source.TheVariants as source
+use Rattle.sch_control.specs.declared.operation.Member.{Member}
+use Rattle.sch_control.specs.declared.operation.Operation.{Operation}
+use Rattle.sch_control.specs.declared.operation.Operation.TheVariants as operation
+use Rattle.sch_frames.specs.declared.instruction.Instruction.{Instruction}
+use Rattle.sch_frames.specs.declared.instruction.Instruction.TheVariants as instruction
+use Rattle.sch_frames.specs.Tree.{Code}
+use Rattle.sch_frames.specs.Tree as tree
+use Rattle.sch_asm.specs.declared.item.Item.{Item}
+use Rattle.sch_asm.specs.declared.item.Item.TheVariants as item
+use Rattle.sch_select.specs.Select.{atom_code, unary_code, binary_code, read_code, operand_code, second_code, source_code, fields_code, closure_bytes, places_code, records_code, operation_code, instruction_code, body_code}
+use Rattle.sch_select.specs.Program.{passed_code, forms_code, labels_end, heap_of, own_label, program_code}
+use Rattle.sch_select.specs.Sizes.{marks_in, marked, bodies_marked}
+
+-- what comes in front of other items has no marks
+abbrev Unmarked : (List Item → List Item) → Type 0
+Unmarked f = (rest : List Item) → marks_in (f rest) ≡ marks_in rest
+
+unary_unmarked : (n : ℕ) (which : Primitive) → Unmarked (unary_code n which)
+unary_unmarked n IsBoolean rest = refl
+unary_unmarked n _ rest = refl
+
+binary_unmarked : (n : ℕ) (which : Primitive) → Unmarked (binary_code n which)
+binary_unmarked n Eq rest = refl
+binary_unmarked n _ rest = refl
+
+atom_unmarked : (r : ℕ) (a : Atom Place) → Unmarked (atom_code r a)
+atom_unmarked r (Constant c) rest = refl
+atom_unmarked r (Variable p) rest = refl
+atom_unmarked r (Literal n) rest = refl
+
+read_unmarked : (n : ℕ) (which : Primitive) (atoms : List (Atom Place)) → Unmarked (read_code n which atoms)
+read_unmarked n which [] rest = refl
+read_unmarked n which (a ∷ []) rest = atom_unmarked 0 a (unary_code n which rest) ∙ unary_unmarked n which rest
+read_unmarked n which (a ∷ (b ∷ [])) rest = atom_unmarked 0 a (atom_code 1 b (binary_code n which rest)) ∙ atom_unmarked 1 b (binary_code n which rest) ∙ binary_unmarked n which rest
+read_unmarked n which (a ∷ (b ∷ (c ∷ atoms))) rest = refl
+
+operand_unmarked : (n : ℕ) (o : Operand Place) → Unmarked (operand_code n o)
+operand_unmarked n (operand.Atom a) rest = atom_unmarked 0 a rest
+operand_unmarked n (operand.Read site which atoms) rest = read_unmarked n which atoms rest
+
+second_unmarked : (n : ℕ) (o : Operand Place) → Unmarked (second_code n o)
+second_unmarked n (operand.Atom a) rest = atom_unmarked 1 a rest
+second_unmarked n (operand.Read site which atoms) rest = read_unmarked n which atoms _
+
+source_unmarked : (r : ℕ) (x : Source Place) → Unmarked (source_code r x)
+source_unmarked r (source.Atom a) rest = atom_unmarked r a rest
+source_unmarked r (source.Field p k) rest = refl
+
+fields_unmarked : (offset : ℕ) (sources : List (Source Place)) → Unmarked (fields_code offset sources)
+fields_unmarked offset [] rest = refl
+fields_unmarked offset (x ∷ sources) rest = source_unmarked 1 x _ ∙ fields_unmarked (offset + 8) sources rest
+
+places_unmarked : (offset : ℕ) (members : List (Member Place)) → Unmarked (places_code offset members)
+places_unmarked offset [] rest = refl
+places_unmarked offset (m ∷ members) rest = places_unmarked (offset + closure_bytes m.closure) members rest
+
+records_unmarked : (offset : ℕ) (members : List (Member Place)) → Unmarked (records_code offset members)
+records_unmarked offset [] rest = refl
+records_unmarked offset (m ∷ members) rest = fields_unmarked (offset + 8) m.closure.fields _ ∙ records_unmarked (offset + closure_bytes m.closure) members rest
+
+operation_unmarked : (heap_end n : ℕ) (o : Operation Place) → Unmarked (operation_code heap_end n o)
+operation_unmarked heap_end n (operation.Operand o) rest = operand_unmarked n o rest
+operation_unmarked heap_end n (operation.Prim site which []) rest = refl
+operation_unmarked heap_end n (operation.Prim site which (o ∷ [])) rest = operand_unmarked n o (unary_code (n + 8) which rest) ∙ unary_unmarked (n + 8) which rest
+operation_unmarked heap_end n (operation.Prim site which (o ∷ (q ∷ []))) rest =
+    operand_unmarked n o (second_code (n + 4) q (binary_code (n + 8) which rest)) ∙ second_unmarked (n + 4) q (binary_code (n + 8) which rest) ∙ binary_unmarked (n + 8) which rest
+operation_unmarked heap_end n (operation.Prim site which (o ∷ (q ∷ (r ∷ operands)))) rest = refl
+operation_unmarked heap_end n (operation.Global g) rest = refl
+operation_unmarked heap_end n (operation.SetGlobal g o) rest = operand_unmarked n o _
+operation_unmarked heap_end n (operation.Field p k) rest = refl
+operation_unmarked heap_end n (operation.NewCell x) rest = source_unmarked 0 x _
+operation_unmarked heap_end n operation.UnsetCell rest = refl
+operation_unmarked heap_end n (operation.CellGet x) rest = source_unmarked 0 x _
+operation_unmarked heap_end n (operation.CellSet x o) rest = operand_unmarked n o _ ∙ source_unmarked 1 x _
+operation_unmarked heap_end n (operation.MakeClosure c) rest = fields_unmarked 8 c.fields _
+
+body_marked : (base out heap_end n : ℕ) (is : List Instruction) (rest : List Item) → marks_in (body_code base out heap_end n is rest) ≡ marked is + marks_in rest
+body_marked base out heap_end n [] rest = omega arith
+body_marked base out heap_end n (i ∷ is) rest = by i (body_marked base out heap_end (n + 12) is rest)
+  where
+    next : List Item
+    next = body_code base out heap_end (n + 12) is rest
+
+    by : (i : Instruction) → marks_in next ≡ marked is + marks_in rest → marks_in (instruction_code base out heap_end n i next) ≡ marked (i ∷ is) + marks_in rest
+    by (instruction.Do o) h = operation_unmarked heap_end n o next ∙ h
+    by (instruction.Load p o) h = second_unmarked n o _ ∙ h
+    by (instruction.Fix members) h = places_unmarked 0 members _ ∙ records_unmarked 0 members _ ∙ h
+    by (instruction.Mark m) h = omega (arith, h)
+    by (instruction.Store p) h = h
+    by _ h = h
+
+passed_unmarked : (o : Option Entry) (out : ℕ) → Unmarked (passed_code o out)
+passed_unmarked None out rest = refl
+passed_unmarked (Some e) out rest = refl
+
+forms_marked : (heap_end label n : ℕ) (cs : List Code) (rest : List Item) → marks_in (forms_code heap_end label n cs rest) ≡ bodies_marked cs + marks_in rest
+forms_marked heap_end label n [] rest = omega arith
+forms_marked heap_end label n (c ∷ cs) rest =
+    let others = forms_code heap_end (suc label) (labels_end n c) cs rest in
+    let p = passed_unmarked c.entry (n + c.labels) _ in
+    let h = body_marked n (n + c.labels) heap_end (n + c.labels + 1) c.instructions (item.Label (n + c.labels) ∷ others) in
+    let k = forms_marked heap_end (suc label) (labels_end n c) cs rest in
+    p ∙ omega (arith, h, k)
+
+pub program_marks : (p : tree.Source) (heap depth : ℕ) → marks_in (program_code p heap depth) ≡ bodies_marked p.bodies
+program_marks p heap depth = let h = forms_marked (heap_of p + heap) 0 (own_label p) p.bodies _ in h ∙ omega arith

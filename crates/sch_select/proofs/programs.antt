@@ -1,0 +1,9 @@
+-- Whole programs: what is selected, and that it follows its runs.
+pub mod Selected
+pub mod Forms
+pub mod Whole
+pub mod Starting
+pub mod JoinedProgram
+pub mod CoveredPrograms
+pub mod StraightPrograms
+pub mod Examples

@@ -1,0 +1,16 @@
+-- The machine does what each instruction of a body does.
+pub mod Straight
+pub mod Primitives
+pub mod Places
+pub mod Operands
+pub mod PutValue
+pub mod Following
+pub mod Changes
+pub mod HeapWrites
+pub mod Sources
+pub mod Operations
+pub mod Cells
+pub mod Records
+pub mod Closures
+pub mod EachOperation
+pub mod Bodies
