@@ -11,8 +11,8 @@ ghost use Rattle.sch_frames.specs.Layout.{operation_at, members_at, own_slot, ow
 
 use crate::calls::{CLOSURE, LINK, arrival, write_call, write_tail_call};
 use crate::instruction::Instruction;
-use crate::writer::{Slots, Writer, leave, new_label, put};
 use crate::places::{members_at, operation_at, own_slot};
+use crate::writer::{Slots, Writer, leave, new_label, put};
 use sch_control::{Entry, Exp, MarkKind, Member, Operation};
 use sch_word::{List, Mem, Place};
 use std::alloc::Global;
@@ -123,8 +123,7 @@ pub(crate) fn lay(
             lay(alloc, slots, b, test, out)?;
             write_else(no, end, out)?;
             lay(alloc, slots, c, test, out)?;
-            write_label(end, out)?;
-            Ok(())
+            write_label(end, out)
         }
         Exp::Fix(members, e) => {
             write_group(alloc, slots.base, members.as_slice(), out)?;
@@ -132,13 +131,11 @@ pub(crate) fn lay(
         }
         Exp::Return(e) => {
             lay(alloc, slots, e, None, out)?;
-            write_return(out)?;
-            Ok(())
+            write_return(out)
         }
         Exp::End(e) => {
             lay(alloc, slots, e, None, out)?;
-            write_end(out)?;
-            Ok(())
+            write_end(out)
         }
         Exp::Call(a, _) => write_call(alloc, slots, a, test, out),
         Exp::TailCall(a) => write_tail_call(alloc, slots, a, out),

@@ -119,7 +119,11 @@ pub(crate) fn members_at(
     Ok(made)
 }
 
-pub(crate) fn operation_at(alloc: Global, base: u32, o: &Operation<u32>) -> Result<Operation<Place>, Mem>
+pub(crate) fn operation_at(
+    alloc: Global,
+    base: u32,
+    o: &Operation<u32>,
+) -> Result<Operation<Place>, Mem>
     ensures { IfOk result (λ p. p ≡ operation_at (own_slot base) o.now) }
 {
     match o {

@@ -187,9 +187,10 @@ module _ (slots : Slots) (words most : ℕ) (P : ℕ → Type 0) (there : (x : �
   loads_placed : (operands : List (Operand ℕ)) (slot : ℕ) → AtomsHave P (operands_atoms operands) → slot + length operands ≤ words
       → Loads slots (instruction_placed words) (placed_steers words) slot operands
   loads_placed [] slot h le = tt
-  loads_placed (o ∷ operands) slot h le =
-      (and_from _ _ (lt-ltb slot words (omega (arith, le))) (operand_placed slots.place words P there o (have_left P (operand_atoms o) _ h)),
-      loads_placed operands (suc slot) (have_right P (operand_atoms o) _ h) (omega (arith, le)))
+  loads_placed (o ∷ operands) slot h le = (
+    and_from _ _ (lt-ltb slot words (omega (arith, le))) (operand_placed slots.place words P there o (have_left P (operand_atoms o) _ h)),
+    loads_placed operands (suc slot) (have_right P (operand_atoms o) _ h) (omega (arith, le)),
+  )
 
   -- the operator and the operands of a call, and then the call
   prepared_placed : (tail : Bool) (a : Application ℕ) → AtomsHave P (application_atoms a) → length a.operands ≤ most

@@ -201,56 +201,56 @@ module _ (slots : Slots) (count : ℕ) (at : Apart slots count) (callee callee' 
       → EndsAs (does (call a restores) environment saved (world s marks) next) (run (lay slots (call a restores) n test rest) None f (world s marks'))
   same_call a restores u n test rest environment saved f s marks marks' next r h =
       by (operand_value environment s.store a.operator) refl (operand_values environment s.store a.operands) refl where
-    by : (x : Option Value) → operand_value environment s.store a.operator ≡ x → (ys : Option (List Value)) → operand_values environment s.store a.operands ≡ ys
-        → EndsAs (with_value (and_value x ys)
-        (λ vs. on_return (call_in callee a.spread false depth vs (marked (mark.Call a.site) (world s marks)))
-        (λ v w. next v (control.after_call plain.keeps restores environment saved) saved (note_each plain mark.Restore restores w))))
-        (run (prepared slots false a (Mark (mark.Call a.site) ∷ (Call a.spread (length a.operands) ∷ restored slots.home (leave test rest)))) None f (world s marks'))
-    by None ex ys ey = tt
-    by (Some operator) ex None ey = tt
-    by (Some operator) ex (Some vs) ey =
-        let values : Values environment s.store a.operands vs = values_are environment s.store a.operands vs ey in
-        let l : length vs ≡ length a.operands = values_length environment s.store a.operands vs values in
-        let f0 : Frame = put_aside slots.aside operator vs f in
-        let moves = call_moves slots count at callee' depth (length a.operands) f0 in
-        prepared_does slots count at callee' depth false (length a.operands) outgoing_view moved_out (SlotsOf f0) moves operator vs l
-        a environment f (world s marks') _ _ refl r u ex values (λ j. refl)
-        (λ g ready. onto_end _ (with_value (Some (operator ∷ vs)) (λ vs. on_return (call_in callee' a.spread false depth vs (world s (marks' ++ mark.Call a.site ∷ [])))
-        (λ v w. run (restored slots.home (leave test rest)) None (after_call g v) w))) _
-        (ap (λ o. with_value o (λ vs. on_return (call_in callee' a.spread false depth vs (world s (marks' ++ mark.Call a.site ∷ [])))
-        (λ v w. run (restored slots.home (leave test rest)) None (after_call g v) w)))
-        (parts_are operator vs (length a.operands) g.places g.outgoing l ready.closure
-        (λ k v e. argument_out (argument_register k) (argument_slot k) g ∙ ap value_in (ready.ready k v (subst (λ m. k < m) l (below_length vs k v e)) e))))
-        (on_return_ends (call_in callee a.spread false depth (operator ∷ vs) (world s (marks ++ mark.Call a.site ∷ []))) (call_in callee' a.spread false depth (operator ∷ vs) (world s (marks' ++ mark.Call a.site ∷ []))) _ _
-        (call_in_ends callee callee' follow a.spread false depth (operator ∷ vs) s (marks ++ mark.Call a.site ∷ []) (marks' ++ mark.Call a.site ∷ []))
-        (λ v s marks marks'. subst (λ w. EndsAs (next v environment saved w) (run (restored slots.home (leave test rest)) None (after_call g v) (world s marks'))) (sym (unrestored restores (world s marks)))
-        (returned test rest next h environment saved f g r (λ j lt. ready.kept j ∙ aside_other vs slots.aside (with_place f (Reg 14) (Is operator)) (Slot j) lt) v s marks marks'))))
+        by : (x : Option Value) → operand_value environment s.store a.operator ≡ x → (ys : Option (List Value)) → operand_values environment s.store a.operands ≡ ys
+            → EndsAs (with_value (and_value x ys)
+            (λ vs. on_return (call_in callee a.spread false depth vs (marked (mark.Call a.site) (world s marks)))
+            (λ v w. next v (control.after_call plain.keeps restores environment saved) saved (note_each plain mark.Restore restores w))))
+            (run (prepared slots false a (Mark (mark.Call a.site) ∷ (Call a.spread (length a.operands) ∷ restored slots.home (leave test rest)))) None f (world s marks'))
+        by None ex ys ey = tt
+        by (Some operator) ex None ey = tt
+        by (Some operator) ex (Some vs) ey =
+            let values : Values environment s.store a.operands vs = values_are environment s.store a.operands vs ey in
+            let l : length vs ≡ length a.operands = values_length environment s.store a.operands vs values in
+            let f0 : Frame = put_aside slots.aside operator vs f in
+            let moves = call_moves slots count at callee' depth (length a.operands) f0 in
+            prepared_does slots count at callee' depth false (length a.operands) outgoing_view moved_out (SlotsOf f0) moves operator vs l
+            a environment f (world s marks') _ _ refl r u ex values (λ j. refl)
+            (λ g ready. onto_end _ (with_value (Some (operator ∷ vs)) (λ vs. on_return (call_in callee' a.spread false depth vs (world s (marks' ++ mark.Call a.site ∷ [])))
+            (λ v w. run (restored slots.home (leave test rest)) None (after_call g v) w))) _
+            (ap (λ o. with_value o (λ vs. on_return (call_in callee' a.spread false depth vs (world s (marks' ++ mark.Call a.site ∷ [])))
+            (λ v w. run (restored slots.home (leave test rest)) None (after_call g v) w)))
+            (parts_are operator vs (length a.operands) g.places g.outgoing l ready.closure
+            (λ k v e. argument_out (argument_register k) (argument_slot k) g ∙ ap value_in (ready.ready k v (subst (λ m. k < m) l (below_length vs k v e)) e))))
+            (on_return_ends (call_in callee a.spread false depth (operator ∷ vs) (world s (marks ++ mark.Call a.site ∷ []))) (call_in callee' a.spread false depth (operator ∷ vs) (world s (marks' ++ mark.Call a.site ∷ []))) _ _
+            (call_in_ends callee callee' follow a.spread false depth (operator ∷ vs) s (marks ++ mark.Call a.site ∷ []) (marks' ++ mark.Call a.site ∷ []))
+            (λ v s marks marks'. subst (λ w. EndsAs (next v environment saved w) (run (restored slots.home (leave test rest)) None (after_call g v) (world s marks'))) (sym (unrestored restores (world s marks)))
+            (returned test rest next h environment saved f g r (λ j lt. ready.kept j ∙ aside_other vs slots.aside (with_place f (Reg 14) (Is operator)) (Slot j) lt) v s marks marks'))))
 
   same_tail : (a : Application ℕ) → AtomsHave (Within count) (application_atoms a) → length a.operands ≤ 6 + slots.aside → (n : ℕ) (test : Option ℕ) (rest : List Instruction)
       → (environment saved : Environment) (f : Frame) (s : State Procedure) (marks marks' : List MarkKind) (next : Then) → Agrees slots count environment f.places
       → EndsAs (does (tail_call a) environment saved (world s marks) next) (run (lay slots (tail_call a) n test rest) None f (world s marks'))
   same_tail a u few n test rest environment saved f s marks marks' next r =
       by (environment 0) refl (operand_value environment s.store a.operator) refl (operand_values environment s.store a.operands) refl where
-    by : (o : Option Value) → environment 0 ≡ o → (x : Option Value) → operand_value environment s.store a.operator ≡ x → (ys : Option (List Value)) → operand_values environment s.store a.operands ≡ ys
-        → EndsAs (with_value o (λ link. with_value (and_value x ys) (λ vs. call_in callee a.spread true depth vs (marked (mark.Tail a.site) (world s marks)))))
-        (run (prepared slots true a (Mark (mark.Tail a.site) ∷ (Tail a.spread (length a.operands) ∷ rest))) None f (world s marks'))
-    by None eo x ex ys ey = tt
-    by (Some back) eo None ex ys ey = tt
-    by (Some back) eo (Some operator) ex None ey = tt
-    by (Some back) eo (Some operator) ex (Some vs) ey =
-        let values : Values environment s.store a.operands vs = values_are environment s.store a.operands vs ey in
-        let l : length vs ≡ length a.operands = values_length environment s.store a.operands vs values in
-        let f0 : Frame = put_aside slots.aside operator vs f in
-        let moves = tail_moves slots count at callee' depth (length a.operands) f0 few in
-        prepared_does slots count at callee' depth true (length a.operands) own_view moved_in (LinkOf f0) moves operator vs l
-        a environment f (world s marks') _ _ refl r u ex values refl
-        (λ g ready. onto_end _ (call_in callee' a.spread true depth (operator ∷ vs) (world s (marks' ++ mark.Tail a.site ∷ []))) _
-        (ap (λ c. if_link c (with_value (parts g.places (λ j. g.places (Slot j)) (length a.operands)) (λ vs. call_in callee' a.spread true depth vs (world s (marks' ++ mark.Tail a.site ∷ [])))))
-        (ready.kept ∙ (aside_other vs slots.aside (with_place f (Reg 14) (Is operator)) link_register tt ∙ r.link back eo))
-        ∙ ap (λ o. with_value o (λ vs. call_in callee' a.spread true depth vs (world s (marks' ++ mark.Tail a.site ∷ []))))
-        (parts_are operator vs (length a.operands) g.places (λ j. g.places (Slot j)) l ready.closure
-        (λ k v e. argument_own (argument_register k) (argument_slot k) g ∙ ap value_in (ready.ready k v (subst (λ m. k < m) l (below_length vs k v e)) e))))
-        (call_in_ends callee callee' follow a.spread true depth (operator ∷ vs) s (marks ++ mark.Tail a.site ∷ []) (marks' ++ mark.Tail a.site ∷ [])))
+        by : (o : Option Value) → environment 0 ≡ o → (x : Option Value) → operand_value environment s.store a.operator ≡ x → (ys : Option (List Value)) → operand_values environment s.store a.operands ≡ ys
+            → EndsAs (with_value o (λ link. with_value (and_value x ys) (λ vs. call_in callee a.spread true depth vs (marked (mark.Tail a.site) (world s marks)))))
+            (run (prepared slots true a (Mark (mark.Tail a.site) ∷ (Tail a.spread (length a.operands) ∷ rest))) None f (world s marks'))
+        by None eo x ex ys ey = tt
+        by (Some back) eo None ex ys ey = tt
+        by (Some back) eo (Some operator) ex None ey = tt
+        by (Some back) eo (Some operator) ex (Some vs) ey =
+            let values : Values environment s.store a.operands vs = values_are environment s.store a.operands vs ey in
+            let l : length vs ≡ length a.operands = values_length environment s.store a.operands vs values in
+            let f0 : Frame = put_aside slots.aside operator vs f in
+            let moves = tail_moves slots count at callee' depth (length a.operands) f0 few in
+            prepared_does slots count at callee' depth true (length a.operands) own_view moved_in (LinkOf f0) moves operator vs l
+            a environment f (world s marks') _ _ refl r u ex values refl
+            (λ g ready. onto_end _ (call_in callee' a.spread true depth (operator ∷ vs) (world s (marks' ++ mark.Tail a.site ∷ []))) _
+            (ap (λ c. if_link c (with_value (parts g.places (λ j. g.places (Slot j)) (length a.operands)) (λ vs. call_in callee' a.spread true depth vs (world s (marks' ++ mark.Tail a.site ∷ [])))))
+            (ready.kept ∙ (aside_other vs slots.aside (with_place f (Reg 14) (Is operator)) link_register tt ∙ r.link back eo))
+            ∙ ap (λ o. with_value o (λ vs. call_in callee' a.spread true depth vs (world s (marks' ++ mark.Tail a.site ∷ []))))
+            (parts_are operator vs (length a.operands) g.places (λ j. g.places (Slot j)) l ready.closure
+            (λ k v e. argument_own (argument_register k) (argument_slot k) g ∙ ap value_in (ready.ready k v (subst (λ m. k < m) l (below_length vs k v e)) e))))
+            (call_in_ends callee callee' follow a.spread true depth (operator ∷ vs) s (marks ++ mark.Tail a.site ∷ []) (marks' ++ mark.Tail a.site ∷ [])))
 
   pub same : (e : Expression) → is_bare e ≡ true → Uses (Within count) e → most_operands e ≤ 6 + slots.aside → (n : ℕ) (test : Option ℕ) (rest : List Instruction) → Below test n
       → (environment saved : Environment) (f : Frame) (s : State Procedure) (marks marks' : List MarkKind) (next : Then) → Agrees slots count environment f.places → Next test rest next
