@@ -66,8 +66,8 @@ not_built : (at : ℕ) → failure_status (failure.Compile (compiling.NotBuilt a
 not_built at e = cc
 
 of_program : (text : List ℕ) (p : Source) → length text ≤ max_source_size → IsBuilt text p ⊎ ((at : ℕ) × IsNotBuilt text at) → Verdict text
-of_program text p short (inl yes) = (Ok tt, accepted p (record { short = short; built = yes }))
-of_program text p short (inr no) = (Err (failure.Compile (compiling.NotBuilt no.0)), refused (failure.Compile (compiling.NotBuilt no.0)) (short, no.1) (not_built no.0))
+of_program text p short (inl is) = (Ok tt, accepted p (record { short = short; built = is }))
+of_program text p short (inr n) = (Err (failure.Compile (compiling.NotBuilt n.0)), refused (failure.Compile (compiling.NotBuilt n.0)) (short, n.1) (not_built n.0))
 
 of_data : (text : List ℕ) (items : Data) → length text ≤ max_source_size → Spells text items →
     ((p : Source) × IsProgramOf items p) ⊎ ((e : CoreError) × (e ≢ core.Memory) × expanding.IsErrorIn items e) → Verdict text

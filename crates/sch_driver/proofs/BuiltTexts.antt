@@ -76,8 +76,8 @@ pub not_straight : (items : Data) (p q : Source) (at : ℕ) → IsProgramOf item
 not_straight items p q at a b h e = none_some (sym (all_straight (form_places items) p h) ∙ other_of items p q at a b e)
 
 pub never_both : (text : List ℕ) (p : Source) (at : ℕ) → IsBuilt text p → IsNotBuilt text at → ⊥
-never_both text p at yes no =
-    let items = yes.means.items in
-    let same = sym (spells_one text items no.means.items yes.means.spells no.means.spells) in
-    not_straight items p no.program at yes.means.program (subst (λ xs. IsProgramOf xs no.program) same no.means.program) yes.straight
-    (subst (λ xs. first_other (form_places xs) no.program.forms ≡ Some at) same no.other)
+never_both text p at is n =
+    let items = is.means.items in
+    let same = sym (spells_one text items n.means.items is.means.spells n.means.spells) in
+    not_straight items p n.program at is.means.program (subst (λ xs. IsProgramOf xs n.program) same n.means.program) is.straight
+    (subst (λ xs. first_other (form_places xs) n.program.forms ≡ Some at) same n.other)

@@ -162,7 +162,7 @@ fn program_has_its_header(rt: HostRuntime) -> Result<(), Fail> {
 
 #[test]
 fn words_that_are_no_command(rt: HostRuntime) -> Result<(), Fail> {
-    let commands: [&[&str]; 26] = [
+    let commands: [&[&str]; 25] = [
         &[],
         &["compile"],
         &["compile", "a"],
@@ -332,7 +332,8 @@ fn sources_run(rt: HostRuntime) -> Result<(), Fail> {
     assert_eq!(rt; whole.status, 0);
     assert_eq!(rt; whole.printed.as_slice(), b"-42\n".as_slice());
     assert_eq!(rt; whole.said.as_slice(), [].as_slice());
-    let empty = perform(rt.alloc(), &["run", "a"], b"", &[])?;
+    let small = ["run", "a", "--heap", "4096"];
+    let empty = perform(rt.alloc(), &small, b"", &[])?;
     assert_eq!(rt; empty.status, 0);
     assert_eq!(rt; empty.printed.as_slice(), [].as_slice());
     let spent = perform(rt.alloc(), &["run", "a", "--steps", "0"], source, &[])?;
@@ -374,7 +375,9 @@ fn compiled_images_step(rt: HostRuntime) -> Result<(), Fail> {
         (b"(display 1152921504606846975)", b"1152921504606846975"),
     ];
     for (source, printed) in sources {
-        let image = compile(rt.alloc(), source)?.target.ok_or("no file")?;
+        let words = ["compile", "a", "b", "--heap", "4096"];
+        let outcome = call(rt.alloc(), &words, source, &[], &[])?;
+        let image = outcome.target.ok_or("no file")?;
         let outcome = perform(rt.alloc(), &["step", "a"], image.as_slice(), &[])?;
         assert_eq!(rt; outcome.status, 0);
         assert_eq!(rt; outcome.printed.as_slice(), printed);

@@ -5,9 +5,12 @@ use sch_word::{Bytes, Mem};
 use std::alloc::Global;
 use std::test::Fail;
 
+/// With the least heap, so that an image has few zeros to load.
+const RUN: [&str; 4] = ["run", "a", "--heap", "4096"];
+
 // Runs a source that ends with 0.
 fn check_printed(alloc: Global, source: &[u8], printed: &[u8]) -> Result<(), Fail> {
-    let ending = perform(alloc, &["run", "a"], source, &[])?;
+    let ending = perform(alloc, &RUN, source, &[])?;
     if ending.status != 0 || ending.printed.as_slice() != printed || !ending.said.is_empty() {
         return Err(Fail::from("another end or output"));
     }
@@ -105,7 +108,7 @@ fn check_stop(
     printed: &[u8],
     said: &[u8],
 ) -> Result<(), Fail> {
-    let ending = perform(alloc, &["run", "a"], source, &[])?;
+    let ending = perform(alloc, &RUN, source, &[])?;
     if ending.status != status
         || ending.printed.as_slice() != printed
         || ending.said.as_slice() != said
