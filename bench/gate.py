@@ -4,7 +4,8 @@ crate: its proofs, its tests and its must-fail edits.
 
 It looks at the prover's processes ten times a second: what a process took after the last look is missing
 from its crate, and stands in the line `rest` with what the gate itself took. With names of crates as words
-it is the run of these crates and those below them.
+it is the run of these crates and those below them. `--watch PID` looks at a gate that runs already, from now
+to its end; what it took before is not seen, and there is no line `rest`.
 """
 import collections
 import os
@@ -66,6 +67,36 @@ def look(root, parts, seconds):
             seconds[key] = taken
 
 
+def is_there(pid):
+    """Whether the process runs still."""
+    try:
+        with open(f"/proc/{pid}/stat") as file:
+            return file.read().rpartition(")")[2].split()[0] != "Z"
+    except OSError:
+        return False
+
+
+def watch(pid):
+    """The processor seconds of each crate and part from now to the end of a process that this one did not
+    start, or to an interrupt (control-C)."""
+    parts, seconds = {}, {}
+    try:
+        while is_there(pid):
+            look(pid, parts, seconds)
+            time.sleep(0.5)
+    except KeyboardInterrupt:
+        print("interrupted", file=sys.stderr)
+    return of_parts(parts, seconds)
+
+
+def of_parts(parts, seconds):
+    """The sums of the processes' seconds by crate and part."""
+    taken = collections.Counter()
+    for key, value in seconds.items():
+        taken[parts[key]] += value
+    return taken
+
+
 def run(words):
     """The processor seconds of each crate and part, of the whole run, and the seconds on the clock."""
     begin = time.perf_counter()
@@ -77,15 +108,12 @@ def run(words):
             break
         look(child.pid, parts, seconds)
         time.sleep(0.1)
-    taken = collections.Counter()
-    for key, value in seconds.items():
-        taken[parts[key]] += value
     whole = usage.ru_utime + usage.ru_stime
-    return taken, whole, time.perf_counter() - begin, os.waitstatus_to_exitcode(status)
+    return of_parts(parts, seconds), whole, time.perf_counter() - begin, os.waitstatus_to_exitcode(status)
 
 
-def main():
-    taken, whole, clock, status = run(sys.argv[1:])
+def table(taken):
+    """Prints a row for each crate and the sums, and answers the sum of all."""
     crates = sorted({crate for crate, _ in taken})
     print("| Crate |" + "".join(f" {part} |" for part in (*PARTS, "sum")))
     print("|---|" + "---|" * (len(PARTS) + 1))
@@ -94,7 +122,16 @@ def main():
         print(f"| `{crate}` |" + "".join(f" {value:.0f} |" for value in (*row, sum(row))))
     sums = [sum(taken[crate, part] for crate in crates) for part in PARTS]
     print("| all |" + "".join(f" {value:.0f} |" for value in (*sums, sum(sums))))
-    print(f"| rest | | | | {whole - sum(sums):.0f} |")
+    return sum(sums)
+
+
+def main():
+    if sys.argv[1:2] == ["--watch"]:
+        table(watch(int(sys.argv[2])))
+        return
+    taken, whole, clock, status = run(sys.argv[1:])
+    rest = whole - table(taken)
+    print(f"| rest | | | | {rest:.0f} |")
     print(f"{whole / 60:.1f} processor minutes, {clock / 60:.1f} minutes on {os.cpu_count()} processors")
     sys.exit(status)
 

@@ -13,7 +13,7 @@ use Rattle.sch_step.specs.Machine.{MachineRuns, loaded, standing_of, core_of}
 use Rattle.sch_step.specs.declared.machine.Machine.{Machine}
 use Rattle.sch_step.specs.declared.ends.RunEnd.{RunEnd}
 use Rattle.sch_step.specs.declared.ends.RunEnd.TheVariants as run_end
-use Rattle.sch_cli.specs.Executes.{Executes, ComesTo, started, end_of}
+use Rattle.sch_cli.specs.Executes.{Executes, EndsUnder, started, run_end_of}
 use Rattle.sch_cli.specs.Seen.{StreamChange}
 
 pub related : {A : Type 0} (before after : Option A) (P Q : A → A → Type 0) → ((b a : A) → P b a → Q b a) → Tells before after P → Tells before after Q
@@ -21,7 +21,7 @@ related before None P Q f t = tt
 related None (Some a) P Q f t = absurd t
 related (Some b) (Some a) P Q f t = f b a t
 
-end_same : (end : RunEnd) (core : Core) (output : List ℕ) (answers : List Answer) → IsRunAt end core.place → end_of (reached_by_run end core output answers) ≡ end
+end_same : (end : RunEnd) (core : Core) (output : List ℕ) (answers : List Answer) → IsRunAt end core.place → run_end_of (reached_by_run end core output answers) ≡ end
 end_same run_end.Spent core output answers at = refl
 end_same (run_end.Exited status) core output answers at = refl
 end_same (run_end.Stuck stuck) core output answers at = ap (λ place. run_end.Stuck (record { at = place; cause = stuck.cause })) (sym at)
@@ -33,11 +33,11 @@ output_same (run_end.Stuck stuck) core output answers = refl
 
 module _ (image : Image) (steps : ℕ) (old new : Machine) (end : RunEnd) (at : IsRunAt end (core_of new).place)
     (starts : (bytes : List ℕ) (answers : List Answer) → standing_of old bytes answers ≡ Runs (state_of (loaded image.entry (memory image.segments)) bytes answers)) where
-  comes_to : (answers left : List Answer) (output : List ℕ) → MachineRuns steps end old new [] answers output left → ComesTo image steps answers end output
+  comes_to : (answers left : List Answer) (output : List ℕ) → MachineRuns steps end old new [] answers output left → EndsUnder image steps answers end output
   comes_to answers left output runs =
       let is : mach steps (started image answers) ≡ reached_by_run end (core_of new) output left = sym (ap (λ p. go_on p (mach steps)) (starts [] answers)) ∙ runs in
       record {
-        end_is = ap end_of is ∙ end_same end (core_of new) output left at;
+        end_is = ap run_end_of is ∙ end_same end (core_of new) output left at;
         output_is = ap output_of is ∙ output_same end (core_of new) output left;
       }
 
@@ -47,7 +47,7 @@ module _ (image : Image) (steps : ℕ) (old new : Machine) (end : RunEnd) (at : 
     given = did.given;
     under_given = comes_to did.given [] did.took (subst (λ answers. MachineRuns steps end old new [] answers did.took []) (append-nil did.given) (did.untold [] []));
     under_left = related out.before.left out.after.left (λ before after. (bytes : List ℕ) → MachineRuns steps end old new bytes before (bytes ++ did.took) after)
-        (λ before after. ComesTo image steps before end did.took) (λ before after runs. comes_to before after did.took (runs [])) did.told;
+        (λ before after. EndsUnder image steps before end did.took) (λ before after runs. comes_to before after did.took (runs [])) did.told;
     took = did.bytes_told;
     refused = did.refused;
   }

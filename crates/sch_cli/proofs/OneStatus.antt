@@ -1,9 +1,9 @@
 -- The causes of the statuses exclude one another.
-use Rattle.std.proofs.Common.{◌≡◌, ◌≢◌, ◌≤◌, ◌<◌, ◌&&◌, cond, Bool, true, false, ℕ, List, [], ◌∷◌, length, Option, Some, None, refl, sym, ap, ◌∙◌, subst, arith, Result, Ok, Err, IsTrue}
+use Rattle.std.proofs.Common.{◌≡◌, ◌≢◌, ◌≤◌, ◌<◌, ℕ, List, length, Some, refl, sym, ap, ◌∙◌, subst, arith, Result, Ok, Err, IsTrue}
 use Rattle.std.specs.Prelude.{⊤}
 use Rattle.sch_word.specs.runs.ProgramLayout.{max_text_size}
-use Rattle.sch_lang.specs.Tree.{Expressions, no_expressions, and_expression, Source}
-use Rattle.sch_lang.specs.Straight.{are_straight, first_other, is_straight, is_straight_program, no_procedures}
+use Rattle.sch_lang.specs.Tree.{Source}
+use Rattle.sch_lang.specs.Straight.{first_other, is_straight_program}
 use Rattle.sch_read.specs.Answer as reading
 use Rattle.sch_read.specs.Fault.{Fault, Unclosed, StrayClose, DeepNesting, LiteralRange, Flawed}
 use Rattle.sch_read.specs.Grammar.{Data, bad_token, bad_number, bad_string}
@@ -16,18 +16,19 @@ use Rattle.sch_core.specs.declared.error.CoreError.{CoreError}
 use Rattle.sch_core.specs.declared.error.CoreError.TheVariants as core
 use Rattle.sch_core.specs.Programs.{IsProgramOf, form_places}
 use Rattle.sch_core.proofs.DataLaws.{never_both, one_error, one_program}
-use Rattle.sch_driver.specs.Causes.{IsBuilt, IsErrorOf, IsTooLarge, Means, max_source_size, text_bound}
+use Rattle.sch_driver.specs.Causes.{IsBuilt, IsErrorOf, IsTextTooLarge, Means, max_source_size, text_bound}
 use Rattle.sch_driver.specs.declared.error.CompileError.TheVariants as compiling
+use Rattle.sch_driver.proofs.BuiltTexts.{not_straight, other_of}
 use Rattle.sch_cli.specs.declared.failure.Failure.{Failure}
 use Rattle.sch_cli.specs.declared.failure.Failure.TheVariants as failure
 use Rattle.sch_cli.specs.declared.status.Status.TheVariants.{OutOfMemory}
 use Rattle.sch_cli.specs.Failures.{core_status, read_status}
-use Rattle.sch_cli.specs.Laws.{HasOneVerdict, IsVerdict, accepted, refused, but_for_size}
+use Rattle.sch_cli.specs.Laws.{IsVerdict, accepted, refused, but_for_size}
 
 -- ---- errors
 
 -- the error of the reader that names a fault
-abbrev error_of : Fault → ReadError
+abbrev pub error_of : Fault → ReadError
 error_of (Unclosed at) = read.Unclosed at
 error_of (StrayClose at) = read.StrayClose at
 error_of (Flawed at bad_token) = read.BadToken at
@@ -49,26 +50,6 @@ read_fault text (read.LiteralRange at) h v = (LiteralRange at, h, refl)
 
 core_kept : (e : CoreError) → core_status e ≢ OutOfMemory → e ≢ core.Memory
 core_kept e v is = v (ap core_status is)
-
--- ---- straight programs
-
--- the tests of a form and of the forms behind it
-both_straight : (here rest : Bool) (at : ℕ) (other : Option ℕ) → IsTrue (here && rest) → (IsTrue rest → other ≡ None) → cond here other (Some at) ≡ None
-both_straight true rest at other h k = k h
-both_straight false rest at other h k = absurd cc
-
-no_other : (places : List ℕ) (es : Expressions) → IsTrue (are_straight es) → first_other places es ≡ None
-no_other [] es h = refl
-no_other (at ∷ places) no_expressions h = refl
-no_other (at ∷ places) (and_expression e es) h = both_straight (is_straight e) (are_straight es) at (first_other places es) h (no_other places es)
-
-second : (a b : Bool) → IsTrue (a && b) → IsTrue b
-second true b h = h
-second false b h = absurd cc
-
--- a straight program has no form that is not straight
-none_other : (places : List ℕ) (p : Source) → IsTrue (is_straight_program p) → first_other places p.forms ≡ None
-none_other places p h = no_other places p.forms (second (no_procedures p.library) (are_straight p.forms) h)
 
 -- ---- what is found in a text
 
@@ -128,16 +109,6 @@ both_lengths text g h = omega (arith, g, h)
 some_some : {A : Type 0} {a b : A} → Some a ≡ Some b → a ≡ b
 some_some e = cc
 
-none_some : {A : Type 0} {a : A} → None ≡ Some a → ⊥
-none_some e = cc
-
--- the first other form of one program of the data is that of the other
-other_of : (items : Data) (p q : Source) (at : ℕ) → IsProgramOf items p → IsProgramOf items q → first_other (form_places items) q.forms ≡ Some at → first_other (form_places items) p.forms ≡ Some at
-other_of items p q at a b e = subst (λ r. first_other (form_places items) r.forms ≡ Some at) (sym (one_program items p q a b)) e
-
-not_straight : (items : Data) (p q : Source) (at : ℕ) → IsProgramOf items p → IsProgramOf items q → IsTrue (is_straight_program p) → first_other (form_places items) q.forms ≡ Some at → ⊥
-not_straight items p q at a b h e = none_some (sym (none_other (form_places items) p h) ∙ other_of items p q at a b e)
-
 one_in_data : (items : Data) (one two : Result ⊤ Failure) → InData items one → InData items two → one ≡ two
 one_in_data items _ _ (straight p a h) (straight q b k) = refl
 one_in_data items _ _ (straight p a h) (other at q b e) = absurd (not_straight items p q at a b h e)
@@ -163,7 +134,7 @@ one_in_text text _ _ (right r h xs a p b c) (faulty e h' f d is) = absurd (spell
 one_in_text text _ _ (right r h xs a p b c) (wrong e h' ys a' b' k) = absurd (k (never_both ys p e (subst (λ zs. IsProgramOf zs p) (spells_one text xs ys a a') b) b'))
 one_in_text text _ _ (right r h xs a p b c) (right r' h' ys a' p' b' c') = one_in_data xs r r' c (subst (λ zs. InData zs r') (sym (spells_one text xs ys a a')) c')
 
-same : (text : List ℕ) (one two : Result ⊤ Failure) → IsVerdict text one → IsVerdict text two → but_for_size one ≡ but_for_size two
+pub same : (text : List ℕ) (one two : Result ⊤ Failure) → IsVerdict text one → IsVerdict text two → but_for_size one ≡ but_for_size two
 same text one two h k = one_in_text text (but_for_size one) (but_for_size two) (found text one h) (found text two k)
 
 -- ---- a text of a small program
@@ -175,7 +146,7 @@ same_program text p q m n = one_program m.items p q m.program (subst (λ items. 
 beyond : (low middle high : ℕ) → low < middle → middle ≤ high → high ≤ low → ⊥
 beyond low middle high a b c = omega (arith, a, b, c)
 
-not_too_large : (text : List ℕ) (p : Source) (bytes : ℕ) → IsBuilt text p → text_bound p ≤ max_text_size → IsTooLarge text bytes → ⊥
+not_too_large : (text : List ℕ) (p : Source) (bytes : ℕ) → IsBuilt text p → text_bound p ≤ max_text_size → IsTextTooLarge text bytes → ⊥
 not_too_large text p bytes is low large =
     beyond max_text_size bytes (text_bound large.program) large.large large.bound
     (subst (λ q. text_bound q ≤ max_text_size) (same_program text p large.program is.means large.built.means) low)
@@ -193,8 +164,6 @@ whole text p is low (Err e) (refused failure.ReadFailed h v) = refl
 whole text p is low (Err e) (refused failure.WriteFailed h v) = refl
 whole text p is low (Err e) (refused (failure.Image error) h v) = refl
 
-pub one_status : (text : List ℕ) → HasOneVerdict text
-one_status text = record {
-  same = λ one two h k. same text one two h k;
-  small = λ p is low one two h k. sym (whole text p is low one h) ∙ same text one two h k ∙ whole text p is low two k;
-}
+pub small : (text : List ℕ) (p : Source) → IsBuilt text p → text_bound p ≤ max_text_size →
+    (one two : Result ⊤ Failure) → IsVerdict text one → IsVerdict text two → one ≡ two
+small text p is low one two h k = sym (whole text p is low one h) ∙ same text one two h k ∙ whole text p is low two k

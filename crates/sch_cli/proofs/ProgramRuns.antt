@@ -23,9 +23,9 @@ use Rattle.sch_word.specs.runs.Answers.{TakesNothing}
 use Rattle.sch_step.specs.declared.ends.RunEnd.{RunEnd}
 use Rattle.sch_cli.specs.declared.status.Status.{Status}
 use Rattle.sch_cli.specs.declared.status.Status.TheVariants.{Stopped}
-use Rattle.sch_cli.specs.Executes.{ComesTo, Executes, end_of, started}
+use Rattle.sch_cli.specs.Executes.{EndsUnder, Executes, run_end_of, started}
 use Rattle.sch_cli.specs.Seen.{StreamChange, StreamFailed}
-use Rattle.sch_cli.specs.Statuses.{end_status, exit_status, number_of}
+use Rattle.sch_cli.specs.Statuses.{end_status, exit_status, status_number}
 use Rattle.sch_cli.specs.Steps.{EndsAs, RunsProgram}
 use Rattle.sch_cli.proofs.MachineEnds.{related}
 
@@ -34,9 +34,9 @@ use Rattle.sch_cli.proofs.MachineEnds.{related}
 -- an exit with this status is named so: the program's status has the same number, and is not that of
 -- steps that were spent
 record IsNamed (status : ℕ) : Type 0 where
-  number : number_of (exit_status status) ≡ status
+  number : status_number (exit_status status) ≡ status
   not_spent : (runs : List Answer → ℕ → Run) (steps : ℕ) (answers : List Answer) (output : List ℕ) →
-      (runs answers steps).end ≡ ended (number_of (exit_status status)) → (runs answers steps).output ≡ output → EndsAs runs steps answers (exit_status status) output
+      (runs answers steps).end ≡ ended (status_number (exit_status status)) → (runs answers steps).output ≡ output → EndsAs runs steps answers (exit_status status) output
 
 zero_named : IsNamed 0
 zero_named = record { number = refl; not_spent = λ runs steps answers output end is. (end, is) }
@@ -74,7 +74,7 @@ zeros = record { registers = λ r. 0; flags = unknown_flags; spare = []; registe
 
 module _ (image : Image) (p : tree.Source) (table : List (List ℕ)) (heap depth : ℕ) (does : FollowsRuns image.entry (memory image.segments) (run p table heap depth)) where
   -- how it ends, by what a bounded run has come to
-  ends : (steps : ℕ) (answers : List Answer) (q : Progress) → mach steps (started image answers) ≡ q → EndsAs (run p table heap depth) steps answers (end_status (end_of q)) (output_of q)
+  ends : (steps : ℕ) (answers : List Answer) (q : Progress) → mach steps (started image answers) ≡ q → EndsAs (run p table heap depth) steps answers (end_status (run_end_of q)) (output_of q)
   unfolding zeros
   ends steps answers (Runs s) is = subst (λ q. IsPrefix (output_of q) (run p table heap depth answers steps).output) is (does.covered zeros answers steps).output
   ends steps answers (Exited status s) is =
@@ -83,10 +83,10 @@ module _ (image : Image) (p : tree.Source) (table : List (List ℕ)) (heap depth
       named.not_spent (run p table heap depth) steps answers s.output (end.0 ∙ ap ended (sym named.number)) end.1
   ends steps answers (Stuck cause s) is = absurd (does.never_stuck zeros answers steps cause s is)
 
-  ends_as : (steps : ℕ) (answers : List Answer) (end : RunEnd) (output : List ℕ) → ComesTo image steps answers end output → EndsAs (run p table heap depth) steps answers (end_status end) output
+  ends_as : (steps : ℕ) (answers : List Answer) (end : RunEnd) (output : List ℕ) → EndsUnder image steps answers end output → EndsAs (run p table heap depth) steps answers (end_status end) output
   ends_as steps answers end output r =
       subst (λ e. EndsAs (run p table heap depth) steps answers (end_status e) output) r.end_is
-      (subst (λ o. EndsAs (run p table heap depth) steps answers (end_status (end_of (mach steps (started image answers)))) o) r.output_is
+      (subst (λ o. EndsAs (run p table heap depth) steps answers (end_status (run_end_of (mach steps (started image answers)))) o) r.output_is
       (ends steps answers (mach steps (started image answers)) refl))
 
 -- a run that ends with this status has this end
@@ -104,7 +104,7 @@ runs_program p table heap depth image steps end out does executed =
       does = does;
       executed = executed;
       under_given = given;
-      under_left = related out.before.left out.after.left (λ before after. ComesTo image steps before end executed.output) (λ before after. EndsAs runs steps before (end_status end) executed.output)
+      under_left = related out.before.left out.after.left (λ before after. EndsUnder image steps before end executed.output) (λ before after. EndsAs runs steps before (end_status end) executed.output)
           (λ before after r. end_is before end executed.output r) executed.under_left;
       output_failed = λ is.
           refused_gives (StreamFailed out) executed.given

@@ -1,9 +1,11 @@
 -- The words that are a command.
-use Rattle.std.specs.Prelude.{ℕ, ◌^◌, nat_le, List, [], ◌∷◌, length, codes, Bool, true, false, not, ◌&&◌, ◌==◌, Option, Some, None, if◌then◌else◌}
+use Rattle.std.specs.Prelude.{ℕ, ◌^◌, ◌%◌, nat_le, List, [], ◌∷◌, length, codes, Bool, true, false, not, ◌&&◌, ◌==◌, Option, Some, None, if◌then◌else◌}
 use Rattle.std.specs.Str.{bytes_eq}
 use Rattle.std.specs.Char.{is_ascii_digit}
 use Rattle.std.specs.List.{list_all}
+use Rattle.std.specs.Option.{is_some, option_and_then, unwrap_or}
 use Rattle.std.specs.Str.Parse.{digits_value}
+use Rattle.sch_word.specs.declared.limits.TheConstants.{MIN_HEAP, MAX_HEAP, MIN_DEPTH, MAX_DEPTH}
 
 -- ---- what is taken where the words give nothing
 
@@ -15,15 +17,15 @@ abbrev pub default_heap : ℕ
 default_heap = 2 ^ 26
 
 abbrev pub default_depth : ℕ
-default_depth = 100000
+default_depth = 10 ^ 5
 
 -- ---- commands
 
--- `compile` reads a source and writes a target; `run` compiles a source and runs it, and `step` runs an
--- image, both of at most `steps` steps.
+-- `compile` reads a source and writes a target; `run` compiles a source and runs it, both under limits of
+-- heap and depth; `step` runs an image. What is run takes at most `steps` steps.
 pub data Command : Type 0 where
-  compile : (source target : List ℕ) → Command
-  run : (source : List ℕ) → (steps : ℕ) → Command
+  compile : (source target : List ℕ) → (heap depth : ℕ) → Command
+  run : (source : List ℕ) → (heap depth steps : ℕ) → Command
   step : (image : List ℕ) → (steps : ℕ) → Command
 
 -- a word that is not empty, and no option: it does not begin with `-`, but may be `-` itself
@@ -36,47 +38,96 @@ is_name (byte ∷ next ∷ bytes) = not (byte == 45)
 abbrev pub are_names : List ℕ → List ℕ → Bool
 are_names source target = is_name source && is_name target && not (bytes_eq source target)
 
--- the most steps, and the most digits of their number
-abbrev pub max_steps : ℕ
-max_steps = 10 ^ 18
+-- ---- options
 
+-- what the options give, each where it is there
+pub record Options : Type 0 where
+  pub heap : Option ℕ
+  pub steps : Option ℕ
+
+abbrev pub no_options : Options
+no_options = record { heap = None; steps = None }
+
+-- the most digits of a number
 abbrev pub max_digits : ℕ
 max_digits = 19
 
--- a number of steps: decimal digits, at least one
-abbrev pub is_steps : List ℕ → Bool
-is_steps digits = nat_le 1 (length digits) && nat_le (length digits) max_digits && list_all is_ascii_digit digits && nat_le (digits_value 10 digits) max_steps
+-- decimal digits, at least one
+abbrev pub is_number : List ℕ → Bool
+is_number digits = nat_le 1 (length digits) && nat_le (length digits) max_digits && list_all is_ascii_digit digits
 
--- the steps in what follows a name: nothing, or `--steps N`
-abbrev pub steps_in : List (List ℕ) → Option ℕ
-steps_in [] = Some default_steps
-steps_in (option ∷ digits ∷ []) = if bytes_eq option (codes "--steps") && is_steps digits then Some (digits_value 10 digits) else None
-steps_in _ = None
+-- these options with one more, which is a word and a number, and may be given once
+abbrev pub with_option : (option digits : List ℕ) → Options → Option Options
+with_option option digits given =
+    if not (is_number digits) then None
+    else if bytes_eq option (codes "--heap") && not (is_some given.heap) then Some (record given { heap = Some (digits_value 10 digits) })
+    else if bytes_eq option (codes "--steps") && not (is_some given.steps) then Some (record given { steps = Some (digits_value 10 digits) })
+    else None
 
-abbrev pub compile_of : List ℕ → List (List ℕ) → Option Command
-compile_of source (target ∷ []) = if are_names source target then Some (compile source target) else None
-compile_of source _ = None
+-- the options in what follows the names, in any order
+abbrev pub options_in : List (List ℕ) → Option Options
+options_in [] = Some no_options
+options_in (option ∷ digits ∷ []) = with_option option digits no_options
+options_in (option ∷ digits ∷ other ∷ others ∷ []) = option_and_then (with_option other others) (with_option option digits no_options)
+options_in _ = None
 
-abbrev pub with_steps : (ℕ → Command) → Bool → Option ℕ → Option Command
-with_steps make true (Some steps) = Some (make steps)
-with_steps make named steps = None
+-- the most steps
+abbrev pub max_steps : ℕ
+max_steps = 10 ^ 18
 
--- The command of the words: `compile NAME NAME2`, `run NAME [--steps N]` or `step NAME [--steps N]`.
+-- limits that are admitted
+abbrev pub are_limits : (heap depth : ℕ) → Bool
+are_limits heap depth = nat_le MIN_HEAP heap && nat_le heap MAX_HEAP && heap % 16 == 0 && nat_le MIN_DEPTH depth && nat_le depth MAX_DEPTH
+
+-- ---- the verbs, with the options that they take
+
+-- a command under limits, where they are admitted
+abbrev pub with_limits : (heap depth : ℕ) → ((heap depth : ℕ) → Command) → Option Command
+with_limits heap depth make = if are_limits heap depth then Some (make heap depth) else None
+
+-- a command with a number of steps, where it is admitted
+abbrev pub with_steps : (steps : ℕ) → Option Command → Option Command
+with_steps steps made = if nat_le steps max_steps then made else None
+
+abbrev pub compile_of : (source target : List ℕ) → Options → Option Command
+compile_of source target given =
+    if is_some given.steps then None else with_limits (unwrap_or given.heap default_heap) default_depth (compile source target)
+
+abbrev pub run_of : (source : List ℕ) → Options → Option Command
+run_of source given =
+    let steps = unwrap_or given.steps default_steps in
+    with_steps steps (with_limits (unwrap_or given.heap default_heap) default_depth (λ heap depth. run source heap depth steps))
+
+abbrev pub step_of : (image : List ℕ) → Options → Option Command
+step_of image given =
+    let steps = unwrap_or given.steps default_steps in
+    if is_some given.heap then None else with_steps steps (Some (step image steps))
+
+-- what follows the word `compile`, and what follows a verb with one name
+abbrev pub compile_in : (source : List ℕ) → List (List ℕ) → Option Command
+compile_in source (target ∷ options) = if are_names source target then option_and_then (compile_of source target) (options_in options) else None
+compile_in source [] = None
+
+abbrev pub with_one_name : (name : List ℕ) → (options : List (List ℕ)) → (List ℕ → Options → Option Command) → Option Command
+with_one_name name options verb_of = if is_name name then option_and_then (verb_of name) (options_in options) else None
+
+-- The command of the words: `compile NAME NAME2 [--heap N]`, `run NAME [--heap N] [--steps N]` or
+-- `step NAME [--steps N]`.
 abbrev pub command : List (List ℕ) → Option Command
 command (verb ∷ name ∷ rest) =
-    if bytes_eq verb (codes "compile") then compile_of name rest
-    else if bytes_eq verb (codes "run") then with_steps (run name) (is_name name) (steps_in rest)
-    else if bytes_eq verb (codes "step") then with_steps (step name) (is_name name) (steps_in rest)
+    if bytes_eq verb (codes "compile") then compile_in name rest
+    else if bytes_eq verb (codes "run") then with_one_name name rest run_of
+    else if bytes_eq verb (codes "step") then with_one_name name rest step_of
     else None
 command _ = None
 
--- what holds of the names and steps of a verb, where the words are its command
-abbrev pub IfCompile : Option Command → ((source target : List ℕ) → Type 0) → Type 0
-IfCompile (Some (compile source target)) P = P source target
+-- what holds of the names, limits and steps of a verb, where the words are its command
+abbrev pub IfCompile : Option Command → ((source target : List ℕ) → (heap depth : ℕ) → Type 0) → Type 0
+IfCompile (Some (compile source target heap depth)) P = P source target heap depth
 IfCompile _ P = Unit {0}
 
-abbrev pub IfRun : Option Command → ((source : List ℕ) → (steps : ℕ) → Type 0) → Type 0
-IfRun (Some (run source steps)) P = P source steps
+abbrev pub IfRun : Option Command → ((source : List ℕ) → (heap depth steps : ℕ) → Type 0) → Type 0
+IfRun (Some (run source heap depth steps)) P = P source heap depth steps
 IfRun _ P = Unit {0}
 
 abbrev pub IfStep : Option Command → ((image : List ℕ) → (steps : ℕ) → Type 0) → Type 0

@@ -1,9 +1,13 @@
--- A command of the code as a command of the definitions.
+-- A command and options of the code as those of the definitions.
 use Rattle.sch_cli.specs.Command as commands
 use Rattle.sch_cli.specs.declared.command.Command.{Command}
 use Rattle.sch_cli.specs.declared.command.Command.TheVariants.{Compile, Run, Step}
+use Rattle.sch_cli.specs.declared.command.Options.{Options}
+
+abbrev pub options_of : Options → commands.Options
+options_of given = record { heap = given.heap; steps = given.steps }
 
 abbrev pub command_of : Command → commands.Command
-command_of (Compile source target) = commands.compile source.now target.now
-command_of (Run source steps) = commands.run source.now steps
+command_of (Compile source target limits) = commands.compile source.now target.now limits.heap limits.depth
+command_of (Run wanted) = commands.run wanted.source.now wanted.limits.heap wanted.limits.depth wanted.steps
 command_of (Step image steps) = commands.step image.now steps

@@ -3,12 +3,11 @@ use Rattle.std.specs.Prelude.{◌≡◌, ℕ, List, [], Result, Ok, Err, ⊤, Is
 use Rattle.std.specs.FinMap.{get}
 use Rattle.sch_io.specs.Files.{Files, Replaces, Spoils}
 use Rattle.sch_cli.specs.Builds.{IsFileOf}
-use Rattle.sch_cli.specs.Command.{default_heap, default_depth}
 use Rattle.sch_cli.specs.Failures.{failure_line, failure_status}
 use Rattle.sch_cli.specs.Messages.{Says}
 use Rattle.sch_cli.specs.Refusals.{IsRefused}
 use Rattle.sch_cli.specs.Seen.{DiskChange, StreamChange, FilesChange, SameFiles, FileIs, HadCalls, DiskFailed}
-use Rattle.sch_cli.specs.Statuses.{number_of}
+use Rattle.sch_cli.specs.Statuses.{status_number}
 use Rattle.sch_cli.specs.declared.failure.Failure.{Failure}
 use Rattle.sch_cli.specs.declared.failure.Failure.TheVariants.{ReadFailed, WriteFailed, Memory}
 use Rattle.sch_cli.specs.declared.status.Status.{Status}
@@ -16,18 +15,23 @@ use Rattle.sch_cli.specs.declared.status.Status.TheVariants.{Done}
 
 -- From these files to those the target was replaced by a program for the source, under these limits.
 abbrev pub WroteProgram : (source target : List ℕ) → (heap depth : ℕ) → Files → Files → Type 0
-WroteProgram source target heap depth before after = IsSomeAnd (get before source) (λ text. (file : List ℕ) × IsFileOf text heap depth file × Replaces target file before after)
+WroteProgram source target heap depth before after =
+    IsSomeAnd (get before source) (λ text. (file : List ℕ) × IsFileOf text heap depth file × Replaces target file before after)
 
--- What `compile` did with the disk, by what it answers.
-pub data Compiles (source target : List ℕ) (disk : DiskChange) : Result ⊤ Failure → Type 0 where
-  written : FilesChange disk (WroteProgram source target default_heap default_depth) → HadCalls 2 disk → Compiles source target disk (Ok tt)
-  not_read : DiskFailed disk → SameFiles disk → HadCalls 1 disk → Compiles source target disk (Err ReadFailed)
+-- a text of which there is a program, under these limits
+abbrev pub HasProgram : (heap depth : ℕ) → (text : List ℕ) → Type 0
+HasProgram heap depth text = (file : List ℕ) × IsFileOf text heap depth file
+
+-- What `compile` did with the disk, under these limits, by what it answers.
+pub data Compiles (source target : List ℕ) (heap depth : ℕ) (disk : DiskChange) : Result ⊤ Failure → Type 0 where
+  written : FilesChange disk (WroteProgram source target heap depth) → HadCalls 2 disk → Compiles source target heap depth disk (Ok tt)
+  not_read : DiskFailed disk → SameFiles disk → HadCalls 1 disk → Compiles source target heap depth disk (Err ReadFailed)
   -- the source is one that compiles; a failed write leaves any bytes in the target
-  not_written : DiskFailed disk → FileIs disk source (λ text. (file : List ℕ) × IsFileOf text default_heap default_depth file) → FilesChange disk (Spoils target) → HadCalls 2 disk →
-      Compiles source target disk (Err WriteFailed)
+  not_written : DiskFailed disk → FileIs disk source (HasProgram heap depth) → FilesChange disk (Spoils target) → HadCalls 2 disk →
+      Compiles source target heap depth disk (Err WriteFailed)
   refused : (failure : Failure) → FileIs disk source (λ text. IsRefused text failure) → SameFiles disk → HadCalls 1 disk →
-      Compiles source target disk (Err failure)
-  no_memory : SameFiles disk → HadCalls 1 disk → Compiles source target disk (Err Memory)
+      Compiles source target heap depth disk (Err failure)
+  no_memory : SameFiles disk → HadCalls 1 disk → Compiles source target heap depth disk (Err Memory)
 
 abbrev pub compile_status : Result ⊤ Failure → Status
 compile_status (Ok done) = Done
@@ -43,8 +47,8 @@ compile_line source target (Ok done) = []
 compile_line source target (Err failure) = failure_line (concerned source target failure) failure
 
 -- How `compile` ends: with the status, the line and the disk of one answer.
-pub record EndsCompile (source target : List ℕ) (status : ℕ) (disk : DiskChange) (err : StreamChange) : Type 0 where
+pub record EndsCompile (source target : List ℕ) (heap depth status : ℕ) (disk : DiskChange) (err : StreamChange) : Type 0 where
   pub answer : Result ⊤ Failure
-  pub status_is : status ≡ number_of (compile_status answer)
+  pub status_is : status ≡ status_number (compile_status answer)
   pub says : Says (compile_line source target answer) err
-  pub compiles : Compiles source target disk answer
+  pub compiles : Compiles source target heap depth disk answer

@@ -18,14 +18,14 @@ abbrev pub started : Image → List Answer → State
 started image answers = start image.entry (memory image.segments) zeros answers
 
 -- how a run ended that has come to this
-abbrev pub end_of : Progress → RunEnd
-end_of (Runs s) = run_end.Spent
-end_of (Exited status s) = run_end.Exited status
-end_of (Stuck cause s) = run_end.Stuck (record { at = s.core.place; cause = cause })
+abbrev pub run_end_of : Progress → RunEnd
+run_end_of (Runs s) = run_end.Spent
+run_end_of (Exited status s) = run_end.Exited status
+run_end_of (Stuck cause s) = run_end.Stuck (record { at = s.core.place; cause = cause })
 
 -- Under these answers of the kernel the image ends so, and has written these bytes.
-pub record ComesTo (image : Image) (steps : ℕ) (answers : List Answer) (end : RunEnd) (output : List ℕ) : Type 0 where
-  pub end_is : end_of (mach steps (started image answers)) ≡ end
+pub record EndsUnder (image : Image) (steps : ℕ) (answers : List Answer) (end : RunEnd) (output : List ℕ) : Type 0 where
+  pub end_is : run_end_of (mach steps (started image answers)) ≡ end
   pub output_is : output_of (mach steps (started image answers)) ≡ output
 
 -- The image was run over an outlet: under the answers that the outlet held ready, where it tells them,
@@ -33,7 +33,7 @@ pub record ComesTo (image : Image) (steps : ℕ) (answers : List Answer) (end : 
 pub record Executes (image : Image) (steps : ℕ) (end : RunEnd) (out : StreamChange) : Type 0 where
   pub output : List ℕ
   pub given : List Answer
-  pub under_given : ComesTo image steps given end output
-  pub under_left : Tells out.before.left out.after.left (λ before after. ComesTo image steps before end output)
+  pub under_given : EndsUnder image steps given end output
+  pub under_left : Tells out.before.left out.after.left (λ before after. EndsUnder image steps before end output)
   pub took : BytesChange out (λ before after. after ≡ before ++ output)
   pub refused : All (λ answer. TakesNothing answer → StreamFailed out) given

@@ -5,7 +5,7 @@ use Rattle.sch_cli.specs.declared.failure.Failure.{Failure}
 use Rattle.sch_cli.specs.declared.failure.Failure.TheVariants.{ReadFailed, TooLong, Memory}
 
 -- the file was read: these are its bytes, where the disk tells it, and they are no more than the limit
-pub record Reads (name : List ℕ) (limit : ℕ) (bytes : List ℕ) (disk : DiskChange) : Type 0 where
+pub record HasRead (name : List ℕ) (limit : ℕ) (bytes : List ℕ) (disk : DiskChange) : Type 0 where
   pub found : FileIs disk name (λ file. file ≡ bytes)
   pub within : length bytes ≤ limit
 

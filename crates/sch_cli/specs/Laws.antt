@@ -1,4 +1,4 @@
--- That the causes of the statuses exclude one another.
+-- That each text has a cause of a status, and one only.
 use Rattle.std.specs.Prelude.{◌≡◌, ◌≢◌, ◌≤◌, ℕ, List, Result, Ok, Err, ⊤}
 use Rattle.sch_word.specs.runs.ProgramLayout.{max_text_size}
 use Rattle.sch_lang.specs.Tree as tree
@@ -21,8 +21,10 @@ abbrev pub but_for_size : Result ⊤ Failure → Result ⊤ Failure
 but_for_size (Err (Compile (TextTooLarge bytes))) = Ok tt
 but_for_size verdict = verdict
 
--- A text has at most one verdict but for that size, and so one status and one line, which are functions
--- of it. Where its core program is so small that no image is too large, it has at most one verdict.
+-- A text has a verdict, and one only but for that size; so it has one status and one line, which are functions
+-- of it. Where its core program is so small that no image is too large, it has one verdict at all.
 pub record HasOneVerdict (text : List ℕ) : Type 0 where
+  pub some : (verdict : Result ⊤ Failure) × IsVerdict text verdict
   pub same : (one other : Result ⊤ Failure) → IsVerdict text one → IsVerdict text other → but_for_size one ≡ but_for_size other
-  pub small : (p : tree.Source) → IsBuilt text p → text_bound p ≤ max_text_size → (one other : Result ⊤ Failure) → IsVerdict text one → IsVerdict text other → one ≡ other
+  pub small : (p : tree.Source) → IsBuilt text p → text_bound p ≤ max_text_size →
+      (one other : Result ⊤ Failure) → IsVerdict text one → IsVerdict text other → one ≡ other

@@ -56,7 +56,8 @@ pub record StreamChange : Type 0 where
   pub after : StreamState
 
 -- the change of a stream, by what its kind tells of it
-abbrev pub stream_change : {O : Type 0} → (bytes : O → Option (List ℕ)) → (left : O → Option (List Answer)) → (faults : O → ℕ) → (old new : O) → StreamChange
+abbrev pub stream_change : {O : Type 0} →
+    (bytes : O → Option (List ℕ)) → (left : O → Option (List Answer)) → (faults : O → ℕ) → (old new : O) → StreamChange
 stream_change bytes left faults old new = record {
   before = record { bytes = bytes old; left = left old; faults = faults old };
   after = record { bytes = bytes new; left = left new; faults = faults new };

@@ -7,20 +7,20 @@ use Rattle.sch_step.specs.declared.ends.RunEnd.TheVariants as run_end
 use Rattle.sch_cli.specs.declared.status.Status.{Status}
 use Rattle.sch_cli.specs.declared.status.Status.TheVariants.{Done, Usage, ReadFailed, WriteFailed, BadText, BadForm, Unbound, PastLimit, BadImage, StepsSpent, OutOfMemory, NotBuilt, Stopped}
 
-abbrev pub number_of : Status → ℕ
-number_of Done = 0
-number_of Usage = 1
-number_of ReadFailed = 2
-number_of WriteFailed = 3
-number_of BadText = 4
-number_of BadForm = 5
-number_of Unbound = 6
-number_of PastLimit = 7
-number_of BadImage = 8
-number_of StepsSpent = 9
-number_of OutOfMemory = 10
-number_of NotBuilt = 11
-number_of (Stopped stop) = status_of stop
+abbrev pub status_number : Status → ℕ
+status_number Done = 0
+status_number Usage = 1
+status_number ReadFailed = 2
+status_number WriteFailed = 3
+status_number BadText = 4
+status_number BadForm = 5
+status_number Unbound = 6
+status_number PastLimit = 7
+status_number BadImage = 8
+status_number StepsSpent = 9
+status_number OutOfMemory = 10
+status_number NotBuilt = 11
+status_number (Stopped stop) = status_of stop
 
 -- ---- how a run of an image ended
 

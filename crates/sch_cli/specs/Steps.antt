@@ -17,13 +17,12 @@ use Rattle.sch_cli.specs.declared.failure.Failure.{Failure}
 use Rattle.sch_cli.specs.declared.failure.Failure.TheVariants.{ReadFailed, TooLong, Image as NoImage, Memory}
 use Rattle.sch_cli.specs.declared.status.Status.{Status}
 use Rattle.sch_cli.specs.declared.status.Status.TheVariants.{StepsSpent, Stopped}
-use Rattle.sch_cli.specs.Command.{default_heap, default_depth}
 use Rattle.sch_cli.specs.Executes.{Executes}
 use Rattle.sch_cli.specs.Failures.{failure_line, failure_status}
 use Rattle.sch_cli.specs.Messages.{Says, end_line}
 use Rattle.sch_cli.specs.Refusals.{IsAccepted, IsRefused}
 use Rattle.sch_cli.specs.Seen.{DiskChange, StreamChange, SameFiles, FileIs, HadCalls, DiskFailed, TookNothing, StreamFailed}
-use Rattle.sch_cli.specs.Statuses.{end_status, number_of}
+use Rattle.sch_cli.specs.Statuses.{end_status, status_number}
 
 -- the most bytes of an image's file: 128 MiB
 abbrev pub max_image_file_size : ℕ
@@ -37,10 +36,10 @@ pub data StepsImage (name : List ℕ) (steps : ℕ) (disk : DiskChange) (out : S
   not_read : DiskFailed disk → TookNothing out → StepsImage name steps disk out (Err ReadFailed)
   no_memory : TookNothing out → StepsImage name steps disk out (Err Memory)
   too_long : FileIs disk name (λ file. max_image_file_size < length file) → TookNothing out → StepsImage name steps disk out (Err TooLong)
-  no_image : (error : ImageError) → FileIs disk name (λ file. (length file ≤ max_image_file_size) × images.IsRefused file error) → TookNothing out →
-      StepsImage name steps disk out (Err (NoImage error))
-  stepped : (image : Image) (end : RunEnd) → FileIs disk name (λ file. (length file ≤ max_image_file_size) × StandsFor file image) → Executes image steps end out →
-      StepsImage name steps disk out (Ok end)
+  no_image : (error : ImageError) → FileIs disk name (λ file. (length file ≤ max_image_file_size) × images.IsRefused file error) →
+      TookNothing out → StepsImage name steps disk out (Err (NoImage error))
+  stepped : (image : Image) (end : RunEnd) → FileIs disk name (λ file. (length file ≤ max_image_file_size) × StandsFor file image) →
+      Executes image steps end out → StepsImage name steps disk out (Ok end)
 
 -- ---- a source that is run
 
@@ -49,7 +48,8 @@ pub data StepsImage (name : List ℕ) (steps : ℕ) (disk : DiskChange) (out : S
 -- this output.
 abbrev pub EndsAs : (List Answer → (entries : ℕ) → Run) → (steps : ℕ) → List Answer → Status → (output : List ℕ) → Type 0
 EndsAs runs steps answers StepsSpent output = IsPrefix output (runs answers steps).output
-EndsAs runs steps answers status output = ((runs answers steps).end ≡ ended (number_of status)) × ((runs answers steps).output ≡ output)
+EndsAs runs steps answers status output =
+    ((runs answers steps).end ≡ ended (status_number status)) × ((runs answers steps).output ≡ output)
 
 -- A core program was run: an image that does what it means was executed, and ended as it means.
 pub record RunsProgram (p : tree.Source) (table : List (List ℕ)) (heap depth steps : ℕ) (end : RunEnd) (out : StreamChange) : Type 0 where
@@ -57,17 +57,19 @@ pub record RunsProgram (p : tree.Source) (table : List (List ℕ)) (heap depth s
   pub does : IsImageOf image p table heap depth
   pub executed : Executes image steps end out
   pub under_given : EndsAs (run p table heap depth) steps executed.given (end_status end) executed.output
-  pub under_left : Tells out.before.left out.after.left (λ before after. EndsAs (run p table heap depth) steps before (end_status end) executed.output)
+  pub under_left : Tells out.before.left out.after.left
+      (λ before after. EndsAs (run p table heap depth) steps before (end_status end) executed.output)
   pub output_failed : end_status end ≡ Stopped OutputFailed → StreamFailed out
 
--- `run NAME`: the source was not read; or it is refused; or it is neither, and its program was run, with
--- some orders of its sites.
-pub data RunsSource (name : List ℕ) (steps : ℕ) (disk : DiskChange) (out : StreamChange) : Result RunEnd Failure → Type 0 where
-  not_read : DiskFailed disk → TookNothing out → RunsSource name steps disk out (Err ReadFailed)
-  no_memory : TookNothing out → RunsSource name steps disk out (Err Memory)
-  refused : (failure : Failure) → FileIs disk name (λ text. IsRefused text failure) → TookNothing out → RunsSource name steps disk out (Err failure)
-  ran : (p : tree.Source) (orders : List (List ℕ)) (end : RunEnd) → FileIs disk name (λ text. IsAccepted text p) → RunsProgram p orders default_heap default_depth steps end out →
-      RunsSource name steps disk out (Ok end)
+-- `run NAME`: the source was not read; or it is refused; or it is neither, and its program was run, under
+-- these limits and with some orders of its sites.
+pub data RunsSource (name : List ℕ) (heap depth steps : ℕ) (disk : DiskChange) (out : StreamChange) : Result RunEnd Failure → Type 0 where
+  not_read : DiskFailed disk → TookNothing out → RunsSource name heap depth steps disk out (Err ReadFailed)
+  no_memory : TookNothing out → RunsSource name heap depth steps disk out (Err Memory)
+  refused : (failure : Failure) → FileIs disk name (λ text. IsRefused text failure) → TookNothing out →
+      RunsSource name heap depth steps disk out (Err failure)
+  ran : (p : tree.Source) (orders : List (List ℕ)) (end : RunEnd) → FileIs disk name (λ text. IsAccepted text p) →
+      RunsProgram p orders heap depth steps end out → RunsSource name heap depth steps disk out (Ok end)
 
 -- ---- the verbs
 
@@ -81,9 +83,10 @@ run_line name (Err failure) = failure_line name failure
 
 -- How a verb ends that reads one file and runs it: with the status, the line, the disk and the standard
 -- output of one answer. One call of the disk is made, and no file changes.
-pub record EndsRun (name : List ℕ) (status : ℕ) (disk : DiskChange) (err : StreamChange) (Did : Result RunEnd Failure → Type 0) : Type 0 where
+pub record EndsRun (name : List ℕ) (status : ℕ) (disk : DiskChange) (err : StreamChange)
+    (Did : Result RunEnd Failure → Type 0) : Type 0 where
   pub answer : Result RunEnd Failure
-  pub status_is : status ≡ number_of (run_status answer)
+  pub status_is : status ≡ status_number (run_status answer)
   pub says : Says (run_line name answer) err
   pub unchanged : SameFiles disk
   pub calls : HadCalls 1 disk

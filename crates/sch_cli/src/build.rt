@@ -3,33 +3,31 @@
 ghost use Rattle.std.specs.Prelude.{◌≤◌, length, IfOk, IfErr};
 ghost use Rattle.sch_driver.specs.Causes.{max_source_size};
 ghost use Rattle.sch_cli.specs.Builds.{DoesText, IsFileOf};
-ghost use Rattle.sch_cli.specs.Command.{default_heap, default_depth};
 ghost use Rattle.sch_cli.specs.Refusals.{IsRefused};
 
-use crate::command::default_limits;
 use crate::failure::Failure;
 use sch_driver::compile;
 use sch_elf::{Image, ImageError, read_image};
-use sch_word::Bytes;
+use sch_word::{Bytes, Limits};
 use std::alloc::Global;
 
-/// The file of a program that does what a source means, or why there is none.
-pub fn build(alloc: Global, text: &[u8]) -> Result<Bytes, Failure>
+/// The file of a program that does what a source means under these limits, or why there is none.
+pub fn build(alloc: Global, text: &[u8], limits: Limits) -> Result<Bytes, Failure>
     requires { length text.now ≤ max_source_size }
-    ensures made { IfOk result (IsFileOf text.now default_heap default_depth) }
+    ensures made { IfOk result (IsFileOf text.now limits.heap limits.depth) }
     ensures refused { IfErr result (IsRefused text.now) }
 {
-    let compiled = compile(alloc, text, default_limits())?;
+    let compiled = compile(alloc, text, limits)?;
     Ok(compiled.image)
 }
 
 /// The image of that program: the one that its file stands for.
-pub fn image_of(alloc: Global, text: &[u8]) -> Result<Image, Failure>
+pub fn image_of(alloc: Global, text: &[u8], limits: Limits) -> Result<Image, Failure>
     requires { length text.now ≤ max_source_size }
-    ensures made { IfOk result (DoesText text.now default_heap default_depth) }
+    ensures made { IfOk result (DoesText text.now limits.heap limits.depth) }
     ensures refused { IfErr result (IsRefused text.now) }
 {
-    let file = build(alloc, text)?;
+    let file = build(alloc, text, limits)?;
     match read_image(alloc, file.as_slice()) {
         Ok(image) => Ok(image),
         Err(ImageError::Memory) => Err(Failure::Memory),

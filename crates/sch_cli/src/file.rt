@@ -2,7 +2,7 @@
 
 ghost use Rattle.std.specs.Prelude.{◌≡◌, ◌≤◌, IfErr, IfOk, OnErr, OnOk};
 ghost use Rattle.sch_io.specs.Files.{Replaces, Spoils};
-ghost use Rattle.sch_cli.specs.Files.{Reads, IsUnread};
+ghost use Rattle.sch_cli.specs.Files.{HasRead, IsUnread};
 ghost use Rattle.sch_cli.specs.Seen.{DiskFailed, FilesChange, HadCalls, SameFiles, disk_change};
 
 use crate::failure::Failure;
@@ -17,7 +17,7 @@ pub fn read_file<D: Disk>(
     name: &str,
     limit: u64,
 ) -> Result<Bytes, Failure>
-    ensures read { IfOk result (λ bytes. Reads name.now limit bytes (disk_change D.files D.faults D.calls disk.old disk.new)) }
+    ensures read { IfOk result (λ bytes. HasRead name.now limit bytes (disk_change D.files D.faults D.calls disk.old disk.new)) }
     ensures failed { IfErr result (λ failure. IsUnread name.now limit failure (disk_change D.files D.faults D.calls disk.old disk.new)) }
     ensures faults { D.faults disk.old ≤ D.faults disk.new }
     ensures unchanged { SameFiles (disk_change D.files D.faults D.calls disk.old disk.new) }

@@ -37,7 +37,8 @@ const USAGE: &str =
 ///
 /// `compile NAME NAME2` reads the source NAME and writes NAME2, an executable that does what the source
 /// means: 0. `run NAME` compiles the source and runs its image, `step NAME` runs the image NAME, both of at
-/// most 1,000,000,000 steps or of those in `--steps N`; what the image writes goes to `out`.
+/// most 1,000,000,000 steps or of those in `--steps N`; what the image writes goes to `out`. A program that
+/// is compiled has a heap of 67,108,864 bytes or of those in `--heap N`.
 ///
 /// The other statuses, each with its line on `err`: 1 the words are no command, 2 NAME was not read,
 /// 3 NAME2 was not written, 4 NAME is not accepted by the reader, 5 it has a bad form or defines a
@@ -60,14 +61,15 @@ pub fn schc<D: Disk, O: Outlet, E: Outlet>(
     ensures out_at_1 { result ≡ 1 → out.new ≡ out.old }
 
     // Compiling ends by its causes, with the line that says the cause, and writes nothing on `out`.
-    ensures compile { IfCompile (command (map string_bytes words.now)) (λ source target. EndsCompile source target result
-        (disk_change D.files D.faults D.calls disk.old disk.new) (stream_change E.bytes E.left E.faults err.old err.new)) }
-    ensures compile_out { IfCompile (command (map string_bytes words.now)) (λ source target. out.new ≡ out.old) }
+    ensures compile { IfCompile (command (map string_bytes words.now)) (λ source target heap depth.
+        EndsCompile source target heap depth result (disk_change D.files D.faults D.calls disk.old disk.new)
+        (stream_change E.bytes E.left E.faults err.old err.new)) }
+    ensures compile_out { IfCompile (command (map string_bytes words.now)) (λ source target heap depth. out.new ≡ out.old) }
 
     // A source that is run ends as it means, and an image as the machine does, with a line that says so.
-    ensures run { IfRun (command (map string_bytes words.now)) (λ source steps. EndsRun source result
+    ensures run { IfRun (command (map string_bytes words.now)) (λ source heap depth steps. EndsRun source result
         (disk_change D.files D.faults D.calls disk.old disk.new) (stream_change E.bytes E.left E.faults err.old err.new)
-        (RunsSource source steps (disk_change D.files D.faults D.calls disk.old disk.new)
+        (RunsSource source heap depth steps (disk_change D.files D.faults D.calls disk.old disk.new)
         (stream_change O.bytes O.left O.faults out.old out.new))) }
     ensures step { IfStep (command (map string_bytes words.now)) (λ image steps. EndsRun image result
         (disk_change D.files D.faults D.calls disk.old disk.new) (stream_change E.bytes E.left E.faults err.old err.new)
@@ -75,13 +77,19 @@ pub fn schc<D: Disk, O: Outlet, E: Outlet>(
         (stream_change O.bytes O.left O.faults out.old out.new))) }
 {
     let status = match read_words(words) {
-        Some(Command::Compile { source, target }) => {
-            let answer = compile(alloc, source, target, disk);
+        Some(
+            Command::Compile {
+                source,
+                target,
+                limits,
+            },
+        ) => {
+            let answer = compile(alloc, source, target, limits, disk);
             report_compile(err, source, target, &answer)
         }
-        Some(Command::Run { source, steps }) => {
-            let answer = run_source(alloc, source, steps, disk, out);
-            report_run(err, source, &answer)
+        Some(Command::Run(wanted)) => {
+            let answer = run_source(alloc, wanted, disk, out);
+            report_run(err, wanted.source, &answer)
         }
         Some(Command::Step { image, steps }) => {
             let answer = step_image(alloc, image, steps, disk, out);

@@ -3,10 +3,11 @@
 ghost use Rattle.std.specs.Prelude.{◌≡◌, ◌≢◌};
 ghost use Rattle.sch_cli.specs.Messages.{Says};
 ghost use Rattle.sch_cli.specs.Seen.{HadCalls, SameFiles, disk_change, stream_change};
-ghost use Rattle.sch_cli.specs.Statuses.{number_of};
+ghost use Rattle.sch_cli.specs.Statuses.{status_number};
 ghost use Rattle.sch_cli.specs.Steps.{RunsSource, StepsImage, run_line, run_status};
 
 use crate::build::image_of;
+use crate::command::SourceRun;
 use crate::execute::execute;
 use crate::failure::{Failure, say_failure};
 use crate::file::read_file;
@@ -21,22 +22,21 @@ use std::alloc::Global;
 /// The most bytes of an image's file: 128 MiB.
 const MAX_IMAGE_FILE_SIZE: u64 = 1 << 27;
 
-/// Compiles a source and runs its image.
+/// Compiles a source under its limits and runs its image.
 pub fn run_source<D: Disk, O: Outlet>(
     alloc: Global,
-    name: &str,
-    steps: u64,
+    wanted: SourceRun,
     disk: &mut D,
     out: &mut O,
 ) -> Result<RunEnd, Failure>
     ensures unchanged { SameFiles (disk_change D.files D.faults D.calls disk.old disk.new) }
     ensures calls { HadCalls 1 (disk_change D.files D.faults D.calls disk.old disk.new) }
-    ensures ran { RunsSource name.now steps (disk_change D.files D.faults D.calls disk.old disk.new)
+    ensures ran { RunsSource wanted.source.now wanted.limits.heap wanted.limits.depth wanted.steps (disk_change D.files D.faults D.calls disk.old disk.new)
         (stream_change O.bytes O.left O.faults out.old out.new) result }
 {
-    let text = read_file(alloc, disk, name, MAX_SOURCE_SIZE)?;
-    let image = image_of(alloc, text.as_slice())?;
-    let end = execute(alloc, &image, steps, out)?;
+    let text = read_file(alloc, disk, wanted.source, MAX_SOURCE_SIZE)?;
+    let image = image_of(alloc, text.as_slice(), wanted.limits)?;
+    let end = execute(alloc, &image, wanted.steps, out)?;
     Ok(end)
 }
 
@@ -62,7 +62,7 @@ pub fn step_image<D: Disk, O: Outlet>(
 /// Says how a run ended, and answers its status.
 pub fn report_run<E: Outlet>(err: &mut E, name: &str, answer: &Result<RunEnd, Failure>) -> Status
     ensures status { result ≡ run_status answer.now }
-    ensures no_usage { number_of result ≢ 1 }
+    ensures no_usage { status_number result ≢ 1 }
     ensures line { Says (run_line name.now answer.now) (stream_change E.bytes E.left E.faults err.old err.new) }
 {
     match answer {

@@ -1,7 +1,7 @@
 //! The program's exit statuses.
 
 ghost use Rattle.std.specs.Prelude.{◌≡◌, ◌≢◌};
-ghost use Rattle.sch_cli.specs.Statuses.{end_status, exit_status, number_of};
+ghost use Rattle.sch_cli.specs.Statuses.{end_status, exit_status, status_number};
 
 use sch_step::RunEnd;
 use sch_word::Stop;
@@ -40,7 +40,7 @@ pub enum Status {
 impl Status {
     /// The number with which the process exits.
     pub fn number(self) -> u8
-        ensures number { result ≡ number_of self }
+        ensures number { result ≡ status_number self }
     {
         match self {
             Status::Done => 0,

@@ -87,5 +87,5 @@ pub bound_chain : (p : lang.Source) (q : control.Source) (code : List Insn) → 
 bound_chain p q code h size = omega (arith, h, size)
 
 -- a text that is built, and too large for its control program
-pub too_large : (text : List ℕ) (p : lang.Source) (q : control.Source) (bytes : ℕ) → IsBuilt text p → expressions_size q.bodies ≤ 4 * program_size p → IsUnfit q (compile_error.TextTooLarge bytes) → causes.IsTooLarge text bytes
+pub too_large : (text : List ℕ) (p : lang.Source) (q : control.Source) (bytes : ℕ) → IsBuilt text p → expressions_size q.bodies ≤ 4 * program_size p → IsUnfit q (compile_error.TextTooLarge bytes) → causes.IsTextTooLarge text bytes
 too_large text p q bytes built size unfit = record { program = p; built = built; large = unfit.0; bound = omega (arith, unfit.1, size) }

@@ -18,9 +18,9 @@ pub each_straight : (es : Expressions) → are_straight es ≡ every_part es
 each_straight no_expressions = refl
 each_straight (and_expression e es) = ap (λ b. is_straight e && b) (each_straight es)
 
-pub both_true : (x y r : Bool) → true ≡ x → r ≡ y → r ≡ (x && y)
-both_true true y r h k = k
-both_true false y r h k = absurd cc
+pub and_of_true : (x y r : Bool) → true ≡ x → r ≡ y → r ≡ (x && y)
+and_of_true true y r h k = k
+and_of_true false y r h k = absurd cc
 
 pub first_false : (x y r : Bool) → r ≡ x → r ≡ false → r ≡ (x && y)
 first_false true y true h k = absurd cc

@@ -47,7 +47,7 @@ text_bound p = text_base + 512 * program_size p
 
 -- A text that is built, and a number of bytes that is more than the text of an image may have, and no more
 -- than what that of its core program has at most.
-pub record IsTooLarge (text : List ℕ) (bytes : ℕ) : Type 0 where
+pub record IsTextTooLarge (text : List ℕ) (bytes : ℕ) : Type 0 where
   pub program : tree.Source
   pub built : IsBuilt text program
   pub large : max_text_size < bytes
@@ -60,7 +60,7 @@ IsErrorOf text (Read error) = reading.IsErrorIn text error
 IsErrorOf text (Core core.Memory) = ⊥
 IsErrorOf text (Core error) = (items : Data) × Spells text items × expanding.IsErrorIn items error
 IsErrorOf text (NotBuilt at) = IsNotBuilt text at
-IsErrorOf text (TextTooLarge bytes) = IsTooLarge text bytes
+IsErrorOf text (TextTooLarge bytes) = IsTextTooLarge text bytes
 IsErrorOf text Memory = Unit {0}
 
 -- the error of a text that is not read, and of data that are not expanded

@@ -1,10 +1,19 @@
 -- What is compiled of a text.
-use Rattle.std.specs.Prelude.{◌≤◌, ℕ, List, length}
+use Rattle.std.specs.Prelude.{◌≡◌, ◌≤◌, ℕ, List, length}
 use Rattle.std.specs.List.{flat_map}
 use Rattle.sch_insn.specs.Spelling.{spelling}
 use Rattle.sch_lang.specs.Tree as tree
+use Rattle.sch_control.specs.Tree as control
+use Rattle.sch_anf.specs.Table.{given_table}
 use Rattle.sch_driver.specs.Causes.{IsBuilt, text_bound}
+use Rattle.sch_driver.specs.Chain.{RunsAs}
 use Rattle.sch_driver.specs.Headline.{IsProgram}
+
+-- The orders are those given for a control program that runs as the core program.
+pub record AreGiven (p : tree.Source) (orders : List (List ℕ)) : Type 0 where
+  pub program : control.Source
+  pub runs : RunsAs p program
+  pub given : orders ≡ given_table program
 
 -- The file is a program for the core program of a text, under these limits and the orders that are listed. Its
 -- text is no longer than the size of the core program allows.
@@ -12,4 +21,5 @@ pub record IsCompiled (text : List ℕ) (heap depth : ℕ) (file : List ℕ) (or
   pub program : tree.Source
   pub built : IsBuilt text program
   pub is_program : IsProgram file program orders heap depth
+  pub listed : AreGiven program orders
   pub bound : length (flat_map spelling is_program.does.laid_out.code) ≤ text_bound program

@@ -18,7 +18,7 @@ use Rattle.sch_lang.specs.Run.{run}
 -- A memory that is entered at an address does what a core program means under an order table, with
 -- limits of heap, in bytes, and of depth: its runs are those of the program, whatever words it is given
 -- and whatever the kernel answers. The table has one permutation for each site.
-pub record Follows (entry : ℕ) (segments : List Segment) (p : tree.Source) (table : List (List ℕ)) (heap depth : ℕ) : Type 0 where
+pub record FollowsProgram (entry : ℕ) (segments : List Segment) (p : tree.Source) (table : List (List ℕ)) (heap depth : ℕ) : Type 0 where
   pub runs : FollowsRuns entry segments (run p table heap depth)
   pub orders : IsTrue (is_order_table p.sites table)
 
@@ -35,7 +35,7 @@ pub record HasProgramLayout (image : Image) : Type 0 where
 -- An image that is laid out so does what a core program means.
 pub record IsImageOf (image : Image) (p : tree.Source) (table : List (List ℕ)) (heap depth : ℕ) : Type 0 where
   pub laid_out : HasProgramLayout image
-  pub follows : Follows image.entry (memory image.segments) p table heap depth
+  pub follows : FollowsProgram image.entry (memory image.segments) p table heap depth
 
 -- The file is a program for a core program: it is exactly the bytes of an image that does what the core
 -- program means.

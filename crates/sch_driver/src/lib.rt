@@ -7,6 +7,7 @@ ghost use Rattle.sch_driver.specs.Compiled.{IsCompiled};
 
 mod assembly;
 mod error;
+mod laws;
 mod passes;
 mod reading;
 mod straight;
@@ -16,8 +17,9 @@ use crate::assembly::assemble;
 use crate::passes::control_program;
 use crate::reading::read_program;
 pub use error::CompileError;
-use sch_orders::given_orders;
+pub use laws::a_text_is_built_or_not;
 use sch_elf::write_image;
+use sch_orders::given_orders;
 use sch_word::{Bytes, Limits, List};
 use std::alloc::Global;
 

@@ -17,7 +17,7 @@ pub(crate) fn are_walkable(forms: &[Exp]) -> bool {
     true
 }
 
-/// What is left of `left` parts after those of an expression's sequences, if there are so many.
+/// What is left of `left` parts after those of an expression's sequences, if they are no more than that.
 #[cycle(parts)]
 fn after_parts(e: &Exp, left: usize) -> Option<usize> {
     match e {

@@ -1,4 +1,5 @@
--- A number that is capped at each digit is the whole number capped, and the cap is no fixnum.
+-- A number that is capped at each digit, at the greatest of 64 bits, is the whole number capped, and the cap is
+-- no fixnum.
 use Rattle.std.proofs.Common.{◌≡◌, ℕ, ◌+◌, ◌-◌, ◌*◌, ◌^◌, ◌<◌, ◌≤◌, ◌⊎◌, inl, inr, min, arith, sym, ◌∙◌, ap, Bool, true, false, List, refl, T}
 use Rattle.std.specs.Prelude.{ℤ, pos, neg_ℤ, cond, int_le, ◌&&◌, if◌then◌else◌}
 use Rattle.sch_word.specs.values.Fixnum.{IsFixnum}
@@ -18,30 +19,30 @@ capped_step v base d most h =
     let c : v ≤ most → min v most * base ≡ v * base = λ k. ap (λ n. n * base) (let e : min v most ≡ v = omega arith in e) in
     grind arith
 
-positive-large : (v : ℕ) → 2 ^ 61 ≤ v → is_fixnum (pos v) ≡ false
+positive-large : (v : ℕ) → 2 ^ 64 - 1 ≤ v → is_fixnum (pos v) ≡ false
 positive-large v h = grind (arith, nat_tests)
 
-negative-large : (v : ℕ) → 2 ^ 61 ≤ v → is_fixnum (neg_ℤ (pos v)) ≡ false
+negative-large : (v : ℕ) → 2 ^ 64 - 1 ≤ v → is_fixnum (neg_ℤ (pos v)) ≡ false
 negative-large v h = grind (arith, nat_tests)
 
 huge : (at : ℕ) (z : ℤ) → is_fixnum z ≡ false → integer_at at z ≡ Huge at
 huge at z h = ap (λ t. if t then Plain at (integer z) else Huge at) h
 
-capped-positive : (at v most : ℕ) → 2 ^ 61 ≤ most → integer_at at (pos (min v most)) ≡ integer_at at (pos v)
+capped-positive : (at v most : ℕ) → 2 ^ 64 - 1 ≤ most → integer_at at (pos (min v most)) ≡ integer_at at (pos v)
 capped-positive at v most h = go (cases_lt v most)
   where
     go : (v < most) ⊎ (most ≤ v) → integer_at at (pos (min v most)) ≡ integer_at at (pos v)
     go (inl k) = ap (λ n. integer_at at (pos n)) (let e : min v most ≡ v = omega arith in e)
     go (inr k) = huge at (pos (min v most)) (positive-large (min v most) (omega arith)) ∙ sym (huge at (pos v) (positive-large v (omega arith)))
 
-capped-negative : (at v most : ℕ) → 2 ^ 61 ≤ most → integer_at at (neg_ℤ (pos (min v most))) ≡ integer_at at (neg_ℤ (pos v))
+capped-negative : (at v most : ℕ) → 2 ^ 64 - 1 ≤ most → integer_at at (neg_ℤ (pos (min v most))) ≡ integer_at at (neg_ℤ (pos v))
 capped-negative at v most h = go (cases_lt v most)
   where
     go : (v < most) ⊎ (most ≤ v) → integer_at at (neg_ℤ (pos (min v most))) ≡ integer_at at (neg_ℤ (pos v))
     go (inl k) = ap (λ n. integer_at at (neg_ℤ (pos n))) (let e : min v most ≡ v = omega arith in e)
     go (inr k) = huge at (neg_ℤ (pos (min v most))) (negative-large (min v most) (omega arith)) ∙ sym (huge at (neg_ℤ (pos v)) (negative-large v (omega arith)))
 
-capped-signed : (at : ℕ) (minus : Bool) (v most : ℕ) → 2 ^ 61 ≤ most →
+capped-signed : (at : ℕ) (minus : Bool) (v most : ℕ) → 2 ^ 64 - 1 ≤ most →
     integer_at at (cond minus (neg_ℤ (pos (min v most))) (pos (min v most))) ≡ integer_at at (cond minus (neg_ℤ (pos v)) (pos v))
 capped-signed at true v most h = capped-negative at v most h
 capped-signed at false v most h = capped-positive at v most h

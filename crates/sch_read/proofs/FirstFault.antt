@@ -3,7 +3,7 @@ use Rattle.std.proofs.Common.{◌≡◌, ◌⊎◌, ℕ, zero, suc, List, [], �
 use Rattle.std.specs.Prelude.{Result, IsOkAnd, IfOk}
 use Rattle.std.proofs.lemmas.List.{append-nil}
 use Rattle.sch_read.specs.Grammar.{Token, Open, Close, Dot, Plain, Huge, Bad, parenthesis, hash_parenthesis, quote_mark, Atom, boolean, Datum, Data, atom, list, vector, none, cons, join, one, quoted, with_tail, Reads, plain, end}
-use Rattle.sch_read.specs.Fault.{Fault, Unclosed, Mark, open_list, open_quote, settled, opened, open_after, IsInnermost, Begins, IsAccepted, TakesAtom, IsFaultOf, CannotFollow, IsFirstFault}
+use Rattle.sch_read.specs.Fault.{Fault, Unclosed, Mark, open_list, open_quote, settled, opened, open_after, IsInnermost, Begins, AreAccepted, TakesAtom, IsFaultOf, CannotFollow, IsFirstFault}
 use Rattle.sch_read.specs.Parser.Stack.{Frame, Items, AfterDot, Tail, Elements, Waiting, State, put, shut, start, step, run, and_then, finish, place_of}
 use Rattle.sch_read.proofs.Completions.{Gets, Completes, Goes, HeadTakes, IsSound, put-sound, step-forth, step-back, join-none}
 use Rattle.sch_read.proofs.Runs.{step-sound, done-forth}
@@ -302,7 +302,7 @@ first_fault n ts f e = go (first ts n [] none f tt e)
       whole = h.whole;
       begins = (h.begins.0, (h.begins.1, to-reads n (h.front ++ h.begins.0) h.begins.1 h.begins.2));
       stuck = λ b. h.stuck b.0 b.1.0 (from-reads n (h.front ++ h.token ∷ b.0) b.1.0 (let P : List Token → Type 0 = λ v. Reads n v b.1.0 in subst P (front-more h.front h.token b.0) b.1.1));
-      kind = kind-same (WholeBy (Completes n [] none) h.front) (IsAccepted n h.front) (TakesBy (Completes n [] none) h.front) (TakesAtom n h.front) h.token f
+      kind = kind-same (WholeBy (Completes n [] none) h.front) (AreAccepted n h.front) (TakesBy (Completes n [] none) h.front) (TakesAtom n h.front) h.token f
           (λ w. (w.0, to-reads n h.front w.0 w.1)) (λ w. (w.0, from-reads n h.front w.0 w.1)) (to-takes n h.front) (from-takes n h.front) h.kind;
     })
     go (inr h) = inr (record {
@@ -338,7 +338,7 @@ begins-less n front t us (rest, (o, c)) =
     let e : (front ++ t ∷ us) ++ rest ≡ (front ++ t ∷ []) ++ (us ++ rest) = append_assoc front (t ∷ us) rest ∙ sym (front-more front t (us ++ rest)) in
     (us ++ rest, (o, subst P e c))
 
-pub accepted-begins : (n : ℕ) (ts : List Token) → IsAccepted n ts → Begins n ts
+pub accepted-begins : (n : ℕ) (ts : List Token) → AreAccepted n ts → Begins n ts
 accepted-begins n ts (o, c) = let P : List Token → Type 0 = λ v. Reads n v o in ([], (o, subst P (sym (append-nil ts)) c))
 
 kind-one : (W T : Type 0) (t : Token) (f g : Fault) → IsFaultOf W T t f → IsFaultOf W T t g → f ≡ g
@@ -368,9 +368,9 @@ stops-one : (n : ℕ) (ts : List Token) (f g : Fault) (a : CannotFollow n ts f) 
 stops-one n ts f g a b [] p q =
     let fronts : b.front ≡ a.front = p ∙ append-nil a.front in
     let tokens : b.token ≡ a.token = cc in
-    let P : List Token → Type 0 = λ v. IsFaultOf (IsAccepted n v) (TakesAtom n v) b.token g in
-    let Q : Token → Type 0 = λ v. IsFaultOf (IsAccepted n a.front) (TakesAtom n a.front) v g in
-    kind-one (IsAccepted n a.front) (TakesAtom n a.front) a.token f g a.kind (subst Q tokens (subst P fronts b.kind))
+    let P : List Token → Type 0 = λ v. IsFaultOf (AreAccepted n v) (TakesAtom n v) b.token g in
+    let Q : Token → Type 0 = λ v. IsFaultOf (AreAccepted n a.front) (TakesAtom n a.front) v g in
+    kind-one (AreAccepted n a.front) (TakesAtom n a.front) a.token f g a.kind (subst Q tokens (subst P fronts b.kind))
 stops-one n ts f g a b (x ∷ m) p q =
     let token : x ≡ a.token = cc in
     let front : b.front ≡ a.front ++ a.token ∷ m = p ∙ ap (λ v. a.front ++ v ∷ m) token in
@@ -391,6 +391,6 @@ fault-one n ts f g (inr a) (inl b) = absurd (stop-begins n ts g b a.begins)
 fault-one n ts f g (inr a) (inr b) = a.kind ∙ ap Unclosed (innermost-one (open_after [] ts) a.at b.at a.innermost b.innermost) ∙ sym b.kind
 
 -- accepted tokens have none
-pub fault-none : (n : ℕ) (ts : List Token) (f : Fault) → IsAccepted n ts → IsFirstFault n ts f → ⊥
+pub fault-none : (n : ℕ) (ts : List Token) (f : Fault) → AreAccepted n ts → IsFirstFault n ts f → ⊥
 fault-none n ts f a (inl b) = stop-begins n ts f b (accepted-begins n ts a)
 fault-none n ts f a (inr b) = b.refused a

@@ -10,12 +10,12 @@ pub data Fault : Type 0 where
   LiteralRange : ℕ → Fault
   Flawed : ℕ → Flaw → Fault
 
-abbrev pub IsAccepted : ℕ → List Token → Type 0
-IsAccepted n ts = (xs : Data) × Reads n ts xs
+abbrev pub AreAccepted : ℕ → List Token → Type 0
+AreAccepted n ts = (xs : Data) × Reads n ts xs
 
 -- the tokens begin some tokens that are accepted
 abbrev pub Begins : ℕ → List Token → Type 0
-Begins n ts = (rest : List Token) × IsAccepted n (ts ++ rest)
+Begins n ts = (rest : List Token) × AreAccepted n (ts ++ rest)
 
 -- after these tokens an atom can follow
 abbrev pub TakesAtom : ℕ → List Token → Type 0
@@ -40,7 +40,7 @@ pub record CannotFollow (n : ℕ) (ts : List Token) (f : Fault) : Type 0 where
   pub whole : ts ≡ front ++ token ∷ rest
   pub begins : Begins n front
   pub stuck : ¬ Begins n (front ++ token ∷ [])
-  pub kind : IsFaultOf (IsAccepted n front) (TakesAtom n front) token f
+  pub kind : IsFaultOf (AreAccepted n front) (TakesAtom n front) token f
 
 -- what is open: a list or a vector, or a quote that waits for its datum, by its place
 pub data Mark : Type 0 where
@@ -87,7 +87,7 @@ IsInnermost (m ∷ ms) at = place m ≡ at
 -- each token can follow, and the tokens are not whole
 pub record IsCutShort (n : ℕ) (ts : List Token) (f : Fault) : Type 0 where
   pub begins : Begins n ts
-  pub refused : ¬ IsAccepted n ts
+  pub refused : ¬ AreAccepted n ts
   pub at : ℕ
   pub kind : f ≡ Unclosed at
   pub innermost : IsInnermost (open_after [] ts) at

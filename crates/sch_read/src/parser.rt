@@ -97,7 +97,8 @@ impl Parser {
     /// A token where a datum may begin.
     #[tactic(auto, using(crate::proofs::FrameStack::stack_of_push))]
     fn start(&mut self, at: u32, token: Token) -> Result<(), ReadError>
-        ensures { StepsTo result (start self.old.spare (stack_of self.old.frames.items) (data_of self.old.top) (token_of at token)) (state_of self.new) }
+        ensures { StepsTo result (start self.old.spare
+            (stack_of self.old.frames.items) (data_of self.old.top) (token_of at token)) (state_of self.new) }
     {
         match token {
             Token::Plain(value) => {
@@ -115,7 +116,8 @@ impl Parser {
     /// A level more, where one is left.
     #[tactic(auto, using(crate::proofs::FrameStack::stack_of_push))]
     fn enter(&mut self, at: u32, opener: Opener) -> Result<(), ReadError>
-        ensures { StepsTo result (start self.old.spare (stack_of self.old.frames.items) (data_of self.old.top) (Open at (opener_of opener))) (state_of self.new) }
+        ensures { StepsTo result (start self.old.spare
+            (stack_of self.old.frames.items) (data_of self.old.top) (Open at (opener_of opener))) (state_of self.new) }
     {
         if self.spare == 0 {
             return Err(ReadError::DeepNesting(at));
@@ -149,7 +151,8 @@ impl Parser {
         token: Token,
     ) -> Result<(), ReadError>
         requires { self.old.spare + vec_len self.old.frames < max_nesting }
-        ensures { StepsTo result (in_list self.old.spare place (data_of items) (stack_of self.old.frames.items) (data_of self.old.top) (token_of at token)) (state_of self.new) }
+        ensures { StepsTo result (in_list self.old.spare place (data_of items)
+            (stack_of self.old.frames.items) (data_of self.old.top) (token_of at token)) (state_of self.new) }
     {
         match token {
             Token::Close => {
@@ -169,7 +172,8 @@ impl Parser {
     #[tactic(auto, using(crate::proofs::FrameStack::read_dot_some))]
     fn read_dot(&mut self, place: u32, items: List<Datum>, at: u32) -> Result<(), ReadError>
         requires { self.old.spare + vec_len self.old.frames < max_nesting }
-        ensures { StepsTo result (read_dot self.old.spare place (data_of items) (stack_of self.old.frames.items) (data_of self.old.top) at) (state_of self.new) }
+        ensures { StepsTo result (read_dot self.old.spare place (data_of items)
+            (stack_of self.old.frames.items) (data_of self.old.top) at) (state_of self.new) }
     {
         if items.is_empty() {
             return Err(ReadError::BadToken(at));
@@ -188,7 +192,8 @@ impl Parser {
         token: Token,
     ) -> Result<(), ReadError>
         requires { self.old.spare + vec_len self.old.frames < max_nesting }
-        ensures { StepsTo result (in_vector self.old.spare place (data_of items) (stack_of self.old.frames.items) (data_of self.old.top) (token_of at token)) (state_of self.new) }
+        ensures { StepsTo result (in_vector self.old.spare place (data_of items)
+            (stack_of self.old.frames.items) (data_of self.old.top) (token_of at token)) (state_of self.new) }
     {
         match token {
             Token::Close => {
@@ -213,7 +218,8 @@ impl Parser {
         token: Token,
     ) -> Result<(), ReadError>
         requires { self.old.spare + vec_len self.old.frames < max_nesting }
-        ensures { StepsTo result (in_tail self.old.spare place (data_of (reverse items)) (tree_of last) (stack_of self.old.frames.items) (data_of self.old.top) (token_of at token)) (state_of self.new) }
+        ensures { StepsTo result (in_tail self.old.spare place (data_of (reverse items)) (tree_of last)
+            (stack_of self.old.frames.items) (data_of self.old.top) (token_of at token)) (state_of self.new) }
     {
         match token {
             Token::Close => {
@@ -230,7 +236,8 @@ impl Parser {
     #[tactic(auto, using(crate::proofs::FrameStack::stack_of_push, crate::proofs::FrameStack::reversed_data))]
     fn shut(&mut self, place: u32, items: List<Datum>, last: Datum) -> Result<(), Mem>
         requires { self.old.spare + vec_len self.old.frames < max_nesting }
-        ensures { OnOk result (state_of self.new ≡ shut self.old.spare place (data_of (reverse items)) (tree_of last) (stack_of self.old.frames.items) (data_of self.old.top)) }
+        ensures { OnOk result (state_of self.new ≡ shut self.old.spare place (data_of (reverse items)) (tree_of last)
+            (stack_of self.old.frames.items) (data_of self.old.top)) }
     {
         self.spare += 1;
         match self.frames.pop() {
@@ -254,7 +261,8 @@ impl Parser {
     /// A token.
     #[tactic(auto, using(crate::proofs::FrameStack::stack_of_push))]
     pub(crate) fn step(&mut self, at: u32, token: Token) -> Result<(), ReadError>
-        ensures { StepsTo result (step self.old.spare (stack_of self.old.frames.items) (data_of self.old.top) (token_of at token)) (state_of self.new) }
+        ensures { StepsTo result (step self.old.spare
+            (stack_of self.old.frames.items) (data_of self.old.top) (token_of at token)) (state_of self.new) }
     {
         match self.frames.pop() {
             None => self.at_top(at, token),

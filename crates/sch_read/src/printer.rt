@@ -2,7 +2,6 @@
 
 ghost use Rattle.std.specs.Prelude.{◌≡◌, ◌+◌, ◌*◌, ◌<◌, ◌++◌, ◌≤◌, true, IfOk, OnOk, codes, if◌then◌else◌};
 ghost use Rattle.std.specs.Fmt.{signed_decimal};
-ghost use Rattle.std.specs.String.{string_bytes};
 ghost use Rattle.sch_read.specs.Printed.{atom_text, datum_text, items_text, more_text, escaped_text, character_name, IsTextOf};
 ghost use Rattle.sch_read.specs.Levels.{depth, HasFixnums, HaveFixnums, IsFixnumAtom};
 ghost use Rattle.sch_read.specs.Printer.Tasks.{task_text, tasks_text, TaskHasFixnums, TasksHaveFixnums, task_load, tasks_load, Came};
@@ -12,6 +11,7 @@ ghost use Rattle.sch_read.specs.Valid.{IsValid, weight, weights};
 ghost use Rattle.sch_read.specs.Views.{atom_of, tree_of, data_of};
 
 use crate::datum::{Atom, Datum, Node};
+use itoa::Buffer;
 use sch_word::{Bytes, Fix, List, Mem};
 use std::alloc::Global;
 
@@ -25,22 +25,13 @@ pub fn print(alloc: Global, d: &Datum) -> Result<Bytes, Mem>
     Ok(out)
 }
 
-fn integer_text(alloc: Global, number: Fix) -> Result<String, Mem>
-    ensures { IfOk result (λ t. string_bytes t ≡ signed_decimal number) }
-{
-    let value = number.get();
-    let text = format!(in alloc; "{value}")?;
-    Ok(text)
-}
-
 #[tactic(auto, using(crate::proofs::CappedNumbers::fixnum_test))]
-fn write_integer(alloc: Global, out: &mut Bytes, number: Fix) -> Result<(), Mem>
+fn write_integer(out: &mut Bytes, number: Fix) -> Result<(), Mem>
     ensures text { OnOk result (out.new ≡ out.old ++ signed_decimal number) }
     ensures fixnum { OnOk result (is_fixnum number ≡ true) }
 {
-    let _value = number.get();
-    let text = integer_text(alloc, number)?;
-    out.extend_from_slice(text.as_bytes())?;
+    let mut buffer = Buffer::new();
+    out.extend_from_slice(buffer.format(number.get()).as_bytes())?;
     Ok(())
 }
 
@@ -89,13 +80,13 @@ fn write_text(out: &mut Bytes, text: &[u8]) -> Result<(), Mem>
     Ok(())
 }
 
-fn write_atom(alloc: Global, out: &mut Bytes, value: &Atom) -> Result<(), Mem>
+fn write_atom(out: &mut Bytes, value: &Atom) -> Result<(), Mem>
     ensures text { OnOk result (out.new ≡ out.old ++ atom_text (atom_of value.now)) }
     ensures fixnum { OnOk result (IsFixnumAtom (atom_of value.now)) }
 {
     match value {
         Atom::Boolean(truth) => write_boolean(out, *truth),
-        Atom::Integer(number) => write_integer(alloc, out, *number),
+        Atom::Integer(number) => write_integer(out, *number),
         Atom::Character(byte) => write_character(out, *byte),
         Atom::Text(text) => write_text(out, text.as_slice()),
         Atom::Symbol(name) => out.extend_from_slice(name.as_slice()),
@@ -122,23 +113,18 @@ fn write_datum(alloc: Global, out: &mut Bytes, d: &Datum) -> Result<(), Mem>
     let mut tasks = Vec::new(alloc);
     tasks.push(Task::One(d))?;
     'each: while let Some(task) = tasks.pop() {
-        write_task(alloc, out, &mut tasks, task)?;
+        write_task(out, &mut tasks, task)?;
     }
     Ok(())
 }
 
-fn write_task<'a>(
-    alloc: Global,
-    out: &mut Bytes,
-    tasks: &mut Vec<Task<'a>>,
-    task: Task<'a>,
-) -> Result<(), Mem>
+fn write_task<'a>(out: &mut Bytes, tasks: &mut Vec<Task<'a>>, task: Task<'a>) -> Result<(), Mem>
     ensures text { OnOk result (out.new ++ tasks_text tasks.new.items ≡ out.old ++ (task_text task.entry ++ tasks_text tasks.old.items)) }
     ensures fixnums { OnOk result (TasksHaveFixnums tasks.new.items → TaskHasFixnums task.entry × TasksHaveFixnums tasks.old.items) }
     ensures less { OnOk result (tasks_load tasks.new.items < task_load task.entry + tasks_load tasks.old.items) }
 {
     match task {
-        Task::One(d) => write_one(alloc, out, tasks, d),
+        Task::One(d) => write_one(out, tasks, d),
         Task::More(items) => write_more(out, tasks, items),
         Task::Dotted(d) => {
             out.extend_from_slice(b" . ")?;
@@ -149,18 +135,14 @@ fn write_task<'a>(
     }
 }
 
-fn write_one<'a>(
-    alloc: Global,
-    out: &mut Bytes,
-    tasks: &mut Vec<Task<'a>>,
-    d: &'a Datum,
-) -> Result<(), Mem>
-    ensures text { OnOk result (out.new ++ tasks_text tasks.new.items ≡ out.old ++ (datum_text (tree_of d.now) ++ tasks_text tasks.old.items)) }
+fn write_one<'a>(out: &mut Bytes, tasks: &mut Vec<Task<'a>>, d: &'a Datum) -> Result<(), Mem>
+    ensures text { OnOk result (out.new ++ tasks_text tasks.new.items
+        ≡ out.old ++ (datum_text (tree_of d.now) ++ tasks_text tasks.old.items)) }
     ensures fixnums { OnOk result (TasksHaveFixnums tasks.new.items → HasFixnums (tree_of d.now) × TasksHaveFixnums tasks.old.items) }
     ensures less { OnOk result (tasks_load tasks.new.items + 2 ≤ 6 * weight (tree_of d.now) + tasks_load tasks.old.items) }
 {
     match &d.node {
-        Node::Atom(value) => write_atom(alloc, out, value),
+        Node::Atom(value) => write_atom(out, value),
         Node::List(items, None) => {
             out.push(b'(')?;
             tasks.push(Task::Close)?;
@@ -184,7 +166,8 @@ fn write_one<'a>(
 }
 
 fn write_more<'a>(out: &mut Bytes, tasks: &mut Vec<Task<'a>>, items: &'a [Datum]) -> Result<(), Mem>
-    ensures text { OnOk result (out.new ++ tasks_text tasks.new.items ≡ out.old ++ (more_text (data_of items.now) ++ tasks_text tasks.old.items)) }
+    ensures text { OnOk result (out.new ++ tasks_text tasks.new.items
+        ≡ out.old ++ (more_text (data_of items.now) ++ tasks_text tasks.old.items)) }
     ensures fixnums { OnOk result (TasksHaveFixnums tasks.new.items → HaveFixnums (data_of items.now) × TasksHaveFixnums tasks.old.items) }
     ensures load { OnOk result (tasks_load tasks.new.items ≤ 6 * weights (data_of items.now) + tasks_load tasks.old.items) }
 {
@@ -197,7 +180,8 @@ fn write_more<'a>(out: &mut Bytes, tasks: &mut Vec<Task<'a>>, items: &'a [Datum]
 
 // The first item is the next task.
 fn push_items<'a>(tasks: &mut Vec<Task<'a>>, items: &'a [Datum]) -> Result<(), Mem>
-    ensures { OnOk result (Came (items_text (data_of items.now)) (HaveFixnums (data_of items.now)) (6 * weights (data_of items.now)) tasks.old.items tasks.new.items) }
+    ensures { OnOk result (Came (items_text (data_of items.now))
+        (HaveFixnums (data_of items.now)) (6 * weights (data_of items.now)) tasks.old.items tasks.new.items) }
 {
     if let Some((first, rest)) = items.split_first() {
         tasks.push(Task::More(rest))?;

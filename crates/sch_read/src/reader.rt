@@ -46,7 +46,8 @@ fn turn(parser: &mut Parser, text: &[u8], lexeme: Lexeme, i: usize) -> Result<Le
     requires small { length text.now < 2 ^ 32 }
     requires met { IsMet text.now i lexeme }
     ensures met { IfOk result (IsMet text.now (i + 1)) }
-    ensures ok { IfOk result (λ after. runs (state_of parser.old) (left text.now i lexeme) ≡ runs (state_of parser.new) (left text.now (i + 1) after)) }
+    ensures ok { IfOk result (λ after. runs (state_of parser.old) (left text.now i lexeme)
+        ≡ runs (state_of parser.new) (left text.now (i + 1) after)) }
     ensures err { IfErr result (λ e. Fails e (runs (state_of parser.old) (left text.now i lexeme))) }
 {
     let b = text[i];

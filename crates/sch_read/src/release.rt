@@ -46,7 +46,8 @@ fn taken(items: Vec<Datum>, last: Option<Box<Datum>>) -> (Option<Datum>, Vec<Dat
 
 // Takes a datum apart. Its parts join the rest, and one of all is next.
 fn opened(d: Datum, rest: Vec<Datum>) -> (Option<Datum>, Vec<Datum>)
-    ensures less { effort (weight_next result.0) (weights (data_of result.1.items)) < effort (weight (tree_of d)) (weights (data_of rest.items)) }
+    ensures less { effort (weight_next result.0) (weights (data_of result.1.items))
+        < effort (weight (tree_of d)) (weights (data_of rest.items)) }
     ensures none { IfNone result.0 (result.1.items ≡ []) }
 {
     let (_, node) = d.into_parts();
@@ -63,7 +64,8 @@ fn joined(
     items: Vec<Datum>,
     last: Option<Box<Datum>>,
 ) -> (Option<Datum>, Vec<Datum>)
-    ensures less { effort (weight_next result.0) (weights (data_of result.1.items)) < effort (1 + weights (data_of items.items) + weight_last last) (weights (data_of rest.items)) }
+    ensures less { effort (weight_next result.0) (weights (data_of result.1.items))
+        < effort (1 + weights (data_of items.items) + weight_last last) (weights (data_of rest.items)) }
     ensures none { IfNone result.0 (result.1.items ≡ []) }
 {
     if items.is_empty() {
@@ -85,7 +87,8 @@ fn swapped(
     last: Option<Box<Datum>>,
 ) -> (Option<Datum>, Vec<Datum>)
     requires { 0 < length items.items }
-    ensures less { effort (weight_next result.0) (weights (data_of result.1.items)) < effort (1 + weights (data_of items.items) + weight_last last) (weights (data_of rest.items)) }
+    ensures less { effort (weight_next result.0) (weights (data_of result.1.items))
+        < effort (1 + weights (data_of items.items) + weight_last last) (weights (data_of rest.items)) }
     ensures some { IsSome result.0 }
 {
     let mut items = items;

@@ -162,7 +162,7 @@ fn program_has_its_header(rt: HostRuntime) -> Result<(), Fail> {
 
 #[test]
 fn words_that_are_no_command(rt: HostRuntime) -> Result<(), Fail> {
-    let commands: [&[&str]; 17] = [
+    let commands: [&[&str]; 25] = [
         &[],
         &["compile"],
         &["compile", "a"],
@@ -175,10 +175,18 @@ fn words_that_are_no_command(rt: HostRuntime) -> Result<(), Fail> {
         &["step", "-a"],
         &["run"],
         &["run", "a", "b"],
+        &["run", "a", "--heap"],
+        &["run", "a", "--heap", ""],
+        &["run", "a", "--heap", "4080"],
         &["run", "a", "--heap", "4097"],
+        &["compile", "a", "b", "--heap", "1073741840"],
+        &["compile", "a", "b", "--steps", "1"],
+        &["run", "a", "--heap", "4096", "--heap", "4096"],
+        &["run", "--heap", "4096", "a"],
+        &["step", "a", "--heap", "4096"],
         &["run", "a", "--steps", "1000000000000000001"],
         &["run", "a", "--steps", "1x"],
-        &["step", "a", "--depth", "1"],
+        &["run", "a", "--depth", "1"],
         &["step", ""],
     ];
     for words in commands {
@@ -189,6 +197,22 @@ fn words_that_are_no_command(rt: HostRuntime) -> Result<(), Fail> {
             b"usage: schc VERB NAME [NAME2] [--listing F] [--heap N] [--depth N] [--steps N]\n".as_slice()
         );
         assert!(rt; outcome.target.is_none());
+    }
+    Ok(())
+}
+
+#[test]
+fn words_with_options(rt: HostRuntime) -> Result<(), Fail> {
+    let commands: [(&[&str], u8); 5] = [
+        (&["run", "a", "--heap", "4096"], 0),
+        (&["run", "a", "--heap", "0000000000000004096"], 0),
+        (&["run", "a", "--steps", "0", "--heap", "8192"], 9),
+        (&["run", "a", "--heap", "8192", "--steps", "0"], 9),
+        (&["compile", "a", "b", "--heap", "1073741824"], 0),
+    ];
+    for (words, status) in commands {
+        let outcome = call(rt.alloc(), words, b"", &[], &[])?;
+        assert_eq!(rt; outcome.status, status);
     }
     Ok(())
 }
@@ -308,7 +332,8 @@ fn sources_run(rt: HostRuntime) -> Result<(), Fail> {
     assert_eq!(rt; whole.status, 0);
     assert_eq!(rt; whole.printed.as_slice(), b"-42\n".as_slice());
     assert_eq!(rt; whole.said.as_slice(), [].as_slice());
-    let empty = perform(rt.alloc(), &["run", "a"], b"", &[])?;
+    let small = ["run", "a", "--heap", "4096"];
+    let empty = perform(rt.alloc(), &small, b"", &[])?;
     assert_eq!(rt; empty.status, 0);
     assert_eq!(rt; empty.printed.as_slice(), [].as_slice());
     let spent = perform(rt.alloc(), &["run", "a", "--steps", "0"], source, &[])?;
@@ -350,7 +375,9 @@ fn compiled_images_step(rt: HostRuntime) -> Result<(), Fail> {
         (b"(display 1152921504606846975)", b"1152921504606846975"),
     ];
     for (source, printed) in sources {
-        let image = compile(rt.alloc(), source)?.target.ok_or("no file")?;
+        let words = ["compile", "a", "b", "--heap", "4096"];
+        let outcome = call(rt.alloc(), &words, source, &[], &[])?;
+        let image = outcome.target.ok_or("no file")?;
         let outcome = perform(rt.alloc(), &["step", "a"], image.as_slice(), &[])?;
         assert_eq!(rt; outcome.status, 0);
         assert_eq!(rt; outcome.printed.as_slice(), printed);

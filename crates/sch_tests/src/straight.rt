@@ -5,13 +5,55 @@ use sch_word::{Bytes, Mem};
 use std::alloc::Global;
 use std::test::Fail;
 
+/// With the least heap, so that an image has few zeros to load.
+const RUN: [&str; 4] = ["run", "a", "--heap", "4096"];
+
+// Runs a source that ends with 0.
+fn check_printed(alloc: Global, source: &[u8], printed: &[u8]) -> Result<(), Fail> {
+    let ending = perform(alloc, &RUN, source, &[])?;
+    if ending.status != 0 || ending.printed.as_slice() != printed || !ending.said.is_empty() {
+        return Err(Fail::from("another end or output"));
+    }
+    Ok(())
+}
+
 #[test]
-fn straight_code_prints(rt: HostRuntime) -> Result<(), Fail> {
-    let rows: [(&[u8], &[u8]); 13] = [
+fn arithmetic_prints(rt: HostRuntime) -> Result<(), Fail> {
+    let rows: [(&[u8], &[u8]); 6] = [
         (
             b"(define x 7)(let ((y (* x 6))) (if (< y 40) (display 0) (display (- y 50))))",
             b"-8",
         ),
+        (
+            b"(display (quotient -7 2))(display (remainder -7 2))(display (modulo -7 2))",
+            b"-3-11",
+        ),
+        (
+            b"(display (quotient 7 -2))(display (remainder 7 -2))(display (modulo 7 -2))",
+            b"-31-1",
+        ),
+        (
+            b"(define a -1152921504606846976)(define b 1152921504606846975)(display (quotient a b))(display (modulo a b))",
+            b"-11152921504606846974",
+        ),
+        (
+            b"(define a -1152921504606846976)(define b 1152921504606846975)(display (quotient b a))(display (modulo b a))",
+            b"0-1",
+        ),
+        (
+            b"(display (remainder -1152921504606846976 -1))(display (quotient 1152921504606846975 -1))",
+            b"0-1152921504606846975",
+        ),
+    ];
+    for (source, printed) in rows {
+        check_printed(rt.alloc(), source, printed)?;
+    }
+    Ok(())
+}
+
+#[test]
+fn comparisons_print(rt: HostRuntime) -> Result<(), Fail> {
+    let rows: [(&[u8], &[u8]); 4] = [
         (
             b"(display (integer->char 255))(display (char->integer (integer->char 255)))",
             b"\xff255",
@@ -25,25 +67,19 @@ fn straight_code_prints(rt: HostRuntime) -> Result<(), Fail> {
             b"#f#f#t",
         ),
         (
-            b"(display (quotient -7 2))(display (remainder -7 2))(display (modulo -7 2))",
-            b"-3-11",
-        ),
-        (
-            b"(display (quotient 7 -2))(display (remainder 7 -2))(display (modulo 7 -2))",
-            b"-31-1",
-        ),
-        (
-            b"(define a -1152921504606846976)(define b 1152921504606846975)(display (quotient a b))(display (remainder a b))(display (modulo a b))(display (quotient b a))(display (remainder b a))(display (modulo b a))",
-            b"-1-1115292150460684697401152921504606846975-1",
-        ),
-        (
-            b"(display (remainder -1152921504606846976 -1))(display (quotient 1152921504606846975 -1))",
-            b"0-1152921504606846975",
-        ),
-        (
             b"(display (eqv? 1 1))(display (null? '()))(display (char? 1))(display (boolean? #f))",
             b"#t#t#f#t",
         ),
+    ];
+    for (source, printed) in rows {
+        check_printed(rt.alloc(), source, printed)?;
+    }
+    Ok(())
+}
+
+#[test]
+fn choices_print(rt: HostRuntime) -> Result<(), Fail> {
+    let rows: [(&[u8], &[u8]); 4] = [
         (
             b"(display (let* ((a 1) (b (+ a 1))) (cond ((= a b) 1) ((and (< a b) (not (eq? a b))) (quotient 100 (- b 9))) (else 0))))",
             b"-14",
@@ -59,67 +95,49 @@ fn straight_code_prints(rt: HostRuntime) -> Result<(), Fail> {
         (b"(let ((t 5) (if 1)) (display (or #f t if)))", b"5"),
     ];
     for (source, printed) in rows {
-        let ending = perform(rt.alloc(), &["run", "a"], source, &[])?;
-        assert_eq!(rt; ending.status, 0);
-        assert_eq!(rt; ending.printed.as_slice(), printed);
-        assert_eq!(rt; ending.said.as_slice(), [].as_slice());
+        check_printed(rt.alloc(), source, printed)?;
+    }
+    Ok(())
+}
+
+// Runs a source that stops.
+fn check_stop(
+    alloc: Global,
+    source: &[u8],
+    status: u8,
+    printed: &[u8],
+    said: &[u8],
+) -> Result<(), Fail> {
+    let ending = perform(alloc, &RUN, source, &[])?;
+    if ending.status != status
+        || ending.printed.as_slice() != printed
+        || ending.said.as_slice() != said
+    {
+        return Err(Fail::from("another end or output"));
     }
     Ok(())
 }
 
 #[test]
 fn straight_code_stops(rt: HostRuntime) -> Result<(), Fail> {
-    let rows: [(&[u8], u8, &[u8], &[u8]); 8] = [
-        (
-            b"(display (quotient 7 (- 2 2)))",
-            69,
-            b"",
-            b"stop 69: division by zero\n",
-        ),
-        (
-            b"(display 1)(display (modulo 1 0))",
-            69,
-            b"1",
-            b"stop 69: division by zero\n",
-        ),
-        (
-            b"(display x)(define x 1)",
-            73,
-            b"",
-            b"stop 73: unset variable\n",
-        ),
-        (
-            b"(display (+ 1152921504606846975 1))",
-            70,
-            b"",
-            b"stop 70: fixnum overflow\n",
-        ),
-        (
-            b"(display (* -1152921504606846976 -1))",
-            70,
-            b"",
-            b"stop 70: fixnum overflow\n",
-        ),
-        (
-            b"(display (quotient -1152921504606846976 -1))",
-            70,
-            b"",
-            b"stop 70: fixnum overflow\n",
-        ),
-        (b"(display (< 1 #t))", 65, b"", b"stop 65: wrong type\n"),
-        (
-            b"(display (integer->char 256))",
-            66,
-            b"",
-            b"stop 66: out of range\n",
-        ),
+    let alloc = rt.alloc();
+    let zero = b"stop 69: division by zero\n";
+    check_stop(alloc, b"(display (quotient 7 (- 2 2)))", 69, b"", zero)?;
+    check_stop(alloc, b"(display 1)(display (modulo 1 0))", 69, b"1", zero)?;
+    let unset = b"stop 73: unset variable\n";
+    check_stop(alloc, b"(display x)(define x 1)", 73, b"", unset)?;
+    let sources: [&[u8]; 3] = [
+        b"(display (+ 1152921504606846975 1))",
+        b"(display (* -1152921504606846976 -1))",
+        b"(display (quotient -1152921504606846976 -1))",
     ];
-    for (source, status, printed, said) in rows {
-        let ending = perform(rt.alloc(), &["run", "a"], source, &[])?;
-        assert_eq!(rt; ending.status, status);
-        assert_eq!(rt; ending.printed.as_slice(), printed);
-        assert_eq!(rt; ending.said.as_slice(), said);
+    for source in sources {
+        check_stop(alloc, source, 70, b"", b"stop 70: fixnum overflow\n")?;
     }
+    let wrong = b"stop 65: wrong type\n";
+    check_stop(alloc, b"(display (< 1 #t))", 65, b"", wrong)?;
+    let range = b"stop 66: out of range\n";
+    check_stop(alloc, b"(display (integer->char 256))", 66, b"", range)?;
     Ok(())
 }
 

@@ -1,5 +1,5 @@
 -- Call-free code stays call-free, the bodies of its procedures too.
-use Rattle.std.proofs.Common.{◌≡◌, ℕ, suc, ◌+◌, Bool, true, List, [], ◌∷◌, ◌++◌, refl, ap}
+use Rattle.std.proofs.Common.{ℕ, suc, ◌+◌, Bool, true, List, [], ◌∷◌, ◌++◌, refl}
 use Rattle.std.specs.Prelude.{IsTrue, ◌&&◌}
 use Rattle.std.specs.List.{list_all}
 use Rattle.sch_word.specs.trees.Straight.{is_straight_primitive, is_call_free_node, is_empty}
@@ -9,7 +9,6 @@ use Rattle.sch_cells.specs.Measures.{over_lambdas, shape}
 use Rattle.sch_cells.specs.Straight.{no_procedures}
 use Rattle.sch_cells.specs.Tree.{Tree, Trees, Lambdas, Source, constant, literal, variable, global, set_variable, set_global, define, branch, sequence, bind, fix, letrec, lambda, call, operation, new_cells, cell_get, cell_set, no_trees, and_tree, no_lambdas, and_lambda}
 use Rattle.sch_flat.specs.CallFree as to
-use Rattle.sch_flat.specs.Measures as measures
 use Rattle.sch_flat.specs.Tree as flat
 use Rattle.sch_closure.specs.Closed.{place, procedures, procedures_each, procedures_lambdas, fields_of, closed, closed_each, body_of, all_procedures, all_of_each, all_of_lambdas, labels, closed_source}
 use Rattle.sch_closure.specs.Fresh.{Fresh, FreshEach, FreshLambdas}

@@ -29,5 +29,10 @@ returns-clause-compiled c =
         bytes = c.in_ok-file.ensures.bytes;
         stands = c.in_ok-file.ensures.stands;
       };
+      listed = record {
+        program = control.source c.in_ok-control.control;
+        runs = runs;
+        given = c.in_ok-orders.ensures.orders;
+      };
       bound = bound_chain p (control.source c.in_ok-control.control) does.laid_out.code does.bound c.in_ok-control.ensures.size;
     }

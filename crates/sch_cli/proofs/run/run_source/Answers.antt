@@ -1,6 +1,5 @@
 use Rattle.std.proofs.Common.{subst, sym}
 use Rattle.sch_cli.specs.Builds.{DoesText}
-use Rattle.sch_cli.specs.Command.{default_heap, default_depth}
 use Rattle.sch_cli.specs.Refusals.{IsAccepted, IsRefused}
 use Rattle.sch_cli.specs.Seen.{TookNothing, disk_change, stream_change}
 use Rattle.sch_cli.specs.Steps.{RunsSource, no_memory, ran, refused}
@@ -11,39 +10,39 @@ use Rattle.sch_cli.proofs.run.run_source.Goals as goal
 
 pub returns-in_err-text-clause-ran : goal.returns-in_err-text-clause-ran
 returns-in_err-text-clause-ran g c =
-    let name = c.args.name.now in
+    let name = c.args.wanted.source.now in
     let disk = disk_change g.D.Disk.files g.D.Disk.faults g.D.Disk.calls c.args.disk.now c.read_file.new.disk in
     let out = stream_change g.O.Outlet.bytes g.O.Outlet.left g.O.Outlet.faults c.args.out.now c.args.out.now in
     let why = c.in_err-text.field-0.0 in
-    subst (RunsSource name c.args.steps disk out) (sym (failed_with c.from_residual.result why c.from_residual.ensures.1))
-    (unread_runs name c.args.steps disk out why c.in_err-text.ensures.failed (took_nothing (g.O.Outlet.bytes c.args.out.now)))
+    subst (RunsSource name c.args.wanted.limits.heap c.args.wanted.limits.depth c.args.wanted.steps disk out) (sym (failed_with c.from_residual.result why c.from_residual.ensures.1))
+    (unread_runs name c.args.wanted.limits.heap c.args.wanted.limits.depth c.args.wanted.steps disk out why c.in_err-text.ensures.failed (took_nothing (g.O.Outlet.bytes c.args.out.now)))
 
 pub returns-in_err-image-clause-ran : goal.returns-in_err-image-clause-ran
 returns-in_err-image-clause-ran g c =
-    let name = c.args.name.now in
+    let name = c.args.wanted.source.now in
     let disk = disk_change g.D.Disk.files g.D.Disk.faults g.D.Disk.calls c.args.disk.now c.read_file.new.disk in
     let out = stream_change g.O.Outlet.bytes g.O.Outlet.left g.O.Outlet.faults c.args.out.now c.args.out.now in
     let why = c.in_err-image.field-0.0 in
     let is = subst (λ lent. IsRefused lent why) c.as_slice.ensures c.in_err-image.ensures.refused in
-    subst (RunsSource name c.args.steps disk out) (sym (failed_with c.from_residual-in_err-image.result why c.from_residual-in_err-image.ensures.1))
+    subst (RunsSource name c.args.wanted.limits.heap c.args.wanted.limits.depth c.args.wanted.steps disk out) (sym (failed_with c.from_residual-in_err-image.result why c.from_residual-in_err-image.ensures.1))
     (refused why (file_is disk name c.in_ok-text.text (λ file. IsRefused file why) c.in_ok-text.ensures.read.found is) (took_nothing (g.O.Outlet.bytes c.args.out.now)))
 
 pub returns-in_err-end-clause-ran : goal.returns-in_err-end-clause-ran
 returns-in_err-end-clause-ran g c =
-    let name = c.args.name.now in
+    let name = c.args.wanted.source.now in
     let disk = disk_change g.D.Disk.files g.D.Disk.faults g.D.Disk.calls c.args.disk.now c.read_file.new.disk in
     let old = c.args.out.now in
     let out = stream_change g.O.Outlet.bytes g.O.Outlet.left g.O.Outlet.faults old c.execute.new.out in
     let nothing = subst (λ o. TookNothing (stream_change g.O.Outlet.bytes g.O.Outlet.left g.O.Outlet.faults old o)) (sym c.in_err-end.ensures.err) (took_nothing (g.O.Outlet.bytes old)) in
-    subst (RunsSource name c.args.steps disk out) (sym (failed_with c.from_residual-in_err-end.result Memory c.from_residual-in_err-end.ensures.1)) (no_memory nothing)
+    subst (RunsSource name c.args.wanted.limits.heap c.args.wanted.limits.depth c.args.wanted.steps disk out) (sym (failed_with c.from_residual-in_err-end.result Memory c.from_residual-in_err-end.ensures.1)) (no_memory nothing)
 
 pub returns-clause-ran : goal.returns-clause-ran
 returns-clause-ran g c =
-    let name = c.args.name.now in
+    let name = c.args.wanted.source.now in
     let disk = disk_change g.D.Disk.files g.D.Disk.faults g.D.Disk.calls c.args.disk.now c.read_file.new.disk in
     let out = stream_change g.O.Outlet.bytes g.O.Outlet.left g.O.Outlet.faults c.args.out.now c.execute.new.out in
     let text = c.in_ok-text.text in
     let image = c.in_ok-image.image in
-    let made = subst (λ lent. DoesText lent default_heap default_depth image) c.as_slice.ensures c.in_ok-image.ensures.made in
+    let made = subst (λ lent. DoesText lent c.args.wanted.limits.heap c.args.wanted.limits.depth image) c.as_slice.ensures c.in_ok-image.ensures.made in
     ran made.program made.orders c.in_ok-end.end (file_is disk name text (λ file. IsAccepted file made.program) c.in_ok-text.ensures.read.found made.accepted)
-    (runs_program made.program made.orders default_heap default_depth image c.args.steps c.in_ok-end.end out made.does c.in_ok-end.ensures.ok)
+    (runs_program made.program made.orders c.args.wanted.limits.heap c.args.wanted.limits.depth image c.args.wanted.steps c.in_ok-end.end out made.does c.in_ok-end.ensures.ok)

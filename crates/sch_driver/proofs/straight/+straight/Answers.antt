@@ -3,7 +3,7 @@ use Rattle.std.specs.Prelude.{◌&&◌}
 use Rattle.sch_word.specs.trees.Straight.{is_straight_primitive}
 use Rattle.sch_lang.specs.Straight.{is_straight}
 use Rattle.sch_lang.specs.View.{expression, expressions_of}
-use Rattle.sch_driver.proofs.StraightTrees.{all_is, all_of, both_true, each_straight, ended, every_part, failed, first_false, passed}
+use Rattle.sch_driver.proofs.StraightTrees.{all_is, all_of, and_of_true, each_straight, ended, every_part, failed, first_false, passed}
 use Rattle.sch_driver.proofs.straight.+straight.Goals as goal
 
 pub are_straight-loop-e-init : goal.are_straight-loop-e-init
@@ -29,7 +29,7 @@ is_straight-returns-in-Seq t c =
 
 pub is_straight-returns-then-are_straight : goal.is_straight-returns-then-are_straight
 is_straight-returns-then-are_straight t c =
-    both_true (every_part (expressions_of c.in-Let.es)) (is_straight (expression c.deref-then-are_straight.result.now)) c.is_straight-then-are_straight.result
+    and_of_true (every_part (expressions_of c.in-Let.es)) (is_straight (expression c.deref-then-are_straight.result.now)) c.is_straight-then-are_straight.result
     (sym c.if-are_straight.true ∙ (c.are_straight-in-Let.ensures ∙ each_straight (expressions_of c.in-Let.es))) c.is_straight-then-are_straight.ensures
     ∙ (ap (λ v. every_part (expressions_of c.in-Let.es) && is_straight (expression v)) c.deref-then-are_straight.ensures ∙ sym (ap (λ e. is_straight (expression e)) c.in-Let.is))
 
@@ -41,6 +41,6 @@ is_straight-returns-else-are_straight t c =
 
 pub is_straight-returns-then-is_straight_primitive : goal.is_straight-returns-then-is_straight_primitive
 is_straight-returns-then-is_straight_primitive t c =
-    both_true (is_straight_primitive c.in-Prim.which) (every_part (expressions_of c.in-Prim.es)) c.are_straight-then-is_straight_primitive.result
+    and_of_true (is_straight_primitive c.in-Prim.which) (every_part (expressions_of c.in-Prim.es)) c.are_straight-then-is_straight_primitive.result
     (sym c.if-is_straight_primitive.true ∙ c.is_straight_primitive.ensures) (c.are_straight-then-is_straight_primitive.ensures ∙ each_straight (expressions_of c.in-Prim.es))
     ∙ sym (ap (λ e. is_straight (expression e)) c.in-Prim.is)

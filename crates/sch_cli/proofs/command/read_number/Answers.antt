@@ -2,7 +2,7 @@ use Rattle.std.proofs.Common.{◌≡◌, ◌∙◌, sym, subst, true, arith, len
 use Rattle.std.specs.Char.{is_ascii_digit}
 use Rattle.std.specs.List.{list_all}
 use Rattle.sch_cli.proofs.Digits.{not_empty, parse-digits}
-use Rattle.sch_cli.proofs.command.read_count.Goals as goal
+use Rattle.sch_cli.proofs.command.read_number.Goals as goal
 
 pub returns-in_default-2 : goal.returns-in_default-2
 returns-in_default-2 c =
