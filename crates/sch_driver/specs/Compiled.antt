@@ -4,7 +4,7 @@ use Rattle.std.specs.List.{flat_map}
 use Rattle.sch_insn.specs.Spelling.{spelling}
 use Rattle.sch_lang.specs.Tree as tree
 use Rattle.sch_control.specs.Tree as control
-use Rattle.sch_anf.specs.Table.{given_table}
+use Rattle.sch_orders.specs.Table.{given_table}
 use Rattle.sch_driver.specs.Causes.{IsBuilt, text_bound}
 use Rattle.sch_driver.specs.Chain.{RunsAs}
 use Rattle.sch_driver.specs.Headline.{IsProgram}
