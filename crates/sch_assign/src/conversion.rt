@@ -306,12 +306,7 @@ fn convert_lambda(alloc: Global, celled: &[bool], n: u32, l: &Lambda) -> Result<
 // The same on the heap.
 #[cycle(converting)]
 #[inline(never)]
-fn convert_procedure(
-    alloc: Global,
-    celled: &[bool],
-    n: u32,
-    l: &Lambda,
-) -> Result<Box<Lambda>, Mem>
+fn convert_procedure(alloc: Global, celled: &[bool], n: u32, l: &Lambda) -> Result<Box<Lambda>, Mem>
     requires low { Low n l.now.first l.now.formals }
     requires within { InRange n (tree l.now.body) }
     requires few { n + n < 2 ^ 32 }

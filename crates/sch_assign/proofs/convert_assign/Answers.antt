@@ -1,4 +1,4 @@
-use Rattle.std.proofs.Common.{◌+◌, ◌∙◌, ℕ, ◌*◌, ◌≤◌, length, sym, subst, ap}
+use Rattle.std.proofs.Common.{◌+◌, ◌∙◌, ℕ, ◌*◌, ◌≤◌, IsTrue, length, sym, subst, ap}
 use Rattle.sch_word.proofs.WhenOk.{if_ok}
 use Rattle.sch_word.specs.runs.Runs.{SameRuns}
 use Rattle.sch_cells.specs.CallFree.{is_call_free_program}
