@@ -1,0 +1,74 @@
+-- Lists of bindings and of symbols, step by step.
+use Rattle.std.proofs.Common.{◌≡◌, ◌<◌, ◌+◌, ℕ, suc, Bool, false, List, [], ◌∷◌, ◌++◌, length, drop, get_or, Option, Some, refl, sym, ap, ◌∙◌, add-one, drop-cons}
+use Rattle.std.proofs.lemmas.List.{map-append, append_assoc}
+use Rattle.std.specs.Borrow.{Bor}
+use Rattle.sch_read.specs.declared.datum.Datum.{Datum}
+use Rattle.sch_read.specs.Grammar.{Data, none, cons, list, atom, dotted, vector, symbol, boolean, integer, character, text}
+use Rattle.sch_read.specs.Grammar as grammar
+use Rattle.sch_read.specs.Views.{tree_of, data_of}
+use Rattle.sch_sketch.specs.declared.sketch.Sketch as code
+use Rattle.sch_binders.specs.Shapes.{IsNoBinding}
+use Rattle.sch_sketch.specs.Draft.{Names}
+use Rattle.sch_sketch.specs.Sketch.{Sketches, and_sketch, no_sketch}
+use Rattle.sch_sketch.specs.Sketch as words
+use Rattle.sch_sketch.specs.SketchView.{sketch_of, ahead}
+use Rattle.sch_names.specs.ScopeView.{given_names}
+use Rattle.sch_binders.specs.Bindings.{inits, bound, are_bindings}
+use Rattle.sch_binders.specs.Formals.{are_symbols, symbols}
+use Rattle.sch_read.specs.Parts.{IsNoSymbol}
+use Rattle.sch_sketch.proofs.PartLists.{ahead_more}
+
+next_is : (items : List Datum) (i : ℕ) (d : Datum) → i < length items → d ≡ get_or items i d → drop i items ≡ d ∷ drop (suc i) items
+next_is items i d l e = drop-cons items i d l ∙ ap (λ a. a ∷ drop (suc i) items) (sym e)
+
+abbrev IsBinding : grammar.Datum → List ℕ → grammar.Datum → ℕ → ℕ → Type 0
+IsBinding d x i p q = d ≡ list p (cons (atom q (symbol x)) (cons i none))
+
+-- a datum that is no binding ends the list
+no_inits : (d : grammar.Datum) (rest : Data) (ks : Sketches) → IsNoBinding d → inits (cons d rest) ks ≡ ks
+no_inits (list p (cons (atom q (symbol b)) (cons i none))) rest ks h = absurd h
+no_inits _ rest ks h = refl
+
+no_bindings : (d : grammar.Datum) (rest : Data) → IsNoBinding d → are_bindings (cons d rest) ≡ false
+no_bindings (list p (cons (atom q (symbol b)) (cons i none))) rest h = absurd h
+no_bindings _ rest h = refl
+
+pub inits_next : (items : List Datum) (i : ℕ) (d : Datum) (ks ks' : List code.Sketch) (k : code.Sketch) {x : List ℕ} {init : grammar.Datum} {p q : ℕ} → i < length items → d ≡ get_or items i d →
+    IsBinding (tree_of d) x init p q → ks' ≡ ks ++ k ∷ [] → sketch_of k ≡ words.text init →
+    (more : Sketches) → ahead ks' (inits (data_of (drop (i + 1) items)) more) ≡ ahead ks (inits (data_of (drop i items)) more)
+inits_next items i d ks ks' k l e b p v more = rw (next_is items i d l e, add-one, p, ahead_more, v, b) refl
+
+pub inits_stop : (items : List Datum) (i : ℕ) (d : Datum) (ks : List code.Sketch) → i < length items → d ≡ get_or items i d → IsNoBinding (tree_of d) →
+    (more : Sketches) → ahead ks (inits (data_of (drop i items)) more) ≡ ahead ks more
+inits_stop items i d ks l e b more = rw (next_is items i d l e) (ap (ahead ks) (no_inits (tree_of d) (data_of (drop (suc i) items)) more b))
+
+-- names so far, and those of the rest
+pub bound_next : (items : List Datum) (i : ℕ) (d : Datum) (vs vs' : List (Option (Bor (List ℕ)))) (x : Bor (List ℕ)) (r : Names) {init : grammar.Datum} {p q : ℕ} → i < length items → d ≡ get_or items i d →
+    IsBinding (tree_of d) x.now init p q → vs' ≡ vs ++ Some x ∷ [] → given_names vs ++ bound (data_of (drop i items)) ≡ r → given_names vs' ++ bound (data_of (drop (i + 1) items)) ≡ r
+bound_next items i d vs vs' x r l e b p k =
+    let k' = rw (next_is items i d l e, b) at k in rw (add-one, p, map-append, append_assoc) k'
+
+pub bindings_next : (items : List Datum) (i : ℕ) (d : Datum) (r : Bool) {x : List ℕ} {init : grammar.Datum} {p q : ℕ} → i < length items → d ≡ get_or items i d →
+    IsBinding (tree_of d) x init p q → are_bindings (data_of (drop i items)) ≡ r → are_bindings (data_of (drop (i + 1) items)) ≡ r
+bindings_next items i d r l e b k = let k' = rw (next_is items i d l e, b) at k in rw add-one k'
+
+pub bindings_stop : (items : List Datum) (i : ℕ) (d : Datum) (r : Bool) → i < length items → d ≡ get_or items i d → IsNoBinding (tree_of d) → are_bindings (data_of (drop i items)) ≡ r → r ≡ false
+bindings_stop items i d r l e b k = sym k ∙ rw (next_is items i d l e) (no_bindings (tree_of d) (data_of (drop (suc i) items)) b)
+
+-- ## Symbols
+
+no_symbols : (d : grammar.Datum) (rest : Data) → IsNoSymbol d → are_symbols (cons d rest) ≡ false
+no_symbols (atom q (symbol b)) rest h = absurd h
+no_symbols _ rest h = refl
+
+pub symbols_next : (items : List Datum) (i : ℕ) (d : Datum) (vs vs' : List (Option (Bor (List ℕ)))) (x : Bor (List ℕ)) (r : Names) {p : ℕ} → i < length items → d ≡ get_or items i d →
+    tree_of d ≡ atom p (symbol x.now) → vs' ≡ vs ++ Some x ∷ [] → given_names vs ++ symbols (data_of (drop i items)) ≡ r → given_names vs' ++ symbols (data_of (drop (i + 1) items)) ≡ r
+symbols_next items i d vs vs' x r l e b p k =
+    let k' = rw (next_is items i d l e, b) at k in rw (add-one, p, map-append, append_assoc) k'
+
+pub are_symbols_next : (items : List Datum) (i : ℕ) (d : Datum) (r : Bool) {x : List ℕ} {p : ℕ} → i < length items → d ≡ get_or items i d →
+    tree_of d ≡ atom p (symbol x) → are_symbols (data_of (drop i items)) ≡ r → are_symbols (data_of (drop (i + 1) items)) ≡ r
+are_symbols_next items i d r l e b k = let k' = rw (next_is items i d l e, b) at k in rw add-one k'
+
+pub symbols_stop : (items : List Datum) (i : ℕ) (d : Datum) (r : Bool) → i < length items → d ≡ get_or items i d → IsNoSymbol (tree_of d) → are_symbols (data_of (drop i items)) ≡ r → r ≡ false
+symbols_stop items i d r l e b k = sym k ∙ rw (next_is items i d l e) (no_symbols (tree_of d) (data_of (drop (suc i) items)) b)

@@ -1,0 +1,4 @@
+pub mod ClauseLists
+pub mod RowsFall
+pub mod SoundRows
+mod Examples

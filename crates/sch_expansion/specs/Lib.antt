@@ -1,0 +1,6 @@
+pub mod FaultOrder
+pub mod Expands
+pub mod Faults
+pub mod Reads
+pub mod Following
+pub mod WalkStack

@@ -1,0 +1,5 @@
+pub mod PartLists
+pub mod LastDraft
+pub mod Sketches
+pub mod SmallMeasures
+pub mod SmallSound

@@ -1,0 +1,22 @@
+//! Sketches and drafts: expressions of the core language whose parts are still text, and expressions whose
+//! names have no numbers yet.
+#![tactic(auto)]
+
+mod build;
+mod draft;
+mod fault;
+mod nodes;
+mod procedures;
+mod sketch;
+mod words;
+
+pub use build::{
+    add_texts, alone, and_texts, bad, bind_fresh, choice, constant, either_of, fresh_each, limited,
+    local, node, one, place_of, quoted, rest, text, texts_and, texts_only, truth, two, unspecified,
+};
+pub use draft::Draft;
+pub use fault::Fault;
+pub use nodes::{assemble, draft_of_leaf, enter, nothing, position_in, width};
+pub use procedures::are_procedures;
+pub use sketch::{Kind, Leaf, Position, Row, Sketch, Wrong};
+pub use words::{is_lambda, word};

@@ -1,0 +1,4 @@
+pub mod Falls
+pub mod SoundRows
+pub mod Procedures
+mod Examples
