@@ -1,0 +1,55 @@
+use Rattle.std.proofs.Common.{◌∙◌, ap, arith, length, reverse}
+use Rattle.std.specs.Prelude.{◌&&◌, nat_le}
+use Rattle.sch_word.specs.trees.Shape.{max_free_variables}
+use Rattle.sch_lang.specs.View.{expression}
+use Rattle.sch_limits.specs.Walked.{found_each, found_lambdas}
+use Rattle.sch_limits.specs.Within.{has_few_free, each_procedure_in, each_lambda}
+use Rattle.sch_limits.proofs.FreeLists.{few_are, each_whole, each_turn, few_turn, lambdas_whole, lambdas_turn, lambdas_few_turn, true_and}
+use Rattle.sch_limits.proofs.free.+finding.Goals as goal
+
+pub find_each-loop-left-init : goal.find_each-loop-left-init
+find_each-loop-left-init t c =
+    let items = c.as_slice-items.result.now in
+    record {
+      found = ap (λ es. found_each es (reverse c.args.xs.now.items)) (each_whole items);
+      few = true_and _ ∙ ap (each_procedure_in has_few_free) (each_whole items);
+      bound = omega arith;
+    }
+
+pub find_each-loop-left-preserved : goal.find_each-loop-left-preserved
+find_each-loop-left-preserved t c =
+    let items = c.as_slice-items.result.now in
+    let n = c.loop-left.left in
+    let e = c.index-items-left.result in
+    let i = c.loop-left.invariant in
+    record {
+      found = each_turn items n e (reverse c.loop-left.xs.items) (reverse c.find.new.xs.items) _ c.loop-left-test.true i.bound c.index-items-left.is c.in_ok-here.ensures.found i.found;
+      few = few_turn has_few_free items n e c.loop-left.few _ _ c.loop-left-test.true i.bound c.index-items-left.is (c.both-few.ensures ∙ ap (λ b. b && c.loop-left.few) c.in_ok-here.ensures.few) i.few;
+      bound = omega (arith, i.bound);
+    }
+
+pub find_lambdas-loop-left-init : goal.find_lambdas-loop-left-init
+find_lambdas-loop-left-init t c =
+    let items = c.as_slice-items.result.now in
+    record {
+      found = ap (λ ls. found_lambdas ls (reverse c.args.xs.now.items)) (lambdas_whole items);
+      few = true_and _ ∙ ap (each_lambda has_few_free) (lambdas_whole items);
+      bound = omega arith;
+    }
+
+pub find_lambdas-loop-left-preserved : goal.find_lambdas-loop-left-preserved
+find_lambdas-loop-left-preserved t c =
+    let items = c.as_slice-items.result.now in
+    let n = c.loop-left.left in
+    let e = c.index-items-left.result in
+    let i = c.loop-left.invariant in
+    record {
+      found = lambdas_turn items n e (reverse c.loop-left.xs.items) (reverse c.find_procedure.new.xs.items) _ c.loop-left-test.true i.bound c.index-items-left.is c.in_ok-here.ensures.found i.found;
+      few = lambdas_few_turn has_few_free items n e c.loop-left.few _ _ c.loop-left-test.true i.bound c.index-items-left.is (c.both-few.ensures ∙ ap (λ b. b && c.loop-left.few) c.in_ok-here.ensures.few) i.few;
+      bound = omega (arith, i.bound);
+    }
+
+pub find_procedure-returns-clause-few : goal.find_procedure-returns-clause-few
+find_procedure-returns-clause-few t c =
+    c.both.ensures ∙ ap (λ n. nat_le n max_free_variables && c.in_ok-few.few) (ap length c.as_slice-outer.ensures.value)
+    ∙ few_are c.args.formals c.in_ok-own.own.items c.as_slice.result.now (expression c.args.e.now) c.find.new.xs.items c.new-inside.result.items _ c.in_ok-own.ensures c.as_slice.ensures.value c.new-inside.ensures.items c.in_ok-few.ensures.found c.in_ok-few.ensures.few

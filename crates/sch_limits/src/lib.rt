@@ -1,0 +1,44 @@
+//! The limits on the bodies of core trees: how many variables a body may have, and how many a procedure may
+//! have free.
+#![tactic(auto)]
+
+ghost use Rattle.std.specs.Prelude.{◌≡◌, ◌&&◌, nat_le, length, IfOk};
+ghost use Rattle.sch_word.specs.trees.Shape.{max_variables, max_free_variables};
+ghost use Rattle.sch_lang.specs.View.{expression};
+ghost use Rattle.sch_lang.specs.Measures.{body_variables};
+ghost use Rattle.sch_lang.specs.Variables.{free, outside};
+ghost use Rattle.sch_limits.specs.Within.{few_variables, few_free};
+
+mod assigned;
+mod bodies;
+mod counting;
+mod free;
+mod lengths;
+
+pub use assigned::{further, mark_one};
+use sch_lang::Exp;
+use sch_word::Mem;
+use std::alloc::Global;
+
+/// Whether a body with these formals, and the body of each procedure in it, has at most 1,000 variables. A
+/// top-level form is a body without formals.
+///
+/// Each binding looks through its body for assignments, so it takes time in proportion to the size of `e`
+/// times its levels.
+pub fn has_few_variables(alloc: Global, formals: u32, e: &Exp) -> Result<bool, Mem>
+    ensures { IfOk result (λ few. few ≡ (nat_le (body_variables formals (expression e.now)) max_variables && few_variables (expression e.now))) }
+{
+    let here = bodies::fits(alloc, formals, e)?;
+    let inside = bodies::fit(alloc, e)?;
+    Ok(lengths::both(here, inside))
+}
+
+/// Whether a body with these formals, and each procedure in it, has at most 1,000 free variables. A top-level
+/// form has none.
+pub fn has_few_free(alloc: Global, formals: u32, e: &Exp) -> Result<bool, Mem>
+    ensures { IfOk result (λ few. few ≡ (nat_le (length (outside formals (free (expression e.now)))) max_free_variables && few_free (expression e.now))) }
+{
+    let mut found = Vec::new(alloc);
+    let few = free::find_procedure(alloc, formals, e, &mut found)?;
+    Ok(few)
+}

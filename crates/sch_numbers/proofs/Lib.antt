@@ -1,0 +1,7 @@
+pub mod DraftViews
+pub mod DraftLists
+pub mod MarkSteps
+pub mod NameSteps
+pub mod QuoteSteps
+pub mod ProcedureLists
+mod Examples

@@ -1,0 +1,7 @@
+pub mod Named
+pub mod Quoted
+pub mod Assigned
+pub mod Sites
+pub mod Numbered
+pub mod Constants
+pub mod Programs
