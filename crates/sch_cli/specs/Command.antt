@@ -59,9 +59,10 @@ is_number digits = nat_le 1 (length digits) && nat_le (length digits) max_digits
 -- these options with one more, which is a word and a number, and may be given once
 abbrev pub with_option : (option digits : List ℕ) → Options → Option Options
 with_option option digits given =
+    let n = digits_value 10 digits in
     if not (is_number digits) then None
-    else if bytes_eq option (codes "--heap") && not (is_some given.heap) then Some (record given { heap = Some (digits_value 10 digits) })
-    else if bytes_eq option (codes "--steps") && not (is_some given.steps) then Some (record given { steps = Some (digits_value 10 digits) })
+    else if bytes_eq option (codes "--heap") && not (is_some given.heap) then Some (record given { heap = Some n })
+    else if bytes_eq option (codes "--steps") && not (is_some given.steps) then Some (record given { steps = Some n })
     else None
 
 -- the options in what follows the names, in any order
@@ -105,7 +106,8 @@ step_of image given =
 
 -- what follows the word `compile`, and what follows a verb with one name
 abbrev pub compile_in : (source : List ℕ) → List (List ℕ) → Option Command
-compile_in source (target ∷ options) = if are_names source target then option_and_then (compile_of source target) (options_in options) else None
+compile_in source (target ∷ options) =
+    if are_names source target then option_and_then (compile_of source target) (options_in options) else None
 compile_in source [] = None
 
 abbrev pub with_one_name : (name : List ℕ) → (options : List (List ℕ)) → (List ℕ → Options → Option Command) → Option Command

@@ -31,8 +31,8 @@ pub fn run_source<D: Disk, O: Outlet>(
 ) -> Result<RunEnd, Failure>
     ensures unchanged { SameFiles (disk_change D.files D.faults D.calls disk.old disk.new) }
     ensures calls { HadCalls 1 (disk_change D.files D.faults D.calls disk.old disk.new) }
-    ensures ran { RunsSource wanted.source.now wanted.limits.heap wanted.limits.depth wanted.steps (disk_change D.files D.faults D.calls disk.old disk.new)
-        (stream_change O.bytes O.left O.faults out.old out.new) result }
+    ensures ran { RunsSource wanted.entry.source.now wanted.entry.limits.heap wanted.entry.limits.depth wanted.entry.steps
+        (disk_change D.files D.faults D.calls disk.old disk.new) (stream_change O.bytes O.left O.faults out.old out.new) result }
 {
     let text = read_file(alloc, disk, wanted.source, MAX_SOURCE_SIZE)?;
     let image = image_of(alloc, text.as_slice(), wanted.limits)?;
