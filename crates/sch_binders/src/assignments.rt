@@ -12,8 +12,8 @@ ghost use Rattle.sch_binders.specs.Assignments as table;
 
 use crate::definitions::{defined_name, defined_sketch};
 use crate::formals::parts_of;
-use sch_read::Datum;
 use sch_names::{Globals, Keyword, Name, Scope, keyword_of};
+use sch_read::Datum;
 use sch_sketch::{Kind, Sketch, Wrong, bad, one, text, two};
 use sch_word::Mem;
 use std::alloc::Global;

@@ -13,8 +13,8 @@ ghost use Rattle.sch_binders.specs.Shapes.{AreGiven};
 
 use crate::bodies::{group, is_body};
 use crate::shape::{add_inits, are_distinct, binding_of, bound_names};
-use sch_read::Datum;
 use sch_names::{Name, Scope};
+use sch_read::Datum;
 use sch_sketch::{Kind, Row, Sketch, alone, bad, limited, local, node, one, rest, text, two};
 use sch_word::{List, Mem};
 use std::alloc::Global;

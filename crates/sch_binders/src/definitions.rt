@@ -12,8 +12,8 @@ ghost use Rattle.sch_binders.specs.Definitions as table;
 ghost use Rattle.sch_binders.specs.Shapes.{tree_in};
 
 use crate::formals::{formals, parts_of};
-use sch_read::Datum;
 use sch_names::{Keyword, Name, Scope, keyword_of};
+use sch_read::Datum;
 use sch_sketch::{Row, Sketch, alone, bad, text};
 use sch_word::{List, Mem};
 use std::alloc::Global;

@@ -9,8 +9,8 @@ ghost use Rattle.sch_binders.specs.Formals as table;
 ghost use Rattle.sch_binders.specs.Shapes.{AreGiven, tree_in};
 
 use crate::shape::are_distinct;
-use sch_read::{Datum, Node};
 use sch_names::Name;
+use sch_read::{Datum, Node};
 use sch_word::{List, Mem};
 use std::alloc::Global;
 

@@ -12,8 +12,8 @@ ghost use Rattle.sch_binders.specs.Loops as table;
 ghost use Rattle.sch_binders.specs.Shapes.{AreGiven, IsNoStart, first};
 
 use crate::shape::are_distinct;
-use sch_read::Datum;
 use sch_names::{Keyword, Name};
+use sch_read::Datum;
 use sch_sketch::{
     Kind, Row, Sketch, alone, bad, choice, local, node, one, text, texts_and, two, unspecified,
 };

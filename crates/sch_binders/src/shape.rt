@@ -10,8 +10,8 @@ ghost use Rattle.sch_sketch.specs.SketchView.{ahead};
 ghost use Rattle.sch_binders.specs.Bindings as table;
 ghost use Rattle.sch_binders.specs.Shapes.{IsNoBinding, AreGiven, first};
 
-use sch_read::Datum;
 use sch_names::{Name, Names};
+use sch_read::Datum;
 use sch_sketch::{Sketch, text};
 use sch_word::{List, Mem};
 use std::alloc::Global;

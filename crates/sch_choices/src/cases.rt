@@ -7,8 +7,8 @@ ghost use Rattle.sch_choices.specs.Cases as table;
 ghost use Rattle.sch_sketch.specs.SketchView.{sketch_of};
 
 use crate::clauses::is_else;
-use sch_read::Datum;
 use sch_names::{Keyword, Scope};
+use sch_read::Datum;
 use sch_sketch::{
     Kind, Row, Sketch, alone, bad, bind_fresh, choice, local, place_of, quoted, text, truth, two,
     unspecified,

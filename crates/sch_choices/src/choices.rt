@@ -6,8 +6,8 @@ ghost use Rattle.sch_read.specs.Views.{tree_of, data_of};
 ghost use Rattle.sch_choices.specs.Choices as table;
 ghost use Rattle.sch_sketch.specs.SketchView.{sketch_of};
 
-use sch_read::Datum;
 use sch_names::Keyword;
+use sch_read::Datum;
 use sch_sketch::{
     Kind, Position, Row, Sketch, alone, bad, choice, either_of, quoted, text, texts_only, truth,
     unspecified,

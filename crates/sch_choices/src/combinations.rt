@@ -11,8 +11,8 @@ ghost use Rattle.sch_sketch.specs.Sketch as words;
 ghost use Rattle.sch_sketch.specs.Sketch.{but_one};
 ghost use Rattle.sch_sketch.specs.SketchView.{sketch_of};
 
-use sch_read::Datum;
 use sch_names::{Operation, unit_of};
+use sch_read::Datum;
 use sch_sketch::{
     Kind, Row, Sketch, alone, and_texts, bad, choice, constant, fresh_each, local, one, text,
     texts_and, texts_only, truth, two, unspecified,

@@ -13,12 +13,12 @@ ghost use Rattle.sch_expansion.specs.Reads.{Reads};
 ghost use Rattle.sch_expansion.specs.WalkStack.{Task, Holds, Goes, Ready, open_left, stack_left, next_left};
 
 use crate::reports::{deeper, report_deep, report_level, report_operands, report_wrong};
-use sch_table::{outline, outline_datum};
 use sch_names::{Globals, Scope};
 use sch_sketch::{
     Draft, Fault, Kind, Position, Sketch, assemble, draft_of_leaf, enter, nothing, position_in,
     width,
 };
+use sch_table::{outline, outline_datum};
 use sch_word::{List, Mem};
 use std::alloc::Global;
 

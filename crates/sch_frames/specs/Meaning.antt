@@ -38,7 +38,7 @@ closure_register = Reg 14
 abbrev pub link_register : Place
 link_register = Reg 15
 
--- where the operand with so many before it is handed over, if that is in a register: RBX, R8, R9, R10, RSI, RDI
+-- where the operand with k before it is handed over, if that is in a register: RBX, R8, R9, R10, RSI, RDI
 abbrev pub argument_register : ℕ → Option ℕ
 argument_register zero = Some 3
 argument_register (suc zero) = Some 8
@@ -84,7 +84,7 @@ with_members f _ _ = f
 
 -- ## Calls
 
--- what the operand with so many before it is, by what holds the slots
+-- what the operand with k before it is, by what holds the slots
 abbrev pub argument_in : (Place → Cell) → (slots : ℕ → Cell) → Option ℕ → ℕ → Option Value
 argument_in places slots (Some r) j = value_in (places (Reg r))
 argument_in places slots None j = value_in (slots j)
@@ -92,7 +92,7 @@ argument_in places slots None j = value_in (slots j)
 abbrev pub argument : (Place → Cell) → (slots : ℕ → Cell) → ℕ → Option Value
 argument places slots k = argument_in places slots (argument_register k) (argument_slot k)
 
--- so many operands from one on
+-- a number of operands from one on
 abbrev pub arguments : (Place → Cell) → (slots : ℕ → Cell) → (from count : ℕ) → Option (List Value)
 arguments places slots from zero = Some []
 arguments places slots from (suc count) = and_value (argument places slots from) (arguments places slots (suc from) count)

@@ -44,7 +44,7 @@ module _ (words : ℕ) where
   are_members [] = true
   are_members (m ∷ members) = is_place m.at && are_members members
 
-  -- so many operands are in registers or in slots of a frame
+  -- n operands are in registers or in slots of a frame
   abbrev pub handed_over : ℕ → Bool
   handed_over count = nat_le count (argument_registers + words)
 

@@ -11,7 +11,7 @@ use sch_lang::{Exp, Lambda};
 use sch_word::{List, Mem};
 use std::alloc::Global;
 
-/// How many variables are bound nearer, with so many more. Where there are too many to be counted, it is out
+/// How many variables are bound nearer, with a number of them more. Where there are too many to be counted, it is out
 /// of memory.
 pub fn further(from: usize, count: usize) -> Result<usize, Mem>
     ensures { IfOk result (λ n. n ≡ from + count) }

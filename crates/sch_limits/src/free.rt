@@ -50,7 +50,7 @@ fn insert_each(more: &[u32], xs: &mut Vec<u32>) -> Result<(), Mem>
     Ok(())
 }
 
-/// Variables as they are seen from outside a binding of so many.
+/// Variables as they are seen from outside a binding of n of them.
 fn outside_group(alloc: Global, count: usize, xs: &[u32]) -> Result<Vec<u32>, Mem>
     ensures { IfOk result (λ left. reverse left.items ≡ outside count (reverse xs.now)) }
 {

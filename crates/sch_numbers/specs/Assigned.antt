@@ -25,7 +25,7 @@ abbrev mutual
   assigns_each no_drafts j = false
   assigns_each (and_draft e es) j = assigns e j || assigns_each es j
 
--- none of the nearest variables is assigned, so many
+-- none of the n nearest variables is assigned
 abbrev pub none_assigned : ℕ → Drafts → Draft → Bool
 none_assigned zero es e = true
 none_assigned (suc n) es e = not (assigns_each es n || assigns e n) && none_assigned n es e

@@ -7,8 +7,8 @@ ghost use Rattle.sch_sketch.specs.DraftView.{draft_of, drafts_of};
 ghost use Rattle.sch_numbers.specs.Named.{firsts, global_of, globals_in, globals_in_each, symbols_in, symbols_in_each, symbols_of_datum, symbols_of_data};
 
 use crate::tables::{Tables, global_key};
-use sch_read::{Atom, Datum, Node};
 use sch_names::Names;
+use sch_read::{Atom, Datum, Node};
 use sch_sketch::Draft;
 use sch_word::Mem;
 use std::alloc::Global;

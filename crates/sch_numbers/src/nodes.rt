@@ -26,7 +26,7 @@ pub fn new_site(out: &mut Output, width: usize) -> Result<u32, Mem>
     Ok(site)
 }
 
-/// The number of the site of a call with so many operands. Its operator is a part more.
+/// The number of the site of a call with this number of operands. Its operator is a part more.
 pub fn call_site(out: &mut Output, operands: usize) -> Result<u32, Mem>
     ensures number { IfOk result (λ n. n ≡ length out.old.sites) }
     ensures sites { OnOk result (out.new.sites ≡ out.old.sites ++ suc operands ∷ []) }

@@ -7,8 +7,8 @@ ghost use Rattle.sch_names.specs.NamesView.{names_of};
 ghost use Rattle.sch_numbers.specs.Quoted.{literal_of_atom, literal_of, literals_of_data, list_of};
 
 use crate::tables::number_in;
-use sch_read::{Atom, Datum, Node};
 use sch_names::Names;
+use sch_read::{Atom, Datum, Node};
 use sch_word::{Const, List, Lit, Mem};
 use std::alloc::Global;
 

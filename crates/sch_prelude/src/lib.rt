@@ -3,7 +3,7 @@
 
 /// The library's text. Each of its items defines a procedure, which names itself and earlier ones alone.
 ///
-/// In it the head of a list is a primitive where the name is one and so many operands are admitted, also where the
+/// In it the head of a list is a primitive where the name is one and this number of operands is admitted, also where the
 /// library has a procedure of that name. What begins with `%` is the library's own, and no program sees it.
 pub const LIBRARY: &[u8] = br##"
 ; The primitives as procedures. Each calls the primitive of its own name.

@@ -62,7 +62,7 @@ is_covered_code c = list_all is_covered_instruction c.instructions && marks_sett
 
 -- ## Programs
 
--- so many procedures a library may have
+-- the most procedures of a library
 abbrev pub max_library : ℕ
 max_library = 1048576
 

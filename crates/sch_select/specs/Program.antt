@@ -108,7 +108,7 @@ own_label p = body_label (length p.bodies)
 abbrev pub heap_of : Source → ℕ
 heap_of p = heap_address (length p.statics.globals) (length p.library)
 
--- bodies, so many of them, with what stands in front of them and behind
+-- bodies, with their count, and what stands in front of them and behind
 abbrev pub laid_code : (heap_end heap depth count : ℕ) → List Code → List Item
 laid_code heap_end heap depth count bodies =
     item.Plain (MovWord RBP (pos heap_end))

@@ -197,13 +197,13 @@ check_cell r rest = low_bits r 7 (Plain (CmpNumber (Reg RDX) (pos cell_tag)) ∷
 abbrev pub cell_operand : (r : ℕ) → Arg
 cell_operand r = Base32 r (negsuc 6)
 
--- The heap has so many bytes left, or stop 71. R12 has the address of the next part, and RDX is overwritten.
+-- The heap has this number of bytes left, or stop 71. R12 has the address of the next part, and RDX is overwritten.
 abbrev pub check_heap : (heap_end bytes : ℕ) → List Item → List Item
 check_heap heap_end bytes rest =
     Plain (MovTo (Reg RDX) R12) ∷ (Plain (AddNumber (Reg RDX) (pos bytes))
     ∷ (Plain (CmpNumber (Reg RDX) (pos heap_end)) ∷ (JumpIf A (stop_label HeapLimit) ∷ rest)))
 
--- R12 has the address of a part with so many bytes: its word with a tag into RAX, and the next part
+-- R12 has the address of a part with this number of bytes: its word with a tag into RAX, and the next part
 abbrev pub part_code : (tag bytes : ℕ) → List Item → List Item
 part_code tag bytes rest =
     Plain (MovTo (Reg RAX) R12) ∷ (Plain (AddNumber (Reg RAX) (pos tag)) ∷ (Plain (AddNumber (Reg R12) (pos bytes)) ∷ rest))

@@ -111,7 +111,7 @@ pub(crate) fn write_cell(out: &mut List<Item>) -> Result<(), Mem>
     ])
 }
 
-/// The heap has so many bytes left, or stop 71.
+/// The heap has this number of bytes left, or stop 71.
 fn check_heap(out: &mut List<Item>, heap_end: u32, bytes: u32) -> Result<(), Mem>
     ensures { OnOk result ((rest : List Item) → out.new ++ rest ≡ out.old ++ check_heap heap_end bytes rest) }
 {

@@ -26,7 +26,7 @@ pub data Kind : Type 0 where
   defining : (name : List ℕ) → Kind
 
 -- A text, the rest of a form, a fault, an expression without parts, a node over its parts, or a form that
--- may have only so many of something. Each but a text and a fault has its place: the number of bytes
+-- may have only a limited number of something. Each but a text and a fault has its place: the number of bytes
 -- before it.
 mutual
   pub data Sketch : Type 0 where

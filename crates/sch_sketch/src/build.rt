@@ -12,8 +12,8 @@ ghost use Rattle.sch_sketch.specs.SketchView.{sketch_of, sketches_of, kind_of, a
 ghost use Rattle.sch_sketch.specs.Small as small;
 
 use crate::sketch::{Kind, Leaf, Position, Row, Sketch, Wrong};
-use sch_read::{Atom, Datum};
 use sch_names::Name;
+use sch_read::{Atom, Datum};
 use sch_word::{Const, List, Mem};
 use std::alloc::Global;
 

@@ -2,8 +2,8 @@
 
 ghost use Rattle.std.specs.Prelude.{◌≡◌};
 
-use sch_read::Datum;
 use sch_names::Name;
+use sch_read::Datum;
 use sch_word::{Const, List, Primitive};
 
 /// An expression whose symbols, literals and globals are names and data of the text.

@@ -2,8 +2,8 @@
 
 ghost use Rattle.std.specs.Prelude.{◌≡◌};
 
-use sch_read::Datum;
 use sch_names::{Keyword, Name};
+use sch_read::Datum;
 use sch_word::{Const, List, Primitive};
 
 /// Whether the value of an expression is asked for, or only whether it is true.

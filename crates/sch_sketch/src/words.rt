@@ -4,8 +4,8 @@ ghost use Rattle.std.specs.Prelude.{◌≡◌};
 ghost use Rattle.sch_read.specs.Views.{tree_of};
 ghost use Rattle.sch_sketch.specs.FreeWords.{free_keyword, free_word, is_lambda};
 
-use sch_read::Datum;
 use sch_names::{Keyword, Scope, keyword_of};
+use sch_read::Datum;
 
 /// The keyword that a name is, where no variable shadows it.
 fn free_keyword(scope: &Scope, x: &[u8]) -> Option<Keyword>

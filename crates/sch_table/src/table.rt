@@ -20,8 +20,8 @@ use sch_choices::{
     combination, row_and, row_begin, row_case, row_cases, row_chain, row_clauses, row_cond, row_if,
     row_join, row_or, row_quote, row_tests,
 };
-use sch_read::Datum;
 use sch_names::{Globals, Head, Keyword, Scope, head_of, keyword_of};
+use sch_read::Datum;
 use sch_sketch::{
     Kind, Leaf, Position, Row, Sketch, Wrong, alone, and_texts, bad, local, quoted, text,
 };

@@ -8,6 +8,8 @@ mod expander;
 #[cfg(test)]
 mod frames;
 #[cfg(test)]
+mod library;
+#[cfg(test)]
 mod reader;
 #[cfg(test)]
 mod selection;

@@ -68,7 +68,7 @@ framed p = record { statics = p.statics; library = p.library; bodies = map frame
 abbrev seen : List ℕ → (entries charged : ℕ) → runs_of.End → Option Run
 seen output entries charged how = Some (record { output = output; entries = entries; charged = charged; answers = 0; end = how })
 
--- a program and its frame program both have a run, with so much depth and so many entries
+-- a program and its frame program both have a run, with limits of depth and entries
 abbrev Both : control.Source → (depth entries : ℕ) → Option Run → Type 0
 Both p depth entries r = (control_run.run p 4096 depth [] entries ≡ r) × (run (framed p) 4096 depth [] entries ≡ r)
 

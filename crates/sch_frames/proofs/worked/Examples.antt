@@ -51,7 +51,7 @@ program globals bodies words = record {
   words = words;
 }
 
--- the run of a program with 4,096 bytes of heap, no kernel answers, and so much depth and so many entries
+-- the run of a program with 4,096 bytes of heap, no kernel answers, and limits of depth and entries
 abbrev runs : Source → (depth entries : ℕ) → Option Run
 runs p depth entries = run p 4096 depth [] entries
 

@@ -26,7 +26,7 @@ use Rattle.sch_frames.specs.Tree as tree
 use Rattle.sch_frames.specs.Valid.{is_place}
 use Rattle.sch_select.specs.Covered.{marks_settled}
 
--- a straight primitive of so many operands
+-- a straight primitive of n operands
 abbrev pub takes : ℕ → Primitive → Bool
 takes count which = is_straight_primitive which && nat_eq (operands_of which) count
 
@@ -90,7 +90,7 @@ module _ (words globals : ℕ) where
   abbrev pub form_selected : Code → Bool
   form_selected c = list_all instruction_selected c.instructions
 
--- the bodies that an instruction names are among so many
+-- the bodies that an instruction names are among those that there are
 abbrev pub members_few : ℕ → List (Member Place) → Bool
 members_few count [] = true
 members_few count (m ∷ members) = nat_lt m.closure.label count && members_few count members
