@@ -20,8 +20,8 @@ use Rattle.sch_driver.proofs.assembly.assemble.Goals as goal
 text_bound : (f : Source) (a : Asm) → is_straight_program f ≡ true → text_size a.items ≤ 512 + 64 * (program_size f + closures_in f.bodies) → text_size a.items ≤ 512 + 64 * program_size f
 text_bound f a s t = let e = straight_closures f s in omega (arith, t, e)
 
-pub select-requires-clause-covered : goal.select-requires-clause-covered
-select-requires-clause-covered c = straight_covered (frames.source c.in_ok-frames.frames) (c.in_ok-frames.ensures.straight c.requires.straight)
+pub select-requires : goal.select-requires
+select-requires c = record { covered = straight_covered (frames.source c.in_ok-frames.frames) (c.in_ok-frames.ensures.straight c.requires.straight) }
 
 pub returns-in_err-resolved-clause-refused : goal.returns-in_err-resolved-clause-refused
 returns-in_err-resolved-clause-refused c =
