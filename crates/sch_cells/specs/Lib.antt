@@ -12,3 +12,4 @@ pub mod UnboxedMeaning
 pub mod Valid
 pub mod Variables
 pub mod View
+pub mod CallFree

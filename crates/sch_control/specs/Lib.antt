@@ -10,3 +10,4 @@ pub mod Straight
 pub mod Tree
 pub mod Valid
 pub mod View
+pub mod CallFree

@@ -1,9 +1,9 @@
 -- What an operation does, by where its values stand: `at` has the value of a variable, or none.
-use Rattle.std.specs.Prelude.{ℕ, List, [], ◌∷◌, ◌++◌, length, Option, Some, None, slice_get, slice_set}
+use Rattle.std.specs.Prelude.{ℕ, List, [], ◌∷◌, ◌++◌, length, Option, Some, None, slice_get}
 use Rattle.sch_word.specs.declared.primitive.Primitive.{Primitive}
-use Rattle.sch_word.specs.values.Values.{Value, unspecified, procedure, cell, constant_value}
+use Rattle.sch_word.specs.values.Values.{Value, procedure, cell, constant_value}
 use Rattle.sch_word.specs.runs.Store.{Store}
-use Rattle.sch_word.specs.runs.Computation.{Outcome, gives, stops, State, Computation, unreached, after, in_store, read_global, write_global, read_cell, write_cell, new_procedure}
+use Rattle.sch_word.specs.runs.Computation.{Outcome, gives, State, Computation, unreached, after, in_store, read_global, write_global, read_cell, write_cell, new_procedure}
 use Rattle.sch_word.specs.runs.Charges.{charge, cell_bytes, procedure_bytes}
 use Rattle.sch_word.specs.values.PrimitiveRows.{primitive}
 use Rattle.sch_control.specs.declared.operation.Atom.{Atom}

@@ -1,5 +1,5 @@
 -- Which programs are straight code.
-use Rattle.std.specs.Prelude.{Bool, true, false, ◌&&◌, List, Option, Some, None}
+use Rattle.std.specs.Prelude.{Bool, true, false, ◌&&◌, Option, Some, None}
 use Rattle.std.specs.List.{list_all}
 use Rattle.sch_word.specs.trees.Straight.{is_straight_constant, is_straight_primitive, is_empty}
 use Rattle.sch_control.specs.declared.body.Entry.{Entry}

@@ -8,3 +8,4 @@ pub mod ProgramView
 pub mod Meaning
 pub mod Run
 pub mod Examples
+pub mod CallFree

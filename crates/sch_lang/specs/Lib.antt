@@ -12,3 +12,4 @@ pub mod Tree
 pub mod Valid
 pub mod Variables
 pub mod View
+pub mod CallFree

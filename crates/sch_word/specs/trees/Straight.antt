@@ -1,10 +1,12 @@
--- Straight code: what has no calls, no procedures, no variables that are assigned, no objects and no literals.
+-- Straight code: what has no calls, no procedures, no local variables that are assigned, no objects, no
+-- literals and no symbols. And call-free code, which may assign local variables and make cells and
+-- procedures, but calls none.
 use Rattle.std.specs.Prelude.{Bool, true, false, List, [], ◌∷◌}
 use Rattle.sch_word.specs.declared.constant.Const.{Const}
 use Rattle.sch_word.specs.declared.constant.Const.TheVariants.{Symbol}
 use Rattle.sch_word.specs.declared.primitive.Primitive.{Primitive}
 use Rattle.sch_word.specs.declared.primitive.Primitive.TheVariants.{Eq, Eqv, IsBoolean, IsPair, IsNull, IsSymbol, IsInteger, IsChar, IsString, IsVector, IsProcedure, Add, Subtract, Multiply, Quotient, Remainder, Modulo, Equal, Less, Greater, LessEqual, GreaterEqual, CharToInteger, IntegerToChar, Put}
-use Rattle.sch_word.specs.trees.Shape.{Shape, constant, variable, global, set_global, define, branch, sequence, bind, operation}
+use Rattle.sch_word.specs.trees.Shape.{Shape, constant, literal, variable, global, set_global, define, branch, sequence, bind, call, operation}
 
 -- a constant that is no symbol
 abbrev pub is_straight_constant : Const → Bool
@@ -52,6 +54,14 @@ is_straight_node (sequence parts dropped) = true
 is_straight_node (bind site inits) = true
 is_straight_node (operation site which operands) = is_straight_primitive which
 is_straight_node _ = false
+
+-- a node of call-free code
+abbrev pub is_call_free_node : Shape → Bool
+is_call_free_node (constant c) = is_straight_constant c
+is_call_free_node (literal n) = false
+is_call_free_node (call site operands spread) = false
+is_call_free_node (operation site which operands) = is_straight_primitive which
+is_call_free_node _ = true
 
 abbrev pub is_empty : {A : Type 0} → List A → Bool
 is_empty [] = true
