@@ -7,10 +7,10 @@ use Rattle.sch_names.specs.Words.{keyword_of}
 use Rattle.sch_sketch.specs.declared.fault.Fault.TheVariants.{BadForm, Unbound, KeywordDefined}
 use Rattle.sch_sketch.specs.declared.sketch.Row.TheVariants.{Form, Body, Method, Nest}
 use Rattle.sch_sketch.specs.Draft.{local}
-use Rattle.sch_sketch.specs.Sketch.{text, rest, wrong, leaf, node, choosing, sequencing, binding, recurring, abstracting, calling, setting, setting_global, defining, nothing}
+use Rattle.sch_sketch.specs.Sketch.{text, rest, wrong, leaf, node, limited, choosing, sequencing, binding, recurring, abstracting, calling, setting, setting_global, defining, nothing}
 use Rattle.sch_sketch.specs.Small.{one, two, three}
 use Rattle.sch_binders.specs.Bodies.{row_body, row_lambda, row_method}
-use Rattle.sch_binders.specs.Binders.{row_let, row_letrec, row_nest}
+use Rattle.sch_binders.specs.Binders.{row_let, row_let_star, row_letrec, row_nest}
 use Rattle.sch_binders.specs.Loops.{row_do}
 use Rattle.sch_binders.specs.Assignments.{row_set, row_define}
 
@@ -31,6 +31,41 @@ word_lambda = atom 3 (symbol (codes "lambda"))
 
 word_define : ℕ → Datum
 word_define at = atom at (symbol (codes "define"))
+
+binding_of : ℕ → List ℕ → Datum
+binding_of n v = list n (cons (named n v) (cons (number n) none))
+
+-- `(let ((x 5) (y 6)) 9)`, and with two variables of one name; in a `let*` they may have one, and there may be none
+let_row : row_let [] 1 (cons (list 2 (cons (binding_of 5 x) (cons (binding_of 6 y) none))) (cons (number 9) none)) ≡
+    node (binding (Some x ∷ Some y ∷ [])) 1 (three (text (number 5)) (text (number 6)) (rest Body 1 (cons (number 9) none) none))
+unfolding binding_of named number x y keyword_of
+let_row = refl
+
+let_twice_row : row_let [] 1 (cons (list 2 (cons (binding_of 5 x) (cons (binding_of 6 x) none))) (cons (number 9) none)) ≡ wrong (BadForm 1)
+unfolding binding_of named number x keyword_of
+let_twice_row = refl
+
+let_star_row : row_let_star [] 1 (cons (list 2 (cons (binding_of 5 x) (cons (binding_of 6 x) none))) (cons (number 9) none)) ≡
+    limited 1 2 (rest (Nest 1) 1 (cons (binding_of 5 x) (cons (binding_of 6 x) none)) (cons (number 9) none))
+unfolding binding_of named number x keyword_of
+let_star_row = refl
+
+no_binding_row : row_let_star [] 1 (cons (list 2 none) (cons (number 9) none)) ≡ node (binding []) 1 (one (rest Body 1 (cons (number 9) none) none))
+unfolding number keyword_of
+no_binding_row = refl
+
+last_nest_row : row_nest 1 6 (cons (binding_of 6 x) none) (cons (number 9) none) ≡
+    node (binding (Some x ∷ [])) 6 (two (text (number 6)) (rest Body 1 (cons (number 9) none) none))
+unfolding binding_of named number
+last_nest_row = refl
+
+bare_let_row : row_let [] 1 (cons (list 2 (cons (binding_of 5 x) none)) none) ≡ wrong (BadForm 1)
+unfolding binding_of named number x
+bare_let_row = refl
+
+letrec_twice_row : row_letrec [] 1 (cons (list 2 (cons (binding_of 5 x) (cons (binding_of 6 x) none))) (cons (number 9) none)) ≡ wrong (BadForm 1)
+unfolding binding_of named number x keyword_of
+letrec_twice_row = refl
 
 -- `(let* ((x 5) (x 7)) 9)`: one binding inside the other
 nest_row : row_nest 1 2 (cons (list 3 (cons (named 4 x) (cons (number 5) none))) (cons (list 6 (cons (named 6 x) (cons (number 7) none))) none)) (cons (number 9) none) ≡
@@ -90,6 +125,49 @@ do_row : row_do 1 (cons (list 2 (cons (list 3 (cons (named 4 x) (cons (number 5)
     (leaf 1 (local 0)))) (text (number 5)) (text (number 6)))
 unfolding named number x y
 do_row = refl
+
+-- `(do ((x 5)) (8))` has no commands: x is passed on, and the value is unspecified
+idle_row : row_do 1 (cons (list 2 (cons (binding_of 5 x) none)) (cons (list 8 (cons (number 8) none)) none)) ≡
+    node calling 1 (two (node (recurring (None ∷ []) true) 1
+    (two (node (abstracting (Some x ∷ []) false) 1 (one (node choosing 1 (three (text (number 8)) (leaf 1 nothing)
+    (node calling 1 (two (leaf 1 (local 1)) (leaf 1 (local 0)))))))) (leaf 1 (local 0)))) (text (number 5)))
+unfolding binding_of named number x
+idle_row = refl
+
+-- `(do ((x 5)) (8 9))` ends with 9
+result_row : row_do 1 (cons (list 2 (cons (binding_of 5 x) none)) (cons (list 8 (cons (number 8) (cons (number 9) none))) none)) ≡
+    node calling 1 (two (node (recurring (None ∷ []) true) 1
+    (two (node (abstracting (Some x ∷ []) false) 1 (one (node choosing 1 (three (text (number 8)) (rest (Form Begin) 1 (cons (number 9) none) none)
+    (node calling 1 (two (leaf 1 (local 1)) (leaf 1 (local 0)))))))) (leaf 1 (local 0)))) (text (number 5)))
+unfolding binding_of named number x
+result_row = refl
+
+do_twice_row : row_do 1 (cons (list 2 (cons (binding_of 5 x) (cons (binding_of 6 x) none))) (cons (list 8 (cons (number 8) none)) none)) ≡ wrong (BadForm 1)
+unfolding binding_of named number x
+do_twice_row = refl
+
+-- a body of definitions alone is none, nor one that defines a name twice; a keyword may be defined in a body
+definition : ℕ → List ℕ → Datum
+definition n v = list n (cons (word_define n) (cons (named n v) (cons (number n) none)))
+
+definitions_row : row_lambda [] 1 (cons (list 2 none) (cons (definition 5 x) none)) ≡ wrong (BadForm 1)
+unfolding definition word_define named number x keyword_of
+definitions_row = refl
+
+defined_twice_row : row_lambda [] 1 (cons (list 2 none) (cons (definition 5 x) (cons (definition 6 x) (cons (number 9) none)))) ≡ wrong (BadForm 1)
+unfolding definition word_define named number x keyword_of
+defined_twice_row = refl
+
+keyword_body_row : row_body [] 1 (cons (definition 5 (codes "if")) (cons (number 9) none)) ≡
+    node (recurring (Some (codes "if") ∷ []) false) 1 (two (text (number 5)) (rest (Form Begin) 1 (cons (number 9) none) none))
+unfolding definition word_define named number keyword_of
+keyword_body_row = refl
+
+-- `(begin)` at the head of a body is a definition of nothing
+nothing_row : row_body [] 1 (cons (list 2 (cons (named 2 (codes "begin")) none)) (cons (number 9) none)) ≡
+    node (recurring [] true) 1 (one (rest (Form Begin) 1 (cons (number 9) none) none))
+unfolding named number keyword_of
+nothing_row = refl
 
 -- the body `(define x 5) (begin (define (y) 6)) 9` is a `letrec` of x and y; y alone is a procedure by its form
 body_row : row_body [] 1 (cons (list 2 (cons (word_define 2) (cons (named 3 x) (cons (number 5) none))))

@@ -11,9 +11,9 @@ use Rattle.sch_sketch.specs.declared.fault.Fault.TheVariants.{BadForm}
 use Rattle.sch_sketch.specs.declared.sketch.Position.TheVariants.{Value, Test}
 use Rattle.sch_sketch.specs.declared.sketch.Row.TheVariants.{Form, Clauses, Cases, Tests, Chain, Join}
 use Rattle.sch_sketch.specs.Draft.{constant, symbol, literal, local}
-use Rattle.sch_sketch.specs.Sketch.{text, rest, wrong, leaf, node, choosing, binding, calling, operating, nothing}
+use Rattle.sch_sketch.specs.Sketch.{text, rest, wrong, leaf, node, choosing, sequencing, binding, calling, operating, nothing}
 use Rattle.sch_sketch.specs.Small.{one, two, three}
-use Rattle.sch_choices.specs.Choices.{row_quote, row_and, row_or, row_cond, row_clauses}
+use Rattle.sch_choices.specs.Choices.{row_quote, row_begin, row_if, row_and, row_or, row_cond, row_clauses}
 use Rattle.sch_choices.specs.Cases.{row_case, row_cases, row_tests}
 use Rattle.sch_choices.specs.Combinations.{combination, row_chain, row_join}
 
@@ -25,6 +25,42 @@ name at = atom at (symbol_atom (codes "x"))
 
 both : Data
 both = cons (number 5) (cons (number 7) none)
+
+-- the arms of `(if 5 7 9)`; without the last its value is unspecified
+if_row : row_if 1 (cons (number 5) (cons (number 7) (cons (number 9) none))) ≡ node choosing 1 (three (text (number 5)) (text (number 7)) (text (number 9)))
+unfolding number
+if_row = refl
+
+one_armed_row : row_if 1 both ≡ node choosing 1 (three (text (number 5)) (text (number 7)) (leaf 1 nothing))
+unfolding both number
+one_armed_row = refl
+
+armless_row : row_if 1 (cons (number 5) none) ≡ wrong (BadForm 1)
+armless_row = refl
+
+-- `(begin)` is bad, `(begin 5)` is its part, and `(begin 5 7)` a sequence
+no_part_row : row_begin 1 none ≡ wrong (BadForm 1)
+no_part_row = refl
+
+one_part_row : row_begin 1 (cons (number 5) none) ≡ text (number 5)
+one_part_row = refl
+
+parts_row : row_begin 1 both ≡ node sequencing 1 (two (text (number 5)) (text (number 7)))
+unfolding both number
+parts_row = refl
+
+-- `(and)` and `(or)`, and of one part
+no_and_row : row_and 1 none ≡ leaf 1 (constant (Boolean true))
+no_and_row = refl
+
+one_and_row : row_and 1 (cons (number 5) none) ≡ text (number 5)
+one_and_row = refl
+
+no_or_row : row_or Value 1 none ≡ leaf 1 (constant (Boolean false))
+no_or_row = refl
+
+one_or_row : row_or Value 1 (cons (number 5) none) ≡ text (number 5)
+one_or_row = refl
 
 -- `(and 5 7)` is `(if 5 (and 7) #f)`
 and_row : row_and 1 both ≡
@@ -65,6 +101,31 @@ clause_row : row_clauses [] Test 1 (cons (list 4 (cons (number 5) (cons (number 
 unfolding number
 clause_row = refl
 
+-- the clause `(else 9)`, which must be the last, and have an expression
+otherwise : Datum
+otherwise = list 8 (cons (atom 9 (symbol_atom (codes "else"))) (cons (number 9) none))
+
+else_row : row_clauses [] Value 1 (cons otherwise none) ≡ rest (Form Begin) 1 (cons (number 9) none) none
+unfolding otherwise number keyword_of
+else_row = refl
+
+else_first_row : row_cond [] 1 (cons otherwise (cons (list 10 (cons (number 11) none)) none)) ≡ wrong (BadForm 1)
+unfolding otherwise number keyword_of
+else_first_row = refl
+
+else_last_row : row_cond [] 1 (cons (list 4 (cons (number 5) none)) (cons otherwise none)) ≡
+    rest Clauses 1 (cons (list 4 (cons (number 5) none)) (cons otherwise none)) none
+unfolding otherwise number keyword_of
+else_last_row = refl
+
+bare_else_row : row_cond [] 1 (cons (list 8 (cons (atom 9 (symbol_atom (codes "else"))) none)) none) ≡ wrong (BadForm 1)
+unfolding keyword_of
+bare_else_row = refl
+
+no_list_row : row_cond [] 1 (cons (number 5) none) ≡ wrong (BadForm 1)
+unfolding number
+no_list_row = refl
+
 no_clause_row : row_clauses [] Value 1 none ≡ leaf 1 nothing
 no_clause_row = refl
 
@@ -78,6 +139,30 @@ cases_row : row_cases 1 (cons (list 6 (cons (list 7 both) (cons (number 9) none)
     node choosing 1 (three (rest Tests 1 both none) (rest (Form Begin) 1 (cons (number 9) none) none) (rest Cases 1 none none))
 unfolding number
 cases_row = refl
+
+-- the `else` of a `case`, which must be the last; a clause of no data is never chosen
+case_else_row : row_cases 1 (cons otherwise none) ≡ rest (Form Begin) 1 (cons (number 9) none) none
+unfolding otherwise number
+case_else_row = refl
+
+case_else_first_row : row_case [] 1 (cons (number 5) (cons otherwise (cons (list 10 (cons (list 11 both) (cons (number 12) none))) none))) ≡ wrong (BadForm 1)
+unfolding otherwise number both keyword_of
+case_else_first_row = refl
+
+case_else_last_row : row_case [] 1 (cons (number 5) (cons otherwise none)) ≡
+    node (binding (None ∷ [])) 1 (two (text (number 5)) (rest Cases 1 (cons otherwise none) none))
+unfolding otherwise number keyword_of
+case_else_last_row = refl
+
+no_data_row : row_tests 1 none ≡ leaf 1 (constant (Boolean false))
+no_data_row = refl
+
+no_case_row : row_case [] 1 (cons (number 5) none) ≡ wrong (BadForm 1)
+no_case_row = refl
+
+no_expression_row : row_case [] 1 (cons (number 5) (cons (list 6 (cons (list 7 both) none)) none)) ≡ wrong (BadForm 1)
+unfolding number both
+no_expression_row = refl
 
 tests_row : row_tests 1 both ≡
     node choosing 1 (three (node (operating Eqv) 1 (two (leaf 1 (local 0)) (leaf 1 (constant (Fixnum (pos 5)))))) (leaf 1 (constant (Boolean true)))

@@ -1,3 +1,4 @@
 pub mod Best
 pub mod Readings
 pub mod Stacks
+pub mod Examples

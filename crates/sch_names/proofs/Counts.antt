@@ -10,7 +10,7 @@ use Rattle.sch_names.specs.declared.keyword.Keyword.{Keyword}
 use Rattle.sch_names.specs.declared.operation.Operation.{Operation}
 use Rattle.sch_names.specs.declared.operation.Operation.TheVariants.{Exact, Unit, UnitAnd, Nested, Chained, Filled, Newline, Not}
 use Rattle.sch_names.specs.Operations.{exactly, arithmetic, comparison, filling, admitted, other_operation, by_primitive, primitive_of, operation_of}
-use Rattle.sch_names.specs.Scope.{Scope, Globals, find, is_among, operating, head, head_of}
+use Rattle.sch_names.specs.Scope.{Scope, Globals, find, is_procedure_name, operating, head, head_of}
 use Rattle.sch_names.specs.Words.{keyword_of}
 
 abbrev pub Admits : Operation → ℕ → Type 0
@@ -103,5 +103,5 @@ of_head None false None (Some o) p e = cc
 
 pub operation_admits : (globals : Globals) (s : Scope) (x : List ℕ) (n : ℕ) (o : Operation) → head_of globals s x n ≡ operating o → Admits o n
 operation_admits globals s x n o e =
-    let f : operation_of globals.internal x n ≡ Some o = of_head (find s x) (is_among x globals.own) (keyword_of x) (operation_of globals.internal x n) o e in
+    let f : operation_of globals.internal x n ≡ Some o = of_head (find s x) (is_procedure_name globals x) (keyword_of x) (operation_of globals.internal x n) o e in
     subst (λ p. AdmitsIfAny p n) f (name_admits globals.internal x n)

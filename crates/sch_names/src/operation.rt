@@ -3,7 +3,7 @@
 ghost use Rattle.std.specs.Prelude.{◌≡◌};
 ghost use Rattle.std.specs.Str.{bytes_eq};
 ghost use Rattle.sch_word.specs.values.Primitives.{name_of};
-ghost use Rattle.sch_names.specs.Operations.{named_in, primitive_of, unit_of, exactly, arithmetic, comparison, filling, admitted, temporary, other_operation, operation_of, of_objects, of_numbers, of_sequences, of_libraries};
+ghost use Rattle.sch_names.specs.Operations.{named_in, primitive_of, unit_of, exactly, arithmetic, comparison, filling, admitted, is_temporary, temporary, other_operation, operation_of, of_objects, of_numbers, of_sequences, of_libraries};
 
 use sch_word::Primitive;
 
@@ -203,7 +203,14 @@ fn admitted(p: Primitive, count: usize) -> Option<Operation>
     }
 }
 
-/// `display` and `newline`, as long as the library has no text.
+/// Whether a name is `display` or `newline`.
+pub(crate) fn is_temporary(x: &[u8]) -> bool
+    ensures { result ≡ is_temporary x.now }
+{
+    x == b"display".as_slice() || x == b"newline".as_slice()
+}
+
+/// `display` and `newline`, as long as they are not bound.
 fn temporary(x: &[u8], count: usize) -> Option<Operation>
     ensures { result ≡ temporary x.now count }
 {

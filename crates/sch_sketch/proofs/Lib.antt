@@ -3,3 +3,4 @@ pub mod LastDraft
 pub mod Sketches
 pub mod SmallMeasures
 pub mod SmallSound
+pub mod Examples

@@ -1,7 +1,8 @@
 -- Worked rows of the table of forms (R5RS 4 and 5.2): what a datum stands for where it stands. A number
 -- stands at its own value.
 use Rattle.std.proofs.Common.{◌≡◌, ℕ, pos, List, true, false, [], ◌∷◌, Some, None, codes, refl}
-use Rattle.sch_word.specs.declared.primitive.Primitive.TheVariants.{Car, Put}
+use Rattle.sch_word.specs.declared.constant.Const.TheVariants.{Fixnum}
+use Rattle.sch_word.specs.declared.primitive.Primitive.TheVariants.{Car, Put, Subtract}
 use Rattle.sch_read.specs.Grammar.{Datum, Data, atom, list, dotted, none, cons, integer, text as string, symbol}
 use Rattle.sch_names.specs.declared.keyword.Keyword.TheVariants.{If, Else, Define}
 use Rattle.sch_names.specs.Operations.{operation_of}
@@ -10,7 +11,7 @@ use Rattle.sch_names.specs.Words.{keyword_of}
 use Rattle.sch_sketch.specs.declared.fault.Fault.TheVariants.{BadForm, Unbound}
 use Rattle.sch_sketch.specs.declared.sketch.Position.TheVariants.{Value}
 use Rattle.sch_sketch.specs.declared.sketch.Row.TheVariants.{Form}
-use Rattle.sch_sketch.specs.Draft.{literal, local, global}
+use Rattle.sch_sketch.specs.Draft.{constant, literal, local, global}
 use Rattle.sch_sketch.specs.Sketch.{text, rest, wrong, leaf, node, operating, calling}
 use Rattle.sch_sketch.specs.Small.{one, two}
 use Rattle.sch_table.specs.Outline.{row_form, outline_datum}
@@ -52,6 +53,40 @@ local_car_row = refl
 car_of_none_row : outline_datum plain [] (named 1 car none) ≡ node calling 1 (one (text (atom 2 (symbol car))))
 unfolding plain named car keyword_of operation_of
 car_of_none_row = refl
+
+-- `(-)`, and a comparison of one operand, are calls; `(+)` is 0, and `(- 5)` is 0 without 5
+operator : ℕ → List ℕ → Datum
+operator at x = atom at (symbol x)
+
+minus_row : outline_datum plain [] (named 1 (codes "-") none) ≡ node calling 1 (one (text (operator 2 (codes "-"))))
+unfolding plain named operator keyword_of operation_of
+minus_row = refl
+
+compared_row : outline_datum plain [] (named 1 (codes "<") (cons (number 5) none)) ≡ node calling 1 (two (text (operator 2 (codes "<"))) (text (number 5)))
+unfolding plain named number operator keyword_of operation_of
+compared_row = refl
+
+sum_row : outline_datum plain [] (named 1 (codes "+") none) ≡ leaf 1 (constant (Fixnum (pos 0)))
+unfolding plain named keyword_of operation_of
+sum_row = refl
+
+negative_row : outline_datum plain [] (named 1 (codes "-") (cons (number 5) none)) ≡
+    node (operating Subtract) 1 (two (leaf 1 (constant (Fixnum (pos 0)))) (text (number 5)))
+unfolding plain named number keyword_of operation_of
+negative_row = refl
+
+-- `(display 5)` puts, and is a call where a library has `display`
+display_row : outline_datum plain [] (named 1 (codes "display") (cons (number 5) none)) ≡ node (operating Put) 1 (one (text (number 5)))
+unfolding plain named number car keyword_of operation_of
+display_row = refl
+
+with_display : Globals
+with_display = record { bound = codes "display" ∷ []; own = []; internal = false }
+
+library_display_row : outline_datum with_display [] (named 1 (codes "display") (cons (number 5) none)) ≡
+    node calling 1 (two (text (operator 2 (codes "display"))) (text (number 5)))
+unfolding with_display named number operator keyword_of
+library_display_row = refl
 
 -- `(%put 5)` is an operation in a library, and a call in another text
 put_row : outline_datum library [] (named 1 (codes "%put") (cons (number 5) none)) ≡ node (operating Put) 1 (one (text (number 5)))
