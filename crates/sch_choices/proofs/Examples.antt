@@ -12,7 +12,7 @@ use Rattle.sch_sketch.specs.declared.sketch.Position.TheVariants.{Value, Test}
 use Rattle.sch_sketch.specs.declared.sketch.Row.TheVariants.{Form, Clauses, Cases, Tests, Chain, Join}
 use Rattle.sch_sketch.specs.Draft.{constant, symbol, literal, local}
 use Rattle.sch_sketch.specs.Sketch.{text, rest, wrong, leaf, node, choosing, sequencing, binding, calling, operating, nothing}
-use Rattle.sch_sketch.specs.Small.{one, two, three}
+use Rattle.sch_sketch.specs.Small.{two, three}
 use Rattle.sch_choices.specs.Choices.{row_quote, row_begin, row_if, row_and, row_or, row_cond, row_clauses}
 use Rattle.sch_choices.specs.Cases.{row_case, row_cases, row_tests}
 use Rattle.sch_choices.specs.Combinations.{combination, row_chain, row_join}

@@ -1,17 +1,17 @@
 -- Each row of choices and of operations makes a sound sketch.
-use Rattle.std.proofs.Common.{◌≡◌, ◌≤◌, ◌<◌, ◌+◌, ℕ, zero, suc, Bool, true, false, cond, List, length, Option, Some, None, refl, sym, arith}
+use Rattle.std.proofs.Common.{◌≡◌, ◌≤◌, ◌<◌, ◌+◌, ℕ, zero, suc, true, false, length, Option, Some, None, refl, sym, arith}
 use Rattle.sch_word.specs.declared.primitive.Primitive.{Primitive}
 use Rattle.sch_word.specs.declared.primitive.Primitive.TheVariants.{MakeString}
 use Rattle.sch_word.specs.values.Primitives.{operands_of}
 use Rattle.sch_read.specs.Grammar.{Datum, Data, atom, list, dotted, vector, none, cons}
-use Rattle.sch_read.specs.Parts.{how_many, offset}
+use Rattle.sch_read.specs.Parts.{how_many}
 use Rattle.sch_names.specs.declared.operation.Operation.{Operation}
 use Rattle.sch_names.specs.declared.operation.Operation.TheVariants.{Exact, Unit as UnitOf, UnitAnd, Nested, Chained, Filled, Newline, Not}
 use Rattle.sch_names.specs.Scope.{Scope, onto}
 use Rattle.sch_names.proofs.Counts.{Admits}
 use Rattle.sch_sketch.specs.declared.sketch.Position.{Position}
 use Rattle.sch_sketch.specs.declared.sketch.Row.TheVariants.{Chain, Join}
-use Rattle.sch_sketch.specs.Sketch.{Sketch, text as datum, rest, no_sketch, but_one, binding, operating, sequencing}
+use Rattle.sch_sketch.specs.Sketch.{text as datum, rest, no_sketch, but_one, binding, operating, sequencing}
 use Rattle.sch_sketch.specs.Small.{one, fresh_each}
 use Rattle.sch_sketch.specs.Soundness.{IsSound}
 use Rattle.sch_sketch.proofs.SmallSound.{onto_length, choice, near, quoted_sound, texts_sound, texts_count, fresh_count, either_sound}

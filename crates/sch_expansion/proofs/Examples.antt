@@ -1,11 +1,11 @@
 -- Worked rows of levels and of the order of faults (R5RS 7.3): a node at level 2,000 may stand, its parts may not.
-use Rattle.std.proofs.Common.{◌≡◌, ℕ, pos, true, false, [], ◌∷◌, Some, None, codes, refl}
+use Rattle.std.proofs.Common.{◌≡◌, ℕ, pos, true, false, [], Some, codes, refl}
 use Rattle.sch_word.specs.declared.constant.Const.TheVariants.{Fixnum}
 use Rattle.sch_names.specs.Scope.{Globals}
 use Rattle.sch_sketch.specs.declared.fault.Fault.TheVariants.{KeywordDefined, BadForm, Unbound, Operands, Core}
 use Rattle.sch_sketch.specs.declared.sketch.Position.TheVariants.{Value, Test}
-use Rattle.sch_sketch.specs.Draft.{Draft, constant, branch, no_drafts, and_draft}
-use Rattle.sch_sketch.specs.Sketch.{Sketch, leaf, wrong, node, limited, no_sketch, choosing}
+use Rattle.sch_sketch.specs.Draft.{Draft, constant, branch}
+use Rattle.sch_sketch.specs.Sketch.{Sketch, leaf, node, limited, choosing}
 use Rattle.sch_sketch.specs.Small.{three}
 use Rattle.sch_expansion.specs.FaultOrder.{reported}
 use Rattle.sch_expansion.specs.Expands.{Expands, a_leaf, a_node, within, no_part, and_part}
