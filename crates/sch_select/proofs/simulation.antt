@@ -4,7 +4,7 @@ pub mod Primitives
 pub mod Places
 pub mod Operands
 pub mod PutValue
-pub mod Following
+pub mod Outcomes
 pub mod Changes
 pub mod HeapWrites
 pub mod Sources

@@ -1,5 +1,6 @@
 -- A whole program: its items and its data.
-use Rattle.std.specs.Prelude.{ℕ, zero, suc, ◌+◌, ◌*◌, ◌/◌, ◌%◌, List, [], ◌∷◌, ◌++◌, length, replicate, codes, pos, Option, Some, None}
+use Rattle.std.specs.Prelude.{ℕ, zero, suc, ◌+◌, ◌*◌, ◌/◌, ◌%◌, List, [], ◌∷◌, ◌++◌, length, replicate, codes, pos}
+use Rattle.std.specs.Prelude.{Option, Some, None}
 use Rattle.std.specs.Int.{w64, from_le_bytes}
 use Rattle.sch_word.specs.declared.stop.Stop.TheVariants.{WrongType}
 use Rattle.sch_control.specs.declared.body.Entry.{Entry}
@@ -22,7 +23,8 @@ use Rattle.sch_select.specs.Select.{bytes_address, texts_address, globals_addres
 
 abbrev pub text_code : (address size : ℕ) → List Item → List Item
 text_code address size rest =
-    item.Plain (MovNumber (Reg RAX) (pos address)) ∷ (item.Plain (MovNumber (Reg RDX) (pos size)) ∷ (item.Jump (label_of routine.Put) ∷ rest))
+    item.Plain (MovNumber (Reg RAX) (pos address))
+    ∷ (item.Plain (MovNumber (Reg RDX) (pos size)) ∷ (item.Jump (label_of routine.Put) ∷ rest))
 
 -- the text of one value, and then that of others
 abbrev pub either_text : (word address size next : ℕ) → List Item → List Item
@@ -31,7 +33,9 @@ either_text word address size next rest =
 
 abbrev pub character_put : List Item → List Item
 character_put rest =
-    item.Plain (Shr (Reg RAX) 8) ∷ (item.Plain (AddNumber (Reg RAX) (pos bytes_address)) ∷ (item.Plain (MovNumber (Reg RDX) (pos 1)) ∷ (item.Jump (label_of routine.Put) ∷ rest)))
+    item.Plain (Shr (Reg RAX) 8)
+    ∷ (item.Plain (AddNumber (Reg RAX) (pos bytes_address))
+    ∷ (item.Plain (MovNumber (Reg RDX) (pos 1)) ∷ (item.Jump (label_of routine.Put) ∷ rest)))
 
 abbrev pub procedure_put : List Item
 procedure_put = text_code (texts_address + 20) 12 []
@@ -133,7 +137,8 @@ static_bytes = ascending 0 256 ++ all_texts
 
 -- eight bytes at a time
 abbrev pub word_list : List ℕ → List Word
-word_list (a ∷ (b ∷ (c ∷ (d ∷ (e ∷ (f ∷ (g ∷ (h ∷ bytes)))))))) = Fixed (from_le_bytes w64 (a ∷ b ∷ c ∷ d ∷ e ∷ f ∷ g ∷ h ∷ [])) ∷ word_list bytes
+word_list (a ∷ (b ∷ (c ∷ (d ∷ (e ∷ (f ∷ (g ∷ (h ∷ bytes)))))))) =
+    Fixed (from_le_bytes w64 (a ∷ b ∷ c ∷ d ∷ e ∷ f ∷ g ∷ h ∷ [])) ∷ word_list bytes
 word_list _ = []
 
 -- a global that holds a procedure of the library has its word

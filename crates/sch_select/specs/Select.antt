@@ -4,7 +4,8 @@ use Rattle.std.specs.Prelude.{ℕ, ◌+◌, ◌*◌, List, [], ◌∷◌, length
 use Rattle.sch_word.specs.declared.place.Place.{Place}
 use Rattle.sch_word.specs.declared.place.Place.TheVariants as place
 use Rattle.sch_word.specs.declared.primitive.Primitive.{Primitive}
-use Rattle.sch_word.specs.declared.primitive.Primitive.TheVariants.{Eq, Eqv, IsBoolean, IsPair, IsNull, IsSymbol, IsInteger, IsChar, IsString, IsVector, IsProcedure, Add, Subtract, Multiply, Quotient, Remainder, Modulo, Equal, Less, Greater, LessEqual, GreaterEqual, CharToInteger, IntegerToChar, Put}
+use Rattle.sch_word.specs.declared.primitive.Primitive.TheVariants.{Eq, Eqv, IsBoolean, IsPair, IsNull, IsSymbol, IsInteger, IsChar, IsString, IsVector, IsProcedure}
+use Rattle.sch_word.specs.declared.primitive.Primitive.TheVariants.{Add, Subtract, Multiply, Quotient, Remainder, Modulo, Equal, Less, Greater, LessEqual, GreaterEqual, CharToInteger, IntegerToChar, Put}
 use Rattle.sch_word.specs.declared.stop.Stop.{Stop}
 use Rattle.sch_word.specs.declared.stop.Stop.TheVariants.{WrongType, OutOfRange, DivideByZero, Overflow, HeapLimit, Unset}
 use Rattle.sch_word.specs.runs.Charges.{cell_bytes, procedure_bytes}
@@ -25,7 +26,8 @@ use Rattle.sch_frames.specs.declared.instruction.Instruction.TheVariants as inst
 use Rattle.sch_insn.specs.declared.condition.TheConstants.{O, E, NE, A, L, GE, LE, G}
 use Rattle.sch_insn.specs.declared.insn.Arg.{Arg}
 use Rattle.sch_insn.specs.declared.insn.Arg.TheVariants.{Reg, Base32}
-use Rattle.sch_insn.specs.declared.insn.Insn.TheVariants.{MovTo, MovFrom, MovNumber, MovWord, AddTo, SubTo, CmpTo, AddNumber, AndNumber, CmpNumber, Imul, Idiv, Cqo, Shl, Shr, Sar, JumpTo}
+use Rattle.sch_insn.specs.declared.insn.Insn.TheVariants.{MovTo, MovFrom, MovNumber, MovWord}
+use Rattle.sch_insn.specs.declared.insn.Insn.TheVariants.{AddTo, SubTo, CmpTo, AddNumber, AndNumber, CmpNumber, Imul, Idiv, Cqo, Shl, Shr, Sar, JumpTo}
 use Rattle.sch_insn.specs.declared.register.TheConstants.{RAX, RCX, RDX, RBP, R11, R12, R15}
 use Rattle.sch_asm.specs.declared.item.Item.{Item}
 use Rattle.sch_asm.specs.declared.item.Item.TheVariants.{Label, Plain, Jump, JumpIf, LoadLabel, LoadWord, StoreWord, Mark}
@@ -33,7 +35,8 @@ use Rattle.sch_asm.specs.declared.item.MarkKind as asm
 use Rattle.sch_asm.specs.declared.item.MarkKind.TheVariants as asm_mark
 use Rattle.sch_asm.specs.declared.routine.Routine.TheVariants as routine
 use Rattle.sch_asm.specs.Routines.{label_of}
-use Rattle.sch_heap.specs.Encoded.{true_word, false_word, nil_word, unspecified_word, unset_word, character_tag, procedure_tag, cell_tag, constant_number}
+use Rattle.sch_heap.specs.Encoded.{true_word, false_word, nil_word, unspecified_word, unset_word, constant_number}
+use Rattle.sch_heap.specs.Encoded.{character_tag, procedure_tag, cell_tag}
 
 abbrev pub stop_label : Stop → ℕ
 stop_label why = label_of (routine.Stop why)
@@ -95,7 +98,8 @@ check_character rest = low_bits RAX 255 (Plain (CmpNumber (Reg RDX) (pos charact
 -- RAX becomes `#t` where a condition holds, and `#f` elsewhere
 abbrev pub boolean_code : (n condition : ℕ) → List Item → List Item
 boolean_code n condition rest =
-    Plain (MovNumber (Reg RAX) (pos true_word)) ∷ (JumpIf condition n ∷ (Plain (MovNumber (Reg RAX) (pos false_word)) ∷ (Label n ∷ rest)))
+    Plain (MovNumber (Reg RAX) (pos true_word))
+    ∷ (JumpIf condition n ∷ (Plain (MovNumber (Reg RAX) (pos false_word)) ∷ (Label n ∷ rest)))
 
 -- whether the low bits of RAX are these
 abbrev pub test_code : (n mask tag : ℕ) → List Item → List Item
@@ -151,7 +155,8 @@ binary_code n Eq rest = compare_code n E rest
 binary_code n Eqv rest = compare_code n E rest
 binary_code n Add rest = check_fixnum RAX (check_fixnum RCX (Plain (AddTo (Reg RAX) RCX) ∷ overflow_code rest))
 binary_code n Subtract rest = check_fixnum RAX (check_fixnum RCX (Plain (SubTo (Reg RAX) RCX) ∷ overflow_code rest))
-binary_code n Multiply rest = check_fixnum RAX (check_fixnum RCX (Plain (Sar (Reg RAX) 3) ∷ (Plain (Imul RAX (Reg RCX)) ∷ overflow_code rest)))
+binary_code n Multiply rest =
+    check_fixnum RAX (check_fixnum RCX (Plain (Sar (Reg RAX) 3) ∷ (Plain (Imul RAX (Reg RCX)) ∷ overflow_code rest)))
 binary_code n Quotient rest = division_code (Plain (MovNumber (Reg RCX) (pos 8)) ∷ (Plain (Imul RAX (Reg RCX)) ∷ overflow_code rest))
 binary_code n Remainder rest = division_code (Plain (MovTo (Reg RAX) RDX) ∷ rest)
 binary_code n Modulo rest = division_code (Plain (MovTo (Reg RAX) RDX) ∷ modulo_code n rest)
@@ -234,11 +239,13 @@ unset_cell_code heap_end rest =
 -- the fields of a record, from an offset on
 abbrev pub fields_code : (offset : ℕ) → List (Source Place) → List Item → List Item
 fields_code offset [] rest = rest
-fields_code offset (x ∷ sources) rest = source_code RCX x (Plain (MovTo (part_operand offset) RCX) ∷ fields_code (offset + 8) sources rest)
+fields_code offset (x ∷ sources) rest =
+    source_code RCX x (Plain (MovTo (part_operand offset) RCX) ∷ fields_code (offset + 8) sources rest)
 
 -- a record at an offset: the address of its code, and its fields
 abbrev pub record_code : (offset : ℕ) → Closure Place → List Item → List Item
-record_code offset c rest = LoadLabel RCX (body_label c.label) ∷ (Plain (MovTo (part_operand offset) RCX) ∷ fields_code (offset + 8) c.fields rest)
+record_code offset c rest =
+    LoadLabel RCX (body_label c.label) ∷ (Plain (MovTo (part_operand offset) RCX) ∷ fields_code (offset + 8) c.fields rest)
 
 abbrev pub closure_bytes : Closure Place → ℕ
 closure_bytes c = procedure_bytes (length c.fields)
@@ -309,7 +316,8 @@ module _ (base out heap_end : ℕ) where
   abbrev pub instruction_code : (n : ℕ) → Instruction → List Item → List Item
   instruction_code n (instruction.Do o) rest = operation_code heap_end n o rest
   instruction_code n (instruction.Store p) rest = Plain (MovTo (place_operand p) RAX) ∷ rest
-  instruction_code n (instruction.Copy to from) rest = Plain (MovFrom RCX (place_operand from)) ∷ (Plain (MovTo (place_operand to) RCX) ∷ rest)
+  instruction_code n (instruction.Copy to from) rest =
+      Plain (MovFrom RCX (place_operand from)) ∷ (Plain (MovTo (place_operand to) RCX) ∷ rest)
   instruction_code n (instruction.Load p o) rest = second_code n o (Plain (MovTo (place_operand p) RCX) ∷ rest)
   instruction_code n (instruction.Fix members) rest = group_code heap_end members rest
   instruction_code n instruction.Return rest = Plain (JumpTo (Reg R15)) ∷ rest

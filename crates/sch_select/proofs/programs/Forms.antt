@@ -29,7 +29,7 @@ use Rattle.sch_select.specs.Select.{kind_of, body_label, body_code}
 use Rattle.sch_select.specs.Program.{passed_code, form_code, forms_code, labels_end}
 use Rattle.sch_select.proofs.simulation.Places.{Plan, Room, StoreAt, PlacesAt}
 use Rattle.sch_select.proofs.items.Appending.{body_appends, behind}
-use Rattle.sch_select.proofs.simulation.Following.{Ends, Goes_on, Sim, Laid, ends_after, paid}
+use Rattle.sch_select.proofs.simulation.Outcomes.{Ends, Goes_on, Sim, Laid, ends_after, paid}
 use Rattle.sch_select.proofs.simulation.Bodies.{body_cost, body_sim, map_one}
 use Rattle.sch_select.proofs.programs.Selected.{form_selected}
 

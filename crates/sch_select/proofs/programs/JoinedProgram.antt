@@ -30,7 +30,7 @@ use Rattle.sch_select.specs.Program.{own_label, passed_code, forms_code, form_co
 use Rattle.sch_select.specs.Follows.{AreRuns, FollowsFrames}
 use Rattle.sch_select.proofs.simulation.Places.{Plan, Room}
 use Rattle.sch_select.proofs.items.Appending.{Appends, then_appends, body_appends, behind}
-use Rattle.sch_select.proofs.simulation.Following.{Laid}
+use Rattle.sch_select.proofs.simulation.Outcomes.{Laid}
 use Rattle.sch_select.proofs.programs.Starting.{parts_at_start, bytes_count, texts_there, values_there, first_is, ends_at, contents_there, new_there}
 use Rattle.sch_select.proofs.programs.Whole.{Starts, program_follows}
 use Rattle.sch_select.proofs.programs.Selected.{form_selected, selects}

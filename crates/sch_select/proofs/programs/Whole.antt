@@ -33,7 +33,7 @@ use Rattle.sch_select.specs.Select.{global_address}
 use Rattle.sch_select.specs.Program.{own_label, forms_code}
 use Rattle.sch_select.specs.Follows.{AreRuns}
 use Rattle.sch_select.proofs.simulation.Places.{Plan, code_of, Room, StoreAt}
-use Rattle.sch_select.proofs.simulation.Following.{Ends, Laid}
+use Rattle.sch_select.proofs.simulation.Outcomes.{Ends, Laid}
 use Rattle.sch_select.proofs.programs.Forms.{Owed, forms_sim, forms_cost}
 use Rattle.sch_select.proofs.programs.Selected.{form_selected}
 

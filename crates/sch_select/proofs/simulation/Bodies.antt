@@ -33,7 +33,7 @@ use Rattle.sch_heap.proofs.Encodings.{fits, false_tested}
 use Rattle.sch_select.proofs.simulation.Straight.{kept_set, moved_to}
 use Rattle.sch_select.proofs.simulation.Places.{Plan, Room, Holds, held_value, loaded, written, places_kept}
 use Rattle.sch_select.proofs.items.Appending.{instruction_appends, Behind, behind}
-use Rattle.sch_select.proofs.simulation.Following.{Laid}
+use Rattle.sch_select.proofs.simulation.Outcomes.{Laid}
 use Rattle.sch_select.proofs.simulation.Operations.{Std, FrameOf, StoreOf, SimOf, onward, none_waits}
 use Rattle.sch_select.proofs.simulation.EachOperation.{operation_cost, operation_sim}
 use Rattle.sch_select.proofs.simulation.Closures.{group_sim}

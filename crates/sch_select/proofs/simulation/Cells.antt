@@ -41,7 +41,7 @@ use Rattle.sch_select.proofs.simulation.Places.{Plan, Room, StoreAt, PlacesAt, p
 use Rattle.sch_select.proofs.simulation.Operands.{Reads, operand_here, free_scratch}
 use Rattle.sch_select.proofs.simulation.HeapWrites.{Wrote, wrote_one, store_wrote, heap_inside, places_wrote, places_grown, store_grown, cell_written, room_tested}
 use Rattle.sch_select.proofs.simulation.Sources.{is_one, Sources, source_here, Tested, room_here}
-use Rattle.sch_select.proofs.simulation.Following.{after, Laid, stops_here}
+use Rattle.sch_select.proofs.simulation.Outcomes.{after, Laid, stops_here}
 use Rattle.sch_select.proofs.simulation.Operations.{Std, FrameOf, StoreOf, SimOf, Rest, next_of, onward, none_waits}
 use Rattle.sch_select.proofs.programs.Selected.{source_selected, operand_selected}
 

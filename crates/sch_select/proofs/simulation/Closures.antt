@@ -42,7 +42,7 @@ use Rattle.sch_select.proofs.simulation.Places.{Plan, code_of, Room, StoreAt, Pl
 use Rattle.sch_select.proofs.simulation.HeapWrites.{Wrote, wrote_within, store_wrote, places_wrote, places_grown, store_grown, room_tested}
 use Rattle.sch_select.proofs.simulation.Sources.{is_one, HasRoom, Tested, room_here}
 use Rattle.sch_select.proofs.simulation.Records.{more_of, bytes_are, fields_fit, values_count, group_parts, group_units, AreSpots, group_spots, group_new, recorded, records_made, records_cost, both_there}
-use Rattle.sch_select.proofs.simulation.Following.{after, Laid, stops_here}
+use Rattle.sch_select.proofs.simulation.Outcomes.{after, Laid, stops_here}
 use Rattle.sch_select.proofs.simulation.Operations.{Std, FrameOf, StoreOf, SimOf, Rest, next_of, none_waits}
 use Rattle.sch_select.proofs.simulation.Cells.{one_scratch}
 use Rattle.sch_select.proofs.programs.Selected.{source_selected, closure_selected, members_selected}

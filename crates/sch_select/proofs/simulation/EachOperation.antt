@@ -16,7 +16,7 @@ use Rattle.sch_asm.specs.Views.{View}
 use Rattle.sch_heap.specs.Parts.{Parts}
 use Rattle.sch_select.specs.Select.{kind_of, operation_code}
 use Rattle.sch_select.proofs.simulation.Places.{Plan, Room}
-use Rattle.sch_select.proofs.simulation.Following.{Laid}
+use Rattle.sch_select.proofs.simulation.Outcomes.{Laid}
 use Rattle.sch_select.proofs.simulation.Operations.{Std, FrameOf, StoreOf, SimOf, Rest, next_of, comes_scratch, comes_sim, operand_sim, global_here, set_sim, unary_sim, binary_sim}
 use Rattle.sch_select.proofs.simulation.Cells.{new_cell_sim, unset_cell_sim, field_sim, cell_get_sim, cell_set_sim}
 use Rattle.sch_select.proofs.simulation.Closures.{make_closure_sim}

@@ -41,7 +41,7 @@ use Rattle.sch_select.proofs.simulation.Places.{Plan, Room, StoreAt, PlacesAt, p
 use Rattle.sch_select.proofs.simulation.Operands.{Reads, ReadsSecond, operand_here, second_here, free_scratch}
 use Rattle.sch_select.proofs.simulation.PutValue.{PutsPiece, puts_value}
 use Rattle.sch_select.proofs.simulation.Changes.{global_inside, global_written, store_behind, places_written, below_written, places_behind, word_behind}
-use Rattle.sch_select.proofs.simulation.Following.{Ends, Sim, after, Laid, stops_here}
+use Rattle.sch_select.proofs.simulation.Outcomes.{Ends, Sim, after, Laid, stops_here}
 use Rattle.sch_select.proofs.programs.Selected.{operand_selected, takes}
 
 pub none_waits : (l before waiting : List MarkKind) → l ≡ before ++ waiting → l ≡ (before ++ waiting) ++ []

@@ -76,7 +76,7 @@ returns-clause-ahead c =
     let q = source p in
     let l = c.args.limits in
     let i = sym (whole_items q l.heap l.depth _ _ _ _ _ _ c.lay_out-layout.ensures.stack c.lay_out-layout.ensures.heap c.len-globals.ensures c.len-library.ensures (sym (bodies_count p.bodies)) c.in_ok-items.ensures) in
-    subst (λ is. IsTrue (jumps_ahead (own_label q) is)) i (program_ahead q l.heap l.depth (all_forward p.bodies))
+    subst (λ is. IsTrue (jumps_ahead (own_label q) is)) i (program_ahead q l.heap l.depth (all_forward p.bodies) (labels_known p))
 
 pub returns-clause-marks : goal.returns-clause-marks
 returns-clause-marks c =
