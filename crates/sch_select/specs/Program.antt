@@ -99,9 +99,17 @@ heap_address globals library = closures_address globals + 16 * library
 abbrev pub stack_address : (globals library heap : ℕ) → ℕ
 stack_address globals library heap = heap_address globals library + heap
 
--- the forms have one frame, one after the other
-abbrev pub stack_bytes : (words : ℕ) → ℕ
-stack_bytes words = 8 * words
+-- the most bytes of a stack, but for its last frame, and of the data (the project's own)
+abbrev pub max_stack : ℕ
+max_stack = 1073741824
+
+abbrev pub max_data : ℕ
+max_data = 0xBF000000
+
+-- A form has a frame, each call that is pending has one, and one more stands behind, into which operands are
+-- handed over before the depth that is left is looked at.
+abbrev pub stack_bytes : (words depth : ℕ) → ℕ
+stack_bytes words depth = 8 * (words * depth) + 16 * words
 
 -- ## The program
 
@@ -168,5 +176,5 @@ abbrev pub program_words : Source → List Word
 program_words p = data_words (closures_address (length p.statics.globals)) p.statics.globals p.library
 
 -- the heap and the stack
-abbrev pub program_zeros : Source → (heap : ℕ) → ℕ
-program_zeros p heap = heap + stack_bytes p.words
+abbrev pub program_zeros : Source → (heap depth : ℕ) → ℕ
+program_zeros p heap depth = heap + stack_bytes p.words depth

@@ -1,5 +1,5 @@
 -- A valid frame program that is covered is selected.
-use Rattle.std.proofs.Common.{◌≡◌, ℕ, zero, suc, ◌<◌, ◌≤◌, List, [], ◌∷◌, ◌++◌, length, Option, true, false, refl, sym, ap, ◌∙◌, subst, arith, ◌&&◌, eq-eqb}
+use Rattle.std.proofs.Common.{◌≡◌, ℕ, zero, suc, ◌<◌, ◌≤◌, List, [], ◌∷◌, ◌++◌, length, Option, Bool, true, false, refl, sym, ap, ◌∙◌, subst, arith, ◌&&◌, ◌||◌, eq-eqb}
 use Rattle.std.specs.Prelude.{nat_eq, nat_le, nat_lt, slice_get}
 use Rattle.std.specs.List.{list_all}
 use Rattle.std.proofs.lemmas.Bool.{and_parts, and_from, leb-true, le-leb, ltb-true, lt-ltb, eqb-true}
@@ -24,8 +24,8 @@ use Rattle.sch_control.specs.declared.operation.Member.{Member}
 use Rattle.sch_control.specs.declared.operation.Operation.{Operation}
 use Rattle.sch_frames.specs.Tree.{Code}
 use Rattle.sch_frames.specs.Run.{entries_of}
-use Rattle.sch_select.proofs.programs.Selected.{takes, atom_selected, read_selected, operand_selected, source_selected, closure_selected, members_selected, primitive_selected, operation_selected, instruction_selected, form_selected, members_few, operation_few, labels_few, selects}
-use Rattle.sch_select.specs.Covered.{is_covered_source, is_covered_closure, is_covered_group, is_covered_operation, is_covered_instruction, is_covered_code, is_covered_program, marks_settled, max_library}
+use Rattle.sch_select.proofs.programs.Selected.{takes, atom_selected, read_selected, operand_selected, source_selected, closure_selected, members_selected, primitive_selected, operation_selected, instruction_selected, form_selected, members_few, operation_few, labels_few, selects, fits}
+use Rattle.sch_select.specs.Covered.{is_covered_source, is_covered_closure, is_covered_group, is_covered_operation, is_covered_instruction, is_covered_code, is_covered_program, can_be_entered, marks_settled, max_library, without_calls}
 use Rattle.sch_control.specs.declared.operation.Operation.TheVariants as operation
 use Rattle.sch_control.specs.Parts.{operand_atoms, operands_atoms, operation_atoms, source_atom, source_atoms, member_atoms}
 use Rattle.sch_control.specs.Straight.{is_straight_atom, is_straight_operand}
@@ -289,7 +289,7 @@ procedures_known p = subst (λ n. list_all (λ l. nat_lt l n) p.library ≡ true
 -- ## Programs
 
 pub library_small : (p : FrameProgram) → is_covered_program (view.source p) ≡ true → length p.library ≤ 1048576
-library_small p s = leb-true (length p.library) 1048576 (and_parts (nat_le (length p.library) max_library) (list_all is_covered_code (codes_of p.bodies)) s).0
+library_small p s = leb-true (length p.library) 1048576 (and_parts (nat_le (length p.library) max_library) _ s).0
 
 pub globals_known : (p : FrameProgram) → library_known (length p.library) p.statics.globals ≡ true
 globals_known p =
@@ -301,8 +301,20 @@ globals_known p =
 pub covered_selected : (p : FrameProgram) → is_covered_program (view.source p) ≡ true → selects (view.source p) ≡ true
 covered_selected p s =
     let q = view.source p in
-    let s' = and_parts (nat_le (length p.library) max_library) (list_all is_covered_code q.bodies) s in
+    let s' = and_parts (list_all is_covered_code q.bodies) (list_all without_calls q.bodies || list_all can_be_entered q.bodies) (and_parts (nat_le (length p.library) max_library) _ s).1 in
     let within = and_parts (nat_le p.words 2048) (list_all (λ c. nat_le c.words p.words) q.bodies) p.within in
     and_from (list_all (form_selected p.words (length p.statics.globals)) q.bodies) (list_all (λ c. marks_settled true c.instructions) q.bodies)
-    (forms_taken p.words (names_of q) p.bodies s'.1 p.known within.1)
-    (forms_settled q.bodies s'.1)
+    (forms_taken p.words (names_of q) p.bodies s'.0 p.known within.1)
+    (forms_settled q.bodies s'.0)
+
+pub calls_fitting : (p : FrameProgram) → is_covered_program (view.source p) ≡ true → (calls : Bool) × (list_all (fits calls) (codes_of p.bodies) ≡ true)
+calls_fitting p s = by (list_all without_calls codes) (list_all can_be_entered codes) refl refl (and_parts (list_all is_covered_code codes) _ (and_parts (nat_le (length p.library) max_library) _ s).1).1
+  where
+    codes : List Code
+    codes = codes_of p.bodies
+
+    by : (a b : Bool) → list_all without_calls codes ≡ a → list_all can_be_entered codes ≡ b → (a || b) ≡ true → (calls : Bool) × (list_all (fits calls) codes ≡ true)
+    by true b e f h = (false, e)
+    by false true e f h = (true, f)
+    by false false e f h = absurd (let bad : false ≡ true = h in cc)
+

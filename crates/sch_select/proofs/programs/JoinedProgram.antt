@@ -1,5 +1,5 @@
 -- A program joined with its routines and resolved follows its runs.
-use Rattle.std.proofs.Common.{◌≡◌, ℕ, suc, ◌+◌, ◌-◌, ◌*◌, ◌^◌, ◌<◌, ◌≤◌, List, [], ◌∷◌, ◌++◌, length, replicate, Option, Some, None, true, false, refl, sym, ap, subst, arith}
+use Rattle.std.proofs.Common.{◌≡◌, ℕ, suc, ◌+◌, ◌-◌, ◌*◌, ◌^◌, ◌<◌, ◌≤◌, List, [], ◌∷◌, ◌++◌, length, replicate, Option, Some, None, Bool, true, false, refl, sym, ap, subst, arith}
 use Rattle.std.specs.Prelude.{IsTrue}
 use Rattle.std.specs.List.{list_all, flat_map}
 use Rattle.std.proofs.lemmas.Bool.{and_parts}
@@ -26,14 +26,14 @@ use Rattle.sch_asm.specs.Views.{text_at}
 use Rattle.sch_asm.proofs.Joined.{joined}
 use Rattle.sch_asm.proofs.Standing.{setting_of}
 use Rattle.sch_select.specs.Select.{put_label, globals_address, body_label, body_code}
-use Rattle.sch_select.specs.Program.{own_label, passed_code, forms_code, form_code, labels_end, put_value_code, program_code, program_words, program_zeros, static_bytes, closures_address, heap_of, stack_bytes}
+use Rattle.sch_select.specs.Program.{own_label, passed_code, forms_code, form_code, labels_end, put_value_code, program_code, program_words, program_zeros, static_bytes, closures_address, heap_of, max_stack, stack_bytes}
 use Rattle.sch_select.specs.Follows.{AreRuns, FollowsFrames}
 use Rattle.sch_select.proofs.simulation.Places.{Plan, Room}
 use Rattle.sch_select.proofs.items.Appending.{Appends, then_appends, body_appends, behind}
 use Rattle.sch_select.proofs.simulation.Outcomes.{Laid}
 use Rattle.sch_select.proofs.programs.Starting.{parts_at_start, bytes_count, texts_there, values_there, first_is, ends_at, contents_there, new_there}
 use Rattle.sch_select.proofs.programs.Whole.{Starts, program_follows}
-use Rattle.sch_select.proofs.programs.Selected.{form_selected, selects}
+use Rattle.sch_select.proofs.programs.Selected.{fits, form_selected, selects}
 use Rattle.sch_select.specs.Covered.{marks_settled}
 
 -- ---- what stands behind the forms
@@ -62,7 +62,7 @@ put_there setting heap_end label n cs a h =
 
 -- ---- where things lie
 
-module _ (p : Source) (limit depth : ℕ) (words_few : p.words ≤ 2048) (globals_few : length p.statics.globals ≤ 29360128) (library_few : length p.library ≤ 1048576) (limit_few : limit ≤ 1073741824) (depth_few : depth ≤ 10000000) where
+module _ (p : Source) (limit depth : ℕ) (words_few : p.words ≤ 2048) (globals_few : length p.statics.globals ≤ 29360128) (library_few : length p.library ≤ 1048576) (limit_few : limit ≤ 1073741824) (depth_few : depth ≤ 10000000) (stack_few : stack_bytes p.words depth ≤ max_stack + 16384) where
   abbrev globals : ℕ
   globals = length p.statics.globals
 
@@ -70,15 +70,15 @@ module _ (p : Source) (limit depth : ℕ) (words_few : p.words ≤ 2048) (global
   heap_close = omega arith
 
   abbrev stack_size : ℕ
-  stack_size = stack_bytes p.words
+  stack_size = stack_bytes p.words depth
 
   abbrev bytes_at : (ℕ → ℕ) → List ℕ
-  bytes_at place_of = flat_map (bytes_of place_of) (program_words p) ++ replicate (program_zeros p limit) 0
+  bytes_at place_of = flat_map (bytes_of place_of) (program_words p) ++ replicate (program_zeros p limit depth) 0
 
   plan_of : (setting : Setting) → ((l : ℕ) → setting.place_of l < 2 ^ 31) → Plan
   plan_of setting labels = record {
     setting = setting;
-    size = heap_of p + program_zeros p limit - 0x10000000;
+    size = heap_of p + program_zeros p limit depth - 0x10000000;
     words = p.words;
     globals = globals;
     closures = closures_address globals;
@@ -90,14 +90,14 @@ module _ (p : Source) (limit depth : ℕ) (words_few : p.words ≤ 2048) (global
     closures_high = omega arith;
     stack_low = omega arith;
     near = let c = heap_close in omega (arith, c, globals_few, limit_few, library_few);
-    small = let c = heap_close in omega (arith, c, globals_few, limit_few, words_few, library_few);
+    small = let c = heap_close in omega (arith, c, globals_few, limit_few, stack_few, library_few);
     narrow = words_few;
     labels = λ l. let k = labels l in omega (arith, k);
   }
 
-  pub frames_follow : selects p ≡ true → library_known (length p.library) p.statics.globals ≡ true → FollowsFrames p limit depth (program_code p limit depth) (program_words p) (program_zeros p limit)
+  pub frames_follow : (calls : Bool) → selects p ≡ true → list_all (fits calls) p.bodies ≡ true → library_known (length p.library) p.statics.globals ≡ true → FollowsFrames p limit depth (program_code p limit depth) (program_words p) (program_zeros p limit depth)
   unfolding plan_of
-  frames_follow selected known = record { follows = at }
+  frames_follow calls selected fitting known = record { follows = at }
     where
       forms : list_all (form_selected p.words globals) p.bodies ≡ true
       forms = (and_parts (list_all (form_selected p.words globals) p.bodies) (list_all (λ c. marks_settled true c.instructions) p.bodies) selected).0
@@ -105,12 +105,12 @@ module _ (p : Source) (limit depth : ℕ) (words_few : p.words ≤ 2048) (global
       at : (routines : List Item) (code : List Insn) (marks : List mark.Mark) (words : List ℕ) → AreEffective routines → IsTrue (marks_arrive false (program_code p limit depth)) → IsTrue (marks_arrive false routines)
           → AreResolved (program_code p limit depth ++ routines) (program_words p) code marks words → AllValid code → length (flat_map spelling code) ≤ 16777216
           → (runs : List Answer → ℕ → Run) → AreRuns p limit depth runs
-          → FollowsRuns 0x400000 (text_at (flat_map spelling code) ∷ data_at (words ++ replicate (program_zeros p limit) 0) ∷ []) runs
+          → FollowsRuns 0x400000 (text_at (flat_map spelling code) ∷ data_at (words ++ replicate (program_zeros p limit depth) 0) ∷ []) runs
       at routines code marks words effective arrive arrive' r valid small runs are =
           let j = joined (program_code p limit depth) routines (program_words p) code marks words r valid small arrive arrive' in
           let setting = setting_of (text_at (flat_map spelling code)) r.place_of marks j.apart in
           let plan = plan_of setting r.small in
-          let zeros = program_zeros p limit in
+          let zeros = program_zeros p limit depth in
           let laid : Laid plan 0 = record {
             routine = effective.does setting j.second.0 j.second.1;
             put_stands = put_there setting (heap_of p + limit) 0 (own_label p) p.bodies _ j.first.2.2.2;
@@ -119,7 +119,7 @@ module _ (p : Source) (limit depth : ℕ) (words_few : p.words ≤ 2048) (global
           let room : Room plan plan.stack depth = record { low = omega arith; high = omega arith; few = omega (arith, depth_few) } in
           let parts = parts_at_start r.place_of r.small p.statics.globals p.library zeros globals_few library_few in
           let count = bytes_count r.place_of r.small p.statics.globals p.library zeros globals_few library_few in
-          let starts : Starts plan 0 laid depth room parts p limit (bytes_at r.place_of) = record {
+          let starts : Starts plan 0 laid depth room calls parts p limit (bytes_at r.place_of) = record {
             size_is = omega (arith, count);
             texts = texts_there r.place_of r.small p.statics.globals p.library zeros globals_few library_few;
             count = refl;
@@ -131,4 +131,4 @@ module _ (p : Source) (limit depth : ℕ) (words_few : p.words ≤ 2048) (global
             new = new_there r.place_of r.small p.statics.globals p.library zeros globals_few library_few;
           } in
           subst (λ w. FollowsRuns 0x400000 (text_at (flat_map spelling code) ∷ data_at (w ++ replicate zeros 0) ∷ []) runs) (sym r.bytes)
-          (program_follows plan 0 laid depth room p limit parts (bytes_at r.place_of) (item.Label put_label ∷ put_value_code) runs forms j.first starts are)
+          (program_follows plan 0 laid depth room calls p limit parts (bytes_at r.place_of) (item.Label put_label ∷ put_value_code) runs forms fitting j.first starts are)

@@ -24,7 +24,7 @@ use Rattle.sch_frames.specs.declared.instruction.Instruction.TheVariants.{Do, St
 use Rattle.sch_frames.specs.Tree.{Code}
 use Rattle.sch_frames.specs.Tree as tree
 use Rattle.sch_frames.specs.Valid.{is_place}
-use Rattle.sch_select.specs.Covered.{marks_settled}
+use Rattle.sch_select.specs.Covered.{can_be_entered, marks_settled, without_calls}
 
 -- a straight primitive of n operands
 abbrev pub takes : ℕ → Primitive → Bool
@@ -89,6 +89,11 @@ module _ (words globals : ℕ) where
 
   abbrev pub form_selected : Code → Bool
   form_selected c = list_all instruction_selected c.instructions
+
+-- what a body meets, by whether the program makes calls
+abbrev pub fits : (calls : Bool) → Code → Bool
+fits false c = without_calls c
+fits true c = can_be_entered c
 
 -- the bodies that an instruction names are among those that there are
 abbrev pub members_few : ℕ → List (Member Place) → Bool

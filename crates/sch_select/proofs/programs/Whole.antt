@@ -1,5 +1,5 @@
 -- A whole program follows its runs.
-use Rattle.std.proofs.Common.{◌≡◌, ℕ, zero, suc, ◌+◌, ◌*◌, List, [], ◌∷◌, length, take, drop, true, Option, Some, None, refl, sym, ap, ◌∙◌, subst, arith}
+use Rattle.std.proofs.Common.{◌≡◌, ℕ, zero, suc, ◌+◌, ◌*◌, List, [], ◌∷◌, length, take, drop, Bool, true, Option, Some, None, refl, sym, ap, ◌∙◌, subst, arith}
 use Rattle.std.specs.Prelude.{pos, slice_get}
 use Rattle.std.specs.List.{list_all}
 use Rattle.sch_word.specs.declared.answer.Answer.{Answer}
@@ -35,7 +35,7 @@ use Rattle.sch_select.specs.Follows.{AreRuns}
 use Rattle.sch_select.proofs.simulation.Places.{Plan, code_of, Room, StoreAt}
 use Rattle.sch_select.proofs.simulation.Outcomes.{Ends, Laid}
 use Rattle.sch_select.proofs.programs.Forms.{Owed, forms_sim, forms_cost}
-use Rattle.sch_select.proofs.programs.Selected.{form_selected}
+use Rattle.sch_select.proofs.programs.Selected.{fits, form_selected}
 
 -- ---- globals, when a program starts
 
@@ -54,7 +54,7 @@ pub values_count : (gs : List (Option ℕ)) → length (starting_values gs) ≡ 
 values_count [] = refl
 values_count (g ∷ gs) = ap suc (values_count gs)
 
-module _ (plan : Plan) (body_steps : ℕ) (laid : Laid plan body_steps) (depth : ℕ) (room : Room plan plan.stack depth) where
+module _ (plan : Plan) (body_steps : ℕ) (laid : Laid plan body_steps) (depth : ℕ) (room : Room plan plan.stack depth) (calls : Bool) where
   open plan use {setting, size, words, globals, closures, heap, stack, static, labels}
 
   -- RBP, R12 and R13 are set, and the forms follow
@@ -65,7 +65,7 @@ module _ (plan : Plan) (body_steps : ℕ) (laid : Laid plan body_steps) (depth :
   exits_from t x z c status w p e = let q = leads_then setting.marks p e.leads in record { way = q.way; last = full setting e.last; path = q.path; exits = e.exits; output_is = e.output_is }
 
   -- from a result to what is seen
-  seen_does : (p : Source) (callee : Callee) (t : Store) (x z : View) (c n : ℕ) (answers : List Answer) (result : Result) (r : Run) → t.entries ≡ n → Leads setting 3 3 [] x z → Owed plan body_steps laid depth room p.bodies callee [] t z c result → seen_of answers n result ≡ Some r → Does (full setting x) n r.end r.output
+  seen_does : (p : Source) (callee : Callee) (t : Store) (x z : View) (c n : ℕ) (answers : List Answer) (result : Result) (r : Run) → t.entries ≡ n → Leads setting 3 3 [] x z → Owed plan body_steps laid depth room calls n p.bodies callee [] t z c result → seen_of answers n result ≡ Some r → Does (full setting x) n r.end r.output
   seen_does p callee t x z c n answers None r e l s h = absurd cc
   seen_does p callee t x z c n answers (Some (gives v w)) r e l s h =
       let same : run_with (ended 0) answers n w.state.store ≡ r = cc in
@@ -91,9 +91,9 @@ module _ (plan : Plan) (body_steps : ℕ) (laid : Laid plan body_steps) (depth :
     pub contents : HeapAt (code_of plan) parts [] (library_procedures p.library) bytes
     pub new : AreNew parts 0 (length (library_procedures p.library))
 
-  pub program_follows : (p : Source) (limit : ℕ) (parts : Parts) (bytes : List ℕ) (rest : List Item) (runs : List Answer → ℕ → Run) → list_all (form_selected words globals) p.bodies ≡ true →
+  pub program_follows : (p : Source) (limit : ℕ) (parts : Parts) (bytes : List ℕ) (rest : List Item) (runs : List Answer → ℕ → Run) → list_all (form_selected words globals) p.bodies ≡ true → list_all (fits calls) p.bodies ≡ true →
       Stands setting [] 0x400000 (started (forms_code stack 0 (own_label p) p.bodies (item.Jump (label_of routine.End) ∷ rest))) → Starts parts p limit bytes → AreRuns p limit depth runs → FollowsRuns 0x400000 (setting.text ∷ data_at bytes ∷ []) runs
-  program_follows p limit parts bytes rest runs selected h s r = follows 0x400000 (setting.text ∷ data_at bytes ∷ []) runs at
+  program_follows p limit parts bytes rest runs selected fitting h s r = follows 0x400000 (setting.text ∷ data_at bytes ∷ []) runs at
     where
       at : (g : Given) (answers : List Answer) (n : ℕ) → Does (start 0x400000 (setting.text ∷ data_at bytes ∷ []) g answers) n (runs answers n).end (runs answers n).output
       at g answers n =
@@ -121,5 +121,5 @@ module _ (plan : Plan) (body_steps : ℕ) (laid : Laid plan body_steps) (depth :
           } in
           seen_does p callee t x z (forms_cost p.bodies) n answers _ (runs answers n) refl
           (leads_on setting.marks (leads_on setting.marks (goes setting x y1 (MovWord 5 (pos stack)) h.0 [] h.1 refl) (goes setting y1 y2 (MovWord 12 (pos heap)) h.2.0 [] h.2.1 refl)) (goes setting y2 z (MovWord 13 (pos depth)) h.2.2.0 [] h.2.2.1 refl))
-          (forms_sim plan body_steps laid depth room p.bodies callee p.bodies 0 (own_label p) rest selected (λ j c e. let sum : 0 + j ≡ j = omega arith in ap (slice_get p.bodies) sum ∙ e) [] w z h.2.2.2 (record { parts = parts; frame = refl; deep = refl; free = free; world = world }) refl)
+          (forms_sim plan body_steps laid depth room calls n p.bodies callee p.bodies 0 (own_label p) rest selected fitting (λ j c e. let sum : 0 + j ≡ j = omega arith in ap (slice_get p.bodies) sum ∙ e) [] w z h.2.2.2 (record { parts = parts; frame = refl; deep = refl; few = omega arith; free = free; world = world }) refl)
           (r.are answers n)
