@@ -44,10 +44,10 @@ is_covered_operation o = is_straight_operation o
 abbrev pub is_covered_instruction : Instruction → Bool
 is_covered_instruction (Do o) = is_covered_operation o
 is_covered_instruction (Load p o) = is_straight_operand o
-is_covered_instruction (Pass k o) = false
+is_covered_instruction (Pass k o) = is_straight_operand o
 is_covered_instruction (Fix members) = is_covered_group members
-is_covered_instruction (Call spread count) = false
-is_covered_instruction (Tail spread count) = false
+is_covered_instruction (Call spread count) = not spread
+is_covered_instruction (Tail spread count) = not spread
 is_covered_instruction _ = true
 
 -- Each mark has an instruction behind it, and no label between. Whether one waits for the first instruction.

@@ -17,7 +17,7 @@ use Rattle.sch_asm.specs.declared.assembly.Word.TheVariants.{Fixed, Address}
 use Rattle.sch_asm.specs.declared.routine.Routine.TheVariants as routine
 use Rattle.sch_asm.specs.Routines.{label_of}
 use Rattle.sch_heap.specs.Encoded.{true_word, false_word, nil_word, unset_word, character_tag, procedure_tag, cell_tag}
-use Rattle.sch_select.specs.Select.{bytes_address, texts_address, globals_address, low_bits, stop_label, put_label, body_label, body_code}
+use Rattle.sch_select.specs.Select.{bytes_address, texts_address, globals_address, low_bits, stop_label, put_label, body_label, check_count, body_code}
 
 -- ## The put of any value: RAX has its word, and R11 where to return
 
@@ -71,12 +71,20 @@ abbrev pub passed_code : Option Entry → (out : ℕ) → List Item → List Ite
 passed_code None out rest = rest
 passed_code (Some e) out rest = item.Jump out ∷ rest
 
-module _ (heap_end : ℕ) where
+-- a procedure's body begins with a check
+abbrev pub entry_code : Option Entry → List Item → List Item
+entry_code None rest = rest
+entry_code (Some e) rest = check_count e.formals rest
+
+module _ (words heap_end : ℕ) where
   -- a body has its label and its mark in front, and a label behind it
   abbrev pub form_code : (label n : ℕ) → Code → List Item → List Item
   form_code label n c rest =
       passed_code c.entry (n + c.labels)
-      (item.Label (body_label label) ∷ (item.Mark (Enter label) ∷ body_code n (n + c.labels) heap_end (n + c.labels + 1) c.instructions (item.Label (n + c.labels) ∷ rest)))
+      (item.Label (body_label label)
+      ∷ entry_code c.entry
+      (item.Mark (Enter label)
+      ∷ body_code n (n + c.labels) words heap_end (n + c.labels + 1) c.instructions (item.Label (n + c.labels) ∷ rest)))
 
   -- each body has its number, and its own labels from n on
   abbrev pub forms_code : (label n : ℕ) → List Code → List Item → List Item
@@ -121,15 +129,15 @@ abbrev pub heap_of : Source → ℕ
 heap_of p = heap_address (length p.statics.globals) (length p.library)
 
 -- bodies, with their count, and what stands in front of them and behind
-abbrev pub laid_code : (heap_end heap depth count : ℕ) → List Code → List Item
-laid_code heap_end heap depth count bodies =
+abbrev pub laid_code : (words heap_end heap depth count : ℕ) → List Code → List Item
+laid_code words heap_end heap depth count bodies =
     item.Plain (MovWord RBP (pos heap_end))
     ∷ (item.Plain (MovWord R12 (pos heap))
     ∷ (item.Plain (MovWord R13 (pos depth))
-    ∷ forms_code heap_end 0 (body_label count) bodies (item.Jump (label_of routine.End) ∷ (item.Label put_label ∷ put_value_code))))
+    ∷ forms_code words heap_end 0 (body_label count) bodies (item.Jump (label_of routine.End) ∷ (item.Label put_label ∷ put_value_code))))
 
 abbrev pub program_code : Source → (heap depth : ℕ) → List Item
-program_code p heap depth = laid_code (heap_of p + heap) (heap_of p) depth (length p.bodies) p.bodies
+program_code p heap depth = laid_code p.words (heap_of p + heap) (heap_of p) depth (length p.bodies) p.bodies
 
 -- numbers one after the other
 abbrev pub ascending : (first count : ℕ) → List ℕ

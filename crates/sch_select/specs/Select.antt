@@ -7,7 +7,8 @@ use Rattle.sch_word.specs.declared.primitive.Primitive.{Primitive}
 use Rattle.sch_word.specs.declared.primitive.Primitive.TheVariants.{Eq, Eqv, IsBoolean, IsPair, IsNull, IsSymbol, IsInteger, IsChar, IsString, IsVector, IsProcedure}
 use Rattle.sch_word.specs.declared.primitive.Primitive.TheVariants.{Add, Subtract, Multiply, Quotient, Remainder, Modulo, Equal, Less, Greater, LessEqual, GreaterEqual, CharToInteger, IntegerToChar, Put}
 use Rattle.sch_word.specs.declared.stop.Stop.{Stop}
-use Rattle.sch_word.specs.declared.stop.Stop.TheVariants.{WrongType, OutOfRange, DivideByZero, Overflow, HeapLimit, Unset}
+use Rattle.sch_word.specs.declared.stop.Stop.TheVariants.{WrongType, OutOfRange, NotProcedure, WrongCount}
+use Rattle.sch_word.specs.declared.stop.Stop.TheVariants.{DivideByZero, Overflow, HeapLimit, DepthLimit, Unset}
 use Rattle.sch_word.specs.runs.Charges.{cell_bytes, procedure_bytes}
 use Rattle.sch_control.specs.declared.mark.MarkKind as control
 use Rattle.sch_control.specs.declared.mark.MarkKind.TheVariants as mark
@@ -27,8 +28,8 @@ use Rattle.sch_insn.specs.declared.condition.TheConstants.{O, E, NE, A, L, GE, L
 use Rattle.sch_insn.specs.declared.insn.Arg.{Arg}
 use Rattle.sch_insn.specs.declared.insn.Arg.TheVariants.{Reg, Base32}
 use Rattle.sch_insn.specs.declared.insn.Insn.TheVariants.{MovTo, MovFrom, MovNumber, MovWord}
-use Rattle.sch_insn.specs.declared.insn.Insn.TheVariants.{AddTo, SubTo, CmpTo, AddNumber, AndNumber, CmpNumber, Imul, Idiv, Cqo, Shl, Shr, Sar, JumpTo}
-use Rattle.sch_insn.specs.declared.register.TheConstants.{RAX, RCX, RDX, RBP, R11, R12, R15}
+use Rattle.sch_insn.specs.declared.insn.Insn.TheVariants.{AddTo, SubTo, CmpTo, AddNumber, SubNumber, AndNumber, CmpNumber, Imul, Idiv, Cqo, Shl, Shr, Sar, JumpTo}
+use Rattle.sch_insn.specs.declared.register.TheConstants.{RAX, RCX, RDX, RBP, R11, R12, R13, R14, R15}
 use Rattle.sch_asm.specs.declared.item.Item.{Item}
 use Rattle.sch_asm.specs.declared.item.Item.TheVariants.{Label, Plain, Jump, JumpIf, LoadLabel, LoadWord, StoreWord, Mark}
 use Rattle.sch_asm.specs.declared.item.MarkKind as asm
@@ -298,6 +299,43 @@ group_code heap_end members rest =
     check_heap heap_end (group_bytes members) (places_code 0 members (records_code 0 members
     (Plain (AddNumber (Reg R12) (pos (group_bytes members))) ∷ rest)))
 
+-- ## Calls: R14 has the operator, R13 the depth that is left, and R15 where to return
+
+-- R14 has a procedure, or stop 67
+abbrev pub check_operator : List Item → List Item
+check_operator rest =
+    low_bits R14 7 (Plain (CmpNumber (Reg RDX) (pos procedure_tag)) ∷ (JumpIf NE (stop_label NotProcedure) ∷ rest))
+
+-- some depth is left, or stop 72
+abbrev pub check_depth : List Item → List Item
+check_depth rest = Plain (CmpNumber (Reg R13) (pos 0)) ∷ (JumpIf E (stop_label DepthLimit) ∷ rest)
+
+-- RAX counts the operands, and the procedure's record has the address of its code
+abbrev pub enter_code : (count : ℕ) → List Item → List Item
+enter_code count rest =
+    Plain (MovNumber (Reg RAX) (pos count))
+    ∷ (Plain (MovFrom RCX (Base32 R14 (negsuc 3))) ∷ (Plain (JumpTo (Reg RCX)) ∷ rest))
+
+-- a frame is opened behind the own one, and closed where the procedure returns
+abbrev pub open_code : (words n : ℕ) → List Item → List Item
+open_code words n rest =
+    Plain (SubNumber (Reg R13) (pos 1)) ∷ (Plain (AddNumber (Reg RBP) (pos (8 * words))) ∷ (LoadLabel R15 n ∷ rest))
+
+abbrev pub close_code : (words n : ℕ) → List Item → List Item
+close_code words n rest =
+    Label n ∷ (Plain (SubNumber (Reg RBP) (pos (8 * words))) ∷ (Plain (AddNumber (Reg R13) (pos 1)) ∷ rest))
+
+abbrev pub call_code : (words n count : ℕ) → List Item → List Item
+call_code words n count rest =
+    check_operator (check_depth (open_code words n (enter_code count (close_code words n rest))))
+
+abbrev pub tail_code : (count : ℕ) → List Item → List Item
+tail_code count rest = check_operator (enter_code count rest)
+
+-- the operands are as many as the formals, or stop 68
+abbrev pub check_count : (formals : ℕ) → List Item → List Item
+check_count formals rest = Plain (CmpNumber (Reg RAX) (pos formals)) ∷ (JumpIf NE (stop_label WrongCount) ∷ rest)
+
 -- ## Instructions
 
 abbrev pub kind_of : control.MarkKind → asm.MarkKind
@@ -311,22 +349,24 @@ kind_of (mark.Call site) = asm_mark.Call site
 kind_of mark.Return = asm_mark.Return
 kind_of (mark.Tail site) = asm_mark.Tail site
 
--- The labels of a body are numbered from `base` on, and `out` stands behind it.
-module _ (base out heap_end : ℕ) where
+-- The labels of a body are numbered from `base` on, and `out` stands behind it. A frame has this number of words.
+module _ (base out words heap_end : ℕ) where
   abbrev pub instruction_code : (n : ℕ) → Instruction → List Item → List Item
   instruction_code n (instruction.Do o) rest = operation_code heap_end n o rest
   instruction_code n (instruction.Store p) rest = Plain (MovTo (place_operand p) RAX) ∷ rest
   instruction_code n (instruction.Copy to from) rest =
       Plain (MovFrom RCX (place_operand from)) ∷ (Plain (MovTo (place_operand to) RCX) ∷ rest)
   instruction_code n (instruction.Load p o) rest = second_code n o (Plain (MovTo (place_operand p) RCX) ∷ rest)
+  instruction_code n (instruction.Pass k o) rest = second_code n o (Plain (MovTo (place_operand (place.Slot (words + k))) RCX) ∷ rest)
   instruction_code n (instruction.Fix members) rest = group_code heap_end members rest
+  instruction_code n (instruction.Call spread count) rest = call_code words n count rest
+  instruction_code n (instruction.Tail spread count) rest = tail_code count rest
   instruction_code n instruction.Return rest = Plain (JumpTo (Reg R15)) ∷ rest
   instruction_code n instruction.End rest = Jump out ∷ rest
   instruction_code n (instruction.IfFalse l) rest = Plain (CmpNumber (Reg RAX) (pos false_word)) ∷ (JumpIf E (base + l) ∷ rest)
   instruction_code n (instruction.Jump l) rest = Jump (base + l) ∷ rest
   instruction_code n (instruction.Label l) rest = Label (base + l) ∷ rest
   instruction_code n (instruction.Mark m) rest = Mark (kind_of m) ∷ rest
-  instruction_code n _ rest = rest
 
   -- each instruction has twelve labels of its own, from n on
   abbrev pub body_code : (n : ℕ) → List Instruction → List Item → List Item

@@ -23,7 +23,7 @@ const CELL_TAG: u32 = 7;
 const CELL_BYTES: u32 = 16;
 
 /// A number as an immediate. One past the immediates of 32 bits is out of memory.
-fn immediate(n: u32) -> Result<i32, Mem>
+pub(crate) fn immediate(n: u32) -> Result<i32, Mem>
     ensures { IfOk result (λ m. m ≡ pos n) }
 {
     if n < 2_147_483_648 {

@@ -16,7 +16,7 @@ ghost use Rattle.sch_select.specs.Select.{body_label, put_label};
 ghost use Rattle.sch_select.specs.Sizes.{bodies_marked, closures_in, marks_in};
 
 use crate::code::{GLOBALS_ADDRESS, PUT_LABEL, body_label};
-use crate::walk::forms;
+use crate::walk::{Frames, forms};
 use sch_asm::{Asm, Item, Routine, Word};
 use sch_frames::FrameProgram;
 use sch_heap::word::{CELL, PROCEDURE};
@@ -250,7 +250,7 @@ fn words_of(alloc: Global, p: &FrameProgram, closures: u64) -> Result<List<Word>
 fn items_of(alloc: Global, p: &FrameProgram, layout: Layout, depth: u64) -> Result<List<Item>, Mem>
     requires heap { layout.heap ≤ 2147483647 }
     requires depth { depth ≤ 10000000 }
-    ensures { IfOk result (λ items. items ≡ laid_code layout.stack layout.heap depth (length p.now.bodies) (codes_of p.now.bodies)) }
+    ensures { IfOk result (λ items. items ≡ laid_code p.now.words layout.stack layout.heap depth (length p.now.bodies) (codes_of p.now.bodies)) }
 {
     let bodies = p.bodies.as_slice();
     let own = match u32::try_from(bodies.len()) {
@@ -263,7 +263,11 @@ fn items_of(alloc: Global, p: &FrameProgram, layout: Layout, depth: u64) -> Resu
         Item::Plain(Insn::MovWord(R12, layout.heap as i64)),
         Item::Plain(Insn::MovWord(R13, depth as i64)),
     ])?;
-    forms(&mut items, layout.stack, own, bodies)?;
+    let frames = Frames {
+        words: p.words,
+        heap_end: layout.stack,
+    };
+    forms(&mut items, frames, own, bodies)?;
     items.push(Item::Jump(Routine::End.label()))?;
     items.extend_from_slice(&put_items())?;
     Ok(items)

@@ -27,9 +27,10 @@ use Rattle.sch_frames.specs.Valid as frames
 use Rattle.sch_frames.specs.Valid.{forward}
 use Rattle.sch_asm.specs.declared.item.Item.{Item}
 use Rattle.sch_asm.specs.declared.item.Item.TheVariants as item
+use Rattle.sch_asm.specs.declared.item.MarkKind.TheVariants.{Enter}
 use Rattle.sch_asm.specs.Items.{is_among, labels_in}
 use Rattle.sch_select.specs.Select.{first_label, body_label, atom_code, unary_code, binary_code, read_code, operand_code, second_code, source_code, fields_code, closure_bytes, places_code, record_code, records_code, operation_code, body_code}
-use Rattle.sch_select.specs.Program.{passed_code, forms_code, labels_end, heap_of, own_label, program_code, put_value_code}
+use Rattle.sch_select.specs.Program.{passed_code, entry_code, forms_code, labels_end, heap_of, own_label, program_code, put_value_code}
 use Rattle.sch_select.specs.Jumps.{goes_ahead, jumps_ahead}
 use Rattle.sch_select.proofs.programs.Selected.{members_few, operation_few, labels_few}
 use Rattle.sch_select.proofs.items.ProgramSound.{in_front}
@@ -173,56 +174,66 @@ module _ (count : ℕ) where
   -- ---- bodies
 
   -- a label behind a body
-  behind_body : (base out heap_end n l : ℕ) (is : List Instruction) (rest : List Item) → is_among (labels_in rest) l ≡ true → is_among (labels_in (body_code base out heap_end n is rest)) l ≡ true
-  behind_body base out heap_end n l is rest e = ap (λ ls. is_among ls l) (body_labelled base out heap_end n is rest) ∙ right_in (body_labels base n is) (labels_in rest) l e
+  behind_body : (base out words heap_end n l : ℕ) (is : List Instruction) (rest : List Item) → is_among (labels_in rest) l ≡ true → is_among (labels_in (body_code base out words heap_end n is rest)) l ≡ true
+  behind_body base out words heap_end n l is rest e = ap (λ ls. is_among ls l) (body_labelled base out words heap_end n is rest) ∙ right_in (body_labels base n is) (labels_in rest) l e
 
-  within_body : (base out heap_end n l : ℕ) (is : List Instruction) (rest : List Item) → has l (frames.labels_in is) ≡ true → is_among (labels_in (body_code base out heap_end n is rest)) (base + l) ≡ true
-  within_body base out heap_end n l is rest e = ap (λ ls. is_among ls (base + l)) (body_labelled base out heap_end n is rest) ∙ left_in (body_labels base n is) (labels_in rest) (base + l) (label_in base n l is e)
+  within_body : (base out words heap_end n l : ℕ) (is : List Instruction) (rest : List Item) → has l (frames.labels_in is) ≡ true → is_among (labels_in (body_code base out words heap_end n is rest)) (base + l) ≡ true
+  within_body base out words heap_end n l is rest e = ap (λ ls. is_among ls (base + l)) (body_labelled base out words heap_end n is rest) ∙ left_in (body_labels base n is) (labels_in rest) (base + l) (label_in base n l is e)
 
-  body_ahead : (base out heap_end n : ℕ) (is : List Instruction) (rest : List Item) → frames.jumps_ahead is ≡ true → list_all (labels_few count) is ≡ true → is_among (labels_in rest) out ≡ true → jumps_ahead own (body_code base out heap_end n is rest) ≡ jumps_ahead own rest
-  body_ahead base out heap_end n [] rest e f o = refl
-  body_ahead base out heap_end n (instruction.IfFalse l ∷ is) rest e f o =
+  body_ahead : (base out words heap_end n : ℕ) (is : List Instruction) (rest : List Item) → frames.jumps_ahead is ≡ true → list_all (labels_few count) is ≡ true → is_among (labels_in rest) out ≡ true → jumps_ahead own (body_code base out words heap_end n is rest) ≡ jumps_ahead own rest
+  body_ahead base out words heap_end n [] rest e f o = refl
+  body_ahead base out words heap_end n (instruction.IfFalse l ∷ is) rest e f o =
       let p = and_parts (has l (frames.labels_in is)) (frames.jumps_ahead is) e in
-      near (base + l) _ _ (within_body base out heap_end (n + 12) l is rest p.0) ∙ body_ahead base out heap_end (n + 12) is rest p.1 f o
-  body_ahead base out heap_end n (instruction.Jump l ∷ is) rest e f o =
+      near (base + l) _ _ (within_body base out words heap_end (n + 12) l is rest p.0) ∙ body_ahead base out words heap_end (n + 12) is rest p.1 f o
+  body_ahead base out words heap_end n (instruction.Jump l ∷ is) rest e f o =
       let p = and_parts (has l (frames.labels_in is)) (frames.jumps_ahead is) e in
-      near (base + l) _ _ (within_body base out heap_end (n + 12) l is rest p.0) ∙ body_ahead base out heap_end (n + 12) is rest p.1 f o
-  body_ahead base out heap_end n (instruction.End ∷ is) rest e f o = near out _ _ (behind_body base out heap_end (n + 12) out is rest o) ∙ body_ahead base out heap_end (n + 12) is rest e f o
-  body_ahead base out heap_end n (instruction.Do q ∷ is) rest e f o =
+      near (base + l) _ _ (within_body base out words heap_end (n + 12) l is rest p.0) ∙ body_ahead base out words heap_end (n + 12) is rest p.1 f o
+  body_ahead base out words heap_end n (instruction.End ∷ is) rest e f o = near out _ _ (behind_body base out words heap_end (n + 12) out is rest o) ∙ body_ahead base out words heap_end (n + 12) is rest e f o
+  body_ahead base out words heap_end n (instruction.Do q ∷ is) rest e f o =
       let g = and_parts (operation_few count q) (list_all (labels_few count) is) f in
-      operation_ahead heap_end n q g.0 (body_code base out heap_end (n + 12) is rest) ∙ body_ahead base out heap_end (n + 12) is rest e g.1 o
-  body_ahead base out heap_end n (instruction.Load p q ∷ is) rest e f o = second_ahead n q _ ∙ body_ahead base out heap_end (n + 12) is rest e f o
-  body_ahead base out heap_end n (instruction.Fix members ∷ is) rest e f o =
+      operation_ahead heap_end n q g.0 (body_code base out words heap_end (n + 12) is rest) ∙ body_ahead base out words heap_end (n + 12) is rest e g.1 o
+  body_ahead base out words heap_end n (instruction.Load p q ∷ is) rest e f o = second_ahead n q _ ∙ body_ahead base out words heap_end (n + 12) is rest e f o
+  body_ahead base out words heap_end n (instruction.Fix members ∷ is) rest e f o =
       let g = and_parts (members_few count members) (list_all (labels_few count) is) f in
-      away 7 (omega arith) true _ ∙ places_ahead 0 members _ ∙ records_ahead 0 members g.0 _ ∙ body_ahead base out heap_end (n + 12) is rest e g.1 o
-  body_ahead base out heap_end n (instruction.Store p ∷ is) rest e f o = body_ahead base out heap_end (n + 12) is rest e f o
-  body_ahead base out heap_end n (instruction.Copy p q ∷ is) rest e f o = body_ahead base out heap_end (n + 12) is rest e f o
-  body_ahead base out heap_end n (instruction.Pass j q ∷ is) rest e f o = body_ahead base out heap_end (n + 12) is rest e f o
-  body_ahead base out heap_end n (instruction.Call spread count ∷ is) rest e f o = body_ahead base out heap_end (n + 12) is rest e f o
-  body_ahead base out heap_end n (instruction.Tail spread count ∷ is) rest e f o = body_ahead base out heap_end (n + 12) is rest e f o
-  body_ahead base out heap_end n (instruction.Return ∷ is) rest e f o = body_ahead base out heap_end (n + 12) is rest e f o
-  body_ahead base out heap_end n (instruction.Label l ∷ is) rest e f o = body_ahead base out heap_end (n + 12) is rest e f o
-  body_ahead base out heap_end n (instruction.Mark m ∷ is) rest e f o = body_ahead base out heap_end (n + 12) is rest e f o
+      away 7 (omega arith) true _ ∙ places_ahead 0 members _ ∙ records_ahead 0 members g.0 _ ∙ body_ahead base out words heap_end (n + 12) is rest e g.1 o
+  body_ahead base out words heap_end n (instruction.Store p ∷ is) rest e f o = body_ahead base out words heap_end (n + 12) is rest e f o
+  body_ahead base out words heap_end n (instruction.Copy p q ∷ is) rest e f o = body_ahead base out words heap_end (n + 12) is rest e f o
+  body_ahead base out words heap_end n (instruction.Pass j q ∷ is) rest e f o = second_ahead n q _ ∙ body_ahead base out words heap_end (n + 12) is rest e f o
+  body_ahead base out words heap_end n (instruction.Call spread count ∷ is) rest e f o =
+      near_to own n _ _ (first_in n (labels_in (body_code base out words heap_end (n + 12) is rest))) ∙ body_ahead base out words heap_end (n + 12) is rest e f o
+  body_ahead base out words heap_end n (instruction.Tail spread count ∷ is) rest e f o = body_ahead base out words heap_end (n + 12) is rest e f o
+  body_ahead base out words heap_end n (instruction.Return ∷ is) rest e f o = body_ahead base out words heap_end (n + 12) is rest e f o
+  body_ahead base out words heap_end n (instruction.Label l ∷ is) rest e f o = body_ahead base out words heap_end (n + 12) is rest e f o
+  body_ahead base out words heap_end n (instruction.Mark m ∷ is) rest e f o = body_ahead base out words heap_end (n + 12) is rest e f o
 
   passed_ahead : (q : Option Entry) (out : ℕ) (rest : List Item) → is_among (labels_in rest) out ≡ true → jumps_ahead own (passed_code q out rest) ≡ jumps_ahead own rest
   passed_ahead None out rest e = refl
   passed_ahead (Some q) out rest e = near out (is_among (labels_in rest) out) (jumps_ahead own rest) e
 
-  forms_ahead : (heap_end label n : ℕ) (cs : List Code) (rest : List Item) → list_all (λ c. forward c.labels c.instructions) cs ≡ true
-      → list_all (λ c. list_all (labels_few count) c.instructions) cs ≡ true → jumps_ahead own (forms_code heap_end label n cs rest) ≡ jumps_ahead own rest
-  forms_ahead heap_end label n [] rest e f = refl
-  forms_ahead heap_end label n (c ∷ cs) rest e f =
+  entry_behind : (q : Option Entry) (rest : List Item) (l : ℕ) → is_among (labels_in rest) l ≡ true → is_among (labels_in (entry_code q rest)) l ≡ true
+  entry_behind None rest l e = e
+  entry_behind (Some q) rest l e = e
+
+  entry_ahead : (q : Option Entry) → Ahead (entry_code q)
+  entry_ahead None rest = refl
+  entry_ahead (Some e) rest = refl
+
+  forms_ahead : (words heap_end label n : ℕ) (cs : List Code) (rest : List Item) → list_all (λ c. forward c.labels c.instructions) cs ≡ true
+      → list_all (λ c. list_all (labels_few count) c.instructions) cs ≡ true → jumps_ahead own (forms_code words heap_end label n cs rest) ≡ jumps_ahead own rest
+  forms_ahead words heap_end label n [] rest e f = refl
+  forms_ahead words heap_end label n (c ∷ cs) rest e f =
       let g = and_parts (list_all (labels_few count) c.instructions) (list_all (λ c. list_all (labels_few count) c.instructions) cs) f in
       let p = and_parts (forward c.labels c.instructions) (list_all (λ c. forward c.labels c.instructions) cs) e in
       let q = and_parts (list_all (λ l. nat_lt l c.labels) (frames.labels_in c.instructions)) (without_repeats (frames.labels_in c.instructions) && frames.jumps_ahead c.instructions) p.0 in
       let r = and_parts (without_repeats (frames.labels_in c.instructions)) (frames.jumps_ahead c.instructions) q.1 in
       let out = n + c.labels in
-      let others = forms_code heap_end (suc label) (labels_end n c) cs rest in
+      let others = forms_code words heap_end (suc label) (labels_end n c) cs rest in
       let last = item.Label out ∷ others in
       let there : is_among (labels_in last) out ≡ true = first_in out (labels_in others) in
-      let body = body_code n out heap_end (n + c.labels + 1) c.instructions last in
-      passed_ahead c.entry out _ (later_in (body_label label) out (labels_in body) (behind_body n out heap_end (n + c.labels + 1) out c.instructions last there))
-      ∙ body_ahead n out heap_end (n + c.labels + 1) c.instructions last r.1 g.0 there ∙ forms_ahead heap_end (suc label) (labels_end n c) cs rest p.1 g.1
+      let body = item.Mark (Enter label) ∷ body_code n out words heap_end (n + c.labels + 1) c.instructions last in
+      let in_body : is_among (labels_in body) out ≡ true = behind_body n out words heap_end (n + c.labels + 1) out c.instructions last there in
+      passed_ahead c.entry out _ (later_in (body_label label) out (labels_in (entry_code c.entry body)) (entry_behind c.entry body out in_body))
+      ∙ entry_ahead c.entry body ∙ body_ahead n out words heap_end (n + c.labels + 1) c.instructions last r.1 g.0 there ∙ forms_ahead words heap_end (suc label) (labels_end n c) cs rest p.1 g.1
 
 -- the jumps of the program's own routine are to labels below those of bodies
 last_ahead : (own : ℕ) → jumps_ahead own (item.Jump 0 ∷ (item.Label 1024 ∷ put_value_code)) ≡ true
@@ -231,4 +242,4 @@ last_ahead _ = refl
 pub program_ahead : (p : tree.Source) (heap depth : ℕ) → list_all (λ c. forward c.labels c.instructions) p.bodies ≡ true
     → list_all (λ c. list_all (labels_few (length p.bodies)) c.instructions) p.bodies ≡ true → jumps_ahead (own_label p) (program_code p heap depth) ≡ true
 program_ahead p heap depth e f =
-    forms_ahead (length p.bodies) (heap_of p + heap) 0 (own_label p) p.bodies _ e f ∙ last_ahead (own_label p)
+    forms_ahead (length p.bodies) p.words (heap_of p + heap) 0 (own_label p) p.bodies _ e f ∙ last_ahead (own_label p)

@@ -58,17 +58,17 @@ pub program_own : (p : Source) (limit depth : ℕ) → list_all (λ c. forward c
 program_own p limit depth e =
     let rest = item.Jump (label_of routine.End) ∷ (item.Label put_label ∷ put_value_code) in
     let forms = forms_labels 0 (own_label p) p.bodies in
-    let is : labels_in (program_code p limit depth) ≡ forms ++ labels_in rest = forms_labelled (heap_of p + limit) 0 (own_label p) p.bodies rest in
+    let is : labels_in (program_code p limit depth) ≡ forms ++ labels_in rest = forms_labelled p.words (heap_of p + limit) 0 (own_label p) p.bodies rest in
     All-from_recursion (λ l. 1024 ≤ l) (labels_in (program_code p limit depth))
     (subst (AllByRecursion (λ l. 1024 ≤ l)) (sym is) (each_append forms (labels_in rest) 1024 (each forms 1024 (λ y h. let lo = labels_low p e y h in omega (arith, lo))) (omega arith, (omega arith, (omega arith, (omega arith, (omega arith, (omega arith, tt))))))))
 
 -- ---- what is made
 
 pub whole_items : (p : Source) (limit depth stack heap g l n : ℕ) (items : List Item) → stack ≡ heap_address g l + limit → heap ≡ heap_address g l → g ≡ length p.statics.globals → l ≡ length p.library → n ≡ length p.bodies
-    → items ≡ item.Plain (MovWord 5 (pos stack)) ∷ (item.Plain (MovWord 12 (pos heap)) ∷ (item.Plain (MovWord 13 (pos depth)) ∷ forms_code stack 0 (body_label n) p.bodies (item.Jump (label_of routine.End) ∷ (item.Label put_label ∷ put_value_code))))
+    → items ≡ item.Plain (MovWord 5 (pos stack)) ∷ (item.Plain (MovWord 12 (pos heap)) ∷ (item.Plain (MovWord 13 (pos depth)) ∷ forms_code p.words stack 0 (body_label n) p.bodies (item.Jump (label_of routine.End) ∷ (item.Label put_label ∷ put_value_code))))
     → items ≡ program_code p limit depth
 whole_items p limit depth stack heap g l n items a b c d f e =
-    let at : ℕ → ℕ → ℕ → List Item = λ stack heap n. item.Plain (MovWord 5 (pos stack)) ∷ (item.Plain (MovWord 12 (pos heap)) ∷ (item.Plain (MovWord 13 (pos depth)) ∷ forms_code stack 0 (body_label n) p.bodies (item.Jump (label_of routine.End) ∷ (item.Label put_label ∷ put_value_code)))) in
+    let at : ℕ → ℕ → ℕ → List Item = λ stack heap n. item.Plain (MovWord 5 (pos stack)) ∷ (item.Plain (MovWord 12 (pos heap)) ∷ (item.Plain (MovWord 13 (pos depth)) ∷ forms_code p.words stack 0 (body_label n) p.bodies (item.Jump (label_of routine.End) ∷ (item.Label put_label ∷ put_value_code)))) in
     let h : heap_address g l ≡ heap_of p = ap (λ g. heap_address g l) c ∙ ap (heap_address (length p.statics.globals)) d in
     e ∙ ap (λ s. at s heap n) (a ∙ ap (λ h. h + limit) h) ∙ ap (λ k. at (heap_of p + limit) k n) (b ∙ h) ∙ ap (at (heap_of p + limit) (heap_of p)) f
 
