@@ -1,5 +1,6 @@
 -- Whole programs: what is selected, and that it follows its runs.
 pub mod Selected
+pub mod Standing
 pub mod Forms
 pub mod Whole
 pub mod Starting

@@ -4,7 +4,8 @@ pub mod Primitives
 pub mod Places
 pub mod Operands
 pub mod PutValue
-pub mod Following
+pub mod Outcomes
+pub mod Entering
 pub mod Changes
 pub mod HeapWrites
 pub mod Sources
@@ -12,5 +13,7 @@ pub mod Operations
 pub mod Cells
 pub mod Records
 pub mod Closures
+pub mod Calls
 pub mod EachOperation
 pub mod Bodies
+pub mod Procedures

@@ -2,6 +2,7 @@
 use Rattle.std.specs.Prelude.{◌≡◌, ℕ, ◌≤◌, List, [], ◌∷◌, ◌++◌, length, replicate, Some, IsTrue, false}
 use Rattle.std.specs.List.{flat_map}
 use Rattle.sch_word.specs.declared.answer.Answer.{Answer}
+use Rattle.sch_word.specs.runs.ProgramLayout.{max_text_size, text_address}
 use Rattle.sch_word.specs.runs.Runs.{Run}
 use Rattle.sch_frames.specs.Tree.{Source}
 use Rattle.sch_frames.specs.Run.{run}
@@ -24,7 +25,9 @@ pub record AreRuns (p : Source) (heap depth : ℕ) (runs : List Answer → (entr
 -- Resolved with any items that do what the routines do, the items are a text that, with the data and the
 -- zeros behind them, follows the program's runs.
 pub record FollowsFrames (p : Source) (heap depth : ℕ) (items : List Item) (data_words : List Word) (zeros : ℕ) : Type 0 where
-  pub follows : (routines : List Item) (code : List Insn) (marks : List mark.Mark) (words : List ℕ) → AreEffective routines → IsTrue (marks_arrive false items) → IsTrue (marks_arrive false routines)
-      → AreResolved (items ++ routines) data_words code marks words → AllValid code → length (flat_map spelling code) ≤ 16777216
+  pub follows : (routines : List Item) (code : List Insn) (marks : List mark.Mark) (words : List ℕ)
+      → AreEffective routines → IsTrue (marks_arrive false items) → IsTrue (marks_arrive false routines)
+      → AreResolved (items ++ routines) data_words code marks words
+      → AllValid code → length (flat_map spelling code) ≤ max_text_size
       → (runs : List Answer → ℕ → Run) → AreRuns p heap depth runs
-      → FollowsRuns 0x400000 (text_at (flat_map spelling code) ∷ data_at (words ++ replicate zeros 0) ∷ []) runs
+      → FollowsRuns text_address (text_at (flat_map spelling code) ∷ data_at (words ++ replicate zeros 0) ∷ []) runs

@@ -1,5 +1,6 @@
 -- A whole program: its items and its data.
-use Rattle.std.specs.Prelude.{ℕ, zero, suc, ◌+◌, ◌*◌, ◌/◌, ◌%◌, List, [], ◌∷◌, ◌++◌, length, replicate, codes, pos, Option, Some, None}
+use Rattle.std.specs.Prelude.{ℕ, zero, suc, ◌+◌, ◌*◌, ◌/◌, ◌%◌, List, [], ◌∷◌, ◌++◌, length, replicate, codes, pos}
+use Rattle.std.specs.Prelude.{Option, Some, None}
 use Rattle.std.specs.Int.{w64, from_le_bytes}
 use Rattle.sch_word.specs.declared.stop.Stop.TheVariants.{WrongType}
 use Rattle.sch_control.specs.declared.body.Entry.{Entry}
@@ -16,13 +17,14 @@ use Rattle.sch_asm.specs.declared.assembly.Word.TheVariants.{Fixed, Address}
 use Rattle.sch_asm.specs.declared.routine.Routine.TheVariants as routine
 use Rattle.sch_asm.specs.Routines.{label_of}
 use Rattle.sch_heap.specs.Encoded.{true_word, false_word, nil_word, unset_word, character_tag, procedure_tag, cell_tag}
-use Rattle.sch_select.specs.Select.{bytes_address, texts_address, globals_address, low_bits, stop_label, put_label, body_label, body_code}
+use Rattle.sch_select.specs.Select.{bytes_address, texts_address, globals_address, low_bits, stop_label, put_label, body_label, check_count, body_code}
 
 -- ## The put of any value: RAX has its word, and R11 where to return
 
 abbrev pub text_code : (address size : ℕ) → List Item → List Item
 text_code address size rest =
-    item.Plain (MovNumber (Reg RAX) (pos address)) ∷ (item.Plain (MovNumber (Reg RDX) (pos size)) ∷ (item.Jump (label_of routine.Put) ∷ rest))
+    item.Plain (MovNumber (Reg RAX) (pos address))
+    ∷ (item.Plain (MovNumber (Reg RDX) (pos size)) ∷ (item.Jump (label_of routine.Put) ∷ rest))
 
 -- the text of one value, and then that of others
 abbrev pub either_text : (word address size next : ℕ) → List Item → List Item
@@ -31,7 +33,9 @@ either_text word address size next rest =
 
 abbrev pub character_put : List Item → List Item
 character_put rest =
-    item.Plain (Shr (Reg RAX) 8) ∷ (item.Plain (AddNumber (Reg RAX) (pos bytes_address)) ∷ (item.Plain (MovNumber (Reg RDX) (pos 1)) ∷ (item.Jump (label_of routine.Put) ∷ rest)))
+    item.Plain (Shr (Reg RAX) 8)
+    ∷ (item.Plain (AddNumber (Reg RAX) (pos bytes_address))
+    ∷ (item.Plain (MovNumber (Reg RDX) (pos 1)) ∷ (item.Jump (label_of routine.Put) ∷ rest)))
 
 abbrev pub procedure_put : List Item
 procedure_put = text_code (texts_address + 20) 12 []
@@ -67,12 +71,20 @@ abbrev pub passed_code : Option Entry → (out : ℕ) → List Item → List Ite
 passed_code None out rest = rest
 passed_code (Some e) out rest = item.Jump out ∷ rest
 
-module _ (heap_end : ℕ) where
+-- a procedure's body begins with a check
+abbrev pub entry_code : Option Entry → List Item → List Item
+entry_code None rest = rest
+entry_code (Some e) rest = check_count e.formals rest
+
+module _ (words heap_end : ℕ) where
   -- a body has its label and its mark in front, and a label behind it
   abbrev pub form_code : (label n : ℕ) → Code → List Item → List Item
   form_code label n c rest =
       passed_code c.entry (n + c.labels)
-      (item.Label (body_label label) ∷ (item.Mark (Enter label) ∷ body_code n (n + c.labels) heap_end (n + c.labels + 1) c.instructions (item.Label (n + c.labels) ∷ rest)))
+      (item.Label (body_label label)
+      ∷ entry_code c.entry
+      (item.Mark (Enter label)
+      ∷ body_code n (n + c.labels) words heap_end (n + c.labels + 1) c.instructions (item.Label (n + c.labels) ∷ rest)))
 
   -- each body has its number, and its own labels from n on
   abbrev pub forms_code : (label n : ℕ) → List Code → List Item → List Item
@@ -95,9 +107,17 @@ heap_address globals library = closures_address globals + 16 * library
 abbrev pub stack_address : (globals library heap : ℕ) → ℕ
 stack_address globals library heap = heap_address globals library + heap
 
--- the forms have one frame, one after the other
-abbrev pub stack_bytes : (words : ℕ) → ℕ
-stack_bytes words = 8 * words
+-- the most bytes of a stack, but for its last frame, and of the data (the project's own)
+abbrev pub max_stack : ℕ
+max_stack = 1073741824
+
+abbrev pub max_data : ℕ
+max_data = 0xBF000000
+
+-- A form has a frame, each call that is pending has one, and one more stands behind, into which operands are
+-- handed over before the depth that is left is looked at.
+abbrev pub stack_bytes : (words depth : ℕ) → ℕ
+stack_bytes words depth = 8 * (words * depth) + 16 * words
 
 -- ## The program
 
@@ -109,15 +129,15 @@ abbrev pub heap_of : Source → ℕ
 heap_of p = heap_address (length p.statics.globals) (length p.library)
 
 -- bodies, with their count, and what stands in front of them and behind
-abbrev pub laid_code : (heap_end heap depth count : ℕ) → List Code → List Item
-laid_code heap_end heap depth count bodies =
+abbrev pub laid_code : (words heap_end heap depth count : ℕ) → List Code → List Item
+laid_code words heap_end heap depth count bodies =
     item.Plain (MovWord RBP (pos heap_end))
     ∷ (item.Plain (MovWord R12 (pos heap))
     ∷ (item.Plain (MovWord R13 (pos depth))
-    ∷ forms_code heap_end 0 (body_label count) bodies (item.Jump (label_of routine.End) ∷ (item.Label put_label ∷ put_value_code))))
+    ∷ forms_code words heap_end 0 (body_label count) bodies (item.Jump (label_of routine.End) ∷ (item.Label put_label ∷ put_value_code))))
 
 abbrev pub program_code : Source → (heap depth : ℕ) → List Item
-program_code p heap depth = laid_code (heap_of p + heap) (heap_of p) depth (length p.bodies) p.bodies
+program_code p heap depth = laid_code p.words (heap_of p + heap) (heap_of p) depth (length p.bodies) p.bodies
 
 -- numbers one after the other
 abbrev pub ascending : (first count : ℕ) → List ℕ
@@ -133,7 +153,8 @@ static_bytes = ascending 0 256 ++ all_texts
 
 -- eight bytes at a time
 abbrev pub word_list : List ℕ → List Word
-word_list (a ∷ (b ∷ (c ∷ (d ∷ (e ∷ (f ∷ (g ∷ (h ∷ bytes)))))))) = Fixed (from_le_bytes w64 (a ∷ b ∷ c ∷ d ∷ e ∷ f ∷ g ∷ h ∷ [])) ∷ word_list bytes
+word_list (a ∷ (b ∷ (c ∷ (d ∷ (e ∷ (f ∷ (g ∷ (h ∷ bytes)))))))) =
+    Fixed (from_le_bytes w64 (a ∷ b ∷ c ∷ d ∷ e ∷ f ∷ g ∷ h ∷ [])) ∷ word_list bytes
 word_list _ = []
 
 -- a global that holds a procedure of the library has its word
@@ -163,5 +184,5 @@ abbrev pub program_words : Source → List Word
 program_words p = data_words (closures_address (length p.statics.globals)) p.statics.globals p.library
 
 -- the heap and the stack
-abbrev pub program_zeros : Source → (heap : ℕ) → ℕ
-program_zeros p heap = heap + stack_bytes p.words
+abbrev pub program_zeros : Source → (heap depth : ℕ) → ℕ
+program_zeros p heap depth = heap + stack_bytes p.words depth

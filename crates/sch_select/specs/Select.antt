@@ -4,9 +4,11 @@ use Rattle.std.specs.Prelude.{ℕ, ◌+◌, ◌*◌, List, [], ◌∷◌, length
 use Rattle.sch_word.specs.declared.place.Place.{Place}
 use Rattle.sch_word.specs.declared.place.Place.TheVariants as place
 use Rattle.sch_word.specs.declared.primitive.Primitive.{Primitive}
-use Rattle.sch_word.specs.declared.primitive.Primitive.TheVariants.{Eq, Eqv, IsBoolean, IsPair, IsNull, IsSymbol, IsInteger, IsChar, IsString, IsVector, IsProcedure, Add, Subtract, Multiply, Quotient, Remainder, Modulo, Equal, Less, Greater, LessEqual, GreaterEqual, CharToInteger, IntegerToChar, Put}
+use Rattle.sch_word.specs.declared.primitive.Primitive.TheVariants.{Eq, Eqv, IsBoolean, IsPair, IsNull, IsSymbol, IsInteger, IsChar, IsString, IsVector, IsProcedure}
+use Rattle.sch_word.specs.declared.primitive.Primitive.TheVariants.{Add, Subtract, Multiply, Quotient, Remainder, Modulo, Equal, Less, Greater, LessEqual, GreaterEqual, CharToInteger, IntegerToChar, Put}
 use Rattle.sch_word.specs.declared.stop.Stop.{Stop}
-use Rattle.sch_word.specs.declared.stop.Stop.TheVariants.{WrongType, OutOfRange, DivideByZero, Overflow, HeapLimit, Unset}
+use Rattle.sch_word.specs.declared.stop.Stop.TheVariants.{WrongType, OutOfRange, NotProcedure, WrongCount}
+use Rattle.sch_word.specs.declared.stop.Stop.TheVariants.{DivideByZero, Overflow, HeapLimit, DepthLimit, Unset}
 use Rattle.sch_word.specs.runs.Charges.{cell_bytes, procedure_bytes}
 use Rattle.sch_control.specs.declared.mark.MarkKind as control
 use Rattle.sch_control.specs.declared.mark.MarkKind.TheVariants as mark
@@ -25,15 +27,17 @@ use Rattle.sch_frames.specs.declared.instruction.Instruction.TheVariants as inst
 use Rattle.sch_insn.specs.declared.condition.TheConstants.{O, E, NE, A, L, GE, LE, G}
 use Rattle.sch_insn.specs.declared.insn.Arg.{Arg}
 use Rattle.sch_insn.specs.declared.insn.Arg.TheVariants.{Reg, Base32}
-use Rattle.sch_insn.specs.declared.insn.Insn.TheVariants.{MovTo, MovFrom, MovNumber, MovWord, AddTo, SubTo, CmpTo, AddNumber, AndNumber, CmpNumber, Imul, Idiv, Cqo, Shl, Shr, Sar, JumpTo}
-use Rattle.sch_insn.specs.declared.register.TheConstants.{RAX, RCX, RDX, RBP, R11, R12, R15}
+use Rattle.sch_insn.specs.declared.insn.Insn.TheVariants.{MovTo, MovFrom, MovNumber, MovWord}
+use Rattle.sch_insn.specs.declared.insn.Insn.TheVariants.{AddTo, SubTo, CmpTo, AddNumber, SubNumber, AndNumber, CmpNumber, Imul, Idiv, Cqo, Shl, Shr, Sar, JumpTo}
+use Rattle.sch_insn.specs.declared.register.TheConstants.{RAX, RCX, RDX, RBP, R11, R12, R13, R14, R15}
 use Rattle.sch_asm.specs.declared.item.Item.{Item}
 use Rattle.sch_asm.specs.declared.item.Item.TheVariants.{Label, Plain, Jump, JumpIf, LoadLabel, LoadWord, StoreWord, Mark}
 use Rattle.sch_asm.specs.declared.item.MarkKind as asm
 use Rattle.sch_asm.specs.declared.item.MarkKind.TheVariants as asm_mark
 use Rattle.sch_asm.specs.declared.routine.Routine.TheVariants as routine
 use Rattle.sch_asm.specs.Routines.{label_of}
-use Rattle.sch_heap.specs.Encoded.{true_word, false_word, nil_word, unspecified_word, unset_word, character_tag, procedure_tag, cell_tag, constant_number}
+use Rattle.sch_heap.specs.Encoded.{true_word, false_word, nil_word, unspecified_word, unset_word, constant_number}
+use Rattle.sch_heap.specs.Encoded.{character_tag, procedure_tag, cell_tag}
 
 abbrev pub stop_label : Stop → ℕ
 stop_label why = label_of (routine.Stop why)
@@ -95,7 +99,8 @@ check_character rest = low_bits RAX 255 (Plain (CmpNumber (Reg RDX) (pos charact
 -- RAX becomes `#t` where a condition holds, and `#f` elsewhere
 abbrev pub boolean_code : (n condition : ℕ) → List Item → List Item
 boolean_code n condition rest =
-    Plain (MovNumber (Reg RAX) (pos true_word)) ∷ (JumpIf condition n ∷ (Plain (MovNumber (Reg RAX) (pos false_word)) ∷ (Label n ∷ rest)))
+    Plain (MovNumber (Reg RAX) (pos true_word))
+    ∷ (JumpIf condition n ∷ (Plain (MovNumber (Reg RAX) (pos false_word)) ∷ (Label n ∷ rest)))
 
 -- whether the low bits of RAX are these
 abbrev pub test_code : (n mask tag : ℕ) → List Item → List Item
@@ -151,7 +156,8 @@ binary_code n Eq rest = compare_code n E rest
 binary_code n Eqv rest = compare_code n E rest
 binary_code n Add rest = check_fixnum RAX (check_fixnum RCX (Plain (AddTo (Reg RAX) RCX) ∷ overflow_code rest))
 binary_code n Subtract rest = check_fixnum RAX (check_fixnum RCX (Plain (SubTo (Reg RAX) RCX) ∷ overflow_code rest))
-binary_code n Multiply rest = check_fixnum RAX (check_fixnum RCX (Plain (Sar (Reg RAX) 3) ∷ (Plain (Imul RAX (Reg RCX)) ∷ overflow_code rest)))
+binary_code n Multiply rest =
+    check_fixnum RAX (check_fixnum RCX (Plain (Sar (Reg RAX) 3) ∷ (Plain (Imul RAX (Reg RCX)) ∷ overflow_code rest)))
 binary_code n Quotient rest = division_code (Plain (MovNumber (Reg RCX) (pos 8)) ∷ (Plain (Imul RAX (Reg RCX)) ∷ overflow_code rest))
 binary_code n Remainder rest = division_code (Plain (MovTo (Reg RAX) RDX) ∷ rest)
 binary_code n Modulo rest = division_code (Plain (MovTo (Reg RAX) RDX) ∷ modulo_code n rest)
@@ -234,11 +240,13 @@ unset_cell_code heap_end rest =
 -- the fields of a record, from an offset on
 abbrev pub fields_code : (offset : ℕ) → List (Source Place) → List Item → List Item
 fields_code offset [] rest = rest
-fields_code offset (x ∷ sources) rest = source_code RCX x (Plain (MovTo (part_operand offset) RCX) ∷ fields_code (offset + 8) sources rest)
+fields_code offset (x ∷ sources) rest =
+    source_code RCX x (Plain (MovTo (part_operand offset) RCX) ∷ fields_code (offset + 8) sources rest)
 
 -- a record at an offset: the address of its code, and its fields
 abbrev pub record_code : (offset : ℕ) → Closure Place → List Item → List Item
-record_code offset c rest = LoadLabel RCX (body_label c.label) ∷ (Plain (MovTo (part_operand offset) RCX) ∷ fields_code (offset + 8) c.fields rest)
+record_code offset c rest =
+    LoadLabel RCX (body_label c.label) ∷ (Plain (MovTo (part_operand offset) RCX) ∷ fields_code (offset + 8) c.fields rest)
 
 abbrev pub closure_bytes : Closure Place → ℕ
 closure_bytes c = procedure_bytes (length c.fields)
@@ -291,6 +299,43 @@ group_code heap_end members rest =
     check_heap heap_end (group_bytes members) (places_code 0 members (records_code 0 members
     (Plain (AddNumber (Reg R12) (pos (group_bytes members))) ∷ rest)))
 
+-- ## Calls: R14 has the operator, R13 the depth that is left, and R15 where to return
+
+-- R14 has a procedure, or stop 67
+abbrev pub check_operator : List Item → List Item
+check_operator rest =
+    low_bits R14 7 (Plain (CmpNumber (Reg RDX) (pos procedure_tag)) ∷ (JumpIf NE (stop_label NotProcedure) ∷ rest))
+
+-- some depth is left, or stop 72
+abbrev pub check_depth : List Item → List Item
+check_depth rest = Plain (CmpNumber (Reg R13) (pos 0)) ∷ (JumpIf E (stop_label DepthLimit) ∷ rest)
+
+-- RAX counts the operands, and the procedure's record has the address of its code
+abbrev pub enter_code : (count : ℕ) → List Item → List Item
+enter_code count rest =
+    Plain (MovNumber (Reg RAX) (pos count))
+    ∷ (Plain (MovFrom RCX (Base32 R14 (negsuc 3))) ∷ (Plain (JumpTo (Reg RCX)) ∷ rest))
+
+-- a frame is opened behind the own one, and closed where the procedure returns
+abbrev pub open_code : (words n : ℕ) → List Item → List Item
+open_code words n rest =
+    Plain (SubNumber (Reg R13) (pos 1)) ∷ (Plain (AddNumber (Reg RBP) (pos (8 * words))) ∷ (LoadLabel R15 n ∷ rest))
+
+abbrev pub close_code : (words n : ℕ) → List Item → List Item
+close_code words n rest =
+    Label n ∷ (Plain (SubNumber (Reg RBP) (pos (8 * words))) ∷ (Plain (AddNumber (Reg R13) (pos 1)) ∷ rest))
+
+abbrev pub call_code : (words n count : ℕ) → List Item → List Item
+call_code words n count rest =
+    check_operator (check_depth (open_code words n (enter_code count (close_code words n rest))))
+
+abbrev pub tail_code : (count : ℕ) → List Item → List Item
+tail_code count rest = check_operator (enter_code count rest)
+
+-- the operands are as many as the formals, or stop 68
+abbrev pub check_count : (formals : ℕ) → List Item → List Item
+check_count formals rest = Plain (CmpNumber (Reg RAX) (pos formals)) ∷ (JumpIf NE (stop_label WrongCount) ∷ rest)
+
 -- ## Instructions
 
 abbrev pub kind_of : control.MarkKind → asm.MarkKind
@@ -304,21 +349,24 @@ kind_of (mark.Call site) = asm_mark.Call site
 kind_of mark.Return = asm_mark.Return
 kind_of (mark.Tail site) = asm_mark.Tail site
 
--- The labels of a body are numbered from `base` on, and `out` stands behind it.
-module _ (base out heap_end : ℕ) where
+-- The labels of a body are numbered from `base` on, and `out` stands behind it. A frame has this number of words.
+module _ (base out words heap_end : ℕ) where
   abbrev pub instruction_code : (n : ℕ) → Instruction → List Item → List Item
   instruction_code n (instruction.Do o) rest = operation_code heap_end n o rest
   instruction_code n (instruction.Store p) rest = Plain (MovTo (place_operand p) RAX) ∷ rest
-  instruction_code n (instruction.Copy to from) rest = Plain (MovFrom RCX (place_operand from)) ∷ (Plain (MovTo (place_operand to) RCX) ∷ rest)
+  instruction_code n (instruction.Copy to from) rest =
+      Plain (MovFrom RCX (place_operand from)) ∷ (Plain (MovTo (place_operand to) RCX) ∷ rest)
   instruction_code n (instruction.Load p o) rest = second_code n o (Plain (MovTo (place_operand p) RCX) ∷ rest)
+  instruction_code n (instruction.Pass k o) rest = second_code n o (Plain (MovTo (place_operand (place.Slot (words + k))) RCX) ∷ rest)
   instruction_code n (instruction.Fix members) rest = group_code heap_end members rest
+  instruction_code n (instruction.Call spread count) rest = call_code words n count rest
+  instruction_code n (instruction.Tail spread count) rest = tail_code count rest
   instruction_code n instruction.Return rest = Plain (JumpTo (Reg R15)) ∷ rest
   instruction_code n instruction.End rest = Jump out ∷ rest
   instruction_code n (instruction.IfFalse l) rest = Plain (CmpNumber (Reg RAX) (pos false_word)) ∷ (JumpIf E (base + l) ∷ rest)
   instruction_code n (instruction.Jump l) rest = Jump (base + l) ∷ rest
   instruction_code n (instruction.Label l) rest = Label (base + l) ∷ rest
   instruction_code n (instruction.Mark m) rest = Mark (kind_of m) ∷ rest
-  instruction_code n _ rest = rest
 
   -- each instruction has twelve labels of its own, from n on
   abbrev pub body_code : (n : ℕ) → List Instruction → List Item → List Item

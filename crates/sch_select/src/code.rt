@@ -23,7 +23,7 @@ pub(crate) const PUT_LABEL: u32 = 1024;
 /// The labels of bodies are numbered from here on.
 const FIRST_LABEL: u32 = 1032;
 
-/// A label behind another one. One past the numbers of 32 bits is want of memory.
+/// A label behind another one. One past the numbers of 32 bits is out of memory.
 pub(crate) fn above(n: u32, k: u32) -> Result<u32, Mem>
     ensures { IfOk result (λ m. m ≡ n + k) }
 {
@@ -46,7 +46,7 @@ pub(crate) fn stop(why: Stop) -> u32
     Routine::Stop(why).label()
 }
 
-/// A place as an operand. A slot past the displacements of 32 bits is want of memory.
+/// A place as an operand. A slot past the displacements of 32 bits is out of memory.
 pub(crate) fn place_operand(p: Place) -> Result<Arg, Mem>
     ensures { IfOk result (λ m. m ≡ place_operand p) }
 {

@@ -22,8 +22,8 @@ const CELL_TAG: u32 = 7;
 /// The bytes of a cell.
 const CELL_BYTES: u32 = 16;
 
-/// A number as an immediate. One past the immediates of 32 bits is want of memory.
-fn immediate(n: u32) -> Result<i32, Mem>
+/// A number as an immediate. One past the immediates of 32 bits is out of memory.
+pub(crate) fn immediate(n: u32) -> Result<i32, Mem>
     ensures { IfOk result (λ m. m ≡ pos n) }
 {
     if n < 2_147_483_648 {
@@ -156,7 +156,7 @@ pub(crate) fn unset_cell(out: &mut List<Item>, heap_end: u32) -> Result<(), Mem>
     part(out, CELL_TAG, CELL_BYTES)
 }
 
-/// The bytes of a closure's record. More than those of 32 bits are want of memory.
+/// The bytes of a closure's record. More than those of 32 bits are out of memory.
 fn closure_bytes(c: &Closure<Place>) -> Result<u32, Mem>
     ensures { IfOk result (λ n. n ≡ closure_bytes c.now) }
 {

@@ -2,6 +2,7 @@
 //! program starts with.
 #![tactic(auto)]
 
+mod calls;
 mod code;
 mod heap;
 mod operation;

@@ -1,7 +1,6 @@
 //! A frame program's items and data: `select`.
 
 ghost use Rattle.std.specs.Prelude.{◌≡◌, ◌+◌, ◌*◌, ◌^◌, ◌<◌, ◌≤◌, ◌++◌, [], ◌∷◌, IfOk, IsTrue, OnOk, length, pos, replicate};
-ghost use Rattle.sch_word.specs.runs.ProgramLayout.{data_address};
 ghost use Rattle.sch_asm.specs.Codes.{text_size};
 ghost use Rattle.sch_asm.specs.Items.{AreOwn};
 ghost use Rattle.sch_asm.specs.declared.item.Item.TheVariants as item;
@@ -12,12 +11,12 @@ ghost use Rattle.sch_frames.specs.SourceView.{codes_of};
 ghost use Rattle.sch_select.specs.Covered.{is_covered_program};
 ghost use Rattle.sch_select.specs.Follows.{FollowsFrames};
 ghost use Rattle.sch_select.specs.Jumps.{jumps_ahead};
-ghost use Rattle.sch_select.specs.Program.{own_label, closure_words, closures_address, data_words, laid_code, global_word, global_words, heap_address, program_zeros, put_value_code, stack_bytes, static_bytes, word_list};
+ghost use Rattle.sch_select.specs.Program.{own_label, closure_words, closures_address, data_words, laid_code, global_word, global_words, heap_address, program_zeros, max_data, max_stack, put_value_code, stack_bytes, static_bytes, word_list};
 ghost use Rattle.sch_select.specs.Select.{body_label, put_label};
 ghost use Rattle.sch_select.specs.Sizes.{bodies_marked, closures_in, marks_in};
 
 use crate::code::{GLOBALS_ADDRESS, PUT_LABEL, body_label};
-use crate::walk::forms;
+use crate::walk::{Frames, forms};
 use sch_asm::{Asm, Item, Routine, Word};
 use sch_frames::FrameProgram;
 use sch_heap::word::{CELL, PROCEDURE};
@@ -102,13 +101,31 @@ struct Layout {
     zeros: u64,
 }
 
-fn lay_out(globals: u64, library: u64, words: u32, limits: Limits) -> Layout
+/// The bytes of the stack. A stack that would be too large but for its last frame is out of memory.
+fn stack_of(words: u32, depth: u64) -> Result<u64, Mem>
+    requires words { words ≤ 2048 }
+    ensures bytes { IfOk result (λ n. n ≡ stack_bytes words depth) }
+    ensures few { IfOk result (λ n. n ≤ max_stack + 16384) }
+{
+    let frame = 8 * words as u64;
+    let frames = match frame.checked_mul(depth) {
+        Some(frames) if frames <= 1_073_741_824 => frames,
+        _ => return Err(Mem),
+    };
+    if frames + frame > 1_073_741_824 {
+        return Err(Mem);
+    }
+    Ok(frames + 2 * frame)
+}
+
+fn lay_out(globals: u64, library: u64, stack_size: u64, limits: Limits) -> Layout
     requires few { globals ≤ 29360128 }
     requires library { library ≤ 1048576 }
+    requires stack { stack_size ≤ max_stack + 16384 }
     ensures closures { result.closures ≡ closures_address globals }
     ensures heap { result.heap ≡ heap_address globals library }
     ensures stack { result.stack ≡ heap_address globals library + limits.heap }
-    ensures zeros { result.zeros ≡ limits.heap + stack_bytes words }
+    ensures zeros { result.zeros ≡ limits.heap + stack_size }
     ensures low { (result.closures ≤ 1073741824) × (result.heap ≤ 2147483647) }
 {
     let end = GLOBALS_ADDRESS + 8 * globals;
@@ -118,7 +135,7 @@ fn lay_out(globals: u64, library: u64, words: u32, limits: Limits) -> Layout
         closures,
         heap,
         stack: (heap + limits.heap) as u32,
-        zeros: limits.heap + 8 * words as u64,
+        zeros: limits.heap + stack_size,
     }
 }
 
@@ -233,7 +250,7 @@ fn words_of(alloc: Global, p: &FrameProgram, closures: u64) -> Result<List<Word>
 fn items_of(alloc: Global, p: &FrameProgram, layout: Layout, depth: u64) -> Result<List<Item>, Mem>
     requires heap { layout.heap ≤ 2147483647 }
     requires depth { depth ≤ 10000000 }
-    ensures { IfOk result (λ items. items ≡ laid_code layout.stack layout.heap depth (length p.now.bodies) (codes_of p.now.bodies)) }
+    ensures { IfOk result (λ items. items ≡ laid_code p.now.words layout.stack layout.heap depth (length p.now.bodies) (codes_of p.now.bodies)) }
 {
     let bodies = p.bodies.as_slice();
     let own = match u32::try_from(bodies.len()) {
@@ -246,7 +263,11 @@ fn items_of(alloc: Global, p: &FrameProgram, layout: Layout, depth: u64) -> Resu
         Item::Plain(Insn::MovWord(R12, layout.heap as i64)),
         Item::Plain(Insn::MovWord(R13, depth as i64)),
     ])?;
-    forms(&mut items, layout.stack, own, bodies)?;
+    let frames = Frames {
+        words: p.words,
+        heap_end: layout.stack,
+    };
+    forms(&mut items, frames, own, bodies)?;
     items.push(Item::Jump(Routine::End.label()))?;
     items.extend_from_slice(&put_items())?;
     Ok(items)
@@ -256,9 +277,9 @@ fn items_of(alloc: Global, p: &FrameProgram, layout: Layout, depth: u64) -> Resu
 /// follow one after the other, those of procedures jumped over, and behind them the routine that puts any value.
 ///
 /// Resolved with the run-time routines, they do what the program does, whatever the machine is given and
-/// whatever the kernel answers. Programs with calls, literals, symbols or objects have no code yet. Time and
-/// memory are linear in the instructions, the labels, the globals and the library. The addresses of the data are
-/// numbers of 31 bits.
+/// whatever the kernel answers. Programs with literals, symbols or objects have no code yet. Time and memory are
+/// linear in the instructions, the labels, the globals and the library. The addresses below the stack are numbers
+/// of 31 bits. A stack of more than 1,073,741,824 bytes, without its last frame, is out of memory.
 pub fn select(alloc: Global, p: &FrameProgram, limits: Limits) -> Result<Asm, Mem>
     requires covered { IsTrue (is_covered_program (source p.now)) }
     ensures follows { IfOk result (λ a. FollowsFrames (source p.now) limits.heap limits.depth a.items a.words a.zeros) }
@@ -267,12 +288,13 @@ pub fn select(alloc: Global, p: &FrameProgram, limits: Limits) -> Result<Asm, Me
     ensures ahead { IfOk result (λ a. IsTrue (jumps_ahead (own_label (source p.now)) a.items)) }
     ensures marks { IfOk result (λ a. marks_in a.items ≡ bodies_marked (source p.now).bodies) }
     ensures words { IfOk result (λ a. length a.words ≤ 101 + length p.now.statics.globals + 2 * length p.now.library) }
-    ensures zeros { IfOk result (λ a. a.zeros ≡ program_zeros (source p.now) limits.heap) }
-    ensures ends { IfOk result (λ a. data_address + (8 * length a.words + a.zeros) < 2 ^ 31) }
+    ensures zeros { IfOk result (λ a. a.zeros ≡ program_zeros (source p.now) limits.heap limits.depth) }
+    ensures ends { IfOk result (λ a. 8 * length a.words + a.zeros ≤ max_data) }
 {
     let globals = p.statics.globals.len();
     let library = p.library.len();
-    let layout = lay_out(globals as u64, library as u64, p.words, limits);
+    let stack_size = stack_of(p.words, limits.depth)?;
+    let layout = lay_out(globals as u64, library as u64, stack_size, limits);
     let items = items_of(alloc, p, layout, limits.depth)?;
     let words = words_of(alloc, p, layout.closures)?;
     Ok(Asm {

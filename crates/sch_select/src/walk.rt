@@ -4,8 +4,9 @@ ghost use Rattle.std.specs.Prelude.{◌≡◌, ◌+◌, ◌++◌, ◌*◌, IfOk,
 ghost use Rattle.sch_asm.specs.declared.item.Item.{Item};
 ghost use Rattle.sch_frames.specs.SourceView.{codes_of, code_of};
 ghost use Rattle.sch_select.specs.Select.{body_code, instruction_code, kind_of};
-ghost use Rattle.sch_select.specs.Program.{form_code, forms_code, labels_end, passed_code};
+ghost use Rattle.sch_select.specs.Program.{entry_code, form_code, forms_code, labels_end, passed_code};
 
+use crate::calls::{call, check_count, tail_call};
 use crate::code::{above, body_label, place_operand, second};
 use crate::heap::group;
 use crate::operation::operation;
@@ -15,7 +16,7 @@ use sch_frames::{FrameBody, Instruction};
 use sch_insn::condition::E;
 use sch_insn::register::{R15, RAX, RCX};
 use sch_insn::{Arg, Insn};
-use sch_word::{List, Mem};
+use sch_word::{List, Mem, Place};
 
 /// A mark of a body as a mark of an item.
 fn kind_of(mark: ControlMark) -> MarkKind
@@ -34,17 +35,19 @@ fn kind_of(mark: ControlMark) -> MarkKind
     }
 }
 
-/// Where the labels of a body are, its own from `base` on, and `end` behind it; and where the heap ends.
+/// Where the labels of a body are, its own from `base` on, and `end` behind it; how many words a frame has; and
+/// where the heap ends.
 #[derive(Clone, Copy)]
 struct Labels {
     base: u32,
     end: u32,
+    words: u32,
     heap_end: u32,
 }
 
 /// One instruction, whose own labels are from n on.
 fn instruction(out: &mut List<Item>, labels: Labels, n: u32, i: &Instruction) -> Result<(), Mem>
-    ensures { OnOk result ((rest : List Item) → out.new ++ rest ≡ out.old ++ instruction_code labels.base labels.end labels.heap_end n i.now rest) }
+    ensures { OnOk result ((rest : List Item) → out.new ++ rest ≡ out.old ++ instruction_code labels.base labels.end labels.words labels.heap_end n i.now rest) }
 {
     match i {
         Instruction::Do(o) => operation(out, labels.heap_end, n, o),
@@ -63,7 +66,14 @@ fn instruction(out: &mut List<Item>, labels: Labels, n: u32, i: &Instruction) ->
             second(out, n, o)?;
             out.push(Item::Plain(Insn::MovTo(place, RCX)))
         }
+        Instruction::Pass(k, o) => {
+            let place = place_operand(Place::Slot(above(labels.words, *k)?))?;
+            second(out, n, o)?;
+            out.push(Item::Plain(Insn::MovTo(place, RCX)))
+        }
         Instruction::Fix(members) => group(out, labels.heap_end, members.as_slice()),
+        Instruction::Call(_, count) => call(out, labels.words, n, *count),
+        Instruction::Tail(_, count) => tail_call(out, *count),
         Instruction::Return => out.push(Item::Plain(Insn::JumpTo(Arg::Reg(R15)))),
         Instruction::End => out.push(Item::Jump(labels.end)),
         Instruction::IfFalse(l) => {
@@ -80,7 +90,6 @@ fn instruction(out: &mut List<Item>, labels: Labels, n: u32, i: &Instruction) ->
             out.push(Item::Label(label))
         }
         Instruction::Mark(mark) => out.push(Item::Mark(kind_of(*mark))),
-        _ => Ok(()),
     }
 }
 
@@ -91,7 +100,7 @@ fn body(
     n: u32,
     instructions: &[Instruction],
 ) -> Result<u32, Mem>
-    ensures items { OnOk result ((rest : List Item) → out.new ++ rest ≡ out.old ++ body_code labels.base labels.end labels.heap_end n instructions.now rest) }
+    ensures items { OnOk result ((rest : List Item) → out.new ++ rest ≡ out.old ++ body_code labels.base labels.end labels.words labels.heap_end n instructions.now rest) }
     ensures next { IfOk result (λ m. m ≡ n + 12 * length instructions.now) }
 {
     let mut next = n;
@@ -112,9 +121,26 @@ fn passed(out: &mut List<Item>, entry: &Option<Entry>, end: u32) -> Result<(), M
     }
 }
 
+/// How many words a frame has, and where the heap ends.
+#[derive(Clone, Copy)]
+pub(crate) struct Frames {
+    pub(crate) words: u32,
+    pub(crate) heap_end: u32,
+}
+
+/// A procedure's body begins with a check of its operands' count.
+fn check_entry(out: &mut List<Item>, entry: &Option<Entry>) -> Result<(), Mem>
+    ensures { OnOk result ((rest : List Item) → out.new ++ rest ≡ out.old ++ entry_code entry.now rest) }
+{
+    match entry {
+        None => Ok(()),
+        Some(e) => check_count(out, e.formals),
+    }
+}
+
 /// The body of a label, with labels of its own from n on, and the number behind these.
-fn form(out: &mut List<Item>, heap_end: u32, label: u32, n: u32, b: &FrameBody) -> Result<u32, Mem>
-    ensures items { OnOk result ((rest : List Item) → out.new ++ rest ≡ out.old ++ form_code heap_end label n (code_of b.now) rest) }
+fn form(out: &mut List<Item>, frames: Frames, label: u32, n: u32, b: &FrameBody) -> Result<u32, Mem>
+    ensures items { OnOk result ((rest : List Item) → out.new ++ rest ≡ out.old ++ form_code frames.words frames.heap_end label n (code_of b.now) rest) }
     ensures next { IfOk result (λ m. m ≡ labels_end n (code_of b.now)) }
 {
     let end = above(n, b.labels)?;
@@ -122,11 +148,14 @@ fn form(out: &mut List<Item>, heap_end: u32, label: u32, n: u32, b: &FrameBody) 
     let labels = Labels {
         base: n,
         end,
-        heap_end,
+        words: frames.words,
+        heap_end: frames.heap_end,
     };
     passed(out, &b.entry, end)?;
     let own = body_label(label)?;
-    out.extend_from_slice(&[Item::Label(own), Item::Mark(MarkKind::Enter(label))])?;
+    out.push(Item::Label(own))?;
+    check_entry(out, &b.entry)?;
+    out.push(Item::Mark(MarkKind::Enter(label)))?;
     let next = body(out, labels, first, b.instructions.as_slice())?;
     out.push(Item::Label(end))?;
     Ok(next)
@@ -135,16 +164,16 @@ fn form(out: &mut List<Item>, heap_end: u32, label: u32, n: u32, b: &FrameBody) 
 /// The bodies, in their order, with labels of their own from n on.
 pub(crate) fn forms(
     out: &mut List<Item>,
-    heap_end: u32,
+    frames: Frames,
     n: u32,
     bodies: &[FrameBody],
 ) -> Result<(), Mem>
-    ensures { OnOk result ((rest : List Item) → out.new ++ rest ≡ out.old ++ forms_code heap_end 0 n (codes_of bodies.now) rest) }
+    ensures { OnOk result ((rest : List Item) → out.new ++ rest ≡ out.old ++ forms_code frames.words frames.heap_end 0 n (codes_of bodies.now) rest) }
 {
     let mut next = n;
     let mut label = 0;
     for b in bodies {
-        next = form(out, heap_end, label, next, b)?;
+        next = form(out, frames, label, next, b)?;
         label = above(label, 1)?;
     }
     Ok(())

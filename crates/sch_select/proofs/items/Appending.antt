@@ -1,6 +1,7 @@
 -- What follows an instruction's items stands behind them.
 use Rattle.std.proofs.Common.{◌≡◌, ℕ, ◌+◌, List, [], ◌∷◌, ◌++◌, refl, sym, ap, ◌∙◌, append_assoc}
 use Rattle.sch_word.specs.declared.place.Place.{Place}
+use Rattle.sch_word.specs.declared.place.Place.TheVariants.{Slot}
 use Rattle.sch_word.specs.declared.primitive.Primitive.{Primitive}
 use Rattle.sch_word.specs.declared.primitive.Primitive.TheVariants.{IsBoolean, Eq}
 use Rattle.sch_control.specs.declared.operation.Atom.{Atom}
@@ -15,7 +16,7 @@ use Rattle.sch_word.specs.declared.stop.Stop.TheVariants.{Unset}
 use Rattle.sch_control.specs.declared.operation.Operation.{Operation}
 use Rattle.sch_control.specs.declared.operation.Operation.TheVariants as operation
 use Rattle.sch_frames.specs.declared.instruction.Instruction.{Instruction}
-use Rattle.sch_frames.specs.declared.instruction.Instruction.TheVariants.{Do, Load, Fix}
+use Rattle.sch_frames.specs.declared.instruction.Instruction.TheVariants.{Do, Load, Pass, Fix}
 use Rattle.sch_insn.specs.declared.insn.Arg.TheVariants.{Reg}
 use Rattle.sch_insn.specs.declared.insn.Insn.TheVariants.{MovTo, MovFrom, MovNumber, AddNumber, CmpNumber}
 use Rattle.sch_insn.specs.declared.condition.TheConstants.{E}
@@ -115,16 +116,17 @@ module _ (heap_end : ℕ) where
   operation_appends n (operation.MakeClosure c) rest =
       ap (check_heap heap_end (closure_bytes c)) (then_appends (record_code 0 c) (part_code 4 (closure_bytes c)) (record_appends 0 c) (λ rest. refl) rest)
 
-module _ (base out heap_end : ℕ) where
-  pub instruction_appends : (n : ℕ) (i : Instruction) → Appends (instruction_code base out heap_end n i)
+module _ (base out words heap_end : ℕ) where
+  pub instruction_appends : (n : ℕ) (i : Instruction) → Appends (instruction_code base out words heap_end n i)
   instruction_appends n (Do o) rest = operation_appends heap_end n o rest
   instruction_appends n (Load p o) rest = then_appends (second_code n o) (λ rest. item.Plain (MovTo (place_operand p) 1) ∷ rest) (second_appends n o) (λ rest. refl) rest
+  instruction_appends n (Pass k o) rest = then_appends (second_code n o) (λ rest. item.Plain (MovTo (place_operand (Slot (words + k))) 1) ∷ rest) (second_appends n o) (λ rest. refl) rest
   instruction_appends n (Fix members) rest = group_appends heap_end members rest
   instruction_appends n _ rest = refl
 
-  pub body_appends : (n : ℕ) (instructions : List Instruction) → Appends (body_code base out heap_end n instructions)
+  pub body_appends : (n : ℕ) (instructions : List Instruction) → Appends (body_code base out words heap_end n instructions)
   body_appends n [] rest = refl
-  body_appends n (i ∷ instructions) rest = then_appends (instruction_code base out heap_end n i) (body_code base out heap_end (n + 12) instructions) (instruction_appends n i) (body_appends (n + 12) instructions) rest
+  body_appends n (i ∷ instructions) rest = then_appends (instruction_code base out words heap_end n i) (body_code base out words heap_end (n + 12) instructions) (instruction_appends n i) (body_appends (n + 12) instructions) rest
 
 -- items behind others, whatever waits for them
 pub record Behind (setting : Setting) (rest : List Item) : Type 0 where

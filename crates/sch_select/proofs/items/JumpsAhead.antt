@@ -1,8 +1,8 @@
 -- Jumps to the own labels of bodies go forward.
-use Rattle.std.proofs.Common.{◌≡◌, ℕ, suc, ◌+◌, ◌<◌, ◌≤◌, List, [], ◌∷◌, Bool, true, Option, Some, None, refl, ap, ◌∙◌, arith, ◌&&◌, ◌||◌}
+use Rattle.std.proofs.Common.{◌≡◌, ℕ, suc, ◌+◌, ◌<◌, ◌≤◌, List, [], ◌∷◌, length, Bool, true, Option, Some, None, refl, ap, ◌∙◌, arith, ◌&&◌, ◌||◌}
 use Rattle.std.specs.Prelude.{nat_lt}
 use Rattle.std.specs.List.{list_all}
-use Rattle.std.proofs.lemmas.Bool.{and_parts, lt-ltb}
+use Rattle.std.proofs.lemmas.Bool.{and_parts, lt-ltb, ltb-true}
 use Rattle.sch_word.specs.declared.place.Place.{Place}
 use Rattle.sch_word.specs.declared.primitive.Primitive.{Primitive}
 use Rattle.sch_word.specs.declared.primitive.Primitive.TheVariants.{Eq, Eqv, IsBoolean, IsPair, IsNull, IsSymbol, IsInteger, IsChar, IsString, IsVector, IsProcedure, Add, Subtract, Multiply, Quotient, Remainder, Modulo, Equal, Less, Greater, LessEqual, GreaterEqual, CharToInteger, IntegerToChar, Put}
@@ -15,6 +15,7 @@ use Rattle.sch_control.specs.declared.operation.Operand.{Operand}
 use Rattle.sch_control.specs.declared.operation.Operand.TheVariants as operand
 use Rattle.sch_control.specs.declared.operation.Source.{Source}
 use Rattle.sch_control.specs.declared.operation.Source.TheVariants as source
+use Rattle.sch_control.specs.declared.operation.Closure.{Closure}
 use Rattle.sch_control.specs.declared.operation.Member.{Member}
 use Rattle.sch_control.specs.declared.operation.Operation.{Operation}
 use Rattle.sch_control.specs.declared.operation.Operation.TheVariants as operation
@@ -26,30 +27,43 @@ use Rattle.sch_frames.specs.Valid as frames
 use Rattle.sch_frames.specs.Valid.{forward}
 use Rattle.sch_asm.specs.declared.item.Item.{Item}
 use Rattle.sch_asm.specs.declared.item.Item.TheVariants as item
+use Rattle.sch_asm.specs.declared.item.MarkKind.TheVariants.{Enter}
 use Rattle.sch_asm.specs.Items.{is_among, labels_in}
-use Rattle.sch_select.specs.Select.{body_label, atom_code, unary_code, binary_code, read_code, operand_code, second_code, source_code, fields_code, closure_bytes, places_code, records_code, operation_code, body_code}
-use Rattle.sch_select.specs.Program.{passed_code, forms_code, labels_end, heap_of, own_label, program_code, put_value_code}
+use Rattle.sch_select.specs.Select.{first_label, body_label, atom_code, unary_code, binary_code, read_code, operand_code, second_code, source_code, fields_code, closure_bytes, places_code, record_code, records_code, operation_code, body_code}
+use Rattle.sch_select.specs.Program.{passed_code, entry_code, forms_code, labels_end, heap_of, own_label, program_code, put_value_code}
 use Rattle.sch_select.specs.Jumps.{goes_ahead, jumps_ahead}
+use Rattle.sch_select.proofs.programs.Selected.{members_few, operation_few, labels_few}
 use Rattle.sch_select.proofs.items.ProgramSound.{in_front}
 use Rattle.sch_select.proofs.items.ProgramLabels.{body_labels, body_labelled}
 use Rattle.sch_select.proofs.items.ProgramKnown.{or_true, first_in, later_in, left_in, right_in, label_in}
 
-module _ (own : ℕ) (low : 1030 ≤ own) where
+module _ (count : ℕ) where
+  -- the own labels of bodies are behind those at which they begin
+  abbrev own : ℕ
+  own = body_label count
+
   abbrev Ahead : (List Item → List Item) → Type 0
   Ahead f = (rest : List Item) → jumps_ahead own (f rest) ≡ jumps_ahead own rest
 
   -- a label that is no body's own
-  away : (l : ℕ) → l < 1030 → (t b : Bool) → ((nat_lt l own || t) && b) ≡ b
-  away l lt t b = ap (λ a. (a || t) && b) (lt-ltb l own (let k = low in omega (arith, lt, k)))
+  away : (l : ℕ) → l < 1030 → (t b : Bool) → ((nat_lt l first_label || t) && b) ≡ b
+  away l lt t b = ap (λ a. (a || t) && b) (lt-ltb l first_label (omega (arith, lt)))
 
   -- a label that stands behind
-  near : (l : ℕ) (t b : Bool) → t ≡ true → ((nat_lt l own || t) && b) ≡ b
-  near l t b e = in_front (nat_lt l own || t) b (ap (λ t. nat_lt l own || t) e ∙ or_true (nat_lt l own))
+  near_to : (first l : ℕ) (t b : Bool) → t ≡ true → ((nat_lt l first || t) && b) ≡ b
+  near_to first l t b e = in_front (nat_lt l first || t) b (ap (λ t. nat_lt l first || t) e ∙ or_true (nat_lt l first))
 
-  stop : (l : ℕ) → l < 1030 → (is : List Item) → (goes_ahead own l is && jumps_ahead own is) ≡ jumps_ahead own is
+  near : (l : ℕ) (t b : Bool) → t ≡ true → ((nat_lt l first_label || t) && b) ≡ b
+  near = near_to first_label
+
+  -- a label at which a body begins
+  begins : (l : ℕ) → nat_lt l count ≡ true → (t b : Bool) → ((nat_lt (body_label l) own || t) && b) ≡ b
+  begins l e t b = let lt = ltb-true l count e in ap (λ a. (a || t) && b) (lt-ltb (body_label l) own (omega (arith, lt)))
+
+  stop : (l : ℕ) → l < 1030 → (is : List Item) → (goes_ahead first_label l is && jumps_ahead own is) ≡ jumps_ahead own is
   stop l lt is = away l lt (is_among (labels_in is) l) (jumps_ahead own is)
 
-  here : (n : ℕ) (ls : List ℕ) (b : Bool) → ((nat_lt n own || is_among (n ∷ ls) n) && b) ≡ b
+  here : (n : ℕ) (ls : List ℕ) (b : Bool) → ((nat_lt n first_label || is_among (n ∷ ls) n) && b) ≡ b
   here n ls b = near n (is_among (n ∷ ls) n) b (first_in n ls)
 
   unary_ahead : (n : ℕ) (which : Primitive) → Ahead (unary_code n which)
@@ -63,16 +77,18 @@ module _ (own : ℕ) (low : 1030 ≤ own) where
   unary_ahead n IsVector rest = here n (labels_in rest) (jumps_ahead own rest)
   unary_ahead n IsProcedure rest = here n (labels_in rest) (jumps_ahead own rest)
   unary_ahead n CharToInteger rest = stop 1 (omega arith) rest
-  unary_ahead n IntegerToChar rest = away 1 (omega arith) (is_among (labels_in rest) 1) ((nat_lt 2 own || is_among (labels_in rest) 2) && jumps_ahead own rest) ∙ stop 2 (omega arith) rest
-  unary_ahead n Put rest = away 1024 (omega arith) (is_among (n ∷ labels_in rest) 1024) (jumps_ahead own rest)
+  unary_ahead n IntegerToChar rest = away 1 (omega arith) (is_among (labels_in rest) 1) ((nat_lt 2 first_label || is_among (labels_in rest) 2) && jumps_ahead own rest) ∙ stop 2 (omega arith) rest
+  unary_ahead n Put rest =
+      near_to own n (is_among (n ∷ labels_in rest) n) _ (first_in n (labels_in rest))
+      ∙ away 1024 (omega arith) (is_among (n ∷ labels_in rest) 1024) (jumps_ahead own rest)
   unary_ahead n _ rest = refl
 
   -- a comparison of two fixnums
-  two : (n : ℕ) (ls : List ℕ) (b : Bool) → ((nat_lt 1 own || is_among (n ∷ ls) 1) && ((nat_lt 1 own || is_among (n ∷ ls) 1) && ((nat_lt n own || is_among (n ∷ ls) n) && b))) ≡ b
+  two : (n : ℕ) (ls : List ℕ) (b : Bool) → ((nat_lt 1 first_label || is_among (n ∷ ls) 1) && ((nat_lt 1 first_label || is_among (n ∷ ls) 1) && ((nat_lt n first_label || is_among (n ∷ ls) n) && b))) ≡ b
   two n ls b = away 1 (omega arith) (is_among (n ∷ ls) 1) _ ∙ away 1 (omega arith) (is_among (n ∷ ls) 1) _ ∙ here n ls b
 
   -- what computes a fixnum
-  three : (a t u v b : Bool) (l : ℕ) → l < 1030 → ((nat_lt 1 own || t) && ((nat_lt 1 own || u) && ((nat_lt l own || v) && b))) ≡ b
+  three : (a t u v b : Bool) (l : ℕ) → l < 1030 → ((nat_lt 1 first_label || t) && ((nat_lt 1 first_label || u) && ((nat_lt l first_label || v) && b))) ≡ b
   three a t u v b l lt = away 1 (omega arith) t _ ∙ away 1 (omega arith) u _ ∙ away l lt v b
 
   binary_ahead : (n : ℕ) (which : Primitive) → Ahead (binary_code n which)
@@ -130,81 +146,100 @@ module _ (own : ℕ) (low : 1030 ≤ own) where
   places_ahead offset [] rest = refl
   places_ahead offset (m ∷ members) rest = places_ahead (offset + closure_bytes m.closure) members rest
 
-  records_ahead : (offset : ℕ) (members : List (Member Place)) → Ahead (records_code offset members)
-  records_ahead offset [] rest = refl
-  records_ahead offset (m ∷ members) rest = fields_ahead (offset + 8) m.closure.fields _ ∙ records_ahead (offset + closure_bytes m.closure) members rest
+  record_ahead : (offset : ℕ) (c : Closure Place) → nat_lt c.label count ≡ true → Ahead (record_code offset c)
+  record_ahead offset c e rest = begins c.label e _ _ ∙ fields_ahead (offset + 8) c.fields rest
 
-  operation_ahead : (heap_end n : ℕ) (o : Operation Place) → Ahead (operation_code heap_end n o)
-  operation_ahead heap_end n (operation.Operand o) rest = operand_ahead n o rest
-  operation_ahead heap_end n (operation.Prim site which []) rest = refl
-  operation_ahead heap_end n (operation.Prim site which (o ∷ [])) rest = operand_ahead n o (unary_code (n + 8) which rest) ∙ unary_ahead (n + 8) which rest
-  operation_ahead heap_end n (operation.Prim site which (o ∷ (q ∷ []))) rest =
+  records_ahead : (offset : ℕ) (members : List (Member Place)) → members_few count members ≡ true → Ahead (records_code offset members)
+  records_ahead offset [] e rest = refl
+  records_ahead offset (m ∷ members) e rest =
+      let p = and_parts (nat_lt m.closure.label count) (members_few count members) e in
+      record_ahead offset m.closure p.0 _ ∙ records_ahead (offset + closure_bytes m.closure) members p.1 rest
+
+  operation_ahead : (heap_end n : ℕ) (o : Operation Place) → operation_few count o ≡ true → Ahead (operation_code heap_end n o)
+  operation_ahead heap_end n (operation.Operand o) e rest = operand_ahead n o rest
+  operation_ahead heap_end n (operation.Prim site which []) e rest = refl
+  operation_ahead heap_end n (operation.Prim site which (o ∷ [])) e rest = operand_ahead n o (unary_code (n + 8) which rest) ∙ unary_ahead (n + 8) which rest
+  operation_ahead heap_end n (operation.Prim site which (o ∷ (q ∷ []))) e rest =
       operand_ahead n o (second_code (n + 4) q (binary_code (n + 8) which rest)) ∙ second_ahead (n + 4) q (binary_code (n + 8) which rest) ∙ binary_ahead (n + 8) which rest
-  operation_ahead heap_end n (operation.Prim site which (o ∷ (q ∷ (r ∷ operands)))) rest = refl
-  operation_ahead heap_end n (operation.Global g) rest = stop 9 (omega arith) rest
-  operation_ahead heap_end n (operation.SetGlobal g o) rest = operand_ahead n o _
-  operation_ahead heap_end n (operation.Field p k) rest = refl
-  operation_ahead heap_end n (operation.NewCell x) rest = source_ahead 0 x _ ∙ stop 7 (omega arith) rest
-  operation_ahead heap_end n operation.UnsetCell rest = stop 7 (omega arith) rest
-  operation_ahead heap_end n (operation.CellGet x) rest = source_ahead 0 x _ ∙ away 9 (omega arith) (is_among (labels_in rest) 9) _ ∙ stop 9 (omega arith) rest
-  operation_ahead heap_end n (operation.CellSet x o) rest = operand_ahead n o _ ∙ source_ahead 1 x _ ∙ stop 9 (omega arith) rest
-  operation_ahead heap_end n (operation.MakeClosure c) rest = away 7 (omega arith) _ _ ∙ fields_ahead 8 c.fields _
+  operation_ahead heap_end n (operation.Prim site which (o ∷ (q ∷ (r ∷ operands)))) e rest = refl
+  operation_ahead heap_end n (operation.Global g) e rest = stop 9 (omega arith) rest
+  operation_ahead heap_end n (operation.SetGlobal g o) e rest = operand_ahead n o _
+  operation_ahead heap_end n (operation.Field p k) e rest = refl
+  operation_ahead heap_end n (operation.NewCell x) e rest = source_ahead 0 x _ ∙ stop 7 (omega arith) rest
+  operation_ahead heap_end n operation.UnsetCell e rest = stop 7 (omega arith) rest
+  operation_ahead heap_end n (operation.CellGet x) e rest = source_ahead 0 x _ ∙ away 9 (omega arith) true _ ∙ stop 9 (omega arith) rest
+  operation_ahead heap_end n (operation.CellSet x o) e rest = operand_ahead n o _ ∙ source_ahead 1 x _ ∙ stop 9 (omega arith) rest
+  operation_ahead heap_end n (operation.MakeClosure c) e rest = away 7 (omega arith) true _ ∙ record_ahead 0 c e _
 
   -- ---- bodies
 
   -- a label behind a body
-  behind_body : (base out heap_end n l : ℕ) (is : List Instruction) (rest : List Item) → is_among (labels_in rest) l ≡ true → is_among (labels_in (body_code base out heap_end n is rest)) l ≡ true
-  behind_body base out heap_end n l is rest e = ap (λ ls. is_among ls l) (body_labelled base out heap_end n is rest) ∙ right_in (body_labels base n is) (labels_in rest) l e
+  behind_body : (base out words heap_end n l : ℕ) (is : List Instruction) (rest : List Item) → is_among (labels_in rest) l ≡ true → is_among (labels_in (body_code base out words heap_end n is rest)) l ≡ true
+  behind_body base out words heap_end n l is rest e = ap (λ ls. is_among ls l) (body_labelled base out words heap_end n is rest) ∙ right_in (body_labels base n is) (labels_in rest) l e
 
-  within_body : (base out heap_end n l : ℕ) (is : List Instruction) (rest : List Item) → has l (frames.labels_in is) ≡ true → is_among (labels_in (body_code base out heap_end n is rest)) (base + l) ≡ true
-  within_body base out heap_end n l is rest e = ap (λ ls. is_among ls (base + l)) (body_labelled base out heap_end n is rest) ∙ left_in (body_labels base n is) (labels_in rest) (base + l) (label_in base n l is e)
+  within_body : (base out words heap_end n l : ℕ) (is : List Instruction) (rest : List Item) → has l (frames.labels_in is) ≡ true → is_among (labels_in (body_code base out words heap_end n is rest)) (base + l) ≡ true
+  within_body base out words heap_end n l is rest e = ap (λ ls. is_among ls (base + l)) (body_labelled base out words heap_end n is rest) ∙ left_in (body_labels base n is) (labels_in rest) (base + l) (label_in base n l is e)
 
-  body_ahead : (base out heap_end n : ℕ) (is : List Instruction) (rest : List Item) → frames.jumps_ahead is ≡ true → is_among (labels_in rest) out ≡ true → jumps_ahead own (body_code base out heap_end n is rest) ≡ jumps_ahead own rest
-  body_ahead base out heap_end n [] rest e o = refl
-  body_ahead base out heap_end n (instruction.IfFalse l ∷ is) rest e o =
+  body_ahead : (base out words heap_end n : ℕ) (is : List Instruction) (rest : List Item) → frames.jumps_ahead is ≡ true → list_all (labels_few count) is ≡ true → is_among (labels_in rest) out ≡ true → jumps_ahead own (body_code base out words heap_end n is rest) ≡ jumps_ahead own rest
+  body_ahead base out words heap_end n [] rest e f o = refl
+  body_ahead base out words heap_end n (instruction.IfFalse l ∷ is) rest e f o =
       let p = and_parts (has l (frames.labels_in is)) (frames.jumps_ahead is) e in
-      near (base + l) _ _ (within_body base out heap_end (n + 12) l is rest p.0) ∙ body_ahead base out heap_end (n + 12) is rest p.1 o
-  body_ahead base out heap_end n (instruction.Jump l ∷ is) rest e o =
+      near (base + l) _ _ (within_body base out words heap_end (n + 12) l is rest p.0) ∙ body_ahead base out words heap_end (n + 12) is rest p.1 f o
+  body_ahead base out words heap_end n (instruction.Jump l ∷ is) rest e f o =
       let p = and_parts (has l (frames.labels_in is)) (frames.jumps_ahead is) e in
-      near (base + l) _ _ (within_body base out heap_end (n + 12) l is rest p.0) ∙ body_ahead base out heap_end (n + 12) is rest p.1 o
-  body_ahead base out heap_end n (instruction.End ∷ is) rest e o = near out _ _ (behind_body base out heap_end (n + 12) out is rest o) ∙ body_ahead base out heap_end (n + 12) is rest e o
-  body_ahead base out heap_end n (instruction.Do q ∷ is) rest e o = operation_ahead heap_end n q (body_code base out heap_end (n + 12) is rest) ∙ body_ahead base out heap_end (n + 12) is rest e o
-  body_ahead base out heap_end n (instruction.Load p q ∷ is) rest e o = second_ahead n q _ ∙ body_ahead base out heap_end (n + 12) is rest e o
-  body_ahead base out heap_end n (instruction.Fix members ∷ is) rest e o =
-      away 7 (omega arith) _ _ ∙ places_ahead 0 members _ ∙ records_ahead 0 members _ ∙ body_ahead base out heap_end (n + 12) is rest e o
-  body_ahead base out heap_end n (instruction.Store p ∷ is) rest e o = body_ahead base out heap_end (n + 12) is rest e o
-  body_ahead base out heap_end n (instruction.Copy p q ∷ is) rest e o = body_ahead base out heap_end (n + 12) is rest e o
-  body_ahead base out heap_end n (instruction.Pass j q ∷ is) rest e o = body_ahead base out heap_end (n + 12) is rest e o
-  body_ahead base out heap_end n (instruction.Call spread count ∷ is) rest e o = body_ahead base out heap_end (n + 12) is rest e o
-  body_ahead base out heap_end n (instruction.Tail spread count ∷ is) rest e o = body_ahead base out heap_end (n + 12) is rest e o
-  body_ahead base out heap_end n (instruction.Return ∷ is) rest e o = body_ahead base out heap_end (n + 12) is rest e o
-  body_ahead base out heap_end n (instruction.Label l ∷ is) rest e o = body_ahead base out heap_end (n + 12) is rest e o
-  body_ahead base out heap_end n (instruction.Mark m ∷ is) rest e o = body_ahead base out heap_end (n + 12) is rest e o
+      near (base + l) _ _ (within_body base out words heap_end (n + 12) l is rest p.0) ∙ body_ahead base out words heap_end (n + 12) is rest p.1 f o
+  body_ahead base out words heap_end n (instruction.End ∷ is) rest e f o = near out _ _ (behind_body base out words heap_end (n + 12) out is rest o) ∙ body_ahead base out words heap_end (n + 12) is rest e f o
+  body_ahead base out words heap_end n (instruction.Do q ∷ is) rest e f o =
+      let g = and_parts (operation_few count q) (list_all (labels_few count) is) f in
+      operation_ahead heap_end n q g.0 (body_code base out words heap_end (n + 12) is rest) ∙ body_ahead base out words heap_end (n + 12) is rest e g.1 o
+  body_ahead base out words heap_end n (instruction.Load p q ∷ is) rest e f o = second_ahead n q _ ∙ body_ahead base out words heap_end (n + 12) is rest e f o
+  body_ahead base out words heap_end n (instruction.Fix members ∷ is) rest e f o =
+      let g = and_parts (members_few count members) (list_all (labels_few count) is) f in
+      away 7 (omega arith) true _ ∙ places_ahead 0 members _ ∙ records_ahead 0 members g.0 _ ∙ body_ahead base out words heap_end (n + 12) is rest e g.1 o
+  body_ahead base out words heap_end n (instruction.Store p ∷ is) rest e f o = body_ahead base out words heap_end (n + 12) is rest e f o
+  body_ahead base out words heap_end n (instruction.Copy p q ∷ is) rest e f o = body_ahead base out words heap_end (n + 12) is rest e f o
+  body_ahead base out words heap_end n (instruction.Pass j q ∷ is) rest e f o = second_ahead n q _ ∙ body_ahead base out words heap_end (n + 12) is rest e f o
+  body_ahead base out words heap_end n (instruction.Call spread count ∷ is) rest e f o =
+      near_to own n _ _ (first_in n (labels_in (body_code base out words heap_end (n + 12) is rest))) ∙ body_ahead base out words heap_end (n + 12) is rest e f o
+  body_ahead base out words heap_end n (instruction.Tail spread count ∷ is) rest e f o = body_ahead base out words heap_end (n + 12) is rest e f o
+  body_ahead base out words heap_end n (instruction.Return ∷ is) rest e f o = body_ahead base out words heap_end (n + 12) is rest e f o
+  body_ahead base out words heap_end n (instruction.Label l ∷ is) rest e f o = body_ahead base out words heap_end (n + 12) is rest e f o
+  body_ahead base out words heap_end n (instruction.Mark m ∷ is) rest e f o = body_ahead base out words heap_end (n + 12) is rest e f o
 
   passed_ahead : (q : Option Entry) (out : ℕ) (rest : List Item) → is_among (labels_in rest) out ≡ true → jumps_ahead own (passed_code q out rest) ≡ jumps_ahead own rest
   passed_ahead None out rest e = refl
   passed_ahead (Some q) out rest e = near out (is_among (labels_in rest) out) (jumps_ahead own rest) e
 
-  forms_ahead : (heap_end label n : ℕ) (cs : List Code) (rest : List Item) → list_all (λ c. forward c.labels c.instructions) cs ≡ true → jumps_ahead own (forms_code heap_end label n cs rest) ≡ jumps_ahead own rest
-  forms_ahead heap_end label n [] rest e = refl
-  forms_ahead heap_end label n (c ∷ cs) rest e =
+  entry_behind : (q : Option Entry) (rest : List Item) (l : ℕ) → is_among (labels_in rest) l ≡ true → is_among (labels_in (entry_code q rest)) l ≡ true
+  entry_behind None rest l e = e
+  entry_behind (Some q) rest l e = e
+
+  entry_ahead : (q : Option Entry) → Ahead (entry_code q)
+  entry_ahead None rest = refl
+  entry_ahead (Some e) rest = refl
+
+  forms_ahead : (words heap_end label n : ℕ) (cs : List Code) (rest : List Item) → list_all (λ c. forward c.labels c.instructions) cs ≡ true
+      → list_all (λ c. list_all (labels_few count) c.instructions) cs ≡ true → jumps_ahead own (forms_code words heap_end label n cs rest) ≡ jumps_ahead own rest
+  forms_ahead words heap_end label n [] rest e f = refl
+  forms_ahead words heap_end label n (c ∷ cs) rest e f =
+      let g = and_parts (list_all (labels_few count) c.instructions) (list_all (λ c. list_all (labels_few count) c.instructions) cs) f in
       let p = and_parts (forward c.labels c.instructions) (list_all (λ c. forward c.labels c.instructions) cs) e in
       let q = and_parts (list_all (λ l. nat_lt l c.labels) (frames.labels_in c.instructions)) (without_repeats (frames.labels_in c.instructions) && frames.jumps_ahead c.instructions) p.0 in
       let r = and_parts (without_repeats (frames.labels_in c.instructions)) (frames.jumps_ahead c.instructions) q.1 in
       let out = n + c.labels in
-      let others = forms_code heap_end (suc label) (labels_end n c) cs rest in
+      let others = forms_code words heap_end (suc label) (labels_end n c) cs rest in
       let last = item.Label out ∷ others in
       let there : is_among (labels_in last) out ≡ true = first_in out (labels_in others) in
-      let body = body_code n out heap_end (n + c.labels + 1) c.instructions last in
-      passed_ahead c.entry out _ (later_in (body_label label) out (labels_in body) (behind_body n out heap_end (n + c.labels + 1) out c.instructions last there))
-      ∙ body_ahead n out heap_end (n + c.labels + 1) c.instructions last r.1 there ∙ forms_ahead heap_end (suc label) (labels_end n c) cs rest p.1
+      let body = item.Mark (Enter label) ∷ body_code n out words heap_end (n + c.labels + 1) c.instructions last in
+      let in_body : is_among (labels_in body) out ≡ true = behind_body n out words heap_end (n + c.labels + 1) out c.instructions last there in
+      passed_ahead c.entry out _ (later_in (body_label label) out (labels_in (entry_code c.entry body)) (entry_behind c.entry body out in_body))
+      ∙ entry_ahead c.entry body ∙ body_ahead n out words heap_end (n + c.labels + 1) c.instructions last r.1 g.0 there ∙ forms_ahead words heap_end (suc label) (labels_end n c) cs rest p.1 g.1
 
 -- the jumps of the program's own routine are to labels below those of bodies
-last_ahead : (own : ℕ) → 1030 ≤ own → jumps_ahead own (item.Jump 0 ∷ (item.Label 1024 ∷ put_value_code)) ≡ true
-last_ahead own low =
-    away own low 0 (omega arith) _ _ ∙ away own low 12 (omega arith) _ _ ∙ away own low 1029 (omega arith) _ _ ∙ away own low 1 (omega arith) _ _ ∙ away own low 1025 (omega arith) _ _
-    ∙ away own low 11 (omega arith) _ _ ∙ away own low 1026 (omega arith) _ _ ∙ away own low 11 (omega arith) _ _ ∙ away own low 1027 (omega arith) _ _ ∙ away own low 11 (omega arith) _ _
-    ∙ away own low 1028 (omega arith) _ _ ∙ away own low 11 (omega arith) _ _ ∙ away own low 11 (omega arith) _ _ ∙ away own low 11 (omega arith) _ _
+last_ahead : (own : ℕ) → jumps_ahead own (item.Jump 0 ∷ (item.Label 1024 ∷ put_value_code)) ≡ true
+last_ahead _ = refl
 
-pub program_ahead : (p : tree.Source) (heap depth : ℕ) → list_all (λ c. forward c.labels c.instructions) p.bodies ≡ true → jumps_ahead (own_label p) (program_code p heap depth) ≡ true
-program_ahead p heap depth e = forms_ahead (own_label p) (omega arith) (heap_of p + heap) 0 (own_label p) p.bodies _ e ∙ last_ahead (own_label p) (omega arith)
+pub program_ahead : (p : tree.Source) (heap depth : ℕ) → list_all (λ c. forward c.labels c.instructions) p.bodies ≡ true
+    → list_all (λ c. list_all (labels_few (length p.bodies)) c.instructions) p.bodies ≡ true → jumps_ahead (own_label p) (program_code p heap depth) ≡ true
+program_ahead p heap depth e f =
+    forms_ahead (length p.bodies) p.words (heap_of p + heap) 0 (own_label p) p.bodies _ e f ∙ last_ahead (own_label p)

@@ -79,7 +79,7 @@ no_labels a b = record { distinct = refl; below = λ y h. refl; above = λ y h. 
 pub wider : (a b c d : ℕ) (ls : List ℕ) → a ≤ c → d ≤ b → Block c d ls → Block a b ls
 wider a b c d ls low high p = record { distinct = p.distinct; below = λ y h. p.below y (omega (arith, h, low)); above = λ y h. p.above y (omega (arith, h, high)) }
 
-one_label : (n : ℕ) → Block n (n + 4) (n ∷ [])
+pub one_label : (n : ℕ) → Block n (n + 4) (n ∷ [])
 one_label n = record {
   distinct = refl;
   below = λ y h. either_false (n == y) false (ne_eqb n y (λ e. omega (arith, e, h))) refl;

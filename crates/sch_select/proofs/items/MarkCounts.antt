@@ -19,8 +19,9 @@ use Rattle.sch_frames.specs.Tree.{Code}
 use Rattle.sch_frames.specs.Tree as tree
 use Rattle.sch_asm.specs.declared.item.Item.{Item}
 use Rattle.sch_asm.specs.declared.item.Item.TheVariants as item
+use Rattle.sch_asm.specs.declared.item.MarkKind.TheVariants.{Enter}
 use Rattle.sch_select.specs.Select.{atom_code, unary_code, binary_code, read_code, operand_code, second_code, source_code, fields_code, closure_bytes, places_code, records_code, operation_code, instruction_code, body_code}
-use Rattle.sch_select.specs.Program.{passed_code, forms_code, labels_end, heap_of, own_label, program_code}
+use Rattle.sch_select.specs.Program.{passed_code, entry_code, forms_code, labels_end, heap_of, own_label, program_code}
 use Rattle.sch_select.specs.Sizes.{marks_in, marked, bodies_marked}
 
 -- what comes in front of other items has no marks
@@ -86,16 +87,17 @@ operation_unmarked heap_end n (operation.CellGet x) rest = source_unmarked 0 x _
 operation_unmarked heap_end n (operation.CellSet x o) rest = operand_unmarked n o _ ∙ source_unmarked 1 x _
 operation_unmarked heap_end n (operation.MakeClosure c) rest = fields_unmarked 8 c.fields _
 
-body_marked : (base out heap_end n : ℕ) (is : List Instruction) (rest : List Item) → marks_in (body_code base out heap_end n is rest) ≡ marked is + marks_in rest
-body_marked base out heap_end n [] rest = omega arith
-body_marked base out heap_end n (i ∷ is) rest = by i (body_marked base out heap_end (n + 12) is rest)
+body_marked : (base out words heap_end n : ℕ) (is : List Instruction) (rest : List Item) → marks_in (body_code base out words heap_end n is rest) ≡ marked is + marks_in rest
+body_marked base out words heap_end n [] rest = omega arith
+body_marked base out words heap_end n (i ∷ is) rest = by i (body_marked base out words heap_end (n + 12) is rest)
   where
     next : List Item
-    next = body_code base out heap_end (n + 12) is rest
+    next = body_code base out words heap_end (n + 12) is rest
 
-    by : (i : Instruction) → marks_in next ≡ marked is + marks_in rest → marks_in (instruction_code base out heap_end n i next) ≡ marked (i ∷ is) + marks_in rest
+    by : (i : Instruction) → marks_in next ≡ marked is + marks_in rest → marks_in (instruction_code base out words heap_end n i next) ≡ marked (i ∷ is) + marks_in rest
     by (instruction.Do o) h = operation_unmarked heap_end n o next ∙ h
     by (instruction.Load p o) h = second_unmarked n o _ ∙ h
+    by (instruction.Pass k o) h = second_unmarked n o _ ∙ h
     by (instruction.Fix members) h = places_unmarked 0 members _ ∙ records_unmarked 0 members _ ∙ h
     by (instruction.Mark m) h = omega (arith, h)
     by (instruction.Store p) h = h
@@ -105,14 +107,19 @@ passed_unmarked : (o : Option Entry) (out : ℕ) → Unmarked (passed_code o out
 passed_unmarked None out rest = refl
 passed_unmarked (Some e) out rest = refl
 
-forms_marked : (heap_end label n : ℕ) (cs : List Code) (rest : List Item) → marks_in (forms_code heap_end label n cs rest) ≡ bodies_marked cs + marks_in rest
-forms_marked heap_end label n [] rest = omega arith
-forms_marked heap_end label n (c ∷ cs) rest =
-    let others = forms_code heap_end (suc label) (labels_end n c) cs rest in
+entry_unmarked : (o : Option Entry) → Unmarked (entry_code o)
+entry_unmarked None rest = refl
+entry_unmarked (Some e) rest = refl
+
+forms_marked : (words heap_end label n : ℕ) (cs : List Code) (rest : List Item) → marks_in (forms_code words heap_end label n cs rest) ≡ bodies_marked cs + marks_in rest
+forms_marked words heap_end label n [] rest = omega arith
+forms_marked words heap_end label n (c ∷ cs) rest =
+    let others = forms_code words heap_end (suc label) (labels_end n c) cs rest in
     let p = passed_unmarked c.entry (n + c.labels) _ in
-    let h = body_marked n (n + c.labels) heap_end (n + c.labels + 1) c.instructions (item.Label (n + c.labels) ∷ others) in
-    let k = forms_marked heap_end (suc label) (labels_end n c) cs rest in
-    p ∙ omega (arith, h, k)
+    let h = body_marked n (n + c.labels) words heap_end (n + c.labels + 1) c.instructions (item.Label (n + c.labels) ∷ others) in
+    let k = forms_marked words heap_end (suc label) (labels_end n c) cs rest in
+    let e = entry_unmarked c.entry (item.Mark (Enter label) ∷ body_code n (n + c.labels) words heap_end (n + c.labels + 1) c.instructions (item.Label (n + c.labels) ∷ others)) in
+    p ∙ e ∙ omega (arith, h, k)
 
 pub program_marks : (p : tree.Source) (heap depth : ℕ) → marks_in (program_code p heap depth) ≡ bodies_marked p.bodies
-program_marks p heap depth = let h = forms_marked (heap_of p + heap) 0 (own_label p) p.bodies _ in h ∙ omega arith
+program_marks p heap depth = let h = forms_marked p.words (heap_of p + heap) 0 (own_label p) p.bodies _ in h ∙ omega arith

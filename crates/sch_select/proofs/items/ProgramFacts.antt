@@ -6,7 +6,6 @@ use Rattle.std.proofs.lemmas.Bool.{and_parts, and_from, leb-true}
 use Rattle.std.proofs.lemmas.List.Elements.{All-from_recursion}
 use Rattle.std.proofs.lemmas.List.{length-replicate}
 use Rattle.sch_word.specs.values.Literals.{literals_known}
-use Rattle.sch_word.specs.runs.ProgramLayout.{data_address}
 use Rattle.sch_word.specs.runs.Runs.{max_statics, statics_size, statics_valid, statics_in_range, library_known}
 use Rattle.sch_frames.specs.declared.body.FrameBody.{FrameBody}
 use Rattle.sch_frames.specs.declared.program.FrameProgram.{FrameProgram}
@@ -23,7 +22,7 @@ use Rattle.sch_insn.specs.declared.insn.Insn.TheVariants.{MovWord}
 use Rattle.sch_asm.specs.declared.assembly.Word.{Word}
 use Rattle.sch_asm.specs.declared.assembly.Word.TheVariants.{Fixed}
 use Rattle.sch_select.specs.Select.{put_label, body_label}
-use Rattle.sch_select.specs.Program.{forms_code, program_code, program_words, program_zeros, put_value_code, closures_address, heap_address, heap_of, own_label, static_bytes, word_list, global_words, padding, closure_words}
+use Rattle.sch_select.specs.Program.{forms_code, program_code, program_words, program_zeros, put_value_code, closures_address, heap_address, heap_of, max_data, max_stack, own_label, stack_bytes, static_bytes, word_list, global_words, padding, closure_words}
 use Rattle.sch_select.proofs.items.ProgramLabels.{labels_low, forms_labels, forms_labelled}
 use Rattle.sch_select.proofs.programs.Starting.{five_count, globals_count, closures_count}
 
@@ -59,17 +58,17 @@ pub program_own : (p : Source) (limit depth : ℕ) → list_all (λ c. forward c
 program_own p limit depth e =
     let rest = item.Jump (label_of routine.End) ∷ (item.Label put_label ∷ put_value_code) in
     let forms = forms_labels 0 (own_label p) p.bodies in
-    let is : labels_in (program_code p limit depth) ≡ forms ++ labels_in rest = forms_labelled (heap_of p + limit) 0 (own_label p) p.bodies rest in
+    let is : labels_in (program_code p limit depth) ≡ forms ++ labels_in rest = forms_labelled p.words (heap_of p + limit) 0 (own_label p) p.bodies rest in
     All-from_recursion (λ l. 1024 ≤ l) (labels_in (program_code p limit depth))
     (subst (AllByRecursion (λ l. 1024 ≤ l)) (sym is) (each_append forms (labels_in rest) 1024 (each forms 1024 (λ y h. let lo = labels_low p e y h in omega (arith, lo))) (omega arith, (omega arith, (omega arith, (omega arith, (omega arith, (omega arith, tt))))))))
 
 -- ---- what is made
 
 pub whole_items : (p : Source) (limit depth stack heap g l n : ℕ) (items : List Item) → stack ≡ heap_address g l + limit → heap ≡ heap_address g l → g ≡ length p.statics.globals → l ≡ length p.library → n ≡ length p.bodies
-    → items ≡ item.Plain (MovWord 5 (pos stack)) ∷ (item.Plain (MovWord 12 (pos heap)) ∷ (item.Plain (MovWord 13 (pos depth)) ∷ forms_code stack 0 (body_label n) p.bodies (item.Jump (label_of routine.End) ∷ (item.Label put_label ∷ put_value_code))))
+    → items ≡ item.Plain (MovWord 5 (pos stack)) ∷ (item.Plain (MovWord 12 (pos heap)) ∷ (item.Plain (MovWord 13 (pos depth)) ∷ forms_code p.words stack 0 (body_label n) p.bodies (item.Jump (label_of routine.End) ∷ (item.Label put_label ∷ put_value_code))))
     → items ≡ program_code p limit depth
 whole_items p limit depth stack heap g l n items a b c d f e =
-    let at : ℕ → ℕ → ℕ → List Item = λ stack heap n. item.Plain (MovWord 5 (pos stack)) ∷ (item.Plain (MovWord 12 (pos heap)) ∷ (item.Plain (MovWord 13 (pos depth)) ∷ forms_code stack 0 (body_label n) p.bodies (item.Jump (label_of routine.End) ∷ (item.Label put_label ∷ put_value_code)))) in
+    let at : ℕ → ℕ → ℕ → List Item = λ stack heap n. item.Plain (MovWord 5 (pos stack)) ∷ (item.Plain (MovWord 12 (pos heap)) ∷ (item.Plain (MovWord 13 (pos depth)) ∷ forms_code p.words stack 0 (body_label n) p.bodies (item.Jump (label_of routine.End) ∷ (item.Label put_label ∷ put_value_code)))) in
     let h : heap_address g l ≡ heap_of p = ap (λ g. heap_address g l) c ∙ ap (heap_address (length p.statics.globals)) d in
     e ∙ ap (λ s. at s heap n) (a ∙ ap (λ h. h + limit) h) ∙ ap (λ k. at (heap_of p + limit) k n) (b ∙ h) ∙ ap (at (heap_of p + limit) (heap_of p)) f
 
@@ -80,9 +79,9 @@ words_are p =
     five_count (replicate 64 (Fixed 0)) (word_list static_bytes) (global_words (closures_address (length p.statics.globals)) p.statics.globals) (padding (length p.statics.globals)) (closure_words p.library) 64 36 (length p.statics.globals) (length p.statics.globals % 2) (2 * length p.library)
     refl refl (globals_count (closures_address (length p.statics.globals)) p.statics.globals) (length-replicate (length p.statics.globals % 2) (Fixed 0)) (closures_count p.library)
 
-pub data_end : (p : Source) (limit : ℕ) → p.words ≤ 2048 → length p.statics.globals ≤ 29360128 → length p.library ≤ 1048576 → limit ≤ 1073741824
-    → data_address + (8 * length (program_words p) + program_zeros p limit) < 2 ^ 31
-data_end p limit words globals library heap = let n = words_are p in omega (arith, n, words, globals, library, heap)
+pub data_end : (p : Source) (limit depth : ℕ) → stack_bytes p.words depth ≤ max_stack + 16384 → length p.statics.globals ≤ 29360128 → length p.library ≤ 1048576 → limit ≤ 1073741824
+    → 8 * length (program_words p) + program_zeros p limit depth ≤ max_data
+data_end p limit depth words globals library heap = let n = words_are p in omega (arith, n, words, globals, library, heap)
 
 pub bodies_count : (bodies : List FrameBody) → length (codes_of bodies) ≡ length bodies
 bodies_count [] = refl

@@ -34,7 +34,7 @@ use Rattle.sch_asm.specs.declared.routine.Routine.TheVariants as routine
 use Rattle.sch_asm.specs.Routines.{label_of}
 use Rattle.sch_asm.specs.Items.{AreKnown, is_among, is_routine, labels_in, uses_in, word_uses}
 use Rattle.sch_select.specs.Select.{put_label, body_label, source_code, fields_code, record_code, closure_bytes, places_code, records_code, atom_code, unary_code, binary_code, read_code, operand_code, second_code, operation_code, body_code}
-use Rattle.sch_select.specs.Program.{passed_code, form_code, forms_code, labels_end, heap_of, own_label, put_value_code, program_code, program_words, word_list, static_bytes, global_words, padding, closure_words, closures_address}
+use Rattle.sch_select.specs.Program.{passed_code, entry_code, form_code, forms_code, labels_end, heap_of, own_label, put_value_code, program_code, program_words, word_list, static_bytes, global_words, padding, closure_words, closures_address}
 use Rattle.sch_select.proofs.programs.Selected.{members_few, operation_few, labels_few}
 use Rattle.sch_select.proofs.items.ProgramSound.{in_front}
 use Rattle.sch_select.proofs.items.Labels.{unary_labels, binary_labels, read_labels, operand_labels, operation_labels}
@@ -74,9 +74,9 @@ label_in base n l (Do o ∷ instructions) e = right_in (operation_labels n o) (b
 label_in base n l (Store q ∷ instructions) e = label_in base (n + 12) l instructions e
 label_in base n l (Copy to from ∷ instructions) e = label_in base (n + 12) l instructions e
 label_in base n l (Load q o ∷ instructions) e = right_in (operand_labels n o) (body_labels base (n + 12) instructions) (base + l) (label_in base (n + 12) l instructions e)
-label_in base n l (Pass j o ∷ instructions) e = label_in base (n + 12) l instructions e
+label_in base n l (Pass j o ∷ instructions) e = right_in (operand_labels n o) (body_labels base (n + 12) instructions) (base + l) (label_in base (n + 12) l instructions e)
 label_in base n l (Fix members ∷ instructions) e = label_in base (n + 12) l instructions e
-label_in base n l (Call spread count ∷ instructions) e = label_in base (n + 12) l instructions e
+label_in base n l (Call spread count ∷ instructions) e = later_in n (base + l) (body_labels base (n + 12) instructions) (label_in base (n + 12) l instructions e)
 label_in base n l (Tail spread count ∷ instructions) e = label_in base (n + 12) l instructions e
 label_in base n l (Return ∷ instructions) e = label_in base (n + 12) l instructions e
 label_in base n l (Mark m ∷ instructions) e = label_in base (n + 12) l instructions e
@@ -107,7 +107,7 @@ module _ (all : List ℕ) where
   one : (n : ℕ) (us : List ℕ) → is_among all n ≡ true → list_all known (n ∷ us) ≡ list_all known us
   one n us e = in_front (known n) (list_all known us) (is_known n e)
 
-  module _ (put_in : is_among all 1024 ≡ true) (count : ℕ) (bodies_in : (l : ℕ) → l < count → is_among all (body_label l) ≡ true) (heap_end : ℕ) where
+  module _ (put_in : is_among all 1024 ≡ true) (count : ℕ) (bodies_in : (l : ℕ) → l < count → is_among all (body_label l) ≡ true) (words heap_end : ℕ) where
     unary_uses : (n : ℕ) (which : Primitive) → Among (unary_labels n which) → Uses (unary_code n which)
     unary_uses n IsBoolean h rest = one n (uses_in rest) (h n (first_in n []))
     unary_uses n IsPair h rest = one n (uses_in rest) (h n (first_in n []))
@@ -198,29 +198,33 @@ module _ (all : List ℕ) where
     operation_uses n (operation.MakeClosure c) f h rest = record_uses 0 c f _
 
     module _ (base out : ℕ) (out_in : is_among all out ≡ true) where
-      body_uses : (n : ℕ) (instructions : List Instruction) → jumps_ahead instructions ≡ true → list_all (labels_few count) instructions ≡ true → Among (body_labels base n instructions) → Uses (body_code base out heap_end n instructions)
+      body_uses : (n : ℕ) (instructions : List Instruction) → jumps_ahead instructions ≡ true → list_all (labels_few count) instructions ≡ true → Among (body_labels base n instructions) → Uses (body_code base out words heap_end n instructions)
       body_uses n [] e f h rest = refl
       body_uses n (IfFalse l ∷ instructions) e f h rest =
           let p = and_parts (has l (frames.labels_in instructions)) (jumps_ahead instructions) e in
-          one (base + l) (uses_in (body_code base out heap_end (n + 12) instructions rest)) (h (base + l) (label_in base (n + 12) l instructions p.0)) ∙ body_uses (n + 12) instructions p.1 f h rest
+          one (base + l) (uses_in (body_code base out words heap_end (n + 12) instructions rest)) (h (base + l) (label_in base (n + 12) l instructions p.0)) ∙ body_uses (n + 12) instructions p.1 f h rest
       body_uses n (Jump l ∷ instructions) e f h rest =
           let p = and_parts (has l (frames.labels_in instructions)) (jumps_ahead instructions) e in
-          one (base + l) (uses_in (body_code base out heap_end (n + 12) instructions rest)) (h (base + l) (label_in base (n + 12) l instructions p.0)) ∙ body_uses (n + 12) instructions p.1 f h rest
-      body_uses n (End ∷ instructions) e f h rest = one out (uses_in (body_code base out heap_end (n + 12) instructions rest)) out_in ∙ body_uses (n + 12) instructions e f h rest
+          one (base + l) (uses_in (body_code base out words heap_end (n + 12) instructions rest)) (h (base + l) (label_in base (n + 12) l instructions p.0)) ∙ body_uses (n + 12) instructions p.1 f h rest
+      body_uses n (End ∷ instructions) e f h rest = one out (uses_in (body_code base out words heap_end (n + 12) instructions rest)) out_in ∙ body_uses (n + 12) instructions e f h rest
       body_uses n (Label l ∷ instructions) e f h rest = body_uses (n + 12) instructions e f (among_right ((base + l) ∷ []) (body_labels base (n + 12) instructions) h) rest
       body_uses n (Do o ∷ instructions) e f h rest =
-          operation_uses n o (and_parts (operation_few count o) (list_all (labels_few count) instructions) f).0 (among_left (operation_labels n o) (body_labels base (n + 12) instructions) h) (body_code base out heap_end (n + 12) instructions rest)
+          operation_uses n o (and_parts (operation_few count o) (list_all (labels_few count) instructions) f).0 (among_left (operation_labels n o) (body_labels base (n + 12) instructions) h) (body_code base out words heap_end (n + 12) instructions rest)
           ∙ body_uses (n + 12) instructions e (and_parts (operation_few count o) (list_all (labels_few count) instructions) f).1 (among_right (operation_labels n o) (body_labels base (n + 12) instructions) h) rest
       body_uses n (Store q ∷ instructions) e f h rest = body_uses (n + 12) instructions e f h rest
       body_uses n (Copy to from ∷ instructions) e f h rest = body_uses (n + 12) instructions e f h rest
       body_uses n (Load q o ∷ instructions) e f h rest =
           second_uses n o (among_left (operand_labels n o) (body_labels base (n + 12) instructions) h) _
           ∙ body_uses (n + 12) instructions e f (among_right (operand_labels n o) (body_labels base (n + 12) instructions) h) rest
-      body_uses n (Pass j o ∷ instructions) e f h rest = body_uses (n + 12) instructions e f h rest
+      body_uses n (Pass j o ∷ instructions) e f h rest =
+          second_uses n o (among_left (operand_labels n o) (body_labels base (n + 12) instructions) h) _
+          ∙ body_uses (n + 12) instructions e f (among_right (operand_labels n o) (body_labels base (n + 12) instructions) h) rest
       body_uses n (Fix members ∷ instructions) e f h rest =
           let p = and_parts (members_few count members) (list_all (labels_few count) instructions) f in
           places_uses 0 members _ ∙ records_uses 0 members p.0 _ ∙ body_uses (n + 12) instructions e p.1 h rest
-      body_uses n (Call spread count ∷ instructions) e f h rest = body_uses (n + 12) instructions e f h rest
+      body_uses n (Call spread count ∷ instructions) e f h rest =
+          one n (uses_in (body_code base out words heap_end (n + 12) instructions rest)) (h n (first_in n (body_labels base (n + 12) instructions)))
+          ∙ body_uses (n + 12) instructions e f (among_right (n ∷ []) (body_labels base (n + 12) instructions) h) rest
       body_uses n (Tail spread count ∷ instructions) e f h rest = body_uses (n + 12) instructions e f h rest
       body_uses n (Return ∷ instructions) e f h rest = body_uses (n + 12) instructions e f h rest
       body_uses n (Mark m ∷ instructions) e f h rest = body_uses (n + 12) instructions e f h rest
@@ -229,22 +233,26 @@ module _ (all : List ℕ) where
     passed_uses None out e rest = refl
     passed_uses (Some q) out e rest = one out (uses_in rest) e
 
-    form_uses : (label n : ℕ) (c : Code) → forward c.labels c.instructions ≡ true → list_all (labels_few count) c.instructions ≡ true → Among (form_labels label n c) → Uses (form_code heap_end label n c)
+    entry_uses : (o : Option Entry) → Uses (entry_code o)
+    entry_uses None rest = refl
+    entry_uses (Some e) rest = refl
+
+    form_uses : (label n : ℕ) (c : Code) → forward c.labels c.instructions ≡ true → list_all (labels_few count) c.instructions ≡ true → Among (form_labels label n c) → Uses (form_code words heap_end label n c)
     form_uses label n c e f h rest =
         let body = body_labels n (n + c.labels + 1) c.instructions in
         let own : Among (own_labels n c) = among_right (body_label label ∷ []) (own_labels n c) h in
         let out_in = own (n + c.labels) (right_in body ((n + c.labels) ∷ []) (n + c.labels) (first_in (n + c.labels) [])) in
         let p = and_parts (list_all (λ l. nat_lt l c.labels) (frames.labels_in c.instructions)) (without_repeats (frames.labels_in c.instructions) && jumps_ahead c.instructions) e in
         let q = and_parts (without_repeats (frames.labels_in c.instructions)) (jumps_ahead c.instructions) p.1 in
-        passed_uses c.entry (n + c.labels) out_in _
+        passed_uses c.entry (n + c.labels) out_in _ ∙ entry_uses c.entry _
         ∙ body_uses n (n + c.labels) out_in (n + c.labels + 1) c.instructions q.1 f (among_left body ((n + c.labels) ∷ []) own) (item.Label (n + c.labels) ∷ rest)
 
-    forms_uses : (label n : ℕ) (cs : List Code) → list_all (λ c. forward c.labels c.instructions) cs ≡ true → list_all (λ c. list_all (labels_few count) c.instructions) cs ≡ true → Among (forms_labels label n cs) → Uses (forms_code heap_end label n cs)
+    forms_uses : (label n : ℕ) (cs : List Code) → list_all (λ c. forward c.labels c.instructions) cs ≡ true → list_all (λ c. list_all (labels_few count) c.instructions) cs ≡ true → Among (forms_labels label n cs) → Uses (forms_code words heap_end label n cs)
     forms_uses label n [] e f h rest = refl
     forms_uses label n (c ∷ cs) e f h rest =
         let p = and_parts (forward c.labels c.instructions) (list_all (λ c. forward c.labels c.instructions) cs) e in
         let q = and_parts (list_all (labels_few count) c.instructions) (list_all (λ c. list_all (labels_few count) c.instructions) cs) f in
-        form_uses label n c p.0 q.0 (among_left (form_labels label n c) (forms_labels (suc label) (labels_end n c) cs) h) (forms_code heap_end (suc label) (labels_end n c) cs rest)
+        form_uses label n c p.0 q.0 (among_left (form_labels label n c) (forms_labels (suc label) (labels_end n c) cs) h) (forms_code words heap_end (suc label) (labels_end n c) cs rest)
         ∙ forms_uses (suc label) (labels_end n c) cs p.1 q.1 (among_right (form_labels label n c) (forms_labels (suc label) (labels_end n c) cs) h) rest
 
     -- the library's procedures
@@ -310,12 +318,12 @@ program_known p limit depth e f g =
     let forms = forms_labels 0 (own_label p) p.bodies in
     let own = labels_in rest in
     let all : List ℕ = labels_in (program_code p limit depth) in
-    let is : all ≡ forms ++ own = forms_labelled heap_end 0 (own_label p) p.bodies rest in
+    let is : all ≡ forms ++ own = forms_labelled p.words heap_end 0 (own_label p) p.bodies rest in
     let at : (y : ℕ) → is_among (forms ++ own) y ≡ true → is_among all y ≡ true = λ y h. ap (λ l. is_among l y) is ∙ h in
     let put_in : is_among all 1024 ≡ true = at 1024 (right_in forms own 1024 refl) in
     let bodies_in : (l : ℕ) → l < length p.bodies → is_among all (body_label l) ≡ true = λ l lt. at (body_label l) (left_in forms own (body_label l) (let z : 0 + l ≡ l = omega arith in ap (λ l. is_among forms (body_label l)) (sym z) ∙ body_in 0 (own_label p) p.bodies l lt)) in
-    let uses : list_all (known all) (uses_in (program_code p limit depth)) ≡ list_all (known all) (uses_in rest) = forms_uses all put_in (length p.bodies) bodies_in heap_end 0 (own_label p) p.bodies e f (λ y h. at y (left_in forms own y h)) rest in
+    let uses : list_all (known all) (uses_in (program_code p limit depth)) ≡ list_all (known all) (uses_in rest) = forms_uses all put_in (length p.bodies) bodies_in p.words heap_end 0 (own_label p) p.bodies e f (λ y h. at y (left_in forms own y h)) rest in
     let end : list_all (known all) (uses_in rest) ≡ true = last_known all (at 1029 (right_in forms own 1029 refl)) (at 1025 (right_in forms own 1025 refl)) (at 1026 (right_in forms own 1026 refl)) (at 1027 (right_in forms own 1027 refl)) (at 1028 (right_in forms own 1028 refl)) in
-    let words : list_all (known all) (word_uses (program_words p)) ≡ true = ap (list_all (known all)) (words_use p) ∙ library_uses all put_in (length p.bodies) bodies_in heap_end p.library g in
+    let words : list_all (known all) (word_uses (program_words p)) ≡ true = ap (list_all (known all)) (words_use p) ∙ library_uses all put_in (length p.bodies) bodies_in p.words heap_end p.library g in
     All-from_recursion (λ l. IsTrue (is_routine l || is_among all l)) (uses_in (program_code p limit depth) ++ word_uses (program_words p))
     (says_all all (uses_in (program_code p limit depth) ++ word_uses (program_words p)) (all_known all (uses_in (program_code p limit depth)) (word_uses (program_words p)) (uses ∙ end) words))

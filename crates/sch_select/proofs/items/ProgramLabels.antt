@@ -17,8 +17,8 @@ use Rattle.sch_asm.specs.Routines.{label_of}
 use Rattle.sch_asm.specs.Items.{IsEachOnce, is_among, labels_in}
 use Rattle.sch_asm.proofs.Tables.{each_once, repeats}
 use Rattle.sch_select.specs.Select.{put_label, body_label, instruction_code, body_code}
-use Rattle.sch_select.specs.Program.{passed_code, form_code, forms_code, labels_end, heap_of, own_label, put_value_code, program_code}
-use Rattle.sch_select.proofs.items.Labels.{Block, Apart, Labelled, among_append, either_false, distinct_append, operand_labels, second_labelled, operand_block, group_labelled, operation_labels, operation_labelled, operation_block}
+use Rattle.sch_select.specs.Program.{passed_code, entry_code, form_code, forms_code, labels_end, heap_of, own_label, put_value_code, program_code}
+use Rattle.sch_select.proofs.items.Labels.{one_label, Block, Apart, Labelled, among_append, either_false, distinct_append, operand_labels, second_labelled, operand_block, group_labelled, operation_labels, operation_labelled, operation_block}
 
 -- elements of one list that another one has not
 apart_by : (xs ys : List ℕ) → ((x : ℕ) → is_among xs x ≡ true → is_among ys x ≡ false) → Apart xs ys
@@ -48,6 +48,8 @@ module _ (base : ℕ) where
   abbrev pub instruction_labels : ℕ → Instruction → List ℕ
   instruction_labels n (Do o) = operation_labels n o
   instruction_labels n (Load p o) = operand_labels n o
+  instruction_labels n (Pass k o) = operand_labels n o
+  instruction_labels n (Call spread count) = n ∷ []
   instruction_labels n (Label l) = (base + l) ∷ []
   instruction_labels n _ = []
 
@@ -55,17 +57,18 @@ module _ (base : ℕ) where
   body_labels n [] = []
   body_labels n (i ∷ instructions) = instruction_labels n i ++ body_labels (n + 12) instructions
 
-  module _ (out heap_end : ℕ) where
-    instruction_labelled : (n : ℕ) (i : Instruction) → Labelled (instruction_code base out heap_end n i) (instruction_labels n i)
+  module _ (out words heap_end : ℕ) where
+    instruction_labelled : (n : ℕ) (i : Instruction) → Labelled (instruction_code base out words heap_end n i) (instruction_labels n i)
     instruction_labelled n (Do o) rest = operation_labelled heap_end n o rest
     instruction_labelled n (Load p o) rest = second_labelled n o _
+    instruction_labelled n (Pass k o) rest = second_labelled n o _
     instruction_labelled n (Fix members) rest = group_labelled heap_end members rest
     instruction_labelled n _ rest = refl
 
-    pub body_labelled : (n : ℕ) (instructions : List Instruction) → Labelled (body_code base out heap_end n instructions) (body_labels n instructions)
+    pub body_labelled : (n : ℕ) (instructions : List Instruction) → Labelled (body_code base out words heap_end n instructions) (body_labels n instructions)
     body_labelled n [] rest = refl
     body_labelled n (i ∷ instructions) rest =
-        instruction_labelled n i (body_code base out heap_end (n + 12) instructions rest) ∙ ap (λ l. instruction_labels n i ++ l) (body_labelled (n + 12) instructions rest)
+        instruction_labelled n i (body_code base out words heap_end (n + 12) instructions rest) ∙ ap (λ l. instruction_labels n i ++ l) (body_labelled (n + 12) instructions rest)
         ∙ sym (append_assoc (instruction_labels n i) (body_labels (n + 12) instructions) (labels_in rest))
 
   absent : (y n : ℕ) (instructions : List Instruction) → y < n → ((l : ℕ) → has l (frames.labels_in instructions) ≡ true → y ≢ base + l) → is_among (body_labels n instructions) y ≡ false
@@ -79,9 +82,9 @@ module _ (base : ℕ) where
   absent y n (Store q ∷ instructions) lt h = absent y (n + 12) instructions (omega (arith, lt)) h
   absent y n (Copy to from ∷ instructions) lt h = absent y (n + 12) instructions (omega (arith, lt)) h
   absent y n (Load q o ∷ instructions) lt h = among_append (operand_labels n o) (body_labels (n + 12) instructions) y ((operand_block n o).below y lt) (absent y (n + 12) instructions (omega (arith, lt)) h)
-  absent y n (Pass j o ∷ instructions) lt h = absent y (n + 12) instructions (omega (arith, lt)) h
+  absent y n (Pass j o ∷ instructions) lt h = among_append (operand_labels n o) (body_labels (n + 12) instructions) y ((operand_block n o).below y lt) (absent y (n + 12) instructions (omega (arith, lt)) h)
   absent y n (Fix members ∷ instructions) lt h = absent y (n + 12) instructions (omega (arith, lt)) h
-  absent y n (Call spread count ∷ instructions) lt h = absent y (n + 12) instructions (omega (arith, lt)) h
+  absent y n (Call spread count ∷ instructions) lt h = among_append (n ∷ []) (body_labels (n + 12) instructions) y ((one_label n).below y lt) (absent y (n + 12) instructions (omega (arith, lt)) h)
   absent y n (Tail spread count ∷ instructions) lt h = absent y (n + 12) instructions (omega (arith, lt)) h
   absent y n (Return ∷ instructions) lt h = absent y (n + 12) instructions (omega (arith, lt)) h
   absent y n (End ∷ instructions) lt h = absent y (n + 12) instructions (omega (arith, lt)) h
@@ -108,9 +111,9 @@ module _ (base : ℕ) where
     beyond y n (Store q ∷ instructions) e le far = beyond y (n + 12) instructions e (omega (arith, le)) (omega (arith, far))
     beyond y n (Copy to from ∷ instructions) e le far = beyond y (n + 12) instructions e (omega (arith, le)) (omega (arith, far))
     beyond y n (Load q o ∷ instructions) e le far = among_append (operand_labels n o) (body_labels (n + 12) instructions) y ((operand_block n o).above y (omega (arith, far))) (beyond y (n + 12) instructions e (omega (arith, le)) (omega (arith, far)))
-    beyond y n (Pass j o ∷ instructions) e le far = beyond y (n + 12) instructions e (omega (arith, le)) (omega (arith, far))
+    beyond y n (Pass j o ∷ instructions) e le far = among_append (operand_labels n o) (body_labels (n + 12) instructions) y ((operand_block n o).above y (omega (arith, far))) (beyond y (n + 12) instructions e (omega (arith, le)) (omega (arith, far)))
     beyond y n (Fix members ∷ instructions) e le far = beyond y (n + 12) instructions e (omega (arith, le)) (omega (arith, far))
-    beyond y n (Call spread count ∷ instructions) e le far = beyond y (n + 12) instructions e (omega (arith, le)) (omega (arith, far))
+    beyond y n (Call spread count ∷ instructions) e le far = among_append (n ∷ []) (body_labels (n + 12) instructions) y ((one_label n).above y (omega (arith, far))) (beyond y (n + 12) instructions e (omega (arith, le)) (omega (arith, far)))
     beyond y n (Tail spread count ∷ instructions) e le far = beyond y (n + 12) instructions e (omega (arith, le)) (omega (arith, far))
     beyond y n (Return ∷ instructions) e le far = beyond y (n + 12) instructions e (omega (arith, le)) (omega (arith, far))
     beyond y n (End ∷ instructions) e le far = beyond y (n + 12) instructions e (omega (arith, le)) (omega (arith, far))
@@ -141,9 +144,15 @@ module _ (base : ℕ) where
         distinct_append (operand_labels n o) (body_labels (n + 12) instructions) (operand_block n o).distinct (different (n + 12) instructions e d (omega (arith, le)))
         (apart_by (operand_labels n o) (body_labels (n + 12) instructions) (λ x h. let hi = high_end (operand_block n o) x h in let lo = low_end (operand_block n o) x h in
         absent x (n + 12) instructions (omega (arith, hi)) (λ l k s. let small = local_small (frames.labels_in instructions) l e k in omega (arith, s, lo, le, small))))
-    different n (Pass j o ∷ instructions) e d le = different (n + 12) instructions e d (omega (arith, le))
+    different n (Pass j o ∷ instructions) e d le =
+        distinct_append (operand_labels n o) (body_labels (n + 12) instructions) (operand_block n o).distinct (different (n + 12) instructions e d (omega (arith, le)))
+        (apart_by (operand_labels n o) (body_labels (n + 12) instructions) (λ x h. let hi = high_end (operand_block n o) x h in let lo = low_end (operand_block n o) x h in
+        absent x (n + 12) instructions (omega (arith, hi)) (λ l k s. let small = local_small (frames.labels_in instructions) l e k in omega (arith, s, lo, le, small))))
     different n (Fix members ∷ instructions) e d le = different (n + 12) instructions e d (omega (arith, le))
-    different n (Call spread count ∷ instructions) e d le = different (n + 12) instructions e d (omega (arith, le))
+    different n (Call spread count ∷ instructions) e d le =
+        distinct_append (n ∷ []) (body_labels (n + 12) instructions) (one_label n).distinct (different (n + 12) instructions e d (omega (arith, le)))
+        (apart_by (n ∷ []) (body_labels (n + 12) instructions) (λ x h. let hi = high_end (one_label n) x h in let lo = low_end (one_label n) x h in
+        absent x (n + 12) instructions (omega (arith, hi)) (λ l k s. let small = local_small (frames.labels_in instructions) l e k in omega (arith, s, lo, le, small))))
     different n (Tail spread count ∷ instructions) e d le = different (n + 12) instructions e d (omega (arith, le))
     different n (Return ∷ instructions) e d le = different (n + 12) instructions e d (omega (arith, le))
     different n (End ∷ instructions) e d le = different (n + 12) instructions e d (omega (arith, le))
@@ -178,11 +187,15 @@ passed_labelled : (o : Option Entry) (out : ℕ) → Labelled (passed_code o out
 passed_labelled None out rest = refl
 passed_labelled (Some e) out rest = refl
 
-form_labelled : (heap_end label n : ℕ) (c : Code) → Labelled (form_code heap_end label n c) (form_labels label n c)
-form_labelled heap_end label n c rest =
+entry_labelled : (o : Option Entry) → Labelled (entry_code o) []
+entry_labelled None rest = refl
+entry_labelled (Some e) rest = refl
+
+form_labelled : (words heap_end label n : ℕ) (c : Code) → Labelled (form_code words heap_end label n c) (form_labels label n c)
+form_labelled words heap_end label n c rest =
     passed_labelled c.entry (n + c.labels) _
     ∙ ap (λ l. body_label label ∷ l)
-    (body_labelled n (n + c.labels) heap_end (n + c.labels + 1) c.instructions (item.Label (n + c.labels) ∷ rest)
+    (entry_labelled c.entry _ ∙ body_labelled n (n + c.labels) words heap_end (n + c.labels + 1) c.instructions (item.Label (n + c.labels) ∷ rest)
     ∙ sym (append_assoc (body_labels n (n + c.labels + 1) c.instructions) ((n + c.labels) ∷ []) (labels_in rest)))
 
 own_block : (n : ℕ) (c : Code) → forward c.labels c.instructions ≡ true → Block n (labels_end n c) (own_labels n c)
@@ -208,10 +221,10 @@ abbrev pub forms_end : ℕ → List Code → ℕ
 forms_end n [] = n
 forms_end n (c ∷ cs) = forms_end (labels_end n c) cs
 
-pub forms_labelled : (heap_end label n : ℕ) (cs : List Code) → Labelled (forms_code heap_end label n cs) (forms_labels label n cs)
-forms_labelled heap_end label n [] rest = refl
-forms_labelled heap_end label n (c ∷ cs) rest =
-    form_labelled heap_end label n c (forms_code heap_end (suc label) (labels_end n c) cs rest) ∙ ap (λ l. form_labels label n c ++ l) (forms_labelled heap_end (suc label) (labels_end n c) cs rest)
+pub forms_labelled : (words heap_end label n : ℕ) (cs : List Code) → Labelled (forms_code words heap_end label n cs) (forms_labels label n cs)
+forms_labelled words heap_end label n [] rest = refl
+forms_labelled words heap_end label n (c ∷ cs) rest =
+    form_labelled words heap_end label n c (forms_code words heap_end (suc label) (labels_end n c) cs rest) ∙ ap (λ l. form_labels label n c ++ l) (forms_labelled words heap_end (suc label) (labels_end n c) cs rest)
     ∙ sym (append_assoc (form_labels label n c) (forms_labels (suc label) (labels_end n c) cs) (labels_in rest))
 
 end_above : (n : ℕ) (cs : List Code) → n ≤ forms_end n cs
@@ -253,7 +266,7 @@ program_once p limit depth e =
     let rest = item.Jump (label_of routine.End) ∷ (item.Label put_label ∷ put_value_code) in
     let forms = forms_labels 0 (own_label p) p.bodies in
     let b = forms_block 0 (own_label p) p.bodies (omega arith) e in
-    let all : labels_in (program_code p limit depth) ≡ forms ++ labels_in rest = forms_labelled (heap_of p + limit) 0 (own_label p) p.bodies rest in
+    let all : labels_in (program_code p limit depth) ≡ forms ++ labels_in rest = forms_labelled p.words (heap_of p + limit) 0 (own_label p) p.bodies rest in
     subst IsEachOnce (sym all) (each_once (forms ++ labels_in rest) (distinct_append forms (labels_in rest) b.distinct refl (apart_by forms (labels_in rest) (λ x h. own x (labels_low p e x h)))))
   where
     own : (x : ℕ) → 1032 ≤ x → is_among (1024 ∷ (1025 ∷ (1026 ∷ (1027 ∷ (1028 ∷ (1029 ∷ [])))))) x ≡ false

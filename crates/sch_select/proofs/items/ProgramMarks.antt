@@ -4,6 +4,7 @@ use Rattle.std.specs.Prelude.{not, nat_lt, nat_le, IsTrue}
 use Rattle.std.specs.List.{list_all}
 use Rattle.std.proofs.lemmas.Bool.{and_parts}
 use Rattle.sch_word.specs.declared.place.Place.{Place}
+use Rattle.sch_word.specs.declared.place.Place.TheVariants.{Slot}
 use Rattle.sch_word.specs.declared.primitive.Primitive.{Primitive}
 use Rattle.sch_word.specs.declared.primitive.Primitive.TheVariants.{IsBoolean, Eq}
 use Rattle.sch_control.specs.declared.operation.Atom.{Atom}
@@ -17,10 +18,11 @@ use Rattle.sch_control.specs.declared.operation.Closure.{Closure}
 use Rattle.sch_control.specs.declared.operation.Member.{Member}
 use Rattle.sch_control.specs.declared.operation.Operation.{Operation}
 use Rattle.sch_insn.specs.declared.insn.Insn.TheVariants.{MovTo}
-use Rattle.sch_frames.specs.Valid.{is_place}
+use Rattle.sch_word.specs.trees.Shape.{max_operands}
+use Rattle.sch_frames.specs.Valid.{formals_of, handed_over, is_place}
 use Rattle.sch_control.specs.declared.operation.Operation.TheVariants as operation
 use Rattle.sch_frames.specs.declared.instruction.Instruction.{Instruction}
-use Rattle.sch_frames.specs.declared.instruction.Instruction.TheVariants.{Do, Store, Copy, Load, Fix, Return, End, IfFalse, Jump, Label, Mark}
+use Rattle.sch_frames.specs.declared.instruction.Instruction.TheVariants.{Do, Store, Copy, Load, Pass, Fix, Call, Tail, Return, End, IfFalse, Jump, Label, Mark}
 use Rattle.sch_frames.specs.Tree.{Code}
 use Rattle.sch_frames.specs.Tree as tree
 use Rattle.sch_asm.specs.declared.item.Item.{Item}
@@ -29,7 +31,7 @@ use Rattle.sch_asm.specs.declared.routine.Routine.TheVariants as routine
 use Rattle.sch_asm.specs.Routines.{label_of}
 use Rattle.sch_asm.specs.Items.{marks_arrive}
 use Rattle.sch_select.specs.Select.{put_label, place_operand, atom_code, unary_code, binary_code, read_code, operand_code, second_code, source_code, fields_code, record_code, closure_bytes, places_code, records_code, operation_code, instruction_code, body_code}
-use Rattle.sch_select.specs.Program.{passed_code, forms_code, labels_end, put_value_code, program_code, own_label, heap_of}
+use Rattle.sch_select.specs.Program.{passed_code, entry_code, forms_code, labels_end, put_value_code, program_code, own_label, heap_of}
 use Rattle.sch_select.proofs.items.ProgramSound.{in_front}
 use Rattle.sch_select.proofs.programs.Selected.{atom_selected, read_selected, operand_selected, source_selected, closure_selected, members_selected, operation_selected, instruction_selected, form_selected, selects, takes}
 use Rattle.sch_select.specs.Covered.{marks_settled}
@@ -122,20 +124,23 @@ module _ (words globals heap_end : ℕ) where
       operand_arrives n o p.1 b _ ∙ source_arrives 1 x p.0 false _
   operation_arrives n (operation.MakeClosure c) e b rest = record_quiet 0 c e _
 
-  body_arrives : (base out n : ℕ) (instructions : List Instruction) (b : Bool) (following : List Item) → list_all (instruction_selected words globals) instructions ≡ true → marks_settled b instructions ≡ true → marks_arrive b (body_code base out heap_end n instructions (item.Label out ∷ following)) ≡ marks_arrive false following
+  body_arrives : (base out n : ℕ) (instructions : List Instruction) (b : Bool) (following : List Item) → list_all (instruction_selected words globals) instructions ≡ true → marks_settled b instructions ≡ true → marks_arrive b (body_code base out words heap_end n instructions (item.Label out ∷ following)) ≡ marks_arrive false following
   body_arrives base out n [] b following e m = in_front (not b) (marks_arrive false following) m
   body_arrives base out n (i ∷ instructions) b following e m =
       let p = and_parts (instruction_selected words globals i) (list_all (instruction_selected words globals) instructions) e in
       by i p.0 m (λ b m. body_arrives base out (n + 12) instructions b following p.1 m)
     where
       rest : List Item
-      rest = body_code base out heap_end (n + 12) instructions (item.Label out ∷ following)
+      rest = body_code base out words heap_end (n + 12) instructions (item.Label out ∷ following)
 
-      by : (i : Instruction) → instruction_selected words globals i ≡ true → marks_settled b (i ∷ instructions) ≡ true → ((b : Bool) → marks_settled b instructions ≡ true → marks_arrive b rest ≡ marks_arrive false following) → marks_arrive b (instruction_code base out heap_end n i rest) ≡ marks_arrive false following
+      by : (i : Instruction) → instruction_selected words globals i ≡ true → marks_settled b (i ∷ instructions) ≡ true → ((b : Bool) → marks_settled b instructions ≡ true → marks_arrive b rest ≡ marks_arrive false following) → marks_arrive b (instruction_code base out words heap_end n i rest) ≡ marks_arrive false following
       by (Do o) e m rec = operation_arrives n o e b rest ∙ rec false m
       by (Store q) e m rec = rec false m
       by (Copy to from) e m rec = rec false m
       by (Load q o) e m rec = second_arrives n o (and_parts (is_place words q) (operand_selected words globals o) e).1 b (item.Plain (MovTo (place_operand q) 1) ∷ rest) ∙ rec false m
+      by (Pass k o) e m rec = second_arrives n o (and_parts (nat_lt k words) (operand_selected words globals o) e).1 b (item.Plain (MovTo (place_operand (Slot (words + k))) 1) ∷ rest) ∙ rec false m
+      by (Call spread count) e m rec = rec false m
+      by (Tail spread count) e m rec = rec false m
       by (Fix members) e m rec =
           let p = and_parts (nat_le (length members) 200) (members_selected words globals members) e in
           places_quiet 0 members _ ∙ records_quiet 0 members p.1 _ ∙ rec false m
@@ -145,19 +150,22 @@ module _ (words globals heap_end : ℕ) where
       by (Jump l) e m rec = rec false m
       by (Label l) e m rec = let q = and_parts (not b) (marks_settled false instructions) m in in_front (not b) (marks_arrive false rest) q.0 ∙ rec false q.1
       by (Mark k) e m rec = rec true m
-      by _ e m rec = impossible e
 
   passed_quiet : (o : Option Entry) (out : ℕ) → Quiet (passed_code o out)
   passed_quiet None out rest = refl
   passed_quiet (Some e) out rest = refl
 
-  forms_arrive : (label n : ℕ) (cs : List Code) (rest : List Item) → list_all (form_selected words globals) cs ≡ true → list_all (λ c. marks_settled true c.instructions) cs ≡ true → marks_arrive false (forms_code heap_end label n cs rest) ≡ marks_arrive false rest
+  entry_quiet : (o : Option Entry) → Quiet (entry_code o)
+  entry_quiet None rest = refl
+  entry_quiet (Some e) rest = refl
+
+  forms_arrive : (label n : ℕ) (cs : List Code) (rest : List Item) → list_all (form_selected words globals) cs ≡ true → list_all (λ c. marks_settled true c.instructions) cs ≡ true → marks_arrive false (forms_code words heap_end label n cs rest) ≡ marks_arrive false rest
   forms_arrive label n [] rest e m = refl
   forms_arrive label n (c ∷ cs) rest e m =
       let p = and_parts (form_selected words globals c) (list_all (form_selected words globals) cs) e in
       let s = and_parts (marks_settled true c.instructions) (list_all (λ c. marks_settled true c.instructions) cs) m in
-      passed_quiet c.entry (n + c.labels) _
-      ∙ body_arrives n (n + c.labels) (n + c.labels + 1) c.instructions true (forms_code heap_end (suc label) (labels_end n c) cs rest) p.0 s.0
+      passed_quiet c.entry (n + c.labels) _ ∙ entry_quiet c.entry _
+      ∙ body_arrives n (n + c.labels) (n + c.labels + 1) c.instructions true (forms_code words heap_end (suc label) (labels_end n c) cs rest) (and_parts (nat_le (formals_of c.entry) max_operands) (list_all (instruction_selected words globals) c.instructions) p.0).1 s.0
       ∙ forms_arrive (suc label) (labels_end n c) cs rest p.1 s.1
 
 pub program_marked : (p : tree.Source) (limit depth : ℕ) → selects p ≡ true → IsTrue (marks_arrive false (program_code p limit depth))

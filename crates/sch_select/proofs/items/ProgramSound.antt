@@ -1,6 +1,6 @@
 -- The items of a selected program are valid.
 use Rattle.std.proofs.Common.{◌≡◌, ℕ, suc, ◌+◌, ◌*◌, ◌<◌, ◌≤◌, List, [], ◌∷◌, length, Option, Some, None, Bool, true, false, refl, sym, ◌∙◌, arith, ◌&&◌, ⊎_elim}
-use Rattle.std.specs.Prelude.{ℤ, pos, negsuc, ◌≤ℤ◌, ◌*ℤ◌, int_le, nat_eq, nat_lt, nat_le}
+use Rattle.std.specs.Prelude.{ℤ, pos, negsuc, ◌≤ℤ◌, ◌*ℤ◌, int_le, not, nat_eq, nat_lt, nat_le}
 use Rattle.std.specs.List.{list_all}
 use Rattle.std.proofs.lemmas.Bool.{and_parts, and_from, leb-true, ltb-true, lt-ltb, le-leb, ne_eqb, cases_lt}
 use Rattle.std.proofs.lemmas.Int.{ints}
@@ -26,10 +26,11 @@ use Rattle.sch_insn.specs.declared.insn.Insn.TheVariants.{MovTo, MovNumber, AddN
 use Rattle.sch_insn.specs.declared.insn.Arg.TheVariants.{Reg}
 use Rattle.sch_control.specs.declared.operation.Operation.TheVariants as operation
 use Rattle.sch_frames.specs.declared.instruction.Instruction.{Instruction}
-use Rattle.sch_frames.specs.declared.instruction.Instruction.TheVariants.{Do, Store, Copy, Load, Fix, Return, End, IfFalse, Jump, Label, Mark}
+use Rattle.sch_frames.specs.declared.instruction.Instruction.TheVariants.{Do, Store, Copy, Load, Pass, Fix, Call, Tail, Return, End, IfFalse, Jump, Label, Mark}
 use Rattle.sch_frames.specs.Tree.{Code}
 use Rattle.sch_frames.specs.Tree as tree
-use Rattle.sch_frames.specs.Valid.{is_place, is_register}
+use Rattle.sch_word.specs.trees.Shape.{max_operands}
+use Rattle.sch_frames.specs.Valid.{formals_of, handed_over, is_place, is_register}
 use Rattle.sch_asm.specs.declared.item.Item.{Item}
 use Rattle.sch_asm.specs.declared.item.Item.TheVariants as item
 use Rattle.sch_asm.specs.Items.{AreItems}
@@ -37,7 +38,7 @@ use Rattle.sch_asm.specs.Routines.{label_of}
 use Rattle.sch_asm.specs.declared.routine.Routine.TheVariants as routine
 use Rattle.sch_heap.specs.Encoded.{constant_number}
 use Rattle.sch_select.specs.Select.{atom_code, unary_code, binary_code, read_code, operand_code, second_code, source_code, check_heap, part_code, part_operand, fields_code, record_code, closure_bytes, group_bytes, places_code, records_code, group_code, operation_code, global_address, place_operand, instruction_code, body_code, put_label}
-use Rattle.sch_select.specs.Program.{passed_code, forms_code, labels_end, put_value_code, program_code, own_label, heap_of}
+use Rattle.sch_select.specs.Program.{passed_code, entry_code, forms_code, labels_end, put_value_code, program_code, own_label, heap_of}
 use Rattle.sch_select.proofs.simulation.Records.{bytes_are}
 use Rattle.sch_select.proofs.simulation.Closures.{group_small}
 use Rattle.sch_select.proofs.items.Sound.{items_valid, arg_valid, fits_32, fits_64, items_say}
@@ -215,7 +216,7 @@ module _ (words globals heap_end : ℕ) (narrow : words ≤ 2048) (few : globals
       let b = closure_small c e in
       heap_valid (closure_bytes c) (omega (arith, b)) (record_code 0 c (part_code 4 (closure_bytes c) rest)) ∙ record_valid 0 c (omega arith) e (part_code 4 (closure_bytes c) rest) ∙ part_valid 4 (closure_bytes c) (omega arith) (omega (arith, b)) rest
 
-  instruction_valid : (base out n : ℕ) (i : Instruction) → instruction_selected words globals i ≡ true → Valid (instruction_code base out heap_end n i)
+  instruction_valid : (base out n : ℕ) (i : Instruction) → instruction_selected words globals i ≡ true → Valid (instruction_code base out words heap_end n i)
   instruction_valid base out n (Do o) e rest = operation_valid n o e rest
   instruction_valid base out n (Store p) e rest = in_front (arg_valid (place_operand p) && true) (items_valid rest) (and_from (arg_valid (place_operand p)) true (place_valid p e) refl)
   instruction_valid base out n (Copy to from) e rest =
@@ -225,6 +226,19 @@ module _ (words globals heap_end : ℕ) (narrow : words ≤ 2048) (few : globals
   instruction_valid base out n (Load q o) e rest =
       let p = and_parts (is_place words q) (operand_selected words globals o) e in
       second_valid n o p.1 _ ∙ in_front (arg_valid (place_operand q) && true) (items_valid rest) (and_from (arg_valid (place_operand q)) true (place_valid q p.0) refl)
+  instruction_valid base out n (Pass k o) e rest =
+      let p = and_parts (nat_lt k words) (operand_selected words globals o) e in
+      let lt = ltb-true k words p.0 in
+      second_valid n o p.1 _ ∙ in_front (arg_valid (place_operand (Slot (words + k))) && true) (items_valid rest) (and_from (arg_valid (place_operand (Slot (words + k)))) true (fits_short (8 * (words + k)) (omega (arith, lt, narrow))) refl)
+  instruction_valid base out n (Call spread count) e rest =
+      let p = and_parts (not spread) (nat_le count max_operands && handed_over words count) e in
+      let small = leb-true count max_operands (and_parts (nat_le count max_operands) (handed_over words count) p.1).0 in
+      let bytes = fits_short (8 * words) (omega (arith, narrow)) in
+      in_front (fits_32 (pos (8 * words))) _ bytes ∙ in_front (fits_32 (pos count)) _ (fits_short count (omega (arith, small))) ∙ in_front (fits_32 (pos (8 * words))) (items_valid rest) bytes
+  instruction_valid base out n (Tail spread count) e rest =
+      let p = and_parts (not spread) (nat_le count max_operands && handed_over words count) e in
+      let small = leb-true count max_operands (and_parts (nat_le count max_operands) (handed_over words count) p.1).0 in
+      in_front (fits_32 (pos count)) (items_valid rest) (fits_short count (omega (arith, small)))
   instruction_valid base out n (Fix members) e rest = let p = and_parts (nat_le (length members) 200) (members_selected words globals members) e in group_valid members p.0 p.1 rest
   instruction_valid base out n Return e rest = refl
   instruction_valid base out n End e rest = refl
@@ -232,30 +246,34 @@ module _ (words globals heap_end : ℕ) (narrow : words ≤ 2048) (few : globals
   instruction_valid base out n (Jump l) e rest = refl
   instruction_valid base out n (Label l) e rest = refl
   instruction_valid base out n (Mark m) e rest = refl
-  instruction_valid base out n _ e rest = absurd (let bad : false ≡ true = e in cc)
 
-  body_valid : (base out n : ℕ) (instructions : List Instruction) → list_all (instruction_selected words globals) instructions ≡ true → Valid (body_code base out heap_end n instructions)
+  body_valid : (base out n : ℕ) (instructions : List Instruction) → list_all (instruction_selected words globals) instructions ≡ true → Valid (body_code base out words heap_end n instructions)
   body_valid base out n [] e rest = refl
   body_valid base out n (i ∷ instructions) e rest =
       let p = and_parts (instruction_selected words globals i) (list_all (instruction_selected words globals) instructions) e in
-      instruction_valid base out n i p.0 (body_code base out heap_end (n + 12) instructions rest) ∙ body_valid base out (n + 12) instructions p.1 rest
+      instruction_valid base out n i p.0 (body_code base out words heap_end (n + 12) instructions rest) ∙ body_valid base out (n + 12) instructions p.1 rest
 
   passed_valid : (o : Option Entry) (out : ℕ) → Valid (passed_code o out)
   passed_valid None out rest = refl
   passed_valid (Some e) out rest = refl
 
-  forms_valid : (label n : ℕ) (cs : List Code) → list_all (form_selected words globals) cs ≡ true → Valid (forms_code heap_end label n cs)
+  entry_valid : (o : Option Entry) → nat_le (formals_of o) max_operands ≡ true → Valid (entry_code o)
+  entry_valid None e rest = refl
+  entry_valid (Some q) e rest = let small = leb-true q.formals max_operands e in in_front (fits_32 (pos q.formals)) (items_valid rest) (fits_short q.formals (omega (arith, small)))
+
+  forms_valid : (label n : ℕ) (cs : List Code) → list_all (form_selected words globals) cs ≡ true → Valid (forms_code words heap_end label n cs)
   forms_valid label n [] e rest = refl
   forms_valid label n (c ∷ cs) e rest =
       let p = and_parts (form_selected words globals c) (list_all (form_selected words globals) cs) e in
-      passed_valid c.entry (n + c.labels) _ ∙ body_valid n (n + c.labels) (n + c.labels + 1) c.instructions p.0 _ ∙ forms_valid (suc label) (labels_end n c) cs p.1 rest
+      let q = and_parts (nat_le (formals_of c.entry) max_operands) (list_all (instruction_selected words globals) c.instructions) p.0 in
+      passed_valid c.entry (n + c.labels) _ ∙ entry_valid c.entry q.0 _ ∙ body_valid n (n + c.labels) (n + c.labels + 1) c.instructions q.1 _ ∙ forms_valid (suc label) (labels_end n c) cs p.1 rest
 
 pub program_sound : (p : tree.Source) (limit depth : ℕ) → p.words ≤ 2048 → length p.statics.globals ≤ 29360128 → length p.library ≤ 1048576 → limit ≤ 1073741824 → depth ≤ 10000000 → selects p ≡ true → AreItems (program_code p limit depth)
 program_sound p limit depth narrow few library heap deep e =
     let parts = and_parts (list_all (form_selected p.words (length p.statics.globals)) p.bodies) (list_all (λ c. marks_settled true c.instructions) p.bodies) e in
     let rest = item.Jump (label_of routine.End) ∷ (item.Label put_label ∷ put_value_code) in
     let globals = length p.statics.globals in
-    let forms : items_valid (forms_code (heap_of p + limit) 0 (own_label p) p.bodies rest) ≡ true = forms_valid p.words globals (heap_of p + limit) narrow few (omega (arith, few, library, heap)) 0 (own_label p) p.bodies parts.0 rest in
+    let forms : items_valid (forms_code p.words (heap_of p + limit) 0 (own_label p) p.bodies rest) ≡ true = forms_valid p.words globals (heap_of p + limit) narrow few (omega (arith, few, library, heap)) 0 (own_label p) p.bodies parts.0 rest in
     let a : fits_64 (pos (heap_of p + limit)) ≡ true = fits_word (pos (heap_of p + limit)) (omega (arith, ints)) (omega (arith, ints, few, library, heap)) in
     let b : fits_64 (pos (heap_of p)) ≡ true = fits_word (pos (heap_of p)) (omega (arith, ints)) (omega (arith, ints, few, library)) in
     let c : fits_64 (pos depth) ≡ true = fits_word (pos depth) (omega (arith, ints)) (omega (arith, ints, deep)) in

@@ -1,9 +1,10 @@
 -- How long the text of a program is: 64 bytes for each instruction, operand, atom, closure of a group and
 -- procedure, and what every program has.
 use Rattle.std.proofs.Common.{ℕ, suc, ◌+◌, ◌*◌, ◌≤◌, ◌≡◌, List, [], ◌∷◌, length, length-append, Option, Some, None, refl, ap, arith}
-use Rattle.std.specs.Prelude.{pos}
+use Rattle.std.specs.Prelude.{negsuc, pos}
 use Rattle.std.proofs.lemmas.Bool.{leb-true}
 use Rattle.sch_word.specs.declared.place.Place.{Place}
+use Rattle.sch_word.specs.declared.place.Place.TheVariants.{Slot}
 use Rattle.sch_word.specs.declared.primitive.Primitive.{Primitive}
 use Rattle.sch_word.specs.declared.primitive.Primitive.TheVariants.{IsBoolean, Eq}
 use Rattle.sch_control.specs.declared.operation.Atom.{Atom}
@@ -25,9 +26,10 @@ use Rattle.sch_frames.specs.Sizes.{instruction_size, instructions_size, codes_si
 use Rattle.sch_frames.specs.Tree.{Code}
 use Rattle.sch_frames.specs.Tree as tree
 use Rattle.sch_insn.specs.declared.insn.Arg.TheVariants.{Reg, Base32}
-use Rattle.sch_insn.specs.declared.insn.Insn.TheVariants.{MovTo, MovFrom, MovNumber, MovWord, AddNumber, CmpNumber, JumpTo}
+use Rattle.sch_insn.specs.declared.insn.Insn.TheVariants.{MovTo, MovFrom, MovNumber, MovWord, AddNumber, SubNumber, CmpNumber, JumpTo}
 use Rattle.sch_insn.specs.declared.condition.TheConstants.{E}
 use Rattle.sch_asm.specs.declared.item.MarkKind.TheVariants.{Enter}
+use Rattle.sch_insn.specs.Spelling.{spelling}
 use Rattle.sch_insn.proofs.PrefixCode.{spelling_short}
 use Rattle.sch_asm.specs.declared.item.Item.{Item}
 use Rattle.sch_asm.specs.declared.item.Item.TheVariants as item
@@ -35,8 +37,8 @@ use Rattle.sch_asm.specs.declared.routine.Routine.TheVariants as routine
 use Rattle.sch_asm.specs.Codes.{text_size}
 use Rattle.sch_asm.specs.Routines.{label_of}
 use Rattle.sch_heap.specs.Encoded.{constant_number}
-use Rattle.sch_select.specs.Select.{place_operand, atom_code, unary_code, binary_code, read_code, operand_code, second_code, primitive_code, operation_code, instruction_code, body_code, global_address, put_label, stop_label, body_label, source_code, check_cell, cell_operand, check_heap, part_code, part_operand, fields_code, record_code, closure_bytes, group_bytes, places_code, records_code, group_code}
-use Rattle.sch_select.specs.Program.{passed_code, forms_code, labels_end, own_label, heap_of, program_code, put_value_code}
+use Rattle.sch_select.specs.Select.{place_operand, atom_code, unary_code, binary_code, read_code, operand_code, second_code, primitive_code, operation_code, instruction_code, body_code, global_address, put_label, stop_label, body_label, source_code, check_cell, cell_operand, check_heap, part_code, part_operand, fields_code, record_code, closure_bytes, group_bytes, places_code, records_code, group_code, check_depth, check_operator, enter_code, open_code, close_code, call_code, tail_code}
+use Rattle.sch_select.specs.Program.{passed_code, entry_code, forms_code, labels_end, own_label, heap_of, program_code, put_value_code}
 use Rattle.sch_select.specs.Sizes.{grouped, jumped, closures_in}
 use Rattle.sch_word.specs.declared.stop.Stop.TheVariants.{Unset}
 
@@ -186,52 +188,85 @@ group_adds heap_end members rest =
 
 -- ## Bodies
 
-instruction_adds : (base out heap_end n : ℕ) (i : Instruction) (rest : List Item) → text_size (instruction_code base out heap_end n i rest) ≤ 64 * (instruction_size i + grouped (i ∷ [])) + text_size rest
-instruction_adds base out heap_end n (instruction.Do o) rest = let h = operation_adds heap_end n o rest in omega (arith, h)
-instruction_adds base out heap_end n (instruction.Store p) rest = let s = spelling_short (MovTo (place_operand p) 0) in omega (arith, s)
-instruction_adds base out heap_end n (instruction.Copy to from) rest =
+enter_adds : (count : ℕ) (rest : List Item) → text_size (enter_code count rest) ≤ 25 + text_size rest
+enter_adds count rest =
+    let a = spelling_short (MovNumber (Reg 0) (pos count)) in
+    let b : length (spelling (MovFrom 1 (Base32 14 (negsuc 3)))) ≡ 7 = refl in
+    let c : length (spelling (JumpTo (Reg 1))) ≡ 3 = refl in
+    omega (arith, a, b, c)
+
+operator_adds : (rest : List Item) → text_size (check_operator rest) ≤ 23 + text_size rest
+operator_adds rest = omega arith
+
+call_adds : (words n count : ℕ) (rest : List Item) → text_size (call_code words n count rest) ≤ 128 + text_size rest
+call_adds words n count rest =
+    let a = spelling_short (AddNumber (Reg 5) (pos (8 * words))) in
+    let b = spelling_short (SubNumber (Reg 5) (pos (8 * words))) in
+    let back = item.Label n ∷ (item.Plain (SubNumber (Reg 5) (pos (8 * words))) ∷ (item.Plain (AddNumber (Reg 13) (pos 1)) ∷ rest)) in
+    let c = enter_adds count back in
+    let d = operator_adds (check_depth (item.Plain (SubNumber (Reg 13) (pos 1)) ∷ (item.Plain (AddNumber (Reg 5) (pos (8 * words))) ∷ (item.LoadLabel 15 n ∷ enter_code count back)))) in
+    omega (arith, a, b, c, d)
+
+tail_adds : (count : ℕ) (rest : List Item) → text_size (tail_code count rest) ≤ 64 + text_size rest
+tail_adds count rest = let a = enter_adds count rest in let b = operator_adds (enter_code count rest) in omega (arith, a, b)
+
+instruction_adds : (base out words heap_end n : ℕ) (i : Instruction) (rest : List Item) → text_size (instruction_code base out words heap_end n i rest) ≤ 64 * (instruction_size i + grouped (i ∷ [])) + text_size rest
+instruction_adds base out words heap_end n (instruction.Do o) rest = let h = operation_adds heap_end n o rest in omega (arith, h)
+instruction_adds base out words heap_end n (instruction.Store p) rest = let s = spelling_short (MovTo (place_operand p) 0) in omega (arith, s)
+instruction_adds base out words heap_end n (instruction.Copy to from) rest =
     let s = spelling_short (MovFrom 1 (place_operand from)) in
     let t = spelling_short (MovTo (place_operand to) 1) in
     omega (arith, s, t)
-instruction_adds base out heap_end n (instruction.Load p o) rest =
+instruction_adds base out words heap_end n (instruction.Load p o) rest =
     let h = second_adds n o (item.Plain (MovTo (place_operand p) 1) ∷ rest) in
     let s = spelling_short (MovTo (place_operand p) 1) in
     omega (arith, h, s)
-instruction_adds base out heap_end n (instruction.Fix members) rest = let h = group_adds heap_end members rest in omega (arith, h)
-instruction_adds base out heap_end n instruction.Return rest = let s = spelling_short (JumpTo (Reg 15)) in omega (arith, s)
-instruction_adds base out heap_end n instruction.End rest = omega arith
-instruction_adds base out heap_end n (instruction.IfFalse l) rest = omega arith
-instruction_adds base out heap_end n (instruction.Jump l) rest = omega arith
-instruction_adds base out heap_end n (instruction.Label l) rest = omega arith
-instruction_adds base out heap_end n (instruction.Mark m) rest = omega arith
-instruction_adds base out heap_end n _ rest = omega arith
+instruction_adds base out words heap_end n (instruction.Pass k o) rest =
+    let h = second_adds n o (item.Plain (MovTo (place_operand (Slot (words + k))) 1) ∷ rest) in
+    let s = spelling_short (MovTo (place_operand (Slot (words + k))) 1) in
+    omega (arith, h, s)
+instruction_adds base out words heap_end n (instruction.Call spread count) rest = call_adds words n count rest
+instruction_adds base out words heap_end n (instruction.Tail spread count) rest = tail_adds count rest
+instruction_adds base out words heap_end n (instruction.Fix members) rest = let h = group_adds heap_end members rest in omega (arith, h)
+instruction_adds base out words heap_end n instruction.Return rest = let s = spelling_short (JumpTo (Reg 15)) in omega (arith, s)
+instruction_adds base out words heap_end n instruction.End rest = omega arith
+instruction_adds base out words heap_end n (instruction.IfFalse l) rest = omega arith
+instruction_adds base out words heap_end n (instruction.Jump l) rest = omega arith
+instruction_adds base out words heap_end n (instruction.Label l) rest = omega arith
+instruction_adds base out words heap_end n (instruction.Mark m) rest = omega arith
 
 grouped_first : (i : Instruction) (is : List Instruction) → grouped (i ∷ is) ≡ grouped (i ∷ []) + grouped is
 grouped_first (instruction.Fix members) is = omega arith
 grouped_first (instruction.Do o) is = omega arith
+grouped_first (instruction.Call spread count) is = omega arith
 grouped_first _ is = omega arith
 
-body_adds : (base out heap_end n : ℕ) (is : List Instruction) (rest : List Item) → text_size (body_code base out heap_end n is rest) ≤ 64 * (instructions_size is + grouped is) + text_size rest
-body_adds base out heap_end n [] rest = omega arith
-body_adds base out heap_end n (i ∷ is) rest =
-    let h = instruction_adds base out heap_end n i (body_code base out heap_end (n + 12) is rest) in
-    let k = body_adds base out heap_end (n + 12) is rest in
+body_adds : (base out words heap_end n : ℕ) (is : List Instruction) (rest : List Item) → text_size (body_code base out words heap_end n is rest) ≤ 64 * (instructions_size is + grouped is) + text_size rest
+body_adds base out words heap_end n [] rest = omega arith
+body_adds base out words heap_end n (i ∷ is) rest =
+    let h = instruction_adds base out words heap_end n i (body_code base out words heap_end (n + 12) is rest) in
+    let k = body_adds base out words heap_end (n + 12) is rest in
     let g = grouped_first i is in
     omega (arith, h, k, g)
 
-passed_adds : (o : Option Entry) (out : ℕ) (rest : List Item) → text_size (passed_code o out rest) ≤ 64 * jumped o + text_size rest
+passed_adds : (o : Option Entry) (out : ℕ) (rest : List Item) → text_size (passed_code o out rest) ≤ 5 * jumped o + text_size rest
 passed_adds None out rest = omega arith
 passed_adds (Some e) out rest = omega arith
 
-forms_adds : (heap_end label n : ℕ) (cs : List Code) (rest : List Item) → text_size (forms_code heap_end label n cs rest) ≤ 64 * (codes_size cs + closures_in cs) + text_size rest
-forms_adds heap_end label n [] rest = omega arith
-forms_adds heap_end label n (c ∷ cs) rest =
-    let others = forms_code heap_end (suc label) (labels_end n c) cs rest in
-    let body = body_code n (n + c.labels) heap_end (n + c.labels + 1) c.instructions (item.Label (n + c.labels) ∷ others) in
-    let g = passed_adds c.entry (n + c.labels) (item.Label (body_label label) ∷ (item.Mark (Enter label) ∷ body)) in
-    let h = body_adds n (n + c.labels) heap_end (n + c.labels + 1) c.instructions (item.Label (n + c.labels) ∷ others) in
-    let k = forms_adds heap_end (suc label) (labels_end n c) cs rest in
-    omega (arith, g, h, k)
+entry_adds : (o : Option Entry) (rest : List Item) → text_size (entry_code o rest) ≤ 16 * jumped o + text_size rest
+entry_adds None rest = omega arith
+entry_adds (Some e) rest = let s = spelling_short (CmpNumber (Reg 0) (pos e.formals)) in omega (arith, s)
+
+forms_adds : (words heap_end label n : ℕ) (cs : List Code) (rest : List Item) → text_size (forms_code words heap_end label n cs rest) ≤ 64 * (codes_size cs + closures_in cs) + text_size rest
+forms_adds words heap_end label n [] rest = omega arith
+forms_adds words heap_end label n (c ∷ cs) rest =
+    let others = forms_code words heap_end (suc label) (labels_end n c) cs rest in
+    let body = body_code n (n + c.labels) words heap_end (n + c.labels + 1) c.instructions (item.Label (n + c.labels) ∷ others) in
+    let g = passed_adds c.entry (n + c.labels) (item.Label (body_label label) ∷ entry_code c.entry (item.Mark (Enter label) ∷ body)) in
+    let f = entry_adds c.entry (item.Mark (Enter label) ∷ body) in
+    let h = body_adds n (n + c.labels) words heap_end (n + c.labels + 1) c.instructions (item.Label (n + c.labels) ∷ others) in
+    let k = forms_adds words heap_end (suc label) (labels_end n c) cs rest in
+    omega (arith, f, g, h, k)
 
 -- ## Programs
 
@@ -246,6 +281,6 @@ text_small p heap depth =
     let a = spelling_short (MovWord 5 (pos (heap_of p + heap))) in
     let b = spelling_short (MovWord 12 (pos (heap_of p))) in
     let c = spelling_short (MovWord 13 (pos depth)) in
-    let h = forms_adds (heap_of p + heap) 0 (own_label p) p.bodies last_code in
+    let h = forms_adds p.words (heap_of p + heap) 0 (own_label p) p.bodies last_code in
     let k = last_small in
     omega (arith, a, b, c, h, k)

@@ -1,6 +1,6 @@
 -- A valid frame program that is covered is selected.
-use Rattle.std.proofs.Common.{◌≡◌, ℕ, zero, suc, ◌<◌, ◌≤◌, List, [], ◌∷◌, ◌++◌, length, Option, true, false, refl, sym, ap, ◌∙◌, subst, arith, ◌&&◌, eq-eqb}
-use Rattle.std.specs.Prelude.{nat_eq, nat_le, nat_lt, slice_get}
+use Rattle.std.proofs.Common.{◌≡◌, ℕ, zero, suc, ◌+◌, ◌<◌, ◌≤◌, List, [], ◌∷◌, ◌++◌, length, Option, Some, None, Bool, true, false, refl, sym, ap, ◌∙◌, subst, arith, ◌&&◌, ◌||◌, eq-eqb}
+use Rattle.std.specs.Prelude.{not, nat_eq, nat_le, nat_lt, slice_get}
 use Rattle.std.specs.List.{list_all}
 use Rattle.std.proofs.lemmas.Bool.{and_parts, and_from, leb-true, le-leb, ltb-true, lt-ltb, eqb-true}
 use Rattle.sch_word.specs.declared.place.Place.{Place}
@@ -11,6 +11,7 @@ use Rattle.sch_word.specs.values.Literals.{constant_known, literals_known}
 use Rattle.sch_word.specs.values.Primitives.{operands_of}
 use Rattle.sch_word.specs.runs.Runs.{statics_size, max_statics, statics_valid, statics_in_range, library_known}
 use Rattle.sch_word.specs.trees.Straight.{is_straight_constant, is_straight_primitive}
+use Rattle.sch_word.specs.trees.Shape.{max_operands}
 use Rattle.sch_word.specs.values.Values.{is_constant}
 use Rattle.sch_control.specs.declared.operation.Atom.{Atom}
 use Rattle.sch_control.specs.declared.operation.Atom.TheVariants.{Constant, Literal, Variable}
@@ -24,19 +25,19 @@ use Rattle.sch_control.specs.declared.operation.Member.{Member}
 use Rattle.sch_control.specs.declared.operation.Operation.{Operation}
 use Rattle.sch_frames.specs.Tree.{Code}
 use Rattle.sch_frames.specs.Run.{entries_of}
-use Rattle.sch_select.proofs.programs.Selected.{takes, atom_selected, read_selected, operand_selected, source_selected, closure_selected, members_selected, primitive_selected, operation_selected, instruction_selected, form_selected, members_few, operation_few, labels_few, selects}
-use Rattle.sch_select.specs.Covered.{is_covered_source, is_covered_closure, is_covered_group, is_covered_operation, is_covered_instruction, is_covered_code, is_covered_program, marks_settled, max_library}
+use Rattle.sch_select.proofs.programs.Selected.{takes, atom_selected, read_selected, operand_selected, source_selected, closure_selected, members_selected, primitive_selected, operation_selected, instruction_selected, form_selected, members_few, operation_few, labels_few, selects, fits}
+use Rattle.sch_select.specs.Covered.{is_covered_source, is_covered_closure, is_covered_group, is_covered_operation, is_covered_instruction, is_covered_code, is_covered_program, can_be_entered, marks_settled, max_library, without_calls}
 use Rattle.sch_control.specs.declared.operation.Operation.TheVariants as operation
 use Rattle.sch_control.specs.Parts.{operand_atoms, operands_atoms, operation_atoms, source_atom, source_atoms, member_atoms}
 use Rattle.sch_control.specs.Straight.{is_straight_atom, is_straight_operand}
-use Rattle.sch_control.specs.Valid.{Names, only_reads, operand_shaped, operands_shaped, operation_shaped, closure_shaped, members_shaped, atom_known, atoms_known, global_known, closure_known, members_known, label_known, operation_known, enters, without_fields}
+use Rattle.sch_control.specs.Valid.{Names, only_reads, operand_shaped, operands_shaped, operation_shaped, closure_shaped, members_shaped, atom_known, atoms_known, global_known, closure_known, members_known, label_known, operation_known, enters, entry_shaped, without_fields}
 use Rattle.sch_frames.specs.declared.body.FrameBody.{FrameBody}
 use Rattle.sch_frames.specs.declared.instruction.Instruction.{Instruction}
-use Rattle.sch_frames.specs.declared.instruction.Instruction.TheVariants.{Do, Store, Copy, Load, Fix, Return, End, IfFalse, Jump, Label, Mark}
+use Rattle.sch_frames.specs.declared.instruction.Instruction.TheVariants.{Do, Store, Copy, Load, Pass, Fix, Call, Tail, Return, End, IfFalse, Jump, Label, Mark}
 use Rattle.sch_frames.specs.declared.program.FrameProgram.{FrameProgram}
 use Rattle.sch_frames.specs.ProgramView as view
 use Rattle.sch_frames.specs.SourceView.{codes_of}
-use Rattle.sch_frames.specs.Valid.{is_place, is_atom, are_members, instruction_placed, instruction_shaped, instruction_known, names_of}
+use Rattle.sch_frames.specs.Valid.{is_place, is_atom, are_members, call_shaped, formals_of, handed_over, instruction_placed, instruction_shaped, instruction_known, names_of}
 
 -- ## Counts of operands
 
@@ -187,6 +188,13 @@ module _ (w words : ℕ) (names : Names) (narrow : w ≤ words) where
 
   -- ## Bodies
 
+  -- the operands of a call
+  call_taken : (spread : Bool) (count : ℕ) → not spread ≡ true → handed_over w count ≡ true → call_shaped spread count ≡ true
+      → (not spread && (nat_le count max_operands && handed_over words count)) ≡ true
+  call_taken spread count s p h =
+      let le = leb-true count (6 + w) p in
+      and_from (not spread) _ s (and_from (nat_le count max_operands) (handed_over words count) (and_parts (nat_le count max_operands) (not spread || nat_le 1 count) h).0 (le-leb count (6 + words) (omega (arith, le, narrow))))
+
   instruction_taken : (i : Instruction) → is_covered_instruction i ≡ true → instruction_placed w i ≡ true → instruction_shaped i ≡ true → instruction_known names i ≡ true
       → instruction_selected words names.globals i ≡ true
   instruction_taken (Do o) s p h k = operation_taken o s h p k
@@ -197,6 +205,12 @@ module _ (w words : ℕ) (names : Names) (narrow : w ≤ words) where
   instruction_taken (Load q o) s p h k =
       let p' = and_parts (is_place w q) (list_all (is_atom w) (operand_atoms o)) p in
       and_from (is_place words q) (operand_selected words names.globals o) (place_taken q p'.0) (operand_taken o s h p'.1 k)
+  instruction_taken (Pass j o) s p h k =
+      let p' = and_parts (nat_lt j w) (list_all (is_atom w) (operand_atoms o)) p in
+      let lt = ltb-true j w p'.0 in
+      and_from (nat_lt j words) (operand_selected words names.globals o) (lt-ltb j words (omega (arith, lt, narrow))) (operand_taken o s h p'.1 k)
+  instruction_taken (Call spread count) s p h k = call_taken spread count s p h
+  instruction_taken (Tail spread count) s p h k = call_taken spread count s p h
   instruction_taken (Fix members) s p h k =
       let p' = and_parts (are_members w members) (list_all (is_atom w) (member_atoms members)) p in
       let h' = and_parts (nat_le (length members) 200) (members_shaped members) h in
@@ -208,7 +222,6 @@ module _ (w words : ℕ) (names : Names) (narrow : w ≤ words) where
   instruction_taken (Jump l) s p h k = refl
   instruction_taken (Label l) s p h k = refl
   instruction_taken (Mark m) s p h k = refl
-  instruction_taken _ s p h k = absurd cc
 
   instructions_taken : (is : List Instruction) → list_all is_covered_instruction is ≡ true → list_all (instruction_placed w) is ≡ true → list_all instruction_shaped is ≡ true
       → list_all (instruction_known names) is ≡ true → list_all (instruction_selected words names.globals) is ≡ true
@@ -220,6 +233,10 @@ module _ (w words : ℕ) (names : Names) (narrow : w ≤ words) where
       let k' = and_parts _ _ k in
       and_from _ _ (instruction_taken i s'.0 p'.0 h'.0 k'.0) (instructions_taken is s'.1 p'.1 h'.1 k'.1)
 
+formals_few : (o : Option Entry) → entry_shaped o ≡ true → nat_le (formals_of o) max_operands ≡ true
+formals_few None e = refl
+formals_few (Some q) e = (and_parts (nat_le q.formals max_operands) _ e).0
+
 forms_taken : (words : ℕ) (names : Names) (bodies : List FrameBody) → list_all is_covered_code (codes_of bodies) ≡ true → list_all (λ c. list_all (instruction_known names) c.instructions) (codes_of bodies) ≡ true
     → list_all (λ c. nat_le c.words words) (codes_of bodies) ≡ true → list_all (form_selected words names.globals) (codes_of bodies) ≡ true
 forms_taken words names [] s k l = refl
@@ -229,7 +246,7 @@ forms_taken words names (b ∷ bodies) s k l =
     let l' = and_parts _ _ l in
     let form = and_parts (list_all is_covered_instruction b.instructions) (marks_settled true b.instructions) s'.0 in
     let placed = and_parts _ _ (and_parts _ _ b.placed).1 in
-    and_from _ _ (instructions_taken b.words words names (leb-true b.words words l'.0) b.instructions form.0 placed.1 (and_parts _ _ b.shaped).1 k'.0) (forms_taken words names bodies s'.1 k'.1 l'.1)
+    and_from _ _ (and_from _ _ (formals_few b.entry (and_parts _ _ b.shaped).0) (instructions_taken b.words words names (leb-true b.words words l'.0) b.instructions form.0 placed.1 (and_parts _ _ b.shaped).1 k'.0)) (forms_taken words names bodies s'.1 k'.1 l'.1)
 
 forms_settled : (codes : List Code) → list_all is_covered_code codes ≡ true → list_all (λ c. marks_settled true c.instructions) codes ≡ true
 forms_settled [] s = refl
@@ -289,7 +306,7 @@ procedures_known p = subst (λ n. list_all (λ l. nat_lt l n) p.library ≡ true
 -- ## Programs
 
 pub library_small : (p : FrameProgram) → is_covered_program (view.source p) ≡ true → length p.library ≤ 1048576
-library_small p s = leb-true (length p.library) 1048576 (and_parts (nat_le (length p.library) max_library) (list_all is_covered_code (codes_of p.bodies)) s).0
+library_small p s = leb-true (length p.library) 1048576 (and_parts (nat_le (length p.library) max_library) _ s).0
 
 pub globals_known : (p : FrameProgram) → library_known (length p.library) p.statics.globals ≡ true
 globals_known p =
@@ -301,8 +318,19 @@ globals_known p =
 pub covered_selected : (p : FrameProgram) → is_covered_program (view.source p) ≡ true → selects (view.source p) ≡ true
 covered_selected p s =
     let q = view.source p in
-    let s' = and_parts (nat_le (length p.library) max_library) (list_all is_covered_code q.bodies) s in
+    let s' = and_parts (list_all is_covered_code q.bodies) (list_all without_calls q.bodies || list_all can_be_entered q.bodies) (and_parts (nat_le (length p.library) max_library) _ s).1 in
     let within = and_parts (nat_le p.words 2048) (list_all (λ c. nat_le c.words p.words) q.bodies) p.within in
     and_from (list_all (form_selected p.words (length p.statics.globals)) q.bodies) (list_all (λ c. marks_settled true c.instructions) q.bodies)
-    (forms_taken p.words (names_of q) p.bodies s'.1 p.known within.1)
-    (forms_settled q.bodies s'.1)
+    (forms_taken p.words (names_of q) p.bodies s'.0 p.known within.1)
+    (forms_settled q.bodies s'.0)
+
+pub calls_fitting : (p : FrameProgram) → is_covered_program (view.source p) ≡ true → (calls : Bool) × (list_all (fits calls) (codes_of p.bodies) ≡ true)
+calls_fitting p s = by (list_all without_calls codes) (list_all can_be_entered codes) refl refl (and_parts (list_all is_covered_code codes) _ (and_parts (nat_le (length p.library) max_library) _ s).1).1
+  where
+    codes : List Code
+    codes = codes_of p.bodies
+
+    by : (a b : Bool) → list_all without_calls codes ≡ a → list_all can_be_entered codes ≡ b → (a || b) ≡ true → (calls : Bool) × (list_all (fits calls) codes ≡ true)
+    by true b e f h = (false, e)
+    by false true e f h = (true, f)
+    by false false e f h = absurd (let bad : false ≡ true = h in cc)

@@ -55,7 +55,7 @@ text_of items =
 
 -- how a program ends within 400 steps, with a limit of the heap
 abbrev ends_in : (heap : ℕ) → Source → List Answer → Option (ℕ × List ℕ)
-ends_in heap p answers = exit_of (mach 400 (start 0x400000 (text_at (text_of (items_of heap p)) ∷ data_at (flat_map (bytes_of (λ l. 0)) (program_words p) ++ replicate (program_zeros p heap) 0) ∷ []) zeros answers))
+ends_in heap p answers = exit_of (mach 400 (start 0x400000 (text_at (text_of (items_of heap p)) ∷ data_at (flat_map (bytes_of (λ l. 0)) (program_words p) ++ replicate (program_zeros p heap 1) 0) ∷ []) zeros answers))
 
 abbrev ends : Source → List Answer → Option (ℕ × List ℕ)
 ends = ends_in 16

@@ -1,6 +1,6 @@
 -- The machine does the forms of a program, one after the other, and ends as they do.
-use Rattle.std.proofs.Common.{◌≡◌, ℕ, suc, ◌+◌, ◌≤◌, List, [], ◌∷◌, ◌++◌, map, true, Option, Some, None, refl, sym, ap, ◌∙◌, subst, arith, append-nil, append_assoc}
-use Rattle.std.specs.Prelude.{slice_get}
+use Rattle.std.proofs.Common.{◌≡◌, ℕ, suc, ◌+◌, ◌≤◌, List, [], ◌∷◌, ◌++◌, map, Bool, true, false, Option, Some, None, refl, sym, ap, ◌∙◌, subst, arith, append-nil, append_assoc}
+use Rattle.std.specs.Prelude.{nat_le, slice_get}
 use Rattle.std.specs.List.{list_all}
 use Rattle.std.proofs.lemmas.Bool.{and_parts}
 use Rattle.sch_word.specs.values.Values.{unspecified}
@@ -11,6 +11,8 @@ use Rattle.sch_control.specs.declared.body.Entry.{Entry}
 use Rattle.sch_control.specs.declared.mark.MarkKind.TheVariants as control
 use Rattle.sch_control.specs.Meaning.{World, Result, Callee, marked, on_return}
 use Rattle.sch_control.specs.Run.{do_forms}
+use Rattle.sch_word.specs.trees.Shape.{max_operands}
+use Rattle.sch_frames.specs.Valid.{formals_of}
 use Rattle.sch_frames.specs.Tree.{Code}
 use Rattle.sch_frames.specs.Meaning.{beginning, execute_each}
 use Rattle.sch_frames.specs.Run.{bodies_of, entries_of, do_known}
@@ -25,20 +27,29 @@ use Rattle.sch_asm.specs.Stands.{Stands}
 use Rattle.sch_asm.specs.Views.{View, Leads}
 use Rattle.sch_asm.proofs.EachItem.{jumps}
 use Rattle.sch_heap.specs.Parts.{Parts}
-use Rattle.sch_select.specs.Select.{kind_of, body_label, body_code}
-use Rattle.sch_select.specs.Program.{passed_code, form_code, forms_code, labels_end}
-use Rattle.sch_select.proofs.simulation.Places.{Plan, Room, StoreAt, PlacesAt}
-use Rattle.sch_select.proofs.items.Appending.{body_appends, behind}
-use Rattle.sch_select.proofs.simulation.Following.{Ends, Goes_on, Sim, Laid, ends_after, paid}
+use Rattle.sch_control.specs.Straight.{is_form}
+use Rattle.sch_select.specs.Covered.{may_stand, takes_no_list}
+use Rattle.sch_select.specs.Select.{kind_of, body_label, check_count, body_code}
+use Rattle.sch_select.specs.Program.{passed_code, entry_code, form_code, forms_code, labels_end}
+use Rattle.sch_select.proofs.simulation.Places.{Plan, Room, Activation, StoreAt, PlacesAt}
+use Rattle.sch_select.proofs.simulation.Entering.{Enters}
+use Rattle.sch_select.proofs.programs.Standing.{after_body, entered_code}
+use Rattle.sch_select.proofs.simulation.Outcomes.{Ends, Goes_on, Sim, Laid, ends_after, paid}
 use Rattle.sch_select.proofs.simulation.Bodies.{body_cost, body_sim, map_one}
-use Rattle.sch_select.proofs.programs.Selected.{form_selected}
+use Rattle.sch_select.proofs.programs.Selected.{fits, form_selected, instruction_selected}
 
 -- how many steps forms take at most
 abbrev pub forms_cost : List Code → ℕ
 forms_cost [] = 4
 forms_cost (c ∷ cs) = suc (body_cost c.instructions) + forms_cost cs
 
-module _ (plan : Plan) (body_steps : ℕ) (laid : Laid plan body_steps) (depth : ℕ) (room : Room plan plan.stack depth) (all : List Code) (callee : Callee) where
+-- a form ends as forms do
+form_stands : (calls : Bool) (c : Code) → c.entry ≡ None → fits calls c ≡ true → list_all (may_stand calls true) c.instructions ≡ true
+form_stands false c i e = e
+form_stands true c i e =
+    subst (λ o. list_all (may_stand true (is_form o)) c.instructions ≡ true) i (and_parts (takes_no_list c.entry) (list_all (may_stand true (is_form c.entry)) c.instructions) e).1
+
+module _ (plan : Plan) (body_steps : ℕ) (laid : Laid plan body_steps) (depth : ℕ) (room : Room plan plan.stack depth) (calls : Bool) (nested : ℕ) (all : List Code) (callee : Callee) (enters : calls ≡ true → Enters plan body_steps callee nested) where
   open plan use {setting, words, globals, heap, stack, labels}
 
   -- between two forms, with some parts of the heap
@@ -46,6 +57,7 @@ module _ (plan : Plan) (body_steps : ℕ) (laid : Laid plan body_steps) (depth :
     pub parts : Parts
     pub frame : x.registers 5 ≡ stack
     pub deep : x.registers 13 ≡ depth
+    pub few : w.state.store.entries ≤ nested
     pub free : x.registers 12 ≡ heap + w.state.store.charged
     pub world : StoreAt plan parts w.state x.bytes x.output x.answers
 
@@ -83,19 +95,8 @@ module _ (plan : Plan) (body_steps : ℕ) (laid : Laid plan body_steps) (depth :
   abbrev Rest : List Code → ℕ → List Item → Type 0
   Rest cs label code = (before : List MarkKind) (w : World) (x : View) → Stands setting [] x.place code → Ready w x → map kind_of w.marks ≡ before → Owed before w.state.store x (forms_cost cs) (do_forms (entries_of cs) label (bodies_of all) callee depth w)
 
-  -- what stands from the mark of a body on
-  abbrev entered_code : (label n : ℕ) → Code → List Item → List Item
-  entered_code label n c following = item.Mark (Enter label) ∷ body_code n (n + c.labels) stack (n + c.labels + 1) c.instructions (item.Label (n + c.labels) ∷ following)
-
-  -- what stands behind a body
-  after_body : (label n a : ℕ) (c : Code) (following : List Item) → Stands setting [] a (entered_code label n c following) → Stands setting [] (setting.place_of (n + c.labels)) following
-  after_body label n a c following h =
-      let out = n + c.labels in
-      let b = behind setting (body_code n out stack (n + c.labels + 1) c.instructions []) (item.Label out ∷ following) (Enter label ∷ []) a (subst (Stands setting (Enter label ∷ []) a) (body_appends n out stack (n + c.labels + 1) c.instructions (item.Label out ∷ following)) h) in
-      subst (λ a. Stands setting [] a following) (sym b.stands.1) b.stands.2
-
-  one_form : (c : Code) (cs : List Code) (label n : ℕ) (following : List Item) → form_selected words globals c ≡ true → slice_get all label ≡ Some c → Rest cs (suc label) following → (before : List MarkKind) (w : World) (x : View) → Stands setting [] x.place (form_code stack label n c following) → Ready w x → map kind_of w.marks ≡ before → Owed before w.state.store x (suc (body_cost c.instructions) + forms_cost cs) (do_forms (c.entry ∷ entries_of cs) label (bodies_of all) callee depth w)
-  one_form c cs label n following e at rec before w x h r m = by c.entry refl h
+  one_form : (c : Code) (cs : List Code) (label n : ℕ) (following : List Item) → form_selected words globals c ≡ true → fits calls c ≡ true → slice_get all label ≡ Some c → Rest cs (suc label) following → (before : List MarkKind) (w : World) (x : View) → Stands setting [] x.place (form_code words stack label n c following) → Ready w x → map kind_of w.marks ≡ before → Owed before w.state.store x (suc (body_cost c.instructions) + forms_cost cs) (do_forms (c.entry ∷ entries_of cs) label (bodies_of all) callee depth w)
+  one_form c cs label n following e e' at rec before w x h r m = by c.entry refl h
     where
       out : ℕ
       out = n + c.labels
@@ -103,38 +104,41 @@ module _ (plan : Plan) (body_steps : ℕ) (laid : Laid plan body_steps) (depth :
       entered : World
       entered = marked (control.Enter label) w
 
-      here : PlacesAt plan (setting.place_of out) stack depth (labels out) room r.parts w.state.store.charged (beginning None unspecified []).places x.registers x.bytes
-      here = record { frame = r.frame; depth = r.deep; free = r.free; register = λ k i. tt; slot = λ j lt. tt }
+      act : Activation plan
+      act = record { back = setting.place_of out; frame = stack; left = depth; nested = nested; entered = false; back_fits = labels out; room = room }
 
-      done : Stands setting [] x.place (entered_code label n c following) → Sim plan body_steps (setting.place_of out) stack depth r.parts before w.state.store x (body_cost c.instructions) (execute_each callee depth c.instructions None (beginning None unspecified []) entered)
-      done h = body_sim plan body_steps laid (setting.place_of out) stack depth (labels out) room n out refl callee depth (n + c.labels + 1) c.instructions (item.Label out ∷ following) e
+      here : PlacesAt plan act r.parts w.state.store.charged (beginning None unspecified []).places (beginning None unspecified []).outgoing x.registers x.bytes
+      here = record { frame = r.frame; depth = r.deep; free = r.free; register = λ k i. tt; slot = λ j lt. tt; next = λ j lt. tt }
+
+      done : c.entry ≡ None → Stands setting [] x.place (entered_code plan label n c following) → Sim plan body_steps act r.parts before w.state.store x (body_cost c.instructions) (execute_each callee depth c.instructions None (beginning None unspecified []) entered)
+      done i h = body_sim plan body_steps laid act n out (λ z. refl) calls callee enters (n + c.labels + 1) c.instructions (item.Label out ∷ following) (and_parts (nat_le (formals_of c.entry) max_operands) (list_all (instruction_selected words globals) c.instructions) e).1 (form_stands calls c i e')
           None r.parts before (Enter label ∷ []) (beginning None unspecified []) entered x h here r.world tt (map_one w.marks (control.Enter label) ∙ ap (λ l. l ++ Enter label ∷ []) m)
 
-      goes_on : Stands setting [] (setting.place_of out) following → (res : Result) → Sim plan body_steps (setting.place_of out) stack depth r.parts before w.state.store x (body_cost c.instructions) res → Owed before w.state.store x (suc (body_cost c.instructions) + forms_cost cs) (on_return res (λ v u. do_forms (entries_of cs) (suc label) (bodies_of all) callee depth u))
+      goes_on : Stands setting [] (setting.place_of out) following → (res : Result) → Sim plan body_steps act r.parts before w.state.store x (body_cost c.instructions) res → Owed before w.state.store x (suc (body_cost c.instructions) + forms_cost cs) (on_return res (λ v u. do_forms (entries_of cs) (suc label) (bodies_of all) callee depth u))
       goes_on next None s = tt
       goes_on next (Some (stops why u)) s = record { last = s.last; events = s.events; least = s.least; steps = s.steps; leads = s.leads; cost = (let k = s.cost in omega (arith, k)); exits = s.exits; output_is = s.output_is; marked = s.marked; silent = s.silent }
-      goes_on next (Some (spent u)) s = s
+      goes_on next (Some (spent u)) s = s r.few
       goes_on next (Some (gives v u)) s =
           owed_after before s.events w.state.store u.state.store x s.y s.least s.steps (forms_cost cs) (suc (body_cost c.instructions) + forms_cost cs) _ s.leads s.entries (let k = s.cost in omega (arith, k))
-          (rec (before ++ s.events) u s.y (subst (λ a. Stands setting [] a following) (sym s.at) next) (record { parts = s.parts_after; frame = s.frame; deep = s.depth; free = s.free; world = s.world }) s.marked)
+          (rec (before ++ s.events) u s.y (subst (λ a. Stands setting [] a following) (sym s.at) next) (record { parts = s.parts_after; frame = s.frame; deep = s.depth; few = (let f = s.fewer in let q = r.few in omega (arith, f, q)); free = s.free; world = s.world }) s.marked)
 
       -- a procedure's body is jumped over
-      passed : (q : Entry) → Stands setting [] x.place (item.Jump out ∷ (item.Label (body_label label) ∷ entered_code label n c following)) → Owed before w.state.store x (suc (body_cost c.instructions) + forms_cost cs) (do_forms (entries_of cs) (suc label) (bodies_of all) callee depth w)
+      passed : (q : Entry) → Stands setting [] x.place (item.Jump out ∷ (item.Label (body_label label) ∷ check_count q.formals (entered_code plan label n c following))) → Owed before w.state.store x (suc (body_cost c.instructions) + forms_cost cs) (do_forms (entries_of cs) (suc label) (bodies_of all) callee depth w)
       passed q h =
           let y : View = record x { place = setting.place_of out } in
-          let next = after_body label n (x.place + h.0) c following h.4.2 in
-          owed_after before [] w.state.store w.state.store x y 1 1 (forms_cost cs) (suc (body_cost c.instructions) + forms_cost cs) _ (jumps setting x out (item.Label (body_label label) ∷ entered_code label n c following) [] h) (omega arith) (omega arith)
-          (subst (λ l. Owed l w.state.store y (forms_cost cs) (do_forms (entries_of cs) (suc label) (bodies_of all) callee depth w)) (sym (append-nil before)) (rec before w y next (record { parts = r.parts; frame = r.frame; deep = r.deep; free = r.free; world = r.world }) m))
+          let next = after_body plan label n _ c following h.4.2.2.4 in
+          owed_after before [] w.state.store w.state.store x y 1 1 (forms_cost cs) (suc (body_cost c.instructions) + forms_cost cs) _ (jumps setting x out (item.Label (body_label label) ∷ check_count q.formals (entered_code plan label n c following)) [] h) (omega arith) (omega arith)
+          (subst (λ l. Owed l w.state.store y (forms_cost cs) (do_forms (entries_of cs) (suc label) (bodies_of all) callee depth w)) (sym (append-nil before)) (rec before w y next (record { parts = r.parts; frame = r.frame; deep = r.deep; few = r.few; free = r.free; world = r.world }) m))
 
-      by : (o : Option Entry) → c.entry ≡ o → Stands setting [] x.place (passed_code o out (item.Label (body_label label) ∷ entered_code label n c following)) → Owed before w.state.store x (suc (body_cost c.instructions) + forms_cost cs) (do_forms (o ∷ entries_of cs) label (bodies_of all) callee depth w)
+      by : (o : Option Entry) → c.entry ≡ o → Stands setting [] x.place (passed_code o out (item.Label (body_label label) ∷ entry_code o (entered_code plan label n c following))) → Owed before w.state.store x (suc (body_cost c.instructions) + forms_cost cs) (do_forms (o ∷ entries_of cs) label (bodies_of all) callee depth w)
       by (Some q) i h = passed q h
       by None i h =
           subst (λ k. Owed before w.state.store x (suc (body_cost c.instructions) + forms_cost cs) (on_return (do_known k callee depth unspecified [] entered) (λ v u. do_forms (entries_of cs) (suc label) (bodies_of all) callee depth u))) (sym at)
           (subst (λ o. Owed before w.state.store x (suc (body_cost c.instructions) + forms_cost cs) (on_return (execute_each callee depth c.instructions None (beginning o unspecified []) entered) (λ v u. do_forms (entries_of cs) (suc label) (bodies_of all) callee depth u))) (sym i)
-          (goes_on (after_body label n x.place c following h.2) _ (done h.2)))
+          (goes_on (after_body plan label n x.place c following h.2) _ (done i h.2)))
 
-  pub forms_sim : (cs : List Code) (label n : ℕ) (behind_all : List Item) → list_all (form_selected words globals) cs ≡ true → Are label cs → (before : List MarkKind) (w : World) (x : View) → Stands setting [] x.place (forms_code stack label n cs (rest_code behind_all)) → Ready w x → map kind_of w.marks ≡ before → Owed before w.state.store x (forms_cost cs) (do_forms (entries_of cs) label (bodies_of all) callee depth w)
-  forms_sim [] label n behind_all e at before w x h r m =
+  pub forms_sim : (cs : List Code) (label n : ℕ) (behind_all : List Item) → list_all (form_selected words globals) cs ≡ true → list_all (fits calls) cs ≡ true → Are label cs → (before : List MarkKind) (w : World) (x : View) → Stands setting [] x.place (forms_code words stack label n cs (rest_code behind_all)) → Ready w x → map kind_of w.marks ≡ before → Owed before w.state.store x (forms_cost cs) (do_forms (entries_of cs) label (bodies_of all) callee depth w)
+  forms_sim [] label n behind_all e e' at before w x h r m =
       let y : View = record x { place = setting.place_of (label_of routine.End) } in
       let s = laid.routine routine.End y refl in
       let first = jumps setting x (label_of routine.End) behind_all [] h in
@@ -150,9 +154,10 @@ module _ (plan : Plan) (body_steps : ℕ) (laid : Laid plan body_steps) (depth :
         marked = m ∙ sym (append-nil before);
         silent = s.silent;
       }
-  forms_sim (c ∷ cs) label n behind_all e at before w x h r m =
+  forms_sim (c ∷ cs) label n behind_all e e' at before w x h r m =
+      let parts' = and_parts (fits calls c) (list_all (fits calls) cs) e' in
       let parts = and_parts (form_selected words globals c) (list_all (form_selected words globals) cs) e in
       let sum : label + 0 ≡ label = omega arith in
-      one_form c cs label n (forms_code stack (suc label) (labels_end n c) cs (rest_code behind_all)) parts.0 (ap (slice_get all) (sym sum) ∙ at 0 c refl)
-      (λ before w x h r m. forms_sim cs (suc label) (labels_end n c) behind_all parts.1 (λ j k i. let sum : label + suc j ≡ suc label + j = omega arith in ap (slice_get all) (sym sum) ∙ at (suc j) k i) before w x h r m)
+      one_form c cs label n (forms_code words stack (suc label) (labels_end n c) cs (rest_code behind_all)) parts.0 parts'.0 (ap (slice_get all) (sym sum) ∙ at 0 c refl)
+      (λ before w x h r m. forms_sim cs (suc label) (labels_end n c) behind_all parts.1 parts'.1 (λ j k i. let sum : label + suc j ≡ suc label + j = omega arith in ap (slice_get all) (sym sum) ∙ at (suc j) k i) before w x h r m)
       before w x h r m

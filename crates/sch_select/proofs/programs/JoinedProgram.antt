@@ -1,5 +1,5 @@
 -- A program joined with its routines and resolved follows its runs.
-use Rattle.std.proofs.Common.{◌≡◌, ℕ, suc, ◌+◌, ◌-◌, ◌*◌, ◌^◌, ◌<◌, ◌≤◌, List, [], ◌∷◌, ◌++◌, length, replicate, Option, Some, None, true, false, refl, sym, ap, subst, arith}
+use Rattle.std.proofs.Common.{◌≡◌, ℕ, suc, ◌+◌, ◌-◌, ◌*◌, ◌^◌, ◌<◌, ◌≤◌, List, [], ◌∷◌, ◌++◌, length, replicate, Option, Some, None, Bool, true, false, refl, sym, ap, subst, arith}
 use Rattle.std.specs.Prelude.{IsTrue}
 use Rattle.std.specs.List.{list_all, flat_map}
 use Rattle.std.proofs.lemmas.Bool.{and_parts}
@@ -26,14 +26,15 @@ use Rattle.sch_asm.specs.Views.{text_at}
 use Rattle.sch_asm.proofs.Joined.{joined}
 use Rattle.sch_asm.proofs.Standing.{setting_of}
 use Rattle.sch_select.specs.Select.{put_label, globals_address, body_label, body_code}
-use Rattle.sch_select.specs.Program.{own_label, passed_code, forms_code, form_code, labels_end, put_value_code, program_code, program_words, program_zeros, static_bytes, closures_address, heap_of, stack_bytes}
+use Rattle.sch_select.specs.Program.{own_label, passed_code, entry_code, forms_code, form_code, labels_end, put_value_code, program_code, program_words, program_zeros, static_bytes, closures_address, heap_of, max_stack, stack_bytes}
 use Rattle.sch_select.specs.Follows.{AreRuns, FollowsFrames}
 use Rattle.sch_select.proofs.simulation.Places.{Plan, Room}
 use Rattle.sch_select.proofs.items.Appending.{Appends, then_appends, body_appends, behind}
-use Rattle.sch_select.proofs.simulation.Following.{Laid}
+use Rattle.sch_select.proofs.simulation.Outcomes.{Laid}
+use Rattle.sch_select.proofs.simulation.Procedures.{bodies_cost}
 use Rattle.sch_select.proofs.programs.Starting.{parts_at_start, bytes_count, texts_there, values_there, first_is, ends_at, contents_there, new_there}
 use Rattle.sch_select.proofs.programs.Whole.{Starts, program_follows}
-use Rattle.sch_select.proofs.programs.Selected.{form_selected, selects}
+use Rattle.sch_select.proofs.programs.Selected.{fits, form_selected, selects}
 use Rattle.sch_select.specs.Covered.{marks_settled}
 
 -- ---- what stands behind the forms
@@ -42,27 +43,32 @@ passed_appends : (o : Option Entry) (out : ℕ) → Appends (passed_code o out)
 passed_appends None out rest = refl
 passed_appends (Some e) out rest = refl
 
-form_appends : (heap_end label n : ℕ) (c : Code) → Appends (form_code heap_end label n c)
-form_appends heap_end label n c rest =
-    then_appends (passed_code c.entry (n + c.labels)) (λ rest. item.Label (body_label label) ∷ (item.Mark (Enter label) ∷ body_code n (n + c.labels) heap_end (n + c.labels + 1) c.instructions (item.Label (n + c.labels) ∷ rest))) (passed_appends c.entry (n + c.labels))
-    (λ rest. ap (λ l. item.Label (body_label label) ∷ (item.Mark (Enter label) ∷ l)) (then_appends (body_code n (n + c.labels) heap_end (n + c.labels + 1) c.instructions) (λ rest. item.Label (n + c.labels) ∷ rest) (body_appends n (n + c.labels) heap_end (n + c.labels + 1) c.instructions) (λ rest. refl) rest)) rest
+entry_appends : (o : Option Entry) → Appends (entry_code o)
+entry_appends None rest = refl
+entry_appends (Some e) rest = refl
 
-forms_appends : (heap_end label n : ℕ) (cs : List Code) → Appends (forms_code heap_end label n cs)
-forms_appends heap_end label n [] rest = refl
-forms_appends heap_end label n (c ∷ cs) rest = then_appends (form_code heap_end label n c) (forms_code heap_end (suc label) (labels_end n c) cs) (form_appends heap_end label n c) (forms_appends heap_end (suc label) (labels_end n c) cs) rest
+form_appends : (words heap_end label n : ℕ) (c : Code) → Appends (form_code words heap_end label n c)
+form_appends words heap_end label n c rest =
+    then_appends (passed_code c.entry (n + c.labels)) (λ rest. item.Label (body_label label) ∷ entry_code c.entry (item.Mark (Enter label) ∷ body_code n (n + c.labels) words heap_end (n + c.labels + 1) c.instructions (item.Label (n + c.labels) ∷ rest))) (passed_appends c.entry (n + c.labels))
+    (λ rest. ap (λ l. item.Label (body_label label) ∷ l) (then_appends (entry_code c.entry) (λ rest. item.Mark (Enter label) ∷ body_code n (n + c.labels) words heap_end (n + c.labels + 1) c.instructions (item.Label (n + c.labels) ∷ rest)) (entry_appends c.entry)
+    (λ rest. ap (λ l. item.Mark (Enter label) ∷ l) (then_appends (body_code n (n + c.labels) words heap_end (n + c.labels + 1) c.instructions) (λ rest. item.Label (n + c.labels) ∷ rest) (body_appends n (n + c.labels) words heap_end (n + c.labels + 1) c.instructions) (λ rest. refl) rest)) rest)) rest
+
+forms_appends : (words heap_end label n : ℕ) (cs : List Code) → Appends (forms_code words heap_end label n cs)
+forms_appends words heap_end label n [] rest = refl
+forms_appends words heap_end label n (c ∷ cs) rest = then_appends (form_code words heap_end label n c) (forms_code words heap_end (suc label) (labels_end n c) cs) (form_appends words heap_end label n c) (forms_appends words heap_end (suc label) (labels_end n c) cs) rest
 
 abbrev last_code : List Item
 last_code = item.Jump (label_of routine.End) ∷ (item.Label put_label ∷ put_value_code)
 
 -- the program's own routine stands where its label does
-put_there : (setting : Setting) (heap_end label n : ℕ) (cs : List Code) (a : ℕ) → Stands setting [] a (forms_code heap_end label n cs last_code) → Stands setting [] (setting.place_of put_label) put_value_code
-put_there setting heap_end label n cs a h =
-    let b = behind setting (forms_code heap_end label n cs []) last_code [] a (subst (Stands setting [] a) (forms_appends heap_end label n cs last_code) h) in
+put_there : (setting : Setting) (words heap_end label n : ℕ) (cs : List Code) (a : ℕ) → Stands setting [] a (forms_code words heap_end label n cs last_code) → Stands setting [] (setting.place_of put_label) put_value_code
+put_there setting words heap_end label n cs a h =
+    let b = behind setting (forms_code words heap_end label n cs []) last_code [] a (subst (Stands setting [] a) (forms_appends words heap_end label n cs last_code) h) in
     subst (λ a. Stands setting [] a put_value_code) (sym b.stands.4.1) b.stands.4.2
 
 -- ---- where things lie
 
-module _ (p : Source) (limit depth : ℕ) (words_few : p.words ≤ 2048) (globals_few : length p.statics.globals ≤ 29360128) (library_few : length p.library ≤ 1048576) (limit_few : limit ≤ 1073741824) (depth_few : depth ≤ 10000000) where
+module _ (p : Source) (limit depth : ℕ) (words_few : p.words ≤ 2048) (globals_few : length p.statics.globals ≤ 29360128) (library_few : length p.library ≤ 1048576) (limit_few : limit ≤ 1073741824) (depth_few : depth ≤ 10000000) (stack_few : stack_bytes p.words depth ≤ max_stack + 16384) where
   abbrev globals : ℕ
   globals = length p.statics.globals
 
@@ -70,15 +76,15 @@ module _ (p : Source) (limit depth : ℕ) (words_few : p.words ≤ 2048) (global
   heap_close = omega arith
 
   abbrev stack_size : ℕ
-  stack_size = stack_bytes p.words
+  stack_size = stack_bytes p.words depth
 
   abbrev bytes_at : (ℕ → ℕ) → List ℕ
-  bytes_at place_of = flat_map (bytes_of place_of) (program_words p) ++ replicate (program_zeros p limit) 0
+  bytes_at place_of = flat_map (bytes_of place_of) (program_words p) ++ replicate (program_zeros p limit depth) 0
 
   plan_of : (setting : Setting) → ((l : ℕ) → setting.place_of l < 2 ^ 31) → Plan
   plan_of setting labels = record {
     setting = setting;
-    size = heap_of p + program_zeros p limit - 0x10000000;
+    size = heap_of p + program_zeros p limit depth - 0x10000000;
     words = p.words;
     globals = globals;
     closures = closures_address globals;
@@ -90,14 +96,14 @@ module _ (p : Source) (limit depth : ℕ) (words_few : p.words ≤ 2048) (global
     closures_high = omega arith;
     stack_low = omega arith;
     near = let c = heap_close in omega (arith, c, globals_few, limit_few, library_few);
-    small = let c = heap_close in omega (arith, c, globals_few, limit_few, words_few, library_few);
+    small = let c = heap_close in omega (arith, c, globals_few, limit_few, stack_few, library_few);
     narrow = words_few;
     labels = λ l. let k = labels l in omega (arith, k);
   }
 
-  pub frames_follow : selects p ≡ true → library_known (length p.library) p.statics.globals ≡ true → FollowsFrames p limit depth (program_code p limit depth) (program_words p) (program_zeros p limit)
+  pub frames_follow : (calls : Bool) → selects p ≡ true → list_all (fits calls) p.bodies ≡ true → library_known (length p.library) p.statics.globals ≡ true → FollowsFrames p limit depth (program_code p limit depth) (program_words p) (program_zeros p limit depth)
   unfolding plan_of
-  frames_follow selected known = record { follows = at }
+  frames_follow calls selected fitting known = record { follows = at }
     where
       forms : list_all (form_selected p.words globals) p.bodies ≡ true
       forms = (and_parts (list_all (form_selected p.words globals) p.bodies) (list_all (λ c. marks_settled true c.instructions) p.bodies) selected).0
@@ -105,21 +111,21 @@ module _ (p : Source) (limit depth : ℕ) (words_few : p.words ≤ 2048) (global
       at : (routines : List Item) (code : List Insn) (marks : List mark.Mark) (words : List ℕ) → AreEffective routines → IsTrue (marks_arrive false (program_code p limit depth)) → IsTrue (marks_arrive false routines)
           → AreResolved (program_code p limit depth ++ routines) (program_words p) code marks words → AllValid code → length (flat_map spelling code) ≤ 16777216
           → (runs : List Answer → ℕ → Run) → AreRuns p limit depth runs
-          → FollowsRuns 0x400000 (text_at (flat_map spelling code) ∷ data_at (words ++ replicate (program_zeros p limit) 0) ∷ []) runs
+          → FollowsRuns 0x400000 (text_at (flat_map spelling code) ∷ data_at (words ++ replicate (program_zeros p limit depth) 0) ∷ []) runs
       at routines code marks words effective arrive arrive' r valid small runs are =
           let j = joined (program_code p limit depth) routines (program_words p) code marks words r valid small arrive arrive' in
           let setting = setting_of (text_at (flat_map spelling code)) r.place_of marks j.apart in
           let plan = plan_of setting r.small in
-          let zeros = program_zeros p limit in
-          let laid : Laid plan 0 = record {
+          let zeros = program_zeros p limit depth in
+          let laid : Laid plan (bodies_cost p.bodies) = record {
             routine = effective.does setting j.second.0 j.second.1;
-            put_stands = put_there setting (heap_of p + limit) 0 (own_label p) p.bodies _ j.first.2.2.2;
+            put_stands = put_there setting p.words (heap_of p + limit) 0 (own_label p) p.bodies _ j.first.2.2.2;
             static_is = refl;
           } in
           let room : Room plan plan.stack depth = record { low = omega arith; high = omega arith; few = omega (arith, depth_few) } in
           let parts = parts_at_start r.place_of r.small p.statics.globals p.library zeros globals_few library_few in
           let count = bytes_count r.place_of r.small p.statics.globals p.library zeros globals_few library_few in
-          let starts : Starts plan 0 laid depth room parts p limit (bytes_at r.place_of) = record {
+          let starts : Starts plan (bodies_cost p.bodies) laid depth room calls parts p limit (bytes_at r.place_of) = record {
             size_is = omega (arith, count);
             texts = texts_there r.place_of r.small p.statics.globals p.library zeros globals_few library_few;
             count = refl;
@@ -131,4 +137,4 @@ module _ (p : Source) (limit depth : ℕ) (words_few : p.words ≤ 2048) (global
             new = new_there r.place_of r.small p.statics.globals p.library zeros globals_few library_few;
           } in
           subst (λ w. FollowsRuns 0x400000 (text_at (flat_map spelling code) ∷ data_at (w ++ replicate zeros 0) ∷ []) runs) (sym r.bytes)
-          (program_follows plan 0 laid depth room p limit parts (bytes_at r.place_of) (item.Label put_label ∷ put_value_code) runs forms j.first starts are)
+          (program_follows plan (bodies_cost p.bodies) laid depth room calls p limit parts (bytes_at r.place_of) (item.Label put_label ∷ put_value_code) runs forms fitting (omega arith) j.first starts are)

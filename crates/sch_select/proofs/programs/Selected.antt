@@ -1,6 +1,6 @@
--- Which frame programs have their items, by tests of each part: bodies without calls, objects and symbols,
--- whose places, constants, globals and fields are in range.
-use Rattle.std.specs.Prelude.{ℕ, Bool, true, false, ◌&&◌, nat_eq, nat_lt, nat_le, List, [], ◌∷◌, length}
+-- Which frame programs have their items, by tests of each part: bodies without objects and symbols, whose
+-- places, constants, globals, fields and operands are in range.
+use Rattle.std.specs.Prelude.{ℕ, Bool, true, false, ◌&&◌, not, nat_eq, nat_lt, nat_le, List, [], ◌∷◌, length}
 use Rattle.std.specs.List.{list_all}
 use Rattle.sch_word.specs.declared.place.Place.{Place}
 use Rattle.sch_word.specs.declared.primitive.Primitive.{Primitive}
@@ -20,11 +20,11 @@ use Rattle.sch_control.specs.declared.operation.Operation.{Operation}
 use Rattle.sch_control.specs.declared.operation.Operation.TheVariants as operation
 use Rattle.sch_control.specs.Valid.{only_reads}
 use Rattle.sch_frames.specs.declared.instruction.Instruction.{Instruction}
-use Rattle.sch_frames.specs.declared.instruction.Instruction.TheVariants.{Do, Store, Copy, Load, Fix, Return, End, IfFalse, Jump, Label, Mark}
+use Rattle.sch_frames.specs.declared.instruction.Instruction.TheVariants.{Do, Store, Copy, Load, Pass, Fix, Call, Tail, Return, End, IfFalse, Jump, Label, Mark}
 use Rattle.sch_frames.specs.Tree.{Code}
 use Rattle.sch_frames.specs.Tree as tree
-use Rattle.sch_frames.specs.Valid.{is_place}
-use Rattle.sch_select.specs.Covered.{marks_settled}
+use Rattle.sch_frames.specs.Valid.{formals_of, handed_over, is_place}
+use Rattle.sch_select.specs.Covered.{can_be_entered, marks_settled, without_calls}
 
 -- a straight primitive of n operands
 abbrev pub takes : ℕ → Primitive → Bool
@@ -78,6 +78,9 @@ module _ (words globals : ℕ) where
   instruction_selected (Store p) = is_place words p
   instruction_selected (Copy to from) = is_place words to && is_place words from
   instruction_selected (Load p o) = is_place words p && operand_selected o
+  instruction_selected (Pass k o) = nat_lt k words && operand_selected o
+  instruction_selected (Call spread count) = not spread && (nat_le count max_operands && handed_over words count)
+  instruction_selected (Tail spread count) = not spread && (nat_le count max_operands && handed_over words count)
   instruction_selected (Fix members) = nat_le (length members) max_operands && members_selected members
   instruction_selected Return = true
   instruction_selected End = true
@@ -85,10 +88,14 @@ module _ (words globals : ℕ) where
   instruction_selected (Jump l) = true
   instruction_selected (Label l) = true
   instruction_selected (Mark m) = true
-  instruction_selected _ = false
 
   abbrev pub form_selected : Code → Bool
-  form_selected c = list_all instruction_selected c.instructions
+  form_selected c = nat_le (formals_of c.entry) max_operands && list_all instruction_selected c.instructions
+
+-- what a body meets, by whether the program makes calls
+abbrev pub fits : (calls : Bool) → Code → Bool
+fits false c = without_calls c
+fits true c = can_be_entered c
 
 -- the bodies that an instruction names are among those that there are
 abbrev pub members_few : ℕ → List (Member Place) → Bool

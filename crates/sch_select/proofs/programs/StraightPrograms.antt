@@ -1,5 +1,5 @@
 -- Straight programs are covered.
-use Rattle.std.proofs.Common.{◌≡◌, ℕ, List, [], ◌∷◌, length, Option, Some, None, true, false, refl, arith, ◌&&◌}
+use Rattle.std.proofs.Common.{◌≡◌, ℕ, List, [], ◌∷◌, length, Option, Some, None, Bool, true, false, refl, ap, arith, ◌&&◌, ◌||◌}
 use Rattle.std.specs.Prelude.{nat_le}
 use Rattle.std.specs.List.{list_all}
 use Rattle.std.proofs.lemmas.Bool.{and_parts, and_from}
@@ -13,7 +13,7 @@ use Rattle.sch_frames.specs.declared.instruction.Instruction.{Instruction}
 use Rattle.sch_frames.specs.declared.instruction.Instruction.TheVariants.{Do, Store, End, IfFalse, Jump, Label}
 use Rattle.sch_frames.specs.Straight.{begins_with_operation, is_straight_instruction, is_straight_code, is_straight_program}
 use Rattle.sch_frames.specs.Tree.{Code, Source}
-use Rattle.sch_select.specs.Covered.{is_covered_operation, is_covered_instruction, is_covered_code, is_covered_program, marks_settled, max_library}
+use Rattle.sch_select.specs.Covered.{is_covered_operation, is_covered_instruction, is_covered_code, is_covered_program, marks_settled, max_library, may_stand, without_calls}
 use Rattle.sch_select.specs.Sizes.{grouped, jumped, closures_in}
 
 operation_covered : (o : Operation Place) → is_straight_operation o ≡ true → is_covered_operation o ≡ true
@@ -86,6 +86,27 @@ no_closures (c ∷ codes) s =
     let j = no_jump c.entry form.0 in let g = no_groups c.instructions body.1 in let r = no_closures codes p.1 in
     omega (arith, j, g, r)
 
+callless : (is : List Instruction) → list_all is_straight_instruction is ≡ true → list_all (may_stand false true) is ≡ true
+callless [] s = refl
+callless (Do o ∷ is) s = callless is (and_parts _ _ s).1
+callless (Store p ∷ is) s = callless is s
+callless (End ∷ is) s = callless is s
+callless (IfFalse l ∷ is) s = callless is s
+callless (Jump l ∷ is) s = callless is s
+callless (Label l ∷ is) s = callless is s
+callless (_ ∷ is) s = absurd cc
+
+codes_callless : (codes : List Code) → list_all is_straight_code codes ≡ true → list_all without_calls codes ≡ true
+codes_callless [] s = refl
+codes_callless (c ∷ codes) s =
+    let p = and_parts (is_straight_code c) (list_all is_straight_code codes) s in
+    let form = and_parts (is_form c.entry) (begins_with_operation c.instructions && list_all is_straight_instruction c.instructions) p.0 in
+    let body = and_parts (begins_with_operation c.instructions) (list_all is_straight_instruction c.instructions) form.1 in
+    and_from (without_calls c) (list_all without_calls codes) (callless c.instructions body.1) (codes_callless codes p.1)
+
+or_from : (a b : Bool) → a ≡ true → (a || b) ≡ true
+or_from a b e = ap (λ a. a || b) e
+
 small_library : (library : List ℕ) → is_empty library ≡ true → nat_le (length library) max_library ≡ true
 small_library [] e = refl
 small_library (n ∷ library) e = absurd (let bad : false ≡ true = e in cc)
@@ -94,7 +115,7 @@ small_library (n ∷ library) e = absurd (let bad : false ≡ true = e in cc)
 pub straight_covered : (p : Source) → is_straight_program p ≡ true → is_covered_program p ≡ true
 straight_covered p s =
     let s' = and_parts (is_empty p.library) (list_all is_straight_code p.bodies) s in
-    and_from _ _ (small_library p.library s'.0) (codes_covered p.bodies s'.1)
+    and_from _ _ (small_library p.library s'.0) (and_from _ _ (codes_covered p.bodies s'.1) (or_from _ _ (codes_callless p.bodies s'.1)))
 
 pub straight_closures : (p : Source) → is_straight_program p ≡ true → closures_in p.bodies ≡ 0
 straight_closures p s = no_closures p.bodies (and_parts (is_empty p.library) (list_all is_straight_code p.bodies) s).1

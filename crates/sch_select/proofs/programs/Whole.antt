@@ -1,5 +1,5 @@
 -- A whole program follows its runs.
-use Rattle.std.proofs.Common.{◌≡◌, ℕ, zero, suc, ◌+◌, ◌*◌, List, [], ◌∷◌, length, take, drop, true, Option, Some, None, refl, sym, ap, ◌∙◌, subst, arith}
+use Rattle.std.proofs.Common.{◌≡◌, ℕ, zero, suc, ◌+◌, ◌*◌, ◌≤◌, List, [], ◌∷◌, length, take, drop, Bool, true, Option, Some, None, refl, sym, ap, ◌∙◌, subst, arith}
 use Rattle.std.specs.Prelude.{pos, slice_get}
 use Rattle.std.specs.List.{list_all}
 use Rattle.sch_word.specs.declared.answer.Answer.{Answer}
@@ -10,7 +10,8 @@ use Rattle.sch_word.specs.runs.Computation.{gives, stops, spent}
 use Rattle.sch_word.specs.runs.Runs.{Run, ended, going, run_with, starting_store, starting_value, starting_values}
 use Rattle.sch_control.specs.Meaning.{World, Result, Callee}
 use Rattle.sch_control.specs.Run.{seen_of, enter, entry_at, starting_world, library_procedures}
-use Rattle.sch_frames.specs.Tree.{Source}
+use Rattle.sch_control.specs.declared.body.Entry.{Entry}
+use Rattle.sch_frames.specs.Tree.{Code, Source}
 use Rattle.sch_frames.specs.Run.{bodies_of, entries_of}
 use Rattle.sch_insn.specs.declared.insn.Insn.TheVariants.{MovWord}
 use Rattle.sch_insn.specs.Behaves.{Given, start, FollowsRuns}
@@ -33,9 +34,12 @@ use Rattle.sch_select.specs.Select.{global_address}
 use Rattle.sch_select.specs.Program.{own_label, forms_code}
 use Rattle.sch_select.specs.Follows.{AreRuns}
 use Rattle.sch_select.proofs.simulation.Places.{Plan, code_of, Room, StoreAt}
-use Rattle.sch_select.proofs.simulation.Following.{Ends, Laid}
+use Rattle.sch_select.proofs.simulation.Outcomes.{Ends, Laid}
+use Rattle.sch_select.proofs.simulation.Entering.{Enters}
+use Rattle.sch_select.proofs.simulation.Procedures.{BodyAt, bodies_cost, enter_sim}
+use Rattle.sch_select.proofs.programs.Standing.{bodies_stand}
 use Rattle.sch_select.proofs.programs.Forms.{Owed, forms_sim, forms_cost}
-use Rattle.sch_select.proofs.programs.Selected.{form_selected}
+use Rattle.sch_select.proofs.programs.Selected.{fits, form_selected}
 
 -- ---- globals, when a program starts
 
@@ -54,7 +58,7 @@ pub values_count : (gs : List (Option ℕ)) → length (starting_values gs) ≡ 
 values_count [] = refl
 values_count (g ∷ gs) = ap suc (values_count gs)
 
-module _ (plan : Plan) (body_steps : ℕ) (laid : Laid plan body_steps) (depth : ℕ) (room : Room plan plan.stack depth) where
+module _ (plan : Plan) (body_steps : ℕ) (laid : Laid plan body_steps) (depth : ℕ) (room : Room plan plan.stack depth) (calls : Bool) where
   open plan use {setting, size, words, globals, closures, heap, stack, static, labels}
 
   -- RBP, R12 and R13 are set, and the forms follow
@@ -65,15 +69,15 @@ module _ (plan : Plan) (body_steps : ℕ) (laid : Laid plan body_steps) (depth :
   exits_from t x z c status w p e = let q = leads_then setting.marks p e.leads in record { way = q.way; last = full setting e.last; path = q.path; exits = e.exits; output_is = e.output_is }
 
   -- from a result to what is seen
-  seen_does : (p : Source) (callee : Callee) (t : Store) (x z : View) (c n : ℕ) (answers : List Answer) (result : Result) (r : Run) → t.entries ≡ n → Leads setting 3 3 [] x z → Owed plan body_steps laid depth room p.bodies callee [] t z c result → seen_of answers n result ≡ Some r → Does (full setting x) n r.end r.output
-  seen_does p callee t x z c n answers None r e l s h = absurd cc
-  seen_does p callee t x z c n answers (Some (gives v w)) r e l s h =
+  seen_does : (p : Source) (n : ℕ) (callee : Callee) (enters : calls ≡ true → Enters plan body_steps callee n) (t : Store) (x z : View) (c : ℕ) (answers : List Answer) (result : Result) (r : Run) → t.entries ≡ n → Leads setting 3 3 [] x z → Owed plan body_steps laid depth room calls n p.bodies callee enters [] t z c result → seen_of answers n result ≡ Some r → Does (full setting x) n r.end r.output
+  seen_does p n callee enters t x z c answers None r e l s h = absurd cc
+  seen_does p n callee enters t x z c answers (Some (gives v w)) r e l s h =
       let same : run_with (ended 0) answers n w.state.store ≡ r = cc in
       subst (λ r. Does (full setting x) n r.end r.output) same (exits_from t x z c 0 w l s)
-  seen_does p callee t x z c n answers (Some (stops why w)) r e l s h =
+  seen_does p n callee enters t x z c answers (Some (stops why w)) r e l s h =
       let same : run_with (ended (status_of why)) answers n w.state.store ≡ r = cc in
       subst (λ r. Does (full setting x) n r.end r.output) same (exits_from t x z c (status_of why) w l s)
-  seen_does p callee t x z c n answers (Some (spent w)) r e l s h =
+  seen_does p n callee enters t x z c answers (Some (spent w)) r e l s h =
       let same : run_with going answers n w.state.store ≡ r = cc in
       let q = leads_then setting.marks l s.leads in
       subst (λ r. Does (full setting x) n r.end r.output) same
@@ -91,10 +95,18 @@ module _ (plan : Plan) (body_steps : ℕ) (laid : Laid plan body_steps) (depth :
     pub contents : HeapAt (code_of plan) parts [] (library_procedures p.library) bytes
     pub new : AreNew parts 0 (length (library_procedures p.library))
 
-  pub program_follows : (p : Source) (limit : ℕ) (parts : Parts) (bytes : List ℕ) (rest : List Item) (runs : List Answer → ℕ → Run) → list_all (form_selected words globals) p.bodies ≡ true →
-      Stands setting [] 0x400000 (started (forms_code stack 0 (own_label p) p.bodies (item.Jump (label_of routine.End) ∷ rest))) → Starts parts p limit bytes → AreRuns p limit depth runs → FollowsRuns 0x400000 (setting.text ∷ data_at bytes ∷ []) runs
-  program_follows p limit parts bytes rest runs selected h s r = follows 0x400000 (setting.text ∷ data_at bytes ∷ []) runs at
+  pub program_follows : (p : Source) (limit : ℕ) (parts : Parts) (bytes : List ℕ) (rest : List Item) (runs : List Answer → ℕ → Run) → list_all (form_selected words globals) p.bodies ≡ true → list_all (fits calls) p.bodies ≡ true → bodies_cost p.bodies ≤ body_steps →
+      Stands setting [] 0x400000 (started (forms_code words stack 0 (own_label p) p.bodies (item.Jump (label_of routine.End) ∷ rest))) → Starts parts p limit bytes → AreRuns p limit depth runs → FollowsRuns 0x400000 (setting.text ∷ data_at bytes ∷ []) runs
+  program_follows p limit parts bytes rest runs selected fitting short h s r = follows 0x400000 (setting.text ∷ data_at bytes ∷ []) runs at
     where
+      stood : (label : ℕ) (c : Code) (e : Entry) → slice_get p.bodies label ≡ Some c → c.entry ≡ Some e → BodyAt plan label c e
+      stood label c e is o =
+          let z : 0 + label ≡ label = omega arith in
+          subst (λ l. BodyAt plan l c e) z (bodies_stand plan p.bodies 0 (own_label p) _ (item.Jump (label_of routine.End) ∷ rest) h.2.2.2 label c e is o)
+
+      enters : (n : ℕ) → calls ≡ true → Enters plan body_steps (enter (entry_at (entries_of p.bodies)) (bodies_of p.bodies) n) n
+      enters n is = enter_sim plan body_steps laid p.bodies selected (subst (λ b. list_all (fits b) p.bodies ≡ true) is fitting) short stood n
+
       at : (g : Given) (answers : List Answer) (n : ℕ) → Does (start 0x400000 (setting.text ∷ data_at bytes ∷ []) g answers) n (runs answers n).end (runs answers n).output
       at g answers n =
           let x : View = record { registers = g.registers; flags = g.flags; place = 0x400000; bytes = bytes; output = []; answers = answers; spare = g.spare } in
@@ -119,7 +131,7 @@ module _ (plan : Plan) (body_steps : ℕ) (laid : Laid plan body_steps) (depth :
             contents = s.contents;
             new = s.new;
           } in
-          seen_does p callee t x z (forms_cost p.bodies) n answers _ (runs answers n) refl
+          seen_does p n callee (enters n) t x z (forms_cost p.bodies) answers _ (runs answers n) refl
           (leads_on setting.marks (leads_on setting.marks (goes setting x y1 (MovWord 5 (pos stack)) h.0 [] h.1 refl) (goes setting y1 y2 (MovWord 12 (pos heap)) h.2.0 [] h.2.1 refl)) (goes setting y2 z (MovWord 13 (pos depth)) h.2.2.0 [] h.2.2.1 refl))
-          (forms_sim plan body_steps laid depth room p.bodies callee p.bodies 0 (own_label p) rest selected (λ j c e. let sum : 0 + j ≡ j = omega arith in ap (slice_get p.bodies) sum ∙ e) [] w z h.2.2.2 (record { parts = parts; frame = refl; deep = refl; free = free; world = world }) refl)
+          (forms_sim plan body_steps laid depth room calls n p.bodies callee (enters n) p.bodies 0 (own_label p) rest selected fitting (λ j c e. let sum : 0 + j ≡ j = omega arith in ap (slice_get p.bodies) sum ∙ e) [] w z h.2.2.2 (record { parts = parts; frame = refl; deep = refl; few = omega arith; free = free; world = world }) refl)
           (r.are answers n)

@@ -37,11 +37,11 @@ use Rattle.sch_heap.proofs.Encodings.{fits, is_cell, cell_tested, unset_tested}
 use Rattle.sch_heap.proofs.Contents.{words_stay, held_words, held_fits, cell_taken, cell_there}
 use Rattle.sch_select.specs.Select.{kind_of, stop_label, source_code, check_heap, check_cell, part_code, part_operand, cell_operand, operation_code}
 use Rattle.sch_select.proofs.simulation.Straight.{halts_after, Halts, Kept, kept_set, kept_then, moved_to, Masked, masked, tagged, by_7}
-use Rattle.sch_select.proofs.simulation.Places.{Plan, Room, StoreAt, PlacesAt, places_kept}
+use Rattle.sch_select.proofs.simulation.Places.{Plan, Activation, StoreAt, PlacesAt, places_kept}
 use Rattle.sch_select.proofs.simulation.Operands.{Reads, operand_here, free_scratch}
 use Rattle.sch_select.proofs.simulation.HeapWrites.{Wrote, wrote_one, store_wrote, heap_inside, places_wrote, places_grown, store_grown, cell_written, room_tested}
 use Rattle.sch_select.proofs.simulation.Sources.{is_one, Sources, source_here, Tested, room_here}
-use Rattle.sch_select.proofs.simulation.Following.{after, Laid, stops_here}
+use Rattle.sch_select.proofs.simulation.Outcomes.{after, Laid, stops_here}
 use Rattle.sch_select.proofs.simulation.Operations.{Std, FrameOf, StoreOf, SimOf, Rest, next_of, onward, none_waits}
 use Rattle.sch_select.proofs.programs.Selected.{source_selected, operand_selected}
 
@@ -58,26 +58,26 @@ some_at [] n lt = absurd (omega (arith, lt))
 some_at (x ∷ xs) zero lt = (x, refl)
 some_at (x ∷ xs) (suc n) lt = some_at xs n (omega (arith, lt))
 
-module _ (plan : Plan) (body_steps : ℕ) (laid : Laid plan body_steps) (back fr d : ℕ) (back_fits : back < 2 ^ 64) (room : Room plan fr d) where
+module _ (plan : Plan) (body_steps : ℕ) (laid : Laid plan body_steps) (act : Activation plan) where
   open plan use {setting, size, words, globals, closures, heap, stack, near}
 
   abbrev Here : List MarkKind → ℕ → List Item → Type 0
-  Here waiting a is = Std plan body_steps laid back fr d back_fits room waiting a is
+  Here waiting a is = Std plan body_steps laid act waiting a is
 
   abbrev In : Parts → Frame → World → View → Type 0
-  In parts f w x = FrameOf plan body_steps laid back fr d back_fits room parts f w x
+  In parts f w x = FrameOf plan body_steps laid act parts f w x
 
   abbrev At : Parts → World → View → Type 0
-  At parts w x = StoreOf plan body_steps laid back fr d back_fits room parts w x
+  At parts w x = StoreOf plan body_steps laid act parts w x
 
   abbrev Owed : Parts → List MarkKind → World → View → ℕ → Result → Type 0
-  Owed parts before w x c r = SimOf plan body_steps laid back fr d back_fits room parts before w x c r
+  Owed parts before w x c r = SimOf plan body_steps laid act parts before w x c r
 
   abbrev Goes : (Frame → World → Result) → ℕ → List Item → Type 0
-  Goes k c rest = Rest plan body_steps laid back fr d back_fits room k c rest
+  Goes k c rest = Rest plan body_steps laid act k c rest
 
   top : stack ≤ 0x10000000 + size
-  top = let l = room.low in let h = room.high in omega (arith, l, h)
+  top = let l = act.room.low in let h = act.room.high in omega (arith, l, h)
 
   -- ---- a new cell
 
@@ -91,7 +91,7 @@ module _ (plan : Plan) (body_steps : ℕ) (laid : Laid plan body_steps) (back fr
 
   module _ (k : Frame → World → Result) (c : ℕ) (rest : List Item) (K : Goes k c rest) (parts : Parts) (before waiting : List MarkKind) (f : Frame) (w : World) (x : View) (p : In parts f w x) (g : At parts w x) (marked : map kind_of w.marks ≡ before ++ waiting) where
     abbrev Next : Value → World → Result
-    Next v w = next_of plan body_steps laid back fr d back_fits room k f v w
+    Next v w = next_of plan body_steps laid act k f v w
 
     abbrev next : ℕ
     next = heap + w.state.store.charged
@@ -102,7 +102,7 @@ module _ (plan : Plan) (body_steps : ℕ) (laid : Laid plan body_steps) (back fr
     make_cell : (contents : Option Value) (code : List Item → List Item) → Here waiting x.place (check_heap stack 16 (code part))
         → ((registers : ℕ → ℕ) → Kept (is_one 2) x.registers registers → (z : View) → z.registers ≡ registers → z.bytes ≡ x.bytes → Inside (length x.bytes) next → Here [] z.place (code part) → Stores parts contents next z part)
         → Owed parts before w x (30 + c) (on_outcome w.marks (new_cell contents w.state) Next)
-    make_cell contents code h stores = by (nat_le (w.state.store.charged + 16) w.state.store.constants.heap) refl (subst (λ b. Tested plan back fr d back_fits room parts parts (λ o at e. e) b x waiting (code part)) (room_tested plan parts w.state x.bytes x.output x.answers 16 g) (room_here plan back fr d back_fits room parts parts (λ o at e. e) next 16 x waiting (code part) p.free g.within (omega arith) h))
+    make_cell contents code h stores = by (nat_le (w.state.store.charged + 16) w.state.store.constants.heap) refl (subst (λ b. Tested plan act parts parts (λ o at e. e) b x waiting (code part)) (room_tested plan parts w.state x.bytes x.output x.answers 16 g) (room_here plan act parts parts (λ o at e. e) next 16 x waiting (code part) p.free g.within (omega arith) h))
       where
         t : Store
         t = w.state.store
@@ -110,14 +110,14 @@ module _ (plan : Plan) (body_steps : ℕ) (laid : Laid plan body_steps) (back fr
         made : Bool → Outcome (State Procedure) Value
         made b = on_value (with_rest w.state.cells w.state.procedures (require b HeapLimit (λ u. gives unspecified (record u { charged = u.charged + 16 })) t)) (λ _ s. gives (cell (length s.cells)) (record s { cells = s.cells ++ contents ∷ [] }))
 
-        by : (b : Bool) → nat_le (t.charged + 16) t.constants.heap ≡ b → Tested plan back fr d back_fits room parts parts (λ o at e. e) b x waiting (code part) → Owed parts before w x (30 + c) (on_outcome w.marks (made b) Next)
+        by : (b : Bool) → nat_le (t.charged + 16) t.constants.heap ≡ b → Tested plan act parts parts (λ o at e. e) b x waiting (code part) → Owed parts before w x (30 + c) (on_outcome w.marks (made b) Next)
         by false e s = stops_here plan body_steps laid before waiting x 4 (30 + c) HeapLimit w s g.printed marked (omega arith)
         by true e s =
             let z = moved_to x s.registers s.flags s.place in
             let enough : t.charged + 16 ≤ t.constants.heap = leb-true (t.charged + 16) t.constants.heap e in
             let lim = g.limit in let n = near in let hl = plan.closures_high in let cl = plan.closures_low in
             let fits_in : next + 16 ≤ stack = omega (arith, enough, lim) in
-            let within : Inside (length x.bytes) next = heap_inside plan back fr d back_fits room next x.bytes g.size_is (omega (arith, hl)) (omega (arith, fits_in)) in
+            let within : Inside (length x.bytes) next = heap_inside plan act next x.bytes g.size_is (omega (arith, hl)) (omega (arith, fits_in)) in
             let st = stores s.registers s.kept z refl refl within s.ahead in
             let a = st.ahead in
             let bytes = with_word x.bytes next st.value in
@@ -146,11 +146,11 @@ module _ (plan : Plan) (body_steps : ℕ) (laid : Laid plan body_steps) (back fr
             let g' : At parts' w' u3 = subst (λ ps. StoreAt plan parts' (record { cells = w.state.cells ++ contents ∷ []; store = record t { charged = t.charged + 16 }; procedures = ps }) bytes x.output x.answers) (append-nil w.state.procedures) g2 in
             let free : s2.value ≡ heap + (t.charged + 16) = omega (arith, same, fits_in, n) in
             let kept = kept_then is_scratch x.registers s.registers u2.registers (one_scratch 2 x.registers s.registers refl s.kept) (kept_then is_scratch s.registers u1.registers u2.registers (kept_set is_scratch s.registers 0 (s.registers 12) refl) (kept_set is_scratch u1.registers 0 s1.value refl)) in
-            let p1 = places_kept plan back fr d back_fits room parts t.charged f.places x.registers u2.registers x.bytes kept p in
-            let p2 = places_wrote plan back fr d back_fits room parts t.charged f.places u2.registers x.bytes bytes next (next + 16) fits_in wrote p1 in
-            let p' : In parts' f w' u3 = places_grown plan back fr d back_fits room parts parts' (words_stay parts others) t.charged (t.charged + 16) f.places u2.registers u3.registers bytes (λ j i. kept_set (is_one 12) u2.registers 12 s2.value refl j i) free p2 in
+            let p1 = places_kept plan act parts t.charged f.places f.outgoing x.registers u2.registers x.bytes kept p in
+            let p2 = places_wrote plan act parts t.charged f.places f.outgoing u2.registers x.bytes bytes next (next + 16) fits_in wrote p1 in
+            let p' : In parts' f w' u3 = places_grown plan act parts parts' (words_stay parts others) t.charged (t.charged + 16) f.places f.outgoing u2.registers u3.registers bytes (λ j i. kept_set (is_one 12) u2.registers 12 s2.value refl j i) free p2 in
             let named : IsWord parts' (cell (length w.state.cells)) (u3.registers 0) = record { at = at; there = there; is = omega (arith, same, unit, fits_in, n); fits = omega (arith, same, fits_in, n) } in
-            after plan body_steps back fr d parts parts' (words_stay parts others) before waiting t w'.state.store x u3 8 8 c (30 + c) _
+            after plan body_steps act parts parts' (words_stay parts others) before waiting t w'.state.store x u3 8 8 c (30 + c) _
             (leads_on setting.marks (leads_on setting.marks (leads_on setting.marks (leads_on setting.marks s.leads st.leads) (goes setting z1 u1 (MovTo (Reg 0) 12) a.0 [] a.1 refl)) (goes setting u1 u2 (AddNumber (Reg 0) (pos 7)) a.2.0 [] a.2.1 refl)) (goes setting u2 u3 (AddNumber (Reg 12) (pos 16)) a.2.2.0 [] a.2.2.1 refl))
             (λ q lo hi. wrote.other q (omega (arith, lo, hl, cl, fits_in)) (inr (omega (arith, lo, fits_in))))
             (omega arith) (omega arith) (omega arith)
@@ -172,14 +172,14 @@ module _ (plan : Plan) (body_steps : ℕ) (laid : Laid plan body_steps) (back fr
 
   module _ (k : Frame → World → Result) (c : ℕ) (rest : List Item) (K : Goes k c rest) (parts : Parts) (before waiting : List MarkKind) (f : Frame) (w : World) (x : View) (p : In parts f w x) (g : At parts w x) (marked : map kind_of w.marks ≡ before ++ waiting) where
     abbrev After : Value → World → Result
-    After v w = next_of plan body_steps laid back fr d back_fits room k f v w
+    After v w = next_of plan body_steps laid act k f v w
 
     abbrev Found : ℕ → View → List MarkKind → List Item → Option Value → Type 0
-    Found r y waiting rest o = Sources plan back fr d back_fits room parts parts (λ o at e. e) r y waiting rest o
+    Found r y waiting rest o = Sources plan act parts parts (λ o at e. e) r y waiting rest o
 
     -- a cell with a value
     pub new_cell_sim : (n : ℕ) (q : Source Place) → source_selected words globals q ≡ true → Here waiting x.place (operation_code stack n (operation.NewCell q) rest) → Owed parts before w x (250 + c) (on_ending w.marks (operate (held f) (operation.NewCell q) w.state) After)
-    new_cell_sim n q e h = by (source_value (held f) w.state q) (source_here plan back fr d back_fits room parts parts (λ o at e. e) 0 q w.state.store.charged f w.state x waiting code e p g h)
+    new_cell_sim n q e h = by (source_value (held f) w.state q) (source_here plan act parts parts (λ o at e. e) 0 q w.state.store.charged f w.state x waiting code e p g h)
       where
         code : List Item
         code = check_heap stack 16 (item.Plain (MovTo (part_operand 0) 0) ∷ part_code 7 16 rest)
@@ -188,8 +188,8 @@ module _ (plan : Plan) (body_steps : ℕ) (laid : Laid plan body_steps) (back fr
         by None s = tt
         by (Some v) s =
             let y = moved_to x s.registers x.flags s.place in
-            onward plan body_steps laid back fr d back_fits room parts before waiting w x y s.least s.steps (30 + c) (250 + c) _ s.leads (λ a lo hi. refl) (let q = s.few in omega (arith, q))
-            (make_cell k c rest K parts (before ++ waiting) [] f w y (places_kept plan back fr d back_fits room parts w.state.store.charged f.places x.registers s.registers x.bytes (one_scratch 0 x.registers s.registers refl s.kept) p) g (none_waits (map kind_of w.marks) before waiting marked)
+            onward plan body_steps laid act parts before waiting w x y s.least s.steps (30 + c) (250 + c) _ s.leads (λ a lo hi. refl) (let q = s.few in omega (arith, q))
+            (make_cell k c rest K parts (before ++ waiting) [] f w y (places_kept plan act parts w.state.store.charged f.places f.outgoing x.registers s.registers x.bytes (one_scratch 0 x.registers s.registers refl s.kept) p) g (none_waits (map kind_of w.marks) before waiting marked)
             (Some v) (λ rest. item.Plain (MovTo (part_operand 0) 0) ∷ rest) s.ahead (stored y s.kept v s.value))
           where
             stored : (y : View) → Kept (is_one 0) x.registers y.registers → (v : Value) → IsWord parts v (y.registers 0) → (registers : ℕ → ℕ) → Kept (is_one 2) y.registers registers → (z : View) → z.registers ≡ registers → z.bytes ≡ x.bytes → Inside (length x.bytes) (heap + w.state.store.charged) → Here [] z.place (item.Plain (MovTo (part_operand 0) 0) ∷ part_code 7 16 rest) → Stores parts (Some v) (heap + w.state.store.charged) z (part_code 7 16 rest)
@@ -208,7 +208,7 @@ module _ (plan : Plan) (body_steps : ℕ) (laid : Laid plan body_steps) (back fr
     -- a cell without one
     pub unset_cell_sim : (n : ℕ) → Here waiting x.place (operation_code stack n operation.UnsetCell rest) → Owed parts before w x (250 + c) (on_ending w.marks (operate (held f) operation.UnsetCell w.state) After)
     unset_cell_sim n h =
-        onward plan body_steps laid back fr d back_fits room parts before [] w x x 0 0 (30 + c) (250 + c) _ (leads_here setting.marks (full setting x)) (λ a lo hi. refl) (omega arith)
+        onward plan body_steps laid act parts before [] w x x 0 0 (30 + c) (250 + c) _ (leads_here setting.marks (full setting x)) (λ a lo hi. refl) (omega arith)
         (subst (λ l. Owed parts l w x (30 + c) (on_outcome w.marks (new_cell None w.state) After)) (sym (append-nil before))
         (make_cell k c rest K parts before waiting f w x p g marked None (λ rest. item.Plain (MovNumber (part_operand 0) (pos 38)) ∷ rest) h stored))
       where
@@ -226,14 +226,14 @@ module _ (plan : Plan) (body_steps : ℕ) (laid : Laid plan body_steps) (back fr
 
     -- a field of a closure
     pub field_sim : (n : ℕ) (q : Source Place) → source_selected words globals q ≡ true → Here waiting x.place (source_code 0 q rest) → Owed parts before w x (250 + c) (on_ending w.marks (with_some (source_value (held f) w.state q) (λ u. Some (gives u w.state))) After)
-    field_sim n q e h = by (source_value (held f) w.state q) (source_here plan back fr d back_fits room parts parts (λ o at e. e) 0 q w.state.store.charged f w.state x waiting rest e p g h)
+    field_sim n q e h = by (source_value (held f) w.state q) (source_here plan act parts parts (λ o at e. e) 0 q w.state.store.charged f w.state x waiting rest e p g h)
       where
         by : (o : Option Value) → Found 0 x waiting rest o → Owed parts before w x (250 + c) (on_ending w.marks (with_some o (λ u. Some (gives u w.state))) After)
         by None s = tt
         by (Some v) s =
             let y = moved_to x s.registers x.flags s.place in
-            onward plan body_steps laid back fr d back_fits room parts before waiting w x y s.least s.steps c (250 + c) _ s.leads (λ a lo hi. refl) (let q = s.few in omega (arith, q))
-            (K parts (before ++ waiting) [] (record f { accumulator = Is v }) w y s.ahead (places_kept plan back fr d back_fits room parts w.state.store.charged f.places x.registers s.registers x.bytes (one_scratch 0 x.registers s.registers refl s.kept) p) g s.value (none_waits (map kind_of w.marks) before waiting marked))
+            onward plan body_steps laid act parts before waiting w x y s.least s.steps c (250 + c) _ s.leads (λ a lo hi. refl) (let q = s.few in omega (arith, q))
+            (K parts (before ++ waiting) [] (record f { accumulator = Is v }) w y s.ahead (places_kept plan act parts w.state.store.charged f.places f.outgoing x.registers s.registers x.bytes (one_scratch 0 x.registers s.registers refl s.kept) p) g s.value (none_waits (map kind_of w.marks) before waiting marked))
 
     -- ---- a cell that a register has
 
@@ -270,7 +270,7 @@ module _ (plan : Plan) (body_steps : ℕ) (laid : Laid plan body_steps) (back fr
               is = q.1;
               holds = cl.holds;
               named = omega (arith, v, hi, z, i, m);
-              inside = heap_inside plan back fr d back_fits room (16 * cl.at.unit) y.bytes g.size_is (omega (arith, lo, b)) (omega (arith, hi, z, i));
+              inside = heap_inside plan act (16 * cl.at.unit) y.bytes g.size_is (omega (arith, lo, b)) (omega (arith, hi, z, i));
               below = omega (arith, hi, z, i);
               few = lt;
             }
@@ -315,7 +315,7 @@ module _ (plan : Plan) (body_steps : ℕ) (laid : Laid plan body_steps) (back fr
 
     -- a cell is read
     pub cell_get_sim : (n : ℕ) (q : Source Place) → source_selected words globals q ≡ true → Here waiting x.place (operation_code stack n (operation.CellGet q) rest) → Owed parts before w x (250 + c) (on_ending w.marks (operate (held f) (operation.CellGet q) w.state) After)
-    cell_get_sim n q e h = by (source_value (held f) w.state q) (source_here plan back fr d back_fits room parts parts (λ o at e. e) 0 q w.state.store.charged f w.state x waiting code e p g h)
+    cell_get_sim n q e h = by (source_value (held f) w.state q) (source_here plan act parts parts (λ o at e. e) 0 q w.state.store.charged f w.state x waiting code e p g h)
       where
         read : List Item
         read = item.Plain (MovFrom 0 (cell_operand 0)) ∷ (item.Plain (CmpNumber (Reg 0) (pos 38)) ∷ (item.JumpIf E (stop_label Unset) ∷ rest))
@@ -366,9 +366,9 @@ module _ (plan : Plan) (body_steps : ℕ) (laid : Laid plan body_steps) (back fr
                     let z = record y2 { place = y2.place + st.2.2.0 } in
                     let kz = kept_then is_scratch x.registers y.registers z.registers kept (kept_set is_scratch y.registers 0 v refl) in
                     let gz : StoreAt plan parts w.state y.bytes y.output y.answers = subst (λ bytes. StoreAt plan parts w.state bytes y.output y.answers) (sym eb) (subst (λ o. StoreAt plan parts w.state x.bytes o y.answers) (sym eo) (subst (StoreAt plan parts w.state x.bytes x.output) (sym ea) g)) in
-                    onward plan body_steps laid back fr d back_fits room parts before waiting w x z (a + 1 + 1 + 1) (b + 1 + 1 + 1) c (250 + c) _
+                    onward plan body_steps laid act parts before waiting w x z (a + 1 + 1 + 1) (b + 1 + 1 + 1) c (250 + c) _
                     (leads_on setting.marks first (branches setting y2 E (stop_label Unset) rest [] false st.2.2 (compared_e v 38 (fits parts u v hv) (omega arith) ∙ ap Some (unset_tested parts u v hv)))) (λ q lo hi. ap (λ bytes. word_in bytes q) eb) (omega (arith, le))
-                    (K parts (before ++ waiting) [] (record f { accumulator = Is u }) w z st.2.2.4 (subst (λ bytes. PlacesAt plan back fr d back_fits room parts w.state.store.charged f.places z.registers bytes) (sym eb) (places_kept plan back fr d back_fits room parts w.state.store.charged f.places x.registers z.registers x.bytes kz p)) gz hv (none_waits (map kind_of w.marks) before waiting marked))
+                    (K parts (before ++ waiting) [] (record f { accumulator = Is u }) w z st.2.2.4 (subst (λ bytes. PlacesAt plan act parts w.state.store.charged f.places f.outgoing z.registers bytes) (sym eb) (places_kept plan act parts w.state.store.charged f.places f.outgoing x.registers z.registers x.bytes kz p)) gz hv (none_waits (map kind_of w.marks) before waiting marked))
 
         by : (o : Option Value) → Found 0 x waiting code o → Owed parts before w x (250 + c) (on_ending w.marks (with_some o (λ v. Some (with_cell v read_cell w.state))) After)
         by None s = tt
@@ -398,7 +398,7 @@ module _ (plan : Plan) (body_steps : ℕ) (laid : Laid plan body_steps) (back fr
 
     -- a cell is set
     pub cell_set_sim : (n : ℕ) (q : Source Place) (o : Operand Place) → source_selected words globals q ≡ true → operand_selected words globals o ≡ true → Here waiting x.place (operation_code stack n (operation.CellSet q o) rest) → Owed parts before w x (250 + c) (on_ending w.marks (operate (held f) (operation.CellSet q o) w.state) After)
-    cell_set_sim n q o e e' h = by_operand (operand_value (held f) w.state.store o) (operand_here plan back fr d back_fits room parts n o w.state.store.charged f w.state.store x waiting (source_code 1 q code) e' p g.size_is h)
+    cell_set_sim n q o e e' h = by_operand (operand_value (held f) w.state.store o) (operand_here plan act parts n o w.state.store.charged f w.state.store x waiting (source_code 1 q code) e' p g.size_is h)
       where
         write : List Item
         write = item.Plain (MovTo (cell_operand 1) 0) ∷ (item.Plain (MovNumber (Reg 0) (pos 30)) ∷ rest)
@@ -413,9 +413,9 @@ module _ (plan : Plan) (body_steps : ℕ) (laid : Laid plan body_steps) (back fr
         none None = tt
         none (Some v) = tt
 
-        by_operand : (b : Option Value) → Reads plan back fr d back_fits room parts x waiting 32 (source_code 1 q code) b → Owed parts before w x (250 + c) (set (source_value (held f) w.state q) b)
+        by_operand : (b : Option Value) → Reads plan act parts x waiting 32 (source_code 1 q code) b → Owed parts before w x (250 + c) (set (source_value (held f) w.state q) b)
         by_operand None s = none (source_value (held f) w.state q)
-        by_operand (Some u) s = by_source (source_value (held f) w.state q) (source_here plan back fr d back_fits room parts parts (λ o at e. e) 1 q w.state.store.charged f w.state y [] code e (places_kept plan back fr d back_fits room parts w.state.store.charged f.places x.registers s.registers x.bytes (free_scratch x.registers s.registers s.kept) p) g s.ahead)
+        by_operand (Some u) s = by_source (source_value (held f) w.state q) (source_here plan act parts parts (λ o at e. e) 1 q w.state.store.charged f w.state y [] code e (places_kept plan act parts w.state.store.charged f.places f.outgoing x.registers s.registers x.bytes (free_scratch x.registers s.registers s.kept) p) g s.ahead)
           where
             y : View
             y = moved_to x s.registers s.flags s.place
@@ -450,12 +450,12 @@ module _ (plan : Plan) (body_steps : ℕ) (laid : Laid plan body_steps) (back fr
                     let low : 0x10000320 ≤ a0 = (let b = there.inside.low in let k = g.begins in let sw = (spot_within parts (a_cell m) there.at there.there).0 in let cl = plan.closures_low in omega (arith, b, k, sw, cl)) in
                     let wrote : Wrote a0 (a0 + 8) x.bytes bytes = wrote_one a0 (a0 + 8) a0 (i.registers 0) x.bytes there.inside low (omega arith) (omega arith) in
                     let sa = s.few in let ra = r.few in let be = there.below in
-                    after plan body_steps back fr d parts parts (λ v n h. h) before waiting w.state.store w'.state.store x z3 (s.least + r.least + 4 + 1 + 1) (s.steps + r.steps + 4 + 1 + 1) c (250 + c) _
+                    after plan body_steps act parts parts (λ v n h. h) before waiting w.state.store w'.state.store x z3 (s.least + r.least + 4 + 1 + 1) (s.steps + r.steps + 4 + 1 + 1) c (250 + c) _
                     (leads_on setting.marks (leads_on setting.marks (leads_on setting.marks reach i.leads) (stores_word setting z1 0 i.ahead.0 a0 (Base32 1 (negsuc 6)) [] i.ahead.1 there.named there.inside)) (goes setting z2 z3 (MovNumber (Reg 0) (pos 30)) i.ahead.2.0 [] i.ahead.2.1 refl))
                     (λ a lo hi. let st = plan.stack_low in let hl = plan.heap_low in wrote.other a (omega (arith, lo, st, hl)) (inr (omega (arith, lo, be))))
                     (omega arith) (omega arith) (omega (arith, sa, ra))
                     (K parts (before ++ waiting) [] (record f { accumulator = Is unspecified }) w' z3 i.ahead.2.2
-                    (places_wrote plan back fr d back_fits room parts w.state.store.charged f.places z3.registers x.bytes bytes a0 (a0 + 8) be wrote (places_kept plan back fr d back_fits room parts w.state.store.charged f.places x.registers z3.registers x.bytes kept p))
+                    (places_wrote plan act parts w.state.store.charged f.places f.outgoing z3.registers x.bytes bytes a0 (a0 + 8) be wrote (places_kept plan act parts w.state.store.charged f.places f.outgoing x.registers z3.registers x.bytes kept p))
                     (cell_written plan parts w.state x.bytes x.output x.answers m u there.at (i.registers 0) there.few there.there value top g)
                     refl (none_waits (map kind_of w.marks) before waiting marked))
                 tested_as (fixnum m) hv i = stopped i

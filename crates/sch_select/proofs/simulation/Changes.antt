@@ -19,7 +19,7 @@ use Rattle.sch_heap.specs.Encoded.{IsWord, IsHeld}
 use Rattle.sch_heap.proofs.Contents.{heap_kept, set_same, set_other}
 use Rattle.sch_select.specs.Select.{global_address}
 use Rattle.sch_heap.proofs.Encodings.{fits}
-use Rattle.sch_select.proofs.simulation.Places.{Plan, code_of, Room, StoreAt, PlacesAt, Holds, same_word, no_scratch}
+use Rattle.sch_select.proofs.simulation.Places.{Plan, code_of, Activation, StoreAt, PlacesAt, Holds, same_word, no_scratch}
 
 -- ---- words behind the routines' own
 
@@ -92,29 +92,32 @@ module _ (plan : Plan) where
         new = at.new;
       }
 
-  module _ (back fr d : ℕ) (back_fits : back < 2 ^ 64) (room : Room plan fr d) where
+  module _ (act : Activation plan) where
     -- a store to a global leaves the frame
-    pub places_written : (parts : Parts) (charged : ℕ) (places : Place → Cell) (registers : ℕ → ℕ) (bytes : List ℕ) (g x : ℕ) → g < globals → heap ≤ 0x10000000 + size → length bytes ≡ size → PlacesAt plan back fr d back_fits room parts charged places registers bytes → PlacesAt plan back fr d back_fits room parts charged places registers (with_word bytes (global_address g) x)
-    places_written parts charged places registers bytes g x lt le e p = record {
+    pub places_written : (parts : Parts) (charged : ℕ) (places : Place → Cell) (outgoing : ℕ → Cell) (registers : ℕ → ℕ) (bytes : List ℕ) (g x : ℕ) → g < globals → heap ≤ 0x10000000 + size → length bytes ≡ size → PlacesAt plan act parts charged places outgoing registers bytes → PlacesAt plan act parts charged places outgoing registers (with_word bytes (global_address g) x)
+    places_written parts charged places outgoing registers bytes g x lt le e p = record {
       frame = p.frame;
       depth = p.depth;
       free = p.free;
       register = p.register;
-      slot = λ j lj. let low = room.low in let hl = heap_low in let sl = stack_low in
-          subst (Holds back parts (places (Slot j))) (sym (word_other bytes (global_address g) x (fr + 8 * j) (global_inside g bytes lt le e) (omega (arith, low, hl, sl)) (inr (omega (arith, low, hl, sl, lt))))) (p.slot j lj);
+      slot = λ j lj. let low = act.room.low in let hl = heap_low in let sl = stack_low in
+          subst (Holds act.back parts (places (Slot j))) (sym (word_other bytes (global_address g) x (act.frame + 8 * j) (global_inside g bytes lt le e) (omega (arith, low, hl, sl)) (inr (omega (arith, low, hl, sl, lt))))) (p.slot j lj);
+      next = λ j lj. let low = act.room.low in let hl = heap_low in let sl = stack_low in
+          subst (Holds act.back parts (outgoing j)) (sym (word_other bytes (global_address g) x (act.frame + 8 * (words + j)) (global_inside g bytes lt le e) (omega (arith, low, hl, sl)) (inr (omega (arith, low, hl, sl, lt))))) (p.next j lj);
     }
 
     pub below_written : (bytes : List ℕ) (g x : ℕ) → g < globals → heap ≤ 0x10000000 + size → length bytes ≡ size → (a : ℕ) → stack ≤ a → word_in (with_word bytes (global_address g) x) a ≡ word_in bytes a
     below_written bytes g x lt le e a low = let hl = heap_low in let sl = stack_low in word_other bytes (global_address g) x a (global_inside g bytes lt le e) (omega (arith, low, hl, sl)) (inr (omega (arith, low, hl, sl, lt)))
 
     -- after a routine, which keeps registers whose words fit
-    pub places_behind : (parts : Parts) (charged : ℕ) (places : Place → Cell) (registers registers' : ℕ → ℕ) (bytes bytes' : List ℕ) → heap + charged < 2 ^ 64 → ((r : ℕ) → is_scratch r ≡ false → registers r < 2 ^ 64 → registers' r ≡ registers r) → drop 512 bytes' ≡ drop 512 bytes → PlacesAt plan back fr d back_fits room parts charged places registers bytes → PlacesAt plan back fr d back_fits room parts charged places registers' bytes'
-    places_behind parts charged places registers registers' bytes bytes' far k e p =
-        let low = room.low in let high = room.high in let s = small in let few = room.few in let f = p.frame in let dp = p.depth in let fe = p.free in
+    pub places_behind : (parts : Parts) (charged : ℕ) (places : Place → Cell) (outgoing : ℕ → Cell) (registers registers' : ℕ → ℕ) (bytes bytes' : List ℕ) → heap + charged < 2 ^ 64 → ((r : ℕ) → is_scratch r ≡ false → registers r < 2 ^ 64 → registers' r ≡ registers r) → drop 512 bytes' ≡ drop 512 bytes → PlacesAt plan act parts charged places outgoing registers bytes → PlacesAt plan act parts charged places outgoing registers' bytes'
+    places_behind parts charged places outgoing registers registers' bytes bytes' far k e p =
+        let low = act.room.low in let high = act.room.high in let s = small in let few = act.room.few in let f = p.frame in let dp = p.depth in let fe = p.free in
         record {
           frame = k 5 refl (omega (arith, f, high, s)) ∙ p.frame;
           depth = k 13 refl (omega (arith, dp, few)) ∙ p.depth;
           free = k 12 refl (omega (arith, fe, far)) ∙ p.free;
-          register = λ r i. same_word back parts back_fits (places (Reg r)) (registers r) (registers' r) (p.register r i) (k r (no_scratch r i));
-          slot = λ j lj. let hl = heap_low in let sl = stack_low in subst (Holds back parts (places (Slot j))) (sym (word_behind bytes bytes' (fr + 8 * j) e (omega (arith, low, hl, sl)))) (p.slot j lj);
+          register = λ r i. same_word act.back parts act.back_fits (places (Reg r)) (registers r) (registers' r) (p.register r i) (k r (no_scratch r i));
+          slot = λ j lj. let hl = heap_low in let sl = stack_low in subst (Holds act.back parts (places (Slot j))) (sym (word_behind bytes bytes' (act.frame + 8 * j) e (omega (arith, low, hl, sl)))) (p.slot j lj);
+          next = λ j lj. let hl = heap_low in let sl = stack_low in subst (Holds act.back parts (outgoing j)) (sym (word_behind bytes bytes' (act.frame + 8 * (words + j)) e (omega (arith, low, hl, sl)))) (p.next j lj);
         }

@@ -38,11 +38,11 @@ use Rattle.sch_heap.proofs.Spots.{spot_stays, spot_newest}
 use Rattle.sch_heap.proofs.Contents.{words_stay, procedure_taken}
 use Rattle.sch_select.specs.Select.{kind_of, part_code, record_code, closure_bytes, group_bytes, places_code, records_code, group_code, operation_code}
 use Rattle.sch_select.proofs.simulation.Straight.{Halts, kept_set, kept_then, moved_to}
-use Rattle.sch_select.proofs.simulation.Places.{Plan, code_of, Room, StoreAt, PlacesAt, places_kept, Holds, holds_words, written}
+use Rattle.sch_select.proofs.simulation.Places.{Plan, code_of, Activation, StoreAt, PlacesAt, places_kept, Holds, holds_words, written}
 use Rattle.sch_select.proofs.simulation.HeapWrites.{Wrote, wrote_within, store_wrote, places_wrote, places_grown, store_grown, room_tested}
 use Rattle.sch_select.proofs.simulation.Sources.{is_one, HasRoom, Tested, room_here}
 use Rattle.sch_select.proofs.simulation.Records.{more_of, bytes_are, fields_fit, values_count, group_parts, group_units, AreSpots, group_spots, group_new, recorded, records_made, records_cost, both_there}
-use Rattle.sch_select.proofs.simulation.Following.{after, Laid, stops_here}
+use Rattle.sch_select.proofs.simulation.Outcomes.{after, Laid, stops_here}
 use Rattle.sch_select.proofs.simulation.Operations.{Std, FrameOf, StoreOf, SimOf, Rest, next_of, none_waits}
 use Rattle.sch_select.proofs.simulation.Cells.{one_scratch}
 use Rattle.sch_select.proofs.programs.Selected.{source_selected, closure_selected, members_selected}
@@ -147,27 +147,27 @@ made_count at s (m ∷ members) made e =
     let h = made_count at s members b.1 b.3 in
     ap length b.4 ∙ ap suc h
 
-module _ (plan : Plan) (body_steps : ℕ) (laid : Laid plan body_steps) (back fr d : ℕ) (back_fits : back < 2 ^ 64) (room : Room plan fr d) where
+module _ (plan : Plan) (body_steps : ℕ) (laid : Laid plan body_steps) (act : Activation plan) where
   open plan use {setting, size, words, globals, closures, heap, stack, near}
 
   abbrev Here : List MarkKind → ℕ → List Item → Type 0
-  Here waiting a is = Std plan body_steps laid back fr d back_fits room waiting a is
+  Here waiting a is = Std plan body_steps laid act waiting a is
 
   abbrev In : Parts → Frame → World → View → Type 0
-  In parts f w x = FrameOf plan body_steps laid back fr d back_fits room parts f w x
+  In parts f w x = FrameOf plan body_steps laid act parts f w x
 
   abbrev At : Parts → World → View → Type 0
-  At parts w x = StoreOf plan body_steps laid back fr d back_fits room parts w x
+  At parts w x = StoreOf plan body_steps laid act parts w x
 
   abbrev Owed : Parts → List MarkKind → World → View → ℕ → Result → Type 0
-  Owed parts before w x c r = SimOf plan body_steps laid back fr d back_fits room parts before w x c r
+  Owed parts before w x c r = SimOf plan body_steps laid act parts before w x c r
 
   abbrev Goes : (Frame → World → Result) → ℕ → List Item → Type 0
-  Goes k c rest = Rest plan body_steps laid back fr d back_fits room k c rest
+  Goes k c rest = Rest plan body_steps laid act k c rest
 
   module _ (k : Frame → World → Result) (c : ℕ) (rest : List Item) (K : Goes k c rest) (parts : Parts) (before waiting : List MarkKind) (f : Frame) (w : World) (x : View) (p : In parts f w x) (g : At parts w x) (marked : map kind_of w.marks ≡ before ++ waiting) where
     abbrev After : Value → World → Result
-    After v w = next_of plan body_steps laid back fr d back_fits room k f v w
+    After v w = next_of plan body_steps laid act k f v w
 
     -- one closure
     pub make_closure_sim : (n : ℕ) (q : Closure Place) → closure_selected words globals q ≡ true → Here waiting x.place (operation_code stack n (operation.MakeClosure q) rest) → Owed parts before w x (250 + 3 * length q.fields + c) (on_ending w.marks (operate (held f) (operation.MakeClosure q) w.state) After)
@@ -197,10 +197,10 @@ module _ (plan : Plan) (body_steps : ℕ) (laid : Laid plan body_steps) (back fr
         size_is : total ≡ 16 * suc (more_of q)
         size_is = bytes_are q
 
-        tested : Tested plan back fr d back_fits room parts parts (λ o at e. e) (nat_le (t.charged + total) t.constants.heap) x waiting code
-        tested = subst (λ b. Tested plan back fr d back_fits room parts parts (λ o at e. e) b x waiting code) (room_tested plan parts w.state x.bytes x.output x.answers total g) (room_here plan back fr d back_fits room parts parts (λ o at e. e) next total x waiting code p.free g.within (let a = few in omega (arith, a)) h)
+        tested : Tested plan act parts parts (λ o at e. e) (nat_le (t.charged + total) t.constants.heap) x waiting code
+        tested = subst (λ b. Tested plan act parts parts (λ o at e. e) b x waiting code) (room_tested plan parts w.state x.bytes x.output x.answers total g) (room_here plan act parts parts (λ o at e. e) next total x waiting code p.free g.within (let a = few in omega (arith, a)) h)
 
-        by_room : (vs : List Value) → source_values (held f) w.state q.fields ≡ Some vs → (b : Bool) → nat_le (t.charged + total) t.constants.heap ≡ b → Tested plan back fr d back_fits room parts parts (λ o at e. e) b x waiting code → Owed parts before w x (250 + 3 * length q.fields + c) (on_outcome w.marks (made b vs) After)
+        by_room : (vs : List Value) → source_values (held f) w.state q.fields ≡ Some vs → (b : Bool) → nat_le (t.charged + total) t.constants.heap ≡ b → Tested plan act parts parts (λ o at e. e) b x waiting code → Owed parts before w x (250 + 3 * length q.fields + c) (on_outcome w.marks (made b vs) After)
         by_room vs v false i s = stops_here plan body_steps laid before waiting x 4 (250 + 3 * length q.fields + c) HeapLimit w s g.printed marked (omega arith)
         by_room vs v true i s =
             let label = length w.state.procedures in
@@ -213,9 +213,9 @@ module _ (plan : Plan) (body_steps : ℕ) (laid : Laid plan body_steps) (back fr
             let lim = g.limit in let ends = g.ends in let m = near in let sz = size_is in
             let fits_in : next + total ≤ stack = omega (arith, enough, lim) in
             let z = moved_to x s.registers s.flags s.place in
-            let pz = places_kept plan back fr d back_fits room parts t.charged f.places x.registers s.registers x.bytes (one_scratch 2 x.registers s.registers refl s.kept) p in
-            let pz' = places_grown plan back fr d back_fits room parts parts' (words_stay parts others) t.charged t.charged f.places s.registers s.registers x.bytes (λ j e. refl) pz.free pz in
-            let r = recorded plan back fr d back_fits room parts parts' (spot_stays parts others) f w.state next refl 0 label q vs at z last e v there (omega (arith, ends)) refl (omega (arith, fits_in)) pz' g s.ahead in
+            let pz = places_kept plan act parts t.charged f.places f.outgoing x.registers s.registers x.bytes (one_scratch 2 x.registers s.registers refl s.kept) p in
+            let pz' = places_grown plan act parts parts' (words_stay parts others) t.charged t.charged f.places f.outgoing s.registers s.registers x.bytes (λ j e. refl) pz.free pz in
+            let r = recorded plan act parts parts' (spot_stays parts others) f w.state next refl 0 label q vs at z last e v there (omega (arith, ends)) refl (omega (arith, fits_in)) pz' g s.ahead in
             let a = r.ahead in
             let z1 : View = record z { registers = r.registers; bytes = r.bytes; place = r.place } in
             let u1 : View = record z1 { registers = set_register r.registers 0 (r.registers 12); place = r.place + a.0 } in
@@ -236,18 +236,18 @@ module _ (plan : Plan) (body_steps : ℕ) (laid : Laid plan body_steps) (back fr
             let g' : At parts' w' u3 = subst (λ cs. StoreAt plan parts' (record { cells = cs; store = record t { charged = t.charged + total }; procedures = w.state.procedures ++ one ∷ [] }) r.bytes x.output x.answers) (append-nil w.state.cells) g2 in
             let free : s2.value ≡ heap + (t.charged + total) = omega (arith, same, fits_in, m) in
             let kept = kept_then is_scratch x.registers s.registers u2.registers (one_scratch 2 x.registers s.registers refl s.kept) (kept_then is_scratch s.registers r.registers u2.registers (one_scratch 1 s.registers r.registers refl r.kept) (kept_then is_scratch r.registers u1.registers u2.registers (kept_set is_scratch r.registers 0 (r.registers 12) refl) (kept_set is_scratch u1.registers 0 s1.value refl))) in
-            let p1 = places_wrote plan back fr d back_fits room parts t.charged f.places u2.registers x.bytes r.bytes next (next + total) fits_in wrote (places_kept plan back fr d back_fits room parts t.charged f.places x.registers u2.registers x.bytes kept p) in
-            let p' : In parts' f w' u3 = places_grown plan back fr d back_fits room parts parts' (words_stay parts others) t.charged (t.charged + total) f.places u2.registers u3.registers r.bytes (λ j i. kept_set (is_one 12) u2.registers 12 s2.value refl j i) free p1 in
+            let p1 = places_wrote plan act parts t.charged f.places f.outgoing u2.registers x.bytes r.bytes next (next + total) fits_in wrote (places_kept plan act parts t.charged f.places f.outgoing x.registers u2.registers x.bytes kept p) in
+            let p' : In parts' f w' u3 = places_grown plan act parts parts' (words_stay parts others) t.charged (t.charged + total) f.places f.outgoing u2.registers u3.registers r.bytes (λ j i. kept_set (is_one 12) u2.registers 12 s2.value refl j i) free p1 in
             let named : IsWord parts' (procedure label) (u3.registers 0) = record { at = at; there = there; is = omega (arith, same, ends, fits_in, m, sz); fits = omega (arith, same, fits_in, m, sz) } in
             let hl = plan.heap_low in let sl = plan.stack_low in let rf = r.few in
-            after plan body_steps back fr d parts parts' (words_stay parts others) before waiting t w'.state.store x u3 (4 + r.least + 1 + 1 + 1) (4 + r.steps + 1 + 1 + 1) c (250 + 3 * length q.fields + c) _
+            after plan body_steps act parts parts' (words_stay parts others) before waiting t w'.state.store x u3 (4 + r.least + 1 + 1 + 1) (4 + r.steps + 1 + 1 + 1) c (250 + 3 * length q.fields + c) _
             (leads_on setting.marks (leads_on setting.marks (leads_on setting.marks (leads_on setting.marks s.leads r.leads) (goes setting z1 u1 (MovTo (Reg 0) 12) a.0 [] a.1 refl)) (goes setting u1 u2 (AddNumber (Reg 0) (pos 4)) a.2.0 [] a.2.1 refl)) (goes setting u2 u3 (AddNumber (Reg 12) (pos total)) a.2.2.0 [] a.2.2.1 refl))
             (λ b lo hi. wrote.other b (omega (arith, lo, sl, hl)) (inr (omega (arith, lo, fits_in))))
             (omega arith) (omega arith) (omega (arith, rf, fields))
             (K parts' (before ++ waiting) [] (record f { accumulator = Is (procedure label) }) w' u3 a.2.2.2 p' g' named (none_waits (map kind_of w.marks) before waiting marked))
           where
             fields_count : (vs : List Value) → source_values (held f) w.state q.fields ≡ Some vs → length vs ≤ length q.fields
-            fields_count vs v = let n = values_count plan back fr d back_fits room parts parts (λ o at e. e) f w.state next refl q.fields vs v in omega (arith, n)
+            fields_count vs v = let n = values_count plan act parts parts (λ o at e. e) f w.state next refl q.fields vs v in omega (arith, n)
 
             only : (ps : Parts) (bytes : List ℕ) (label : ℕ) (one : Procedure) → RecordAt (code_of plan) ps bytes label one → (j : ℕ) (o : Procedure) → slice_get (one ∷ []) j ≡ Some o → RecordAt (code_of plan) ps bytes (label + j) o
             only ps bytes label one r zero o e =
@@ -258,7 +258,7 @@ module _ (plan : Plan) (body_steps : ℕ) (laid : Laid plan body_steps) (back fr
 
         by : (o : Option (List Value)) → source_values (held f) w.state q.fields ≡ o → Owed parts before w x (250 + 3 * length q.fields + c) (on_ending w.marks (with_some o (λ vs. Some (close q.label vs w.state))) After)
         by None v = tt
-        by (Some vs) v = subst (λ n. Owed parts before w x (250 + 3 * length q.fields + c) (on_outcome w.marks (on_value (with_rest w.state.cells w.state.procedures (charge (procedure_bytes n) t)) (λ _ s. gives (procedure (length s.procedures)) (record s { procedures = s.procedures ++ record { label = q.label; fields = vs } ∷ [] }))) After)) (sym (values_count plan back fr d back_fits room parts parts (λ o at e. e) f w.state next refl q.fields vs v)) (by_room vs v (nat_le (t.charged + total) t.constants.heap) refl tested)
+        by (Some vs) v = subst (λ n. Owed parts before w x (250 + 3 * length q.fields + c) (on_outcome w.marks (on_value (with_rest w.state.cells w.state.procedures (charge (procedure_bytes n) t)) (λ _ s. gives (procedure (length s.procedures)) (record s { procedures = s.procedures ++ record { label = q.label; fields = vs } ∷ [] }))) After)) (sym (values_count plan act parts parts (λ o at e. e) f w.state next refl q.fields vs v)) (by_room vs v (nat_le (t.charged + total) t.constants.heap) refl tested)
 
     -- ---- a group
 
@@ -270,13 +270,13 @@ module _ (plan : Plan) (body_steps : ℕ) (laid : Laid plan body_steps) (back fr
       z : View
       leads : Leads setting steps steps [] y z
       ahead : Here [] z.place following
-      places_at : PlacesAt plan back fr d back_fits room parts' w.state.store.charged f1.places z.registers z.bytes
+      places_at : PlacesAt plan act parts' w.state.store.charged f1.places f1.outgoing z.registers z.bytes
       world : (ps : Parts) (s : State Procedure) → StoreAt plan ps s y.bytes y.output y.answers → StoreAt plan ps s z.bytes z.output z.answers
       accumulator : z.registers 0 ≡ y.registers 0
-      below : (a : ℕ) → stack ≤ a → a + 8 ≤ fr → word_in z.bytes a ≡ word_in y.bytes a
+      below : (a : ℕ) → stack ≤ a → a + 8 ≤ act.frame → word_in z.bytes a ≡ word_in y.bytes a
 
     placed : (parts' : Parts) (o n : ℕ) (members : List (Member Place)) (f0 : Frame) (y : View) (following : List Item) → members_selected words globals members ≡ true → AreSpots parts' (next_part + o) n members → next_part + o + group_bytes members ≤ stack → length y.bytes ≡ size
-        → PlacesAt plan back fr d back_fits room parts' w.state.store.charged f0.places y.registers y.bytes → Here [] y.place (places_code o members following) → Placed parts' (with_members f0 members (procedures_from n (length members))) y (3 * length members) following
+        → PlacesAt plan act parts' w.state.store.charged f0.places f0.outgoing y.registers y.bytes → Here [] y.place (places_code o members following) → Placed parts' (with_members f0 members (procedures_from n (length members))) y (3 * length members) following
     placed parts' o n [] f0 y following e spots le long q h = record { z = y; leads = leads_here setting.marks (full setting y); ahead = h; places_at = q; world = λ ps s at. at; accumulator = refl; below = λ a lo hi. refl }
     placed parts' o n (m ∷ members) f0 y following e spots le long q h =
         let checks = and_parts (is_place words m.at) (closure_selected words globals m.closure && members_selected words globals members) e in
@@ -288,7 +288,7 @@ module _ (plan : Plan) (body_steps : ℕ) (laid : Laid plan body_steps) (back fr
         let kept = kept_then is_scratch y.registers y1.registers y2.registers (kept_set is_scratch y.registers 1 (y.registers 12) refl) (kept_set is_scratch y1.registers 1 s1.value refl) in
         let free = q.free in
         let named : IsWord parts' (procedure n) s1.value = record { at = spots.0.0; there = spots.0.1; is = omega (arith, unit, free, le, i); fits = omega (arith, free, le, i) } in
-        let u = written plan back fr d back_fits room parts' w.state.store.charged f0.places m.at (Is (procedure n)) 1 y2 [] (places_code (o + closure_bytes m.closure) members following) checks.0 named (places_kept plan back fr d back_fits room parts' w.state.store.charged f0.places y.registers y2.registers y.bytes kept q) long h.2.2 in
+        let u = written plan act parts' w.state.store.charged f0.places f0.outgoing m.at (Is (procedure n)) 1 y2 [] (places_code (o + closure_bytes m.closure) members following) checks.0 named (places_kept plan act parts' w.state.store.charged f0.places f0.outgoing y.registers y2.registers y.bytes kept q) long h.2.2 in
         let shift : next_part + o + closure_bytes m.closure ≡ next_part + (o + closure_bytes m.closure) = omega arith in
         let lengths : length u.y.bytes ≡ size = u.size ∙ long in
         let rec = placed parts' (o + closure_bytes m.closure) (suc n) members (with_place f0 m.at (Is (procedure n))) u.y following shaped.1 (subst (λ a. AreSpots parts' a (suc n) members) shift spots.1) (omega (arith, le)) lengths u.places_at u.ahead in
@@ -303,7 +303,7 @@ module _ (plan : Plan) (body_steps : ℕ) (laid : Laid plan body_steps) (back fr
           below = λ a lo hi. rec.below a lo hi ∙ u.below a lo hi;
         }
 
-    pub group_sim : (members : List (Member Place)) → nat_le (length members) 200 ≡ true → members_selected words globals members ≡ true → Holds back parts f.accumulator (x.registers 0) → Here waiting x.place (group_code stack members rest)
+    pub group_sim : (members : List (Member Place)) → nat_le (length members) 200 ≡ true → members_selected words globals members ≡ true → Holds act.back parts f.accumulator (x.registers 0) → Here waiting x.place (group_code stack members rest)
         → Owed parts before w x (250 + (3 * length members + records_cost members) + c)
         (on_outcome w.marks (in_store (charge_each (member_bytes members)) w.state)
         (λ _ w. with_value (with_procedures w.state (members_made (held (with_members f members (procedures_from (length w.state.procedures) (length members)))) w.state members)) (λ s. k (with_members f members (procedures_from (length w.state.procedures) (length members))) (record { state = s; marks = w.marks }))))
@@ -342,8 +342,8 @@ module _ (plan : Plan) (body_steps : ℕ) (laid : Laid plan body_steps) (back fr
         code : List Item
         code = places_code 0 members records
 
-        tested : Tested plan back fr d back_fits room parts parts (λ o at e. e) (nat_le (t.charged + charged_all (member_bytes members)) t.constants.heap) x waiting code
-        tested = subst (λ b. Tested plan back fr d back_fits room parts parts (λ o at e. e) b x waiting code) (room_tested plan parts w.state x.bytes x.output x.answers total g ∙ ap (λ n. nat_le (t.charged + n) t.constants.heap) (sym sum_is)) (room_here plan back fr d back_fits room parts parts (λ o at e. e) next_part total x waiting code p.free g.within small h)
+        tested : Tested plan act parts parts (λ o at e. e) (nat_le (t.charged + charged_all (member_bytes members)) t.constants.heap) x waiting code
+        tested = subst (λ b. Tested plan act parts parts (λ o at e. e) b x waiting code) (room_tested plan parts w.state x.bytes x.output x.answers total g ∙ ap (λ n. nat_le (t.charged + n) t.constants.heap) (sym sum_is)) (room_here plan act parts parts (λ o at e. e) next_part total x waiting code p.free g.within small h)
 
         no_room : Halts setting x waiting 4 HeapLimit → Owed parts before w x cost (result (stops HeapLimit all.ends))
         no_room s =
@@ -366,11 +366,11 @@ module _ (plan : Plan) (body_steps : ℕ) (laid : Laid plan body_steps) (back fr
         charged_world = record { state = record { cells = w.state.cells; store = record t { charged = t.charged + charged_all (member_bytes members) }; procedures = w.state.procedures }; marks = w.marks }
 
         by_room : (b : Bool) → nat_le (t.charged + charged_all (member_bytes members)) t.constants.heap ≡ b → Owed parts before w x cost (result (cond b (gives unspecified (record t { charged = t.charged + charged_all (member_bytes members) })) (stops HeapLimit all.ends)))
-        by_room false i = no_room (subst (λ b. Tested plan back fr d back_fits room parts parts (λ o at e. e) b x waiting code) i tested)
+        by_room false i = no_room (subst (λ b. Tested plan act parts parts (λ o at e. e) b x waiting code) i tested)
         by_room true i = by_made (members_made (held inner) charged_world.state members) refl
           where
-            s : HasRoom plan back fr d back_fits room parts parts (λ o at e. e) x waiting code
-            s = subst (λ b. Tested plan back fr d back_fits room parts parts (λ o at e. e) b x waiting code) i tested
+            s : HasRoom plan act parts parts (λ o at e. e) x waiting code
+            s = subst (λ b. Tested plan act parts parts (λ o at e. e) b x waiting code) i tested
 
             fits_in : next_part + total ≤ stack
             fits_in = let a = leb-true (t.charged + charged_all (member_bytes members)) t.constants.heap i in let l = g.limit in let m = sum_is in omega (arith, a, l, m)
@@ -385,12 +385,12 @@ module _ (plan : Plan) (body_steps : ℕ) (laid : Laid plan body_steps) (back fr
                 let first : 16 * end_of parts ≡ next_part + 0 = omega (arith, ends) in
                 let spots = group_spots parts (length w.state.cells) n (next_part + 0) members g.new first in
                 let y = moved_to x s.registers s.flags s.place in
-                let py = places_kept plan back fr d back_fits room parts t.charged f.places x.registers s.registers x.bytes (one_scratch 2 x.registers s.registers refl s.kept) p in
-                let py' = places_grown plan back fr d back_fits room parts parts' (words_stay parts others) t.charged t.charged f.places s.registers s.registers x.bytes (λ j e. refl) py.free py in
+                let py = places_kept plan act parts t.charged f.places f.outgoing x.registers s.registers x.bytes (one_scratch 2 x.registers s.registers refl s.kept) p in
+                let py' = places_grown plan act parts parts' (words_stay parts others) t.charged t.charged f.places f.outgoing s.registers s.registers x.bytes (λ j e. refl) py.free py in
                 let pl = placed parts' 0 n members f y records e spots (omega (arith, fits_in)) g.size_is py' s.ahead in
                 let made_is : members_made (held inner) w.state members ≡ Some made = sym (same_members (held inner) w.state (t.charged + charged_all (member_bytes members)) members) ∙ v in
                 let gz = pl.world parts w.state g in
-                let r = records_made plan back fr d back_fits room parts parts' (spot_stays parts others) inner w.state next_part refl 0 n members made pl.z (item.Plain (AddNumber (Reg 12) (pos total)) ∷ rest) e made_is spots (omega (arith, fits_in)) pl.places_at gz pl.ahead in
+                let r = records_made plan act parts parts' (spot_stays parts others) inner w.state next_part refl 0 n members made pl.z (item.Plain (AddNumber (Reg 12) (pos total)) ∷ rest) e made_is spots (omega (arith, fits_in)) pl.places_at gz pl.ahead in
                 let a = r.ahead in
                 let z1 : View = record pl.z { registers = r.registers; bytes = r.bytes; place = r.place } in
                 let s2 = sum_of (r.registers 12) total in
@@ -408,12 +408,12 @@ module _ (plan : Plan) (body_steps : ℕ) (laid : Laid plan body_steps) (back fr
                 (subst (λ cs. StoreAt plan parts' (record { cells = cs; store = record t { charged = t.charged + total }; procedures = w.state.procedures ++ made }) r.bytes pl.z.output pl.z.answers) (append-nil w.state.cells) g2) in
                 let i31 = near in let sm = sum_is in
                 let free : s2.value ≡ heap + (t.charged + charged_all (member_bytes members)) = omega (arith, same, fits_in, i31, sm) in
-                let p1 = places_wrote plan back fr d back_fits room parts' t.charged inner.places r.registers pl.z.bytes r.bytes next_part (next_part + total) fits_in wrote (places_kept plan back fr d back_fits room parts' t.charged inner.places pl.z.registers r.registers pl.z.bytes (one_scratch 1 pl.z.registers r.registers refl r.kept) pl.places_at) in
-                let p' : In parts' inner w' u = places_grown plan back fr d back_fits room parts' parts' (λ v n h. h) t.charged (t.charged + charged_all (member_bytes members)) inner.places r.registers u.registers r.bytes (λ j i. kept_set (is_one 12) r.registers 12 s2.value refl j i) free p1 in
+                let p1 = places_wrote plan act parts' t.charged inner.places inner.outgoing r.registers pl.z.bytes r.bytes next_part (next_part + total) fits_in wrote (places_kept plan act parts' t.charged inner.places inner.outgoing pl.z.registers r.registers pl.z.bytes (one_scratch 1 pl.z.registers r.registers refl r.kept) pl.places_at) in
+                let p' : In parts' inner w' u = places_grown plan act parts' parts' (λ v n h. h) t.charged (t.charged + charged_all (member_bytes members)) inner.places inner.outgoing r.registers u.registers r.bytes (λ j i. kept_set (is_one 12) r.registers 12 s2.value refl j i) free p1 in
                 let zero : u.registers 0 ≡ x.registers 0 = r.kept 0 refl ∙ pl.accumulator ∙ s.kept 0 refl in
-                let acc' : Holds back parts' inner.accumulator (u.registers 0) = subst (λ c. Holds back parts' c (u.registers 0)) (sym (same_accumulator f members (procedures_from n (length members)))) (subst (Holds back parts' f.accumulator) (sym zero) (holds_words back parts parts' (words_stay parts others) f.accumulator (x.registers 0) acc)) in
+                let acc' : Holds act.back parts' inner.accumulator (u.registers 0) = subst (λ c. Holds act.back parts' c (u.registers 0)) (sym (same_accumulator f members (procedures_from n (length members)))) (subst (Holds act.back parts' f.accumulator) (sym zero) (holds_words act.back parts parts' (words_stay parts others) f.accumulator (x.registers 0) acc)) in
                 let hl = plan.heap_low in let sl = plan.stack_low in let rf = r.few in
-                after plan body_steps back fr d parts parts' (words_stay parts others) before waiting t w'.state.store x u (4 + 3 * length members + r.least + 1) (4 + 3 * length members + r.steps + 1) c cost _
+                after plan body_steps act parts parts' (words_stay parts others) before waiting t w'.state.store x u (4 + 3 * length members + r.least + 1) (4 + 3 * length members + r.steps + 1) c cost _
                 (leads_on setting.marks (leads_on setting.marks (leads_on setting.marks s.leads pl.leads) r.leads) (goes setting z1 u (AddNumber (Reg 12) (pos total)) a.0 [] a.1 refl))
                 (λ b lo hi. wrote.other b (omega (arith, lo, sl, hl)) (inr (omega (arith, lo, fits_in))) ∙ pl.below b lo hi)
                 (omega arith) (omega arith) (omega (arith, rf))

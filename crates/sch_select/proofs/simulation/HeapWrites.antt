@@ -19,7 +19,7 @@ use Rattle.sch_heap.specs.Encoded.{IsWord, IsHeld, Words}
 use Rattle.sch_heap.specs.Heap.{CellAt, RecordAt, AreNew}
 use Rattle.sch_heap.proofs.Spots.{spot_within, end_grown}
 use Rattle.sch_heap.proofs.Contents.{heap_kept, heap_grows, words_stay, held_words, cells_added, procedures_added, cell_set}
-use Rattle.sch_select.proofs.simulation.Places.{Plan, code_of, Room, StoreAt, PlacesAt, Holds, holds_words, not_register}
+use Rattle.sch_select.proofs.simulation.Places.{Plan, code_of, Activation, StoreAt, PlacesAt, Holds, holds_words, not_register}
 
 -- Words from an address to another may have changed, and none else.
 pub record Wrote (from to : ℕ) (before after : List ℕ) : Type 0 where
@@ -75,29 +75,31 @@ module _ (plan : Plan) where
         new = g.new;
       }
 
-  module _ (back fr d : ℕ) (back_fits : back < 2 ^ 64) (room : Room plan fr d) where
+  module _ (act : Activation plan) where
     pub heap_inside : (a : ℕ) (bytes : List ℕ) → length bytes ≡ size → closures ≤ a → a + 8 ≤ stack → Inside (length bytes) a
-    heap_inside a bytes e lo hi = let l = room.low in let h = room.high in let cl = closures_low in record { low = omega (arith, lo, cl); high = omega (arith, hi, l, h, e) }
+    heap_inside a bytes e lo hi = let l = act.room.low in let h = act.room.high in let cl = closures_low in record { low = omega (arith, lo, cl); high = omega (arith, hi, l, h, e) }
 
-    pub places_wrote : (parts : Parts) (charged : ℕ) (places : Place → Cell) (registers : ℕ → ℕ) (bytes bytes' : List ℕ) (from to : ℕ) → to ≤ stack → Wrote from to bytes bytes' → PlacesAt plan back fr d back_fits room parts charged places registers bytes → PlacesAt plan back fr d back_fits room parts charged places registers bytes'
-    places_wrote parts charged places registers bytes bytes' from to hi p f =
-        let low = room.low in let hl = heap_low in let sl = stack_low in
+    pub places_wrote : (parts : Parts) (charged : ℕ) (places : Place → Cell) (outgoing : ℕ → Cell) (registers : ℕ → ℕ) (bytes bytes' : List ℕ) (from to : ℕ) → to ≤ stack → Wrote from to bytes bytes' → PlacesAt plan act parts charged places outgoing registers bytes → PlacesAt plan act parts charged places outgoing registers bytes'
+    places_wrote parts charged places outgoing registers bytes bytes' from to hi p f =
+        let low = act.room.low in let hl = heap_low in let sl = stack_low in
         record {
           frame = f.frame;
           depth = f.depth;
           free = f.free;
           register = f.register;
-          slot = λ j lj. subst (Holds back parts (places (Slot j))) (sym (p.other (fr + 8 * j) (omega (arith, low, hl, sl)) (inr (omega (arith, hi, low))))) (f.slot j lj);
+          slot = λ j lj. subst (Holds act.back parts (places (Slot j))) (sym (p.other (act.frame + 8 * j) (omega (arith, low, hl, sl)) (inr (omega (arith, hi, low))))) (f.slot j lj);
+          next = λ j lj. subst (Holds act.back parts (outgoing j)) (sym (p.other (act.frame + 8 * (words + j)) (omega (arith, low, hl, sl)) (inr (omega (arith, hi, low))))) (f.next j lj);
         }
 
     -- other parts, and another address of the next one
-    pub places_grown : (parts parts' : Parts) → Words parts parts' → (charged charged' : ℕ) (places : Place → Cell) (registers registers' : ℕ → ℕ) (bytes : List ℕ) → ((k : ℕ) → (k == 12) ≡ false → registers' k ≡ registers k) → registers' 12 ≡ heap + charged' → PlacesAt plan back fr d back_fits room parts charged places registers bytes → PlacesAt plan back fr d back_fits room parts' charged' places registers' bytes
-    places_grown parts parts' w charged charged' places registers registers' bytes kept at f = record {
+    pub places_grown : (parts parts' : Parts) → Words parts parts' → (charged charged' : ℕ) (places : Place → Cell) (outgoing : ℕ → Cell) (registers registers' : ℕ → ℕ) (bytes : List ℕ) → ((k : ℕ) → (k == 12) ≡ false → registers' k ≡ registers k) → registers' 12 ≡ heap + charged' → PlacesAt plan act parts charged places outgoing registers bytes → PlacesAt plan act parts' charged' places outgoing registers' bytes
+    places_grown parts parts' w charged charged' places outgoing registers registers' bytes kept at f = record {
       frame = kept 5 refl ∙ f.frame;
       depth = kept 13 refl ∙ f.depth;
       free = at;
-      register = λ r e. subst (Holds back parts' (places (Reg r))) (sym (kept r (not_register r 12 e refl))) (holds_words back parts parts' w (places (Reg r)) (registers r) (f.register r e));
-      slot = λ j lt. holds_words back parts parts' w (places (Slot j)) _ (f.slot j lt);
+      register = λ r e. subst (Holds act.back parts' (places (Reg r))) (sym (kept r (not_register r 12 e refl))) (holds_words act.back parts parts' w (places (Reg r)) (registers r) (f.register r e));
+      slot = λ j lt. holds_words act.back parts parts' w (places (Slot j)) _ (f.slot j lt);
+      next = λ j lt. holds_words act.back parts parts' w (outgoing j) _ (f.next j lt);
     }
 
   -- ---- the state with more parts

@@ -32,7 +32,7 @@ use Rattle.sch_select.specs.Select.{atom_code, unary_code, binary_code, read_cod
 use Rattle.sch_heap.proofs.Encodings.{constant_word}
 use Rattle.sch_select.proofs.simulation.Straight.{is_free, Kept, kept_set, kept_then, moved_to, Yields, Comes, yields_after}
 use Rattle.sch_select.proofs.simulation.Primitives.{unary_here, binary_here}
-use Rattle.sch_select.proofs.simulation.Places.{Plan, Room, PlacesAt, places_kept, loaded, held_value}
+use Rattle.sch_select.proofs.simulation.Places.{Plan, Activation, PlacesAt, places_kept, loaded, held_value}
 use Rattle.sch_select.proofs.programs.Selected.{atom_selected, read_selected, operand_selected, takes}
 use Rattle.sch_control.specs.Valid.{only_reads}
 use Rattle.sch_word.specs.trees.Straight.{is_straight_constant}
@@ -48,14 +48,14 @@ free_scratch registers registers' k r e = k r (rw (other 0 refl, other 1 refl, o
     other : (s : ℕ) → is_scratch s ≡ true → (r == s) ≡ false
     other s g = ne_eqb r s (λ same. let bad : true ≡ false = sym g ∙ ap is_scratch (sym same) ∙ e in absurd cc)
 
-module _ (plan : Plan) (back fr d : ℕ) (back_fits : back < 2 ^ 64) (room : Room plan fr d) (parts : Parts) where
+module _ (plan : Plan) (act : Activation plan) (parts : Parts) where
   open plan use {setting, size, words, globals}
 
   abbrev Std : List MarkKind → ℕ → List Item → Type 0
   Std waiting a is = Stands setting waiting a is
 
   abbrev At : ℕ → Frame → View → Type 0
-  At charged f x = PlacesAt plan back fr d back_fits room parts charged f.places x.registers x.bytes
+  At charged f x = PlacesAt plan act parts charged f.places f.outgoing x.registers x.bytes
 
   -- ---- atoms
 
@@ -79,8 +79,8 @@ module _ (plan : Plan) (back fr d : ℕ) (back_fits : back < 2 ^ 64) (room : Roo
         ahead = h.2;
       }
   atomic r (Variable q) charged f t x waiting rest e p s h =
-      let l = loaded plan back fr d back_fits room parts charged f.places q r x waiting rest e p s h in
-      record { value = l.value; place = l.place; leads = l.leads; word = λ v g. held_value back parts (f.places q) l.value v l.holds g; ahead = l.ahead }
+      let l = loaded plan act parts charged f.places f.outgoing q r x waiting rest e p s h in
+      record { value = l.value; place = l.place; leads = l.leads; word = λ v g. held_value act.back parts (f.places q) l.value v l.holds g; ahead = l.ahead }
   atomic r (Literal n) charged f t x waiting rest e p s h = absurd (let bad : false ≡ true = e in cc)
 
   -- ---- one operand, in RAX
@@ -134,7 +134,7 @@ module _ (plan : Plan) (back fr d : ℕ) (back_fits : back < 2 ^ 64) (room : Roo
       y = moved_to x (set_register x.registers 0 l.value) x.flags l.place
 
       m : Atomic 1 y [] (binary_code n which rest) (atom_value (held f) t b)
-      m = atomic 1 b charged f t y [] (binary_code n which rest) both.1 (places_kept plan back fr d back_fits room parts charged f.places x.registers y.registers x.bytes (kept_set is_scratch x.registers 0 l.value refl) p) s l.ahead
+      m = atomic 1 b charged f t y [] (binary_code n which rest) both.1 (places_kept plan act parts charged f.places f.outgoing x.registers y.registers x.bytes (kept_set is_scratch x.registers 0 l.value refl) p) s l.ahead
 
       by : (o q : Option Value) → atom_value (held f) t a ≡ o → atom_value (held f) t b ≡ q → Reads x waiting 32 rest (read which t (and_value o (and_value q (Some []))))
       by None None g i = tt
@@ -218,7 +218,7 @@ module _ (plan : Plan) (back fr d : ℕ) (back_fits : back < 2 ^ 64) (room : Roo
       y = moved_to x (set_register x.registers 11 (x.registers 0)) x.flags (x.place + h.0)
 
       r : Reads y [] 32 behind (read which t (atom_values (held f) t atoms))
-      r = read_here n which atoms charged f t y [] behind e (places_kept plan back fr d back_fits room parts charged f.places x.registers y.registers x.bytes (kept_set is_scratch x.registers 11 (x.registers 0) refl) p) s h.2
+      r = read_here n which atoms charged f t y [] behind e (places_kept plan act parts charged f.places f.outgoing x.registers y.registers x.bytes (kept_set is_scratch x.registers 11 (x.registers 0) refl) p) s h.2
 
       by : (o : Option Value) → Reads y [] 32 behind o → ReadsSecond x waiting 35 rest o
       by None r = tt

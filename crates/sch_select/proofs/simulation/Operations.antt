@@ -37,11 +37,11 @@ use Rattle.sch_select.specs.Select.{global_address, put_label, kind_of, operand_
 use Rattle.sch_heap.proofs.Encodings.{fits, unset_tested}
 use Rattle.sch_select.proofs.simulation.Straight.{halts_after, is_free, kept_set, kept_then, moved_to, Yields, Comes, comes_after}
 use Rattle.sch_select.proofs.simulation.Primitives.{unary_here, binary_here}
-use Rattle.sch_select.proofs.simulation.Places.{Plan, Room, StoreAt, PlacesAt, places_kept, Holds}
+use Rattle.sch_select.proofs.simulation.Places.{Plan, Activation, StoreAt, PlacesAt, places_kept, Holds}
 use Rattle.sch_select.proofs.simulation.Operands.{Reads, ReadsSecond, operand_here, second_here, free_scratch}
 use Rattle.sch_select.proofs.simulation.PutValue.{PutsPiece, puts_value}
 use Rattle.sch_select.proofs.simulation.Changes.{global_inside, global_written, store_behind, places_written, below_written, places_behind, word_behind}
-use Rattle.sch_select.proofs.simulation.Following.{Ends, Sim, after, Laid, stops_here}
+use Rattle.sch_select.proofs.simulation.Outcomes.{Ends, Sim, after, Laid, stops_here}
 use Rattle.sch_select.proofs.programs.Selected.{operand_selected, takes}
 
 pub none_waits : (l before waiting : List MarkKind) → l ≡ before ++ waiting → l ≡ (before ++ waiting) ++ []
@@ -55,30 +55,30 @@ within_some [] i lt = absurd (omega (arith, lt))
 within_some (x ∷ xs) zero lt = (x, refl)
 within_some (x ∷ xs) (suc i) lt = within_some xs i (omega (arith, lt))
 
-module _ (plan : Plan) (body_steps : ℕ) (laid : Laid plan body_steps) (back fr d : ℕ) (back_fits : back < 2 ^ 64) (room : Room plan fr d) where
+module _ (plan : Plan) (body_steps : ℕ) (laid : Laid plan body_steps) (act : Activation plan) where
   open plan use {setting, size, words, globals, heap, stack}
 
   abbrev pub Std : List MarkKind → ℕ → List Item → Type 0
   Std waiting a is = Stands setting waiting a is
 
   abbrev pub FrameOf : Parts → Frame → World → View → Type 0
-  FrameOf parts f w x = PlacesAt plan back fr d back_fits room parts w.state.store.charged f.places x.registers x.bytes
+  FrameOf parts f w x = PlacesAt plan act parts w.state.store.charged f.places f.outgoing x.registers x.bytes
 
   abbrev pub StoreOf : Parts → World → View → Type 0
   StoreOf parts w x = StoreAt plan parts w.state x.bytes x.output x.answers
 
   abbrev pub SimOf : Parts → List MarkKind → World → View → ℕ → Result → Type 0
-  SimOf parts before w x c r = Sim plan body_steps back fr d parts before w.state.store x c r
+  SimOf parts before w x c r = Sim plan body_steps act parts before w.state.store x c r
 
   -- The rest of a body. In place of an accumulator that holds nothing it may find any word.
   abbrev pub Rest : (Frame → World → Result) → ℕ → List Item → Type 0
-  Rest k c rest = (parts : Parts) (before waiting : List MarkKind) (f : Frame) (w : World) (x : View) → Std waiting x.place rest → FrameOf parts f w x → StoreOf parts w x → Holds back parts f.accumulator (x.registers 0) → map kind_of w.marks ≡ before ++ waiting → SimOf parts before w x c (k f w)
+  Rest k c rest = (parts : Parts) (before waiting : List MarkKind) (f : Frame) (w : World) (x : View) → Std waiting x.place rest → FrameOf parts f w x → StoreOf parts w x → Holds act.back parts f.accumulator (x.registers 0) → map kind_of w.marks ≡ before ++ waiting → SimOf parts before w x c (k f w)
 
-  pub onward : (parts : Parts) (before events : List MarkKind) (w : World) (x y : View) (a b c most : ℕ) (r : Result) → Leads setting a b events x y → ((p : ℕ) → stack ≤ p → p + 8 ≤ fr → word_in y.bytes p ≡ word_in x.bytes p) → b + c ≤ most → SimOf parts (before ++ events) w y c r → SimOf parts before w x most r
-  onward parts before events w x y a b c most r p low le s = after plan body_steps back fr d parts parts (λ v n h. h) before events w.state.store w.state.store x y a b c most r p low (omega arith) (omega arith) (omega (arith, le)) s
+  pub onward : (parts : Parts) (before events : List MarkKind) (w : World) (x y : View) (a b c most : ℕ) (r : Result) → Leads setting a b events x y → ((p : ℕ) → stack ≤ p → p + 8 ≤ act.frame → word_in y.bytes p ≡ word_in x.bytes p) → b + c ≤ most → SimOf parts (before ++ events) w y c r → SimOf parts before w x most r
+  onward parts before events w x y a b c most r p low le s = after plan body_steps act parts parts (λ v n h. h) before events w.state.store w.state.store x y a b c most r p low (omega arith) (omega arith) (omega (arith, le)) s
 
   heap_within : heap ≤ 0x10000000 + size
-  heap_within = let a = room.low in let b = room.high in let c = plan.stack_low in omega (arith, a, b, c)
+  heap_within = let a = act.room.low in let b = act.room.high in let c = plan.stack_low in omega (arith, a, b, c)
 
   pub comes_scratch : (parts : Parts) (x : View) (waiting : List MarkKind) (c : ℕ) (t : Store) (rest : List Item) (o : Outcome Store Value) → Comes setting parts is_free x waiting c t rest o → Comes setting parts is_scratch x waiting c t rest o
   comes_scratch parts x waiting c t rest (gives v u) s = let y = s.1 in (s.0, record { registers = y.registers; flags = y.flags; place = y.place; least = y.least; steps = y.steps; leads = y.leads; few = y.few; kept = free_scratch x.registers y.registers y.kept; value = y.value; ahead = y.ahead })
@@ -95,7 +95,7 @@ module _ (plan : Plan) (body_steps : ℕ) (laid : Laid plan body_steps) (back fr
     yields_sim : (v : Value) (m : ℕ) → m ≤ 100 → Yields setting parts is_scratch x waiting m v rest → SimOf parts before w x (250 + c) (next_of k f v w)
     yields_sim v m le s =
         onward parts before waiting w x (moved_to x s.registers s.flags s.place) s.least s.steps c (250 + c) _ s.leads (λ a lo hi. refl) (let q = s.few in omega (arith, q, le))
-        (K parts (before ++ waiting) [] (record f { accumulator = Is v }) w (moved_to x s.registers s.flags s.place) s.ahead (places_kept plan back fr d back_fits room parts w.state.store.charged f.places x.registers s.registers x.bytes s.kept p) g s.value (none_waits (map kind_of w.marks) before waiting marked))
+        (K parts (before ++ waiting) [] (record f { accumulator = Is v }) w (moved_to x s.registers s.flags s.place) s.ahead (places_kept plan act parts w.state.store.charged f.places f.outgoing x.registers s.registers x.bytes s.kept p) g s.value (none_waits (map kind_of w.marks) before waiting marked))
 
     -- an outcome over the store as it is
     pub comes_sim : (m : ℕ) (o : Outcome Store Value) → m ≤ 100 → Comes setting parts is_scratch x waiting m w.state.store rest o → SimOf parts before w x (250 + c) (on_outcome w.marks (with_rest w.state.cells w.state.procedures o) (next_of k f))
@@ -109,9 +109,9 @@ module _ (plan : Plan) (body_steps : ℕ) (laid : Laid plan body_steps) (back fr
 
     -- an operand's value
     pub operand_sim : (n : ℕ) (o : Operand Place) → operand_selected words globals o ≡ true → Std waiting x.place (operand_code n o rest) → SimOf parts before w x (250 + c) (on_ending w.marks (operate (held f) (operation.Operand o) w.state) (next_of k f))
-    operand_sim n o e h = by (operand_value (held f) w.state.store o) (operand_here plan back fr d back_fits room parts n o w.state.store.charged f w.state.store x waiting rest e p g.size_is h)
+    operand_sim n o e h = by (operand_value (held f) w.state.store o) (operand_here plan act parts n o w.state.store.charged f w.state.store x waiting rest e p g.size_is h)
       where
-        by : (v : Option Value) → Reads plan back fr d back_fits room parts x waiting 32 rest v → SimOf parts before w x (250 + c) (on_ending w.marks (with_some v (λ v. Some (gives v w.state))) (next_of k f))
+        by : (v : Option Value) → Reads plan act parts x waiting 32 rest v → SimOf parts before w x (250 + c) (on_ending w.marks (with_some v (λ v. Some (gives v w.state))) (next_of k f))
         by None s = tt
         by (Some v) s = comes_sim 32 (gives v w.state.store) (omega arith) (comes_scratch parts x waiting 32 w.state.store rest (gives v w.state.store) (refl, s))
 
@@ -165,12 +165,12 @@ module _ (plan : Plan) (body_steps : ℕ) (laid : Laid plan body_steps) (back fr
 
     -- a value into a global
     pub set_sim : (n i : ℕ) (o : Operand Place) → i < globals → operand_selected words globals o ≡ true → Std waiting x.place (operation_code stack n (operation.SetGlobal i o) rest) → SimOf parts before w x (250 + c) (on_ending w.marks (operate (held f) (operation.SetGlobal i o) w.state) (next_of k f))
-    set_sim n i o lt e h = by (operand_value (held f) w.state.store o) (operand_here plan back fr d back_fits room parts n o w.state.store.charged f w.state.store x waiting behind e p g.size_is h)
+    set_sim n i o lt e h = by (operand_value (held f) w.state.store o) (operand_here plan act parts n o w.state.store.charged f w.state.store x waiting behind e p g.size_is h)
       where
         behind : List Item
         behind = item.StoreWord (global_address i) 0 ∷ (item.Plain (MovNumber (Reg 0) (pos 30)) ∷ rest)
 
-        by : (v : Option Value) → Reads plan back fr d back_fits room parts x waiting 32 behind v → SimOf parts before w x (250 + c) (on_ending w.marks (with_some v (λ v. Some (gives unspecified (record w.state { store = record w.state.store { globals = slice_set w.state.store.globals i (Some v) } })))) (next_of k f))
+        by : (v : Option Value) → Reads plan act parts x waiting 32 behind v → SimOf parts before w x (250 + c) (on_ending w.marks (with_some v (λ v. Some (gives unspecified (record w.state { store = record w.state.store { globals = slice_set w.state.store.globals i (Some v) } })))) (next_of k f))
         by None s = tt
         by (Some v) s =
             let y = moved_to x s.registers s.flags s.place in
@@ -179,12 +179,12 @@ module _ (plan : Plan) (body_steps : ℕ) (laid : Laid plan body_steps) (back fr
             let u : View = record z { registers = set_register s.registers 0 30; place = z.place + a.4.0 } in
             let w' : World = record w { state = record w.state { store = record w.state.store { globals = slice_set w.state.store.globals i (Some v) } } } in
             let kept = kept_then is_scratch x.registers s.registers u.registers (free_scratch x.registers s.registers s.kept) (kept_set is_scratch s.registers 0 30 refl) in
-            after plan body_steps back fr d parts parts (λ v n h. h) before waiting w.state.store w'.state.store x u (s.least + 1 + 1) (s.steps + 1 + 1) c (250 + c) _
+            after plan body_steps act parts parts (λ v n h. h) before waiting w.state.store w'.state.store x u (s.least + 1 + 1) (s.steps + 1 + 1) c (250 + c) _
             (leads_on setting.marks (leads_on setting.marks s.leads (stores_data setting y 0 (global_address i) (item.Plain (MovNumber (Reg 0) (pos 30)) ∷ rest) [] a (global_inside plan i x.bytes lt heap_within g.size_is))) (goes setting z u (MovNumber (Reg 0) (pos 30)) a.4.0 [] a.4.1 refl))
-            (λ q lo hi. below_written plan back fr d back_fits room x.bytes i (s.registers 0) lt heap_within g.size_is q lo)
+            (λ q lo hi. below_written plan act x.bytes i (s.registers 0) lt heap_within g.size_is q lo)
             (omega arith) (omega arith) (let q = s.few in omega (arith, q))
             (K parts (before ++ waiting) [] (record f { accumulator = Is unspecified }) w' u a.4.2
-            (places_written plan back fr d back_fits room parts w.state.store.charged f.places u.registers x.bytes i (s.registers 0) lt heap_within g.size_is (places_kept plan back fr d back_fits room parts w.state.store.charged f.places x.registers u.registers x.bytes kept p))
+            (places_written plan act parts w.state.store.charged f.places f.outgoing u.registers x.bytes i (s.registers 0) lt heap_within g.size_is (places_kept plan act parts w.state.store.charged f.places f.outgoing x.registers u.registers x.bytes kept p))
             (global_written plan parts w.state i v (s.registers 0) x.bytes x.output x.answers lt heap_within s.value g)
             refl (none_waits (map kind_of w.marks) before waiting marked))
 
@@ -212,7 +212,7 @@ module _ (plan : Plan) (body_steps : ℕ) (laid : Laid plan body_steps) (back fr
         q = puts_value setting laid.routine parts y2 ready (g.texts ∙ laid.static_is) v t hv laid.put_stands
 
         far : heap + t.charged < 2 ^ 64
-        far = let a = g.within in let b = room.low in let e = room.high in let s = plan.small in omega (arith, a, b, e, s)
+        far = let a = g.within in let b = act.room.low in let e = act.room.high in let s = plan.small in omega (arith, a, b, e, s)
 
         after_put : List ℕ → List Answer → World
         after_put taken left = record w { state = record w.state { store = record t { output = t.output ++ taken; answers = left } } }
@@ -227,14 +227,14 @@ module _ (plan : Plan) (body_steps : ℕ) (laid : Laid plan body_steps) (back fr
             let few = s.few in let many : length x.answers ≡ length t.answers = ap length g.left in
             let world : StoreAt plan parts w'.state z.bytes z.output z.answers =
             subst (λ o. StoreAt plan parts w'.state z.bytes o z.answers) (sym printed) (subst (λ l. StoreAt plan parts w'.state z.bytes (t.output ++ taken) l) (sym s.left_is) (store_behind plan parts w.state x.bytes z.bytes x.output (t.output ++ taken) x.answers left s.size s.others g)) in
-            after plan body_steps back fr d parts parts (λ v n h. h) before waiting t w'.state.store x u (2 + s.least + 1) (2 + s.most + 1) c (216 + c) _
+            after plan body_steps act parts parts (λ v n h. h) before waiting t w'.state.store x u (2 + s.least + 1) (2 + s.most + 1) c (216 + c) _
             (leads_on setting.marks (leads_on setting.marks called s.leads) (goes setting z u (MovNumber (Reg 0) (pos 30)) hz.0 [] hz.1 refl))
             (λ a lo hi. let hl = plan.heap_low in let sl = plan.stack_low in word_behind x.bytes z.bytes a s.others (omega (arith, lo, hl, sl)))
             (omega arith) (omega arith) (omega (arith, few, many))
             (K parts (before ++ waiting) [] (record f { accumulator = Is unspecified }) w' u hz.2
-            (places_kept plan back fr d back_fits room parts t.charged f.places z.registers u.registers z.bytes (kept_set is_scratch z.registers 0 30 refl)
-            (places_behind plan back fr d back_fits room parts t.charged f.places y2.registers z.registers x.bytes z.bytes far s.registers s.others
-            (places_kept plan back fr d back_fits room parts t.charged f.places x.registers y2.registers x.bytes (kept_set is_scratch x.registers 11 (setting.place_of n) refl) p)))
+            (places_kept plan act parts t.charged f.places f.outgoing z.registers u.registers z.bytes (kept_set is_scratch z.registers 0 30 refl)
+            (places_behind plan act parts t.charged f.places f.outgoing y2.registers z.registers x.bytes z.bytes far s.registers s.others
+            (places_kept plan act parts t.charged f.places f.outgoing x.registers y2.registers x.bytes (kept_set is_scratch x.registers 11 (setting.place_of n) refl) p)))
             world refl (none_waits (map kind_of w.marks) before waiting marked))
         by_whole false taken left s =
             let few = s.few in let many : length x.answers ≡ length t.answers = ap length g.left in
@@ -266,9 +266,9 @@ module _ (plan : Plan) (body_steps : ℕ) (laid : Laid plan body_steps) (back fr
         Std [] place (unary_code (n + 8) which rest) → SimOf parts before w x (250 + c) (on_outcome w.marks (with_rest w.state.cells w.state.procedures (primitive which (v ∷ []) w.state.store)) (next_of k f))
 
     pub unary_sim : (n : ℕ) (which : Primitive) (o : Operand Place) → takes 1 which ≡ true → operand_selected words globals o ≡ true → Std waiting x.place (operand_code n o (unary_code (n + 8) which rest)) → SimOf parts before w x (250 + c) (on_ending w.marks (with_some (and_value (operand_value (held f) w.state.store o) (Some [])) (λ vs. Some (in_store (primitive which vs) w.state))) (next_of k f))
-    unary_sim n which o allowed e h = by (operand_value (held f) w.state.store o) (operand_here plan back fr d back_fits room parts n o w.state.store.charged f w.state.store x waiting (unary_code (n + 8) which rest) e p g.size_is h)
+    unary_sim n which o allowed e h = by (operand_value (held f) w.state.store o) (operand_here plan act parts n o w.state.store.charged f w.state.store x waiting (unary_code (n + 8) which rest) e p g.size_is h)
       where
-        by : (v : Option Value) → Reads plan back fr d back_fits room parts x waiting 32 (unary_code (n + 8) which rest) v → SimOf parts before w x (250 + c) (on_ending w.marks (with_some (and_value v (Some [])) (λ vs. Some (in_store (primitive which vs) w.state))) (next_of k f))
+        by : (v : Option Value) → Reads plan act parts x waiting 32 (unary_code (n + 8) which rest) v → SimOf parts before w x (250 + c) (on_ending w.marks (with_some (and_value v (Some [])) (λ vs. Some (in_store (primitive which vs) w.state))) (next_of k f))
         by None s = tt
         by (Some v) s = of which allowed s.ahead
           where
@@ -284,7 +284,7 @@ module _ (plan : Plan) (body_steps : ℕ) (laid : Laid plan body_steps) (back fr
             put : Applied n v s.place prim.Put
             put st =
                 onward parts before waiting w x y s.least s.steps (216 + c) (250 + c) _ s.leads (λ a lo hi. refl) (let q = s.few in omega (arith, q))
-                (put_sim k c rest K parts (before ++ waiting) [] f w y (places_kept plan back fr d back_fits room parts w.state.store.charged f.places x.registers s.registers x.bytes (free_scratch x.registers s.registers s.kept) p) g (none_waits (map kind_of w.marks) before waiting marked) (n + 8) v s.value st)
+                (put_sim k c rest K parts (before ++ waiting) [] f w y (places_kept plan act parts w.state.store.charged f.places f.outgoing x.registers s.registers x.bytes (free_scratch x.registers s.registers s.kept) p) g (none_waits (map kind_of w.marks) before waiting marked) (n + 8) v s.value st)
 
             of : (other : Primitive) → takes 1 other ≡ true → Applied n v s.place other
             of prim.Put is = put
@@ -292,23 +292,23 @@ module _ (plan : Plan) (body_steps : ℕ) (laid : Laid plan body_steps) (back fr
 
     -- of two operands
     pub binary_sim : (n : ℕ) (which : Primitive) (o q : Operand Place) → takes 2 which ≡ true → operand_selected words globals o ≡ true → operand_selected words globals q ≡ true → Std waiting x.place (operand_code n o (second_code (n + 4) q (binary_code (n + 8) which rest))) → SimOf parts before w x (250 + c) (on_ending w.marks (with_some (and_value (operand_value (held f) w.state.store o) (and_value (operand_value (held f) w.state.store q) (Some []))) (λ vs. Some (in_store (primitive which vs) w.state))) (next_of k f))
-    binary_sim n which o q allowed e e' h = by (operand_value (held f) w.state.store o) (operand_here plan back fr d back_fits room parts n o w.state.store.charged f w.state.store x waiting (second_code (n + 4) q (binary_code (n + 8) which rest)) e p g.size_is h)
+    binary_sim n which o q allowed e e' h = by (operand_value (held f) w.state.store o) (operand_here plan act parts n o w.state.store.charged f w.state.store x waiting (second_code (n + 4) q (binary_code (n + 8) which rest)) e p g.size_is h)
       where
         t : Store
         t = w.state.store
 
-        by : (v : Option Value) → Reads plan back fr d back_fits room parts x waiting 32 (second_code (n + 4) q (binary_code (n + 8) which rest)) v → SimOf parts before w x (250 + c) (on_ending w.marks (with_some (and_value v (and_value (operand_value (held f) t q) (Some []))) (λ vs. Some (in_store (primitive which vs) w.state))) (next_of k f))
+        by : (v : Option Value) → Reads plan act parts x waiting 32 (second_code (n + 4) q (binary_code (n + 8) which rest)) v → SimOf parts before w x (250 + c) (on_ending w.marks (with_some (and_value v (and_value (operand_value (held f) t q) (Some []))) (λ vs. Some (in_store (primitive which vs) w.state))) (next_of k f))
         by None s = none (operand_value (held f) t q)
           where
             none : (u : Option Value) → SimOf parts before w x (250 + c) (on_ending w.marks (with_some (and_value None (and_value u (Some []))) (λ vs. Some (in_store (primitive which vs) w.state))) (next_of k f))
             none None = tt
             none (Some u) = tt
-        by (Some v) s = second (operand_value (held f) t q) (second_here plan back fr d back_fits room parts (n + 4) q t.charged f t y [] (binary_code (n + 8) which rest) e' (places_kept plan back fr d back_fits room parts t.charged f.places x.registers s.registers x.bytes (free_scratch x.registers s.registers s.kept) p) g.size_is s.ahead)
+        by (Some v) s = second (operand_value (held f) t q) (second_here plan act parts (n + 4) q t.charged f t y [] (binary_code (n + 8) which rest) e' (places_kept plan act parts t.charged f.places f.outgoing x.registers s.registers x.bytes (free_scratch x.registers s.registers s.kept) p) g.size_is s.ahead)
           where
             y : View
             y = moved_to x s.registers s.flags s.place
 
-            second : (u : Option Value) → ReadsSecond plan back fr d back_fits room parts y [] 35 (binary_code (n + 8) which rest) u → SimOf parts before w x (250 + c) (on_ending w.marks (with_some (and_value (Some v) (and_value u (Some []))) (λ vs. Some (in_store (primitive which vs) w.state))) (next_of k f))
+            second : (u : Option Value) → ReadsSecond plan act parts y [] 35 (binary_code (n + 8) which rest) u → SimOf parts before w x (250 + c) (on_ending w.marks (with_some (and_value (Some v) (and_value u (Some []))) (λ vs. Some (in_store (primitive which vs) w.state))) (next_of k f))
             second None r = tt
             second (Some u) r =
                 let z = moved_to x r.registers r.flags r.place in

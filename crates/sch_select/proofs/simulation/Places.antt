@@ -84,14 +84,26 @@ same_word back parts small (Is v) x y h e = subst (IsWord parts v) (sym (e (fits
 same_word back parts small Link x y h e = e (subst (λ x. x < 2 ^ 64) (sym h) small) ∙ h
 same_word back parts small Junk x y h e = tt
 
+-- The data have room from an address on for a frame, for one at each depth that is left, and for one more, into
+-- which operands are handed over before the depth is looked at.
+pub record Room (plan : Plan) (frame left : ℕ) : Type 0 where
+  pub low : plan.stack ≤ frame
+  pub high : frame + 8 * (plan.words * left) + 8 * (plan.words + plan.words) ≤ 0x10000000 + plan.size
+  pub few : left < 2 ^ 63
+
+-- An activation: the address to which it returns, where its frame begins, the depth that is left in it, how many
+-- entries may be nested in it at most, and whether it is a procedure's and gives a value.
+pub record Activation (plan : Plan) : Type 0 where
+  pub back : ℕ
+  pub frame : ℕ
+  pub left : ℕ
+  pub nested : ℕ
+  pub entered : Bool
+  pub back_fits : back < 2 ^ 64
+  pub room : Room plan frame left
+
 module _ (plan : Plan) where
   open plan use {setting, size, words, globals, closures, heap, stack, static, closures_low, heap_low, closures_high, stack_low, small, narrow, labels}
-
-  -- The frame begins at fr and lies in the data, and the depth that is left fits a register.
-  pub record Room (fr d : ℕ) : Type 0 where
-    pub low : stack ≤ fr
-    pub high : fr + 8 * words ≤ 0x10000000 + size
-    pub few : d < 2 ^ 63
 
   -- What the state has stands in the data: the globals, the static bytes of puts, and the heap.
   pub record StoreAt (parts : Parts) (s : State Procedure) (bytes : List ℕ) (output : List ℕ) (answers : List Answer) : Type 0 where
@@ -108,30 +120,32 @@ module _ (plan : Plan) where
     pub contents : HeapAt (code_of plan) parts s.cells s.procedures bytes
     pub new : AreNew parts (length s.cells) (length s.procedures)
 
-  -- An activation returns to `back`, has its frame at fr and a depth of d left.
-  module _ (back fr d : ℕ) (back_fits : back < 2 ^ 64) (room : Room fr d) where
-    pub record PlacesAt (parts : Parts) (charged : ℕ) (places : Place → Cell) (registers : ℕ → ℕ) (bytes : List ℕ) : Type 0 where
-      pub frame : registers 5 ≡ fr
-      pub depth : registers 13 ≡ d
+  module _ (act : Activation plan) where
+    -- The frame of the next call is behind the own one.
+    pub record PlacesAt (parts : Parts) (charged : ℕ) (places : Place → Cell) (outgoing : ℕ → Cell) (registers : ℕ → ℕ) (bytes : List ℕ) : Type 0 where
+      pub frame : registers 5 ≡ act.frame
+      pub depth : registers 13 ≡ act.left
       pub free : registers 12 ≡ heap + charged
-      pub register : (r : ℕ) → is_register r ≡ true → Holds back parts (places (Reg r)) (registers r)
-      pub slot : (j : ℕ) → j < words → Holds back parts (places (Slot j)) (word_in bytes (fr + 8 * j))
+      pub register : (r : ℕ) → is_register r ≡ true → Holds act.back parts (places (Reg r)) (registers r)
+      pub slot : (j : ℕ) → j < words → Holds act.back parts (places (Slot j)) (word_in bytes (act.frame + 8 * j))
+      pub next : (j : ℕ) → j < words → Holds act.back parts (outgoing j) (word_in bytes (act.frame + 8 * (words + j)))
 
     -- other scratch registers
-    pub places_kept : (parts : Parts) (charged : ℕ) (places : Place → Cell) (registers registers' : ℕ → ℕ) (bytes : List ℕ) → Kept is_scratch registers registers' → PlacesAt parts charged places registers bytes → PlacesAt parts charged places registers' bytes
-    places_kept parts charged places registers registers' bytes k p = record {
+    pub places_kept : (parts : Parts) (charged : ℕ) (places : Place → Cell) (outgoing : ℕ → Cell) (registers registers' : ℕ → ℕ) (bytes : List ℕ) → Kept is_scratch registers registers' → PlacesAt parts charged places outgoing registers bytes → PlacesAt parts charged places outgoing registers' bytes
+    places_kept parts charged places outgoing registers registers' bytes k p = record {
       frame = k 5 refl ∙ p.frame;
       depth = k 13 refl ∙ p.depth;
       free = k 12 refl ∙ p.free;
-      register = λ r e. subst (Holds back parts (places (Reg r))) (sym (k r (no_scratch r e))) (p.register r e);
+      register = λ r e. subst (Holds act.back parts (places (Reg r))) (sym (k r (no_scratch r e))) (p.register r e);
       slot = p.slot;
+      next = p.next;
     }
 
-    pub slot_inside : (j : ℕ) (bytes : List ℕ) → length bytes ≡ size → j < words → Inside (length bytes) (fr + 8 * j)
-    slot_inside j bytes e lt = let a = room.low in let b = room.high in let c = heap_low in let f = stack_low in record { low = omega (arith, a, c, f); high = omega (arith, b, e, lt) }
+    pub slot_inside : (j : ℕ) (bytes : List ℕ) → length bytes ≡ size → j < words + words → Inside (length bytes) (act.frame + 8 * j)
+    slot_inside j bytes e lt = let a = act.room.low in let b = act.room.high in let c = heap_low in let f = stack_low in record { low = omega (arith, a, c, f); high = omega (arith, b, e, lt) }
 
-    pub slot_named : (j : ℕ) (x : View) → length x.bytes ≡ size → j < words → x.registers 5 ≡ fr → add64 (x.registers 5) (word (pos (8 * j))) ≡ fr + 8 * j
-    slot_named j x e lt f = let b = room.high in let s = small in omega (arith, f, b, e, lt, s)
+    pub slot_named : (j : ℕ) (x : View) → length x.bytes ≡ size → j < words + words → x.registers 5 ≡ act.frame → add64 (x.registers 5) (word (pos (8 * j))) ≡ act.frame + 8 * j
+    slot_named j x e lt f = let b = act.room.high in let s = small in omega (arith, f, b, e, lt, s)
 
     -- ---- a place into a register
 
@@ -139,23 +153,23 @@ module _ (plan : Plan) where
       pub value : ℕ
       pub place : ℕ
       pub leads : Leads setting 1 1 waiting x (moved_to x (set_register x.registers r value) x.flags place)
-      pub holds : Holds back parts c value
+      pub holds : Holds act.back parts c value
       pub ahead : Stands setting [] place rest
 
-    pub loaded : (parts : Parts) (charged : ℕ) (places : Place → Cell) (p : Place) (r : ℕ) (x : View) (waiting : List MarkKind) (rest : List Item) → is_place words p ≡ true → PlacesAt parts charged places x.registers x.bytes → length x.bytes ≡ size → Stands setting waiting x.place (Plain (MovFrom r (place_operand p)) ∷ rest) → Loaded parts (places p) r x waiting rest
-    loaded parts charged places (Reg q) r x waiting rest e f s h = record {
+    pub loaded : (parts : Parts) (charged : ℕ) (places : Place → Cell) (outgoing : ℕ → Cell) (p : Place) (r : ℕ) (x : View) (waiting : List MarkKind) (rest : List Item) → is_place words p ≡ true → PlacesAt parts charged places outgoing x.registers x.bytes → length x.bytes ≡ size → Stands setting waiting x.place (Plain (MovFrom r (place_operand p)) ∷ rest) → Loaded parts (places p) r x waiting rest
+    loaded parts charged places outgoing (Reg q) r x waiting rest e f s h = record {
       value = x.registers q;
       place = x.place + h.0;
       leads = goes setting x _ (MovFrom r (arg.Reg q)) h.0 waiting h.1 refl;
       holds = f.register q e;
       ahead = h.2;
     }
-    loaded parts charged places (Slot j) r x waiting rest e f s h =
+    loaded parts charged places outgoing (Slot j) r x waiting rest e f s h =
         let lt = ltb-true j words e in
         record {
-          value = word_in x.bytes (fr + 8 * j);
+          value = word_in x.bytes (act.frame + 8 * j);
           place = x.place + h.0;
-          leads = loads_word setting x r h.0 (fr + 8 * j) (arg.Base32 5 (pos (8 * j))) waiting h.1 (slot_named j x s lt f.frame) (slot_inside j x.bytes s lt);
+          leads = loads_word setting x r h.0 (act.frame + 8 * j) (arg.Base32 5 (pos (8 * j))) waiting h.1 (slot_named j x s (omega (arith, lt)) f.frame) (slot_inside j x.bytes s (omega (arith, lt)));
           holds = f.slot j lt;
           ahead = h.2;
         }
@@ -184,33 +198,62 @@ module _ (plan : Plan) where
 
     -- ---- a register into a place
 
-    pub record Written (parts : Parts) (charged : ℕ) (places : Place → Cell) (x : View) (waiting : List MarkKind) (rest : List Item) : Type 0 where
+    pub record Written (parts : Parts) (charged : ℕ) (places : Place → Cell) (outgoing : ℕ → Cell) (x : View) (waiting : List MarkKind) (rest : List Item) : Type 0 where
       pub y : View
       pub leads : Leads setting 1 1 waiting x y
       pub ahead : Stands setting [] y.place rest
-      pub places_at : PlacesAt parts charged places y.registers y.bytes
+      pub places_at : PlacesAt parts charged places outgoing y.registers y.bytes
       pub world : (ps : Parts) (s : State Procedure) → StoreAt ps s x.bytes x.output x.answers → StoreAt ps s y.bytes y.output y.answers
       pub size : length y.bytes ≡ length x.bytes
       pub accumulator : y.registers 0 ≡ x.registers 0
-      pub below : (a : ℕ) → stack ≤ a → a + 8 ≤ fr → word_in y.bytes a ≡ word_in x.bytes a
+      pub below : (a : ℕ) → stack ≤ a → a + 8 ≤ act.frame → word_in y.bytes a ≡ word_in x.bytes a
 
-    either_holds : (parts : Parts) (b : Bool) (c e : Cell) (x y : ℕ) → Holds back parts c x → Holds back parts e y → Holds back parts (cond b c e) (cond b x y)
+    either_holds : (parts : Parts) (b : Bool) (c e : Cell) (x y : ℕ) → Holds act.back parts c x → Holds act.back parts e y → Holds act.back parts (cond b c e) (cond b x y)
     either_holds parts true c e x y h g = h
     either_holds parts false c e x y h g = g
 
-    slot_written : (parts : Parts) (places : Place → Cell) (c : Cell) (v i j : ℕ) (bytes : List ℕ) → length bytes ≡ size → i < words → j < words → Holds back parts c v → Holds back parts (places (Slot i)) (word_in bytes (fr + 8 * i)) →
-        (b : Bool) → nat_eq i j ≡ b → Holds back parts (cond b c (places (Slot i))) (word_in (with_word bytes (fr + 8 * j) v) (fr + 8 * i))
-    slot_written parts places c v i j bytes s li lj h g true e =
-        let same : i ≡ j = eqb-true i j e in
-        subst (λ i. Holds back parts c (word_in (with_word bytes (fr + 8 * j) v) (fr + 8 * i))) (sym same)
-        (same_word back parts back_fits c v _ h (λ f. word_same bytes (fr + 8 * j) v (slot_inside j bytes s lj) f))
-    slot_written parts places c v i j bytes s li lj h g false e =
+    -- a word of the own frame or the next, where one of them is written
+    slot_written : (parts : Parts) (c e : Cell) (v i j : ℕ) (bytes : List ℕ) → length bytes ≡ size → i < words + words → j < words + words → Holds act.back parts c v → Holds act.back parts e (word_in bytes (act.frame + 8 * i))
+        → (b : Bool) → (b ≡ true → i ≡ j) → (b ≡ false → i ≡ j → ⊥) → Holds act.back parts (cond b c e) (word_in (with_word bytes (act.frame + 8 * j) v) (act.frame + 8 * i))
+    slot_written parts c e v i j bytes s li lj h g true same other =
+        subst (λ i. Holds act.back parts c (word_in (with_word bytes (act.frame + 8 * j) v) (act.frame + 8 * i))) (sym (same refl))
+        (same_word act.back parts act.back_fits c v _ h (λ f. word_same bytes (act.frame + 8 * j) v (slot_inside j bytes s lj) f))
+    slot_written parts c e v i j bytes s li lj h g false same other =
         let l = (slot_inside i bytes s li).low in
-        let far : (fr + 8 * i + 8 ≤ fr + 8 * j) ⊎ (fr + 8 * j + 8 ≤ fr + 8 * i) = ⊎_elim (λ lt. inl (omega (arith, lt))) (λ le. ⊎_elim (λ lt. inr (omega (arith, lt))) (λ ge. absurd (eqb-false i j e (omega (arith, le, ge)))) (cases_lt j i)) (cases_lt i j) in
-        subst (Holds back parts (places (Slot i))) (sym (word_other bytes (fr + 8 * j) v (fr + 8 * i) (slot_inside j bytes s lj) l far)) g
+        let far : (act.frame + 8 * i + 8 ≤ act.frame + 8 * j) ⊎ (act.frame + 8 * j + 8 ≤ act.frame + 8 * i) =
+        ⊎_elim (λ lt. inl (omega (arith, lt))) (λ le. ⊎_elim (λ lt. inr (omega (arith, lt))) (λ ge. absurd (other refl (omega (arith, le, ge)))) (cases_lt j i)) (cases_lt i j) in
+        subst (Holds act.back parts e) (sym (word_other bytes (act.frame + 8 * j) v (act.frame + 8 * i) (slot_inside j bytes s lj) l far)) g
 
-    pub written : (parts : Parts) (charged : ℕ) (places : Place → Cell) (p : Place) (c : Cell) (r : ℕ) (x : View) (waiting : List MarkKind) (rest : List Item) → is_place words p ≡ true → Holds back parts c (x.registers r) → PlacesAt parts charged places x.registers x.bytes → length x.bytes ≡ size → Stands setting waiting x.place (Plain (MovTo (place_operand p) r) ∷ rest) → Written parts charged (set places p c) x waiting rest
-    written parts charged places (Reg q) c r x waiting rest e h f g st =
+    -- a register into one of these words
+    word_written : (parts : Parts) (charged : ℕ) (places places' : Place → Cell) (outgoing outgoing' : ℕ → Cell) (j r : ℕ) (x : View) (waiting : List MarkKind) (rest : List Item) → j < words + words → PlacesAt parts charged places outgoing x.registers x.bytes → length x.bytes ≡ size
+        → ((k : ℕ) → is_register k ≡ true → Holds act.back parts (places' (Reg k)) (x.registers k))
+        → ((i : ℕ) → i < words → Holds act.back parts (places' (Slot i)) (word_in (with_word x.bytes (act.frame + 8 * j) (x.registers r)) (act.frame + 8 * i)))
+        → ((i : ℕ) → i < words → Holds act.back parts (outgoing' i) (word_in (with_word x.bytes (act.frame + 8 * j) (x.registers r)) (act.frame + 8 * (words + i))))
+        → Stands setting waiting x.place (Plain (MovTo (arg.Base32 5 (pos (8 * j))) r) ∷ rest) → Written parts charged places' outgoing' x waiting rest
+    word_written parts charged places places' outgoing outgoing' j r x waiting rest lt f z regs slots nexts st =
+        let within = slot_inside j x.bytes z lt in
+        let y : View = record x { bytes = with_word x.bytes (act.frame + 8 * j) (x.registers r); place = x.place + st.0 } in
+        let low = act.room.low in let hl = heap_low in let sl = stack_low in
+        record {
+          y = y;
+          leads = stores_word setting x r st.0 (act.frame + 8 * j) (arg.Base32 5 (pos (8 * j))) waiting st.1 (slot_named j x z lt f.frame) within;
+          ahead = st.2;
+          places_at = record {
+            frame = f.frame;
+            depth = f.depth;
+            free = f.free;
+            register = regs;
+            slot = slots;
+            next = nexts;
+          };
+          world = λ ps s at. store_kept ps s x.bytes x.output x.answers (act.frame + 8 * j) (x.registers r) within (omega (arith, low)) at;
+          size = size_kept x.bytes (act.frame + 8 * j) (x.registers r) within;
+          accumulator = refl;
+          below = λ a lo hi. word_other x.bytes (act.frame + 8 * j) (x.registers r) a within (omega (arith, lo, hl, sl)) (inl (omega (arith, hi)));
+        }
+
+    pub written : (parts : Parts) (charged : ℕ) (places : Place → Cell) (outgoing : ℕ → Cell) (p : Place) (c : Cell) (r : ℕ) (x : View) (waiting : List MarkKind) (rest : List Item) → is_place words p ≡ true → Holds act.back parts c (x.registers r) → PlacesAt parts charged places outgoing x.registers x.bytes → length x.bytes ≡ size → Stands setting waiting x.place (Plain (MovTo (place_operand p) r) ∷ rest) → Written parts charged (set places p c) outgoing x waiting rest
+    written parts charged places outgoing (Reg q) c r x waiting rest e h f g st =
         let y : View = record x { registers = set_register x.registers q (x.registers r); place = x.place + st.0 } in
         record {
           y = y;
@@ -222,6 +265,7 @@ module _ (plan : Plan) where
             free = other 12 refl ∙ f.free;
             register = λ k i. either_holds parts (k == q) c (places (Reg k)) (x.registers r) (x.registers k) h (f.register k i);
             slot = f.slot;
+            next = f.next;
           };
           world = λ ps s at. at;
           size = refl;
@@ -231,25 +275,18 @@ module _ (plan : Plan) where
       where
         other : (k : ℕ) → is_register k ≡ false → set_register x.registers q (x.registers r) k ≡ x.registers k
         other k i = ap (λ b. cond b (x.registers r) (x.registers k)) (ne_eqb k q (λ same. let bad : true ≡ false = sym e ∙ ap is_register (sym same) ∙ i in absurd cc))
-    written parts charged places (Slot j) c r x waiting rest e h f g st =
+    written parts charged places outgoing (Slot j) c r x waiting rest e h f z st =
         let lt = ltb-true j words e in
-        let z = g in
-        let within = slot_inside j x.bytes z lt in
-        let y : View = record x { bytes = with_word x.bytes (fr + 8 * j) (x.registers r); place = x.place + st.0 } in
-        let low = room.low in let hl = heap_low in let sl = stack_low in
-        record {
-          y = y;
-          leads = stores_word setting x r st.0 (fr + 8 * j) (arg.Base32 5 (pos (8 * j))) waiting st.1 (slot_named j x z lt f.frame) within;
-          ahead = st.2;
-          places_at = record {
-            frame = f.frame;
-            depth = f.depth;
-            free = f.free;
-            register = f.register;
-            slot = λ i li. slot_written parts places c (x.registers r) i j x.bytes z li lt h (f.slot i li) (nat_eq i j) refl;
-          };
-          world = λ ps s at. store_kept ps s x.bytes x.output x.answers (fr + 8 * j) (x.registers r) within (omega (arith, low)) at;
-          size = size_kept x.bytes (fr + 8 * j) (x.registers r) within;
-          accumulator = refl;
-          below = λ a lo hi. word_other x.bytes (fr + 8 * j) (x.registers r) a within (omega (arith, lo, hl, sl)) (inl (omega (arith, hi)));
-        }
+        word_written parts charged places (set places (Slot j) c) outgoing outgoing j r x waiting rest (omega (arith, lt)) f z f.register
+        (λ i li. slot_written parts c (places (Slot i)) (x.registers r) i j x.bytes z (omega (arith, li)) (omega (arith, lt)) h (f.slot i li) (nat_eq i j) (eqb-true i j) (eqb-false i j))
+        (λ i li. slot_written parts Junk (outgoing i) (x.registers r) (words + i) j x.bytes z (omega (arith, li)) (omega (arith, lt)) tt (f.next i li) false (λ b. absurd (let bad : false ≡ true = b in cc)) (λ b same. omega (arith, same, lt)))
+        st
+
+    -- a register into a slot of the next frame
+    pub handed : (parts : Parts) (charged : ℕ) (places : Place → Cell) (outgoing : ℕ → Cell) (k : ℕ) (c : Cell) (r : ℕ) (x : View) (waiting : List MarkKind) (rest : List Item) → k < words → Holds act.back parts c (x.registers r) → PlacesAt parts charged places outgoing x.registers x.bytes → length x.bytes ≡ size
+        → Stands setting waiting x.place (Plain (MovTo (arg.Base32 5 (pos (8 * (words + k)))) r) ∷ rest) → Written parts charged places (λ j. cond (nat_eq j k) c (outgoing j)) x waiting rest
+    handed parts charged places outgoing k c r x waiting rest lt h f z st =
+        word_written parts charged places places outgoing (λ j. cond (nat_eq j k) c (outgoing j)) (words + k) r x waiting rest (omega (arith, lt)) f z f.register
+        (λ i li. slot_written parts Junk (places (Slot i)) (x.registers r) i (words + k) x.bytes z (omega (arith, li)) (omega (arith, lt)) tt (f.slot i li) false (λ b. absurd (let bad : false ≡ true = b in cc)) (λ b same. omega (arith, same, li)))
+        (λ i li. slot_written parts c (outgoing i) (x.registers r) (words + i) (words + k) x.bytes z (omega (arith, li)) (omega (arith, lt)) h (f.next i li) (nat_eq i k) (λ b. let same = eqb-true i k b in omega (arith, same)) (λ b same. eqb-false i k b (omega (arith, same))))
+        st

@@ -33,7 +33,7 @@ use Rattle.sch_heap.proofs.Encodings.{fits}
 use Rattle.sch_heap.proofs.Contents.{Stay, procedure_taken}
 use Rattle.sch_select.specs.Select.{body_label, part_operand, fields_code, record_code, closure_bytes, group_bytes, records_code}
 use Rattle.sch_select.proofs.simulation.Straight.{Kept, kept_set, kept_then, moved_to}
-use Rattle.sch_select.proofs.simulation.Places.{Plan, code_of, Room, StoreAt, PlacesAt, places_kept}
+use Rattle.sch_select.proofs.simulation.Places.{Plan, code_of, Activation, StoreAt, PlacesAt, places_kept}
 use Rattle.sch_select.proofs.simulation.HeapWrites.{Wrote, wrote_none, wrote_one, wrote_then, wrote_within, store_wrote, heap_inside, places_wrote}
 use Rattle.sch_select.proofs.simulation.Sources.{is_one, Sourced, Sources, source_here}
 use Rattle.sch_select.proofs.simulation.Cells.{one_scratch}
@@ -101,14 +101,14 @@ both_there (Some x) (Some xs) all e = let f : Some (x ∷ xs) ≡ Some all = e i
 both_there None others all e = absurd (let bad : None ≡ Some all = e in cc)
 both_there (Some x) None all e = absurd (let bad : None ≡ Some all = e in cc)
 
-module _ (plan : Plan) (back fr d : ℕ) (back_fits : back < 2 ^ 64) (room : Room plan fr d) (old parts : Parts) (stay : Stay old parts) (f : Frame) (s : State Procedure) (next : ℕ) (next_is : plan.heap + s.store.charged ≡ next) where
+module _ (plan : Plan) (act : Activation plan) (old parts : Parts) (stay : Stay old parts) (f : Frame) (s : State Procedure) (next : ℕ) (next_is : plan.heap + s.store.charged ≡ next) where
   open plan use {setting, size, words, globals, closures, heap, stack, near}
 
   abbrev Std : List MarkKind → ℕ → List Item → Type 0
   Std waiting a is = Stands setting waiting a is
 
   abbrev In : View → Type 0
-  In x = PlacesAt plan back fr d back_fits room parts s.store.charged f.places x.registers x.bytes
+  In x = PlacesAt plan act parts s.store.charged f.places f.outgoing x.registers x.bytes
 
   abbrev At : View → Type 0
   At x = StoreAt plan old s x.bytes x.output x.answers
@@ -124,7 +124,7 @@ module _ (plan : Plan) (back fr d : ℕ) (back_fits : back < 2 ^ 64) (room : Roo
   stored : (o : ℕ) (x : View) (following : List Item) → In x → At x → next + o + 8 ≤ stack → Std [] x.place (item.Plain (MovTo (part_operand o) 1) ∷ following) → Stored o (x.registers 1) x following
   stored o x following p g le h =
       let e = p.free in let i = next_is in let n = near in let hl = plan.closures_high in let cl = plan.closures_low in
-      let within : Inside (length x.bytes) (next + o) = heap_inside plan back fr d back_fits room (next + o) x.bytes g.size_is (omega (arith, i, hl)) (omega (arith, le)) in
+      let within : Inside (length x.bytes) (next + o) = heap_inside plan act (next + o) x.bytes g.size_is (omega (arith, i, hl)) (omega (arith, le)) in
       record {
         place = x.place + h.0;
         leads = stores_word setting x 1 h.0 (next + o) (Base32 12 (pos o)) [] h.1 (omega (arith, e, i, n, le)) within;
@@ -139,8 +139,8 @@ module _ (plan : Plan) (back fr d : ℕ) (back_fits : back < 2 ^ 64) (room : Roo
 
   in_after : (x : View) (registers : ℕ → ℕ) (bytes : List ℕ) (from to place : ℕ) → to ≤ stack → Kept (is_one 1) x.registers registers → Wrote from to x.bytes bytes → In x → In (record x { registers = registers; bytes = bytes; place = place })
   in_after x registers bytes from to place hi k w p =
-      places_wrote plan back fr d back_fits room parts s.store.charged f.places registers x.bytes bytes from to hi w
-      (places_kept plan back fr d back_fits room parts s.store.charged f.places x.registers registers x.bytes (one_scratch 1 x.registers registers refl k) p)
+      places_wrote plan act parts s.store.charged f.places f.outgoing registers x.bytes bytes from to hi w
+      (places_kept plan act parts s.store.charged f.places f.outgoing x.registers registers x.bytes (one_scratch 1 x.registers registers refl k) p)
 
   -- ---- the fields of a record
 
@@ -168,7 +168,7 @@ module _ (plan : Plan) (back fr d : ℕ) (back_fits : back < 2 ^ 64) (room : Roo
       let u = b.0 in let us = b.1 in
       let checks = and_parts (source_selected words globals q) (list_all (source_selected words globals) sources) e in
       let code = item.Plain (MovTo (part_operand o) 1) ∷ fields_code (o + 8) sources following in
-      let r : Sourced plan back fr d back_fits room old parts stay 1 x [] u code = subst (λ o. Sources plan back fr d back_fits room old parts stay 1 x [] code o) b.2 (source_here plan back fr d back_fits room old parts stay 1 q s.store.charged f s x [] code checks.0 p g h) in
+      let r : Sourced plan act old parts stay 1 x [] u code = subst (λ o. Sources plan act old parts stay 1 x [] code o) b.2 (source_here plan act old parts stay 1 q s.store.charged f s x [] code checks.0 p g h) in
       let y = moved_to x r.registers x.flags r.place in
       let py = in_after x r.registers x.bytes (next + o) (next + o) r.place (omega (arith, le)) r.kept (wrote_none (next + o) (next + o) x.bytes) p in
       let st = stored o y (fields_code (o + 8) sources following) py g (omega (arith, le)) r.ahead in

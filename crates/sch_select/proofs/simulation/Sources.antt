@@ -33,7 +33,7 @@ use Rattle.sch_heap.proofs.Spots.{spot_within}
 use Rattle.sch_heap.proofs.Contents.{Stay, words_by}
 use Rattle.sch_select.specs.Select.{source_code, check_heap, stop_label}
 use Rattle.sch_select.proofs.simulation.Straight.{Halts, Kept, kept_set, kept_then, moved_to}
-use Rattle.sch_select.proofs.simulation.Places.{Plan, Room, StoreAt, PlacesAt, Holds, loaded}
+use Rattle.sch_select.proofs.simulation.Places.{Plan, Activation, StoreAt, PlacesAt, Holds, loaded}
 use Rattle.sch_select.proofs.simulation.Operands.{Atomic, atomic}
 use Rattle.sch_select.proofs.simulation.HeapWrites.{heap_inside}
 use Rattle.sch_select.proofs.programs.Selected.{source_selected}
@@ -70,7 +70,7 @@ field_reads (Some (object m)) k procedures v e = absurd (let bad : None ≡ Some
 field_reads (Some (cell m)) k procedures v e = absurd (let bad : None ≡ Some v = e in cc)
 
 -- The places may hold words of parts that the state has not yet.
-module _ (plan : Plan) (back fr d : ℕ) (back_fits : back < 2 ^ 64) (room : Room plan fr d) (old parts : Parts) (stay : Stay old parts) where
+module _ (plan : Plan) (act : Activation plan) (old parts : Parts) (stay : Stay old parts) where
   open plan use {setting, size, words, globals, closures, heap, stack, near}
 
   abbrev Std : List MarkKind → ℕ → List Item → Type 0
@@ -105,11 +105,11 @@ module _ (plan : Plan) (back fr d : ℕ) (back_fits : back < 2 ^ 64) (room : Roo
       let b = g.begins in let z = g.ends in let i = g.within in
       (r.at.unit, name.is ∙ ap (λ s. 16 * s.unit + 4) at, omega (arith, low, b), omega (arith, high, room, lt, z, i), words_by old parts stay v _ (r.field k v f))
 
-  pub source_here : (r : ℕ) (q : Source Place) (charged : ℕ) (f : Frame) (s : State Procedure) (x : View) (waiting : List MarkKind) (rest : List Item) → source_selected words globals q ≡ true → PlacesAt plan back fr d back_fits room parts charged f.places x.registers x.bytes → StoreAt plan old s x.bytes x.output x.answers → Std waiting x.place (source_code r q rest) → Sources r x waiting rest (source_value (held f) s q)
+  pub source_here : (r : ℕ) (q : Source Place) (charged : ℕ) (f : Frame) (s : State Procedure) (x : View) (waiting : List MarkKind) (rest : List Item) → source_selected words globals q ≡ true → PlacesAt plan act parts charged f.places f.outgoing x.registers x.bytes → StoreAt plan old s x.bytes x.output x.answers → Std waiting x.place (source_code r q rest) → Sources r x waiting rest (source_value (held f) s q)
   source_here r (source.Atom a) charged f s x waiting rest e p g h = by (atom_value (held f) s.store a) refl
     where
-      l : Atomic plan back fr d back_fits room parts r x waiting rest (atom_value (held f) s.store a)
-      l = atomic plan back fr d back_fits room parts r a charged f s.store x waiting rest e p g.size_is h
+      l : Atomic plan act parts r x waiting rest (atom_value (held f) s.store a)
+      l = atomic plan act parts r a charged f s.store x waiting rest e p g.size_is h
 
       by : (o : Option Value) → atom_value (held f) s.store a ≡ o → Sources r x waiting rest o
       by None i = tt
@@ -132,7 +132,7 @@ module _ (plan : Plan) (back fr d : ℕ) (back_fits : back < 2 ^ 64) (room : Roo
       by : (o : Option Value) → field (held f q) k s.procedures ≡ o → Sources r x waiting rest o
       by None i = tt
       by (Some v) i =
-          let l = loaded plan back fr d back_fits room parts charged f.places q r x waiting behind (and_parts (is_place words q) (nat_lt k 1000) e).0 p g.size_is h in
+          let l = loaded plan act parts charged f.places f.outgoing q r x waiting behind (and_parts (is_place words q) (nat_lt k 1000) e).0 p g.size_is h in
           let reads = field_reads (held f q) k s.procedures v i in
           let hv = by_cell (f.places q) l.value (procedure reads.n) l.holds reads.is in
           let w = field_word s x reads.n k reads.p v l.value g reads.there reads.value hv in
@@ -147,14 +147,14 @@ module _ (plan : Plan) (back fr d : ℕ) (back_fits : back < 2 ^ 64) (room : Roo
             place = l.place + l.ahead.0;
             least = 2;
             steps = 2;
-            leads = leads_on setting.marks l.leads (loads_word setting y r l.ahead.0 a (Base32 r (pos (4 + 8 * k))) [] l.ahead.1 named (heap_inside plan back fr d back_fits room a x.bytes g.size_is w.2 w.3));
+            leads = leads_on setting.marks l.leads (loads_word setting y r l.ahead.0 a (Base32 r (pos (4 + 8 * k))) [] l.ahead.1 named (heap_inside plan act a x.bytes g.size_is w.2 w.3));
             few = omega arith;
             kept = kept_then (is_one r) x.registers y.registers (set_register y.registers r n) (kept_set (is_one r) x.registers r l.value (eq-eqb r r refl)) (kept_set (is_one r) y.registers r n (eq-eqb r r refl));
             value = subst (IsWord parts v) (sym (set_one y.registers r n)) w.4;
             ahead = l.ahead.2;
           }
         where
-          by_cell : (c : Cell) (n : ℕ) (v : Value) → Holds back parts c n → value_in c ≡ Some v → IsWord parts v n
+          by_cell : (c : Cell) (n : ℕ) (v : Value) → Holds act.back parts c n → value_in c ≡ Some v → IsWord parts v n
           by_cell (Is u) n v h e = let same : u ≡ v = cc in subst (λ v. IsWord parts v n) same h
           by_cell Link n v h e = absurd (let bad : None ≡ Some v = e in cc)
           by_cell Junk n v h e = absurd (let bad : None ≡ Some v = e in cc)

@@ -1,14 +1,13 @@
-use Rattle.std.proofs.Common.{◌≡◌, ◌+◌, ◌*◌, ◌^◌, ◌<◌, ◌≤◌, length, sym, subst, arith}
+use Rattle.std.proofs.Common.{◌≡◌, ℕ, ap, ◌∙◌, ◌+◌, ◌*◌, ◌^◌, ◌<◌, ◌≤◌, length, sym, subst, arith}
 use Rattle.std.specs.Prelude.{IsTrue, false}
-use Rattle.sch_word.specs.runs.ProgramLayout.{data_address}
 use Rattle.sch_asm.specs.Items.{AreItems, AreKnown, AreOwn, IsEachOnce, labels_in, marks_arrive}
 use Rattle.sch_asm.specs.Codes.{text_size}
 use Rattle.sch_frames.specs.ProgramView.{source}
 use Rattle.sch_frames.specs.Sizes.{program_size}
 use Rattle.sch_select.specs.Follows.{FollowsFrames}
-use Rattle.sch_select.specs.Program.{program_words, program_zeros, own_label}
+use Rattle.sch_select.specs.Program.{max_data, max_stack, program_words, program_zeros, own_label}
 use Rattle.sch_select.specs.Sizes.{bodies_marked, closures_in, marks_in}
-use Rattle.sch_select.proofs.programs.CoveredPrograms.{covered_selected, globals_known, labels_known, library_small, procedures_known}
+use Rattle.sch_select.proofs.programs.CoveredPrograms.{calls_fitting, covered_selected, globals_known, labels_known, library_small, procedures_known}
 use Rattle.sch_select.proofs.programs.JoinedProgram.{frames_follow}
 use Rattle.sch_select.proofs.items.ProgramFacts.{all_forward, bodies_count, data_end, globals_few, program_own, whole_items, whole_words, words_are, words_few}
 use Rattle.sch_select.proofs.items.ProgramKnown.{program_known}
@@ -20,6 +19,9 @@ use Rattle.sch_select.proofs.items.JumpsAhead.{program_ahead}
 use Rattle.sch_select.specs.Jumps.{jumps_ahead}
 use Rattle.sch_select.proofs.items.TextSize.{text_small}
 use Rattle.sch_select.proofs.selecting.select.Goals as goal
+
+few_bytes : (n m : ℕ) → n ≡ m → n ≤ max_stack + 16384 → m ≤ max_stack + 16384
+few_bytes n m e le = omega (arith, e, le)
 
 pub lay_out-layout-requires-clause-few : goal.lay_out-layout-requires-clause-few
 lay_out-layout-requires-clause-few c = let e = c.len-globals.ensures in let f = globals_few c.args.p.now in omega (arith, e, f)
@@ -49,10 +51,10 @@ returns-clause-follows c =
     let l = c.args.limits in
     let i = sym (whole_items q l.heap l.depth _ _ _ _ _ _ c.lay_out-layout.ensures.stack c.lay_out-layout.ensures.heap c.len-globals.ensures c.len-library.ensures (sym (bodies_count p.bodies)) c.in_ok-items.ensures) in
     let w = sym (whole_words q _ _ c.lay_out-layout.ensures.closures c.len-globals.ensures c.in_ok-words.ensures) in
-    subst (λ z. FollowsFrames q l.heap l.depth c.in_ok-items.items c.in_ok-words.words z) (sym c.lay_out-layout.ensures.zeros)
-    (subst (λ ws. FollowsFrames q l.heap l.depth c.in_ok-items.items ws (program_zeros q l.heap)) w
-    (subst (λ is. FollowsFrames q l.heap l.depth is (program_words q) (program_zeros q l.heap)) i
-    (frames_follow q l.heap l.depth (words_few p) (globals_few p) (library_small p c.requires.covered) l.admitted.heap_high l.admitted.depth_high (covered_selected p c.requires.covered) (globals_known p))))
+    subst (λ z. FollowsFrames q l.heap l.depth c.in_ok-items.items c.in_ok-words.words z) (sym (c.lay_out-layout.ensures.zeros ∙ ap (λ n. l.heap + n) c.in_ok-stack_size.ensures.bytes))
+    (subst (λ ws. FollowsFrames q l.heap l.depth c.in_ok-items.items ws (program_zeros q l.heap l.depth)) w
+    (subst (λ is. FollowsFrames q l.heap l.depth is (program_words q) (program_zeros q l.heap l.depth)) i
+    (frames_follow q l.heap l.depth (words_few p) (globals_few p) (library_small p c.requires.covered) l.admitted.heap_high l.admitted.depth_high (few_bytes _ _ c.in_ok-stack_size.ensures.bytes c.in_ok-stack_size.ensures.few) (calls_fitting p c.requires.covered).0 (covered_selected p c.requires.covered) (calls_fitting p c.requires.covered).1 (globals_known p))))
 
 pub returns-clause-own : goal.returns-clause-own
 returns-clause-own c =
@@ -76,7 +78,7 @@ returns-clause-ahead c =
     let q = source p in
     let l = c.args.limits in
     let i = sym (whole_items q l.heap l.depth _ _ _ _ _ _ c.lay_out-layout.ensures.stack c.lay_out-layout.ensures.heap c.len-globals.ensures c.len-library.ensures (sym (bodies_count p.bodies)) c.in_ok-items.ensures) in
-    subst (λ is. IsTrue (jumps_ahead (own_label q) is)) i (program_ahead q l.heap l.depth (all_forward p.bodies))
+    subst (λ is. IsTrue (jumps_ahead (own_label q) is)) i (program_ahead q l.heap l.depth (all_forward p.bodies) (labels_known p))
 
 pub returns-clause-marks : goal.returns-clause-marks
 returns-clause-marks c =
@@ -99,8 +101,8 @@ returns-clause-ends c =
     let q = source p in
     let l = c.args.limits in
     let w = sym (whole_words q _ _ c.lay_out-layout.ensures.closures c.len-globals.ensures c.in_ok-words.ensures) in
-    subst (λ ws. data_address + (8 * length ws + c.lay_out-layout.result.zeros) < 2 ^ 31) w
-    (subst (λ z. data_address + (8 * length (program_words q) + z) < 2 ^ 31) (sym c.lay_out-layout.ensures.zeros) (data_end q l.heap (words_few p) (globals_few p) (library_small p c.requires.covered) l.admitted.heap_high))
+    subst (λ ws. 8 * length ws + c.lay_out-layout.result.zeros ≤ max_data) w
+    (subst (λ z. 8 * length (program_words q) + z ≤ max_data) (sym (c.lay_out-layout.ensures.zeros ∙ ap (λ n. l.heap + n) c.in_ok-stack_size.ensures.bytes)) (data_end q l.heap l.depth (few_bytes _ _ c.in_ok-stack_size.ensures.bytes c.in_ok-stack_size.ensures.few) (globals_few p) (library_small p c.requires.covered) l.admitted.heap_high))
 
 pub returns-clause-zeros : goal.returns-clause-zeros
-returns-clause-zeros c = c.lay_out-layout.ensures.zeros
+returns-clause-zeros c = c.lay_out-layout.ensures.zeros ∙ ap (λ n. c.args.limits.heap + n) c.in_ok-stack_size.ensures.bytes

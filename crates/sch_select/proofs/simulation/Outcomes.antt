@@ -1,10 +1,11 @@
 -- What a machine owes to a result: it comes back, exits, or goes on, and its steps are paid for.
-use Rattle.std.proofs.Common.{◌≡◌, ℕ, ◌+◌, ◌*◌, ◌≤◌, List, [], ◌++◌, length, map, Some, None, refl, sym, ap, ◌∙◌, arith, append_assoc}
+use Rattle.std.proofs.Common.{◌≡◌, ℕ, ◌+◌, ◌*◌, ◌≤◌, List, [], ◌++◌, length, map, true, Some, None, refl, sym, ap, ◌∙◌, arith, append_assoc}
 use Rattle.sch_word.specs.declared.stop.Stop.{Stop}
 use Rattle.sch_word.specs.runs.Stops.{status_of}
 use Rattle.sch_word.specs.runs.Store.{Store}
 use Rattle.sch_heap.specs.Parts.{Parts}
-use Rattle.sch_heap.specs.Encoded.{Words}
+use Rattle.sch_heap.specs.Encoded.{IsWord, Words}
+use Rattle.sch_word.specs.values.Values.{Value}
 use Rattle.sch_word.specs.runs.Computation.{gives, stops, spent}
 use Rattle.sch_control.specs.Meaning.{World, Result}
 use Rattle.sch_insn.specs.Step.{Exited, step}
@@ -20,7 +21,7 @@ use Rattle.sch_asm.specs.Views.{View, full, Leads}
 use Rattle.sch_select.specs.Select.{stop_label, put_label, kind_of}
 use Rattle.sch_select.specs.Program.{put_value_code, static_bytes}
 use Rattle.sch_select.proofs.simulation.Straight.{moved_to, Halts}
-use Rattle.sch_select.proofs.simulation.Places.{Plan, StoreAt}
+use Rattle.sch_select.proofs.simulation.Places.{Plan, Activation, StoreAt}
 
 -- A procedure entry pays for as many steps as a body has at most, and an answer of the kernel for ten.
 module _ (plan : Plan) (body_steps : ℕ) where
@@ -58,7 +59,7 @@ module _ (plan : Plan) (body_steps : ℕ) where
 
   -- The machine comes to an address, with its frame, its depth and what lies below its frame as they were.
   -- Words of values stay words.
-  pub record Lands (back fr d : ℕ) (parts : Parts) (before : List MarkKind) (t : Store) (x : View) (c : ℕ) (w : World) : Type 0 where
+  pub record Lands (act : Activation plan) (parts : Parts) (before : List MarkKind) (t : Store) (x : View) (c : ℕ) (v : Value) (w : World) : Type 0 where
     pub y : View
     pub events : List MarkKind
     pub least : ℕ
@@ -67,22 +68,23 @@ module _ (plan : Plan) (body_steps : ℕ) where
     pub entries : t.entries ≤ least + w.state.store.entries
     pub fewer : w.state.store.entries ≤ t.entries
     pub cost : steps + paid w.state.store ≤ c + paid t
-    pub at : y.place ≡ back
-    pub frame : y.registers 5 ≡ fr
-    pub depth : y.registers 13 ≡ d
+    pub at : y.place ≡ act.back
+    pub frame : y.registers 5 ≡ act.frame
+    pub depth : y.registers 13 ≡ act.left
     pub free : y.registers 12 ≡ heap + w.state.store.charged
-    pub below : (a : ℕ) → stack ≤ a → a + 8 ≤ fr → word_in y.bytes a ≡ word_in x.bytes a
+    pub below : (a : ℕ) → stack ≤ a → a + 8 ≤ act.frame → word_in y.bytes a ≡ word_in x.bytes a
     pub parts_after : Parts
     pub words : Words parts parts_after
+    pub value : act.entered ≡ true → IsWord parts_after v (y.registers 0)
     pub world : StoreAt plan parts_after w.state y.bytes y.output y.answers
     pub marked : map kind_of w.marks ≡ before ++ events
 
-  -- Nothing is owed where a body is wrong.
-  abbrev pub Sim : (back fr d : ℕ) → Parts → List MarkKind → Store → View → ℕ → Result → Type 0
-  Sim back fr d parts before t x c None = Unit {0}
-  Sim back fr d parts before t x c (Some (gives v w)) = Lands back fr d parts before t x c w
-  Sim back fr d parts before t x c (Some (stops why w)) = Ends before t x c (status_of why) w
-  Sim back fr d parts before t x c (Some (spent w)) = Goes_on before t x w
+  -- Nothing is owed where a body is wrong, nor where more entries are spent than may be nested.
+  abbrev pub Sim : (act : Activation plan) → Parts → List MarkKind → Store → View → ℕ → Result → Type 0
+  Sim act parts before t x c None = Unit {0}
+  Sim act parts before t x c (Some (gives v w)) = Lands act parts before t x c v w
+  Sim act parts before t x c (Some (stops why w)) = Ends before t x c (status_of why) w
+  Sim act parts before t x c (Some (spent w)) = t.entries ≤ act.nested → Goes_on before t x w
 
   -- ---- what is ahead, after some steps
 
@@ -100,11 +102,24 @@ module _ (plan : Plan) (body_steps : ℕ) where
     silent = e.silent;
   }
 
-  pub after : (back fr d : ℕ) (parts parts' : Parts) → Words parts parts' → (before events : List MarkKind) (t t' : Store) (x y : View) (a b c most : ℕ) (r : Result) → Leads setting a b events x y →
-      ((p : ℕ) → stack ≤ p → p + 8 ≤ fr → word_in y.bytes p ≡ word_in x.bytes p) →
-      t.entries ≤ a + t'.entries → t'.entries ≤ t.entries → b + c + paid t' ≤ most + paid t → Sim back fr d parts' (before ++ events) t' y c r → Sim back fr d parts before t x most r
-  after back fr d parts parts' words before events t t' x y a b c most None p low l1 l2 le s = tt
-  after back fr d parts parts' words before events t t' x y a b c most (Some (gives v w)) p low l1 l2 le s = record {
+  pub goes_on_after : (before events : List MarkKind) (t t' : Store) (x y : View) (a b : ℕ) (w : World) → Leads setting a b events x y → t.entries ≤ a + t'.entries → Goes_on (before ++ events) t' y w → Goes_on before t x w
+  goes_on_after before events t t' x y a b w p l s = record {
+    last = s.last;
+    events = events ++ s.events;
+    least = a + s.least;
+    steps = b + s.steps;
+    ahead = s.ahead;
+    leads = leads_then setting.marks p s.leads;
+    long = (let e = s.long in omega (arith, e, l));
+    output_is = s.output_is;
+    marked = s.marked ∙ append_assoc before events (s.events ++ s.ahead) ∙ ap (λ l. before ++ l) (sym (append_assoc events s.events s.ahead));
+  }
+
+  pub after : (act : Activation plan) (parts parts' : Parts) → Words parts parts' → (before events : List MarkKind) (t t' : Store) (x y : View) (a b c most : ℕ) (r : Result) → Leads setting a b events x y →
+      ((p : ℕ) → stack ≤ p → p + 8 ≤ act.frame → word_in y.bytes p ≡ word_in x.bytes p) →
+      t.entries ≤ a + t'.entries → t'.entries ≤ t.entries → b + c + paid t' ≤ most + paid t → Sim act parts' (before ++ events) t' y c r → Sim act parts before t x most r
+  after act parts parts' words before events t t' x y a b c most None p low l1 l2 le s = tt
+  after act parts parts' words before events t t' x y a b c most (Some (gives v w)) p low l1 l2 le s = record {
     y = s.y;
     events = events ++ s.events;
     least = a + s.least;
@@ -120,21 +135,13 @@ module _ (plan : Plan) (body_steps : ℕ) where
     below = λ p lo hi. s.below p lo hi ∙ low p lo hi;
     parts_after = s.parts_after;
     words = λ v n h. s.words v n (words v n h);
+    value = s.value;
     world = s.world;
     marked = s.marked ∙ append_assoc before events s.events;
   }
-  after back fr d parts parts' words before events t t' x y a b c most (Some (stops why w)) p low l1 l2 le s = ends_after before events t t' x y a b c most (status_of why) w p le s
-  after back fr d parts parts' words before events t t' x y a b c most (Some (spent w)) p low l1 l2 le s = record {
-    last = s.last;
-    events = events ++ s.events;
-    least = a + s.least;
-    steps = b + s.steps;
-    ahead = s.ahead;
-    leads = leads_then setting.marks p s.leads;
-    long = (let e = s.long in omega (arith, e, l1));
-    output_is = s.output_is;
-    marked = s.marked ∙ append_assoc before events (s.events ++ s.ahead) ∙ ap (λ l. before ++ l) (sym (append_assoc events s.events s.ahead));
-  }
+  after act parts parts' words before events t t' x y a b c most (Some (stops why w)) p low l1 l2 le s = ends_after before events t t' x y a b c most (status_of why) w p le s
+  after act parts parts' words before events t t' x y a b c most (Some (spent w)) p low l1 l2 le s = λ few.
+      goes_on_after before events t t' x y a b w p l1 (s (omega (arith, few, l2)))
 
   -- ---- the routines, and that of the program itself
 
