@@ -9,8 +9,7 @@ use Rattle.sch_word.specs.declared.statics.Statics.{Statics}
 use Rattle.sch_word.specs.values.StaticsView.{statics}
 use Rattle.sch_flat.specs.declared.tree.Body as flat_body
 use Rattle.sch_flat.specs.declared.tree.Exp.{Exp}
-use Rattle.sch_flat.specs.Tree.{Source, Body, count}
-use Rattle.sch_flat.specs.Measures.{bodies_size, program_size}
+use Rattle.sch_flat.specs.Tree.{Source, count}
 use Rattle.sch_flat.specs.Valid.{is_closed, is_formed, in_order, sited, statics_known, constants_in_range, ascending, body_scoped, scoped_each, has_fields}
 use Rattle.sch_flat.specs.View.{body, trees_of}
 use Rattle.sch_control.specs.declared.body.Body as control_body
@@ -32,11 +31,11 @@ pub record Given (starts : List ℕ) (bodies : List flat_body.Body) (forms : Lis
   pub forms_fit : LabelsFitEach (length starts) (trees_of forms)
   pub valid : list_all code_valid (normal_bodies starts 0 (map body bodies) (trees_of forms) starts) ≡ true
 
-few_bodies : (bs : List Body) → length bs ≤ bodies_size bs
-few_bodies [] = omega arith
-few_bodies (b ∷ bs) = let h = few_bodies bs in omega (arith, h)
+-- no more bodies and forms than numbers of 32 bits, said of a program
+pub few_bodies : (starts starts' : List ℕ) (bodies bodies' : List flat_body.Body) → starts' ≡ starts → bodies' ≡ bodies → length bodies' + length starts' ≤ 2 ^ 32 → length (map body bodies) + length starts ≤ 2 ^ 32
+few_bodies starts starts' bodies bodies' s b h = let m = length-map bodies body in let l = ap length s in let k = ap length b in omega (arith, h, m, l, k)
 
-module _ (p : Source) (few : program_size p < 2 ^ 32) where
+module _ (p : Source) (few : length p.bodies + length p.starts ≤ 2 ^ 32) where
   module _ (closed : is_closed p ≡ true) (ascends : in_order p ≡ true) where
     abbrev forms_scoped : Bool
     forms_scoped = scoped_each p.bodies p.forms [] 0
@@ -47,9 +46,6 @@ module _ (p : Source) (few : program_size p < 2 ^ 32) where
     starts_match : length p.starts ≡ count p.forms
     starts_match = eqb-true (length p.starts) (count p.forms) (and_left (nat_eq (length p.starts) (count p.forms)) (ascending 0 (length p.bodies) p.starts) ascends)
 
-    in_room : length p.bodies + length p.starts ≤ 2 ^ 32
-    in_room = let m = starts_match in let n = few_bodies p.bodies in omega (arith, few, m, n)
-
     up : ascending 0 (length p.bodies) p.starts ≡ true
     up = and_right (nat_eq (length p.starts) (count p.forms)) (ascending 0 (length p.bodies) p.starts) ascends
 
@@ -57,20 +53,20 @@ module _ (p : Source) (few : program_size p < 2 ^ 32) where
     rising = sorted 0 (length p.bodies) p.starts up
 
     bodies_fit : LabelsOfBodies (length p.starts) p.bodies
-    bodies_fit = labels_fit_bodies p.bodies (length p.starts) in_room p.bodies (and_left (list_all (body_scoped p.bodies) p.bodies) (forms_scoped && library_scoped) closed)
+    bodies_fit = labels_fit_bodies p.bodies (length p.starts) few p.bodies (and_left (list_all (body_scoped p.bodies) p.bodies) (forms_scoped && library_scoped) closed)
 
     forms_fit : LabelsFitEach (length p.starts) p.forms
-    forms_fit = labels_fit_each p.bodies (length p.starts) in_room p.forms [] 0 (and_left forms_scoped library_scoped (and_right (list_all (body_scoped p.bodies) p.bodies) (forms_scoped && library_scoped) closed))
+    forms_fit = labels_fit_each p.bodies (length p.starts) few p.forms [] 0 (and_left forms_scoped library_scoped (and_right (list_all (body_scoped p.bodies) p.bodies) (forms_scoped && library_scoped) closed))
 
     each_fits : (labels : List ℕ) → list_all (λ label. has_fields (slice_get p.bodies label) 0) labels ≡ true → (k : ℕ) → k < length labels → get_or labels k 0 + length p.starts < 2 ^ 32
     each_fits [] h k l = absurd (omega (arith, l))
-    each_fits (label ∷ labels) h zero l = label_fits p.bodies (length p.starts) in_room label 0 (and_left (has_fields (slice_get p.bodies label) 0) (list_all (λ label. has_fields (slice_get p.bodies label) 0) labels) h)
+    each_fits (label ∷ labels) h zero l = label_fits p.bodies (length p.starts) few label 0 (and_left (has_fields (slice_get p.bodies label) 0) (list_all (λ label. has_fields (slice_get p.bodies label) 0) labels) h)
     each_fits (label ∷ labels) h (suc k) l = each_fits labels (and_right (has_fields (slice_get p.bodies label) 0) (list_all (λ label. has_fields (slice_get p.bodies label) 0) labels) h) k (omega (arith, l))
 
     pub library_fits : (k : ℕ) → k < length p.library → get_or p.library k 0 + length p.starts < 2 ^ 32
     library_fits = each_fits p.library (and_right forms_scoped library_scoped (and_right (list_all (body_scoped p.bodies) p.bodies) (forms_scoped && library_scoped) closed))
 
-pub given : (starts : List ℕ) (bodies : List flat_body.Body) (forms : List Exp) (p : Source) → p.starts ≡ starts → p.bodies ≡ map body bodies → p.forms ≡ trees_of forms → program_size p < 2 ^ 32 → is_closed p ≡ true → is_formed p ≡ true → in_order p ≡ true → sited p ≡ true → statics_known p ≡ true → constants_in_range p ≡ true
+pub given : (starts : List ℕ) (bodies : List flat_body.Body) (forms : List Exp) (p : Source) → p.starts ≡ starts → p.bodies ≡ map body bodies → p.forms ≡ trees_of forms → length p.bodies + length p.starts ≤ 2 ^ 32 → is_closed p ≡ true → is_formed p ≡ true → in_order p ≡ true → sited p ≡ true → statics_known p ≡ true → constants_in_range p ≡ true
     → Given starts bodies forms
 given starts bodies forms p s b f few closed formed ascends once ready words = record {
   sorted = subst IsNonDecreasing s (rising p few closed ascends);

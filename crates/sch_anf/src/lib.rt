@@ -1,11 +1,12 @@
 //! From flat closures to control: operands become simple, and a body says where its procedure returns.
 #![tactic(auto)]
 
-ghost use Rattle.std.specs.Prelude.{◌≡◌, ◌≤◌, ◌<◌, ◌*◌, ◌^◌, IsTrue, IfOk};
+ghost use Rattle.std.specs.Prelude.{◌≡◌, ◌≤◌, ◌+◌, ◌*◌, ◌^◌, length, IsTrue, IfOk, OnOk};
 ghost use Rattle.sch_word.specs.values.StaticsView.{statics};
 ghost use Rattle.sch_control.specs.Fits.{table_fits};
 ghost use Rattle.sch_control.specs.ProgramView as control;
 ghost use Rattle.sch_control.specs.Sizes.{expressions_size};
+ghost use Rattle.sch_control.specs.Work.{codes_work};
 ghost use Rattle.sch_flat.specs.Measures as measures;
 ghost use Rattle.sch_flat.specs.ProgramView.{source};
 ghost use Rattle.sch_flat.specs.Straight.{is_straight_program};
@@ -24,11 +25,14 @@ mod steps;
 
 use crate::body::normalize_bodies;
 use sch_control::ControlProgram;
-use sch_flat::FlatProgram;
+use sch_flat::{Body, FlatProgram};
 use sch_operands::new_labels;
 use sch_simple::bound_parts;
 use sch_word::{List, Mem};
 use std::alloc::Global;
+
+/// The most procedures of a program, and the most forms.
+const MAX_BODIES: usize = 1 << 31;
 
 /// The program of the language Control: what is no simple operand is bound before, from left to right, and each
 /// call is bound, tested, in tail position or the last of a form. It does what `p` does.
@@ -36,9 +40,9 @@ use std::alloc::Global;
 /// `(f (g x) 1)` -> y is the value of `(g x)`, and then the tail call `(f y 1)`.
 ///
 /// It takes time in proportion to the size of `p`, where a label is looked for among the places of the forms by
-/// halves, and stack in proportion to the levels of `p`.
+/// halves, and stack in proportion to the levels of `p`. More than 2^31 procedures or forms are answered as out of
+/// memory too.
 pub fn normalize(alloc: Global, p: &FlatProgram) -> Result<ControlProgram, Mem>
-    requires few { measures.program_size (source p.now) < 2 ^ 32 }
     ensures made { IfOk result (λ q. control.source q ≡ normal_source (source p.now)) }
     // Under every order table that fits it, limits, answers of a kernel and number of entries it runs as `p` does,
     // and is never wrong.
@@ -57,20 +61,32 @@ pub fn normalize(alloc: Global, p: &FlatProgram) -> Result<ControlProgram, Mem>
     ensures dropped { IfOk result (λ q. dropped_of (control.source q).bodies ≡ measures.dropped_of (source p.now)) }
     // No body has more variables than its flat body may need.
     ensures variables { IfOk result (λ q. BindNoMore (source p.now) (control.source q)) }
-    // What it makes is no larger than what the nodes of `p` weigh, and of straight code at most four times as large.
-    ensures weight { IfOk result (λ q. expressions_size (control.source q).bodies ≤ weight (source p.now)) }
+    // There is no more work in what it makes than `p` weighs.
+    ensures work { IfOk result (λ q. codes_work (control.source q).bodies ≤ weight (source p.now)) }
+    // Of straight code it makes at most four times as much.
     ensures size { IfOk result (λ q. IsTrue (is_straight_program (source p.now)) →
         expressions_size (control.source q).bodies ≤ 4 * measures.program_size (source p.now)) }
 {
     normal_program(alloc, p)
 }
 
+// Each label of procedures and forms is a number of 32 bits.
+fn check_labels(starts: &[u32], bodies: &[Body]) -> Result<(), Mem>
+    ensures { OnOk result (length bodies.now + length starts.now ≤ 2 ^ 32) }
+{
+    if bodies.len() <= MAX_BODIES && starts.len() <= MAX_BODIES {
+        Ok(())
+    } else {
+        Err(Mem)
+    }
+}
+
 fn normal_program(alloc: Global, p: &FlatProgram) -> Result<ControlProgram, Mem>
-    requires few { measures.program_size (source p.now) < 2 ^ 32 }
     ensures { IfOk result (λ q. control.source q ≡ normal_source (source p.now)) }
 {
     let starts = p.starts.as_slice();
     let flat_bodies = p.bodies.as_slice();
+    check_labels(starts, flat_bodies)?;
     let bodies = normalize_bodies(alloc, starts, flat_bodies, &p.forms)?;
     let library = new_labels(alloc, starts, p.library.as_slice())?;
     let bound = bound_parts(alloc, p)?;

@@ -3,7 +3,6 @@ use Rattle.std.proofs.Common.{◌≡◌, true, false, [], ◌∷◌, refl}
 use Rattle.sch_cells.specs.Tree.{variable, set_variable}
 use Rattle.sch_cells.specs.Examples.{function, program, assigned_formal, assigned_formal_boxed, unset_init, unset_init_boxed, recursive_inits, recursive_inits_boxed, even_odd, nested_lambdas}
 use Rattle.sch_assign.specs.Celled.{celled_in, celled_of}
-use Rattle.sch_cells.specs.Recursive.{recursive_of}
 use Rattle.sch_assign.specs.Converted.{converted_source}
 use Rattle.sch_assign.specs.Weight.{weight}
 
@@ -42,6 +41,7 @@ second = refl
 first : celled_in (program 2 [] (function 0 2 (set_variable 1 (variable 0)) ∷ [])) 0 ≡ false
 first = refl
 
--- two empty cells (6), two inits (4 each), two assignments of variables (8 each) and a primitive over a cell (7)
-weight_row : (weight unset_init_boxed ∷ recursive_of unset_init ∷ recursive_of unset_init_boxed ∷ []) ≡ 37 ∷ 2 ∷ 0 ∷ []
+-- two empty cells (6), two inits that are bound (2), a constant (2) and the content of a cell (2), two values of a
+-- sequence (2), two assignments of variables (6 each), a primitive over a cell (5), and the end of the form
+weight_row : weight unset_init_boxed ≡ 32
 weight_row = refl

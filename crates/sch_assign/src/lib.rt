@@ -8,7 +8,6 @@ ghost use Rattle.sch_cells.specs.Bodies.{bodies_of};
 ghost use Rattle.sch_cells.specs.BoxedMeaning as boxed;
 ghost use Rattle.sch_cells.specs.Measures.{call_sites_of, dropped_of, program_size, sites_of, tests_of};
 ghost use Rattle.sch_cells.specs.ProgramView.{source};
-ghost use Rattle.sch_cells.specs.Recursive.{recursive_of};
 ghost use Rattle.sch_cells.specs.CallFree.{is_call_free_program};
 ghost use Rattle.sch_cells.specs.Straight.{is_straight_program};
 ghost use Rattle.sch_assign.specs.SameTrees.{SameTrees};
@@ -53,9 +52,8 @@ pub fn convert_assign(alloc: Global, p: &CellProgram<Unboxed>) -> Result<CellPro
     // Each body has its name, its formals, its free variables and its count of variables.
     ensures bodies { IfOk result (λ q. bodies_of (source q) ≡ bodies_of (source p.now)) }
     ensures size { IfOk result (λ q. program_size (source q) ≤ 4 * program_size (source p.now)) }
-    // What is made of it in the language Control is at most four times as large, and larger by seven for each variable of
-    // a Rec.
-    ensures weight { IfOk result (λ q. weight (source q) ≤ 4 * program_size (source p.now) + 7 * recursive_of (source p.now)) }
+    // There is at most seven times as much work in what is made of it in the language Control as the size of `p`.
+    ensures weight { IfOk result (λ q. weight (source q) ≤ 7 * program_size (source p.now)) }
     // Straight code has no cells, and its trees stay as they are.
     ensures straight { IfOk result (λ q. IsTrue (is_straight_program (source p.now)) → SameTrees (source p.now) (source q)) }
     ensures call_free { IfOk result (λ q. IsTrue (is_call_free_program (source p.now)) → IsTrue (is_call_free_program (source q))) }

@@ -8,6 +8,7 @@ use Rattle.sch_flat.specs.Tree.{bound, free, make_closure, fix_closures}
 use Rattle.sch_flat.specs.Examples as made
 use Rattle.sch_flat.specs.Examples.{nested, assigned, body}
 use Rattle.sch_closure.specs.Closed.{closed_source}
+use Rattle.sch_closure.specs.Kept.{weight_after, weight_before}
 
 nested_is : closed_source nested_lambdas ≡ nested
 nested_is = refl
@@ -35,3 +36,11 @@ in_a_group : closed_source (program 4 (2 ∷ [])
     ∷ (body 4 0 2 (flat.call 0 false (flat.variable (free 0)) (flat.trees (flat.variable (free 1) ∷ []))) ∷ [])))
     (make_closure (made.made 0 []))
 in_a_group = refl
+
+-- ## Weights, before and after: of three procedures (6, 4, 4), and of a group of two (5 each)
+
+nested_weight : (weight_before nested_lambdas ∷ weight_after nested ∷ []) ≡ 54 ∷ 54 ∷ []
+nested_weight = refl
+
+group_weight : (weight_before even_odd ∷ weight_after made.even_odd ∷ []) ≡ 105 ∷ 105 ∷ []
+group_weight = refl

@@ -1,23 +1,30 @@
 -- What closing keeps of what is counted. The nodes of a flat program stand in another order: the bodies first,
 -- each without those inside it.
-use Rattle.std.specs.Prelude.{◌≡◌, ◌+◌, Bool, false, List, [], ◌∷◌, ◌++◌}
+use Rattle.std.specs.Prelude.{◌≡◌, ℕ, ◌+◌, Bool, false, List, [], ◌∷◌, ◌++◌, map}
 use Rattle.std.specs.List.{count_by}
 use Rattle.sch_word.specs.trees.Shape.{Procedure}
 use Rattle.sch_cells.specs.Tree as from
-use Rattle.sch_cells.specs.Bodies.{bodies_lambdas, bodies_each, form, form_name}
+use Rattle.sch_cells.specs.Bodies.{bodies_lambdas, bodies_each, form, form_name, procedures}
 use Rattle.sch_flat.specs.Tree as to
 use Rattle.sch_flat.specs.Measures as to_measures
 use Rattle.sch_flat.specs.Measures.{variables, body_variables}
 use Rattle.sch_cells.specs.Measures as from_measures
-use Rattle.sch_control.specs.Weights.{weight_of}
+use Rattle.sch_control.specs.Weights.{all_entered, procedures_weight, weight_of}
 
 -- the same items, each as often
 abbrev pub SameItems : {A : Type 0} → List A → List A → Type 0
 SameItems {A} xs ys = (test : A → Bool) → count_by test ys ≡ count_by test xs
 
--- the nodes of both weigh the same, as sizes in the language Control are counted
-abbrev pub SameWeight : from.Source → to.Source → Type 0
-SameWeight p q = to_measures.over_source 0 (λ a b. a + b) weight_of q ≡ from_measures.over_source 0 (λ a b. a + b) (λ e. weight_of (from_measures.shape e)) p
+-- What a program weighs, as work in the language Control is counted: its library's procedures and its nodes, and one
+-- for the end of each form.
+abbrev pub weight_before : from.Source → ℕ
+weight_before p =
+    procedures_weight (procedures p.library) + from.count p.forms + from_measures.over_source 0 (λ a b. a + b) (λ e. weight_of (from_measures.shape e)) p
+
+-- the same of its flat program, whose bodies stand beside its nodes
+abbrev pub weight_after : to.Source → ℕ
+weight_after q =
+    all_entered (map (λ b. b.formals) q.bodies) + to.count q.forms + to_measures.over_source 0 (λ a b. a + b) weight_of q
 
 -- a body with what is counted of it
 abbrev pub procedure_of : to.Body → Procedure

@@ -18,7 +18,7 @@ ghost use Rattle.sch_flat.specs.CallFree as call_free;
 ghost use Rattle.sch_flat.specs.Straight as straight;
 ghost use Rattle.sch_flat.specs.View.{body, made, trees_of};
 ghost use Rattle.sch_closure.specs.Closed.{closed_source};
-ghost use Rattle.sch_closure.specs.Kept.{SameItems, SameWeight, flat_forms, forms_in, procedure_of, procedures_in};
+ghost use Rattle.sch_closure.specs.Kept.{SameItems, flat_forms, forms_in, procedure_of, procedures_in, weight_after, weight_before};
 
 mod closing;
 mod gathering;
@@ -54,8 +54,8 @@ pub fn close(alloc: Global, p: &CellProgram<Boxed>) -> Result<FlatProgram, Mem>
     ensures bodies { IfOk result (λ q. map procedure_of (map body q.bodies) ≡ procedures_in (source p.now)) }
     ensures forms { IfOk result (λ q. flat_forms (trees_of q.forms) ≡ forms_in (trees p.now.forms)) }
     ensures size { IfOk result (λ q. measures.program_size (view.source q) ≡ program_size (source p.now)) }
-    // Its nodes weigh what those of `p` do.
-    ensures weight { IfOk result (λ q. SameWeight (source p.now) (view.source q)) }
+    // It weighs what `p` does.
+    ensures weight { IfOk result (λ q. weight_after (view.source q) ≡ weight_before (source p.now)) }
     ensures straight { IfOk result (λ q. IsTrue (is_straight_program (source p.now)) → IsTrue (straight.is_straight_program (view.source q))) }
     ensures call_free { IfOk result (λ q. IsTrue (is_call_free_program (source p.now)) → IsTrue (call_free.is_call_free_program (view.source q))) }
 {

@@ -140,7 +140,7 @@ not_called_stops = refl
 -- ## What a call forgets has no value
 
 -- a body that uses its formal after a call of it, in a region that saves what is needed after the call
-abbrev around : (restores : List ℕ) → Expression
+abbrev pub around : (restores : List ℕ) → Expression
 around restores =
     save (0 ∷ 2 ∷ []) (bind 3 (call (applied 0 (held_in 2) []) restores) (return (perform (operation.Prim 1 IsNull (held_in 2 ∷ [])))))
 

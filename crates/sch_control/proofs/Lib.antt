@@ -2,3 +2,4 @@ mod Examples
 mod ReadingExamples
 mod ValidExamples
 mod CallFreeExamples
+mod WorkExamples

@@ -12,3 +12,4 @@ pub mod Valid
 pub mod View
 pub mod CallFree
 pub mod Weights
+pub mod Work

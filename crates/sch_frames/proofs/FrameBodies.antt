@@ -9,11 +9,13 @@ use Rattle.sch_control.specs.declared.body.Body.{Body}
 use Rattle.sch_control.specs.SourceView as control
 use Rattle.sch_control.specs.Tree as tree
 use Rattle.sch_control.specs.View.{expression}
+use Rattle.sch_control.specs.Work as work
+use Rattle.sch_control.specs.Work.{codes_work}
 use Rattle.sch_frames.specs.declared.body.FrameBody.{FrameBody}
 use Rattle.sch_frames.specs.Does.{FrameOf, FramesOf}
 use Rattle.sch_frames.specs.Layout.{slots_words}
 use Rattle.sch_control.specs.Sizes.{expression_size, expressions_size}
-use Rattle.sch_frames.specs.Sizes.{call_parts, calls_parts, codes_size, entries_size, entry_size, instructions_size, largest_frame, most_words}
+use Rattle.sch_frames.specs.Sizes.{call_parts, calls_parts, closures_in, code_work, codes_size, entries_size, entry_size, instructions_size, largest_frame, most_words}
 use Rattle.sch_frames.specs.SourceView.{code_of, codes_of}
 use Rattle.sch_frames.specs.Tree.{Code}
 
@@ -62,6 +64,18 @@ sizes_more cs fs c f h e = let a = codes_push fs f in let b = expressions_push c
     entries_push [] c = omega arith
     entries_push (x ∷ cs) c = let e = entries_push cs c in omega (arith, e)
 
+work_more : (cs : List tree.Code) (fs : List Code) (c : tree.Code) (f : Code) → codes_size fs + closures_in fs ≤ codes_work cs → code_work f ≤ work.code_work c
+    → codes_size (fs ++ f ∷ []) + closures_in (fs ++ f ∷ []) ≤ codes_work (cs ++ c ∷ [])
+work_more cs fs c f h e = let a = frames_push fs f in let b = codes_push cs c in omega (arith, a, b, h, e)
+  where
+    frames_push : (fs : List Code) (f : Code) → codes_size (fs ++ f ∷ []) + closures_in (fs ++ f ∷ []) ≡ codes_size fs + closures_in fs + code_work f
+    frames_push [] f = omega arith
+    frames_push (x ∷ fs) f = let e = frames_push fs f in omega (arith, e)
+
+    codes_push : (cs : List tree.Code) (c : tree.Code) → codes_work (cs ++ c ∷ []) ≡ codes_work cs + work.code_work c
+    codes_push [] c = omega arith
+    codes_push (x ∷ cs) c = let e = codes_push cs c in omega (arith, e)
+
 -- ## A body of a list
 
 each_at : {X : Type 0} (p : X → Bool) (xs : List X) (i : ℕ) (d : X) → i < length xs → list_all p xs ≡ true → p (get_or xs i d) ≡ true
@@ -102,6 +116,13 @@ module _ (bodies : List Body) (i : ℕ) (b : Body) (lt : i < length bodies) (is 
         subst (λ fs. codes_size fs ≤ 2 * expressions_size (control.codes_of (take (i + 1) bodies)) + 4 * calls_parts (control.codes_of (take (i + 1) bodies)) + entries_size (control.codes_of (take (i + 1) bodies))) (sym grown)
         (subst (λ cs. codes_size (codes_of made ++ code_of f ∷ []) ≤ 2 * expressions_size cs + 4 * calls_parts cs + entries_size cs) (sym taken)
         (sizes_more (control.codes_of (take i bodies)) (codes_of made) (control.code_of b) (code_of f) h g))
+
+    pub work_next : codes_size (codes_of made) + closures_in (codes_of made) ≤ codes_work (control.codes_of (take i bodies)) → code_work (code_of f) ≤ work.code_work (control.code_of b)
+        → codes_size (codes_of next) + closures_in (codes_of next) ≤ codes_work (control.codes_of (take (i + 1) bodies))
+    work_next h g =
+        subst (λ fs. codes_size fs + closures_in fs ≤ codes_work (control.codes_of (take (i + 1) bodies))) (sym grown)
+        (subst (λ cs. codes_size (codes_of made ++ code_of f ∷ []) + closures_in (codes_of made ++ code_of f ∷ []) ≤ codes_work cs) (sym taken)
+        (work_more (control.codes_of (take i bodies)) (codes_of made) (control.code_of b) (code_of f) h g))
 
     pub words_next : largest_frame (codes_of made) ≡ most_words (control.codes_of (take i bodies)) → f.words ≡ slots_words (control.code_of b)
         → largest_frame (codes_of next) ≡ most_words (control.codes_of (take (i + 1) bodies))

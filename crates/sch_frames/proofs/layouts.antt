@@ -6,3 +6,4 @@ pub mod SlotsFrame
 pub mod StraightSlots
 pub mod Used
 pub mod SettledSlots
+pub mod LayoutWork

@@ -1,2 +1,3 @@
 pub mod CallExamples
 pub mod Examples
+pub mod WorkExamples

@@ -83,3 +83,29 @@ entry_size (Some e) = suc (suc e.formals)
 abbrev pub entries_size : List control.Code → ℕ
 entries_size [] = 0
 entries_size (c ∷ codes) = entry_size c.entry + entries_size codes
+
+-- ## Closures and procedures
+
+-- the closures that groups make
+abbrev pub grouped : List Instruction → ℕ
+grouped [] = 0
+grouped (Fix members ∷ instructions) = length members + grouped instructions
+grouped (_ ∷ instructions) = grouped instructions
+
+-- a procedure's body is jumped over
+abbrev pub jumped : Option Entry → ℕ
+jumped None = 0
+jumped (Some e) = 1
+
+-- the closures that groups make, and the procedures
+abbrev pub closures_in : List Code → ℕ
+closures_in [] = 0
+closures_in (c ∷ codes) = jumped c.entry + (grouped c.instructions + closures_in codes)
+
+-- what there is to do in a body, with its closures and the jump over it
+abbrev pub code_work : Code → ℕ
+code_work c = instructions_size c.instructions + grouped c.instructions + jumped c.entry
+
+-- the same of all bodies of a program
+abbrev pub program_work : Source → ℕ
+program_work p = program_size p + closures_in p.bodies

@@ -8,10 +8,11 @@ ghost use Rattle.sch_control.specs.ProgramView as control;
 ghost use Rattle.sch_control.specs.Sizes.{expressions_size};
 ghost use Rattle.sch_control.specs.SourceView as control_bodies;
 ghost use Rattle.sch_control.specs.Straight as control_straight;
+ghost use Rattle.sch_control.specs.Work.{codes_work};
 ghost use Rattle.sch_frames.specs.CallFree.{code_begins, each_begins, is_call_free_code, is_call_free_program};
 ghost use Rattle.sch_frames.specs.Does.{FramesOf, SameRuns};
 ghost use Rattle.sch_frames.specs.ProgramView.{source};
-ghost use Rattle.sch_frames.specs.Sizes.{calls_parts, codes_size, entries_size, largest_frame, most_words, program_size};
+ghost use Rattle.sch_frames.specs.Sizes.{calls_parts, closures_in, codes_size, entries_size, largest_frame, most_words, program_size, program_work};
 ghost use Rattle.sch_frames.specs.SourceView.{codes_of};
 ghost use Rattle.sch_frames.specs.Straight.{is_straight_code, is_straight_program};
 
@@ -33,6 +34,7 @@ fn frame_bodies(alloc: Global, bodies: &[Body]) -> Result<List<FrameBody>, Mem>
     ensures size { IfOk result (λ made. codes_size (codes_of made)
         ≤ 2 * expressions_size (control_bodies.codes_of bodies.now) + 4 * calls_parts (control_bodies.codes_of bodies.now)
         + entries_size (control_bodies.codes_of bodies.now)) }
+    ensures work { IfOk result (λ made. codes_size (codes_of made) + closures_in (codes_of made) ≤ codes_work (control_bodies.codes_of bodies.now)) }
     ensures words { IfOk result (λ made. largest_frame (codes_of made) ≡ most_words (control_bodies.codes_of bodies.now)) }
 {
     let mut made = List::new(alloc);
@@ -63,6 +65,8 @@ pub fn frame_program(alloc: Global, p: &ControlProgram) -> Result<FrameProgram, 
         ≤ 2 * expressions_size (control_bodies.codes_of p.now.bodies) + entries_size (control_bodies.codes_of p.now.bodies)) }
     ensures straight_size { IfOk result (λ q. IsTrue (control_straight.is_straight_program (control.source p.now))
         → program_size (source q) ≤ 2 * expressions_size (control_bodies.codes_of p.now.bodies)) }
+    // With its closures and the jumps over its procedures, there is no more to do than is counted of `p`.
+    ensures work { IfOk result (λ q. program_work (source q) ≤ codes_work (control.source p.now).bodies) }
     ensures words { IfOk result (λ q. q.words ≡ most_words (control_bodies.codes_of p.now.bodies)) }
 {
     let bodies = frame_bodies(alloc, p.bodies.as_slice())?;

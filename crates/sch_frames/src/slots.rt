@@ -9,7 +9,8 @@ ghost use Rattle.sch_frames.specs.CallFree.{code_begins, is_call_free_code};
 ghost use Rattle.sch_frames.specs.Does.{FrameOf};
 ghost use Rattle.sch_frames.specs.Layout.{entering, is_entered, labels, lay, most_operands, own_slots, slots_base, slots_words};
 ghost use Rattle.sch_control.specs.Sizes.{expression_size};
-ghost use Rattle.sch_frames.specs.Sizes.{call_parts, entry_size, instructions_size, nodes};
+ghost use Rattle.sch_control.specs.Work as control_work;
+ghost use Rattle.sch_frames.specs.Sizes.{call_parts, code_work, entry_size, instructions_size, nodes};
 ghost use Rattle.sch_frames.specs.SourceView.{code_of};
 ghost use Rattle.sch_frames.specs.Straight.{is_straight_code};
 ghost use Rattle.sch_frames.specs.Valid.{formals_of};
@@ -132,6 +133,8 @@ pub fn frame_slots(alloc: Global, b: &Body) -> Result<FrameBody, Mem>
         ≤ 3 * nodes (expression b.now.exp) + 2 * call_parts (expression b.now.exp) + (formals_of b.now.entry + 2)) }
     ensures work { IfOk result (λ f. instructions_size f.instructions
         ≤ 2 * expression_size (expression b.now.exp) + 4 * call_parts (expression b.now.exp) + entry_size b.now.entry) }
+    // With its closures and the jump over it, there is no more to do than is counted of the body.
+    ensures all_work { IfOk result (λ f. code_work (code_of f) ≤ control_work.code_work (control.code_of b.now)) }
     ensures labels { IfOk result (λ f. f.labels ≤ 2 * nodes (expression b.now.exp)) }
 {
     let room = room_for(b);

@@ -17,8 +17,7 @@ use Rattle.sch_control.specs.Tree as to
 use Rattle.sch_control.specs.Tree.{Expression}
 use Rattle.sch_control.specs.Run as control
 use Rattle.sch_control.specs.Sizes.{expression_size, expressions_size}
-use Rattle.sch_control.specs.Weights.{weight_of}
-use Rattle.sch_word.specs.trees.Shape as shapes
+use Rattle.sch_control.specs.Work.{code_work}
 use Rattle.sch_normal.specs.Counted.{most_variables, bind_within}
 use Rattle.sch_normal.specs.Dropped.{dropped_in}
 use Rattle.sch_normal.specs.Weight.{weight}
@@ -76,9 +75,6 @@ two_dropped = refl
 nested_sets : expression_size (normal [] false (cell_set (flat.bound 0) (cell_set (flat.bound 0) (number 1))) ((0, 2) ∷ []) 3) ≡ 7
 nested_sets = refl
 
-weights : map weight_of (shapes.new_cells 2 ∷ shapes.make_closure (record { label = 0; fields = 2 }) ∷ shapes.fix_closures 1 (record { label = 0; fields = 2 } ∷ []) ∷ shapes.branch ∷ shapes.sequence 0 0 ∷ shapes.sequence 1 0 ∷ shapes.cell_set ∷ []) ≡ 6 ∷ 5 ∷ 3 ∷ 0 ∷ 4 ∷ 0 ∷ 4 ∷ []
-weights = refl
-
 -- ## (define f (lambda (x) (display x))) (f (car (cons -8 8)))
 
 abbrev two_forms : flat.Source
@@ -114,5 +110,13 @@ within_row = refl
 too_few_row : bind_within (normal_source two_forms).bodies (1 ∷ 1 ∷ 2 ∷ []) ≡ false
 too_few_row = refl
 
-size_row : (expressions_size (normal_source two_forms).bodies ∷ weight two_forms ∷ []) ≡ 21 ∷ 33 ∷ []
+size_row : expressions_size (normal_source two_forms).bodies ≡ 21
 size_row = refl
+
+-- the first form is a closure that is bound, set and ends; its procedure is entered, displays its formal and returns it;
+-- the second form binds a pair, what it takes of it, and the operator
+work_row : map code_work (normal_source two_forms).bodies ≡ 5 ∷ 7 ∷ 18 ∷ []
+work_row = refl
+
+weight_row : weight two_forms ≡ 39
+weight_row = refl

@@ -5,3 +5,4 @@ pub mod StraightKept
 pub mod Size
 pub mod BindNoMore
 pub mod CallFreeKept
+pub mod WorkKept

@@ -1,5 +1,5 @@
 -- The turns of the loops that note what is bound at each site.
-use Rattle.std.proofs.Common.{◌≡◌, ℕ, zero, suc, ◌+◌, ◌-◌, ◌<◌, ◌≤◌, ◌^◌, Bool, true, false, List, [], ◌∷◌, ◌++◌, length, map, take, drop, replicate, get_or, set, refl, sym, ap, ◌∙◌, subst, arith, add-one, append_assoc, append-nil}
+use Rattle.std.proofs.Common.{◌≡◌, ℕ, zero, suc, ◌+◌, ◌-◌, ◌<◌, ◌≤◌, Bool, true, false, List, [], ◌∷◌, ◌++◌, length, map, take, drop, replicate, get_or, set, refl, sym, ap, ◌∙◌, subst, arith, add-one, append_assoc, append-nil}
 use Rattle.std.specs.Prelude.{nat_eq}
 use Rattle.std.proofs.lemmas.Bool.{eq-eqb, eqb-true}
 use Rattle.std.proofs.lemmas.List.{drop_all}
@@ -9,59 +9,13 @@ use Rattle.sch_word.specs.runs.Orders.{order_or_none}
 use Rattle.sch_word.proofs.Walking.{next_left}
 use Rattle.sch_flat.specs.declared.tree.Exp.{Exp}
 use Rattle.sch_flat.specs.declared.tree.Body as body
-use Rattle.sch_flat.specs.Tree.{Tree, Trees, Body, Source, constant, literal, variable, bound, free, global, set_global, define, branch, sequence, bind, make_closure, fix_closures, call, operation, new_cells, cell_get, cell_set, no_trees, and_tree, count}
-use Rattle.sch_flat.specs.Measures.{program_size}
+use Rattle.sch_flat.specs.Tree.{Tree, Trees, Body, constant, literal, variable, global, set_global, define, branch, sequence, bind, make_closure, fix_closures, call, operation, new_cells, cell_get, cell_set, no_trees, and_tree, count}
 use Rattle.sch_flat.specs.View as view
 use Rattle.sch_flat.specs.View.{tree, trees_of}
 use Rattle.sch_flat.proofs.Rows.{trees_of_list}
 use Rattle.sch_normal.specs.Normal.{bound_places, operator_place, bound_rows, bound_rows_each, bound_rows_bodies}
-use Rattle.sch_simple.specs.Placed.{size, size_each, size_bodies, placed, placed_each, placed_bodies}
+use Rattle.sch_simple.specs.Placed.{placed, placed_each, placed_bodies}
 use Rattle.sch_normal.proofs.Items.{left}
-
--- ## Sizes
-
-some_size : (e : Tree) → 1 ≤ size e
-some_size (constant c) = omega arith
-some_size (literal k) = omega arith
-some_size (variable (bound x)) = omega arith
-some_size (variable (free k)) = omega arith
-some_size (global g) = omega arith
-some_size (set_global g e) = omega arith
-some_size (define g e) = omega arith
-some_size (branch a b c) = omega arith
-some_size (sequence es) = omega arith
-some_size (bind site first es e) = omega arith
-some_size (make_closure m) = omega arith
-some_size (fix_closures first ms e) = omega arith
-some_size (call site spread f es) = omega arith
-some_size (operation site which es) = omega arith
-some_size (new_cells cs e) = omega arith
-some_size (cell_get v) = omega arith
-some_size (cell_set v e) = omega arith
-
-few_left : (items : List Exp) → length items ≤ size_each (left items)
-few_left [] = omega arith
-few_left (e ∷ items) = let h = few_left items in let k = some_size (tree e) in omega (arith, h, k)
-
--- no more items than nodes
-pub few_items : (items es : List Exp) → items ≡ es → length items ≤ size_each (trees_of es)
-few_items items es same = subst (λ ts. length items ≤ size_each ts) (sym (trees_of_list items) ∙ ap trees_of same) (few_left items)
-
-one_left : (items : List Exp) (k : ℕ) (e : Exp) → k < length items → e ≡ get_or items k e → size (tree e) ≤ size_each (left items)
-one_left [] k e l is = absurd (omega (arith, l))
-one_left (x ∷ items) zero e l is = let p = ap (λ y. size (tree y)) is in omega (arith, p)
-one_left (x ∷ items) (suc k) e l is = let h = one_left items k e (omega (arith, l)) is in omega (arith, h)
-
--- an item is no larger than all
-pub one_of : (items es : List Exp) (limit k : ℕ) (e : Exp) → items ≡ es → size_each (trees_of es) < limit → k < length items → e ≡ get_or items k e → size (tree e) < limit
-one_of items es limit k e same few l is =
-    let h = subst (λ ts. size (tree e) ≤ size_each ts) (sym (trees_of_list items) ∙ ap trees_of same) (one_left items k e l is) in
-    omega (arith, h, few)
-
-pub one_body : (items : List body.Body) (limit k : ℕ) (b : body.Body) → size_bodies (map view.body items) < limit → k < length items → b ≡ get_or items k b → size (tree b.code) < limit
-one_body [] limit k b few l is = absurd (omega (arith, l))
-one_body (x ∷ items) limit zero b few l is = let p = ap (λ (y : body.Body). size (tree y.code)) is in omega (arith, p, few)
-one_body (x ∷ items) limit (suc k) b few l is = one_body items limit k b (omega (arith, few)) (omega (arith, l)) is
 
 -- ## Places
 
@@ -212,10 +166,3 @@ pub bound_is : (bodies : List Body) (forms : Trees) (n : ℕ) → placed_bodies 
 bound_is bodies forms n =
     bodies_are bodies (placed_each forms (replicate n [])) ∙ ap (noted (bound_rows_bodies bodies)) (each_is forms (replicate n []))
     ∙ sym (noted_append (bound_rows_bodies bodies) (bound_rows_each forms) (replicate n [])) ∙ noted_is (bound_rows_bodies bodies ++ bound_rows_each forms) n
-
-module _ (p : Source) (few : program_size p < 2 ^ 32) where
-  pub small_bodies : size_bodies p.bodies < 2 ^ 32
-  small_bodies = omega (arith, few)
-
-  pub small_forms : size_each p.forms < 2 ^ 32
-  small_forms = omega (arith, few)

@@ -1,20 +1,8 @@
 -- What is bound at each site, as the walk finds it: from the end of a tree to its beginning.
-use Rattle.std.specs.Prelude.{ℕ, ◌+◌, List, [], ◌∷◌, slice_set}
+use Rattle.std.specs.Prelude.{ℕ, List, [], ◌∷◌, slice_set}
 use Rattle.sch_word.specs.trees.Bindings.{numbers}
-use Rattle.sch_word.specs.trees.Shape.{size_of}
 use Rattle.sch_flat.specs.Tree.{Tree, Trees, Body, constant, literal, variable, global, set_global, define, branch, sequence, bind, make_closure, fix_closures, call, operation, new_cells, cell_get, cell_set, no_trees, and_tree, count}
-use Rattle.sch_flat.specs.Measures.{over, over_each, over_bodies}
 use Rattle.sch_normal.specs.Normal.{bound_places, operator_place}
-
--- how many nodes a tree has, and variables that it binds
-abbrev pub size : Tree → ℕ
-size = over 0 (λ a b. a + b) size_of
-
-abbrev pub size_each : Trees → ℕ
-size_each = over_each 0 (λ a b. a + b) size_of
-
-abbrev pub size_bodies : List Body → ℕ
-size_bodies = over_bodies 0 (λ a b. a + b) size_of
 
 -- the parts that are bound at each site of a tree, in a table by site
 abbrev mutual

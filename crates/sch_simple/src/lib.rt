@@ -1,8 +1,7 @@
 //! Which parts of a flat program need no variable of their own, and which are bound at each of its sites.
 #![tactic(auto)]
 
-ghost use Rattle.std.specs.Prelude.{◌≡◌, ◌<◌, ◌^◌, IfOk};
-ghost use Rattle.sch_flat.specs.Measures.{program_size};
+ghost use Rattle.std.specs.Prelude.{◌≡◌, IfOk};
 ghost use Rattle.sch_flat.specs.ProgramView.{source};
 ghost use Rattle.sch_normal.specs.Normal as normal;
 
@@ -15,9 +14,9 @@ use sch_word::{List, Mem};
 pub use simple::{is_simple, needs_variable};
 use std::alloc::Global;
 
-/// The numbers of the parts that are bound at each site of `p`, in the order in which they are bound.
+/// The numbers of the parts that are bound at each site of `p`, in the order in which they are bound. A site of
+/// 2^32 - 1 parts or more is answered as out of memory.
 pub fn bound_parts(alloc: Global, p: &FlatProgram) -> Result<List<List<u32>>, Mem>
-    requires { program_size (source p.now) < 2 ^ 32 }
     ensures { IfOk result (λ bound. bound ≡ normal.bound_parts (source p.now)) }
 {
     let mut bound = nothing_bound(alloc, p.sites.len())?;

@@ -1,11 +1,11 @@
 //! Which parts are bound at each site of a program.
 
-ghost use Rattle.std.specs.Prelude.{◌≡◌, ◌+◌, ◌++◌, ◌<◌, ◌^◌, ℕ, suc, [], List, map, replicate, slice_set, IfOk, OnOk};
+ghost use Rattle.std.specs.Prelude.{◌≡◌, ◌+◌, ◌++◌, ℕ, [], List, map, replicate, slice_set, IfOk, OnOk};
 ghost use Rattle.sch_word.specs.trees.Bindings.{numbers};
 ghost use Rattle.sch_flat.specs.Tree.{and_tree, count, no_trees};
 ghost use Rattle.sch_flat.specs.View.{body, tree, trees_of};
 ghost use Rattle.sch_normal.specs.Normal as normal;
-ghost use Rattle.sch_simple.specs.Placed.{placed, placed_bodies, placed_each, size, size_bodies, size_each};
+ghost use Rattle.sch_simple.specs.Placed.{placed, placed_bodies, placed_each};
 
 use crate::simple::is_simple;
 use sch_flat::{Body, Exp};
@@ -31,22 +31,40 @@ fn add_place(place: u32, e: &Exp, all: &mut List<u32>) -> Result<(), Mem>
     all.push(place)
 }
 
+// The place behind one. Past the numbers of 32 bits it is out of memory.
+fn next_place(place: u32) -> Result<u32, Mem>
+    ensures { IfOk result (λ n. n ≡ place + 1) }
+{
+    match place.checked_add(1) {
+        Some(next) => Ok(next),
+        None => Err(Mem),
+    }
+}
+
+// A place as a number of 32 bits, if it is one; else it is out of memory.
+fn place_number(place: usize) -> Result<u32, Mem>
+    ensures { IfOk result (λ n. n ≡ place) }
+{
+    match u32::try_from(place) {
+        Ok(number) => Ok(number),
+        Err(_) => Err(Mem),
+    }
+}
+
 // Adds the places of the parts that are not simple, from one on.
 fn add_places(first: u32, es: &List<Exp>, all: &mut List<u32>) -> Result<(), Mem>
-    requires { first + size_each (trees_of es.now) < 2 ^ 32 }
     ensures { OnOk result ((last : List ℕ) → all.new ++ last ≡ all.old ++ normal.bound_places first (trees_of es.now) last) }
 {
     let mut place = first;
     for e in es.as_slice() {
         add_place(place, e, all)?;
-        place += 1;
+        place = next_place(place)?;
     }
     Ok(())
 }
 
 // The parts of an operation that are bound.
 fn operation_places(alloc: Global, es: &List<Exp>) -> Result<List<u32>, Mem>
-    requires { size_each (trees_of es.now) < 2 ^ 32 }
     ensures { IfOk result (λ all. all ≡ normal.bound_places 0 (trees_of es.now) []) }
 {
     let mut all = List::new(alloc);
@@ -56,7 +74,6 @@ fn operation_places(alloc: Global, es: &List<Exp>) -> Result<List<u32>, Mem>
 
 // The parts of a call that are bound. The operator is the last.
 fn call_places(alloc: Global, f: &Exp, es: &List<Exp>) -> Result<List<u32>, Mem>
-    requires { suc (size_each (trees_of es.now)) < 2 ^ 32 }
     ensures { IfOk result (λ all. all ≡ normal.bound_places 1 (trees_of es.now) (normal.operator_place (tree f.now))) }
 {
     let mut all = List::new(alloc);
@@ -67,12 +84,11 @@ fn call_places(alloc: Global, f: &Exp, es: &List<Exp>) -> Result<List<u32>, Mem>
 
 // All parts of a binding.
 fn init_places(alloc: Global, es: &List<Exp>) -> Result<List<u32>, Mem>
-    requires { size_each (trees_of es.now) < 2 ^ 32 }
     ensures { IfOk result (λ all. all ≡ numbers 0 (count (trees_of es.now))) }
 {
     let mut all = List::new(alloc);
     for place in 0..es.len() {
-        all.push(place as u32)?;
+        all.push(place_number(place)?)?;
     }
     Ok(all)
 }
@@ -80,7 +96,6 @@ fn init_places(alloc: Global, es: &List<Exp>) -> Result<List<u32>, Mem>
 /// Notes which parts of an expression are bound at each of its sites.
 #[cycle(placing)]
 fn place_expression(alloc: Global, e: &Exp, bound: &mut Vec<List<u32>>) -> Result<(), Mem>
-    requires { size (tree e.now) < 2 ^ 32 }
     ensures { OnOk result (bound.new.items ≡ placed (tree e.now) bound.old.items) }
 {
     match e {
@@ -138,7 +153,6 @@ pub(crate) fn place_each(
     es: &List<Exp>,
     bound: &mut Vec<List<u32>>,
 ) -> Result<(), Mem>
-    requires { size_each (trees_of es.now) < 2 ^ 32 }
     ensures { OnOk result (bound.new.items ≡ placed_each (trees_of es.now) bound.old.items) }
 {
     let items = es.as_slice();
@@ -167,7 +181,6 @@ pub(crate) fn place_bodies(
     bodies: &[Body],
     bound: &mut Vec<List<u32>>,
 ) -> Result<(), Mem>
-    requires { size_bodies (map body bodies.now) < 2 ^ 32 }
     ensures { OnOk result (bound.new.items ≡ placed_bodies (map body bodies.now) bound.old.items) }
 {
     let mut left = bodies.len();

@@ -4,25 +4,27 @@ use Rattle.sch_flat.specs.ProgramView.{source}
 use Rattle.sch_flat.specs.View.{body, trees_of}
 use Rattle.sch_control.specs.Valid.{all_known, bound_known, library_known, sites_once, statics_known}
 use Rattle.sch_normal.specs.Normal.{new_label, normal_bodies}
-use Rattle.sch_anf.proofs.ProgramMade.{Given, given, library_fits, made_program}
+use Rattle.sch_anf.proofs.ProgramMade.{Given, few_bodies, given, library_fits, made_program}
 use Rattle.sch_normal.proofs.valid.ValidProgram as valid
 use Rattle.sch_anf.proofs.normal_program.Goals as goal
 
 pub normalize_bodies-requires : goal.normalize_bodies-requires
 normalize_bodies-requires c =
     let p = c.args.p.now in
+    let few = few_bodies p.starts c.as_slice-starts.result.now p.bodies c.as_slice-flat_bodies.result.now c.as_slice-starts.ensures c.as_slice-flat_bodies.ensures c.in_ok-check_labels.ensures in
     let g : Given c.as_slice-starts.result.now c.as_slice-flat_bodies.result.now p.forms =
-    given c.as_slice-starts.result.now c.as_slice-flat_bodies.result.now p.forms (source p) (sym c.as_slice-starts.ensures) (ap (map body) (sym c.as_slice-flat_bodies.ensures)) refl c.requires.few p.closed p.formed p.ordered p.sited p.ready p.words in
+    given c.as_slice-starts.result.now c.as_slice-flat_bodies.result.now p.forms (source p) (sym c.as_slice-starts.ensures) (ap (map body) (sym c.as_slice-flat_bodies.ensures)) refl few p.closed p.formed p.ordered p.sited p.ready p.words in
     record { sorted = g.sorted; starts = g.starts_match; ascends = g.ascends; bodies = g.bodies_fit; forms = g.forms_fit; valid = g.valid }
 
 pub new_labels-requires : goal.new_labels-requires
 new_labels-requires c =
     let p = c.args.p.now in
-    let g = given p.starts p.bodies p.forms (source p) refl refl refl c.requires.few p.closed p.formed p.ordered p.sited p.ready p.words in
+    let few = few_bodies p.starts c.as_slice-starts.result.now p.bodies c.as_slice-flat_bodies.result.now c.as_slice-starts.ensures c.as_slice-flat_bodies.ensures c.in_ok-check_labels.ensures in
+    let g = given p.starts p.bodies p.forms (source p) refl refl refl few p.closed p.formed p.ordered p.sited p.ready p.words in
     record {
       sorted = subst IsNonDecreasing (sym c.as_slice-starts.ensures) g.sorted;
       few = subst (λ starts. (k : ℕ) → k < length c.as_slice.result.now → get_or c.as_slice.result.now k 0 + length starts < 2 ^ 32) (sym c.as_slice-starts.ensures)
-          (subst (λ labels. (k : ℕ) → k < length labels → get_or labels k 0 + length p.starts < 2 ^ 32) (sym c.as_slice.ensures) (library_fits (source p) c.requires.few p.closed p.ordered));
+          (subst (λ labels. (k : ℕ) → k < length labels → get_or labels k 0 + length p.starts < 2 ^ 32) (sym c.as_slice.ensures) (library_fits (source p) few p.closed p.ordered));
     }
 
 pub returns : goal.returns

@@ -3,6 +3,7 @@ use Rattle.sch_word.proofs.WhenOk.{if_ok}
 use Rattle.sch_flat.specs.ProgramView.{source}
 use Rattle.sch_control.specs.Fits.{table_fits}
 use Rattle.sch_control.specs.Sizes.{expressions_size}
+use Rattle.sch_control.specs.Work.{codes_work}
 use Rattle.sch_flat.specs.Measures.{program_size}
 use Rattle.sch_normal.specs.Kept.{SameCalls, StaysCallFree, StaysStraight}
 use Rattle.sch_normal.specs.Normal.{normal_source}
@@ -18,7 +19,8 @@ use Rattle.sch_normal.specs.Dropped.{dropped_of}
 use Rattle.sch_normal.specs.Weight.{weight}
 use Rattle.sch_normal.proofs.kept.BindNoMore.{program_binds}
 use Rattle.sch_normal.proofs.kept.DroppedKept.{program_dropped}
-use Rattle.sch_normal.proofs.kept.Size.{straight_size, program_weight}
+use Rattle.sch_normal.proofs.kept.Size.{straight_size}
+use Rattle.sch_normal.proofs.kept.WorkKept.{program_weight}
 use Rattle.sch_orders.proofs.Table.{given_table_fits}
 use Rattle.sch_normal.proofs.kept.TestsKept.{program_tests}
 use Rattle.sch_normal.proofs.valid.ValidProgram.{bound_known}
@@ -69,7 +71,7 @@ pub returns-clause-variables : goal.returns-clause-variables
 returns-clause-variables c =
     if_ok c.normal_program.result _ _ c.normal_program.ensures (λ q made. subst (λ s. BindNoMore (source c.args.p.now) s) (sym made) (program_binds (source c.args.p.now)))
 
-pub returns-clause-weight : goal.returns-clause-weight
-returns-clause-weight c =
+pub returns-clause-work : goal.returns-clause-work
+returns-clause-work c =
     if_ok c.normal_program.result _ _ c.normal_program.ensures
-    (λ q made. subst (λ s. expressions_size s.bodies ≤ weight (source c.args.p.now)) (sym made) (program_weight (source c.args.p.now)))
+    (λ q made. subst (λ s. codes_work s.bodies ≤ weight (source c.args.p.now)) (sym made) (program_weight (source c.args.p.now)))

@@ -1,4 +1,4 @@
-use Rattle.std.proofs.Common.{◌+◌, ◌∙◌, ℕ, ◌*◌, ◌≤◌, IsTrue, length, sym, subst, ap}
+use Rattle.std.proofs.Common.{◌∙◌, ℕ, ◌*◌, ◌≤◌, IsTrue, length, sym, subst, ap}
 use Rattle.sch_word.proofs.WhenOk.{if_ok}
 use Rattle.sch_word.specs.runs.Runs.{SameRuns}
 use Rattle.sch_cells.specs.CallFree.{is_call_free_program}
@@ -18,7 +18,6 @@ use Rattle.sch_assign.proofs.kept.MeasuresKept.{calls_kept, tests_kept, dropped_
 use Rattle.sch_assign.proofs.kept.SizeKept.{program_size_kept}
 use Rattle.sch_assign.proofs.kept.WeightKept.{program_weight}
 use Rattle.sch_assign.specs.Weight.{weight}
-use Rattle.sch_cells.specs.Recursive.{recursive_of}
 use Rattle.sch_assign.specs.SameTrees.{SameTrees}
 use Rattle.sch_assign.proofs.kept.StraightKept.{trees_kept}
 use Rattle.sch_assign.proofs.kept.ValidKept.{sites_kept}
@@ -102,7 +101,7 @@ returns-clause-weight c =
     let same = λ (y : ℕ). ap (λ bs. table bs y) c.as_slice.ensures.value ∙ c.in_ok-celled.ensures y in
     let r = program_right has_cell (source v) same v.scoped v.formed in
     if_ok c.convert_program.result _ _ c.convert_program.ensures
-    (λ q made. subst (λ s. weight s ≤ 4 * program_size (source v) + 7 * recursive_of (source v)) (sym made) (program_weight has_cell v.variables (source v) r))
+    (λ q made. subst (λ s. weight s ≤ 7 * program_size (source v)) (sym made) (program_weight has_cell v.variables (source v) r))
 
 pub returns-clause-call_free : goal.returns-clause-call_free
 returns-clause-call_free c =

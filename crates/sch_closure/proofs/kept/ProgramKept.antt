@@ -12,13 +12,13 @@ use Rattle.sch_cells.specs.Measures as from
 use Rattle.sch_cells.specs.Measures.{shape}
 use Rattle.sch_cells.specs.Variables.{free}
 use Rattle.sch_control.specs.Weights as weights
-use Rattle.sch_control.specs.Weights.{weight_of, free_of}
+use Rattle.sch_control.specs.Weights.{all_entered, entered, free_of, procedures_weight, weight_of}
 use Rattle.sch_flat.specs.Tree as flat
 use Rattle.sch_flat.specs.Measures as to
 use Rattle.sch_closure.specs.Closed as closing
 use Rattle.sch_closure.specs.Closed.{place, place_from, placed, made_each, procedures, procedures_each, procedures_lambdas, fields_of, closed, closed_each, body_of, all_procedures, all_of_each, all_of_lambdas, closed_source}
 use Rattle.sch_closure.specs.Fresh.{Fresh, FreshEach, FreshLambdas}
-use Rattle.sch_closure.specs.Kept.{SameItems, SameWeight, procedure_of, procedures_in, forms_in, flat_forms}
+use Rattle.sch_closure.specs.Kept.{SameItems, procedure_of, procedures_in, forms_in, flat_forms, weight_after, weight_before}
 use Rattle.sch_closure.proofs.kept.CountsKept.{same_source, same_alone, sum_per}
 use Rattle.sch_closure.proofs.kept.FormedKept.{own, own_lambdas}
 use Rattle.sch_closure.proofs.Same.{places_length, made_length, none_within}
@@ -161,26 +161,38 @@ fields_weight : (ls : Lambdas) (fs : List ℕ) (n : ℕ) → weights.fields_of (
 fields_weight no_lambdas fs n = refl
 fields_weight (and_lambda name x m rest e ls) fs n = omega (arith, fields_weight ls fs (suc n + procedures e), places_length (place fs) (fields_of x m e))
 
-weight_node : (e : Tree) (fs : List ℕ) (n : ℕ) → Fresh e fs → weight_of (shape e) ≡ weight_of (to.shape (closed e fs n))
-weight_node (constant c) fs n f = refl
-weight_node (literal i) fs n f = refl
-weight_node (variable x) fs n f = field_same weight_of fs 0 x refl
-weight_node (global g) fs n f = refl
+-- what a body weighs beside its nodes
+abbrev body_weight : flat.Body → ℕ
+body_weight b = entered b.formals
+
+weights_are : (bs : List flat.Body) → all_entered (map (λ b. b.formals) bs) ≡ sum_per body_weight bs
+weights_are [] = refl
+weights_are (b ∷ bs) = rw (weights_are bs) refl
+
+lambdas_weight : (ls : Lambdas) (n : ℕ) → procedures_weight (bodies.procedures ls) ≡ sum_per body_weight (own_lambdas ls n)
+lambdas_weight no_lambdas n = refl
+lambdas_weight (and_lambda name x m rest e ls) n = rw (lambdas_weight ls (suc n + procedures e)) refl
+
+weight_node : (e : Tree) (fs : List ℕ) (n : ℕ) → Fresh e fs → weight_of (shape e) ≡ weight_of (to.shape (closed e fs n)) + sum_per body_weight (own e n)
+weight_node (constant c) fs n f = omega arith
+weight_node (literal i) fs n f = omega arith
+weight_node (variable x) fs n f = omega (arith, field_same weight_of fs 0 x refl)
+weight_node (global g) fs n f = omega arith
 weight_node (set_variable x e) fs n f = absurd f
-weight_node (set_global g e) fs n f = refl
-weight_node (define g e) fs n f = refl
-weight_node (branch a b c) fs n f = refl
-weight_node (sequence no_trees) fs n f = refl
-weight_node (sequence (and_tree e es)) fs n f = refl
-weight_node (bind site x es e) fs n f = refl
-weight_node (fix x ls e) fs n f = omega (arith, fields_weight ls fs n)
+weight_node (set_global g e) fs n f = omega arith
+weight_node (define g e) fs n f = omega arith
+weight_node (branch a b c) fs n f = omega arith
+weight_node (sequence no_trees) fs n f = omega arith
+weight_node (sequence (and_tree e es)) fs n f = omega (arith, counts es fs (n + procedures e))
+weight_node (bind site x es e) fs n f = omega (arith, counts es fs n)
+weight_node (fix x ls e) fs n f = omega (arith, fields_weight ls fs n, made_length ls fs n, lambdas_weight ls n)
 weight_node (letrec site x es e) fs n f = absurd f
 weight_node (lambda name x m rest e) fs n f = omega (arith, places_length (place fs) (fields_of x m e))
-weight_node (call site spread g es) fs n f = refl
-weight_node (operation site which es) fs n f = refl
+weight_node (call site spread g es) fs n f = omega (arith, counts es fs (n + procedures g))
+weight_node (operation site which es) fs n f = omega (arith, counts es fs n)
 weight_node (new_cells cs e) fs n f = omega (arith, places_length (placed fs) cs)
-weight_node (cell_get x) fs n f = refl
-weight_node (cell_set x e) fs n f = refl
+weight_node (cell_get x) fs n f = omega arith
+weight_node (cell_set x e) fs n f = omega arith
 
 -- ## Bodies
 
@@ -253,8 +265,15 @@ module _ (p : Source) (fl : FreshLambdas p.library) (f : FreshEach p.forms []) w
         counts p.forms [] (procedures_lambdas p.library),
       )
 
-  pub weight_kept : SameWeight p (closed_source p)
-  weight_kept = same_alone 0 (λ a b. a + b) (λ k. k) refl (λ a b. refl) (λ e. weight_of (shape e)) weight_of weight_node p fl f
+  pub weight_kept : weight_after (closed_source p) ≡ weight_before p
+  weight_kept =
+      omega (
+        arith,
+        same_source 0 (λ a b. a + b) (λ k. k) refl (λ a b. refl) body_weight (λ e. weight_of (shape e)) weight_of weight_node p fl f,
+        weights_are (closed_source p).bodies,
+        lambdas_weight p.library 0,
+        counts p.forms [] (procedures_lambdas p.library),
+      )
 
   pub bodies_kept : map procedure_of (closed_source p).bodies ≡ procedures_in p
   bodies_kept = lists (all_of_lambdas body_of p.library 0) _ _ _ (lambdas_list p.library 0 fl) (each_list p.forms [] (procedures_lambdas p.library) f)

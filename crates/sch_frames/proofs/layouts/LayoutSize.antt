@@ -26,7 +26,7 @@ use Rattle.sch_frames.specs.Sizes.{instruction_size, instructions_size, entry_si
 module _ (place : ℕ → Place) where
   -- ## Operations
 
-  operand_kept : (o : Operand ℕ) → operand_size (operand_at place o) ≡ operand_size o
+  pub operand_kept : (o : Operand ℕ) → operand_size (operand_at place o) ≡ operand_size o
   operand_kept (operand.Atom a) = refl
   operand_kept (operand.Read site which atoms) = ap suc (length-map atoms (atom_at place))
 
@@ -42,7 +42,7 @@ module _ (place : ℕ → Place) where
   sources_kept [] = refl
   sources_kept (s ∷ sources) = ap suc (sources_kept sources)
 
-  operation_kept : (o : Operation ℕ) → operation_size (operation_at place o) ≡ operation_size o
+  pub operation_kept : (o : Operation ℕ) → operation_size (operation_at place o) ≡ operation_size o
   operation_kept (operation.Operand o) = operand_kept o
   operation_kept (operation.Prim site which operands) = operands_kept operands
   operation_kept (operation.Global g) = refl
@@ -54,7 +54,7 @@ module _ (place : ℕ → Place) where
   operation_kept (operation.CellSet c o) = ap suc (atoms_kept o)
   operation_kept (operation.MakeClosure c) = sources_kept c.fields
 
-  members_kept : (members : List (Member ℕ)) → length (member_atoms (members_at place members)) ≡ length (member_atoms members)
+  pub members_kept : (members : List (Member ℕ)) → length (member_atoms (members_at place members)) ≡ length (member_atoms members)
   members_kept [] = refl
   members_kept (m ∷ members) =
       let l = length-append (source_atoms (sources_at place m.closure.fields)) (member_atoms (members_at place members)) in

@@ -58,11 +58,11 @@ program bodies sites bound = record {
   bound = bound;
 }
 
-abbrev frame : control.Code → Code
+abbrev pub frame : control.Code → Code
 frame c = record { entry = c.entry; words = slots_words c; labels = labels c.expression; instructions = slots_layout c }
 
 -- the frame program of a program
-abbrev framed : control.Source → Source
+abbrev pub framed : control.Source → Source
 framed p = record { statics = p.statics; library = p.library; bodies = map frame p.bodies; words = most_words p.bodies }
 
 abbrev seen : List ℕ → (entries charged : ℕ) → runs_of.End → Option Run
@@ -80,7 +80,7 @@ both_valid p =
 
 -- (lambda (f x) (f (f x))): the operand is set aside in slot 5 and handed over; the return address is back behind
 -- the call that is not in tail position
-abbrev twice : control.Code
+abbrev pub twice : control.Code
 twice = lambda 2 0 5 (bind 4 (call (applied 0 2 (held_in 3 ∷ [])) []) (tail_call (applied 1 2 (held_in 4 ∷ []))))
 
 twice_layout : slots_layout twice ≡
@@ -115,7 +115,7 @@ tail_layout = refl
 -- ## Programs
 
 -- (display (f 7)), where f is (lambda (n) (- ((lambda () (- n 2))) n)): the inner call is not in tail position
-abbrev calling : control.Source
+abbrev pub calling : control.Source
 calling = program
     (form 4 (bind 2 (perform (operation.MakeClosure (record { label = 1; fields = [] }))) (bind 3 (call (applied 0 2 (number 7 ∷ [])) []) (end (perform (operation.Prim 1 Put (held_in 3 ∷ []))))))
     ∷ lambda 1 0 5 (bind 3 (perform (operation.MakeClosure (record { label = 2; fields = source.Atom (Variable 2) ∷ [] }))) (bind 4 (call (applied 2 3 []) []) (return (perform (operation.Prim 3 Subtract (held_in 4 ∷ held_in 2 ∷ []))))))
@@ -151,7 +151,7 @@ looping_valid : both_valid looping ≡ true
 looping_valid = refl
 
 -- a procedure is made, and is the same object as itself; none is entered
-abbrev call_free : control.Source
+abbrev pub call_free : control.Source
 call_free = program
     (form 3 (fix (record { at = 2; closure = record { label = 1; fields = source.Atom (Variable 2) ∷ [] } } ∷ [])
     (end (perform (operation.Prim 0 Put (operand.Read 1 Eq (Variable 2 ∷ Variable 2 ∷ []) ∷ [])))))

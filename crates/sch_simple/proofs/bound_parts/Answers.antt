@@ -1,15 +1,8 @@
-use Rattle.std.proofs.Common.{◌<◌, ◌^◌, ◌∙◌, [], length, map, replicate, ap, sym, subst}
-use Rattle.sch_flat.specs.ProgramView.{source}
+use Rattle.std.proofs.Common.{◌∙◌, [], length, map, replicate, ap}
 use Rattle.sch_flat.specs.View.{body, trees_of}
-use Rattle.sch_simple.specs.Placed.{size_bodies, placed_bodies, placed_each}
-use Rattle.sch_simple.proofs.PlacedLists.{bound_is, small_bodies, small_forms}
+use Rattle.sch_simple.specs.Placed.{placed_bodies, placed_each}
+use Rattle.sch_simple.proofs.PlacedLists.{bound_is}
 use Rattle.sch_simple.proofs.bound_parts.Goals as goal
-
-pub place_each-requires : goal.place_each-requires
-place_each-requires c = small_forms (source c.args.p.now) c.requires
-
-pub place_bodies-requires : goal.place_bodies-requires
-place_bodies-requires c = subst (λ bs. size_bodies (map body bs) < 2 ^ 32) (sym c.as_slice.ensures) (small_bodies (source c.args.p.now) c.requires)
 
 pub returns : goal.returns
 returns c =

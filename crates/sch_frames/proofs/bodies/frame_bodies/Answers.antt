@@ -2,7 +2,7 @@ use Rattle.sch_control.specs.CallFree as control_call_free
 use Rattle.sch_control.specs.Straight as control_straight
 use Rattle.sch_frames.specs.CallFree.{code_begins, is_call_free_code}
 use Rattle.sch_frames.specs.Straight.{is_straight_code}
-use Rattle.sch_frames.proofs.FrameBodies.{body_passes, frames_next, all_next, size_next, words_next}
+use Rattle.sch_frames.proofs.FrameBodies.{body_passes, frames_next, all_next, size_next, work_next, words_next}
 use Rattle.sch_frames.proofs.bodies.frame_bodies.Goals as goal
 
 pub loop-b-preserved : goal.loop-b-preserved
@@ -24,5 +24,6 @@ loop-b-preserved c =
       straight = λ s. all_next bodies i b here is made next f more is_straight_code (c.loop-b.invariant.straight s)
           (c.in_ok-frame_slots.ensures.straight (body_passes bodies i b here is control_straight.is_straight_code s));
       size = size_next bodies i b here is made next f more c.loop-b.invariant.size c.in_ok-frame_slots.ensures.work;
+      work = work_next bodies i b here is made next f more c.loop-b.invariant.work c.in_ok-frame_slots.ensures.all_work;
       words = words_next bodies i b here is made next f more c.loop-b.invariant.words c.in_ok-frame_slots.ensures.words;
     }

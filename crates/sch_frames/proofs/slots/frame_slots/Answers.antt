@@ -4,6 +4,7 @@ use Rattle.sch_control.specs.View.{expression}
 use Rattle.sch_frames.specs.Layout.{slots_layout}
 use Rattle.sch_frames.proofs.layouts.CallFreeSlots.{slots_begin}
 use Rattle.sch_frames.proofs.layouts.LayoutSize.{slots_size, slots_work, labels_size}
+use Rattle.sch_frames.proofs.layouts.LayoutWork.{slots_done}
 use Rattle.sch_frames.proofs.layouts.SettledSlots.{slots_call_free}
 use Rattle.sch_frames.proofs.layouts.SlotsFrame.{slots_placed, slots_does, slots_forward, slots_shaped}
 use Rattle.sch_frames.proofs.layouts.StraightSlots.{slots_straight}
@@ -52,6 +53,11 @@ pub returns-clause-work : goal.returns-clause-work
 returns-clause-work c =
     let i : c.in_ok-out.out.instructions ≡ slots_layout (control.code_of c.args.b.now) = layout_written (control.code_of c.args.b.now) _ _ _ _ c.room_for-room.ensures.base c.room_for-room.ensures.aside c.room_for-room.ensures.entered c.in_ok-out.ensures.instructions in
     rw i (slots_work (control.code_of c.args.b.now))
+
+pub returns-clause-all_work : goal.returns-clause-all_work
+returns-clause-all_work c =
+    let i : c.in_ok-out.out.instructions ≡ slots_layout (control.code_of c.args.b.now) = layout_written (control.code_of c.args.b.now) _ _ _ _ c.room_for-room.ensures.base c.room_for-room.ensures.aside c.room_for-room.ensures.entered c.in_ok-out.ensures.instructions in
+    rw i (slots_done (control.code_of c.args.b.now))
 
 pub returns-clause-labels : goal.returns-clause-labels
 returns-clause-labels c = rw c.in_ok-out.ensures.labels (labels_size (expression c.args.b.now.exp))

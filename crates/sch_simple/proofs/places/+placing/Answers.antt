@@ -1,6 +1,6 @@
-use Rattle.std.proofs.Common.{◌^◌, ap, arith}
+use Rattle.std.proofs.Common.{ap, arith}
 use Rattle.sch_simple.specs.Placed.{placed_each}
-use Rattle.sch_simple.proofs.PlacedLists.{each_back, each_whole, one_of}
+use Rattle.sch_simple.proofs.PlacedLists.{each_back, each_whole}
 use Rattle.sch_simple.proofs.places.+placing.Goals as goal
 
 pub place_each-loop-left-init : goal.place_each-loop-left-init
@@ -9,7 +9,6 @@ place_each-loop-left-init t c =
     record {
       placed = ap (λ ts. placed_each ts c.args.bound.now.items) (each_whole items);
       within = omega arith;
-      small = λ k e l is. one_of items c.args.es.now (2 ^ 32) k e c.as_slice-items.ensures c.requires l is;
     }
 
 pub place_each-loop-left-preserved : goal.place_each-loop-left-preserved
@@ -18,5 +17,4 @@ place_each-loop-left-preserved t c =
     record {
       placed = each_back c.as_slice-items.result.now c.loop-left.left c.index-items-left.result c.loop-left.bound.items c.place_expression.new.bound.items _ c.loop-left-test.true i.within c.index-items-left.is c.in_ok-place_expression.ensures i.placed;
       within = omega (arith, i.within);
-      small = i.small;
     }

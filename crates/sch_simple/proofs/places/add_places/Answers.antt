@@ -1,25 +1,18 @@
-use Rattle.std.proofs.Common.{◌++◌, ◌∙◌, ap, sym, refl, arith}
+use Rattle.std.proofs.Common.{◌++◌, ◌∙◌, ap, sym}
 use Rattle.sch_flat.specs.View.{trees_of}
 use Rattle.sch_flat.proofs.Rows.{trees_of_list}
 use Rattle.sch_normal.specs.Normal.{bound_places}
-use Rattle.sch_simple.proofs.PlacedLists.{few_items, places_turn, places_end}
+use Rattle.sch_simple.proofs.PlacedLists.{places_turn, places_end}
 use Rattle.sch_simple.proofs.places.add_places.Goals as goal
 
 pub loop-e-init : goal.loop-e-init
 loop-e-init c = record {
   places = λ last. ap (λ ts. c.args.all.now ++ bound_places c.args.first ts last) (sym (trees_of_list c.as_slice-e-items.result.now));
-  place = omega arith;
 }
-
-pub overflow_add-place : goal.overflow_add-place
-overflow_add-place c =
-    let n = few_items c.as_slice-e-items.result.now c.args.es.now c.as_slice-e-items.ensures in
-    omega (arith, n, c.requires, c.loop-e.invariant.place, c.loop-e-test.true)
 
 pub loop-e-preserved : goal.loop-e-preserved
 loop-e-preserved c = record {
-  places = places_turn c.as_slice-e-items.result.now c.loop-e.e-index c.e-item.result c.loop-e-test.true c.e-item.is c.loop-e.place _ c.loop-e.all _ _ refl c.in_ok-add_place.ensures c.loop-e.invariant.places;
-  place = omega (arith, c.loop-e.invariant.place);
+  places = places_turn c.as_slice-e-items.result.now c.loop-e.e-index c.e-item.result c.loop-e-test.true c.e-item.is c.loop-e.place _ c.loop-e.all _ _ c.in_ok-place.ensures c.in_ok-add_place.ensures c.loop-e.invariant.places;
 }
 
 pub returns : goal.returns

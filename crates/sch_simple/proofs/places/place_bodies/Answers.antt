@@ -1,14 +1,13 @@
-use Rattle.std.proofs.Common.{◌<◌, ◌^◌, ◌-◌, length, get_or, ap, arith}
+use Rattle.std.proofs.Common.{◌<◌, ◌-◌, length, get_or, ap, arith}
 use Rattle.std.proofs.lemmas.List.{get_or_default}
 use Rattle.sch_simple.specs.Placed.{placed_bodies}
-use Rattle.sch_simple.proofs.PlacedLists.{bodies_back, bodies_whole, one_body}
+use Rattle.sch_simple.proofs.PlacedLists.{bodies_back, bodies_whole}
 use Rattle.sch_simple.proofs.places.place_bodies.Goals as goal
 
 pub loop-left-init : goal.loop-left-init
 loop-left-init c = record {
   placed = ap (λ bs. placed_bodies bs c.args.bound.now.items) (bodies_whole c.args.bodies.now);
   within = omega arith;
-  small = λ k b l is. one_body c.args.bodies.now (2 ^ 32) k b c.requires l is;
 }
 
 pub loop-left-preserved : goal.loop-left-preserved
@@ -20,5 +19,4 @@ loop-left-preserved c =
     record {
       placed = bodies_back c.args.bodies.now c.loop-left.left b c.loop-left.bound.items c.place_expression.new.bound.items _ c.loop-left-test.true i.within (get_or_default c.args.bodies.now k c.index-bodies-left.result b l) c.in_ok-place_expression.ensures i.placed;
       within = omega (arith, i.within);
-      small = i.small;
     }
