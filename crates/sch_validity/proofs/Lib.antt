@@ -15,7 +15,9 @@ pub mod Programs
 pub mod PlainSketches
 pub mod PlainRows
 pub mod NamedGlobals
-pub mod MeasuredStatics
+pub mod StaticsOfSketches
+pub mod StaticsOfRows
+pub mod StaticsOfDrafts
 pub mod RangedSketches
 pub mod RangedRows
 pub mod RangedDrafts

@@ -3,4 +3,4 @@
 
 mod laws;
 
-pub use laws::{definitions_are_sound, program_of_text_is_valid};
+pub use laws::{constants_are_of_data, definitions_are_sound, program_of_text_is_valid};
