@@ -21,7 +21,7 @@ use Rattle.sch_numbers.specs.Programs.{Definition, names_of_each, program_of}
 use Rattle.sch_validity.specs.Sound.{AreSound, levels_each}
 use Rattle.sch_validity.specs.Sizes.{statics_in_each, HaveWords}
 use Rattle.sch_validity.specs.Library.{procedure_of, procedures_of_each, definitions_of, AreDefinitions, AreAmong, AreOrdered, AreKnown}
-use Rattle.sch_validity.specs.Few.{HasFewVariables, HasFewFree}
+use Rattle.sch_validity.specs.Few.{HasFew}
 use Rattle.sch_validity.specs.Forms.{Form, expression, definition, sketch_of, FormsExpand, IsBound, AreDefined, HasNames, AreOfData, form_weight, forms_weight, AreSmall}
 use Rattle.sch_validity.proofs.Soundness.{sound}
 use Rattle.sch_validity.proofs.Levels.{level}
@@ -143,9 +143,9 @@ definition_ordered globals before f d b h n =
 pub valid_text : (ds : List Definition) (globals : Globals) (own : List (List ℕ)) (fs : List Form) (forms : Drafts) →
     AreDefinitions ds → AreOrdered [] ds → FormsExpand globals fs forms → AreDefined globals fs → HasNames ds own globals →
     HaveConstants forms → HaveWords forms → AreSmall ds fs →
-    HasFewVariables (program_of ds own forms) → HasFewFree (program_of ds own forms) → is_valid (program_of ds own forms) ≡ true
-valid_text ds globals own fs forms d o h b n c w m v u =
+    HasFew (program_of ds own forms) → is_valid (program_of ds own forms) ≡ true
+valid_text ds globals own fs forms d o h b n c w m v =
     valid ds own forms d o
     (forms_named globals own (map own_global own ++ map library_global (names_of_each ds)) (λ x i. known ds own x (n x i)) fs forms b h)
-    (forms_sound globals fs forms h) (forms_level globals fs forms h) c w v u
+    (forms_sound globals fs forms h) (forms_level globals fs forms h) c w v
     (omega (arith, m, forms_statics globals fs forms h))

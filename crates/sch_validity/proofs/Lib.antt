@@ -6,6 +6,7 @@ pub mod Sites
 pub mod Scopes
 pub mod Shapes
 pub mod Limits
+pub mod FewBodies
 pub mod Constants
 pub mod Names
 pub mod Statics

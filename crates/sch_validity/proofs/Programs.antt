@@ -22,8 +22,9 @@ use Rattle.sch_numbers.specs.Quoted.{quotes_in_each}
 use Rattle.sch_numbers.specs.Sites.{widths_of_each}
 use Rattle.sch_validity.specs.Sound.{AreSound, levels_each}
 use Rattle.sch_validity.specs.Library.{procedures_of_each, AreDefinitions, AreAmong, AreOrdered, AreKnown}
-use Rattle.sch_validity.specs.Few.{HasFewVariables, HasFewFree}
+use Rattle.sch_validity.specs.Few.{HasFew}
 use Rattle.sch_validity.specs.Sizes.{statics_in_each, HaveWords}
+use Rattle.sch_validity.proofs.FewBodies.{few_lambdas, few_free_lambdas, few_forms, few_free_forms, forms_within}
 use Rattle.sch_validity.proofs.Groups.{AreLambdas, scope_group, levels_group, sites_group, few_group, holds_group, fit_group, lambdas_numbered}
 use Rattle.sch_validity.proofs.Sites.{joined, sites_each}
 use Rattle.sch_validity.proofs.Scopes.{scoped_each}
@@ -120,16 +121,16 @@ module _ (ds : List Definition) (own hs : List (List ℕ)) (forms : Drafts) wher
   few_library : (test : Procedure → Bool) → each_lambda test p.library ≡ true → each_procedure_in test library ≡ true
   few_library test h = sym (few_group test library are_lambdas) ∙ (sym (ap (each_lambda test) library_is) ∙ h)
 
-  program_within : AreDefinitions ds → AreSound 0 forms → levels_each forms ≤ max_levels → HasFewVariables p → HasFewFree p → within_limits p ≡ true
-  program_within d f l v w =
+  program_within : AreDefinitions ds → AreSound 0 forms → levels_each forms ≤ max_levels → HasFew p → within_limits p ≡ true
+  program_within d f l v =
       let s = sound_definitions ds d in
-      let inside = fitting_each [] globals symbols (procedures_of_each ds) (given ds) 0 0 0 s (few_library has_few_variables v.1, few_library has_few_free w.0) in
+      let inside = fitting_each [] globals symbols (procedures_of_each ds) (given ds) 0 0 0 s (few_library has_few_variables (few_lambdas p.library v.0), few_library has_few_free (few_free_lambdas p.library v.0)) in
       let fit : lambdas_fit p.library ≡ true = ap (λ ls. procedures_fit max_variables (procedures ls)) library_is ∙ fit_group library are_lambdas inside in
       and_from _ _
       (and_from _ _ (le-leb (levels_lambdas p.library) max_levels (omega (arith, library_levels s, level_definitions ds d)))
       (le-leb (measures.levels_each p.forms) max_levels (omega (arith, levels_each_kept own globals symbols forms [] 0 (length (widths_of_definitions ds)) (length (quotes_of_each ds)) f, l))))
-      (and_from _ _ (and_from _ _ fit v.0)
-      (and_from _ _ (library_holds fits_here inside) (fitting_each own globals symbols forms [] 0 _ _ f (v.2, w.1))))
+      (and_from _ _ (and_from _ _ fit (forms_within p.forms v.1))
+      (and_from _ _ (library_holds fits_here inside) (fitting_each own globals symbols forms [] 0 _ _ f (few_forms p.forms v.1, few_free_forms p.forms v.1))))
 
   -- ## Sites
 
@@ -169,22 +170,21 @@ module _ (ds : List Definition) (own hs : List (List ℕ)) (forms : Drafts) wher
       and_from _ _ (le-leb _ _ (omega (arith, program_size, m)))
       (and_from _ _ (quotes_known symbols _ named) (rw (count_definitions globals symbols ds 0 0) (known_starts ds hs globals r)))
 
-  valid_with : AreDefinitions ds → AreSound 0 forms → levels_each forms ≤ max_levels → HaveConstants forms → HaveWords forms → HasFewVariables p → HasFewFree p →
+  valid_with : AreDefinitions ds → AreSound 0 forms → levels_each forms ≤ max_levels → HaveConstants forms → HaveWords forms → HasFew p →
       statics_in_each (procedures_of_each ds) + statics_in_each forms ≤ max_statics → AreReady ds hs globals → is_valid p ≡ true
-  valid_with d f l c w v u m r =
+  valid_with d f l c w v m r =
       let s = sound_definitions ds d in
       and_from _ _ (program_in_range s f)
       (and_from _ _ (program_constants d f c w)
       (and_from _ _ (program_shaped s f)
-      (and_from _ _ (program_within d f l v u)
+      (and_from _ _ (program_within d f l v)
       (and_from _ _ (program_sites s f) (program_statics m r)))))
 
 -- ## Of a library and a text
 
 pub valid : (ds : List Definition) (own : List (List ℕ)) (forms : Drafts) → AreDefinitions ds → AreOrdered [] ds → AreKnown ds own forms →
     AreSound 0 forms → levels_each forms ≤ max_levels → HaveConstants forms → HaveWords forms →
-    HasFewVariables (program_of ds own forms) → HasFewFree (program_of ds own forms) →
-    statics_in_each (procedures_of_each ds) + statics_in_each forms ≤ max_statics → is_valid (program_of ds own forms) ≡ true
-valid ds own forms d o k f l c w v u m =
-    valid_with (kept ds (named ds own forms)) own (held ds own) forms (kept_sound ds (named ds own forms) d) f l c w v u
+    HasFew (program_of ds own forms) → statics_in_each (procedures_of_each ds) + statics_in_each forms ≤ max_statics → is_valid (program_of ds own forms) ≡ true
+valid ds own forms d o k f l c w v m =
+    valid_with (kept ds (named ds own forms)) own (held ds own) forms (kept_sound ds (named ds own forms) d) f l c w v
     (omega (arith, kept_statics ds (named ds own forms), m)) (globals_ready ds own forms o k)

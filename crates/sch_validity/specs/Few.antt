@@ -1,14 +1,25 @@
 -- Programs with few variables and few free variables in their bodies.
-use Rattle.std.specs.Prelude.{◌≡◌, true, ◌&&◌}
-use Rattle.sch_lang.specs.Tree.{Expressions, Source, no_expressions, and_expression}
-use Rattle.sch_lang.specs.Bodies.{form}
-use Rattle.sch_limits.specs.Within.{has_few_variables, has_few_free, few_variables, each_lambda, each_procedure_in}
-use Rattle.sch_lang.specs.Valid.{forms_fit}
+use Rattle.std.specs.Prelude.{◌≡◌, ◌&&◌, ℕ, true, nat_le, length}
+use Rattle.sch_word.specs.trees.Shape.{max_variables, max_free_variables}
+use Rattle.sch_lang.specs.Tree.{Expression, Expressions, Lambdas, no_expressions, and_expression, no_lambdas, and_lambda, Source}
+use Rattle.sch_lang.specs.Measures.{body_variables}
+use Rattle.sch_lang.specs.Variables.{free, outside}
+use Rattle.sch_limits.specs.Within.{few_variables, few_free}
 
--- no body of a program has more than 1,000 variables, and no procedure more than 1,000 free ones
-abbrev pub HasFewVariables : Source → Type 0
-HasFewVariables p =
-    (forms_fit p.forms ≡ true) × (each_lambda has_few_variables p.library ≡ true) × (each_procedure_in has_few_variables p.forms ≡ true)
+-- a body with these formals, and each procedure in it, has at most 1,000 variables, and as many free ones
+abbrev pub IsFew : (formals : ℕ) → Expression → Type 0
+IsFew n e =
+    ((nat_le (body_variables n e) max_variables && few_variables e) ≡ true)
+    × ((nat_le (length (outside n (free e))) max_free_variables && few_free e) ≡ true)
 
-abbrev pub HasFewFree : Source → Type 0
-HasFewFree p = (each_lambda has_few_free p.library ≡ true) × (each_procedure_in has_few_free p.forms ≡ true)
+abbrev pub LambdasAreFew : Lambdas → Type 0
+LambdasAreFew no_lambdas = Unit {0}
+LambdasAreFew (and_lambda name n r e ls) = IsFew n e × LambdasAreFew ls
+
+-- a top-level form is a body without formals
+abbrev pub FormsAreFew : Expressions → Type 0
+FormsAreFew no_expressions = Unit {0}
+FormsAreFew (and_expression e es) = IsFew 0 e × FormsAreFew es
+
+abbrev pub HasFew : Source → Type 0
+HasFew p = LambdasAreFew p.library × FormsAreFew p.forms

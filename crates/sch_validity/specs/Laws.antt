@@ -5,7 +5,7 @@ use Rattle.sch_names.specs.Scope.{Globals}
 use Rattle.sch_sketch.specs.Draft.{Drafts}
 use Rattle.sch_numbers.specs.Constants.{HaveConstants}
 use Rattle.sch_numbers.specs.Programs.{Definition, program_of}
-use Rattle.sch_validity.specs.Few.{HasFewVariables, HasFewFree}
+use Rattle.sch_validity.specs.Few.{HasFew}
 use Rattle.sch_validity.specs.Forms.{Form, FormsExpand, AreDefined, HasNames, AreOfData, forms_weight, AreSmall}
 use Rattle.sch_validity.specs.Library.{procedures_of_each, definitions_of, AreDefinitions, AreOrdered}
 use Rattle.sch_validity.specs.Sizes.{statics_in_each, HaveWords}
@@ -23,7 +23,7 @@ abbrev pub TextsAreValid : Type 0
 TextsAreValid =
     (ds : List Definition) (globals : Globals) (own : List (List ℕ)) (fs : List Form) (forms : Drafts) →
     IsLibrary ds → IsText ds globals own fs forms → AreSmall ds fs →
-    HasFewVariables (program_of ds own forms) → HasFewFree (program_of ds own forms) → is_valid (program_of ds own forms) ≡ true
+    HasFew (program_of ds own forms) → is_valid (program_of ds own forms) ≡ true
 
 -- what stands for forms of data in range has constants in range
 abbrev pub ConstantsAreOfData : Type 0
