@@ -5,6 +5,13 @@ use Rattle.sch_word.specs.declared.primitive.Primitive.TheVariants.{Cons, Car}
 use Rattle.sch_lang.specs.Valid.{is_valid}
 use Rattle.sch_read.specs.Grammar.{Datum, atom, list, none, cons, text, symbol as symbol_atom, character}
 use Rattle.sch_sketch.specs.Draft.{Draft, Drafts, constant, symbol, literal, local, global, set_local, define, branch, sequence, bind, letrec, lambda, call, operation, no_drafts, and_draft}
+use Rattle.sch_names.specs.Scope.{Globals}
+use Rattle.sch_names.specs.Words.{keyword_of}
+use Rattle.sch_sketch.specs.declared.sketch.Position.TheVariants.{Value}
+use Rattle.sch_sketch.specs.Sketch as sketch
+use Rattle.sch_sketch.specs.Sketch.{no_sketch, and_sketch}
+use Rattle.sch_expansion.specs.Expands as ex
+use Rattle.sch_validity.specs.Forms.{Form, expression, definition, FormsExpand, AreDefined, forms_weight}
 use Rattle.sch_numbers.specs.Programs.{Definition, program_of}
 use Rattle.sch_validity.specs.Sound.{IsSound, levels}
 use Rattle.sch_validity.specs.Library.{AreOrdered, AreKnown}
@@ -67,6 +74,44 @@ byte_in_range = refl
 
 character_too_large : datum_in_range (list 0 (cons (atom 1 (character 256)) none)) ≡ false
 character_too_large = refl
+
+not_quotable : AreQuotable (list 0 (cons (atom 1 (character 256)) none) ∷ []) → ⊥
+not_quotable h = cc
+
+-- ## Forms
+
+-- `(define a b)`, and what stands for it where b is a global
+defining : Form
+defining = definition 0 (cons (atom 8 (symbol_atom (codes "a"))) (cons (atom 10 (symbol_atom (codes "b"))) none))
+
+named_ab : Globals
+named_ab = record { bound = codes "a" ∷ codes "b" ∷ []; own = []; internal = false }
+
+named_b : Globals
+named_b = record { bound = codes "b" ∷ []; own = []; internal = false }
+
+expanded : FormsExpand named_ab (defining ∷ []) (and_draft (define (codes "a") (global (codes "b"))) no_drafts)
+unfolding defining named_ab keyword_of
+expanded = (
+  ex.a_node 1 [] Value (sketch.defining (codes "a")) 0 (and_sketch (sketch.text (atom 10 (symbol_atom (codes "b")))) no_sketch)
+  (and_draft (global (codes "b")) no_drafts) refl refl
+  (ex.and_part _ true 2 [] Value _ no_sketch _ no_drafts (ex.a_datum 2 [] Value _ _ (ex.a_leaf 2 [] Value 10 _ refl)) (ex.no_part _ false 2 [] Value)),
+  tt,
+)
+
+-- a name that there is not is not defined
+defined : AreDefined named_ab (defining ∷ [])
+unfolding defining named_ab
+defined = (refl, tt)
+
+not_defined : AreDefined named_b (defining ∷ []) → ⊥
+unfolding defining named_b
+not_defined h = cc
+
+-- one for the word, two for each name
+weighs : forms_weight (defining ∷ expression (atom 0 (symbol_atom (codes "xy"))) ∷ []) ≡ 8
+unfolding defining
+weighs = refl
 
 -- ## Programs
 

@@ -23,4 +23,5 @@ pub mod RangedSketches
 pub mod RangedRows
 pub mod RangedDrafts
 pub mod Forms
+pub mod ReadDepths
 pub mod Examples
