@@ -1,5 +1,5 @@
 -- The constants of a numbered draft are those of the draft.
-use Rattle.std.proofs.Common.{◌≡◌, ℕ, ◌+◌, ◌&&◌, Bool, true, false, List, [], length, Option, refl}
+use Rattle.std.proofs.Common.{◌≡◌, ℕ, ◌+◌, ◌&&◌, Bool, true, false, List, [], Option, refl}
 use Rattle.std.proofs.lemmas.Bool.{and_from}
 use Rattle.sch_word.specs.trees.Shape.{constant_in_range}
 use Rattle.sch_lang.specs.Tree.{Expression, Expressions}

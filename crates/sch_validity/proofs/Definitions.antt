@@ -1,9 +1,9 @@
 -- The procedures of a library are those of its drafts, and those that are kept are as sound as all of them.
-use Rattle.std.proofs.Common.{◌≡◌, ◌≤◌, ◌+◌, ◌++◌, ℕ, suc, Bool, true, false, List, [], ◌∷◌, length, Option, Some, None, refl, ap, arith}
+use Rattle.std.proofs.Common.{◌≡◌, ◌≤◌, ◌+◌, ◌++◌, ℕ, suc, Bool, true, false, List, [], ◌∷◌, length, Some, None, refl, ap, arith}
 use Rattle.sch_word.specs.trees.Shape.{max_levels}
-use Rattle.sch_lang.specs.Tree.{Lambdas, and_lambda, count_lambdas}
+use Rattle.sch_lang.specs.Tree.{and_lambda, count_lambdas}
 use Rattle.sch_names.specs.Scope.{is_among}
-use Rattle.sch_sketch.specs.Draft.{Names, Drafts}
+use Rattle.sch_sketch.specs.Draft.{Names}
 use Rattle.sch_numbers.specs.Constants.{HaveConstants}
 use Rattle.sch_numbers.specs.Named.{library_global, globals_in, globals_in_each, symbols_in, symbols_in_each}
 use Rattle.sch_numbers.specs.Numbered.{procedures_of, numbered, numbered_each}

@@ -1,10 +1,10 @@
 -- Small drafts: which are sound, how deep they are, what they take, and programs that are valid.
-use Rattle.std.proofs.Common.{◌≡◌, ◌≤◌, ℕ, true, false, List, [], ◌∷◌, Some, None, refl, codes, pos, arith}
-use Rattle.sch_word.specs.declared.constant.Const.TheVariants.{Fixnum, Nil}
+use Rattle.std.proofs.Common.{◌≡◌, true, false, [], ◌∷◌, Some, None, refl, codes, arith}
+use Rattle.sch_word.specs.declared.constant.Const.TheVariants.{Nil}
 use Rattle.sch_word.specs.declared.primitive.Primitive.TheVariants.{Cons, Car}
 use Rattle.sch_lang.specs.Valid.{is_valid}
 use Rattle.sch_read.specs.Grammar.{Datum, atom, list, none, cons, text, symbol as symbol_atom, character}
-use Rattle.sch_sketch.specs.Draft.{Draft, Drafts, constant, symbol, literal, local, global, set_local, define, branch, sequence, bind, letrec, lambda, call, operation, no_drafts, and_draft}
+use Rattle.sch_sketch.specs.Draft.{Draft, Drafts, constant, symbol, literal, local, global, set_local, define, sequence, bind, letrec, lambda, call, operation, no_drafts, and_draft}
 use Rattle.sch_names.specs.Scope.{Globals}
 use Rattle.sch_names.specs.Words.{keyword_of}
 use Rattle.sch_sketch.specs.declared.sketch.Position.TheVariants.{Value}
@@ -16,7 +16,6 @@ use Rattle.sch_numbers.specs.Programs.{Definition, program_of}
 use Rattle.sch_validity.specs.Sound.{IsSound, levels}
 use Rattle.sch_validity.specs.Library.{AreOrdered, AreKnown}
 use Rattle.sch_validity.specs.Sizes.{statics_in, datum_in_range, AreQuotable}
-
 
 -- ## Soundness
 
@@ -94,8 +93,8 @@ expanded : FormsExpand named_ab (defining ∷ []) (and_draft (define (codes "a")
 unfolding defining named_ab keyword_of
 expanded = (
   ex.a_node 1 [] Value (sketch.defining (codes "a")) 0 (and_sketch (sketch.text (atom 10 (symbol_atom (codes "b")))) no_sketch)
-  (and_draft (global (codes "b")) no_drafts) refl refl
-  (ex.and_part _ true 2 [] Value _ no_sketch _ no_drafts (ex.a_datum 2 [] Value _ _ (ex.a_leaf 2 [] Value 10 _ refl)) (ex.no_part _ false 2 [] Value)),
+      (and_draft (global (codes "b")) no_drafts) refl refl
+      (ex.and_part _ true 2 [] Value _ no_sketch _ no_drafts (ex.a_datum 2 [] Value _ _ (ex.a_leaf 2 [] Value 10 _ refl)) (ex.no_part _ false 2 [] Value)),
   tt,
 )
 

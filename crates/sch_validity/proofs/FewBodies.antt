@@ -1,8 +1,8 @@
 -- Where each body of a program has few variables, each procedure in it has, and the forms are within the limits.
-use Rattle.std.proofs.Common.{◌≡◌, ◌≤◌, ◌&&◌, ℕ, true, [], refl, arith, le-leb}
+use Rattle.std.proofs.Common.{◌≡◌, true, [], refl, arith, le-leb}
 use Rattle.std.specs.Prelude.{nat_le}
 use Rattle.std.proofs.lemmas.Bool.{and_from, leb-true}
-use Rattle.sch_word.specs.trees.Shape.{max_variables, max_free_variables}
+use Rattle.sch_word.specs.trees.Shape.{max_variables}
 use Rattle.sch_lang.specs.Tree.{Expression, Expressions, Lambdas, no_expressions, and_expression, no_lambdas, and_lambda}
 use Rattle.sch_lang.specs.Measures.{variables, body_variables}
 use Rattle.sch_lang.specs.Valid.{forms_fit}

@@ -1,11 +1,11 @@
 -- The drafts of a text's forms are those of a valid program.
-use Rattle.std.proofs.Common.{◌≡◌, ◌≤◌, ◌+◌, ◌*◌, ◌||◌, ℕ, Bool, true, false, cond, List, [], ◌∷◌, ◌++◌, map, Option, Some, None, refl, sym, ◌∙◌, arith}
+use Rattle.std.proofs.Common.{◌≡◌, ◌≤◌, ◌*◌, ◌||◌, ℕ, Bool, true, false, cond, List, [], ◌∷◌, ◌++◌, map, Option, Some, None, refl, sym, ◌∙◌, arith}
 use Rattle.sch_word.specs.trees.Shape.{max_levels}
 use Rattle.sch_lang.specs.Valid.{is_valid}
 use Rattle.sch_names.specs.declared.keyword.Keyword.{Keyword}
 use Rattle.sch_names.specs.Scope.{Globals, is_among}
-use Rattle.sch_read.specs.Grammar.{Datum, Data}
-use Rattle.sch_sketch.specs.Draft.{Draft, Drafts, define, no_drafts, and_draft}
+use Rattle.sch_read.specs.Grammar.{Data}
+use Rattle.sch_sketch.specs.Draft.{Drafts, no_drafts, and_draft}
 use Rattle.sch_sketch.specs.Soundness as sketches
 use Rattle.sch_binders.specs.Assignments.{keyword_at, aimed_name}
 use Rattle.sch_binders.specs.Assignments as row
@@ -14,18 +14,15 @@ use Rattle.sch_binders.proofs.SoundRows.{define_sound}
 use Rattle.sch_numbers.specs.Constants.{HaveConstants}
 use Rattle.sch_numbers.specs.Named.{own_global, library_global, global_of, globals_in, globals_in_each, symbols_in}
 use Rattle.sch_numbers.specs.Quoted.{quotes_in}
-use Rattle.sch_expansion.specs.Expands.{Expands}
-use Rattle.sch_sketch.specs.declared.sketch.Position.TheVariants.{Value}
 use Rattle.sch_validity.proofs.Statics.{quotable_left, quotable_right, bytes_left, bytes_right}
 use Rattle.sch_numbers.specs.Programs.{Definition, names_of_each, program_of}
 use Rattle.sch_validity.specs.Sound.{AreSound, levels_each}
 use Rattle.sch_validity.specs.Sizes.{statics_in_each, HaveWords}
-use Rattle.sch_validity.specs.Library.{procedure_of, procedures_of_each, definitions_of, AreDefinitions, AreAmong, AreOrdered, AreKnown}
+use Rattle.sch_validity.specs.Library.{procedures_of_each, definitions_of, AreDefinitions, AreAmong, AreOrdered}
 use Rattle.sch_validity.specs.Few.{HasFew}
 use Rattle.sch_validity.specs.Forms.{Form, expression, definition, sketch_of, FormsExpand, IsBound, AreDefined, HasNames, AreOfData, form_weight, forms_weight, AreSmall}
 use Rattle.sch_validity.proofs.Soundness.{sound}
 use Rattle.sch_validity.proofs.Levels.{level}
-use Rattle.sch_validity.proofs.PlainSketches.{IsPlain}
 use Rattle.sch_validity.proofs.PlainRows.{defined_plain}
 use Rattle.sch_validity.proofs.NamedGlobals as bound
 use Rattle.sch_validity.proofs.NamedGlobals.{plain_bound, named}

@@ -1,5 +1,5 @@
 -- A group of procedures is measured as the expressions that it is made of.
-use Rattle.std.proofs.Common.{◌≡◌, ◌+◌, ◌&&◌, ◌||◌, ◌++◌, ℕ, suc, max, Bool, true, false, List, [], Option, refl, ap, ◌∙◌, arith}
+use Rattle.std.proofs.Common.{◌≡◌, ◌+◌, ◌&&◌, ◌||◌, ◌++◌, ℕ, suc, max, Bool, true, false, List, [], refl, ap}
 use Rattle.std.proofs.lemmas.Bool.{and_from}
 use Rattle.sch_word.specs.trees.Shape.{Procedure, max_variables, procedures_fit}
 use Rattle.sch_lang.specs.Tree as tree
@@ -9,10 +9,8 @@ use Rattle.sch_lang.specs.Measures.{over, over_each, over_lambdas, levels, level
 use Rattle.sch_lang.specs.Valid.{in_scope, each_in_scope, lambdas_in_scope, fits_here}
 use Rattle.sch_limits.specs.Within.{each_procedure, each_procedure_in, each_lambda}
 use Rattle.sch_sketch.specs.Draft.{Names, Draft, Drafts, lambda, no_drafts, and_draft}
-use Rattle.sch_numbers.specs.Assigned.{is_group, none_assigned}
+use Rattle.sch_numbers.specs.Assigned.{is_group}
 use Rattle.sch_numbers.specs.Numbered.{numbered_each, procedures_of, others_of}
-use Rattle.sch_numbers.specs.Sites.{widths}
-use Rattle.sch_numbers.specs.Quoted.{quotes_in}
 use Rattle.sch_validity.specs.Sound.{AreProcedures, AreProceduresIf}
 use Rattle.sch_validity.proofs.Parts.{both}
 

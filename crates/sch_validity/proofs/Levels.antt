@@ -1,5 +1,5 @@
 -- Each draft that stands for a sound sketch lies within the limit on levels, and keeps its levels when it is numbered.
-use Rattle.std.proofs.Common.{◌≡◌, ◌≤◌, ◌-◌, ◌+◌, ℕ, Bool, length, subst, arith}
+use Rattle.std.proofs.Common.{◌≤◌, ◌-◌, ◌+◌, ℕ, Bool, length, subst, arith}
 use Rattle.std.specs.Prelude.{max}
 use Rattle.std.proofs.lemmas.Bool.{leb-true}
 use Rattle.sch_names.specs.Scope.{Scope, Globals}

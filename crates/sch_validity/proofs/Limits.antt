@@ -1,6 +1,6 @@
 -- Each node of a sound draft is within the limits once the draft has its numbers, where its procedures have few variables;
 -- and the draft keeps its levels.
-use Rattle.std.proofs.Common.{◌≡◌, ◌≤◌, ℕ, suc, ◌+◌, ◌&&◌, ◌||◌, Bool, true, false, List, [], length, Option, None, refl, ap, sym, ◌∙◌, arith, le-leb}
+use Rattle.std.proofs.Common.{◌≡◌, ◌≤◌, ℕ, ◌+◌, ◌&&◌, ◌||◌, Bool, true, false, List, [], length, Option, None, refl, ap, sym, ◌∙◌, arith, le-leb}
 use Rattle.std.specs.Prelude.{max, not, nat_le}
 use Rattle.std.proofs.lemmas.Bool.{and_from}
 use Rattle.sch_word.specs.declared.primitive.Primitive.{Primitive}
@@ -16,7 +16,7 @@ use Rattle.sch_sketch.specs.Draft.{Names, Draft, Drafts, constant, symbol, liter
 use Rattle.sch_numbers.specs.Assigned.{is_group}
 use Rattle.sch_numbers.specs.Sites.{widths}
 use Rattle.sch_numbers.specs.Quoted.{quotes_in}
-use Rattle.sch_numbers.specs.Numbered.{body_name, procedures_of, grouped, numbered, numbered_each, others_of}
+use Rattle.sch_numbers.specs.Numbered.{body_name, grouped, numbered, numbered_each, others_of}
 use Rattle.sch_validity.specs.Sound.{HasRest, IsSound, AreSound, levels, levels_each}
 use Rattle.sch_validity.proofs.Parts.{both}
 use Rattle.sch_validity.proofs.Groups.{AreLambdas, count_group, levels_group, few_group, holds_group, fit_group, group_lambdas}

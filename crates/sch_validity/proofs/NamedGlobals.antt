@@ -1,5 +1,5 @@
 -- Each global that the draft of a sketch names is one that there is.
-use Rattle.std.proofs.Common.{◌≡◌, ◌≤◌, ◌++◌, ℕ, suc, Bool, true, false, List, [], ◌∷◌, length, Option, Some, None, refl, subst, arith}
+use Rattle.std.proofs.Common.{◌≡◌, ℕ, Bool, true, false, List, [], length, Option, Some, None, refl, subst}
 use Rattle.sch_read.specs.Grammar.{Datum, Data, atom, list, dotted, vector, none, cons, boolean, integer, character, symbol}
 use Rattle.sch_read.specs.Grammar as grammar
 use Rattle.sch_names.specs.declared.keyword.Keyword.{Keyword}
@@ -14,7 +14,7 @@ use Rattle.sch_sketch.specs.Draft.{Draft, Drafts, constant, literal, local, glob
 use Rattle.sch_sketch.specs.Sketch.{Kind, choosing, sequencing, binding, recurring, abstracting, calling, operating, setting, setting_global, defining, Sketch, Sketches, text, rest, wrong, leaf, node, limited, no_sketch, and_sketch, front, last, first, but_first, assemble}
 use Rattle.sch_sketch.specs.Soundness.{HasParts}
 use Rattle.sch_sketch.specs.Soundness as sketches
-use Rattle.sch_binders.specs.Assignments.{assignment, assigning, row_set}
+use Rattle.sch_binders.specs.Assignments.{assignment, row_set}
 use Rattle.sch_table.specs.Outline.{outline, outline_name, outline_datum}
 use Rattle.sch_table.proofs.SoundRows.{datum_sound, rest_sound}
 use Rattle.sch_expansion.specs.Expands.{Expands, PartsExpand}
@@ -24,7 +24,6 @@ use Rattle.sch_validity.specs.Library.{AreAmong}
 use Rattle.sch_validity.proofs.Names.{left, right}
 use Rattle.sch_validity.proofs.PlainSketches.{IsPlainLeaf, IsPlainKind, IsPlain, ArePlain}
 use Rattle.sch_validity.proofs.PlainRows.{is_assignment, is_name, datum_plain, rest_plain}
-use Rattle.sch_validity.proofs.Soundness.{counted}
 use Rattle.sch_validity.proofs.Starts.{both_among}
 
 -- ## Sketches whose globals are among some names

@@ -5,7 +5,7 @@ use Rattle.std.specs.Str.{bytes_eq}
 use Rattle.std.proofs.lemmas.Bool.{and_from, ltb-true}
 use Rattle.std.proofs.lemmas.Slice.Eq.{bytes_eq-Decides}
 use Rattle.sch_word.specs.declared.constant.Const.{Const}
-use Rattle.sch_word.specs.declared.constant.Const.TheVariants.{Fixnum, Character, Boolean, Nil, Unspecified, Symbol}
+use Rattle.sch_word.specs.declared.constant.Const.TheVariants.{Symbol}
 use Rattle.sch_word.specs.values.Literals.{constant_known}
 use Rattle.sch_lang.specs.Tree.{Expression, Expressions}
 use Rattle.sch_lang.specs.Measures.{over, over_each}
@@ -15,12 +15,11 @@ use Rattle.sch_names.specs.NamesView.{with_name, number_of}
 use Rattle.sch_sketch.specs.Draft.{Names, Draft, Drafts, constant, symbol, literal, local, global, set_local, set_global, define, branch, sequence, bind, letrec, lambda, call, operation, no_drafts, and_draft, count}
 use Rattle.sch_numbers.specs.Named.{firsts, globals_in, globals_in_each, symbols_in, symbols_in_each}
 use Rattle.sch_numbers.specs.Assigned.{is_group}
-use Rattle.sch_numbers.specs.Sites.{widths, widths_of_each}
 use Rattle.sch_numbers.specs.Quoted.{quotes_in, quotes_in_each}
 use Rattle.sch_numbers.specs.Numbered.{grouped, numbered, numbered_each, others_of}
 use Rattle.sch_validity.specs.Sound.{IsSound, AreSound}
 use Rattle.sch_validity.specs.Library.{AreAmong}
-use Rattle.sch_validity.proofs.Groups.{AreLambdas, group_lambdas}
+use Rattle.sch_validity.proofs.Groups.{group_lambdas}
 use Rattle.sch_validity.proofs.Constants.{hold_grouped}
 
 pub left : (all a b : List (List ℕ)) → AreAmong all (a ++ b) → AreAmong all a

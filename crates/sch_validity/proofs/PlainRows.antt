@@ -1,6 +1,6 @@
 -- Each row of bindings, bodies and procedures makes a plain sketch, and so does each row of the table but that of an
 -- assignment.
-use Rattle.std.proofs.Common.{◌≡◌, ◌&&◌, ℕ, Bool, true, false, cond, List, ◌∷◌, Option, Some, None}
+use Rattle.std.proofs.Common.{◌≡◌, ◌&&◌, ℕ, Bool, true, false, cond, List, ◌∷◌, Option, Some}
 use Rattle.sch_read.specs.Grammar.{Datum, Data, atom, list, dotted, vector, none, cons, boolean, integer, character, symbol}
 use Rattle.sch_read.specs.Grammar as grammar
 use Rattle.sch_read.specs.Parts.{how_many}
@@ -11,9 +11,7 @@ use Rattle.sch_names.specs.Scope.{Scope, Globals, Head, form, operating, calling
 use Rattle.sch_sketch.specs.declared.sketch.Position.{Position}
 use Rattle.sch_sketch.specs.declared.sketch.Row.{Row}
 use Rattle.sch_sketch.specs.declared.sketch.Row.TheVariants.{Form, Body, Method, Nest, Clauses, Cases, Tests, Chain, Join}
-use Rattle.sch_sketch.specs.Draft.{Names}
-use Rattle.sch_sketch.specs.Sketch.{Sketch, Sketches, no_sketch}
-use Rattle.sch_sketch.specs.Small.{one}
+use Rattle.sch_sketch.specs.Sketch.{Sketches, no_sketch}
 use Rattle.sch_binders.specs.Bindings.{bound, inits, are_bindings}
 use Rattle.sch_binders.specs.Formals.{formals, are_formals, listed, tail_of}
 use Rattle.sch_binders.specs.Definitions.{is_definition, is_define_word, defined_sketch, inits_in, inits_of_each}

@@ -1,14 +1,13 @@
 -- The program of sound drafts is valid.
-use Rattle.std.proofs.Common.{◌≡◌, ◌≤◌, ◌*◌, ◌+◌, ◌++◌, ◌&&◌, ℕ, Bool, true, List, [], length, refl, ap, sym, subst, ◌∙◌, arith, length-append, le-leb}
+use Rattle.std.proofs.Common.{◌≡◌, ◌≤◌, ◌+◌, ◌++◌, ◌&&◌, ℕ, Bool, true, List, [], length, ap, sym, subst, ◌∙◌, arith, length-append, le-leb}
 use Rattle.std.proofs.lemmas.Bool.{and_from}
-use Rattle.sch_word.specs.runs.Runs.{max_statics, statics_in_range, statics_valid, statics_size, names_size}
+use Rattle.sch_word.specs.runs.Runs.{max_statics, statics_size}
 use Rattle.sch_word.specs.trees.Shape.{Procedure, max_levels, max_variables, constant_in_range, procedures_fit}
-use Rattle.sch_word.specs.values.Literals.{count_literals, literals_levels, literals_size}
-use Rattle.sch_lang.specs.Tree as tree
-use Rattle.sch_lang.specs.Tree.{Expression, Expressions, Lambdas, Source}
+use Rattle.sch_word.specs.values.Literals.{count_literals}
+use Rattle.sch_lang.specs.Tree.{Expression, Expressions, Source}
 use Rattle.sch_lang.specs.Measures as measures
 use Rattle.sch_lang.specs.Measures.{over_source, over_each, over_lambdas, shape, sites_of, site_here, levels_lambdas, procedures}
-use Rattle.sch_lang.specs.Valid.{lambdas_in_scope, each_in_scope, named_here, fits_here, shaped_here, forms_fit, lambdas_fit, in_range, constants_in_range, shaped, within_limits, sites_once, statics_known, is_valid}
+use Rattle.sch_lang.specs.Valid.{lambdas_in_scope, named_here, fits_here, shaped_here, lambdas_fit, in_range, constants_in_range, shaped, within_limits, sites_once, statics_known, is_valid}
 use Rattle.sch_lang.proofs.SitesInOrder as order
 use Rattle.sch_lang.proofs.SitesInOrder.{sites_in_order}
 use Rattle.sch_limits.specs.Within.{has_few_variables, has_few_free, each_lambda, each_procedure_in}
@@ -16,8 +15,7 @@ use Rattle.sch_sketch.specs.Draft.{Drafts}
 use Rattle.sch_numbers.specs.Constants.{HaveConstants}
 use Rattle.sch_numbers.specs.Named.{firsts, globals_in_each, symbols_in_each}
 use Rattle.sch_numbers.specs.Numbered.{procedures_of, numbered_each}
-use Rattle.sch_numbers.specs.Programs as programs
-use Rattle.sch_numbers.specs.Programs.{Definition, kept, held, named, globals_of_each, symbols_of_each, quotes_of_each, names_of_each, widths_of_definitions, starts, program_with, program_of}
+use Rattle.sch_numbers.specs.Programs.{Definition, kept, held, named, globals_of_each, symbols_of_each, quotes_of_each, widths_of_definitions, program_with, program_of}
 use Rattle.sch_numbers.specs.Quoted.{quotes_in_each}
 use Rattle.sch_numbers.specs.Sites.{widths_of_each}
 use Rattle.sch_validity.specs.Sound.{AreSound, levels_each}
@@ -32,7 +30,7 @@ use Rattle.sch_validity.proofs.Shapes.{shaped_each}
 use Rattle.sch_validity.proofs.Limits.{fitting_each, levels_each_kept}
 use Rattle.sch_validity.proofs.Constants.{all_constants_kept}
 use Rattle.sch_validity.proofs.Names.{left, right, all_among, named_each}
-use Rattle.sch_validity.proofs.Statics.{names_append, firsts_size, firsts_length, firsts_bytes, bytes_append, all_bytes, sizes, quotable_append, count_quotes, quotes_append, sizes_append, AreNamed, named_append, quotes_known, quotes_each_named, quotes_range, quotes_levels, all_statics_below}
+use Rattle.sch_validity.proofs.Statics.{firsts_size, firsts_length, firsts_bytes, bytes_append, all_bytes, sizes, quotable_append, count_quotes, sizes_append, AreNamed, named_append, quotes_known, quotes_each_named, quotes_range, quotes_levels, all_statics_below}
 use Rattle.sch_validity.proofs.Definitions.{given, procedures_are, widths_are, quotes_are, globals_are, symbols_are, all_procedures, count_definitions, sound_definitions, level_definitions, constant_definitions, quotable_definitions, bytes_definitions, kept_sound, kept_statics}
 use Rattle.sch_validity.proofs.Starts.{AreReady, known_starts, starts_length, globals_ready}
 
@@ -88,9 +86,9 @@ module _ (ds : List Definition) (own hs : List (List ℕ)) (forms : Drafts) wher
   program_in_range d f =
       let n = length (quotes_of_each ds) + length (quotes_in_each forms) in
       let scopes : lambdas_in_scope p.library 0 ≡ true =
-          ap (λ ls. lambdas_in_scope ls 0) library_is ∙ (scope_group library 0 are_lambdas ∙ scoped_each [] globals symbols (procedures_of_each ds) (given ds) 0 0 0 d) in
+      ap (λ ls. lambdas_in_scope ls 0) library_is ∙ (scope_group library 0 are_lambdas ∙ scoped_each [] globals symbols (procedures_of_each ds) (given ds) 0 0 0 d) in
       let inside = library_holds (named_here (length symbols) n (length globals))
-          (named_each [] globals symbols n (procedures_of_each ds) (given ds) 0 0 0 d library_globals library_symbols (omega (arith, ap length (quotes_are ds)))) in
+      (named_each [] globals symbols n (procedures_of_each ds) (given ds) 0 0 0 d library_globals library_symbols (omega (arith, ap length (quotes_are ds)))) in
       let outside = named_each own globals symbols n forms [] 0 (length (widths_of_definitions ds)) (length (quotes_of_each ds)) f form_globals form_symbols (omega arith) in
       and_from _ _ scopes (and_from _ _ (scoped_each own globals symbols forms [] 0 _ _ f)
       (rw (literals_length, starts_length ds hs globals) (and_from _ _ inside outside)))
@@ -137,8 +135,8 @@ module _ (ds : List Definition) (own hs : List (List ℕ)) (forms : Drafts) wher
   program_sites : AreSound 0 (procedures_of_each ds) → AreSound 0 forms → sites_once p ≡ true
   program_sites d f =
       let inside : over_lambdas [] (λ a b. a ++ b) site_here p.library ≡ order.numbered 0 (widths_of_definitions ds) =
-          ap (over_lambdas [] (λ a b. a ++ b) site_here) library_is
-          ∙ (sites_group library are_lambdas ∙ (sites_each [] globals symbols (procedures_of_each ds) (given ds) 0 0 0 d ∙ ap (order.numbered 0) (widths_are ds))) in
+      ap (over_lambdas [] (λ a b. a ++ b) site_here) library_is
+      ∙ (sites_group library are_lambdas ∙ (sites_each [] globals symbols (procedures_of_each ds) (given ds) 0 0 0 d ∙ ap (order.numbered 0) (widths_are ds))) in
       sites_in_order p (joined 0 (widths_of_definitions ds) (widths_of_each forms) _ _ inside
       (sites_each own globals symbols forms [] 0 (length (widths_of_definitions ds)) (length (quotes_of_each ds)) f
       ∙ ap (λ n. order.numbered n (widths_of_each forms)) (omega arith)))
@@ -166,7 +164,7 @@ module _ (ds : List Definition) (own hs : List (List ℕ)) (forms : Drafts) wher
   program_statics : statics_in_each (procedures_of_each ds) + statics_in_each forms ≤ max_statics → AreReady ds hs globals → statics_known p ≡ true
   program_statics m r =
       let named = named_append symbols (quotes_of_each ds) (quotes_in_each forms)
-          (subst (AreNamed symbols) (quotes_are ds) (quotes_each_named symbols (procedures_of_each ds) library_symbols)) (quotes_each_named symbols forms form_symbols) in
+      (subst (AreNamed symbols) (quotes_are ds) (quotes_each_named symbols (procedures_of_each ds) library_symbols)) (quotes_each_named symbols forms form_symbols) in
       and_from _ _ (le-leb _ _ (omega (arith, program_size, m)))
       (and_from _ _ (quotes_known symbols _ named) (rw (count_definitions globals symbols ds 0 0) (known_starts ds hs globals r)))
 

@@ -1,6 +1,6 @@
 -- What stands for a sketch of data that may stand in a text has the constants, the quotations and the symbols that a
 -- program may have.
-use Rattle.std.proofs.Common.{◌≡◌, ◌&&◌, ◌++◌, ℕ, Bool, true, List, [], ◌∷◌, length, refl}
+use Rattle.std.proofs.Common.{◌≡◌, ℕ, Bool, true, length, refl}
 use Rattle.sch_word.specs.values.Values.{is_constant, are_bytes}
 use Rattle.sch_read.specs.Grammar.{Datum, Data, atom, list, dotted, vector, none, cons, boolean, integer, character, symbol as symbol_atom}
 use Rattle.sch_read.specs.Grammar as grammar
@@ -15,7 +15,7 @@ use Rattle.sch_table.proofs.SoundRows.{datum_sound, rest_sound}
 use Rattle.sch_numbers.specs.Constants.{HasConstants, HaveConstants}
 use Rattle.sch_numbers.specs.Named.{symbols_in, symbols_in_each, symbols_of_datum, symbols_of_data}
 use Rattle.sch_numbers.specs.Quoted.{quotes_in, quotes_in_each}
-use Rattle.sch_validity.specs.Sizes.{datum_in_range, data_in_range, IsQuotable, AreQuotable, AreBytes, HasWords, HaveWords}
+use Rattle.sch_validity.specs.Sizes.{datum_in_range, data_in_range, IsQuotable, AreQuotable, AreBytes, HaveWords}
 use Rattle.sch_validity.proofs.Parts.{both}
 use Rattle.sch_validity.proofs.Statics.{quotable_append, bytes_append}
 use Rattle.sch_validity.proofs.RangedSketches.{IsRangedLeaf, IsRanged, AreRanged}

@@ -1,6 +1,6 @@
 -- Each row of bindings, bodies and procedures makes a sketch of data that may stand in a text, and so does each row of the
 -- table.
-use Rattle.std.proofs.Common.{◌≡◌, ◌&&◌, ℕ, Bool, true, false, cond, List, ◌∷◌, Option, Some, None, refl, arith}
+use Rattle.std.proofs.Common.{◌&&◌, ℕ, Bool, true, false, cond, List, ◌∷◌, Option, Some, None, refl}
 use Rattle.sch_read.specs.Grammar.{Datum, Data, atom, list, dotted, vector, none, cons, boolean, integer, character, symbol}
 use Rattle.sch_read.specs.Grammar as grammar
 use Rattle.sch_read.specs.Parts.{how_many}
@@ -11,16 +11,14 @@ use Rattle.sch_names.specs.Scope.{Scope, Globals, Head, form, operating, calling
 use Rattle.sch_sketch.specs.declared.sketch.Position.{Position}
 use Rattle.sch_sketch.specs.declared.sketch.Row.{Row}
 use Rattle.sch_sketch.specs.declared.sketch.Row.TheVariants.{Form, Body, Method, Nest, Clauses, Cases, Tests, Chain, Join}
-use Rattle.sch_sketch.specs.Draft.{Names}
-use Rattle.sch_sketch.specs.Sketch.{Sketch, Sketches, no_sketch}
-use Rattle.sch_sketch.specs.Small.{one}
+use Rattle.sch_sketch.specs.Sketch.{Sketches, no_sketch}
 use Rattle.sch_binders.specs.Assignments.{assignment, row_set, definition, keyword_at, aimed_name, row_define}
 use Rattle.sch_binders.specs.Bindings.{bound, inits, are_bindings}
 use Rattle.sch_binders.specs.Formals.{formals, are_formals, listed, tail_of}
 use Rattle.sch_binders.specs.Definitions.{is_definition, is_define_word, defined_name, defined_sketch, inits_in, inits_of_each}
 use Rattle.sch_binders.specs.Bodies.{body_inits, expressions, is_body, body, row_body, procedure, row_lambda, method, row_method}
 use Rattle.sch_binders.specs.Binders.{is_binding_form, row_named, row_let, row_letrec, row_let_star, row_nest, starred}
-use Rattle.sch_binders.specs.Loops.{starts, steps, step, again, next_round, result, round, rounds, are_rounds, do_form, row_do}
+use Rattle.sch_binders.specs.Loops.{starts, steps, step, again, next_round, result, round, are_rounds, do_form, row_do}
 use Rattle.sch_table.specs.Outline.{row_form, outline, outline_name, call_of, outline_head, outline_datum}
 use Rattle.sch_validity.specs.Sizes.{IsQuotable, AllQuotable}
 use Rattle.sch_validity.proofs.RangedSketches.{IsRanged, AreRanged, list_parts, choice, texts_ranged, quoted_ranged, combination_ranged, chain_ranged, join_ranged, quote_ranged, if_ranged, begin_ranged, and_ranged, or_ranged, cond_ranged, clauses_ranged, case_ranged, cases_ranged, tests_ranged}

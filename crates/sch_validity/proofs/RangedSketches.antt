@@ -1,12 +1,11 @@
 -- Sketches of data that may stand in a text: each row of choices and of operations makes one from such data.
-use Rattle.std.proofs.Common.{◌≡◌, ◌≤◌, ◌&&◌, ℕ, zero, suc, Bool, true, false, cond, Option, Some, None, refl, arith}
-use Rattle.std.specs.Prelude.{max}
+use Rattle.std.proofs.Common.{◌≡◌, ◌≤◌, ℕ, zero, suc, Bool, true, false, cond, Option, Some, None, refl, arith}
 use Rattle.sch_word.specs.declared.primitive.Primitive.{Primitive}
 use Rattle.sch_word.specs.declared.primitive.Primitive.TheVariants.{MakeString, Multiply}
 use Rattle.sch_word.specs.values.Values.{is_constant, are_bytes}
 use Rattle.sch_read.specs.Grammar.{Datum, Data, atom, list, dotted, vector, none, cons, boolean, integer, character, symbol as symbol_atom}
 use Rattle.sch_read.specs.Grammar as grammar
-use Rattle.sch_read.specs.Levels.{depth, depths}
+use Rattle.sch_read.specs.Levels.{depths}
 use Rattle.sch_read.specs.Text.{max_nesting}
 use Rattle.sch_names.specs.declared.operation.Operation.{Operation}
 use Rattle.sch_names.specs.declared.operation.Operation.TheVariants.{Exact, Unit as UnitOf, UnitAnd, Nested, Chained, Filled, Newline, Not}
@@ -14,7 +13,7 @@ use Rattle.sch_names.specs.Scope.{Scope}
 use Rattle.sch_sketch.specs.declared.sketch.Position.{Position}
 use Rattle.sch_sketch.specs.declared.sketch.Position.TheVariants.{Value, Test}
 use Rattle.sch_sketch.specs.Draft.{Draft, constant, symbol, literal}
-use Rattle.sch_sketch.specs.Sketch.{Kind, Sketch, Sketches, text as datum, rest, wrong, leaf, node, limited, no_sketch, and_sketch}
+use Rattle.sch_sketch.specs.Sketch.{Sketch, Sketches, text as datum, rest, wrong, leaf, node, limited, no_sketch, and_sketch}
 use Rattle.sch_sketch.specs.Small.{texts, quoted, either_of}
 use Rattle.sch_choices.specs.Choices.{row_quote, row_begin, row_if, row_and, row_or, row_cond, row_clauses, are_clauses, clause, other_clause, receiver, remaining, is_else, is_arrow, is_some_data}
 use Rattle.sch_choices.specs.Cases.{row_case, row_cases, row_tests, are_cases, equals}

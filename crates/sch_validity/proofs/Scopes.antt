@@ -1,11 +1,11 @@
 -- Each variable of a sound draft is in scope once the draft has its numbers, and the same variables are assigned.
-use Rattle.std.proofs.Common.{◌≡◌, ℕ, suc, ◌+◌, ◌&&◌, ◌||◌, Bool, true, false, List, [], length, Option, refl, ap, subst, sym, ◌∙◌, arith, lt-ltb}
+use Rattle.std.proofs.Common.{◌≡◌, ℕ, ◌+◌, ◌||◌, Bool, true, false, List, [], Option, refl, ap, ◌∙◌, lt-ltb}
 use Rattle.std.specs.Prelude.{nat_eq}
 use Rattle.std.proofs.lemmas.Bool.{and_from}
 use Rattle.sch_lang.specs.Tree as tree
 use Rattle.sch_lang.specs.Tree.{Expression, Expressions, count_lambdas}
 use Rattle.sch_lang.specs.Variables as variables
-use Rattle.sch_lang.specs.Valid.{in_scope, each_in_scope, lambdas_in_scope}
+use Rattle.sch_lang.specs.Valid.{in_scope, each_in_scope}
 use Rattle.sch_sketch.specs.Draft.{Names, Draft, Drafts, constant, symbol, literal, local, global, set_local, set_global, define, branch, sequence, bind, letrec, lambda, call, operation, no_drafts, and_draft, count}
 use Rattle.sch_numbers.specs.Assigned.{assigns, assigns_each, is_group}
 use Rattle.sch_numbers.specs.Numbered.{procedures_of, grouped, numbered, numbered_each, others_of}

@@ -1,5 +1,5 @@
 -- Each node of a sound draft has its parts once the draft has its numbers, and no variable of a group is assigned.
-use Rattle.std.proofs.Common.{◌≡◌, ℕ, zero, suc, ◌+◌, ◌&&◌, ◌||◌, Bool, true, false, List, [], length, Option, refl, ap, ◌∙◌, arith}
+use Rattle.std.proofs.Common.{◌≡◌, ℕ, zero, suc, ◌+◌, ◌&&◌, ◌||◌, Bool, true, false, List, [], Option, refl, ◌∙◌, arith}
 use Rattle.std.specs.Prelude.{not}
 use Rattle.std.proofs.lemmas.Bool.{and_from}
 use Rattle.std.proofs.Common.{eq-eqb}
@@ -12,7 +12,7 @@ use Rattle.sch_lang.specs.Valid as valid
 use Rattle.sch_sketch.specs.Draft.{Names, Draft, Drafts, constant, symbol, literal, local, global, set_local, set_global, define, branch, sequence, bind, letrec, lambda, call, operation, no_drafts, and_draft, count}
 use Rattle.sch_numbers.specs.Assigned.{assigns, assigns_each, none_assigned, is_group}
 use Rattle.sch_numbers.specs.Numbered.{procedures_of, grouped, numbered, numbered_each, others_of}
-use Rattle.sch_validity.specs.Sound.{AreProceduresIf, IsSound, AreSound}
+use Rattle.sch_validity.specs.Sound.{IsSound, AreSound}
 use Rattle.sch_validity.proofs.Parts.{both}
 use Rattle.sch_validity.proofs.Groups.{AreLambdas, count_group, assigns_group, holds_group, group_lambdas}
 use Rattle.sch_validity.proofs.Sites.{count_numbered}

@@ -1,13 +1,13 @@
 -- The sites of a numbered draft stand in the order of the text, from the first number on.
-use Rattle.std.proofs.Common.{◌≡◌, ℕ, suc, ◌+◌, Bool, true, false, List, [], ◌∷◌, ◌++◌, length, Option, refl, sym, ap, subst, ◌∙◌, arith}
+use Rattle.std.proofs.Common.{◌≡◌, ℕ, suc, ◌+◌, Bool, true, false, List, [], ◌∷◌, ◌++◌, length, Option, refl, sym, ap, ◌∙◌, arith}
 use Rattle.sch_lang.specs.Tree as tree
 use Rattle.sch_lang.specs.Tree.{Expression, Expressions}
-use Rattle.sch_lang.specs.Measures.{over, over_each, over_lambdas, site_here}
+use Rattle.sch_lang.specs.Measures.{over, over_each, site_here}
 use Rattle.sch_lang.proofs.SitesInOrder as order
 use Rattle.sch_sketch.specs.Draft.{Names, Draft, Drafts, constant, symbol, literal, local, global, set_local, set_global, define, branch, sequence, bind, letrec, lambda, call, operation, no_drafts, and_draft, count}
 use Rattle.sch_numbers.specs.Assigned.{is_group}
 use Rattle.sch_numbers.specs.Sites.{unless_group, widths, widths_of_each}
-use Rattle.sch_numbers.specs.Numbered.{procedures_of, grouped, numbered, numbered_each, others_of}
+use Rattle.sch_numbers.specs.Numbered.{grouped, numbered, numbered_each, others_of}
 use Rattle.sch_validity.specs.Sound.{IsSound, AreSound}
 use Rattle.sch_validity.proofs.Groups.{AreLambdas, sites_group, group_lambdas}
 

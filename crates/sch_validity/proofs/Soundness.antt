@@ -1,5 +1,5 @@
 -- Each draft that stands for a sound sketch is sound: one induction over the relation, with a line for each kind.
-use Rattle.std.proofs.Common.{◌≡◌, ◌≤◌, ◌<◌, ◌+◌, ℕ, suc, Bool, true, false, length, refl, ap, subst, arith}
+use Rattle.std.proofs.Common.{◌≡◌, ◌+◌, ℕ, suc, Bool, true, false, length, refl, ap, subst, arith}
 use Rattle.std.proofs.lemmas.Bool.{leb-true}
 use Rattle.sch_names.specs.Scope.{Scope, Globals, onto}
 use Rattle.sch_sketch.specs.declared.sketch.Position.{Position}
@@ -13,7 +13,7 @@ use Rattle.sch_table.proofs.Procedures.{datum_procedure, rest_procedure}
 use Rattle.sch_expansion.specs.Expands.{AreFew, Expands, PartsExpand}
 use Rattle.sch_expansion.specs.Expands as ex
 use Rattle.sch_validity.specs.Sound.{IsProcedure, AreProcedures, AreProceduresIf, HasRest, IsSound, AreSound}
-use Rattle.sch_validity.proofs.Parts.{both, front_count, front_sound, last_sound, first_sound, but_first_sound, is_none, InPlace, IsEven, all_in, inits_in_place, body_in_place}
+use Rattle.sch_validity.proofs.Parts.{both, front_count, front_sound, last_sound, first_sound, but_first_sound, is_none, InPlace, all_in, inits_in_place, body_in_place}
 
 -- ## Nodes
 

@@ -1,5 +1,5 @@
 -- What a global holds at the start is a procedure of the library that is kept.
-use Rattle.std.proofs.Common.{◌≡◌, ◌<◌, ℕ, zero, suc, ◌||◌, Bool, true, false, cond, List, [], ◌∷◌, ◌++◌, map, length, Option, Some, None, refl, ap, sym, subst, ◌∙◌, arith, lt-ltb}
+use Rattle.std.proofs.Common.{◌≡◌, ℕ, zero, suc, ◌||◌, Bool, true, false, cond, List, [], ◌∷◌, ◌++◌, map, length, Some, None, refl, ap, sym, subst, ◌∙◌, lt-ltb}
 use Rattle.std.specs.Str.{bytes_eq}
 use Rattle.std.proofs.lemmas.Bool.{and_from}
 use Rattle.std.proofs.lemmas.Slice.Eq.{bytes_eq-Decides}
@@ -8,7 +8,7 @@ use Rattle.sch_names.specs.Scope.{is_among}
 use Rattle.sch_names.specs.NamesView.{with_name, number_of}
 use Rattle.sch_sketch.specs.Draft.{Drafts}
 use Rattle.sch_numbers.specs.Named.{firsts, own_global, library_global, globals_in, globals_in_each}
-use Rattle.sch_numbers.specs.Programs.{Definition, with_definition, kept, globals_of_each, names_of_each, seen, is_hidden, held, named, starts_with, starts}
+use Rattle.sch_numbers.specs.Programs.{Definition, with_definition, kept, globals_of_each, names_of_each, seen, is_hidden, held, named, starts}
 use Rattle.sch_validity.specs.Library.{AreAmong, AreOrdered, AreKnown}
 use Rattle.sch_validity.proofs.Names.{same, number_below}
 
@@ -96,7 +96,7 @@ named_kept (d ∷ ds) names x h k = go (bytes_eq x d.name) refl h (λ j. named_k
         (is_among x (names_of_each ds) ≡ true → is_among x (names_of_each (kept ds names)) ≡ true) → is_among x (names_of_each (kept (d ∷ ds) names)) ≡ true
     go true e j r =
         let i : is_among (library_global d.name) (names ++ globals_of_each (kept ds names)) ≡ true =
-            among_left (library_global d.name) names _ (subst (λ z. is_among (library_global z) names ≡ true) (equal x d.name e) k) in
+        among_left (library_global d.name) names _ (subst (λ z. is_among (library_global z) names ≡ true) (equal x d.name e) k) in
         rw i (ap (λ b. cond b true (is_among x (names_of_each (kept ds names)))) e)
     go false e j r = with_more x (is_among (library_global d.name) (names ++ globals_of_each (kept ds names))) d (kept ds names) (r j)
 
@@ -164,6 +164,7 @@ seen_named x (d ∷ ds) h = go (is_hidden d.name) h (seen_named x ds)
         cond b true (is_among x (names_of_each ds)) ≡ true
     more true k r = refl
     more false k r = r k
+
     go : (b : Bool) → is_among x (cond b (seen ds) (d.name ∷ seen ds)) ≡ true → (is_among x (seen ds) ≡ true → is_among x (names_of_each ds) ≡ true) →
         is_among x (names_of_each (d ∷ ds)) ≡ true
     go true k r = among_cons x d.name _ (r k)
@@ -177,6 +178,7 @@ held_named y ds (x ∷ own) h = go (is_among x (seen ds)) refl h (held_named y d
         (is_among y (held ds own) ≡ true → is_among y (names_of_each ds) ≡ true) → is_among y (names_of_each ds) ≡ true
     here true e s k r = subst (λ z. is_among z (names_of_each ds) ≡ true) (sym (equal y x e)) (seen_named x ds s)
     here false e s k r = r k
+
     go : (b : Bool) → is_among x (seen ds) ≡ b → is_among y (cond b (x ∷ held ds own) (held ds own)) ≡ true →
         (is_among y (held ds own) ≡ true → is_among y (names_of_each ds) ≡ true) → is_among y (names_of_each ds) ≡ true
     go true e k r = here (bytes_eq y x) refl e k r

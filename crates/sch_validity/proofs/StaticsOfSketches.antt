@@ -1,6 +1,6 @@
 -- What the symbols, the literals and the globals of a sketch's draft take at most, by the weight of the texts in it. Each
 -- row of choices and of operations keeps to what its texts allow.
-use Rattle.std.proofs.Common.{◌≡◌, ◌≤◌, ◌<◌, ◌+◌, ◌*◌, ℕ, zero, suc, Bool, true, false, cond, length, Option, Some, None, arith}
+use Rattle.std.proofs.Common.{◌≡◌, ◌≤◌, ◌+◌, ◌*◌, ℕ, zero, suc, Bool, true, false, cond, Option, Some, None, arith}
 use Rattle.sch_word.specs.declared.primitive.Primitive.{Primitive}
 use Rattle.sch_word.specs.declared.primitive.Primitive.TheVariants.{MakeString}
 use Rattle.sch_read.specs.Grammar.{Datum, Data, atom, list, dotted, vector, none, cons, boolean, integer, character, symbol as symbol_atom}
@@ -18,8 +18,8 @@ use Rattle.sch_sketch.specs.Measure.{literal_size, literal_sizes}
 use Rattle.sch_sketch.specs.Sketch.{Kind, setting_global, defining, Sketch, Sketches, text as datum, rest, wrong, leaf, node, limited, no_sketch, and_sketch, but_one}
 use Rattle.sch_sketch.specs.Small.{one, texts, quoted, either_of}
 use Rattle.sch_choices.specs.Choices.{row_quote, row_begin, row_if, row_and, row_or, row_cond, row_clauses, are_clauses, clause, other_clause, receiver, remaining, is_else, is_arrow, is_some_data}
-use Rattle.sch_choices.specs.Cases.{row_case, row_cases, row_tests, are_cases, equals}
-use Rattle.sch_choices.specs.Combinations.{unit, combination, denial, filler, row_chain, row_join}
+use Rattle.sch_choices.specs.Cases.{row_case, row_cases, row_tests, are_cases}
+use Rattle.sch_choices.specs.Combinations.{combination, denial, filler, row_chain, row_join}
 use Rattle.sch_validity.specs.Sizes.{statics_in}
 
 -- the operands of a chain and of a join are variables

@@ -1,8 +1,8 @@
 -- A library whose definitions are drafts, and the names that it and a text may use.
-use Rattle.std.specs.Prelude.{◌≡◌, ◌≤◌, ℕ, true, List, [], ◌∷◌, ◌++◌, map, Option, Some}
+use Rattle.std.specs.Prelude.{◌≡◌, ◌≤◌, ℕ, true, List, [], ◌∷◌, ◌++◌, map}
 use Rattle.sch_word.specs.trees.Shape.{max_levels}
 use Rattle.sch_names.specs.Scope.{is_among}
-use Rattle.sch_sketch.specs.Draft.{Names, Draft, Drafts, define, lambda, no_drafts, and_draft}
+use Rattle.sch_sketch.specs.Draft.{Draft, Drafts, define, lambda, no_drafts, and_draft}
 use Rattle.sch_numbers.specs.Constants.{HasConstants}
 use Rattle.sch_numbers.specs.Named.{own_global, library_global, globals_in, globals_in_each}
 use Rattle.sch_numbers.specs.Programs.{Definition, names_of_each}
