@@ -1,6 +1,7 @@
 -- The drafts of a text's forms are those of a valid program.
-use Rattle.std.proofs.Common.{◌≡◌, ◌≤◌, ◌*◌, ◌||◌, ℕ, Bool, true, false, cond, List, [], ◌∷◌, ◌++◌, map, Option, Some, None, refl, sym, ◌∙◌, arith}
+use Rattle.std.proofs.Common.{◌+◌, ◌≡◌, ◌≤◌, ◌*◌, ◌||◌, ℕ, Bool, true, false, cond, List, [], ◌∷◌, ◌++◌, map, Option, Some, None, refl, sym, ◌∙◌, arith}
 use Rattle.sch_word.specs.trees.Shape.{max_levels}
+use Rattle.sch_lang.specs.Measures.{nodes_and_bound}
 use Rattle.sch_lang.specs.Valid.{is_valid}
 use Rattle.sch_names.specs.declared.keyword.Keyword.{Keyword}
 use Rattle.sch_names.specs.Scope.{Globals, is_among}
@@ -17,7 +18,7 @@ use Rattle.sch_numbers.specs.Quoted.{quotes_in}
 use Rattle.sch_validity.proofs.Statics.{quotable_left, quotable_right, bytes_left, bytes_right}
 use Rattle.sch_numbers.specs.Programs.{Definition, names_of_each, program_of}
 use Rattle.sch_validity.specs.Sound.{AreSound, levels_each}
-use Rattle.sch_validity.specs.Sizes.{statics_in_each, HaveWords}
+use Rattle.sch_validity.specs.Sizes.{nodes_in_each, statics_in_each, HaveWords}
 use Rattle.sch_validity.specs.Library.{procedures_of_each, definitions_of, AreDefinitions, AreAmong, AreOrdered}
 use Rattle.sch_validity.specs.Few.{HasFew}
 use Rattle.sch_validity.specs.Forms.{Form, expression, definition, sketch_of, FormsExpand, IsBound, AreDefined, HasNames, AreOfData, form_weight, forms_weight, AreSmall}
@@ -26,6 +27,7 @@ use Rattle.sch_validity.proofs.Levels.{level}
 use Rattle.sch_validity.proofs.PlainRows.{defined_plain}
 use Rattle.sch_validity.proofs.NamedGlobals as bound
 use Rattle.sch_validity.proofs.NamedGlobals.{plain_bound, named}
+use Rattle.sch_validity.proofs.NodesOfDrafts.{nodes, form_measure}
 use Rattle.sch_validity.proofs.StaticsOfSketches.{sketch_statics}
 use Rattle.sch_validity.proofs.StaticsOfRows.{define_statics}
 use Rattle.sch_validity.proofs.StaticsOfDrafts.{statics}
@@ -33,7 +35,7 @@ use Rattle.sch_validity.proofs.RangedRows.{define_ranged}
 use Rattle.sch_validity.proofs.RangedDrafts.{AllInRange, have_constants, have_words, in_range}
 use Rattle.sch_validity.proofs.Names.{left}
 use Rattle.sch_validity.proofs.Starts.{both_among, among_append, among_map, among_left, among_right}
-use Rattle.sch_validity.proofs.Programs.{valid}
+use Rattle.sch_validity.proofs.Programs.{valid, not_large}
 
 module _ (globals : Globals) where
   -- ## A form
@@ -70,6 +72,12 @@ module _ (globals : Globals) where
   forms_statics [] (and_draft e es) h = absurd h
   forms_statics (f ∷ fs) no_drafts h = absurd h
   forms_statics (f ∷ fs) (and_draft e es) h = omega (arith, statics globals h.0 (form_sound f), form_statics f, forms_statics fs es h.1)
+
+  pub forms_nodes : (fs : List Form) (es : Drafts) → FormsExpand globals fs es → nodes_in_each es ≤ 16 * forms_weight fs
+  forms_nodes [] no_drafts h = omega arith
+  forms_nodes [] (and_draft e es) h = absurd h
+  forms_nodes (f ∷ fs) no_drafts h = absurd h
+  forms_nodes (f ∷ fs) (and_draft e es) h = omega (arith, nodes globals h.0 (form_sound f), form_measure f, forms_nodes fs es h.1)
 
   forms_in_range : (fs : List Form) (es : Drafts) → FormsExpand globals fs es → AreOfData fs → AllInRange es
   forms_in_range [] no_drafts h g = tt
@@ -127,6 +135,14 @@ pub definitions_statics : (globals : Globals) (fs : List Form) (ds : List Defini
     statics_in_each (procedures_of_each ds) ≤ 2 * forms_weight fs
 definitions_statics globals fs ds h = omega (arith, procedures_statics ds, forms_statics globals fs (definitions_of ds) h)
 
+procedures_nodes : (ds : List Definition) → nodes_in_each (procedures_of_each ds) ≤ nodes_in_each (definitions_of ds)
+procedures_nodes [] = omega arith
+procedures_nodes (d ∷ ds) = omega (arith, procedures_nodes ds)
+
+pub definitions_nodes : (globals : Globals) (fs : List Form) (ds : List Definition) → FormsExpand globals fs (definitions_of ds) →
+    nodes_in_each (procedures_of_each ds) ≤ 16 * forms_weight fs
+definitions_nodes globals fs ds h = omega (arith, procedures_nodes ds, forms_nodes globals fs (definitions_of ds) h)
+
 -- the names of one definition, where those that there are for it are its own and some that stand before it
 pub definition_ordered : (globals : Globals) (before : List (List ℕ)) (f : Form) (d : Definition) → AreDefined globals (f ∷ []) →
     FormsExpand globals (f ∷ []) (definitions_of (d ∷ [])) → ((x : List ℕ) → is_among x globals.bound ≡ true → is_among x (d.name ∷ before) ≡ true) →
@@ -146,3 +162,8 @@ valid_text ds globals own fs forms d o h b n c w m v =
     (forms_named globals own (map own_global own ++ map library_global (names_of_each ds)) (λ x i. known ds own x (n x i)) fs forms b h)
     (forms_sound globals fs forms h) (forms_level globals fs forms h) c w v
     (omega (arith, m, forms_statics globals fs forms h))
+
+-- The nodes and bound variables of a program are those of the library at most, and sixteen for each unit of the text's weight.
+pub text_not_large : (ds : List Definition) (globals : Globals) (own : List (List ℕ)) (fs : List Form) (forms : Drafts) → AreDefinitions ds → FormsExpand globals fs forms →
+    nodes_and_bound (program_of ds own forms) ≤ nodes_in_each (procedures_of_each ds) + 16 * forms_weight fs
+text_not_large ds globals own fs forms d h = omega (arith, not_large ds own forms d (forms_sound globals fs forms h), forms_nodes globals fs forms h)

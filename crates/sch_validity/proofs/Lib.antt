@@ -12,6 +12,7 @@ pub mod Names
 pub mod Statics
 pub mod Definitions
 pub mod Starts
+pub mod NodesOfDrafts
 pub mod Programs
 pub mod PlainSketches
 pub mod PlainRows

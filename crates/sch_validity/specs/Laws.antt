@@ -1,5 +1,6 @@
 -- The laws of validity: what a library and a text must be for their program to be valid.
-use Rattle.std.specs.Prelude.{◌≡◌, ◌≤◌, ◌*◌, true, ℕ, List, []}
+use Rattle.std.specs.Prelude.{◌≡◌, ◌≤◌, ◌+◌, ◌*◌, true, ℕ, List, []}
+use Rattle.sch_lang.specs.Measures.{nodes_and_bound}
 use Rattle.sch_lang.specs.Valid.{is_valid}
 use Rattle.sch_names.specs.Scope.{Globals}
 use Rattle.sch_sketch.specs.Draft.{Drafts}
@@ -8,7 +9,7 @@ use Rattle.sch_numbers.specs.Programs.{Definition, program_of}
 use Rattle.sch_validity.specs.Few.{HasFew}
 use Rattle.sch_validity.specs.Forms.{Form, FormsExpand, AreDefined, HasNames, AreOfData, forms_weight, AreSmall}
 use Rattle.sch_validity.specs.Library.{procedures_of_each, definitions_of, AreDefinitions, AreOrdered}
-use Rattle.sch_validity.specs.Sizes.{statics_in_each, HaveWords}
+use Rattle.sch_validity.specs.Sizes.{nodes_in_each, statics_in_each, HaveWords}
 
 -- a library whose procedures are sound, and each of which names itself and earlier ones alone
 abbrev pub IsLibrary : List Definition → Type 0
@@ -25,6 +26,13 @@ TextsAreValid =
     IsLibrary ds → IsText ds globals own fs forms → AreSmall ds fs →
     HasFew (program_of ds own forms) → is_valid (program_of ds own forms) ≡ true
 
+-- a program has no more nodes and bound variables than the library and sixteen for each unit of the text's weight
+abbrev pub ProgramsAreNotLarge : Type 0
+ProgramsAreNotLarge =
+    (ds : List Definition) (globals : Globals) (own : List (List ℕ)) (fs : List Form) (forms : Drafts) →
+    AreDefinitions ds → FormsExpand globals fs forms →
+    nodes_and_bound (program_of ds own forms) ≤ nodes_in_each (procedures_of_each ds) + 16 * forms_weight fs
+
 -- what stands for forms of data in range has constants in range
 abbrev pub ConstantsAreOfData : Type 0
 ConstantsAreOfData =
@@ -35,4 +43,6 @@ abbrev pub DefinitionsAreSound : Type 0
 DefinitionsAreSound =
     (globals : Globals) (fs : List Form) (ds : List Definition) → FormsExpand globals fs (definitions_of ds) →
     HaveConstants (definitions_of ds) → HaveWords (definitions_of ds) →
-    AreDefinitions ds × (statics_in_each (procedures_of_each ds) ≤ 2 * forms_weight fs)
+    AreDefinitions ds
+    × (statics_in_each (procedures_of_each ds) ≤ 2 * forms_weight fs)
+    × (nodes_in_each (procedures_of_each ds) ≤ 16 * forms_weight fs)

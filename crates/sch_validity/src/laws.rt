@@ -1,6 +1,6 @@
 //! The validity of programs, as contracts of functions that do nothing.
 
-ghost use Rattle.sch_validity.specs.Laws.{ConstantsAreOfData, DefinitionsAreSound, TextsAreValid};
+ghost use Rattle.sch_validity.specs.Laws.{ConstantsAreOfData, DefinitionsAreSound, ProgramsAreNotLarge, TextsAreValid};
 
 /// The program of a library and a text is valid, where both are small enough and no body of it has too many
 /// variables.
@@ -12,6 +12,11 @@ pub fn program_of_text_is_valid()
 /// the forms of its text.
 pub fn definitions_are_sound()
     ensures { DefinitionsAreSound }
+{}
+
+/// The program of a library and a text is at most as large as the library and the text allow.
+pub fn program_of_text_is_not_large()
+    ensures { ProgramsAreNotLarge }
 {}
 
 /// The constants of drafts are in range, and so is what they quote, where they stand for forms of data that are.
