@@ -24,5 +24,6 @@ pub mod RangedSketches
 pub mod RangedRows
 pub mod RangedDrafts
 pub mod Forms
+pub mod Items
 pub mod ReadDepths
 pub mod Examples

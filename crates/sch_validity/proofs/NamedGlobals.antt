@@ -222,6 +222,6 @@ module _ (globals : Globals) (own all : List (List ℕ)) (known : (x : List ℕ)
         (λ x i. known x (subst (λ j. IsBoundKind globals.bound j ks) i b.0)) (named_each p h.1.1 b.1)
     named (ex.within n s t at m k e w p) h b = named p h b
 
-    named_each : {k : Kind} {first : Bool} {n : ℕ} {s : Scope} {t : Position} {ks : Sketches} {es : Drafts} → PartsExpand globals k first n s t ks es → sketches.AreSound k first s ks → AreBound globals.bound ks → AreAmong all (globals_in_each own es)
+    pub named_each : {k : Kind} {first : Bool} {n : ℕ} {s : Scope} {t : Position} {ks : Sketches} {es : Drafts} → PartsExpand globals k first n s t ks es → sketches.AreSound k first s ks → AreBound globals.bound ks → AreAmong all (globals_in_each own es)
     named_each (ex.no_part k first n s t) h b = tt
     named_each (ex.and_part k first n s t p ps e es x y) h b = both_among all (globals_in own e) _ (named x h.0 b.0) (named_each y h.1 b.1)

@@ -1,18 +1,17 @@
 -- The nodes and the bound variables of a program are no more than those of its drafts, and those of a draft no more than
 -- the measure of its sketch.
-use Rattle.std.proofs.Common.{◌≡◌, ◌≤◌, ◌+◌, ◌*◌, ℕ, suc, Bool, true, false, List, [], length, Option, Some, None, refl, ap, subst, ◌∙◌, arith}
+use Rattle.std.proofs.Common.{◌≡◌, ◌≤◌, ◌+◌, ◌*◌, ℕ, Bool, true, false, List, [], length, Option, Some, None, refl, subst, arith}
 use Rattle.sch_word.specs.trees.BoundVariables.{formals_in}
 use Rattle.sch_lang.specs.Tree as tree
 use Rattle.sch_lang.specs.Tree.{Expression, Expressions, no_expressions, and_expression, count_lambdas}
-use Rattle.sch_lang.specs.Measures.{over, over_each, over_lambdas, node_and_bound, procedures, nodes_and_bound}
+use Rattle.sch_lang.specs.Measures.{over, over_each, over_lambdas, node_and_bound, procedures}
 use Rattle.sch_read.specs.Grammar.{Datum, Data, atom, list, dotted, vector, none, cons, boolean, integer, character, symbol as symbol_atom}
 use Rattle.sch_read.specs.Grammar as grammar
-use Rattle.sch_read.specs.Valid.{weights}
 use Rattle.sch_names.specs.Scope.{Scope, Globals}
 use Rattle.sch_names.specs.declared.keyword.Keyword.{Keyword}
 use Rattle.sch_sketch.specs.declared.sketch.Position.{Position}
 use Rattle.sch_sketch.specs.Draft.{Names, Draft, Drafts, constant, symbol, literal, local, global, set_local, set_global, define, branch, sequence, bind, letrec, lambda, call, operation, no_drafts, and_draft, count}
-use Rattle.sch_sketch.specs.Measure.{data_measure, leaf_measure, sketch_measure, sketches_measure}
+use Rattle.sch_sketch.specs.Measure.{data_measure, sketch_measure, sketches_measure}
 use Rattle.sch_sketch.specs.Sketch.{Kind, choosing, sequencing, binding, recurring, abstracting, calling, operating, setting, setting_global, defining, Sketch, Sketches, front, last, first, but_first, assemble, bound_by}
 use Rattle.sch_sketch.specs.Soundness.{HasParts}
 use Rattle.sch_sketch.specs.Soundness as sketches
@@ -136,7 +135,7 @@ module _ (globals : Globals) where
     nodes (ex.a_node n s t k at ks es l w p) h = omega (arith, node_nodes k es (subst (HasParts k) (counted globals p) h.0), nodes_each p h.1.1)
     nodes (ex.within n s t at m k e w p) h = omega (arith, nodes p h)
 
-    nodes_each : {k : Kind} {first : Bool} {n : ℕ} {s : Scope} {t : Position} {ks : Sketches} {es : Drafts} → PartsExpand globals k first n s t ks es → sketches.AreSound k first s ks → nodes_in_each es ≤ sketches_measure ks
+    pub nodes_each : {k : Kind} {first : Bool} {n : ℕ} {s : Scope} {t : Position} {ks : Sketches} {es : Drafts} → PartsExpand globals k first n s t ks es → sketches.AreSound k first s ks → nodes_in_each es ≤ sketches_measure ks
     nodes_each (ex.no_part k first n s t) h = omega arith
     nodes_each (ex.and_part k first n s t p ps e es x y) h = omega (arith, nodes x h.0, nodes_each y h.1)
 

@@ -9,13 +9,13 @@ use Rattle.sch_sketch.specs.declared.sketch.Position.{Position}
 use Rattle.sch_sketch.specs.Draft.{Draft, Drafts, constant, symbol, literal, local, global, set_local, set_global, define, branch, sequence, bind, letrec, lambda, call, operation, no_drafts, and_draft}
 use Rattle.sch_sketch.specs.Sketch.{Kind, choosing, sequencing, binding, recurring, abstracting, calling, operating, setting, setting_global, defining, Sketch, Sketches, front, last, first, but_first, assemble}
 use Rattle.sch_sketch.specs.Soundness as sketches
+use Rattle.sch_table.proofs.SoundRows.{datum_sound, rest_sound}
 use Rattle.sch_expansion.specs.Expands.{Expands, PartsExpand}
 use Rattle.sch_expansion.specs.Expands as ex
-use Rattle.sch_table.proofs.SoundRows.{datum_sound, rest_sound}
 use Rattle.sch_numbers.specs.Constants.{HasConstants, HaveConstants}
 use Rattle.sch_numbers.specs.Named.{symbols_in, symbols_in_each, symbols_of_datum, symbols_of_data}
 use Rattle.sch_numbers.specs.Quoted.{quotes_in, quotes_in_each}
-use Rattle.sch_validity.specs.Sizes.{datum_in_range, data_in_range, IsQuotable, AreQuotable, AreBytes, HaveWords}
+use Rattle.sch_validity.specs.Sizes.{datum_in_range, data_in_range, IsQuotable, AreQuotable, AreBytes, HasWords, HaveWords}
 use Rattle.sch_validity.proofs.Parts.{both}
 use Rattle.sch_validity.proofs.Statics.{quotable_append, bytes_append}
 use Rattle.sch_validity.proofs.RangedSketches.{IsRangedLeaf, IsRanged, AreRanged}
@@ -46,7 +46,7 @@ abbrev mutual
 -- ## Constants and quotations
 
 mutual
-  has_constants : (e : Draft) → InRange e → HasConstants e
+  pub has_constants : (e : Draft) → InRange e → HasConstants e
   has_constants (constant c) h = h
   has_constants (symbol x) h = tt
   has_constants (literal d) h = tt
@@ -128,6 +128,9 @@ mutual
   all_bytes no_drafts h = tt
   all_bytes (and_draft e es) h = bytes_append (symbols_in e) _ (bytes e h.0) (all_bytes es h.1)
 
+pub has_words : (e : Draft) → InRange e → HasWords e
+has_words e h = (quotable e h, bytes e h)
+
 pub have_words : (es : Drafts) → AllInRange es → HaveWords es
 have_words es h = (all_quotable es h, all_bytes es h)
 
@@ -192,6 +195,6 @@ module _ (globals : Globals) where
     in_range (ex.a_node n s t k at ks es l w p) h g = node_in_range k es (in_range_each p h.1.1 g)
     in_range (ex.within n s t at m k e w p) h g = in_range p h g
 
-    in_range_each : {k : Kind} {first : Bool} {n : ℕ} {s : Scope} {t : Position} {ks : Sketches} {es : Drafts} → PartsExpand globals k first n s t ks es → sketches.AreSound k first s ks → AreRanged ks → AllInRange es
+    pub in_range_each : {k : Kind} {first : Bool} {n : ℕ} {s : Scope} {t : Position} {ks : Sketches} {es : Drafts} → PartsExpand globals k first n s t ks es → sketches.AreSound k first s ks → AreRanged ks → AllInRange es
     in_range_each (ex.no_part k first n s t) h g = tt
     in_range_each (ex.and_part k first n s t p ps e es x y) h g = (in_range x h.0 g.0, in_range_each y h.1 g.1)
