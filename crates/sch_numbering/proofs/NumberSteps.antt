@@ -111,6 +111,17 @@ found_name (w ∷ ws) 0 v h = ap (λ o. one_name (option_or o v)) (sym h)
     option_or (Some w) v = w
 found_name (w ∷ ws) (suc n) v h = found_name ws n v h
 
+pub name_is : {names : List (Option (Bor (List ℕ)))} {v : Option (List ℕ)} {at i : ℕ} → v ≡ first_of (drop at (given_names names)) → at ≡ i → v ≡ first_of (drop i (given_names names))
+name_is {names} h e = h ∙ ap (λ n. first_of (drop n (given_names names))) e
+
+-- ## Groups
+
+pub group_is : {group p : Bool} {xs ys es : List code.Draft} {x y e : code.Draft} → group ≡ is_group p (drafts_of xs) (draft_of x) → xs ≡ es → ys ≡ es → x ≡ e → y ≡ e → group ≡ is_group p (drafts_of ys) (draft_of y)
+group_is h k l m n = rw (l, n, sym k, sym m) h
+
+pub unless_is : {n m : ℕ} {group : Bool} {s s' : List ℕ} → n ≡ m → s' ≡ s ++ unless_group group n → s' ≡ s ++ unless_group group m
+unless_is h k = rw (sym h) k
+
 -- ## One draft after another
 
 -- expressions that were made, and then others

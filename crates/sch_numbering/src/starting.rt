@@ -22,7 +22,8 @@ fn procedure_number(definitions: &[Definition<'_>], x: &[u8]) -> Result<u32, Mem
         if x == d.name {
             return number_of_32(n);
         }
-        n = further(n, 1)?;
+        let next = further(n, 1)?;
+        n = next;
     }
     number_of_32(n)
 }
