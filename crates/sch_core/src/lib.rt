@@ -3,18 +3,10 @@
 
 mod error;
 mod expander;
-mod laws;
-mod nesting;
-mod numbering;
+mod library;
 mod places;
-mod program;
-mod toplevel;
-mod variables;
 
 pub use error::{CoreError, Kind};
 pub use expander::core;
-pub use laws::{
-    data_have_a_program_or_an_error, data_have_one_error, data_have_one_program,
-    expansion_is_unique, fault_or_expansion,
-};
+pub use library::{Definition, Library};
 pub use places::form_places;

@@ -1,0 +1,4 @@
+pub mod Forms
+pub mod Assigned
+pub mod Texts
+pub mod Views
