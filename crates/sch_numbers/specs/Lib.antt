@@ -1,4 +1,5 @@
 pub mod Named
+pub mod Listed
 pub mod Quoted
 pub mod Assigned
 pub mod Sites

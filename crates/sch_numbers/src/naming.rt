@@ -4,9 +4,10 @@ ghost use Rattle.std.specs.Prelude.{◌≡◌, OnOk};
 ghost use Rattle.sch_read.specs.Views.{tree_of, data_of};
 ghost use Rattle.sch_names.specs.NamesView.{names_of, with_name};
 ghost use Rattle.sch_sketch.specs.DraftView.{draft_of, drafts_of};
+ghost use Rattle.sch_numbers.specs.Listed.{IsListed, AreListed};
 ghost use Rattle.sch_numbers.specs.Named.{firsts, global_of, globals_in, globals_in_each, symbols_in, symbols_in_each, symbols_of_datum, symbols_of_data};
 
-use crate::tables::{Tables, global_key};
+use crate::tables::{Table, Tables, global_key};
 use sch_names::Names;
 use sch_read::{Atom, Datum, Node};
 use sch_sketch::Draft;
@@ -16,8 +17,9 @@ use std::alloc::Global;
 /// Adds the symbols in a datum.
 #[cycle(spelling)]
 #[tactic(auto, using(crate::proofs::NameSteps::then_named))]
-fn name_datum(alloc: Global, d: &Datum, symbols: &mut Names) -> Result<(), Mem>
-    ensures { OnOk result (names_of symbols.new ≡ firsts (names_of symbols.old) (symbols_of_datum (tree_of d.now))) }
+fn name_datum(alloc: Global, d: &Datum, symbols: &mut Table) -> Result<(), Mem>
+    ensures names { OnOk result (names_of symbols.new.names ≡ firsts (names_of symbols.old.names) (symbols_of_datum (tree_of d.now))) }
+    ensures listed { OnOk result (IsListed symbols.old → IsListed symbols.new) }
 {
     match &d.node {
         Node::Atom(Atom::Symbol(x)) => symbols.insert(alloc, x.as_slice()),
@@ -34,8 +36,9 @@ fn name_datum(alloc: Global, d: &Datum, symbols: &mut Names) -> Result<(), Mem>
 
 /// Adds the symbols in data.
 #[cycle(spelling)]
-fn name_data(alloc: Global, items: &[Datum], symbols: &mut Names) -> Result<(), Mem>
-    ensures { OnOk result (names_of symbols.new ≡ firsts (names_of symbols.old) (symbols_of_data (data_of items.now))) }
+fn name_data(alloc: Global, items: &[Datum], symbols: &mut Table) -> Result<(), Mem>
+    ensures names { OnOk result (names_of symbols.new.names ≡ firsts (names_of symbols.old.names) (symbols_of_data (data_of items.now))) }
+    ensures listed { OnOk result (IsListed symbols.old → IsListed symbols.new) }
 {
     for d in items {
         name_datum(alloc, d, symbols)?;
@@ -45,8 +48,9 @@ fn name_data(alloc: Global, items: &[Datum], symbols: &mut Names) -> Result<(), 
 
 /// Adds a global.
 fn name_global(alloc: Global, own: &Names, x: &[u8], tables: &mut Tables) -> Result<(), Mem>
-    ensures globals { OnOk result (names_of tables.new.globals ≡ with_name (global_of (names_of own.now) x.now) (names_of tables.old.globals)) }
+    ensures globals { OnOk result (names_of tables.new.globals.names ≡ with_name (global_of (names_of own.now) x.now) (names_of tables.old.globals.names)) }
     ensures symbols { OnOk result (tables.new.symbols ≡ tables.old.symbols) }
+    ensures listed { OnOk result (IsListed tables.old.globals → IsListed tables.new.globals) }
 {
     let key = global_key(alloc, own, x)?;
     tables.globals.insert(alloc, key.as_slice())?;
@@ -56,8 +60,9 @@ fn name_global(alloc: Global, own: &Names, x: &[u8], tables: &mut Tables) -> Res
 /// Adds the globals and the symbols that a draft names, in a text that has these globals of its own.
 #[cycle(naming)]
 pub fn name_draft(alloc: Global, own: &Names, e: &Draft<'_>, tables: &mut Tables) -> Result<(), Mem>
-    ensures globals { OnOk result (names_of tables.new.globals ≡ firsts (names_of tables.old.globals) (globals_in (names_of own.now) (draft_of e.now))) }
-    ensures symbols { OnOk result (names_of tables.new.symbols ≡ firsts (names_of tables.old.symbols) (symbols_in (draft_of e.now))) }
+    ensures globals { OnOk result (names_of tables.new.globals.names ≡ firsts (names_of tables.old.globals.names) (globals_in (names_of own.now) (draft_of e.now))) }
+    ensures symbols { OnOk result (names_of tables.new.symbols.names ≡ firsts (names_of tables.old.symbols.names) (symbols_in (draft_of e.now))) }
+    ensures listed { OnOk result (AreListed tables.old → AreListed tables.new) }
 {
     match e {
         Draft::Constant(_) => Ok(()),
@@ -111,8 +116,9 @@ pub fn name_each(
     es: &[Draft<'_>],
     tables: &mut Tables,
 ) -> Result<(), Mem>
-    ensures globals { OnOk result (names_of tables.new.globals ≡ firsts (names_of tables.old.globals) (globals_in_each (names_of own.now) (drafts_of es.now))) }
-    ensures symbols { OnOk result (names_of tables.new.symbols ≡ firsts (names_of tables.old.symbols) (symbols_in_each (drafts_of es.now))) }
+    ensures globals { OnOk result (names_of tables.new.globals.names ≡ firsts (names_of tables.old.globals.names) (globals_in_each (names_of own.now) (drafts_of es.now))) }
+    ensures symbols { OnOk result (names_of tables.new.symbols.names ≡ firsts (names_of tables.old.symbols.names) (symbols_in_each (drafts_of es.now))) }
+    ensures listed { OnOk result (AreListed tables.old → AreListed tables.new) }
 {
     for e in es {
         name_draft(alloc, own, e, tables)?;

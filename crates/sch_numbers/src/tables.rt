@@ -1,28 +1,63 @@
 //! The tables by which numbers are given, and what is numbered so far.
 
-ghost use Rattle.std.specs.Prelude.{◌≡◌, [], IfOk};
-ghost use Rattle.sch_names.specs.NamesView.{names_of, number_of};
+ghost use Rattle.std.specs.Prelude.{◌≡◌, [], IfOk, OnOk};
+ghost use Rattle.sch_names.specs.NamesView.{names_of, number_of, with_name};
+ghost use Rattle.sch_numbers.specs.Listed.{IsListed, AreListed};
 ghost use Rattle.sch_numbers.specs.Named.{global_of};
 
 use sch_names::Names;
-use sch_word::{List, Lit, Mem};
+use sch_word::{Bytes, List, Lit, Mem};
 use std::alloc::Global;
+
+/// Names in the order of their first occurrences: a table to find their numbers in, and a list of them.
+#[derive(Drop)]
+pub struct Table {
+    pub names: Names,
+    pub list: List<Bytes>,
+}
+
+impl Table {
+    pub fn new(alloc: Global) -> Table
+        ensures names { names_of result.names ≡ [] }
+        ensures listed { IsListed result }
+    {
+        Table {
+            names: Names::new(alloc),
+            list: List::new(alloc),
+        }
+    }
+
+    /// One more name, if it is new.
+    pub fn insert(&mut self, alloc: Global, x: &[u8]) -> Result<(), Mem>
+        ensures names { OnOk result (names_of self.new.names ≡ with_name x.now (names_of self.old.names)) }
+        ensures listed { OnOk result (IsListed self.old → IsListed self.new) }
+    {
+        if self.names.contains(x) {
+            return Ok(());
+        }
+        self.names.insert(alloc, x)?;
+        let name = List::from_slice(alloc, x)?;
+        self.list.push(name)?;
+        Ok(())
+    }
+}
 
 /// The globals and the symbols of a program, in the order in which it first names them.
 #[derive(Drop)]
 pub struct Tables {
-    pub globals: Names,
-    pub symbols: Names,
+    pub globals: Table,
+    pub symbols: Table,
 }
 
 impl Tables {
     pub fn new(alloc: Global) -> Tables
-        ensures globals { names_of result.globals ≡ [] }
-        ensures symbols { names_of result.symbols ≡ [] }
+        ensures globals { names_of result.globals.names ≡ [] }
+        ensures symbols { names_of result.symbols.names ≡ [] }
+        ensures listed { AreListed result }
     {
         Tables {
-            globals: Names::new(alloc),
-            symbols: Names::new(alloc),
+            globals: Table::new(alloc),
+            symbols: Table::new(alloc),
         }
     }
 }

@@ -41,4 +41,5 @@ name_each-loop-e-preserved t c =
     record {
       globals = next_named (globals_in own) (globals_in_each own) _ _ _ es i e c.loop-e-test.true c.e-item.is (ap (globals_in_each own) n) c.in_ok-name_draft.ensures.globals c.loop-e.invariant.globals;
       symbols = next_named symbols_in symbols_in_each _ _ _ es i e c.loop-e-test.true c.e-item.is (ap symbols_in_each n) c.in_ok-name_draft.ensures.symbols c.loop-e.invariant.symbols;
+      listed = λ h. c.in_ok-name_draft.ensures.listed (c.loop-e.invariant.listed h);
     }
