@@ -2,3 +2,4 @@ pub mod Programs
 pub mod Answer
 pub mod Laws
 pub mod Libraries
+pub mod Definitions

@@ -1,41 +1,55 @@
--- A library as plain data, and its size.
-use Rattle.std.specs.Prelude.{ℕ, ◌+◌, List, [], ◌∷◌, map}
-use Rattle.sch_sketch.specs.Draft.{Draft, Drafts, constant, symbol, literal, local, global, set_local, set_global, define, branch, sequence, bind, letrec, lambda, call, operation, no_drafts, and_draft, count}
-use Rattle.sch_sketch.specs.DraftView.{draft_of}
+-- The definitions that the items of a library stand for, and why they have none.
+use Rattle.std.specs.Prelude.{◌≡◌, ◌≤◌, ℕ, List, [], ◌∷◌, Option, Some, None, map}
+use Rattle.sch_read.specs.Grammar.{Data}
+use Rattle.sch_sketch.specs.declared.fault.Fault.{Fault}
+use Rattle.sch_sketch.specs.Draft.{Draft}
+use Rattle.sch_expansion.specs.FaultOrder.{rank}
+use Rattle.sch_numbers.specs.Numbered.{numbered}
 use Rattle.sch_numbers.specs.Programs.{Definition}
-use Rattle.sch_core.specs.declared.library.Definition as code
-use Rattle.sch_core.specs.declared.library.Library.{Library}
+use Rattle.sch_toplevel.specs.Items.{item_places, ItemsExpand, ItemHasFault, ItemsRead}
+use Rattle.sch_core.specs.declared.error.CoreError.{CoreError}
+use Rattle.sch_core.specs.declared.error.CoreError.TheVariants as errors
+use Rattle.sch_core.specs.declared.error.Kind.{Kind}
+use Rattle.sch_core.specs.declared.error.Kind.TheVariants as kinds
+use Rattle.sch_core.specs.Answer.{IsErrorFor}
+use Rattle.sch_core.specs.Programs.{excess, at_place}
 
-abbrev pub definition_of : code.Definition → Definition
-definition_of d = record { name = d.name.now; formals = d.formals; rest = d.rest; body = draft_of d.body }
+-- what the procedure of a definition has too much of; the numbers of its globals, sites and literals are all one
+abbrev pub definition_excess : Definition → Option Kind
+definition_excess d = excess d.formals (numbered [] [] [] None d.body 0 0)
 
-abbrev pub definitions_of : Library → List Definition
-definitions_of l = map definition_of l.definitions
+-- no procedure has too much of anything
+abbrev pub AreFew : List Definition → Type 0
+AreFew [] = Unit {0}
+AreFew (d ∷ ds) = (definition_excess d ≡ None) × AreFew ds
 
--- the nodes of a draft and the variables that they bind
-abbrev mutual
-  pub draft_size : Draft → ℕ
-  draft_size (constant c) = 1
-  draft_size (symbol x) = 1
-  draft_size (literal d) = 1
-  draft_size (local k) = 1
-  draft_size (global x) = 1
-  draft_size (set_local k e) = 1 + draft_size e
-  draft_size (set_global x e) = 1 + draft_size e
-  draft_size (define x e) = 1 + draft_size e
-  draft_size (branch a b c) = 1 + (draft_size a + (draft_size b + draft_size c))
-  draft_size (sequence es) = 1 + drafts_size es
-  draft_size (bind vs es e) = 1 + (count es + (drafts_size es + draft_size e))
-  draft_size (letrec vs p es e) = 1 + (count es + (drafts_size es + draft_size e))
-  draft_size (lambda n r e) = 1 + (n + draft_size e)
-  draft_size (call f es) = 1 + (draft_size f + drafts_size es)
-  draft_size (operation p es) = 1 + drafts_size es
+-- the first definition that has too much of something, and its place
+abbrev pub first_definition_excess : (places : List ℕ) → List Definition → Option (Kind × ℕ)
+first_definition_excess (at ∷ places) (d ∷ ds) = at_place at (definition_excess d) (first_definition_excess places ds)
+first_definition_excess _ _ = None
 
-  pub drafts_size : Drafts → ℕ
-  drafts_size no_drafts = 0
-  drafts_size (and_draft e es) = draft_size e + drafts_size es
+-- the definitions of items without a fault, none of which has too much of anything
+pub record IsLibraryOf (items : Data) (ds : List Definition) : Type 0 where
+  pub expands : ItemsExpand [] items ds
+  pub fits : first_definition_excess (item_places items) ds ≡ None
 
--- the nodes of a library's procedures and the variables that they bind
-abbrev pub library_size : List Definition → ℕ
-library_size [] = 0
-library_size (d ∷ ds) = draft_size (lambda d.formals d.rest d.body) + library_size ds
+-- items without a fault, of which the one at this place is the first that has too much of something
+pub record LibraryExceedsAt (items : Data) (kind : Kind) (at : ℕ) : Type 0 where
+  pub definitions : List Definition
+  pub expands : ItemsExpand [] items definitions
+  pub exceeding : first_definition_excess (item_places items) definitions ≡ Some (kind, at)
+
+-- the fault that is answered: a least one, and of two at one place and of one cause the one that is found first in
+-- the order of the text
+pub record IsLibraryFault (items : Data) (f : Fault) : Type 0 where
+  pub there : ItemHasFault [] items f
+  pub least : (g : Fault) → ItemHasFault [] items g → rank f ≤ rank g
+  pub drafts : List Draft
+  pub first : ItemsRead [] items None (Some f) drafts
+
+-- the error is out of memory, names the fault of the items, or the first item with too many variables
+abbrev pub IsLibraryError : Data → CoreError → Type 0
+IsLibraryError items errors.Memory = Unit {0}
+IsLibraryError items (errors.Limit kinds.Variables at) = LibraryExceedsAt items kinds.Variables at
+IsLibraryError items (errors.Limit kinds.Free at) = LibraryExceedsAt items kinds.Free at
+IsLibraryError items e = (f : Fault) × IsErrorFor e f × IsLibraryFault items f

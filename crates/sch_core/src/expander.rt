@@ -3,7 +3,7 @@
 ghost use Rattle.std.specs.Prelude.{◌≡◌, ◌≤◌, ◌+◌, ◌*◌, length, IfOk, IfErr, MatchResult};
 ghost use Rattle.sch_read.specs.Views.{data_of};
 ghost use Rattle.sch_core.specs.Answer.{IsErrorIn};
-ghost use Rattle.sch_core.specs.Libraries.{definitions_of, library_size};
+ghost use Rattle.sch_core.specs.Definitions.{definitions_of, size_of_definitions};
 ghost use Rattle.sch_core.specs.Programs.{IsProgramOf, form_places};
 ghost use Rattle.sch_lang.specs.Measures.{nodes_and_bound};
 ghost use Rattle.sch_lang.specs.ProgramView.{source};
@@ -26,7 +26,7 @@ pub fn core(
     requires light { weights (data_of items.now) ≤ max_weight }
     ensures found { IfOk result (λ p. IsProgramOf (definitions_of library.now) (data_of items.now) (source p)) }
     ensures size { IfOk result (λ p. nodes_and_bound (source p)
-        ≤ 16 * weights (data_of items.now) + library_size (definitions_of library.now)) }
+        ≤ 16 * weights (data_of items.now) + size_of_definitions (definitions_of library.now)) }
     // Each form has a place.
     ensures places { IfOk result (λ p. length (form_places (data_of items.now)) ≡ count (source p).forms) }
     ensures only { (p : Source) → IsProgramOf (definitions_of library.now) (data_of items.now) p →

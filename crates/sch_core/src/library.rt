@@ -1,7 +1,7 @@
 //! Libraries.
 
 ghost use Rattle.std.specs.Prelude.{◌≡◌, []};
-ghost use Rattle.sch_core.specs.Libraries.{definitions_of};
+ghost use Rattle.sch_core.specs.Definitions.{definitions_of};
 
 use sch_sketch::Draft;
 use sch_word::List;

@@ -12,10 +12,10 @@ use sch_word::{Mem, Primitive};
 use std::alloc::Global;
 
 /// Adds names.
-pub(crate) fn add_names(alloc: Global, given: &[&[u8]], names: &mut Names) -> Result<(), Mem>
-    ensures { OnOk result (names_of names.new ≡ firsts (names_of names.old) (given given.now)) }
+pub(crate) fn add_names(alloc: Global, xs: &[&[u8]], names: &mut Names) -> Result<(), Mem>
+    ensures { OnOk result (names_of names.new ≡ firsts (names_of names.old) (given xs.now)) }
 {
-    for x in given {
+    for x in xs {
         names.insert(alloc, x)?;
     }
     Ok(())

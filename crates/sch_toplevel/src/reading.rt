@@ -1,8 +1,10 @@
 //! Texts that are read form by form.
 
 ghost use Rattle.std.specs.Prelude.{◌≡◌, [], map, true, false, IfOk};
+ghost use Rattle.sch_word.specs.values.Primitives.{name_of};
 ghost use Rattle.sch_read.specs.Views.{data_of};
 ghost use Rattle.sch_names.specs.NamesView.{names_of, globals_of};
+ghost use Rattle.sch_names.specs.Operations.{of_numbers};
 ghost use Rattle.sch_sketch.specs.declared.sketch.Position.TheVariants.{Value};
 ghost use Rattle.sch_sketch.specs.DraftView.{drafts_of};
 ghost use Rattle.sch_sketch.specs.Sketch.{sketches, sequencing};
@@ -10,7 +12,7 @@ ghost use Rattle.sch_expansion.specs.Reads.{PartsRead};
 ghost use Rattle.sch_numbers.specs.Named.{firsts};
 ghost use Rattle.sch_toplevel.specs.Assigned.{assigned_in_each};
 ghost use Rattle.sch_toplevel.specs.Forms.{form_sketch, defined_by_each};
-ghost use Rattle.sch_toplevel.specs.Texts.{IsRead};
+ghost use Rattle.sch_toplevel.specs.Texts.{IsReadOnce, IsRead};
 ghost use Rattle.sch_toplevel.specs.Views.{trees_of, given};
 
 use crate::assigned::add_assigned_each;
@@ -51,6 +53,16 @@ fn read_forms<'a>(
     Ok(all)
 }
 
+/// The names that there are for a text which sees these names of a library.
+fn bound_names(alloc: Global, seen: &[&[u8]], forms: &[&Datum]) -> Result<Names, Mem>
+    ensures { IfOk result (λ bound. names_of bound ≡ firsts (firsts [] (given seen.now)) (defined_by_each (map form_sketch (trees_of forms.now)))) }
+{
+    let mut bound = Names::new(alloc);
+    add_names(alloc, seen, &mut bound)?;
+    add_defined_by_each(alloc, forms, &mut bound)?;
+    Ok(bound)
+}
+
 /// The names of its own that a text has which defines and assigns these.
 fn own_names(alloc: Global, forms: &[&Datum], drafts: &[Draft<'_>]) -> Result<Names, Mem>
     ensures { IfOk result (λ own. names_of own ≡ firsts (firsts [] (defined_by_each (map form_sketch (trees_of forms.now))))
@@ -60,6 +72,28 @@ fn own_names(alloc: Global, forms: &[&Datum], drafts: &[Draft<'_>]) -> Result<Na
     add_defined_by_each(alloc, forms, &mut own)?;
     add_assigned_each(alloc, drafts, &mut own)?;
     Ok(own)
+}
+
+/// The names of sums and comparisons.
+fn numbers(alloc: Global) -> Result<Names, Mem>
+    ensures { IfOk result (λ names. names_of names ≡ firsts [] (map name_of of_numbers)) }
+{
+    let mut names = Names::new(alloc);
+    add_numbers(alloc, &mut names)?;
+    Ok(names)
+}
+
+/// The drafts of forms as if the names of sums and comparisons were the text's own.
+fn read_scoped<'a>(alloc: Global, seen: &[&[u8]], forms: &[&'a Datum]) -> Result<List<Draft<'a>>, Mem>
+    ensures { IfOk result (λ es. IsReadOnce (given seen.now) (trees_of forms.now) (drafts_of es)) }
+{
+    let globals = Globals {
+        bound: bound_names(alloc, seen, forms)?,
+        own: numbers(alloc)?,
+        internal: false,
+    };
+    let mut fault = None;
+    read_forms(alloc, &globals, forms, &mut fault)
 }
 
 /// Reads a text that sees these names of a library. It is read twice: what it assigns is known only then.
@@ -72,19 +106,12 @@ pub fn read_text<'a>(
 {
     let mut forms = List::new(alloc);
     add_forms(items, &mut forms)?;
-    let mut bound = Names::new(alloc);
-    add_names(alloc, seen, &mut bound)?;
-    add_defined_by_each(alloc, forms.as_slice(), &mut bound)?;
-    let mut numbers = Names::new(alloc);
-    add_numbers(alloc, &mut numbers)?;
-    let mut globals = Globals {
-        bound,
-        own: numbers,
+    let first = read_scoped(alloc, seen, forms.as_slice())?;
+    let globals = Globals {
+        bound: bound_names(alloc, seen, forms.as_slice())?,
+        own: own_names(alloc, forms.as_slice(), first.as_slice())?,
         internal: false,
     };
-    let mut ignored = None;
-    let first = read_forms(alloc, &globals, forms.as_slice(), &mut ignored)?;
-    globals.own = own_names(alloc, forms.as_slice(), first.as_slice())?;
     let mut fault = None;
     let drafts = read_forms(alloc, &globals, forms.as_slice(), &mut fault)?;
     let Globals {

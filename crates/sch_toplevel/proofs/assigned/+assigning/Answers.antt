@@ -1,5 +1,4 @@
 use Rattle.std.proofs.Common.{ap, refl}
-use Rattle.sch_names.specs.NamesView.{names_of}
 use Rattle.sch_numbers.proofs.DraftViews.{branch_view, bind_view, letrec_view, call_view}
 use Rattle.sch_numbers.proofs.DraftLists.{next_draft}
 use Rattle.sch_numbers.proofs.NameSteps.{next_named}
