@@ -1,0 +1,157 @@
+-- Small drafts: which are sound, how deep they are, what they take, and programs that are valid.
+use Rattle.std.proofs.Common.{◌≡◌, true, false, [], ◌∷◌, Some, None, refl, codes, arith}
+use Rattle.sch_word.specs.declared.constant.Const.TheVariants.{Nil}
+use Rattle.sch_word.specs.declared.primitive.Primitive.TheVariants.{Cons, Car}
+use Rattle.sch_lang.specs.Valid.{is_valid}
+use Rattle.sch_read.specs.Grammar.{Datum, atom, list, none, cons, text, symbol as symbol_atom, character}
+use Rattle.sch_sketch.specs.Draft.{Draft, Drafts, constant, symbol, literal, local, global, set_local, define, sequence, bind, letrec, lambda, call, operation, no_drafts, and_draft}
+use Rattle.sch_names.specs.Scope.{Globals}
+use Rattle.sch_names.specs.Words.{keyword_of}
+use Rattle.sch_sketch.specs.declared.sketch.Position.TheVariants.{Value}
+use Rattle.sch_sketch.specs.Sketch as sketch
+use Rattle.sch_sketch.specs.Sketch.{no_sketch, and_sketch}
+use Rattle.sch_expansion.specs.Expands as ex
+use Rattle.sch_validity.specs.Forms.{Form, expression, definition, FormsExpand, AreDefined, forms_weight}
+use Rattle.sch_numbers.specs.Programs.{Definition, program_of}
+use Rattle.sch_validity.specs.Sound.{IsSound, levels}
+use Rattle.sch_validity.specs.Library.{AreOrdered, AreKnown}
+use Rattle.sch_validity.specs.Sizes.{statics_in, datum_in_range, AreQuotable}
+
+-- ## Soundness
+
+-- `(lambda (x . r) x)` has two formals
+takes_rest : IsSound 0 (lambda 2 true (local 1))
+takes_rest = (omega arith, omega arith, omega arith)
+
+unbound : IsSound 2 (local 2) → ⊥
+unbound h = absurd (omega (arith, h))
+
+no_rest : IsSound 0 (lambda 0 true (constant Nil)) → ⊥
+no_rest h = absurd (omega (arith, h.0))
+
+empty_sequence : IsSound 0 (sequence no_drafts) → ⊥
+empty_sequence h = absurd (omega (arith, h.0))
+
+one_operand : IsSound 0 (operation Cons (and_draft (constant Nil) no_drafts)) → ⊥
+one_operand h = cc
+
+-- the body of a binding is inside it, and an init is not
+body_inside : IsSound 0 (bind (None ∷ []) (and_draft (constant Nil) no_drafts) (local 0))
+body_inside = (omega arith, (refl, tt), omega arith)
+
+init_outside : IsSound 0 (bind (None ∷ []) (and_draft (local 0) no_drafts) (constant Nil)) → ⊥
+init_outside h = absurd (omega (arith, h.1.0))
+
+init_inside : IsSound 0 (letrec (None ∷ []) false (and_draft (local 0) no_drafts) (constant Nil))
+init_inside = (omega arith, tt, (omega arith, tt), refl)
+
+-- what is said to be a group has procedures alone
+no_group : IsSound 0 (letrec (None ∷ []) true (and_draft (constant Nil) no_drafts) (constant Nil)) → ⊥
+no_group h = h.1.0
+
+-- ## Levels
+
+-- the body of a procedure of a group is two levels below it
+group_levels : levels (letrec (None ∷ []) true (and_draft (lambda 0 false (constant Nil)) no_drafts) (local 0)) ≡ 3
+group_levels = refl
+
+call_levels : levels (call (local 0) (and_draft (define (codes "x") (constant Nil)) no_drafts)) ≡ 3
+call_levels = refl
+
+-- ## Statics
+
+-- `(a "bc")` has two pairs' ends, a symbol with its name, and a text
+quoted : Datum
+quoted = list 0 (cons (atom 1 (symbol_atom (codes "a"))) (cons (atom 3 (text (codes "bc"))) none))
+
+some_statics : statics_in (call (global (codes "f")) (and_draft (literal quoted) (and_draft (symbol (codes "xyz")) no_drafts))) ≡ 13
+unfolding quoted
+some_statics = refl
+
+byte_in_range : datum_in_range (list 0 (cons (atom 1 (character 255)) none)) ≡ true
+byte_in_range = refl
+
+character_too_large : datum_in_range (list 0 (cons (atom 1 (character 256)) none)) ≡ false
+character_too_large = refl
+
+not_quotable : AreQuotable (list 0 (cons (atom 1 (character 256)) none) ∷ []) → ⊥
+not_quotable h = cc
+
+-- ## Forms
+
+-- `(define a b)`, and what stands for it where b is a global
+defining : Form
+defining = definition 0 (cons (atom 8 (symbol_atom (codes "a"))) (cons (atom 10 (symbol_atom (codes "b"))) none))
+
+named_ab : Globals
+named_ab = record { bound = codes "a" ∷ codes "b" ∷ []; own = []; internal = false }
+
+named_b : Globals
+named_b = record { bound = codes "b" ∷ []; own = []; internal = false }
+
+expanded : FormsExpand named_ab (defining ∷ []) (and_draft (define (codes "a") (global (codes "b"))) no_drafts)
+unfolding defining named_ab keyword_of
+expanded = (
+  ex.a_node 1 [] Value (sketch.defining (codes "a")) 0 (and_sketch (sketch.text (atom 10 (symbol_atom (codes "b")))) no_sketch)
+      (and_draft (global (codes "b")) no_drafts) refl refl
+      (ex.and_part _ true 2 [] Value _ no_sketch _ no_drafts (ex.a_datum 2 [] Value _ _ (ex.a_leaf 2 [] Value 10 _ refl)) (ex.no_part _ false 2 [] Value)),
+  tt,
+)
+
+-- a name that there is not is not defined
+defined : AreDefined named_ab (defining ∷ [])
+unfolding defining named_ab
+defined = (refl, tt)
+
+not_defined : AreDefined named_b (defining ∷ []) → ⊥
+unfolding defining named_b
+not_defined h = cc
+
+-- one for the word, two for each name
+weighs : forms_weight (defining ∷ expression (atom 0 (symbol_atom (codes "xy"))) ∷ []) ≡ 8
+unfolding defining
+weighs = refl
+
+-- ## Programs
+
+-- `(define (f x) (car x))` and `(define (g x) (f x))`
+first : Definition
+first = record { name = codes "f"; formals = 1; rest = false; body = operation Car (and_draft (local 0) no_drafts) }
+
+second : Definition
+second = record { name = codes "g"; formals = 1; rest = false; body = call (global (codes "f")) (and_draft (local 0) no_drafts) }
+
+in_order : AreOrdered [] (first ∷ second ∷ [])
+unfolding first second
+in_order = (tt, ((refl, tt), tt))
+
+not_in_order : AreOrdered [] (second ∷ first ∷ []) → ⊥
+unfolding first second
+not_in_order h = cc
+
+-- `(define x (letrec ((h (lambda () (h)))) h))` and `(g x)`, where h is a group, or is assigned
+own_form : Draft → Drafts
+own_form e =
+    and_draft (define (codes "x") (letrec (Some (codes "h") ∷ []) true (and_draft (lambda 0 false (call (local 0) no_drafts)) no_drafts) e))
+    (and_draft (call (global (codes "g")) (and_draft (global (codes "x")) no_drafts)) no_drafts)
+
+names_known : AreKnown (first ∷ second ∷ []) (codes "x" ∷ []) (own_form (local 0))
+unfolding first second own_form
+names_known = (refl, (refl, (refl, tt)))
+
+names_not_known : AreKnown (first ∷ []) (codes "x" ∷ []) (own_form (local 0)) → ⊥
+unfolding first own_form
+names_not_known h = cc
+
+group_is_valid : is_valid (program_of (first ∷ second ∷ []) (codes "x" ∷ []) (own_form (local 0))) ≡ true
+unfolding first second own_form
+group_is_valid = refl
+
+assigned_is_valid : is_valid (program_of (first ∷ second ∷ []) (codes "x" ∷ []) (own_form (set_local 0 (constant Nil)))) ≡ true
+unfolding first second own_form
+assigned_is_valid = refl
+
+-- a text that names what no library has
+unknown_is_not_valid : is_valid (program_of (first ∷ []) (codes "x" ∷ []) (own_form (local 0))) ≡ false
+unfolding first own_form
+unknown_is_not_valid = refl
