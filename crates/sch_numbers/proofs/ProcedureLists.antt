@@ -16,11 +16,11 @@ abbrev pub onto : List Function → Lambdas → Lambdas
 onto [] rest = rest
 onto (f ∷ fs) rest = and_lambda f.name f.formals f.rest f.body (onto fs rest)
 
-onto_none : (fs : List Function) → onto fs no_lambdas ≡ lambdas fs
+pub onto_none : (fs : List Function) → onto fs no_lambdas ≡ lambdas fs
 onto_none [] = refl
 onto_none (f ∷ fs) = ap (and_lambda f.name f.formals f.rest f.body) (onto_none fs)
 
-onto_more : (fs : List Function) (f : Function) (rest : Lambdas) → onto (fs ++ f ∷ []) rest ≡ onto fs (and_lambda f.name f.formals f.rest f.body rest)
+pub onto_more : (fs : List Function) (f : Function) (rest : Lambdas) → onto (fs ++ f ∷ []) rest ≡ onto fs (and_lambda f.name f.formals f.rest f.body rest)
 onto_more [] f rest = refl
 onto_more (g ∷ fs) f rest = ap (and_lambda g.name g.formals g.rest g.body) (onto_more fs f rest)
 

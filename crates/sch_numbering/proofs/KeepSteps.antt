@@ -1,0 +1,100 @@
+-- The steps of the loops that choose what is kept of a library, over plain values.
+use Rattle.std.proofs.Common.{◌≡◌, ◌<◌, ◌≤◌, ◌-◌, ◌+◌, ℕ, zero, suc, Bool, true, false, cond, not, ◌||◌, ◌&&◌, List, [], ◌∷◌, ◌++◌, length, drop, get_or, map, reverse, refl, sym, ap, subst, ◌∙◌, arith, add-one, append_assoc, drop-cons}
+use Rattle.std.proofs.lemmas.List.{map-append, reverse-append, drop_all}
+use Rattle.std.specs.Str.{bytes_eq}
+use Rattle.sch_names.specs.Scope.{is_among}
+use Rattle.sch_names.specs.NamesView.{with_name, number_of}
+use Rattle.sch_numbers.specs.Named.{firsts, library_global, globals_in}
+use Rattle.sch_numbers.specs.Programs.{Definition, kept, with_definition, globals_of_each, seen, is_hidden, held, names_of_each}
+use Rattle.sch_numbering.specs.declared.definition.Definition as code
+use Rattle.sch_numbering.specs.Definitions.{definition_of, definitions_of}
+use Rattle.sch_numbering.proofs.NameSets.{equal, or_none, or_three, or_four, or_assoc, among_append, among_with, among_firsts, among_library, among_held}
+
+-- ## Names that are held
+
+pub next_held : (own names names' : List (List ℕ)) (d : Definition) (ds : List Definition) → names' ≡ cond (not (is_hidden d.name) && is_among d.name own) (with_name d.name names) names →
+    (x : List ℕ) → (is_among x names' || (is_among x own && is_among x (seen ds))) ≡ (is_among x names || (is_among x own && is_among x (seen (d ∷ ds))))
+next_held own names names' d ds e x = rw e (go (is_hidden d.name) (is_among d.name own) (bytes_eq x d.name) refl refl)
+  where
+    hit : (a b : Bool) → ((a || true) || b) ≡ (a || true)
+    hit true b = refl
+    hit false b = refl
+
+    go : (h o c : Bool) → is_among d.name own ≡ o → bytes_eq x d.name ≡ c →
+        (is_among x (cond (not h && o) (with_name d.name names) names) || (is_among x own && is_among x (seen ds)))
+        ≡ (is_among x names || (is_among x own && is_among x (cond h (seen ds) (d.name ∷ seen ds))))
+    go true o c p q = refl
+    go false true true p q =
+        let i = subst (λ z. is_among z own ≡ true) (sym (equal x d.name q)) p in
+        rw (among_with x d.name names, q, i) (hit (is_among x names) (is_among x (seen ds)))
+    go false true false p q = rw (among_with x d.name names, q, or_none (is_among x names)) refl
+    go false false true p q = let i = subst (λ z. is_among z own ≡ false) (sym (equal x d.name q)) p in rw (q, i) refl
+    go false false false p q = rw q refl
+
+module _ (own names names' : List (List ℕ)) (ds : List code.Definition) (i : ℕ) where
+  pub next_hold : (d : code.Definition) → i < length ds → d ≡ get_or ds i d → names' ≡ cond (not (is_hidden d.name.now) && is_among d.name.now own) (with_name d.name.now names) names →
+      ((x : List ℕ) → (is_among x names || (is_among x own && is_among x (seen (definitions_of (drop i ds))))) ≡ (is_among x own && is_among x (seen (definitions_of ds)))) →
+      (x : List ℕ) → (is_among x names' || (is_among x own && is_among x (seen (definitions_of (drop (i + 1) ds))))) ≡ (is_among x own && is_among x (seen (definitions_of ds)))
+  next_hold d l h e k x =
+      let n : definitions_of (drop i ds) ≡ definition_of d ∷ definitions_of (drop (suc i) ds) = ap definitions_of (drop-cons ds i d l ∙ ap (λ a. a ∷ drop (suc i) ds) (sym h)) in
+      rw add-one (next_held own names names' (definition_of d) (definitions_of (drop (suc i) ds)) e x ∙ ap (λ a. is_among x names || (is_among x own && is_among x (seen a))) (sym n) ∙ k x)
+
+  pub end_hold : length ds ≤ i → ((x : List ℕ) → (is_among x names || (is_among x own && is_among x (seen (definitions_of (drop i ds))))) ≡ (is_among x own && is_among x (seen (definitions_of ds)))) →
+      (x : List ℕ) → is_among x names ≡ is_among x (held (definitions_of ds) own)
+  end_hold l k x =
+      let k' = rw (drop_all i ds l) at k x in
+      sym (nothing_more (is_among x names) (is_among x own)) ∙ k' ∙ sym (among_held x (definitions_of ds) own)
+    where
+      nothing_more : (a b : Bool) → (a || (b && false)) ≡ a
+      nothing_more true b = refl
+      nothing_more false true = refl
+      nothing_more false false = refl
+
+-- ## Definitions that are kept
+
+module _ (first hs : List (List ℕ)) (ds : List Definition) (d : Definition) (t : List (List ℕ)) where
+  abbrev all : List (List ℕ)
+  all = first ++ map library_global hs
+
+  module _ (inv : (x : List ℕ) → is_among x t ≡ (is_among x first || is_among x (globals_of_each (kept ds (first ++ map library_global hs))))) where
+    pub kept_more : (b : Bool) → b ≡ is_among (library_global d.name) (t ++ map library_global hs) → kept (d ∷ ds) (first ++ map library_global hs) ≡ with_definition b d (kept ds (first ++ map library_global hs))
+    kept_more b e =
+        let x = library_global d.name in
+        let k = kept ds all in
+        let p : is_among x (t ++ map library_global hs) ≡ is_among x (all ++ globals_of_each k) =
+            among_append x t (map library_global hs) ∙ ap (λ a. a || is_among x (map library_global hs)) (inv x)
+            ∙ or_three (is_among x first) (is_among x (globals_of_each k)) (is_among x (map library_global hs))
+            ∙ ap (λ a. a || is_among x (globals_of_each k)) (sym (among_append x first (map library_global hs))) ∙ sym (among_append x all (globals_of_each k)) in
+        ap (λ b. with_definition b d k) (sym (e ∙ p))
+
+    pub named_more : (t' : List (List ℕ)) → t' ≡ firsts t (globals_in [] d.body) → (x : List ℕ) → is_among x t' ≡ (is_among x first || is_among x (globals_of_each (d ∷ kept ds (first ++ map library_global hs))))
+    named_more t' e x =
+        let g = globals_of_each (kept ds all) in
+        rw e (
+          among_firsts x t (globals_in [] d.body) ∙ ap (λ a. a || is_among x (globals_in [] d.body)) (inv x) ∙ or_four (is_among x first) (is_among x g) (is_among x (globals_in [] d.body))
+          ∙ ap (λ a. is_among x first || a) (sym (among_append x (globals_in [] d.body) g))
+        )
+
+-- the last of those that are left, and those that have been looked at
+pub definition_before : (ds left others : List code.Definition) (d : code.Definition) → left ++ drop (length left) ds ≡ ds → left ≡ others ++ d ∷ [] → drop (length others) ds ≡ d ∷ drop (length left) ds
+definition_before ds left others d whole is =
+    let p : others ++ (d ∷ drop (length left) ds) ≡ ds = sym (append_assoc others (d ∷ []) (drop (length left) ds)) ∙ ap (λ l. l ++ drop (length left) ds) (sym is) ∙ whole in
+    ap (drop (length others)) (sym p) ∙ after others (d ∷ drop (length left) ds)
+  where
+    after : (xs bs : List code.Definition) → drop (length xs) (xs ++ bs) ≡ bs
+    after [] bs = refl
+    after (a ∷ xs) bs = after xs bs
+
+pub still_whole : (ds left others : List code.Definition) (d : code.Definition) → left ++ drop (length left) ds ≡ ds → left ≡ others ++ d ∷ [] → others ++ drop (length others) ds ≡ ds
+still_whole ds left others d whole is =
+    ap (λ l. others ++ l) (definition_before ds left others d whole is) ∙ sym (append_assoc others (d ∷ []) (drop (length left) ds)) ∙ ap (λ l. l ++ drop (length left) ds) (sym is) ∙ whole
+
+pub one_more_kept : (all : List code.Definition) (d : code.Definition) → definitions_of (reverse (all ++ d ∷ [])) ≡ definition_of d ∷ definitions_of (reverse all)
+one_more_kept all d = rw (reverse-append all (d ∷ [])) refl
+
+-- ## The number of a procedure
+
+pub next_number : (x : List ℕ) (ds : List code.Definition) (i : ℕ) (d : code.Definition) → i < length ds → d ≡ get_or ds i d →
+    number_of x (names_of_each (definitions_of (drop i ds))) ≡ cond (bytes_eq x d.name.now) zero (suc (number_of x (names_of_each (definitions_of (drop (suc i) ds)))))
+next_number x ds i d l h =
+    ap (λ a. number_of x (names_of_each (definitions_of a))) (drop-cons ds i d l ∙ ap (λ a. a ∷ drop (suc i) ds) (sym h))
