@@ -1,0 +1,7 @@
+pub mod Numberless
+pub mod TextSizes
+pub mod ValidTexts
+pub mod Answering
+pub mod DatumLaws
+pub mod DataLaws
+pub mod StandinSize

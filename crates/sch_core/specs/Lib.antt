@@ -2,4 +2,5 @@ pub mod Programs
 pub mod Answer
 pub mod Laws
 pub mod Libraries
-pub mod Definitions
+pub mod SoundLibraries
+pub mod standin

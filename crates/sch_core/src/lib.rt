@@ -3,10 +3,18 @@
 
 mod error;
 mod expander;
+mod laws;
 mod library;
+mod limits;
 mod places;
+mod quotable;
+mod standin;
 
 pub use error::{CoreError, Kind};
 pub use expander::core;
-pub use library::{Definition, Library};
+pub use laws::{
+    data_have_a_program_or_an_error, data_have_one_error, data_have_one_program,
+    expansion_is_unique, fault_or_expansion,
+};
+pub use library::Library;
 pub use places::form_places;
