@@ -1,90 +1,57 @@
--- Data have a program or an error, and never both.
-use Rattle.std.proofs.Common.{◌≡◌, ◌≢◌, ◌⊎◌, inl, inr, ℕ, List, [], Option, Some, None, refl, sym, ap, ◌∙◌, subst}
-use Rattle.sch_lang.specs.Tree.{Source}
+-- With a library, data have a program or an error, and never both.
+use Rattle.std.proofs.Common.{◌≡◌, ◌≢◌, ◌⊎◌, inl, inr, ℕ, Bool, true, false, cond, List, [], ◌∷◌, Option, Some, None, refl, sym, ap, ◌∙◌, subst}
+use Rattle.sch_lang.specs.Tree.{Source, Expressions, no_expressions, and_expression}
 use Rattle.sch_read.specs.Grammar.{Data}
+use Rattle.sch_sketch.specs.Draft.{Drafts}
+use Rattle.sch_sketch.specs.declared.fault.Fault.{Fault}
+use Rattle.sch_sketch.specs.declared.fault.Fault.TheVariants as fault
+use Rattle.sch_numbers.specs.Programs.{Definition, seen, program_of}
+use Rattle.sch_toplevel.specs.Forms.{own_names}
+use Rattle.sch_toplevel.specs.Texts.{TextExpands, IsFaultOf, IsRead}
+use Rattle.sch_toplevel.proofs.TextLaws.{text_read, text_made, text_fault, names_one, text_one, text_clean, text_fault_one}
 use Rattle.sch_core.specs.Answer.{IsErrorFor, IsErrorIn}
-use Rattle.sch_forms.specs.Draft.{Draft}
-use Rattle.sch_core.specs.Forms.{globals_of, FormsRead, TextExpands, IsFaultOf}
-use Rattle.sch_core.specs.Numbered.{program_of}
-use Rattle.sch_core.specs.Programs.{IsProgramOf, ExceedsAt, form_places, first_exceeding}
+use Rattle.sch_core.specs.Programs.{IsProgramOf, ExceedsAt, form_places, excess, at_place, first_excess}
 use Rattle.sch_core.specs.declared.error.CoreError.{CoreError}
 use Rattle.sch_core.specs.declared.error.CoreError.TheVariants as errors
+use Rattle.sch_core.specs.declared.error.Kind.{Kind}
 use Rattle.sch_core.specs.declared.error.Kind.TheVariants as kinds
-use Rattle.sch_forms.specs.declared.fault.Fault.{Fault}
-use Rattle.sch_forms.specs.declared.fault.Fault.TheVariants as fault
-use Rattle.sch_core.proofs.TopLaws.{forms_unique, forms_clean, forms_one, forms_walk, text_fault, text_drafts}
-
--- ## A program or an error
-
--- an error that is not memory, and why
-abbrev pub Refused : Data → Type 0
-Refused items = (e : CoreError) × (e ≢ errors.Memory) × IsErrorIn items e
-
-refused : (items : Data) (f : Fault) → IsFaultOf items f → Refused items
-refused items (fault.Unbuilt at) h = (errors.Unbuilt at, λ e. cc, (fault.Unbuilt at, refl, h))
-refused items (fault.KeywordDefined at) h = (errors.KeywordDefined at, λ e. cc, (fault.KeywordDefined at, refl, h))
-refused items (fault.BadForm at) h = (errors.BadForm at, λ e. cc, (fault.BadForm at, refl, h))
-refused items (fault.Unbound at x) h = (errors.Unbound at x, λ e. cc, (fault.Unbound at x, refl, h))
-refused items (fault.Operands at) h = (errors.Limit kinds.Operands at, λ e. cc, (fault.Operands at, refl, h))
-refused items (fault.Core at) h = (errors.Limit kinds.Core at, λ e. cc, (fault.Core at, refl, h))
-
-counted : (items : Data) (es : List Draft) → TextExpands items es → (o : Option ℕ) → first_exceeding (form_places items) (program_of es).forms ≡ o →
-    ((p : Source) × IsProgramOf items p) ⊎ Refused items
-counted items es h None e = inl (program_of es, record { drafts = es; expands = h; numbered = refl; fits = e })
-counted items es h (Some at) e = inr (errors.Limit kinds.Variables at, λ d. cc, record { drafts = es; expands = h; exceeding = e })
-
-walked : (items : Data) (o : Option Fault) (fs : List Draft) → FormsRead (globals_of items) items None o [] fs → ((p : Source) × IsProgramOf items p) ⊎ Refused items
-walked items None fs r = counted items fs (text_drafts items fs r) (first_exceeding (form_places items) (program_of fs).forms) refl
-walked items (Some f) fs r = inr (refused items f (text_fault items f fs r))
-
-pub program_or_error : (items : Data) → ((p : Source) × IsProgramOf items p) ⊎ ((e : CoreError) × (e ≢ errors.Memory) × IsErrorIn items e)
-program_or_error items = let w = forms_walk (globals_of items) items None [] in walked items w.after w.drafts w.reads
-
--- ## Never two
-
--- data stand for one list of drafts
-pub drafts_one : (items : Data) (es fs : List Draft) → TextExpands items es → TextExpands items fs → es ≡ fs
-drafts_one items es fs a b = forms_unique (globals_of items) a b
-
-pub program_faultless : (items : Data) (p : Source) (f : Fault) → IsProgramOf items p → IsFaultOf items f → ⊥
-program_faultless items p f a b = forms_clean (globals_of items) a.expands f b.there
 
 none_some : {A : Type 0} {a : A} → None ≡ Some a → ⊥
 none_some e = cc
 
-pub program_fits : (items : Data) (p : Source) (at : ℕ) → IsProgramOf items p → ExceedsAt items at → ⊥
-program_fits items p at a b =
-    let same : p ≡ program_of b.drafts = a.numbered ∙ ap program_of (drafts_one items a.drafts b.drafts a.expands b.expands) in
-    none_some (sym (subst (λ q. first_exceeding (form_places items) q.forms ≡ None) same a.fits) ∙ b.exceeding)
-
-pub never_both : (items : Data) (p : Source) (e : CoreError) → IsProgramOf items p → IsErrorIn items e → e ≡ errors.Memory
-never_both items p errors.Memory a b = refl
-never_both items p (errors.BadForm at) a (f, e, b) = absurd (program_faultless items p f a b)
-never_both items p (errors.Unbound at x) a (f, e, b) = absurd (program_faultless items p f a b)
-never_both items p (errors.KeywordDefined at) a (f, e, b) = absurd (program_faultless items p f a b)
-never_both items p (errors.Unbuilt at) a (f, e, b) = absurd (program_faultless items p f a b)
-never_both items p (errors.Limit kinds.Operands at) a (f, e, b) = absurd (program_faultless items p f a b)
-never_both items p (errors.Limit kinds.Core at) a (f, e, b) = absurd (program_faultless items p f a b)
-never_both items p (errors.Limit kinds.Variables at) a b = absurd (program_fits items p at a b)
-never_both items p (errors.Limit kinds.Free at) a (f, e, b) = absurd e
-
-pub one_program : (items : Data) (p q : Source) → IsProgramOf items p → IsProgramOf items q → p ≡ q
-one_program items p q a b = a.numbered ∙ ap program_of (drafts_one items a.drafts b.drafts a.expands b.expands) ∙ sym b.numbered
-
 some_some : {A : Type 0} {a b : A} → Some a ≡ Some b → a ≡ b
 some_some e = cc
 
-fault_one : (items : Data) (f g : Fault) → IsFaultOf items f → IsFaultOf items g → f ≡ g
-fault_one items f g a b = some_some (forms_one (globals_of items) items None (Some f) (Some g) [] [] a.drafts b.drafts a.first b.first)
+left_is : {k k' : Kind} {at at' : ℕ} → Some (k, at) ≡ Some (k', at') → k ≡ k'
+left_is e = ap (λ p. p.0) (some_some e)
 
-exceeds_one : (items : Data) (at at' : ℕ) → ExceedsAt items at → ExceedsAt items at' → at ≡ at'
-exceeds_one items at at' a b =
-    let same : program_of a.drafts ≡ program_of b.drafts = ap program_of (drafts_one items a.drafts b.drafts a.expands b.expands) in
-    some_some (sym (subst (λ q. first_exceeding (form_places items) q.forms ≡ Some at) same a.exceeding) ∙ b.exceeding)
+right_is : {k k' : Kind} {at at' : ℕ} → Some (k, at) ≡ Some (k', at') → at ≡ at'
+right_is e = ap (λ p. p.1) (some_some e)
+
+-- only these are counted
+abbrev IsCounted : Kind → Type 0
+IsCounted kinds.Variables = Unit {0}
+IsCounted kinds.Free = Unit {0}
+IsCounted _ = ⊥
+
+excess_counted : (a b : Bool) (k : Kind) → cond a (cond b None (Some kinds.Free)) (Some kinds.Variables) ≡ Some k → IsCounted k
+excess_counted true true k e = absurd (none_some e)
+excess_counted true false k e = subst IsCounted (some_some e) tt
+excess_counted false b k e = subst IsCounted (some_some e) tt
+
+place_counted : (at : ℕ) (o : Option Kind) (others : Option (Kind × ℕ)) (k : Kind) (at' : ℕ) → at_place at o others ≡ Some (k, at') → ((j : Kind) → o ≡ Some j → IsCounted j) →
+    (others ≡ Some (k, at') → IsCounted k) → IsCounted k
+place_counted at (Some j) others k at' e h r = h k (ap Some (left_is e))
+place_counted at None others k at' e h r = r e
+
+first_counted : (places : List ℕ) (es : Expressions) (k : Kind) (at : ℕ) → first_excess places es ≡ Some (k, at) → IsCounted k
+first_counted [] es k at e = absurd (none_some e)
+first_counted (p ∷ places) no_expressions k at e = absurd (none_some e)
+first_counted (p ∷ places) (and_expression x es) k at e =
+    place_counted p (excess 0 x) (first_excess places es) k at e (λ j i. excess_counted _ _ j i) (λ i. first_counted places es k at i)
 
 -- the error that names a fault
 error_for : Fault → CoreError
-error_for (fault.Unbuilt at) = errors.Unbuilt at
 error_for (fault.KeywordDefined at) = errors.KeywordDefined at
 error_for (fault.BadForm at) = errors.BadForm at
 error_for (fault.Unbound at x) = errors.Unbound at x
@@ -97,36 +64,101 @@ named_by errors.Memory f h = absurd h
 named_by (errors.BadForm at) f h = sym (ap error_for h)
 named_by (errors.Unbound at x) f h = sym (ap error_for h)
 named_by (errors.KeywordDefined at) f h = sym (ap error_for h)
-named_by (errors.Unbuilt at) f h = sym (ap error_for h)
 named_by (errors.Limit kinds.Operands at) f h = sym (ap error_for h)
 named_by (errors.Limit kinds.Core at) f h = sym (ap error_for h)
 named_by (errors.Limit kinds.Variables at) f h = absurd h
 named_by (errors.Limit kinds.Free at) f h = absurd h
 
--- why data have no program: a fault that the error names, or a form with too many variables
-data Cause (items : Data) : CoreError → Type 0 where
-  faulty : (e : CoreError) (f : Fault) → IsErrorFor e f → IsFaultOf items f → Cause items e
-  exceeding : (at : ℕ) → ExceedsAt items at → Cause items (errors.Limit kinds.Variables at)
+module _ (ds : List Definition) (items : Data) where
+  -- ## A program or an error
 
-cause : (items : Data) (e : CoreError) → e ≢ errors.Memory → IsErrorIn items e → Cause items e
-cause items errors.Memory n h = absurd (n refl)
-cause items (errors.BadForm at) n (f, e, h) = faulty _ f e h
-cause items (errors.Unbound at x) n (f, e, h) = faulty _ f e h
-cause items (errors.KeywordDefined at) n (f, e, h) = faulty _ f e h
-cause items (errors.Unbuilt at) n (f, e, h) = faulty _ f e h
-cause items (errors.Limit kinds.Operands at) n (f, e, h) = faulty _ f e h
-cause items (errors.Limit kinds.Core at) n (f, e, h) = faulty _ f e h
-cause items (errors.Limit kinds.Variables at) n h = exceeding at h
-cause items (errors.Limit kinds.Free at) n (f, e, h) = absurd e
+  -- an error that is not memory, and why
+  abbrev Refused : Type 0
+  Refused = (e : CoreError) × (e ≢ errors.Memory) × IsErrorIn ds items e
 
-exceeds_faultless : (items : Data) (at : ℕ) (f : Fault) → ExceedsAt items at → IsFaultOf items f → ⊥
-exceeds_faultless items at f a b = forms_clean (globals_of items) a.expands f b.there
+  refused : (f : Fault) → IsFaultOf (seen ds) items f → Refused
+  refused (fault.KeywordDefined at) h = (errors.KeywordDefined at, λ e. cc, (fault.KeywordDefined at, refl, h))
+  refused (fault.BadForm at) h = (errors.BadForm at, λ e. cc, (fault.BadForm at, refl, h))
+  refused (fault.Unbound at x) h = (errors.Unbound at x, λ e. cc, (fault.Unbound at x, refl, h))
+  refused (fault.Operands at) h = (errors.Limit kinds.Operands at, λ e. cc, (fault.Operands at, refl, h))
+  refused (fault.Core at) h = (errors.Limit kinds.Core at, λ e. cc, (fault.Core at, refl, h))
 
-cause_one : (items : Data) (e e' : CoreError) → Cause items e → Cause items e' → e ≡ e'
-cause_one items e e' (faulty _ f p a) (faulty _ g q b) = named_by e f p ∙ ap error_for (fault_one items f g a b) ∙ sym (named_by e' g q)
-cause_one items e e' (faulty _ f p a) (exceeding at b) = absurd (exceeds_faultless items at f b a)
-cause_one items e e' (exceeding at a) (faulty _ g q b) = absurd (exceeds_faultless items at g a b)
-cause_one items e e' (exceeding at a) (exceeding at' b) = ap (λ n. errors.Limit kinds.Variables n) (exceeds_one items at at' a b)
+  exceeding : (kind : Kind) (at : ℕ) → IsCounted kind → ExceedsAt ds items kind at → Refused
+  exceeding kinds.Variables at c h = (errors.Limit kinds.Variables at, λ e. cc, h)
+  exceeding kinds.Free at c h = (errors.Limit kinds.Free at, λ e. cc, h)
+  exceeding kinds.Operands at c h = absurd c
+  exceeding kinds.Core at c h = absurd c
 
-pub one_error : (items : Data) (e e' : CoreError) → e ≢ errors.Memory → e' ≢ errors.Memory → IsErrorIn items e → IsErrorIn items e' → e ≡ e'
-one_error items e e' n m a b = cause_one items e e' (cause items e n a) (cause items e' m b)
+  counted : (names : List (List ℕ)) (es : Drafts) → TextExpands (seen ds) items names es → (o : Option (Kind × ℕ)) →
+      first_excess (form_places items) (program_of ds (own_names items names) es).forms ≡ o → ((p : Source) × IsProgramOf ds items p) ⊎ Refused
+  counted names es h None e = inl (program_of ds (own_names items names) es, record { assigned = names; drafts = es; expands = h; numbered = refl; fits = e })
+  counted names es h (Some (kind, at)) e =
+      inr (exceeding kind at (first_counted (form_places items) (program_of ds (own_names items names) es).forms kind at e)
+      (record { assigned = names; drafts = es; expands = h; exceeding = e }))
+
+  walked : (own : List (List ℕ)) (o : Option Fault) (es : Drafts) → IsRead (seen ds) items own o es → ((p : Source) × IsProgramOf ds items p) ⊎ Refused
+  walked own None es r = counted r.names es (text_made (seen ds) items r) _ refl
+  walked own (Some f) es r = inr (refused f (text_fault (seen ds) items f r))
+
+  pub program_or_error : ((p : Source) × IsProgramOf ds items p) ⊎ ((e : CoreError) × (e ≢ errors.Memory) × IsErrorIn ds items e)
+  program_or_error = let r = text_read (seen ds) items in walked r.0 r.1 r.2 r.3
+
+  -- ## Never two
+
+  program_one : {a b : List (List ℕ)} {es fs : Drafts} → TextExpands (seen ds) items a es → TextExpands (seen ds) items b fs →
+      program_of ds (own_names items a) es ≡ program_of ds (own_names items b) fs
+  program_one {a} {b} {es} {fs} p q =
+      ap (λ n. program_of ds (own_names items n) es) (names_one (seen ds) items p q) ∙ ap (program_of ds (own_names items b)) (text_one (seen ds) items p q)
+
+  program_faultless : (p : Source) (f : Fault) → IsProgramOf ds items p → IsFaultOf (seen ds) items f → ⊥
+  program_faultless p f a b = text_clean (seen ds) items a.expands b
+
+  program_fits : (p : Source) (kind : Kind) (at : ℕ) → IsProgramOf ds items p → ExceedsAt ds items kind at → ⊥
+  program_fits p kind at a b =
+      none_some (sym (subst (λ q. first_excess (form_places items) q.forms ≡ None) (a.numbered ∙ program_one a.expands b.expands) a.fits) ∙ b.exceeding)
+
+  pub never_both : (p : Source) (e : CoreError) → IsProgramOf ds items p → IsErrorIn ds items e → e ≡ errors.Memory
+  never_both p errors.Memory a b = refl
+  never_both p (errors.BadForm at) a (f, e, b) = absurd (program_faultless p f a b)
+  never_both p (errors.Unbound at x) a (f, e, b) = absurd (program_faultless p f a b)
+  never_both p (errors.KeywordDefined at) a (f, e, b) = absurd (program_faultless p f a b)
+  never_both p (errors.Limit kinds.Operands at) a (f, e, b) = absurd (program_faultless p f a b)
+  never_both p (errors.Limit kinds.Core at) a (f, e, b) = absurd (program_faultless p f a b)
+  never_both p (errors.Limit kinds.Variables at) a b = absurd (program_fits p kinds.Variables at a b)
+  never_both p (errors.Limit kinds.Free at) a b = absurd (program_fits p kinds.Free at a b)
+
+  pub one_program : (p q : Source) → IsProgramOf ds items p → IsProgramOf ds items q → p ≡ q
+  one_program p q a b = a.numbered ∙ program_one a.expands b.expands ∙ sym b.numbered
+
+  exceeds_one : {k k' : Kind} {at at' : ℕ} → ExceedsAt ds items k at → ExceedsAt ds items k' at' → Some (k, at) ≡ Some (k', at')
+  exceeds_one {k} {k'} {at} {at'} a b =
+      sym (subst (λ q. first_excess (form_places items) q.forms ≡ Some (k, at)) (program_one a.expands b.expands) a.exceeding) ∙ b.exceeding
+
+  -- why data have no program: a fault that the error names, or a form with too many variables
+  data Cause : CoreError → Type 0 where
+    faulty : (e : CoreError) (f : Fault) → IsErrorFor e f → IsFaultOf (seen ds) items f → Cause e
+    excessive : (k : Kind) (at : ℕ) → ExceedsAt ds items k at → Cause (errors.Limit k at)
+
+  cause : (e : CoreError) → e ≢ errors.Memory → IsErrorIn ds items e → Cause e
+  cause errors.Memory n h = absurd (n refl)
+  cause (errors.BadForm at) n (f, e, h) = faulty _ f e h
+  cause (errors.Unbound at x) n (f, e, h) = faulty _ f e h
+  cause (errors.KeywordDefined at) n (f, e, h) = faulty _ f e h
+  cause (errors.Limit kinds.Operands at) n (f, e, h) = faulty _ f e h
+  cause (errors.Limit kinds.Core at) n (f, e, h) = faulty _ f e h
+  cause (errors.Limit kinds.Variables at) n h = excessive kinds.Variables at h
+  cause (errors.Limit kinds.Free at) n h = excessive kinds.Free at h
+
+  exceeds_faultless : (k : Kind) (at : ℕ) (f : Fault) → ExceedsAt ds items k at → IsFaultOf (seen ds) items f → ⊥
+  exceeds_faultless k at f a b = text_clean (seen ds) items a.expands b
+
+  cause_one : (e e' : CoreError) → Cause e → Cause e' → e ≡ e'
+  cause_one e e' (faulty _ f p a) (faulty _ g q b) = named_by e f p ∙ ap error_for (text_fault_one (seen ds) items a b) ∙ sym (named_by e' g q)
+  cause_one e e' (faulty _ f p a) (excessive k at b) = absurd (exceeds_faultless k at f b a)
+  cause_one e e' (excessive k at a) (faulty _ g q b) = absurd (exceeds_faultless k at g a b)
+  cause_one e e' (excessive k at a) (excessive k' at' b) =
+      let i = exceeds_one a b in
+      ap (λ n. errors.Limit k n) (right_is i) ∙ ap (λ n. errors.Limit n at') (left_is i)
+
+  pub one_error : (e e' : CoreError) → e ≢ errors.Memory → e' ≢ errors.Memory → IsErrorIn ds items e → IsErrorIn ds items e' → e ≡ e'
+  one_error e e' n m a b = cause_one e e' (cause e n a) (cause e' m b)

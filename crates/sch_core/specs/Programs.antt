@@ -1,39 +1,47 @@
--- The program of a text (R5RS 5.1), and where it has too many variables for one.
-use Rattle.std.specs.Prelude.{◌≡◌, ℕ, cond, nat_le, List, [], ◌∷◌, ◌++◌, Option, Some, None}
-use Rattle.sch_lang.specs.Tree.{Expressions, and_expression, Source}
-use Rattle.sch_lang.specs.Measures.{variables}
-use Rattle.sch_word.specs.trees.Shape.{max_variables}
-use Rattle.sch_read.specs.Grammar.{Datum, Data, atom, list, none, cons, symbol}
-use Rattle.sch_scope.specs.Words.{keyword_of}
-use Rattle.sch_read.specs.Parts.{offset}
-use Rattle.sch_forms.specs.Draft.{Draft}
-use Rattle.sch_core.specs.Forms.{by_word, TextExpands}
-use Rattle.sch_core.specs.Numbered.{program_of}
+-- The program of a library's definitions and a text (R5RS 5.1), and where a form has too many variables for one.
+use Rattle.std.specs.Prelude.{◌≡◌, ℕ, Bool, false, cond, List, [], ◌∷◌, Option, Some, None}
+use Rattle.sch_lang.specs.Tree.{Expression, Expressions, lambda, and_expression, Source}
+use Rattle.sch_limits.specs.Within.{few_variables, few_free}
+use Rattle.sch_read.specs.Grammar.{Data}
+use Rattle.sch_sketch.specs.declared.fault.Fault.{Fault}
+use Rattle.sch_sketch.specs.Draft.{Drafts}
+use Rattle.sch_numbers.specs.Programs.{Definition, seen, program_of}
+use Rattle.sch_toplevel.specs.Forms as forms
+use Rattle.sch_toplevel.specs.Forms.{own_names}
+use Rattle.sch_toplevel.specs.Texts.{TextExpands}
+use Rattle.sch_core.specs.declared.error.Kind.{Kind}
+use Rattle.sch_core.specs.declared.error.Kind.TheVariants.{Variables, Free}
 
--- the places of the top-level forms that a datum is, and of those of a text; the parts of a `begin` are forms
-abbrev mutual
-  pub places_of : Datum → List ℕ
-  places_of (list at (cons (atom q (symbol x)) xs)) = by_word (keyword_of x) (at ∷ []) (form_places xs) (at ∷ [])
-  places_of d = offset d ∷ []
+-- the places of the top-level forms of a text; the parts of a `begin` are forms
+abbrev pub form_places : Data → List ℕ
+form_places items = forms.form_places items
 
-  pub form_places : Data → List ℕ
-  form_places none = []
-  form_places (cons d ds) = places_of d ++ form_places ds
+-- What an expression has too much of, as a procedure with these formals: more than 1,000 variables in its body or
+-- in that of a procedure in it, or as many free ones.
+abbrev pub excess : (formals : ℕ) → Expression → Option Kind
+excess formals e =
+    cond (few_variables (lambda [] formals false e)) (cond (few_free (lambda [] formals false e)) None (Some Free)) (Some Variables)
 
--- the place of the first form that has more than 1,000 variables
-abbrev pub first_exceeding : (places : List ℕ) → Expressions → Option ℕ
-first_exceeding (at ∷ places) (and_expression e es) = cond (nat_le (variables e []) max_variables) (first_exceeding places es) (Some at)
-first_exceeding _ _ = None
+abbrev pub at_place {ℓ} : {A : Type ℓ} → ℕ → Option A → Option (A × ℕ) → Option (A × ℕ)
+at_place at (Some k) others = Some (k, at)
+at_place at None others = others
+
+-- the first form that has too much of something, and its place; a form is a procedure without formals
+abbrev pub first_excess : (places : List ℕ) → Expressions → Option (Kind × ℕ)
+first_excess (at ∷ places) (and_expression e es) = at_place at (excess 0 e) (first_excess places es)
+first_excess _ _ = None
 
 -- the program of a text without a fault, each form of which has few enough variables
-pub record IsProgramOf (items : Data) (p : Source) : Type 0 where
-  pub drafts : List Draft
-  pub expands : TextExpands items drafts
-  pub numbered : p ≡ program_of drafts
-  pub fits : first_exceeding (form_places items) p.forms ≡ None
+pub record IsProgramOf (ds : List Definition) (items : Data) (p : Source) : Type 0 where
+  pub assigned : List (List ℕ)
+  pub drafts : Drafts
+  pub expands : TextExpands (seen ds) items assigned drafts
+  pub numbered : p ≡ program_of ds (own_names items assigned) drafts
+  pub fits : first_excess (form_places items) p.forms ≡ None
 
--- a text without a fault, whose form at this place is the first with too many variables
-pub record ExceedsAt (items : Data) (at : ℕ) : Type 0 where
-  pub drafts : List Draft
-  pub expands : TextExpands items drafts
-  pub exceeding : first_exceeding (form_places items) (program_of drafts).forms ≡ Some at
+-- a text without a fault, whose form at this place is the first that has too much of something
+pub record ExceedsAt (ds : List Definition) (items : Data) (kind : Kind) (at : ℕ) : Type 0 where
+  pub assigned : List (List ℕ)
+  pub drafts : Drafts
+  pub expands : TextExpands (seen ds) items assigned drafts
+  pub exceeding : first_excess (form_places items) (program_of ds (own_names items assigned) drafts).forms ≡ Some (kind, at)

@@ -4,7 +4,7 @@ ghost use Rattle.std.specs.Prelude.{◌≡◌};
 ghost use Rattle.sch_core.specs.Answer.{IsErrorFor};
 ghost use Rattle.sch_core.specs.declared.error.CoreError.TheVariants.{Memory};
 
-use sch_forms::Fault;
+use sch_sketch::Fault;
 use sch_word::{Bytes, Mem};
 use thiserror::Error;
 
@@ -40,9 +40,6 @@ pub enum CoreError {
     /// Out of memory.
     #[error("out of memory")]
     Memory,
-    /// A form that is not built yet.
-    #[error("byte {0}: not built")]
-    Unbuilt(u32),
 }
 
 impl From<Mem> for CoreError {
@@ -58,7 +55,6 @@ pub(crate) fn error_of(f: Fault) -> CoreError
     ensures { IsErrorFor result f }
 {
     match f {
-        Fault::Unbuilt(at) => CoreError::Unbuilt(at),
         Fault::KeywordDefined(at) => CoreError::KeywordDefined(at),
         Fault::BadForm(at) => CoreError::BadForm(at),
         Fault::Unbound(at, name) => CoreError::Unbound(at, name),

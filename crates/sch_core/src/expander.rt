@@ -1,49 +1,80 @@
 //! The program of a text.
 
-ghost use Rattle.std.specs.Prelude.{◌≡◌, ◌≤◌, ◌*◌, length, IfOk, IfErr, MatchResult};
+ghost use Rattle.std.specs.Prelude.{◌≡◌, ◌≤◌, ◌+◌, ◌*◌, [], length, IfOk, IfErr, MatchResult};
 ghost use Rattle.sch_read.specs.Views.{data_of};
 ghost use Rattle.sch_core.specs.Answer.{IsErrorIn};
 ghost use Rattle.sch_core.specs.Programs.{IsProgramOf, form_places};
 ghost use Rattle.sch_lang.specs.Measures.{nodes_and_bound};
 ghost use Rattle.sch_lang.specs.ProgramView.{source};
 ghost use Rattle.sch_lang.specs.Tree.{Source, count};
+ghost use Rattle.sch_lang.specs.View.{expressions_of};
+ghost use Rattle.sch_core.specs.standin.Definitions.{definitions_of};
+ghost use Rattle.sch_core.specs.standin.Size.{size_of_definitions};
+ghost use Rattle.sch_numbers.specs.Numbered.{numbered_each};
 ghost use Rattle.sch_read.specs.Valid.{max_weight, weights};
+ghost use Rattle.sch_sketch.specs.DraftView.{drafts_of};
 
-use crate::error::{CoreError, Kind, error_of};
-use crate::nesting::is_walkable;
-use crate::places::place_forms;
-use crate::program::assemble;
-use crate::toplevel::expand;
-use crate::variables::first_exceeding;
-use sch_lang::Program;
+use crate::error::{CoreError, error_of};
+use crate::library::{Library, seen_names};
+use crate::limits::first_excess;
+use crate::places::form_places;
+use crate::quotable::are_quotable;
+use sch_lang::{Exp, Program};
+use sch_names::Names;
+use crate::standin::{Numbers, assemble, number_each};
+use sch_numbers::Output;
 use sch_read::Datum;
-use sch_word::List;
+use sch_sketch::Draft;
+use sch_toplevel::{Text, read_text};
+use sch_word::{List, Mem};
 use std::alloc::Global;
 
-/// The program of a text, or why it has none: the least place, and there the first cause. Data of more
-/// than 4,000 levels of lists are out of memory.
-pub fn core(alloc: Global, items: &[Datum]) -> Result<Program, CoreError>
+/// The expressions of drafts, in which all globals and symbols have one number: their variables can be counted.
+fn countable(alloc: Global, drafts: &[Draft<'_>]) -> Result<List<Exp>, Mem>
+    ensures { IfOk result (λ es. expressions_of es ≡ numbered_each [] [] [] [] (drafts_of drafts.now) 0 0) }
+{
+    let none = Names::new(alloc);
+    let numbers = Numbers {
+        own: &none,
+        globals: &none,
+        symbols: &none,
+    };
+    let mut out = Output::new(alloc);
+    let made = number_each(alloc, &numbers, &[], drafts, &mut out)?;
+    Ok(made)
+}
+
+/// The program of a text that uses a library, or why it has none: the least place, and there the first cause.
+/// Data of more than 1,000 levels of lists are out of memory.
+pub fn core(
+    alloc: Global,
+    library: Library<'_>,
+    items: &[Datum],
+) -> Result<Program, CoreError>
     requires light { weights (data_of items.now) ≤ max_weight }
-    ensures found { IfOk result (λ p. IsProgramOf (data_of items.now) (source p)) }
-    ensures size { IfOk result (λ p. nodes_and_bound (source p) ≤ 16 * weights (data_of items.now)) }
+    ensures found { IfOk result (λ p. IsProgramOf (definitions_of library.entry.definitions) (data_of items.now) (source p)) }
+    ensures size { IfOk result (λ p. nodes_and_bound (source p)
+        ≤ 16 * weights (data_of items.now) + size_of_definitions (definitions_of library.entry.definitions)) }
     // Each form has a place.
     ensures places { IfOk result (λ p. length (form_places (data_of items.now)) ≡ count (source p).forms) }
-    ensures only { (p : Source) → IsProgramOf (data_of items.now) p →
+    ensures only { (p : Source) → IsProgramOf (definitions_of library.entry.definitions) (data_of items.now) p →
         MatchResult result (λ q. source q ≡ p) (λ e. e ≡ CoreError.Memory) }
-    ensures fault { IfErr result (IsErrorIn (data_of items.now)) }
+    ensures fault { IfErr result (IsErrorIn (definitions_of library.entry.definitions) (data_of items.now)) }
 {
-    if !is_walkable(items) {
+    if !are_quotable(items) {
         return Err(CoreError::Memory);
     }
-    let drafts = match expand(alloc, items)? {
-        Ok(drafts) => drafts,
-        Err(f) => return Err(error_of(f)),
-    };
-    let mut places = List::new(alloc);
-    place_forms(items, &mut places)?;
-    if let Some(at) = first_exceeding(places.as_slice(), drafts.as_slice()) {
-        return Err(CoreError::Limit(Kind::Variables, at));
+    let Library { definitions } = library;
+    let seen = seen_names(alloc, definitions.as_slice())?;
+    let Text { own, drafts, fault } = read_text(alloc, seen.as_slice(), items)?;
+    if let Some(f) = fault {
+        return Err(error_of(f));
     }
-    let program = assemble(alloc, drafts.as_slice())?;
+    let places = form_places(alloc, items)?;
+    let forms = countable(alloc, drafts.as_slice())?;
+    if let Some((kind, at)) = first_excess(alloc, places.as_slice(), forms.as_slice())? {
+        return Err(CoreError::Limit(kind, at));
+    }
+    let program = assemble(alloc, definitions, &own, drafts.as_slice())?;
     Ok(program)
 }

@@ -1,7 +1,8 @@
 //! Laws of the expansion, as contracts of functions that do nothing.
 
-ghost use Rattle.std.specs.Prelude.{◌≡◌, ◌≢◌, ◌⊎◌};
+ghost use Rattle.std.specs.Prelude.{◌≡◌, ◌≢◌, ◌⊎◌, List};
 ghost use Rattle.sch_lang.specs.Tree.{Source};
+ghost use Rattle.sch_numbers.specs.Programs.{Definition};
 ghost use Rattle.sch_read.specs.Grammar.{Data};
 ghost use Rattle.sch_core.specs.declared.error.CoreError.{CoreError as TheError};
 ghost use Rattle.sch_core.specs.Answer.{IsErrorIn};
@@ -21,22 +22,22 @@ pub fn fault_or_expansion()
     ensures given { FaultOrDraft }
 {}
 
-/// Data have a program, or an error says why they have none, and never both. Out of memory says nothing
+/// With a library, data have a program, or an error says why they have none, and never both. Out of memory says nothing
 /// of data.
 pub fn data_have_a_program_or_an_error()
-    ensures one { (items : Data) →
-        ((p : Source) × IsProgramOf items p) ⊎ ((e : TheError) × (e ≢ CoreError.Memory) × IsErrorIn items e) }
-    ensures never_both { (items : Data) (p : Source) (e : TheError) →
-        IsProgramOf items p → IsErrorIn items e → e ≡ CoreError.Memory }
+    ensures one { (ds : List Definition) (items : Data) →
+        ((p : Source) × IsProgramOf ds items p) ⊎ ((e : TheError) × (e ≢ CoreError.Memory) × IsErrorIn ds items e) }
+    ensures never_both { (ds : List Definition) (items : Data) (p : Source) (e : TheError) →
+        IsProgramOf ds items p → IsErrorIn ds items e → e ≡ CoreError.Memory }
 {}
 
-/// Data have one error at most, but for out of memory.
+/// With a library, data have one error at most, but for out of memory.
 pub fn data_have_one_error()
-    ensures { (items : Data) (e e' : TheError) →
-        e ≢ CoreError.Memory → e' ≢ CoreError.Memory → IsErrorIn items e → IsErrorIn items e' → e ≡ e' }
+    ensures { (ds : List Definition) (items : Data) (e e' : TheError) →
+        e ≢ CoreError.Memory → e' ≢ CoreError.Memory → IsErrorIn ds items e → IsErrorIn ds items e' → e ≡ e' }
 {}
 
-/// Data have one program at most.
+/// With a library, data have one program at most.
 pub fn data_have_one_program()
-    ensures { (items : Data) (p q : Source) → IsProgramOf items p → IsProgramOf items q → p ≡ q }
+    ensures { (ds : List Definition) (items : Data) (p q : Source) → IsProgramOf ds items p → IsProgramOf ds items q → p ≡ q }
 {}

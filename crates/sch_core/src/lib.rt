@@ -4,12 +4,11 @@
 mod error;
 mod expander;
 mod laws;
-mod nesting;
-mod numbering;
+mod library;
+mod limits;
 mod places;
-mod program;
-mod toplevel;
-mod variables;
+mod quotable;
+mod standin;
 
 pub use error::{CoreError, Kind};
 pub use expander::core;
@@ -17,4 +16,5 @@ pub use laws::{
     data_have_a_program_or_an_error, data_have_one_error, data_have_one_program,
     expansion_is_unique, fault_or_expansion,
 };
+pub use library::Library;
 pub use places::form_places;

@@ -1,4 +1,4 @@
-use Rattle.sch_expand.proofs.Readings.{unique}
+use Rattle.sch_expansion.proofs.Readings.{unique}
 use Rattle.sch_core.proofs.laws.expansion_is_unique.Goals as goal
 
 pub returns : goal.returns

@@ -1,4 +1,4 @@
-use Rattle.sch_core.proofs.TextLaws.{never_both, given}
+use Rattle.sch_core.proofs.DatumLaws.{never_both, given}
 use Rattle.sch_core.proofs.laws.fault_or_expansion.Goals as goal
 
 pub returns-clause-excluded : goal.returns-clause-excluded

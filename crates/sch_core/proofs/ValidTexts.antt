@@ -1,0 +1,338 @@
+-- The program of a library and of a text without a fault is valid.
+use Rattle.std.proofs.Common.{◌≡◌, ◌⊎◌, inl, inr, ◌≤◌, ℕ, ◌+◌, ◌*◌, Bool, true, false, cond, ◌&&◌, ◌||◌, List, [], ◌∷◌, ◌++◌, length, map, Option, Some, None, refl, sym, ap, ◌∙◌, subst, arith, append_assoc, append-nil}
+use Rattle.std.specs.Str.{bytes_eq}
+use Rattle.std.proofs.lemmas.Slice.Eq.{bytes_eq-Decides}
+use Rattle.sch_word.specs.runs.Runs.{max_statics}
+use Rattle.sch_lang.specs.Tree.{Expression, Expressions, no_expressions, and_expression, count}
+use Rattle.sch_lang.specs.Valid.{is_valid}
+use Rattle.sch_read.specs.Grammar.{Datum, Data, atom, list, dotted, vector, none, cons, boolean, integer, character, symbol}
+use Rattle.sch_read.specs.Grammar as grammar
+use Rattle.sch_read.specs.Levels.{depth, depths}
+use Rattle.sch_read.specs.Text.{max_nesting}
+use Rattle.sch_read.specs.Valid.{max_weight, weight, weights}
+use Rattle.sch_names.specs.declared.keyword.Keyword.{Keyword}
+use Rattle.sch_names.specs.NamesView.{with_name}
+use Rattle.sch_names.specs.Scope.{Scope, Globals, is_among}
+use Rattle.sch_names.specs.Words.{keyword_of}
+use Rattle.sch_sketch.specs.declared.fault.Fault.{Fault}
+use Rattle.sch_sketch.specs.declared.sketch.Position.TheVariants.{Value}
+use Rattle.sch_sketch.specs.Draft.{Draft, Drafts, no_drafts, and_draft}
+use Rattle.sch_sketch.specs.Measure.{sketches_measure}
+use Rattle.sch_sketch.specs.Sketch.{Sketch, Sketches, sketches, text, wrong, no_sketch, and_sketch, sequencing, how_many_parts}
+use Rattle.sch_binders.specs.Definitions.{is_define_word, defined_name}
+use Rattle.sch_binders.specs.Assignments as table
+use Rattle.sch_binders.specs.Assignments.{row_define, keyword_at, aimed_name}
+use Rattle.sch_expansion.specs.Expands.{Expands, PartsExpand}
+use Rattle.sch_expansion.specs.Expands as ex
+use Rattle.sch_numbers.specs.Named.{firsts}
+use Rattle.sch_numbers.specs.Numbered.{numbered, numbered_each}
+use Rattle.sch_numbers.specs.Programs.{Definition, is_hidden, seen, names_of_each, with_definition, kept, named, procedures, program_of}
+use Rattle.sch_validity.specs.Few.{IsFew, LambdasAreFew, FormsAreFew}
+use Rattle.sch_validity.specs.Forms.{Form, expression, definition, sketch_of, IsBound, AreDefined, HasNames, AreOfData, form_weight, forms_weight}
+use Rattle.sch_validity.specs.Forms as valid
+use Rattle.sch_validity.specs.Library.{AreDefinitions, AreAmong, AreOrdered, procedures_of_each}
+use Rattle.sch_validity.specs.Sizes.{AllQuotable, IsQuotable, data_in_range, datum_in_range, statics_in_each}
+use Rattle.sch_validity.proofs.Names.{left, right, all_among}
+use Rattle.sch_validity.proofs.Starts.{among_append, among_left, among_right, among_cons}
+use Rattle.sch_validity.proofs.Forms.{forms_constants, valid_text}
+use Rattle.sch_toplevel.specs.Forms.{is_begin_word, forms_of, forms_in, form_sketch, sketches_of, defined_by, defined_by_each, defined, own_names, text_globals}
+use Rattle.sch_toplevel.specs.Texts.{FormsExpand}
+use Rattle.sch_core.specs.declared.error.Kind.{Kind}
+use Rattle.sch_core.specs.declared.error.Kind.TheVariants.{Variables, Free}
+use Rattle.sch_core.specs.Programs.{form_places, excess, at_place, first_excess}
+use Rattle.sch_core.specs.Libraries.{definition_excess, AreFew}
+use Rattle.sch_core.proofs.Numberless.{blank, same_excess, alike}
+
+-- ## Names
+
+some_left : (a b : Bool) → (a || b) ≡ true → (a ≡ true) ⊎ (b ≡ true)
+some_left true b h = inl refl
+some_left false b h = inr h
+
+equal : (x y : List ℕ) → bytes_eq x y ≡ true → x ≡ y
+equal x y h = grind (arith, bytes_eq-Decides)
+
+-- what is in a list of names that are all among others is among those
+within : (all xs : List (List ℕ)) (x : List ℕ) → AreAmong all xs → is_among x xs ≡ true → is_among x all ≡ true
+within all [] x h k = cc
+within all (y ∷ xs) x h k = go (bytes_eq x y) refl k
+  where
+    go : (b : Bool) → bytes_eq x y ≡ b → cond b true (is_among x xs) ≡ true → is_among x all ≡ true
+    go true e m = subst (λ z. is_among z all ≡ true) (sym (equal x y e)) h.0
+    go false e m = within all xs x h.1 m
+
+-- a name of a table is one that was put into it
+from_table : (x : List ℕ) (names before : List (List ℕ)) → is_among x (firsts before names) ≡ true → is_among x (before ++ names) ≡ true
+from_table x [] before h = among_left x before [] h
+from_table x (y ∷ names) before h = go (is_among y before) (from_table x names (with_name y before) h)
+  where
+    go : (b : Bool) → is_among x (cond b before (before ++ y ∷ []) ++ names) ≡ true → is_among x (before ++ y ∷ names) ≡ true
+    go true k =
+        elim (some_left _ _ (sym (among_append x before names) ∙ k)) [
+          inl m ↦ among_left x before (y ∷ names) m
+        | inr m ↦ among_right x before (y ∷ names) (among_cons x y names m)
+        ]
+    go false k = subst (λ l. is_among x l ≡ true) (append_assoc before (y ∷ []) names) k
+
+into_table : (x : List ℕ) (names : List (List ℕ)) → is_among x names ≡ true → is_among x (firsts [] names) ≡ true
+into_table x names h = within (firsts [] names) names x (all_among names []) h
+
+seen_there : (x : List ℕ) (ds : List Definition) → is_among x (seen ds) ≡ true → is_among x (names_of_each ds) ≡ true
+seen_there x [] h = h
+seen_there x (d ∷ ds) h = go (is_hidden d.name) h
+  where
+    go : (b : Bool) → is_among x (cond b (seen ds) (d.name ∷ seen ds)) ≡ true → is_among x (d.name ∷ names_of_each ds) ≡ true
+    go true k = among_cons x d.name (names_of_each ds) (seen_there x ds k)
+    go false k = here (bytes_eq x d.name) k
+      where
+        here : (c : Bool) → cond c true (is_among x (seen ds)) ≡ true → cond c true (is_among x (names_of_each ds)) ≡ true
+        here true m = refl
+        here false m = seen_there x ds m
+
+names_there : (ds : List Definition) (items : Data) (assigned : List (List ℕ)) → HasNames ds (own_names items assigned) (text_globals (seen ds) items assigned)
+names_there ds items assigned x h =
+    elim (some_left _ _ (sym (among_append x (seen ds) (defined items)) ∙ from_table x (seen ds ++ defined items) [] h)) [
+      inl m ↦ among_right x (own_names items assigned) (names_of_each ds) (seen_there x ds m)
+    | inr m ↦ among_left x (own_names items assigned) (names_of_each ds) (into_table x (defined items ++ assigned) (among_left x (defined items) assigned m))
+    ]
+
+-- ## Forms
+
+chosen_form : (b : Bool) (at : ℕ) (xs : Data) (d : Datum) → Form
+chosen_form true at xs d = definition at xs
+chosen_form false at xs d = expression d
+
+pub form_of : Datum → Form
+form_of (list at (cons (atom q (symbol x)) xs)) = chosen_form (is_define_word (keyword_of x)) at xs (list at (cons (atom q (symbol x)) xs))
+form_of d = expression d
+
+chosen_sketch : (b : Bool) (at : ℕ) (xs : Data) (d : Datum) → cond b (row_define at xs) (text d) ≡ sketch_of (chosen_form b at xs d)
+chosen_sketch true at xs d = refl
+chosen_sketch false at xs d = refl
+
+pub form_is : (d : Datum) → form_sketch d ≡ sketch_of (form_of d)
+form_is (atom at a) = refl
+form_is (list at none) = refl
+form_is (list at (cons (atom q (symbol x)) xs)) = chosen_sketch (is_define_word (keyword_of x)) at xs (list at (cons (atom q (symbol x)) xs))
+form_is (list at (cons (atom q (boolean x)) xs)) = refl
+form_is (list at (cons (atom q (integer x)) xs)) = refl
+form_is (list at (cons (atom q (character x)) xs)) = refl
+form_is (list at (cons (atom q (grammar.text x)) xs)) = refl
+form_is (list at (cons (list q x) xs)) = refl
+form_is (list at (cons (dotted q x y) xs)) = refl
+form_is (list at (cons (vector q x) xs)) = refl
+form_is (dotted at xs x) = refl
+form_is (vector at xs) = refl
+
+module _ (g : Globals) where
+  bound_name : (w : Option Keyword) (o : Option (List ℕ)) (at : ℕ) (xs : Data) (e : Draft) → Expands g 1 [] Value (table.definition w o at xs) e →
+      AreAmong g.bound (defined_by (table.definition w o at xs)) → IsBound g o
+  bound_name (Some k) o at xs e p h = elim p [ ]
+  bound_name None None at xs e p h = tt
+  bound_name None (Some v) at xs e p h = h.0
+
+  -- one form defines a name that there is, and then the others
+  one_defined : (f : Form) (fs : List Form) (e : Draft) → Expands g 1 [] Value (sketch_of f) e → AreAmong g.bound (defined_by (sketch_of f)) → AreDefined g fs → AreDefined g (f ∷ fs)
+  one_defined (expression d) fs e p h k = k
+  one_defined (definition at xs) fs e p h k = (bound_name (keyword_at (aimed_name xs)) (defined_name xs) at xs e p h, k)
+
+  record Split (p : Sketch) (ps : Sketches) (es : Drafts) : Type 0 where
+    draft : Draft
+    more : Drafts
+    whole : es ≡ and_draft draft more
+    here : Expands g 1 [] Value p draft
+    others : PartsExpand g sequencing false 1 [] Value ps more
+
+  split_one : {first : Bool} {p : Sketch} {es : Drafts} → PartsExpand g sequencing first 1 [] Value (and_sketch p no_sketch) es → Split p no_sketch es
+  split_one (ex.and_part _ _ _ _ _ p _ e es x y) = record { draft = e; more = es; whole = refl; here = x; others = y }
+
+  split_more : {first : Bool} {p q : Sketch} {qs : Sketches} {es : Drafts} → PartsExpand g sequencing first 1 [] Value (and_sketch p (and_sketch q qs)) es → Split p (and_sketch q qs) es
+  split_more (ex.and_part _ _ _ _ _ p _ e es x y) = record { draft = e; more = es; whole = refl; here = x; others = y }
+
+  split : {first : Bool} {p : Sketch} (ps : Sketches) {es : Drafts} → PartsExpand g sequencing first 1 [] Value (and_sketch p ps) es → Split p ps es
+  split no_sketch r = split_one r
+  split (and_sketch q qs) r = split_more r
+
+  none_is : {first : Bool} {es : Drafts} → PartsExpand g sequencing first 1 [] Value no_sketch es → es ≡ no_drafts
+  none_is (ex.no_part _ _ _ _ _) = refl
+
+  pub forms_are : (ds : List Datum) (first : Bool) (es : Drafts) → PartsExpand g sequencing first 1 [] Value (sketches (map form_sketch ds)) es →
+      AreAmong g.bound (defined_by_each (map form_sketch ds)) → valid.FormsExpand g (map form_of ds) es × AreDefined g (map form_of ds)
+  forms_are [] first es p h = (subst (λ l. valid.FormsExpand g [] l) (sym (none_is p)) tt, tt)
+  forms_are (d ∷ ds) first es p h =
+      let s = split (sketches (map form_sketch ds)) p in
+      let others = forms_are ds false s.more s.others (right g.bound (defined_by (form_sketch d)) _ h) in
+      let here = subst (λ k. Expands g 1 [] Value k s.draft) (form_is d) s.here in
+      let names = subst (λ k. AreAmong g.bound (defined_by k)) (form_is d) (left g.bound (defined_by (form_sketch d)) _ h) in
+      (subst (λ l. valid.FormsExpand g (map form_of (d ∷ ds)) l) (sym s.whole) (here, others.0), one_defined (form_of d) (map form_of ds) s.draft here names others.1)
+
+-- ## The data of forms
+
+weights_append : (a b : List Form) → forms_weight (a ++ b) ≡ forms_weight a + forms_weight b
+weights_append [] b = omega arith
+weights_append (f ∷ a) b = omega (arith, weights_append a b)
+
+chosen_weight : (b : Bool) (at q : ℕ) (x : List ℕ) (xs : Data) → form_weight (chosen_form b at xs (list at (cons (atom q (symbol x)) xs))) ≤ weight (list at (cons (atom q (symbol x)) xs))
+chosen_weight true at q x xs = omega arith
+chosen_weight false at q x xs = omega arith
+
+form_weighs : (d : Datum) → form_weight (form_of d) ≤ weight d
+form_weighs (atom at a) = omega arith
+form_weighs (list at none) = omega arith
+form_weighs (list at (cons (atom q (symbol x)) xs)) = chosen_weight (is_define_word (keyword_of x)) at q x xs
+form_weighs (list at (cons (atom q (boolean x)) xs)) = omega arith
+form_weighs (list at (cons (atom q (integer x)) xs)) = omega arith
+form_weighs (list at (cons (atom q (character x)) xs)) = omega arith
+form_weighs (list at (cons (atom q (grammar.text x)) xs)) = omega arith
+form_weighs (list at (cons (list q x) xs)) = omega arith
+form_weighs (list at (cons (dotted q x y) xs)) = omega arith
+form_weighs (list at (cons (vector q x) xs)) = omega arith
+form_weighs (dotted at xs x) = omega arith
+form_weighs (vector at xs) = omega arith
+
+-- a fact of the forms of a datum: it holds of the forms that a `begin` has, and of the datum as a form
+module _ (P : List Datum → Type 0) where
+  either : (b : Bool) (inner : List Datum) (d : Datum) → P inner → P (d ∷ []) → P (cond b inner (d ∷ []))
+  either true inner d h k = h
+  either false inner d h k = k
+
+abbrev weigh : List Datum → ℕ
+weigh ds = forms_weight (map form_of ds)
+
+map_append : (a b : List Datum) → map form_of (a ++ b) ≡ map form_of a ++ map form_of b
+map_append [] b = refl
+map_append (d ∷ a) b = ap (λ l. form_of d ∷ l) (map_append a b)
+
+weigh_append : (a b : List Datum) → weigh (a ++ b) ≡ weigh a + weigh b
+weigh_append a b = ap forms_weight (map_append a b) ∙ weights_append (map form_of a) (map form_of b)
+
+one_weighs : (d : Datum) → weigh (d ∷ []) ≤ weight d
+one_weighs d = omega (arith, form_weighs d)
+
+mutual
+  datum_weighs : (d : Datum) → weigh (forms_of d) ≤ weight d
+  datum_weighs (list at (cons (atom q (symbol x)) xs)) =
+      let d = list at (cons (atom q (symbol x)) xs) in
+      either (λ ds. weigh ds ≤ weight d) (is_begin_word (keyword_of x)) (forms_in xs) d (omega (arith, data_weigh xs)) (one_weighs d)
+  datum_weighs (atom at a) = one_weighs (atom at a)
+  datum_weighs (list at none) = one_weighs (list at none)
+  datum_weighs (list at (cons (atom q (boolean x)) xs)) = one_weighs (list at (cons (atom q (boolean x)) xs))
+  datum_weighs (list at (cons (atom q (integer x)) xs)) = one_weighs (list at (cons (atom q (integer x)) xs))
+  datum_weighs (list at (cons (atom q (character x)) xs)) = one_weighs (list at (cons (atom q (character x)) xs))
+  datum_weighs (list at (cons (atom q (grammar.text x)) xs)) = one_weighs (list at (cons (atom q (grammar.text x)) xs))
+  datum_weighs (list at (cons (list q x) xs)) = one_weighs (list at (cons (list q x) xs))
+  datum_weighs (list at (cons (dotted q x y) xs)) = one_weighs (list at (cons (dotted q x y) xs))
+  datum_weighs (list at (cons (vector q x) xs)) = one_weighs (list at (cons (vector q x) xs))
+  datum_weighs (dotted at xs x) = one_weighs (dotted at xs x)
+  datum_weighs (vector at xs) = one_weighs (vector at xs)
+
+  pub data_weigh : (items : Data) → weigh (forms_in items) ≤ weights items
+  data_weigh none = omega arith
+  data_weigh (cons d ds) = omega (arith, weigh_append (forms_of d) (forms_in ds), datum_weighs d, data_weigh ds)
+
+-- data that may be quoted
+abbrev Quotable : List Datum → Type 0
+Quotable ds = AreOfData (map form_of ds)
+
+quotable_append : (a b : List Datum) → Quotable a → Quotable b → Quotable (a ++ b)
+quotable_append [] b h k = k
+quotable_append (d ∷ a) b h k = go (form_of d) h
+  where
+    go : (f : Form) → AreOfData (f ∷ map form_of a) → AreOfData (f ∷ map form_of (a ++ b))
+    go (expression y) h = (h.0, quotable_append a b h.1 k)
+    go (definition at ys) h = (h.0, quotable_append a b h.1 k)
+
+both : (a b : Bool) → (a && b) ≡ true → (a ≡ true) × (b ≡ true)
+both true b h = (refl, h)
+both false b h = cc
+
+all_quotable : (xs : Data) → data_in_range xs ≡ true → depths xs ≤ max_nesting → AllQuotable xs
+all_quotable none h l = tt
+all_quotable (cons d ds) h l = let k = both _ _ h in ((k.0, omega (arith, l)), all_quotable ds k.1 (omega (arith, l)))
+
+inner_quotable : (at q : ℕ) (x : List ℕ) (xs : Data) → IsQuotable (list at (cons (atom q (symbol x)) xs)) → AllQuotable xs
+inner_quotable at q x xs h = all_quotable xs (both _ _ h.0).1 (omega (arith, h.1))
+
+chosen_quotable : (b : Bool) (at q : ℕ) (x : List ℕ) (xs : Data) → IsQuotable (list at (cons (atom q (symbol x)) xs)) →
+    AreOfData (chosen_form b at xs (list at (cons (atom q (symbol x)) xs)) ∷ [])
+chosen_quotable true at q x xs h = (inner_quotable at q x xs h, tt)
+chosen_quotable false at q x xs h = (h, tt)
+
+mutual
+  datum_quotable : (d : Datum) → IsQuotable d → Quotable (forms_of d)
+  datum_quotable (list at (cons (atom q (symbol x)) xs)) h =
+      let d = list at (cons (atom q (symbol x)) xs) in
+      either Quotable (is_begin_word (keyword_of x)) (forms_in xs) d (data_quotable xs (inner_quotable at q x xs h)) (chosen_quotable (is_define_word (keyword_of x)) at q x xs h)
+  datum_quotable (atom at a) h = (h, tt)
+  datum_quotable (list at none) h = (h, tt)
+  datum_quotable (list at (cons (atom q (boolean x)) xs)) h = (h, tt)
+  datum_quotable (list at (cons (atom q (integer x)) xs)) h = (h, tt)
+  datum_quotable (list at (cons (atom q (character x)) xs)) h = (h, tt)
+  datum_quotable (list at (cons (atom q (grammar.text x)) xs)) h = (h, tt)
+  datum_quotable (list at (cons (list q x) xs)) h = (h, tt)
+  datum_quotable (list at (cons (dotted q x y) xs)) h = (h, tt)
+  datum_quotable (list at (cons (vector q x) xs)) h = (h, tt)
+  datum_quotable (dotted at xs x) h = (h, tt)
+  datum_quotable (vector at xs) h = (h, tt)
+
+  pub data_quotable : (items : Data) → AllQuotable items → Quotable (forms_in items)
+  data_quotable none h = tt
+  data_quotable (cons d ds) h = quotable_append (forms_of d) (forms_in ds) (datum_quotable d h.0) (data_quotable ds h.1)
+
+-- ## Limits
+
+none_some : {A : Type 0} {a : A} → None ≡ Some a → ⊥
+none_some e = cc
+
+enough : (a b : Bool) → cond a (cond b None (Some Free)) (Some Variables) ≡ None → (a ≡ true) × (b ≡ true)
+enough true true h = (refl, refl)
+enough true false h = absurd (none_some (sym h))
+enough false b h = absurd (none_some (sym h))
+
+-- a procedure with nothing in excess
+pub few : (formals : ℕ) (e : Expression) → excess formals e ≡ None → IsFew formals e
+few formals e h = enough _ _ h
+
+place_none : (at : ℕ) (o : Option Kind) (others : Option (Kind × ℕ)) → at_place at o others ≡ None → (o ≡ None) × (others ≡ None)
+place_none at (Some k) others h = absurd (none_some (sym h))
+place_none at None others h = (refl, h)
+
+forms_few : (places : List ℕ) (es : Expressions) → length places ≡ count es → first_excess places es ≡ None → FormsAreFew es
+forms_few places no_expressions l h = tt
+forms_few [] (and_expression e es) l h = absurd (omega (arith, l))
+forms_few (at ∷ places) (and_expression e es) l h =
+    let k = place_none at (excess 0 e) (first_excess places es) h in
+    (few 0 e k.0, forms_few places es (omega (arith, l)) k.1)
+
+module _ (globals symbols : List (List ℕ)) where
+  definition_few : (d : Definition) (s l : ℕ) → definition_excess d ≡ None → excess d.formals (numbered [] globals symbols None d.body s l) ≡ None
+  definition_few d s l h =
+      sym (same_excess d.formals (numbered [] globals symbols None d.body s l))
+      ∙ ap (excess d.formals) (alike [] globals symbols [] [] [] None d.body s l 0 0) ∙ (same_excess d.formals (numbered [] [] [] None d.body 0 0) ∙ h)
+
+  library_few : (ds : List Definition) (s l : ℕ) → AreFew ds → LambdasAreFew (procedures globals symbols ds s l)
+  library_few [] s l h = tt
+  library_few (d ∷ ds) s l h = (few d.formals _ (definition_few d s l h.0), library_few ds _ _ h.1)
+
+kept_few : (ds : List Definition) (names : List (List ℕ)) → AreFew ds → AreFew (kept ds names)
+kept_few [] names h = tt
+kept_few (d ∷ ds) names h = go _
+  where
+    go : (b : Bool) → AreFew (with_definition b d (kept ds names))
+    go true = (h.0, kept_few ds names h.1)
+    go false = kept_few ds names h.1
+
+-- ## The program
+
+module _ (ds : List Definition) (items : Data) (assigned : List (List ℕ)) (es : Drafts) (places : length (form_places items) ≡ count (program_of ds (own_names items assigned) es).forms) where
+  pub valid_program : AreDefinitions ds → AreOrdered [] ds → AreFew ds → statics_in_each (procedures_of_each ds) + 2 * weights items ≤ 4 * max_weight →
+      FormsExpand (text_globals (seen ds) items assigned) items es → AllQuotable items →
+      first_excess (form_places items) (program_of ds (own_names items assigned) es).forms ≡ None → is_valid (program_of ds (own_names items assigned) es) ≡ true
+  valid_program definitions ordered library small expands quotable fits =
+      let own = own_names items assigned in
+      let g = text_globals (seen ds) items assigned in
+      let fs = map form_of (forms_in items) in
+      let forms = forms_are g (forms_in items) true es expands (right g.bound (seen ds) (defined items) (all_among (seen ds ++ defined items) [])) in
+      let words = forms_constants g fs es forms.0 (data_quotable items quotable) in
+      valid_text ds g own fs es definitions ordered forms.0 forms.1 (names_there ds items assigned) words.0 words.1 (omega (arith, small, data_weigh items))
+      (library_few _ _ (kept ds (named ds own es)) 0 0 (kept_few ds (named ds own es) library), forms_few (form_places items) (program_of ds own es).forms places fits)

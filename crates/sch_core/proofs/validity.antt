@@ -1,9 +1,0 @@
-pub mod ValidityConstants
-pub mod ValidityCounts
-pub mod ValidityLevels
-pub mod ValidityNames
-pub mod ValidityNodes
-pub mod ValiditySites
-pub mod ValiditySizes
-pub mod ValiditySound
-pub mod ValiditySoundness

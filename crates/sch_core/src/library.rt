@@ -1,0 +1,56 @@
+//! Libraries.
+
+ghost use Rattle.std.specs.Prelude.{◌≡◌, [], IfOk};
+ghost use Rattle.sch_core.specs.standin.Definitions.{definitions_of};
+ghost use Rattle.sch_numbers.specs.Programs.{is_hidden, seen};
+ghost use Rattle.sch_core.specs.SoundLibraries.{IsSoundLibrary};
+ghost use Rattle.sch_toplevel.specs.Views.{given};
+
+use crate::standin::Definition;
+use sch_word::{List, Mem};
+use std::alloc::Global;
+
+/// The definitions of a library, in the order of its text. Each is a procedure of a valid program, and names
+/// only itself and earlier ones.
+#[derive(Drop)]
+pub struct Library<'a> {
+    pub definitions: List<Definition<'a>>,
+    ghost sound: { IsSoundLibrary (definitions_of definitions) },
+}
+
+impl<'a> Library<'a> {
+    /// The library without a definition.
+    pub fn empty(alloc: Global) -> Library<'a>
+        ensures { definitions_of result.definitions ≡ [] }
+    {
+        Library {
+            definitions: List::new(alloc),
+        }
+    }
+}
+
+/// Whether a name is the library's own: it begins with `%`.
+fn is_hidden(x: &[u8]) -> bool
+    ensures { result ≡ is_hidden x.now }
+{
+    match x.first() {
+        Some(b) => *b == b'%',
+        None => false,
+    }
+}
+
+/// The names that a text sees of a library.
+pub(crate) fn seen_names<'a>(
+    alloc: Global,
+    definitions: &[Definition<'a>],
+) -> Result<List<&'a [u8]>, Mem>
+    ensures { IfOk result (λ names. given names ≡ seen (definitions_of definitions.now)) }
+{
+    let mut names = List::new(alloc);
+    for d in definitions {
+        if !is_hidden(d.name) {
+            names.push(d.name)?;
+        }
+    }
+    Ok(names)
+}

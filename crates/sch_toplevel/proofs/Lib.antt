@@ -1,0 +1,5 @@
+pub mod FormLists
+pub mod AssignedDrafts
+pub mod PartsRead
+pub mod TextLaws
+pub mod WholeTexts

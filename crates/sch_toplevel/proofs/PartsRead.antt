@@ -1,0 +1,81 @@
+-- The forms of a text are read as the parts of a sequence at level 0.
+use Rattle.std.proofs.Common.{◌≡◌, ℕ, suc, ◌+◌, ◌<◌, Bool, true, false, List, [], ◌∷◌, ◌++◌, length, drop, get_or, map, Option, refl, sym, ap, ◌∙◌, subst, add-one}
+use Rattle.std.proofs.lemmas.List.{map-append}
+use Rattle.std.specs.Borrow.{Bor}
+use Rattle.sch_read.specs.declared.datum.Datum as text
+use Rattle.sch_names.specs.Scope.{Globals}
+use Rattle.sch_sketch.specs.declared.draft.Draft as code
+use Rattle.sch_sketch.specs.declared.fault.Fault.{Fault}
+use Rattle.sch_sketch.specs.declared.sketch.Position.TheVariants.{Value}
+use Rattle.sch_sketch.specs.Draft.{Draft, Drafts, drafts, no_drafts, and_draft}
+use Rattle.sch_sketch.specs.DraftView.{draft_of, drafts_of}
+use Rattle.sch_sketch.specs.Sketch.{Sketch, Sketches, sketches, no_sketch, and_sketch, sequencing}
+use Rattle.sch_expansion.specs.Following.{and_then}
+use Rattle.sch_expansion.specs.Reads.{Reads, PartsRead}
+use Rattle.sch_expansion.specs.Reads as re
+use Rattle.sch_toplevel.specs.Forms.{form_sketch}
+use Rattle.sch_toplevel.specs.Views.{tree_at, trees_of}
+use Rattle.sch_toplevel.proofs.FormLists.{next}
+
+and_then_none : (es : List Draft) → and_then es no_drafts ≡ drafts es
+and_then_none [] = refl
+and_then_none (e ∷ es) = ap (and_draft e) (and_then_none es)
+
+and_then_more : (es : List Draft) (e : Draft) (more : Drafts) → and_then (es ++ e ∷ []) more ≡ and_then es (and_draft e more)
+and_then_more [] e more = refl
+and_then_more (a ∷ es) e more = ap (and_draft a) (and_then_more es e more)
+
+pub more_made : (es : List code.Draft) (e : code.Draft) (fs : Drafts) → and_then (map draft_of (es ++ e ∷ [])) fs ≡ and_then (map draft_of es) (and_draft (draft_of e) fs)
+more_made es e fs = ap (λ l. and_then l fs) (map-append draft_of es (e ∷ [])) ∙ and_then_more (map draft_of es) (draft_of e) fs
+
+pub all_made : (es : List code.Draft) → and_then (map draft_of es) no_drafts ≡ drafts_of es
+all_made es = and_then_none (map draft_of es)
+
+module _ (globals : Globals) where
+  abbrev PartsOf : Bool → Sketches → Option Fault → Option Fault → Drafts → Type 0
+  PartsOf first ks a b es = PartsRead globals sequencing first 1 [] Value ks a b es
+
+  -- one form more
+  one_more : (first : Bool) (p : Sketch) (ps : Sketches) (a m b : Option Fault) (e : Draft) (es : Drafts) →
+      Reads globals 1 [] Value p a m e → PartsOf false ps m b es → PartsOf first (and_sketch p ps) a b (and_draft e es)
+  one_more first p no_sketch a m b e es x y = re.reads_part sequencing first 1 [] Value p no_sketch a m b e es x y
+  one_more first p (and_sketch q qs) a m b e es x y = re.reads_part sequencing first 1 [] Value p (and_sketch q qs) a m b e es x y
+
+  none_is : {first : Bool} {a b : Option Fault} {es : Drafts} → PartsOf first no_sketch a b es → (a ≡ b) × (es ≡ no_drafts)
+  none_is (re.reads_none _ _ _ _ _ a) = (refl, refl)
+
+  record Split (p : Sketch) (ps : Sketches) (a b : Option Fault) (es : Drafts) : Type 0 where
+    between : Option Fault
+    draft : Draft
+    more : Drafts
+    whole : es ≡ and_draft draft more
+    here : Reads globals 1 [] Value p a between draft
+    others : PartsOf false ps between b more
+
+  split_one : {first : Bool} {p : Sketch} {a b : Option Fault} {es : Drafts} → PartsOf first (and_sketch p no_sketch) a b es → Split p no_sketch a b es
+  split_one (re.reads_part _ _ _ _ _ p _ a m b e es x y) = record { between = m; draft = e; more = es; whole = refl; here = x; others = y }
+
+  split_more : {first : Bool} {p q : Sketch} {qs : Sketches} {a b : Option Fault} {es : Drafts} → PartsOf first (and_sketch p (and_sketch q qs)) a b es → Split p (and_sketch q qs) a b es
+  split_more (re.reads_part _ _ _ _ _ p _ a m b e es x y) = record { between = m; draft = e; more = es; whole = refl; here = x; others = y }
+
+  split : {first : Bool} {p : Sketch} (ps : Sketches) {a b : Option Fault} {es : Drafts} → PartsOf first (and_sketch p ps) a b es → Split p ps a b es
+  split no_sketch r = split_one r
+  split (and_sketch q qs) r = split_more r
+
+  -- whether the first of all forms is among them makes no difference
+  pub any_first : (f g : Bool) (ks : Sketches) (a b : Option Fault) (es : Drafts) → PartsOf f ks a b es → PartsOf g ks a b es
+  any_first f g no_sketch a b es r =
+      let i = none_is r in
+      subst (λ o. PartsOf g no_sketch a o es) i.0 (subst (λ l. PartsOf g no_sketch a a l) (sym i.1) (re.reads_none sequencing g 1 [] Value a))
+  any_first f g (and_sketch p ps) a b es r =
+      let s = split ps r in
+      subst (λ l. PartsOf g (and_sketch p ps) a b l) (sym s.whole) (one_more g p ps a s.between b s.draft s.more s.here s.others)
+
+  -- one form, and then the others
+  pub next_form : (ds : List (Bor text.Datum)) (i : ℕ) (d : Bor text.Datum) (k : Sketch) (e : code.Draft) (a m b : Option Fault) (es : Drafts) → i < length ds → d ≡ get_or ds i d →
+      k ≡ form_sketch (tree_at d) → Reads globals 1 [] Value k a m (draft_of e) → PartsOf false (sketches (map form_sketch (trees_of (drop (i + 1) ds)))) m b es →
+      PartsOf false (sketches (map form_sketch (trees_of (drop i ds)))) a b (and_draft (draft_of e) es)
+  next_form ds i d k e a m b es l is h x r =
+      let n = next ds i d l is in
+      let r' = rw add-one at r in
+      rw n (one_more false (form_sketch (tree_at d)) _ a m b (draft_of e) es (subst (λ j. Reads globals 1 [] Value j a m (draft_of e)) h x) r')

@@ -1,0 +1,13 @@
+use Rattle.std.proofs.Common.{arith}
+use Rattle.sch_binders.proofs.DefinitionSteps.{lighter}
+use Rattle.sch_toplevel.proofs.FormLists.{next_forms}
+use Rattle.sch_toplevel.proofs.forms.+adding.Goals as goal
+
+pub add_forms-add_form-requires : goal.add_forms-add_form-requires
+add_forms-add_form-requires t c =
+    let w = lighter c.args.items.now c.loop-d.d-index c.d-item.result c.loop-d-test.true c.d-item.is in
+    (omega (arith, c.decreases, w), tt)
+
+pub add_forms-loop-d-preserved : goal.add_forms-loop-d-preserved
+add_forms-loop-d-preserved t c =
+    next_forms c.args.items.now c.loop-d.d-index c.d-item.result _ _ _ c.loop-d-test.true c.d-item.is c.in_ok-add_form.ensures c.loop-d.invariant

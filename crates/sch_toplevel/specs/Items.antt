@@ -1,0 +1,74 @@
+-- The items of a library's text: each defines a procedure, `(define (v . F) e ..)`, of a name that no earlier item
+-- defines, and names only itself and earlier ones.
+use Rattle.std.specs.Prelude.{◌≡◌, ◌⊎◌, ℕ, cond, List, [], ◌∷◌, Option, Some, None, true}
+use Rattle.sch_read.specs.Grammar.{Datum, Data, none, cons}
+use Rattle.sch_read.specs.Parts.{offset}
+use Rattle.sch_names.specs.NamesView.{with_name}
+use Rattle.sch_names.specs.Scope.{is_among, Globals}
+use Rattle.sch_sketch.specs.declared.fault.Fault.{Fault}
+use Rattle.sch_sketch.specs.declared.fault.Fault.TheVariants.{BadForm}
+use Rattle.sch_sketch.specs.declared.sketch.Position.TheVariants.{Value}
+use Rattle.sch_sketch.specs.declared.sketch.Row.TheVariants.{Method}
+use Rattle.sch_sketch.specs.Draft.{Draft, lambda}
+use Rattle.sch_sketch.specs.Sketch.{Sketch, rest, wrong, node, no_sketch, and_sketch, defining}
+use Rattle.sch_expansion.specs.Expands.{Expands}
+use Rattle.sch_expansion.specs.Faults.{HasFault}
+use Rattle.sch_expansion.specs.Reads.{Reads}
+use Rattle.sch_numbers.specs.Programs.{Definition}
+use Rattle.sch_toplevel.specs.Forms.{form_sketch}
+
+-- ## One item, as a form at this place, behind items that define these names
+
+-- the procedure that it defines
+abbrev pub item_sketch : (before : List (List ℕ)) → (at : ℕ) → Sketch → Sketch
+item_sketch before at (node (defining v) p (and_sketch (rest Method q xs ys) no_sketch)) =
+    cond (is_among v before) (wrong (BadForm at)) (rest Method q xs ys)
+item_sketch before at (wrong f) = wrong f
+item_sketch before at _ = wrong (BadForm at)
+
+-- its name
+abbrev pub item_name : Sketch → Option (List ℕ)
+item_name (node (defining v) p (and_sketch (rest Method q xs ys) no_sketch)) = Some v
+item_name _ = None
+
+abbrev pub with_item : Option (List ℕ) → List (List ℕ) → List (List ℕ)
+with_item (Some v) names = with_name v names
+with_item None names = names
+
+-- the names by then, and the globals that the item may name
+abbrev pub names_by : (before : List (List ℕ)) → Datum → List (List ℕ)
+names_by before d = with_item (item_name (form_sketch d)) before
+
+abbrev pub item_globals : (before : List (List ℕ)) → Datum → Globals
+item_globals before d = record { bound = names_by before d; own = []; internal = true }
+
+abbrev pub procedure_in : (before : List (List ℕ)) → Datum → Sketch
+procedure_in before d = item_sketch before (offset d) (form_sketch d)
+
+-- ## The items behind those that define these names
+
+-- the number of bytes before each
+abbrev pub item_places : Data → List ℕ
+item_places none = []
+item_places (cons d ds) = offset d ∷ item_places ds
+
+-- they stand for definitions, each procedure at level 1
+abbrev pub ItemsExpand : (before : List (List ℕ)) → Data → List Definition → Type 0
+ItemsExpand before none [] = Unit {0}
+ItemsExpand before (cons d ds) (x ∷ xs) =
+    (item_name (form_sketch d) ≡ Some x.name)
+    × Expands (item_globals before d) 1 [] Value (procedure_in before d) (lambda x.formals x.rest x.body)
+    × ItemsExpand (names_by before d) ds xs
+ItemsExpand before _ _ = ⊥
+
+-- some item has a fault
+abbrev pub ItemHasFault : (before : List (List ℕ)) → Data → Fault → Type 0
+ItemHasFault before none f = ⊥
+ItemHasFault before (cons d ds) f = HasFault (item_globals before d) 1 [] Value (procedure_in before d) f ⊎ ItemHasFault (names_by before d) ds f
+
+-- they are read in order: the least fault before and after, and the drafts that are built
+abbrev pub ItemsRead : (before : List (List ℕ)) → Data → (a b : Option Fault) → List Draft → Type 0
+ItemsRead before none a b es = (b ≡ a) × (es ≡ [])
+ItemsRead before (cons d ds) a b es =
+    (m : Option Fault) × (e : Draft) × (more : List Draft) × (es ≡ e ∷ more)
+    × Reads (item_globals before d) 1 [] Value (procedure_in before d) a m e × ItemsRead (names_by before d) ds m b more

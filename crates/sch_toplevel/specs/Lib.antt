@@ -1,0 +1,5 @@
+pub mod Forms
+pub mod Assigned
+pub mod Texts
+pub mod Items
+pub mod Views

@@ -1,0 +1,70 @@
+-- A text is read form by form: each at level 1, outside all variables and for its value, as the parts of a
+-- `begin` are.
+use Rattle.std.specs.Prelude.{◌≡◌, ◌≤◌, ℕ, true, false, List, [], Option, Some, None, map}
+use Rattle.sch_word.specs.values.Primitives.{name_of}
+use Rattle.sch_read.specs.Grammar.{Datum, Data}
+use Rattle.sch_names.specs.Operations.{of_numbers}
+use Rattle.sch_names.specs.Scope.{Globals}
+use Rattle.sch_sketch.specs.declared.fault.Fault.{Fault}
+use Rattle.sch_sketch.specs.declared.sketch.Position.TheVariants.{Value}
+use Rattle.sch_sketch.specs.Draft.{Drafts}
+use Rattle.sch_sketch.specs.Sketch.{sketches, sequencing}
+use Rattle.sch_expansion.specs.FaultOrder.{rank}
+use Rattle.sch_expansion.specs.Expands.{PartsExpand}
+use Rattle.sch_expansion.specs.Faults.{PartHasFault}
+use Rattle.sch_expansion.specs.Reads.{PartsRead}
+use Rattle.sch_toplevel.specs.Forms.{form_sketch, sketches_of, defined_by_each, own_names, text_globals, scoped_globals}
+use Rattle.sch_numbers.specs.Named.{firsts}
+use Rattle.sch_toplevel.specs.Assigned.{assigned_in_each}
+
+-- the forms of a text, in order, stand for drafts
+abbrev pub FormsExpand : Globals → Data → Drafts → Type 0
+FormsExpand globals items es = PartsExpand globals sequencing true 1 [] Value (sketches (sketches_of items)) es
+
+-- some form has a fault
+abbrev pub FormHasFault : Globals → Data → Fault → Type 0
+FormHasFault globals items f = PartHasFault globals sequencing true 1 [] Value (sketches (sketches_of items)) f
+
+-- the forms are read in order, from the first on: the least fault, and the drafts that are built
+abbrev pub FormsRead : Globals → Data → Option Fault → Drafts → Type 0
+FormsRead globals items f es = PartsRead globals sequencing true 1 [] Value (sketches (sketches_of items)) None f es
+
+-- The names that a text assigns by a `set!` that finds no local variable. They do not depend on what is an
+-- operation. So the text is read as if no name meant a sum or a comparison: only those nest their operands deeper
+-- than a call does, so that nothing in the text lies deeper then than it does otherwise.
+pub record Assigns (seen : List (List ℕ)) (items : Data) (names : List (List ℕ)) : Type 0 where
+  pub fault : Option Fault
+  pub drafts : Drafts
+  pub reads : FormsRead (scoped_globals seen items) items fault drafts
+  pub assigned : names ≡ assigned_in_each drafts
+
+-- a text that sees these names of a library, assigns those, and stands for drafts
+pub record TextExpands (seen : List (List ℕ)) (items : Data) (assigned : List (List ℕ)) (es : Drafts) : Type 0 where
+  pub assigns : Assigns seen items assigned
+  pub expands : FormsExpand (text_globals seen items assigned) items es
+
+-- the fault that is answered: a least one, and of two unbound names at one place the one that is found first in
+-- the order of the text
+pub record IsFaultOf (seen : List (List ℕ)) (items : Data) (f : Fault) : Type 0 where
+  pub names : List (List ℕ)
+  pub assigns : Assigns seen items names
+  pub there : FormHasFault (text_globals seen items names) items f
+  pub least : (g : Fault) → FormHasFault (text_globals seen items names) items g → rank f ≤ rank g
+  pub drafts : Drafts
+  pub first : FormsRead (text_globals seen items names) items (Some f) drafts
+
+-- the forms have been read once, as if the text had the names of sums and comparisons as its own
+pub record IsReadOnce (seen : List (List ℕ)) (forms : List Datum) (es : Drafts) : Type 0 where
+  pub globals : Globals
+  pub bound : globals.bound ≡ firsts (firsts [] seen) (defined_by_each (map form_sketch forms))
+  pub own : globals.own ≡ firsts [] (map name_of of_numbers)
+  pub internal : globals.internal ≡ false
+  pub fault : Option Fault
+  pub reads : PartsRead globals sequencing true 1 [] Value (sketches (map form_sketch forms)) None fault es
+
+-- A text is read: it has these names of its own, and its forms have a least fault and drafts.
+pub record IsRead (seen : List (List ℕ)) (items : Data) (own : List (List ℕ)) (fault : Option Fault) (es : Drafts) : Type 0 where
+  pub names : List (List ℕ)
+  pub assigns : Assigns seen items names
+  pub owned : own ≡ own_names items names
+  pub reads : FormsRead (text_globals seen items names) items fault es

@@ -1,0 +1,11 @@
+//! From data to the drafts of top-level forms.
+#![tactic(auto)]
+
+mod assigned;
+mod forms;
+mod given;
+mod places;
+mod reading;
+
+pub use places::form_places;
+pub use reading::{Text, read_text};
