@@ -22,7 +22,7 @@ use Rattle.sch_asm.proofs.Tables.{size_append}
 use Rattle.sch_elf.specs.declared.image.Image.{Image}
 use Rattle.sch_elf.specs.Layout.{memory}
 use Rattle.sch_elf.specs.Program.{IsProgramImage, text_address}
-use Rattle.sch_control.specs.Sizes.{expressions_size}
+use Rattle.sch_control.specs.Work.{codes_work}
 use Rattle.sch_control.specs.Tree as control
 use Rattle.sch_control.specs.Run as control_run
 use Rattle.sch_frames.specs.Does.{Follows, SameRuns}
@@ -69,12 +69,12 @@ assembled p f heap depth a routines code marks words text zeros image same follo
 
 -- ## What is too large
 
--- the text of a program's items and of the routines, by the size of its bodies
-pub text_within : (a routines : List Item) (f size : ℕ) → text_size a ≤ 512 + 64 * f → f ≤ 2 * size → text_size routines ≤ 1024 → text_size (a ++ routines) ≤ 65536 + 128 * size
-text_within a routines f size text few short = let e = size_append a routines in omega (arith, e, text, few, short)
+-- the text of a program's items and of the routines, by the work in its bodies
+pub text_within : (a routines : List Item) (work : ℕ) → text_size a ≤ 512 + 64 * work → text_size routines ≤ 1024 → text_size (a ++ routines) ≤ 65536 + 64 * work
+text_within a routines work text short = let e = size_append a routines in omega (arith, e, text, short)
 
-pub unfit : (p : control.Source) (n : ℕ) (error : AsmError) → n ≤ 65536 + 128 * expressions_size p.bodies → IsTooLarge n error → IsUnfit p (of_assembly error)
-unfit p n (TextTooLarge bytes) h t = (t.1, subst (λ k. k ≤ 65536 + 128 * expressions_size p.bodies) (sym t.0) h)
+pub unfit : (p : control.Source) (n : ℕ) (error : AsmError) → n ≤ 65536 + 64 * codes_work p.bodies → IsTooLarge n error → IsUnfit p (of_assembly error)
+unfit p n (TextTooLarge bytes) h t = (t.1, subst (λ k. k ≤ 65536 + 64 * codes_work p.bodies) (sym t.0) h)
 unfit p n Memory h t = tt
 
 pub refused_for : {A : Type 0} (p : control.Source) (r : Result A CompileError) (cause : AsmError) → IsErrAnd r (λ e. e ≡ of_assembly cause) → IsUnfit p (of_assembly cause) → IfErr r (IsUnfit p)
@@ -82,10 +82,10 @@ refused_for p (Ok a) cause h u = tt
 refused_for p (Err e) cause h u = subst (IsUnfit p) (sym h) u
 
 -- the bound by the control program is one by the core program
-pub bound_chain : (p : lang.Source) (q : control.Source) (code : List Insn) → length (flat_map spelling code) ≤ assembled_bound q → expressions_size q.bodies ≤ 4 * program_size p
+pub bound_chain : (p : lang.Source) (q : control.Source) (code : List Insn) → length (flat_map spelling code) ≤ assembled_bound q → codes_work q.bodies ≤ 7 * program_size p
     → length (flat_map spelling code) ≤ text_bound p
 bound_chain p q code h size = omega (arith, h, size)
 
 -- a text that is built, and too large for its control program
-pub too_large : (text : List ℕ) (p : lang.Source) (q : control.Source) (bytes : ℕ) → IsBuilt text p → expressions_size q.bodies ≤ 4 * program_size p → IsUnfit q (compile_error.TextTooLarge bytes) → causes.IsTextTooLarge text bytes
+pub too_large : (text : List ℕ) (p : lang.Source) (q : control.Source) (bytes : ℕ) → IsBuilt text p → codes_work q.bodies ≤ 7 * program_size p → IsUnfit q (compile_error.TextTooLarge bytes) → causes.IsTextTooLarge text bytes
 too_large text p q bytes built size unfit = record { program = p; built = built; large = unfit.0; bound = omega (arith, unfit.1, size) }

@@ -1,6 +1,5 @@
-pub mod Chain
+pub mod Covered
 pub mod Images
 pub mod Spelled
-pub mod StraightTrees
-pub mod StraightSize
+pub mod TextSizes
 pub mod BuiltTexts

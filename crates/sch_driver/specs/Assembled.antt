@@ -10,7 +10,7 @@ use Rattle.sch_asm.specs.declared.error.AsmError.{AsmError}
 use Rattle.sch_asm.specs.declared.error.AsmError.TheVariants as asm
 use Rattle.sch_elf.specs.declared.image.Image.{Image}
 use Rattle.sch_elf.specs.Layout.{memory}
-use Rattle.sch_control.specs.Sizes.{expressions_size}
+use Rattle.sch_control.specs.Work.{codes_work}
 use Rattle.sch_control.specs.Tree.{Source}
 use Rattle.sch_control.specs.Run.{run}
 use Rattle.sch_driver.specs.Causes.{text_base}
@@ -18,9 +18,9 @@ use Rattle.sch_driver.specs.Headline.{HasProgramLayout}
 use Rattle.sch_driver.specs.declared.error.CompileError.{CompileError}
 use Rattle.sch_driver.specs.declared.error.CompileError.TheVariants.{TextTooLarge, Memory}
 
--- the most bytes of the text, by the size of the control program
+-- the most bytes of the text, by the work in the control program
 abbrev pub assembled_bound : Source → ℕ
-assembled_bound p = text_base + 128 * expressions_size p.bodies
+assembled_bound p = text_base + 64 * codes_work p.bodies
 
 -- The image is laid out as a program's, and where the control program is never wrong, it follows its runs.
 pub record IsAssembled (p : Source) (heap depth : ℕ) (image : Image) : Type 0 where

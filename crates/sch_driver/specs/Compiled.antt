@@ -6,7 +6,7 @@ use Rattle.sch_lang.specs.Tree as tree
 use Rattle.sch_control.specs.Tree as control
 use Rattle.sch_orders.specs.Table.{given_table}
 use Rattle.sch_driver.specs.Causes.{IsBuilt, text_bound}
-use Rattle.sch_driver.specs.Chain.{RunsAs}
+use Rattle.sch_passes.specs.Chain.{RunsAs}
 use Rattle.sch_driver.specs.Headline.{IsProgram}
 
 -- The orders are those given for a control program that runs as the core program.

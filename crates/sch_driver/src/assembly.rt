@@ -3,8 +3,8 @@
 ghost use Rattle.std.specs.Prelude.{◌≡◌, ◌++◌, IfOk, IfErr, IsTrue, OnOk, true};
 ghost use Rattle.std.specs.List.{flat_map};
 ghost use Rattle.sch_insn.specs.Spelling.{AllValid, spelling};
+ghost use Rattle.sch_control.specs.CallFree.{is_call_free_program};
 ghost use Rattle.sch_control.specs.ProgramView.{source};
-ghost use Rattle.sch_control.specs.Straight.{is_straight_program};
 ghost use Rattle.sch_driver.specs.Assembled.{IsAssembled, IsUnfit};
 
 use crate::error::CompileError;
@@ -33,13 +33,13 @@ fn text_of(alloc: Global, code: &[Insn]) -> Result<Bytes, Mem>
     Ok(text)
 }
 
-/// The image of a straight program, under limits of heap and depth.
+/// The image of a call-free program, under limits of heap and depth.
 pub(crate) fn assemble(
     alloc: Global,
     p: &ControlProgram,
     limits: Limits,
 ) -> Result<Image, CompileError>
-    requires straight { IsTrue (is_straight_program (source p.now)) }
+    requires call_free { IsTrue (is_call_free_program (source p.now)) }
     ensures does { IfOk result (IsAssembled (source p.now) limits.heap limits.depth) }
     ensures refused { IfErr result (IsUnfit (source p.now)) }
 {

@@ -8,18 +8,15 @@ ghost use Rattle.sch_driver.specs.Compiled.{IsCompiled};
 mod assembly;
 mod error;
 mod laws;
-mod passes;
 mod reading;
-mod straight;
-mod walkable;
 
 use crate::assembly::assemble;
-use crate::passes::control_program;
 use crate::reading::read_program;
 pub use error::CompileError;
 pub use laws::a_text_is_built_or_not;
 use sch_elf::write_image;
 use sch_orders::given_orders;
+use sch_passes::control_program;
 use sch_word::{Bytes, Limits, List};
 use std::alloc::Global;
 

@@ -1,4 +1,4 @@
-use Rattle.std.proofs.Common.{◌≡◌, subst}
+use Rattle.std.proofs.Common.{◌≡◌, arith, subst}
 use Rattle.std.specs.Prelude.{IsTrue}
 use Rattle.sch_word.specs.runs.Orders.{is_order_table}
 use Rattle.sch_lang.specs.ProgramView.{source}
@@ -6,6 +6,12 @@ use Rattle.sch_lang.specs.Run.{run}
 use Rattle.sch_control.specs.ProgramView as control
 use Rattle.sch_driver.proofs.Images.{bound_chain}
 use Rattle.sch_driver.proofs.compile.Goals as goal
+
+pub control_program-requires : goal.control_program-requires
+control_program-requires c = record { small = omega (arith, c.in_ok-program.ensures.size) }
+
+pub assemble-requires : goal.assemble-requires
+assemble-requires c = record { call_free = c.in_ok-control.ensures.call_free c.in_ok-program.ensures.built.call_free }
 
 pub returns-clause-compiled : goal.returns-clause-compiled
 returns-clause-compiled c =
@@ -34,5 +40,5 @@ returns-clause-compiled c =
         runs = runs;
         given = c.in_ok-orders.ensures.orders;
       };
-      bound = bound_chain p (control.source c.in_ok-control.control) does.laid_out.code does.bound c.in_ok-control.ensures.size;
+      bound = bound_chain p (control.source c.in_ok-control.control) does.laid_out.code does.bound c.in_ok-control.ensures.work;
     }

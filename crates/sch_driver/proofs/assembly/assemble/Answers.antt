@@ -1,33 +1,24 @@
-use Rattle.std.proofs.Common.{◌≤◌, ◌+◌, ◌*◌, ◌∙◌, ap, arith, subst, sym}
-use Rattle.std.specs.Prelude.{◌≡◌, true}
+use Rattle.std.proofs.Common.{◌≤◌, ◌∙◌, ap, subst, sym}
 use Rattle.std.specs.List.{flat_map}
 use Rattle.sch_insn.specs.Spelling.{spelling}
 use Rattle.sch_control.specs.ProgramView.{source}
-use Rattle.sch_control.specs.Sizes.{expressions_size}
+use Rattle.sch_control.specs.Work.{codes_work}
 use Rattle.sch_frames.specs.ProgramView as frames
-use Rattle.sch_frames.specs.Sizes.{program_size}
 use Rattle.sch_asm.specs.Codes.{text_size}
-use Rattle.sch_asm.specs.declared.assembly.Asm.{Asm}
-use Rattle.sch_frames.specs.Straight.{is_straight_program}
-use Rattle.sch_frames.specs.Tree.{Source}
-use Rattle.sch_select.specs.Sizes.{closures_in}
-use Rattle.sch_select.proofs.programs.StraightPrograms.{straight_covered, straight_closures}
+use Rattle.sch_driver.proofs.Covered.{call_free_covered}
+use Rattle.sch_driver.proofs.TextSizes.{text_by_work}
 use Rattle.sch_driver.specs.Assembled.{assembled_bound}
 use Rattle.sch_driver.proofs.Images.{assembled, refused_for, text_within, unfit}
 use Rattle.sch_driver.proofs.assembly.assemble.Goals as goal
 
--- a straight program makes no closures
-text_bound : (f : Source) (a : Asm) → is_straight_program f ≡ true → text_size a.items ≤ 512 + 64 * (program_size f + closures_in f.bodies) → text_size a.items ≤ 512 + 64 * program_size f
-text_bound f a s t = let e = straight_closures f s in omega (arith, t, e)
-
 pub select-requires : goal.select-requires
-select-requires c = record { covered = straight_covered (frames.source c.in_ok-frames.frames) (c.in_ok-frames.ensures.straight c.requires.straight) }
+select-requires c = record { covered = call_free_covered (frames.source c.in_ok-frames.frames) (c.in_ok-frames.ensures.call_free c.requires.call_free) }
 
 pub returns-in_err-resolved-clause-refused : goal.returns-in_err-resolved-clause-refused
 returns-in_err-resolved-clause-refused c =
     let p = source c.args.p.now in
     let f = frames.source c.in_ok-frames.frames in
-    let n = text_within c.in_ok-code.code.items c.in_ok-routines.routines.items (program_size f) (expressions_size p.bodies) (text_bound f c.in_ok-code.code (c.in_ok-frames.ensures.straight c.requires.straight) c.in_ok-code.ensures.text) (c.in_ok-frames.ensures.straight_size c.requires.straight) c.in_ok-routines.ensures.short in
+    let n = text_within c.in_ok-code.code.items c.in_ok-routines.routines.items (codes_work p.bodies) (text_by_work f (text_size c.in_ok-code.code.items) (codes_work p.bodies) c.in_ok-code.ensures.text c.in_ok-frames.ensures.work) c.in_ok-routines.ensures.short in
     refused_for p c.from_residual-in_err-resolved.result c.in_err-resolved.field-0.0 c.from_residual-in_err-resolved.ensures.1 (unfit p _ c.in_err-resolved.field-0.0 n c.in_err-resolved.ensures.too_large)
 
 pub returns-clause-does : goal.returns-clause-does
@@ -35,7 +26,7 @@ returns-clause-does c =
     let r = c.in_ok-resolved in
     let p = source c.args.p.now in
     let f = frames.source c.in_ok-frames.frames in
-    let n = text_within c.in_ok-code.code.items c.in_ok-routines.routines.items (program_size f) (expressions_size p.bodies) (text_bound f c.in_ok-code.code (c.in_ok-frames.ensures.straight c.requires.straight) c.in_ok-code.ensures.text) (c.in_ok-frames.ensures.straight_size c.requires.straight) c.in_ok-routines.ensures.short in
+    let n = text_within c.in_ok-code.code.items c.in_ok-routines.routines.items (codes_work p.bodies) (text_by_work f (text_size c.in_ok-code.code.items) (codes_work p.bodies) c.in_ok-code.ensures.text c.in_ok-frames.ensures.work) c.in_ok-routines.ensures.short in
     assembled (source c.args.p.now) (frames.source c.in_ok-frames.frames) c.args.limits.heap c.args.limits.depth c.in_ok-code.code c.in_ok-routines.routines
     r.resolved.code r.resolved.marks r.resolved.words c.in_ok-text.text r.resolved.zeros c.in_ok-image.image
     c.in_ok-frames.ensures.same c.in_ok-code.ensures.follows c.in_ok-routines.ensures.effective r.ensures.stands r.ensures.valid r.ensures.fits (subst (λ k. k ≤ assembled_bound p) (sym r.ensures.size) n)

@@ -1,0 +1,2 @@
+mod CallFreeTrees
+mod Chain

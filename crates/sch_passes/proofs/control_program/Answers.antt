@@ -1,0 +1,43 @@
+use Rattle.std.proofs.Common.{ap, ◌∙◌, arith}
+use Rattle.std.specs.Prelude.{length}
+use Rattle.sch_lang.specs.ProgramView.{source}
+use Rattle.sch_lang.proofs.BodyCounts.{bodies_within_nodes}
+use Rattle.sch_lang.proofs.Measured.{bound_within_nodes}
+use Rattle.sch_cells.specs.ProgramView as cells
+use Rattle.sch_cells.specs.BoxedMeaning as boxed
+use Rattle.sch_cells.specs.UnboxedMeaning as unboxed
+use Rattle.sch_flat.specs.ProgramView as flat
+use Rattle.sch_control.specs.ProgramView as control
+use Rattle.sch_passes.proofs.Chain.{runs_as}
+use Rattle.sch_passes.proofs.control_program.Goals as goal
+
+pub rename-requires : goal.rename-requires
+rename-requires c = record { few = omega (arith, bound_within_nodes (source c.args.p.now), c.requires.small) }
+
+pub convert_assign-requires : goal.convert_assign-requires
+convert_assign-requires c =
+    let n = c.in_ok-renamed.ensures.variables in
+    record { few = omega (arith, n, bound_within_nodes (source c.args.p.now), c.requires.small) }
+
+pub close-requires : goal.close-requires
+close-requires c =
+    let n = ap length c.in_ok-converted.ensures.bodies in
+    let m = ap length c.in_ok-renamed.ensures.bodies in
+    record { few = omega (arith, n, m, bodies_within_nodes (source c.args.p.now), c.requires.small) }
+
+pub returns-clause-runs : goal.returns-clause-runs
+returns-clause-runs c =
+    let r = cells.source c.in_ok-renamed.renamed in
+    let v = cells.source c.in_ok-converted.converted in
+    let sites = c.in_ok-control.ensures.listed ∙ (c.in_ok-flat.ensures.listed ∙ (c.in_ok-converted.ensures.listed ∙ c.in_ok-renamed.ensures.listed)) in
+    runs_as (source c.args.p.now) (unboxed.run r) (boxed.run v) (flat.source c.in_ok-flat.flat) (control.source c.in_ok-control.control)
+    c.in_ok-renamed.ensures.runs c.in_ok-converted.ensures.runs c.in_ok-flat.ensures.runs c.in_ok-control.ensures.runs
+    sites
+
+pub returns-clause-call_free : goal.returns-clause-call_free
+returns-clause-call_free c h =
+    c.in_ok-control.ensures.call_free (c.in_ok-flat.ensures.call_free (c.in_ok-converted.ensures.call_free (c.in_ok-renamed.ensures.call_free ∙ h)))
+
+pub returns-clause-work : goal.returns-clause-work
+returns-clause-work c =
+    omega (arith, c.in_ok-control.ensures.work, c.in_ok-flat.ensures.weight, c.in_ok-converted.ensures.weight, c.in_ok-renamed.ensures.size)
