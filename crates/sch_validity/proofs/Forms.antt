@@ -1,18 +1,13 @@
 -- The drafts of a text's forms are those of a valid program.
-use Rattle.std.proofs.Common.{◌+◌, ◌≡◌, ◌≤◌, ◌*◌, ◌||◌, ℕ, Bool, true, false, cond, List, [], ◌∷◌, ◌++◌, map, Option, Some, None, refl, sym, ◌∙◌, arith}
+use Rattle.std.proofs.Common.{◌+◌, ◌≡◌, ◌≤◌, ◌*◌, ◌||◌, ℕ, Bool, true, false, cond, List, [], ◌∷◌, ◌++◌, map, refl, sym, subst, ◌∙◌, arith}
 use Rattle.sch_word.specs.trees.Shape.{max_levels}
 use Rattle.sch_lang.specs.Measures.{nodes_and_bound}
 use Rattle.sch_lang.specs.Valid.{is_valid}
-use Rattle.sch_read.specs.Grammar.{Data}
-use Rattle.sch_names.specs.declared.keyword.Keyword.{Keyword}
 use Rattle.sch_names.specs.Scope.{Globals, is_among}
 use Rattle.sch_sketch.specs.Draft.{Drafts}
 use Rattle.sch_sketch.specs.Measure.{sketches_measure}
 use Rattle.sch_sketch.specs.Sketch.{sketches, sequencing}
 use Rattle.sch_sketch.specs.Soundness as soundness
-use Rattle.sch_binders.specs.Assignments.{keyword_at, aimed_name}
-use Rattle.sch_binders.specs.Assignments as row
-use Rattle.sch_binders.specs.Definitions.{defined_name, defined_sketch}
 use Rattle.sch_binders.proofs.SoundRows.{define_sound}
 use Rattle.sch_numbers.specs.Constants.{HaveConstants}
 use Rattle.sch_numbers.specs.Named.{own_global, library_global, global_of, globals_in_each}
@@ -23,20 +18,19 @@ use Rattle.sch_validity.specs.Library.{procedures_of_each, AreDefinitions, AreAm
 use Rattle.sch_validity.specs.Few.{HasFew}
 use Rattle.sch_validity.specs.Forms.{Form, expression, definition, sketch_of, FormsExpand, IsBound, AreDefined, HasNames, AreOfData, forms_weight, AreSmall}
 use Rattle.sch_validity.proofs.Parts.{all_in}
-use Rattle.sch_validity.proofs.RangedSketches.{AreRanged}
 use Rattle.sch_validity.proofs.Soundness.{sound_each}
 use Rattle.sch_validity.proofs.Levels.{level_each}
-use Rattle.sch_validity.proofs.PlainRows.{defined_plain}
-use Rattle.sch_validity.proofs.NamedGlobals as bound
-use Rattle.sch_validity.proofs.NamedGlobals.{plain_bound, named_each}
 use Rattle.sch_validity.proofs.NodesOfDrafts.{nodes_each, form_measure}
 use Rattle.sch_validity.proofs.StaticsOfSketches.{sketches_statics}
 use Rattle.sch_validity.proofs.StaticsOfRows.{define_statics}
 use Rattle.sch_validity.proofs.StaticsOfDrafts.{statics_each}
-use Rattle.sch_validity.proofs.RangedRows.{define_ranged}
-use Rattle.sch_validity.proofs.RangedDrafts.{have_constants, have_words, in_range_each}
 use Rattle.sch_validity.proofs.Starts.{among_append, among_map, among_left, among_right}
 use Rattle.sch_validity.proofs.Programs.{valid, not_large}
+use Rattle.sch_validity.proofs.Notions.{AreFit}
+use Rattle.sch_validity.proofs.FitRows.{define_fits}
+use Rattle.sch_validity.proofs.FitDrafts.{fits_each}
+use Rattle.sch_validity.proofs.DataInRange.{in_range, all_good, in_range_kept, have_constants, have_words}
+use Rattle.sch_validity.proofs.NamedGlobals.{naming, any_data, naming_kept, named_each}
 
 -- ## The sketches of forms
 
@@ -54,21 +48,20 @@ measure_all : (fs : List Form) → sketches_measure (sketches (map sketch_of fs)
 measure_all [] = omega arith
 measure_all (f ∷ fs) = omega (arith, form_measure f, measure_all fs)
 
-ranged_all : (fs : List Form) → AreOfData fs → AreRanged (sketches (map sketch_of fs))
-ranged_all [] h = tt
-ranged_all (expression d ∷ fs) h = (h.0, ranged_all fs h.1)
-ranged_all (definition at xs ∷ fs) h = (define_ranged at xs h.0, ranged_all fs h.1)
-
 module _ (globals : Globals) where
-  definition_bound : (w : Option Keyword) (v : Option (List ℕ)) (at : ℕ) (xs : Data) → IsBound globals v → bound.IsBound globals.bound (row.definition w v at xs)
-  definition_bound (Some k) v at xs h = tt
-  definition_bound None (Some v) at xs h = (h, (plain_bound globals.bound (defined_sketch at xs) (defined_plain at xs), tt))
-  definition_bound None None at xs h = tt
+  data_fit : (fs : List Form) → AreOfData fs → AreFit in_range (sketches (map sketch_of fs))
+  data_fit [] h = tt
+  data_fit (expression d ∷ fs) h = (h.0, data_fit fs h.1)
+  data_fit (definition at xs ∷ fs) h = (define_fits globals in_range (in_range_kept globals) at xs (all_good xs h.0) (λ x i. tt), data_fit fs h.1)
 
-  bound_all : (fs : List Form) → AreDefined globals fs → bound.AreBound globals.bound (sketches (map sketch_of fs))
-  bound_all [] h = tt
-  bound_all (expression d ∷ fs) h = (tt, bound_all fs h)
-  bound_all (definition at xs ∷ fs) h = (definition_bound (keyword_at (aimed_name xs)) (defined_name xs) at xs h.0, bound_all fs h.1)
+  names_fit : (own all : List (List ℕ)) → ((x : List ℕ) → is_among x globals.bound ≡ true → is_among (global_of own x) all ≡ true) →
+      (fs : List Form) → AreDefined globals fs → AreFit (naming own all) (sketches (map sketch_of fs))
+  names_fit own all known [] h = tt
+  names_fit own all known (expression d ∷ fs) h = (tt, names_fit own all known fs h)
+  names_fit own all known (definition at xs ∷ fs) h = (
+    define_fits globals (naming own all) (naming_kept own all globals known) at xs (any_data own all xs) (λ x i. known x (subst (IsBound globals) i h.0)),
+    names_fit own all known fs h.1,
+  )
 
   -- ## Their drafts
 
@@ -86,11 +79,12 @@ module _ (globals : Globals) where
 
   pub forms_constants : (fs : List Form) (es : Drafts) → FormsExpand globals fs es → AreOfData fs → HaveConstants es × HaveWords es
   forms_constants fs es h g =
-      let r = in_range_each globals h (sound_all true fs) (ranged_all fs g) in (have_constants es r, have_words es r)
+      let r = fits_each globals in_range (in_range_kept globals) h (sound_all true fs) (data_fit fs g) in (have_constants es r, have_words es r)
 
   pub forms_named : (own all : List (List ℕ)) → ((x : List ℕ) → is_among x globals.bound ≡ true → is_among (global_of own x) all ≡ true) →
       (fs : List Form) (es : Drafts) → AreDefined globals fs → FormsExpand globals fs es → AreAmong all (globals_in_each own es)
-  forms_named own all known fs es d h = named_each globals own all known h (sound_all true fs) (bound_all fs d)
+  forms_named own all known fs es d h =
+      named_each own all es (fits_each globals (naming own all) (naming_kept own all globals known) h (sound_all true fs) (names_fit own all known fs d))
 
 -- ## Names that are known
 

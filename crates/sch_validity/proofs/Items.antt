@@ -11,9 +11,10 @@ use Rattle.sch_validity.specs.Forms.{ItemExpands, HasEarlier}
 use Rattle.sch_validity.specs.Library.{procedure_of, IsDefinition, IsOrdered}
 use Rattle.sch_validity.specs.Sizes.{nodes_in, statics_in, AllQuotable, HasWords}
 use Rattle.sch_validity.proofs.Levels.{level}
-use Rattle.sch_validity.proofs.NamedGlobals.{named}
+use Rattle.sch_validity.proofs.NamedGlobals.{naming, any_data, naming_kept, named}
 use Rattle.sch_validity.proofs.NodesOfDrafts.{nodes}
-use Rattle.sch_validity.proofs.RangedDrafts.{has_constants, has_words, in_range}
+use Rattle.sch_validity.proofs.DataInRange.{in_range, all_good, in_range_kept, has_constants, has_words}
+use Rattle.sch_validity.proofs.FitDrafts.{fits}
 use Rattle.sch_validity.proofs.Soundness.{sound}
 use Rattle.sch_validity.proofs.Starts.{among_map}
 use Rattle.sch_validity.proofs.StaticsOfDrafts.{statics}
@@ -23,11 +24,13 @@ module _ (globals : Globals) (at : ℕ) (xs : Data) (d : Definition) (h : ItemEx
   item_is_definition c w = (sound globals h tt, omega (arith, level globals h tt), c, w)
 
   pub item_constants : AllQuotable xs → HasConstants (procedure_of d) × HasWords (procedure_of d)
-  item_constants g = let r = in_range globals h tt (g, tt) in (has_constants (procedure_of d) r, has_words (procedure_of d) r)
+  item_constants g = let r = fits globals in_range (in_range_kept globals) h tt (all_good xs g, tt) in (has_constants (procedure_of d) r, has_words (procedure_of d) r)
 
   pub item_ordered : (before : List (List ℕ)) → HasEarlier before d.name globals → IsOrdered before d
   item_ordered before n =
-      named globals [] (map library_global (d.name ∷ before)) (λ x i. among_map library_global x (d.name ∷ before) (n x i)) h tt tt
+      let all = map library_global (d.name ∷ before) in
+      let known = naming_kept [] all globals (λ x i. among_map library_global x (d.name ∷ before) (n x i)) in
+      named [] all (procedure_of d) (fits globals (naming [] all) known h tt (any_data [] all xs, tt))
 
   pub item_statics : statics_in (procedure_of d) ≤ 2 * weights xs
   item_statics = omega (arith, statics globals h tt)
