@@ -1,5 +1,5 @@
 -- Which names are among some, whatever their order; and that no more counts for what is kept.
-use Rattle.std.proofs.Common.{◌≡◌, ℕ, suc, Bool, cond, true, false, ◌||◌, ◌&&◌, List, [], ◌∷◌, ◌++◌, map, refl, sym, ap, subst, ◌∙◌, arith}
+use Rattle.std.proofs.Common.{◌≡◌, ℕ, zero, suc, Bool, cond, true, false, ◌||◌, ◌&&◌, List, [], ◌∷◌, ◌++◌, map, refl, sym, ap, subst, ◌∙◌, arith}
 use Rattle.std.specs.Str.{bytes_eq}
 use Rattle.std.proofs.lemmas.Slice.Eq.{bytes_eq-Decides}
 use Rattle.sch_names.specs.Scope.{is_among}
@@ -111,7 +111,7 @@ kept_same (d ∷ ds) n m h =
 
 start_same : (ds : List Definition) (n m : List (List ℕ)) → ((x : List ℕ) → is_among x n ≡ is_among x m) → (g : List ℕ) → starts_with ds n g ≡ starts_with ds m g
 start_same ds n m h [] = refl
-start_same ds n m h (0 ∷ x) = rw (h x) refl
+start_same ds n m h (zero ∷ x) = rw (h x) refl
 start_same ds n m h (suc mark ∷ x) = refl
 
 pub starts_same : (ds : List Definition) (n m : List (List ℕ)) → ((x : List ℕ) → is_among x n ≡ is_among x m) → (gs : List (List ℕ)) → starts ds n gs ≡ starts ds m gs

@@ -22,7 +22,7 @@ use Rattle.sch_numbering.proofs.NameSets.{among_firsts, among_either, kept_same,
 use Rattle.sch_numbering.proofs.NumberSteps.{literals_more, then_literals}
 
 -- two walks over names, from none
-both_named : (a b : List (List ℕ)) {n0 n1 n2 : List (List ℕ)} → n0 ≡ [] → n1 ≡ firsts n0 a → n2 ≡ firsts n1 b → n2 ≡ firsts [] (a ++ b)
+pub both_named : (a b : List (List ℕ)) {n0 n1 n2 : List (List ℕ)} → n0 ≡ [] → n1 ≡ firsts n0 a → n2 ≡ firsts n1 b → n2 ≡ firsts [] (a ++ b)
 both_named a b {n0} z p q = then_named a b n0 p q ∙ ap (λ n. firsts n (a ++ b)) z
 
 -- two walks over what is listed, from nothing

@@ -18,7 +18,7 @@ number-returns-in_ok-made-in-If-clause-made t c =
     let a = c.in_ok-a-in-If.ensures in
     let b = c.in_ok-b-in-If.ensures in
     branch_made (names_of c.args.tables.now.own.now) (names_of c.args.tables.now.globals.now) (names_of c.args.tables.now.symbols.now) _ (length out.sites) (length out.literals) (length out1.sites) (length out1.literals) (length out2.sites) (length out2.literals)
-    (branch_view _ _ _ c.in-If.is c.deref-in-If.ensures c.deref-in-If-2.ensures c.deref-in-If-3.ensures) c.in_ok-made-in-If.ensures a.made (sites_more out.sites a.sites) (literals_more f out.literals out1.literals _ a.literals) b.made (sites_more out1.sites b.sites) (literals_more f out1.literals out2.literals _ b.literals)
+    (branch_view _ _ _ c.in-If.is c.deref-in-If.ensures c.deref-in-If-2.ensures c.deref-in-If-3.ensures) c.in_ok-made-in-If.ensures a.made (sites_more out.sites _ a.sites) (literals_more f out.literals out1.literals _ a.literals) b.made (sites_more out1.sites _ b.sites) (literals_more f out1.literals out2.literals _ b.literals)
     c.in_ok-c-in-If.ensures.made
 
 pub number-returns-in_ok-made-in-If-clause-sites : goal.number-returns-in_ok-made-in-If-clause-sites
@@ -39,7 +39,7 @@ number-returns-in_ok-made-in-Let-clause-made t c =
     let site = c.in_ok-site-in-Let.ensures in
     let inits = c.in_ok-inits-in-Let.ensures in
     bind_made (names_of c.args.tables.now.own.now) (names_of c.args.tables.now.globals.now) (names_of c.args.tables.now.symbols.now) _ (length out.sites) (length out.literals) c.in_ok-site-in-Let.site (length out1.sites) (length out1.literals) (length out2.sites) (length out2.literals)
-    (bind_view _ _ _ c.in-Let.is c.as_slice-in-Let.ensures c.as_slice-in-Let-2.ensures c.deref-in-Let.ensures) c.in_ok-made-in-Let.ensures site.number (sites_more out.sites site.sites) (ap length site.literals) inits.made (sites_more out1.sites inits.sites)
+    (bind_view _ _ _ c.in-Let.is c.as_slice-in-Let.ensures c.as_slice-in-Let-2.ensures c.deref-in-Let.ensures) c.in_ok-made-in-Let.ensures site.number (sites_more out.sites _ site.sites) (ap length site.literals) inits.made (sites_more out1.sites _ inits.sites)
     (literals_more f out1.literals out2.literals _ inits.literals) c.in_ok-body-in-Let.ensures.made
 
 pub number-returns-in_ok-made-in-Let-clause-sites : goal.number-returns-in_ok-made-in-Let-clause-sites
@@ -62,13 +62,13 @@ number-returns-in_ok-made-in-Letrec-clause-made t c =
     let inits = c.in_ok-inits-in-Letrec.ensures in
     letrec_made (names_of c.args.tables.now.own.now) (names_of c.args.tables.now.globals.now) (names_of c.args.tables.now.symbols.now) _ (length out.sites) (length out.literals) c.in_ok-site-in-Letrec.site (length out1.sites) (length out1.literals) (length out2.sites) (length out2.literals)
     (letrec_view _ _ _ _ c.in-Letrec.is c.as_slice-in-Letrec-2.ensures c.as_slice-in-Letrec-3.ensures c.deref-in-Letrec-2.ensures) c.in_ok-made-in-Letrec.ensures
-    (group_is c.in_ok-group-in-Letrec.ensures c.as_slice-in-Letrec.ensures c.as_slice-in-Letrec-3.ensures c.deref-in-Letrec.ensures c.deref-in-Letrec-2.ensures)
-    site.number (sites_more out.sites (unless_is (width_is _ c.len-in-Letrec.ensures c.as_slice-in-Letrec-3.ensures) site.sites)) (ap length site.literals) inits.made (sites_more out1.sites inits.sites) (literals_more f out1.literals out2.literals _ inits.literals) c.in_ok-body-in-Letrec.ensures.made
+    (group_is _ c.in_ok-group-in-Letrec.ensures c.as_slice-in-Letrec.ensures c.as_slice-in-Letrec-3.ensures c.deref-in-Letrec.ensures c.deref-in-Letrec-2.ensures)
+    site.number (sites_more out.sites _ (unless_is _ out.sites (width_is _ c.len-in-Letrec.ensures c.as_slice-in-Letrec-3.ensures) site.sites)) (ap length site.literals) inits.made (sites_more out1.sites _ inits.sites) (literals_more f out1.literals out2.literals _ inits.literals) c.in_ok-body-in-Letrec.ensures.made
 
 pub number-returns-in_ok-made-in-Letrec-clause-sites : goal.number-returns-in_ok-made-in-Letrec-clause-sites
 number-returns-in_ok-made-in-Letrec-clause-sites t c =
     letrec_sites c.args.out.now.sites (letrec_view _ _ _ _ c.in-Letrec.is c.as_slice-in-Letrec-2.ensures c.as_slice-in-Letrec-3.ensures c.deref-in-Letrec-2.ensures)
-    (group_is c.in_ok-group-in-Letrec.ensures c.as_slice-in-Letrec.ensures c.as_slice-in-Letrec-3.ensures c.deref-in-Letrec.ensures c.deref-in-Letrec-2.ensures)
+    (group_is _ c.in_ok-group-in-Letrec.ensures c.as_slice-in-Letrec.ensures c.as_slice-in-Letrec-3.ensures c.deref-in-Letrec.ensures c.deref-in-Letrec-2.ensures)
     (width_is _ c.len-in-Letrec.ensures c.as_slice-in-Letrec-3.ensures) c.in_ok-site-in-Letrec.ensures.sites c.in_ok-inits-in-Letrec.ensures.sites c.in_ok-body-in-Letrec.ensures.sites
 
 pub number-returns-in_ok-made-in-Letrec-clause-literals : goal.number-returns-in_ok-made-in-Letrec-clause-literals
@@ -85,7 +85,7 @@ number-returns-in_ok-made-in-Call-clause-made t c =
     let site = c.in_ok-site-in-Call.ensures in
     let operator = c.in_ok-operator-in-Call.ensures in
     call_made (names_of c.args.tables.now.own.now) (names_of c.args.tables.now.globals.now) (names_of c.args.tables.now.symbols.now) _ (length out.sites) (length out.literals) c.in_ok-site-in-Call.site (length out1.sites) (length out1.literals) (length out2.sites) (length out2.literals)
-    (call_view _ _ c.in-Call.is c.deref-in-Call.ensures c.as_slice-in-Call.ensures) c.in_ok-made-in-Call.ensures site.number (sites_more out.sites site.sites) (ap length site.literals) operator.made (sites_more out1.sites operator.sites)
+    (call_view _ _ c.in-Call.is c.deref-in-Call.ensures c.as_slice-in-Call.ensures) c.in_ok-made-in-Call.ensures site.number (sites_more out.sites _ site.sites) (ap length site.literals) operator.made (sites_more out1.sites _ operator.sites)
     (literals_more f out1.literals out2.literals _ operator.literals) c.in_ok-operands-in-Call.ensures.made
 
 pub number-returns-in_ok-made-in-Call-clause-sites : goal.number-returns-in_ok-made-in-Call-clause-sites
@@ -104,7 +104,7 @@ number-returns-in_ok-operands-in-Prim-clause-made t c =
     let out1 = c.new_site-in-Prim.new.out in
     let site = c.in_ok-site-in-Prim.ensures in
     operation_made (names_of c.args.tables.now.own.now) (names_of c.args.tables.now.globals.now) (names_of c.args.tables.now.symbols.now) _ (length out.sites) (length out.literals) c.in_ok-site-in-Prim.site (length out1.sites) (length out1.literals)
-    (operation_view _ _ c.in-Prim.is c.as_slice-in-Prim.ensures) c.operation.ensures site.number (sites_more out.sites site.sites) (ap length site.literals) c.in_ok-operands-in-Prim.ensures.made
+    (operation_view _ _ c.in-Prim.is c.as_slice-in-Prim.ensures) c.operation.ensures site.number (sites_more out.sites _ site.sites) (ap length site.literals) c.in_ok-operands-in-Prim.ensures.made
 
 pub number-returns-in_ok-operands-in-Prim-clause-sites : goal.number-returns-in_ok-operands-in-Prim-clause-sites
 number-returns-in_ok-operands-in-Prim-clause-sites t c =
@@ -120,7 +120,7 @@ number_each-loop-e-preserved t c =
     let made = c.in_ok-made.ensures in
     record {
       place = c.in_ok-next.ensures ∙ ap (λ n. n + 1) c.loop-e.invariant.place;
-      made = rw c.in_ok-push.ensures.ok (next_numbered (names_of c.args.tables.now.own.now) (names_of c.args.tables.now.globals.now) (names_of c.args.tables.now.symbols.now) (given_names c.args.names.now) es i (one_name c.name_at-v.result) e c.loop-e.all c.in_ok-made.made (length out.sites) (length out.literals) _ _ _ c.loop-e-test.true c.e-item.is (name_is c.name_at-v.ensures c.loop-e.invariant.place) made.made (sites_more out.sites made.sites) (literals_more f out.literals _ (quotes_in (draft_of e)) made.literals) c.loop-e.invariant.made);
+      made = rw c.in_ok-push.ensures.ok (next_numbered (names_of c.args.tables.now.own.now) (names_of c.args.tables.now.globals.now) (names_of c.args.tables.now.symbols.now) (given_names c.args.names.now) es i (one_name c.name_at-v.result) e c.loop-e.all c.in_ok-made.made (length out.sites) (length out.literals) _ _ _ c.loop-e-test.true c.e-item.is (name_is c.args.names.now c.name_at-v.ensures c.loop-e.invariant.place) made.made (sites_more out.sites _ made.sites) (literals_more f out.literals _ (quotes_in (draft_of e)) made.literals) c.loop-e.invariant.made);
       sites = next_sites es i e out.sites _ _ c.loop-e-test.true c.e-item.is made.sites c.loop-e.invariant.sites;
       literals = next_literals f es i e (map literal out.literals) _ _ c.loop-e-test.true c.e-item.is made.literals c.loop-e.invariant.literals;
       constants = next_constants es i e c.loop-e-test.true c.e-item.is made.constants c.loop-e.invariant.constants;
