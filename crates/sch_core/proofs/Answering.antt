@@ -70,25 +70,26 @@ places_many (d ∷ ds) = omega (arith, places_many ds)
 pub as_many : (ds : List Definition) (items : Data) (assigned : List (List ℕ)) (own : List (List ℕ)) (es : Drafts) → FormsExpand (text_globals (seen ds) items assigned) items es →
     length (form_places items) ≡ count (program_of ds own es).forms
 as_many ds items assigned own es p =
-    omega (arith, places_many (forms_in items), parts_many (forms_in items), counted p, count_numbered own _ _ es [] _ _)
+    let c : count (program_of ds own es).forms ≡ draft.count es = count_numbered own _ _ es [] _ _ in
+    omega (arith, places_many (forms_in items), parts_many (forms_in items), counted p, c)
 
 -- ## A text that was read
 
 module _ (ds : List Definition) (items : Data) (given own : List (List ℕ)) (o : Option Fault) (es : Drafts) (g : given ≡ seen ds) (r : IsRead given items own o es) where
-  read : IsRead (seen ds) items own o es
+  abbrev read : IsRead (seen ds) items own o es
   read = subst (λ s. IsRead s items own o es) g r
 
   pub faulty : (f : Fault) → o ≡ Some f → IsFaultOf (seen ds) items f
   faulty f e = text_fault (seen ds) items f (subst (λ q. IsRead (seen ds) items own q es) e read)
 
   module _ (e : o ≡ None) where
-    faultless : IsRead (seen ds) items own None es
+    abbrev faultless : IsRead (seen ds) items own None es
     faultless = subst (λ q. IsRead (seen ds) items own q es) e read
 
     expands : TextExpands (seen ds) items faultless.names es
     expands = text_made (seen ds) items faultless
 
-    program : Source
+    abbrev program : Source
     program = program_of ds own es
 
     same : program ≡ program_of ds (own_names items faultless.names) es

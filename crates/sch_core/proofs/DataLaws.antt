@@ -22,10 +22,10 @@ none_some e = cc
 some_some : {A : Type 0} {a b : A} → Some a ≡ Some b → a ≡ b
 some_some e = cc
 
-left_is : {k k' : Kind} {at at' : ℕ} → Some (k, at) ≡ Some (k', at') → k ≡ k'
+left_is : {p q : Kind × ℕ} → Some p ≡ Some q → p.0 ≡ q.0
 left_is e = ap (λ p. p.0) (some_some e)
 
-right_is : {k k' : Kind} {at at' : ℕ} → Some (k, at) ≡ Some (k', at') → at ≡ at'
+right_is : {p q : Kind × ℕ} → Some p ≡ Some q → p.1 ≡ q.1
 right_is e = ap (λ p. p.1) (some_some e)
 
 -- only these are counted
@@ -130,7 +130,7 @@ module _ (ds : List Definition) (items : Data) where
   pub one_program : (p q : Source) → IsProgramOf ds items p → IsProgramOf ds items q → p ≡ q
   one_program p q a b = a.numbered ∙ program_one a.expands b.expands ∙ sym b.numbered
 
-  exceeds_one : {k k' : Kind} {at at' : ℕ} → ExceedsAt ds items k at → ExceedsAt ds items k' at' → Some (k, at) ≡ Some (k', at')
+  exceeds_one : {k k' : Kind} {at at' : ℕ} → ExceedsAt ds items k at → ExceedsAt ds items k' at' → ◌≡◌ {A = Option (Kind × ℕ)} (Some (k, at)) (Some (k', at'))
   exceeds_one {k} {k'} {at} {at'} a b =
       sym (subst (λ q. first_excess (form_places items) q.forms ≡ Some (k, at)) (program_one a.expands b.expands) a.exceeding) ∙ b.exceeding
 

@@ -1,3 +1,5 @@
+pub mod Bytes
+pub mod Nesting
 pub mod Numberless
 pub mod TextSizes
 pub mod ValidTexts

@@ -1,5 +1,5 @@
 -- How many variables an expression has does not depend on the numbers of its globals, sites and literals.
-use Rattle.std.proofs.Common.{◌≡◌, ℕ, zero, suc, ◌+◌, Bool, true, false, ◌&&◌, ◌||◌, not, List, [], ◌∷◌, ◌++◌, map, Option, length, refl, sym, ap, ◌∙◌}
+use Rattle.std.proofs.Common.{◌≡◌, ℕ, zero, suc, ◌+◌, Bool, true, false, ◌&&◌, ◌||◌, not, List, [], ◌∷◌, ◌++◌, map, Option, Some, None, length, refl, sym, ap, ◌∙◌}
 use Rattle.sch_word.specs.declared.constant.Const.TheVariants.{Nil}
 use Rattle.sch_word.specs.trees.Shape.{Procedure}
 use Rattle.sch_word.specs.trees.NumberSets.{union}
@@ -13,7 +13,7 @@ use Rattle.sch_sketch.specs.Draft.{Names, Draft, Drafts, no_drafts, and_draft}
 use Rattle.sch_numbers.specs.Assigned.{is_group}
 use Rattle.sch_numbers.specs.Sites.{unless_group, widths, widths_of_each}
 use Rattle.sch_numbers.specs.Quoted.{quotes_in, quotes_in_each}
-use Rattle.sch_numbers.specs.Numbered.{numbered, numbered_each, procedures_of, grouped, first_of, others_of}
+use Rattle.sch_numbers.specs.Numbered.{numbered, numbered_each, body_name, procedures_of, grouped, first_of, others_of}
 use Rattle.sch_core.specs.Programs.{excess, at_place, first_excess}
 
 -- an expression without those numbers
@@ -221,9 +221,9 @@ blank_procedures (and_expression (lambda name formals rest e) es) = rw (blank_pr
 blank_procedures (and_expression (call site f xs) es) = rw (blank_procedures es) refl
 blank_procedures (and_expression (operation site which xs) es) = rw (blank_procedures es) refl
 
-blank_grouped : (g : Bool) (s s' : ℕ) {es es' : Expressions} {e e' : Expression} → blank_each es ≡ blank_each es' → blank e ≡ blank e' → blank (grouped g s es e) ≡ blank (grouped g s' es' e')
-blank_grouped true s s' {es} {es'} h k = rw (blank_procedures es, blank_procedures es', h, k) refl
-blank_grouped false s s' h k = rw (h, k) refl
+blank_grouped : (g : Bool) (s s' : ℕ) (es es' : Expressions) (e e' : Expression) → blank_each es ≡ blank_each es' → blank e ≡ blank e' → blank (grouped g s es e) ≡ blank (grouped g s' es' e')
+blank_grouped true s s' es es' e e' h k = rw (blank_procedures es, blank_procedures es', h, k) refl
+blank_grouped false s s' es es' e e' h k = rw (h, k) refl
 
 module _ (own globals symbols own' globals' symbols' : List (List ℕ)) where
   mutual
@@ -233,20 +233,37 @@ module _ (own globals symbols own' globals' symbols' : List (List ℕ)) where
     alike v (draft.literal d) s l s' l' = refl
     alike v (draft.local k) s l s' l' = refl
     alike v (draft.global x) s l s' l' = refl
-    alike v (draft.set_local k e) s l s' l' = ap (set_local k) (alike _ e _ _ _ _)
-    alike v (draft.set_global x e) s l s' l' = ap (set_global 0) (alike _ e _ _ _ _)
-    alike v (draft.define x e) s l s' l' = ap (define 0) (alike _ e _ _ _ _)
-    alike v (draft.branch a b c) s l s' l' = let i = alike _ a _ _ _ _ in let j = alike _ b _ _ _ _ in let k = alike _ c _ _ _ _ in λ p. branch (i p) (j p) (k p)
-    alike v (draft.sequence es) s l s' l' = ap sequence (alike_each _ es _ _ _ _)
-    alike v (draft.bind vs es e) s l s' l' = let i = alike_each _ es _ _ _ _ in let j = alike _ e _ _ _ _ in λ p. bind 0 (i p) (j p)
-    alike v (draft.letrec vs g es e) s l s' l' = blank_grouped (is_group g es e) _ _ (alike_each _ es _ _ _ _) (alike _ e _ _ _ _)
-    alike v (draft.lambda n r e) s l s' l' = let i = alike _ e _ _ _ _ in λ p. lambda _ n r (i p)
-    alike v (draft.call f es) s l s' l' = let i = alike _ f _ _ _ _ in let j = alike_each _ es _ _ _ _ in λ p. call 0 (i p) (j p)
-    alike v (draft.operation q es) s l s' l' = ap (operation 0 q) (alike_each _ es _ _ _ _)
+    alike v (draft.set_local k e) s l s' l' = ap (set_local k) (alike None e s l s' l')
+    alike v (draft.set_global x e) s l s' l' = ap (set_global 0) (alike None e s l s' l')
+    alike v (draft.define x e) s l s' l' = ap (define 0) (alike (Some x) e s l s' l')
+    alike v (draft.branch a b c) s l s' l' =
+        let i = alike None a s l s' l' in
+        let j = alike None b (s + length (widths a)) (l + length (quotes_in a)) (s' + length (widths a)) (l' + length (quotes_in a)) in
+        let k = alike None c (s + length (widths a) + length (widths b)) (l + length (quotes_in a) + length (quotes_in b))
+            (s' + length (widths a) + length (widths b)) (l' + length (quotes_in a) + length (quotes_in b)) in
+        λ p. branch (i p) (j p) (k p)
+    alike v (draft.sequence es) s l s' l' = ap sequence (alike_each [] es s l s' l')
+    alike v (draft.bind vs es e) s l s' l' =
+        let i = alike_each vs es (s + 1) l (s' + 1) l' in
+        let j = alike None e (s + 1 + length (widths_of_each es)) (l + length (quotes_in_each es)) (s' + 1 + length (widths_of_each es)) (l' + length (quotes_in_each es)) in
+        λ p. bind 0 (i p) (j p)
+    alike v (draft.letrec vs g es e) s l s' l' =
+        let n = length (unless_group (is_group g es e) (draft.count es)) in
+        blank_grouped (is_group g es e) s s' _ _ _ _ (alike_each vs es (s + n) l (s' + n) l')
+        (alike None e (s + n + length (widths_of_each es)) (l + length (quotes_in_each es)) (s' + n + length (widths_of_each es)) (l' + length (quotes_in_each es)))
+    alike v (draft.lambda n r e) s l s' l' = ap (lambda (body_name v) n r) (alike None e s l s' l')
+    alike v (draft.call f es) s l s' l' =
+        let i = alike None f (s + 1) l (s' + 1) l' in
+        let j = alike_each [] es (s + 1 + length (widths f)) (l + length (quotes_in f)) (s' + 1 + length (widths f)) (l' + length (quotes_in f)) in
+        λ p. call 0 (i p) (j p)
+    alike v (draft.operation q es) s l s' l' = ap (operation 0 q) (alike_each [] es (s + 1) l (s' + 1) l')
 
     pub alike_each : (vs : Names) (es : Drafts) (s l s' l' : ℕ) → blank_each (numbered_each own globals symbols vs es s l) ≡ blank_each (numbered_each own' globals' symbols' vs es s' l')
     alike_each vs no_drafts s l s' l' = refl
-    alike_each vs (and_draft e es) s l s' l' = let i = alike _ e _ _ _ _ in let j = alike_each _ es _ _ _ _ in λ p. and_expression (i p) (j p)
+    alike_each vs (and_draft e es) s l s' l' =
+        let i = alike (first_of vs) e s l s' l' in
+        let j = alike_each (others_of vs) es (s + length (widths e)) (l + length (quotes_in e)) (s' + length (widths e)) (l' + length (quotes_in e)) in
+        λ p. and_expression (i p) (j p)
 
 -- ## The first form that has too much
 

@@ -1,5 +1,5 @@
 -- How large the drafts of a text are, by the weight of its data.
-use Rattle.std.proofs.Common.{◌≡◌, ◌≤◌, ℕ, ◌+◌, ◌*◌, Bool, true, false, cond, List, [], ◌∷◌, ◌++◌, length, map, Option, refl, sym, ap, ◌∙◌, subst, arith}
+use Rattle.std.proofs.Common.{◌≡◌, ◌≤◌, ℕ, suc, ◌+◌, ◌*◌, Bool, true, false, cond, List, [], ◌∷◌, ◌++◌, length, map, Option, refl, sym, ap, ◌∙◌, subst, arith}
 use Rattle.sch_read.specs.Grammar.{Datum, Data, atom, list, dotted, vector, none, cons, boolean, integer, character, symbol}
 use Rattle.sch_read.specs.Grammar as grammar
 use Rattle.sch_read.specs.Valid.{weight, weights}
@@ -28,7 +28,7 @@ counted (ex.and_part k first n s t p ps e es x y) = omega (arith, counted y)
 
 -- ## Nodes
 
-front_count : (es : Drafts) (n : ℕ) → count es ≡ 1 + n → count (front es) ≡ n
+front_count : (es : Drafts) (n : ℕ) → count es ≡ suc n → count (front es) ≡ n
 front_count no_drafts n h = absurd (omega (arith, h))
 front_count (and_draft e no_drafts) n h = omega (arith, h)
 front_count (and_draft e (and_draft f fs)) n h = omega (arith, h, front_count (and_draft f fs) (count fs) refl)

@@ -8,7 +8,6 @@ use Rattle.sch_lang.specs.Valid.{is_valid}
 use Rattle.sch_read.specs.Grammar.{Datum, Data, atom, list, dotted, vector, none, cons, boolean, integer, character, symbol}
 use Rattle.sch_read.specs.Grammar as grammar
 use Rattle.sch_read.specs.Levels.{depth, depths}
-use Rattle.sch_read.specs.Text.{max_nesting}
 use Rattle.sch_read.specs.Valid.{max_weight, weight, weights}
 use Rattle.sch_names.specs.declared.keyword.Keyword.{Keyword}
 use Rattle.sch_names.specs.NamesView.{with_name}
@@ -41,6 +40,7 @@ use Rattle.sch_core.specs.declared.error.Kind.{Kind}
 use Rattle.sch_core.specs.declared.error.Kind.TheVariants.{Variables, Free}
 use Rattle.sch_core.specs.Programs.{form_places, excess, at_place, first_excess}
 use Rattle.sch_core.specs.Libraries.{definition_excess, AreFew}
+use Rattle.sch_core.proofs.Nesting.{both, all_quotable}
 use Rattle.sch_core.proofs.Numberless.{blank, same_excess, alike}
 
 -- ## Names
@@ -55,11 +55,11 @@ equal x y h = grind (arith, bytes_eq-Decides)
 -- what is in a list of names that are all among others is among those
 within : (all xs : List (List ℕ)) (x : List ℕ) → AreAmong all xs → is_among x xs ≡ true → is_among x all ≡ true
 within all [] x h k = cc
-within all (y ∷ xs) x h k = go (bytes_eq x y) refl k
+within all (y ∷ xs) x h k = go (bytes_eq x y) refl k (within all xs x h.1)
   where
-    go : (b : Bool) → bytes_eq x y ≡ b → cond b true (is_among x xs) ≡ true → is_among x all ≡ true
-    go true e m = subst (λ z. is_among z all ≡ true) (sym (equal x y e)) h.0
-    go false e m = within all xs x h.1 m
+    go : (b : Bool) → bytes_eq x y ≡ b → cond b true (is_among x xs) ≡ true → (is_among x xs ≡ true → is_among x all ≡ true) → is_among x all ≡ true
+    go true e m r = subst (λ z. is_among z all ≡ true) (sym (equal x y e)) h.0
+    go false e m r = r m
 
 -- a name of a table is one that was put into it
 from_table : (x : List ℕ) (names before : List (List ℕ)) → is_among x (firsts before names) ≡ true → is_among x (before ++ names) ≡ true
@@ -77,17 +77,17 @@ from_table x (y ∷ names) before h = go (is_among y before) (from_table x names
 into_table : (x : List ℕ) (names : List (List ℕ)) → is_among x names ≡ true → is_among x (firsts [] names) ≡ true
 into_table x names h = within (firsts [] names) names x (all_among names []) h
 
+either_there : (c a b : Bool) → cond c true a ≡ true → (a ≡ true → b ≡ true) → cond c true b ≡ true
+either_there true a b h f = refl
+either_there false a b h f = f h
+
+hidden_there : (hidden : Bool) (x v : List ℕ) (a b : List (List ℕ)) → is_among x (cond hidden a (v ∷ a)) ≡ true → (is_among x a ≡ true → is_among x b ≡ true) → is_among x (v ∷ b) ≡ true
+hidden_there true x v a b h f = among_cons x v b (f h)
+hidden_there false x v a b h f = either_there (bytes_eq x v) (is_among x a) (is_among x b) h f
+
 seen_there : (x : List ℕ) (ds : List Definition) → is_among x (seen ds) ≡ true → is_among x (names_of_each ds) ≡ true
 seen_there x [] h = h
-seen_there x (d ∷ ds) h = go (is_hidden d.name) h
-  where
-    go : (b : Bool) → is_among x (cond b (seen ds) (d.name ∷ seen ds)) ≡ true → is_among x (d.name ∷ names_of_each ds) ≡ true
-    go true k = among_cons x d.name (names_of_each ds) (seen_there x ds k)
-    go false k = here (bytes_eq x d.name) k
-      where
-        here : (c : Bool) → cond c true (is_among x (seen ds)) ≡ true → cond c true (is_among x (names_of_each ds)) ≡ true
-        here true m = refl
-        here false m = seen_there x ds m
+seen_there x (d ∷ ds) h = hidden_there (is_hidden d.name) x d.name (seen ds) (names_of_each ds) h (λ k. seen_there x ds k)
 
 names_there : (ds : List Definition) (items : Data) (assigned : List (List ℕ)) → HasNames ds (own_names items assigned) (text_globals (seen ds) items assigned)
 names_there ds items assigned x h =
@@ -98,11 +98,11 @@ names_there ds items assigned x h =
 
 -- ## Forms
 
-chosen_form : (b : Bool) (at : ℕ) (xs : Data) (d : Datum) → Form
+abbrev chosen_form : (b : Bool) (at : ℕ) (xs : Data) (d : Datum) → Form
 chosen_form true at xs d = definition at xs
 chosen_form false at xs d = expression d
 
-pub form_of : Datum → Form
+abbrev pub form_of : Datum → Form
 form_of (list at (cons (atom q (symbol x)) xs)) = chosen_form (is_define_word (keyword_of x)) at xs (list at (cons (atom q (symbol x)) xs))
 form_of d = expression d
 
@@ -234,24 +234,16 @@ mutual
 abbrev Quotable : List Datum → Type 0
 Quotable ds = AreOfData (map form_of ds)
 
+one_quotable : (f : Form) (fs gs : List Form) → AreOfData (f ∷ fs) → (AreOfData fs → AreOfData gs) → AreOfData (f ∷ gs)
+one_quotable (expression y) fs gs h r = (h.0, r h.1)
+one_quotable (definition at ys) fs gs h r = (h.0, r h.1)
+
 quotable_append : (a b : List Datum) → Quotable a → Quotable b → Quotable (a ++ b)
 quotable_append [] b h k = k
-quotable_append (d ∷ a) b h k = go (form_of d) h
-  where
-    go : (f : Form) → AreOfData (f ∷ map form_of a) → AreOfData (f ∷ map form_of (a ++ b))
-    go (expression y) h = (h.0, quotable_append a b h.1 k)
-    go (definition at ys) h = (h.0, quotable_append a b h.1 k)
-
-both : (a b : Bool) → (a && b) ≡ true → (a ≡ true) × (b ≡ true)
-both true b h = (refl, h)
-both false b h = cc
-
-all_quotable : (xs : Data) → data_in_range xs ≡ true → depths xs ≤ max_nesting → AllQuotable xs
-all_quotable none h l = tt
-all_quotable (cons d ds) h l = let k = both _ _ h in ((k.0, omega (arith, l)), all_quotable ds k.1 (omega (arith, l)))
+quotable_append (d ∷ a) b h k = one_quotable (form_of d) (map form_of a) (map form_of (a ++ b)) h (λ i. quotable_append a b i k)
 
 inner_quotable : (at q : ℕ) (x : List ℕ) (xs : Data) → IsQuotable (list at (cons (atom q (symbol x)) xs)) → AllQuotable xs
-inner_quotable at q x xs h = all_quotable xs (both _ _ h.0).1 (omega (arith, h.1))
+inner_quotable at q x xs h = all_quotable xs (omega (arith, h.1)) (both _ _ h.0).1
 
 chosen_quotable : (b : Bool) (at q : ℕ) (x : List ℕ) (xs : Data) → IsQuotable (list at (cons (atom q (symbol x)) xs)) →
     AreOfData (chosen_form b at xs (list at (cons (atom q (symbol x)) xs)) ∷ [])
@@ -314,13 +306,13 @@ module _ (globals symbols : List (List ℕ)) where
   library_few [] s l h = tt
   library_few (d ∷ ds) s l h = (few d.formals _ (definition_few d s l h.0), library_few ds _ _ h.1)
 
+with_few : (b : Bool) (d : Definition) (ds : List Definition) → definition_excess d ≡ None → AreFew ds → AreFew (with_definition b d ds)
+with_few true d ds h k = (h, k)
+with_few false d ds h k = k
+
 kept_few : (ds : List Definition) (names : List (List ℕ)) → AreFew ds → AreFew (kept ds names)
 kept_few [] names h = tt
-kept_few (d ∷ ds) names h = go _
-  where
-    go : (b : Bool) → AreFew (with_definition b d (kept ds names))
-    go true = (h.0, kept_few ds names h.1)
-    go false = kept_few ds names h.1
+kept_few (d ∷ ds) names h = with_few _ d (kept ds names) h.0 (kept_few ds names h.1)
 
 -- ## The program
 

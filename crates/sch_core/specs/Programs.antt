@@ -22,7 +22,7 @@ abbrev pub excess : (formals : ℕ) → Expression → Option Kind
 excess formals e =
     cond (few_variables (lambda [] formals false e)) (cond (few_free (lambda [] formals false e)) None (Some Free)) (Some Variables)
 
-abbrev pub at_place {ℓ} : {A : Type ℓ} → ℕ → Option A → Option (A × ℕ) → Option (A × ℕ)
+abbrev pub at_place : {A : Type 0} → ℕ → Option A → Option (A × ℕ) → Option (A × ℕ)
 at_place at (Some k) others = Some (k, at)
 at_place at None others = others
 

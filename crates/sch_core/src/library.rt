@@ -15,7 +15,7 @@ use std::alloc::Global;
 #[derive(Drop)]
 pub struct Library<'a> {
     pub definitions: List<Definition<'a>>,
-    ghost sound: { IsSoundLibrary (definitions_of definitions) },
+    ghost sound: { ∥ IsSoundLibrary (definitions_of definitions) ∥₁ },
 }
 
 impl<'a> Library<'a> {

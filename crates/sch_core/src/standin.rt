@@ -51,8 +51,8 @@ pub fn assemble(
     own: &Names,
     forms: &[Draft<'_>],
 ) -> Result<Program, Mem>
-    requires valid { IsValidOnceRanged (program_of (definitions_of definitions.entry) (names_of own.now) (drafts_of forms.now)) }
-    ensures { IfOk result (λ p. source p ≡ program_of (definitions_of definitions.entry) (names_of own.now) (drafts_of forms.now)) }
+    requires valid { IsValidOnceRanged (program_of (definitions_of definitions) (names_of own.now) (drafts_of forms.now)) }
+    ensures { IfOk result (λ p. source p ≡ program_of (definitions_of definitions) (names_of own.now) (drafts_of forms.now)) }
 {
     Err(Mem)
 }
