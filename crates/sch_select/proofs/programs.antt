@@ -8,3 +8,4 @@ pub mod JoinedProgram
 pub mod CoveredPrograms
 pub mod StraightPrograms
 pub mod Examples
+pub mod CallExamples
