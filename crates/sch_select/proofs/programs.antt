@@ -2,9 +2,11 @@
 pub mod Selected
 pub mod Standing
 pub mod Forms
+pub mod Passing
 pub mod Whole
 pub mod Starting
 pub mod JoinedProgram
 pub mod CoveredPrograms
 pub mod StraightPrograms
 pub mod Examples
+pub mod CallExamples

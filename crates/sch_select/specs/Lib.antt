@@ -3,4 +3,5 @@ pub mod Program
 pub mod Covered
 pub mod Sizes
 pub mod Jumps
+pub mod Marks
 pub mod Follows

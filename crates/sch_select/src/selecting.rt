@@ -9,7 +9,7 @@ ghost use Rattle.sch_frames.specs.ProgramView.{source};
 ghost use Rattle.sch_frames.specs.Sizes.{program_size};
 ghost use Rattle.sch_frames.specs.SourceView.{codes_of};
 ghost use Rattle.sch_select.specs.Covered.{is_covered_program};
-ghost use Rattle.sch_select.specs.Follows.{FollowsFrames};
+ghost use Rattle.sch_select.specs.Follows.{FollowsFrames, PassesFrames};
 ghost use Rattle.sch_select.specs.Jumps.{jumps_ahead};
 ghost use Rattle.sch_select.specs.Program.{own_label, closure_words, closures_address, data_words, laid_code, global_word, global_words, heap_address, program_zeros, max_data, max_stack, put_value_code, stack_bytes, static_bytes, word_list};
 ghost use Rattle.sch_select.specs.Select.{body_label, put_label};
@@ -277,12 +277,13 @@ fn items_of(alloc: Global, p: &FrameProgram, layout: Layout, depth: u64) -> Resu
 /// follow one after the other, those of procedures jumped over, and behind them the routine that puts any value.
 ///
 /// Resolved with the run-time routines, they do what the program does, whatever the machine is given and
-/// whatever the kernel answers. Programs with literals, symbols or objects have no code yet. Time and memory are
+/// whatever the kernel answers, and pass the program's marks. Programs with literals, symbols or objects have no code yet. Time and memory are
 /// linear in the instructions, the labels, the globals and the library. The addresses below the stack are numbers
 /// of 31 bits. A stack of more than 1,073,741,824 bytes, without its last frame, is out of memory.
 pub fn select(alloc: Global, p: &FrameProgram, limits: Limits) -> Result<Asm, Mem>
     requires covered { IsTrue (is_covered_program (source p.now)) }
     ensures follows { IfOk result (λ a. FollowsFrames (source p.now) limits.heap limits.depth a.items a.words a.zeros) }
+    ensures passes { IfOk result (λ a. PassesFrames (source p.now) limits.heap limits.depth a.items a.words a.zeros) }
     ensures own { IfOk result (λ a. AreOwn a.items) }
     ensures text { IfOk result (λ a. text_size a.items ≤ 512 + 64 * (program_size (source p.now) + closures_in (source p.now).bodies)) }
     ensures ahead { IfOk result (λ a. IsTrue (jumps_ahead (own_label (source p.now)) a.items)) }

@@ -47,9 +47,9 @@ one_form labels instructions = record {
 abbrev items_of : (heap : ℕ) → Source → List Item
 items_of heap p = program_code p heap 1 ++ routine_items
 
-abbrev text_of : List Item → List ℕ
+abbrev pub text_of : List Item → List ℕ
 text_of items =
-    let numbers = numbered items 0 (replicate 1200 0) in
+    let numbers = numbered items 0 (replicate 1600 0) in
     let addresses = addresses_from 0x400000 (map item_size items) in
     flat_map spelling (emitted (placed_by numbers addresses) (slice_index addresses) 0 items)
 
@@ -60,7 +60,7 @@ ends_in heap p answers = exit_of (mach 400 (start 0x400000 (text_at (text_of (it
 abbrev ends : Source → List Answer → Option (ℕ × List ℕ)
 ends = ends_in 16
 
-abbrev number : ℤ → Operand Place
+abbrev pub number : ℤ → Operand Place
 number n = operand.Atom (Constant (Fixnum n))
 
 -- a value is put, and so is what a primitive of two numbers gives
@@ -160,7 +160,7 @@ cells = (refl, refl, refl, refl, refl, refl, refl)
 
 -- ---- closures
 
--- a form, and a procedure that nothing enters, which is in the library and in the global
+-- a form, and a procedure that it does not enter, which is in the library and in the global
 abbrev with_procedure : List Instruction → Source
 with_procedure instructions = record {
   statics = record { symbols = []; literals = no_literals; globals = Some 0 ∷ [] };

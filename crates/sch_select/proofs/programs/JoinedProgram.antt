@@ -27,13 +27,16 @@ use Rattle.sch_asm.proofs.Joined.{joined}
 use Rattle.sch_asm.proofs.Standing.{setting_of}
 use Rattle.sch_select.specs.Select.{put_label, globals_address, body_label, body_code}
 use Rattle.sch_select.specs.Program.{own_label, passed_code, entry_code, forms_code, form_code, labels_end, put_value_code, program_code, program_words, program_zeros, static_bytes, closures_address, heap_of, max_stack, stack_bytes}
-use Rattle.sch_select.specs.Follows.{AreRuns, FollowsFrames}
+use Rattle.sch_word.specs.runs.ProgramLayout.{max_text_size}
+use Rattle.sch_asm.specs.Stands.{marks_at}
+use Rattle.sch_select.specs.Marks.{PassesMarks, marks_passed}
+use Rattle.sch_select.specs.Follows.{AreRuns, FollowsFrames, PassesFrames}
 use Rattle.sch_select.proofs.simulation.Places.{Plan, Room}
 use Rattle.sch_select.proofs.items.Appending.{Appends, then_appends, body_appends, behind}
 use Rattle.sch_select.proofs.simulation.Outcomes.{Laid}
 use Rattle.sch_select.proofs.simulation.Procedures.{bodies_cost}
 use Rattle.sch_select.proofs.programs.Starting.{parts_at_start, bytes_count, texts_there, values_there, first_is, ends_at, contents_there, new_there}
-use Rattle.sch_select.proofs.programs.Whole.{Starts, program_follows}
+use Rattle.sch_select.proofs.programs.Whole.{Starts, program_follows, program_passes}
 use Rattle.sch_select.proofs.programs.Selected.{fits, form_selected, selects}
 use Rattle.sch_select.specs.Covered.{marks_settled}
 
@@ -101,40 +104,50 @@ module _ (p : Source) (limit depth : ℕ) (words_few : p.words ≤ 2048) (global
     labels = λ l. let k = labels l in omega (arith, k);
   }
 
-  pub frames_follow : (calls : Bool) → selects p ≡ true → list_all (fits calls) p.bodies ≡ true → library_known (length p.library) p.statics.globals ≡ true → FollowsFrames p limit depth (program_code p limit depth) (program_words p) (program_zeros p limit depth)
-  unfolding plan_of
-  frames_follow calls selected fitting known = record { follows = at }
-    where
-      forms : list_all (form_selected p.words globals) p.bodies ≡ true
-      forms = (and_parts (list_all (form_selected p.words globals) p.bodies) (list_all (λ c. marks_settled true c.instructions) p.bodies) selected).0
+  -- A text that the items and the routines resolve to does what the program does, and passes its marks.
+  record Done (bytes : List ℕ) (code : List Insn) (marks : List mark.Mark) : Type 0 where
+    follows : (runs : List Answer → ℕ → Run) → AreRuns p limit depth runs → FollowsRuns 0x400000 (text_at (flat_map spelling code) ∷ data_at (bytes ++ replicate (program_zeros p limit depth) 0) ∷ []) runs
+    passes : PassesMarks 0x400000 (text_at (flat_map spelling code) ∷ data_at (bytes ++ replicate (program_zeros p limit depth) 0) ∷ []) (marks_at marks) (marks_passed p limit depth)
 
-      at : (routines : List Item) (code : List Insn) (marks : List mark.Mark) (words : List ℕ) → AreEffective routines → IsTrue (marks_arrive false (program_code p limit depth)) → IsTrue (marks_arrive false routines)
-          → AreResolved (program_code p limit depth ++ routines) (program_words p) code marks words → AllValid code → length (flat_map spelling code) ≤ 16777216
-          → (runs : List Answer → ℕ → Run) → AreRuns p limit depth runs
-          → FollowsRuns 0x400000 (text_at (flat_map spelling code) ∷ data_at (words ++ replicate (program_zeros p limit depth) 0) ∷ []) runs
-      at routines code marks words effective arrive arrive' r valid small runs are =
-          let j = joined (program_code p limit depth) routines (program_words p) code marks words r valid small arrive arrive' in
-          let setting = setting_of (text_at (flat_map spelling code)) r.place_of marks j.apart in
-          let plan = plan_of setting r.small in
-          let zeros = program_zeros p limit depth in
-          let laid : Laid plan (bodies_cost p.bodies) = record {
-            routine = effective.does setting j.second.0 j.second.1;
-            put_stands = put_there setting p.words (heap_of p + limit) 0 (own_label p) p.bodies _ j.first.2.2.2;
-            static_is = refl;
-          } in
-          let room : Room plan plan.stack depth = record { low = omega arith; high = omega arith; few = omega (arith, depth_few) } in
-          let parts = parts_at_start r.place_of r.small p.statics.globals p.library zeros globals_few library_few in
-          let count = bytes_count r.place_of r.small p.statics.globals p.library zeros globals_few library_few in
-          let starts : Starts plan (bodies_cost p.bodies) laid depth room calls parts p limit (bytes_at r.place_of) = record {
-            size_is = omega (arith, count);
-            texts = texts_there r.place_of r.small p.statics.globals p.library zeros globals_few library_few;
-            count = refl;
-            values = values_there r.place_of r.small p.statics.globals p.library zeros globals_few library_few known;
-            first = first_is r.place_of r.small p.statics.globals p.library zeros globals_few library_few;
-            next = ends_at r.place_of r.small p.statics.globals p.library zeros globals_few library_few;
-            limited = refl;
-            contents = contents_there r.place_of r.small p.statics.globals p.library zeros globals_few library_few;
-            new = new_there r.place_of r.small p.statics.globals p.library zeros globals_few library_few;
-          } in
-          subst (λ w. FollowsRuns 0x400000 (text_at (flat_map spelling code) ∷ data_at (w ++ replicate zeros 0) ∷ []) runs) (sym r.bytes)
-          (program_follows plan (bodies_cost p.bodies) laid depth room calls p limit parts (bytes_at r.place_of) (item.Label put_label ∷ put_value_code) runs forms fitting (omega arith) j.first starts are)
+  module _ (calls : Bool) (selected : selects p ≡ true) (fitting : list_all (fits calls) p.bodies ≡ true) (known : library_known (length p.library) p.statics.globals ≡ true) where
+    forms : list_all (form_selected p.words globals) p.bodies ≡ true
+    forms = (and_parts (list_all (form_selected p.words globals) p.bodies) (list_all (λ c. marks_settled true c.instructions) p.bodies) selected).0
+
+    done : (routines : List Item) (code : List Insn) (marks : List mark.Mark) (words : List ℕ) → AreEffective routines → IsTrue (marks_arrive false (program_code p limit depth)) → IsTrue (marks_arrive false routines)
+        → AreResolved (program_code p limit depth ++ routines) (program_words p) code marks words → AllValid code → length (flat_map spelling code) ≤ max_text_size → Done words code marks
+    unfolding plan_of
+    done routines code marks words effective arrive arrive' r valid small =
+        let j = joined (program_code p limit depth) routines (program_words p) code marks words r valid small arrive arrive' in
+        let setting = setting_of (text_at (flat_map spelling code)) r.place_of marks j.apart in
+        let plan = plan_of setting r.small in
+        let zeros = program_zeros p limit depth in
+        let laid : Laid plan (bodies_cost p.bodies) = record {
+          routine = effective.does setting j.second.0 j.second.1;
+          put_stands = put_there setting p.words (heap_of p + limit) 0 (own_label p) p.bodies _ j.first.2.2.2;
+          static_is = refl;
+        } in
+        let room : Room plan plan.stack depth = record { low = omega arith; high = omega arith; few = omega (arith, depth_few) } in
+        let parts = parts_at_start r.place_of r.small p.statics.globals p.library zeros globals_few library_few in
+        let count = bytes_count r.place_of r.small p.statics.globals p.library zeros globals_few library_few in
+        let starts : Starts plan (bodies_cost p.bodies) laid depth room calls parts p limit (bytes_at r.place_of) = record {
+          size_is = omega (arith, count);
+          texts = texts_there r.place_of r.small p.statics.globals p.library zeros globals_few library_few;
+          count = refl;
+          values = values_there r.place_of r.small p.statics.globals p.library zeros globals_few library_few known;
+          first = first_is r.place_of r.small p.statics.globals p.library zeros globals_few library_few;
+          next = ends_at r.place_of r.small p.statics.globals p.library zeros globals_few library_few;
+          limited = refl;
+          contents = contents_there r.place_of r.small p.statics.globals p.library zeros globals_few library_few;
+          new = new_there r.place_of r.small p.statics.globals p.library zeros globals_few library_few;
+        } in
+        subst (λ w. Done w code marks) (sym r.bytes)
+        (record {
+          follows = program_follows plan (bodies_cost p.bodies) laid depth room calls p limit parts (bytes_at r.place_of) (item.Label put_label ∷ put_value_code) forms fitting (omega arith) j.first starts;
+          passes = program_passes plan (bodies_cost p.bodies) laid depth room calls p limit parts (bytes_at r.place_of) (item.Label put_label ∷ put_value_code) forms fitting (omega arith) j.first starts;
+        })
+
+    pub frames_follow : FollowsFrames p limit depth (program_code p limit depth) (program_words p) (program_zeros p limit depth)
+    frames_follow = record { follows = λ routines code marks words effective arrive arrive' r valid small. (done routines code marks words effective arrive arrive' r valid small).follows }
+
+    pub frames_pass : PassesFrames p limit depth (program_code p limit depth) (program_words p) (program_zeros p limit depth)
+    frames_pass = record { passes = λ routines code marks words effective arrive arrive' r valid small. (done routines code marks words effective arrive arrive' r valid small).passes }

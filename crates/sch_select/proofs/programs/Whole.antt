@@ -1,7 +1,7 @@
 -- A whole program follows its runs.
-use Rattle.std.proofs.Common.{◌≡◌, ℕ, zero, suc, ◌+◌, ◌*◌, ◌≤◌, List, [], ◌∷◌, length, take, drop, Bool, true, Option, Some, None, refl, sym, ap, ◌∙◌, subst, arith}
+use Rattle.std.proofs.Common.{◌≡◌, ℕ, zero, suc, ◌+◌, ◌*◌, ◌≤◌, List, [], ◌∷◌, ◌++◌, length, map, take, drop, Bool, true, Option, Some, None, refl, sym, ap, ◌∙◌, subst, arith, append-nil, inl, inr}
 use Rattle.std.specs.Prelude.{pos, slice_get}
-use Rattle.std.specs.List.{list_all}
+use Rattle.std.specs.List.{flat_map, list_all}
 use Rattle.sch_word.specs.declared.answer.Answer.{Answer}
 use Rattle.sch_word.specs.runs.Stops.{status_of}
 use Rattle.sch_word.specs.runs.Store.{Store}
@@ -9,14 +9,14 @@ use Rattle.sch_word.specs.values.Values.{Value}
 use Rattle.sch_word.specs.runs.Computation.{gives, stops, spent}
 use Rattle.sch_word.specs.runs.Runs.{Run, ended, going, run_with, starting_store, starting_value, starting_values}
 use Rattle.sch_control.specs.Meaning.{World, Result, Callee}
-use Rattle.sch_control.specs.Run.{seen_of, enter, entry_at, starting_world, library_procedures}
+use Rattle.sch_control.specs.Run.{seen_of, do_forms, enter, entry_at, starting_world, library_procedures}
 use Rattle.sch_control.specs.declared.body.Entry.{Entry}
 use Rattle.sch_frames.specs.Tree.{Code, Source}
 use Rattle.sch_frames.specs.Run.{bodies_of, entries_of}
 use Rattle.sch_insn.specs.declared.insn.Insn.TheVariants.{MovWord}
 use Rattle.sch_insn.specs.Behaves.{Given, start, FollowsRuns}
 use Rattle.sch_insn.specs.Machine.{set_register}
-use Rattle.sch_insn.specs.Path.{Does, Exits}
+use Rattle.sch_insn.specs.Path.{Does, Exits, passed}
 use Rattle.sch_insn.proofs.Clauses.{follows}
 use Rattle.sch_insn.proofs.Paths.{leads_on, leads_then}
 use Rattle.sch_asm.specs.declared.item.Item.{Item}
@@ -32,7 +32,11 @@ use Rattle.sch_heap.specs.Encoded.{IsHeld}
 use Rattle.sch_heap.specs.Heap.{HeapAt, AreNew}
 use Rattle.sch_select.specs.Select.{global_address}
 use Rattle.sch_select.specs.Program.{own_label, forms_code}
+use Rattle.sch_control.specs.declared.mark.MarkKind as control
+use Rattle.sch_select.specs.Select.{kind_of}
+use Rattle.sch_select.specs.Marks.{PassesMarks, marks_of, marks_passed}
 use Rattle.sch_select.specs.Follows.{AreRuns}
+use Rattle.sch_select.proofs.programs.Passing.{Passes, traces}
 use Rattle.sch_select.proofs.simulation.Places.{Plan, code_of, Room, StoreAt}
 use Rattle.sch_select.proofs.simulation.Outcomes.{Ends, Laid}
 use Rattle.sch_select.proofs.simulation.Entering.{Enters}
@@ -83,6 +87,26 @@ module _ (plan : Plan) (body_steps : ℕ) (laid : Laid plan body_steps) (depth :
       subst (λ r. Does (full setting x) n r.end r.output) same
       (record { way = q.way; last = full setting s.last; path = q.path; long = (let a = q.at_least in let b = s.long in omega (arith, a, b, e)); output_is = s.output_is })
 
+  -- from a result to the marks that are passed
+  marks_exit : (t : Store) (x z : View) (c status : ℕ) (w : World) (n : ℕ) → Leads setting 3 3 [] x z → Ends plan body_steps [] t z c status w → Passes setting.marks (full setting x) n (map kind_of w.marks)
+  marks_exit t x z c status w n p e =
+      let q = leads_then setting.marks p e.leads in
+      record { way = q.way; last = full setting e.last; path = q.path; rest = []; are = append-nil (flat_map setting.marks (passed (full setting x) q.way)) ∙ q.events_are ∙ sym e.marked; ends = inr (status, e.exits, e.silent, refl) }
+
+  marks_does : (p : Source) (n : ℕ) (callee : Callee) (enters : calls ≡ true → Enters plan body_steps callee n) (t : Store) (x z : View) (c : ℕ) (result : Result) (marks : List control.MarkKind) → t.entries ≡ n → Leads setting 3 3 [] x z → Owed plan body_steps laid depth room calls n p.bodies callee enters [] t z c result → marks_of result ≡ Some marks → Passes setting.marks (full setting x) n (map kind_of marks)
+  marks_does p n callee enters t x z c None marks e l s h = absurd (let bad : None ≡ Some marks = h in cc)
+  marks_does p n callee enters t x z c (Some (gives v w)) marks e l s h =
+      let i : Some w.marks ≡ Some marks = h in let same : w.marks ≡ marks = cc in
+      subst (λ m. Passes setting.marks (full setting x) n (map kind_of m)) same (marks_exit t x z c 0 w n l s)
+  marks_does p n callee enters t x z c (Some (stops why w)) marks e l s h =
+      let i : Some w.marks ≡ Some marks = h in let same : w.marks ≡ marks = cc in
+      subst (λ m. Passes setting.marks (full setting x) n (map kind_of m)) same (marks_exit t x z c (status_of why) w n l s)
+  marks_does p n callee enters t x z c (Some (spent w)) marks e l s h =
+      let i : Some w.marks ≡ Some marks = h in let same : w.marks ≡ marks = cc in
+      let q = leads_then setting.marks l s.leads in
+      subst (λ m. Passes setting.marks (full setting x) n (map kind_of m)) same
+      (record { way = q.way; last = full setting s.last; path = q.path; rest = s.ahead; are = ap (λ l. l ++ s.ahead) q.events_are ∙ sym s.marked; ends = inl (let a = q.at_least in let b = s.long in omega (arith, a, b, e)) })
+
   -- the data of a program at its start, with the records of the library's procedures
   pub record Starts (parts : Parts) (p : Source) (limit : ℕ) (bytes : List ℕ) : Type 0 where
     pub size_is : length bytes ≡ size
@@ -95,43 +119,66 @@ module _ (plan : Plan) (body_steps : ℕ) (laid : Laid plan body_steps) (depth :
     pub contents : HeapAt (code_of plan) parts [] (library_procedures p.library) bytes
     pub new : AreNew parts 0 (length (library_procedures p.library))
 
-  pub program_follows : (p : Source) (limit : ℕ) (parts : Parts) (bytes : List ℕ) (rest : List Item) (runs : List Answer → ℕ → Run) → list_all (form_selected words globals) p.bodies ≡ true → list_all (fits calls) p.bodies ≡ true → bodies_cost p.bodies ≤ body_steps →
-      Stands setting [] 0x400000 (started (forms_code words stack 0 (own_label p) p.bodies (item.Jump (label_of routine.End) ∷ rest))) → Starts parts p limit bytes → AreRuns p limit depth runs → FollowsRuns 0x400000 (setting.text ∷ data_at bytes ∷ []) runs
-  program_follows p limit parts bytes rest runs selected fitting short h s r = follows 0x400000 (setting.text ∷ data_at bytes ∷ []) runs at
-    where
-      stood : (label : ℕ) (c : Code) (e : Entry) → slice_get p.bodies label ≡ Some c → c.entry ≡ Some e → BodyAt plan label c e
-      stood label c e is o =
-          let z : 0 + label ≡ label = omega arith in
-          subst (λ l. BodyAt plan l c e) z (bodies_stand plan p.bodies 0 (own_label p) _ (item.Jump (label_of routine.End) ∷ rest) h.2.2.2 label c e is o)
+  module _ (p : Source) (limit : ℕ) (parts : Parts) (bytes : List ℕ) (rest : List Item) (selected : list_all (form_selected words globals) p.bodies ≡ true) (fitting : list_all (fits calls) p.bodies ≡ true) (short : bodies_cost p.bodies ≤ body_steps) (h : Stands setting [] 0x400000 (started (forms_code words stack 0 (own_label p) p.bodies (item.Jump (label_of routine.End) ∷ rest)))) (s : Starts parts p limit bytes) where
+    stood : (label : ℕ) (c : Code) (e : Entry) → slice_get p.bodies label ≡ Some c → c.entry ≡ Some e → BodyAt plan label c e
+    stood label c e is o =
+        let z : 0 + label ≡ label = omega arith in
+        subst (λ l. BodyAt plan l c e) z (bodies_stand plan p.bodies 0 (own_label p) _ (item.Jump (label_of routine.End) ∷ rest) h.2.2.2 label c e is o)
 
-      enters : (n : ℕ) → calls ≡ true → Enters plan body_steps (enter (entry_at (entries_of p.bodies)) (bodies_of p.bodies) n) n
-      enters n is = enter_sim plan body_steps laid p.bodies selected (subst (λ b. list_all (fits b) p.bodies ≡ true) is fitting) short stood n
+    abbrev callee : ℕ → Callee
+    callee n = enter (entry_at (entries_of p.bodies)) (bodies_of p.bodies) n
 
-      at : (g : Given) (answers : List Answer) (n : ℕ) → Does (start 0x400000 (setting.text ∷ data_at bytes ∷ []) g answers) n (runs answers n).end (runs answers n).output
-      at g answers n =
-          let x : View = record { registers = g.registers; flags = g.flags; place = 0x400000; bytes = bytes; output = []; answers = answers; spare = g.spare } in
-          let t = starting_store p.statics limit answers n in
-          let w = starting_world p.statics p.library limit answers n in
-          let callee = enter (entry_at (entries_of p.bodies)) (bodies_of p.bodies) n in
-          let y1 : View = record x { registers = set_register x.registers 5 stack; place = x.place + h.0 } in
-          let y2 : View = record y1 { registers = set_register y1.registers 12 heap; place = y1.place + h.2.0 } in
-          let z : View = record y2 { registers = set_register y2.registers 13 depth; place = y2.place + h.2.2.0 } in
-          let free : heap ≡ heap + 0 = omega arith in
-          let world : StoreAt plan parts w.state bytes [] answers = record {
-            size_is = s.size_is;
-            printed = refl;
-            left = refl;
-            limit = s.limited;
-            within = (let a = plan.stack_low in omega (arith, a));
-            begins = s.first;
-            ends = s.next ∙ free;
-            count = values_count p.statics.globals ∙ s.count;
-            global = λ i o e. let b = begins p.statics.globals i o e in subst (λ o. IsHeld parts o (word_in bytes (global_address i))) (sym b.is) (s.values i b.held b.there);
-            texts = s.texts;
-            contents = s.contents;
-            new = s.new;
-          } in
-          seen_does p n callee (enters n) t x z (forms_cost p.bodies) answers _ (runs answers n) refl
-          (leads_on setting.marks (leads_on setting.marks (goes setting x y1 (MovWord 5 (pos stack)) h.0 [] h.1 refl) (goes setting y1 y2 (MovWord 12 (pos heap)) h.2.0 [] h.2.1 refl)) (goes setting y2 z (MovWord 13 (pos depth)) h.2.2.0 [] h.2.2.1 refl))
-          (forms_sim plan body_steps laid depth room calls n p.bodies callee (enters n) p.bodies 0 (own_label p) rest selected fitting (λ j c e. let sum : 0 + j ≡ j = omega arith in ap (slice_get p.bodies) sum ∙ e) [] w z h.2.2.2 (record { parts = parts; frame = refl; deep = refl; few = omega arith; free = free; world = world }) refl)
-          (r.are answers n)
+    enters : (n : ℕ) → calls ≡ true → Enters plan body_steps (callee n) n
+    enters n is = enter_sim plan body_steps laid p.bodies selected (subst (λ b. list_all (fits b) p.bodies ≡ true) is fitting) short stood n
+
+    -- the machine at its start, and where the forms begin
+    abbrev first : Given → List Answer → View
+    first g answers = record { registers = g.registers; flags = g.flags; place = 0x400000; bytes = bytes; output = []; answers = answers; spare = g.spare }
+
+    abbrev ready : Given → List Answer → View
+    ready g answers = record (first g answers) { registers = set_register (set_register (set_register g.registers 5 stack) 12 heap) 13 depth; place = 0x400000 + h.0 + h.2.0 + h.2.2.0 }
+
+    abbrev outcome : List Answer → ℕ → Result
+    outcome answers n = do_forms (entries_of p.bodies) 0 (bodies_of p.bodies) (callee n) depth (starting_world p.statics p.library limit answers n)
+
+    gets_ready : (g : Given) (answers : List Answer) → Leads setting 3 3 [] (first g answers) (ready g answers)
+    gets_ready g answers =
+        let x = first g answers in
+        let y1 : View = record x { registers = set_register x.registers 5 stack; place = x.place + h.0 } in
+        let y2 : View = record y1 { registers = set_register y1.registers 12 heap; place = y1.place + h.2.0 } in
+        leads_on setting.marks (leads_on setting.marks (goes setting x y1 (MovWord 5 (pos stack)) h.0 [] h.1 refl) (goes setting y1 y2 (MovWord 12 (pos heap)) h.2.0 [] h.2.1 refl)) (goes setting y2 (ready g answers) (MovWord 13 (pos depth)) h.2.2.0 [] h.2.2.1 refl)
+
+    forms_done : (g : Given) (answers : List Answer) (n : ℕ) → Owed plan body_steps laid depth room calls n p.bodies (callee n) (enters n) [] (starting_store p.statics limit answers n) (ready g answers) (forms_cost p.bodies) (outcome answers n)
+    forms_done g answers n =
+        let w = starting_world p.statics p.library limit answers n in
+        let free : heap ≡ heap + 0 = omega arith in
+        let world : StoreAt plan parts w.state bytes [] answers = record {
+          size_is = s.size_is;
+          printed = refl;
+          left = refl;
+          limit = s.limited;
+          within = (let a = plan.stack_low in omega (arith, a));
+          begins = s.first;
+          ends = s.next ∙ free;
+          count = values_count p.statics.globals ∙ s.count;
+          global = λ i o e. let b = begins p.statics.globals i o e in subst (λ o. IsHeld parts o (word_in bytes (global_address i))) (sym b.is) (s.values i b.held b.there);
+          texts = s.texts;
+          contents = s.contents;
+          new = s.new;
+        } in
+        forms_sim plan body_steps laid depth room calls n p.bodies (callee n) (enters n) p.bodies 0 (own_label p) rest selected fitting (λ j c e. let sum : 0 + j ≡ j = omega arith in ap (slice_get p.bodies) sum ∙ e) [] w (ready g answers) h.2.2.2
+        (record { parts = parts; frame = refl; deep = refl; few = omega arith; free = free; world = world }) refl
+
+    pub program_follows : (runs : List Answer → ℕ → Run) → AreRuns p limit depth runs → FollowsRuns 0x400000 (setting.text ∷ data_at bytes ∷ []) runs
+    program_follows runs r = follows 0x400000 (setting.text ∷ data_at bytes ∷ []) runs (λ g answers n.
+        seen_does p n (callee n) (enters n) (starting_store p.statics limit answers n) (first g answers) (ready g answers) (forms_cost p.bodies) answers (outcome answers n) (runs answers n) refl (gets_ready g answers) (forms_done g answers n) (r.are answers n))
+
+    pub program_passes : PassesMarks 0x400000 (setting.text ∷ data_at bytes ∷ []) setting.marks (marks_passed p limit depth)
+    program_passes = record {
+      along = λ g answers m marks e. (traces setting.marks (full setting (first g answers)) m (map kind_of marks) (passes g answers m marks e)).begins;
+      all = λ g answers m marks e status output x. (traces setting.marks (full setting (first g answers)) m (map kind_of marks) (passes g answers m marks e)).all status output x;
+    }
+      where
+        passes : (g : Given) (answers : List Answer) (m : ℕ) (marks : List control.MarkKind) → marks_passed p limit depth answers m ≡ Some marks → Passes setting.marks (full setting (first g answers)) m (map kind_of marks)
+        passes g answers m marks e =
+            marks_does p m (callee m) (enters m) (starting_store p.statics limit answers m) (first g answers) (ready g answers) (forms_cost p.bodies) (outcome answers m) marks refl (gets_ready g answers) (forms_done g answers m) e

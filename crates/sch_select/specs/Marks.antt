@@ -1,0 +1,43 @@
+-- The marks that the run of a frame program passes, and those that its machine passes.
+use Rattle.std.specs.Prelude.{◌≡◌, ℕ, List, ◌++◌, map, Option, Some, None}
+use Rattle.std.specs.List.{flat_map}
+use Rattle.sch_word.specs.declared.answer.Answer.{Answer}
+use Rattle.sch_word.specs.values.Memory.{Segment}
+use Rattle.sch_word.specs.runs.Computation.{gives, stops, spent}
+use Rattle.sch_control.specs.declared.mark.MarkKind as control
+use Rattle.sch_control.specs.Meaning.{Result}
+use Rattle.sch_control.specs.Run.{outcome_of, starting_world}
+use Rattle.sch_frames.specs.Tree.{Source}
+use Rattle.sch_frames.specs.Run.{bodies_of, entries_of}
+use Rattle.sch_insn.specs.Behaves.{Given, exit_of, start}
+use Rattle.sch_insn.specs.Path.{traced}
+use Rattle.sch_asm.specs.declared.item.MarkKind.{MarkKind}
+use Rattle.sch_select.specs.Select.{kind_of}
+
+-- what a result has passed
+abbrev pub marks_of : Result → Option (List control.MarkKind)
+marks_of None = None
+marks_of (Some (gives v w)) = Some w.marks
+marks_of (Some (stops why w)) = Some w.marks
+marks_of (Some (spent w)) = Some w.marks
+
+-- the marks that a run passes, with limits of heap and depth, against the answers of a kernel and with at most a
+-- number of procedure entries; none where the program is wrong
+abbrev pub marks_passed : Source → (heap depth : ℕ) → List Answer → (entries : ℕ) → Option (List control.MarkKind)
+marks_passed p heap depth answers entries =
+    marks_of (outcome_of (entries_of p.bodies) (bodies_of p.bodies) depth entries (starting_world p.statics p.library heap answers entries))
+
+-- A beginning may be the whole.
+pub record IsBeginning {E : Type 0} (xs ys : List E) : Type 0 where
+  pub rest : List E
+  pub whole : xs ++ rest ≡ ys
+
+-- A machine that is entered at an address passes the marks of these runs, in their order, each as the instruction
+-- of its address begins. In m steps it passes no more than the run with m entries does, and where it has exited it
+-- has passed all of them.
+pub record PassesMarks (entry : ℕ) (segments : List Segment) (marks_at : ℕ → List MarkKind) (passed : List Answer → (entries : ℕ) → Option (List control.MarkKind)) : Type 0 where
+  pub along : (g : Given) (answers : List Answer) (m : ℕ) (marks : List control.MarkKind) → passed answers m ≡ Some marks
+      → IsBeginning (flat_map marks_at (traced m (start entry segments g answers)).trace) (map kind_of marks)
+  pub all : (g : Given) (answers : List Answer) (m : ℕ) (marks : List control.MarkKind) → passed answers m ≡ Some marks
+      → (status : ℕ) (output : List ℕ) → exit_of (traced m (start entry segments g answers)).progress ≡ Some (status, output)
+      → flat_map marks_at (traced m (start entry segments g answers)).trace ≡ map kind_of marks
