@@ -6,7 +6,7 @@ use Rattle.sch_frames.specs.Sizes as frames
 use Rattle.sch_frames.specs.Sizes.{program_size, program_work}
 use Rattle.sch_frames.specs.Tree.{Code, Source}
 use Rattle.sch_control.specs.declared.body.Entry.{Entry}
-use Rattle.std.specs.Prelude.{length, Option, Some, None}
+use Rattle.std.specs.Prelude.{Option, Some, None}
 use Rattle.sch_select.specs.Sizes as select
 
 same_groups : (is : List Instruction) → select.grouped is ≡ frames.grouped is
