@@ -63,17 +63,17 @@ module _ (first hs : List (List ℕ)) (ds : List Definition) (d : Definition) (t
         let x = library_global d.name in
         let k = kept ds all in
         let p : is_among x (t ++ map library_global hs) ≡ is_among x (all ++ globals_of_each k) =
-            among_append x t (map library_global hs) ∙ ap (λ a. a || is_among x (map library_global hs)) (inv x)
-            ∙ or_three (is_among x first) (is_among x (globals_of_each k)) (is_among x (map library_global hs))
-            ∙ ap (λ a. a || is_among x (globals_of_each k)) (sym (among_append x first (map library_global hs))) ∙ sym (among_append x all (globals_of_each k)) in
+        among_append x t (map library_global hs) ∙ ap (λ a. a || is_among x (map library_global hs)) (inv x)
+        ∙ or_three (is_among x first) (is_among x (globals_of_each k)) (is_among x (map library_global hs))
+        ∙ ap (λ a. a || is_among x (globals_of_each k)) (sym (among_append x first (map library_global hs))) ∙ sym (among_append x all (globals_of_each k)) in
         ap (λ b. with_definition b d k) (sym (e ∙ p))
 
     pub named_more : (t' : List (List ℕ)) → t' ≡ firsts t (globals_in [] d.body) → (x : List ℕ) → is_among x t' ≡ (is_among x first || is_among x (globals_of_each (d ∷ kept ds (first ++ map library_global hs))))
     named_more t' e x =
         let g = globals_of_each (kept ds all) in
         rw e (
-          among_firsts x t (globals_in [] d.body) ∙ ap (λ a. a || is_among x (globals_in [] d.body)) (inv x) ∙ or_four (is_among x first) (is_among x g) (is_among x (globals_in [] d.body))
-          ∙ ap (λ a. is_among x first || a) (sym (among_append x (globals_in [] d.body) g))
+        among_firsts x t (globals_in [] d.body) ∙ ap (λ a. a || is_among x (globals_in [] d.body)) (inv x) ∙ or_four (is_among x first) (is_among x g) (is_among x (globals_in [] d.body))
+        ∙ ap (λ a. is_among x first || a) (sym (among_append x (globals_in [] d.body) g))
         )
 
 -- the last of those that are left, and those that have been looked at

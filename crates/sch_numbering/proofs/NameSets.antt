@@ -106,7 +106,7 @@ kept_same (d ∷ ds) n m h =
     let k = kept_same ds n m h in
     let x = library_global d.name in
     let b : is_among x (n ++ globals_of_each (kept ds n)) ≡ is_among x (m ++ globals_of_each (kept ds m)) =
-        among_append x n (globals_of_each (kept ds n)) ∙ ap (λ b. b || is_among x (globals_of_each (kept ds n))) (h d.name) ∙ ap (λ l. is_among x m || is_among x (globals_of_each l)) k ∙ sym (among_append x m (globals_of_each (kept ds m))) in
+    among_append x n (globals_of_each (kept ds n)) ∙ ap (λ b. b || is_among x (globals_of_each (kept ds n))) (h d.name) ∙ ap (λ l. is_among x m || is_among x (globals_of_each l)) k ∙ sym (among_append x m (globals_of_each (kept ds m))) in
     ap (λ b. with_definition b d (kept ds n)) b ∙ ap (with_definition (is_among x (m ++ globals_of_each (kept ds m))) d) k
 
 start_same : (ds : List Definition) (n m : List (List ℕ)) → ((x : List ℕ) → is_among x n ≡ is_among x m) → (g : List ℕ) → starts_with ds n g ≡ starts_with ds m g

@@ -44,7 +44,7 @@ module _ (ds : List Definition) (own held : List (List ℕ)) (forms : Drafts) (g
         let width : length sites1 ≡ length (widths_of_definitions ds) = ap length (w ∙ ap (λ n. n ++ widths_of_definitions ds) y) in
         let quoted : length lits1 ≡ length (quotes_of_each ds) = literals_more f [] lits1 (quotes_of_each ds) (q ∙ ap (λ n. map literal n ++ map f (quotes_of_each ds)) z) ∙ plus_none (length (quotes_of_each ds)) in
         let listed : map literal lits2 ≡ map f (quotes_of_each ds ++ quotes_in_each forms) =
-              then_literals f (quotes_of_each ds) (quotes_in_each forms) (map literal lits0) q q' ∙ ap (λ n. map literal n ++ map f (quotes_of_each ds ++ quotes_in_each forms)) z in
+        then_literals f (quotes_of_each ds) (quotes_in_each forms) (map literal lits0) q q' ∙ ap (λ n. map literal n ++ map f (quotes_of_each ds ++ quotes_in_each forms)) z in
         let lambdas : lambdas_of library ≡ procedures G S ds 0 0 = l ∙ rw (y, z, g, s) refl in
         let trees : expressions_of made ≡ numbered_each own G S [] forms (length (widths_of_definitions ds)) (length (quotes_of_each ds)) = m ∙ rw (width, quoted, v, g, s) refl in
         λ i. record {
@@ -77,9 +77,9 @@ pub whole_program : (ds some : List Definition) (own hs names empty : List (List
     some ≡ kept ds (names ++ map library_global hs) → program_with some own hs forms ≡ program_of ds own forms
 whole_program ds some own hs names empty forms z n h k =
     let there : (x : List ℕ) → is_among (library_global x) (names ++ map library_global hs) ≡ is_among (library_global x) (named ds own forms) =
-        λ x. among_either x names hs ∙ ap (λ b. is_among (library_global x) names || b) (h x)
-        ∙ ap (λ l. is_among (library_global x) l || is_among x (held ds own)) (n ∙ ap (λ l. firsts l (globals_in_each own forms)) z)
-        ∙ ap (λ b. b || is_among x (held ds own)) (among_firsts (library_global x) [] (globals_in_each own forms)) ∙ sym (among_either x (globals_in_each own forms) (held ds own)) in
+    λ x. among_either x names hs ∙ ap (λ b. is_among (library_global x) names || b) (h x)
+    ∙ ap (λ l. is_among (library_global x) l || is_among x (held ds own)) (n ∙ ap (λ l. firsts l (globals_in_each own forms)) z)
+    ∙ ap (λ b. b || is_among x (held ds own)) (among_firsts (library_global x) [] (globals_in_each own forms)) ∙ sym (among_either x (globals_in_each own forms) (held ds own)) in
     ap (λ l. program_with l own hs forms) (k ∙ kept_same ds (names ++ map library_global hs) (named ds own forms) there) ∙ program_same (kept ds (named ds own forms)) own hs (held ds own) forms h
 
 -- ## Validity

@@ -38,11 +38,7 @@ fn hold(alloc: Global, x: &[u8], own: &Names, names: &mut Names) -> Result<(), M
 }
 
 /// The names among a text's own that the library shows too.
-pub(crate) fn held(
-    alloc: Global,
-    definitions: &[Definition<'_>],
-    own: &Names,
-) -> Result<Names, Mem>
+pub(crate) fn held(alloc: Global, definitions: &[Definition<'_>], own: &Names) -> Result<Names, Mem>
     ensures { IfOk result (λ names. (x : List ℕ) → is_among x (names_of names) ≡ is_among x (words.held (definitions_of definitions.now) (names_of own.now))) }
 {
     let mut names = Names::new(alloc);

@@ -164,5 +164,6 @@ pub fn assemble(
         names: own,
         held: &held,
     };
-    program_with(alloc, kept.as_slice(), &own, forms)
+    let p = program_with(alloc, kept.as_slice(), &own, forms)?;
+    Ok(p)
 }

@@ -1,4 +1,4 @@
-use Rattle.std.proofs.Common.{refl, ap, sym, ◌∙◌, reverse, length, append-nil}
+use Rattle.std.proofs.Common.{refl, ap, ◌∙◌, reverse}
 use Rattle.sch_names.specs.NamesView.{names_of}
 use Rattle.sch_numbering.proofs.KeepSteps.{still_whole, step_list, step_names, all_looked, begin_whole, begin_list, begin_names}
 use Rattle.sch_numbering.proofs.keeping.kept.Goals as goal

@@ -1,8 +1,8 @@
-use Rattle.std.proofs.Common.{length, map, ap, ◌∙◌, ◌+◌, refl, ◌++◌}
+use Rattle.std.proofs.Common.{length, map, ap, ◌∙◌, ◌+◌}
 use Rattle.sch_word.specs.values.LiteralView.{literal}
 use Rattle.sch_names.specs.NamesView.{names_of}
 use Rattle.sch_names.specs.ScopeView.{given_names, one_name}
-use Rattle.sch_sketch.specs.DraftView.{draft_of, drafts_of}
+use Rattle.sch_sketch.specs.DraftView.{draft_of}
 use Rattle.sch_numbers.specs.Quoted.{literal_of, quotes_in}
 use Rattle.sch_numbers.proofs.DraftViews.{branch_view, bind_view, letrec_view, call_view, operation_view}
 use Rattle.sch_numbers.proofs.DraftLists.{width_is}

@@ -18,13 +18,13 @@ invariant_of-result c =
     let tables = c.name_each.new.tables in
     let listed = c.in_ok-name_each.ensures.listed (c.in_ok-name_definitions.ensures.listed c.new-tables.ensures.listed) in
     let e : source_of c.symbol_list.result c.number_each.new.out.literals c.in_ok-globals.globals c.in_ok-library.library c.in_ok-forms.forms c.number_each.new.out.sites ≡ program_with ds own (names_of c.args.own.now.held.now) forms =
-      assembled ds own (names_of c.args.own.now.held.now) forms (names_of tables.globals.names) (names_of tables.symbols.names)
-      (both_named (globals_of_each ds) (globals_in_each own forms) c.new-tables.ensures.globals c.in_ok-name_definitions.ensures.globals c.in_ok-name_each.ensures.globals)
-      (both_named (symbols_of_each ds) (symbols_in_each forms) c.new-tables.ensures.symbols c.in_ok-name_definitions.ensures.symbols c.in_ok-name_each.ensures.symbols)
-      c.symbol_list.result c.as_slice.result.now c.new-out.result.literals c.number_definitions.new.out.literals c.number_each.new.out.literals c.new-out.result.sites c.number_definitions.new.out.sites c.number_each.new.out.sites
-      c.in_ok-globals.globals c.in_ok-library.library c.in_ok-forms.forms _
-      (c.symbol_list.ensures ∙ listed.1) (c.as_slice.ensures ∙ listed.0) c.new-out.ensures.literals c.new-out.ensures.sites refl
-      c.in_ok-library.ensures.made c.in_ok-library.ensures.sites c.in_ok-library.ensures.literals c.in_ok-forms.ensures.made c.in_ok-forms.ensures.sites c.in_ok-forms.ensures.literals c.in_ok-globals.ensures in
+    assembled ds own (names_of c.args.own.now.held.now) forms (names_of tables.globals.names) (names_of tables.symbols.names)
+    (both_named (globals_of_each ds) (globals_in_each own forms) c.new-tables.ensures.globals c.in_ok-name_definitions.ensures.globals c.in_ok-name_each.ensures.globals)
+    (both_named (symbols_of_each ds) (symbols_in_each forms) c.new-tables.ensures.symbols c.in_ok-name_definitions.ensures.symbols c.in_ok-name_each.ensures.symbols)
+    c.symbol_list.result c.as_slice.result.now c.new-out.result.literals c.number_definitions.new.out.literals c.number_each.new.out.literals c.new-out.result.sites c.number_definitions.new.out.sites c.number_each.new.out.sites
+    c.in_ok-globals.globals c.in_ok-library.library c.in_ok-forms.forms _
+    (c.symbol_list.ensures ∙ listed.1) (c.as_slice.ensures ∙ listed.0) c.new-out.ensures.literals c.new-out.ensures.sites refl
+    c.in_ok-library.ensures.made c.in_ok-library.ensures.sites c.in_ok-library.ensures.literals c.in_ok-forms.ensures.made c.in_ok-forms.ensures.sites c.in_ok-forms.ensures.literals c.in_ok-globals.ensures in
     let valid : is_valid (program_with ds own (names_of c.args.own.now.held.now) forms) ≡ true = c.requires.valid (program_ranged ds own (names_of c.args.own.now.held.now) forms c.in_ok-library.ensures.constants c.in_ok-forms.ensures.constants) in
     record {
       numbered = ranged _ _ e valid;
