@@ -49,7 +49,7 @@ module _ (ds : List code.Definition) (i : ℕ) where
         s ++ map f (quotes_of_each (definitions_of (drop i ds))) ≡ r → s' ++ map f (quotes_of_each (definitions_of (drop (i + 1) ds))) ≡ r
     next_quotes f s s' r h k =
         let k' = rw next_definition at k in
-        rw add-one (sym (then_literals f (quotes_in (draft_of d.body)) (quotes_of_each (definitions_of (drop (suc i) ds))) s h refl) ∙ k')
+        rw add-one (then_literals f (quotes_in (draft_of d.body)) (quotes_of_each (definitions_of (drop (suc i) ds))) s h refl ∙ k')
 
     pub next_bodies : HasConstants (draft_of d.body) → (BodiesHaveConstants (definitions_of (drop i ds)) → BodiesHaveConstants (definitions_of ds)) → BodiesHaveConstants (definitions_of (drop (i + 1) ds)) → BodiesHaveConstants (definitions_of ds)
     next_bodies h before rest =

@@ -5,3 +5,4 @@ pub mod ProgramConstants
 pub mod KeepSteps
 pub mod ProgramMade
 pub mod DefinitionSteps
+mod Examples

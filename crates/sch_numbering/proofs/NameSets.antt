@@ -1,5 +1,5 @@
 -- Which names are among some, whatever their order; and that no more counts for what is kept.
-use Rattle.std.proofs.Common.{◌≡◌, ℕ, suc, Bool, cond, true, false, ◌||◌, ◌&&◌, List, [], ◌∷◌, ◌++◌, map, refl, sym, ap, subst, ◌∙◌, arith}
+use Rattle.std.proofs.Common.{◌≡◌, ℕ, zero, suc, Bool, cond, true, false, ◌||◌, ◌&&◌, List, [], ◌∷◌, ◌++◌, map, refl, sym, ap, subst, ◌∙◌, arith}
 use Rattle.std.specs.Str.{bytes_eq}
 use Rattle.std.proofs.lemmas.Slice.Eq.{bytes_eq-Decides}
 use Rattle.sch_names.specs.Scope.{is_among}
@@ -100,18 +100,18 @@ among_held x ds (y ∷ own) = go (is_among y (seen ds)) (bytes_eq x y) refl refl
 
 -- ## What is kept
 
-pub kept_same : (ds : List Definition) (n m : List (List ℕ)) → ((x : List ℕ) → is_among x n ≡ is_among x m) → kept ds n ≡ kept ds m
+pub kept_same : (ds : List Definition) (n m : List (List ℕ)) → ((x : List ℕ) → is_among (library_global x) n ≡ is_among (library_global x) m) → kept ds n ≡ kept ds m
 kept_same [] n m h = refl
 kept_same (d ∷ ds) n m h =
     let k = kept_same ds n m h in
     let x = library_global d.name in
     let b : is_among x (n ++ globals_of_each (kept ds n)) ≡ is_among x (m ++ globals_of_each (kept ds m)) =
-        among_append x n (globals_of_each (kept ds n)) ∙ ap (λ b. b || is_among x (globals_of_each (kept ds n))) (h x) ∙ ap (λ l. is_among x m || is_among x (globals_of_each l)) k ∙ sym (among_append x m (globals_of_each (kept ds m))) in
+    among_append x n (globals_of_each (kept ds n)) ∙ ap (λ b. b || is_among x (globals_of_each (kept ds n))) (h d.name) ∙ ap (λ l. is_among x m || is_among x (globals_of_each l)) k ∙ sym (among_append x m (globals_of_each (kept ds m))) in
     ap (λ b. with_definition b d (kept ds n)) b ∙ ap (with_definition (is_among x (m ++ globals_of_each (kept ds m))) d) k
 
 start_same : (ds : List Definition) (n m : List (List ℕ)) → ((x : List ℕ) → is_among x n ≡ is_among x m) → (g : List ℕ) → starts_with ds n g ≡ starts_with ds m g
 start_same ds n m h [] = refl
-start_same ds n m h (0 ∷ x) = rw (h x) refl
+start_same ds n m h (zero ∷ x) = rw (h x) refl
 start_same ds n m h (suc mark ∷ x) = refl
 
 pub starts_same : (ds : List Definition) (n m : List (List ℕ)) → ((x : List ℕ) → is_among x n ≡ is_among x m) → (gs : List (List ℕ)) → starts ds n gs ≡ starts ds m gs

@@ -1,8 +1,7 @@
 -- The steps of the walk that numbers drafts, over plain values.
-use Rattle.std.proofs.Common.{◌≡◌, ◌<◌, ◌≤◌, ℕ, suc, ◌+◌, Bool, List, [], ◌∷◌, ◌++◌, length, drop, get_or, map, Option, None, Some, refl, sym, ap, subst, ◌∙◌, add-one, arith, append_assoc, length-append}
+use Rattle.std.proofs.Common.{◌≡◌, ◌<◌, ◌≤◌, ℕ, zero, suc, ◌+◌, Bool, List, [], ◌∷◌, ◌++◌, length, drop, get_or, map, Option, None, Some, refl, sym, ap, subst, ◌∙◌, add-one, arith, append_assoc, length-append}
 use Rattle.std.proofs.lemmas.List.{map-append, length-map}
 use Rattle.std.specs.Borrow.{Bor}
-use Rattle.std.specs.Prelude.{slice_get}
 use Rattle.sch_names.specs.ScopeView.{one_name, given_names}
 use Rattle.sch_word.specs.declared.primitive.Primitive.{Primitive}
 use Rattle.sch_word.specs.declared.literal.Lit.{Lit}
@@ -26,8 +25,8 @@ use Rattle.sch_numbers.proofs.DraftLists.{next_draft, no_draft}
 
 -- ## How many there are
 
-pub sites_more : (s : List ℕ) {s' w : List ℕ} → s' ≡ s ++ w → length s' ≡ length s + length w
-sites_more s {w = w} h = ap length h ∙ length-append s w
+pub sites_more : (s w : List ℕ) {s' : List ℕ} → s' ≡ s ++ w → length s' ≡ length s + length w
+sites_more s w h = ap length h ∙ length-append s w
 
 pub literals_more : (f : Datum → Literal) (l : List Lit) (l' : List Lit) (qs : List Datum) → map literal l' ≡ map literal l ++ map f qs → length l' ≡ length l + length qs
 literals_more f l l' qs h =
@@ -35,11 +34,11 @@ literals_more f l l' qs h =
 
 -- ## Two and three parts
 
-pub then_sites : (s : List ℕ) {s1 s2 v w : List ℕ} → s1 ≡ s ++ v → s2 ≡ s1 ++ w → s2 ≡ s ++ (v ++ w)
-then_sites s {v = v} {w} p q = q ∙ ap (λ l. l ++ w) p ∙ append_assoc s v w
+pub then_sites : (s v w : List ℕ) {s1 s2 : List ℕ} → s1 ≡ s ++ v → s2 ≡ s1 ++ w → s2 ≡ s ++ (v ++ w)
+then_sites s v w p q = q ∙ ap (λ l. l ++ w) p ∙ append_assoc s v w
 
 pub then_literals : (f : Datum → Literal) (xs bs : List Datum) (s : List Literal) {s1 s2 : List Literal} → s1 ≡ s ++ map f xs → s2 ≡ s1 ++ map f bs → s2 ≡ s ++ map f (xs ++ bs)
-then_literals f xs bs s p q = q ∙ ap (λ l. l ++ map f bs) p ∙ append_assoc s (map f xs) (map f bs) ∙ ap (λ l. s ++ l) (sym (map-append xs bs f))
+then_literals f xs bs s p q = q ∙ ap (λ l. l ++ map f bs) p ∙ append_assoc s (map f xs) (map f bs) ∙ ap (λ l. s ++ l) (sym (map-append f xs bs))
 
 -- ## Expressions: from a site and a literal on
 
@@ -70,20 +69,23 @@ module _ (own globals symbols : List (List ℕ)) (v : Option (List ℕ)) {d : Dr
 
 module _ {d : Draft} (s : List ℕ) {s1 s2 s3 : List ℕ} where
   pub branch_sites : {a b c : Draft} → d ≡ branch a b c → s1 ≡ s ++ widths a → s2 ≡ s1 ++ widths b → s3 ≡ s2 ++ widths c → s3 ≡ s ++ widths d
-  branch_sites {a} {b} {c} h p q r = rw h (then_sites s p (then_sites s1 q r))
+  branch_sites {a} {b} {c} h p q r = rw h (then_sites s (widths a) (widths b ++ widths c) p (then_sites s1 (widths b) (widths c) q r))
 
   pub bind_sites : {vs : Names} {es : Drafts} {e : Draft} {n : ℕ} → d ≡ bind vs es e → n ≡ count es → s1 ≡ s ++ n ∷ [] → s2 ≡ s1 ++ widths_of_each es → s3 ≡ s2 ++ widths e → s3 ≡ s ++ widths d
-  bind_sites {es = es} {e} h w p q r = rw h (subst (λ n. s3 ≡ s ++ n ∷ (widths_of_each es ++ widths e)) w (then_sites s p (then_sites s1 q r)))
+  bind_sites {es = es} {e} {n} h w p q r =
+      rw h (subst (λ n. s3 ≡ s ++ n ∷ (widths_of_each es ++ widths e)) w (then_sites s (n ∷ []) (widths_of_each es ++ widths e) p (then_sites s1 (widths_of_each es) (widths e) q r)))
 
   pub letrec_sites : {vs : Names} {g group : Bool} {es : Drafts} {e : Draft} {n : ℕ} → d ≡ letrec vs g es e → group ≡ is_group g es e → n ≡ count es → s1 ≡ s ++ unless_group group n → s2 ≡ s1 ++ widths_of_each es →
       s3 ≡ s2 ++ widths e → s3 ≡ s ++ widths d
-  letrec_sites h w k p q r = rw (h, sym w, sym k) (then_sites s p (then_sites s1 q r))
+  letrec_sites {group = group} {es} {e} {n} h w k p q r =
+      rw (h, sym w, sym k) (then_sites s (unless_group group n) (widths_of_each es ++ widths e) p (then_sites s1 (widths_of_each es) (widths e) q r))
 
   pub call_sites : {f : Draft} {es : Drafts} {n : ℕ} → d ≡ call f es → n ≡ count es → s1 ≡ s ++ suc n ∷ [] → s2 ≡ s1 ++ widths f → s3 ≡ s2 ++ widths_of_each es → s3 ≡ s ++ widths d
-  call_sites {f} {es} h w p q r = rw h (subst (λ n. s3 ≡ s ++ suc n ∷ (widths f ++ widths_of_each es)) w (then_sites s p (then_sites s1 q r)))
+  call_sites {f} {es} {n} h w p q r =
+      rw h (subst (λ n. s3 ≡ s ++ suc n ∷ (widths f ++ widths_of_each es)) w (then_sites s (suc n ∷ []) (widths f ++ widths_of_each es) p (then_sites s1 (widths f) (widths_of_each es) q r)))
 
-  pub operation_sites : {p : Primitive} {es : Drafts} {n : ℕ} → d ≡ operation p es → n ≡ count es → s1 ≡ s ++ n ∷ [] → s2 ≡ s1 ++ widths_of_each es → s2 ≡ s ++ widths d
-  operation_sites {es = es} h w p q = rw h (subst (λ n. s2 ≡ s ++ n ∷ widths_of_each es) w (then_sites s p q))
+pub operation_sites : {d : Draft} (s : List ℕ) {s1 s2 : List ℕ} {p : Primitive} {es : Drafts} {n : ℕ} → d ≡ operation p es → n ≡ count es → s1 ≡ s ++ n ∷ [] → s2 ≡ s1 ++ widths_of_each es → s2 ≡ s ++ widths d
+operation_sites s {s2 = s2} {es = es} {n} h w p q = rw h (subst (λ n. s2 ≡ s ++ n ∷ widths_of_each es) w (then_sites s (n ∷ []) (widths_of_each es) p q))
 
 -- ## Literals
 
@@ -102,14 +104,21 @@ module _ (f : Datum → Literal) {d : Draft} (s : List Literal) {s1 s2 s3 : List
 
 -- ## Names
 
-pub found_name : (names : List (Option (Bor (List ℕ)))) (at : ℕ) (v : Option (Bor (List ℕ))) → slice_get names at ≡ Some v → one_name v ≡ first_of (drop at (given_names names))
-found_name [] at v h = cc
-found_name (w ∷ ws) 0 v h = ap (λ o. one_name (option_or o v)) (sym h)
-  where
-    option_or : Option (Option (Bor (List ℕ))) → Option (Bor (List ℕ)) → Option (Bor (List ℕ))
-    option_or None v = v
-    option_or (Some w) v = w
-found_name (w ∷ ws) (suc n) v h = found_name ws n v h
+pub found_name : (names : List (Option (Bor (List ℕ)))) (at : ℕ) (v : Option (Bor (List ℕ))) → at < length names → v ≡ get_or names at v → one_name v ≡ first_of (drop at (given_names names))
+found_name [] at v l h = absurd (omega (arith, l))
+found_name (w ∷ ws) zero v l h = ap one_name h
+found_name (w ∷ ws) (suc n) v l h = found_name ws n v (omega (arith, l)) h
+
+pub name_is : (names : List (Option (Bor (List ℕ)))) {v : Option (List ℕ)} {at i : ℕ} → v ≡ first_of (drop at (given_names names)) → at ≡ i → v ≡ first_of (drop i (given_names names))
+name_is names h e = h ∙ ap (λ n. first_of (drop n (given_names names))) e
+
+-- ## Groups
+
+pub group_is : (p : Bool) {group : Bool} {xs ys es : List code.Draft} {x y e : code.Draft} → group ≡ is_group p (drafts_of xs) (draft_of x) → xs ≡ es → ys ≡ es → x ≡ e → y ≡ e → group ≡ is_group p (drafts_of ys) (draft_of y)
+group_is p h k l m n = rw (l, n, sym k, sym m) h
+
+pub unless_is : (group : Bool) (s : List ℕ) {n m : ℕ} {s' : List ℕ} → n ≡ m → s' ≡ s ++ unless_group group n → s' ≡ s ++ unless_group group m
+unless_is group s h k = rw (sym h) k
 
 -- ## One draft after another
 
@@ -127,8 +136,8 @@ onto_more [] e rest = refl
 onto_more (a ∷ es) e rest = ap (and_expression a) (onto_more es e rest)
 
 others_at : (n : ℕ) (vs : Names) → others_of (drop n vs) ≡ drop (suc n) vs
-others_at 0 [] = refl
-others_at 0 (v ∷ vs) = refl
+others_at zero [] = refl
+others_at zero (v ∷ vs) = refl
 others_at (suc n) [] = refl
 others_at (suc n) (v ∷ vs) = others_at n vs
 
@@ -157,7 +166,7 @@ pub next_literals : (f : Datum → Literal) (es : List code.Draft) (i : ℕ) (e 
     s ++ map f (quotes_in_each (drafts_of (drop i es))) ≡ r → s' ++ map f (quotes_in_each (drafts_of (drop (i + 1) es))) ≡ r
 next_literals f es i e s s' r l is h k =
     let k' = rw (next_draft es i e l is) at k in
-    rw add-one (sym (then_literals f (quotes_in (draft_of e)) (quotes_in_each (drafts_of (drop (suc i) es))) s h refl) ∙ k')
+    rw add-one (then_literals f (quotes_in (draft_of e)) (quotes_in_each (drafts_of (drop (suc i) es))) s h refl ∙ k')
 
 pub next_constants : (es : List code.Draft) (i : ℕ) (e : code.Draft) → i < length es → e ≡ get_or es i e → HasConstants (draft_of e) →
     (HaveConstants (drafts_of (drop i es)) → HaveConstants (drafts_of es)) → HaveConstants (drafts_of (drop (i + 1) es)) → HaveConstants (drafts_of es)

@@ -1,9 +1,10 @@
 //! Which definitions of a library a text keeps.
 
-ghost use Rattle.std.specs.Prelude.{◌≡◌, ◌++◌, ◌&&◌, not, cond, List, ℕ, map, IfOk, OnOk};
+ghost use Rattle.std.specs.Prelude.{◌≡◌, ◌++◌, ◌∷◌, [], ◌&&◌, not, cond, List, ℕ, map, IfOk, OnOk};
 ghost use Rattle.sch_names.specs.Scope.{is_among};
 ghost use Rattle.sch_names.specs.NamesView.{names_of, with_name};
-ghost use Rattle.sch_numbers.specs.Named.{library_global};
+ghost use Rattle.sch_sketch.specs.DraftView.{draft_of};
+ghost use Rattle.sch_numbers.specs.Named.{firsts, globals_in, library_global};
 ghost use Rattle.sch_numbers.specs.Programs as words;
 ghost use Rattle.sch_numbering.specs.Definitions.{definitions_of};
 
@@ -37,11 +38,7 @@ fn hold(alloc: Global, x: &[u8], own: &Names, names: &mut Names) -> Result<(), M
 }
 
 /// The names among a text's own that the library shows too.
-pub(crate) fn held(
-    alloc: Global,
-    definitions: &[Definition<'_>],
-    own: &Names,
-) -> Result<Names, Mem>
+pub(crate) fn held(alloc: Global, definitions: &[Definition<'_>], own: &Names) -> Result<Names, Mem>
     ensures { IfOk result (λ names. (x : List ℕ) → is_among x (names_of names) ≡ is_among x (words.held (definitions_of definitions.now) (names_of own.now))) }
 {
     let mut names = Names::new(alloc);
@@ -63,8 +60,27 @@ fn is_named(alloc: Global, x: &[u8], held: &Names, named: &Names) -> Result<bool
     Ok(named.contains(key.as_slice()))
 }
 
+/// Keeps a definition, if it is named or held. Then what it names is added to the table.
+fn keep<'a>(
+    alloc: Global,
+    d: Definition<'a>,
+    held: &Names,
+    named: &mut Tables,
+    all: &mut List<Definition<'a>>,
+) -> Result<(), Mem>
+    ensures list { OnOk result (all.new ≡ cond (is_among (library_global d.entry.name.now) (names_of named.old.globals.names ++ map library_global (names_of held.now))) (all.old ++ d.entry ∷ []) all.old) }
+    ensures names { OnOk result (names_of named.new.globals.names ≡ cond (is_among (library_global d.entry.name.now) (names_of named.old.globals.names ++ map library_global (names_of held.now))) (firsts (names_of named.old.globals.names) (globals_in [] (draft_of d.entry.body))) (names_of named.old.globals.names)) }
+{
+    if is_named(alloc, d.name, held, &named.globals.names)? {
+        let none = Names::new(alloc);
+        name_draft(alloc, &none, &d.body, named)?;
+        all.push(d)?;
+    }
+    Ok(())
+}
+
 /// The definitions that are kept, in the order of the library: those that are named or held, and those that
-/// a later kept one names. What they name is added to the table.
+/// a later kept one names.
 pub(crate) fn kept<'a>(
     alloc: Global,
     definitions: List<Definition<'a>>,
@@ -73,15 +89,12 @@ pub(crate) fn kept<'a>(
 ) -> Result<List<Definition<'a>>, Mem>
     ensures { IfOk result (λ ds. definitions_of ds ≡ words.kept (definitions_of definitions.entry) (names_of named.old.globals.names ++ map library_global (names_of held.now))) }
 {
-    let none = Names::new(alloc);
     let mut left = definitions;
-    let mut all = Vec::new(alloc);
+    let mut all = List::new(alloc);
     while let Some(d) = left.pop() {
-        if is_named(alloc, d.name, held, &named.globals.names)? {
-            name_draft(alloc, &none, &d.body, named)?;
-            all.push(d)?;
-        }
+        keep(alloc, d, held, named, &mut all)?;
     }
-    all.reverse();
-    Ok(List::from_vec(all))
+    let mut items = all.into_vec();
+    items.reverse();
+    Ok(List::from_vec(items))
 }

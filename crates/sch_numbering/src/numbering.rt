@@ -172,7 +172,8 @@ pub fn number_each(
         let v = name_at(names, at);
         let made = number(alloc, tables, v, e, out)?;
         all.push(made)?;
-        at = further(at, 1)?;
+        let next = further(at, 1)?;
+        at = next;
     }
     Ok(all)
 }

@@ -153,7 +153,7 @@ pub fn assemble(
     own: &Names,
     forms: &[Draft<'_>],
 ) -> Result<Program, Mem>
-    requires valid { IsValidOnceRanged (program_of (definitions_of definitions.entry) (names_of own.now) (drafts_of forms.now)) }
+    requires valid { IsValidOnceRanged (program_of (definitions_of definitions) (names_of own.now) (drafts_of forms.now)) }
     ensures { IfOk result (λ p. source p ≡ program_of (definitions_of definitions.entry) (names_of own.now) (drafts_of forms.now)) }
 {
     let mut named = Tables::new(alloc);
@@ -164,5 +164,6 @@ pub fn assemble(
         names: own,
         held: &held,
     };
-    program_with(alloc, kept.as_slice(), &own, forms)
+    let p = program_with(alloc, kept.as_slice(), &own, forms)?;
+    Ok(p)
 }

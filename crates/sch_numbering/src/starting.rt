@@ -22,17 +22,14 @@ fn procedure_number(definitions: &[Definition<'_>], x: &[u8]) -> Result<u32, Mem
         if x == d.name {
             return number_of_32(n);
         }
-        n = further(n, 1)?;
+        let next = further(n, 1)?;
+        n = next;
     }
     number_of_32(n)
 }
 
 /// What a global holds at the start: the library's procedure of its name, if it is the library's or holds it.
-fn start_of(
-    definitions: &[Definition<'_>],
-    held: &Names,
-    global: &[u8],
-) -> Result<Option<u32>, Mem>
+fn start_of(definitions: &[Definition<'_>], held: &Names, global: &[u8]) -> Result<Option<u32>, Mem>
     ensures { IfOk result (λ start. start ≡ words.starts_with (definitions_of definitions.now) (names_of held.now) global.now) }
 {
     let [mark, x @ ..] = global else {

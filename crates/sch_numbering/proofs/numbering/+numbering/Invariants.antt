@@ -15,11 +15,11 @@ abbrev pub invariant-number_each-loop-e : goal.invariant-number_each-loop-e
 invariant-number_each-loop-e l = record {
   place : l.at ≡ l.e-index;
   made :
-    onto (map expression l.all) (numbered_each (names_of l.tables.own.now) (names_of l.tables.globals.now) (names_of l.tables.symbols.now) (drop l.e-index (given_names l.names)) (drafts_of (drop l.e-index l.es)) (length l.out.sites) (length l.out.literals))
-    ≡ numbered_each (names_of l.tables.own.now) (names_of l.tables.globals.now) (names_of l.tables.symbols.now) (given_names l.names) (drafts_of l.es) (length l.initial.out.sites) (length l.initial.out.literals);
+      onto (map expression l.all) (numbered_each (names_of l.tables.own.now) (names_of l.tables.globals.now) (names_of l.tables.symbols.now) (drop l.e-index (given_names l.names)) (drafts_of (drop l.e-index l.es)) (length l.out.sites) (length l.out.literals))
+      ≡ numbered_each (names_of l.tables.own.now) (names_of l.tables.globals.now) (names_of l.tables.symbols.now) (given_names l.names) (drafts_of l.es) (length l.initial.out.sites) (length l.initial.out.literals);
   sites : l.out.sites ++ widths_of_each (drafts_of (drop l.e-index l.es)) ≡ l.initial.out.sites ++ widths_of_each (drafts_of l.es);
   literals :
-    map literal l.out.literals ++ map (literal_of (names_of l.tables.symbols.now)) (quotes_in_each (drafts_of (drop l.e-index l.es)))
-    ≡ map literal l.initial.out.literals ++ map (literal_of (names_of l.tables.symbols.now)) (quotes_in_each (drafts_of l.es));
+      map literal l.out.literals ++ map (literal_of (names_of l.tables.symbols.now)) (quotes_in_each (drafts_of (drop l.e-index l.es)))
+      ≡ map literal l.initial.out.literals ++ map (literal_of (names_of l.tables.symbols.now)) (quotes_in_each (drafts_of l.es));
   constants : HaveConstants (drafts_of (drop l.e-index l.es)) → HaveConstants (drafts_of l.es);
 }
