@@ -1,5 +1,6 @@
 pub mod Bytes
 pub mod Nesting
+pub mod ExcessSteps
 pub mod Numberless
 pub mod TextSizes
 pub mod ValidTexts

@@ -23,9 +23,9 @@ use Rattle.sch_binders.specs.Assignments as table
 use Rattle.sch_binders.specs.Assignments.{row_define, keyword_at, aimed_name}
 use Rattle.sch_expansion.specs.Expands.{Expands, PartsExpand}
 use Rattle.sch_expansion.specs.Expands as ex
-use Rattle.sch_numbers.specs.Named.{firsts}
+use Rattle.sch_numbers.specs.Named.{firsts, globals_in_each, symbols_in_each}
 use Rattle.sch_numbers.specs.Numbered.{numbered, numbered_each}
-use Rattle.sch_numbers.specs.Programs.{Definition, is_hidden, seen, names_of_each, with_definition, kept, named, procedures, program_of}
+use Rattle.sch_numbers.specs.Programs.{Definition, is_hidden, seen, names_of_each, globals_of_each, symbols_of_each, with_definition, kept, named, procedures, program_of}
 use Rattle.sch_validity.specs.Few.{IsFew, LambdasAreFew, FormsAreFew}
 use Rattle.sch_validity.specs.Forms.{Form, expression, definition, sketch_of, IsBound, AreDefined, HasNames, AreOfData, form_weight, forms_weight}
 use Rattle.sch_validity.specs.Forms as valid
@@ -327,4 +327,4 @@ module _ (ds : List Definition) (items : Data) (assigned : List (List ℕ)) (es 
       let forms = forms_are g (forms_in items) true es expands (right g.bound (seen ds) (defined items) (all_among (seen ds ++ defined items) [])) in
       let words = forms_constants g fs es forms.0 (data_quotable items quotable) in
       valid_text ds g own fs es definitions ordered forms.0 forms.1 (names_there ds items assigned) words.0 words.1 (omega (arith, small, data_weigh items))
-      (library_few _ _ (kept ds (named ds own es)) 0 0 (kept_few ds (named ds own es) library), forms_few (form_places items) (program_of ds own es).forms places fits)
+      (library_few (firsts [] (globals_of_each (kept ds (named ds own es)) ++ globals_in_each own es)) (firsts [] (symbols_of_each (kept ds (named ds own es)) ++ symbols_in_each es)) (kept ds (named ds own es)) 0 0 (kept_few ds (named ds own es) library), forms_few (form_places items) (program_of ds own es).forms places fits)

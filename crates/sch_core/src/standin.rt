@@ -52,7 +52,7 @@ pub fn assemble(
     forms: &[Draft<'_>],
 ) -> Result<Program, Mem>
     requires valid { IsValidOnceRanged (program_of (definitions_of definitions) (names_of own.now) (drafts_of forms.now)) }
-    ensures { IfOk result (λ p. source p ≡ program_of (definitions_of definitions) (names_of own.now) (drafts_of forms.now)) }
+    ensures { IfOk result (λ p. source p ≡ program_of (definitions_of definitions.entry) (names_of own.now) (drafts_of forms.now)) }
 {
     Err(Mem)
 }
