@@ -44,7 +44,7 @@ use Rattle.sch_word.specs.declared.stop.Stop.TheVariants.{Unset}
 
 -- ## Atoms
 
-sources_counts : (sources : List (Source Place)) → length (source_atoms sources) ≡ length sources
+pub sources_counts : (sources : List (Source Place)) → length (source_atoms sources) ≡ length sources
 sources_counts [] = refl
 sources_counts (x ∷ sources) = ap suc (sources_counts sources)
 
@@ -235,7 +235,7 @@ instruction_adds base out words heap_end n (instruction.Jump l) rest = omega ari
 instruction_adds base out words heap_end n (instruction.Label l) rest = omega arith
 instruction_adds base out words heap_end n (instruction.Mark m) rest = omega arith
 
-grouped_first : (i : Instruction) (is : List Instruction) → grouped (i ∷ is) ≡ grouped (i ∷ []) + grouped is
+pub grouped_first : (i : Instruction) (is : List Instruction) → grouped (i ∷ is) ≡ grouped (i ∷ []) + grouped is
 grouped_first (instruction.Fix members) is = omega arith
 grouped_first (instruction.Do o) is = omega arith
 grouped_first (instruction.Call spread count) is = omega arith

@@ -29,14 +29,16 @@ use Rattle.sch_select.specs.Select.{put_label, globals_address, body_label, body
 use Rattle.sch_select.specs.Program.{own_label, passed_code, entry_code, forms_code, form_code, labels_end, put_value_code, program_code, program_words, program_zeros, static_bytes, closures_address, heap_of, max_stack, stack_bytes}
 use Rattle.sch_word.specs.runs.ProgramLayout.{max_text_size}
 use Rattle.sch_asm.specs.Stands.{marks_at}
+use Rattle.sch_select.specs.Ends.{EndsWithin}
+use Rattle.sch_select.specs.Sizes.{steps_bound}
 use Rattle.sch_select.specs.Marks.{PassesMarks, marks_passed}
-use Rattle.sch_select.specs.Follows.{AreRuns, FollowsFrames, PassesFrames}
+use Rattle.sch_select.specs.Follows.{AreRuns, EndsFrames, FollowsFrames, PassesFrames}
 use Rattle.sch_select.proofs.simulation.Places.{Plan, Room}
 use Rattle.sch_select.proofs.items.Appending.{Appends, then_appends, body_appends, behind}
 use Rattle.sch_select.proofs.simulation.Outcomes.{Laid}
 use Rattle.sch_select.proofs.simulation.Procedures.{bodies_cost}
 use Rattle.sch_select.proofs.programs.Starting.{parts_at_start, bytes_count, texts_there, values_there, first_is, ends_at, contents_there, new_there}
-use Rattle.sch_select.proofs.programs.Whole.{Starts, program_follows, program_passes}
+use Rattle.sch_select.proofs.programs.Whole.{Starts, program_ends, program_follows, program_passes}
 use Rattle.sch_select.proofs.programs.Selected.{fits, form_selected, selects}
 use Rattle.sch_select.specs.Covered.{marks_settled}
 
@@ -104,9 +106,10 @@ module _ (p : Source) (limit depth : ℕ) (words_few : p.words ≤ 2048) (global
     labels = λ l. let k = labels l in omega (arith, k);
   }
 
-  -- A text that the items and the routines resolve to does what the program does, and passes its marks.
+  -- A text that the items and the routines resolve to does what the program does, in few steps, and passes its marks.
   record Done (bytes : List ℕ) (code : List Insn) (marks : List mark.Mark) : Type 0 where
     follows : (runs : List Answer → ℕ → Run) → AreRuns p limit depth runs → FollowsRuns 0x400000 (text_at (flat_map spelling code) ∷ data_at (bytes ++ replicate (program_zeros p limit depth) 0) ∷ []) runs
+    ends : (runs : List Answer → ℕ → Run) → AreRuns p limit depth runs → EndsWithin 0x400000 (text_at (flat_map spelling code) ∷ data_at (bytes ++ replicate (program_zeros p limit depth) 0) ∷ []) runs (steps_bound p)
     passes : PassesMarks 0x400000 (text_at (flat_map spelling code) ∷ data_at (bytes ++ replicate (program_zeros p limit depth) 0) ∷ []) (marks_at marks) (marks_passed p limit depth)
 
   module _ (calls : Bool) (selected : selects p ≡ true) (fitting : list_all (fits calls) p.bodies ≡ true) (known : library_known (length p.library) p.statics.globals ≡ true) where
@@ -143,11 +146,15 @@ module _ (p : Source) (limit depth : ℕ) (words_few : p.words ≤ 2048) (global
         subst (λ w. Done w code marks) (sym r.bytes)
         (record {
           follows = program_follows plan (bodies_cost p.bodies) laid depth room calls p limit parts (bytes_at r.place_of) (item.Label put_label ∷ put_value_code) forms fitting (omega arith) j.first starts;
+          ends = program_ends plan (bodies_cost p.bodies) laid depth room calls p limit parts (bytes_at r.place_of) (item.Label put_label ∷ put_value_code) forms fitting (omega arith) j.first starts refl;
           passes = program_passes plan (bodies_cost p.bodies) laid depth room calls p limit parts (bytes_at r.place_of) (item.Label put_label ∷ put_value_code) forms fitting (omega arith) j.first starts;
         })
 
     pub frames_follow : FollowsFrames p limit depth (program_code p limit depth) (program_words p) (program_zeros p limit depth)
     frames_follow = record { follows = λ routines code marks words effective arrive arrive' r valid small. (done routines code marks words effective arrive arrive' r valid small).follows }
+
+    pub frames_end : EndsFrames p limit depth (program_code p limit depth) (program_words p) (program_zeros p limit depth)
+    frames_end = record { ends = λ routines code marks words effective arrive arrive' r valid small. (done routines code marks words effective arrive arrive' r valid small).ends }
 
     pub frames_pass : PassesFrames p limit depth (program_code p limit depth) (program_words p) (program_zeros p limit depth)
     frames_pass = record { passes = λ routines code marks words effective arrive arrive' r valid small. (done routines code marks words effective arrive arrive' r valid small).passes }

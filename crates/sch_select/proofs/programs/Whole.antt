@@ -1,5 +1,5 @@
 -- A whole program follows its runs.
-use Rattle.std.proofs.Common.{◌≡◌, ℕ, zero, suc, ◌+◌, ◌*◌, ◌≤◌, List, [], ◌∷◌, ◌++◌, length, map, take, drop, Bool, true, Option, Some, None, refl, sym, ap, ◌∙◌, subst, arith, append-nil, inl, inr}
+use Rattle.std.proofs.Common.{◌≡◌, ℕ, zero, suc, ◌+◌, ◌-◌, ◌*◌, ◌≤◌, List, [], ◌∷◌, ◌++◌, length, map, take, drop, Bool, true, Option, Some, None, refl, sym, ap, ◌∙◌, subst, arith, append-nil, inl, inr}
 use Rattle.std.specs.Prelude.{pos, slice_get}
 use Rattle.std.specs.List.{flat_map, list_all}
 use Rattle.sch_word.specs.declared.answer.Answer.{Answer}
@@ -14,11 +14,12 @@ use Rattle.sch_control.specs.declared.body.Entry.{Entry}
 use Rattle.sch_frames.specs.Tree.{Code, Source}
 use Rattle.sch_frames.specs.Run.{bodies_of, entries_of}
 use Rattle.sch_insn.specs.declared.insn.Insn.TheVariants.{MovWord}
-use Rattle.sch_insn.specs.Behaves.{Given, start, FollowsRuns}
+use Rattle.sch_insn.specs.Behaves.{Given, exit_of, start, FollowsRuns}
+use Rattle.sch_insn.specs.Step.{go_on, mach}
 use Rattle.sch_insn.specs.Machine.{set_register}
 use Rattle.sch_insn.specs.Path.{Does, Exits, passed}
 use Rattle.sch_insn.proofs.Clauses.{follows}
-use Rattle.sch_insn.proofs.Paths.{leads_on, leads_then}
+use Rattle.sch_insn.proofs.Paths.{leads_on, leads_then, path_mach}
 use Rattle.sch_asm.specs.declared.item.Item.{Item}
 use Rattle.sch_asm.specs.declared.item.Item.TheVariants as item
 use Rattle.sch_asm.specs.declared.routine.Routine.TheVariants as routine
@@ -34,6 +35,9 @@ use Rattle.sch_select.specs.Select.{global_address}
 use Rattle.sch_select.specs.Program.{own_label, forms_code}
 use Rattle.sch_control.specs.declared.mark.MarkKind as control
 use Rattle.sch_select.specs.Select.{kind_of}
+use Rattle.sch_select.specs.Ends.{EndsWithin}
+use Rattle.sch_select.specs.Sizes.{steps_bound}
+use Rattle.sch_select.proofs.programs.Steps.{steps_within}
 use Rattle.sch_select.specs.Marks.{PassesMarks, marks_of, marks_passed}
 use Rattle.sch_select.specs.Follows.{AreRuns}
 use Rattle.sch_select.proofs.programs.Passing.{Passes, traces}
@@ -86,6 +90,38 @@ module _ (plan : Plan) (body_steps : ℕ) (laid : Laid plan body_steps) (depth :
       let q = leads_then setting.marks l s.leads in
       subst (λ r. Does (full setting x) n r.end r.output) same
       (record { way = q.way; last = full setting s.last; path = q.path; long = (let a = q.at_least in let b = s.long in omega (arith, a, b, e)); output_is = s.output_is })
+
+  -- from a result to how many steps there are
+  exits_by : (t : Store) (x z : View) (c status m : ℕ) (w : World) → Leads setting 3 3 [] x z → (e : Ends plan body_steps [] t z c status w) → 3 + e.steps + 1 ≤ m → exit_of (mach m (full setting x)) ≡ Some (status, w.state.store.output)
+  exits_by t x z c status m w p e le =
+      let q = leads_then setting.marks p e.leads in
+      let most = q.at_most in
+      let j = m - suc (length q.way) in
+      let split : m ≡ length q.way + suc j = omega (arith, most, le) in
+      ap (λ k. exit_of (mach k (full setting x))) split ∙ ap exit_of (path_mach (full setting x) q.way (full setting e.last) q.path (suc j))
+      ∙ ap (λ u. exit_of (go_on u (mach j))) e.exits ∙ ap (λ o. Some (status, o)) e.output_is
+
+  ended_does : (p : Source) (n : ℕ) → bodies_cost p.bodies ≡ body_steps → (t : Store) (x z : View) (answers : List Answer) (k : ℕ) (w : World) (r : Run) → t.entries ≡ n → t.answers ≡ answers → Leads setting 3 3 [] x z → Ends plan body_steps [] t z (forms_cost p.bodies) k w → Some (run_with (ended k) answers n w.state.store) ≡ Some r
+      → (status : ℕ) → r.end ≡ ended status → exit_of (mach (steps_bound p r.entries r.answers) (full setting x)) ≡ Some (status, r.output)
+  ended_does p n all t x z answers k w r e i l s h status q =
+      let same : run_with (ended k) answers n w.state.store ≡ r = cc in
+      let left = length w.state.store.answers in
+      let cost = s.cost in let a = ap length i in
+      let b1 = ap (λ b. b * t.entries) all in let b2 = ap (λ b. b * w.state.store.entries) all in let b3 = ap (λ k. bodies_cost p.bodies * k) e in
+      let le : 3 + s.steps + 1 ≤ steps_bound p (n - w.state.store.entries) (length answers - left) = steps_within p s.steps n w.state.store.entries (length answers) left (omega (arith, cost, a, b1, b2, b3)) in
+      let m = steps_bound p (n - w.state.store.entries) (length answers - left) in
+      subst (λ r. (status : ℕ) → r.end ≡ ended status → exit_of (mach (steps_bound p r.entries r.answers) (full setting x)) ≡ Some (status, r.output)) same
+      (λ status q. let is : k ≡ status = cc in subst (λ j. exit_of (mach m (full setting x)) ≡ Some (j, w.state.store.output)) is (exits_by t x z (forms_cost p.bodies) k m w l s le)) status q
+
+  ends_does : (p : Source) (n : ℕ) (callee : Callee) (enters : calls ≡ true → Enters plan body_steps callee n) → bodies_cost p.bodies ≡ body_steps → (t : Store) (x z : View) (answers : List Answer) (result : Result) (r : Run) → t.entries ≡ n → t.answers ≡ answers → Leads setting 3 3 [] x z → Owed plan body_steps laid depth room calls n p.bodies callee enters [] t z (forms_cost p.bodies) result → seen_of answers n result ≡ Some r
+      → (status : ℕ) → r.end ≡ ended status → exit_of (mach (steps_bound p r.entries r.answers) (full setting x)) ≡ Some (status, r.output)
+  ends_does p n callee enters all t x z answers None r e i l s h status q = absurd (let bad : None ≡ Some r = h in cc)
+  ends_does p n callee enters all t x z answers (Some (gives v w)) r e i l s h status q = ended_does p n all t x z answers 0 w r e i l s h status q
+  ends_does p n callee enters all t x z answers (Some (stops why w)) r e i l s h status q = ended_does p n all t x z answers (status_of why) w r e i l s h status q
+  ends_does p n callee enters all t x z answers (Some (spent w)) r e i l s h status q =
+      let f : Some (run_with going answers n w.state.store) ≡ Some r = h in
+      let same : run_with going answers n w.state.store ≡ r = cc in
+      absurd (let bad : going ≡ ended status = ap (λ r. r.end) same ∙ q in cc)
 
   -- from a result to the marks that are passed
   marks_exit : (t : Store) (x z : View) (c status : ℕ) (w : World) (n : ℕ) → Leads setting 3 3 [] x z → Ends plan body_steps [] t z c status w → Passes setting.marks (full setting x) n (map kind_of w.marks)
@@ -172,6 +208,12 @@ module _ (plan : Plan) (body_steps : ℕ) (laid : Laid plan body_steps) (depth :
     pub program_follows : (runs : List Answer → ℕ → Run) → AreRuns p limit depth runs → FollowsRuns 0x400000 (setting.text ∷ data_at bytes ∷ []) runs
     program_follows runs r = follows 0x400000 (setting.text ∷ data_at bytes ∷ []) runs (λ g answers n.
         seen_does p n (callee n) (enters n) (starting_store p.statics limit answers n) (first g answers) (ready g answers) (forms_cost p.bodies) answers (outcome answers n) (runs answers n) refl (gets_ready g answers) (forms_done g answers n) (r.are answers n))
+
+    pub program_ends : bodies_cost p.bodies ≡ body_steps → (runs : List Answer → ℕ → Run) → AreRuns p limit depth runs → EndsWithin 0x400000 (setting.text ∷ data_at bytes ∷ []) runs (steps_bound p)
+    program_ends all runs r = record {
+      within = λ g answers n status e.
+          ends_does p n (callee n) (enters n) all (starting_store p.statics limit answers n) (first g answers) (ready g answers) answers (outcome answers n) (runs answers n) refl refl (gets_ready g answers) (forms_done g answers n) (r.are answers n) status e;
+    }
 
     pub program_passes : PassesMarks 0x400000 (setting.text ∷ data_at bytes ∷ []) setting.marks (marks_passed p limit depth)
     program_passes = record {

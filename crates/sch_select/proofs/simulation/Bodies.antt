@@ -54,6 +54,8 @@ map_one (k ∷ ms) m = ap (λ l. kind_of k ∷ l) (map_one ms m)
 abbrev pub instruction_cost : Instruction → ℕ
 instruction_cost (Do o) = operation_cost o
 instruction_cost (Fix members) = 250 + (3 * length members + records_cost members)
+instruction_cost (Label l) = 0
+instruction_cost (Mark m) = 0
 instruction_cost _ = 250
 
 -- how many steps a body takes at most
@@ -165,9 +167,9 @@ module _ (plan : Plan) (body_steps : ℕ) (laid : Laid plan body_steps) (act : A
       go_on parts before waiting w x (record x { place = setting.place_of (base + l) }) 1 1 c (250 + c) _ (jumps setting x (base + l) rest waiting h) (λ q lo hi. refl) (omega arith)
       (K (Some l) parts (before ++ waiting) [] f w (record x { place = setting.place_of (base + l) }) (refl, refl, record { place = x.place + h.0; waiting = []; stands = h.4 }) p g a (none_waits (map kind_of w.marks) before waiting m))
   instruction_sim n (Label l) k c rest K parts before waiting f w x e e' h p g a m =
-      more parts before w x c (250 + c) _ (omega arith) (K None parts before [] f w x h.2 p g a (m ∙ ap (λ v. before ++ v) h.0))
+      more parts before w x c (0 + c) _ (omega arith) (K None parts before [] f w x h.2 p g a (m ∙ ap (λ v. before ++ v) h.0))
   instruction_sim n (Mark k') k c rest K parts before waiting f w x e e' h p g a m =
-      more parts before w x c (250 + c) _ (omega arith)
+      more parts before w x c (0 + c) _ (omega arith)
       (K None parts before (waiting ++ kind_of k' ∷ []) f (marked k' w) x h p g a (map_one w.marks k' ∙ ap (λ l. l ++ kind_of k' ∷ []) m ∙ append_assoc before waiting (kind_of k' ∷ [])))
   instruction_sim n (Load q o) k c rest K parts before waiting f w x e e' h p g a m = by (operand_value (held f) w.state.store o) (second_here plan act parts n o w.state.store.charged f w.state.store x waiting (item.Plain (MovTo (place_operand q) 1) ∷ rest) checks.1 p g.size_is h)
     where
@@ -240,13 +242,13 @@ module _ (plan : Plan) (body_steps : ℕ) (laid : Laid plan body_steps) (act : A
   passed_over : (n : ℕ) (i : Instruction) (k : More) (c : ℕ) (rest : List Item) → Cont k c rest → (l : ℕ) (parts : Parts) (before waiting : List MarkKind) (f : Frame) (w : World) (x : View) → At (Some l) waiting x (instruction_code base out words stack n i rest) → In parts f w x → Kept parts w x → Holds act.back parts f.accumulator (x.registers 0) → map kind_of w.marks ≡ before ++ waiting → Owed parts before w x (instruction_cost i + c) (k (sought l i) f w)
   passed_over n (Label j) k c rest K l parts before waiting f w x h p g a m = by (nat_eq j l) refl
     where
-      by : (b : Bool) → nat_eq j l ≡ b → Owed parts before w x (250 + c) (k (cond b None (Some l)) f w)
+      by : (b : Bool) → nat_eq j l ≡ b → Owed parts before w x (0 + c) (k (cond b None (Some l)) f w)
       by true e =
           let same : j ≡ l = eqb-true j l e in
           let s = h.2.stands in
           let at : h.2.place ≡ x.place = sym s.1 ∙ ap (λ j. setting.place_of (base + j)) same ∙ sym h.1 in
-          more parts before w x c (250 + c) _ (omega arith) (K None parts before [] f w x (subst (λ a. Here [] a rest) at s.2) p g a (m ∙ ap (λ v. before ++ v) h.0))
-      by false e = more parts before w x c (250 + c) _ (omega arith) (K (Some l) parts before waiting f w x (h.0, h.1, behind_it n (Label j) rest h.2) p g a m)
+          more parts before w x c (0 + c) _ (omega arith) (K None parts before [] f w x (subst (λ a. Here [] a rest) at s.2) p g a (m ∙ ap (λ v. before ++ v) h.0))
+      by false e = more parts before w x c (0 + c) _ (omega arith) (K (Some l) parts before waiting f w x (h.0, h.1, behind_it n (Label j) rest h.2) p g a m)
   passed_over n (Do o) k c rest K l parts before waiting f w x h p g a m = more parts before w x c (operation_cost o + c) _ (omega arith) (K (Some l) parts before waiting f w x (h.0, h.1, behind_it n (Do o) rest h.2) p g a m)
   passed_over n (Store q) k c rest K l parts before waiting f w x h p g a m = more parts before w x c (250 + c) _ (omega arith) (K (Some l) parts before waiting f w x (h.0, h.1, behind_it n (Store q) rest h.2) p g a m)
   passed_over n (Copy to from) k c rest K l parts before waiting f w x h p g a m = more parts before w x c (250 + c) _ (omega arith) (K (Some l) parts before waiting f w x (h.0, h.1, behind_it n (Copy to from) rest h.2) p g a m)
@@ -259,7 +261,7 @@ module _ (plan : Plan) (body_steps : ℕ) (laid : Laid plan body_steps) (act : A
   passed_over n End k c rest K l parts before waiting f w x h p g a m = more parts before w x c (250 + c) _ (omega arith) (K (Some l) parts before waiting f w x (h.0, h.1, behind_it n End rest h.2) p g a m)
   passed_over n (IfFalse j) k c rest K l parts before waiting f w x h p g a m = more parts before w x c (250 + c) _ (omega arith) (K (Some l) parts before waiting f w x (h.0, h.1, behind_it n (IfFalse j) rest h.2) p g a m)
   passed_over n (Jump j) k c rest K l parts before waiting f w x h p g a m = more parts before w x c (250 + c) _ (omega arith) (K (Some l) parts before waiting f w x (h.0, h.1, behind_it n (Jump j) rest h.2) p g a m)
-  passed_over n (Mark j) k c rest K l parts before waiting f w x h p g a m = more parts before w x c (250 + c) _ (omega arith) (K (Some l) parts before waiting f w x (h.0, h.1, behind_it n (Mark j) rest h.2) p g a m)
+  passed_over n (Mark j) k c rest K l parts before waiting f w x h p g a m = more parts before w x c (0 + c) _ (omega arith) (K (Some l) parts before waiting f w x (h.0, h.1, behind_it n (Mark j) rest h.2) p g a m)
 
   -- ---- a body
 
