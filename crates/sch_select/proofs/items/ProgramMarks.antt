@@ -19,7 +19,7 @@ use Rattle.sch_control.specs.declared.operation.Member.{Member}
 use Rattle.sch_control.specs.declared.operation.Operation.{Operation}
 use Rattle.sch_insn.specs.declared.insn.Insn.TheVariants.{MovTo}
 use Rattle.sch_word.specs.trees.Shape.{max_operands}
-use Rattle.sch_frames.specs.Valid.{formals_of, handed_over, is_place}
+use Rattle.sch_frames.specs.Valid.{formals_of, is_place}
 use Rattle.sch_control.specs.declared.operation.Operation.TheVariants as operation
 use Rattle.sch_frames.specs.declared.instruction.Instruction.{Instruction}
 use Rattle.sch_frames.specs.declared.instruction.Instruction.TheVariants.{Do, Store, Copy, Load, Pass, Fix, Call, Tail, Return, End, IfFalse, Jump, Label, Mark}
@@ -34,7 +34,8 @@ use Rattle.sch_select.specs.Select.{put_label, place_operand, atom_code, unary_c
 use Rattle.sch_select.specs.Program.{passed_code, entry_code, forms_code, labels_end, put_value_code, program_code, own_label, heap_of}
 use Rattle.sch_select.proofs.items.ProgramSound.{in_front}
 use Rattle.sch_select.proofs.programs.Selected.{atom_selected, read_selected, operand_selected, source_selected, closure_selected, members_selected, operation_selected, instruction_selected, form_selected, selects, takes}
-use Rattle.sch_select.specs.Covered.{marks_settled}
+use Rattle.sch_frames.specs.CallFree.{marks_settled}
+
 use Rattle.sch_control.specs.Valid.{only_reads}
 
 impossible : {A : Type 0} → false ≡ true → A

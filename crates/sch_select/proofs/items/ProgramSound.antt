@@ -43,7 +43,8 @@ use Rattle.sch_select.proofs.simulation.Records.{bytes_are}
 use Rattle.sch_select.proofs.simulation.Closures.{group_small}
 use Rattle.sch_select.proofs.items.Sound.{items_valid, arg_valid, fits_32, fits_64, items_say}
 use Rattle.sch_select.proofs.programs.Selected.{atom_selected, read_selected, operand_selected, source_selected, closure_selected, members_selected, operation_selected, instruction_selected, form_selected, selects, takes}
-use Rattle.sch_select.specs.Covered.{marks_settled}
+use Rattle.sch_frames.specs.CallFree.{marks_settled}
+
 use Rattle.sch_control.specs.Valid.{only_reads}
 use Rattle.sch_word.specs.trees.Straight.{is_straight_constant}
 

@@ -37,7 +37,7 @@ use Rattle.sch_asm.specs.declared.routine.Routine.TheVariants as routine
 use Rattle.sch_asm.specs.Codes.{text_size}
 use Rattle.sch_asm.specs.Routines.{label_of}
 use Rattle.sch_heap.specs.Encoded.{constant_number}
-use Rattle.sch_select.specs.Select.{place_operand, atom_code, unary_code, binary_code, read_code, operand_code, second_code, primitive_code, operation_code, instruction_code, body_code, global_address, put_label, stop_label, body_label, source_code, check_cell, cell_operand, check_heap, part_code, part_operand, fields_code, record_code, closure_bytes, group_bytes, places_code, records_code, group_code, check_depth, check_operator, enter_code, open_code, close_code, call_code, tail_code}
+use Rattle.sch_select.specs.Select.{place_operand, atom_code, unary_code, binary_code, read_code, operand_code, second_code, primitive_code, operation_code, instruction_code, body_code, global_address, put_label, stop_label, body_label, source_code, check_cell, cell_operand, check_heap, part_code, part_operand, fields_code, record_code, closure_bytes, group_bytes, places_code, records_code, group_code, check_depth, check_operator, enter_code, call_code, tail_code}
 use Rattle.sch_select.specs.Program.{passed_code, entry_code, forms_code, labels_end, own_label, heap_of, program_code, put_value_code}
 use Rattle.sch_select.specs.Sizes.{grouped, jumped, closures_in}
 use Rattle.sch_word.specs.declared.stop.Stop.TheVariants.{Unset}

@@ -1,12 +1,12 @@
 -- Small frame programs with calls and their routines, run by the machine.
 use Rattle.std.proofs.Common.{◌≡◌, ℕ, List, [], ◌∷◌, ◌++◌, Option, Some, None, true, false, refl}
 use Rattle.std.specs.List.{flat_map}
-use Rattle.std.specs.Prelude.{codes, pos, replicate, ℤ}
+use Rattle.std.specs.Prelude.{codes, pos, replicate}
 use Rattle.sch_word.specs.declared.constant.Const.TheVariants.{Fixnum}
 use Rattle.sch_word.specs.declared.place.Place.{Place}
 use Rattle.sch_word.specs.declared.place.Place.TheVariants.{Reg, Slot}
 use Rattle.sch_word.specs.declared.primitive.Primitive.TheVariants as prim
-use Rattle.sch_word.specs.runs.Runs.{Run, End, ended, going}
+use Rattle.sch_word.specs.runs.Runs.{ended, going}
 use Rattle.sch_word.specs.values.Literals.{no_literals}
 use Rattle.sch_control.specs.declared.operation.Atom.TheVariants.{Constant, Variable}
 use Rattle.sch_control.specs.declared.operation.Operand.{Operand}
@@ -23,7 +23,6 @@ use Rattle.sch_insn.specs.Machine.{test_of}
 use Rattle.sch_insn.specs.Step.{mach}
 use Rattle.sch_asm.specs.Codes.{bytes_of}
 use Rattle.sch_asm.specs.Data.{data_at}
-use Rattle.sch_asm.specs.Layout.{addresses_from, emitted, numbered, placed_by}
 use Rattle.sch_asm.specs.Views.{text_at}
 use Rattle.sch_runtime.specs.Code.{routine_items}
 use Rattle.sch_select.specs.Covered.{is_covered_program}

@@ -26,7 +26,8 @@ use Rattle.sch_control.specs.declared.operation.Operation.{Operation}
 use Rattle.sch_frames.specs.Tree.{Code}
 use Rattle.sch_frames.specs.Run.{entries_of}
 use Rattle.sch_select.proofs.programs.Selected.{takes, atom_selected, read_selected, operand_selected, source_selected, closure_selected, members_selected, primitive_selected, operation_selected, instruction_selected, form_selected, members_few, operation_few, labels_few, selects, fits}
-use Rattle.sch_select.specs.Covered.{is_covered_source, is_covered_closure, is_covered_group, is_covered_operation, is_covered_instruction, is_covered_code, is_covered_program, can_be_entered, marks_settled, max_library, without_calls}
+use Rattle.sch_frames.specs.CallFree.{marks_settled}
+use Rattle.sch_select.specs.Covered.{is_covered_source, is_covered_closure, is_covered_group, is_covered_operation, is_covered_instruction, is_covered_code, is_covered_program, can_be_entered, max_library, without_calls}
 use Rattle.sch_control.specs.declared.operation.Operation.TheVariants as operation
 use Rattle.sch_control.specs.Parts.{operand_atoms, operands_atoms, operation_atoms, source_atom, source_atoms, member_atoms}
 use Rattle.sch_control.specs.Straight.{is_straight_atom, is_straight_operand}

@@ -29,7 +29,7 @@ use Rattle.sch_asm.proofs.EachItem.{jumps}
 use Rattle.sch_heap.specs.Parts.{Parts}
 use Rattle.sch_control.specs.Straight.{is_form}
 use Rattle.sch_select.specs.Covered.{may_stand, takes_no_list}
-use Rattle.sch_select.specs.Select.{kind_of, body_label, check_count, body_code}
+use Rattle.sch_select.specs.Select.{kind_of, body_label, check_count}
 use Rattle.sch_select.specs.Program.{passed_code, entry_code, form_code, forms_code, labels_end}
 use Rattle.sch_select.proofs.simulation.Places.{Plan, Room, Activation, StoreAt, PlacesAt}
 use Rattle.sch_select.proofs.simulation.Entering.{Enters}

@@ -40,7 +40,8 @@ use Rattle.sch_select.proofs.simulation.Procedures.{bodies_cost}
 use Rattle.sch_select.proofs.programs.Starting.{parts_at_start, bytes_count, texts_there, values_there, first_is, ends_at, contents_there, new_there}
 use Rattle.sch_select.proofs.programs.Whole.{Starts, program_ends, program_follows, program_passes}
 use Rattle.sch_select.proofs.programs.Selected.{fits, form_selected, selects}
-use Rattle.sch_select.specs.Covered.{marks_settled}
+use Rattle.sch_frames.specs.CallFree.{marks_settled}
+
 
 -- ---- what stands behind the forms
 

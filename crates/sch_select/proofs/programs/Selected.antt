@@ -24,7 +24,8 @@ use Rattle.sch_frames.specs.declared.instruction.Instruction.TheVariants.{Do, St
 use Rattle.sch_frames.specs.Tree.{Code}
 use Rattle.sch_frames.specs.Tree as tree
 use Rattle.sch_frames.specs.Valid.{formals_of, handed_over, is_place}
-use Rattle.sch_select.specs.Covered.{can_be_entered, marks_settled, without_calls}
+use Rattle.sch_frames.specs.CallFree.{marks_settled}
+use Rattle.sch_select.specs.Covered.{can_be_entered, without_calls}
 
 -- a straight primitive of n operands
 abbrev pub takes : ℕ → Primitive → Bool

@@ -1,5 +1,5 @@
 -- Where the bodies of a program stand.
-use Rattle.std.proofs.Common.{◌≡◌, ℕ, zero, suc, ◌+◌, List, [], ◌∷◌, ◌++◌, Option, Some, None, refl, sym, ap, ◌∙◌, subst, arith}
+use Rattle.std.proofs.Common.{◌≡◌, ℕ, zero, suc, ◌+◌, List, [], ◌∷◌, Option, Some, None, sym, ap, ◌∙◌, subst, arith}
 use Rattle.std.specs.Prelude.{slice_get}
 use Rattle.sch_control.specs.declared.body.Entry.{Entry}
 use Rattle.sch_frames.specs.Tree.{Code}
@@ -8,7 +8,7 @@ use Rattle.sch_asm.specs.declared.item.Item.TheVariants as item
 use Rattle.sch_asm.specs.declared.item.MarkKind.TheVariants.{Enter}
 use Rattle.sch_asm.specs.Stands.{Stands}
 use Rattle.sch_select.specs.Select.{body_label, body_code, check_count}
-use Rattle.sch_select.specs.Program.{passed_code, entry_code, form_code, forms_code, labels_end}
+use Rattle.sch_select.specs.Program.{passed_code, entry_code, forms_code, labels_end}
 use Rattle.sch_select.proofs.items.Appending.{body_appends, behind}
 use Rattle.sch_select.proofs.simulation.Places.{Plan, code_of}
 use Rattle.sch_select.proofs.simulation.Procedures.{BodyAt}

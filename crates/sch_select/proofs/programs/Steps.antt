@@ -1,12 +1,10 @@
 -- How many steps a program takes, by its size.
-use Rattle.std.proofs.Common.{◌≡◌, ℕ, zero, suc, ◌+◌, ◌-◌, ◌*◌, ◌≤◌, List, [], ◌∷◌, ◌++◌, length, length-append, refl, ap, arith}
+use Rattle.std.proofs.Common.{◌≡◌, ℕ, zero, suc, ◌+◌, ◌-◌, ◌*◌, ◌≤◌, List, [], ◌∷◌, length, length-append, ap, arith}
 use Rattle.std.proofs.Math.Nat.{mul-suc, suc-sub-suc}
 use Rattle.sch_word.specs.declared.place.Place.{Place}
 use Rattle.sch_control.specs.declared.operation.Member.{Member}
-use Rattle.sch_control.specs.declared.operation.Source.{Source as Captured}
 use Rattle.sch_control.specs.declared.operation.Operation.{Operation}
 use Rattle.sch_control.specs.declared.operation.Operation.TheVariants as operation
-use Rattle.sch_control.specs.declared.body.Entry.{Entry}
 use Rattle.sch_control.specs.Parts.{member_atoms, source_atoms}
 use Rattle.sch_control.specs.Sizes.{operation_size}
 use Rattle.sch_frames.specs.declared.instruction.Instruction.{Instruction}

@@ -14,7 +14,7 @@ use Rattle.sch_control.specs.declared.body.Entry.{Entry}
 use Rattle.sch_frames.specs.Tree.{Code, Source}
 use Rattle.sch_frames.specs.Run.{bodies_of, entries_of}
 use Rattle.sch_insn.specs.declared.insn.Insn.TheVariants.{MovWord}
-use Rattle.sch_insn.specs.Behaves.{Given, exit_of, start, FollowsRuns}
+use Rattle.sch_insn.specs.Behaves.{Given, exit_of, FollowsRuns}
 use Rattle.sch_insn.specs.Step.{go_on, mach}
 use Rattle.sch_insn.specs.Machine.{set_register}
 use Rattle.sch_insn.specs.Path.{Does, Exits, passed}

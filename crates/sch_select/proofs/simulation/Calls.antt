@@ -1,27 +1,25 @@
 -- The machine does what calls and tail calls do.
-use Rattle.std.proofs.Common.{◌≡◌, ℕ, zero, suc, ◌+◌, ◌*◌, ◌^◌, ◌<◌, ◌≤◌, ◌%◌, List, [], ◌∷◌, ◌++◌, length, map, Bool, true, false, Option, Some, None, refl, sym, ap, ◌∙◌, subst, arith, append-nil, append_assoc, eq-eqb, ◌==◌}
+use Rattle.std.proofs.Common.{◌≡◌, ℕ, zero, suc, ◌+◌, ◌*◌, ◌^◌, ◌<◌, ◌≤◌, List, [], ◌∷◌, ◌++◌, length, map, Bool, true, false, Option, Some, None, refl, sym, ap, ◌∙◌, subst, arith, append-nil, append_assoc, eq-eqb, ◌==◌}
 use Rattle.std.specs.Prelude.{pos, negsuc, not, slice_get}
 use Rattle.std.proofs.lemmas.Bool.{ne_eqb}
 use Rattle.std.proofs.Math.Nat.{mul-suc}
-use Rattle.sch_word.specs.declared.place.Place.{Place}
-use Rattle.sch_word.specs.declared.place.Place.TheVariants.{Reg, Slot}
+use Rattle.sch_word.specs.declared.place.Place.TheVariants.{Slot}
 use Rattle.sch_word.specs.declared.stop.Stop.TheVariants.{NotProcedure, DepthLimit}
 use Rattle.sch_word.specs.values.PrimitiveRows.{is_procedure}
 use Rattle.sch_word.specs.values.Values.{Value, fixnum, character, boolean, nil, unspecified, symbol, object, procedure, cell}
 use Rattle.sch_word.specs.runs.Store.{Store}
 use Rattle.sch_word.specs.runs.Stops.{status_of}
-use Rattle.sch_word.specs.runs.Computation.{gives, stops, spent, depth_left, entry_left, known_procedure, Entry}
-use Rattle.sch_word.specs.values.Checked.{Checked, on_passed}
+use Rattle.sch_word.specs.runs.Computation.{gives, stops, spent, depth_left, entry_left, known_procedure}
+use Rattle.sch_word.specs.values.Checked.{on_passed}
 use Rattle.sch_control.specs.Operations.{Procedure, and_value}
 use Rattle.sch_control.specs.Meaning.{World, Result, Callee, with_value, on_return, on_checked, entered, call_in}
 use Rattle.sch_frames.specs.Meaning as meaning
 use Rattle.sch_frames.specs.Meaning.{Frame, Cell, Is, Link, Junk, value_in, arguments, after_call, entry_places, if_link, link_register, closure_register}
-use Rattle.sch_frames.specs.declared.instruction.Instruction.TheVariants as instruction
 use Rattle.sch_insn.specs.declared.condition.TheConstants.{E, NE}
 use Rattle.sch_insn.specs.declared.insn.Arg.TheVariants as arg
-use Rattle.sch_insn.specs.declared.insn.Insn.TheVariants.{MovFrom, MovNumber, AddNumber, SubNumber, CmpNumber, JumpTo}
+use Rattle.sch_insn.specs.declared.insn.Insn.TheVariants.{MovNumber, AddNumber, SubNumber, CmpNumber, JumpTo}
 use Rattle.sch_insn.specs.declared.machine.Flags.{Flags}
-use Rattle.sch_insn.specs.Machine.{set_register, add64, sub64, word, bits_of, difference_of, sum_of, condition}
+use Rattle.sch_insn.specs.Machine.{set_register, add64, sub64, bits_of, difference_of, sum_of, condition}
 use Rattle.sch_insn.proofs.Conditions.{compared_e, compared_ne}
 use Rattle.sch_insn.proofs.Paths.{leads_here, leads_on, leads_then}
 use Rattle.sch_asm.specs.declared.item.Item.{Item}
@@ -36,11 +34,11 @@ use Rattle.sch_heap.specs.Parts.{Parts}
 use Rattle.sch_heap.specs.Encoded.{IsWord}
 use Rattle.sch_heap.proofs.Encodings.{procedure_tested}
 use Rattle.sch_select.specs.Select.{kind_of, stop_label, check_operator, check_depth, enter_code, open_code, close_code, call_code, tail_code}
-use Rattle.sch_select.proofs.simulation.Straight.{Kept, kept_set, kept_then, moved_to, Halts, halts_after, Masked, masked, tagged, by_7}
-use Rattle.sch_select.proofs.simulation.Places.{Plan, code_of, Room, Activation, StoreAt, PlacesAt, Holds, held_value, holds_words, places_kept}
+use Rattle.sch_select.proofs.simulation.Straight.{Kept, kept_set, kept_then, moved_to, Halts, Masked, masked, tagged, by_7}
+use Rattle.sch_select.proofs.simulation.Places.{Plan, code_of, Room, Activation, PlacesAt, Holds, held_value, holds_words}
 use Rattle.sch_select.proofs.simulation.HeapWrites.{heap_inside}
-use Rattle.sch_select.proofs.simulation.Outcomes.{Ends, Goes_on, Lands, Sim, Laid, after, ends_after, goes_on_after, stops_here}
-use Rattle.sch_select.proofs.simulation.Operations.{Std, FrameOf, StoreOf, SimOf, Rest, onward, none_waits}
+use Rattle.sch_select.proofs.simulation.Outcomes.{Ends, Goes_on, Sim, Laid, after, ends_after, goes_on_after, stops_here}
+use Rattle.sch_select.proofs.simulation.Operations.{FrameOf, StoreOf, Rest, onward}
 use Rattle.sch_select.proofs.simulation.Entering.{arguments_count, argument_at, passed, entry_registers, is_there, CodeOf, code_there, Enters}
 
 module _ (plan : Plan) (body_steps : ℕ) (laid : Laid plan body_steps) (act : Activation plan) (callee : Callee) (enters : Enters plan body_steps callee act.nested) where

@@ -1,26 +1,25 @@
 -- How procedures are entered: the operands where a body finds them, and the code of an operator.
-use Rattle.std.proofs.Common.{◌≡◌, ℕ, zero, suc, ◌+◌, ◌*◌, ◌^◌, ◌<◌, ◌≤◌, ◌%◌, List, [], ◌∷◌, length, map, Bool, true, false, cond, Option, Some, None, refl, sym, ap, ◌∙◌, subst, arith, ◌||◌, inl, inr, ◌⊎◌}
+use Rattle.std.proofs.Common.{◌≡◌, ℕ, zero, suc, ◌+◌, ◌*◌, ◌^◌, ◌<◌, ◌≤◌, ◌%◌, List, [], ◌∷◌, length, map, Bool, true, false, Option, Some, None, refl, sym, ap, ◌∙◌, subst, arith, ◌||◌, inl, inr, ◌⊎◌}
 use Rattle.std.specs.Prelude.{nat_eq, negsuc, slice_get}
 use Rattle.std.proofs.lemmas.Bool.{eqb-true, cases_lt}
 use Rattle.std.proofs.lemmas.Option.{slice_get-get_or}
 use Rattle.sch_word.specs.declared.place.Place.{Place}
-use Rattle.sch_word.specs.declared.place.Place.TheVariants.{Reg, Slot}
+use Rattle.sch_word.specs.declared.place.Place.TheVariants.{Reg}
 use Rattle.sch_word.specs.values.Values.{Value, procedure}
 use Rattle.sch_word.specs.runs.Computation.{State}
 use Rattle.sch_control.specs.Operations.{Procedure, and_value}
 use Rattle.sch_control.specs.Meaning.{World, Callee}
-use Rattle.sch_frames.specs.Meaning.{Cell, Is, Link, Junk, value_in, cell_of, argument, arguments, entry_places}
+use Rattle.sch_frames.specs.Meaning.{Cell, Junk, value_in, cell_of, argument, arguments, entry_places}
 use Rattle.sch_frames.specs.Valid.{is_register}
 use Rattle.sch_insn.specs.Machine.{add64, word}
 use Rattle.sch_asm.specs.declared.item.MarkKind.{MarkKind}
-use Rattle.sch_asm.specs.Data.{Inside, word_in}
+use Rattle.sch_asm.specs.Data.{word_in}
 use Rattle.sch_asm.specs.Views.{View}
-use Rattle.sch_heap.specs.Parts.{a_procedure, Parts, spot}
-use Rattle.sch_heap.specs.Encoded.{IsWord, Names}
+use Rattle.sch_heap.specs.Parts.{a_procedure, Parts}
+use Rattle.sch_heap.specs.Encoded.{IsWord}
 use Rattle.sch_heap.proofs.Spots.{spot_within}
 use Rattle.sch_select.specs.Select.{kind_of}
 use Rattle.sch_select.proofs.simulation.Places.{Plan, code_of, Activation, StoreAt, PlacesAt, Holds, held_value}
-use Rattle.sch_select.proofs.simulation.HeapWrites.{heap_inside}
 use Rattle.sch_select.proofs.simulation.Outcomes.{Sim}
 
 -- ---- the operands of a call

@@ -1,5 +1,5 @@
 -- Words of the heap that are free are written, and become parts.
-use Rattle.std.proofs.Common.{◌≡◌, ℕ, ◌+◌, ◌*◌, ◌^◌, ◌<◌, ◌≤◌, List, ◌++◌, length, take, drop, false, Option, Some, refl, sym, ◌∙◌, subst, arith, ◌⊎◌, inl, inr, ◌==◌, length-append}
+use Rattle.std.proofs.Common.{◌≡◌, ℕ, ◌+◌, ◌*◌, ◌<◌, ◌≤◌, List, ◌++◌, length, take, drop, false, Option, Some, refl, sym, ◌∙◌, subst, arith, ◌⊎◌, inl, inr, ◌==◌, length-append}
 use Rattle.std.specs.Prelude.{slice_get, slice_set, nat_le}
 use Rattle.std.proofs.lemmas.Bool.Decides.{nat_tests}
 use Rattle.std.proofs.lemmas.List.{length-set}

@@ -1,5 +1,5 @@
 -- The machine does what the body of a procedure does, wherever the procedure is entered.
-use Rattle.std.proofs.Common.{◌≡◌, ℕ, zero, suc, ◌+◌, ◌*◌, ◌^◌, ◌<◌, ◌≤◌, List, [], ◌∷◌, ◌++◌, length, map, Bool, true, false, Option, Some, None, refl, sym, ap, ◌∙◌, subst, arith, append-nil, ◌==◌, ◌&&◌}
+use Rattle.std.proofs.Common.{◌≡◌, ℕ, zero, suc, ◌+◌, ◌*◌, ◌^◌, ◌<◌, ◌≤◌, List, [], ◌∷◌, ◌++◌, length, map, Bool, true, false, Option, Some, None, refl, sym, ap, ◌∙◌, subst, arith, append-nil, ◌==◌}
 use Rattle.std.specs.Prelude.{pos, not, nat_eq, nat_le, slice_get}
 use Rattle.std.specs.List.{list_all}
 use Rattle.std.proofs.lemmas.Bool.{and_parts, leb-true}
@@ -38,8 +38,8 @@ use Rattle.sch_asm.specs.Views.{View, Leads, full}
 use Rattle.sch_asm.proofs.EachItem.{goes, branches}
 use Rattle.sch_heap.specs.Parts.{Parts}
 use Rattle.sch_select.specs.Covered.{can_be_entered, may_stand, takes_no_list}
-use Rattle.sch_select.specs.Select.{kind_of, body_code, body_label, check_count, stop_label}
-use Rattle.sch_select.proofs.simulation.Straight.{moved_to, Halts}
+use Rattle.sch_select.specs.Select.{kind_of, body_code, check_count, stop_label}
+use Rattle.sch_select.proofs.simulation.Straight.{Halts}
 use Rattle.sch_select.proofs.simulation.Places.{Plan, code_of, Activation, StoreAt, PlacesAt}
 use Rattle.sch_select.proofs.simulation.Outcomes.{Ends, Goes_on, Lands, Sim, Laid, after, ends_after, goes_on_after, stops_here, paid}
 use Rattle.sch_select.proofs.simulation.Entering.{Enters}

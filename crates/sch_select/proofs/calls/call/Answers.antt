@@ -1,6 +1,6 @@
 use Rattle.std.proofs.Common.{◌∙◌}
 use Rattle.std.proofs.lemmas.Result.{on_ok_weaker}
-use Rattle.sch_select.specs.Select.{check_depth, check_operator, close_code, enter_code, open_code}
+use Rattle.sch_select.specs.Select.{close_code, enter_code, open_code}
 use Rattle.sch_select.proofs.calls.call.Goals as goal
 
 pub returns : goal.returns
