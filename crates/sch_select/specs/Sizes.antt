@@ -30,7 +30,8 @@ closures_in (c ∷ codes) = jumped c.entry + (grouped c.instructions + closures_
 
 -- how many steps a machine takes at most for a run with a number of procedure entries and of used answers
 abbrev pub steps_bound : Source → (entries answers : ℕ) → ℕ
-steps_bound p entries answers = 256 * (program_size p + (closures_in p.bodies + length p.bodies)) * suc entries + (10 * answers + 16)
+steps_bound p entries answers = 256 * (program_size p + (closures_in p.bodies + length p.bodies)) * suc entries +
+    (10 * answers + 16)
 
 -- ## Marks
 

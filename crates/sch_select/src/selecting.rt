@@ -11,7 +11,9 @@ ghost use Rattle.sch_frames.specs.SourceView.{codes_of};
 ghost use Rattle.sch_select.specs.Covered.{is_covered_program};
 ghost use Rattle.sch_select.specs.Follows.{EndsFrames, FollowsFrames, PassesFrames};
 ghost use Rattle.sch_select.specs.Jumps.{jumps_ahead};
-ghost use Rattle.sch_select.specs.Program.{own_label, closure_words, closures_address, data_words, laid_code, global_word, global_words, heap_address, program_zeros, max_data, max_stack, put_value_code, stack_bytes, static_bytes, word_list};
+ghost use Rattle.sch_select.specs.Program.{own_label, closure_words, closures_address, data_words, laid_code};
+ghost use Rattle.sch_select.specs.Program.{global_word, global_words, heap_address, program_zeros, max_data};
+ghost use Rattle.sch_select.specs.Program.{max_stack, put_value_code, stack_bytes, static_bytes, word_list};
 ghost use Rattle.sch_select.specs.Select.{body_label, put_label};
 ghost use Rattle.sch_select.specs.Sizes.{bodies_marked, closures_in, marks_in};
 

@@ -33,10 +33,12 @@ operation_within operation.UnsetCell = omega arith
 operation_within (operation.CellGet x) = omega arith
 operation_within (operation.CellSet x o) = omega arith
 
-records_within : (members : List (Member Place)) → records_cost members ≤ 2 * length members + 3 * length (member_atoms members)
+records_within : (members : List (Member Place)) → records_cost members ≤ 2 * length members + 3 * length
+    (member_atoms members)
 records_within [] = omega arith
 records_within (m ∷ members) =
-    let h = records_within members in let n = sources_counts m.closure.fields in let a = length-append (source_atoms m.closure.fields) (member_atoms members) in
+    let h = records_within members in let n = sources_counts m.closure.fields in let a = length-append
+    (source_atoms m.closure.fields) (member_atoms members) in
     omega (arith, h, n, a)
 
 instruction_within : (i : Instruction) → instruction_cost i ≤ 256 * (instruction_size i + grouped (i ∷ []))
@@ -51,7 +53,8 @@ instruction_within _ = omega arith
 
 body_within : (is : List Instruction) → body_cost is ≤ 256 * (instructions_size is + grouped is)
 body_within [] = omega arith
-body_within (i ∷ is) = let h = instruction_within i in let k = body_within is in let g = grouped_first i is in omega (arith, h, k, g)
+body_within (i ∷ is) = let h = instruction_within i in let k = body_within is in let g = grouped_first i is in omega
+    (arith, h, k, g)
 
 pub bodies_within : (codes : List Code) → bodies_cost codes ≤ 256 * (codes_size codes + closures_in codes)
 bodies_within [] = omega arith
@@ -72,10 +75,13 @@ products b (suc n) (suc w) =
 
 grows : (a b n : ℕ) → a ≤ b → a * n ≤ b * n
 grows a b zero le = omega arith
-grows a b (suc n) le = let h = grows a b n le in let p = mul-suc a n in let q = mul-suc b n in omega (arith, h, p, q, le)
+grows a b (suc n) le = let h = grows a b n le in let p = mul-suc a n in let q = mul-suc b n in omega
+    (arith, h, p, q, le)
 
 -- what a run pays for is within the bound
-pub steps_within : (p : Source) (steps n w answers left : ℕ) → steps + 1 + (bodies_cost p.bodies * w + 10 * left) ≤ forms_cost p.bodies + (bodies_cost p.bodies * n + 10 * answers) → 3 + steps + 1 ≤ steps_bound p (n - w) (answers - left)
+pub steps_within : (p : Source) (steps n w answers left : ℕ)
+    → steps + 1 + (bodies_cost p.bodies * w + 10 * left) ≤ forms_cost p.bodies +
+    (bodies_cost p.bodies * n + 10 * answers) → 3 + steps + 1 ≤ steps_bound p (n - w) (answers - left)
 steps_within p steps n w answers left paid =
     let b = bodies_cost p.bodies in
     let m : ℕ = 256 * (codes_size p.bodies + (closures_in p.bodies + length p.bodies)) in
