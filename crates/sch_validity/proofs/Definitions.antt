@@ -12,7 +12,7 @@ use Rattle.sch_numbers.specs.Quoted.{quotes_in, quotes_in_each}
 use Rattle.sch_numbers.specs.Sites.{widths, widths_of_each}
 use Rattle.sch_validity.specs.Sound.{AreProcedures, AreSound, levels_each}
 use Rattle.sch_validity.specs.Library.{procedures_of_each, AreDefinitions}
-use Rattle.sch_validity.specs.Sizes.{statics_in_each, AreQuotable, AreBytes}
+use Rattle.sch_validity.specs.Sizes.{nodes_in_each, statics_in_each, AreQuotable, AreBytes}
 use Rattle.sch_validity.proofs.Statics.{bytes_append, quotable_append}
 
 abbrev pub given : List Definition → Names
@@ -83,6 +83,15 @@ with_sound false d ds h = h.1
 pub kept_sound : (ds : List Definition) (named : List (List ℕ)) → AreDefinitions ds → AreDefinitions (kept ds named)
 kept_sound [] named h = tt
 kept_sound (d ∷ ds) named h = with_sound _ d (kept ds named) (h.0, kept_sound ds named h.1)
+
+with_nodes : (b : Bool) (d : Definition) (ds : List Definition) → nodes_in_each (procedures_of_each (with_definition b d ds)) ≤ nodes_in_each (procedures_of_each (d ∷ ds))
+with_nodes true d ds = omega arith
+with_nodes false d ds = omega arith
+
+pub kept_nodes : (ds : List Definition) (named : List (List ℕ)) → nodes_in_each (procedures_of_each (kept ds named)) ≤ nodes_in_each (procedures_of_each ds)
+kept_nodes [] named = omega arith
+kept_nodes (d ∷ ds) named =
+    omega (arith, with_nodes (is_among (library_global d.name) (named ++ globals_of_each (kept ds named))) d (kept ds named), kept_nodes ds named)
 
 with_statics : (b : Bool) (d : Definition) (ds : List Definition) → statics_in_each (procedures_of_each (with_definition b d ds)) ≤ statics_in_each (procedures_of_each (d ∷ ds))
 with_statics true d ds = omega arith

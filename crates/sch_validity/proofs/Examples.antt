@@ -1,21 +1,23 @@
 -- Small drafts: which are sound, how deep they are, what they take, and programs that are valid.
-use Rattle.std.proofs.Common.{◌≡◌, true, false, [], ◌∷◌, Some, None, refl, codes, arith}
-use Rattle.sch_word.specs.declared.constant.Const.TheVariants.{Nil}
+use Rattle.std.proofs.Common.{◌≡◌, ℕ, true, false, [], ◌∷◌, replicate, Some, None, refl, codes, arith}
+use Rattle.sch_word.specs.declared.constant.Const.TheVariants.{Nil, Symbol}
 use Rattle.sch_word.specs.declared.primitive.Primitive.TheVariants.{Cons, Car}
 use Rattle.sch_lang.specs.Valid.{is_valid}
+use Rattle.sch_lang.specs.Tree as tree
 use Rattle.sch_read.specs.Grammar.{Datum, atom, list, none, cons, text, symbol as symbol_atom, character}
-use Rattle.sch_sketch.specs.Draft.{Draft, Drafts, constant, symbol, literal, local, global, set_local, define, sequence, bind, letrec, lambda, call, operation, no_drafts, and_draft}
 use Rattle.sch_names.specs.Scope.{Globals}
 use Rattle.sch_names.specs.Words.{keyword_of}
+use Rattle.sch_sketch.specs.Draft.{Draft, Drafts, drafts, constant, symbol, literal, local, global, set_local, define, branch, sequence, bind, letrec, lambda, call, operation, no_drafts, and_draft}
 use Rattle.sch_sketch.specs.declared.sketch.Position.TheVariants.{Value}
 use Rattle.sch_sketch.specs.Sketch as sketch
-use Rattle.sch_sketch.specs.Sketch.{no_sketch, and_sketch}
+use Rattle.sch_sketch.specs.Sketch.{no_sketch, and_sketch, sequencing}
 use Rattle.sch_expansion.specs.Expands as ex
-use Rattle.sch_validity.specs.Forms.{Form, expression, definition, FormsExpand, AreDefined, forms_weight}
 use Rattle.sch_numbers.specs.Programs.{Definition, program_of}
+use Rattle.sch_validity.specs.Forms.{Form, expression, definition, FormsExpand, AreDefined, AreOfData, forms_weight}
+use Rattle.sch_validity.specs.Few.{IsFew}
 use Rattle.sch_validity.specs.Sound.{IsSound, levels}
 use Rattle.sch_validity.specs.Library.{AreOrdered, AreKnown}
-use Rattle.sch_validity.specs.Sizes.{statics_in, datum_in_range, AreQuotable}
+use Rattle.sch_validity.specs.Sizes.{nodes_in, statics_in, datum_in_range, AreQuotable}
 
 -- ## Soundness
 
@@ -28,6 +30,38 @@ unbound h = absurd (omega (arith, h))
 
 no_rest : IsSound 0 (lambda 0 true (constant Nil)) → ⊥
 no_rest h = absurd (omega (arith, h.0))
+
+unbound_set : IsSound 0 (set_local 0 (constant Nil)) → ⊥
+unbound_set h = absurd (omega (arith, h.0))
+
+unbound_choice : IsSound 0 (branch (constant Nil) (constant Nil) (local 0)) → ⊥
+unbound_choice h = absurd (omega (arith, h.2))
+
+-- a symbol of the code's own has no number before the draft is numbered
+numbered_symbol : IsSound 0 (constant (Symbol 0)) → ⊥
+numbered_symbol h = cc
+
+-- 200 formals and operands, and no more
+many : ℕ → Drafts
+many n = drafts (replicate n (constant Nil))
+
+formals : IsSound 0 (lambda 200 false (local 199))
+formals = (tt, omega arith, omega arith)
+
+too_many_formals : IsSound 0 (lambda 201 false (constant Nil)) → ⊥
+too_many_formals h = absurd (omega (arith, h.1))
+
+too_many_operands : IsSound 0 (call (constant Nil) (many 201)) → ⊥
+unfolding many
+too_many_operands h = absurd (omega (arith, h.0))
+
+too_many_inits : IsSound 0 (bind [] (many 201) (constant Nil)) → ⊥
+unfolding many
+too_many_inits h = absurd (omega (arith, h.0))
+
+too_many_variables : IsSound 0 (letrec [] false (many 201) (constant Nil)) → ⊥
+unfolding many
+too_many_variables h = absurd (omega (arith, h.0))
 
 empty_sequence : IsSound 0 (sequence no_drafts) → ⊥
 empty_sequence h = absurd (omega (arith, h.0))
@@ -58,7 +92,11 @@ group_levels = refl
 call_levels : levels (call (local 0) (and_draft (define (codes "x") (constant Nil)) no_drafts)) ≡ 3
 call_levels = refl
 
--- ## Statics
+-- ## Sizes
+
+-- two nodes, an init, its variable, and two formals
+some_nodes : nodes_in (bind (None ∷ []) (and_draft (constant Nil) no_drafts) (lambda 2 true (local 0))) ≡ 7
+some_nodes = refl
 
 -- `(a "bc")` has two pairs' ends, a symbol with its name, and a text
 quoted : Datum
@@ -91,12 +129,12 @@ named_b = record { bound = codes "b" ∷ []; own = []; internal = false }
 
 expanded : FormsExpand named_ab (defining ∷ []) (and_draft (define (codes "a") (global (codes "b"))) no_drafts)
 unfolding defining named_ab keyword_of
-expanded = (
-  ex.a_node 1 [] Value (sketch.defining (codes "a")) 0 (and_sketch (sketch.text (atom 10 (symbol_atom (codes "b")))) no_sketch)
-      (and_draft (global (codes "b")) no_drafts) refl refl
-      (ex.and_part _ true 2 [] Value _ no_sketch _ no_drafts (ex.a_datum 2 [] Value _ _ (ex.a_leaf 2 [] Value 10 _ refl)) (ex.no_part _ false 2 [] Value)),
-  tt,
-)
+expanded =
+    ex.and_part sequencing true 1 [] Value _ no_sketch _ no_drafts
+    (ex.a_node 1 [] Value (sketch.defining (codes "a")) 0 (and_sketch (sketch.text (atom 10 (symbol_atom (codes "b")))) no_sketch)
+    (and_draft (global (codes "b")) no_drafts) refl refl
+    (ex.and_part _ true 2 [] Value _ no_sketch _ no_drafts (ex.a_datum 2 [] Value _ _ (ex.a_leaf 2 [] Value 10 _ refl)) (ex.no_part _ false 2 [] Value)))
+    (ex.no_part sequencing false 1 [] Value)
 
 -- a name that there is not is not defined
 defined : AreDefined named_ab (defining ∷ [])
@@ -106,6 +144,20 @@ defined = (refl, tt)
 not_defined : AreDefined named_b (defining ∷ []) → ⊥
 unfolding defining named_b
 not_defined h = cc
+
+in_range : AreOfData (defining ∷ expression (atom 0 (character 255)) ∷ [])
+unfolding defining
+in_range = (((refl, omega arith), ((refl, omega arith), tt)), ((refl, omega arith), tt))
+
+-- a definition's data, and an expression's
+not_in_range : AreOfData (definition 0 (cons (atom 1 (character 256)) none) ∷ []) → ⊥
+not_in_range h = cc
+
+nor_in_range : AreOfData (expression (atom 1 (character 256)) ∷ []) → ⊥
+nor_in_range h = cc
+
+few : IsFew 1 (tree.local 0)
+few = (refl, refl)
 
 -- one for the word, two for each name
 weighs : forms_weight (defining ∷ expression (atom 0 (symbol_atom (codes "xy"))) ∷ []) ≡ 8

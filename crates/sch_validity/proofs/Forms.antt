@@ -1,97 +1,90 @@
 -- The drafts of a text's forms are those of a valid program.
-use Rattle.std.proofs.Common.{◌≡◌, ◌≤◌, ◌*◌, ◌||◌, ℕ, Bool, true, false, cond, List, [], ◌∷◌, ◌++◌, map, Option, Some, None, refl, sym, ◌∙◌, arith}
+use Rattle.std.proofs.Common.{◌+◌, ◌≡◌, ◌≤◌, ◌*◌, ◌||◌, ℕ, Bool, true, false, cond, List, [], ◌∷◌, ◌++◌, map, refl, sym, subst, ◌∙◌, arith}
 use Rattle.sch_word.specs.trees.Shape.{max_levels}
+use Rattle.sch_lang.specs.Measures.{nodes_and_bound}
 use Rattle.sch_lang.specs.Valid.{is_valid}
-use Rattle.sch_names.specs.declared.keyword.Keyword.{Keyword}
 use Rattle.sch_names.specs.Scope.{Globals, is_among}
-use Rattle.sch_read.specs.Grammar.{Data}
-use Rattle.sch_sketch.specs.Draft.{Drafts, no_drafts, and_draft}
-use Rattle.sch_sketch.specs.Soundness as sketches
-use Rattle.sch_binders.specs.Assignments.{keyword_at, aimed_name}
-use Rattle.sch_binders.specs.Assignments as row
-use Rattle.sch_binders.specs.Definitions.{defined_name, defined_sketch}
+use Rattle.sch_sketch.specs.Draft.{Drafts}
+use Rattle.sch_sketch.specs.Measure.{sketches_measure}
+use Rattle.sch_sketch.specs.Sketch.{sketches, sequencing}
+use Rattle.sch_sketch.specs.Soundness as soundness
 use Rattle.sch_binders.proofs.SoundRows.{define_sound}
 use Rattle.sch_numbers.specs.Constants.{HaveConstants}
-use Rattle.sch_numbers.specs.Named.{own_global, library_global, global_of, globals_in, globals_in_each, symbols_in}
-use Rattle.sch_numbers.specs.Quoted.{quotes_in}
-use Rattle.sch_validity.proofs.Statics.{quotable_left, quotable_right, bytes_left, bytes_right}
+use Rattle.sch_numbers.specs.Named.{own_global, library_global, global_of, globals_in_each}
 use Rattle.sch_numbers.specs.Programs.{Definition, names_of_each, program_of}
 use Rattle.sch_validity.specs.Sound.{AreSound, levels_each}
-use Rattle.sch_validity.specs.Sizes.{statics_in_each, HaveWords}
-use Rattle.sch_validity.specs.Library.{procedures_of_each, definitions_of, AreDefinitions, AreAmong, AreOrdered}
+use Rattle.sch_validity.specs.Sizes.{nodes_in_each, statics_in_each, HaveWords}
+use Rattle.sch_validity.specs.Library.{procedures_of_each, AreDefinitions, AreAmong, AreOrdered}
 use Rattle.sch_validity.specs.Few.{HasFew}
-use Rattle.sch_validity.specs.Forms.{Form, expression, definition, sketch_of, FormsExpand, IsBound, AreDefined, HasNames, AreOfData, form_weight, forms_weight, AreSmall}
-use Rattle.sch_validity.proofs.Soundness.{sound}
-use Rattle.sch_validity.proofs.Levels.{level}
-use Rattle.sch_validity.proofs.PlainRows.{defined_plain}
-use Rattle.sch_validity.proofs.NamedGlobals as bound
-use Rattle.sch_validity.proofs.NamedGlobals.{plain_bound, named}
-use Rattle.sch_validity.proofs.StaticsOfSketches.{sketch_statics}
+use Rattle.sch_validity.specs.Forms.{Form, expression, definition, sketch_of, FormsExpand, IsBound, AreDefined, HasNames, AreOfData, forms_weight, AreSmall}
+use Rattle.sch_validity.proofs.Parts.{all_in}
+use Rattle.sch_validity.proofs.Soundness.{sound_each}
+use Rattle.sch_validity.proofs.Levels.{level_each}
+use Rattle.sch_validity.proofs.NodesOfDrafts.{nodes_each, form_measure}
+use Rattle.sch_validity.proofs.StaticsOfSketches.{sketches_statics}
 use Rattle.sch_validity.proofs.StaticsOfRows.{define_statics}
-use Rattle.sch_validity.proofs.StaticsOfDrafts.{statics}
-use Rattle.sch_validity.proofs.RangedRows.{define_ranged}
-use Rattle.sch_validity.proofs.RangedDrafts.{AllInRange, have_constants, have_words, in_range}
-use Rattle.sch_validity.proofs.Names.{left}
-use Rattle.sch_validity.proofs.Starts.{both_among, among_append, among_map, among_left, among_right}
-use Rattle.sch_validity.proofs.Programs.{valid}
+use Rattle.sch_validity.proofs.StaticsOfDrafts.{statics_each}
+use Rattle.sch_validity.proofs.Starts.{among_append, among_map, among_left, among_right}
+use Rattle.sch_validity.proofs.Programs.{valid, not_large}
+use Rattle.sch_validity.proofs.Notions.{AreFit}
+use Rattle.sch_validity.proofs.FitRows.{define_fits}
+use Rattle.sch_validity.proofs.FitDrafts.{fits_each}
+use Rattle.sch_validity.proofs.DataInRange.{in_range, all_good, in_range_kept, have_constants, have_words}
+use Rattle.sch_validity.proofs.NamedGlobals.{naming, any_data, naming_kept, named_each}
+
+-- ## The sketches of forms
+
+sound_all : (first : Bool) (fs : List Form) → soundness.AreSound sequencing first [] (sketches (map sketch_of fs))
+sound_all first [] = tt
+sound_all first (expression d ∷ fs) = (tt, sound_all false fs)
+sound_all first (definition at xs ∷ fs) = (define_sound [] at xs, sound_all false fs)
+
+statics_all : (fs : List Form) → sketches_statics (sketches (map sketch_of fs)) ≤ 2 * forms_weight fs
+statics_all [] = omega arith
+statics_all (expression d ∷ fs) = omega (arith, statics_all fs)
+statics_all (definition at xs ∷ fs) = omega (arith, define_statics at xs, statics_all fs)
+
+measure_all : (fs : List Form) → sketches_measure (sketches (map sketch_of fs)) ≤ 16 * forms_weight fs
+measure_all [] = omega arith
+measure_all (f ∷ fs) = omega (arith, form_measure f, measure_all fs)
 
 module _ (globals : Globals) where
-  -- ## A form
+  data_fit : (fs : List Form) → AreOfData fs → AreFit in_range (sketches (map sketch_of fs))
+  data_fit [] h = tt
+  data_fit (expression d ∷ fs) h = (h.0, data_fit fs h.1)
+  data_fit (definition at xs ∷ fs) h = (define_fits globals in_range (in_range_kept globals) at xs (all_good xs h.0) (λ x i. tt), data_fit fs h.1)
 
-  form_sound : (f : Form) → sketches.IsSound [] (sketch_of f)
-  form_sound (expression d) = tt
-  form_sound (definition at xs) = define_sound [] at xs
+  names_fit : (own all : List (List ℕ)) → ((x : List ℕ) → is_among x globals.bound ≡ true → is_among (global_of own x) all ≡ true) →
+      (fs : List Form) → AreDefined globals fs → AreFit (naming own all) (sketches (map sketch_of fs))
+  names_fit own all known [] h = tt
+  names_fit own all known (expression d ∷ fs) h = (tt, names_fit own all known fs h)
+  names_fit own all known (definition at xs ∷ fs) h = (
+    define_fits globals (naming own all) (naming_kept own all globals known) at xs (any_data own all xs) (λ x i. known x (subst (IsBound globals) i h.0)),
+    names_fit own all known fs h.1,
+  )
 
-  definition_bound : (w : Option Keyword) (v : Option (List ℕ)) (at : ℕ) (xs : Data) → IsBound globals v → bound.IsBound globals.bound (row.definition w v at xs)
-  definition_bound (Some k) v at xs h = tt
-  definition_bound None (Some v) at xs h = (h, (plain_bound globals.bound (defined_sketch at xs) (defined_plain at xs), tt))
-  definition_bound None None at xs h = tt
-
-  form_statics : (f : Form) → sketch_statics (sketch_of f) ≤ 2 * form_weight f
-  form_statics (expression d) = omega arith
-  form_statics (definition at xs) = omega (arith, define_statics at xs)
-
-  -- ## All forms
+  -- ## Their drafts
 
   pub forms_sound : (fs : List Form) (es : Drafts) → FormsExpand globals fs es → AreSound 0 es
-  forms_sound [] no_drafts h = tt
-  forms_sound [] (and_draft e es) h = absurd h
-  forms_sound (f ∷ fs) no_drafts h = absurd h
-  forms_sound (f ∷ fs) (and_draft e es) h = (sound globals h.0 (form_sound f), forms_sound fs es h.1)
+  forms_sound fs es h = all_in sequencing true 0 [] es (λ f l. refl) (sound_each globals h (sound_all true fs))
 
   pub forms_level : (fs : List Form) (es : Drafts) → FormsExpand globals fs es → levels_each es ≤ max_levels
-  forms_level [] no_drafts h = omega arith
-  forms_level [] (and_draft e es) h = absurd h
-  forms_level (f ∷ fs) no_drafts h = absurd h
-  forms_level (f ∷ fs) (and_draft e es) h = omega (arith, level globals h.0 (form_sound f), forms_level fs es h.1)
+  forms_level fs es h = omega (arith, level_each globals h (sound_all true fs))
 
   pub forms_statics : (fs : List Form) (es : Drafts) → FormsExpand globals fs es → statics_in_each es ≤ 2 * forms_weight fs
-  forms_statics [] no_drafts h = omega arith
-  forms_statics [] (and_draft e es) h = absurd h
-  forms_statics (f ∷ fs) no_drafts h = absurd h
-  forms_statics (f ∷ fs) (and_draft e es) h = omega (arith, statics globals h.0 (form_sound f), form_statics f, forms_statics fs es h.1)
+  forms_statics fs es h = omega (arith, statics_each globals h (sound_all true fs), statics_all fs)
 
-  forms_in_range : (fs : List Form) (es : Drafts) → FormsExpand globals fs es → AreOfData fs → AllInRange es
-  forms_in_range [] no_drafts h g = tt
-  forms_in_range [] (and_draft e es) h g = absurd h
-  forms_in_range (f ∷ fs) no_drafts h g = absurd h
-  forms_in_range (expression d ∷ fs) (and_draft e es) h g = (in_range globals h.0 tt g.0, forms_in_range fs es h.1 g.1)
-  forms_in_range (definition at xs ∷ fs) (and_draft e es) h g = (in_range globals h.0 (define_sound [] at xs) (define_ranged at xs g.0), forms_in_range fs es h.1 g.1)
+  pub forms_nodes : (fs : List Form) (es : Drafts) → FormsExpand globals fs es → nodes_in_each es ≤ 16 * forms_weight fs
+  forms_nodes fs es h = omega (arith, nodes_each globals h (sound_all true fs), measure_all fs)
 
   pub forms_constants : (fs : List Form) (es : Drafts) → FormsExpand globals fs es → AreOfData fs → HaveConstants es × HaveWords es
-  forms_constants fs es h g = let r = forms_in_range fs es h g in (have_constants es r, have_words es r)
+  forms_constants fs es h g =
+      let r = fits_each globals in_range (in_range_kept globals) h (sound_all true fs) (data_fit fs g) in (have_constants es r, have_words es r)
 
   pub forms_named : (own all : List (List ℕ)) → ((x : List ℕ) → is_among x globals.bound ≡ true → is_among (global_of own x) all ≡ true) →
       (fs : List Form) (es : Drafts) → AreDefined globals fs → FormsExpand globals fs es → AreAmong all (globals_in_each own es)
-  forms_named own all known [] no_drafts d h = tt
-  forms_named own all known [] (and_draft e es) d h = absurd h
-  forms_named own all known (f ∷ fs) no_drafts d h = absurd h
-  forms_named own all known (expression x ∷ fs) (and_draft e es) d h =
-      both_among all (globals_in own e) (globals_in_each own es) (named globals own all known h.0 tt tt) (forms_named own all known fs es d h.1)
-  forms_named own all known (definition at xs ∷ fs) (and_draft e es) d h =
-      both_among all (globals_in own e) (globals_in_each own es)
-      (named globals own all known h.0 (define_sound [] at xs) (definition_bound (keyword_at (aimed_name xs)) (defined_name xs) at xs d.0))
-      (forms_named own all known fs es d.1 h.1)
+  forms_named own all known fs es d h =
+      named_each own all es (fits_each globals (naming own all) (naming_kept own all globals known) h (sound_all true fs) (names_fit own all known fs d))
 
 -- ## Names that are known
 
@@ -104,37 +97,6 @@ known ds own x h = go (is_among x own) refl (sym (among_append x own (names_of_e
     go true e k = among_left (own_global x) (map own_global own) (map library_global (names_of_each ds)) (among_map own_global x own e)
     go false e k = among_right (library_global x) (map own_global own) (map library_global (names_of_each ds)) (among_map library_global x (names_of_each ds) k)
 
--- ## The definitions of a library, which are forms of its text
-
-defined_sound : (ds : List Definition) → AreSound 0 (definitions_of ds) → levels_each (definitions_of ds) ≤ max_levels → HaveConstants (definitions_of ds) → HaveWords (definitions_of ds) →
-    AreDefinitions ds
-defined_sound [] s l c w = tt
-defined_sound (d ∷ ds) s l c w = (
-  (s.0, omega (arith, l), c.0, (quotable_left (quotes_in d.body) _ w.0, bytes_left (symbols_in d.body) _ w.1)),
-  defined_sound ds s.1 (omega (arith, l)) c.1 (quotable_right (quotes_in d.body) _ w.0, bytes_right (symbols_in d.body) _ w.1),
-)
-
-pub definitions_sound : (globals : Globals) (fs : List Form) (ds : List Definition) → FormsExpand globals fs (definitions_of ds) →
-    HaveConstants (definitions_of ds) → HaveWords (definitions_of ds) → AreDefinitions ds
-definitions_sound globals fs ds h c w =
-    defined_sound ds (forms_sound globals fs (definitions_of ds) h) (forms_level globals fs (definitions_of ds) h) c w
-
-procedures_statics : (ds : List Definition) → statics_in_each (procedures_of_each ds) ≤ statics_in_each (definitions_of ds)
-procedures_statics [] = omega arith
-procedures_statics (d ∷ ds) = omega (arith, procedures_statics ds)
-
-pub definitions_statics : (globals : Globals) (fs : List Form) (ds : List Definition) → FormsExpand globals fs (definitions_of ds) →
-    statics_in_each (procedures_of_each ds) ≤ 2 * forms_weight fs
-definitions_statics globals fs ds h = omega (arith, procedures_statics ds, forms_statics globals fs (definitions_of ds) h)
-
--- the names of one definition, where those that there are for it are its own and some that stand before it
-pub definition_ordered : (globals : Globals) (before : List (List ℕ)) (f : Form) (d : Definition) → AreDefined globals (f ∷ []) →
-    FormsExpand globals (f ∷ []) (definitions_of (d ∷ [])) → ((x : List ℕ) → is_among x globals.bound ≡ true → is_among x (d.name ∷ before) ≡ true) →
-    AreAmong (map library_global (d.name ∷ before)) (globals_in [] d.body)
-definition_ordered globals before f d b h n =
-    let all = map library_global (d.name ∷ before) in
-    left all (globals_in [] d.body) [] (forms_named globals [] all (λ x i. among_map library_global x (d.name ∷ before) (n x i)) (f ∷ []) (definitions_of (d ∷ [])) b h).1
-
 -- ## The program
 
 pub valid_text : (ds : List Definition) (globals : Globals) (own : List (List ℕ)) (fs : List Form) (forms : Drafts) →
@@ -146,3 +108,8 @@ valid_text ds globals own fs forms d o h b n c w m v =
     (forms_named globals own (map own_global own ++ map library_global (names_of_each ds)) (λ x i. known ds own x (n x i)) fs forms b h)
     (forms_sound globals fs forms h) (forms_level globals fs forms h) c w v
     (omega (arith, m, forms_statics globals fs forms h))
+
+-- The nodes and bound variables of a program are those of the library at most, and sixteen for each unit of the text's weight.
+pub text_not_large : (ds : List Definition) (globals : Globals) (own : List (List ℕ)) (fs : List Form) (forms : Drafts) → AreDefinitions ds → FormsExpand globals fs forms →
+    nodes_and_bound (program_of ds own forms) ≤ nodes_in_each (procedures_of_each ds) + 16 * forms_weight fs
+text_not_large ds globals own fs forms d h = omega (arith, not_large ds own forms d (forms_sound globals fs forms h), forms_nodes globals fs forms h)

@@ -72,6 +72,6 @@ module _ (globals : Globals) where
         omega (arith, within n l, node_levels k es (subst (HasParts k) (counted globals p) h.0), level_each p h.1.1)
     level (ex.within n s t at m k e w p) h = level p h
 
-    level_each : {k : Kind} {first : Bool} {n : ℕ} {s : Scope} {t : Position} {ks : Sketches} {es : Drafts} → PartsExpand globals k first n s t ks es → sketches.AreSound k first s ks → levels_each es ≤ 2001 - n
+    pub level_each : {k : Kind} {first : Bool} {n : ℕ} {s : Scope} {t : Position} {ks : Sketches} {es : Drafts} → PartsExpand globals k first n s t ks es → sketches.AreSound k first s ks → levels_each es ≤ 2001 - n
     level_each (ex.no_part k first n s t) h = omega arith
     level_each (ex.and_part k first n s t p ps e es x y) h = omega (arith, level x h.0, level_each y h.1)

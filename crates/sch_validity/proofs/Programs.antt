@@ -4,9 +4,10 @@ use Rattle.std.proofs.lemmas.Bool.{and_from}
 use Rattle.sch_word.specs.runs.Runs.{max_statics, statics_size}
 use Rattle.sch_word.specs.trees.Shape.{Procedure, max_levels, max_variables, constant_in_range, procedures_fit}
 use Rattle.sch_word.specs.values.Literals.{count_literals}
-use Rattle.sch_lang.specs.Tree.{Expression, Expressions, Source}
+use Rattle.sch_word.specs.trees.BoundVariables.{formals_in}
+use Rattle.sch_lang.specs.Tree.{Expression, Expressions, Source, count_lambdas}
 use Rattle.sch_lang.specs.Measures as measures
-use Rattle.sch_lang.specs.Measures.{over_source, over_each, over_lambdas, shape, sites_of, site_here, levels_lambdas, procedures}
+use Rattle.sch_lang.specs.Measures.{over_source, over_each, over_lambdas, shape, sites_of, site_here, levels_lambdas, procedures, node_and_bound, nodes_and_bound}
 use Rattle.sch_lang.specs.Valid.{lambdas_in_scope, named_here, fits_here, shaped_here, lambdas_fit, in_range, constants_in_range, shaped, within_limits, sites_once, statics_known, is_valid}
 use Rattle.sch_lang.proofs.SitesInOrder as order
 use Rattle.sch_lang.proofs.SitesInOrder.{sites_in_order}
@@ -21,17 +22,18 @@ use Rattle.sch_numbers.specs.Sites.{widths_of_each}
 use Rattle.sch_validity.specs.Sound.{AreSound, levels_each}
 use Rattle.sch_validity.specs.Library.{procedures_of_each, AreDefinitions, AreAmong, AreOrdered, AreKnown}
 use Rattle.sch_validity.specs.Few.{HasFew}
-use Rattle.sch_validity.specs.Sizes.{statics_in_each, HaveWords}
+use Rattle.sch_validity.specs.Sizes.{nodes_in_each, statics_in_each, HaveWords}
 use Rattle.sch_validity.proofs.FewBodies.{few_lambdas, few_free_lambdas, few_forms, few_free_forms, forms_within}
-use Rattle.sch_validity.proofs.Groups.{AreLambdas, scope_group, levels_group, sites_group, few_group, holds_group, fit_group, lambdas_numbered}
+use Rattle.sch_validity.proofs.Groups.{AreLambdas, count_group, scope_group, levels_group, sites_group, few_group, holds_group, fit_group, lambdas_numbered}
 use Rattle.sch_validity.proofs.Sites.{joined, sites_each}
 use Rattle.sch_validity.proofs.Scopes.{scoped_each}
 use Rattle.sch_validity.proofs.Shapes.{shaped_each}
 use Rattle.sch_validity.proofs.Limits.{fitting_each, levels_each_kept}
+use Rattle.sch_validity.proofs.NodesOfDrafts.{nodes_group, all_nodes_kept}
 use Rattle.sch_validity.proofs.Constants.{all_constants_kept}
 use Rattle.sch_validity.proofs.Names.{left, right, all_among, named_each}
 use Rattle.sch_validity.proofs.Statics.{firsts_size, firsts_length, firsts_bytes, bytes_append, all_bytes, sizes, quotable_append, count_quotes, sizes_append, AreNamed, named_append, quotes_known, quotes_each_named, quotes_range, quotes_levels, all_statics_below}
-use Rattle.sch_validity.proofs.Definitions.{given, procedures_are, widths_are, quotes_are, globals_are, symbols_are, all_procedures, count_definitions, sound_definitions, level_definitions, constant_definitions, quotable_definitions, bytes_definitions, kept_sound, kept_statics}
+use Rattle.sch_validity.proofs.Definitions.{given, procedures_are, widths_are, quotes_are, globals_are, symbols_are, all_procedures, count_definitions, sound_definitions, level_definitions, constant_definitions, quotable_definitions, bytes_definitions, kept_sound, kept_nodes, kept_statics}
 use Rattle.sch_validity.proofs.Starts.{AreReady, known_starts, starts_length, globals_ready}
 
 -- ## Of definitions that are kept, and forms
@@ -178,6 +180,18 @@ module _ (ds : List Definition) (own hs : List (List ℕ)) (forms : Drafts) wher
       (and_from _ _ (program_within d f l v)
       (and_from _ _ (program_sites s f) (program_statics m r)))))
 
+  -- ## Nodes
+
+  library_nodes : AreSound 0 (procedures_of_each ds) →
+      count_lambdas p.library + formals_in (procedures p.library) + over_lambdas 0 (λ a b. a + b) node_and_bound p.library ≤ nodes_in_each (procedures_of_each ds)
+  library_nodes d =
+      subst (λ ls. count_lambdas ls + formals_in (procedures ls) + over_lambdas 0 (λ a b. a + b) node_and_bound ls ≤ nodes_in_each (procedures_of_each ds)) (sym library_is)
+      (omega (arith, count_group library are_lambdas, nodes_group library are_lambdas, all_nodes_kept [] globals symbols (procedures_of_each ds) (given ds) 0 0 0 d))
+
+  program_nodes : AreSound 0 (procedures_of_each ds) → AreSound 0 forms → nodes_and_bound p ≤ nodes_in_each (procedures_of_each ds) + nodes_in_each forms
+  program_nodes d f =
+      omega (arith, library_nodes d, all_nodes_kept own globals symbols forms [] 0 (length (widths_of_definitions ds)) (length (quotes_of_each ds)) f)
+
 -- ## Of a library and a text
 
 pub valid : (ds : List Definition) (own : List (List ℕ)) (forms : Drafts) → AreDefinitions ds → AreOrdered [] ds → AreKnown ds own forms →
@@ -186,3 +200,9 @@ pub valid : (ds : List Definition) (own : List (List ℕ)) (forms : Drafts) → 
 valid ds own forms d o k f l c w v m =
     valid_with (kept ds (named ds own forms)) own (held ds own) forms (kept_sound ds (named ds own forms) d) f l c w v
     (omega (arith, kept_statics ds (named ds own forms), m)) (globals_ready ds own forms o k)
+
+pub not_large : (ds : List Definition) (own : List (List ℕ)) (forms : Drafts) → AreDefinitions ds → AreSound 0 forms →
+    nodes_and_bound (program_of ds own forms) ≤ nodes_in_each (procedures_of_each ds) + nodes_in_each forms
+not_large ds own forms d f =
+    let ks = kept ds (named ds own forms) in
+    omega (arith, program_nodes ks own (held ds own) forms (sound_definitions ks (kept_sound ds (named ds own forms) d)) f, kept_nodes ds (named ds own forms))

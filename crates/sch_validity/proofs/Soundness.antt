@@ -140,6 +140,6 @@ module _ (globals : Globals) where
         (λ vs q i. group vs q true p i) (sound_each p h.1.1)
     sound (ex.within n s t at m k e w p) h = sound p h
 
-    sound_each : {k : Kind} {first : Bool} {n : ℕ} {s : Scope} {t : Position} {ks : Sketches} {es : Drafts} → PartsExpand globals k first n s t ks es → sketches.AreSound k first s ks → InPlace k first s es
+    pub sound_each : {k : Kind} {first : Bool} {n : ℕ} {s : Scope} {t : Position} {ks : Sketches} {es : Drafts} → PartsExpand globals k first n s t ks es → sketches.AreSound k first s ks → InPlace k first s es
     sound_each (ex.no_part k first n s t) h = tt
     sound_each (ex.and_part k first n s t p ps e es x y) h = (subst (λ b. IsSound (length (scope_in k first b s)) e) (ends y) (sound x h.0), sound_each y h.1)

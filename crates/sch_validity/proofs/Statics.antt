@@ -72,22 +72,6 @@ pub quotable_append : (a b : List Datum) → AreQuotable a → AreQuotable b →
 quotable_append [] b h k = k
 quotable_append (d ∷ a) b h k = (h.0, quotable_append a b h.1 k)
 
-pub quotable_left : (a b : List Datum) → AreQuotable (a ++ b) → AreQuotable a
-quotable_left [] b h = tt
-quotable_left (d ∷ a) b h = (h.0, quotable_left a b h.1)
-
-pub quotable_right : (a b : List Datum) → AreQuotable (a ++ b) → AreQuotable b
-quotable_right [] b h = h
-quotable_right (d ∷ a) b h = quotable_right a b h.1
-
-pub bytes_left : (a b : List (List ℕ)) → AreBytes (a ++ b) → AreBytes a
-bytes_left [] b h = tt
-bytes_left (x ∷ a) b h = (h.0, bytes_left a b h.1)
-
-pub bytes_right : (a b : List (List ℕ)) → AreBytes (a ++ b) → AreBytes b
-bytes_right [] b h = h
-bytes_right (x ∷ a) b h = bytes_right a b h.1
-
 module _ (symbols : List (List ℕ)) where
   abbrev pub all_literals : List Datum → Literals
   all_literals qs = literals (map (literal_of symbols) qs)

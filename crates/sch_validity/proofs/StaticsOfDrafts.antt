@@ -53,6 +53,6 @@ module _ (globals : Globals) where
         omega (arith, node_statics k es (subst (HasParts k) (counted globals p) h.0), statics_each p h.1.1)
     statics (ex.within n s t at m k e w p) h = statics p h
 
-    statics_each : {k : Kind} {first : Bool} {n : ℕ} {s : Scope} {t : Position} {ks : Sketches} {es : Drafts} → PartsExpand globals k first n s t ks es → sketches.AreSound k first s ks → statics_in_each es ≤ sketches_statics ks
+    pub statics_each : {k : Kind} {first : Bool} {n : ℕ} {s : Scope} {t : Position} {ks : Sketches} {es : Drafts} → PartsExpand globals k first n s t ks es → sketches.AreSound k first s ks → statics_in_each es ≤ sketches_statics ks
     statics_each (ex.no_part k first n s t) h = omega arith
     statics_each (ex.and_part k first n s t p ps e es x y) h = omega (arith, statics x h.0, statics_each y h.1)

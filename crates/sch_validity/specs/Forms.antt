@@ -1,17 +1,18 @@
 -- The forms of a text (R5RS 5.1 and 5.2.1): expressions and definitions, and the drafts that stand for them.
-use Rattle.std.specs.Prelude.{◌≡◌, ◌≤◌, ◌+◌, ◌*◌, ℕ, true, List, [], ◌∷◌, ◌++◌, Option, Some, None}
+use Rattle.std.specs.Prelude.{◌≡◌, ◌≤◌, ◌+◌, ◌*◌, ℕ, true, List, [], ◌∷◌, ◌++◌, map, Option, Some, None}
 use Rattle.sch_word.specs.runs.Runs.{max_statics}
-use Rattle.sch_read.specs.Grammar.{Datum, Data}
+use Rattle.sch_read.specs.Grammar.{Datum, Data, none}
 use Rattle.sch_read.specs.Valid.{weight, weights}
 use Rattle.sch_names.specs.Scope.{Globals, is_among}
 use Rattle.sch_sketch.specs.declared.sketch.Position.TheVariants.{Value}
-use Rattle.sch_sketch.specs.Draft.{Drafts, no_drafts, and_draft}
-use Rattle.sch_sketch.specs.Sketch.{Sketch, text}
+use Rattle.sch_sketch.specs.declared.sketch.Row.TheVariants.{Method}
+use Rattle.sch_sketch.specs.Draft.{Drafts}
+use Rattle.sch_sketch.specs.Sketch.{Sketch, sketches, text, rest, sequencing}
 use Rattle.sch_binders.specs.Assignments.{row_define}
 use Rattle.sch_binders.specs.Definitions.{defined_name}
-use Rattle.sch_expansion.specs.Expands.{Expands}
+use Rattle.sch_expansion.specs.Expands.{Expands, PartsExpand}
 use Rattle.sch_numbers.specs.Programs.{Definition, names_of_each}
-use Rattle.sch_validity.specs.Library.{procedures_of_each}
+use Rattle.sch_validity.specs.Library.{procedure_of, procedures_of_each}
 use Rattle.sch_validity.specs.Sizes.{statics_in_each, IsQuotable, AllQuotable}
 
 -- a definition has its place and what follows its word
@@ -23,11 +24,13 @@ abbrev pub sketch_of : Form → Sketch
 sketch_of (expression d) = text d
 sketch_of (definition at xs) = row_define at xs
 
--- each form stands at the outermost level, in no scope
+-- forms stand for drafts as the parts of a sequence at the outermost level do, in no scope
 abbrev pub FormsExpand : Globals → List Form → Drafts → Type 0
-FormsExpand globals [] no_drafts = Unit {0}
-FormsExpand globals (f ∷ fs) (and_draft e es) = Expands globals 1 [] Value (sketch_of f) e × FormsExpand globals fs es
-FormsExpand globals _ _ = ⊥
+FormsExpand globals fs es = PartsExpand globals sequencing true 1 [] Value (sketches (map sketch_of fs)) es
+
+-- what follows `define` in an item of a library, `(v . F) e ..`, stands for its procedure at the outermost level
+abbrev pub ItemExpands : Globals → (at : ℕ) → Data → Definition → Type 0
+ItemExpands globals at xs d = Expands globals 1 [] Value (rest Method at xs none) (procedure_of d)
 
 -- ## Names
 
@@ -40,6 +43,10 @@ abbrev pub AreDefined : Globals → List Form → Type 0
 AreDefined globals [] = Unit {0}
 AreDefined globals (expression d ∷ fs) = AreDefined globals fs
 AreDefined globals (definition at xs ∷ fs) = IsBound globals (defined_name xs) × AreDefined globals fs
+
+-- the names that there are for an item of a library are its own and those of earlier items
+abbrev pub HasEarlier : (before : List (List ℕ)) → List ℕ → Globals → Type 0
+HasEarlier before name globals = (x : List ℕ) → is_among x globals.bound ≡ true → is_among x (name ∷ before) ≡ true
 
 -- the names that there are for a text are its own and the library's
 abbrev pub HasNames : List Definition → (own : List (List ℕ)) → Globals → Type 0

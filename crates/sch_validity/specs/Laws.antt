@@ -1,14 +1,17 @@
 -- The laws of validity: what a library and a text must be for their program to be valid.
-use Rattle.std.specs.Prelude.{◌≡◌, ◌≤◌, ◌*◌, true, ℕ, List, []}
+use Rattle.std.specs.Prelude.{◌≡◌, ◌≤◌, ◌+◌, ◌*◌, true, ℕ, List, []}
+use Rattle.sch_lang.specs.Measures.{nodes_and_bound}
 use Rattle.sch_lang.specs.Valid.{is_valid}
+use Rattle.sch_read.specs.Grammar.{Data}
+use Rattle.sch_read.specs.Valid.{weights}
 use Rattle.sch_names.specs.Scope.{Globals}
 use Rattle.sch_sketch.specs.Draft.{Drafts}
-use Rattle.sch_numbers.specs.Constants.{HaveConstants}
+use Rattle.sch_numbers.specs.Constants.{HasConstants, HaveConstants}
 use Rattle.sch_numbers.specs.Programs.{Definition, program_of}
 use Rattle.sch_validity.specs.Few.{HasFew}
-use Rattle.sch_validity.specs.Forms.{Form, FormsExpand, AreDefined, HasNames, AreOfData, forms_weight, AreSmall}
-use Rattle.sch_validity.specs.Library.{procedures_of_each, definitions_of, AreDefinitions, AreOrdered}
-use Rattle.sch_validity.specs.Sizes.{statics_in_each, HaveWords}
+use Rattle.sch_validity.specs.Forms.{Form, FormsExpand, ItemExpands, HasEarlier, AreDefined, HasNames, AreOfData, forms_weight, AreSmall}
+use Rattle.sch_validity.specs.Library.{procedure_of, procedures_of_each, IsDefinition, AreDefinitions, IsOrdered, AreOrdered}
+use Rattle.sch_validity.specs.Sizes.{nodes_in, nodes_in_each, statics_in, AllQuotable, HasWords, HaveWords}
 
 -- a library whose procedures are sound, and each of which names itself and earlier ones alone
 abbrev pub IsLibrary : List Definition → Type 0
@@ -16,7 +19,8 @@ IsLibrary ds = AreDefinitions ds × AreOrdered [] ds
 
 -- the drafts of the forms of a text that uses the names of a library and its own, with the constants that a program may have
 abbrev pub IsText : List Definition → Globals → (own : List (List ℕ)) → List Form → Drafts → Type 0
-IsText ds globals own fs forms = FormsExpand globals fs forms × AreDefined globals fs × HasNames ds own globals × HaveConstants forms × HaveWords forms
+IsText ds globals own fs forms =
+    FormsExpand globals fs forms × AreDefined globals fs × HasNames ds own globals × HaveConstants forms × HaveWords forms
 
 -- the program of a library and a text is valid where they are small enough, and its bodies have few variables
 abbrev pub TextsAreValid : Type 0
@@ -25,14 +29,41 @@ TextsAreValid =
     IsLibrary ds → IsText ds globals own fs forms → AreSmall ds fs →
     HasFew (program_of ds own forms) → is_valid (program_of ds own forms) ≡ true
 
+-- a program has no more nodes and bound variables than the library and sixteen for each unit of the text's weight
+abbrev pub ProgramsAreNotLarge : Type 0
+ProgramsAreNotLarge =
+    (ds : List Definition) (globals : Globals) (own : List (List ℕ)) (fs : List Form) (forms : Drafts) →
+    AreDefinitions ds → FormsExpand globals fs forms →
+    nodes_and_bound (program_of ds own forms) ≤ nodes_in_each (procedures_of_each ds) + 16 * forms_weight fs
+
 -- what stands for forms of data in range has constants in range
 abbrev pub ConstantsAreOfData : Type 0
 ConstantsAreOfData =
-    (globals : Globals) (fs : List Form) (forms : Drafts) → FormsExpand globals fs forms → AreOfData fs → HaveConstants forms × HaveWords forms
+    (globals : Globals) (fs : List Form) (forms : Drafts) → FormsExpand globals fs forms → AreOfData fs →
+    HaveConstants forms × HaveWords forms
 
--- definitions that stand for the forms of a library's text are those of a valid program, and small
-abbrev pub DefinitionsAreSound : Type 0
-DefinitionsAreSound =
-    (globals : Globals) (fs : List Form) (ds : List Definition) → FormsExpand globals fs (definitions_of ds) →
-    HaveConstants (definitions_of ds) → HaveWords (definitions_of ds) →
-    AreDefinitions ds × (statics_in_each (procedures_of_each ds) ≤ 2 * forms_weight fs)
+-- ## Items of a library
+
+-- what an item stands for is a definition of a valid program
+abbrev pub ItemsAreDefinitions : Type 0
+ItemsAreDefinitions =
+    (globals : Globals) (at : ℕ) (xs : Data) (d : Definition) → ItemExpands globals at xs d →
+    HasConstants (procedure_of d) → HasWords (procedure_of d) → IsDefinition d
+
+-- it names itself and earlier ones alone, where no other names are there for it
+abbrev pub ItemsAreOrdered : Type 0
+ItemsAreOrdered =
+    (globals : Globals) (at : ℕ) (xs : Data) (d : Definition) → ItemExpands globals at xs d →
+    (before : List (List ℕ)) → HasEarlier before d.name globals → IsOrdered before d
+
+-- it is as large as its weight allows
+abbrev pub ItemsAreSmall : Type 0
+ItemsAreSmall =
+    (globals : Globals) (at : ℕ) (xs : Data) (d : Definition) → ItemExpands globals at xs d →
+    (statics_in (procedure_of d) ≤ 2 * weights xs) × (nodes_in (procedure_of d) ≤ 4 + 16 * weights xs)
+
+-- an item of data in range has constants in range
+abbrev pub ItemsHaveConstants : Type 0
+ItemsHaveConstants =
+    (globals : Globals) (at : ℕ) (xs : Data) (d : Definition) → ItemExpands globals at xs d →
+    AllQuotable xs → HasConstants (procedure_of d) × HasWords (procedure_of d)

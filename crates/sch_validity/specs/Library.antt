@@ -2,7 +2,7 @@
 use Rattle.std.specs.Prelude.{◌≡◌, ◌≤◌, ℕ, true, List, [], ◌∷◌, ◌++◌, map}
 use Rattle.sch_word.specs.trees.Shape.{max_levels}
 use Rattle.sch_names.specs.Scope.{is_among}
-use Rattle.sch_sketch.specs.Draft.{Draft, Drafts, define, lambda, no_drafts, and_draft}
+use Rattle.sch_sketch.specs.Draft.{Draft, Drafts, lambda, no_drafts, and_draft}
 use Rattle.sch_numbers.specs.Constants.{HasConstants}
 use Rattle.sch_numbers.specs.Named.{own_global, library_global, globals_in, globals_in_each}
 use Rattle.sch_numbers.specs.Programs.{Definition, names_of_each}
@@ -17,14 +17,10 @@ abbrev pub procedures_of_each : List Definition → Drafts
 procedures_of_each [] = no_drafts
 procedures_of_each (d ∷ ds) = and_draft (procedure_of d) (procedures_of_each ds)
 
--- the forms that define them
-abbrev pub definitions_of : List Definition → Drafts
-definitions_of [] = no_drafts
-definitions_of (d ∷ ds) = and_draft (define d.name (procedure_of d)) (definitions_of ds)
-
 -- a definition of a valid program: its procedure stands in no scope
 abbrev pub IsDefinition : Definition → Type 0
-IsDefinition d = IsSound 0 (procedure_of d) × (levels (procedure_of d) ≤ max_levels) × HasConstants (procedure_of d) × HasWords (procedure_of d)
+IsDefinition d =
+    IsSound 0 (procedure_of d) × (levels (procedure_of d) ≤ max_levels) × HasConstants (procedure_of d) × HasWords (procedure_of d)
 
 abbrev pub AreDefinitions : List Definition → Type 0
 AreDefinitions [] = Unit {0}
@@ -36,11 +32,14 @@ abbrev pub AreAmong : (all : List (List ℕ)) → List (List ℕ) → Type 0
 AreAmong all [] = Unit {0}
 AreAmong all (x ∷ xs) = (is_among x all ≡ true) × AreAmong all xs
 
+-- the globals that a definition names are its own and those of these names
+abbrev pub IsOrdered : (before : List (List ℕ)) → Definition → Type 0
+IsOrdered before d = AreAmong (map library_global (d.name ∷ before)) (globals_in [] d.body)
+
 -- a definition names itself and those before it alone
 abbrev pub AreOrdered : (before : List (List ℕ)) → List Definition → Type 0
 AreOrdered before [] = Unit {0}
-AreOrdered before (d ∷ ds) =
-    AreAmong (map library_global (d.name ∷ before)) (globals_in [] d.body) × AreOrdered (d.name ∷ before) ds
+AreOrdered before (d ∷ ds) = IsOrdered before d × AreOrdered (d.name ∷ before) ds
 
 -- the globals of a text are its own and the library's
 abbrev pub AreKnown : List Definition → (own : List (List ℕ)) → Drafts → Type 0

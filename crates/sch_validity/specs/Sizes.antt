@@ -1,14 +1,38 @@
--- How many nodes and bytes the symbols, the literals and the globals of a draft take, and what may be in its literals.
+-- How many nodes and bound variables a draft has, how many nodes and bytes its symbols, literals and globals take, and
+-- what may be in its literals.
 use Rattle.std.specs.Prelude.{◌≡◌, ◌≤◌, ◌+◌, ℕ, Bool, true, ◌&&◌, List, [], ◌∷◌, length}
 use Rattle.sch_word.specs.values.Fixnum.{is_fixnum}
 use Rattle.sch_word.specs.values.Values.{is_byte, are_bytes}
 use Rattle.sch_read.specs.Grammar.{Atom, boolean, integer, character, text, symbol as symbol_atom, Datum, Data, atom, list, dotted, vector, none, cons}
 use Rattle.sch_read.specs.Levels.{depth}
 use Rattle.sch_read.specs.Text.{max_nesting}
-use Rattle.sch_sketch.specs.Draft.{Draft, Drafts, constant, symbol, literal, local, global, set_local, set_global, define, branch, sequence, bind, letrec, lambda, call, operation, no_drafts, and_draft}
+use Rattle.sch_sketch.specs.Draft.{Draft, Drafts, constant, symbol, literal, local, global, set_local, set_global, define, branch, sequence, bind, letrec, lambda, call, operation, no_drafts, and_draft, count}
 use Rattle.sch_sketch.specs.Measure.{literal_size}
 use Rattle.sch_numbers.specs.Named.{symbols_in, symbols_in_each}
 use Rattle.sch_numbers.specs.Quoted.{quotes_in, quotes_in_each}
+
+-- the nodes and the bound variables
+abbrev mutual
+  pub nodes_in : Draft → ℕ
+  nodes_in (constant c) = 1
+  nodes_in (symbol x) = 1
+  nodes_in (literal d) = 1
+  nodes_in (local k) = 1
+  nodes_in (global x) = 1
+  nodes_in (set_local k e) = 1 + nodes_in e
+  nodes_in (set_global x e) = 1 + nodes_in e
+  nodes_in (define x e) = 1 + nodes_in e
+  nodes_in (branch a b c) = 1 + (nodes_in a + (nodes_in b + nodes_in c))
+  nodes_in (sequence es) = 1 + nodes_in_each es
+  nodes_in (bind vs es e) = 1 + count es + (nodes_in_each es + nodes_in e)
+  nodes_in (letrec vs p es e) = 1 + count es + (nodes_in_each es + nodes_in e)
+  nodes_in (lambda n r e) = 1 + n + nodes_in e
+  nodes_in (call f es) = 1 + (nodes_in f + nodes_in_each es)
+  nodes_in (operation p es) = 1 + nodes_in_each es
+
+  pub nodes_in_each : Drafts → ℕ
+  nodes_in_each no_drafts = 0
+  nodes_in_each (and_draft e es) = nodes_in e + nodes_in_each es
 
 -- a symbol and a global are a node each, and a symbol has its name; each name is counted as often as it stands
 abbrev mutual

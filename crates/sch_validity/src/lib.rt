@@ -3,4 +3,7 @@
 
 mod laws;
 
-pub use laws::{constants_are_of_data, definitions_are_sound, program_of_text_is_valid};
+pub use laws::{
+    constants_are_of_data, items_are_definitions, program_of_text_is_not_large,
+    program_of_text_is_valid,
+};
