@@ -1,5 +1,6 @@
 -- With a library, data have a program or an error, and never both.
 use Rattle.std.proofs.Common.{◌≡◌, ◌≢◌, ◌⊎◌, inl, inr, ℕ, Bool, true, false, cond, List, [], ◌∷◌, Option, Some, None, refl, sym, ap, ◌∙◌, subst}
+use Rattle.std.specs.Prelude.{Result, Ok, Err, IsErrAnd, MatchResult}
 use Rattle.sch_lang.specs.Tree.{Source, Expressions, no_expressions, and_expression}
 use Rattle.sch_read.specs.Grammar.{Data}
 use Rattle.sch_sketch.specs.Draft.{Drafts}
@@ -27,6 +28,11 @@ left_is e = ap (λ p. p.0) (some_some e)
 
 right_is : {p q : Kind × ℕ} → Some p ≡ Some q → p.1 ≡ q.1
 right_is e = ap (λ p. p.1) (some_some e)
+
+-- what is an error has no value
+pub err_only : {A B : Type 0} (P : A → Type 0) (Q : B → Type 0) (r : Result A B) → IsErrAnd r Q → MatchResult r P Q
+err_only P Q (Ok x) h = absurd h
+err_only P Q (Err e) h = h
 
 -- only these are counted
 abbrev pub IsCounted : Kind → Type 0

@@ -14,7 +14,7 @@ use Rattle.sch_numbering.specs.Ranged.{IsValidOnceRanged}
 use Rattle.sch_toplevel.specs.Views.{given}
 use Rattle.sch_core.specs.Programs.{form_places, first_excess}
 use Rattle.sch_core.proofs.Answering.{faulty, exceeding, found, valid_once, small, places_are}
-use Rattle.sch_core.proofs.DataLaws.{faulty_error, excessive_error, first_counted, never_both, one_program}
+use Rattle.sch_core.proofs.DataLaws.{faulty_error, excessive_error, first_counted, never_both, one_program, err_only}
 use Rattle.sch_core.proofs.expander.core.Goals as goal
 
 pub returns-in-Some-clause-fault : goal.returns-in-Some-clause-fault
@@ -23,7 +23,7 @@ returns-in-Some-clause-fault c =
     let items = data_of c.args.items.now in
     let names = ap given c.as_slice-2.ensures ∙ (c.in_ok-seen.ensures ∙ ap (λ l. seen (definitions_of l)) c.as_slice.ensures) in
     let error = faulty_error ds items c.error_of.result c.in-Some.f c.error_of.ensures
-        (faulty ds items _ _ _ _ names c.in_ok-own.ensures c.in-Some.f (c.in_ok-own.fault-is ∙ c.in-Some.is)) in
+        (faulty ds items _ _ _ _ names c.in_ok-own.ensures c.in-Some.f c.in-Some.is) in
     error
 
 pub returns-in-Some-clause-only : goal.returns-in-Some-clause-only
@@ -32,7 +32,7 @@ returns-in-Some-clause-only c =
     let items = data_of c.args.items.now in
     let names = ap given c.as_slice-2.ensures ∙ (c.in_ok-seen.ensures ∙ ap (λ l. seen (definitions_of l)) c.as_slice.ensures) in
     let error = faulty_error ds items c.error_of.result c.in-Some.f c.error_of.ensures
-        (faulty ds items _ _ _ _ names c.in_ok-own.ensures c.in-Some.f (c.in_ok-own.fault-is ∙ c.in-Some.is)) in
+        (faulty ds items _ _ _ _ names c.in_ok-own.ensures c.in-Some.f c.in-Some.is) in
     λ p q. never_both ds items p c.error_of.result q error
 
 pub returns-in-Some-2-clause-fault : goal.returns-in-Some-2-clause-fault
@@ -46,7 +46,7 @@ returns-in-Some-2-clause-fault c =
     let at : places ≡ form_places items = c.as_slice-4.ensures ∙ c.in_ok-places.ensures in
     let n : forms ≡ numbered_each [] [] [] [] es 0 0 =
         ap expressions_of c.as_slice-5.ensures ∙ (c.in_ok-forms.ensures ∙ ap (λ l. numbered_each [] [] [] [] (drafts_of l) 0 0) c.as_slice-3.ensures) in
-    let none = c.in_ok-own.fault-is ∙ c.in_default.is in
+    let none = c.in_default.is in
     let h : first_excess places forms ≡ Some (c.in-Some-2.kind, c.in-Some-2.at) = sym c.in_ok-kind.ensures ∙ c.in-Some-2.is in
     let error = excessive_error ds items c.in-Some-2.kind c.in-Some-2.at (first_counted places forms c.in-Some-2.kind c.in-Some-2.at h)
         (exceeding ds items _ _ _ es names c.in_ok-own.ensures none places [] [] [] 0 0 forms at n c.in-Some-2.kind c.in-Some-2.at h) in
@@ -63,7 +63,7 @@ returns-in-Some-2-clause-only c =
     let at : places ≡ form_places items = c.as_slice-4.ensures ∙ c.in_ok-places.ensures in
     let n : forms ≡ numbered_each [] [] [] [] es 0 0 =
         ap expressions_of c.as_slice-5.ensures ∙ (c.in_ok-forms.ensures ∙ ap (λ l. numbered_each [] [] [] [] (drafts_of l) 0 0) c.as_slice-3.ensures) in
-    let none = c.in_ok-own.fault-is ∙ c.in_default.is in
+    let none = c.in_default.is in
     let h : first_excess places forms ≡ Some (c.in-Some-2.kind, c.in-Some-2.at) = sym c.in_ok-kind.ensures ∙ c.in-Some-2.is in
     let error = excessive_error ds items c.in-Some-2.kind c.in-Some-2.at (first_counted places forms c.in-Some-2.kind c.in-Some-2.at h)
         (exceeding ds items _ _ _ es names c.in_ok-own.ensures none places [] [] [] 0 0 forms at n c.in-Some-2.kind c.in-Some-2.at h) in
@@ -80,7 +80,7 @@ assemble-requires c =
     let at : places ≡ form_places items = c.as_slice-4.ensures ∙ c.in_ok-places.ensures in
     let n : forms ≡ numbered_each [] [] [] [] es 0 0 =
         ap expressions_of c.as_slice-5.ensures ∙ (c.in_ok-forms.ensures ∙ ap (λ l. numbered_each [] [] [] [] (drafts_of l) 0 0) c.as_slice-3.ensures) in
-    let none = c.in_ok-own.fault-is ∙ c.in_default.is in
+    let none = c.in_default.is in
     let h : first_excess places forms ≡ None = sym c.in_ok-kind.ensures ∙ c.in_default-2.is in
     let quotable = c.are_quotable.ensures (search rules) in
     record {
@@ -101,7 +101,7 @@ returns-clause-found c =
     let at : places ≡ form_places items = c.as_slice-4.ensures ∙ c.in_ok-places.ensures in
     let n : forms ≡ numbered_each [] [] [] [] es 0 0 =
         ap expressions_of c.as_slice-5.ensures ∙ (c.in_ok-forms.ensures ∙ ap (λ l. numbered_each [] [] [] [] (drafts_of l) 0 0) c.as_slice-3.ensures) in
-    let none = c.in_ok-own.fault-is ∙ c.in_default.is in
+    let none = c.in_default.is in
     let h : first_excess places forms ≡ None = sym c.in_ok-kind.ensures ∙ c.in_default-2.is in
     let q : source c.in_ok-program.program ≡ program_of ds (names_of c.in_ok-own.field-0.own) es =
         c.in_ok-program.ensures ∙ ap (λ l. program_of ds (names_of c.in_ok-own.field-0.own) (drafts_of l)) c.as_slice-6.ensures in
@@ -118,7 +118,7 @@ returns-clause-size c =
     let at : places ≡ form_places items = c.as_slice-4.ensures ∙ c.in_ok-places.ensures in
     let n : forms ≡ numbered_each [] [] [] [] es 0 0 =
         ap expressions_of c.as_slice-5.ensures ∙ (c.in_ok-forms.ensures ∙ ap (λ l. numbered_each [] [] [] [] (drafts_of l) 0 0) c.as_slice-3.ensures) in
-    let none = c.in_ok-own.fault-is ∙ c.in_default.is in
+    let none = c.in_default.is in
     let h : first_excess places forms ≡ None = sym c.in_ok-kind.ensures ∙ c.in_default-2.is in
     let q : source c.in_ok-program.program ≡ program_of ds (names_of c.in_ok-own.field-0.own) es =
         c.in_ok-program.ensures ∙ ap (λ l. program_of ds (names_of c.in_ok-own.field-0.own) (drafts_of l)) c.as_slice-6.ensures in
@@ -135,7 +135,7 @@ returns-clause-places c =
     let at : places ≡ form_places items = c.as_slice-4.ensures ∙ c.in_ok-places.ensures in
     let n : forms ≡ numbered_each [] [] [] [] es 0 0 =
         ap expressions_of c.as_slice-5.ensures ∙ (c.in_ok-forms.ensures ∙ ap (λ l. numbered_each [] [] [] [] (drafts_of l) 0 0) c.as_slice-3.ensures) in
-    let none = c.in_ok-own.fault-is ∙ c.in_default.is in
+    let none = c.in_default.is in
     let h : first_excess places forms ≡ None = sym c.in_ok-kind.ensures ∙ c.in_default-2.is in
     let q : source c.in_ok-program.program ≡ program_of ds (names_of c.in_ok-own.field-0.own) es =
         c.in_ok-program.ensures ∙ ap (λ l. program_of ds (names_of c.in_ok-own.field-0.own) (drafts_of l)) c.as_slice-6.ensures in
@@ -152,8 +152,12 @@ returns-clause-only c =
     let at : places ≡ form_places items = c.as_slice-4.ensures ∙ c.in_ok-places.ensures in
     let n : forms ≡ numbered_each [] [] [] [] es 0 0 =
         ap expressions_of c.as_slice-5.ensures ∙ (c.in_ok-forms.ensures ∙ ap (λ l. numbered_each [] [] [] [] (drafts_of l) 0 0) c.as_slice-3.ensures) in
-    let none = c.in_ok-own.fault-is ∙ c.in_default.is in
+    let none = c.in_default.is in
     let h : first_excess places forms ≡ None = sym c.in_ok-kind.ensures ∙ c.in_default-2.is in
     let q : source c.in_ok-program.program ≡ program_of ds (names_of c.in_ok-own.field-0.own) es =
         c.in_ok-program.ensures ∙ ap (λ l. program_of ds (names_of c.in_ok-own.field-0.own) (drafts_of l)) c.as_slice-6.ensures in
     λ p r. one_program ds items _ p (found ds items _ _ _ es names c.in_ok-own.ensures none places [] [] [] 0 0 forms at n h _ q) r
+
+pub returns-in_err-program-clause-only : goal.returns-in_err-program-clause-only
+returns-in_err-program-clause-only c =
+    λ p q. err_only _ _ c.from_residual-in_err-program.result c.from_residual-in_err-program.ensures.1
