@@ -7,4 +7,3 @@ pub mod ValidTexts
 pub mod Answering
 pub mod DatumLaws
 pub mod DataLaws
-pub mod StandinSize
