@@ -1,5 +1,5 @@
 -- What a text means, and why one is not compiled.
-use Rattle.std.specs.Prelude.{◌≡◌, ◌<◌, ◌≤◌, ℕ, ◌+◌, ◌*◌, ◌^◌, List, IsTrue, Some}
+use Rattle.std.specs.Prelude.{◌≡◌, ◌<◌, ◌≤◌, ℕ, ◌+◌, ◌*◌, ◌^◌, List, [], IsTrue, Some}
 use Rattle.sch_word.specs.runs.ProgramLayout.{max_text_size}
 use Rattle.sch_lang.specs.Tree as tree
 use Rattle.sch_lang.specs.Measures.{program_size}
@@ -13,6 +13,7 @@ use Rattle.sch_core.specs.Answer as expanding
 use Rattle.sch_core.specs.declared.error.CoreError.{CoreError}
 use Rattle.sch_core.specs.declared.error.CoreError.TheVariants as core
 use Rattle.sch_core.specs.Programs.{IsProgramOf, form_places}
+use Rattle.sch_numbers.specs.Programs.{Definition}
 use Rattle.sch_driver.specs.declared.error.CompileError.{CompileError}
 use Rattle.sch_driver.specs.declared.error.CompileError.TheVariants.{Read, Core, NotBuilt, TextTooLarge, Memory}
 
@@ -20,11 +21,15 @@ use Rattle.sch_driver.specs.declared.error.CompileError.TheVariants.{Read, Core,
 abbrev pub max_source_size : ℕ
 max_source_size = 2 ^ 20
 
--- The text is read and expanded: it spells data, and they have this core program.
+-- the library that all texts are given, which has no definition yet
+abbrev pub library : List Definition
+library = []
+
+-- The text is read and expanded: it spells data, and with the library they have this core program.
 pub record Means (text : List ℕ) (p : tree.Source) : Type 0 where
   pub items : Data
   pub spells : Spells text items
-  pub program : IsProgramOf items p
+  pub program : IsProgramOf library items p
 
 -- a text without a fault, all of whose forms are call-free
 pub record IsBuilt (text : List ℕ) (p : tree.Source) : Type 0 where
@@ -58,7 +63,7 @@ abbrev pub IsErrorOf : List ℕ → CompileError → Type 0
 IsErrorOf text (Read read.Memory) = ⊥
 IsErrorOf text (Read error) = reading.IsErrorIn text error
 IsErrorOf text (Core core.Memory) = ⊥
-IsErrorOf text (Core error) = (items : Data) × Spells text items × expanding.IsErrorIn items error
+IsErrorOf text (Core error) = (items : Data) × Spells text items × expanding.IsErrorIn library items error
 IsErrorOf text (NotBuilt at) = IsNotBuilt text at
 IsErrorOf text (TextTooLarge bytes) = IsTextTooLarge text bytes
 IsErrorOf text Memory = Unit {0}
