@@ -1,6 +1,5 @@
 -- A text without faults has one list of drafts, and one with a fault has none.
-use Rattle.std.proofs.Common.{◌≡◌, ◌⊎◌, inl, inr, ◌≤◌, ℕ, Bool, true, false, List, [], ◌∷◌, Option, Some, None, nat_le, refl, sym, ap, ◌∙◌, subst}
-use Rattle.sch_word.specs.trees.Shape.{max_levels, max_operands}
+use Rattle.std.proofs.Common.{◌≡◌, inl, inr, ◌≤◌, ℕ, Bool, true, false, List, [], Option, Some, None, refl, sym, ap, ◌∙◌, subst}
 use Rattle.sch_read.specs.Grammar.{Data}
 use Rattle.sch_names.specs.Scope.{Globals}
 use Rattle.sch_sketch.specs.declared.fault.Fault.{Fault}
@@ -14,7 +13,7 @@ use Rattle.sch_expansion.specs.Faults.{HasFault, PartHasFault}
 use Rattle.sch_expansion.specs.Faults as no
 use Rattle.sch_expansion.specs.Reads.{Reads, PartsRead}
 use Rattle.sch_expansion.specs.Reads as re
-use Rattle.sch_expansion.proofs.Best.{Best, none_some}
+use Rattle.sch_expansion.proofs.Best.{none_some}
 use Rattle.sch_expansion.proofs.Readings.{unique, clean, one_fault, one_draft, read_best, read_made, is_read}
 use Rattle.sch_toplevel.specs.Assigned.{assigned_in_each}
 use Rattle.sch_toplevel.specs.Forms.{sketches_of, own_names, text_globals, scoped_globals}

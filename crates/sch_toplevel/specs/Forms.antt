@@ -1,6 +1,6 @@
 -- The top-level forms of a text (R5RS 5.1 and 5.2). No local variable shadows a keyword there, and no global
 -- one can.
-use Rattle.std.specs.Prelude.{ℕ, Bool, true, false, cond, List, [], ◌∷◌, ◌++◌, Option, Some, None, map}
+use Rattle.std.specs.Prelude.{ℕ, Bool, true, false, cond, List, [], ◌∷◌, ◌++◌, Option, Some, map}
 use Rattle.sch_word.specs.values.Primitives.{name_of}
 use Rattle.sch_read.specs.Grammar.{Datum, Data, atom, list, none, cons, symbol}
 use Rattle.sch_read.specs.Parts.{offset}
@@ -9,7 +9,7 @@ use Rattle.sch_names.specs.declared.keyword.Keyword.TheVariants.{Begin}
 use Rattle.sch_names.specs.Words.{keyword_of}
 use Rattle.sch_names.specs.Operations.{of_numbers}
 use Rattle.sch_names.specs.Scope.{Globals}
-use Rattle.sch_sketch.specs.Sketch.{Kind, Sketch, text, node, defining}
+use Rattle.sch_sketch.specs.Sketch.{Sketch, text, node, defining}
 use Rattle.sch_binders.specs.Definitions.{is_define_word}
 use Rattle.sch_binders.specs.Assignments.{row_define}
 use Rattle.sch_numbers.specs.Named.{firsts}

@@ -84,7 +84,11 @@ fn numbers(alloc: Global) -> Result<Names, Mem>
 }
 
 /// The drafts of forms as if the names of sums and comparisons were the text's own.
-fn read_scoped<'a>(alloc: Global, seen: &[&[u8]], forms: &[&'a Datum]) -> Result<List<Draft<'a>>, Mem>
+fn read_scoped<'a>(
+    alloc: Global,
+    seen: &[&[u8]],
+    forms: &[&'a Datum],
+) -> Result<List<Draft<'a>>, Mem>
     ensures { IfOk result (λ es. IsReadOnce (given seen.now) (trees_of forms.now) (drafts_of es)) }
 {
     let globals = Globals {
@@ -97,11 +101,7 @@ fn read_scoped<'a>(alloc: Global, seen: &[&[u8]], forms: &[&'a Datum]) -> Result
 }
 
 /// Reads a text that sees these names of a library. It is read twice: what it assigns is known only then.
-pub fn read_text<'a>(
-    alloc: Global,
-    seen: &[&[u8]],
-    items: &'a [Datum],
-) -> Result<Text<'a>, Mem>
+pub fn read_text<'a>(alloc: Global, seen: &[&[u8]], items: &'a [Datum]) -> Result<Text<'a>, Mem>
     ensures { IfOk result (λ t. IsRead (given seen.now) (data_of items.now) (names_of t.own) t.fault (drafts_of t.drafts)) }
 {
     let mut forms = List::new(alloc);

@@ -1,7 +1,6 @@
-use Rattle.std.proofs.Common.{◌≡◌, ◌++◌, ◌∷◌, [], None, map, refl, ap, sym, ◌∙◌, subst, append-nil}
+use Rattle.std.proofs.Common.{◌++◌, ◌∷◌, [], None, map, refl, ap, sym, ◌∙◌, subst, append-nil}
 use Rattle.std.proofs.lemmas.List.{drop_all}
 use Rattle.sch_read.specs.Views.{data_of}
-use Rattle.sch_names.specs.NamesView.{names_of}
 use Rattle.sch_names.specs.ScopeView.{given_names}
 use Rattle.sch_sketch.specs.DraftView.{draft_of}
 use Rattle.sch_toplevel.specs.Items.{item_names, ItemsRead}
