@@ -10,7 +10,7 @@ use Rattle.sch_names.specs.Words.{keyword_of}
 use Rattle.sch_sketch.specs.declared.fault.Fault.{Fault}
 use Rattle.sch_sketch.specs.Draft.{Drafts}
 use Rattle.sch_sketch.specs.Draft as draft
-use Rattle.sch_sketch.specs.Sketch.{Sketch, sketches, text, sequencing, how_many_parts}
+use Rattle.sch_sketch.specs.Sketch.{sketches, text, sequencing, how_many_parts}
 use Rattle.sch_read.specs.Parts.{offset}
 use Rattle.sch_sketch.specs.Soundness.{IsSound, AreSound}
 use Rattle.sch_binders.specs.Definitions.{is_define_word}
@@ -19,12 +19,12 @@ use Rattle.sch_binders.proofs.SoundRows.{define_sound}
 use Rattle.sch_numbers.specs.Numbered.{numbered_each}
 use Rattle.sch_numbers.specs.Programs.{Definition, seen, program_of}
 use Rattle.sch_numbering.specs.Ranged.{IsValidOnceRanged}
-use Rattle.sch_numbering.specs.Size.{size_each, size_of_definitions}
+use Rattle.sch_numbering.specs.Size.{size_of_definitions}
 use Rattle.sch_numbering.proofs.ProgramSize.{program_size}
 use Rattle.sch_validity.specs.Library.{AreDefinitions, AreOrdered, procedures_of_each}
 use Rattle.sch_validity.specs.Sizes.{AllQuotable, statics_in_each}
 use Rattle.sch_validity.proofs.Sites.{count_numbered}
-use Rattle.sch_toplevel.specs.Forms.{forms_in, form_sketch, sketches_of, own_names, text_globals}
+use Rattle.sch_toplevel.specs.Forms.{forms_in, form_sketch, own_names, text_globals}
 use Rattle.sch_toplevel.specs.Texts.{FormsExpand, IsFaultOf, IsRead, TextExpands}
 use Rattle.sch_toplevel.proofs.TextLaws.{text_made, text_fault}
 use Rattle.sch_core.specs.declared.error.Kind.{Kind}

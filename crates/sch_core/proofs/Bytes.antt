@@ -1,13 +1,13 @@
 -- Lists of bytes, and lists of names that a text sees.
-use Rattle.std.proofs.Common.{◌≡◌, ℕ, suc, ◌+◌, ◌<◌, Bool, true, false, cond, List, [], ◌∷◌, ◌++◌, length, drop, get_or, map, refl, sym, ap, ◌∙◌, add-one, drop-cons}
+use Rattle.std.proofs.Common.{◌≡◌, ℕ, suc, ◌+◌, ◌<◌, Bool, true, false, List, [], ◌∷◌, ◌++◌, length, drop, get_or, refl, sym, ◌∙◌, add-one}
 use Rattle.std.proofs.lemmas.Bool.{and_from, lt-ltb}
 use Rattle.std.proofs.lemmas.List.{map-append, append_assoc}
 use Rattle.std.specs.Borrow.{Bor}
-use Rattle.sch_word.specs.values.Values.{is_byte, are_bytes}
+use Rattle.sch_word.specs.values.Values.{are_bytes}
 use Rattle.sch_numbers.specs.Programs.{is_hidden, seen}
 use Rattle.sch_toplevel.specs.Views.{given}
 use Rattle.sch_toplevel.proofs.FormLists.{next}
-use Rattle.sch_numbering.specs.Definitions.{definition_of, definitions_of}
+use Rattle.sch_numbering.specs.Definitions.{definitions_of}
 use Rattle.sch_numbering.specs.declared.definition.Definition.{Definition}
 
 pub bytes_known : (xs : List ℕ) → ((i : ℕ) → get_or xs i 0 < 256) → are_bytes xs ≡ true

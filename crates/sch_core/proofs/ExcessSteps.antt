@@ -1,9 +1,9 @@
 -- The search for the first form that has too much of something, form by form.
-use Rattle.std.proofs.Common.{◌≡◌, ◌≤◌, ◌⊎◌, inl, inr, ℕ, suc, ◌+◌, ◌<◌, min, List, [], ◌∷◌, length, drop, get_or, Option, Some, None, refl, sym, ap, ◌∙◌, add-one, arith, drop-cons}
+use Rattle.std.proofs.Common.{◌≡◌, ◌≤◌, ◌⊎◌, inl, inr, ℕ, ◌+◌, ◌<◌, min, List, [], ◌∷◌, length, drop, get_or, Option, Some, None, refl, sym, ap, ◌∙◌, add-one, arith, drop-cons}
 use Rattle.std.proofs.lemmas.List.{drop_all}
 use Rattle.sch_lang.specs.declared.tree.Exp.{Exp}
-use Rattle.sch_lang.specs.Tree.{Expressions, no_expressions, and_expression}
-use Rattle.sch_lang.specs.View.{expression, expressions_of}
+use Rattle.sch_lang.specs.Tree.{no_expressions}
+use Rattle.sch_lang.specs.View.{expression}
 use Rattle.sch_limits.proofs.Lists.{left, next_expression, no_expression}
 use Rattle.sch_core.specs.declared.error.Kind.{Kind}
 use Rattle.sch_core.specs.Programs.{excess, first_excess}

@@ -7,3 +7,4 @@ pub mod ValidTexts
 pub mod Answering
 pub mod DatumLaws
 pub mod DataLaws
+mod Examples

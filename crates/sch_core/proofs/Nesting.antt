@@ -1,9 +1,8 @@
 -- Data that nest within some levels, one after the other.
-use Rattle.std.proofs.Common.{◌≡◌, ◌≤◌, ℕ, zero, suc, ◌+◌, ◌<◌, Bool, true, false, ◌&&◌, List, [], ◌∷◌, length, drop, get_or, refl, sym, ap, ◌∙◌, add-one, arith}
-use Rattle.std.specs.Prelude.{max}
+use Rattle.std.proofs.Common.{◌≡◌, ◌≤◌, ℕ, ◌+◌, ◌<◌, Bool, true, false, ◌&&◌, List, length, drop, get_or, refl, add-one, arith}
 use Rattle.std.proofs.lemmas.Bool.{and_from}
 use Rattle.sch_read.specs.declared.datum.Datum as code
-use Rattle.sch_read.specs.Grammar.{Datum, Data, list, dotted, vector, none, cons}
+use Rattle.sch_read.specs.Grammar.{Data, none, cons}
 use Rattle.sch_read.specs.Levels.{depth, depths}
 use Rattle.sch_read.specs.Text.{max_nesting}
 use Rattle.sch_read.specs.Views.{tree_of, data_of}

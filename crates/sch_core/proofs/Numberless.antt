@@ -1,12 +1,11 @@
 -- How many variables an expression has does not depend on the numbers of its globals, sites and literals.
-use Rattle.std.proofs.Common.{◌≡◌, ℕ, zero, suc, ◌+◌, Bool, true, false, ◌&&◌, ◌||◌, not, List, [], ◌∷◌, ◌++◌, map, Option, Some, None, length, refl, sym, ap, ◌∙◌}
+use Rattle.std.proofs.Common.{◌≡◌, ℕ, zero, suc, ◌+◌, Bool, true, false, not, List, [], ◌∷◌, ◌++◌, map, Option, Some, None, length, refl, sym, ap, ◌∙◌}
 use Rattle.sch_word.specs.declared.constant.Const.TheVariants.{Nil}
 use Rattle.sch_word.specs.trees.Shape.{Procedure}
-use Rattle.sch_word.specs.trees.NumberSets.{union}
 use Rattle.sch_word.specs.trees.Bindings.{numbers}
 use Rattle.sch_lang.specs.Tree.{Expression, Expressions, Lambdas, constant, literal, local, global, set_local, set_global, define, branch, sequence, bind, fix, letrec, lambda, call, operation, no_expressions, and_expression, no_lambdas, and_lambda, count, count_lambdas}
-use Rattle.sch_lang.specs.Variables.{outside, free, free_each, free_lambdas, assigns, assigns_each, assigns_lambdas}
-use Rattle.sch_lang.specs.Measures.{counts_nothing, onto_assigned, onto_all, bound_count, three_each, twice_if, variables, variables_each, variables_operands, variables_parts, body_variables, procedure, one_unless}
+use Rattle.sch_lang.specs.Variables.{free, free_each, free_lambdas, assigns, assigns_each, assigns_lambdas}
+use Rattle.sch_lang.specs.Measures.{counts_nothing, onto_assigned, onto_all, bound_count, variables, variables_each, variables_operands, variables_parts, procedure}
 use Rattle.sch_limits.specs.Within.{each_procedure, each_procedure_in, each_lambda, has_few_variables, has_few_free}
 use Rattle.sch_sketch.specs.Draft as draft
 use Rattle.sch_sketch.specs.Draft.{Names, Draft, Drafts, no_drafts, and_draft}
@@ -14,7 +13,7 @@ use Rattle.sch_numbers.specs.Assigned.{is_group}
 use Rattle.sch_numbers.specs.Sites.{unless_group, widths, widths_of_each}
 use Rattle.sch_numbers.specs.Quoted.{quotes_in, quotes_in_each}
 use Rattle.sch_numbers.specs.Numbered.{numbered, numbered_each, body_name, procedures_of, grouped, first_of, others_of}
-use Rattle.sch_core.specs.Programs.{excess, at_place, first_excess}
+use Rattle.sch_core.specs.Programs.{excess, first_excess}
 
 -- an expression without those numbers
 abbrev mutual

@@ -1,5 +1,5 @@
 -- How large the drafts of a text are, by the weight of its data.
-use Rattle.std.proofs.Common.{◌≡◌, ◌≤◌, ℕ, suc, ◌+◌, ◌*◌, Bool, true, false, cond, List, [], ◌∷◌, ◌++◌, length, map, Option, refl, sym, ap, ◌∙◌, subst, arith}
+use Rattle.std.proofs.Common.{◌≡◌, ◌≤◌, ℕ, suc, ◌+◌, ◌*◌, Bool, true, false, cond, List, [], ◌∷◌, ◌++◌, length, map, refl, subst, arith}
 use Rattle.sch_read.specs.Grammar.{Datum, Data, atom, list, dotted, vector, none, cons, boolean, integer, character, symbol}
 use Rattle.sch_read.specs.Grammar as grammar
 use Rattle.sch_read.specs.Valid.{weight, weights}
@@ -8,19 +8,18 @@ use Rattle.sch_names.specs.Words.{keyword_of}
 use Rattle.sch_sketch.specs.declared.sketch.Position.{Position}
 use Rattle.sch_sketch.specs.Draft as draft
 use Rattle.sch_sketch.specs.Draft.{Draft, Drafts, constant, literal, local, global, set_local, set_global, define, branch, sequence, bind, letrec, lambda, call, operation, no_drafts, and_draft, count}
-use Rattle.sch_sketch.specs.Measure.{datum_measure, data_measure, leaf_measure, sketch_measure, sketches_measure}
-use Rattle.sch_sketch.specs.Sketch.{Kind, choosing, sequencing, binding, recurring, abstracting, calling, operating, setting, setting_global, defining, Sketch, Sketches, sketches, text, leaf, front, last, first, but_first, assemble, bound_by, how_many_parts, no_sketch, and_sketch}
+use Rattle.sch_sketch.specs.Measure.{datum_measure, leaf_measure, sketch_measure, sketches_measure}
+use Rattle.sch_sketch.specs.Sketch.{Kind, choosing, sequencing, binding, recurring, abstracting, calling, operating, setting, setting_global, defining, Sketch, Sketches, sketches, front, last, first, but_first, assemble, bound_by, how_many_parts}
 use Rattle.sch_sketch.specs.Soundness.{IsAtom, HasParts, IsSound, AreSound}
-use Rattle.sch_sketch.proofs.SmallMeasures.{datum_weighs, data_weigh, leaf_some}
+use Rattle.sch_sketch.proofs.SmallMeasures.{datum_weighs, leaf_some}
 use Rattle.sch_binders.specs.Definitions.{is_define_word}
-use Rattle.sch_binders.specs.Assignments.{row_define}
 use Rattle.sch_binders.proofs.RowsFall.{define_falls}
 use Rattle.sch_table.proofs.Falls.{datum_falls, rest_falls}
 use Rattle.sch_table.proofs.SoundRows.{datum_sound, rest_sound}
 use Rattle.sch_expansion.specs.Expands.{Expands, PartsExpand}
 use Rattle.sch_expansion.specs.Expands as ex
 use Rattle.sch_numbering.specs.Size.{size, size_each}
-use Rattle.sch_toplevel.specs.Forms.{is_begin_word, forms_of, forms_in, form_sketch, sketches_of}
+use Rattle.sch_toplevel.specs.Forms.{is_begin_word, forms_of, forms_in, form_sketch}
 
 pub counted : {globals : Globals} {k : Kind} {first : Bool} {n : ℕ} {s : Scope} {t : Position} {ks : Sketches} {es : Drafts} → PartsExpand globals k first n s t ks es → how_many_parts ks ≡ count es
 counted (ex.no_part k first n s t) = refl

@@ -1,47 +1,43 @@
 -- The program of a library and of a text without a fault is valid.
-use Rattle.std.proofs.Common.{◌≡◌, ◌⊎◌, inl, inr, ◌≤◌, ℕ, ◌+◌, ◌*◌, Bool, true, false, cond, ◌&&◌, ◌||◌, List, [], ◌∷◌, ◌++◌, length, map, Option, Some, None, refl, sym, ap, ◌∙◌, subst, arith, append_assoc, append-nil}
+use Rattle.std.proofs.Common.{◌≡◌, ◌⊎◌, inl, inr, ◌≤◌, ℕ, ◌+◌, ◌*◌, Bool, true, false, cond, ◌||◌, List, [], ◌∷◌, ◌++◌, length, map, Option, Some, None, refl, sym, ap, ◌∙◌, subst, arith, append_assoc}
 use Rattle.std.specs.Str.{bytes_eq}
 use Rattle.std.proofs.lemmas.Slice.Eq.{bytes_eq-Decides}
-use Rattle.sch_word.specs.runs.Runs.{max_statics}
 use Rattle.sch_lang.specs.Tree.{Expression, Expressions, no_expressions, and_expression, count}
 use Rattle.sch_lang.specs.Valid.{is_valid}
 use Rattle.sch_read.specs.Grammar.{Datum, Data, atom, list, dotted, vector, none, cons, boolean, integer, character, symbol}
 use Rattle.sch_read.specs.Grammar as grammar
-use Rattle.sch_read.specs.Levels.{depth, depths}
 use Rattle.sch_read.specs.Valid.{max_weight, weight, weights}
 use Rattle.sch_names.specs.declared.keyword.Keyword.{Keyword}
 use Rattle.sch_names.specs.NamesView.{with_name}
-use Rattle.sch_names.specs.Scope.{Scope, Globals, is_among}
+use Rattle.sch_names.specs.Scope.{Globals, is_among}
 use Rattle.sch_names.specs.Words.{keyword_of}
-use Rattle.sch_sketch.specs.declared.fault.Fault.{Fault}
 use Rattle.sch_sketch.specs.declared.sketch.Position.TheVariants.{Value}
-use Rattle.sch_sketch.specs.Draft.{Draft, Drafts, no_drafts, and_draft}
-use Rattle.sch_sketch.specs.Measure.{sketches_measure}
-use Rattle.sch_sketch.specs.Sketch.{Sketch, Sketches, sketches, text, wrong, no_sketch, and_sketch, sequencing, how_many_parts}
+use Rattle.sch_sketch.specs.Draft.{Draft, Drafts, and_draft}
+use Rattle.sch_sketch.specs.Sketch.{Sketch, Sketches, sketches, text, no_sketch, and_sketch, sequencing}
 use Rattle.sch_binders.specs.Definitions.{is_define_word, defined_name}
 use Rattle.sch_binders.specs.Assignments as table
 use Rattle.sch_binders.specs.Assignments.{row_define, keyword_at, aimed_name}
 use Rattle.sch_expansion.specs.Expands.{Expands, PartsExpand}
 use Rattle.sch_expansion.specs.Expands as ex
 use Rattle.sch_numbers.specs.Named.{firsts, globals_in_each, symbols_in_each}
-use Rattle.sch_numbers.specs.Numbered.{numbered, numbered_each}
+use Rattle.sch_numbers.specs.Numbered.{numbered}
 use Rattle.sch_numbers.specs.Programs.{Definition, is_hidden, seen, names_of_each, globals_of_each, symbols_of_each, with_definition, kept, named, procedures, program_of}
 use Rattle.sch_validity.specs.Few.{IsFew, LambdasAreFew, FormsAreFew}
 use Rattle.sch_validity.specs.Forms.{Form, expression, definition, sketch_of, IsBound, AreDefined, HasNames, AreOfData, form_weight, forms_weight}
 use Rattle.sch_validity.specs.Forms as valid
 use Rattle.sch_validity.specs.Library.{AreDefinitions, AreAmong, AreOrdered, procedures_of_each}
-use Rattle.sch_validity.specs.Sizes.{AllQuotable, IsQuotable, data_in_range, datum_in_range, statics_in_each}
+use Rattle.sch_validity.specs.Sizes.{AllQuotable, IsQuotable, statics_in_each}
 use Rattle.sch_validity.proofs.Names.{left, right, all_among}
 use Rattle.sch_validity.proofs.Starts.{among_append, among_left, among_right, among_cons}
 use Rattle.sch_validity.proofs.Forms.{forms_constants, valid_text}
-use Rattle.sch_toplevel.specs.Forms.{is_begin_word, forms_of, forms_in, form_sketch, sketches_of, defined_by, defined_by_each, defined, own_names, text_globals}
+use Rattle.sch_toplevel.specs.Forms.{is_begin_word, forms_of, forms_in, form_sketch, defined_by, defined_by_each, defined, own_names, text_globals}
 use Rattle.sch_toplevel.specs.Texts.{FormsExpand}
 use Rattle.sch_core.specs.declared.error.Kind.{Kind}
 use Rattle.sch_core.specs.declared.error.Kind.TheVariants.{Variables, Free}
 use Rattle.sch_core.specs.Programs.{form_places, excess, at_place, first_excess}
 use Rattle.sch_core.specs.Libraries.{definition_excess, AreFew}
 use Rattle.sch_core.proofs.Nesting.{both, all_quotable}
-use Rattle.sch_core.proofs.Numberless.{blank, same_excess, alike}
+use Rattle.sch_core.proofs.Numberless.{same_excess, alike}
 
 -- ## Names
 

@@ -1,5 +1,5 @@
 -- Laws of the expansion of one datum.
-use Rattle.std.specs.Prelude.{◌≡◌, ℕ, List}
+use Rattle.std.specs.Prelude.{◌≡◌, ℕ}
 use Rattle.sch_read.specs.Grammar.{Datum}
 use Rattle.sch_names.specs.Scope.{Scope, Globals}
 use Rattle.sch_sketch.specs.declared.sketch.Position.{Position}

@@ -1,5 +1,5 @@
 -- The definitions that the items of a library stand for, and why they have none.
-use Rattle.std.specs.Prelude.{◌≡◌, ◌≤◌, ℕ, List, [], ◌∷◌, Option, Some, None, map}
+use Rattle.std.specs.Prelude.{◌≡◌, ◌≤◌, ℕ, List, [], ◌∷◌, Option, Some, None}
 use Rattle.sch_read.specs.Grammar.{Data}
 use Rattle.sch_sketch.specs.declared.fault.Fault.{Fault}
 use Rattle.sch_sketch.specs.Draft.{Draft}

@@ -1,9 +1,8 @@
 -- The program of a library's definitions and a text (R5RS 5.1), and where a form has too many variables for one.
-use Rattle.std.specs.Prelude.{◌≡◌, ℕ, Bool, false, cond, List, [], ◌∷◌, Option, Some, None}
+use Rattle.std.specs.Prelude.{◌≡◌, ℕ, false, cond, List, [], ◌∷◌, Option, Some, None}
 use Rattle.sch_lang.specs.Tree.{Expression, Expressions, lambda, and_expression, Source}
 use Rattle.sch_limits.specs.Within.{few_variables, few_free}
 use Rattle.sch_read.specs.Grammar.{Data}
-use Rattle.sch_sketch.specs.declared.fault.Fault.{Fault}
 use Rattle.sch_sketch.specs.Draft.{Drafts}
 use Rattle.sch_numbers.specs.Programs.{Definition, seen, program_of}
 use Rattle.sch_toplevel.specs.Forms as forms

@@ -46,11 +46,7 @@ fn countable(alloc: Global, drafts: &[Draft<'_>]) -> Result<List<Exp>, Mem>
 
 /// The program of a text that uses a library, or why it has none: the least place, and there the first cause.
 /// Data of more than 1,000 levels of lists are out of memory.
-pub fn core(
-    alloc: Global,
-    library: Library<'_>,
-    items: &[Datum],
-) -> Result<Program, CoreError>
+pub fn core(alloc: Global, library: Library<'_>, items: &[Datum]) -> Result<Program, CoreError>
     requires light { weights (data_of items.now) ≤ max_weight }
     ensures found { IfOk result (λ p. IsProgramOf (definitions_of library.entry.definitions) (data_of items.now) (source p)) }
     ensures size { IfOk result (λ p. nodes_and_bound (source p)

@@ -33,7 +33,7 @@ module _ (seen : List (List ℕ)) (items : Data) (forms : List Datum) (listed : 
       let defining = once.own ∙ ap (λ ds. firsts [] (defined_by_each (map form_sketch ds))) listed ∙ ap (firsts []) (sym (append-nil (defined_by_each (map form_sketch (forms_in items))))) in
       let bound' = e ∙ names in
       let own' = o ∙ sym (firsts_append [] (defined_by_each (map form_sketch forms)) (assigned_in_each es))
-          ∙ ap (λ ds. firsts [] (defined_by_each (map form_sketch ds) ++ assigned_in_each es)) listed in
+      ∙ ap (λ ds. firsts [] (defined_by_each (map form_sketch ds) ++ assigned_in_each es)) listed in
       record {
         names = assigned_in_each es;
         assigns = record {

@@ -4,8 +4,10 @@
 mod assigned;
 mod forms;
 mod given;
+mod items;
 mod places;
 mod reading;
 
+pub use items::{Items, read_items};
 pub use places::form_places;
 pub use reading::{Text, read_text};

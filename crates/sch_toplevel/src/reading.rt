@@ -81,7 +81,11 @@ fn own_names(alloc: Global, forms: &[&Datum], drafts: &[Draft<'_>]) -> Result<Na
 }
 
 /// The drafts of forms as if nothing were assigned.
-fn read_defined<'a>(alloc: Global, seen: &[&[u8]], forms: &[&'a Datum]) -> Result<List<Draft<'a>>, Mem>
+fn read_defined<'a>(
+    alloc: Global,
+    seen: &[&[u8]],
+    forms: &[&'a Datum],
+) -> Result<List<Draft<'a>>, Mem>
     ensures { IfOk result (λ es. IsReadOnce (given seen.now) (trees_of forms.now) (drafts_of es)) }
 {
     let globals = Globals {
@@ -94,11 +98,7 @@ fn read_defined<'a>(alloc: Global, seen: &[&[u8]], forms: &[&'a Datum]) -> Resul
 }
 
 /// Reads a text that sees these names of a library. It is read twice: what it assigns is known only then.
-pub fn read_text<'a>(
-    alloc: Global,
-    seen: &[&[u8]],
-    items: &'a [Datum],
-) -> Result<Text<'a>, Mem>
+pub fn read_text<'a>(alloc: Global, seen: &[&[u8]], items: &'a [Datum]) -> Result<Text<'a>, Mem>
     ensures { IfOk result (λ t. IsRead (given seen.now) (data_of items.now) (names_of t.own) t.fault (drafts_of t.drafts)) }
 {
     let mut forms = List::new(alloc);

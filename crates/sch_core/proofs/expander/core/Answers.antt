@@ -1,8 +1,7 @@
-use Rattle.std.proofs.Common.{◌≡◌, [], ◌∷◌, List, Some, None, true, length, refl, ap, sym, ◌∙◌, subst, arith, rules}
+use Rattle.std.proofs.Common.{◌≡◌, [], Some, None, ap, sym, ◌∙◌, subst, arith, rules}
 use Rattle.std.proofs.Math.Logic.{∥∥₁_elim}
 use Rattle.std.proofs.Props.{props}
 use Rattle.sch_lang.specs.ProgramView.{source}
-use Rattle.sch_lang.specs.Tree.{Source, count}
 use Rattle.sch_lang.specs.View.{expressions_of}
 use Rattle.sch_read.specs.Views.{data_of}
 use Rattle.sch_names.specs.NamesView.{names_of}

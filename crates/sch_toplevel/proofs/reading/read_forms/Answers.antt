@@ -27,5 +27,5 @@ pub returns : goal.returns
 returns c =
     let g = globals_of c.args.globals.now in
     let r = c.loop-d.invariant c.loop-d.fault no_drafts
-        (rw (drop_all c.loop-d.d-index c.args.forms.now c.loop-d-test.false) (re.reads_none sequencing false 1 [] Value c.loop-d.fault)) in
+    (rw (drop_all c.loop-d.d-index c.args.forms.now c.loop-d-test.false) (re.reads_none sequencing false 1 [] Value c.loop-d.fault)) in
     subst (λ l. PartsRead g sequencing true 1 [] Value (sketches (map form_sketch (trees_of c.args.forms.now))) c.args.fault.now c.loop-d.fault l) (all_made c.loop-d.all) r

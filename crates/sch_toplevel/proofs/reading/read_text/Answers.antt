@@ -16,11 +16,11 @@ returns c =
     let forms = c.as_slice-5.result.now in
     let first = c.as_slice-4.result.now in
     let listed : trees_of forms ≡ forms_in items =
-        ap trees_of c.as_slice-5.ensures ∙ (c.in_ok-add_forms.ensures ∙ ap (λ l. trees_of l ++ forms_in items) c.new-forms.ensures) in
+    ap trees_of c.as_slice-5.ensures ∙ (c.in_ok-add_forms.ensures ∙ ap (λ l. trees_of l ++ forms_in items) c.new-forms.ensures) in
     let once = subst (λ ds. IsReadOnce seen (trees_of ds) (drafts_of first)) (c.as_slice.ensures ∙ sym c.as_slice-5.ensures)
-        (subst (λ es. IsReadOnce seen (trees_of c.as_slice.result.now) (drafts_of es)) (sym c.as_slice-4.ensures) c.in_ok-first.ensures) in
+    (subst (λ es. IsReadOnce seen (trees_of c.as_slice.result.now) (drafts_of es)) (sym c.as_slice-4.ensures) c.in_ok-first.ensures) in
     let bound = c.in_ok-bound_names.ensures
-        ∙ ap (λ ds. firsts (firsts [] seen) (defined_by_each (map form_sketch (trees_of ds)))) (c.as_slice-2.ensures ∙ sym c.as_slice-5.ensures) in
+    ∙ ap (λ ds. firsts (firsts [] seen) (defined_by_each (map form_sketch (trees_of ds)))) (c.as_slice-2.ensures ∙ sym c.as_slice-5.ensures) in
     let own = c.in_ok-own_names.ensures
-        ∙ ap (λ ds. firsts (firsts [] (defined_by_each (map form_sketch (trees_of ds)))) (assigned_in_each (drafts_of first))) (c.as_slice-3.ensures ∙ sym c.as_slice-5.ensures) in
+    ∙ ap (λ ds. firsts (firsts [] (defined_by_each (map form_sketch (trees_of ds)))) (assigned_in_each (drafts_of first))) (c.as_slice-3.ensures ∙ sym c.as_slice-5.ensures) in
     read_twice seen items (trees_of forms) listed _ _ None _ (drafts_of first) (drafts_of c.in_ok-drafts.drafts) once bound own refl c.in_ok-drafts.ensures

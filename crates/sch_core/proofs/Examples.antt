@@ -1,0 +1,20 @@
+-- Worked rows of the limits on variables: 1,000 of a body, and the first form that has more.
+use Rattle.std.proofs.Common.{◌≡◌, ℕ, List, [], ◌∷◌, Option, Some, None, false, refl}
+use Rattle.sch_word.specs.declared.constant.Const.TheVariants.{Nil}
+use Rattle.sch_lang.specs.Tree.{constant, lambda, no_expressions, and_expression}
+use Rattle.sch_core.specs.declared.error.Kind.{Kind}
+use Rattle.sch_core.specs.declared.error.Kind.TheVariants.{Variables}
+use Rattle.sch_core.specs.Programs.{excess, first_excess}
+
+most_variables : excess 1000 (constant Nil) ≡ None
+most_variables = refl
+
+one_more_variable : excess 1001 (constant Nil) ≡ Some Variables
+one_more_variable = refl
+
+-- the second form, which stands at 7, is the first with too many
+second_form : ◌≡◌ {A = Option (Kind × ℕ)}
+    (first_excess (3 ∷ 7 ∷ 9 ∷ []) (and_expression (constant Nil)
+    (and_expression (lambda [] 1001 false (constant Nil)) (and_expression (lambda [] 1002 false (constant Nil)) no_expressions))))
+    (Some (Variables, 7))
+second_form = refl
