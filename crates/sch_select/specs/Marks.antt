@@ -1,13 +1,16 @@
 -- The marks that the run of a frame program passes, and those that its machine passes.
-use Rattle.std.specs.Prelude.{◌≡◌, ℕ, List, ◌++◌, map, Option, Some, None}
-use Rattle.std.specs.List.{flat_map}
+use Rattle.std.specs.Prelude.{◌≡◌, ℕ, Bool, true, false, not, List, ◌++◌, map, Option, Some, None}
+use Rattle.std.specs.List.{flat_map, list_all}
 use Rattle.sch_word.specs.declared.answer.Answer.{Answer}
 use Rattle.sch_word.specs.values.Memory.{Segment}
 use Rattle.sch_word.specs.runs.Computation.{gives, stops, spent}
 use Rattle.sch_control.specs.declared.mark.MarkKind as control
+use Rattle.sch_control.specs.declared.mark.MarkKind.TheVariants.{Enter}
 use Rattle.sch_control.specs.Meaning.{Result}
 use Rattle.sch_control.specs.Run.{outcome_of, starting_world}
-use Rattle.sch_frames.specs.Tree.{Source}
+use Rattle.sch_frames.specs.declared.instruction.Instruction.{Instruction}
+use Rattle.sch_frames.specs.declared.instruction.Instruction.TheVariants.{Mark}
+use Rattle.sch_frames.specs.Tree.{Code, Source}
 use Rattle.sch_frames.specs.Run.{bodies_of, entries_of}
 use Rattle.sch_insn.specs.Behaves.{Given, exit_of, start}
 use Rattle.sch_insn.specs.Path.{traced}
@@ -27,6 +30,22 @@ abbrev pub marks_passed : Source → (heap depth : ℕ) → List Answer → (ent
 marks_passed p heap depth answers entries =
     marks_of (outcome_of (entries_of p.bodies) (bodies_of p.bodies) depth entries
     (starting_world p.statics p.library heap answers entries))
+
+-- ## Marks of entries
+
+abbrev pub is_enter : control.MarkKind → Bool
+is_enter (Enter label) = true
+is_enter _ = false
+
+-- no mark of an entry stands among instructions
+abbrev pub plain_instruction : Instruction → Bool
+plain_instruction (Mark m) = not (is_enter m)
+plain_instruction _ = true
+
+abbrev pub plain_code : Code → Bool
+plain_code c = list_all plain_instruction c.instructions
+
+-- ## What a machine passes
 
 -- A beginning may be the whole.
 pub record IsBeginning {E : Type 0} (xs ys : List E) : Type 0 where

@@ -279,9 +279,10 @@ fn items_of(alloc: Global, p: &FrameProgram, layout: Layout, depth: u64) -> Resu
 /// follow one after the other, those of procedures jumped over, and behind them the routine that puts any value.
 ///
 /// Resolved with the run-time routines, they do what the program does, whatever the machine is given and
-/// whatever the kernel answers, and pass the program's marks. Programs with literals, symbols or objects have no code yet. Time and memory are
-/// linear in the instructions, the labels, the globals and the library. The addresses below the stack are numbers
-/// of 31 bits. A stack of more than 1,073,741,824 bytes, without its last frame, is out of memory.
+/// whatever the kernel answers, and pass the program's marks. Programs with literals, symbols or objects have no
+/// code yet. Time and memory are linear in the instructions, the labels, the globals and the library. The addresses
+/// below the stack are numbers of 31 bits. A stack of more than 1,073,741,824 bytes, without its last frame, is out
+/// of memory.
 pub fn select(alloc: Global, p: &FrameProgram, limits: Limits) -> Result<Asm, Mem>
     requires covered { IsTrue (is_covered_program (source p.now)) }
     ensures follows { IfOk result (λ a. FollowsFrames (source p.now) limits.heap limits.depth a.items a.words a.zeros) }
