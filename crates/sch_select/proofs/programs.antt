@@ -4,6 +4,7 @@ pub mod Standing
 pub mod Forms
 pub mod Steps
 pub mod EnterMarks
+pub mod EnterCounts
 pub mod Passing
 pub mod Whole
 pub mod Starting

@@ -1,13 +1,14 @@
 -- The marks that the run of a frame program passes, and those that its machine passes.
-use Rattle.std.specs.Prelude.{◌≡◌, ℕ, Bool, true, false, not, List, ◌++◌, map, Option, Some, None}
-use Rattle.std.specs.List.{flat_map, list_all}
+use Rattle.std.specs.Prelude.{◌≡◌, ℕ, Bool, true, false, not, nat_eq, slice_get, List, ◌++◌, map, Option, Some, None}
+use Rattle.std.specs.List.{count_by, flat_map, list_all}
 use Rattle.sch_word.specs.declared.answer.Answer.{Answer}
 use Rattle.sch_word.specs.values.Memory.{Segment}
 use Rattle.sch_word.specs.runs.Computation.{gives, stops, spent}
 use Rattle.sch_control.specs.declared.mark.MarkKind as control
 use Rattle.sch_control.specs.declared.mark.MarkKind.TheVariants.{Enter}
 use Rattle.sch_control.specs.Meaning.{Result}
-use Rattle.sch_control.specs.Run.{outcome_of, starting_world}
+use Rattle.sch_control.specs.declared.body.Entry.{Entry}
+use Rattle.sch_control.specs.Run.{entry_at, outcome_of, starting_world}
 use Rattle.sch_frames.specs.declared.instruction.Instruction.{Instruction}
 use Rattle.sch_frames.specs.declared.instruction.Instruction.TheVariants.{Mark}
 use Rattle.sch_frames.specs.Tree.{Code, Source}
@@ -15,6 +16,9 @@ use Rattle.sch_frames.specs.Run.{bodies_of, entries_of}
 use Rattle.sch_insn.specs.Behaves.{Given, exit_of, start}
 use Rattle.sch_insn.specs.Path.{traced}
 use Rattle.sch_asm.specs.declared.item.MarkKind.{MarkKind}
+use Rattle.sch_asm.specs.declared.item.MarkKind.TheVariants as item_mark
+use Rattle.sch_frames.specs.Layout.{is_entered}
+use Rattle.sch_word.specs.runs.Runs.{Run}
 use Rattle.sch_select.specs.Select.{kind_of}
 
 -- what a result has passed
@@ -64,3 +68,22 @@ pub record PassesMarks (entry : ℕ) (segments : List Segment) (marks_at : ℕ �
       → (status : ℕ) (output : List ℕ) → exit_of (traced m (start entry segments g answers)).progress ≡ Some
       (status, output)
       → flat_map marks_at (traced m (start entry segments g answers)).trace ≡ map kind_of marks
+
+-- ## Entries
+
+abbrev pub enters_procedure : List (Option Entry) → MarkKind → Bool
+enters_procedure entries (item_mark.Enter label) = is_entered (entry_at entries label)
+enters_procedure entries _ = false
+
+abbrev pub enters_body : (label : ℕ) → MarkKind → Bool
+enters_body label (item_mark.Enter l) = nat_eq l label
+enters_body label _ = false
+
+-- A machine that has exited has passed as many marks of entries of procedures as its run takes entries. Where the
+-- program reached its end, it has passed one of each form.
+pub record CountsEntries (entry : ℕ) (segments : List Segment) (marks_at : ℕ → List MarkKind) (entries : List (Option Entry)) (runs : List Answer → (entries : ℕ) → Run) : Type 0 where
+  pub procedures : (g : Given) (answers : List Answer) (m status : ℕ) (output : List ℕ) → exit_of (traced m (start entry segments g answers)).progress ≡ Some (status, output)
+      → count_by (enters_procedure entries) (flat_map marks_at (traced m (start entry segments g answers)).trace) ≡ (runs answers m).entries
+  pub forms : (g : Given) (answers : List Answer) (m : ℕ) (output : List ℕ) → exit_of (traced m (start entry segments g answers)).progress ≡ Some (0, output)
+      → (label : ℕ) → slice_get entries label ≡ Some None
+      → count_by (enters_body label) (flat_map marks_at (traced m (start entry segments g answers)).trace) ≡ 1

@@ -108,6 +108,10 @@ pub record Stays (entries : List (Option Entry)) (P : World → Type 0) : Type 0
   pub entry : (w : World) (left label : ℕ) (e : Entry) → entry_at entries label ≡ Some e → w.state.store.entries ≡ suc left → P w
       → P (marked (Enter label) (record { state = record w.state { store = record w.state.store { entries = left } }; marks = w.marks }))
 
+-- how procedures are entered, where at most n entries are nested
+abbrev pub callee_of : List Code → (n : ℕ) → Callee
+callee_of codes n = enter (entry_at (entries_of codes)) (bodies_of codes) n
+
 module _ (codes : List Code) (plain : list_all plain_code codes ≡ true) (P : World → Type 0) (stays : Stays (entries_of codes) P) where
   abbrev pub Kept : Result → Type 0
   Kept None = Unit {0}
@@ -200,24 +204,21 @@ module _ (codes : List Code) (plain : list_all plain_code codes ≡ true) (P : W
       by None e = tt
       by (Some c) e = body_kept callee keeps depth c.instructions (each_at plain_code codes label c plain e) None (beginning c.entry self vs) w p
 
-  abbrev pub callee_of : ℕ → Callee
-  callee_of n = enter (entry_at (entries_of codes)) (bodies_of codes) n
-
-  module _ (n : ℕ) (keeps : CalleeKeeps (callee_of n)) where
+  module _ (n : ℕ) (keeps : CalleeKeeps (callee_of codes n)) where
     into_kept : (label depth : ℕ) (self : Value) (e : Entry) → entry_at (entries_of codes) label ≡ Some e → (arguments : List Value) (u : World) → P u → (k : ℕ) → u.state.store.entries ≡ k
-        → Kept (on_outcome u.marks (with_rest u.state.cells u.state.procedures (taken k u.state.store)) (λ _ w. bodies_of codes label (callee_of n) depth self arguments (marked (Enter label) w)))
+        → Kept (on_outcome u.marks (with_rest u.state.cells u.state.procedures (taken k u.state.store)) (λ _ w. bodies_of codes label (callee_of codes n) depth self arguments (marked (Enter label) w)))
     into_kept label depth self e i arguments u r zero z = r
-    into_kept label depth self e i arguments u r (suc left) z = code_kept (callee_of n) keeps label depth self arguments _ (stays.entry u left label e i z r)
+    into_kept label depth self e i arguments u r (suc left) z = code_kept (callee_of codes n) keeps label depth self arguments _ (stays.entry u left label e i z r)
 
-    entering_kept : (o : Option Entry) (self : Value) (p : Procedure) (vs : List Value) (depth : ℕ) (w : World) → entry_at (entries_of codes) p.label ≡ o → P w → Kept (enter_body (bodies_of codes) (callee_of n) o self p vs depth w)
+    entering_kept : (o : Option Entry) (self : Value) (p : Procedure) (vs : List Value) (depth : ℕ) (w : World) → entry_at (entries_of codes) p.label ≡ o → P w → Kept (enter_body (bodies_of codes) (callee_of codes n) o self p vs depth w)
     entering_kept None self p vs depth w i q = tt
     entering_kept (Some e) self p vs depth w i q =
         outcome_kept w (in_store (fit e.formals e.rest vs) w.state) _ q (steady_same (fit e.formals e.rest vs) (steady_fit e.formals e.rest vs) w.state) (λ arguments u r. into_kept p.label depth self e i arguments u r u.state.store.entries refl)
 
-  pub enter_kept : (n : ℕ) → CalleeKeeps (callee_of n)
+  pub enter_kept : (n : ℕ) → CalleeKeeps (callee_of codes n)
   enter_kept zero self p vs depth w q = q
   enter_kept (suc n) self p vs depth w q = entering_kept n (enter_kept n) (entry_at (entries_of codes) p.label) self p vs depth w refl q
 
   -- the body of a form
-  pub form_kept : (n label depth : ℕ) (w : World) → P w → Kept (bodies_of codes label (callee_of n) depth unspecified [] w)
-  form_kept n label depth w p = code_kept (callee_of n) (enter_kept n) label depth unspecified [] w p
+  pub form_kept : (n label depth : ℕ) (w : World) → P w → Kept (bodies_of codes label (callee_of codes n) depth unspecified [] w)
+  form_kept n label depth w p = code_kept (callee_of codes n) (enter_kept n) label depth unspecified [] w p
