@@ -7,6 +7,7 @@ use Rattle.std.proofs.lemmas.List.Sums.{sum_by-append}
 use Rattle.std.proofs.lemmas.Option.{slice_get_within}
 use Rattle.sch_word.specs.declared.answer.Answer.{Answer}
 use Rattle.sch_word.specs.declared.stop.Stop.{Stop}
+use Rattle.sch_word.specs.declared.stop.Stop.TheVariants.{WrongType, OutOfRange, NotProcedure, WrongCount, DivideByZero, Overflow, HeapLimit, DepthLimit, Unset, OutputFailed}
 use Rattle.sch_word.specs.runs.Stops.{status_of}
 use Rattle.sch_word.specs.runs.Runs.{Run, ended, going, run_with}
 use Rattle.sch_word.specs.runs.Computation.{State, gives, stops, spent}
@@ -170,3 +171,75 @@ module _ (codes : List Code) (plain : list_all plain_code codes ≡ true) where
         none_below : (b : Bool) → nat_lt l 0 ≡ b → nat_lt l 0 ≡ false
         none_below false e = e
         none_below true e = absurd (let lt = ltb-true l 0 e in omega (arith, lt))
+
+-- ---- what is seen, and what the machine passes
+
+no_stop : (why : Stop) → status_of why ≡ 0 → ⊥
+no_stop why e = by why e
+  where
+    by : (why : Stop) → status_of why ≡ 0 → ⊥
+    by WrongType e = omega (arith, e)
+    by OutOfRange e = omega (arith, e)
+    by NotProcedure e = omega (arith, e)
+    by WrongCount e = omega (arith, e)
+    by DivideByZero e = omega (arith, e)
+    by Overflow e = omega (arith, e)
+    by HeapLimit e = omega (arith, e)
+    by DepthLimit e = omega (arith, e)
+    by Unset e = omega (arith, e)
+    by OutputFailed e = omega (arith, e)
+
+module _ (p : Source) (heap depth : ℕ) (plain : list_all plain_code p.bodies ≡ true) (entry : ℕ) (segments : List Segment) (marks_at : ℕ → List MarkKind) (runs : List Answer → ℕ → Run)
+    (passes : PassesMarks entry segments marks_at (marks_passed p heap depth)) (follows : FollowsRuns entry segments runs) (are : AreRuns p heap depth runs) where
+  abbrev outcome : List Answer → ℕ → Result
+  outcome answers m = outcome_of (entries_of p.bodies) (bodies_of p.bodies) depth m (starting_world p.statics p.library heap answers m)
+
+  procedures_by : (answers : List Answer) (m : ℕ) (events : List MarkKind) (result : Result) (r : Run)
+      → Done p.bodies plain (λ k. Paid p.bodies plain m) (λ k. paid_stays p.bodies plain m) (λ label w e q. paid_form p.bodies plain m label w e q) (λ label w e i q. q) (0 + length (entries_of p.bodies)) result
+      → seen_of answers m result ≡ Some r → ((marks : List control.MarkKind) → marks_of result ≡ Some marks → events ≡ map kind_of marks) → count_by (enters_procedure (entries_of p.bodies)) events ≡ r.entries
+  procedures_by answers m events None r paid e h = absurd (let bad : None ≡ Some r = e in cc)
+  procedures_by answers m events (Some (gives v w)) r paid e h =
+      let f : Some (run_with (ended 0) answers m w.state.store) ≡ Some r = e in
+      let same : run_with (ended 0) answers m w.state.store ≡ r = cc in
+      ap (count_by (enters_procedure (entries_of p.bodies))) (h w.marks refl) ∙ omega (arith, paid) ∙ ap (λ r. r.entries) same
+  procedures_by answers m events (Some (stops why w)) r paid e h =
+      let f : Some (run_with (ended (status_of why)) answers m w.state.store) ≡ Some r = e in
+      let same : run_with (ended (status_of why)) answers m w.state.store ≡ r = cc in
+      let q = paid.1 in
+      ap (count_by (enters_procedure (entries_of p.bodies))) (h w.marks refl) ∙ omega (arith, q) ∙ ap (λ r. r.entries) same
+  procedures_by answers m events (Some (spent w)) r paid e h =
+      let f : Some (run_with going answers m w.state.store) ≡ Some r = e in
+      let same : run_with going answers m w.state.store ≡ r = cc in
+      let q = paid.1 in
+      ap (count_by (enters_procedure (entries_of p.bodies))) (h w.marks refl) ∙ omega (arith, q) ∙ ap (λ r. r.entries) same
+
+  module _ (l : ℕ) (is : slice_get (entries_of p.bodies) l ≡ Some None) where
+    forms_by : (answers : List Answer) (m : ℕ) (events : List MarkKind) (result : Result) (r : Run)
+        → Done p.bodies plain (Once p.bodies plain l is) (once_stays p.bodies plain l is) (once_form p.bodies plain l is) (once_other p.bodies plain l is) (0 + length (entries_of p.bodies)) result
+        → seen_of answers m result ≡ Some r → r.end ≡ ended 0 → ((marks : List control.MarkKind) → marks_of result ≡ Some marks → events ≡ map kind_of marks) → count_by (enters_body l) events ≡ 1
+    forms_by answers m events None r once e i h = absurd (let bad : None ≡ Some r = e in cc)
+    forms_by answers m events (Some (gives v w)) r once e i h =
+        let lt = slice_get_within (entries_of p.bodies) l None is in
+        ap (count_by (enters_body l)) (h w.marks refl) ∙ once ∙ ap (λ b. cond b 1 0) (lt-ltb l (0 + length (entries_of p.bodies)) (omega (arith, lt)))
+    forms_by answers m events (Some (stops why w)) r once e i h =
+        let f : Some (run_with (ended (status_of why)) answers m w.state.store) ≡ Some r = e in
+        let same : run_with (ended (status_of why)) answers m w.state.store ≡ r = cc in
+        let ends : ended (status_of why) ≡ ended 0 = ap (λ r. r.end) same ∙ i in
+        absurd (no_stop why cc)
+    forms_by answers m events (Some (spent w)) r once e i h =
+        let f : Some (run_with going answers m w.state.store) ≡ Some r = e in
+        let same : run_with going answers m w.state.store ≡ r = cc in
+        let ends : going ≡ ended 0 = ap (λ r. r.end) same ∙ i in
+        absurd cc
+
+  pub counts_entries : CountsEntries entry segments marks_at (entries_of p.bodies) runs
+  counts_entries = record {
+    procedures = λ g answers m status output x.
+        procedures_by answers m (flat_map marks_at (traced m (start entry segments g answers)).trace) (outcome answers m) (runs answers m)
+        (procedures_paid p.bodies plain m m depth (starting_world p.statics p.library heap answers m) (let none : 0 + m ≡ m = omega arith in none)) (are.are answers m) (λ marks e. passes.all g answers m marks e status output x);
+    forms = λ g answers m output x label is.
+        let at = follows.covered g answers m in
+        let exits = ap exit_of (sym (traced_progress m (start entry segments g answers))) ∙ x in
+        forms_by label is answers m (flat_map marks_at (traced m (start entry segments g answers)).trace) (outcome answers m) (runs answers m)
+        (form_once p.bodies plain label is m depth (starting_world p.statics p.library heap answers m) refl) (are.are answers m) ((at.end 0 output exits).0) (λ marks e. passes.all g answers m marks e 0 output x);
+  }
