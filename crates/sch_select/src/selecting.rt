@@ -252,7 +252,8 @@ fn words_of(alloc: Global, p: &FrameProgram, closures: u64) -> Result<List<Word>
 fn items_of(alloc: Global, p: &FrameProgram, layout: Layout, depth: u64) -> Result<List<Item>, Mem>
     requires heap { layout.heap ≤ 2147483647 }
     requires depth { depth ≤ 10000000 }
-    ensures { IfOk result (λ items. items ≡ laid_code p.now.words layout.stack layout.heap depth (length p.now.bodies) (codes_of p.now.bodies)) }
+    ensures { IfOk result (λ items. items
+        ≡ laid_code p.now.words layout.stack layout.heap depth (length p.now.bodies) (codes_of p.now.bodies)) }
 {
     let bodies = p.bodies.as_slice();
     let own = match u32::try_from(bodies.len()) {
