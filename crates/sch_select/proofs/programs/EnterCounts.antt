@@ -1,8 +1,8 @@
 -- How many entries of procedures and of forms a run marks, and so its machine.
-use Rattle.std.proofs.Common.{◌≡◌, ℕ, zero, suc, ◌+◌, ◌-◌, ◌<◌, ◌≤◌, List, [], ◌∷◌, ◌++◌, length, map, Bool, true, false, cond, Option, Some, None, refl, sym, ap, ◌∙◌, subst, arith, ⊎_elim, inl, inr, ◌⊎◌}
-use Rattle.std.specs.Prelude.{IsTrue, nat_eq, nat_lt, slice_get}
-use Rattle.std.specs.List.{count_by, flat_map, list_all, sum_by}
-use Rattle.std.proofs.lemmas.Bool.{cases_lt, eq-eqb, eqb-true, eqb-false, lt-ltb, ltb-false, ltb-true, ne_eqb}
+use Rattle.std.proofs.Common.{◌≡◌, ℕ, suc, ◌+◌, ◌≤◌, List, [], ◌∷◌, length, map, Bool, true, false, cond, Option, Some, None, refl, sym, ap, ◌∙◌, subst, arith, ⊎_elim}
+use Rattle.std.specs.Prelude.{nat_eq, nat_lt, slice_get}
+use Rattle.std.specs.List.{count_by, flat_map, list_all}
+use Rattle.std.proofs.lemmas.Bool.{cases_lt, eqb-true, eqb-false, lt-ltb, ltb-true, ne_eqb}
 use Rattle.std.proofs.lemmas.List.Sums.{sum_by-append}
 use Rattle.std.proofs.lemmas.Option.{slice_get_within}
 use Rattle.sch_word.specs.declared.answer.Answer.{Answer}
@@ -10,18 +10,17 @@ use Rattle.sch_word.specs.declared.stop.Stop.{Stop}
 use Rattle.sch_word.specs.declared.stop.Stop.TheVariants.{WrongType, OutOfRange, NotProcedure, WrongCount, DivideByZero, Overflow, HeapLimit, DepthLimit, Unset, OutputFailed}
 use Rattle.sch_word.specs.runs.Stops.{status_of}
 use Rattle.sch_word.specs.runs.Runs.{Run, ended, going, run_with}
-use Rattle.sch_word.specs.runs.Computation.{State, gives, stops, spent}
+use Rattle.sch_word.specs.runs.Computation.{gives, stops, spent}
 use Rattle.sch_word.specs.values.Memory.{Segment}
 use Rattle.sch_control.specs.declared.body.Entry.{Entry}
 use Rattle.sch_control.specs.declared.mark.MarkKind as control
 use Rattle.sch_control.specs.declared.mark.MarkKind.TheVariants as mark
-use Rattle.sch_control.specs.Operations.{Procedure}
 use Rattle.sch_control.specs.Meaning.{World, Result, marked, on_return}
 use Rattle.sch_control.specs.Run.{do_forms, entry_at, known_entry, outcome_of, seen_of, starting_world}
 use Rattle.sch_frames.specs.Layout.{is_entered}
-use Rattle.sch_frames.specs.Run.{bodies_of, entries_of, run}
+use Rattle.sch_frames.specs.Run.{bodies_of, entries_of}
 use Rattle.sch_frames.specs.Tree.{Code, Source}
-use Rattle.sch_insn.specs.Behaves.{FollowsRuns, Given, exit_of, start}
+use Rattle.sch_insn.specs.Behaves.{FollowsRuns, exit_of, start}
 use Rattle.sch_insn.specs.Path.{traced}
 use Rattle.sch_insn.proofs.Paths.{traced_progress}
 use Rattle.sch_asm.specs.declared.item.MarkKind.{MarkKind}
@@ -158,7 +157,7 @@ module _ (codes : List Code) (plain : list_all plain_code codes ≡ true) where
         by false q =
             let c = counted_as (enters_body l) (mark.Enter label) w false q in
             let keeps : cond (nat_lt l (suc label)) 1 0 ≡ cond (nat_lt l label) 1 0 = ap (λ b. cond b 1 0) (passed_by label (eqb-false label l q)) in
-            c ∙ (let r : counted (enters_body l) w + 0 ≡ counted (enters_body l) w = omega arith in r) ∙ p ∙ sym keeps
+            omega (arith, c, p) ∙ sym keeps
 
     pub once_other : (label : ℕ) (w : World) (e : Entry) → slice_get entries label ≡ Some (Some e) → Once label w → Once (suc label) w
     once_other label w e i p =

@@ -1,5 +1,5 @@
 -- What a run keeps, where marks of entries stand nowhere but where bodies are entered.
-use Rattle.std.proofs.Common.{◌≡◌, ℕ, zero, suc, ◌+◌, List, [], ◌∷◌, ◌++◌, length, Bool, true, false, Option, Some, None, refl, sym, ap, ◌∙◌, subst, arith, ◌&&◌}
+use Rattle.std.proofs.Common.{◌≡◌, ℕ, zero, suc, List, [], ◌∷◌, ◌++◌, length, Bool, true, false, Option, Some, None, refl, ap, ◌∙◌}
 use Rattle.std.specs.Prelude.{not, slice_get}
 use Rattle.std.specs.List.{list_all}
 use Rattle.std.proofs.lemmas.Bool.{and_parts}
@@ -10,19 +10,19 @@ use Rattle.sch_word.specs.values.PrimitiveRows.{primitive}
 use Rattle.sch_word.specs.values.Values.{Value, fixnum, character, boolean, nil, unspecified, symbol, object, procedure, cell, is_true}
 use Rattle.sch_word.specs.runs.Charges.{cell_bytes, charge, charge_each, fit, procedure_bytes}
 use Rattle.sch_word.specs.runs.Store.{Store}
-use Rattle.sch_word.specs.runs.Computation.{Outcome, State, Action, gives, stops, spent, in_store, with_rest, on_value, checked_call, taken, take_entry, set_or_stop, read_cell, write_cell, with_rest, procedures_from}
+use Rattle.sch_word.specs.runs.Computation.{Outcome, State, Action, gives, stops, spent, in_store, with_rest, on_value, checked_call, taken, set_or_stop, read_cell, write_cell, with_rest, procedures_from}
 use Rattle.sch_word.proofs.Steady.{Steady, outcome_with, steady_charge, steady_charge_each, steady_fit, steady_primitive, steady_read_global, steady_write_global}
 use Rattle.sch_control.specs.declared.body.Entry.{Entry}
 use Rattle.sch_control.specs.declared.mark.MarkKind.{MarkKind}
 use Rattle.sch_control.specs.declared.mark.MarkKind.TheVariants.{Enter}
 use Rattle.sch_control.specs.declared.operation.Operation.{Operation}
 use Rattle.sch_control.specs.declared.operation.Operation.TheVariants as operation
-use Rattle.sch_control.specs.Operations.{Procedure, Ending, close, field, member_bytes, members_made, new_cell, operand_value, operand_values, operate, source_value, source_values, with_cell, with_procedures, with_some}
+use Rattle.sch_control.specs.Operations.{Procedure, Ending, field, member_bytes, members_made, new_cell, operand_value, operand_values, operate, source_value, source_values, with_cell, with_procedures, with_some}
 use Rattle.sch_control.specs.Meaning.{World, Result, Callee, call_in, either, entered, marked, on_checked, on_ending, on_outcome, on_return, with_value}
-use Rattle.sch_control.specs.Run.{do_forms, enter, enter_body, entry_at}
+use Rattle.sch_control.specs.Run.{enter, enter_body, entry_at}
 use Rattle.sch_frames.specs.declared.instruction.Instruction.{Instruction}
 use Rattle.sch_frames.specs.declared.instruction.Instruction.TheVariants.{Do, Store as Put, Copy, Load, Pass, Fix, Call, Tail, Return, End, IfFalse, Jump, Label, Mark}
-use Rattle.sch_frames.specs.Meaning.{Cell, Is, Link, Junk, Frame, More, after_call, beginning, execute, execute_each, held, if_link, link_register, parts, sought, value_in, with_members, with_outgoing, with_place}
+use Rattle.sch_frames.specs.Meaning.{Cell, Is, Link, Junk, Frame, More, beginning, execute, execute_each, held, if_link, link_register, parts, sought, value_in, with_members}
 use Rattle.sch_frames.specs.Run.{bodies_of, do_known, entries_of}
 use Rattle.sch_frames.specs.Tree.{Code}
 use Rattle.sch_select.specs.Marks.{is_enter, plain_code, plain_instruction}
