@@ -3,6 +3,8 @@ pub mod Selected
 pub mod Standing
 pub mod Forms
 pub mod Steps
+pub mod EnterMarks
+pub mod EnterCounts
 pub mod Passing
 pub mod Whole
 pub mod Starting

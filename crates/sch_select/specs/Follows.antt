@@ -1,11 +1,11 @@
 -- What a program's items and data owe to it.
 use Rattle.std.specs.Prelude.{◌≡◌, ℕ, ◌≤◌, List, [], ◌∷◌, ◌++◌, length, replicate, Some, IsTrue, false}
-use Rattle.std.specs.List.{flat_map}
+use Rattle.std.specs.List.{flat_map, list_all}
 use Rattle.sch_word.specs.declared.answer.Answer.{Answer}
 use Rattle.sch_word.specs.runs.ProgramLayout.{max_text_size, text_address}
 use Rattle.sch_word.specs.runs.Runs.{Run}
 use Rattle.sch_frames.specs.Tree.{Source}
-use Rattle.sch_frames.specs.Run.{run}
+use Rattle.sch_frames.specs.Run.{entries_of, run}
 use Rattle.sch_insn.specs.declared.insn.Insn.{Insn}
 use Rattle.sch_insn.specs.Behaves.{FollowsRuns}
 use Rattle.sch_insn.specs.Spelling.{AllValid, spelling}
@@ -19,7 +19,7 @@ use Rattle.sch_asm.specs.Items.{marks_arrive}
 use Rattle.sch_asm.specs.Stands.{marks_at}
 use Rattle.sch_asm.specs.Views.{text_at}
 use Rattle.sch_select.specs.Ends.{EndsWithin}
-use Rattle.sch_select.specs.Marks.{PassesMarks, marks_passed}
+use Rattle.sch_select.specs.Marks.{CountsEntries, PassesMarks, marks_passed, plain_code}
 use Rattle.sch_select.specs.Sizes.{steps_bound}
 
 -- The runs of a frame program that is never wrong, under limits of heap and depth.
@@ -57,3 +57,13 @@ pub record EndsFrames (p : Source) (heap depth : ℕ) (items : List Item) (data_
       → (runs : List Answer → ℕ → Run) → AreRuns p heap depth runs
       → EndsWithin text_address (text_at (flat_map spelling code) ∷ data_at (words ++ replicate zeros 0) ∷ []) runs
       (steps_bound p)
+
+-- Resolved so, the text passes a mark of an entry for each entry that a run takes, where no such mark stands among
+-- the instructions of bodies.
+pub record EntersFrames (p : Source) (heap depth : ℕ) (items : List Item) (data_words : List Word) (zeros : ℕ) : Type 0 where
+  pub enters : IsTrue (list_all plain_code p.bodies) → (routines : List Item) (code : List Insn) (marks : List mark.Mark) (words : List ℕ)
+      → AreEffective routines → IsTrue (marks_arrive false items) → IsTrue (marks_arrive false routines)
+      → AreResolved (items ++ routines) data_words code marks words
+      → AllValid code → length (flat_map spelling code) ≤ max_text_size
+      → (runs : List Answer → ℕ → Run) → AreRuns p heap depth runs
+      → CountsEntries text_address (text_at (flat_map spelling code) ∷ data_at (words ++ replicate zeros 0) ∷ []) (marks_at marks) (entries_of p.bodies) runs

@@ -1,17 +1,24 @@
 -- The marks that the run of a frame program passes, and those that its machine passes.
-use Rattle.std.specs.Prelude.{◌≡◌, ℕ, List, ◌++◌, map, Option, Some, None}
-use Rattle.std.specs.List.{flat_map}
+use Rattle.std.specs.Prelude.{◌≡◌, ℕ, Bool, true, false, not, nat_eq, slice_get, List, ◌++◌, map, Option, Some, None}
+use Rattle.std.specs.List.{count_by, flat_map, list_all}
 use Rattle.sch_word.specs.declared.answer.Answer.{Answer}
 use Rattle.sch_word.specs.values.Memory.{Segment}
 use Rattle.sch_word.specs.runs.Computation.{gives, stops, spent}
 use Rattle.sch_control.specs.declared.mark.MarkKind as control
+use Rattle.sch_control.specs.declared.mark.MarkKind.TheVariants.{Enter}
 use Rattle.sch_control.specs.Meaning.{Result}
-use Rattle.sch_control.specs.Run.{outcome_of, starting_world}
-use Rattle.sch_frames.specs.Tree.{Source}
+use Rattle.sch_control.specs.declared.body.Entry.{Entry}
+use Rattle.sch_control.specs.Run.{entry_at, outcome_of, starting_world}
+use Rattle.sch_frames.specs.declared.instruction.Instruction.{Instruction}
+use Rattle.sch_frames.specs.declared.instruction.Instruction.TheVariants.{Mark}
+use Rattle.sch_frames.specs.Tree.{Code, Source}
 use Rattle.sch_frames.specs.Run.{bodies_of, entries_of}
 use Rattle.sch_insn.specs.Behaves.{Given, exit_of, start}
 use Rattle.sch_insn.specs.Path.{traced}
 use Rattle.sch_asm.specs.declared.item.MarkKind.{MarkKind}
+use Rattle.sch_asm.specs.declared.item.MarkKind.TheVariants as item_mark
+use Rattle.sch_frames.specs.Layout.{is_entered}
+use Rattle.sch_word.specs.runs.Runs.{Run}
 use Rattle.sch_select.specs.Select.{kind_of}
 
 -- what a result has passed
@@ -27,6 +34,22 @@ abbrev pub marks_passed : Source → (heap depth : ℕ) → List Answer → (ent
 marks_passed p heap depth answers entries =
     marks_of (outcome_of (entries_of p.bodies) (bodies_of p.bodies) depth entries
     (starting_world p.statics p.library heap answers entries))
+
+-- ## Marks of entries
+
+abbrev pub is_enter : control.MarkKind → Bool
+is_enter (Enter label) = true
+is_enter _ = false
+
+-- no mark of an entry stands among instructions
+abbrev pub plain_instruction : Instruction → Bool
+plain_instruction (Mark m) = not (is_enter m)
+plain_instruction _ = true
+
+abbrev pub plain_code : Code → Bool
+plain_code c = list_all plain_instruction c.instructions
+
+-- ## What a machine passes
 
 -- A beginning may be the whole.
 pub record IsBeginning {E : Type 0} (xs ys : List E) : Type 0 where
@@ -45,3 +68,22 @@ pub record PassesMarks (entry : ℕ) (segments : List Segment) (marks_at : ℕ �
       → (status : ℕ) (output : List ℕ) → exit_of (traced m (start entry segments g answers)).progress ≡ Some
       (status, output)
       → flat_map marks_at (traced m (start entry segments g answers)).trace ≡ map kind_of marks
+
+-- ## Entries
+
+abbrev pub enters_procedure : List (Option Entry) → MarkKind → Bool
+enters_procedure entries (item_mark.Enter label) = is_entered (entry_at entries label)
+enters_procedure entries _ = false
+
+abbrev pub enters_body : (label : ℕ) → MarkKind → Bool
+enters_body label (item_mark.Enter l) = nat_eq l label
+enters_body label _ = false
+
+-- A machine that has exited has passed as many marks of entries of procedures as its run takes entries. Where the
+-- program reached its end, it has passed one of each form.
+pub record CountsEntries (entry : ℕ) (segments : List Segment) (marks_at : ℕ → List MarkKind) (entries : List (Option Entry)) (runs : List Answer → (entries : ℕ) → Run) : Type 0 where
+  pub procedures : (g : Given) (answers : List Answer) (m status : ℕ) (output : List ℕ) → exit_of (traced m (start entry segments g answers)).progress ≡ Some (status, output)
+      → count_by (enters_procedure entries) (flat_map marks_at (traced m (start entry segments g answers)).trace) ≡ (runs answers m).entries
+  pub forms : (g : Given) (answers : List Answer) (m : ℕ) (output : List ℕ) → exit_of (traced m (start entry segments g answers)).progress ≡ Some (0, output)
+      → (label : ℕ) → slice_get entries label ≡ Some None
+      → count_by (enters_body label) (flat_map marks_at (traced m (start entry segments g answers)).trace) ≡ 1

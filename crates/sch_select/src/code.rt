@@ -149,7 +149,8 @@ fn comparison(out: &mut List<Item>, n: u32, condition: u8) -> Result<(), Mem>
 
 /// What computes a fixnum from two, with its overflow.
 fn arithmetic(out: &mut List<Item>, insns: &[Item]) -> Result<(), Mem>
-    ensures { OnOk result ((rest : List Item) → out.new ++ rest ≡ out.old ++ check_fixnum RAX (check_fixnum RCX (insns.now ++ overflow_code rest))) }
+    ensures { OnOk result ((rest : List Item) → out.new ++ rest
+        ≡ out.old ++ check_fixnum RAX (check_fixnum RCX (insns.now ++ overflow_code rest))) }
 {
     check_both(out)?;
     out.extend_from_slice(insns)?;

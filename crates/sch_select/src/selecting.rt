@@ -9,7 +9,7 @@ ghost use Rattle.sch_frames.specs.ProgramView.{source};
 ghost use Rattle.sch_frames.specs.Sizes.{program_size};
 ghost use Rattle.sch_frames.specs.SourceView.{codes_of};
 ghost use Rattle.sch_select.specs.Covered.{is_covered_program};
-ghost use Rattle.sch_select.specs.Follows.{EndsFrames, FollowsFrames, PassesFrames};
+ghost use Rattle.sch_select.specs.Follows.{EndsFrames, EntersFrames, FollowsFrames, PassesFrames};
 ghost use Rattle.sch_select.specs.Jumps.{jumps_ahead};
 ghost use Rattle.sch_select.specs.Program.{own_label, closure_words, closures_address, data_words, laid_code};
 ghost use Rattle.sch_select.specs.Program.{global_word, global_words, heap_address, program_zeros, max_data};
@@ -252,7 +252,8 @@ fn words_of(alloc: Global, p: &FrameProgram, closures: u64) -> Result<List<Word>
 fn items_of(alloc: Global, p: &FrameProgram, layout: Layout, depth: u64) -> Result<List<Item>, Mem>
     requires heap { layout.heap ≤ 2147483647 }
     requires depth { depth ≤ 10000000 }
-    ensures { IfOk result (λ items. items ≡ laid_code p.now.words layout.stack layout.heap depth (length p.now.bodies) (codes_of p.now.bodies)) }
+    ensures { IfOk result (λ items. items
+        ≡ laid_code p.now.words layout.stack layout.heap depth (length p.now.bodies) (codes_of p.now.bodies)) }
 {
     let bodies = p.bodies.as_slice();
     let own = match u32::try_from(bodies.len()) {
@@ -279,14 +280,16 @@ fn items_of(alloc: Global, p: &FrameProgram, layout: Layout, depth: u64) -> Resu
 /// follow one after the other, those of procedures jumped over, and behind them the routine that puts any value.
 ///
 /// Resolved with the run-time routines, they do what the program does, whatever the machine is given and
-/// whatever the kernel answers, and pass the program's marks. Programs with literals, symbols or objects have no code yet. Time and memory are
-/// linear in the instructions, the labels, the globals and the library. The addresses below the stack are numbers
-/// of 31 bits. A stack of more than 1,073,741,824 bytes, without its last frame, is out of memory.
+/// whatever the kernel answers, and pass the program's marks. Programs with literals, symbols or objects have no
+/// code yet. Time and memory are linear in the instructions, the labels, the globals and the library. The addresses
+/// below the stack are numbers of 31 bits. A stack of more than 1,073,741,824 bytes, without its last frame, is out
+/// of memory.
 pub fn select(alloc: Global, p: &FrameProgram, limits: Limits) -> Result<Asm, Mem>
     requires covered { IsTrue (is_covered_program (source p.now)) }
     ensures follows { IfOk result (λ a. FollowsFrames (source p.now) limits.heap limits.depth a.items a.words a.zeros) }
     ensures steps { IfOk result (λ a. EndsFrames (source p.now) limits.heap limits.depth a.items a.words a.zeros) }
     ensures passes { IfOk result (λ a. PassesFrames (source p.now) limits.heap limits.depth a.items a.words a.zeros) }
+    ensures entries { IfOk result (λ a. EntersFrames (source p.now) limits.heap limits.depth a.items a.words a.zeros) }
     ensures own { IfOk result (λ a. AreOwn a.items) }
     ensures text { IfOk result (λ a. text_size a.items ≤ 512 + 64 * (program_size (source p.now) + closures_in (source p.now).bodies)) }
     ensures ahead { IfOk result (λ a. IsTrue (jumps_ahead (own_label (source p.now)) a.items)) }

@@ -2,6 +2,7 @@
 
 ghost use Rattle.std.specs.Prelude.{◌≡◌, ◌+◌, ◌++◌, ◌*◌, IfOk, OnOk, List, length};
 ghost use Rattle.sch_asm.specs.declared.item.Item.{Item};
+ghost use Rattle.sch_frames.specs.declared.instruction.Instruction.TheVariants.{Copy, Load};
 ghost use Rattle.sch_frames.specs.SourceView.{codes_of, code_of};
 ghost use Rattle.sch_select.specs.Select.{body_code, instruction_code, kind_of};
 ghost use Rattle.sch_select.specs.Program.{entry_code, form_code, forms_code, labels_end, passed_code};
@@ -11,7 +12,7 @@ use crate::code::{above, body_label, place_operand, second};
 use crate::heap::group;
 use crate::operation::operation;
 use sch_asm::{Item, MarkKind};
-use sch_control::{Entry, MarkKind as ControlMark};
+use sch_control::{Entry, MarkKind as ControlMark, Operand};
 use sch_frames::{FrameBody, Instruction};
 use sch_insn::condition::E;
 use sch_insn::register::{R15, RAX, RCX};
@@ -45,9 +46,29 @@ struct Labels {
     heap_end: u32,
 }
 
+/// What a place has into another one.
+fn copy(out: &mut List<Item>, to: Place, from: Place) -> Result<(), Mem>
+    ensures { OnOk result ((rest : List Item) → out.new ++ rest ≡ out.old ++ instruction_code 0 0 0 0 0 (Copy to from) rest) }
+{
+    let to = place_operand(to)?;
+    let from = place_operand(from)?;
+    out.push(Item::Plain(Insn::MovFrom(RCX, from)))?;
+    out.push(Item::Plain(Insn::MovTo(to, RCX)))
+}
+
+/// An operand into a place.
+fn load(out: &mut List<Item>, n: u32, p: Place, o: &Operand<Place>) -> Result<(), Mem>
+    ensures { OnOk result ((rest : List Item) → out.new ++ rest ≡ out.old ++ instruction_code 0 0 0 0 n (Load p o.now) rest) }
+{
+    let place = place_operand(p)?;
+    second(out, n, o)?;
+    out.push(Item::Plain(Insn::MovTo(place, RCX)))
+}
+
 /// One instruction, whose own labels are from n on.
 fn instruction(out: &mut List<Item>, labels: Labels, n: u32, i: &Instruction) -> Result<(), Mem>
-    ensures { OnOk result ((rest : List Item) → out.new ++ rest ≡ out.old ++ instruction_code labels.base labels.end labels.words labels.heap_end n i.now rest) }
+    ensures { OnOk result ((rest : List Item) → out.new ++ rest
+        ≡ out.old ++ instruction_code labels.base labels.end labels.words labels.heap_end n i.now rest) }
 {
     match i {
         Instruction::Do(o) => operation(out, labels.heap_end, n, o),
@@ -55,22 +76,9 @@ fn instruction(out: &mut List<Item>, labels: Labels, n: u32, i: &Instruction) ->
             let place = place_operand(*p)?;
             out.push(Item::Plain(Insn::MovTo(place, RAX)))
         }
-        Instruction::Copy(to, from) => {
-            let to = place_operand(*to)?;
-            let from = place_operand(*from)?;
-            out.push(Item::Plain(Insn::MovFrom(RCX, from)))?;
-            out.push(Item::Plain(Insn::MovTo(to, RCX)))
-        }
-        Instruction::Load(p, o) => {
-            let place = place_operand(*p)?;
-            second(out, n, o)?;
-            out.push(Item::Plain(Insn::MovTo(place, RCX)))
-        }
-        Instruction::Pass(k, o) => {
-            let place = place_operand(Place::Slot(above(labels.words, *k)?))?;
-            second(out, n, o)?;
-            out.push(Item::Plain(Insn::MovTo(place, RCX)))
-        }
+        Instruction::Copy(to, from) => copy(out, *to, *from),
+        Instruction::Load(p, o) => load(out, n, *p, o),
+        Instruction::Pass(k, o) => load(out, n, Place::Slot(above(labels.words, *k)?), o),
         Instruction::Fix(members) => group(out, labels.heap_end, members.as_slice()),
         Instruction::Call(_, count) => call(out, labels.words, n, *count),
         Instruction::Tail(_, count) => tail_call(out, *count),
@@ -100,7 +108,8 @@ fn body(
     n: u32,
     instructions: &[Instruction],
 ) -> Result<u32, Mem>
-    ensures items { OnOk result ((rest : List Item) → out.new ++ rest ≡ out.old ++ body_code labels.base labels.end labels.words labels.heap_end n instructions.now rest) }
+    ensures items { OnOk result ((rest : List Item) → out.new ++ rest
+        ≡ out.old ++ body_code labels.base labels.end labels.words labels.heap_end n instructions.now rest) }
     ensures next { IfOk result (λ m. m ≡ n + 12 * length instructions.now) }
 {
     let mut next = n;
@@ -140,7 +149,8 @@ fn check_entry(out: &mut List<Item>, entry: &Option<Entry>) -> Result<(), Mem>
 
 /// The body of a label, with labels of its own from n on, and the number behind these.
 fn form(out: &mut List<Item>, frames: Frames, label: u32, n: u32, b: &FrameBody) -> Result<u32, Mem>
-    ensures items { OnOk result ((rest : List Item) → out.new ++ rest ≡ out.old ++ form_code frames.words frames.heap_end label n (code_of b.now) rest) }
+    ensures items { OnOk result ((rest : List Item) → out.new ++ rest
+        ≡ out.old ++ form_code frames.words frames.heap_end label n (code_of b.now) rest) }
     ensures next { IfOk result (λ m. m ≡ labels_end n (code_of b.now)) }
 {
     let end = above(n, b.labels)?;
@@ -168,7 +178,8 @@ pub(crate) fn forms(
     n: u32,
     bodies: &[FrameBody],
 ) -> Result<(), Mem>
-    ensures { OnOk result ((rest : List Item) → out.new ++ rest ≡ out.old ++ forms_code frames.words frames.heap_end 0 n (codes_of bodies.now) rest) }
+    ensures { OnOk result ((rest : List Item) → out.new ++ rest
+        ≡ out.old ++ forms_code frames.words frames.heap_end 0 n (codes_of bodies.now) rest) }
 {
     let mut next = n;
     let mut label = 0;

@@ -1,6 +1,6 @@
 -- Small frame programs with calls and their routines, run by the machine.
-use Rattle.std.proofs.Common.{◌≡◌, ℕ, List, [], ◌∷◌, ◌++◌, Option, Some, None, true, false, refl}
-use Rattle.std.specs.List.{flat_map}
+use Rattle.std.proofs.Common.{◌≡◌, ℕ, ◌+◌, ◌*◌, List, [], ◌∷◌, ◌++◌, Bool, Option, Some, None, true, false, refl}
+use Rattle.std.specs.List.{flat_map, list_all}
 use Rattle.std.specs.Prelude.{codes, pos, replicate}
 use Rattle.sch_word.specs.declared.constant.Const.TheVariants.{Fixnum}
 use Rattle.sch_word.specs.declared.place.Place.{Place}
@@ -14,9 +14,10 @@ use Rattle.sch_control.specs.declared.operation.Operand.TheVariants as operand
 use Rattle.sch_control.specs.declared.operation.Operation.TheVariants as operation
 use Rattle.sch_control.specs.declared.operation.Source.TheVariants as source
 use Rattle.sch_frames.specs.declared.instruction.Instruction.{Instruction}
-use Rattle.sch_frames.specs.declared.instruction.Instruction.TheVariants.{Do, Store, Copy, Load, Pass, Call, Tail}
-use Rattle.sch_frames.specs.declared.instruction.Instruction.TheVariants.{Return, End as Ended, IfFalse, Jump, Label}
-use Rattle.sch_frames.specs.Run.{run}
+use Rattle.sch_frames.specs.declared.instruction.Instruction.TheVariants.{Do, Store, Copy, Load, Pass, Call, Tail, Mark}
+use Rattle.sch_frames.specs.declared.instruction.Instruction.TheVariants.{Return, End as Ended, IfFalse, Jump, Label, Mark}
+use Rattle.sch_control.specs.declared.mark.MarkKind.TheVariants as mark
+use Rattle.sch_frames.specs.Run.{entries_of, run}
 use Rattle.sch_frames.specs.Tree.{Source}
 use Rattle.sch_insn.specs.Behaves.{exit_of, start, zeros}
 use Rattle.sch_insn.specs.Decode.{escaped_of, long_of, narrow_of, operand_of, rexed_of, wide_of}
@@ -27,7 +28,10 @@ use Rattle.sch_asm.specs.Data.{data_at}
 use Rattle.sch_asm.specs.Views.{text_at}
 use Rattle.sch_runtime.specs.Code.{routine_items}
 use Rattle.sch_select.specs.Covered.{is_covered_program}
-use Rattle.sch_select.specs.Program.{program_code, program_words, program_zeros}
+use Rattle.sch_select.specs.Marks.{enters_procedure, marks_passed, plain_code}
+use Rattle.sch_select.specs.Program.{program_code, program_words, program_zeros, stack_bytes}
+use Rattle.sch_select.specs.Select.{kind_of}
+use Rattle.sch_select.specs.Sizes.{closures_in, steps_bound}
 use Rattle.sch_select.proofs.programs.Examples.{text_of, number}
 
 -- how a program ends within 600 steps, with 16 bytes of heap and this depth
@@ -147,3 +151,47 @@ runs :
     × (run deeper 16 2 [] 9 ≡ Some (record { output = []; entries = 2; charged = 16; answers = 0; end = ended 72 }))
     × (run endless 16 1 [] 4 ≡ Some (record { output = []; entries = 4; charged = 16; answers = 0; end = going }))
 runs = (refl, refl, refl)
+
+-- ## Which programs with calls are covered
+
+-- a procedure of one formal, which may take a list
+abbrev taking : (rest : Bool) → (form body : List Instruction) → Source
+taking rest form body = record {
+  statics = record { symbols = []; literals = no_literals; globals = [] };
+  library = [];
+  bodies = record { entry = None; words = 3; labels = 0; instructions = form } ∷ record { entry = Some (record { formals = 1; rest = rest; fields = 0 }); words = 3; labels = 0; instructions = body } ∷ [];
+  words = 3;
+}
+
+-- with a call there are no rest lists, no lists that are spread, and no procedures that end as a form does
+covers :
+    (is_covered_program (taking false (Call false 1 ∷ Ended ∷ []) (Return ∷ [])) ≡ true)
+    × (is_covered_program (taking false (Call true 1 ∷ Ended ∷ []) (Return ∷ [])) ≡ false)
+    × (is_covered_program (taking false (Call false 1 ∷ Ended ∷ []) (Ended ∷ [])) ≡ false)
+    × (is_covered_program (taking true (Call false 1 ∷ Ended ∷ []) (Return ∷ [])) ≡ false)
+    × (is_covered_program (taking true (Ended ∷ []) (Return ∷ [])) ≡ true)
+    × (is_covered_program (taking true (Ended ∷ []) (Tail false 1 ∷ [])) ≡ false)
+covers = (refl, refl, refl, refl, refl, refl)
+
+-- ## Marks and bounds
+
+abbrev noted : Source
+noted = calling 0 (Mark (mark.Call 3) ∷ Call false 0 ∷ Ended ∷ []) (Do (operation.Operand (number (pos 7))) ∷ Mark mark.Return ∷ Return ∷ [])
+
+-- the mark of a call is passed before it is known whether an entry is left
+marks :
+    (marks_passed noted 16 1 [] 5 ≡ Some (mark.Enter 0 ∷ mark.Call 3 ∷ mark.Enter 1 ∷ mark.Return ∷ []))
+    × (marks_passed noted 16 1 [] 0 ≡ Some (mark.Enter 0 ∷ mark.Call 3 ∷ []))
+    × (marks_passed noted 16 0 [] 5 ≡ Some (mark.Enter 0 ∷ mark.Call 3 ∷ []))
+    × (enters_procedure (entries_of noted.bodies) (kind_of (mark.Enter 1)) ≡ true)
+    × (enters_procedure (entries_of noted.bodies) (kind_of (mark.Enter 0)) ≡ false)
+    × (list_all plain_code noted.bodies ≡ true)
+marks = (refl, refl, refl, refl, refl, refl)
+
+-- frames for the form, for each depth, and one more; the bound of steps grows with entries and answers
+bounds :
+    (stack_bytes 3 10 ≡ 288)
+    × (program_zeros noted 16 10 ≡ 304)
+    × (closures_in noted.bodies ≡ 2)
+    × (steps_bound noted 2 1 ≡ 256 * 12 * 3 + 26)
+bounds = (refl, refl, refl, refl)

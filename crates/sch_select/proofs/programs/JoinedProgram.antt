@@ -35,13 +35,14 @@ use Rattle.sch_asm.specs.Stands.{marks_at}
 use Rattle.sch_select.specs.Ends.{EndsWithin}
 use Rattle.sch_select.specs.Sizes.{steps_bound}
 use Rattle.sch_select.specs.Marks.{PassesMarks, marks_passed}
-use Rattle.sch_select.specs.Follows.{AreRuns, EndsFrames, FollowsFrames, PassesFrames}
+use Rattle.sch_select.specs.Follows.{AreRuns, EndsFrames, EntersFrames, FollowsFrames, PassesFrames}
 use Rattle.sch_select.proofs.simulation.Places.{Plan, Room}
 use Rattle.sch_select.proofs.items.Appending.{Appends, then_appends, body_appends, behind}
 use Rattle.sch_select.proofs.simulation.Outcomes.{Laid}
 use Rattle.sch_select.proofs.simulation.Procedures.{bodies_cost}
 use Rattle.sch_select.proofs.programs.Starting.{parts_at_start, bytes_count, texts_there, values_there, first_is}
 use Rattle.sch_select.proofs.programs.Starting.{ends_at, contents_there, new_there}
+use Rattle.sch_select.proofs.programs.EnterCounts.{counts_entries}
 use Rattle.sch_select.proofs.programs.Whole.{Starts, program_ends, program_follows, program_passes}
 use Rattle.sch_select.proofs.programs.Selected.{fits, form_selected, selects}
 use Rattle.sch_frames.specs.CallFree.{marks_settled}
@@ -207,4 +208,11 @@ module _ (p : Source) (limit depth : ℕ) (words_few : p.words ≤ 2048)
     frames_pass = record {
       passes = λ routines code marks words effective arrive arrive' r valid small.
           (done routines code marks words effective arrive arrive' r valid small).passes;
+    }
+
+    pub frames_enter : EntersFrames p limit depth (program_code p limit depth) (program_words p) (program_zeros p limit depth)
+    frames_enter = record {
+      enters = λ plain routines code marks words effective arrive arrive' r valid small runs are.
+          let d = done routines code marks words effective arrive arrive' r valid small in
+          counts_entries p limit depth plain 0x400000 (text_at (flat_map spelling code) ∷ data_at (words ++ replicate (program_zeros p limit depth) 0) ∷ []) (marks_at marks) runs d.passes (d.follows runs are) are;
     }

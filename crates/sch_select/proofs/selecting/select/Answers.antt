@@ -4,12 +4,12 @@ use Rattle.sch_asm.specs.Items.{AreItems, AreKnown, AreOwn, IsEachOnce, labels_i
 use Rattle.sch_asm.specs.Codes.{text_size}
 use Rattle.sch_frames.specs.ProgramView.{source}
 use Rattle.sch_frames.specs.Sizes.{program_size}
-use Rattle.sch_select.specs.Follows.{EndsFrames, FollowsFrames, PassesFrames}
+use Rattle.sch_select.specs.Follows.{EndsFrames, EntersFrames, FollowsFrames, PassesFrames}
 use Rattle.sch_select.specs.Program.{max_data, max_stack, program_words, program_zeros, own_label}
 use Rattle.sch_select.specs.Sizes.{bodies_marked, closures_in, marks_in}
 use Rattle.sch_select.proofs.programs.CoveredPrograms.{calls_fitting, covered_selected, globals_known, labels_known}
 use Rattle.sch_select.proofs.programs.CoveredPrograms.{library_small, procedures_known}
-use Rattle.sch_select.proofs.programs.JoinedProgram.{frames_end, frames_follow, frames_pass}
+use Rattle.sch_select.proofs.programs.JoinedProgram.{frames_end, frames_enter, frames_follow, frames_pass}
 use Rattle.sch_select.proofs.items.ProgramFacts.{all_forward, bodies_count, data_end, globals_few, program_own}
 use Rattle.sch_select.proofs.items.ProgramFacts.{whole_items, whole_words, words_are, words_few}
 use Rattle.sch_select.proofs.items.ProgramKnown.{program_known}
@@ -99,6 +99,23 @@ returns-clause-steps c =
     (subst (λ ws. EndsFrames q l.heap l.depth c.in_ok-items.items ws (program_zeros q l.heap l.depth)) w
     (subst (λ is. EndsFrames q l.heap l.depth is (program_words q) (program_zeros q l.heap l.depth)) i
     (frames_end q l.heap l.depth (words_few p) (globals_few p) (library_small p c.requires.covered)
+    l.admitted.heap_high l.admitted.depth_high (few_bytes _ _ c.in_ok-stack_size.ensures.bytes
+    c.in_ok-stack_size.ensures.few) (calls_fitting p c.requires.covered).0 (covered_selected p c.requires.covered)
+    (calls_fitting p c.requires.covered).1 (globals_known p))))
+
+pub returns-clause-entries : goal.returns-clause-entries
+returns-clause-entries c =
+    let p = c.args.p.now in
+    let q = source p in
+    let l = c.args.limits in
+    let i = sym (whole_items q l.heap l.depth _ _ _ _ _ _ c.lay_out-layout.ensures.stack c.lay_out-layout.ensures.heap
+    c.len-globals.ensures c.len-library.ensures (sym (bodies_count p.bodies)) c.in_ok-items.ensures) in
+    let w = sym (whole_words q _ _ c.lay_out-layout.ensures.closures c.len-globals.ensures c.in_ok-words.ensures) in
+    subst (λ z. EntersFrames q l.heap l.depth c.in_ok-items.items c.in_ok-words.words z)
+    (sym (c.lay_out-layout.ensures.zeros ∙ ap (λ n. l.heap + n) c.in_ok-stack_size.ensures.bytes))
+    (subst (λ ws. EntersFrames q l.heap l.depth c.in_ok-items.items ws (program_zeros q l.heap l.depth)) w
+    (subst (λ is. EntersFrames q l.heap l.depth is (program_words q) (program_zeros q l.heap l.depth)) i
+    (frames_enter q l.heap l.depth (words_few p) (globals_few p) (library_small p c.requires.covered)
     l.admitted.heap_high l.admitted.depth_high (few_bytes _ _ c.in_ok-stack_size.ensures.bytes
     c.in_ok-stack_size.ensures.few) (calls_fitting p c.requires.covered).0 (covered_selected p c.requires.covered)
     (calls_fitting p c.requires.covered).1 (globals_known p))))
