@@ -18,9 +18,9 @@ use Rattle.sch_binders.specs.Assignments.{row_define}
 use Rattle.sch_binders.proofs.SoundRows.{define_sound}
 use Rattle.sch_numbers.specs.Numbered.{numbered_each}
 use Rattle.sch_numbers.specs.Programs.{Definition, seen, program_of}
-use Rattle.sch_core.specs.standin.Ranged.{IsValidOnceRanged}
-use Rattle.sch_core.specs.standin.Size.{size_each, size_of_definitions}
-use Rattle.sch_core.proofs.StandinSize.{program_size}
+use Rattle.sch_numbering.specs.Ranged.{IsValidOnceRanged}
+use Rattle.sch_numbering.specs.Size.{size_each, size_of_definitions}
+use Rattle.sch_numbering.proofs.ProgramSize.{program_size}
 use Rattle.sch_validity.specs.Library.{AreDefinitions, AreOrdered, procedures_of_each}
 use Rattle.sch_validity.specs.Sizes.{AllQuotable, statics_in_each}
 use Rattle.sch_validity.proofs.Sites.{count_numbered}

@@ -1,5 +1,6 @@
 -- With a library, data have a program or an error, and never both.
 use Rattle.std.proofs.Common.{◌≡◌, ◌≢◌, ◌⊎◌, inl, inr, ℕ, Bool, true, false, cond, List, [], ◌∷◌, Option, Some, None, refl, sym, ap, ◌∙◌, subst}
+use Rattle.std.specs.Prelude.{Result, Ok, Err, IsErrAnd, MatchResult}
 use Rattle.sch_lang.specs.Tree.{Source, Expressions, no_expressions, and_expression}
 use Rattle.sch_read.specs.Grammar.{Data}
 use Rattle.sch_sketch.specs.Draft.{Drafts}
@@ -28,8 +29,13 @@ left_is e = ap (λ p. p.0) (some_some e)
 right_is : {p q : Kind × ℕ} → Some p ≡ Some q → p.1 ≡ q.1
 right_is e = ap (λ p. p.1) (some_some e)
 
+-- what is an error has no value
+pub err_only : {A B : Type 0} (P : A → Type 0) (Q : B → Type 0) (r : Result A B) → IsErrAnd r Q → MatchResult r P Q
+err_only P Q (Ok x) h = absurd h
+err_only P Q (Err e) h = h
+
 -- only these are counted
-abbrev IsCounted : Kind → Type 0
+abbrev pub IsCounted : Kind → Type 0
 IsCounted kinds.Variables = Unit {0}
 IsCounted kinds.Free = Unit {0}
 IsCounted _ = ⊥
@@ -44,7 +50,7 @@ place_counted : (at : ℕ) (o : Option Kind) (others : Option (Kind × ℕ)) (k 
 place_counted at (Some j) others k at' e h r = h k (ap Some (left_is e))
 place_counted at None others k at' e h r = r e
 
-first_counted : (places : List ℕ) (es : Expressions) (k : Kind) (at : ℕ) → first_excess places es ≡ Some (k, at) → IsCounted k
+pub first_counted : (places : List ℕ) (es : Expressions) (k : Kind) (at : ℕ) → first_excess places es ≡ Some (k, at) → IsCounted k
 first_counted [] es k at e = absurd (none_some e)
 first_counted (p ∷ places) no_expressions k at e = absurd (none_some e)
 first_counted (p ∷ places) (and_expression x es) k at e =
@@ -70,6 +76,23 @@ named_by (errors.Limit kinds.Variables at) f h = absurd h
 named_by (errors.Limit kinds.Free at) f h = absurd h
 
 module _ (ds : List Definition) (items : Data) where
+  -- the error that a fault has, and that a form has with too many variables
+  pub faulty_error : (e : CoreError) (f : Fault) → IsErrorFor e f → IsFaultOf (seen ds) items f → IsErrorIn ds items e
+  faulty_error errors.Memory f i h = absurd i
+  faulty_error (errors.BadForm at) f i h = (f, i, h)
+  faulty_error (errors.Unbound at x) f i h = (f, i, h)
+  faulty_error (errors.KeywordDefined at) f i h = (f, i, h)
+  faulty_error (errors.Limit kinds.Operands at) f i h = (f, i, h)
+  faulty_error (errors.Limit kinds.Core at) f i h = (f, i, h)
+  faulty_error (errors.Limit kinds.Variables at) f i h = absurd i
+  faulty_error (errors.Limit kinds.Free at) f i h = absurd i
+
+  pub excessive_error : (kind : Kind) (at : ℕ) → IsCounted kind → ExceedsAt ds items kind at → IsErrorIn ds items (errors.Limit kind at)
+  excessive_error kinds.Variables at c h = h
+  excessive_error kinds.Free at c h = h
+  excessive_error kinds.Operands at c h = absurd c
+  excessive_error kinds.Core at c h = absurd c
+
   -- ## A program or an error
 
   -- an error that is not memory, and why

@@ -19,7 +19,7 @@ use Rattle.sch_table.proofs.Falls.{datum_falls, rest_falls}
 use Rattle.sch_table.proofs.SoundRows.{datum_sound, rest_sound}
 use Rattle.sch_expansion.specs.Expands.{Expands, PartsExpand}
 use Rattle.sch_expansion.specs.Expands as ex
-use Rattle.sch_core.specs.standin.Size.{size, size_each}
+use Rattle.sch_numbering.specs.Size.{size, size_each}
 use Rattle.sch_toplevel.specs.Forms.{is_begin_word, forms_of, forms_in, form_sketch, sketches_of}
 
 pub counted : {globals : Globals} {k : Kind} {first : Bool} {n : ℕ} {s : Scope} {t : Position} {ks : Sketches} {es : Drafts} → PartsExpand globals k first n s t ks es → how_many_parts ks ≡ count es

@@ -23,9 +23,9 @@ use Rattle.sch_binders.specs.Assignments as table
 use Rattle.sch_binders.specs.Assignments.{row_define, keyword_at, aimed_name}
 use Rattle.sch_expansion.specs.Expands.{Expands, PartsExpand}
 use Rattle.sch_expansion.specs.Expands as ex
-use Rattle.sch_numbers.specs.Named.{firsts}
+use Rattle.sch_numbers.specs.Named.{firsts, globals_in_each, symbols_in_each}
 use Rattle.sch_numbers.specs.Numbered.{numbered, numbered_each}
-use Rattle.sch_numbers.specs.Programs.{Definition, is_hidden, seen, names_of_each, with_definition, kept, named, procedures, program_of}
+use Rattle.sch_numbers.specs.Programs.{Definition, is_hidden, seen, names_of_each, globals_of_each, symbols_of_each, with_definition, kept, named, procedures, program_of}
 use Rattle.sch_validity.specs.Few.{IsFew, LambdasAreFew, FormsAreFew}
 use Rattle.sch_validity.specs.Forms.{Form, expression, definition, sketch_of, IsBound, AreDefined, HasNames, AreOfData, form_weight, forms_weight}
 use Rattle.sch_validity.specs.Forms as valid
@@ -153,18 +153,21 @@ module _ (g : Globals) where
   split no_sketch r = split_one r
   split (and_sketch q qs) r = split_more r
 
-  none_is : {first : Bool} {es : Drafts} → PartsExpand g sequencing first 1 [] Value no_sketch es → es ≡ no_drafts
-  none_is (ex.no_part _ _ _ _ _) = refl
-
-  pub forms_are : (ds : List Datum) (first : Bool) (es : Drafts) → PartsExpand g sequencing first 1 [] Value (sketches (map form_sketch ds)) es →
-      AreAmong g.bound (defined_by_each (map form_sketch ds)) → valid.FormsExpand g (map form_of ds) es × AreDefined g (map form_of ds)
-  forms_are [] first es p h = (subst (λ l. valid.FormsExpand g [] l) (sym (none_is p)) tt, tt)
-  forms_are (d ∷ ds) first es p h =
+  pub forms_defined : (ds : List Datum) (first : Bool) (es : Drafts) → PartsExpand g sequencing first 1 [] Value (sketches (map form_sketch ds)) es →
+      AreAmong g.bound (defined_by_each (map form_sketch ds)) → AreDefined g (map form_of ds)
+  forms_defined [] first es p h = tt
+  forms_defined (d ∷ ds) first es p h =
       let s = split (sketches (map form_sketch ds)) p in
-      let others = forms_are ds false s.more s.others (right g.bound (defined_by (form_sketch d)) _ h) in
       let here = subst (λ k. Expands g 1 [] Value k s.draft) (form_is d) s.here in
       let names = subst (λ k. AreAmong g.bound (defined_by k)) (form_is d) (left g.bound (defined_by (form_sketch d)) _ h) in
-      (subst (λ l. valid.FormsExpand g (map form_of (d ∷ ds)) l) (sym s.whole) (here, others.0), one_defined (form_of d) (map form_of ds) s.draft here names others.1)
+      one_defined (form_of d) (map form_of ds) s.draft here names (forms_defined ds false s.more s.others (right g.bound (defined_by (form_sketch d)) _ h))
+
+forms_are : (ds : List Datum) → map form_sketch ds ≡ map sketch_of (map form_of ds)
+forms_are [] = refl
+forms_are (d ∷ ds) = let i = form_is d in let j = forms_are ds in λ p. i p ∷ j p
+
+pub forms_expand : (g : Globals) (items : Data) (es : Drafts) → FormsExpand g items es → valid.FormsExpand g (map form_of (forms_in items)) es
+forms_expand g items es p = subst (λ ks. PartsExpand g sequencing true 1 [] Value (sketches ks) es) (forms_are (forms_in items)) p
 
 -- ## The data of forms
 
@@ -324,7 +327,8 @@ module _ (ds : List Definition) (items : Data) (assigned : List (List ℕ)) (es 
       let own = own_names items assigned in
       let g = text_globals (seen ds) items assigned in
       let fs = map form_of (forms_in items) in
-      let forms = forms_are g (forms_in items) true es expands (right g.bound (seen ds) (defined items) (all_among (seen ds ++ defined items) [])) in
-      let words = forms_constants g fs es forms.0 (data_quotable items quotable) in
-      valid_text ds g own fs es definitions ordered forms.0 forms.1 (names_there ds items assigned) words.0 words.1 (omega (arith, small, data_weigh items))
-      (library_few _ _ (kept ds (named ds own es)) 0 0 (kept_few ds (named ds own es) library), forms_few (form_places items) (program_of ds own es).forms places fits)
+      let forms = forms_expand g items es expands in
+      let names = forms_defined g (forms_in items) true es expands (right g.bound (seen ds) (defined items) (all_among (seen ds ++ defined items) [])) in
+      let words = forms_constants g fs es forms (data_quotable items quotable) in
+      valid_text ds g own fs es definitions ordered forms names (names_there ds items assigned) words.0 words.1 (omega (arith, small, data_weigh items))
+      (library_few (firsts [] (globals_of_each (kept ds (named ds own es)) ++ globals_in_each own es)) (firsts [] (symbols_of_each (kept ds (named ds own es)) ++ symbols_in_each es)) (kept ds (named ds own es)) 0 0 (kept_few ds (named ds own es) library), forms_few (form_places items) (program_of ds own es).forms places fits)

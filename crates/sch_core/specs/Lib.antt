@@ -3,4 +3,3 @@ pub mod Answer
 pub mod Laws
 pub mod Libraries
 pub mod SoundLibraries
-pub mod standin

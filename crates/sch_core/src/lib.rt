@@ -8,7 +8,6 @@ mod library;
 mod limits;
 mod places;
 mod quotable;
-mod standin;
 
 pub use error::{CoreError, Kind};
 pub use expander::core;

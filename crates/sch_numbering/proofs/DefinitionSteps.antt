@@ -1,5 +1,5 @@
 -- The steps of the loops over definitions that name and number them, over plain values.
-use Rattle.std.proofs.Common.{◌≡◌, ◌<◌, ◌≤◌, ◌+◌, ℕ, suc, Bool, List, [], ◌∷◌, ◌++◌, length, drop, get_or, map, Option, None, refl, sym, ap, subst, ◌∙◌, add-one, append_assoc, drop-cons}
+use Rattle.std.proofs.Common.{◌≡◌, ◌<◌, ◌≤◌, ◌+◌, ℕ, suc, List, [], ◌∷◌, ◌++◌, length, drop, get_or, map, None, refl, sym, ap, subst, ◌∙◌, add-one, append_assoc, drop-cons}
 use Rattle.std.proofs.lemmas.List.{map-append, drop_all}
 use Rattle.sch_word.specs.values.Literals.{Literal}
 use Rattle.sch_lang.specs.declared.tree.Lambda.{Lambda}

@@ -1,8 +1,7 @@
 -- The size of small drafts.
-use Rattle.std.proofs.Common.{◌≡◌, true, false, List, [], ◌∷◌, Some, None, refl, codes}
+use Rattle.std.proofs.Common.{◌≡◌, true, false, [], ◌∷◌, None, refl, codes}
 use Rattle.sch_word.specs.declared.constant.Const.TheVariants.{Nil}
 use Rattle.sch_sketch.specs.Draft.{Draft, constant, local, global, set_local, branch, sequence, bind, letrec, lambda, call, no_drafts, and_draft}
-use Rattle.sch_numbers.specs.Programs.{Definition}
 use Rattle.sch_numbering.specs.Size.{size, size_of_definitions}
 
 -- a call of two parts in a procedure of two formals

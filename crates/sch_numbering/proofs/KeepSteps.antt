@@ -1,6 +1,6 @@
 -- The steps of the loops that choose what is kept of a library, over plain values.
-use Rattle.std.proofs.Common.{◌≡◌, ◌<◌, ◌≤◌, ◌-◌, ◌+◌, ℕ, zero, suc, Bool, true, false, cond, not, ◌||◌, ◌&&◌, List, [], ◌∷◌, ◌++◌, length, drop, get_or, map, reverse, refl, sym, ap, subst, ◌∙◌, arith, add-one, append_assoc, append-nil, drop-cons, Option}
-use Rattle.std.proofs.lemmas.List.{map-append, reverse-append, drop_all}
+use Rattle.std.proofs.Common.{◌≡◌, ◌<◌, ◌≤◌, ◌+◌, ℕ, zero, suc, Bool, true, false, cond, not, ◌||◌, ◌&&◌, List, [], ◌∷◌, ◌++◌, length, drop, get_or, map, reverse, refl, sym, ap, subst, ◌∙◌, arith, add-one, append_assoc, append-nil, drop-cons, Option}
+use Rattle.std.proofs.lemmas.List.{reverse-append, drop_all}
 use Rattle.std.specs.Str.{bytes_eq}
 use Rattle.sch_names.specs.Scope.{is_among}
 use Rattle.sch_names.specs.NamesView.{with_name, number_of}
@@ -9,7 +9,7 @@ use Rattle.sch_numbers.specs.Programs.{Definition, kept, with_definition, global
 use Rattle.sch_sketch.specs.DraftView.{draft_of}
 use Rattle.sch_numbering.specs.declared.definition.Definition as code
 use Rattle.sch_numbering.specs.Definitions.{definition_of, definitions_of}
-use Rattle.sch_numbering.proofs.NameSets.{equal, or_none, or_three, or_four, or_assoc, among_append, among_with, among_firsts, among_library, among_held}
+use Rattle.sch_numbering.proofs.NameSets.{equal, or_none, or_three, or_four, among_append, among_with, among_firsts, among_held}
 
 -- ## Names that are held
 

@@ -1,8 +1,8 @@
 -- The program of definitions and forms, from the parts that were made.
-use Rattle.std.proofs.Common.{◌≡◌, ℕ, Bool, true, false, List, [], ◌∷◌, ◌++◌, length, map, ◌+◌, Option, arith, refl, ap, sym, ◌∙◌, ◌&&◌, ◌||◌}
+use Rattle.std.proofs.Common.{◌≡◌, ℕ, Bool, true, false, List, [], ◌++◌, length, map, ◌+◌, Option, arith, refl, ap, sym, ◌∙◌, ◌&&◌, ◌||◌}
 use Rattle.sch_word.specs.declared.literal.Lit.{Lit}
 use Rattle.sch_word.specs.values.Literals.{literals}
-use Rattle.sch_word.specs.values.LiteralView.{literal, literals_of}
+use Rattle.sch_word.specs.values.LiteralView.{literal}
 use Rattle.sch_word.proofs.worked.LiteralRows.{literals_of_list}
 use Rattle.sch_lang.specs.declared.tree.Exp.{Exp}
 use Rattle.sch_lang.specs.declared.tree.Lambda.{Lambda}

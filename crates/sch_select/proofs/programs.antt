@@ -2,11 +2,13 @@
 pub mod Selected
 pub mod Standing
 pub mod Forms
+pub mod Steps
 pub mod Passing
 pub mod Whole
 pub mod Starting
 pub mod JoinedProgram
 pub mod CoveredPrograms
 pub mod StraightPrograms
+pub mod CallFreePrograms
 pub mod Examples
 pub mod CallExamples

@@ -1,6 +1,6 @@
 -- Which frame programs have their code yet: those without literals, symbols and objects, so without rest lists
 -- that are made and lists that are spread.
-use Rattle.std.specs.Prelude.{ℕ, Bool, true, false, ◌&&◌, ◌||◌, not, nat_le, nat_lt, List, [], ◌∷◌, length, Option, Some, None}
+use Rattle.std.specs.Prelude.{ℕ, Bool, true, false, ◌&&◌, ◌||◌, not, nat_le, nat_lt, List, length, Option, Some, None}
 use Rattle.std.specs.List.{list_all}
 use Rattle.sch_word.specs.declared.place.Place.{Place}
 use Rattle.sch_word.specs.trees.Shape.{max_free_variables}
@@ -13,7 +13,8 @@ use Rattle.sch_control.specs.declared.operation.Operation.{Operation}
 use Rattle.sch_control.specs.declared.operation.Operation.TheVariants as operation
 use Rattle.sch_control.specs.Straight.{is_form, is_straight_atom, is_straight_operand, is_straight_operation}
 use Rattle.sch_frames.specs.declared.instruction.Instruction.{Instruction}
-use Rattle.sch_frames.specs.declared.instruction.Instruction.TheVariants.{Do, Load, Pass, Fix, Call, Tail, End, Label, Mark}
+use Rattle.sch_frames.specs.declared.instruction.Instruction.TheVariants.{Do, Load, Pass, Fix, Call, Tail, End}
+use Rattle.sch_frames.specs.CallFree.{marks_settled}
 use Rattle.sch_frames.specs.Tree.{Code}
 use Rattle.sch_frames.specs.Tree as tree
 
@@ -49,13 +50,6 @@ is_covered_instruction (Fix members) = is_covered_group members
 is_covered_instruction (Call spread count) = not spread
 is_covered_instruction (Tail spread count) = not spread
 is_covered_instruction _ = true
-
--- Each mark has an instruction behind it, and no label between. Whether one waits for the first instruction.
-abbrev pub marks_settled : (waiting : Bool) → List Instruction → Bool
-marks_settled waiting [] = not waiting
-marks_settled waiting (Mark m ∷ instructions) = marks_settled true instructions
-marks_settled waiting (Label l ∷ instructions) = not waiting && marks_settled false instructions
-marks_settled waiting (_ ∷ instructions) = marks_settled false instructions
 
 -- the mark of the body itself waits for its first instruction
 abbrev pub is_covered_code : Code → Bool

@@ -18,7 +18,9 @@ use Rattle.sch_asm.specs.Effects.{AreEffective}
 use Rattle.sch_asm.specs.Items.{marks_arrive}
 use Rattle.sch_asm.specs.Stands.{marks_at}
 use Rattle.sch_asm.specs.Views.{text_at}
+use Rattle.sch_select.specs.Ends.{EndsWithin}
 use Rattle.sch_select.specs.Marks.{PassesMarks, marks_passed}
+use Rattle.sch_select.specs.Sizes.{steps_bound}
 
 -- The runs of a frame program that is never wrong, under limits of heap and depth.
 pub record AreRuns (p : Source) (heap depth : ℕ) (runs : List Answer → (entries : ℕ) → Run) : Type 0 where
@@ -26,7 +28,8 @@ pub record AreRuns (p : Source) (heap depth : ℕ) (runs : List Answer → (entr
 
 -- Resolved with any items that do what the routines do, the items are a text that, with the data and the
 -- zeros behind them, follows the program's runs.
-pub record FollowsFrames (p : Source) (heap depth : ℕ) (items : List Item) (data_words : List Word) (zeros : ℕ) : Type 0 where
+pub record FollowsFrames (p : Source) (heap depth : ℕ) (items : List Item) (data_words : List Word) (zeros : ℕ) : Type
+    0 where
   pub follows : (routines : List Item) (code : List Insn) (marks : List mark.Mark) (words : List ℕ)
       → AreEffective routines → IsTrue (marks_arrive false items) → IsTrue (marks_arrive false routines)
       → AreResolved (items ++ routines) data_words code marks words
@@ -35,9 +38,22 @@ pub record FollowsFrames (p : Source) (heap depth : ℕ) (items : List Item) (da
       → FollowsRuns text_address (text_at (flat_map spelling code) ∷ data_at (words ++ replicate zeros 0) ∷ []) runs
 
 -- Resolved so, the text passes the marks that the program's runs pass, at the addresses that resolution gives.
-pub record PassesFrames (p : Source) (heap depth : ℕ) (items : List Item) (data_words : List Word) (zeros : ℕ) : Type 0 where
+pub record PassesFrames (p : Source) (heap depth : ℕ) (items : List Item) (data_words : List Word) (zeros : ℕ) : Type
+    0 where
   pub passes : (routines : List Item) (code : List Insn) (marks : List mark.Mark) (words : List ℕ)
       → AreEffective routines → IsTrue (marks_arrive false items) → IsTrue (marks_arrive false routines)
       → AreResolved (items ++ routines) data_words code marks words
       → AllValid code → length (flat_map spelling code) ≤ max_text_size
-      → PassesMarks text_address (text_at (flat_map spelling code) ∷ data_at (words ++ replicate zeros 0) ∷ []) (marks_at marks) (marks_passed p heap depth)
+      → PassesMarks text_address (text_at (flat_map spelling code) ∷ data_at (words ++ replicate zeros 0) ∷ [])
+      (marks_at marks) (marks_passed p heap depth)
+
+-- Resolved so, the text exits within a bound of steps where a run has ended.
+pub record EndsFrames (p : Source) (heap depth : ℕ) (items : List Item) (data_words : List Word) (zeros : ℕ) : Type
+    0 where
+  pub ends : (routines : List Item) (code : List Insn) (marks : List mark.Mark) (words : List ℕ)
+      → AreEffective routines → IsTrue (marks_arrive false items) → IsTrue (marks_arrive false routines)
+      → AreResolved (items ++ routines) data_words code marks words
+      → AllValid code → length (flat_map spelling code) ≤ max_text_size
+      → (runs : List Answer → ℕ → Run) → AreRuns p heap depth runs
+      → EndsWithin text_address (text_at (flat_map spelling code) ∷ data_at (words ++ replicate zeros 0) ∷ []) runs
+      (steps_bound p)

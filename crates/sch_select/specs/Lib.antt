@@ -4,4 +4,5 @@ pub mod Covered
 pub mod Sizes
 pub mod Jumps
 pub mod Marks
+pub mod Ends
 pub mod Follows

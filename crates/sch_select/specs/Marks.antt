@@ -25,7 +25,8 @@ marks_of (Some (spent w)) = Some w.marks
 -- number of procedure entries; none where the program is wrong
 abbrev pub marks_passed : Source → (heap depth : ℕ) → List Answer → (entries : ℕ) → Option (List control.MarkKind)
 marks_passed p heap depth answers entries =
-    marks_of (outcome_of (entries_of p.bodies) (bodies_of p.bodies) depth entries (starting_world p.statics p.library heap answers entries))
+    marks_of (outcome_of (entries_of p.bodies) (bodies_of p.bodies) depth entries
+    (starting_world p.statics p.library heap answers entries))
 
 -- A beginning may be the whole.
 pub record IsBeginning {E : Type 0} (xs ys : List E) : Type 0 where
@@ -35,9 +36,12 @@ pub record IsBeginning {E : Type 0} (xs ys : List E) : Type 0 where
 -- A machine that is entered at an address passes the marks of these runs, in their order, each as the instruction
 -- of its address begins. In m steps it passes no more than the run with m entries does, and where it has exited it
 -- has passed all of them.
-pub record PassesMarks (entry : ℕ) (segments : List Segment) (marks_at : ℕ → List MarkKind) (passed : List Answer → (entries : ℕ) → Option (List control.MarkKind)) : Type 0 where
-  pub along : (g : Given) (answers : List Answer) (m : ℕ) (marks : List control.MarkKind) → passed answers m ≡ Some marks
+pub record PassesMarks (entry : ℕ) (segments : List Segment) (marks_at : ℕ → List MarkKind)
+    (passed : List Answer → (entries : ℕ) → Option (List control.MarkKind)) : Type 0 where
+  pub along : (g : Given) (answers : List Answer) (m : ℕ) (marks : List control.MarkKind)
+      → passed answers m ≡ Some marks
       → IsBeginning (flat_map marks_at (traced m (start entry segments g answers)).trace) (map kind_of marks)
   pub all : (g : Given) (answers : List Answer) (m : ℕ) (marks : List control.MarkKind) → passed answers m ≡ Some marks
-      → (status : ℕ) (output : List ℕ) → exit_of (traced m (start entry segments g answers)).progress ≡ Some (status, output)
+      → (status : ℕ) (output : List ℕ) → exit_of (traced m (start entry segments g answers)).progress ≡ Some
+      (status, output)
       → flat_map marks_at (traced m (start entry segments g answers)).trace ≡ map kind_of marks

@@ -17,7 +17,8 @@ use Rattle.sch_asm.specs.declared.assembly.Word.TheVariants.{Fixed, Address}
 use Rattle.sch_asm.specs.declared.routine.Routine.TheVariants as routine
 use Rattle.sch_asm.specs.Routines.{label_of}
 use Rattle.sch_heap.specs.Encoded.{true_word, false_word, nil_word, unset_word, character_tag, procedure_tag, cell_tag}
-use Rattle.sch_select.specs.Select.{bytes_address, texts_address, globals_address, low_bits, stop_label, put_label, body_label, check_count, body_code}
+use Rattle.sch_select.specs.Select.{bytes_address, texts_address, globals_address, low_bits, stop_label, put_label}
+use Rattle.sch_select.specs.Select.{body_label, check_count, body_code}
 
 -- ## The put of any value: RAX has its word, and R11 where to return
 
@@ -29,7 +30,8 @@ text_code address size rest =
 -- the text of one value, and then that of others
 abbrev pub either_text : (word address size next : ℕ) → List Item → List Item
 either_text word address size next rest =
-    item.Plain (CmpNumber (Reg RAX) (pos word)) ∷ (item.JumpIf NE next ∷ text_code address size (item.Label next ∷ rest))
+    item.Plain (CmpNumber (Reg RAX) (pos word)) ∷ (item.JumpIf NE next ∷ text_code address size
+    (item.Label next ∷ rest))
 
 abbrev pub character_put : List Item → List Item
 character_put rest =
@@ -134,7 +136,8 @@ laid_code words heap_end heap depth count bodies =
     item.Plain (MovWord RBP (pos heap_end))
     ∷ (item.Plain (MovWord R12 (pos heap))
     ∷ (item.Plain (MovWord R13 (pos depth))
-    ∷ forms_code words heap_end 0 (body_label count) bodies (item.Jump (label_of routine.End) ∷ (item.Label put_label ∷ put_value_code))))
+    ∷ forms_code words heap_end 0 (body_label count) bodies
+    (item.Jump (label_of routine.End) ∷ (item.Label put_label ∷ put_value_code))))
 
 abbrev pub program_code : Source → (heap depth : ℕ) → List Item
 program_code p heap depth = laid_code p.words (heap_of p + heap) (heap_of p) depth (length p.bodies) p.bodies

@@ -4,8 +4,12 @@ use Rattle.std.specs.Prelude.{ℕ, ◌+◌, ◌*◌, List, [], ◌∷◌, length
 use Rattle.sch_word.specs.declared.place.Place.{Place}
 use Rattle.sch_word.specs.declared.place.Place.TheVariants as place
 use Rattle.sch_word.specs.declared.primitive.Primitive.{Primitive}
-use Rattle.sch_word.specs.declared.primitive.Primitive.TheVariants.{Eq, Eqv, IsBoolean, IsPair, IsNull, IsSymbol, IsInteger, IsChar, IsString, IsVector, IsProcedure}
-use Rattle.sch_word.specs.declared.primitive.Primitive.TheVariants.{Add, Subtract, Multiply, Quotient, Remainder, Modulo, Equal, Less, Greater, LessEqual, GreaterEqual, CharToInteger, IntegerToChar, Put}
+use Rattle.sch_word.specs.declared.primitive.Primitive.TheVariants.{Eq, Eqv, IsBoolean, IsPair, IsNull, IsSymbol}
+use Rattle.sch_word.specs.declared.primitive.Primitive.TheVariants.{IsInteger, IsChar, IsString, IsVector}
+use Rattle.sch_word.specs.declared.primitive.Primitive.TheVariants.{IsProcedure}
+use Rattle.sch_word.specs.declared.primitive.Primitive.TheVariants.{Add, Subtract, Multiply, Quotient, Remainder}
+use Rattle.sch_word.specs.declared.primitive.Primitive.TheVariants.{Modulo, Equal, Less, Greater, LessEqual}
+use Rattle.sch_word.specs.declared.primitive.Primitive.TheVariants.{GreaterEqual, CharToInteger, IntegerToChar, Put}
 use Rattle.sch_word.specs.declared.stop.Stop.{Stop}
 use Rattle.sch_word.specs.declared.stop.Stop.TheVariants.{WrongType, OutOfRange, NotProcedure, WrongCount}
 use Rattle.sch_word.specs.declared.stop.Stop.TheVariants.{DivideByZero, Overflow, HeapLimit, DepthLimit, Unset}
@@ -28,7 +32,8 @@ use Rattle.sch_insn.specs.declared.condition.TheConstants.{O, E, NE, A, L, GE, L
 use Rattle.sch_insn.specs.declared.insn.Arg.{Arg}
 use Rattle.sch_insn.specs.declared.insn.Arg.TheVariants.{Reg, Base32}
 use Rattle.sch_insn.specs.declared.insn.Insn.TheVariants.{MovTo, MovFrom, MovNumber, MovWord}
-use Rattle.sch_insn.specs.declared.insn.Insn.TheVariants.{AddTo, SubTo, CmpTo, AddNumber, SubNumber, AndNumber, CmpNumber, Imul, Idiv, Cqo, Shl, Shr, Sar, JumpTo}
+use Rattle.sch_insn.specs.declared.insn.Insn.TheVariants.{AddTo, SubTo, CmpTo, AddNumber, SubNumber, AndNumber}
+use Rattle.sch_insn.specs.declared.insn.Insn.TheVariants.{CmpNumber, Imul, Idiv, Cqo, Shl, Shr, Sar, JumpTo}
 use Rattle.sch_insn.specs.declared.register.TheConstants.{RAX, RCX, RDX, RBP, R11, R12, R13, R14, R15}
 use Rattle.sch_asm.specs.declared.item.Item.{Item}
 use Rattle.sch_asm.specs.declared.item.Item.TheVariants.{Label, Plain, Jump, JumpIf, LoadLabel, LoadWord, StoreWord, Mark}
@@ -94,7 +99,8 @@ check_fixnum r rest = low_bits r 7 (JumpIf NE (stop_label WrongType) ∷ rest)
 
 -- RAX has a character, or stop 65
 abbrev pub check_character : List Item → List Item
-check_character rest = low_bits RAX 255 (Plain (CmpNumber (Reg RDX) (pos character_tag)) ∷ (JumpIf NE (stop_label WrongType) ∷ rest))
+check_character rest = low_bits RAX 255 (Plain (CmpNumber (Reg RDX) (pos character_tag)) ∷
+    (JumpIf NE (stop_label WrongType) ∷ rest))
 
 -- RAX becomes `#t` where a condition holds, and `#f` elsewhere
 abbrev pub boolean_code : (n condition : ℕ) → List Item → List Item
@@ -121,7 +127,8 @@ overflow_code rest = JumpIf O (stop_label Overflow) ∷ rest
 abbrev pub division_code : List Item → List Item
 division_code rest =
     check_fixnum RAX (check_fixnum RCX
-    (Plain (CmpNumber (Reg RCX) (pos 0)) ∷ (JumpIf E (stop_label DivideByZero) ∷ (Plain Cqo ∷ (Plain (Idiv (Reg RCX)) ∷ rest)))))
+    (Plain (CmpNumber (Reg RCX) (pos 0)) ∷ (JumpIf E (stop_label DivideByZero) ∷
+    (Plain Cqo ∷ (Plain (Idiv (Reg RCX)) ∷ rest)))))
 
 -- RAX has a remainder: the divisor is added where their signs differ
 abbrev pub modulo_code : (n : ℕ) → List Item → List Item
@@ -132,7 +139,8 @@ modulo_code n rest =
     ∷ (Label (n + 2) ∷ (Plain (AddTo (Reg RAX) RCX) ∷ (Label n ∷ rest)))))))))))
 
 abbrev pub put_code : (n : ℕ) → List Item → List Item
-put_code n rest = LoadLabel R11 n ∷ (Jump put_label ∷ (Label n ∷ (Plain (MovNumber (Reg RAX) (pos unspecified_word)) ∷ rest)))
+put_code n rest = LoadLabel R11 n ∷ (Jump put_label ∷
+    (Label n ∷ (Plain (MovNumber (Reg RAX) (pos unspecified_word)) ∷ rest)))
 
 abbrev pub unary_code : (n : ℕ) → Primitive → List Item → List Item
 unary_code n IsBoolean rest = test_code n 127 6 rest
@@ -158,7 +166,8 @@ binary_code n Add rest = check_fixnum RAX (check_fixnum RCX (Plain (AddTo (Reg R
 binary_code n Subtract rest = check_fixnum RAX (check_fixnum RCX (Plain (SubTo (Reg RAX) RCX) ∷ overflow_code rest))
 binary_code n Multiply rest =
     check_fixnum RAX (check_fixnum RCX (Plain (Sar (Reg RAX) 3) ∷ (Plain (Imul RAX (Reg RCX)) ∷ overflow_code rest)))
-binary_code n Quotient rest = division_code (Plain (MovNumber (Reg RCX) (pos 8)) ∷ (Plain (Imul RAX (Reg RCX)) ∷ overflow_code rest))
+binary_code n Quotient rest = division_code (Plain (MovNumber (Reg RCX) (pos 8)) ∷
+    (Plain (Imul RAX (Reg RCX)) ∷ overflow_code rest))
 binary_code n Remainder rest = division_code (Plain (MovTo (Reg RAX) RDX) ∷ rest)
 binary_code n Modulo rest = division_code (Plain (MovTo (Reg RAX) RDX) ∷ modulo_code n rest)
 binary_code n Equal rest = comparison_code n E rest
@@ -185,7 +194,8 @@ operand_code n (operand.Read site which atoms) rest = read_code n which atoms re
 abbrev pub second_code : (n : ℕ) → Operand Place → List Item → List Item
 second_code n (operand.Atom a) rest = atom_code RCX a rest
 second_code n (operand.Read site which atoms) rest =
-    Plain (MovTo (Reg R11) RAX) ∷ read_code n which atoms (Plain (MovTo (Reg RCX) RAX) ∷ (Plain (MovTo (Reg RAX) R11) ∷ rest))
+    Plain (MovTo (Reg R11) RAX) ∷ read_code n which atoms
+    (Plain (MovTo (Reg RCX) RAX) ∷ (Plain (MovTo (Reg RAX) R11) ∷ rest))
 
 -- ## Cells and closures
 
@@ -212,7 +222,8 @@ check_heap heap_end bytes rest =
 -- R12 has the address of a part with this number of bytes: its word with a tag into RAX, and the next part
 abbrev pub part_code : (tag bytes : ℕ) → List Item → List Item
 part_code tag bytes rest =
-    Plain (MovTo (Reg RAX) R12) ∷ (Plain (AddNumber (Reg RAX) (pos tag)) ∷ (Plain (AddNumber (Reg R12) (pos bytes)) ∷ rest))
+    Plain (MovTo (Reg RAX) R12) ∷ (Plain (AddNumber (Reg RAX) (pos tag)) ∷
+    (Plain (AddNumber (Reg R12) (pos bytes)) ∷ rest))
 
 -- RAX has the word of a cell, whose contents are read into it, or stop 73
 abbrev pub read_cell_code : List Item → List Item
@@ -231,11 +242,13 @@ part_operand offset = Base32 R12 (pos offset)
 
 -- a new cell with what RAX has, and one that is unset
 abbrev pub new_cell_code : (heap_end : ℕ) → List Item → List Item
-new_cell_code heap_end rest = check_heap heap_end cell_bytes (Plain (MovTo (part_operand 0) RAX) ∷ part_code cell_tag cell_bytes rest)
+new_cell_code heap_end rest = check_heap heap_end cell_bytes
+    (Plain (MovTo (part_operand 0) RAX) ∷ part_code cell_tag cell_bytes rest)
 
 abbrev pub unset_cell_code : (heap_end : ℕ) → List Item → List Item
 unset_cell_code heap_end rest =
-    check_heap heap_end cell_bytes (Plain (MovNumber (part_operand 0) (pos unset_word)) ∷ part_code cell_tag cell_bytes rest)
+    check_heap heap_end cell_bytes (Plain (MovNumber (part_operand 0) (pos unset_word)) ∷ part_code cell_tag
+    cell_bytes rest)
 
 -- the fields of a record, from an offset on
 abbrev pub fields_code : (offset : ℕ) → List (Source Place) → List Item → List Item
@@ -246,7 +259,8 @@ fields_code offset (x ∷ sources) rest =
 -- a record at an offset: the address of its code, and its fields
 abbrev pub record_code : (offset : ℕ) → Closure Place → List Item → List Item
 record_code offset c rest =
-    LoadLabel RCX (body_label c.label) ∷ (Plain (MovTo (part_operand offset) RCX) ∷ fields_code (offset + 8) c.fields rest)
+    LoadLabel RCX (body_label c.label) ∷ (Plain (MovTo (part_operand offset) RCX) ∷ fields_code (offset + 8) c.fields
+    rest)
 
 abbrev pub closure_bytes : Closure Place → ℕ
 closure_bytes c = procedure_bytes (length c.fields)
@@ -268,7 +282,8 @@ module _ (heap_end : ℕ) where
   operation_code n (operation.Operand o) rest = operand_code n o rest
   operation_code n (operation.Prim site which operands) rest = primitive_code n which operands rest
   operation_code n (operation.Global g) rest =
-      LoadWord RAX (global_address g) ∷ (Plain (CmpNumber (Reg RAX) (pos unset_word)) ∷ (JumpIf E (stop_label Unset) ∷ rest))
+      LoadWord RAX (global_address g) ∷ (Plain (CmpNumber (Reg RAX) (pos unset_word)) ∷
+      (JumpIf E (stop_label Unset) ∷ rest))
   operation_code n (operation.SetGlobal g o) rest =
       operand_code n o (StoreWord (global_address g) RAX ∷ (Plain (MovNumber (Reg RAX) (pos unspecified_word)) ∷ rest))
   operation_code n (operation.Field p k) rest = source_code RAX (source.Field p k) rest
@@ -292,7 +307,8 @@ places_code offset (m ∷ members) rest =
 
 abbrev pub records_code : (offset : ℕ) → List (Member Place) → List Item → List Item
 records_code offset [] rest = rest
-records_code offset (m ∷ members) rest = record_code offset m.closure (records_code (offset + closure_bytes m.closure) members rest)
+records_code offset (m ∷ members) rest = record_code offset m.closure
+    (records_code (offset + closure_bytes m.closure) members rest)
 
 abbrev pub group_code : (heap_end : ℕ) → List (Member Place) → List Item → List Item
 group_code heap_end members rest =
@@ -357,13 +373,15 @@ module _ (base out words heap_end : ℕ) where
   instruction_code n (instruction.Copy to from) rest =
       Plain (MovFrom RCX (place_operand from)) ∷ (Plain (MovTo (place_operand to) RCX) ∷ rest)
   instruction_code n (instruction.Load p o) rest = second_code n o (Plain (MovTo (place_operand p) RCX) ∷ rest)
-  instruction_code n (instruction.Pass k o) rest = second_code n o (Plain (MovTo (place_operand (place.Slot (words + k))) RCX) ∷ rest)
+  instruction_code n (instruction.Pass k o) rest = second_code n o
+      (Plain (MovTo (place_operand (place.Slot (words + k))) RCX) ∷ rest)
   instruction_code n (instruction.Fix members) rest = group_code heap_end members rest
   instruction_code n (instruction.Call spread count) rest = call_code words n count rest
   instruction_code n (instruction.Tail spread count) rest = tail_code count rest
   instruction_code n instruction.Return rest = Plain (JumpTo (Reg R15)) ∷ rest
   instruction_code n instruction.End rest = Jump out ∷ rest
-  instruction_code n (instruction.IfFalse l) rest = Plain (CmpNumber (Reg RAX) (pos false_word)) ∷ (JumpIf E (base + l) ∷ rest)
+  instruction_code n (instruction.IfFalse l) rest = Plain (CmpNumber (Reg RAX) (pos false_word)) ∷
+      (JumpIf E (base + l) ∷ rest)
   instruction_code n (instruction.Jump l) rest = Jump (base + l) ∷ rest
   instruction_code n (instruction.Label l) rest = Label (base + l) ∷ rest
   instruction_code n (instruction.Mark m) rest = Mark (kind_of m) ∷ rest

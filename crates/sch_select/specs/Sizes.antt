@@ -1,9 +1,11 @@
--- What has more code than the sizes of a program's instructions say: closures, procedures and calls; and marks.
-use Rattle.std.specs.Prelude.{ℕ, suc, ◌+◌, List, [], ◌∷◌, length, Option, Some, None}
+-- What has more code than the sizes of a program's instructions say: closures, procedures and calls. How many
+-- steps and how many marks a program has.
+use Rattle.std.specs.Prelude.{ℕ, suc, ◌+◌, ◌*◌, List, [], ◌∷◌, length, Option, Some, None}
 use Rattle.sch_control.specs.declared.body.Entry.{Entry}
 use Rattle.sch_frames.specs.declared.instruction.Instruction.{Instruction}
 use Rattle.sch_frames.specs.declared.instruction.Instruction.TheVariants.{Fix, Call, Mark}
-use Rattle.sch_frames.specs.Tree.{Code}
+use Rattle.sch_frames.specs.Sizes.{program_size}
+use Rattle.sch_frames.specs.Tree.{Code, Source}
 use Rattle.sch_asm.specs.declared.item.Item.{Item}
 use Rattle.sch_asm.specs.declared.item.Item.TheVariants as item
 
@@ -23,6 +25,13 @@ jumped (Some e) = 1
 abbrev pub closures_in : List Code → ℕ
 closures_in [] = 0
 closures_in (c ∷ codes) = jumped c.entry + (grouped c.instructions + closures_in codes)
+
+-- ## Steps
+
+-- how many steps a machine takes at most for a run with a number of procedure entries and of used answers
+abbrev pub steps_bound : Source → (entries answers : ℕ) → ℕ
+steps_bound p entries answers = 256 * (program_size p + (closures_in p.bodies + length p.bodies)) * suc entries +
+    (10 * answers + 16)
 
 -- ## Marks
 

@@ -2,7 +2,8 @@
 
 ghost use Rattle.std.specs.Prelude.{◌≡◌, ◌++◌, ◌*◌, pos, IfOk, OnOk, List};
 ghost use Rattle.sch_asm.specs.declared.item.Item.{Item};
-ghost use Rattle.sch_select.specs.Select.{call_code, check_count, check_depth, check_operator, close_code, enter_code, open_code, tail_code};
+ghost use Rattle.sch_select.specs.Select.{call_code, check_count, check_depth, check_operator, close_code};
+ghost use Rattle.sch_select.specs.Select.{enter_code, open_code, tail_code};
 
 use crate::code::stop;
 use crate::heap::immediate;

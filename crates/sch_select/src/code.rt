@@ -3,7 +3,10 @@
 ghost use Rattle.std.specs.Prelude.{◌≡◌, ◌+◌, ◌++◌, IfOk, IsTrue, OnOk, List, int_le, nat_abs, pos};
 ghost use Rattle.sch_word.specs.declared.primitive.Primitive.TheVariants.{CharToInteger, IntegerToChar};
 ghost use Rattle.sch_asm.specs.declared.item.Item.{Item};
-ghost use Rattle.sch_select.specs.Select.{atom_code, binary_code, body_label, boolean_code, check_character, check_fixnum, compare_code, comparison_code, division_code, global_address, modulo_code, operand_code, overflow_code, place_operand, primitive_code, put_code, read_code, second_code, stop_label, test_code, unary_code};
+ghost use Rattle.sch_select.specs.Select.{atom_code, binary_code, body_label, boolean_code, check_character};
+ghost use Rattle.sch_select.specs.Select.{check_fixnum, compare_code, comparison_code, division_code, global_address};
+ghost use Rattle.sch_select.specs.Select.{modulo_code, operand_code, overflow_code, place_operand, primitive_code};
+ghost use Rattle.sch_select.specs.Select.{put_code, read_code, second_code, stop_label, test_code, unary_code};
 
 use sch_asm::{Item, Routine};
 use sch_control::{Atom, Operand};

@@ -3,7 +3,10 @@
 ghost use Rattle.std.specs.Prelude.{◌≡◌, ◌+◌, ◌*◌, ◌++◌, IfOk, OnOk, List, pos};
 ghost use Rattle.sch_asm.specs.declared.item.Item.{Item};
 ghost use Rattle.sch_insn.specs.declared.insn.Arg.TheVariants.{Base32};
-ghost use Rattle.sch_select.specs.Select.{cell_operand, check_cell, check_heap, closure_bytes, closure_code, fields_code, group_bytes, group_code, new_cell_code, part_code, part_operand, places_code, read_cell_code, record_code, records_code, source_code, unset_cell_code, write_cell_code};
+ghost use Rattle.sch_select.specs.Select.{cell_operand, check_cell, check_heap, closure_bytes, closure_code};
+ghost use Rattle.sch_select.specs.Select.{fields_code, group_bytes, group_code, new_cell_code, part_code};
+ghost use Rattle.sch_select.specs.Select.{part_operand, places_code, read_cell_code, record_code, records_code};
+ghost use Rattle.sch_select.specs.Select.{source_code, unset_cell_code, write_cell_code};
 
 use crate::code::{above, atom, body_label, place_operand, stop};
 use sch_asm::Item;

@@ -9,9 +9,11 @@ ghost use Rattle.sch_frames.specs.ProgramView.{source};
 ghost use Rattle.sch_frames.specs.Sizes.{program_size};
 ghost use Rattle.sch_frames.specs.SourceView.{codes_of};
 ghost use Rattle.sch_select.specs.Covered.{is_covered_program};
-ghost use Rattle.sch_select.specs.Follows.{FollowsFrames, PassesFrames};
+ghost use Rattle.sch_select.specs.Follows.{EndsFrames, FollowsFrames, PassesFrames};
 ghost use Rattle.sch_select.specs.Jumps.{jumps_ahead};
-ghost use Rattle.sch_select.specs.Program.{own_label, closure_words, closures_address, data_words, laid_code, global_word, global_words, heap_address, program_zeros, max_data, max_stack, put_value_code, stack_bytes, static_bytes, word_list};
+ghost use Rattle.sch_select.specs.Program.{own_label, closure_words, closures_address, data_words, laid_code};
+ghost use Rattle.sch_select.specs.Program.{global_word, global_words, heap_address, program_zeros, max_data};
+ghost use Rattle.sch_select.specs.Program.{max_stack, put_value_code, stack_bytes, static_bytes, word_list};
 ghost use Rattle.sch_select.specs.Select.{body_label, put_label};
 ghost use Rattle.sch_select.specs.Sizes.{bodies_marked, closures_in, marks_in};
 
@@ -283,6 +285,7 @@ fn items_of(alloc: Global, p: &FrameProgram, layout: Layout, depth: u64) -> Resu
 pub fn select(alloc: Global, p: &FrameProgram, limits: Limits) -> Result<Asm, Mem>
     requires covered { IsTrue (is_covered_program (source p.now)) }
     ensures follows { IfOk result (λ a. FollowsFrames (source p.now) limits.heap limits.depth a.items a.words a.zeros) }
+    ensures steps { IfOk result (λ a. EndsFrames (source p.now) limits.heap limits.depth a.items a.words a.zeros) }
     ensures passes { IfOk result (λ a. PassesFrames (source p.now) limits.heap limits.depth a.items a.words a.zeros) }
     ensures own { IfOk result (λ a. AreOwn a.items) }
     ensures text { IfOk result (λ a. text_size a.items ≤ 512 + 64 * (program_size (source p.now) + closures_in (source p.now).bodies)) }

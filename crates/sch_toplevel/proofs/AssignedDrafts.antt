@@ -1,5 +1,5 @@
 -- What each kind of draft assigns.
-use Rattle.std.proofs.Common.{◌≡◌, ℕ, Bool, suc, ◌+◌, ◌<◌, List, [], ◌∷◌, ◌++◌, refl, ap, ◌∙◌}
+use Rattle.std.proofs.Common.{◌≡◌, ℕ, Bool, List, ap, ◌∙◌}
 use Rattle.sch_names.specs.NamesView.{with_name}
 use Rattle.sch_sketch.specs.Draft.{Names, Draft, Drafts, set_global, branch, bind, letrec, call}
 use Rattle.sch_numbers.specs.Named.{firsts}

@@ -1,20 +1,17 @@
 -- Lists of forms, one after the other.
-use Rattle.std.proofs.Common.{◌≡◌, ℕ, zero, suc, ◌+◌, ◌<◌, ◌≤◌, Bool, true, false, List, [], ◌∷◌, ◌++◌, length, drop, get_or, map, refl, sym, ap, ◌∙◌, arith, add-one, drop-cons}
-use Rattle.std.proofs.lemmas.List.{map-append, append_assoc}
+use Rattle.std.proofs.Common.{◌≡◌, ℕ, suc, ◌+◌, ◌<◌, List, [], ◌∷◌, ◌++◌, length, drop, get_or, map, sym, ap, ◌∙◌, add-one, drop-cons}
+use Rattle.std.proofs.lemmas.List.{append_assoc}
 use Rattle.std.specs.Borrow.{Bor}
-use Rattle.sch_word.specs.declared.primitive.Primitive.{Primitive}
-use Rattle.sch_word.specs.values.Primitives.{name_of}
 use Rattle.sch_read.specs.declared.datum.Datum as code
-use Rattle.sch_read.specs.Grammar.{Datum, Data, atom, list, dotted, vector, none, cons, symbol}
+use Rattle.sch_read.specs.Grammar.{Datum}
 use Rattle.sch_read.specs.Parts.{offset}
 use Rattle.sch_read.specs.Views.{tree_of, data_of}
 use Rattle.sch_names.specs.NamesView.{with_name}
-use Rattle.sch_names.specs.Words.{keyword_of}
 use Rattle.sch_sketch.specs.Sketch.{Sketch}
 use Rattle.sch_numbers.specs.Named.{firsts}
 use Rattle.sch_numbers.proofs.NameSteps.{firsts_append}
-use Rattle.sch_toplevel.specs.Forms.{is_begin_word, forms_of, forms_in, form_sketch, defined_by, defined_by_each}
-use Rattle.sch_toplevel.specs.Views.{tree_at, trees_of, name_at, given}
+use Rattle.sch_toplevel.specs.Forms.{forms_of, forms_in, form_sketch, defined_by, defined_by_each}
+use Rattle.sch_toplevel.specs.Views.{tree_at, trees_of}
 
 pub next : {A : Type 0} (xs : List A) (i : ℕ) (x : A) → i < length xs → x ≡ get_or xs i x → drop i xs ≡ x ∷ drop (suc i) xs
 next xs i x l e = drop-cons xs i x l ∙ ap (λ a. a ∷ drop (suc i) xs) (sym e)

@@ -1,6 +1,5 @@
 -- A text without faults has one list of drafts, and one with a fault has none.
-use Rattle.std.proofs.Common.{◌≡◌, ◌⊎◌, inl, inr, ◌≤◌, ℕ, Bool, true, false, List, [], ◌∷◌, Option, Some, None, nat_le, refl, sym, ap, ◌∙◌, subst}
-use Rattle.sch_word.specs.trees.Shape.{max_levels, max_operands}
+use Rattle.std.proofs.Common.{◌≡◌, inl, inr, ◌≤◌, ℕ, Bool, true, false, List, [], Option, Some, None, refl, sym, ap, ◌∙◌, subst}
 use Rattle.sch_read.specs.Grammar.{Data}
 use Rattle.sch_names.specs.Scope.{Globals}
 use Rattle.sch_sketch.specs.declared.fault.Fault.{Fault}
@@ -14,10 +13,10 @@ use Rattle.sch_expansion.specs.Faults.{HasFault, PartHasFault}
 use Rattle.sch_expansion.specs.Faults as no
 use Rattle.sch_expansion.specs.Reads.{Reads, PartsRead}
 use Rattle.sch_expansion.specs.Reads as re
-use Rattle.sch_expansion.proofs.Best.{Best, none_some}
+use Rattle.sch_expansion.proofs.Best.{none_some}
 use Rattle.sch_expansion.proofs.Readings.{unique, clean, one_fault, one_draft, read_best, read_made, is_read}
 use Rattle.sch_toplevel.specs.Assigned.{assigned_in_each}
-use Rattle.sch_toplevel.specs.Forms.{sketches_of, own_names, text_globals, scoped_globals}
+use Rattle.sch_toplevel.specs.Forms.{sketches_of, own_names, text_globals}
 use Rattle.sch_toplevel.specs.Texts.{FormsExpand, FormHasFault, FormsRead, Assigns, TextExpands, IsFaultOf, IsRead}
 
 -- ## The forms as the parts of a sequence
@@ -85,11 +84,11 @@ module _ (g : Globals) (items : Data) where
 
 module _ (seen : List (List ℕ)) (items : Data) where
   pub assigns_one : {a b : List (List ℕ)} → Assigns seen items a → Assigns seen items b → a ≡ b
-  assigns_one p q = p.assigned ∙ ap assigned_in_each (reading_one (scoped_globals seen items) items p.reads q.reads).1 ∙ sym q.assigned
+  assigns_one p q = p.assigned ∙ ap assigned_in_each (reading_one (text_globals seen items []) items p.reads q.reads).1 ∙ sym q.assigned
 
   some_assigns : (names : List (List ℕ)) × Assigns seen items names
   some_assigns =
-      let r = forms_read (scoped_globals seen items) items in
+      let r = forms_read (text_globals seen items []) items in
       (assigned_in_each r.1, record { fault = r.0; drafts = r.1; reads = r.2; assigned = refl })
 
   -- each text is read

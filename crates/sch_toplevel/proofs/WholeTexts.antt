@@ -1,5 +1,6 @@
 -- A text is read twice: what the second reading has found.
-use Rattle.std.proofs.Common.{◌≡◌, ℕ, Bool, true, false, List, [], ◌∷◌, ◌++◌, Option, None, map, refl, sym, ap, ◌∙◌, subst}
+use Rattle.std.proofs.Common.{◌≡◌, ℕ, true, false, List, [], ◌++◌, Option, None, map, refl, sym, ap, ◌∙◌, subst}
+use Rattle.std.proofs.lemmas.List.{append-nil}
 use Rattle.sch_read.specs.Grammar.{Datum, Data}
 use Rattle.sch_names.specs.Scope.{Globals}
 use Rattle.sch_sketch.specs.declared.fault.Fault.{Fault}
@@ -10,7 +11,7 @@ use Rattle.sch_expansion.specs.Reads.{PartsRead}
 use Rattle.sch_numbers.specs.Named.{firsts}
 use Rattle.sch_numbers.proofs.NameSteps.{firsts_append}
 use Rattle.sch_toplevel.specs.Assigned.{assigned_in_each}
-use Rattle.sch_toplevel.specs.Forms.{forms_in, form_sketch, defined_by_each, own_names, text_globals, scoped_globals}
+use Rattle.sch_toplevel.specs.Forms.{forms_in, form_sketch, defined_by_each, text_globals}
 use Rattle.sch_toplevel.specs.Texts.{FormsRead, IsReadOnce, IsRead}
 
 module _ (seen : List (List ℕ)) (items : Data) (forms : List Datum) (listed : forms ≡ forms_in items) where
@@ -29,6 +30,7 @@ module _ (seen : List (List ℕ)) (items : Data) (forms : List Datum) (listed : 
   read_twice bound own a b es fs once e o z r =
       let names = sym (firsts_append [] seen (defined_by_each (map form_sketch forms))) ∙ ap (λ ds. firsts [] (seen ++ defined_by_each (map form_sketch ds))) listed in
       let first = once.bound ∙ names in
+      let defining = once.own ∙ ap (λ ds. firsts [] (defined_by_each (map form_sketch ds))) listed ∙ ap (firsts []) (sym (append-nil (defined_by_each (map form_sketch (forms_in items))))) in
       let bound' = e ∙ names in
       let own' = o ∙ sym (firsts_append [] (defined_by_each (map form_sketch forms)) (assigned_in_each es))
           ∙ ap (λ ds. firsts [] (defined_by_each (map form_sketch ds) ++ assigned_in_each es)) listed in
@@ -37,7 +39,7 @@ module _ (seen : List (List ℕ)) (items : Data) (forms : List Datum) (listed : 
         assigns = record {
           fault = once.fault;
           drafts = es;
-          reads = read_in once.globals (scoped_globals seen items) None once.fault es (λ i. record { bound = first i; own = once.own i; internal = once.internal i }) refl once.reads;
+          reads = read_in once.globals (text_globals seen items []) None once.fault es (λ i. record { bound = first i; own = defining i; internal = once.internal i }) refl once.reads;
           assigned = refl;
         };
         owned = own';

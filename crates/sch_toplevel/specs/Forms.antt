@@ -1,15 +1,13 @@
 -- The top-level forms of a text (R5RS 5.1 and 5.2). No local variable shadows a keyword there, and no global
 -- one can.
-use Rattle.std.specs.Prelude.{ℕ, Bool, true, false, cond, List, [], ◌∷◌, ◌++◌, Option, Some, None, map}
-use Rattle.sch_word.specs.values.Primitives.{name_of}
+use Rattle.std.specs.Prelude.{ℕ, Bool, true, false, cond, List, [], ◌∷◌, ◌++◌, Option, Some, map}
 use Rattle.sch_read.specs.Grammar.{Datum, Data, atom, list, none, cons, symbol}
 use Rattle.sch_read.specs.Parts.{offset}
 use Rattle.sch_names.specs.declared.keyword.Keyword.{Keyword}
 use Rattle.sch_names.specs.declared.keyword.Keyword.TheVariants.{Begin}
 use Rattle.sch_names.specs.Words.{keyword_of}
-use Rattle.sch_names.specs.Operations.{of_numbers}
 use Rattle.sch_names.specs.Scope.{Globals}
-use Rattle.sch_sketch.specs.Sketch.{Kind, Sketch, text, node, defining}
+use Rattle.sch_sketch.specs.Sketch.{Sketch, text, node, defining}
 use Rattle.sch_binders.specs.Definitions.{is_define_word}
 use Rattle.sch_binders.specs.Assignments.{row_define}
 use Rattle.sch_numbers.specs.Named.{firsts}
@@ -64,8 +62,3 @@ own_names items assigned = firsts [] (defined items ++ assigned)
 abbrev pub text_globals : (seen : List (List ℕ)) → Data → (assigned : List (List ℕ)) → Globals
 text_globals seen items assigned =
     record { bound = firsts [] (seen ++ defined items); own = own_names items assigned; internal = false }
-
--- the same as if the text had the names of sums and comparisons as its own, and no others
-abbrev pub scoped_globals : (seen : List (List ℕ)) → Data → Globals
-scoped_globals seen items =
-    record { bound = firsts [] (seen ++ defined items); own = firsts [] (map name_of of_numbers); internal = false }

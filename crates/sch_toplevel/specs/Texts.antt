@@ -1,9 +1,7 @@
 -- A text is read form by form: each at level 1, outside all variables and for its value, as the parts of a
 -- `begin` are.
 use Rattle.std.specs.Prelude.{◌≡◌, ◌≤◌, ℕ, true, false, List, [], Option, Some, None, map}
-use Rattle.sch_word.specs.values.Primitives.{name_of}
 use Rattle.sch_read.specs.Grammar.{Datum, Data}
-use Rattle.sch_names.specs.Operations.{of_numbers}
 use Rattle.sch_names.specs.Scope.{Globals}
 use Rattle.sch_sketch.specs.declared.fault.Fault.{Fault}
 use Rattle.sch_sketch.specs.declared.sketch.Position.TheVariants.{Value}
@@ -13,7 +11,7 @@ use Rattle.sch_expansion.specs.FaultOrder.{rank}
 use Rattle.sch_expansion.specs.Expands.{PartsExpand}
 use Rattle.sch_expansion.specs.Faults.{PartHasFault}
 use Rattle.sch_expansion.specs.Reads.{PartsRead}
-use Rattle.sch_toplevel.specs.Forms.{form_sketch, sketches_of, defined_by_each, own_names, text_globals, scoped_globals}
+use Rattle.sch_toplevel.specs.Forms.{form_sketch, sketches_of, defined_by_each, own_names, text_globals}
 use Rattle.sch_numbers.specs.Named.{firsts}
 use Rattle.sch_toplevel.specs.Assigned.{assigned_in_each}
 
@@ -29,13 +27,15 @@ FormHasFault globals items f = PartHasFault globals sequencing true 1 [] Value (
 abbrev pub FormsRead : Globals → Data → Option Fault → Drafts → Type 0
 FormsRead globals items f es = PartsRead globals sequencing true 1 [] Value (sketches (sketches_of items)) None f es
 
--- The names that a text assigns by a `set!` that finds no local variable. They do not depend on what is an
--- operation. So the text is read as if no name meant a sum or a comparison: only those nest their operands deeper
--- than a call does, so that nothing in the text lies deeper then than it does otherwise.
+-- The names that a text assigns by a `set!` that finds no local variable (R5RS 4.1.6): they are read off a reading
+-- as if it assigned nothing. What it assigns depends on scopes, and on what is an operation only where a level
+-- is too deep: operands lie as deep in an operation as in a call, but for `not`, whose operand is read for its truth,
+-- where an `or` nests less. A name that is assigned is no operation in the second reading, so no `set!` of that is
+-- missed here.
 pub record Assigns (seen : List (List ℕ)) (items : Data) (names : List (List ℕ)) : Type 0 where
   pub fault : Option Fault
   pub drafts : Drafts
-  pub reads : FormsRead (scoped_globals seen items) items fault drafts
+  pub reads : FormsRead (text_globals seen items []) items fault drafts
   pub assigned : names ≡ assigned_in_each drafts
 
 -- a text that sees these names of a library, assigns those, and stands for drafts
@@ -53,11 +53,11 @@ pub record IsFaultOf (seen : List (List ℕ)) (items : Data) (f : Fault) : Type 
   pub drafts : Drafts
   pub first : FormsRead (text_globals seen items names) items (Some f) drafts
 
--- the forms have been read once, as if the text had the names of sums and comparisons as its own
+-- the forms have been read once, as if nothing were assigned
 pub record IsReadOnce (seen : List (List ℕ)) (forms : List Datum) (es : Drafts) : Type 0 where
   pub globals : Globals
   pub bound : globals.bound ≡ firsts (firsts [] seen) (defined_by_each (map form_sketch forms))
-  pub own : globals.own ≡ firsts [] (map name_of of_numbers)
+  pub own : globals.own ≡ firsts [] (defined_by_each (map form_sketch forms))
   pub internal : globals.internal ≡ false
   pub fault : Option Fault
   pub reads : PartsRead globals sequencing true 1 [] Value (sketches (map form_sketch forms)) None fault es

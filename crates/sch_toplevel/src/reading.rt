@@ -1,10 +1,8 @@
 //! Texts that are read form by form.
 
 ghost use Rattle.std.specs.Prelude.{◌≡◌, [], map, true, false, IfOk};
-ghost use Rattle.sch_word.specs.values.Primitives.{name_of};
 ghost use Rattle.sch_read.specs.Views.{data_of};
 ghost use Rattle.sch_names.specs.NamesView.{names_of, globals_of};
-ghost use Rattle.sch_names.specs.Operations.{of_numbers};
 ghost use Rattle.sch_sketch.specs.declared.sketch.Position.TheVariants.{Value};
 ghost use Rattle.sch_sketch.specs.DraftView.{drafts_of};
 ghost use Rattle.sch_sketch.specs.Sketch.{sketches, sequencing};
@@ -17,7 +15,7 @@ ghost use Rattle.sch_toplevel.specs.Views.{trees_of, given};
 
 use crate::assigned::add_assigned_each;
 use crate::forms::{add_defined_by_each, add_forms, form_sketch};
-use crate::given::{add_names, add_numbers};
+use crate::given::add_names;
 use sch_expansion::read;
 use sch_names::{Globals, Names};
 use sch_read::Datum;
@@ -63,33 +61,32 @@ fn bound_names(alloc: Global, seen: &[&[u8]], forms: &[&Datum]) -> Result<Names,
     Ok(bound)
 }
 
+/// The names that forms define.
+fn defined_names(alloc: Global, forms: &[&Datum]) -> Result<Names, Mem>
+    ensures { IfOk result (λ names. names_of names ≡ firsts [] (defined_by_each (map form_sketch (trees_of forms.now)))) }
+{
+    let mut names = Names::new(alloc);
+    add_defined_by_each(alloc, forms, &mut names)?;
+    Ok(names)
+}
+
 /// The names of its own that a text has which defines and assigns these.
 fn own_names(alloc: Global, forms: &[&Datum], drafts: &[Draft<'_>]) -> Result<Names, Mem>
     ensures { IfOk result (λ own. names_of own ≡ firsts (firsts [] (defined_by_each (map form_sketch (trees_of forms.now))))
         (assigned_in_each (drafts_of drafts.now))) }
 {
-    let mut own = Names::new(alloc);
-    add_defined_by_each(alloc, forms, &mut own)?;
+    let mut own = defined_names(alloc, forms)?;
     add_assigned_each(alloc, drafts, &mut own)?;
     Ok(own)
 }
 
-/// The names of sums and comparisons.
-fn numbers(alloc: Global) -> Result<Names, Mem>
-    ensures { IfOk result (λ names. names_of names ≡ firsts [] (map name_of of_numbers)) }
-{
-    let mut names = Names::new(alloc);
-    add_numbers(alloc, &mut names)?;
-    Ok(names)
-}
-
-/// The drafts of forms as if the names of sums and comparisons were the text's own.
-fn read_scoped<'a>(alloc: Global, seen: &[&[u8]], forms: &[&'a Datum]) -> Result<List<Draft<'a>>, Mem>
+/// The drafts of forms as if nothing were assigned.
+fn read_defined<'a>(alloc: Global, seen: &[&[u8]], forms: &[&'a Datum]) -> Result<List<Draft<'a>>, Mem>
     ensures { IfOk result (λ es. IsReadOnce (given seen.now) (trees_of forms.now) (drafts_of es)) }
 {
     let globals = Globals {
         bound: bound_names(alloc, seen, forms)?,
-        own: numbers(alloc)?,
+        own: defined_names(alloc, forms)?,
         internal: false,
     };
     let mut fault = None;
@@ -106,7 +103,7 @@ pub fn read_text<'a>(
 {
     let mut forms = List::new(alloc);
     add_forms(items, &mut forms)?;
-    let first = read_scoped(alloc, seen, forms.as_slice())?;
+    let first = read_defined(alloc, seen, forms.as_slice())?;
     let globals = Globals {
         bound: bound_names(alloc, seen, forms.as_slice())?,
         own: own_names(alloc, forms.as_slice(), first.as_slice())?,

@@ -24,7 +24,11 @@ use Rattle.sch_asm.specs.declared.item.Item.{Item}
 use Rattle.sch_asm.specs.declared.item.Item.TheVariants as item
 use Rattle.sch_asm.specs.declared.item.MarkKind.{MarkKind}
 use Rattle.sch_asm.specs.Stands.{Setting, Stands}
-use Rattle.sch_select.specs.Select.{stop_label, body_label, place_operand, source_code, check_cell, cell_operand, check_heap, part_code, part_operand, fields_code, record_code, closure_bytes, group_bytes, places_code, records_code, group_code, atom_code, unary_code, binary_code, read_code, operand_code, second_code, primitive_code, operation_code, global_address, instruction_code, body_code}
+use Rattle.sch_select.specs.Select.{stop_label, body_label, place_operand, source_code, check_cell, cell_operand}
+use Rattle.sch_select.specs.Select.{check_heap, part_code, part_operand, fields_code, record_code, closure_bytes}
+use Rattle.sch_select.specs.Select.{group_bytes, places_code, records_code, group_code, atom_code, unary_code}
+use Rattle.sch_select.specs.Select.{binary_code, read_code, operand_code, second_code, primitive_code}
+use Rattle.sch_select.specs.Select.{operation_code, global_address, instruction_code, body_code}
 use Rattle.sch_heap.specs.Encoded.{unspecified_word, unset_word}
 use Rattle.std.specs.Prelude.{pos}
 
@@ -33,7 +37,8 @@ abbrev pub Appends : (List Item → List Item) → Type 0
 Appends f = (rest : List Item) → f rest ≡ f [] ++ rest
 
 pub then_appends : (f g : List Item → List Item) → Appends f → Appends g → Appends (λ rest. f (g rest))
-then_appends f g a b rest = a (g rest) ∙ ap (λ l. f [] ++ l) (b rest) ∙ sym (append_assoc (f []) (g []) rest) ∙ ap (λ l. l ++ rest) (sym (a (g [])))
+then_appends f g a b rest = a (g rest) ∙ ap (λ l. f [] ++ l) (b rest) ∙ sym (append_assoc (f []) (g []) rest)
+    ∙ ap (λ l. l ++ rest) (sym (a (g [])))
 
 atom_appends : (r : ℕ) (a : Atom Place) → Appends (atom_code r a)
 atom_appends r (Constant c) rest = refl
@@ -50,8 +55,11 @@ binary_appends n _ rest = refl
 
 read_appends : (n : ℕ) (which : Primitive) (atoms : List (Atom Place)) → Appends (read_code n which atoms)
 read_appends n which [] rest = refl
-read_appends n which (a ∷ []) rest = then_appends (atom_code 0 a) (unary_code n which) (atom_appends 0 a) (unary_appends n which) rest
-read_appends n which (a ∷ (b ∷ [])) rest = then_appends (atom_code 0 a) (λ rest. atom_code 1 b (binary_code n which rest)) (atom_appends 0 a) (then_appends (atom_code 1 b) (binary_code n which) (atom_appends 1 b) (binary_appends n which)) rest
+read_appends n which (a ∷ []) rest = then_appends (atom_code 0 a) (unary_code n which) (atom_appends 0 a)
+    (unary_appends n which) rest
+read_appends n which (a ∷ (b ∷ [])) rest = then_appends (atom_code 0 a)
+    (λ rest. atom_code 1 b (binary_code n which rest)) (atom_appends 0 a)
+    (then_appends (atom_code 1 b) (binary_code n which) (atom_appends 1 b) (binary_appends n which)) rest
 read_appends n which (a ∷ (b ∷ (c ∷ atoms))) rest = refl
 
 operand_appends : (n : ℕ) (o : Operand Place) → Appends (operand_code n o)
@@ -61,12 +69,19 @@ operand_appends n (operand.Read site which atoms) rest = read_appends n which at
 second_appends : (n : ℕ) (o : Operand Place) → Appends (second_code n o)
 second_appends n (operand.Atom a) rest = atom_appends 1 a rest
 second_appends n (operand.Read site which atoms) rest =
-    ap (λ l. item.Plain (MovTo (Reg 11) 0) ∷ l) (then_appends (read_code n which atoms) (λ rest. item.Plain (MovTo (Reg 1) 0) ∷ (item.Plain (MovTo (Reg 0) 11) ∷ rest)) (read_appends n which atoms) (λ rest. refl) rest)
+    ap (λ l. item.Plain (MovTo (Reg 11) 0) ∷ l) (then_appends (read_code n which atoms)
+    (λ rest. item.Plain (MovTo (Reg 1) 0) ∷ (item.Plain (MovTo (Reg 0) 11) ∷ rest)) (read_appends n which atoms)
+    (λ rest. refl) rest)
 
-primitive_appends : (n : ℕ) (which : Primitive) (operands : List (Operand Place)) → Appends (primitive_code n which operands)
+primitive_appends : (n : ℕ) (which : Primitive) (operands : List (Operand Place))
+    → Appends (primitive_code n which operands)
 primitive_appends n which [] rest = refl
-primitive_appends n which (a ∷ []) rest = then_appends (operand_code n a) (unary_code (n + 8) which) (operand_appends n a) (unary_appends (n + 8) which) rest
-primitive_appends n which (a ∷ (b ∷ [])) rest = then_appends (operand_code n a) (λ rest. second_code (n + 4) b (binary_code (n + 8) which rest)) (operand_appends n a) (then_appends (second_code (n + 4) b) (binary_code (n + 8) which) (second_appends (n + 4) b) (binary_appends (n + 8) which)) rest
+primitive_appends n which (a ∷ []) rest = then_appends (operand_code n a) (unary_code (n + 8) which)
+    (operand_appends n a) (unary_appends (n + 8) which) rest
+primitive_appends n which (a ∷ (b ∷ [])) rest = then_appends (operand_code n a)
+    (λ rest. second_code (n + 4) b (binary_code (n + 8) which rest)) (operand_appends n a)
+    (then_appends (second_code (n + 4) b) (binary_code (n + 8) which) (second_appends (n + 4) b)
+    (binary_appends (n + 8) which)) rest
 primitive_appends n which (a ∷ (b ∷ (c ∷ operands))) rest = refl
 
 source_appends : (r : ℕ) (x : Source Place) → Appends (source_code r x)
@@ -76,27 +91,33 @@ source_appends r (source.Field p k) rest = refl
 fields_appends : (offset : ℕ) (sources : List (Source Place)) → Appends (fields_code offset sources)
 fields_appends offset [] rest = refl
 fields_appends offset (x ∷ sources) rest =
-    then_appends (source_code 1 x) (λ rest. item.Plain (MovTo (part_operand offset) 1) ∷ fields_code (offset + 8) sources rest) (source_appends 1 x)
+    then_appends (source_code 1 x) (λ rest. item.Plain (MovTo (part_operand offset) 1) ∷ fields_code (offset + 8)
+    sources rest) (source_appends 1 x)
     (λ rest. ap (λ l. item.Plain (MovTo (part_operand offset) 1) ∷ l) (fields_appends (offset + 8) sources rest)) rest
 
 pub record_appends : (offset : ℕ) (c : Closure Place) → Appends (record_code offset c)
-record_appends offset c rest = ap (λ l. item.LoadLabel 1 (body_label c.label) ∷ (item.Plain (MovTo (part_operand offset) 1) ∷ l)) (fields_appends (offset + 8) c.fields rest)
+record_appends offset c rest = ap (λ l. item.LoadLabel 1 (body_label c.label) ∷
+    (item.Plain (MovTo (part_operand offset) 1) ∷ l)) (fields_appends (offset + 8) c.fields rest)
 
 places_appends : (offset : ℕ) (members : List (Member Place)) → Appends (places_code offset members)
 places_appends offset [] rest = refl
 places_appends offset (m ∷ members) rest =
-    ap (λ l. item.Plain (MovTo (Reg 1) 12) ∷ (item.Plain (AddNumber (Reg 1) (pos (offset + 4))) ∷ (item.Plain (MovTo (place_operand m.at) 1) ∷ l))) (places_appends (offset + closure_bytes m.closure) members rest)
+    ap (λ l. item.Plain (MovTo (Reg 1) 12) ∷ (item.Plain (AddNumber (Reg 1) (pos (offset + 4))) ∷
+    (item.Plain (MovTo (place_operand m.at) 1) ∷ l))) (places_appends (offset + closure_bytes m.closure) members
+    rest)
 
 records_appends : (offset : ℕ) (members : List (Member Place)) → Appends (records_code offset members)
 records_appends offset [] rest = refl
 records_appends offset (m ∷ members) rest =
-    then_appends (record_code offset m.closure) (records_code (offset + closure_bytes m.closure) members) (record_appends offset m.closure) (records_appends (offset + closure_bytes m.closure) members) rest
+    then_appends (record_code offset m.closure) (records_code (offset + closure_bytes m.closure) members)
+    (record_appends offset m.closure) (records_appends (offset + closure_bytes m.closure) members) rest
 
 module _ (heap_end : ℕ) where
   group_appends : (members : List (Member Place)) → Appends (group_code heap_end members)
   group_appends members rest =
       let last : List Item → List Item = λ rest. item.Plain (AddNumber (Reg 12) (pos (group_bytes members))) ∷ rest in
-      then_appends (check_heap heap_end (group_bytes members)) (λ rest. places_code 0 members (records_code 0 members (last rest))) (λ rest. refl)
+      then_appends (check_heap heap_end (group_bytes members))
+      (λ rest. places_code 0 members (records_code 0 members (last rest))) (λ rest. refl)
       (then_appends (places_code 0 members) (λ rest. records_code 0 members (last rest)) (places_appends 0 members)
       (then_appends (records_code 0 members) last (records_appends 0 members) (λ rest. refl))) rest
 
@@ -104,29 +125,45 @@ module _ (heap_end : ℕ) where
   operation_appends n (operation.Operand o) rest = operand_appends n o rest
   operation_appends n (operation.Prim site which operands) rest = primitive_appends n which operands rest
   operation_appends n (operation.Global g) rest = refl
-  operation_appends n (operation.SetGlobal g o) rest = then_appends (operand_code n o) (λ rest. item.StoreWord (global_address g) 0 ∷ (item.Plain (MovNumber (Reg 0) (pos unspecified_word)) ∷ rest)) (operand_appends n o) (λ rest. refl) rest
+  operation_appends n (operation.SetGlobal g o) rest = then_appends (operand_code n o)
+      (λ rest. item.StoreWord (global_address g) 0 ∷ (item.Plain (MovNumber (Reg 0) (pos unspecified_word)) ∷ rest))
+      (operand_appends n o) (λ rest. refl) rest
   operation_appends n (operation.Field p k) rest = refl
-  operation_appends n (operation.NewCell x) rest = then_appends (source_code 0 x) (λ rest. check_heap heap_end 16 (item.Plain (MovTo (part_operand 0) 0) ∷ part_code 7 16 rest)) (source_appends 0 x) (λ rest. refl) rest
+  operation_appends n (operation.NewCell x) rest = then_appends (source_code 0 x)
+      (λ rest. check_heap heap_end 16 (item.Plain (MovTo (part_operand 0) 0) ∷ part_code 7 16 rest))
+      (source_appends 0 x) (λ rest. refl) rest
   operation_appends n operation.UnsetCell rest = refl
   operation_appends n (operation.CellGet x) rest =
-      then_appends (source_code 0 x) (λ rest. check_cell 0 (item.Plain (MovFrom 0 (cell_operand 0)) ∷ (item.Plain (CmpNumber (Reg 0) (pos unset_word)) ∷ (item.JumpIf E (stop_label Unset) ∷ rest)))) (source_appends 0 x) (λ rest. refl) rest
+      then_appends (source_code 0 x) (λ rest. check_cell 0
+      (item.Plain (MovFrom 0 (cell_operand 0)) ∷ (item.Plain (CmpNumber (Reg 0) (pos unset_word)) ∷
+      (item.JumpIf E (stop_label Unset) ∷ rest)))) (source_appends 0 x) (λ rest. refl) rest
   operation_appends n (operation.CellSet x o) rest =
-      then_appends (operand_code n o) (λ rest. source_code 1 x (check_cell 1 (item.Plain (MovTo (cell_operand 1) 0) ∷ (item.Plain (MovNumber (Reg 0) (pos unspecified_word)) ∷ rest)))) (operand_appends n o)
-      (then_appends (source_code 1 x) (λ rest. check_cell 1 (item.Plain (MovTo (cell_operand 1) 0) ∷ (item.Plain (MovNumber (Reg 0) (pos unspecified_word)) ∷ rest))) (source_appends 1 x) (λ rest. refl)) rest
+      then_appends (operand_code n o) (λ rest. source_code 1 x
+      (check_cell 1 (item.Plain (MovTo (cell_operand 1) 0) ∷
+      (item.Plain (MovNumber (Reg 0) (pos unspecified_word)) ∷ rest)))) (operand_appends n o)
+      (then_appends (source_code 1 x) (λ rest. check_cell 1
+      (item.Plain (MovTo (cell_operand 1) 0) ∷ (item.Plain (MovNumber (Reg 0) (pos unspecified_word)) ∷ rest)))
+      (source_appends 1 x) (λ rest. refl)) rest
   operation_appends n (operation.MakeClosure c) rest =
-      ap (check_heap heap_end (closure_bytes c)) (then_appends (record_code 0 c) (part_code 4 (closure_bytes c)) (record_appends 0 c) (λ rest. refl) rest)
+      ap (check_heap heap_end (closure_bytes c)) (then_appends (record_code 0 c) (part_code 4 (closure_bytes c))
+      (record_appends 0 c) (λ rest. refl) rest)
 
 module _ (base out words heap_end : ℕ) where
   pub instruction_appends : (n : ℕ) (i : Instruction) → Appends (instruction_code base out words heap_end n i)
   instruction_appends n (Do o) rest = operation_appends heap_end n o rest
-  instruction_appends n (Load p o) rest = then_appends (second_code n o) (λ rest. item.Plain (MovTo (place_operand p) 1) ∷ rest) (second_appends n o) (λ rest. refl) rest
-  instruction_appends n (Pass k o) rest = then_appends (second_code n o) (λ rest. item.Plain (MovTo (place_operand (Slot (words + k))) 1) ∷ rest) (second_appends n o) (λ rest. refl) rest
+  instruction_appends n (Load p o) rest = then_appends (second_code n o)
+      (λ rest. item.Plain (MovTo (place_operand p) 1) ∷ rest) (second_appends n o) (λ rest. refl) rest
+  instruction_appends n (Pass k o) rest = then_appends (second_code n o)
+      (λ rest. item.Plain (MovTo (place_operand (Slot (words + k))) 1) ∷ rest) (second_appends n o) (λ rest. refl) rest
   instruction_appends n (Fix members) rest = group_appends heap_end members rest
   instruction_appends n _ rest = refl
 
-  pub body_appends : (n : ℕ) (instructions : List Instruction) → Appends (body_code base out words heap_end n instructions)
+  pub body_appends : (n : ℕ) (instructions : List Instruction)
+      → Appends (body_code base out words heap_end n instructions)
   body_appends n [] rest = refl
-  body_appends n (i ∷ instructions) rest = then_appends (instruction_code base out words heap_end n i) (body_code base out words heap_end (n + 12) instructions) (instruction_appends n i) (body_appends (n + 12) instructions) rest
+  body_appends n (i ∷ instructions) rest = then_appends (instruction_code base out words heap_end n i)
+      (body_code base out words heap_end (n + 12) instructions) (instruction_appends n i)
+      (body_appends (n + 12) instructions) rest
 
 -- items behind others, whatever waits for them
 pub record Behind (setting : Setting) (rest : List Item) : Type 0 where
@@ -134,7 +171,8 @@ pub record Behind (setting : Setting) (rest : List Item) : Type 0 where
   pub waiting : List MarkKind
   pub stands : Stands setting waiting place rest
 
-pub behind : (setting : Setting) (xs ys : List Item) (waiting : List MarkKind) (a : ℕ) → Stands setting waiting a (xs ++ ys) → Behind setting ys
+pub behind : (setting : Setting) (xs ys : List Item) (waiting : List MarkKind) (a : ℕ)
+    → Stands setting waiting a (xs ++ ys) → Behind setting ys
 behind setting [] ys waiting a h = record { place = a; waiting = waiting; stands = h }
 behind setting (item.Label l ∷ xs) ys waiting a h = behind setting xs ys [] a h.2
 behind setting (item.Mark m ∷ xs) ys waiting a h = behind setting xs ys (waiting ++ m ∷ []) a h

@@ -1,11 +1,17 @@
 -- Jumps to the own labels of bodies go forward.
-use Rattle.std.proofs.Common.{◌≡◌, ℕ, suc, ◌+◌, ◌<◌, ◌≤◌, List, [], ◌∷◌, length, Bool, true, Option, Some, None, refl, ap, ◌∙◌, arith, ◌&&◌, ◌||◌}
+use Rattle.std.proofs.Common.{◌≡◌, ℕ, suc, ◌+◌, ◌<◌, List, [], ◌∷◌, length, Bool, true, Option, Some, None, refl, ap}
+use Rattle.std.proofs.Common.{◌∙◌, arith, ◌&&◌, ◌||◌}
 use Rattle.std.specs.Prelude.{nat_lt}
 use Rattle.std.specs.List.{list_all}
 use Rattle.std.proofs.lemmas.Bool.{and_parts, lt-ltb, ltb-true}
 use Rattle.sch_word.specs.declared.place.Place.{Place}
 use Rattle.sch_word.specs.declared.primitive.Primitive.{Primitive}
-use Rattle.sch_word.specs.declared.primitive.Primitive.TheVariants.{Eq, Eqv, IsBoolean, IsPair, IsNull, IsSymbol, IsInteger, IsChar, IsString, IsVector, IsProcedure, Add, Subtract, Multiply, Quotient, Remainder, Modulo, Equal, Less, Greater, LessEqual, GreaterEqual, CharToInteger, IntegerToChar, Put}
+use Rattle.sch_word.specs.declared.primitive.Primitive.TheVariants.{Eq, Eqv, IsBoolean, IsPair, IsNull, IsSymbol}
+use Rattle.sch_word.specs.declared.primitive.Primitive.TheVariants.{IsInteger, IsChar, IsString, IsVector}
+use Rattle.sch_word.specs.declared.primitive.Primitive.TheVariants.{IsProcedure, Add, Subtract, Multiply, Quotient}
+use Rattle.sch_word.specs.declared.primitive.Primitive.TheVariants.{Remainder, Modulo, Equal, Less, Greater}
+use Rattle.sch_word.specs.declared.primitive.Primitive.TheVariants.{LessEqual, GreaterEqual, CharToInteger}
+use Rattle.sch_word.specs.declared.primitive.Primitive.TheVariants.{IntegerToChar, Put}
 use Rattle.sch_word.specs.trees.NumberSets.{has}
 use Rattle.sch_control.specs.Valid.{without_repeats}
 use Rattle.sch_control.specs.declared.body.Entry.{Entry}
@@ -29,7 +35,9 @@ use Rattle.sch_asm.specs.declared.item.Item.{Item}
 use Rattle.sch_asm.specs.declared.item.Item.TheVariants as item
 use Rattle.sch_asm.specs.declared.item.MarkKind.TheVariants.{Enter}
 use Rattle.sch_asm.specs.Items.{is_among, labels_in}
-use Rattle.sch_select.specs.Select.{first_label, body_label, atom_code, unary_code, binary_code, read_code, operand_code, second_code, source_code, fields_code, closure_bytes, places_code, record_code, records_code, operation_code, body_code}
+use Rattle.sch_select.specs.Select.{first_label, body_label, atom_code, unary_code, binary_code, read_code}
+use Rattle.sch_select.specs.Select.{operand_code, second_code, source_code, fields_code, closure_bytes, places_code}
+use Rattle.sch_select.specs.Select.{record_code, records_code, operation_code, body_code}
 use Rattle.sch_select.specs.Program.{passed_code, entry_code, forms_code, labels_end, heap_of, own_label, program_code, put_value_code}
 use Rattle.sch_select.specs.Jumps.{goes_ahead, jumps_ahead}
 use Rattle.sch_select.proofs.programs.Selected.{members_few, operation_few, labels_few}
@@ -58,9 +66,11 @@ module _ (count : ℕ) where
 
   -- a label at which a body begins
   begins : (l : ℕ) → nat_lt l count ≡ true → (t b : Bool) → ((nat_lt (body_label l) own || t) && b) ≡ b
-  begins l e t b = let lt = ltb-true l count e in ap (λ a. (a || t) && b) (lt-ltb (body_label l) own (omega (arith, lt)))
+  begins l e t b = let lt = ltb-true l count e in ap (λ a. (a || t) && b)
+      (lt-ltb (body_label l) own (omega (arith, lt)))
 
-  stop : (l : ℕ) → l < 1030 → (is : List Item) → (goes_ahead first_label l is && jumps_ahead own is) ≡ jumps_ahead own is
+  stop : (l : ℕ) → l < 1030 → (is : List Item) → (goes_ahead first_label l is && jumps_ahead own is) ≡ jumps_ahead own
+      is
   stop l lt is = away l lt (is_among (labels_in is) l) (jumps_ahead own is)
 
   here : (n : ℕ) (ls : List ℕ) (b : Bool) → ((nat_lt n first_label || is_among (n ∷ ls) n) && b) ≡ b
@@ -77,28 +87,36 @@ module _ (count : ℕ) where
   unary_ahead n IsVector rest = here n (labels_in rest) (jumps_ahead own rest)
   unary_ahead n IsProcedure rest = here n (labels_in rest) (jumps_ahead own rest)
   unary_ahead n CharToInteger rest = stop 1 (omega arith) rest
-  unary_ahead n IntegerToChar rest = away 1 (omega arith) (is_among (labels_in rest) 1) ((nat_lt 2 first_label || is_among (labels_in rest) 2) && jumps_ahead own rest) ∙ stop 2 (omega arith) rest
+  unary_ahead n IntegerToChar rest = away 1 (omega arith) (is_among (labels_in rest) 1)
+      ((nat_lt 2 first_label || is_among (labels_in rest) 2) && jumps_ahead own rest) ∙ stop 2 (omega arith) rest
   unary_ahead n Put rest =
       near_to own n (is_among (n ∷ labels_in rest) n) _ (first_in n (labels_in rest))
       ∙ away 1024 (omega arith) (is_among (n ∷ labels_in rest) 1024) (jumps_ahead own rest)
   unary_ahead n _ rest = refl
 
   -- a comparison of two fixnums
-  two : (n : ℕ) (ls : List ℕ) (b : Bool) → ((nat_lt 1 first_label || is_among (n ∷ ls) 1) && ((nat_lt 1 first_label || is_among (n ∷ ls) 1) && ((nat_lt n first_label || is_among (n ∷ ls) n) && b))) ≡ b
+  two : (n : ℕ) (ls : List ℕ) (b : Bool) → ((nat_lt 1 first_label || is_among (n ∷ ls) 1) &&
+      ((nat_lt 1 first_label || is_among (n ∷ ls) 1) && ((nat_lt n first_label || is_among (n ∷ ls) n) && b))) ≡ b
   two n ls b = away 1 (omega arith) (is_among (n ∷ ls) 1) _ ∙ away 1 (omega arith) (is_among (n ∷ ls) 1) _ ∙ here n ls b
 
   -- what computes a fixnum
-  three : (a t u v b : Bool) (l : ℕ) → l < 1030 → ((nat_lt 1 first_label || t) && ((nat_lt 1 first_label || u) && ((nat_lt l first_label || v) && b))) ≡ b
+  three : (a t u v b : Bool) (l : ℕ) → l < 1030 → ((nat_lt 1 first_label || t) &&
+      ((nat_lt 1 first_label || u) && ((nat_lt l first_label || v) && b))) ≡ b
   three a t u v b l lt = away 1 (omega arith) t _ ∙ away 1 (omega arith) u _ ∙ away l lt v b
 
   binary_ahead : (n : ℕ) (which : Primitive) → Ahead (binary_code n which)
   binary_ahead n Eq rest = here n (labels_in rest) (jumps_ahead own rest)
   binary_ahead n Eqv rest = here n (labels_in rest) (jumps_ahead own rest)
-  binary_ahead n Add rest = three true (is_among (labels_in rest) 1) (is_among (labels_in rest) 1) (is_among (labels_in rest) 6) (jumps_ahead own rest) 6 (omega arith)
-  binary_ahead n Subtract rest = three true (is_among (labels_in rest) 1) (is_among (labels_in rest) 1) (is_among (labels_in rest) 6) (jumps_ahead own rest) 6 (omega arith)
-  binary_ahead n Multiply rest = three true (is_among (labels_in rest) 1) (is_among (labels_in rest) 1) (is_among (labels_in rest) 6) (jumps_ahead own rest) 6 (omega arith)
-  binary_ahead n Quotient rest = three true (is_among (labels_in rest) 1) (is_among (labels_in rest) 1) (is_among (labels_in rest) 5) _ 5 (omega arith) ∙ stop 6 (omega arith) rest
-  binary_ahead n Remainder rest = three true (is_among (labels_in rest) 1) (is_among (labels_in rest) 1) (is_among (labels_in rest) 5) (jumps_ahead own rest) 5 (omega arith)
+  binary_ahead n Add rest = three true (is_among (labels_in rest) 1) (is_among (labels_in rest) 1)
+      (is_among (labels_in rest) 6) (jumps_ahead own rest) 6 (omega arith)
+  binary_ahead n Subtract rest = three true (is_among (labels_in rest) 1) (is_among (labels_in rest) 1)
+      (is_among (labels_in rest) 6) (jumps_ahead own rest) 6 (omega arith)
+  binary_ahead n Multiply rest = three true (is_among (labels_in rest) 1) (is_among (labels_in rest) 1)
+      (is_among (labels_in rest) 6) (jumps_ahead own rest) 6 (omega arith)
+  binary_ahead n Quotient rest = three true (is_among (labels_in rest) 1) (is_among (labels_in rest) 1)
+      (is_among (labels_in rest) 5) _ 5 (omega arith) ∙ stop 6 (omega arith) rest
+  binary_ahead n Remainder rest = three true (is_among (labels_in rest) 1) (is_among (labels_in rest) 1)
+      (is_among (labels_in rest) 5) (jumps_ahead own rest) 5 (omega arith)
   binary_ahead n Modulo rest =
       let ls = labels_in rest in
       let all : List ℕ = (n + 1) ∷ ((n + 2) ∷ (n ∷ ls)) in
@@ -106,7 +124,8 @@ module _ (count : ℕ) where
       let in_all : is_among all n ≡ true = later_in (n + 1) n last (later_in (n + 2) n (n ∷ ls) (first_in n ls)) in
       three true (is_among all 1) (is_among all 1) (is_among all 5) _ 5 (omega arith)
       ∙ near n (is_among all n) _ in_all ∙ near (n + 1) (is_among all (n + 1)) _ (first_in (n + 1) last)
-      ∙ near n (is_among all n) _ in_all ∙ near (n + 2) (is_among all (n + 2)) _ (later_in (n + 1) (n + 2) last (first_in (n + 2) (n ∷ ls)))
+      ∙ near n (is_among all n) _ in_all ∙ near (n + 2) (is_among all (n + 2)) _
+      (later_in (n + 1) (n + 2) last (first_in (n + 2) (n ∷ ls)))
       ∙ near n (is_among last n) (jumps_ahead own rest) (later_in (n + 2) n (n ∷ ls) (first_in n ls))
   binary_ahead n Equal rest = two n (labels_in rest) (jumps_ahead own rest)
   binary_ahead n Less rest = two n (labels_in rest) (jumps_ahead own rest)
@@ -123,7 +142,8 @@ module _ (count : ℕ) where
   read_ahead : (n : ℕ) (which : Primitive) (atoms : List (Atom Place)) → Ahead (read_code n which atoms)
   read_ahead n which [] rest = refl
   read_ahead n which (a ∷ []) rest = atom_ahead 0 a (unary_code n which rest) ∙ unary_ahead n which rest
-  read_ahead n which (a ∷ (b ∷ [])) rest = atom_ahead 0 a (atom_code 1 b (binary_code n which rest)) ∙ atom_ahead 1 b (binary_code n which rest) ∙ binary_ahead n which rest
+  read_ahead n which (a ∷ (b ∷ [])) rest = atom_ahead 0 a (atom_code 1 b (binary_code n which rest))
+      ∙ atom_ahead 1 b (binary_code n which rest) ∙ binary_ahead n which rest
   read_ahead n which (a ∷ (b ∷ (c ∷ atoms))) rest = refl
 
   operand_ahead : (n : ℕ) (o : Operand Place) → Ahead (operand_code n o)
@@ -149,68 +169,99 @@ module _ (count : ℕ) where
   record_ahead : (offset : ℕ) (c : Closure Place) → nat_lt c.label count ≡ true → Ahead (record_code offset c)
   record_ahead offset c e rest = begins c.label e _ _ ∙ fields_ahead (offset + 8) c.fields rest
 
-  records_ahead : (offset : ℕ) (members : List (Member Place)) → members_few count members ≡ true → Ahead (records_code offset members)
+  records_ahead : (offset : ℕ) (members : List (Member Place)) → members_few count members ≡ true
+      → Ahead (records_code offset members)
   records_ahead offset [] e rest = refl
   records_ahead offset (m ∷ members) e rest =
       let p = and_parts (nat_lt m.closure.label count) (members_few count members) e in
       record_ahead offset m.closure p.0 _ ∙ records_ahead (offset + closure_bytes m.closure) members p.1 rest
 
-  operation_ahead : (heap_end n : ℕ) (o : Operation Place) → operation_few count o ≡ true → Ahead (operation_code heap_end n o)
+  operation_ahead : (heap_end n : ℕ) (o : Operation Place) → operation_few count o ≡ true
+      → Ahead (operation_code heap_end n o)
   operation_ahead heap_end n (operation.Operand o) e rest = operand_ahead n o rest
   operation_ahead heap_end n (operation.Prim site which []) e rest = refl
-  operation_ahead heap_end n (operation.Prim site which (o ∷ [])) e rest = operand_ahead n o (unary_code (n + 8) which rest) ∙ unary_ahead (n + 8) which rest
+  operation_ahead heap_end n (operation.Prim site which (o ∷ [])) e rest = operand_ahead n o
+      (unary_code (n + 8) which rest) ∙ unary_ahead (n + 8) which rest
   operation_ahead heap_end n (operation.Prim site which (o ∷ (q ∷ []))) e rest =
-      operand_ahead n o (second_code (n + 4) q (binary_code (n + 8) which rest)) ∙ second_ahead (n + 4) q (binary_code (n + 8) which rest) ∙ binary_ahead (n + 8) which rest
+      operand_ahead n o (second_code (n + 4) q (binary_code (n + 8) which rest))
+      ∙ second_ahead (n + 4) q (binary_code (n + 8) which rest) ∙ binary_ahead (n + 8) which rest
   operation_ahead heap_end n (operation.Prim site which (o ∷ (q ∷ (r ∷ operands)))) e rest = refl
   operation_ahead heap_end n (operation.Global g) e rest = stop 9 (omega arith) rest
   operation_ahead heap_end n (operation.SetGlobal g o) e rest = operand_ahead n o _
   operation_ahead heap_end n (operation.Field p k) e rest = refl
   operation_ahead heap_end n (operation.NewCell x) e rest = source_ahead 0 x _ ∙ stop 7 (omega arith) rest
   operation_ahead heap_end n operation.UnsetCell e rest = stop 7 (omega arith) rest
-  operation_ahead heap_end n (operation.CellGet x) e rest = source_ahead 0 x _ ∙ away 9 (omega arith) true _ ∙ stop 9 (omega arith) rest
-  operation_ahead heap_end n (operation.CellSet x o) e rest = operand_ahead n o _ ∙ source_ahead 1 x _ ∙ stop 9 (omega arith) rest
+  operation_ahead heap_end n (operation.CellGet x) e rest = source_ahead 0 x _ ∙ away 9 (omega arith) true _
+      ∙ stop 9 (omega arith) rest
+  operation_ahead heap_end n (operation.CellSet x o) e rest = operand_ahead n o _ ∙ source_ahead 1 x _
+      ∙ stop 9 (omega arith) rest
   operation_ahead heap_end n (operation.MakeClosure c) e rest = away 7 (omega arith) true _ ∙ record_ahead 0 c e _
 
   -- ---- bodies
 
   -- a label behind a body
-  behind_body : (base out words heap_end n l : ℕ) (is : List Instruction) (rest : List Item) → is_among (labels_in rest) l ≡ true → is_among (labels_in (body_code base out words heap_end n is rest)) l ≡ true
-  behind_body base out words heap_end n l is rest e = ap (λ ls. is_among ls l) (body_labelled base out words heap_end n is rest) ∙ right_in (body_labels base n is) (labels_in rest) l e
+  behind_body : (base out words heap_end n l : ℕ) (is : List Instruction) (rest : List Item)
+      → is_among (labels_in rest) l ≡ true → is_among (labels_in (body_code base out words heap_end n is rest)) l ≡ true
+  behind_body base out words heap_end n l is rest e = ap (λ ls. is_among ls l)
+      (body_labelled base out words heap_end n is rest) ∙ right_in (body_labels base n is) (labels_in rest) l e
 
-  within_body : (base out words heap_end n l : ℕ) (is : List Instruction) (rest : List Item) → has l (frames.labels_in is) ≡ true → is_among (labels_in (body_code base out words heap_end n is rest)) (base + l) ≡ true
-  within_body base out words heap_end n l is rest e = ap (λ ls. is_among ls (base + l)) (body_labelled base out words heap_end n is rest) ∙ left_in (body_labels base n is) (labels_in rest) (base + l) (label_in base n l is e)
+  within_body : (base out words heap_end n l : ℕ) (is : List Instruction) (rest : List Item)
+      → has l (frames.labels_in is) ≡ true → is_among (labels_in (body_code base out words heap_end n is rest))
+      (base + l) ≡ true
+  within_body base out words heap_end n l is rest e = ap (λ ls. is_among ls (base + l))
+      (body_labelled base out words heap_end n is rest) ∙ left_in (body_labels base n is) (labels_in rest) (base + l)
+      (label_in base n l is e)
 
-  body_ahead : (base out words heap_end n : ℕ) (is : List Instruction) (rest : List Item) → frames.jumps_ahead is ≡ true → list_all (labels_few count) is ≡ true → is_among (labels_in rest) out ≡ true → jumps_ahead own (body_code base out words heap_end n is rest) ≡ jumps_ahead own rest
+  body_ahead : (base out words heap_end n : ℕ) (is : List Instruction) (rest : List Item)
+      → frames.jumps_ahead is ≡ true → list_all (labels_few count) is ≡ true → is_among (labels_in rest) out ≡ true
+      → jumps_ahead own (body_code base out words heap_end n is rest) ≡ jumps_ahead own rest
   body_ahead base out words heap_end n [] rest e f o = refl
   body_ahead base out words heap_end n (instruction.IfFalse l ∷ is) rest e f o =
       let p = and_parts (has l (frames.labels_in is)) (frames.jumps_ahead is) e in
-      near (base + l) _ _ (within_body base out words heap_end (n + 12) l is rest p.0) ∙ body_ahead base out words heap_end (n + 12) is rest p.1 f o
+      near (base + l) _ _ (within_body base out words heap_end (n + 12) l is rest p.0)
+      ∙ body_ahead base out words heap_end (n + 12) is rest p.1 f o
   body_ahead base out words heap_end n (instruction.Jump l ∷ is) rest e f o =
       let p = and_parts (has l (frames.labels_in is)) (frames.jumps_ahead is) e in
-      near (base + l) _ _ (within_body base out words heap_end (n + 12) l is rest p.0) ∙ body_ahead base out words heap_end (n + 12) is rest p.1 f o
-  body_ahead base out words heap_end n (instruction.End ∷ is) rest e f o = near out _ _ (behind_body base out words heap_end (n + 12) out is rest o) ∙ body_ahead base out words heap_end (n + 12) is rest e f o
+      near (base + l) _ _ (within_body base out words heap_end (n + 12) l is rest p.0)
+      ∙ body_ahead base out words heap_end (n + 12) is rest p.1 f o
+  body_ahead base out words heap_end n (instruction.End ∷ is) rest e f o = near out _ _
+      (behind_body base out words heap_end (n + 12) out is rest o)
+      ∙ body_ahead base out words heap_end (n + 12) is rest e f o
   body_ahead base out words heap_end n (instruction.Do q ∷ is) rest e f o =
       let g = and_parts (operation_few count q) (list_all (labels_few count) is) f in
-      operation_ahead heap_end n q g.0 (body_code base out words heap_end (n + 12) is rest) ∙ body_ahead base out words heap_end (n + 12) is rest e g.1 o
-  body_ahead base out words heap_end n (instruction.Load p q ∷ is) rest e f o = second_ahead n q _ ∙ body_ahead base out words heap_end (n + 12) is rest e f o
+      operation_ahead heap_end n q g.0 (body_code base out words heap_end (n + 12) is rest)
+      ∙ body_ahead base out words heap_end (n + 12) is rest e g.1 o
+  body_ahead base out words heap_end n (instruction.Load p q ∷ is) rest e f o = second_ahead n q _
+      ∙ body_ahead base out words heap_end (n + 12) is rest e f o
   body_ahead base out words heap_end n (instruction.Fix members ∷ is) rest e f o =
       let g = and_parts (members_few count members) (list_all (labels_few count) is) f in
-      away 7 (omega arith) true _ ∙ places_ahead 0 members _ ∙ records_ahead 0 members g.0 _ ∙ body_ahead base out words heap_end (n + 12) is rest e g.1 o
-  body_ahead base out words heap_end n (instruction.Store p ∷ is) rest e f o = body_ahead base out words heap_end (n + 12) is rest e f o
-  body_ahead base out words heap_end n (instruction.Copy p q ∷ is) rest e f o = body_ahead base out words heap_end (n + 12) is rest e f o
-  body_ahead base out words heap_end n (instruction.Pass j q ∷ is) rest e f o = second_ahead n q _ ∙ body_ahead base out words heap_end (n + 12) is rest e f o
+      away 7 (omega arith) true _ ∙ places_ahead 0 members _ ∙ records_ahead 0 members g.0 _
+      ∙ body_ahead base out words heap_end (n + 12) is rest e g.1 o
+  body_ahead base out words heap_end n (instruction.Store p ∷ is) rest e f o = body_ahead base out words heap_end
+      (n + 12) is rest e f o
+  body_ahead base out words heap_end n (instruction.Copy p q ∷ is) rest e f o = body_ahead base out words heap_end
+      (n + 12) is rest e f o
+  body_ahead base out words heap_end n (instruction.Pass j q ∷ is) rest e f o = second_ahead n q _
+      ∙ body_ahead base out words heap_end (n + 12) is rest e f o
   body_ahead base out words heap_end n (instruction.Call spread count ∷ is) rest e f o =
-      near_to own n _ _ (first_in n (labels_in (body_code base out words heap_end (n + 12) is rest))) ∙ body_ahead base out words heap_end (n + 12) is rest e f o
-  body_ahead base out words heap_end n (instruction.Tail spread count ∷ is) rest e f o = body_ahead base out words heap_end (n + 12) is rest e f o
-  body_ahead base out words heap_end n (instruction.Return ∷ is) rest e f o = body_ahead base out words heap_end (n + 12) is rest e f o
-  body_ahead base out words heap_end n (instruction.Label l ∷ is) rest e f o = body_ahead base out words heap_end (n + 12) is rest e f o
-  body_ahead base out words heap_end n (instruction.Mark m ∷ is) rest e f o = body_ahead base out words heap_end (n + 12) is rest e f o
+      near_to own n _ _ (first_in n (labels_in (body_code base out words heap_end (n + 12) is rest)))
+      ∙ body_ahead base out words heap_end (n + 12) is rest e f o
+  body_ahead base out words heap_end n (instruction.Tail spread count ∷ is) rest e f o = body_ahead base out words
+      heap_end (n + 12) is rest e f o
+  body_ahead base out words heap_end n (instruction.Return ∷ is) rest e f o = body_ahead base out words heap_end
+      (n + 12) is rest e f o
+  body_ahead base out words heap_end n (instruction.Label l ∷ is) rest e f o = body_ahead base out words heap_end
+      (n + 12) is rest e f o
+  body_ahead base out words heap_end n (instruction.Mark m ∷ is) rest e f o = body_ahead base out words heap_end
+      (n + 12) is rest e f o
 
-  passed_ahead : (q : Option Entry) (out : ℕ) (rest : List Item) → is_among (labels_in rest) out ≡ true → jumps_ahead own (passed_code q out rest) ≡ jumps_ahead own rest
+  passed_ahead : (q : Option Entry) (out : ℕ) (rest : List Item) → is_among (labels_in rest) out ≡ true
+      → jumps_ahead own (passed_code q out rest) ≡ jumps_ahead own rest
   passed_ahead None out rest e = refl
   passed_ahead (Some q) out rest e = near out (is_among (labels_in rest) out) (jumps_ahead own rest) e
 
-  entry_behind : (q : Option Entry) (rest : List Item) (l : ℕ) → is_among (labels_in rest) l ≡ true → is_among (labels_in (entry_code q rest)) l ≡ true
+  entry_behind : (q : Option Entry) (rest : List Item) (l : ℕ) → is_among (labels_in rest) l ≡ true
+      → is_among (labels_in (entry_code q rest)) l ≡ true
   entry_behind None rest l e = e
   entry_behind (Some q) rest l e = e
 
@@ -218,28 +269,36 @@ module _ (count : ℕ) where
   entry_ahead None rest = refl
   entry_ahead (Some e) rest = refl
 
-  forms_ahead : (words heap_end label n : ℕ) (cs : List Code) (rest : List Item) → list_all (λ c. forward c.labels c.instructions) cs ≡ true
-      → list_all (λ c. list_all (labels_few count) c.instructions) cs ≡ true → jumps_ahead own (forms_code words heap_end label n cs rest) ≡ jumps_ahead own rest
+  forms_ahead : (words heap_end label n : ℕ) (cs : List Code) (rest : List Item)
+      → list_all (λ c. forward c.labels c.instructions) cs ≡ true
+      → list_all (λ c. list_all (labels_few count) c.instructions) cs ≡ true
+      → jumps_ahead own (forms_code words heap_end label n cs rest) ≡ jumps_ahead own rest
   forms_ahead words heap_end label n [] rest e f = refl
   forms_ahead words heap_end label n (c ∷ cs) rest e f =
-      let g = and_parts (list_all (labels_few count) c.instructions) (list_all (λ c. list_all (labels_few count) c.instructions) cs) f in
+      let g = and_parts (list_all (labels_few count) c.instructions)
+      (list_all (λ c. list_all (labels_few count) c.instructions) cs) f in
       let p = and_parts (forward c.labels c.instructions) (list_all (λ c. forward c.labels c.instructions) cs) e in
-      let q = and_parts (list_all (λ l. nat_lt l c.labels) (frames.labels_in c.instructions)) (without_repeats (frames.labels_in c.instructions) && frames.jumps_ahead c.instructions) p.0 in
+      let q = and_parts (list_all (λ l. nat_lt l c.labels) (frames.labels_in c.instructions))
+      (without_repeats (frames.labels_in c.instructions) && frames.jumps_ahead c.instructions) p.0 in
       let r = and_parts (without_repeats (frames.labels_in c.instructions)) (frames.jumps_ahead c.instructions) q.1 in
       let out = n + c.labels in
       let others = forms_code words heap_end (suc label) (labels_end n c) cs rest in
       let last = item.Label out ∷ others in
       let there : is_among (labels_in last) out ≡ true = first_in out (labels_in others) in
       let body = item.Mark (Enter label) ∷ body_code n out words heap_end (n + c.labels + 1) c.instructions last in
-      let in_body : is_among (labels_in body) out ≡ true = behind_body n out words heap_end (n + c.labels + 1) out c.instructions last there in
-      passed_ahead c.entry out _ (later_in (body_label label) out (labels_in (entry_code c.entry body)) (entry_behind c.entry body out in_body))
-      ∙ entry_ahead c.entry body ∙ body_ahead n out words heap_end (n + c.labels + 1) c.instructions last r.1 g.0 there ∙ forms_ahead words heap_end (suc label) (labels_end n c) cs rest p.1 g.1
+      let in_body : is_among (labels_in body) out ≡ true = behind_body n out words heap_end (n + c.labels + 1) out
+      c.instructions last there in
+      passed_ahead c.entry out _ (later_in (body_label label) out (labels_in (entry_code c.entry body))
+      (entry_behind c.entry body out in_body))
+      ∙ entry_ahead c.entry body ∙ body_ahead n out words heap_end (n + c.labels + 1) c.instructions last r.1 g.0
+      there ∙ forms_ahead words heap_end (suc label) (labels_end n c) cs rest p.1 g.1
 
 -- the jumps of the program's own routine are to labels below those of bodies
 last_ahead : (own : ℕ) → jumps_ahead own (item.Jump 0 ∷ (item.Label 1024 ∷ put_value_code)) ≡ true
 last_ahead _ = refl
 
 pub program_ahead : (p : tree.Source) (heap depth : ℕ) → list_all (λ c. forward c.labels c.instructions) p.bodies ≡ true
-    → list_all (λ c. list_all (labels_few (length p.bodies)) c.instructions) p.bodies ≡ true → jumps_ahead (own_label p) (program_code p heap depth) ≡ true
+    → list_all (λ c. list_all (labels_few (length p.bodies)) c.instructions) p.bodies ≡ true
+    → jumps_ahead (own_label p) (program_code p heap depth) ≡ true
 program_ahead p heap depth e f =
     forms_ahead (length p.bodies) p.words (heap_of p + heap) 0 (own_label p) p.bodies _ e f ∙ last_ahead (own_label p)

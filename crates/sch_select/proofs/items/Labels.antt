@@ -1,10 +1,14 @@
 -- No label stands twice in a program's items.
-use Rattle.std.proofs.Common.{◌≡◌, ℕ, ◌+◌, ◌<◌, ◌≤◌, List, [], ◌∷◌, ◌++◌, Bool, true, false, cond, refl, sym, ap, ◌∙◌, arith, append_assoc, ◌==◌, ◌||◌, eq-eqb}
+use Rattle.std.proofs.Common.{◌≡◌, ℕ, ◌+◌, ◌<◌, ◌≤◌, List, [], ◌∷◌, ◌++◌, Bool, true, false, cond, refl, sym, ap}
+use Rattle.std.proofs.Common.{◌∙◌, arith, append_assoc, ◌==◌, ◌||◌, eq-eqb}
 use Rattle.std.specs.Prelude.{nat_lt}
 use Rattle.std.proofs.lemmas.Bool.{ne_eqb, ltb-true, ltb-false}
 use Rattle.sch_word.specs.declared.place.Place.{Place}
 use Rattle.sch_word.specs.declared.primitive.Primitive.{Primitive}
-use Rattle.sch_word.specs.declared.primitive.Primitive.TheVariants.{Eq, Eqv, IsBoolean, IsPair, IsNull, IsSymbol, IsInteger, IsChar, IsString, IsVector, IsProcedure, Modulo, Equal, Less, Greater, LessEqual, GreaterEqual, Put}
+use Rattle.sch_word.specs.declared.primitive.Primitive.TheVariants.{Eq, Eqv, IsBoolean, IsPair, IsNull, IsSymbol}
+use Rattle.sch_word.specs.declared.primitive.Primitive.TheVariants.{IsInteger, IsChar, IsString, IsVector}
+use Rattle.sch_word.specs.declared.primitive.Primitive.TheVariants.{IsProcedure, Modulo, Equal, Less, Greater}
+use Rattle.sch_word.specs.declared.primitive.Primitive.TheVariants.{LessEqual, GreaterEqual, Put}
 use Rattle.sch_control.specs.declared.operation.Atom.{Atom}
 use Rattle.sch_control.specs.declared.operation.Atom.TheVariants.{Constant, Literal, Variable}
 use Rattle.sch_control.specs.declared.operation.Operand.{Operand}
@@ -17,7 +21,9 @@ use Rattle.sch_control.specs.declared.operation.Operation.TheVariants as operati
 use Rattle.sch_asm.specs.declared.item.Item.{Item}
 use Rattle.sch_asm.specs.Items.{is_among, labels_in}
 use Rattle.sch_asm.proofs.Tables.{repeats}
-use Rattle.sch_select.specs.Select.{atom_code, unary_code, binary_code, read_code, operand_code, second_code, source_code, fields_code, closure_bytes, places_code, records_code, group_code, operation_code}
+use Rattle.sch_select.specs.Select.{atom_code, unary_code, binary_code, read_code, operand_code, second_code}
+use Rattle.sch_select.specs.Select.{source_code, fields_code, closure_bytes, places_code, records_code, group_code}
+use Rattle.sch_select.specs.Select.{operation_code}
 
 -- ---- lists whose elements are all different, in a range
 
@@ -33,31 +39,40 @@ false_parts : (a b : Bool) → (a || b) ≡ false → (a ≡ false) × (b ≡ fa
 false_parts true b e = absurd (let bad : true ≡ false = e in cc)
 false_parts false b e = (refl, e)
 
-pub among_append : (xs ys : List ℕ) (y : ℕ) → is_among xs y ≡ false → is_among ys y ≡ false → is_among (xs ++ ys) y ≡ false
+pub among_append : (xs ys : List ℕ) (y : ℕ) → is_among xs y ≡ false → is_among ys y ≡ false
+    → is_among (xs ++ ys) y ≡ false
 among_append [] ys y e f = f
-among_append (x ∷ xs) ys y e f = let p = false_parts (x == y) (is_among xs y) e in either_false (x == y) (is_among (xs ++ ys) y) p.0 (among_append xs ys y p.1 f)
+among_append (x ∷ xs) ys y e f = let p = false_parts (x == y) (is_among xs y) e in either_false (x == y)
+    (is_among (xs ++ ys) y) p.0 (among_append xs ys y p.1 f)
 
 -- elements of the first are in none of the second
 abbrev pub Apart : List ℕ → List ℕ → Type 0
 Apart [] ys = Unit {0}
 Apart (x ∷ xs) ys = (is_among ys x ≡ false) × Apart xs ys
 
-pub distinct_append : (xs ys : List ℕ) → repeats xs ≡ false → repeats ys ≡ false → Apart xs ys → repeats (xs ++ ys) ≡ false
+pub distinct_append : (xs ys : List ℕ) → repeats xs ≡ false → repeats ys ≡ false → Apart xs ys
+    → repeats (xs ++ ys) ≡ false
 distinct_append [] ys e f a = f
-distinct_append (x ∷ xs) ys e f a = let p = false_parts (is_among xs x) (repeats xs) e in either_false (is_among (xs ++ ys) x) (repeats (xs ++ ys)) (among_append xs ys x p.0 a.0) (distinct_append xs ys p.1 f a.1)
+distinct_append (x ∷ xs) ys e f a = let p = false_parts (is_among xs x) (repeats xs) e in either_false
+    (is_among (xs ++ ys) x) (repeats (xs ++ ys)) (among_append xs ys x p.0 a.0) (distinct_append xs ys p.1 f a.1)
 
 -- an element of a block is below its end
-inside : (low high : ℕ) (ls : List ℕ) → ((y : ℕ) → high ≤ y → is_among ls y ≡ false) → (y : ℕ) → is_among ls y ≡ true → y < high
+inside : (low high : ℕ) (ls : List ℕ) → ((y : ℕ) → high ≤ y → is_among ls y ≡ false) → (y : ℕ) → is_among ls y ≡ true
+    → y < high
 inside low high ls above y e = by (nat_lt y high) refl
   where
     by : (b : Bool) → nat_lt y high ≡ b → y < high
     by true f = ltb-true y high f
     by false f = absurd (let bad : true ≡ false = sym e ∙ above y (ltb-false y high f) in cc)
 
-apart_blocks : (xs all ys : List ℕ) (middle : ℕ) → ((y : ℕ) → is_among xs y ≡ true → is_among all y ≡ true) → ((y : ℕ) → middle ≤ y → is_among all y ≡ false) → ((y : ℕ) → y < middle → is_among ys y ≡ false) → Apart xs ys
+apart_blocks : (xs all ys : List ℕ) (middle : ℕ) → ((y : ℕ) → is_among xs y ≡ true → is_among all y ≡ true)
+    → ((y : ℕ) → middle ≤ y → is_among all y ≡ false) → ((y : ℕ) → y < middle → is_among ys y ≡ false) → Apart xs ys
 apart_blocks [] all ys middle sub above below = tt
-apart_blocks (x ∷ xs) all ys middle sub above below =
-    (below x (inside 0 middle all above x (sub x (ap (λ b. b || is_among xs x) (same x)))), apart_blocks xs all ys middle (λ y e. sub y (ap (λ b. (x == y) || b) e ∙ or_true (x == y))) above below)
+apart_blocks (x ∷ xs) all ys middle sub above below = (
+  below x (inside 0 middle all above x (sub x (ap (λ b. b || is_among xs x) (same x)))),
+  apart_blocks xs all ys
+      middle (λ y e. sub y (ap (λ b. (x == y) || b) e ∙ or_true (x == y))) above below,
+)
   where
     same : (x : ℕ) → (x == x) ≡ true
     same x = eq-eqb x x refl
@@ -68,7 +83,8 @@ apart_blocks (x ∷ xs) all ys middle sub above below =
 
 pub blocks : (a b c d : ℕ) (xs ys : List ℕ) → b ≤ c → a ≤ c → b ≤ d → Block a b xs → Block c d ys → Block a d (xs ++ ys)
 blocks a b c d xs ys le le' le'' p q = record {
-  distinct = distinct_append xs ys p.distinct q.distinct (apart_blocks xs xs ys c (λ y e. e) (λ y h. p.above y (omega (arith, h, le))) q.below);
+  distinct = distinct_append xs ys p.distinct q.distinct
+      (apart_blocks xs xs ys c (λ y e. e) (λ y h. p.above y (omega (arith, h, le))) q.below);
   below = λ y h. among_append xs ys y (p.below y h) (q.below y (omega (arith, h, le')));
   above = λ y h. among_append xs ys y (p.above y (omega (arith, h, le''))) (q.above y h);
 }
@@ -77,7 +93,11 @@ pub no_labels : (a b : ℕ) → Block a b []
 no_labels a b = record { distinct = refl; below = λ y h. refl; above = λ y h. refl }
 
 pub wider : (a b c d : ℕ) (ls : List ℕ) → a ≤ c → d ≤ b → Block c d ls → Block a b ls
-wider a b c d ls low high p = record { distinct = p.distinct; below = λ y h. p.below y (omega (arith, h, low)); above = λ y h. p.above y (omega (arith, h, high)) }
+wider a b c d ls low high p = record {
+  distinct = p.distinct;
+  below = λ y h. p.below y (omega (arith, h, low));
+  above = λ y h. p.above y (omega (arith, h, high));
+}
 
 pub one_label : (n : ℕ) → Block n (n + 4) (n ∷ [])
 one_label n = record {
@@ -88,9 +108,15 @@ one_label n = record {
 
 three_labels : (n : ℕ) → Block n (n + 4) ((n + 1) ∷ ((n + 2) ∷ (n ∷ [])))
 three_labels n = record {
-  distinct = either_false _ _ (either_false (n + 2 == n + 1) _ (ne_eqb (n + 2) (n + 1) (λ e. omega (arith, e))) (either_false (n == n + 1) false (ne_eqb n (n + 1) (λ e. omega (arith, e))) refl)) (either_false _ _ (either_false (n == n + 2) false (ne_eqb n (n + 2) (λ e. omega (arith, e))) refl) refl);
-  below = λ y h. either_false (n + 1 == y) _ (ne_eqb (n + 1) y (λ e. omega (arith, e, h))) (either_false (n + 2 == y) _ (ne_eqb (n + 2) y (λ e. omega (arith, e, h))) (either_false (n == y) false (ne_eqb n y (λ e. omega (arith, e, h))) refl));
-  above = λ y h. either_false (n + 1 == y) _ (ne_eqb (n + 1) y (λ e. omega (arith, e, h))) (either_false (n + 2 == y) _ (ne_eqb (n + 2) y (λ e. omega (arith, e, h))) (either_false (n == y) false (ne_eqb n y (λ e. omega (arith, e, h))) refl));
+  distinct = either_false _ _ (either_false (n + 2 == n + 1) _ (ne_eqb (n + 2) (n + 1) (λ e. omega (arith, e)))
+      (either_false (n == n + 1) false (ne_eqb n (n + 1) (λ e. omega (arith, e))) refl))
+      (either_false _ _ (either_false (n == n + 2) false (ne_eqb n (n + 2) (λ e. omega (arith, e))) refl) refl);
+  below = λ y h. either_false (n + 1 == y) _ (ne_eqb (n + 1) y (λ e. omega (arith, e, h)))
+      (either_false (n + 2 == y) _ (ne_eqb (n + 2) y (λ e. omega (arith, e, h)))
+      (either_false (n == y) false (ne_eqb n y (λ e. omega (arith, e, h))) refl));
+  above = λ y h. either_false (n + 1 == y) _ (ne_eqb (n + 1) y (λ e. omega (arith, e, h)))
+      (either_false (n + 2 == y) _ (ne_eqb (n + 2) y (λ e. omega (arith, e, h)))
+      (either_false (n == y) false (ne_eqb n y (λ e. omega (arith, e, h))) refl));
 }
 
 -- ---- the labels of each piece
@@ -126,7 +152,8 @@ abbrev pub unary_labels : ℕ → Primitive → List ℕ
 unary_labels n which = cond (has_test which) (n ∷ []) []
 
 abbrev pub binary_labels : ℕ → Primitive → List ℕ
-binary_labels n which = cond (has_comparison which) (n ∷ []) (cond (is_modulo which) ((n + 1) ∷ ((n + 2) ∷ (n ∷ []))) [])
+binary_labels n which = cond (has_comparison which) (n ∷ [])
+    (cond (is_modulo which) ((n + 1) ∷ ((n + 2) ∷ (n ∷ []))) [])
 
 either_block : (a b : ℕ) (t : Bool) (xs ys : List ℕ) → Block a b xs → Block a b ys → Block a b (cond t xs ys)
 either_block a b true xs ys p q = p
@@ -136,7 +163,9 @@ unary_block : (n : ℕ) (which : Primitive) → Block n (n + 4) (unary_labels n 
 unary_block n which = either_block n (n + 4) (has_test which) (n ∷ []) [] (one_label n) (no_labels n (n + 4))
 
 binary_block : (n : ℕ) (which : Primitive) → Block n (n + 4) (binary_labels n which)
-binary_block n which = either_block n (n + 4) (has_comparison which) (n ∷ []) _ (one_label n) (either_block n (n + 4) (is_modulo which) ((n + 1) ∷ ((n + 2) ∷ (n ∷ []))) [] (three_labels n) (no_labels n (n + 4)))
+binary_block n which = either_block n (n + 4) (has_comparison which) (n ∷ []) _ (one_label n)
+    (either_block n (n + 4) (is_modulo which) ((n + 1) ∷ ((n + 2) ∷ (n ∷ []))) [] (three_labels n)
+    (no_labels n (n + 4)))
 
 abbrev pub Labelled : (List Item → List Item) → List ℕ → Type 0
 Labelled f ls = (rest : List Item) → labels_in (f rest) ≡ ls ++ labels_in rest
@@ -159,10 +188,12 @@ read_labels n which (a ∷ []) = unary_labels n which
 read_labels n which (a ∷ (b ∷ [])) = binary_labels n which
 read_labels n which atoms = []
 
-read_labelled : (n : ℕ) (which : Primitive) (atoms : List (Atom Place)) → Labelled (read_code n which atoms) (read_labels n which atoms)
+read_labelled : (n : ℕ) (which : Primitive) (atoms : List (Atom Place))
+    → Labelled (read_code n which atoms) (read_labels n which atoms)
 read_labelled n which [] rest = refl
 read_labelled n which (a ∷ []) rest = atom_labelled 0 a (unary_code n which rest) ∙ unary_labelled n which rest
-read_labelled n which (a ∷ (b ∷ [])) rest = atom_labelled 0 a (atom_code 1 b (binary_code n which rest)) ∙ atom_labelled 1 b (binary_code n which rest) ∙ binary_labelled n which rest
+read_labelled n which (a ∷ (b ∷ [])) rest = atom_labelled 0 a (atom_code 1 b (binary_code n which rest))
+    ∙ atom_labelled 1 b (binary_code n which rest) ∙ binary_labelled n which rest
 read_labelled n which (a ∷ (b ∷ (c ∷ atoms))) rest = refl
 
 read_block : (n : ℕ) (which : Primitive) (atoms : List (Atom Place)) → Block n (n + 4) (read_labels n which atoms)
@@ -201,7 +232,8 @@ places_labelled offset (m ∷ members) rest = places_labelled (offset + closure_
 
 records_labelled : (offset : ℕ) (members : List (Member Place)) → Labelled (records_code offset members) []
 records_labelled offset [] rest = refl
-records_labelled offset (m ∷ members) rest = fields_labelled (offset + 8) m.closure.fields _ ∙ records_labelled (offset + closure_bytes m.closure) members rest
+records_labelled offset (m ∷ members) rest = fields_labelled (offset + 8) m.closure.fields _
+    ∙ records_labelled (offset + closure_bytes m.closure) members rest
 
 pub group_labelled : (heap_end : ℕ) (members : List (Member Place)) → Labelled (group_code heap_end members) []
 group_labelled heap_end members rest = places_labelled 0 members _ ∙ records_labelled 0 members _
@@ -209,18 +241,24 @@ group_labelled heap_end members rest = places_labelled 0 members _ ∙ records_l
 abbrev pub operation_labels : ℕ → Operation Place → List ℕ
 operation_labels n (operation.Operand o) = operand_labels n o
 operation_labels n (operation.Prim site which (o ∷ [])) = operand_labels n o ++ unary_labels (n + 8) which
-operation_labels n (operation.Prim site which (o ∷ (q ∷ []))) = operand_labels n o ++ (operand_labels (n + 4) q ++ binary_labels (n + 8) which)
+operation_labels n (operation.Prim site which (o ∷ (q ∷ []))) = operand_labels n o ++
+    (operand_labels (n + 4) q ++ binary_labels (n + 8) which)
 operation_labels n (operation.SetGlobal g o) = operand_labels n o
 operation_labels n (operation.CellSet x o) = operand_labels n o
 operation_labels n _ = []
 
-pub operation_labelled : (heap_end n : ℕ) (o : Operation Place) → Labelled (operation_code heap_end n o) (operation_labels n o)
+pub operation_labelled : (heap_end n : ℕ) (o : Operation Place)
+    → Labelled (operation_code heap_end n o) (operation_labels n o)
 operation_labelled heap_end n (operation.Operand o) rest = operand_labelled n o rest
 operation_labelled heap_end n (operation.Prim site which []) rest = refl
-operation_labelled heap_end n (operation.Prim site which (o ∷ [])) rest = operand_labelled n o (unary_code (n + 8) which rest) ∙ ap (λ l. operand_labels n o ++ l) (unary_labelled (n + 8) which rest) ∙ sym (append_assoc (operand_labels n o) (unary_labels (n + 8) which) (labels_in rest))
+operation_labelled heap_end n (operation.Prim site which (o ∷ [])) rest = operand_labelled n o
+    (unary_code (n + 8) which rest) ∙ ap (λ l. operand_labels n o ++ l) (unary_labelled (n + 8) which rest)
+    ∙ sym (append_assoc (operand_labels n o) (unary_labels (n + 8) which) (labels_in rest))
 operation_labelled heap_end n (operation.Prim site which (o ∷ (q ∷ []))) rest =
     operand_labelled n o (second_code (n + 4) q (binary_code (n + 8) which rest))
-    ∙ ap (λ l. operand_labels n o ++ l) (second_labelled (n + 4) q (binary_code (n + 8) which rest) ∙ ap (λ l. operand_labels (n + 4) q ++ l) (binary_labelled (n + 8) which rest) ∙ sym (append_assoc (operand_labels (n + 4) q) (binary_labels (n + 8) which) (labels_in rest)))
+    ∙ ap (λ l. operand_labels n o ++ l) (second_labelled (n + 4) q (binary_code (n + 8) which rest) ∙ ap
+    (λ l. operand_labels (n + 4) q ++ l) (binary_labelled (n + 8) which rest)
+    ∙ sym (append_assoc (operand_labels (n + 4) q) (binary_labels (n + 8) which) (labels_in rest)))
     ∙ sym (append_assoc (operand_labels n o) (operand_labels (n + 4) q ++ binary_labels (n + 8) which) (labels_in rest))
 operation_labelled heap_end n (operation.Prim site which (o ∷ (q ∷ (r ∷ operands)))) rest = refl
 operation_labelled heap_end n (operation.Global g) rest = refl
@@ -229,17 +267,23 @@ operation_labelled heap_end n (operation.Field p k) rest = refl
 operation_labelled heap_end n (operation.NewCell x) rest = source_labelled 0 x _
 operation_labelled heap_end n operation.UnsetCell rest = refl
 operation_labelled heap_end n (operation.CellGet x) rest = source_labelled 0 x _
-operation_labelled heap_end n (operation.CellSet x o) rest = operand_labelled n o _ ∙ ap (λ l. operand_labels n o ++ l) (source_labelled 1 x _)
+operation_labelled heap_end n (operation.CellSet x o) rest = operand_labelled n o _
+    ∙ ap (λ l. operand_labels n o ++ l) (source_labelled 1 x _)
 operation_labelled heap_end n (operation.MakeClosure c) rest = fields_labelled 8 c.fields _
 
 pub operation_block : (n : ℕ) (o : Operation Place) → Block n (n + 12) (operation_labels n o)
 operation_block n (operation.Operand o) = wider n (n + 12) n (n + 4) _ (omega arith) (omega arith) (operand_block n o)
 operation_block n (operation.Prim site which []) = no_labels n (n + 12)
-operation_block n (operation.Prim site which (o ∷ [])) = wider n (n + 12) n (n + 8 + 4) _ (omega arith) (omega arith) (blocks n (n + 4) (n + 8) (n + 8 + 4) _ _ (omega arith) (omega arith) (omega arith) (operand_block n o) (unary_block (n + 8) which))
+operation_block n (operation.Prim site which (o ∷ [])) = wider n (n + 12) n (n + 8 + 4) _ (omega arith) (omega arith)
+    (blocks n (n + 4) (n + 8) (n + 8 + 4) _ _ (omega arith) (omega arith) (omega arith) (operand_block n o)
+    (unary_block (n + 8) which))
 operation_block n (operation.Prim site which (o ∷ (q ∷ []))) =
-    wider n (n + 12) n (n + 8 + 4) _ (omega arith) (omega arith) (blocks n (n + 4) (n + 4) (n + 8 + 4) _ _ (omega arith) (omega arith) (omega arith) (operand_block n o)
-    (blocks (n + 4) (n + 4 + 4) (n + 8) (n + 8 + 4) _ _ (omega arith) (omega arith) (omega arith) (operand_block (n + 4) q) (binary_block (n + 8) which)))
+    wider n (n + 12) n (n + 8 + 4) _ (omega arith) (omega arith)
+    (blocks n (n + 4) (n + 4) (n + 8 + 4) _ _ (omega arith) (omega arith) (omega arith) (operand_block n o)
+    (blocks (n + 4) (n + 4 + 4) (n + 8) (n + 8 + 4) _ _ (omega arith) (omega arith) (omega arith)
+    (operand_block (n + 4) q) (binary_block (n + 8) which)))
 operation_block n (operation.Prim site which (o ∷ (q ∷ (r ∷ operands)))) = no_labels n (n + 12)
 operation_block n (operation.CellSet x o) = wider n (n + 12) n (n + 4) _ (omega arith) (omega arith) (operand_block n o)
-operation_block n (operation.SetGlobal g o) = wider n (n + 12) n (n + 4) _ (omega arith) (omega arith) (operand_block n o)
+operation_block n (operation.SetGlobal g o) = wider n (n + 12) n (n + 4) _ (omega arith) (omega arith)
+    (operand_block n o)
 operation_block n _ = no_labels n (n + 12)

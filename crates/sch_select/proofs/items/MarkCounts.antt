@@ -20,7 +20,9 @@ use Rattle.sch_frames.specs.Tree as tree
 use Rattle.sch_asm.specs.declared.item.Item.{Item}
 use Rattle.sch_asm.specs.declared.item.Item.TheVariants as item
 use Rattle.sch_asm.specs.declared.item.MarkKind.TheVariants.{Enter}
-use Rattle.sch_select.specs.Select.{atom_code, unary_code, binary_code, read_code, operand_code, second_code, source_code, fields_code, closure_bytes, places_code, records_code, operation_code, instruction_code, body_code}
+use Rattle.sch_select.specs.Select.{atom_code, unary_code, binary_code, read_code, operand_code, second_code}
+use Rattle.sch_select.specs.Select.{source_code, fields_code, closure_bytes, places_code, records_code}
+use Rattle.sch_select.specs.Select.{operation_code, instruction_code, body_code}
 use Rattle.sch_select.specs.Program.{passed_code, entry_code, forms_code, labels_end, heap_of, own_label, program_code}
 use Rattle.sch_select.specs.Sizes.{marks_in, marked, bodies_marked}
 
@@ -44,7 +46,8 @@ atom_unmarked r (Literal n) rest = refl
 read_unmarked : (n : ℕ) (which : Primitive) (atoms : List (Atom Place)) → Unmarked (read_code n which atoms)
 read_unmarked n which [] rest = refl
 read_unmarked n which (a ∷ []) rest = atom_unmarked 0 a (unary_code n which rest) ∙ unary_unmarked n which rest
-read_unmarked n which (a ∷ (b ∷ [])) rest = atom_unmarked 0 a (atom_code 1 b (binary_code n which rest)) ∙ atom_unmarked 1 b (binary_code n which rest) ∙ binary_unmarked n which rest
+read_unmarked n which (a ∷ (b ∷ [])) rest = atom_unmarked 0 a (atom_code 1 b (binary_code n which rest))
+    ∙ atom_unmarked 1 b (binary_code n which rest) ∙ binary_unmarked n which rest
 read_unmarked n which (a ∷ (b ∷ (c ∷ atoms))) rest = refl
 
 operand_unmarked : (n : ℕ) (o : Operand Place) → Unmarked (operand_code n o)
@@ -69,14 +72,17 @@ places_unmarked offset (m ∷ members) rest = places_unmarked (offset + closure_
 
 records_unmarked : (offset : ℕ) (members : List (Member Place)) → Unmarked (records_code offset members)
 records_unmarked offset [] rest = refl
-records_unmarked offset (m ∷ members) rest = fields_unmarked (offset + 8) m.closure.fields _ ∙ records_unmarked (offset + closure_bytes m.closure) members rest
+records_unmarked offset (m ∷ members) rest = fields_unmarked (offset + 8) m.closure.fields _
+    ∙ records_unmarked (offset + closure_bytes m.closure) members rest
 
 operation_unmarked : (heap_end n : ℕ) (o : Operation Place) → Unmarked (operation_code heap_end n o)
 operation_unmarked heap_end n (operation.Operand o) rest = operand_unmarked n o rest
 operation_unmarked heap_end n (operation.Prim site which []) rest = refl
-operation_unmarked heap_end n (operation.Prim site which (o ∷ [])) rest = operand_unmarked n o (unary_code (n + 8) which rest) ∙ unary_unmarked (n + 8) which rest
+operation_unmarked heap_end n (operation.Prim site which (o ∷ [])) rest = operand_unmarked n o
+    (unary_code (n + 8) which rest) ∙ unary_unmarked (n + 8) which rest
 operation_unmarked heap_end n (operation.Prim site which (o ∷ (q ∷ []))) rest =
-    operand_unmarked n o (second_code (n + 4) q (binary_code (n + 8) which rest)) ∙ second_unmarked (n + 4) q (binary_code (n + 8) which rest) ∙ binary_unmarked (n + 8) which rest
+    operand_unmarked n o (second_code (n + 4) q (binary_code (n + 8) which rest))
+    ∙ second_unmarked (n + 4) q (binary_code (n + 8) which rest) ∙ binary_unmarked (n + 8) which rest
 operation_unmarked heap_end n (operation.Prim site which (o ∷ (q ∷ (r ∷ operands)))) rest = refl
 operation_unmarked heap_end n (operation.Global g) rest = refl
 operation_unmarked heap_end n (operation.SetGlobal g o) rest = operand_unmarked n o _
@@ -87,14 +93,16 @@ operation_unmarked heap_end n (operation.CellGet x) rest = source_unmarked 0 x _
 operation_unmarked heap_end n (operation.CellSet x o) rest = operand_unmarked n o _ ∙ source_unmarked 1 x _
 operation_unmarked heap_end n (operation.MakeClosure c) rest = fields_unmarked 8 c.fields _
 
-body_marked : (base out words heap_end n : ℕ) (is : List Instruction) (rest : List Item) → marks_in (body_code base out words heap_end n is rest) ≡ marked is + marks_in rest
+body_marked : (base out words heap_end n : ℕ) (is : List Instruction) (rest : List Item)
+    → marks_in (body_code base out words heap_end n is rest) ≡ marked is + marks_in rest
 body_marked base out words heap_end n [] rest = omega arith
 body_marked base out words heap_end n (i ∷ is) rest = by i (body_marked base out words heap_end (n + 12) is rest)
   where
     next : List Item
     next = body_code base out words heap_end (n + 12) is rest
 
-    by : (i : Instruction) → marks_in next ≡ marked is + marks_in rest → marks_in (instruction_code base out words heap_end n i next) ≡ marked (i ∷ is) + marks_in rest
+    by : (i : Instruction) → marks_in next ≡ marked is + marks_in rest
+        → marks_in (instruction_code base out words heap_end n i next) ≡ marked (i ∷ is) + marks_in rest
     by (instruction.Do o) h = operation_unmarked heap_end n o next ∙ h
     by (instruction.Load p o) h = second_unmarked n o _ ∙ h
     by (instruction.Pass k o) h = second_unmarked n o _ ∙ h
@@ -111,15 +119,19 @@ entry_unmarked : (o : Option Entry) → Unmarked (entry_code o)
 entry_unmarked None rest = refl
 entry_unmarked (Some e) rest = refl
 
-forms_marked : (words heap_end label n : ℕ) (cs : List Code) (rest : List Item) → marks_in (forms_code words heap_end label n cs rest) ≡ bodies_marked cs + marks_in rest
+forms_marked : (words heap_end label n : ℕ) (cs : List Code) (rest : List Item)
+    → marks_in (forms_code words heap_end label n cs rest) ≡ bodies_marked cs + marks_in rest
 forms_marked words heap_end label n [] rest = omega arith
 forms_marked words heap_end label n (c ∷ cs) rest =
     let others = forms_code words heap_end (suc label) (labels_end n c) cs rest in
     let p = passed_unmarked c.entry (n + c.labels) _ in
-    let h = body_marked n (n + c.labels) words heap_end (n + c.labels + 1) c.instructions (item.Label (n + c.labels) ∷ others) in
+    let h = body_marked n (n + c.labels) words heap_end (n + c.labels + 1) c.instructions
+    (item.Label (n + c.labels) ∷ others) in
     let k = forms_marked words heap_end (suc label) (labels_end n c) cs rest in
-    let e = entry_unmarked c.entry (item.Mark (Enter label) ∷ body_code n (n + c.labels) words heap_end (n + c.labels + 1) c.instructions (item.Label (n + c.labels) ∷ others)) in
+    let e = entry_unmarked c.entry (item.Mark (Enter label) ∷ body_code n (n + c.labels) words heap_end
+    (n + c.labels + 1) c.instructions (item.Label (n + c.labels) ∷ others)) in
     p ∙ e ∙ omega (arith, h, k)
 
 pub program_marks : (p : tree.Source) (heap depth : ℕ) → marks_in (program_code p heap depth) ≡ bodies_marked p.bodies
-program_marks p heap depth = let h = forms_marked p.words (heap_of p + heap) 0 (own_label p) p.bodies _ in h ∙ omega arith
+program_marks p heap depth = let h = forms_marked p.words (heap_of p + heap) 0 (own_label p) p.bodies _ in h
+    ∙ omega arith

@@ -1,5 +1,6 @@
 -- Each label that a selected program uses is a routine's or stands in its items.
-use Rattle.std.proofs.Common.{◌≡◌, ℕ, zero, suc, ◌+◌, ◌%◌, ◌<◌, List, [], ◌∷◌, ◌++◌, length, replicate, Option, Some, None, Bool, true, false, refl, sym, ap, ◌∙◌, arith, ◌==◌, ◌&&◌, ◌||◌, eq-eqb}
+use Rattle.std.proofs.Common.{◌≡◌, ℕ, zero, suc, ◌+◌, ◌%◌, ◌<◌, List, [], ◌∷◌, ◌++◌, length, replicate, Option, Some}
+use Rattle.std.proofs.Common.{None, Bool, true, false, refl, sym, ap, ◌∙◌, arith, ◌==◌, ◌&&◌, ◌||◌, eq-eqb}
 use Rattle.std.specs.Prelude.{nat_eq, nat_lt, IsTrue}
 use Rattle.std.specs.List.{list_all, AllByRecursion}
 use Rattle.std.proofs.lemmas.Bool.{and_parts, and_from, eqb-true, ltb-true}
@@ -7,7 +8,10 @@ use Rattle.std.proofs.lemmas.List.Elements.{All-from_recursion}
 use Rattle.sch_word.specs.trees.NumberSets.{has}
 use Rattle.sch_word.specs.declared.place.Place.{Place}
 use Rattle.sch_word.specs.declared.primitive.Primitive.{Primitive}
-use Rattle.sch_word.specs.declared.primitive.Primitive.TheVariants.{Eq, Eqv, IsBoolean, IsPair, IsNull, IsSymbol, IsInteger, IsChar, IsString, IsVector, IsProcedure, Modulo, Equal, Less, Greater, LessEqual, GreaterEqual, Put}
+use Rattle.sch_word.specs.declared.primitive.Primitive.TheVariants.{Eq, Eqv, IsBoolean, IsPair, IsNull, IsSymbol}
+use Rattle.sch_word.specs.declared.primitive.Primitive.TheVariants.{IsInteger, IsChar, IsString, IsVector}
+use Rattle.sch_word.specs.declared.primitive.Primitive.TheVariants.{IsProcedure, Modulo, Equal, Less, Greater}
+use Rattle.sch_word.specs.declared.primitive.Primitive.TheVariants.{LessEqual, GreaterEqual, Put}
 use Rattle.sch_control.specs.declared.operation.Atom.{Atom}
 use Rattle.sch_control.specs.declared.operation.Atom.TheVariants.{Constant, Literal, Variable}
 use Rattle.sch_control.specs.declared.operation.Operand.{Operand}
@@ -20,7 +24,9 @@ use Rattle.sch_control.specs.declared.operation.Member.{Member}
 use Rattle.sch_control.specs.declared.operation.Operation.{Operation}
 use Rattle.sch_control.specs.declared.operation.Operation.TheVariants as operation
 use Rattle.sch_frames.specs.declared.instruction.Instruction.{Instruction}
-use Rattle.sch_frames.specs.declared.instruction.Instruction.TheVariants.{Do, Store, Copy, Load, Pass, Fix, Call, Tail, Return, End, IfFalse, Jump, Label, Mark}
+use Rattle.sch_frames.specs.declared.instruction.Instruction.TheVariants.{Do, Store, Copy, Load, Pass, Fix, Call}
+use Rattle.sch_frames.specs.declared.instruction.Instruction.TheVariants.{Tail, Return, End, IfFalse, Jump, Label}
+use Rattle.sch_frames.specs.declared.instruction.Instruction.TheVariants.{Mark}
 use Rattle.sch_frames.specs.Tree.{Code}
 use Rattle.sch_frames.specs.Tree as tree
 use Rattle.sch_frames.specs.Valid as frames
@@ -33,8 +39,12 @@ use Rattle.sch_asm.specs.declared.item.Item.TheVariants as item
 use Rattle.sch_asm.specs.declared.routine.Routine.TheVariants as routine
 use Rattle.sch_asm.specs.Routines.{label_of}
 use Rattle.sch_asm.specs.Items.{AreKnown, is_among, is_routine, labels_in, uses_in, word_uses}
-use Rattle.sch_select.specs.Select.{put_label, body_label, source_code, fields_code, record_code, closure_bytes, places_code, records_code, atom_code, unary_code, binary_code, read_code, operand_code, second_code, operation_code, body_code}
-use Rattle.sch_select.specs.Program.{passed_code, entry_code, form_code, forms_code, labels_end, heap_of, own_label, put_value_code, program_code, program_words, word_list, static_bytes, global_words, padding, closure_words, closures_address}
+use Rattle.sch_select.specs.Select.{put_label, body_label, source_code, fields_code, record_code, closure_bytes}
+use Rattle.sch_select.specs.Select.{places_code, records_code, atom_code, unary_code, binary_code, read_code}
+use Rattle.sch_select.specs.Select.{operand_code, second_code, operation_code, body_code}
+use Rattle.sch_select.specs.Program.{passed_code, entry_code, form_code, forms_code, labels_end, heap_of, own_label}
+use Rattle.sch_select.specs.Program.{put_value_code, program_code, program_words, word_list, static_bytes}
+use Rattle.sch_select.specs.Program.{global_words, padding, closure_words, closures_address}
 use Rattle.sch_select.proofs.programs.Selected.{members_few, operation_few, labels_few}
 use Rattle.sch_select.proofs.items.ProgramSound.{in_front}
 use Rattle.sch_select.proofs.items.Labels.{unary_labels, binary_labels, read_labels, operand_labels, operation_labels}
@@ -54,7 +64,8 @@ pub left_in : (xs ys : List ℕ) (y : ℕ) → is_among xs y ≡ true → is_amo
 left_in [] ys y e = absurd (let bad : false ≡ true = e in cc)
 left_in (x ∷ xs) ys y e = by (x == y) e (left_in xs ys y)
   where
-    by : (b : Bool) → (b || is_among xs y) ≡ true → (is_among xs y ≡ true → is_among (xs ++ ys) y ≡ true) → (b || is_among (xs ++ ys) y) ≡ true
+    by : (b : Bool) → (b || is_among xs y) ≡ true → (is_among xs y ≡ true → is_among (xs ++ ys) y ≡ true)
+        → (b || is_among (xs ++ ys) y) ≡ true
     by true e rec = refl
     by false e rec = rec e
 
@@ -63,20 +74,29 @@ right_in [] ys y e = e
 right_in (x ∷ xs) ys y e = ap (λ b. (x == y) || b) (right_in xs ys y e) ∙ or_true (x == y)
 
 -- a label that stands in a body
-pub label_in : (base n l : ℕ) (instructions : List Instruction) → has l (frames.labels_in instructions) ≡ true → is_among (body_labels base n instructions) (base + l) ≡ true
+pub label_in : (base n l : ℕ) (instructions : List Instruction) → has l (frames.labels_in instructions) ≡ true
+    → is_among (body_labels base n instructions) (base + l) ≡ true
 label_in base n l [] e = absurd (let bad : false ≡ true = e in cc)
 label_in base n l (Label k ∷ instructions) e = by (nat_eq l k) refl e (label_in base (n + 12) l instructions)
   where
-    by : (b : Bool) → nat_eq l k ≡ b → (b || has l (frames.labels_in instructions)) ≡ true → (has l (frames.labels_in instructions) ≡ true → is_among (body_labels base (n + 12) instructions) (base + l) ≡ true) → is_among ((base + k) ∷ body_labels base (n + 12) instructions) (base + l) ≡ true
-    by true q e rec = let same : l ≡ k = eqb-true l k q in ap (λ b. b || is_among (body_labels base (n + 12) instructions) (base + l)) (eq-eqb (base + k) (base + l) (omega (arith, same)))
+    by : (b : Bool) → nat_eq l k ≡ b → (b || has l (frames.labels_in instructions)) ≡ true
+        → (has l (frames.labels_in instructions) ≡ true → is_among (body_labels base (n + 12) instructions) (base + l)
+        ≡ true) → is_among ((base + k) ∷ body_labels base (n + 12) instructions) (base + l) ≡ true
+    by true q e rec = let same : l ≡ k = eqb-true l k q in ap
+        (λ b. b || is_among (body_labels base (n + 12) instructions) (base + l))
+        (eq-eqb (base + k) (base + l) (omega (arith, same)))
     by false q e rec = later_in (base + k) (base + l) (body_labels base (n + 12) instructions) (rec e)
-label_in base n l (Do o ∷ instructions) e = right_in (operation_labels n o) (body_labels base (n + 12) instructions) (base + l) (label_in base (n + 12) l instructions e)
+label_in base n l (Do o ∷ instructions) e = right_in (operation_labels n o) (body_labels base (n + 12) instructions)
+    (base + l) (label_in base (n + 12) l instructions e)
 label_in base n l (Store q ∷ instructions) e = label_in base (n + 12) l instructions e
 label_in base n l (Copy to from ∷ instructions) e = label_in base (n + 12) l instructions e
-label_in base n l (Load q o ∷ instructions) e = right_in (operand_labels n o) (body_labels base (n + 12) instructions) (base + l) (label_in base (n + 12) l instructions e)
-label_in base n l (Pass j o ∷ instructions) e = right_in (operand_labels n o) (body_labels base (n + 12) instructions) (base + l) (label_in base (n + 12) l instructions e)
+label_in base n l (Load q o ∷ instructions) e = right_in (operand_labels n o) (body_labels base (n + 12) instructions)
+    (base + l) (label_in base (n + 12) l instructions e)
+label_in base n l (Pass j o ∷ instructions) e = right_in (operand_labels n o) (body_labels base (n + 12) instructions)
+    (base + l) (label_in base (n + 12) l instructions e)
 label_in base n l (Fix members ∷ instructions) e = label_in base (n + 12) l instructions e
-label_in base n l (Call spread count ∷ instructions) e = later_in n (base + l) (body_labels base (n + 12) instructions) (label_in base (n + 12) l instructions e)
+label_in base n l (Call spread count ∷ instructions) e = later_in n (base + l)
+    (body_labels base (n + 12) instructions) (label_in base (n + 12) l instructions e)
 label_in base n l (Tail spread count ∷ instructions) e = label_in base (n + 12) l instructions e
 label_in base n l (Return ∷ instructions) e = label_in base (n + 12) l instructions e
 label_in base n l (Mark m ∷ instructions) e = label_in base (n + 12) l instructions e
@@ -107,7 +127,8 @@ module _ (all : List ℕ) where
   one : (n : ℕ) (us : List ℕ) → is_among all n ≡ true → list_all known (n ∷ us) ≡ list_all known us
   one n us e = in_front (known n) (list_all known us) (is_known n e)
 
-  module _ (put_in : is_among all 1024 ≡ true) (count : ℕ) (bodies_in : (l : ℕ) → l < count → is_among all (body_label l) ≡ true) (words heap_end : ℕ) where
+  module _ (put_in : is_among all 1024 ≡ true) (count : ℕ)
+      (bodies_in : (l : ℕ) → l < count → is_among all (body_label l) ≡ true) (words heap_end : ℕ) where
     unary_uses : (n : ℕ) (which : Primitive) → Among (unary_labels n which) → Uses (unary_code n which)
     unary_uses n IsBoolean h rest = one n (uses_in rest) (h n (first_in n []))
     unary_uses n IsPair h rest = one n (uses_in rest) (h n (first_in n []))
@@ -134,7 +155,8 @@ module _ (all : List ℕ) where
         let zeroth = h n (later_in (n + 1) n ((n + 2) ∷ (n ∷ [])) (later_in (n + 2) n (n ∷ []) (first_in n []))) in
         let first = h (n + 1) (first_in (n + 1) ((n + 2) ∷ (n ∷ []))) in
         let second = h (n + 2) (later_in (n + 1) (n + 2) ((n + 2) ∷ (n ∷ [])) (first_in (n + 2) (n ∷ []))) in
-        one n ((n + 1) ∷ (n ∷ ((n + 2) ∷ (n ∷ us)))) zeroth ∙ one (n + 1) (n ∷ ((n + 2) ∷ (n ∷ us))) first ∙ one n ((n + 2) ∷ (n ∷ us)) zeroth ∙ one (n + 2) (n ∷ us) second ∙ one n us zeroth
+        one n ((n + 1) ∷ (n ∷ ((n + 2) ∷ (n ∷ us)))) zeroth ∙ one (n + 1) (n ∷ ((n + 2) ∷ (n ∷ us))) first
+        ∙ one n ((n + 2) ∷ (n ∷ us)) zeroth ∙ one (n + 2) (n ∷ us) second ∙ one n us zeroth
     binary_uses n _ h rest = refl
 
     atom_uses : (r : ℕ) (a : Atom Place) → Uses (atom_code r a)
@@ -142,10 +164,12 @@ module _ (all : List ℕ) where
     atom_uses r (Variable p) rest = refl
     atom_uses r (Literal n) rest = refl
 
-    read_uses : (n : ℕ) (which : Primitive) (atoms : List (Atom Place)) → Among (read_labels n which atoms) → Uses (read_code n which atoms)
+    read_uses : (n : ℕ) (which : Primitive) (atoms : List (Atom Place)) → Among (read_labels n which atoms)
+        → Uses (read_code n which atoms)
     read_uses n which [] h rest = refl
     read_uses n which (a ∷ []) h rest = atom_uses 0 a (unary_code n which rest) ∙ unary_uses n which h rest
-    read_uses n which (a ∷ (b ∷ [])) h rest = atom_uses 0 a (atom_code 1 b (binary_code n which rest)) ∙ atom_uses 1 b (binary_code n which rest) ∙ binary_uses n which h rest
+    read_uses n which (a ∷ (b ∷ [])) h rest = atom_uses 0 a (atom_code 1 b (binary_code n which rest))
+        ∙ atom_uses 1 b (binary_code n which rest) ∙ binary_uses n which h rest
     read_uses n which (a ∷ (b ∷ (c ∷ atoms))) h rest = refl
 
     operand_uses : (n : ℕ) (o : Operand Place) → Among (operand_labels n o) → Uses (operand_code n o)
@@ -165,27 +189,34 @@ module _ (all : List ℕ) where
     fields_uses offset (x ∷ sources) rest = source_uses 1 x _ ∙ fields_uses (offset + 8) sources rest
 
     record_uses : (offset : ℕ) (c : Closure Place) → nat_lt c.label count ≡ true → Uses (record_code offset c)
-    record_uses offset c e rest = one (body_label c.label) (uses_in (fields_code (offset + 8) c.fields rest)) (bodies_in c.label (ltb-true c.label count e)) ∙ fields_uses (offset + 8) c.fields rest
+    record_uses offset c e rest = one (body_label c.label) (uses_in (fields_code (offset + 8) c.fields rest))
+        (bodies_in c.label (ltb-true c.label count e)) ∙ fields_uses (offset + 8) c.fields rest
 
     places_uses : (offset : ℕ) (members : List (Member Place)) → Uses (places_code offset members)
     places_uses offset [] rest = refl
     places_uses offset (m ∷ members) rest = places_uses (offset + closure_bytes m.closure) members rest
 
-    records_uses : (offset : ℕ) (members : List (Member Place)) → members_few count members ≡ true → Uses (records_code offset members)
+    records_uses : (offset : ℕ) (members : List (Member Place)) → members_few count members ≡ true
+        → Uses (records_code offset members)
     records_uses offset [] e rest = refl
     records_uses offset (m ∷ members) e rest =
         let p = and_parts (nat_lt m.closure.label count) (members_few count members) e in
         record_uses offset m.closure p.0 _ ∙ records_uses (offset + closure_bytes m.closure) members p.1 rest
 
-    operation_uses : (n : ℕ) (o : Operation Place) → operation_few count o ≡ true → Among (operation_labels n o) → Uses (operation_code heap_end n o)
+    operation_uses : (n : ℕ) (o : Operation Place) → operation_few count o ≡ true → Among (operation_labels n o)
+        → Uses (operation_code heap_end n o)
     operation_uses n (operation.Operand o) f h rest = operand_uses n o h rest
     operation_uses n (operation.Prim site which []) f h rest = refl
     operation_uses n (operation.Prim site which (o ∷ [])) f h rest =
-        operand_uses n o (among_left (operand_labels n o) (unary_labels (n + 8) which) h) (unary_code (n + 8) which rest) ∙ unary_uses (n + 8) which (among_right (operand_labels n o) (unary_labels (n + 8) which) h) rest
+        operand_uses n o (among_left (operand_labels n o) (unary_labels (n + 8) which) h)
+        (unary_code (n + 8) which rest) ∙ unary_uses (n + 8) which
+        (among_right (operand_labels n o) (unary_labels (n + 8) which) h) rest
     operation_uses n (operation.Prim site which (o ∷ (q ∷ []))) f h rest =
         let behind = among_right (operand_labels n o) (operand_labels (n + 4) q ++ binary_labels (n + 8) which) h in
-        operand_uses n o (among_left (operand_labels n o) (operand_labels (n + 4) q ++ binary_labels (n + 8) which) h) (second_code (n + 4) q (binary_code (n + 8) which rest))
-        ∙ second_uses (n + 4) q (among_left (operand_labels (n + 4) q) (binary_labels (n + 8) which) behind) (binary_code (n + 8) which rest)
+        operand_uses n o (among_left (operand_labels n o) (operand_labels (n + 4) q ++ binary_labels (n + 8) which) h)
+        (second_code (n + 4) q (binary_code (n + 8) which rest))
+        ∙ second_uses (n + 4) q (among_left (operand_labels (n + 4) q) (binary_labels (n + 8) which) behind)
+        (binary_code (n + 8) which rest)
         ∙ binary_uses (n + 8) which (among_right (operand_labels (n + 4) q) (binary_labels (n + 8) which) behind) rest
     operation_uses n (operation.Prim site which (o ∷ (q ∷ (r ∷ operands)))) f h rest = refl
     operation_uses n (operation.Global g) f h rest = refl
@@ -198,32 +229,46 @@ module _ (all : List ℕ) where
     operation_uses n (operation.MakeClosure c) f h rest = record_uses 0 c f _
 
     module _ (base out : ℕ) (out_in : is_among all out ≡ true) where
-      body_uses : (n : ℕ) (instructions : List Instruction) → jumps_ahead instructions ≡ true → list_all (labels_few count) instructions ≡ true → Among (body_labels base n instructions) → Uses (body_code base out words heap_end n instructions)
+      body_uses : (n : ℕ) (instructions : List Instruction) → jumps_ahead instructions ≡ true
+          → list_all (labels_few count) instructions ≡ true → Among (body_labels base n instructions)
+          → Uses (body_code base out words heap_end n instructions)
       body_uses n [] e f h rest = refl
       body_uses n (IfFalse l ∷ instructions) e f h rest =
           let p = and_parts (has l (frames.labels_in instructions)) (jumps_ahead instructions) e in
-          one (base + l) (uses_in (body_code base out words heap_end (n + 12) instructions rest)) (h (base + l) (label_in base (n + 12) l instructions p.0)) ∙ body_uses (n + 12) instructions p.1 f h rest
+          one (base + l) (uses_in (body_code base out words heap_end (n + 12) instructions rest))
+          (h (base + l) (label_in base (n + 12) l instructions p.0)) ∙ body_uses (n + 12) instructions p.1 f h rest
       body_uses n (Jump l ∷ instructions) e f h rest =
           let p = and_parts (has l (frames.labels_in instructions)) (jumps_ahead instructions) e in
-          one (base + l) (uses_in (body_code base out words heap_end (n + 12) instructions rest)) (h (base + l) (label_in base (n + 12) l instructions p.0)) ∙ body_uses (n + 12) instructions p.1 f h rest
-      body_uses n (End ∷ instructions) e f h rest = one out (uses_in (body_code base out words heap_end (n + 12) instructions rest)) out_in ∙ body_uses (n + 12) instructions e f h rest
-      body_uses n (Label l ∷ instructions) e f h rest = body_uses (n + 12) instructions e f (among_right ((base + l) ∷ []) (body_labels base (n + 12) instructions) h) rest
+          one (base + l) (uses_in (body_code base out words heap_end (n + 12) instructions rest))
+          (h (base + l) (label_in base (n + 12) l instructions p.0)) ∙ body_uses (n + 12) instructions p.1 f h rest
+      body_uses n (End ∷ instructions) e f h rest = one out
+          (uses_in (body_code base out words heap_end (n + 12) instructions rest)) out_in
+          ∙ body_uses (n + 12) instructions e f h rest
+      body_uses n (Label l ∷ instructions) e f h rest = body_uses (n + 12) instructions e f
+          (among_right ((base + l) ∷ []) (body_labels base (n + 12) instructions) h) rest
       body_uses n (Do o ∷ instructions) e f h rest =
-          operation_uses n o (and_parts (operation_few count o) (list_all (labels_few count) instructions) f).0 (among_left (operation_labels n o) (body_labels base (n + 12) instructions) h) (body_code base out words heap_end (n + 12) instructions rest)
-          ∙ body_uses (n + 12) instructions e (and_parts (operation_few count o) (list_all (labels_few count) instructions) f).1 (among_right (operation_labels n o) (body_labels base (n + 12) instructions) h) rest
+          operation_uses n o (and_parts (operation_few count o) (list_all (labels_few count) instructions) f).0
+          (among_left (operation_labels n o) (body_labels base (n + 12) instructions) h)
+          (body_code base out words heap_end (n + 12) instructions rest)
+          ∙ body_uses (n + 12) instructions e (and_parts (operation_few count o)
+          (list_all (labels_few count) instructions) f).1 (among_right (operation_labels n o)
+          (body_labels base (n + 12) instructions) h) rest
       body_uses n (Store q ∷ instructions) e f h rest = body_uses (n + 12) instructions e f h rest
       body_uses n (Copy to from ∷ instructions) e f h rest = body_uses (n + 12) instructions e f h rest
       body_uses n (Load q o ∷ instructions) e f h rest =
           second_uses n o (among_left (operand_labels n o) (body_labels base (n + 12) instructions) h) _
-          ∙ body_uses (n + 12) instructions e f (among_right (operand_labels n o) (body_labels base (n + 12) instructions) h) rest
+          ∙ body_uses (n + 12) instructions e f (among_right (operand_labels n o)
+          (body_labels base (n + 12) instructions) h) rest
       body_uses n (Pass j o ∷ instructions) e f h rest =
           second_uses n o (among_left (operand_labels n o) (body_labels base (n + 12) instructions) h) _
-          ∙ body_uses (n + 12) instructions e f (among_right (operand_labels n o) (body_labels base (n + 12) instructions) h) rest
+          ∙ body_uses (n + 12) instructions e f (among_right (operand_labels n o)
+          (body_labels base (n + 12) instructions) h) rest
       body_uses n (Fix members ∷ instructions) e f h rest =
           let p = and_parts (members_few count members) (list_all (labels_few count) instructions) f in
           places_uses 0 members _ ∙ records_uses 0 members p.0 _ ∙ body_uses (n + 12) instructions e p.1 h rest
       body_uses n (Call spread count ∷ instructions) e f h rest =
-          one n (uses_in (body_code base out words heap_end (n + 12) instructions rest)) (h n (first_in n (body_labels base (n + 12) instructions)))
+          one n (uses_in (body_code base out words heap_end (n + 12) instructions rest))
+          (h n (first_in n (body_labels base (n + 12) instructions)))
           ∙ body_uses (n + 12) instructions e f (among_right (n ∷ []) (body_labels base (n + 12) instructions) h) rest
       body_uses n (Tail spread count ∷ instructions) e f h rest = body_uses (n + 12) instructions e f h rest
       body_uses n (Return ∷ instructions) e f h rest = body_uses (n + 12) instructions e f h rest
@@ -237,41 +282,56 @@ module _ (all : List ℕ) where
     entry_uses None rest = refl
     entry_uses (Some e) rest = refl
 
-    form_uses : (label n : ℕ) (c : Code) → forward c.labels c.instructions ≡ true → list_all (labels_few count) c.instructions ≡ true → Among (form_labels label n c) → Uses (form_code words heap_end label n c)
+    form_uses : (label n : ℕ) (c : Code) → forward c.labels c.instructions ≡ true
+        → list_all (labels_few count) c.instructions ≡ true → Among (form_labels label n c)
+        → Uses (form_code words heap_end label n c)
     form_uses label n c e f h rest =
         let body = body_labels n (n + c.labels + 1) c.instructions in
         let own : Among (own_labels n c) = among_right (body_label label ∷ []) (own_labels n c) h in
-        let out_in = own (n + c.labels) (right_in body ((n + c.labels) ∷ []) (n + c.labels) (first_in (n + c.labels) [])) in
-        let p = and_parts (list_all (λ l. nat_lt l c.labels) (frames.labels_in c.instructions)) (without_repeats (frames.labels_in c.instructions) && jumps_ahead c.instructions) e in
+        let out_in = own (n + c.labels) (right_in body ((n + c.labels) ∷ []) (n + c.labels)
+        (first_in (n + c.labels) [])) in
+        let p = and_parts (list_all (λ l. nat_lt l c.labels) (frames.labels_in c.instructions))
+        (without_repeats (frames.labels_in c.instructions) && jumps_ahead c.instructions) e in
         let q = and_parts (without_repeats (frames.labels_in c.instructions)) (jumps_ahead c.instructions) p.1 in
         passed_uses c.entry (n + c.labels) out_in _ ∙ entry_uses c.entry _
-        ∙ body_uses n (n + c.labels) out_in (n + c.labels + 1) c.instructions q.1 f (among_left body ((n + c.labels) ∷ []) own) (item.Label (n + c.labels) ∷ rest)
+        ∙ body_uses n (n + c.labels) out_in (n + c.labels + 1) c.instructions q.1 f
+        (among_left body ((n + c.labels) ∷ []) own) (item.Label (n + c.labels) ∷ rest)
 
-    forms_uses : (label n : ℕ) (cs : List Code) → list_all (λ c. forward c.labels c.instructions) cs ≡ true → list_all (λ c. list_all (labels_few count) c.instructions) cs ≡ true → Among (forms_labels label n cs) → Uses (forms_code words heap_end label n cs)
+    forms_uses : (label n : ℕ) (cs : List Code) → list_all (λ c. forward c.labels c.instructions) cs ≡ true
+        → list_all (λ c. list_all (labels_few count) c.instructions) cs ≡ true → Among (forms_labels label n cs)
+        → Uses (forms_code words heap_end label n cs)
     forms_uses label n [] e f h rest = refl
     forms_uses label n (c ∷ cs) e f h rest =
         let p = and_parts (forward c.labels c.instructions) (list_all (λ c. forward c.labels c.instructions) cs) e in
-        let q = and_parts (list_all (labels_few count) c.instructions) (list_all (λ c. list_all (labels_few count) c.instructions) cs) f in
-        form_uses label n c p.0 q.0 (among_left (form_labels label n c) (forms_labels (suc label) (labels_end n c) cs) h) (forms_code words heap_end (suc label) (labels_end n c) cs rest)
-        ∙ forms_uses (suc label) (labels_end n c) cs p.1 q.1 (among_right (form_labels label n c) (forms_labels (suc label) (labels_end n c) cs) h) rest
+        let q = and_parts (list_all (labels_few count) c.instructions)
+        (list_all (λ c. list_all (labels_few count) c.instructions) cs) f in
+        form_uses label n c p.0 q.0 (among_left (form_labels label n c) (forms_labels (suc label) (labels_end n c) cs)
+        h) (forms_code words heap_end (suc label) (labels_end n c) cs rest)
+        ∙ forms_uses (suc label) (labels_end n c) cs p.1 q.1
+        (among_right (form_labels label n c) (forms_labels (suc label) (labels_end n c) cs) h) rest
 
     -- the library's procedures
-    library_uses : (library : List ℕ) → list_all (λ l. nat_lt l count) library ≡ true → list_all known (word_uses (closure_words library)) ≡ true
+    library_uses : (library : List ℕ) → list_all (λ l. nat_lt l count) library ≡ true
+        → list_all known (word_uses (closure_words library)) ≡ true
     library_uses [] e = refl
     library_uses (l ∷ library) e =
         let p = and_parts (nat_lt l count) (list_all (λ l. nat_lt l count) library) e in
-        one (body_label l) (word_uses (closure_words library)) (bodies_in l (ltb-true l count p.0)) ∙ library_uses library p.1
+        one (body_label l) (word_uses (closure_words library)) (bodies_in l (ltb-true l count p.0))
+        ∙ library_uses library p.1
 
   all_known : (xs ys : List ℕ) → list_all known xs ≡ true → list_all known ys ≡ true → list_all known (xs ++ ys) ≡ true
   all_known [] ys e f = f
-  all_known (x ∷ xs) ys e f = let p = and_parts (known x) (list_all known xs) e in and_from (known x) (list_all known (xs ++ ys)) p.0 (all_known xs ys p.1 f)
+  all_known (x ∷ xs) ys e f = let p = and_parts (known x) (list_all known xs) e in and_from (known x)
+      (list_all known (xs ++ ys)) p.0 (all_known xs ys p.1 f)
 
   says_all : (ls : List ℕ) → list_all known ls ≡ true → AllByRecursion (λ l. IsTrue (known l)) ls
   says_all [] e = tt
   says_all (l ∷ ls) e = let p = and_parts (known l) (list_all known ls) e in (p.0, says_all ls p.1)
 
 -- the labels that the program's own routine uses
-last_known : (all : List ℕ) → is_among all 1029 ≡ true → is_among all 1025 ≡ true → is_among all 1026 ≡ true → is_among all 1027 ≡ true → is_among all 1028 ≡ true → list_all (known all) (uses_in (item.Jump (label_of routine.End) ∷ (item.Label put_label ∷ put_value_code))) ≡ true
+last_known : (all : List ℕ) → is_among all 1029 ≡ true → is_among all 1025 ≡ true → is_among all 1026 ≡ true
+    → is_among all 1027 ≡ true → is_among all 1028 ≡ true
+    → list_all (known all) (uses_in (item.Jump (label_of routine.End) ∷ (item.Label put_label ∷ put_value_code))) ≡ true
 last_known all a b c d e =
     one all 1029 (1 ∷ (1025 ∷ (11 ∷ (1026 ∷ (11 ∷ (1027 ∷ (11 ∷ (1028 ∷ (11 ∷ (11 ∷ (11 ∷ []))))))))))) a
     ∙ one all 1025 (11 ∷ (1026 ∷ (11 ∷ (1027 ∷ (11 ∷ (1028 ∷ (11 ∷ (11 ∷ (11 ∷ []))))))))) b
@@ -299,19 +359,30 @@ words_use : (p : tree.Source) → word_uses (program_words p) ≡ word_uses (clo
 words_use p =
     let closures = closures_address (length p.statics.globals) in
     let last = closure_words p.library in
-    uses_append (word_list static_bytes) (global_words closures p.statics.globals ++ (padding (length p.statics.globals) ++ last)) refl
-    ∙ uses_append (global_words closures p.statics.globals) (padding (length p.statics.globals) ++ last) (globals_use_none closures p.statics.globals)
+    uses_append (word_list static_bytes) (global_words closures p.statics.globals ++
+    (padding (length p.statics.globals) ++ last)) refl
+    ∙ uses_append (global_words closures p.statics.globals) (padding (length p.statics.globals) ++ last)
+    (globals_use_none closures p.statics.globals)
     ∙ uses_append (padding (length p.statics.globals)) last (no_uses (length p.statics.globals % 2) 0)
 
 -- a body's label stands in front of it
-body_in : (label n : ℕ) (cs : List Code) (j : ℕ) → j < length cs → is_among (forms_labels label n cs) (body_label (label + j)) ≡ true
+body_in : (label n : ℕ) (cs : List Code) (j : ℕ) → j < length cs
+    → is_among (forms_labels label n cs) (body_label (label + j)) ≡ true
 body_in label n [] j lt = absurd (omega (arith, lt))
-body_in label n (c ∷ cs) zero lt = ap (λ b. b || is_among (own_labels n c ++ forms_labels (suc label) (labels_end n c) cs) (body_label (label + 0))) (eq-eqb (body_label label) (body_label (label + 0)) (omega arith))
+body_in label n (c ∷ cs) zero lt = ap (λ b. b || is_among
+    (own_labels n c ++ forms_labels (suc label) (labels_end n c) cs) (body_label (label + 0)))
+    (eq-eqb (body_label label) (body_label (label + 0)) (omega arith))
 body_in label n (c ∷ cs) (suc j) lt =
     let z : suc label + j ≡ label + suc j = omega arith in
-    right_in (form_labels label n c) (forms_labels (suc label) (labels_end n c) cs) (body_label (label + suc j)) (ap (λ l. is_among (forms_labels (suc label) (labels_end n c) cs) (body_label l)) (sym z) ∙ body_in (suc label) (labels_end n c) cs j (omega (arith, lt)))
+    right_in (form_labels label n c) (forms_labels (suc label) (labels_end n c) cs) (body_label (label + suc j))
+    (ap (λ l. is_among (forms_labels (suc label) (labels_end n c) cs) (body_label l)) (sym z)
+    ∙ body_in (suc label) (labels_end n c) cs j (omega (arith, lt)))
 
-pub program_known : (p : tree.Source) (limit depth : ℕ) → list_all (λ c. forward c.labels c.instructions) p.bodies ≡ true → list_all (λ c. list_all (labels_few (length p.bodies)) c.instructions) p.bodies ≡ true → list_all (λ l. nat_lt l (length p.bodies)) p.library ≡ true → AreKnown (program_code p limit depth) (program_words p)
+pub program_known : (p : tree.Source) (limit depth : ℕ)
+    → list_all (λ c. forward c.labels c.instructions) p.bodies ≡ true
+    → list_all (λ c. list_all (labels_few (length p.bodies)) c.instructions) p.bodies ≡ true
+    → list_all (λ l. nat_lt l (length p.bodies)) p.library ≡ true
+    → AreKnown (program_code p limit depth) (program_words p)
 program_known p limit depth e f g =
     let rest = item.Jump (label_of routine.End) ∷ (item.Label put_label ∷ put_value_code) in
     let heap_end = heap_of p + limit in
@@ -319,11 +390,21 @@ program_known p limit depth e f g =
     let own = labels_in rest in
     let all : List ℕ = labels_in (program_code p limit depth) in
     let is : all ≡ forms ++ own = forms_labelled p.words heap_end 0 (own_label p) p.bodies rest in
-    let at : (y : ℕ) → is_among (forms ++ own) y ≡ true → is_among all y ≡ true = λ y h. ap (λ l. is_among l y) is ∙ h in
+    let at : (y : ℕ) → is_among (forms ++ own) y ≡ true → is_among all y ≡ true = λ y h. ap (λ l. is_among l y) is
+    ∙ h in
     let put_in : is_among all 1024 ≡ true = at 1024 (right_in forms own 1024 refl) in
-    let bodies_in : (l : ℕ) → l < length p.bodies → is_among all (body_label l) ≡ true = λ l lt. at (body_label l) (left_in forms own (body_label l) (let z : 0 + l ≡ l = omega arith in ap (λ l. is_among forms (body_label l)) (sym z) ∙ body_in 0 (own_label p) p.bodies l lt)) in
-    let uses : list_all (known all) (uses_in (program_code p limit depth)) ≡ list_all (known all) (uses_in rest) = forms_uses all put_in (length p.bodies) bodies_in p.words heap_end 0 (own_label p) p.bodies e f (λ y h. at y (left_in forms own y h)) rest in
-    let end : list_all (known all) (uses_in rest) ≡ true = last_known all (at 1029 (right_in forms own 1029 refl)) (at 1025 (right_in forms own 1025 refl)) (at 1026 (right_in forms own 1026 refl)) (at 1027 (right_in forms own 1027 refl)) (at 1028 (right_in forms own 1028 refl)) in
-    let words : list_all (known all) (word_uses (program_words p)) ≡ true = ap (list_all (known all)) (words_use p) ∙ library_uses all put_in (length p.bodies) bodies_in p.words heap_end p.library g in
-    All-from_recursion (λ l. IsTrue (is_routine l || is_among all l)) (uses_in (program_code p limit depth) ++ word_uses (program_words p))
-    (says_all all (uses_in (program_code p limit depth) ++ word_uses (program_words p)) (all_known all (uses_in (program_code p limit depth)) (word_uses (program_words p)) (uses ∙ end) words))
+    let bodies_in : (l : ℕ) → l < length p.bodies → is_among all (body_label l) ≡ true = λ l lt. at (body_label l)
+    (left_in forms own (body_label l) (let z : 0 + l ≡ l = omega arith in ap (λ l. is_among forms (body_label l))
+    (sym z) ∙ body_in 0 (own_label p) p.bodies l lt)) in
+    let uses : list_all (known all) (uses_in (program_code p limit depth)) ≡ list_all (known all) (uses_in rest) =
+    forms_uses all put_in (length p.bodies) bodies_in p.words heap_end 0 (own_label p) p.bodies e f
+    (λ y h. at y (left_in forms own y h)) rest in
+    let end : list_all (known all) (uses_in rest) ≡ true = last_known all (at 1029 (right_in forms own 1029 refl))
+    (at 1025 (right_in forms own 1025 refl)) (at 1026 (right_in forms own 1026 refl))
+    (at 1027 (right_in forms own 1027 refl)) (at 1028 (right_in forms own 1028 refl)) in
+    let words : list_all (known all) (word_uses (program_words p)) ≡ true = ap (list_all (known all)) (words_use p)
+    ∙ library_uses all put_in (length p.bodies) bodies_in p.words heap_end p.library g in
+    All-from_recursion (λ l. IsTrue (is_routine l || is_among all l))
+    (uses_in (program_code p limit depth) ++ word_uses (program_words p))
+    (says_all all (uses_in (program_code p limit depth) ++ word_uses (program_words p))
+    (all_known all (uses_in (program_code p limit depth)) (word_uses (program_words p)) (uses ∙ end) words))

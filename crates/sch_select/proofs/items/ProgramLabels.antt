@@ -1,12 +1,16 @@
 -- No label stands twice in a program's items.
-use Rattle.std.proofs.Common.{◌≡◌, ◌≢◌, ℕ, suc, ◌+◌, ◌*◌, ◌<◌, ◌≤◌, List, [], ◌∷◌, ◌++◌, length, Bool, true, false, Option, Some, None, refl, sym, ap, ◌∙◌, subst, arith, append_assoc, ◌==◌, ◌&&◌, ◌||◌, eq-eqb}
+use Rattle.std.proofs.Common.{◌≡◌, ◌≢◌, ℕ, suc, ◌+◌, ◌*◌, ◌<◌, ◌≤◌, List, [], ◌∷◌, ◌++◌, length, Bool, true, false}
+use Rattle.std.proofs.Common.{Option, Some, None, refl, sym, ap, ◌∙◌, subst, arith, append_assoc, ◌==◌, ◌&&◌, ◌||◌}
+use Rattle.std.proofs.Common.{eq-eqb}
 use Rattle.std.specs.Prelude.{not, nat_eq, nat_lt}
 use Rattle.std.specs.List.{list_all}
 use Rattle.std.proofs.lemmas.Bool.{and_parts, ne_eqb, ltb-true, ltb-false, eqb-true}
 use Rattle.sch_word.specs.trees.NumberSets.{has}
 use Rattle.sch_control.specs.Valid.{without_repeats}
 use Rattle.sch_frames.specs.declared.instruction.Instruction.{Instruction}
-use Rattle.sch_frames.specs.declared.instruction.Instruction.TheVariants.{Do, Store, Copy, Load, Pass, Fix, Call, Tail, Return, End, IfFalse, Jump, Label, Mark}
+use Rattle.sch_frames.specs.declared.instruction.Instruction.TheVariants.{Do, Store, Copy, Load, Pass, Fix, Call}
+use Rattle.sch_frames.specs.declared.instruction.Instruction.TheVariants.{Tail, Return, End, IfFalse, Jump, Label}
+use Rattle.sch_frames.specs.declared.instruction.Instruction.TheVariants.{Mark}
 use Rattle.sch_control.specs.declared.body.Entry.{Entry}
 use Rattle.sch_frames.specs.Tree.{Code, Source}
 use Rattle.sch_frames.specs.Valid as frames
@@ -17,13 +21,20 @@ use Rattle.sch_asm.specs.Routines.{label_of}
 use Rattle.sch_asm.specs.Items.{IsEachOnce, is_among, labels_in}
 use Rattle.sch_asm.proofs.Tables.{each_once, repeats}
 use Rattle.sch_select.specs.Select.{put_label, body_label, instruction_code, body_code}
-use Rattle.sch_select.specs.Program.{passed_code, entry_code, form_code, forms_code, labels_end, heap_of, own_label, put_value_code, program_code}
-use Rattle.sch_select.proofs.items.Labels.{one_label, Block, Apart, Labelled, among_append, either_false, distinct_append, operand_labels, second_labelled, operand_block, group_labelled, operation_labels, operation_labelled, operation_block}
+use Rattle.sch_select.specs.Program.{passed_code, entry_code, form_code, forms_code, labels_end, heap_of, own_label}
+use Rattle.sch_select.specs.Program.{put_value_code, program_code}
+use Rattle.sch_select.proofs.items.Labels.{one_label, Block, Apart, Labelled, among_append, either_false}
+use Rattle.sch_select.proofs.items.Labels.{distinct_append, operand_labels, second_labelled, operand_block}
+use Rattle.sch_select.proofs.items.Labels.{group_labelled, operation_labels, operation_labelled, operation_block}
 
 -- elements of one list that another one has not
 apart_by : (xs ys : List ℕ) → ((x : ℕ) → is_among xs x ≡ true → is_among ys x ≡ false) → Apart xs ys
 apart_by [] ys h = tt
-apart_by (x ∷ xs) ys h = (h x (ap (λ b. b || is_among xs x) (eq-eqb x x refl)), apart_by xs ys (λ y e. h y (ap (λ b. (x == y) || b) e ∙ or_true (x == y))))
+apart_by (x ∷ xs) ys h = (
+  h x (ap (λ b. b || is_among xs x) (eq-eqb x x refl)),
+  apart_by xs ys
+      (λ y e. h y (ap (λ b. (x == y) || b) e ∙ or_true (x == y))),
+)
   where
     or_true : (b : Bool) → (b || true) ≡ true
     or_true true = refl
@@ -58,33 +69,46 @@ module _ (base : ℕ) where
   body_labels n (i ∷ instructions) = instruction_labels n i ++ body_labels (n + 12) instructions
 
   module _ (out words heap_end : ℕ) where
-    instruction_labelled : (n : ℕ) (i : Instruction) → Labelled (instruction_code base out words heap_end n i) (instruction_labels n i)
+    instruction_labelled : (n : ℕ) (i : Instruction) → Labelled (instruction_code base out words heap_end n i)
+        (instruction_labels n i)
     instruction_labelled n (Do o) rest = operation_labelled heap_end n o rest
     instruction_labelled n (Load p o) rest = second_labelled n o _
     instruction_labelled n (Pass k o) rest = second_labelled n o _
     instruction_labelled n (Fix members) rest = group_labelled heap_end members rest
     instruction_labelled n _ rest = refl
 
-    pub body_labelled : (n : ℕ) (instructions : List Instruction) → Labelled (body_code base out words heap_end n instructions) (body_labels n instructions)
+    pub body_labelled : (n : ℕ) (instructions : List Instruction)
+        → Labelled (body_code base out words heap_end n instructions) (body_labels n instructions)
     body_labelled n [] rest = refl
     body_labelled n (i ∷ instructions) rest =
-        instruction_labelled n i (body_code base out words heap_end (n + 12) instructions rest) ∙ ap (λ l. instruction_labels n i ++ l) (body_labelled (n + 12) instructions rest)
+        instruction_labelled n i (body_code base out words heap_end (n + 12) instructions rest)
+        ∙ ap (λ l. instruction_labels n i ++ l) (body_labelled (n + 12) instructions rest)
         ∙ sym (append_assoc (instruction_labels n i) (body_labels (n + 12) instructions) (labels_in rest))
 
-  absent : (y n : ℕ) (instructions : List Instruction) → y < n → ((l : ℕ) → has l (frames.labels_in instructions) ≡ true → y ≢ base + l) → is_among (body_labels n instructions) y ≡ false
+  absent : (y n : ℕ) (instructions : List Instruction) → y < n
+      → ((l : ℕ) → has l (frames.labels_in instructions) ≡ true → y ≢ base + l)
+      → is_among (body_labels n instructions) y ≡ false
   absent y n [] lt h = refl
-  absent y n (Label l ∷ instructions) lt h = either_false (base + l == y) (is_among (body_labels (n + 12) instructions) y) (ne_eqb (base + l) y (λ e. h l (ap (λ b. b || has l (frames.labels_in instructions)) (eq-eqb l l refl)) (sym e))) (absent y (n + 12) instructions (omega (arith, lt)) (λ k e. h k (ap (λ b. nat_eq k l || b) e ∙ or_true (nat_eq k l))))
+  absent y n (Label l ∷ instructions) lt h = either_false (base + l == y)
+      (is_among (body_labels (n + 12) instructions) y) (ne_eqb (base + l) y
+      (λ e. h l (ap (λ b. b || has l (frames.labels_in instructions)) (eq-eqb l l refl)) (sym e)))
+      (absent y (n + 12) instructions (omega (arith, lt))
+      (λ k e. h k (ap (λ b. nat_eq k l || b) e ∙ or_true (nat_eq k l))))
     where
       or_true : (b : Bool) → (b || true) ≡ true
       or_true true = refl
       or_true false = refl
-  absent y n (Do o ∷ instructions) lt h = among_append (operation_labels n o) (body_labels (n + 12) instructions) y ((operation_block n o).below y lt) (absent y (n + 12) instructions (omega (arith, lt)) h)
+  absent y n (Do o ∷ instructions) lt h = among_append (operation_labels n o) (body_labels (n + 12) instructions) y
+      ((operation_block n o).below y lt) (absent y (n + 12) instructions (omega (arith, lt)) h)
   absent y n (Store q ∷ instructions) lt h = absent y (n + 12) instructions (omega (arith, lt)) h
   absent y n (Copy to from ∷ instructions) lt h = absent y (n + 12) instructions (omega (arith, lt)) h
-  absent y n (Load q o ∷ instructions) lt h = among_append (operand_labels n o) (body_labels (n + 12) instructions) y ((operand_block n o).below y lt) (absent y (n + 12) instructions (omega (arith, lt)) h)
-  absent y n (Pass j o ∷ instructions) lt h = among_append (operand_labels n o) (body_labels (n + 12) instructions) y ((operand_block n o).below y lt) (absent y (n + 12) instructions (omega (arith, lt)) h)
+  absent y n (Load q o ∷ instructions) lt h = among_append (operand_labels n o) (body_labels (n + 12) instructions) y
+      ((operand_block n o).below y lt) (absent y (n + 12) instructions (omega (arith, lt)) h)
+  absent y n (Pass j o ∷ instructions) lt h = among_append (operand_labels n o) (body_labels (n + 12) instructions) y
+      ((operand_block n o).below y lt) (absent y (n + 12) instructions (omega (arith, lt)) h)
   absent y n (Fix members ∷ instructions) lt h = absent y (n + 12) instructions (omega (arith, lt)) h
-  absent y n (Call spread count ∷ instructions) lt h = among_append (n ∷ []) (body_labels (n + 12) instructions) y ((one_label n).below y lt) (absent y (n + 12) instructions (omega (arith, lt)) h)
+  absent y n (Call spread count ∷ instructions) lt h = among_append (n ∷ []) (body_labels (n + 12) instructions) y
+      ((one_label n).below y lt) (absent y (n + 12) instructions (omega (arith, lt)) h)
   absent y n (Tail spread count ∷ instructions) lt h = absent y (n + 12) instructions (omega (arith, lt)) h
   absent y n (Return ∷ instructions) lt h = absent y (n + 12) instructions (omega (arith, lt)) h
   absent y n (End ∷ instructions) lt h = absent y (n + 12) instructions (omega (arith, lt)) h
@@ -95,64 +119,106 @@ module _ (base : ℕ) where
   module _ (labels : ℕ) where
     local_small : (ls : List ℕ) (l : ℕ) → list_all (λ l. nat_lt l labels) ls ≡ true → has l ls ≡ true → l < labels
     local_small [] l e h = absurd (let bad : false ≡ true = h in cc)
-    local_small (k ∷ ls) l e h = by (nat_eq l k) refl (λ i. local_small ls l (and_parts (nat_lt k labels) (list_all (λ l. nat_lt l labels) ls) e).1 i)
+    local_small (k ∷ ls) l e h = by (nat_eq l k) refl (λ i. local_small ls l
+        (and_parts (nat_lt k labels) (list_all (λ l. nat_lt l labels) ls) e).1 i)
       where
         by : (b : Bool) → nat_eq l k ≡ b → (has l ls ≡ true → l < labels) → l < labels
-        by true q rec = let same : l ≡ k = eqb-true l k q in let lt = ltb-true k labels (and_parts (nat_lt k labels) (list_all (λ l. nat_lt l labels) ls) e).0 in omega (arith, same, lt)
+        by true q rec = let same : l ≡ k = eqb-true l k q in let lt = ltb-true k labels
+            (and_parts (nat_lt k labels) (list_all (λ l. nat_lt l labels) ls) e).0 in omega (arith, same, lt)
         by false q rec = rec (ap (λ b. b || has l ls) (sym q) ∙ h)
 
-    beyond : (y n : ℕ) (instructions : List Instruction) → list_all (λ l. nat_lt l labels) (frames.labels_in instructions) ≡ true → base + labels ≤ n → n + 12 * length instructions ≤ y → is_among (body_labels n instructions) y ≡ false
+    beyond : (y n : ℕ) (instructions : List Instruction)
+        → list_all (λ l. nat_lt l labels) (frames.labels_in instructions) ≡ true → base + labels ≤ n
+        → n + 12 * length instructions ≤ y → is_among (body_labels n instructions) y ≡ false
     beyond y n [] e le far = refl
     beyond y n (Label l ∷ instructions) e le far =
         let p = and_parts (nat_lt l labels) (list_all (λ l. nat_lt l labels) (frames.labels_in instructions)) e in
         let lt = ltb-true l labels p.0 in
-        either_false (base + l == y) (is_among (body_labels (n + 12) instructions) y) (ne_eqb (base + l) y (λ q. omega (arith, q, lt, le, far))) (beyond y (n + 12) instructions p.1 (omega (arith, le)) (omega (arith, far)))
-    beyond y n (Do o ∷ instructions) e le far = among_append (operation_labels n o) (body_labels (n + 12) instructions) y ((operation_block n o).above y (omega (arith, far))) (beyond y (n + 12) instructions e (omega (arith, le)) (omega (arith, far)))
-    beyond y n (Store q ∷ instructions) e le far = beyond y (n + 12) instructions e (omega (arith, le)) (omega (arith, far))
-    beyond y n (Copy to from ∷ instructions) e le far = beyond y (n + 12) instructions e (omega (arith, le)) (omega (arith, far))
-    beyond y n (Load q o ∷ instructions) e le far = among_append (operand_labels n o) (body_labels (n + 12) instructions) y ((operand_block n o).above y (omega (arith, far))) (beyond y (n + 12) instructions e (omega (arith, le)) (omega (arith, far)))
-    beyond y n (Pass j o ∷ instructions) e le far = among_append (operand_labels n o) (body_labels (n + 12) instructions) y ((operand_block n o).above y (omega (arith, far))) (beyond y (n + 12) instructions e (omega (arith, le)) (omega (arith, far)))
-    beyond y n (Fix members ∷ instructions) e le far = beyond y (n + 12) instructions e (omega (arith, le)) (omega (arith, far))
-    beyond y n (Call spread count ∷ instructions) e le far = among_append (n ∷ []) (body_labels (n + 12) instructions) y ((one_label n).above y (omega (arith, far))) (beyond y (n + 12) instructions e (omega (arith, le)) (omega (arith, far)))
-    beyond y n (Tail spread count ∷ instructions) e le far = beyond y (n + 12) instructions e (omega (arith, le)) (omega (arith, far))
-    beyond y n (Return ∷ instructions) e le far = beyond y (n + 12) instructions e (omega (arith, le)) (omega (arith, far))
+        either_false (base + l == y) (is_among (body_labels (n + 12) instructions) y)
+        (ne_eqb (base + l) y (λ q. omega (arith, q, lt, le, far)))
+        (beyond y (n + 12) instructions p.1 (omega (arith, le)) (omega (arith, far)))
+    beyond y n (Do o ∷ instructions) e le far = among_append (operation_labels n o)
+        (body_labels (n + 12) instructions) y ((operation_block n o).above y (omega (arith, far)))
+        (beyond y (n + 12) instructions e (omega (arith, le)) (omega (arith, far)))
+    beyond y n (Store q ∷ instructions) e le far = beyond y (n + 12) instructions e (omega (arith, le))
+        (omega (arith, far))
+    beyond y n (Copy to from ∷ instructions) e le far = beyond y (n + 12) instructions e (omega (arith, le))
+        (omega (arith, far))
+    beyond y n (Load q o ∷ instructions) e le far = among_append (operand_labels n o)
+        (body_labels (n + 12) instructions) y ((operand_block n o).above y (omega (arith, far)))
+        (beyond y (n + 12) instructions e (omega (arith, le)) (omega (arith, far)))
+    beyond y n (Pass j o ∷ instructions) e le far = among_append (operand_labels n o)
+        (body_labels (n + 12) instructions) y ((operand_block n o).above y (omega (arith, far)))
+        (beyond y (n + 12) instructions e (omega (arith, le)) (omega (arith, far)))
+    beyond y n (Fix members ∷ instructions) e le far = beyond y (n + 12) instructions e (omega (arith, le))
+        (omega (arith, far))
+    beyond y n (Call spread count ∷ instructions) e le far = among_append (n ∷ []) (body_labels (n + 12) instructions)
+        y ((one_label n).above y (omega (arith, far))) (beyond y (n + 12) instructions e (omega (arith, le))
+        (omega (arith, far)))
+    beyond y n (Tail spread count ∷ instructions) e le far = beyond y (n + 12) instructions e (omega (arith, le))
+        (omega (arith, far))
+    beyond y n (Return ∷ instructions) e le far = beyond y (n + 12) instructions e (omega (arith, le))
+        (omega (arith, far))
     beyond y n (End ∷ instructions) e le far = beyond y (n + 12) instructions e (omega (arith, le)) (omega (arith, far))
-    beyond y n (IfFalse j ∷ instructions) e le far = beyond y (n + 12) instructions e (omega (arith, le)) (omega (arith, far))
-    beyond y n (Jump j ∷ instructions) e le far = beyond y (n + 12) instructions e (omega (arith, le)) (omega (arith, far))
-    beyond y n (Mark m ∷ instructions) e le far = beyond y (n + 12) instructions e (omega (arith, le)) (omega (arith, far))
+    beyond y n (IfFalse j ∷ instructions) e le far = beyond y (n + 12) instructions e (omega (arith, le))
+        (omega (arith, far))
+    beyond y n (Jump j ∷ instructions) e le far = beyond y (n + 12) instructions e (omega (arith, le))
+        (omega (arith, far))
+    beyond y n (Mark m ∷ instructions) e le far = beyond y (n + 12) instructions e (omega (arith, le))
+        (omega (arith, far))
 
-    different : (n : ℕ) (instructions : List Instruction) → list_all (λ l. nat_lt l labels) (frames.labels_in instructions) ≡ true → without_repeats (frames.labels_in instructions) ≡ true → base + labels ≤ n → repeats (body_labels n instructions) ≡ false
+    different : (n : ℕ) (instructions : List Instruction)
+        → list_all (λ l. nat_lt l labels) (frames.labels_in instructions) ≡ true
+        → without_repeats (frames.labels_in instructions) ≡ true → base + labels ≤ n
+        → repeats (body_labels n instructions) ≡ false
     different n [] e d le = refl
     different n (Label l ∷ instructions) e d le =
         let p = and_parts (nat_lt l labels) (list_all (λ l. nat_lt l labels) (frames.labels_in instructions)) e in
-        let q = and_parts (not (has l (frames.labels_in instructions))) (without_repeats (frames.labels_in instructions)) d in
+        let q = and_parts (not (has l (frames.labels_in instructions)))
+        (without_repeats (frames.labels_in instructions)) d in
         let lt = ltb-true l labels p.0 in
-        either_false (is_among (body_labels (n + 12) instructions) (base + l)) (repeats (body_labels (n + 12) instructions))
-        (absent (base + l) (n + 12) instructions (omega (arith, lt, le)) (λ k h s. let same : k ≡ l = omega (arith, s) in absurd (both (has l (frames.labels_in instructions)) q.0 (ap (λ k. has k (frames.labels_in instructions)) (sym same) ∙ h))))
+        either_false (is_among (body_labels (n + 12) instructions) (base + l))
+        (repeats (body_labels (n + 12) instructions))
+        (absent (base + l) (n + 12) instructions (omega (arith, lt, le))
+        (λ k h s. let same : k ≡ l = omega (arith, s) in absurd
+        (both (has l (frames.labels_in instructions)) q.0 (ap (λ k. has k (frames.labels_in instructions))
+        (sym same) ∙ h))))
         (different (n + 12) instructions p.1 q.1 (omega (arith, le)))
       where
         both : (b : Bool) → not b ≡ true → b ≡ true → ⊥
         both true e f = let bad : false ≡ true = e in cc
         both false e f = let bad : false ≡ true = f in cc
     different n (Do o ∷ instructions) e d le =
-        distinct_append (operation_labels n o) (body_labels (n + 12) instructions) (operation_block n o).distinct (different (n + 12) instructions e d (omega (arith, le)))
-        (apart_by (operation_labels n o) (body_labels (n + 12) instructions) (λ x h. let hi = high_end (operation_block n o) x h in let lo = low_end (operation_block n o) x h in
-        absent x (n + 12) instructions hi (λ l k s. let small = local_small (frames.labels_in instructions) l e k in omega (arith, s, lo, le, small))))
+        distinct_append (operation_labels n o) (body_labels (n + 12) instructions) (operation_block n o).distinct
+        (different (n + 12) instructions e d (omega (arith, le)))
+        (apart_by (operation_labels n o) (body_labels (n + 12) instructions)
+        (λ x h. let hi = high_end (operation_block n o) x h in let lo = low_end (operation_block n o) x h in
+        absent x (n + 12) instructions hi (λ l k s. let small = local_small (frames.labels_in instructions) l e k in
+        omega (arith, s, lo, le, small))))
     different n (Store q ∷ instructions) e d le = different (n + 12) instructions e d (omega (arith, le))
     different n (Copy to from ∷ instructions) e d le = different (n + 12) instructions e d (omega (arith, le))
     different n (Load q o ∷ instructions) e d le =
-        distinct_append (operand_labels n o) (body_labels (n + 12) instructions) (operand_block n o).distinct (different (n + 12) instructions e d (omega (arith, le)))
-        (apart_by (operand_labels n o) (body_labels (n + 12) instructions) (λ x h. let hi = high_end (operand_block n o) x h in let lo = low_end (operand_block n o) x h in
-        absent x (n + 12) instructions (omega (arith, hi)) (λ l k s. let small = local_small (frames.labels_in instructions) l e k in omega (arith, s, lo, le, small))))
+        distinct_append (operand_labels n o) (body_labels (n + 12) instructions) (operand_block n o).distinct
+        (different (n + 12) instructions e d (omega (arith, le)))
+        (apart_by (operand_labels n o) (body_labels (n + 12) instructions)
+        (λ x h. let hi = high_end (operand_block n o) x h in let lo = low_end (operand_block n o) x h in
+        absent x (n + 12) instructions (omega (arith, hi)) (λ l k s. let small = local_small
+        (frames.labels_in instructions) l e k in omega (arith, s, lo, le, small))))
     different n (Pass j o ∷ instructions) e d le =
-        distinct_append (operand_labels n o) (body_labels (n + 12) instructions) (operand_block n o).distinct (different (n + 12) instructions e d (omega (arith, le)))
-        (apart_by (operand_labels n o) (body_labels (n + 12) instructions) (λ x h. let hi = high_end (operand_block n o) x h in let lo = low_end (operand_block n o) x h in
-        absent x (n + 12) instructions (omega (arith, hi)) (λ l k s. let small = local_small (frames.labels_in instructions) l e k in omega (arith, s, lo, le, small))))
+        distinct_append (operand_labels n o) (body_labels (n + 12) instructions) (operand_block n o).distinct
+        (different (n + 12) instructions e d (omega (arith, le)))
+        (apart_by (operand_labels n o) (body_labels (n + 12) instructions)
+        (λ x h. let hi = high_end (operand_block n o) x h in let lo = low_end (operand_block n o) x h in
+        absent x (n + 12) instructions (omega (arith, hi)) (λ l k s. let small = local_small
+        (frames.labels_in instructions) l e k in omega (arith, s, lo, le, small))))
     different n (Fix members ∷ instructions) e d le = different (n + 12) instructions e d (omega (arith, le))
     different n (Call spread count ∷ instructions) e d le =
-        distinct_append (n ∷ []) (body_labels (n + 12) instructions) (one_label n).distinct (different (n + 12) instructions e d (omega (arith, le)))
-        (apart_by (n ∷ []) (body_labels (n + 12) instructions) (λ x h. let hi = high_end (one_label n) x h in let lo = low_end (one_label n) x h in
-        absent x (n + 12) instructions (omega (arith, hi)) (λ l k s. let small = local_small (frames.labels_in instructions) l e k in omega (arith, s, lo, le, small))))
+        distinct_append (n ∷ []) (body_labels (n + 12) instructions) (one_label n).distinct
+        (different (n + 12) instructions e d (omega (arith, le)))
+        (apart_by (n ∷ []) (body_labels (n + 12) instructions)
+        (λ x h. let hi = high_end (one_label n) x h in let lo = low_end (one_label n) x h in
+        absent x (n + 12) instructions (omega (arith, hi)) (λ l k s. let small = local_small
+        (frames.labels_in instructions) l e k in omega (arith, s, lo, le, small))))
     different n (Tail spread count ∷ instructions) e d le = different (n + 12) instructions e d (omega (arith, le))
     different n (Return ∷ instructions) e d le = different (n + 12) instructions e d (omega (arith, le))
     different n (End ∷ instructions) e d le = different (n + 12) instructions e d (omega (arith, le))
@@ -160,9 +226,11 @@ module _ (base : ℕ) where
     different n (Jump j ∷ instructions) e d le = different (n + 12) instructions e d (omega (arith, le))
     different n (Mark m ∷ instructions) e d le = different (n + 12) instructions e d (omega (arith, le))
 
-    pub body_block : (n : ℕ) (instructions : List Instruction) → forward labels instructions ≡ true → base + labels ≤ n → Block base (n + 12 * length instructions) (body_labels n instructions)
+    pub body_block : (n : ℕ) (instructions : List Instruction) → forward labels instructions ≡ true
+        → base + labels ≤ n → Block base (n + 12 * length instructions) (body_labels n instructions)
     body_block n instructions e le =
-        let p = and_parts (list_all (λ l. nat_lt l labels) (frames.labels_in instructions)) (without_repeats (frames.labels_in instructions) && jumps_ahead instructions) e in
+        let p = and_parts (list_all (λ l. nat_lt l labels) (frames.labels_in instructions))
+        (without_repeats (frames.labels_in instructions) && jumps_ahead instructions) e in
         let q = and_parts (without_repeats (frames.labels_in instructions)) (jumps_ahead instructions) p.1 in
         record {
           distinct = different n instructions p.0 q.0 le;
@@ -170,10 +238,13 @@ module _ (base : ℕ) where
           above = λ y far. beyond y n instructions p.0 le far;
         }
 
-    pub absent_end : (y n : ℕ) (instructions : List Instruction) → forward labels instructions ≡ true → base + labels ≤ y → y < n → is_among (body_labels n instructions) y ≡ false
+    pub absent_end : (y n : ℕ) (instructions : List Instruction) → forward labels instructions ≡ true
+        → base + labels ≤ y → y < n → is_among (body_labels n instructions) y ≡ false
     absent_end y n instructions e le lt =
-        let p = and_parts (list_all (λ l. nat_lt l labels) (frames.labels_in instructions)) (without_repeats (frames.labels_in instructions) && jumps_ahead instructions) e in
-        absent y n instructions lt (λ l h s. let small = local_small (frames.labels_in instructions) l p.0 h in omega (arith, s, le, small))
+        let p = and_parts (list_all (λ l. nat_lt l labels) (frames.labels_in instructions))
+        (without_repeats (frames.labels_in instructions) && jumps_ahead instructions) e in
+        absent y n instructions lt (λ l h s. let small = local_small (frames.labels_in instructions) l p.0 h in omega
+        (arith, s, le, small))
 
 -- ---- bodies
 
@@ -191,11 +262,13 @@ entry_labelled : (o : Option Entry) → Labelled (entry_code o) []
 entry_labelled None rest = refl
 entry_labelled (Some e) rest = refl
 
-form_labelled : (words heap_end label n : ℕ) (c : Code) → Labelled (form_code words heap_end label n c) (form_labels label n c)
+form_labelled : (words heap_end label n : ℕ) (c : Code)
+    → Labelled (form_code words heap_end label n c) (form_labels label n c)
 form_labelled words heap_end label n c rest =
     passed_labelled c.entry (n + c.labels) _
     ∙ ap (λ l. body_label label ∷ l)
-    (entry_labelled c.entry _ ∙ body_labelled n (n + c.labels) words heap_end (n + c.labels + 1) c.instructions (item.Label (n + c.labels) ∷ rest)
+    (entry_labelled c.entry _ ∙ body_labelled n (n + c.labels) words heap_end (n + c.labels + 1) c.instructions
+    (item.Label (n + c.labels) ∷ rest)
     ∙ sym (append_assoc (body_labels n (n + c.labels + 1) c.instructions) ((n + c.labels) ∷ []) (labels_in rest)))
 
 own_block : (n : ℕ) (c : Code) → forward c.labels c.instructions ≡ true → Block n (labels_end n c) (own_labels n c)
@@ -203,9 +276,13 @@ own_block n c e =
     let b = body_block n c.labels (n + c.labels + 1) c.instructions e (omega arith) in
     let body = body_labels n (n + c.labels + 1) c.instructions in
     record {
-      distinct = distinct_append body ((n + c.labels) ∷ []) b.distinct refl (apart_by body ((n + c.labels) ∷ []) (λ x h. either_false (n + c.labels == x) false (ne_eqb (n + c.labels) x (λ s. other x h (sym s))) refl));
-      below = λ y lt. among_append body ((n + c.labels) ∷ []) y (b.below y lt) (either_false (n + c.labels == y) false (ne_eqb (n + c.labels) y (λ s. omega (arith, s, lt))) refl);
-      above = λ y far. among_append body ((n + c.labels) ∷ []) y (b.above y far) (either_false (n + c.labels == y) false (ne_eqb (n + c.labels) y (λ s. omega (arith, s, far))) refl);
+      distinct = distinct_append body ((n + c.labels) ∷ []) b.distinct refl
+          (apart_by body ((n + c.labels) ∷ []) (λ x h. either_false (n + c.labels == x) false
+          (ne_eqb (n + c.labels) x (λ s. other x h (sym s))) refl));
+      below = λ y lt. among_append body ((n + c.labels) ∷ []) y (b.below y lt)
+          (either_false (n + c.labels == y) false (ne_eqb (n + c.labels) y (λ s. omega (arith, s, lt))) refl);
+      above = λ y far. among_append body ((n + c.labels) ∷ []) y (b.above y far)
+          (either_false (n + c.labels == y) false (ne_eqb (n + c.labels) y (λ s. omega (arith, s, far))) refl);
     }
   where
     other : (x : ℕ) → is_among (body_labels n (n + c.labels + 1) c.instructions) x ≡ true → x ≢ n + c.labels
@@ -221,10 +298,12 @@ abbrev pub forms_end : ℕ → List Code → ℕ
 forms_end n [] = n
 forms_end n (c ∷ cs) = forms_end (labels_end n c) cs
 
-pub forms_labelled : (words heap_end label n : ℕ) (cs : List Code) → Labelled (forms_code words heap_end label n cs) (forms_labels label n cs)
+pub forms_labelled : (words heap_end label n : ℕ) (cs : List Code)
+    → Labelled (forms_code words heap_end label n cs) (forms_labels label n cs)
 forms_labelled words heap_end label n [] rest = refl
 forms_labelled words heap_end label n (c ∷ cs) rest =
-    form_labelled words heap_end label n c (forms_code words heap_end (suc label) (labels_end n c) cs rest) ∙ ap (λ l. form_labels label n c ++ l) (forms_labelled words heap_end (suc label) (labels_end n c) cs rest)
+    form_labelled words heap_end label n c (forms_code words heap_end (suc label) (labels_end n c) cs rest)
+    ∙ ap (λ l. form_labels label n c ++ l) (forms_labelled words heap_end (suc label) (labels_end n c) cs rest)
     ∙ sym (append_assoc (form_labels label n c) (forms_labels (suc label) (labels_end n c) cs) (labels_in rest))
 
 end_above : (n : ℕ) (cs : List Code) → n ≤ forms_end n cs
@@ -237,7 +316,8 @@ pub record AreLabels (label n : ℕ) (cs : List Code) : Type 0 where
   pub below : (y : ℕ) → y < body_label label → is_among (forms_labels label n cs) y ≡ false
   pub between : (y : ℕ) → body_label (label + length cs) ≤ y → y < n → is_among (forms_labels label n cs) y ≡ false
 
-pub forms_block : (label n : ℕ) (cs : List Code) → body_label (label + length cs) ≤ n → list_all (λ c. forward c.labels c.instructions) cs ≡ true → AreLabels label n cs
+pub forms_block : (label n : ℕ) (cs : List Code) → body_label (label + length cs) ≤ n
+    → list_all (λ c. forward c.labels c.instructions) cs ≡ true → AreLabels label n cs
 forms_block label n [] le e = record { distinct = refl; below = λ y lt. refl; between = λ y lo hi. refl }
 forms_block label n (c ∷ cs) le e =
     let p = and_parts (forward c.labels c.instructions) (list_all (λ c. forward c.labels c.instructions) cs) e in
@@ -246,28 +326,47 @@ forms_block label n (c ∷ cs) le e =
     let others = forms_block (suc label) (labels_end n c) cs (omega (arith, le)) p.1 in
     record {
       distinct = either_false (is_among (own_labels n c ++ rest) (body_label label)) (repeats (own_labels n c ++ rest))
-          (among_append (own_labels n c) rest (body_label label) (own.below (body_label label) (omega (arith, le))) (others.below (body_label label) (omega arith)))
-          (distinct_append (own_labels n c) rest own.distinct others.distinct (apart_by (own_labels n c) rest (λ x h. let lo = low_end own x h in let hi = high_end own x h in others.between x (omega (arith, lo, le)) hi)));
-      below = λ y lt. either_false (body_label label == y) _ (ne_eqb (body_label label) y (λ s. omega (arith, s, lt))) (among_append (own_labels n c) rest y (own.below y (omega (arith, lt, le))) (others.below y (omega (arith, lt))));
-      between = λ y lo hi. either_false (body_label label == y) _ (ne_eqb (body_label label) y (λ s. omega (arith, s, lo))) (among_append (own_labels n c) rest y (own.below y hi) (others.between y (omega (arith, lo)) (omega (arith, hi))));
+          (among_append (own_labels n c) rest (body_label label) (own.below (body_label label) (omega (arith, le)))
+          (others.below (body_label label) (omega arith)))
+          (distinct_append (own_labels n c) rest own.distinct others.distinct
+          (apart_by (own_labels n c) rest (λ x h. let lo = low_end own x h in let hi = high_end own x h in
+          others.between x (omega (arith, lo, le)) hi)));
+      below = λ y lt. either_false (body_label label == y) _ (ne_eqb (body_label label) y (λ s. omega (arith, s, lt)))
+          (among_append (own_labels n c) rest y (own.below y (omega (arith, lt, le)))
+          (others.below y (omega (arith, lt))));
+      between = λ y lo hi. either_false (body_label label == y) _
+          (ne_eqb (body_label label) y (λ s. omega (arith, s, lo)))
+          (among_append (own_labels n c) rest y (own.below y hi)
+          (others.between y (omega (arith, lo)) (omega (arith, hi))));
     }
 
 -- ---- the program
 
-pub labels_low : (p : Source) → list_all (λ c. forward c.labels c.instructions) p.bodies ≡ true → (y : ℕ) → is_among (forms_labels 0 (own_label p) p.bodies) y ≡ true → 1032 ≤ y
+pub labels_low : (p : Source) → list_all (λ c. forward c.labels c.instructions) p.bodies ≡ true → (y : ℕ)
+    → is_among (forms_labels 0 (own_label p) p.bodies) y ≡ true → 1032 ≤ y
 labels_low p e y h = by (nat_lt y 1032) refl
   where
     by : (t : Bool) → nat_lt y 1032 ≡ t → 1032 ≤ y
     by false f = ltb-false y 1032 f
-    by true f = absurd (let bad : true ≡ false = sym h ∙ (forms_block 0 (own_label p) p.bodies (omega arith) e).below y (ltb-true y 1032 f) in cc)
+    by true f = absurd (let bad : true ≡ false = sym h ∙ (forms_block 0 (own_label p) p.bodies (omega arith) e).below
+        y (ltb-true y 1032 f) in cc)
 
-pub program_once : (p : Source) (limit depth : ℕ) → list_all (λ c. forward c.labels c.instructions) p.bodies ≡ true → IsEachOnce (labels_in (program_code p limit depth))
+pub program_once : (p : Source) (limit depth : ℕ) → list_all (λ c. forward c.labels c.instructions) p.bodies ≡ true
+    → IsEachOnce (labels_in (program_code p limit depth))
 program_once p limit depth e =
     let rest = item.Jump (label_of routine.End) ∷ (item.Label put_label ∷ put_value_code) in
     let forms = forms_labels 0 (own_label p) p.bodies in
     let b = forms_block 0 (own_label p) p.bodies (omega arith) e in
-    let all : labels_in (program_code p limit depth) ≡ forms ++ labels_in rest = forms_labelled p.words (heap_of p + limit) 0 (own_label p) p.bodies rest in
-    subst IsEachOnce (sym all) (each_once (forms ++ labels_in rest) (distinct_append forms (labels_in rest) b.distinct refl (apart_by forms (labels_in rest) (λ x h. own x (labels_low p e x h)))))
+    let all : labels_in (program_code p limit depth) ≡ forms ++ labels_in rest = forms_labelled p.words
+    (heap_of p + limit) 0 (own_label p) p.bodies rest in
+    subst IsEachOnce (sym all) (each_once (forms ++ labels_in rest)
+    (distinct_append forms (labels_in rest) b.distinct refl
+    (apart_by forms (labels_in rest) (λ x h. own x (labels_low p e x h)))))
   where
     own : (x : ℕ) → 1032 ≤ x → is_among (1024 ∷ (1025 ∷ (1026 ∷ (1027 ∷ (1028 ∷ (1029 ∷ [])))))) x ≡ false
-    own x le = either_false (1024 == x) _ (ne_eqb 1024 x (λ s. omega (arith, s, le))) (either_false (1025 == x) _ (ne_eqb 1025 x (λ s. omega (arith, s, le))) (either_false (1026 == x) _ (ne_eqb 1026 x (λ s. omega (arith, s, le))) (either_false (1027 == x) _ (ne_eqb 1027 x (λ s. omega (arith, s, le))) (either_false (1028 == x) _ (ne_eqb 1028 x (λ s. omega (arith, s, le))) (either_false (1029 == x) false (ne_eqb 1029 x (λ s. omega (arith, s, le))) refl)))))
+    own x le = either_false (1024 == x) _ (ne_eqb 1024 x (λ s. omega (arith, s, le)))
+        (either_false (1025 == x) _ (ne_eqb 1025 x (λ s. omega (arith, s, le)))
+        (either_false (1026 == x) _ (ne_eqb 1026 x (λ s. omega (arith, s, le)))
+        (either_false (1027 == x) _ (ne_eqb 1027 x (λ s. omega (arith, s, le)))
+        (either_false (1028 == x) _ (ne_eqb 1028 x (λ s. omega (arith, s, le)))
+        (either_false (1029 == x) false (ne_eqb 1029 x (λ s. omega (arith, s, le))) refl)))))

@@ -62,11 +62,16 @@ items_valid (i ∷ is) = item_valid i && items_valid is
 
 fits_says : (n : ℤ) → fits_32 n ≡ true → FitsSigned w32 n
 fits_says (pos k) e = let lt : k ≤ 2147483647 = leb-true k 2147483647 e in record { sfits = omega (arith, lt) }
-fits_says (negsuc k) e = let lt : k ≤ 2147483647 = leb-true k 2147483647 (and_parts (int_le (negsuc 2147483647) (negsuc k)) (int_le (negsuc k) (pos 2147483647)) e).0 in record { sfits = omega (arith, lt) }
+fits_says (negsuc k) e = let lt : k ≤ 2147483647 = leb-true k 2147483647
+    (and_parts (int_le (negsuc 2147483647) (negsuc k)) (int_le (negsuc k) (pos 2147483647)) e).0 in record
+    { sfits = omega (arith, lt) }
 
 fits_says_64 : (n : ℤ) → fits_64 n ≡ true → FitsSigned w64 n
-fits_says_64 (pos k) e = let lt : k ≤ 9223372036854775807 = leb-true k 9223372036854775807 e in record { sfits = omega (arith, lt) }
-fits_says_64 (negsuc k) e = let lt : k ≤ 9223372036854775807 = leb-true k 9223372036854775807 (and_parts (int_le (negsuc 9223372036854775807) (negsuc k)) (int_le (negsuc k) (pos 9223372036854775807)) e).0 in record { sfits = omega (arith, lt) }
+fits_says_64 (pos k) e = let lt : k ≤ 9223372036854775807 = leb-true k 9223372036854775807 e in record
+    { sfits = omega (arith, lt) }
+fits_says_64 (negsuc k) e = let lt : k ≤ 9223372036854775807 = leb-true k 9223372036854775807
+    (and_parts (int_le (negsuc 9223372036854775807) (negsuc k)) (int_le (negsuc k) (pos 9223372036854775807)) e).0 in
+    record { sfits = omega (arith, lt) }
 
 arg_says : (m : Arg) → arg_valid m ≡ true → IsArg m × IsFree m
 arg_says (Reg r) e = (ltb-true r 16 e, tt)
@@ -75,19 +80,23 @@ arg_says (Base b) e = absurd (let bad : false ≡ true = e in cc)
 arg_says (Rip d) e = absurd (let bad : false ≡ true = e in cc)
 
 with_register : (m : Arg) (r : ℕ) → (arg_valid m && nat_lt r 16) ≡ true → (IsArg m × (r < 16)) × IsFree m
-with_register m r e = let p = and_parts (arg_valid m) (nat_lt r 16) e in let a = arg_says m p.0 in ((a.0, ltb-true r 16 p.1), a.1)
+with_register m r e = let p = and_parts (arg_valid m) (nat_lt r 16) e in let a = arg_says m p.0 in
+    ((a.0, ltb-true r 16 p.1), a.1)
 
 with_number : (m : Arg) (n : ℤ) → (arg_valid m && fits_32 n) ≡ true → (IsArg m × FitsSigned w32 n) × IsFree m
-with_number m n e = let p = and_parts (arg_valid m) (fits_32 n) e in let a = arg_says m p.0 in ((a.0, fits_says n p.1), a.1)
+with_number m n e = let p = and_parts (arg_valid m) (fits_32 n) e in let a = arg_says m p.0 in
+    ((a.0, fits_says n p.1), a.1)
 
 with_count : (m : Arg) (k : ℕ) → (arg_valid m && nat_lt k 64) ≡ true → (IsArg m × (k < 64)) × IsFree m
-with_count m k e = let p = and_parts (arg_valid m) (nat_lt k 64) e in let a = arg_says m p.0 in ((a.0, ltb-true k 64 p.1), a.1)
+with_count m k e = let p = and_parts (arg_valid m) (nat_lt k 64) e in let a = arg_says m p.0 in
+    ((a.0, ltb-true k 64 p.1), a.1)
 
 insn_says : (i : Insn) → insn_valid i ≡ true → IsValid i × IsPlain i
 insn_says (insn.MovTo m r) e = with_register m r e
 insn_says (insn.MovFrom r m) e = with_register m r e
 insn_says (insn.MovNumber m n) e = with_number m n e
-insn_says (insn.MovWord r n) e = let p = and_parts (nat_lt r 16) (fits_64 n) e in ((ltb-true r 16 p.0, fits_says_64 n p.1), tt)
+insn_says (insn.MovWord r n) e = let p = and_parts (nat_lt r 16) (fits_64 n) e in
+    ((ltb-true r 16 p.0, fits_says_64 n p.1), tt)
 insn_says (insn.AddTo m r) e = with_register m r e
 insn_says (insn.SubTo m r) e = with_register m r e
 insn_says (insn.CmpTo m r) e = with_register m r e

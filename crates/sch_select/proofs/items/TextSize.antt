@@ -37,14 +37,19 @@ use Rattle.sch_asm.specs.declared.routine.Routine.TheVariants as routine
 use Rattle.sch_asm.specs.Codes.{text_size}
 use Rattle.sch_asm.specs.Routines.{label_of}
 use Rattle.sch_heap.specs.Encoded.{constant_number}
-use Rattle.sch_select.specs.Select.{place_operand, atom_code, unary_code, binary_code, read_code, operand_code, second_code, primitive_code, operation_code, instruction_code, body_code, global_address, put_label, stop_label, body_label, source_code, check_cell, cell_operand, check_heap, part_code, part_operand, fields_code, record_code, closure_bytes, group_bytes, places_code, records_code, group_code, check_depth, check_operator, enter_code, open_code, close_code, call_code, tail_code}
+use Rattle.sch_select.specs.Select.{place_operand, atom_code, unary_code, binary_code, read_code, operand_code}
+use Rattle.sch_select.specs.Select.{second_code, primitive_code, operation_code, instruction_code, body_code}
+use Rattle.sch_select.specs.Select.{global_address, put_label, stop_label, body_label, source_code, check_cell}
+use Rattle.sch_select.specs.Select.{cell_operand, check_heap, part_code, part_operand, fields_code, record_code}
+use Rattle.sch_select.specs.Select.{closure_bytes, group_bytes, places_code, records_code, group_code, check_depth}
+use Rattle.sch_select.specs.Select.{check_operator, enter_code, call_code, tail_code}
 use Rattle.sch_select.specs.Program.{passed_code, entry_code, forms_code, labels_end, own_label, heap_of, program_code, put_value_code}
 use Rattle.sch_select.specs.Sizes.{grouped, jumped, closures_in}
 use Rattle.sch_word.specs.declared.stop.Stop.TheVariants.{Unset}
 
 -- ## Atoms
 
-sources_counts : (sources : List (Source Place)) → length (source_atoms sources) ≡ length sources
+pub sources_counts : (sources : List (Source Place)) → length (source_atoms sources) ≡ length sources
 sources_counts [] = refl
 sources_counts (x ∷ sources) = ap suc (sources_counts sources)
 
@@ -59,7 +64,8 @@ unary_adds : (n : ℕ) (which : Primitive) (rest : List Item) → text_size (una
 unary_adds n IsBoolean rest = omega arith
 unary_adds n _ rest = omega arith
 
-binary_adds : (n : ℕ) (which : Primitive) (rest : List Item) → text_size (binary_code n which rest) ≤ 106 + text_size rest
+binary_adds : (n : ℕ) (which : Primitive) (rest : List Item)
+    → text_size (binary_code n which rest) ≤ 106 + text_size rest
 binary_adds n Eq rest = omega arith
 binary_adds n _ rest = omega arith
 
@@ -69,9 +75,11 @@ atom_adds r (Variable p) rest = let s = spelling_short (MovFrom r (place_operand
 atom_adds r (Literal n) rest = omega arith
 
 -- Of the bytes for its atoms an operand leaves 21 to its primitive, and 9 more are for the moves of a second one.
-read_adds : (n : ℕ) (which : Primitive) (atoms : List (Atom Place)) (rest : List Item) → text_size (read_code n which atoms rest) + 30 ≤ 64 * suc (length atoms) + text_size rest
+read_adds : (n : ℕ) (which : Primitive) (atoms : List (Atom Place)) (rest : List Item)
+    → text_size (read_code n which atoms rest) + 30 ≤ 64 * suc (length atoms) + text_size rest
 read_adds n which [] rest = omega arith
-read_adds n which (a ∷ []) rest = let h = atom_adds 0 a (unary_code n which rest) in let k = unary_adds n which rest in omega (arith, h, k)
+read_adds n which (a ∷ []) rest = let h = atom_adds 0 a (unary_code n which rest) in let k = unary_adds n which
+    rest in omega (arith, h, k)
 read_adds n which (a ∷ (b ∷ [])) rest =
     let h = atom_adds 0 a (atom_code 1 b (binary_code n which rest)) in
     let k = atom_adds 1 b (binary_code n which rest) in
@@ -79,11 +87,13 @@ read_adds n which (a ∷ (b ∷ [])) rest =
     omega (arith, h, k, l)
 read_adds n which (a ∷ (b ∷ (c ∷ atoms))) rest = omega arith
 
-operand_adds : (n : ℕ) (o : Operand Place) (rest : List Item) → text_size (operand_code n o rest) + 21 ≤ 64 * operand_size o + text_size rest
+operand_adds : (n : ℕ) (o : Operand Place) (rest : List Item)
+    → text_size (operand_code n o rest) + 21 ≤ 64 * operand_size o + text_size rest
 operand_adds n (operand.Atom a) rest = let h = atom_adds 0 a rest in omega (arith, h)
 operand_adds n (operand.Read site which atoms) rest = let h = read_adds n which atoms rest in omega (arith, h)
 
-second_adds : (n : ℕ) (o : Operand Place) (rest : List Item) → text_size (second_code n o rest) + 21 ≤ 64 * operand_size o + text_size rest
+second_adds : (n : ℕ) (o : Operand Place) (rest : List Item)
+    → text_size (second_code n o rest) + 21 ≤ 64 * operand_size o + text_size rest
 second_adds n (operand.Atom a) rest = let h = atom_adds 1 a rest in omega (arith, h)
 second_adds n (operand.Read site which atoms) rest =
     let h = read_adds n which atoms (item.Plain (MovTo (Reg 1) 0) ∷ (item.Plain (MovTo (Reg 0) 11) ∷ rest)) in
@@ -92,7 +102,8 @@ second_adds n (operand.Read site which atoms) rest =
 primitive_adds : (n : ℕ) (which : Primitive) (operands : List (Operand Place)) (rest : List Item)
     → text_size (primitive_code n which operands rest) ≤ 64 * suc (operands_size operands) + text_size rest
 primitive_adds n which [] rest = omega arith
-primitive_adds n which (o ∷ []) rest = let h = operand_adds n o (unary_code (n + 8) which rest) in let k = unary_adds (n + 8) which rest in omega (arith, h, k)
+primitive_adds n which (o ∷ []) rest = let h = operand_adds n o (unary_code (n + 8) which rest) in let k = unary_adds
+    (n + 8) which rest in omega (arith, h, k)
 primitive_adds n which (o ∷ (q ∷ [])) rest =
     let h = operand_adds n o (second_code (n + 4) q (binary_code (n + 8) which rest)) in
     let k = second_adds (n + 4) q (binary_code (n + 8) which rest) in
@@ -114,7 +125,8 @@ heap_adds heap_end bytes rest = omega arith
 part_adds : (tag bytes : ℕ) (rest : List Item) → text_size (part_code tag bytes rest) ≤ 17 + text_size rest
 part_adds tag bytes rest = omega arith
 
-fields_add : (offset : ℕ) (sources : List (Source Place)) (rest : List Item) → text_size (fields_code offset sources rest) ≤ 45 * length sources + text_size rest
+fields_add : (offset : ℕ) (sources : List (Source Place)) (rest : List Item)
+    → text_size (fields_code offset sources rest) ≤ 45 * length sources + text_size rest
 fields_add offset [] rest = omega arith
 fields_add offset (x ∷ sources) rest =
     let h = source_adds 1 x (item.Plain (MovTo (part_operand offset) 1) ∷ fields_code (offset + 8) sources rest) in
@@ -122,10 +134,12 @@ fields_add offset (x ∷ sources) rest =
     let k = fields_add (offset + 8) sources rest in
     omega (arith, h, s, k)
 
-record_adds : (offset : ℕ) (c : Closure Place) (rest : List Item) → text_size (record_code offset c rest) ≤ 15 + (45 * length c.fields + text_size rest)
+record_adds : (offset : ℕ) (c : Closure Place) (rest : List Item)
+    → text_size (record_code offset c rest) ≤ 15 + (45 * length c.fields + text_size rest)
 record_adds offset c rest = let h = fields_add (offset + 8) c.fields rest in omega (arith, h)
 
-operation_adds : (heap_end n : ℕ) (o : Operation Place) (rest : List Item) → text_size (operation_code heap_end n o rest) ≤ 64 * suc (operation_size o) + text_size rest
+operation_adds : (heap_end n : ℕ) (o : Operation Place) (rest : List Item)
+    → text_size (operation_code heap_end n o rest) ≤ 64 * suc (operation_size o) + text_size rest
 operation_adds heap_end n (operation.Operand o) rest = let h = operand_adds n o rest in omega (arith, h)
 operation_adds heap_end n (operation.Prim site which operands) rest = primitive_adds n which operands rest
 operation_adds heap_end n (operation.Global g) rest = omega arith
@@ -144,10 +158,12 @@ operation_adds heap_end n operation.UnsetCell rest =
     let l = part_adds 7 16 rest in
     omega (arith, k, l)
 operation_adds heap_end n (operation.CellGet x) rest =
-    let h = source_adds 0 x (check_cell 0 (item.Plain (MovFrom 0 (cell_operand 0)) ∷ (item.Plain (CmpNumber (Reg 0) (pos 38)) ∷ (item.JumpIf E (stop_label Unset) ∷ rest)))) in
+    let h = source_adds 0 x (check_cell 0 (item.Plain (MovFrom 0 (cell_operand 0)) ∷
+    (item.Plain (CmpNumber (Reg 0) (pos 38)) ∷ (item.JumpIf E (stop_label Unset) ∷ rest)))) in
     omega (arith, h)
 operation_adds heap_end n (operation.CellSet x o) rest =
-    let written = check_cell 1 (item.Plain (MovTo (cell_operand 1) 0) ∷ (item.Plain (MovNumber (Reg 0) (pos 30)) ∷ rest)) in
+    let written = check_cell 1 (item.Plain (MovTo (cell_operand 1) 0) ∷
+    (item.Plain (MovNumber (Reg 0) (pos 30)) ∷ rest)) in
     let h = operand_adds n o (source_code 1 x written) in
     let k = source_adds 1 x written in
     let c = operand_counts o in
@@ -162,14 +178,17 @@ operation_adds heap_end n (operation.MakeClosure c) rest =
 
 -- ## Groups
 
-places_add : (offset : ℕ) (members : List (Member Place)) (rest : List Item) → text_size (places_code offset members rest) ≤ 25 * length members + text_size rest
+places_add : (offset : ℕ) (members : List (Member Place)) (rest : List Item)
+    → text_size (places_code offset members rest) ≤ 25 * length members + text_size rest
 places_add offset [] rest = omega arith
 places_add offset (m ∷ members) rest =
     let h = places_add (offset + closure_bytes m.closure) members rest in
     let s = spelling_short (MovTo (place_operand m.at) 1) in
     omega (arith, h, s)
 
-records_add : (offset : ℕ) (members : List (Member Place)) (rest : List Item) → text_size (records_code offset members rest) ≤ 15 * length members + (45 * length (member_atoms members) + text_size rest)
+records_add : (offset : ℕ) (members : List (Member Place)) (rest : List Item)
+    → text_size (records_code offset members rest) ≤ 15 * length members +
+    (45 * length (member_atoms members) + text_size rest)
 records_add offset [] rest = omega arith
 records_add offset (m ∷ members) rest =
     let h = record_adds offset m.closure (records_code (offset + closure_bytes m.closure) members rest) in
@@ -178,7 +197,9 @@ records_add offset (m ∷ members) rest =
     let a = length-append (source_atoms m.closure.fields) (member_atoms members) in
     omega (arith, h, k, c, a)
 
-group_adds : (heap_end : ℕ) (members : List (Member Place)) (rest : List Item) → text_size (group_code heap_end members rest) ≤ 64 * (suc (length (member_atoms members)) + length members) + text_size rest
+group_adds : (heap_end : ℕ) (members : List (Member Place)) (rest : List Item)
+    → text_size (group_code heap_end members rest) ≤ 64 * (suc (length (member_atoms members)) + length members) +
+    text_size rest
 group_adds heap_end members rest =
     let last = item.Plain (AddNumber (Reg 12) (pos (group_bytes members))) ∷ rest in
     let h = heap_adds heap_end (group_bytes members) (places_code 0 members (records_code 0 members last)) in
@@ -202,17 +223,24 @@ call_adds : (words n count : ℕ) (rest : List Item) → text_size (call_code wo
 call_adds words n count rest =
     let a = spelling_short (AddNumber (Reg 5) (pos (8 * words))) in
     let b = spelling_short (SubNumber (Reg 5) (pos (8 * words))) in
-    let back = item.Label n ∷ (item.Plain (SubNumber (Reg 5) (pos (8 * words))) ∷ (item.Plain (AddNumber (Reg 13) (pos 1)) ∷ rest)) in
+    let back = item.Label n ∷ (item.Plain (SubNumber (Reg 5) (pos (8 * words))) ∷
+    (item.Plain (AddNumber (Reg 13) (pos 1)) ∷ rest)) in
     let c = enter_adds count back in
-    let d = operator_adds (check_depth (item.Plain (SubNumber (Reg 13) (pos 1)) ∷ (item.Plain (AddNumber (Reg 5) (pos (8 * words))) ∷ (item.LoadLabel 15 n ∷ enter_code count back)))) in
+    let d = operator_adds (check_depth (item.Plain (SubNumber (Reg 13) (pos 1)) ∷
+    (item.Plain (AddNumber (Reg 5) (pos (8 * words))) ∷ (item.LoadLabel 15 n ∷ enter_code count back)))) in
     omega (arith, a, b, c, d)
 
 tail_adds : (count : ℕ) (rest : List Item) → text_size (tail_code count rest) ≤ 64 + text_size rest
-tail_adds count rest = let a = enter_adds count rest in let b = operator_adds (enter_code count rest) in omega (arith, a, b)
+tail_adds count rest = let a = enter_adds count rest in let b = operator_adds (enter_code count rest) in omega
+    (arith, a, b)
 
-instruction_adds : (base out words heap_end n : ℕ) (i : Instruction) (rest : List Item) → text_size (instruction_code base out words heap_end n i rest) ≤ 64 * (instruction_size i + grouped (i ∷ [])) + text_size rest
-instruction_adds base out words heap_end n (instruction.Do o) rest = let h = operation_adds heap_end n o rest in omega (arith, h)
-instruction_adds base out words heap_end n (instruction.Store p) rest = let s = spelling_short (MovTo (place_operand p) 0) in omega (arith, s)
+instruction_adds : (base out words heap_end n : ℕ) (i : Instruction) (rest : List Item)
+    → text_size (instruction_code base out words heap_end n i rest) ≤ 64 * (instruction_size i + grouped (i ∷ [])) +
+    text_size rest
+instruction_adds base out words heap_end n (instruction.Do o) rest = let h = operation_adds heap_end n o rest in omega
+    (arith, h)
+instruction_adds base out words heap_end n (instruction.Store p) rest = let s = spelling_short
+    (MovTo (place_operand p) 0) in omega (arith, s)
 instruction_adds base out words heap_end n (instruction.Copy to from) rest =
     let s = spelling_short (MovFrom 1 (place_operand from)) in
     let t = spelling_short (MovTo (place_operand to) 1) in
@@ -227,21 +255,25 @@ instruction_adds base out words heap_end n (instruction.Pass k o) rest =
     omega (arith, h, s)
 instruction_adds base out words heap_end n (instruction.Call spread count) rest = call_adds words n count rest
 instruction_adds base out words heap_end n (instruction.Tail spread count) rest = tail_adds count rest
-instruction_adds base out words heap_end n (instruction.Fix members) rest = let h = group_adds heap_end members rest in omega (arith, h)
-instruction_adds base out words heap_end n instruction.Return rest = let s = spelling_short (JumpTo (Reg 15)) in omega (arith, s)
+instruction_adds base out words heap_end n (instruction.Fix members) rest = let h = group_adds heap_end members
+    rest in omega (arith, h)
+instruction_adds base out words heap_end n instruction.Return rest = let s = spelling_short (JumpTo (Reg 15)) in omega
+    (arith, s)
 instruction_adds base out words heap_end n instruction.End rest = omega arith
 instruction_adds base out words heap_end n (instruction.IfFalse l) rest = omega arith
 instruction_adds base out words heap_end n (instruction.Jump l) rest = omega arith
 instruction_adds base out words heap_end n (instruction.Label l) rest = omega arith
 instruction_adds base out words heap_end n (instruction.Mark m) rest = omega arith
 
-grouped_first : (i : Instruction) (is : List Instruction) → grouped (i ∷ is) ≡ grouped (i ∷ []) + grouped is
+pub grouped_first : (i : Instruction) (is : List Instruction) → grouped (i ∷ is) ≡ grouped (i ∷ []) + grouped is
 grouped_first (instruction.Fix members) is = omega arith
 grouped_first (instruction.Do o) is = omega arith
 grouped_first (instruction.Call spread count) is = omega arith
 grouped_first _ is = omega arith
 
-body_adds : (base out words heap_end n : ℕ) (is : List Instruction) (rest : List Item) → text_size (body_code base out words heap_end n is rest) ≤ 64 * (instructions_size is + grouped is) + text_size rest
+body_adds : (base out words heap_end n : ℕ) (is : List Instruction) (rest : List Item)
+    → text_size (body_code base out words heap_end n is rest) ≤ 64 * (instructions_size is + grouped is) + text_size
+    rest
 body_adds base out words heap_end n [] rest = omega arith
 body_adds base out words heap_end n (i ∷ is) rest =
     let h = instruction_adds base out words heap_end n i (body_code base out words heap_end (n + 12) is rest) in
@@ -249,7 +281,8 @@ body_adds base out words heap_end n (i ∷ is) rest =
     let g = grouped_first i is in
     omega (arith, h, k, g)
 
-passed_adds : (o : Option Entry) (out : ℕ) (rest : List Item) → text_size (passed_code o out rest) ≤ 5 * jumped o + text_size rest
+passed_adds : (o : Option Entry) (out : ℕ) (rest : List Item)
+    → text_size (passed_code o out rest) ≤ 5 * jumped o + text_size rest
 passed_adds None out rest = omega arith
 passed_adds (Some e) out rest = omega arith
 
@@ -257,14 +290,18 @@ entry_adds : (o : Option Entry) (rest : List Item) → text_size (entry_code o r
 entry_adds None rest = omega arith
 entry_adds (Some e) rest = let s = spelling_short (CmpNumber (Reg 0) (pos e.formals)) in omega (arith, s)
 
-forms_adds : (words heap_end label n : ℕ) (cs : List Code) (rest : List Item) → text_size (forms_code words heap_end label n cs rest) ≤ 64 * (codes_size cs + closures_in cs) + text_size rest
+forms_adds : (words heap_end label n : ℕ) (cs : List Code) (rest : List Item)
+    → text_size (forms_code words heap_end label n cs rest) ≤ 64 * (codes_size cs + closures_in cs) + text_size rest
 forms_adds words heap_end label n [] rest = omega arith
 forms_adds words heap_end label n (c ∷ cs) rest =
     let others = forms_code words heap_end (suc label) (labels_end n c) cs rest in
-    let body = body_code n (n + c.labels) words heap_end (n + c.labels + 1) c.instructions (item.Label (n + c.labels) ∷ others) in
-    let g = passed_adds c.entry (n + c.labels) (item.Label (body_label label) ∷ entry_code c.entry (item.Mark (Enter label) ∷ body)) in
+    let body = body_code n (n + c.labels) words heap_end (n + c.labels + 1) c.instructions
+    (item.Label (n + c.labels) ∷ others) in
+    let g = passed_adds c.entry (n + c.labels) (item.Label (body_label label) ∷ entry_code c.entry
+    (item.Mark (Enter label) ∷ body)) in
     let f = entry_adds c.entry (item.Mark (Enter label) ∷ body) in
-    let h = body_adds n (n + c.labels) words heap_end (n + c.labels + 1) c.instructions (item.Label (n + c.labels) ∷ others) in
+    let h = body_adds n (n + c.labels) words heap_end (n + c.labels + 1) c.instructions
+    (item.Label (n + c.labels) ∷ others) in
     let k = forms_adds words heap_end (suc label) (labels_end n c) cs rest in
     omega (arith, f, g, h, k)
 
@@ -276,7 +313,8 @@ last_code = item.Jump (label_of routine.End) ∷ (item.Label put_label ∷ put_v
 last_small : text_size last_code ≤ 460
 last_small = leb-true (text_size last_code) 460 refl
 
-pub text_small : (p : tree.Source) (heap depth : ℕ) → text_size (program_code p heap depth) ≤ 512 + 64 * (program_size p + closures_in p.bodies)
+pub text_small : (p : tree.Source) (heap depth : ℕ)
+    → text_size (program_code p heap depth) ≤ 512 + 64 * (program_size p + closures_in p.bodies)
 text_small p heap depth =
     let a = spelling_short (MovWord 5 (pos (heap_of p + heap))) in
     let b = spelling_short (MovWord 12 (pos (heap_of p))) in

@@ -1,12 +1,12 @@
 -- Small frame programs with calls and their routines, run by the machine.
 use Rattle.std.proofs.Common.{◌≡◌, ℕ, List, [], ◌∷◌, ◌++◌, Option, Some, None, true, false, refl}
 use Rattle.std.specs.List.{flat_map}
-use Rattle.std.specs.Prelude.{codes, pos, replicate, ℤ}
+use Rattle.std.specs.Prelude.{codes, pos, replicate}
 use Rattle.sch_word.specs.declared.constant.Const.TheVariants.{Fixnum}
 use Rattle.sch_word.specs.declared.place.Place.{Place}
 use Rattle.sch_word.specs.declared.place.Place.TheVariants.{Reg, Slot}
 use Rattle.sch_word.specs.declared.primitive.Primitive.TheVariants as prim
-use Rattle.sch_word.specs.runs.Runs.{Run, End, ended, going}
+use Rattle.sch_word.specs.runs.Runs.{ended, going}
 use Rattle.sch_word.specs.values.Literals.{no_literals}
 use Rattle.sch_control.specs.declared.operation.Atom.TheVariants.{Constant, Variable}
 use Rattle.sch_control.specs.declared.operation.Operand.{Operand}
@@ -14,7 +14,8 @@ use Rattle.sch_control.specs.declared.operation.Operand.TheVariants as operand
 use Rattle.sch_control.specs.declared.operation.Operation.TheVariants as operation
 use Rattle.sch_control.specs.declared.operation.Source.TheVariants as source
 use Rattle.sch_frames.specs.declared.instruction.Instruction.{Instruction}
-use Rattle.sch_frames.specs.declared.instruction.Instruction.TheVariants.{Do, Store, Copy, Load, Pass, Call, Tail, Return, End as Ended, IfFalse, Jump, Label}
+use Rattle.sch_frames.specs.declared.instruction.Instruction.TheVariants.{Do, Store, Copy, Load, Pass, Call, Tail}
+use Rattle.sch_frames.specs.declared.instruction.Instruction.TheVariants.{Return, End as Ended, IfFalse, Jump, Label}
 use Rattle.sch_frames.specs.Run.{run}
 use Rattle.sch_frames.specs.Tree.{Source}
 use Rattle.sch_insn.specs.Behaves.{exit_of, start, zeros}
@@ -23,7 +24,6 @@ use Rattle.sch_insn.specs.Machine.{test_of}
 use Rattle.sch_insn.specs.Step.{mach}
 use Rattle.sch_asm.specs.Codes.{bytes_of}
 use Rattle.sch_asm.specs.Data.{data_at}
-use Rattle.sch_asm.specs.Layout.{addresses_from, emitted, numbered, placed_by}
 use Rattle.sch_asm.specs.Views.{text_at}
 use Rattle.sch_runtime.specs.Code.{routine_items}
 use Rattle.sch_select.specs.Covered.{is_covered_program}
@@ -33,7 +33,8 @@ use Rattle.sch_select.proofs.programs.Examples.{text_of, number}
 -- how a program ends within 600 steps, with 16 bytes of heap and this depth
 abbrev ends_at : (depth : ℕ) → Source → Option (ℕ × List ℕ)
 ends_at depth p =
-    exit_of (mach 600 (start 0x400000 (text_at (text_of (program_code p 16 depth ++ routine_items)) ∷ data_at (flat_map (bytes_of (λ l. 0)) (program_words p) ++ replicate (program_zeros p 16 depth) 0) ∷ []) zeros []))
+    exit_of (mach 600 (start 0x400000 (text_at (text_of (program_code p 16 depth ++ routine_items)) ∷ data_at
+    (flat_map (bytes_of (λ l. 0)) (program_words p) ++ replicate (program_zeros p 16 depth) 0) ∷ []) zeros []))
 
 -- a form that makes a closure with the field 5 of a procedure, and the procedure's body
 abbrev calling : (formals : ℕ) → (form body : List Instruction) → Source
@@ -41,8 +42,20 @@ calling formals form body = record {
   statics = record { symbols = []; literals = no_literals; globals = [] };
   library = [];
   bodies =
-      record { entry = None; words = 3; labels = 0; instructions = Do (operation.MakeClosure (record { label = 1; fields = source.Atom (Constant (Fixnum (pos 5))) ∷ [] })) ∷ Store (Reg 14) ∷ form }
-      ∷ record { entry = Some (record { formals = formals; rest = false; fields = 1 }); words = 3; labels = 2; instructions = body } ∷ [];
+      record {
+        entry = None;
+        words = 3;
+        labels = 0;
+        instructions = Do
+            (operation.MakeClosure (record { label = 1; fields = source.Atom (Constant (Fixnum (pos 5))) ∷ [] })) ∷
+            Store (Reg 14) ∷ form;
+      }
+      ∷ record {
+        entry = Some (record { formals = formals; rest = false; fields = 1 });
+        words = 3;
+        labels = 2;
+        instructions = body;
+      } ∷ [];
   words = 3;
 }
 
@@ -61,9 +74,12 @@ shown = Store (Slot 1) ∷ put (at (Slot 1)) (Ended ∷ [])
 -- eight operands, of which the last two are in slots of the next frame; slot 0 has 9 before the call and after it
 abbrev eight : (formals : ℕ) → List Instruction → Source
 eight formals body = calling formals (
-    Load (Slot 0) (number (pos 9)) ∷ Load (Reg 3) (number (pos 1)) ∷ Load (Reg 8) (number (pos 2)) ∷ Load (Reg 9) (number (pos 3)) ∷ Load (Reg 10) (number (pos 4)) ∷ Load (Reg 6) (number (pos 5)) ∷ Load (Reg 7) (number (pos 6))
-    ∷ Pass 0 (number (pos 7)) ∷ Pass 1 (number (pos 8)) ∷ Call false 8 ∷ Store (Slot 1) ∷ put (at (Slot 1)) (put (at (Slot 0)) (Ended ∷ []))
-  ) body
+    Load (Slot 0) (number (pos 9)) ∷ Load (Reg 3) (number (pos 1)) ∷ Load (Reg 8) (number (pos 2)) ∷ Load (Reg 9)
+    (number (pos 3)) ∷ Load (Reg 10) (number (pos 4)) ∷ Load (Reg 6) (number (pos 5)) ∷ Load (Reg 7)
+    (number (pos 6))
+    ∷ Pass 0 (number (pos 7)) ∷ Pass 1 (number (pos 8)) ∷ Call false 8 ∷ Store (Slot 1) ∷ put (at (Slot 1))
+    (put (at (Slot 0)) (Ended ∷ []))
+    ) body
 
 abbrev given : Place → List Instruction
 given p = Load (Slot 2) (number (pos 0)) ∷ Do (operation.Operand (at p)) ∷ Return ∷ []
@@ -102,7 +118,8 @@ checks = (refl, refl, refl, refl, refl, refl)
 -- a procedure of n calls itself with n - 1, and of 0 gives 7
 abbrev counting : List Instruction → Source
 counting again = calling 1 (Load (Reg 3) (number (pos 2)) ∷ Call false 1 ∷ shown)
-    (Copy (Slot 0) (Reg 15) ∷ Do (operation.Prim 0 prim.Equal (at (Reg 3) ∷ number (pos 0) ∷ [])) ∷ IfFalse 0 ∷ Do (operation.Operand (number (pos 7))) ∷ Jump 1
+    (Copy (Slot 0) (Reg 15) ∷ Do (operation.Prim 0 prim.Equal (at (Reg 3) ∷ number (pos 0) ∷ [])) ∷ IfFalse 0 ∷ Do
+    (operation.Operand (number (pos 7))) ∷ Jump 1
     ∷ Label 0 ∷ Do (operation.Prim 1 prim.Subtract (at (Reg 3) ∷ number (pos 1) ∷ [])) ∷ Store (Reg 3) ∷ again)
 
 abbrev deeper : Source

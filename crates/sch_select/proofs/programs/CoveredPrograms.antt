@@ -1,5 +1,6 @@
 -- A valid frame program that is covered is selected.
-use Rattle.std.proofs.Common.{◌≡◌, ℕ, zero, suc, ◌+◌, ◌<◌, ◌≤◌, List, [], ◌∷◌, ◌++◌, length, Option, Some, None, Bool, true, false, refl, sym, ap, ◌∙◌, subst, arith, ◌&&◌, ◌||◌, eq-eqb}
+use Rattle.std.proofs.Common.{◌≡◌, ℕ, zero, suc, ◌+◌, ◌<◌, ◌≤◌, List, [], ◌∷◌, ◌++◌, length, Option, Some, None}
+use Rattle.std.proofs.Common.{Bool, true, false, refl, sym, ap, ◌∙◌, subst, arith, ◌&&◌, ◌||◌, eq-eqb}
 use Rattle.std.specs.Prelude.{not, nat_eq, nat_le, nat_lt, slice_get}
 use Rattle.std.specs.List.{list_all}
 use Rattle.std.proofs.lemmas.Bool.{and_parts, and_from, leb-true, le-leb, ltb-true, lt-ltb, eqb-true}
@@ -25,19 +26,31 @@ use Rattle.sch_control.specs.declared.operation.Member.{Member}
 use Rattle.sch_control.specs.declared.operation.Operation.{Operation}
 use Rattle.sch_frames.specs.Tree.{Code}
 use Rattle.sch_frames.specs.Run.{entries_of}
-use Rattle.sch_select.proofs.programs.Selected.{takes, atom_selected, read_selected, operand_selected, source_selected, closure_selected, members_selected, primitive_selected, operation_selected, instruction_selected, form_selected, members_few, operation_few, labels_few, selects, fits}
-use Rattle.sch_select.specs.Covered.{is_covered_source, is_covered_closure, is_covered_group, is_covered_operation, is_covered_instruction, is_covered_code, is_covered_program, can_be_entered, marks_settled, max_library, without_calls}
+use Rattle.sch_select.proofs.programs.Selected.{takes, atom_selected, read_selected, operand_selected}
+use Rattle.sch_select.proofs.programs.Selected.{source_selected, closure_selected, members_selected}
+use Rattle.sch_select.proofs.programs.Selected.{primitive_selected, operation_selected, instruction_selected}
+use Rattle.sch_select.proofs.programs.Selected.{form_selected, members_few, operation_few, labels_few, selects, fits}
+use Rattle.sch_frames.specs.CallFree.{marks_settled}
+use Rattle.sch_select.specs.Covered.{is_covered_source, is_covered_closure, is_covered_group, is_covered_operation}
+use Rattle.sch_select.specs.Covered.{is_covered_instruction, is_covered_code, is_covered_program, can_be_entered}
+use Rattle.sch_select.specs.Covered.{max_library, without_calls}
 use Rattle.sch_control.specs.declared.operation.Operation.TheVariants as operation
 use Rattle.sch_control.specs.Parts.{operand_atoms, operands_atoms, operation_atoms, source_atom, source_atoms, member_atoms}
 use Rattle.sch_control.specs.Straight.{is_straight_atom, is_straight_operand}
-use Rattle.sch_control.specs.Valid.{Names, only_reads, operand_shaped, operands_shaped, operation_shaped, closure_shaped, members_shaped, atom_known, atoms_known, global_known, closure_known, members_known, label_known, operation_known, enters, entry_shaped, without_fields}
+use Rattle.sch_control.specs.Valid.{Names, only_reads, operand_shaped, operands_shaped, operation_shaped}
+use Rattle.sch_control.specs.Valid.{closure_shaped, members_shaped, atom_known, atoms_known, global_known}
+use Rattle.sch_control.specs.Valid.{closure_known, members_known, label_known, operation_known, enters, entry_shaped}
+use Rattle.sch_control.specs.Valid.{without_fields}
 use Rattle.sch_frames.specs.declared.body.FrameBody.{FrameBody}
 use Rattle.sch_frames.specs.declared.instruction.Instruction.{Instruction}
-use Rattle.sch_frames.specs.declared.instruction.Instruction.TheVariants.{Do, Store, Copy, Load, Pass, Fix, Call, Tail, Return, End, IfFalse, Jump, Label, Mark}
+use Rattle.sch_frames.specs.declared.instruction.Instruction.TheVariants.{Do, Store, Copy, Load, Pass, Fix, Call}
+use Rattle.sch_frames.specs.declared.instruction.Instruction.TheVariants.{Tail, Return, End, IfFalse, Jump, Label}
+use Rattle.sch_frames.specs.declared.instruction.Instruction.TheVariants.{Mark}
 use Rattle.sch_frames.specs.declared.program.FrameProgram.{FrameProgram}
 use Rattle.sch_frames.specs.ProgramView as view
 use Rattle.sch_frames.specs.SourceView.{codes_of}
-use Rattle.sch_frames.specs.Valid.{is_place, is_atom, are_members, call_shaped, formals_of, handed_over, instruction_placed, instruction_shaped, instruction_known, names_of}
+use Rattle.sch_frames.specs.Valid.{is_place, is_atom, are_members, call_shaped, formals_of, handed_over}
+use Rattle.sch_frames.specs.Valid.{instruction_placed, instruction_shaped, instruction_known, names_of}
 
 -- ## Counts of operands
 
@@ -55,15 +68,19 @@ none which e =
     let l = leb-true 1 (operands_of which) (some_operands which) in
     omega (arith, i, l)
 
-many : (which : Primitive) (n : ℕ) → 3 ≤ n → is_straight_primitive which ≡ true → nat_eq n (operands_of which) ≡ true → ⊥
+many : (which : Primitive) (n : ℕ) → 3 ≤ n → is_straight_primitive which ≡ true → nat_eq n (operands_of which) ≡ true
+    → ⊥
 many which n le s e =
     let i = eqb-true n (operands_of which) e in
     let l = le-leb 3 (operands_of which) (omega (arith, i, le)) in
-    let bad : true ≡ false = sym (and_from (is_straight_primitive which) (nat_le 3 (operands_of which)) s l) ∙ two_operands which in
+    let bad : true ≡ false = sym (and_from (is_straight_primitive which) (nat_le 3 (operands_of which)) s l)
+    ∙ two_operands which in
     absurd cc
 
-counted : (count : ℕ) (which : Primitive) → is_straight_primitive which ≡ true → nat_eq count (operands_of which) ≡ true → takes count which ≡ true
-counted count which s e = and_from (is_straight_primitive which) (nat_eq (operands_of which) count) s (eq-eqb (operands_of which) count (sym (eqb-true count (operands_of which) e)))
+counted : (count : ℕ) (which : Primitive) → is_straight_primitive which ≡ true
+    → nat_eq count (operands_of which) ≡ true → takes count which ≡ true
+counted count which s e = and_from (is_straight_primitive which) (nat_eq (operands_of which) count) s
+    (eq-eqb (operands_of which) count (sym (eqb-true count (operands_of which) e)))
 
 -- ## Operations
 
@@ -72,26 +89,36 @@ module _ (w words : ℕ) (names : Names) (narrow : w ≤ words) where
   place_taken (Reg r) e = e
   place_taken (Slot j) e = let lt = ltb-true j w e in lt-ltb j words (omega (arith, lt, narrow))
 
-  atom_taken : (a : Atom Place) → is_straight_atom a ≡ true → is_atom w a ≡ true → atom_known names.symbols names.literals a ≡ true → atom_selected words names.globals a ≡ true
-  atom_taken (Constant c) s p k = and_from (is_constant c) (is_straight_constant c) (and_parts (constant_known names.symbols c) (is_constant c) k).1 s
+  atom_taken : (a : Atom Place) → is_straight_atom a ≡ true → is_atom w a ≡ true
+      → atom_known names.symbols names.literals a ≡ true → atom_selected words names.globals a ≡ true
+  atom_taken (Constant c) s p k = and_from (is_constant c) (is_straight_constant c)
+      (and_parts (constant_known names.symbols c) (is_constant c) k).1 s
   atom_taken (Literal n) s p k = absurd cc
   atom_taken (Variable q) s p k = place_taken q p
 
-  read_taken : (which : Primitive) (atoms : List (Atom Place)) → is_straight_primitive which ≡ true → only_reads which ≡ true → nat_eq (length atoms) (operands_of which) ≡ true
-      → list_all is_straight_atom atoms ≡ true → list_all (is_atom w) atoms ≡ true → atoms_known names atoms ≡ true → read_selected words names.globals which atoms ≡ true
+  read_taken : (which : Primitive) (atoms : List (Atom Place)) → is_straight_primitive which ≡ true
+      → only_reads which ≡ true → nat_eq (length atoms) (operands_of which) ≡ true
+      → list_all is_straight_atom atoms ≡ true → list_all (is_atom w) atoms ≡ true → atoms_known names atoms ≡ true
+      → read_selected words names.globals which atoms ≡ true
   read_taken which [] s r n a p k = absurd (none which n)
   read_taken which (x ∷ []) s r n a p k =
-      and_from (only_reads which && takes 1 which) (atom_selected words names.globals x) (and_from (only_reads which) (takes 1 which) r (counted 1 which s n))
+      and_from (only_reads which && takes 1 which) (atom_selected words names.globals x)
+      (and_from (only_reads which) (takes 1 which) r (counted 1 which s n))
       (atom_taken x (and_parts _ _ a).0 (and_parts _ _ p).0 (and_parts _ _ k).0)
   read_taken which (x ∷ (y ∷ [])) s r n a p k =
       let a' = and_parts _ _ a in
       let p' = and_parts _ _ p in
       let k' = and_parts _ _ k in
-      and_from (takes 2 which) (atom_selected words names.globals x && atom_selected words names.globals y) (counted 2 which s n)
-      (and_from (atom_selected words names.globals x) (atom_selected words names.globals y) (atom_taken x a'.0 p'.0 k'.0) (atom_taken y (and_parts _ _ a'.1).0 (and_parts _ _ p'.1).0 (and_parts _ _ k'.1).0))
-  read_taken which (x ∷ (y ∷ (z ∷ atoms))) s r n a p k = absurd (many which (length (x ∷ (y ∷ (z ∷ atoms)))) (omega arith) s n)
+      and_from (takes 2 which) (atom_selected words names.globals x && atom_selected words names.globals y)
+      (counted 2 which s n)
+      (and_from (atom_selected words names.globals x) (atom_selected words names.globals y)
+      (atom_taken x a'.0 p'.0 k'.0) (atom_taken y (and_parts _ _ a'.1).0 (and_parts _ _ p'.1).0
+      (and_parts _ _ k'.1).0))
+  read_taken which (x ∷ (y ∷ (z ∷ atoms))) s r n a p k = absurd
+      (many which (length (x ∷ (y ∷ (z ∷ atoms)))) (omega arith) s n)
 
-  operand_taken : (o : Operand Place) → is_straight_operand o ≡ true → operand_shaped o ≡ true → list_all (is_atom w) (operand_atoms o) ≡ true → atoms_known names (operand_atoms o) ≡ true
+  operand_taken : (o : Operand Place) → is_straight_operand o ≡ true → operand_shaped o ≡ true
+      → list_all (is_atom w) (operand_atoms o) ≡ true → atoms_known names (operand_atoms o) ≡ true
       → operand_selected words names.globals o ≡ true
   operand_taken (operand.Atom a) s h p k = atom_taken a s (and_parts _ _ p).0 (and_parts _ _ k).0
   operand_taken (operand.Read site which atoms) s h p k =
@@ -106,18 +133,22 @@ module _ (w words : ℕ) (names : Names) (narrow : w ≤ words) where
     placed : list_all (is_atom w) (operands_atoms operands) ≡ true
     known : atoms_known names (operands_atoms operands) ≡ true
 
-  placed_split : (xs ys : List (Atom Place)) → list_all (is_atom w) (xs ++ ys) ≡ true → (list_all (is_atom w) xs ≡ true) × (list_all (is_atom w) ys ≡ true)
+  placed_split : (xs ys : List (Atom Place)) → list_all (is_atom w) (xs ++ ys) ≡ true
+      → (list_all (is_atom w) xs ≡ true) × (list_all (is_atom w) ys ≡ true)
   placed_split [] ys h = (refl, h)
   placed_split (x ∷ xs) ys h = let p = and_parts _ _ h in let q = placed_split xs ys p.1 in (and_from _ _ p.0 q.0, q.1)
 
-  known_split : (xs ys : List (Atom Place)) → atoms_known names (xs ++ ys) ≡ true → (atoms_known names xs ≡ true) × (atoms_known names ys ≡ true)
+  known_split : (xs ys : List (Atom Place)) → atoms_known names (xs ++ ys) ≡ true → (atoms_known names xs ≡ true)
+      × (atoms_known names ys ≡ true)
   known_split [] ys h = (refl, h)
   known_split (x ∷ xs) ys h = let p = and_parts _ _ h in let q = known_split xs ys p.1 in (and_from _ _ p.0 q.0, q.1)
 
-  first_taken : (o : Operand Place) (operands : List (Operand Place)) → Operands (o ∷ operands) → operand_selected words names.globals o ≡ true
+  first_taken : (o : Operand Place) (operands : List (Operand Place)) → Operands (o ∷ operands)
+      → operand_selected words names.globals o ≡ true
   first_taken o operands h =
       operand_taken o (and_parts _ _ h.straight).0 (and_parts _ _ h.shaped).0
-      (placed_split (operand_atoms o) (operands_atoms operands) h.placed).0 (known_split (operand_atoms o) (operands_atoms operands) h.known).0
+      (placed_split (operand_atoms o) (operands_atoms operands) h.placed).0
+      (known_split (operand_atoms o) (operands_atoms operands) h.known).0
 
   others : (o : Operand Place) (operands : List (Operand Place)) → Operands (o ∷ operands) → Operands operands
   others o operands h = record {
@@ -127,22 +158,30 @@ module _ (w words : ℕ) (names : Names) (narrow : w ≤ words) where
     known = (known_split (operand_atoms o) (operands_atoms operands) h.known).1;
   }
 
-  primitive_taken : (which : Primitive) (operands : List (Operand Place)) → is_straight_primitive which ≡ true → nat_eq (length operands) (operands_of which) ≡ true → Operands operands
+  primitive_taken : (which : Primitive) (operands : List (Operand Place)) → is_straight_primitive which ≡ true
+      → nat_eq (length operands) (operands_of which) ≡ true → Operands operands
       → primitive_selected words names.globals which operands ≡ true
   primitive_taken which [] s n h = absurd (none which n)
-  primitive_taken which (o ∷ []) s n h = and_from (takes 1 which) (operand_selected words names.globals o) (counted 1 which s n) (first_taken o [] h)
+  primitive_taken which (o ∷ []) s n h = and_from (takes 1 which) (operand_selected words names.globals o)
+      (counted 1 which s n) (first_taken o [] h)
   primitive_taken which (o ∷ (q ∷ [])) s n h =
-      and_from (takes 2 which) (operand_selected words names.globals o && operand_selected words names.globals q) (counted 2 which s n)
-      (and_from (operand_selected words names.globals o) (operand_selected words names.globals q) (first_taken o (q ∷ []) h) (first_taken q [] (others o (q ∷ []) h)))
-  primitive_taken which (o ∷ (q ∷ (r ∷ operands))) s n h = absurd (many which (length (o ∷ (q ∷ (r ∷ operands)))) (omega arith) s n)
+      and_from (takes 2 which) (operand_selected words names.globals o && operand_selected words names.globals q)
+      (counted 2 which s n)
+      (and_from (operand_selected words names.globals o) (operand_selected words names.globals q)
+      (first_taken o (q ∷ []) h) (first_taken q [] (others o (q ∷ []) h)))
+  primitive_taken which (o ∷ (q ∷ (r ∷ operands))) s n h = absurd
+      (many which (length (o ∷ (q ∷ (r ∷ operands)))) (omega arith) s n)
 
   -- ## Closures
 
-  source_taken : (x : Source Place) → is_covered_source x ≡ true → is_atom w (source_atom x) ≡ true → atom_known names.symbols names.literals (source_atom x) ≡ true → source_selected words names.globals x ≡ true
+  source_taken : (x : Source Place) → is_covered_source x ≡ true → is_atom w (source_atom x) ≡ true
+      → atom_known names.symbols names.literals (source_atom x) ≡ true → source_selected words names.globals x ≡ true
   source_taken (source.Atom a) s p k = atom_taken a s p k
   source_taken (source.Field q n) s p k = and_from (is_place words q) (nat_lt n 1000) (place_taken q p) s
 
-  sources_taken : (sources : List (Source Place)) → list_all is_covered_source sources ≡ true → list_all (is_atom w) (source_atoms sources) ≡ true → atoms_known names (source_atoms sources) ≡ true → list_all (source_selected words names.globals) sources ≡ true
+  sources_taken : (sources : List (Source Place)) → list_all is_covered_source sources ≡ true
+      → list_all (is_atom w) (source_atoms sources) ≡ true → atoms_known names (source_atoms sources) ≡ true
+      → list_all (source_selected words names.globals) sources ≡ true
   sources_taken [] s p k = refl
   sources_taken (x ∷ sources) s p k =
       let s' = and_parts _ _ s in
@@ -150,10 +189,15 @@ module _ (w words : ℕ) (names : Names) (narrow : w ≤ words) where
       let k' = and_parts _ _ k in
       and_from _ _ (source_taken x s'.0 p'.0 k'.0) (sources_taken sources s'.1 p'.1 k'.1)
 
-  closure_taken : (c : Closure Place) → is_covered_closure c ≡ true → closure_shaped c ≡ true → list_all (is_atom w) (source_atoms c.fields) ≡ true → atoms_known names (source_atoms c.fields) ≡ true → closure_selected words names.globals c ≡ true
-  closure_taken c s h p k = and_from (nat_le (length c.fields) 1000) (list_all (source_selected words names.globals) c.fields) h (sources_taken c.fields s p k)
+  closure_taken : (c : Closure Place) → is_covered_closure c ≡ true → closure_shaped c ≡ true
+      → list_all (is_atom w) (source_atoms c.fields) ≡ true → atoms_known names (source_atoms c.fields) ≡ true
+      → closure_selected words names.globals c ≡ true
+  closure_taken c s h p k = and_from (nat_le (length c.fields) 1000)
+      (list_all (source_selected words names.globals) c.fields) h (sources_taken c.fields s p k)
 
-  members_taken : (members : List (Member Place)) → is_covered_group members ≡ true → members_shaped members ≡ true → are_members w members ≡ true → list_all (is_atom w) (member_atoms members) ≡ true → atoms_known names (member_atoms members) ≡ true → members_selected words names.globals members ≡ true
+  members_taken : (members : List (Member Place)) → is_covered_group members ≡ true → members_shaped members ≡ true
+      → are_members w members ≡ true → list_all (is_atom w) (member_atoms members) ≡ true
+      → atoms_known names (member_atoms members) ≡ true → members_selected words names.globals members ≡ true
   members_taken [] s h a p k = refl
   members_taken (m ∷ members) s h a p k =
       let s' = and_parts (is_covered_closure m.closure) (is_covered_group members) s in
@@ -161,41 +205,57 @@ module _ (w words : ℕ) (names : Names) (narrow : w ≤ words) where
       let a' = and_parts (is_place w m.at) (are_members w members) a in
       let p' = placed_split (source_atoms m.closure.fields) (member_atoms members) p in
       let k' = known_split (source_atoms m.closure.fields) (member_atoms members) k in
-      and_from (is_place words m.at) (closure_selected words names.globals m.closure && members_selected words names.globals members) (place_taken m.at a'.0)
-      (and_from (closure_selected words names.globals m.closure) (members_selected words names.globals members) (closure_taken m.closure s'.0 h'.0 p'.0 k'.0) (members_taken members s'.1 h'.1 a'.1 p'.1 k'.1))
+      and_from (is_place words m.at) (closure_selected words names.globals m.closure && members_selected words
+      names.globals members) (place_taken m.at a'.0)
+      (and_from (closure_selected words names.globals m.closure) (members_selected words names.globals members)
+      (closure_taken m.closure s'.0 h'.0 p'.0 k'.0) (members_taken members s'.1 h'.1 a'.1 p'.1 k'.1))
 
-  operation_taken : (o : Operation Place) → is_covered_operation o ≡ true → operation_shaped o ≡ true → list_all (is_atom w) (operation_atoms o) ≡ true → operation_known names o ≡ true
+  operation_taken : (o : Operation Place) → is_covered_operation o ≡ true → operation_shaped o ≡ true
+      → list_all (is_atom w) (operation_atoms o) ≡ true → operation_known names o ≡ true
       → operation_selected words names.globals o ≡ true
   operation_taken (operation.Operand o) s h p k = operand_taken o s h p (and_parts _ _ k).0
   operation_taken (operation.Prim site which operands) s h p k =
       let s' = and_parts (is_straight_primitive which) (list_all is_straight_operand operands) s in
       let h' = and_parts (nat_eq (length operands) (operands_of which)) (operands_shaped operands) h in
-      primitive_taken which operands s'.0 h'.0 (record { straight = s'.1; shaped = h'.1; placed = p; known = (and_parts _ _ k).0 })
+      primitive_taken which operands s'.0 h'.0
+      (record { straight = s'.1; shaped = h'.1; placed = p; known = (and_parts _ _ k).0 })
   operation_taken (operation.Global g) s h p k = (and_parts (nat_lt g names.globals) true k).0
   operation_taken (operation.SetGlobal g o) s h p k =
       let k' = and_parts (atoms_known names (operand_atoms o)) (nat_lt g names.globals && true) k in
-      and_from (nat_lt g names.globals) (operand_selected words names.globals o) (and_parts (nat_lt g names.globals) true k'.1).0 (operand_taken o s h p k'.0)
-  operation_taken (operation.Field q n) s h p k = and_from (is_place words q) (nat_lt n 1000) (place_taken q (and_parts _ _ p).0) s
-  operation_taken (operation.NewCell x) s h p k = source_taken x s (and_parts _ _ p).0 (and_parts _ _ (and_parts _ _ k).0).0
+      and_from (nat_lt g names.globals) (operand_selected words names.globals o)
+      (and_parts (nat_lt g names.globals) true k'.1).0 (operand_taken o s h p k'.0)
+  operation_taken (operation.Field q n) s h p k = and_from (is_place words q) (nat_lt n 1000)
+      (place_taken q (and_parts _ _ p).0) s
+  operation_taken (operation.NewCell x) s h p k = source_taken x s (and_parts _ _ p).0
+      (and_parts _ _ (and_parts _ _ k).0).0
   operation_taken operation.UnsetCell s h p k = refl
-  operation_taken (operation.CellGet x) s h p k = source_taken x s (and_parts _ _ p).0 (and_parts _ _ (and_parts _ _ k).0).0
+  operation_taken (operation.CellGet x) s h p k = source_taken x s (and_parts _ _ p).0
+      (and_parts _ _ (and_parts _ _ k).0).0
   operation_taken (operation.CellSet x o) s h p k =
       let s' = and_parts (is_covered_source x) (is_straight_operand o) s in
       let p' = and_parts (is_atom w (source_atom x)) (list_all (is_atom w) (operand_atoms o)) p in
-      let k' = and_parts (atom_known names.symbols names.literals (source_atom x)) (atoms_known names (operand_atoms o)) (and_parts (atoms_known names (source_atom x ∷ operand_atoms o)) _ k).0 in
-      and_from (source_selected words names.globals x) (operand_selected words names.globals o) (source_taken x s'.0 p'.0 k'.0) (operand_taken o s'.1 h p'.1 k'.1)
-  operation_taken (operation.MakeClosure c) s h p k = closure_taken c s h p (and_parts (atoms_known names (source_atoms c.fields)) _ k).0
+      let k' = and_parts (atom_known names.symbols names.literals (source_atom x))
+      (atoms_known names (operand_atoms o)) (and_parts (atoms_known names (source_atom x ∷ operand_atoms o)) _
+      k).0 in
+      and_from (source_selected words names.globals x) (operand_selected words names.globals o)
+      (source_taken x s'.0 p'.0 k'.0) (operand_taken o s'.1 h p'.1 k'.1)
+  operation_taken (operation.MakeClosure c) s h p k = closure_taken c s h p
+      (and_parts (atoms_known names (source_atoms c.fields)) _ k).0
 
   -- ## Bodies
 
   -- the operands of a call
-  call_taken : (spread : Bool) (count : ℕ) → not spread ≡ true → handed_over w count ≡ true → call_shaped spread count ≡ true
+  call_taken : (spread : Bool) (count : ℕ) → not spread ≡ true → handed_over w count ≡ true
+      → call_shaped spread count ≡ true
       → (not spread && (nat_le count max_operands && handed_over words count)) ≡ true
   call_taken spread count s p h =
       let le = leb-true count (6 + w) p in
-      and_from (not spread) _ s (and_from (nat_le count max_operands) (handed_over words count) (and_parts (nat_le count max_operands) (not spread || nat_le 1 count) h).0 (le-leb count (6 + words) (omega (arith, le, narrow))))
+      and_from (not spread) _ s (and_from (nat_le count max_operands) (handed_over words count)
+      (and_parts (nat_le count max_operands) (not spread || nat_le 1 count) h).0
+      (le-leb count (6 + words) (omega (arith, le, narrow))))
 
-  instruction_taken : (i : Instruction) → is_covered_instruction i ≡ true → instruction_placed w i ≡ true → instruction_shaped i ≡ true → instruction_known names i ≡ true
+  instruction_taken : (i : Instruction) → is_covered_instruction i ≡ true → instruction_placed w i ≡ true
+      → instruction_shaped i ≡ true → instruction_known names i ≡ true
       → instruction_selected words names.globals i ≡ true
   instruction_taken (Do o) s p h k = operation_taken o s h p k
   instruction_taken (Store q) s p h k = place_taken q p
@@ -204,18 +264,21 @@ module _ (w words : ℕ) (names : Names) (narrow : w ≤ words) where
       and_from (is_place words to) (is_place words from) (place_taken to p'.0) (place_taken from p'.1)
   instruction_taken (Load q o) s p h k =
       let p' = and_parts (is_place w q) (list_all (is_atom w) (operand_atoms o)) p in
-      and_from (is_place words q) (operand_selected words names.globals o) (place_taken q p'.0) (operand_taken o s h p'.1 k)
+      and_from (is_place words q) (operand_selected words names.globals o) (place_taken q p'.0)
+      (operand_taken o s h p'.1 k)
   instruction_taken (Pass j o) s p h k =
       let p' = and_parts (nat_lt j w) (list_all (is_atom w) (operand_atoms o)) p in
       let lt = ltb-true j w p'.0 in
-      and_from (nat_lt j words) (operand_selected words names.globals o) (lt-ltb j words (omega (arith, lt, narrow))) (operand_taken o s h p'.1 k)
+      and_from (nat_lt j words) (operand_selected words names.globals o) (lt-ltb j words (omega (arith, lt, narrow)))
+      (operand_taken o s h p'.1 k)
   instruction_taken (Call spread count) s p h k = call_taken spread count s p h
   instruction_taken (Tail spread count) s p h k = call_taken spread count s p h
   instruction_taken (Fix members) s p h k =
       let p' = and_parts (are_members w members) (list_all (is_atom w) (member_atoms members)) p in
       let h' = and_parts (nat_le (length members) 200) (members_shaped members) h in
       let k' = and_parts (atoms_known names (member_atoms members)) (members_known names.entries members) k in
-      and_from (nat_le (length members) 200) (members_selected words names.globals members) h'.0 (members_taken members s h'.1 p'.0 p'.1 k'.0)
+      and_from (nat_le (length members) 200) (members_selected words names.globals members) h'.0
+      (members_taken members s h'.1 p'.0 p'.1 k'.0)
   instruction_taken Return s p h k = refl
   instruction_taken End s p h k = refl
   instruction_taken (IfFalse l) s p h k = refl
@@ -223,7 +286,8 @@ module _ (w words : ℕ) (names : Names) (narrow : w ≤ words) where
   instruction_taken (Label l) s p h k = refl
   instruction_taken (Mark m) s p h k = refl
 
-  instructions_taken : (is : List Instruction) → list_all is_covered_instruction is ≡ true → list_all (instruction_placed w) is ≡ true → list_all instruction_shaped is ≡ true
+  instructions_taken : (is : List Instruction) → list_all is_covered_instruction is ≡ true
+      → list_all (instruction_placed w) is ≡ true → list_all instruction_shaped is ≡ true
       → list_all (instruction_known names) is ≡ true → list_all (instruction_selected words names.globals) is ≡ true
   instructions_taken [] s p h k = refl
   instructions_taken (i ∷ is) s p h k =
@@ -237,8 +301,11 @@ formals_few : (o : Option Entry) → entry_shaped o ≡ true → nat_le (formals
 formals_few None e = refl
 formals_few (Some q) e = (and_parts (nat_le q.formals max_operands) _ e).0
 
-forms_taken : (words : ℕ) (names : Names) (bodies : List FrameBody) → list_all is_covered_code (codes_of bodies) ≡ true → list_all (λ c. list_all (instruction_known names) c.instructions) (codes_of bodies) ≡ true
-    → list_all (λ c. nat_le c.words words) (codes_of bodies) ≡ true → list_all (form_selected words names.globals) (codes_of bodies) ≡ true
+forms_taken : (words : ℕ) (names : Names) (bodies : List FrameBody)
+    → list_all is_covered_code (codes_of bodies) ≡ true
+    → list_all (λ c. list_all (instruction_known names) c.instructions) (codes_of bodies) ≡ true
+    → list_all (λ c. nat_le c.words words) (codes_of bodies) ≡ true
+    → list_all (form_selected words names.globals) (codes_of bodies) ≡ true
 forms_taken words names [] s k l = refl
 forms_taken words names (b ∷ bodies) s k l =
     let s' = and_parts _ _ s in
@@ -246,18 +313,23 @@ forms_taken words names (b ∷ bodies) s k l =
     let l' = and_parts _ _ l in
     let form = and_parts (list_all is_covered_instruction b.instructions) (marks_settled true b.instructions) s'.0 in
     let placed = and_parts _ _ (and_parts _ _ b.placed).1 in
-    and_from _ _ (and_from _ _ (formals_few b.entry (and_parts _ _ b.shaped).0) (instructions_taken b.words words names (leb-true b.words words l'.0) b.instructions form.0 placed.1 (and_parts _ _ b.shaped).1 k'.0)) (forms_taken words names bodies s'.1 k'.1 l'.1)
+    and_from _ _ (and_from _ _ (formals_few b.entry (and_parts _ _ b.shaped).0)
+    (instructions_taken b.words words names (leb-true b.words words l'.0) b.instructions form.0 placed.1
+    (and_parts _ _ b.shaped).1 k'.0)) (forms_taken words names bodies s'.1 k'.1 l'.1)
 
-forms_settled : (codes : List Code) → list_all is_covered_code codes ≡ true → list_all (λ c. marks_settled true c.instructions) codes ≡ true
+forms_settled : (codes : List Code) → list_all is_covered_code codes ≡ true
+    → list_all (λ c. marks_settled true c.instructions) codes ≡ true
 forms_settled [] s = refl
 forms_settled (c ∷ codes) s =
     let s' = and_parts (is_covered_code c) (list_all is_covered_code codes) s in
-    and_from _ _ (and_parts (list_all is_covered_instruction c.instructions) (marks_settled true c.instructions) s'.0).1 (forms_settled codes s'.1)
+    and_from _ _ (and_parts (list_all is_covered_instruction c.instructions) (marks_settled true c.instructions)
+    s'.0).1 (forms_settled codes s'.1)
 
 -- ## Labels
 
 -- an entry that there is
-entered : (entries : List (Option Entry)) (label fields : ℕ) → enters (slice_get entries label) fields ≡ true → label < length entries
+entered : (entries : List (Option Entry)) (label fields : ℕ) → enters (slice_get entries label) fields ≡ true
+    → label < length entries
 entered [] label fields e = absurd (let bad : false ≡ true = e in cc)
 entered (x ∷ entries) zero fields e = omega arith
 entered (x ∷ entries) (suc label) fields e = let h = entered entries label fields e in omega (arith, h)
@@ -267,12 +339,15 @@ entries_count [] = refl
 entries_count (c ∷ codes) = ap suc (entries_count codes)
 
 module _ (names : Names) where
-  closure_few : (c : Closure Place) → closure_known names.entries c ≡ true → nat_lt c.label (length names.entries) ≡ true
+  closure_few : (c : Closure Place) → closure_known names.entries c ≡ true
+      → nat_lt c.label (length names.entries) ≡ true
   closure_few c k = lt-ltb c.label (length names.entries) (entered names.entries c.label (length c.fields) k)
 
-  group_few : (members : List (Member Place)) → members_known names.entries members ≡ true → members_few (length names.entries) members ≡ true
+  group_few : (members : List (Member Place)) → members_known names.entries members ≡ true
+      → members_few (length names.entries) members ≡ true
   group_few [] k = refl
-  group_few (m ∷ members) k = let p = and_parts (closure_known names.entries m.closure) (members_known names.entries members) k in and_from _ _ (closure_few m.closure p.0) (group_few members p.1)
+  group_few (m ∷ members) k = let p = and_parts (closure_known names.entries m.closure)
+      (members_known names.entries members) k in and_from _ _ (closure_few m.closure p.0) (group_few members p.1)
 
   one_few : (o : Operation Place) → label_known names.entries o ≡ true → operation_few (length names.entries) o ≡ true
   one_few (operation.MakeClosure c) k = closure_few c k
@@ -280,28 +355,39 @@ module _ (names : Names) where
   one_few _ k = refl
 
   instruction_few : (i : Instruction) → instruction_known names i ≡ true → labels_few (length names.entries) i ≡ true
-  instruction_few (Do o) k = one_few o (and_parts (global_known names.globals o) (label_known names.entries o) (and_parts (atoms_known names (operation_atoms o)) _ k).1).1
-  instruction_few (Fix members) k = group_few members (and_parts (atoms_known names (member_atoms members)) (members_known names.entries members) k).1
+  instruction_few (Do o) k = one_few o (and_parts (global_known names.globals o) (label_known names.entries o)
+      (and_parts (atoms_known names (operation_atoms o)) _ k).1).1
+  instruction_few (Fix members) k = group_few members
+      (and_parts (atoms_known names (member_atoms members)) (members_known names.entries members) k).1
   instruction_few (Store q) k = refl
   instruction_few _ k = refl
 
-  body_few : (is : List Instruction) → list_all (instruction_known names) is ≡ true → list_all (labels_few (length names.entries)) is ≡ true
+  body_few : (is : List Instruction) → list_all (instruction_known names) is ≡ true
+      → list_all (labels_few (length names.entries)) is ≡ true
   body_few [] k = refl
   body_few (i ∷ is) k = let p = and_parts _ _ k in and_from _ _ (instruction_few i p.0) (body_few is p.1)
 
-  bodies_few : (codes : List Code) → list_all (λ c. list_all (instruction_known names) c.instructions) codes ≡ true → list_all (λ c. list_all (labels_few (length names.entries)) c.instructions) codes ≡ true
+  bodies_few : (codes : List Code) → list_all (λ c. list_all (instruction_known names) c.instructions) codes ≡ true
+      → list_all (λ c. list_all (labels_few (length names.entries)) c.instructions) codes ≡ true
   bodies_few [] k = refl
-  bodies_few (c ∷ codes) k = let p = and_parts _ _ k in and_from _ _ (body_few c.instructions p.0) (bodies_few codes p.1)
+  bodies_few (c ∷ codes) k = let p = and_parts _ _ k in and_from _ _ (body_few c.instructions p.0)
+      (bodies_few codes p.1)
 
-library_few_by : (entries : List (Option Entry)) (library : List ℕ) → without_fields entries library ≡ true → list_all (λ l. nat_lt l (length entries)) library ≡ true
+library_few_by : (entries : List (Option Entry)) (library : List ℕ) → without_fields entries library ≡ true
+    → list_all (λ l. nat_lt l (length entries)) library ≡ true
 library_few_by entries [] k = refl
-library_few_by entries (l ∷ library) k = let p = and_parts (enters (slice_get entries l) 0) (without_fields entries library) k in and_from _ _ (lt-ltb l (length entries) (entered entries l 0 p.0)) (library_few_by entries library p.1)
+library_few_by entries (l ∷ library) k = let p = and_parts (enters (slice_get entries l) 0)
+    (without_fields entries library) k in and_from _ _ (lt-ltb l (length entries) (entered entries l 0 p.0))
+    (library_few_by entries library p.1)
 
-pub labels_known : (p : FrameProgram) → list_all (λ c. list_all (labels_few (length (codes_of p.bodies))) c.instructions) (codes_of p.bodies) ≡ true
-labels_known p = subst (λ n. list_all (λ c. list_all (labels_few n) c.instructions) (codes_of p.bodies) ≡ true) (entries_count (codes_of p.bodies)) (bodies_few (names_of (view.source p)) (codes_of p.bodies) p.known)
+pub labels_known : (p : FrameProgram) → list_all (λ c. list_all (labels_few (length (codes_of p.bodies)))
+    c.instructions) (codes_of p.bodies) ≡ true
+labels_known p = subst (λ n. list_all (λ c. list_all (labels_few n) c.instructions) (codes_of p.bodies) ≡ true)
+    (entries_count (codes_of p.bodies)) (bodies_few (names_of (view.source p)) (codes_of p.bodies) p.known)
 
 pub procedures_known : (p : FrameProgram) → list_all (λ l. nat_lt l (length (codes_of p.bodies))) p.library ≡ true
-procedures_known p = subst (λ n. list_all (λ l. nat_lt l n) p.library ≡ true) (entries_count (codes_of p.bodies)) (library_few_by (entries_of (codes_of p.bodies)) p.library p.free)
+procedures_known p = subst (λ n. list_all (λ l. nat_lt l n) p.library ≡ true) (entries_count (codes_of p.bodies))
+    (library_few_by (entries_of (codes_of p.bodies)) p.library p.free)
 
 -- ## Programs
 
@@ -312,25 +398,34 @@ pub globals_known : (p : FrameProgram) → library_known (length p.library) p.st
 globals_known p =
     let q = view.source p in
     let valid = (and_parts (statics_valid (length p.library) q.statics) (statics_in_range q.statics) p.ready).0 in
-    let few = and_parts (nat_le (statics_size q.statics) max_statics) (literals_known (length q.statics.symbols) q.statics.literals && library_known (length p.library) q.statics.globals) valid in
-    (and_parts (literals_known (length q.statics.symbols) q.statics.literals) (library_known (length p.library) q.statics.globals) few.1).1
+    let few = and_parts (nat_le (statics_size q.statics) max_statics)
+    (literals_known (length q.statics.symbols) q.statics.literals && library_known (length p.library)
+    q.statics.globals) valid in
+    (and_parts (literals_known (length q.statics.symbols) q.statics.literals)
+    (library_known (length p.library) q.statics.globals) few.1).1
 
 pub covered_selected : (p : FrameProgram) → is_covered_program (view.source p) ≡ true → selects (view.source p) ≡ true
 covered_selected p s =
     let q = view.source p in
-    let s' = and_parts (list_all is_covered_code q.bodies) (list_all without_calls q.bodies || list_all can_be_entered q.bodies) (and_parts (nat_le (length p.library) max_library) _ s).1 in
+    let s' = and_parts (list_all is_covered_code q.bodies)
+    (list_all without_calls q.bodies || list_all can_be_entered q.bodies)
+    (and_parts (nat_le (length p.library) max_library) _ s).1 in
     let within = and_parts (nat_le p.words 2048) (list_all (λ c. nat_le c.words p.words) q.bodies) p.within in
-    and_from (list_all (form_selected p.words (length p.statics.globals)) q.bodies) (list_all (λ c. marks_settled true c.instructions) q.bodies)
+    and_from (list_all (form_selected p.words (length p.statics.globals)) q.bodies)
+    (list_all (λ c. marks_settled true c.instructions) q.bodies)
     (forms_taken p.words (names_of q) p.bodies s'.0 p.known within.1)
     (forms_settled q.bodies s'.0)
 
-pub calls_fitting : (p : FrameProgram) → is_covered_program (view.source p) ≡ true → (calls : Bool) × (list_all (fits calls) (codes_of p.bodies) ≡ true)
-calls_fitting p s = by (list_all without_calls codes) (list_all can_be_entered codes) refl refl (and_parts (list_all is_covered_code codes) _ (and_parts (nat_le (length p.library) max_library) _ s).1).1
+pub calls_fitting : (p : FrameProgram) → is_covered_program (view.source p) ≡ true → (calls : Bool)
+    × (list_all (fits calls) (codes_of p.bodies) ≡ true)
+calls_fitting p s = by (list_all without_calls codes) (list_all can_be_entered codes) refl refl
+    (and_parts (list_all is_covered_code codes) _ (and_parts (nat_le (length p.library) max_library) _ s).1).1
   where
     codes : List Code
     codes = codes_of p.bodies
 
-    by : (a b : Bool) → list_all without_calls codes ≡ a → list_all can_be_entered codes ≡ b → (a || b) ≡ true → (calls : Bool) × (list_all (fits calls) codes ≡ true)
+    by : (a b : Bool) → list_all without_calls codes ≡ a → list_all can_be_entered codes ≡ b → (a || b) ≡ true
+        → (calls : Bool) × (list_all (fits calls) codes ≡ true)
     by true b e f h = (false, e)
     by false true e f h = (true, f)
     by false false e f h = absurd (let bad : false ≡ true = h in cc)

@@ -55,7 +55,9 @@ text_of items =
 
 -- how a program ends within 400 steps, with a limit of the heap
 abbrev ends_in : (heap : ℕ) → Source → List Answer → Option (ℕ × List ℕ)
-ends_in heap p answers = exit_of (mach 400 (start 0x400000 (text_at (text_of (items_of heap p)) ∷ data_at (flat_map (bytes_of (λ l. 0)) (program_words p) ++ replicate (program_zeros p heap 1) 0) ∷ []) zeros answers))
+ends_in heap p answers = exit_of
+    (mach 400 (start 0x400000 (text_at (text_of (items_of heap p)) ∷ data_at
+    (flat_map (bytes_of (λ l. 0)) (program_words p) ++ replicate (program_zeros p heap 1) 0) ∷ []) zeros answers))
 
 abbrev ends : Source → List Answer → Option (ℕ × List ℕ)
 ends = ends_in 16
@@ -68,7 +70,8 @@ abbrev puts : Operand Place → List Instruction
 puts o = Do (operation.Prim 0 prim.Put (o ∷ [])) ∷ End ∷ []
 
 abbrev shows : Primitive → ℤ → ℤ → Source
-shows which a b = one_form 0 (Do (operation.Prim 1 which (number a ∷ number b ∷ [])) ∷ Store (Slot 1) ∷ puts (operand.Atom (Variable (Slot 1))))
+shows which a b = one_form 0 (Do (operation.Prim 1 which (number a ∷ number b ∷ [])) ∷ Store (Slot 1) ∷ puts
+    (operand.Atom (Variable (Slot 1))))
 
 products :
     (is_covered_program (shows prim.Multiply (pos 6) (negsuc 6)) ≡ true)
@@ -90,9 +93,12 @@ divisions = (refl, refl, refl, refl, refl)
 
 -- a comparison, and the two arms of a test of it
 abbrev chooses : ℤ → ℤ → Source
-chooses a b = one_form 2 (Do (operation.Prim 0 prim.Less (number a ∷ number b ∷ [])) ∷ IfFalse 0 ∷ Do (operation.Prim 1 prim.Put (number (pos 1) ∷ [])) ∷ Jump 1 ∷ Label 0 ∷ Do (operation.Prim 2 prim.Put (number (pos 2) ∷ [])) ∷ Label 1 ∷ End ∷ [])
+chooses a b = one_form 2 (Do (operation.Prim 0 prim.Less (number a ∷ number b ∷ [])) ∷ IfFalse 0 ∷ Do
+    (operation.Prim 1 prim.Put (number (pos 1) ∷ [])) ∷ Jump 1 ∷ Label 0 ∷ Do
+    (operation.Prim 2 prim.Put (number (pos 2) ∷ [])) ∷ Label 1 ∷ End ∷ [])
 
-tests : (ends (chooses (negsuc 0) (pos 0)) [] ≡ Some (0, codes "1")) × (ends (chooses (pos 0) (pos 0)) [] ≡ Some (0, codes "2"))
+tests : (ends (chooses (negsuc 0) (pos 0)) [] ≡ Some (0, codes "1"))
+    × (ends (chooses (pos 0) (pos 0)) [] ≡ Some (0, codes "2"))
 unfolding escaped_of narrow_of operand_of rexed_of wide_of long_of test_of
 tests = (refl, refl)
 
@@ -115,7 +121,8 @@ abbrev one_of : Primitive → Const → Source
 one_of which c = one_form 0 (Do (operation.Prim 0 which (operand.Atom (Constant c) ∷ [])) ∷ End ∷ [])
 
 stops :
-    (ends (one_form 0 (Do (operation.Prim 0 prim.Quotient (operand.Atom (Constant Nil) ∷ number (pos 0) ∷ [])) ∷ End ∷ [])) [] ≡ Some (65, []))
+    (ends (one_form 0 (Do (operation.Prim 0 prim.Quotient (operand.Atom (Constant Nil) ∷ number (pos 0) ∷ [])) ∷ End ∷
+    [])) [] ≡ Some (65, []))
     × (ends (one_of prim.IntegerToChar (Fixnum (pos 256))) [] ≡ Some (66, []))
     × (ends (one_of prim.IntegerToChar (Fixnum (negsuc 0))) [] ≡ Some (66, []))
     × (ends (one_of prim.CharToInteger (Boolean true)) [] ≡ Some (65, []))
@@ -137,7 +144,9 @@ shown k = puts (operand.Atom (Variable (Slot k)))
 
 -- two cells with 1 and 2; the first is set to 3, and the cell in this slot is read
 abbrev two_cells : ℕ → Source
-two_cells k = one_form 0 (Do (operation.NewCell (fixed (pos 1))) ∷ Store (Slot 0) ∷ Do (operation.NewCell (fixed (pos 2))) ∷ Store (Slot 1) ∷ Do (operation.CellSet (slot 0) (number (pos 3))) ∷ Do (operation.CellGet (slot k)) ∷ Store (Slot 0) ∷ shown 0)
+two_cells k = one_form 0 (Do (operation.NewCell (fixed (pos 1))) ∷ Store (Slot 0) ∷ Do
+    (operation.NewCell (fixed (pos 2))) ∷ Store (Slot 1) ∷ Do (operation.CellSet (slot 0) (number (pos 3))) ∷ Do
+    (operation.CellGet (slot k)) ∷ Store (Slot 0) ∷ shown 0)
 
 -- a cell that is unset, and no cell
 abbrev unset : Source
@@ -165,17 +174,28 @@ abbrev with_procedure : List Instruction → Source
 with_procedure instructions = record {
   statics = record { symbols = []; literals = no_literals; globals = Some 0 ∷ [] };
   library = 1 ∷ [];
-  bodies = record { entry = None; words = 2; labels = 0; instructions = instructions } ∷ record { entry = Some (record { formals = 0; rest = false; fields = 2 }); words = 2; labels = 0; instructions = Do (operation.Field (Reg 14) 1) ∷ Return ∷ [] } ∷ [];
+  bodies = record { entry = None; words = 2; labels = 0; instructions = instructions } ∷ record {
+    entry = Some (record { formals = 0; rest = false; fields = 2 });
+    words = 2;
+    labels = 0;
+    instructions = Do
+        (operation.Field (Reg 14) 1) ∷ Return ∷ [];
+  } ∷ [];
   words = 2;
 }
 
 -- a closure with two fields, of which this one is put
 abbrev captures : ℕ → Source
-captures k = with_procedure (Do (operation.MakeClosure (record { label = 1; fields = fixed (pos 5) ∷ fixed (pos 6) ∷ [] })) ∷ Store (Slot 0) ∷ Do (operation.Field (Slot 0) k) ∷ Store (Slot 1) ∷ shown 1)
+captures k = with_procedure
+    (Do (operation.MakeClosure (record { label = 1; fields = fixed (pos 5) ∷ fixed (pos 6) ∷ [] })) ∷ Store (Slot 0) ∷
+    Do (operation.Field (Slot 0) k) ∷ Store (Slot 1) ∷ shown 1)
 
 -- two that know one another: the second field of the first's first field
 abbrev group : Source
-group = with_procedure (Fix (record { at = Slot 0; closure = record { label = 1; fields = slot 1 ∷ fixed (pos 3) ∷ [] } } ∷ record { at = Slot 1; closure = record { label = 1; fields = slot 0 ∷ fixed (pos 4) ∷ [] } } ∷ []) ∷ Do (operation.Field (Slot 0) 0) ∷ Store (Slot 0) ∷ Do (operation.Field (Slot 0) 1) ∷ Store (Slot 1) ∷ shown 1)
+group = with_procedure (Fix
+    (record { at = Slot 0; closure = record { label = 1; fields = slot 1 ∷ fixed (pos 3) ∷ [] } } ∷ record
+    { at = Slot 1; closure = record { label = 1; fields = slot 0 ∷ fixed (pos 4) ∷ [] } } ∷ []) ∷ Do
+    (operation.Field (Slot 0) 0) ∷ Store (Slot 0) ∷ Do (operation.Field (Slot 0) 1) ∷ Store (Slot 1) ∷ shown 1)
 
 abbrev library : Source
 library = with_procedure (Do (operation.Global 0) ∷ Store (Slot 1) ∷ shown 1)

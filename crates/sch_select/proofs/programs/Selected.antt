@@ -20,11 +20,14 @@ use Rattle.sch_control.specs.declared.operation.Operation.{Operation}
 use Rattle.sch_control.specs.declared.operation.Operation.TheVariants as operation
 use Rattle.sch_control.specs.Valid.{only_reads}
 use Rattle.sch_frames.specs.declared.instruction.Instruction.{Instruction}
-use Rattle.sch_frames.specs.declared.instruction.Instruction.TheVariants.{Do, Store, Copy, Load, Pass, Fix, Call, Tail, Return, End, IfFalse, Jump, Label, Mark}
+use Rattle.sch_frames.specs.declared.instruction.Instruction.TheVariants.{Do, Store, Copy, Load, Pass, Fix, Call}
+use Rattle.sch_frames.specs.declared.instruction.Instruction.TheVariants.{Tail, Return, End, IfFalse, Jump, Label}
+use Rattle.sch_frames.specs.declared.instruction.Instruction.TheVariants.{Mark}
 use Rattle.sch_frames.specs.Tree.{Code}
 use Rattle.sch_frames.specs.Tree as tree
 use Rattle.sch_frames.specs.Valid.{formals_of, handed_over, is_place}
-use Rattle.sch_select.specs.Covered.{can_be_entered, marks_settled, without_calls}
+use Rattle.sch_frames.specs.CallFree.{marks_settled}
+use Rattle.sch_select.specs.Covered.{can_be_entered, without_calls}
 
 -- a straight primitive of n operands
 abbrev pub takes : ℕ → Primitive → Bool
@@ -112,4 +115,5 @@ labels_few count (Fix members) = members_few count members
 labels_few count _ = true
 
 abbrev pub selects : tree.Source → Bool
-selects p = list_all (form_selected p.words (length p.statics.globals)) p.bodies && list_all (λ c. marks_settled true c.instructions) p.bodies
+selects p = list_all (form_selected p.words (length p.statics.globals)) p.bodies && list_all
+    (λ c. marks_settled true c.instructions) p.bodies

@@ -13,7 +13,9 @@ use Rattle.sch_frames.specs.declared.instruction.Instruction.{Instruction}
 use Rattle.sch_frames.specs.declared.instruction.Instruction.TheVariants.{Do, Store, End, IfFalse, Jump, Label}
 use Rattle.sch_frames.specs.Straight.{begins_with_operation, is_straight_instruction, is_straight_code, is_straight_program}
 use Rattle.sch_frames.specs.Tree.{Code, Source}
-use Rattle.sch_select.specs.Covered.{is_covered_operation, is_covered_instruction, is_covered_code, is_covered_program, marks_settled, max_library, may_stand, without_calls}
+use Rattle.sch_frames.specs.CallFree.{marks_settled}
+use Rattle.sch_select.specs.Covered.{is_covered_operation, is_covered_instruction, is_covered_code}
+use Rattle.sch_select.specs.Covered.{is_covered_program, max_library, may_stand, without_calls}
 use Rattle.sch_select.specs.Sizes.{grouped, jumped, closures_in}
 
 operation_covered : (o : Operation Place) → is_straight_operation o ≡ true → is_covered_operation o ≡ true
@@ -28,9 +30,11 @@ operation_covered (operation.CellGet c) s = absurd (let bad : false ≡ true = s
 operation_covered (operation.CellSet c o) s = absurd (let bad : false ≡ true = s in cc)
 operation_covered (operation.MakeClosure c) s = absurd (let bad : false ≡ true = s in cc)
 
-instructions_covered : (is : List Instruction) → list_all is_straight_instruction is ≡ true → list_all is_covered_instruction is ≡ true
+instructions_covered : (is : List Instruction) → list_all is_straight_instruction is ≡ true
+    → list_all is_covered_instruction is ≡ true
 instructions_covered [] s = refl
-instructions_covered (Do o ∷ is) s = let p = and_parts _ _ s in and_from _ _ (operation_covered o p.0) (instructions_covered is p.1)
+instructions_covered (Do o ∷ is) s = let p = and_parts _ _ s in and_from _ _ (operation_covered o p.0)
+    (instructions_covered is p.1)
 instructions_covered (Store q ∷ is) s = instructions_covered is s
 instructions_covered (End ∷ is) s = instructions_covered is s
 instructions_covered (IfFalse l ∷ is) s = instructions_covered is s
@@ -48,7 +52,8 @@ all_settled (Jump l ∷ is) s = all_settled is s
 all_settled (Label l ∷ is) s = all_settled is s
 all_settled (_ ∷ is) s = absurd cc
 
-form_settled : (is : List Instruction) → begins_with_operation is ≡ true → list_all is_straight_instruction is ≡ true → marks_settled true is ≡ true
+form_settled : (is : List Instruction) → begins_with_operation is ≡ true → list_all is_straight_instruction is ≡ true
+    → marks_settled true is ≡ true
 form_settled [] f s = absurd cc
 form_settled (Do o ∷ is) f s = all_settled is (and_parts _ _ s).1
 form_settled (_ ∷ is) f s = absurd cc
@@ -65,8 +70,10 @@ no_groups (_ ∷ is) s = absurd cc
 
 code_covered : (c : Code) → is_straight_code c ≡ true → is_covered_code c ≡ true
 code_covered c s =
-    let form = and_parts (is_form c.entry) (begins_with_operation c.instructions && list_all is_straight_instruction c.instructions) s in
-    let body = and_parts (begins_with_operation c.instructions) (list_all is_straight_instruction c.instructions) form.1 in
+    let form = and_parts (is_form c.entry) (begins_with_operation c.instructions && list_all is_straight_instruction
+    c.instructions) s in
+    let body = and_parts (begins_with_operation c.instructions) (list_all is_straight_instruction c.instructions)
+    form.1 in
     and_from _ _ (instructions_covered c.instructions body.1) (form_settled c.instructions body.0 body.1)
 
 codes_covered : (codes : List Code) → list_all is_straight_code codes ≡ true → list_all is_covered_code codes ≡ true
@@ -81,12 +88,15 @@ no_closures : (codes : List Code) → list_all is_straight_code codes ≡ true �
 no_closures [] s = refl
 no_closures (c ∷ codes) s =
     let p = and_parts (is_straight_code c) (list_all is_straight_code codes) s in
-    let form = and_parts (is_form c.entry) (begins_with_operation c.instructions && list_all is_straight_instruction c.instructions) p.0 in
-    let body = and_parts (begins_with_operation c.instructions) (list_all is_straight_instruction c.instructions) form.1 in
+    let form = and_parts (is_form c.entry) (begins_with_operation c.instructions && list_all is_straight_instruction
+    c.instructions) p.0 in
+    let body = and_parts (begins_with_operation c.instructions) (list_all is_straight_instruction c.instructions)
+    form.1 in
     let j = no_jump c.entry form.0 in let g = no_groups c.instructions body.1 in let r = no_closures codes p.1 in
     omega (arith, j, g, r)
 
-callless : (is : List Instruction) → list_all is_straight_instruction is ≡ true → list_all (may_stand false true) is ≡ true
+callless : (is : List Instruction) → list_all is_straight_instruction is ≡ true
+    → list_all (may_stand false true) is ≡ true
 callless [] s = refl
 callless (Do o ∷ is) s = callless is (and_parts _ _ s).1
 callless (Store p ∷ is) s = callless is s
@@ -100,9 +110,12 @@ codes_callless : (codes : List Code) → list_all is_straight_code codes ≡ tru
 codes_callless [] s = refl
 codes_callless (c ∷ codes) s =
     let p = and_parts (is_straight_code c) (list_all is_straight_code codes) s in
-    let form = and_parts (is_form c.entry) (begins_with_operation c.instructions && list_all is_straight_instruction c.instructions) p.0 in
-    let body = and_parts (begins_with_operation c.instructions) (list_all is_straight_instruction c.instructions) form.1 in
-    and_from (without_calls c) (list_all without_calls codes) (callless c.instructions body.1) (codes_callless codes p.1)
+    let form = and_parts (is_form c.entry) (begins_with_operation c.instructions && list_all is_straight_instruction
+    c.instructions) p.0 in
+    let body = and_parts (begins_with_operation c.instructions) (list_all is_straight_instruction c.instructions)
+    form.1 in
+    and_from (without_calls c) (list_all without_calls codes) (callless c.instructions body.1)
+    (codes_callless codes p.1)
 
 or_from : (a b : Bool) → a ≡ true → (a || b) ≡ true
 or_from a b e = ap (λ a. a || b) e
@@ -115,7 +128,8 @@ small_library (n ∷ library) e = absurd (let bad : false ≡ true = e in cc)
 pub straight_covered : (p : Source) → is_straight_program p ≡ true → is_covered_program p ≡ true
 straight_covered p s =
     let s' = and_parts (is_empty p.library) (list_all is_straight_code p.bodies) s in
-    and_from _ _ (small_library p.library s'.0) (and_from _ _ (codes_covered p.bodies s'.1) (or_from _ _ (codes_callless p.bodies s'.1)))
+    and_from _ _ (small_library p.library s'.0) (and_from _ _ (codes_covered p.bodies s'.1)
+    (or_from _ _ (codes_callless p.bodies s'.1)))
 
 pub straight_closures : (p : Source) → is_straight_program p ≡ true → closures_in p.bodies ≡ 0
 straight_closures p s = no_closures p.bodies (and_parts (is_empty p.library) (list_all is_straight_code p.bodies) s).1

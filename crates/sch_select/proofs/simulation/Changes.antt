@@ -1,5 +1,6 @@
 -- The relation of a store and of an activation to the machine, after a global is written and after a routine.
-use Rattle.std.proofs.Common.{◌≡◌, ℕ, ◌+◌, ◌-◌, ◌*◌, ◌^◌, ◌<◌, ◌≤◌, List, length, take, drop, Bool, true, false, Option, Some, refl, sym, ap, ◌∙◌, subst, arith, ◌==◌, ⊎_elim, inl, inr, ◌⊎◌}
+use Rattle.std.proofs.Common.{◌≡◌, ℕ, ◌+◌, ◌-◌, ◌*◌, ◌^◌, ◌<◌, ◌≤◌, List, length, take, drop, Bool, true, false}
+use Rattle.std.proofs.Common.{Option, Some, refl, sym, ap, ◌∙◌, subst, arith, ◌==◌, ⊎_elim, inl, inr, ◌⊎◌}
 use Rattle.std.specs.Prelude.{slice_get, slice_set}
 use Rattle.std.specs.Int.{w64, from_le_bytes}
 use Rattle.std.proofs.lemmas.Bool.{eqb-true, eqb-false, cases_lt}
@@ -23,22 +24,29 @@ use Rattle.sch_select.proofs.simulation.Places.{Plan, code_of, Activation, Store
 
 -- ---- words behind the routines' own
 
-pub word_behind : (bytes bytes' : List ℕ) (a : ℕ) → drop 512 bytes' ≡ drop 512 bytes → 0x10000200 ≤ a → word_in bytes' a ≡ word_in bytes a
+pub word_behind : (bytes bytes' : List ℕ) (a : ℕ) → drop 512 bytes' ≡ drop 512 bytes → 0x10000200 ≤ a
+    → word_in bytes' a ≡ word_in bytes a
 word_behind bytes bytes' a e le =
     let k = a - 0x10000200 in
     let at : 512 + k ≡ a - 0x10000000 = omega (arith, le) in
-    let cut : (xs : List ℕ) → drop (a - 0x10000000) xs ≡ drop k (drop 512 xs) = λ xs. ap (λ n. drop n xs) (sym at) ∙ sym (drop-drop k 512 xs) in
+    let cut : (xs : List ℕ) → drop (a - 0x10000000) xs ≡ drop k (drop 512 xs) = λ xs. ap (λ n. drop n xs) (sym at)
+    ∙ sym (drop-drop k 512 xs) in
     ap (from_le_bytes w64) (cut bytes' ∙ ap (drop k) e ∙ sym (cut bytes))
 
 module _ (plan : Plan) where
   open plan use {setting, size, words, globals, heap, stack, static, heap_low, stack_low, small, narrow, labels}
 
-  pub global_inside : (g : ℕ) (bytes : List ℕ) → g < globals → heap ≤ 0x10000000 + size → length bytes ≡ size → Inside (length bytes) (global_address g)
+  pub global_inside : (g : ℕ) (bytes : List ℕ) → g < globals → heap ≤ 0x10000000 + size → length bytes ≡ size
+      → Inside (length bytes) (global_address g)
   global_inside g bytes lt le e = let h = heap_low in record { low = omega arith; high = omega (arith, h, lt, le, e) }
 
   -- ---- a global has a value
 
-  pub global_written : (parts : Parts) (s : State Procedure) (g : ℕ) (v : Value) (x : ℕ) (bytes output : List ℕ) (answers : List Answer) → g < globals → heap ≤ 0x10000000 + size → IsWord parts v x → StoreAt plan parts s bytes output answers → StoreAt plan parts (record s { store = record s.store { globals = slice_set s.store.globals g (Some v) } }) (with_word bytes (global_address g) x) output answers
+  pub global_written : (parts : Parts) (s : State Procedure) (g : ℕ) (v : Value) (x : ℕ) (bytes output : List ℕ)
+      (answers : List Answer) → g < globals → heap ≤ 0x10000000 + size → IsWord parts v x
+      → StoreAt plan parts s bytes output answers → StoreAt plan parts
+      (record s { store = record s.store { globals = slice_set s.store.globals g (Some v) } })
+      (with_word bytes (global_address g) x) output answers
   global_written parts s g v x bytes output answers lt le h at =
       let within = global_inside g bytes lt le at.size_is in
       let b = at.begins in let cl = plan.closures_low in
@@ -53,28 +61,39 @@ module _ (plan : Plan) where
         count = length-set s.store.globals g (Some v) ∙ at.count;
         global = λ k o e. by k o e (k == g) refl;
         texts = before_word bytes (global_address g) x 512 288 within (omega arith) ∙ at.texts;
-        contents = heap_kept (code_of plan) parts s.cells s.procedures bytes (with_word bytes (global_address g) x) (λ a lo hi. word_other bytes (global_address g) x a within (omega (arith, lo, b, cl)) (inr (omega (arith, lo, b, cl, lt)))) at.contents;
+        contents = heap_kept (code_of plan) parts s.cells s.procedures bytes (with_word bytes (global_address g) x)
+            (λ a lo hi. word_other bytes (global_address g) x a within (omega (arith, lo, b, cl))
+            (inr (omega (arith, lo, b, cl, lt)))) at.contents;
         new = at.new;
       }
     where
-      by : (k : ℕ) (o : Option Value) → slice_get (slice_set s.store.globals g (Some v)) k ≡ Some o → (b : Bool) → (k == g) ≡ b → IsHeld parts o (word_in (with_word bytes (global_address g) x) (global_address k))
+      by : (k : ℕ) (o : Option Value) → slice_get (slice_set s.store.globals g (Some v)) k ≡ Some o → (b : Bool)
+          → (k == g) ≡ b → IsHeld parts o (word_in (with_word bytes (global_address g) x) (global_address k))
       by k o e true b =
           let same : k ≡ g = eqb-true k g b in
           let c = at.count in
-          let put : Some (Some v) ≡ Some o = sym (set_same s.store.globals g (Some v) (omega (arith, c, lt))) ∙ ap (slice_get (slice_set s.store.globals g (Some v))) (sym same) ∙ e in
+          let put : Some (Some v) ≡ Some o = sym (set_same s.store.globals g (Some v) (omega (arith, c, lt)))
+          ∙ ap (slice_get (slice_set s.store.globals g (Some v))) (sym same) ∙ e in
           let is : Some v ≡ o = cc in
           subst (λ o. IsHeld parts o (word_in (with_word bytes (global_address g) x) (global_address k))) is
           (subst (λ k. IsWord parts v (word_in (with_word bytes (global_address g) x) (global_address k))) (sym same)
-          (subst (IsWord parts v) (sym (word_same bytes (global_address g) x (global_inside g bytes lt le at.size_is) (fits parts v x h))) h))
+          (subst (IsWord parts v) (sym (word_same bytes (global_address g) x (global_inside g bytes lt le at.size_is)
+          (fits parts v x h))) h))
       by k o e false b =
           let ne = eqb-false k g b in
-          let far : (global_address k + 8 ≤ global_address g) ⊎ (global_address g + 8 ≤ global_address k) = ⊎_elim (λ lt. inl (omega (arith, lt))) (λ ge. ⊎_elim (λ lt. inr (omega (arith, lt))) (λ le. absurd (ne (omega (arith, ge, le)))) (cases_lt g k)) (cases_lt k g) in
-          subst (IsHeld parts o) (sym (word_other bytes (global_address g) x (global_address k) (global_inside g bytes lt le at.size_is) (omega arith) far))
+          let far : (global_address k + 8 ≤ global_address g) ⊎ (global_address g + 8 ≤ global_address k) = ⊎_elim
+          (λ lt. inl (omega (arith, lt))) (λ ge. ⊎_elim (λ lt. inr (omega (arith, lt)))
+          (λ le. absurd (ne (omega (arith, ge, le)))) (cases_lt g k)) (cases_lt k g) in
+          subst (IsHeld parts o) (sym (word_other bytes (global_address g) x (global_address k)
+          (global_inside g bytes lt le at.size_is) (omega arith) far))
           (at.global k o (sym (set_other s.store.globals g k (Some v) ne) ∙ e))
 
   -- ---- after a routine
 
-  pub store_behind : (parts : Parts) (s : State Procedure) (bytes bytes' output output' : List ℕ) (answers answers' : List Answer) → length bytes' ≡ length bytes → drop 512 bytes' ≡ drop 512 bytes → StoreAt plan parts s bytes output answers → StoreAt plan parts (record s { store = record s.store { output = output'; answers = answers' } }) bytes' output' answers'
+  pub store_behind : (parts : Parts) (s : State Procedure) (bytes bytes' output output' : List ℕ)
+      (answers answers' : List Answer) → length bytes' ≡ length bytes → drop 512 bytes' ≡ drop 512 bytes
+      → StoreAt plan parts s bytes output answers → StoreAt plan parts
+      (record s { store = record s.store { output = output'; answers = answers' } }) bytes' output' answers'
   store_behind parts s bytes bytes' output output' answers answers' n e at =
       let b = at.begins in let cl = plan.closures_low in
       record {
@@ -86,38 +105,60 @@ module _ (plan : Plan) where
         begins = at.begins;
         ends = at.ends;
         count = at.count;
-        global = λ k o g. subst (IsHeld parts o) (sym (word_behind bytes bytes' (global_address k) e (omega arith))) (at.global k o g);
+        global = λ k o g. subst (IsHeld parts o) (sym (word_behind bytes bytes' (global_address k) e (omega arith)))
+            (at.global k o g);
         texts = ap (take 288) e ∙ at.texts;
-        contents = heap_kept (code_of plan) parts s.cells s.procedures bytes bytes' (λ a lo hi. word_behind bytes bytes' a e (omega (arith, lo, b, cl))) at.contents;
+        contents = heap_kept (code_of plan) parts s.cells s.procedures bytes bytes'
+            (λ a lo hi. word_behind bytes bytes' a e (omega (arith, lo, b, cl))) at.contents;
         new = at.new;
       }
 
   module _ (act : Activation plan) where
     -- a store to a global leaves the frame
-    pub places_written : (parts : Parts) (charged : ℕ) (places : Place → Cell) (outgoing : ℕ → Cell) (registers : ℕ → ℕ) (bytes : List ℕ) (g x : ℕ) → g < globals → heap ≤ 0x10000000 + size → length bytes ≡ size → PlacesAt plan act parts charged places outgoing registers bytes → PlacesAt plan act parts charged places outgoing registers (with_word bytes (global_address g) x)
+    pub places_written : (parts : Parts) (charged : ℕ) (places : Place → Cell) (outgoing : ℕ → Cell)
+        (registers : ℕ → ℕ) (bytes : List ℕ) (g x : ℕ) → g < globals → heap ≤ 0x10000000 + size → length bytes ≡ size
+        → PlacesAt plan act parts charged places outgoing registers bytes
+        → PlacesAt plan act parts charged places outgoing registers (with_word bytes (global_address g) x)
     places_written parts charged places outgoing registers bytes g x lt le e p = record {
       frame = p.frame;
       depth = p.depth;
       free = p.free;
       register = p.register;
       slot = λ j lj. let low = act.room.low in let hl = heap_low in let sl = stack_low in
-          subst (Holds act.back parts (places (Slot j))) (sym (word_other bytes (global_address g) x (act.frame + 8 * j) (global_inside g bytes lt le e) (omega (arith, low, hl, sl)) (inr (omega (arith, low, hl, sl, lt))))) (p.slot j lj);
+          subst (Holds act.back parts (places (Slot j))) (sym
+          (word_other bytes (global_address g) x (act.frame + 8 * j) (global_inside g bytes lt le e)
+          (omega (arith, low, hl, sl)) (inr (omega (arith, low, hl, sl, lt))))) (p.slot j lj);
       next = λ j lj. let low = act.room.low in let hl = heap_low in let sl = stack_low in
-          subst (Holds act.back parts (outgoing j)) (sym (word_other bytes (global_address g) x (act.frame + 8 * (words + j)) (global_inside g bytes lt le e) (omega (arith, low, hl, sl)) (inr (omega (arith, low, hl, sl, lt))))) (p.next j lj);
+          subst (Holds act.back parts (outgoing j))
+          (sym (word_other bytes (global_address g) x (act.frame + 8 * (words + j))
+          (global_inside g bytes lt le e) (omega (arith, low, hl, sl)) (inr (omega (arith, low, hl, sl, lt)))))
+          (p.next j lj);
     }
 
-    pub below_written : (bytes : List ℕ) (g x : ℕ) → g < globals → heap ≤ 0x10000000 + size → length bytes ≡ size → (a : ℕ) → stack ≤ a → word_in (with_word bytes (global_address g) x) a ≡ word_in bytes a
-    below_written bytes g x lt le e a low = let hl = heap_low in let sl = stack_low in word_other bytes (global_address g) x a (global_inside g bytes lt le e) (omega (arith, low, hl, sl)) (inr (omega (arith, low, hl, sl, lt)))
+    pub below_written : (bytes : List ℕ) (g x : ℕ) → g < globals → heap ≤ 0x10000000 + size → length bytes ≡ size
+        → (a : ℕ) → stack ≤ a → word_in (with_word bytes (global_address g) x) a ≡ word_in bytes a
+    below_written bytes g x lt le e a low = let hl = heap_low in let sl = stack_low in word_other bytes
+        (global_address g) x a (global_inside g bytes lt le e) (omega (arith, low, hl, sl))
+        (inr (omega (arith, low, hl, sl, lt)))
 
     -- after a routine, which keeps registers whose words fit
-    pub places_behind : (parts : Parts) (charged : ℕ) (places : Place → Cell) (outgoing : ℕ → Cell) (registers registers' : ℕ → ℕ) (bytes bytes' : List ℕ) → heap + charged < 2 ^ 64 → ((r : ℕ) → is_scratch r ≡ false → registers r < 2 ^ 64 → registers' r ≡ registers r) → drop 512 bytes' ≡ drop 512 bytes → PlacesAt plan act parts charged places outgoing registers bytes → PlacesAt plan act parts charged places outgoing registers' bytes'
+    pub places_behind : (parts : Parts) (charged : ℕ) (places : Place → Cell) (outgoing : ℕ → Cell)
+        (registers registers' : ℕ → ℕ) (bytes bytes' : List ℕ) → heap + charged < 2 ^ 64
+        → ((r : ℕ) → is_scratch r ≡ false → registers r < 2 ^ 64 → registers' r ≡ registers r)
+        → drop 512 bytes' ≡ drop 512 bytes → PlacesAt plan act parts charged places outgoing registers bytes
+        → PlacesAt plan act parts charged places outgoing registers' bytes'
     places_behind parts charged places outgoing registers registers' bytes bytes' far k e p =
-        let low = act.room.low in let high = act.room.high in let s = small in let few = act.room.few in let f = p.frame in let dp = p.depth in let fe = p.free in
+        let low = act.room.low in let high = act.room.high in let s = small in let few = act.room.few in let f =
+        p.frame in let dp = p.depth in let fe = p.free in
         record {
           frame = k 5 refl (omega (arith, f, high, s)) ∙ p.frame;
           depth = k 13 refl (omega (arith, dp, few)) ∙ p.depth;
           free = k 12 refl (omega (arith, fe, far)) ∙ p.free;
-          register = λ r i. same_word act.back parts act.back_fits (places (Reg r)) (registers r) (registers' r) (p.register r i) (k r (no_scratch r i));
-          slot = λ j lj. let hl = heap_low in let sl = stack_low in subst (Holds act.back parts (places (Slot j))) (sym (word_behind bytes bytes' (act.frame + 8 * j) e (omega (arith, low, hl, sl)))) (p.slot j lj);
-          next = λ j lj. let hl = heap_low in let sl = stack_low in subst (Holds act.back parts (outgoing j)) (sym (word_behind bytes bytes' (act.frame + 8 * (words + j)) e (omega (arith, low, hl, sl)))) (p.next j lj);
+          register = λ r i. same_word act.back parts act.back_fits (places (Reg r)) (registers r) (registers' r)
+              (p.register r i) (k r (no_scratch r i));
+          slot = λ j lj. let hl = heap_low in let sl = stack_low in subst (Holds act.back parts (places (Slot j)))
+              (sym (word_behind bytes bytes' (act.frame + 8 * j) e (omega (arith, low, hl, sl)))) (p.slot j lj);
+          next = λ j lj. let hl = heap_low in let sl = stack_low in subst (Holds act.back parts (outgoing j))
+              (sym (word_behind bytes bytes' (act.frame + 8 * (words + j)) e (omega (arith, low, hl, sl))))
+              (p.next j lj);
         }

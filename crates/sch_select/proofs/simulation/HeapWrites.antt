@@ -1,5 +1,6 @@
 -- Words of the heap that are free are written, and become parts.
-use Rattle.std.proofs.Common.{◌≡◌, ℕ, ◌+◌, ◌*◌, ◌^◌, ◌<◌, ◌≤◌, List, ◌++◌, length, take, drop, false, Option, Some, refl, sym, ◌∙◌, subst, arith, ◌⊎◌, inl, inr, ◌==◌, length-append}
+use Rattle.std.proofs.Common.{◌≡◌, ℕ, ◌+◌, ◌*◌, ◌<◌, ◌≤◌, List, ◌++◌, length, take, drop, false, Option, Some, refl}
+use Rattle.std.proofs.Common.{sym, ◌∙◌, subst, arith, ◌⊎◌, inl, inr, ◌==◌, length-append}
 use Rattle.std.specs.Prelude.{slice_get, slice_set, nat_le}
 use Rattle.std.proofs.lemmas.Bool.Decides.{nat_tests}
 use Rattle.std.proofs.lemmas.List.{length-set}
@@ -30,7 +31,8 @@ pub record Wrote (from to : ℕ) (before after : List ℕ) : Type 0 where
 pub wrote_none : (from to : ℕ) (bytes : List ℕ) → Wrote from to bytes bytes
 wrote_none from to bytes = record { size = refl; other = λ a low far. refl; texts = refl }
 
-pub wrote_one : (from to a v : ℕ) (bytes : List ℕ) → Inside (length bytes) a → 0x10000320 ≤ a → from ≤ a → a + 8 ≤ to → Wrote from to bytes (with_word bytes a v)
+pub wrote_one : (from to a v : ℕ) (bytes : List ℕ) → Inside (length bytes) a → 0x10000320 ≤ a → from ≤ a → a + 8 ≤ to
+    → Wrote from to bytes (with_word bytes a v)
 wrote_one from to a v bytes within low lo hi = record {
   size = size_kept bytes a v within;
   other = λ b l far. word_other bytes a v b within l (by b far);
@@ -42,21 +44,44 @@ wrote_one from to a v bytes within low lo hi = record {
     by b (inr le) = inr (omega (arith, le, hi))
 
 pub wrote_then : (from to : ℕ) (a b c : List ℕ) → Wrote from to a b → Wrote from to b c → Wrote from to a c
-wrote_then from to a b c p q = record { size = q.size ∙ p.size; other = λ k low far. q.other k low far ∙ p.other k low far; texts = q.texts ∙ p.texts }
+wrote_then from to a b c p q = record {
+  size = q.size ∙ p.size;
+  other = λ k low far. q.other k low far ∙ p.other k low
+      far;
+  texts = q.texts ∙ p.texts;
+}
 
-pub wrote_within : (from to from' to' : ℕ) (before after : List ℕ) → from ≤ from' → to' ≤ to → Wrote from' to' before after → Wrote from to before after
-wrote_within from to from' to' before after lo hi p = record { size = p.size; other = λ k low far. p.other k low (by k far); texts = p.texts }
+pub wrote_within : (from to from' to' : ℕ) (before after : List ℕ) → from ≤ from' → to' ≤ to
+    → Wrote from' to' before after → Wrote from to before after
+wrote_within from to from' to' before after lo hi p = record
+    { size = p.size; other = λ k low far. p.other k low (by k far); texts = p.texts }
   where
     by : (b : ℕ) → (b + 8 ≤ from) ⊎ (to ≤ b) → (b + 8 ≤ from') ⊎ (to' ≤ b)
     by b (inl le) = inl (omega (arith, le, lo))
     by b (inr le) = inr (omega (arith, le, hi))
 
 module _ (plan : Plan) where
-  open plan use {setting, size, words, globals, closures, heap, stack, closures_low, heap_low, closures_high, stack_low, small, near}
+  open plan use {
+    setting,
+    size,
+    words,
+    globals,
+    closures,
+    heap,
+    stack,
+    closures_low,
+    heap_low,
+    closures_high,
+    stack_low,
+    small,
+    near,
+  }
 
   -- ---- the state and the frame stay
 
-  pub store_wrote : (parts : Parts) (s : State Procedure) (bytes bytes' : List ℕ) (output : List ℕ) (answers : List Answer) (from to : ℕ) → heap + s.store.charged ≤ from → to ≤ stack → Wrote from to bytes bytes' → StoreAt plan parts s bytes output answers → StoreAt plan parts s bytes' output answers
+  pub store_wrote : (parts : Parts) (s : State Procedure) (bytes bytes' : List ℕ) (output : List ℕ)
+      (answers : List Answer) (from to : ℕ) → heap + s.store.charged ≤ from → to ≤ stack → Wrote from to bytes bytes'
+      → StoreAt plan parts s bytes output answers → StoreAt plan parts s bytes' output answers
   store_wrote parts s bytes bytes' output answers from to lo hi p g =
       let b = g.begins in let e = g.ends in let cl = closures_low in let hl = heap_low in
       record {
@@ -69,17 +94,24 @@ module _ (plan : Plan) where
         ends = g.ends;
         count = g.count;
         global = λ k o i. let lt = slice_get_within s.store.globals k o i in let c = g.count in
-            subst (IsHeld parts o) (sym (p.other (global_address k) (omega arith) (inl (omega (arith, lt, c, lo, hl))))) (g.global k o i);
+            subst (IsHeld parts o) (sym (p.other (global_address k) (omega arith)
+            (inl (omega (arith, lt, c, lo, hl))))) (g.global k o i);
         texts = p.texts ∙ g.texts;
-        contents = heap_kept (code_of plan) parts s.cells s.procedures bytes bytes' (λ a l h. p.other a (omega (arith, l, b, cl)) (inl (omega (arith, h, e, lo)))) g.contents;
+        contents = heap_kept (code_of plan) parts s.cells s.procedures bytes bytes'
+            (λ a l h. p.other a (omega (arith, l, b, cl)) (inl (omega (arith, h, e, lo)))) g.contents;
         new = g.new;
       }
 
   module _ (act : Activation plan) where
-    pub heap_inside : (a : ℕ) (bytes : List ℕ) → length bytes ≡ size → closures ≤ a → a + 8 ≤ stack → Inside (length bytes) a
-    heap_inside a bytes e lo hi = let l = act.room.low in let h = act.room.high in let cl = closures_low in record { low = omega (arith, lo, cl); high = omega (arith, hi, l, h, e) }
+    pub heap_inside : (a : ℕ) (bytes : List ℕ) → length bytes ≡ size → closures ≤ a → a + 8 ≤ stack
+        → Inside (length bytes) a
+    heap_inside a bytes e lo hi = let l = act.room.low in let h = act.room.high in let cl = closures_low in record
+        { low = omega (arith, lo, cl); high = omega (arith, hi, l, h, e) }
 
-    pub places_wrote : (parts : Parts) (charged : ℕ) (places : Place → Cell) (outgoing : ℕ → Cell) (registers : ℕ → ℕ) (bytes bytes' : List ℕ) (from to : ℕ) → to ≤ stack → Wrote from to bytes bytes' → PlacesAt plan act parts charged places outgoing registers bytes → PlacesAt plan act parts charged places outgoing registers bytes'
+    pub places_wrote : (parts : Parts) (charged : ℕ) (places : Place → Cell) (outgoing : ℕ → Cell) (registers : ℕ → ℕ)
+        (bytes bytes' : List ℕ) (from to : ℕ) → to ≤ stack → Wrote from to bytes bytes'
+        → PlacesAt plan act parts charged places outgoing registers bytes
+        → PlacesAt plan act parts charged places outgoing registers bytes'
     places_wrote parts charged places outgoing registers bytes bytes' from to hi p f =
         let low = act.room.low in let hl = heap_low in let sl = stack_low in
         record {
@@ -87,29 +119,48 @@ module _ (plan : Plan) where
           depth = f.depth;
           free = f.free;
           register = f.register;
-          slot = λ j lj. subst (Holds act.back parts (places (Slot j))) (sym (p.other (act.frame + 8 * j) (omega (arith, low, hl, sl)) (inr (omega (arith, hi, low))))) (f.slot j lj);
-          next = λ j lj. subst (Holds act.back parts (outgoing j)) (sym (p.other (act.frame + 8 * (words + j)) (omega (arith, low, hl, sl)) (inr (omega (arith, hi, low))))) (f.next j lj);
+          slot = λ j lj. subst (Holds act.back parts (places (Slot j)))
+              (sym (p.other (act.frame + 8 * j) (omega (arith, low, hl, sl)) (inr (omega (arith, hi, low)))))
+              (f.slot j lj);
+          next = λ j lj. subst (Holds act.back parts (outgoing j))
+              (sym (p.other (act.frame + 8 * (words + j)) (omega (arith, low, hl, sl))
+              (inr (omega (arith, hi, low))))) (f.next j lj);
         }
 
     -- other parts, and another address of the next one
-    pub places_grown : (parts parts' : Parts) → Words parts parts' → (charged charged' : ℕ) (places : Place → Cell) (outgoing : ℕ → Cell) (registers registers' : ℕ → ℕ) (bytes : List ℕ) → ((k : ℕ) → (k == 12) ≡ false → registers' k ≡ registers k) → registers' 12 ≡ heap + charged' → PlacesAt plan act parts charged places outgoing registers bytes → PlacesAt plan act parts' charged' places outgoing registers' bytes
+    pub places_grown : (parts parts' : Parts) → Words parts parts'
+        → (charged charged' : ℕ) (places : Place → Cell) (outgoing : ℕ → Cell) (registers registers' : ℕ → ℕ)
+        (bytes : List ℕ) → ((k : ℕ) → (k == 12) ≡ false → registers' k ≡ registers k)
+        → registers' 12 ≡ heap + charged' → PlacesAt plan act parts charged places outgoing registers bytes
+        → PlacesAt plan act parts' charged' places outgoing registers' bytes
     places_grown parts parts' w charged charged' places outgoing registers registers' bytes kept at f = record {
       frame = kept 5 refl ∙ f.frame;
       depth = kept 13 refl ∙ f.depth;
       free = at;
-      register = λ r e. subst (Holds act.back parts' (places (Reg r))) (sym (kept r (not_register r 12 e refl))) (holds_words act.back parts parts' w (places (Reg r)) (registers r) (f.register r e));
+      register = λ r e. subst (Holds act.back parts' (places (Reg r))) (sym (kept r (not_register r 12 e refl)))
+          (holds_words act.back parts parts' w (places (Reg r)) (registers r) (f.register r e));
       slot = λ j lt. holds_words act.back parts parts' w (places (Slot j)) _ (f.slot j lt);
       next = λ j lt. holds_words act.back parts parts' w (outgoing j) _ (f.next j lt);
     }
 
   -- ---- the state with more parts
 
-  module _ (parts : Parts) (others : List Part) (s : State Procedure) (bytes : List ℕ) (output : List ℕ) (answers : List Answer) (total : ℕ) (taken : 16 * units others ≡ total) (room : heap + (s.store.charged + total) ≤ stack) (g : StoreAt plan parts s bytes output answers) where
+  module _ (parts : Parts) (others : List Part) (s : State Procedure) (bytes : List ℕ) (output : List ℕ)
+      (answers : List Answer) (total : ℕ) (taken : 16 * units others ≡ total)
+      (room : heap + (s.store.charged + total) ≤ stack) (g : StoreAt plan parts s bytes output answers) where
     -- the same with cells and procedures that have the new parts
-    pub store_grown : (cells : List (Option Value)) (made : List Procedure) → ((i : ℕ) (c : Option Value) → slice_get cells i ≡ Some c → CellAt (grown parts others) bytes (length s.cells + i) c)
-        → ((i : ℕ) (p : Procedure) → slice_get made i ≡ Some p → RecordAt (code_of plan) (grown parts others) bytes (length s.procedures + i) p)
+    pub store_grown : (cells : List (Option Value)) (made : List Procedure)
+        → ((i : ℕ) (c : Option Value) → slice_get cells i ≡ Some c
+        → CellAt (grown parts others) bytes (length s.cells + i) c)
+        → ((i : ℕ) (p : Procedure) → slice_get made i ≡ Some p
+        → RecordAt (code_of plan) (grown parts others) bytes (length s.procedures + i) p)
         → AreNew (grown parts others) (length s.cells + length cells) (length s.procedures + length made)
-        → StoreAt plan (grown parts others) (record { cells = s.cells ++ cells; store = record s.store { charged = s.store.charged + total }; procedures = s.procedures ++ made }) bytes output answers
+        → StoreAt plan (grown parts others)
+        (record {
+          cells = s.cells ++ cells;
+          store = record s.store { charged = s.store.charged + total };
+          procedures = s.procedures ++ made;
+        }) bytes output answers
     store_grown cells made c p new =
         let e = g.ends in let n = end_grown parts others in
         record {
@@ -124,19 +175,26 @@ module _ (plan : Plan) where
           global = λ k o i. held_words parts (grown parts others) (words_stay parts others) o _ (g.global k o i);
           texts = g.texts;
           contents = procedures_added (code_of plan) (grown parts others) (s.cells ++ cells) s.procedures made bytes p
-              (cells_added (code_of plan) (grown parts others) s.cells cells s.procedures bytes c (heap_grows (code_of plan) parts others s.cells s.procedures bytes g.contents));
-          new = subst (λ n. AreNew (grown parts others) n (length (s.procedures ++ made))) (sym (length-append s.cells cells)) (subst (AreNew (grown parts others) (length s.cells + length cells)) (sym (length-append s.procedures made)) new);
+              (cells_added (code_of plan) (grown parts others) s.cells cells s.procedures bytes c
+              (heap_grows (code_of plan) parts others s.cells s.procedures bytes g.contents));
+          new = subst (λ n. AreNew (grown parts others) n (length (s.procedures ++ made)))
+              (sym (length-append s.cells cells)) (subst (AreNew (grown parts others) (length s.cells + length cells))
+              (sym (length-append s.procedures made)) new);
         }
 
   -- ---- a cell is set
 
-  pub cell_written : (parts : Parts) (s : State Procedure) (bytes : List ℕ) (output : List ℕ) (answers : List Answer) (n : ℕ) (v : Value) (at : Spot) (x : ℕ) → n < length s.cells → spot parts (a_cell n) ≡ Some at → IsWord parts v x → stack ≤ 0x10000000 + size
-      → StoreAt plan parts s bytes output answers → StoreAt plan parts (record s { cells = slice_set s.cells n (Some v) }) (with_word bytes (16 * at.unit) x) output answers
+  pub cell_written : (parts : Parts) (s : State Procedure) (bytes : List ℕ) (output : List ℕ) (answers : List Answer)
+      (n : ℕ) (v : Value) (at : Spot) (x : ℕ) → n < length s.cells → spot parts (a_cell n) ≡ Some at
+      → IsWord parts v x → stack ≤ 0x10000000 + size
+      → StoreAt plan parts s bytes output answers → StoreAt plan parts
+      (record s { cells = slice_set s.cells n (Some v) }) (with_word bytes (16 * at.unit) x) output answers
   cell_written parts s bytes output answers n v at x lt there h top g =
       let w = spot_within parts (a_cell n) at there in
       let lo = w.0 in let hi = w.1 in
       let b = g.begins in let e = g.ends in let i = g.within in let cl = closures_low in let z = g.size_is in
-      let within : Inside (length bytes) (16 * at.unit) = record { low = omega (arith, lo, b, cl); high = omega (arith, hi, e, i, top, z) } in
+      let within : Inside (length bytes) (16 * at.unit) = record
+      { low = omega (arith, lo, b, cl); high = omega (arith, hi, e, i, top, z) } in
       record {
         size_is = size_kept bytes (16 * at.unit) x within ∙ g.size_is;
         printed = g.printed;
@@ -147,16 +205,22 @@ module _ (plan : Plan) where
         ends = g.ends;
         count = g.count;
         global = λ k o q. let l = slice_get_within s.store.globals k o q in let c = g.count in
-            subst (IsHeld parts o) (sym (word_other bytes (16 * at.unit) x (global_address k) within (omega arith) (inl (omega (arith, l, c, lo, b, cl))))) (g.global k o q);
+            subst (IsHeld parts o) (sym (word_other bytes (16 * at.unit) x (global_address k) within (omega arith)
+            (inl (omega (arith, l, c, lo, b, cl))))) (g.global k o q);
         texts = before_word bytes (16 * at.unit) x 512 288 within (omega (arith, lo, b, cl)) ∙ g.texts;
-        contents = cell_set (code_of plan) parts s.cells s.procedures bytes n (Some v) at x lt there h within (omega (arith, b, cl)) g.contents;
+        contents = cell_set (code_of plan) parts s.cells s.procedures bytes n (Some v) at x lt there h within
+            (omega (arith, b, cl)) g.contents;
         new = subst (λ n. AreNew parts n (length s.procedures)) (sym (length-set s.cells n (Some v))) g.new;
       }
 
   -- ---- whether the heap has room
 
-  pub room_tested : (parts : Parts) (s : State Procedure) (bytes : List ℕ) (output : List ℕ) (answers : List Answer) (n : ℕ) → StoreAt plan parts s bytes output answers → nat_le (heap + s.store.charged + n) stack ≡ nat_le (s.store.charged + n) s.store.constants.heap
-  room_tested parts s bytes output answers n g = subst (λ e. nat_le (heap + s.store.charged + n) e ≡ nat_le (s.store.charged + n) s.store.constants.heap) g.limit (go heap s.store.charged s.store.constants.heap)
+  pub room_tested : (parts : Parts) (s : State Procedure) (bytes : List ℕ) (output : List ℕ) (answers : List Answer)
+      (n : ℕ) → StoreAt plan parts s bytes output answers
+      → nat_le (heap + s.store.charged + n) stack ≡ nat_le (s.store.charged + n) s.store.constants.heap
+  room_tested parts s bytes output answers n g = subst
+      (λ e. nat_le (heap + s.store.charged + n) e ≡ nat_le (s.store.charged + n) s.store.constants.heap) g.limit
+      (go heap s.store.charged s.store.constants.heap)
     where
       go : (h c l : ℕ) → nat_le (h + c + n) (h + l) ≡ nat_le (c + n) l
       go h c l = grind (arith, nat_tests)

@@ -1,5 +1,6 @@
 -- Operands are read into RAX and RCX.
-use Rattle.std.proofs.Common.{◌≡◌, ℕ, ◌+◌, ◌^◌, ◌<◌, ◌≤◌, List, [], ◌∷◌, length, Bool, true, false, Option, Some, None, refl, sym, ap, ◌∙◌, subst, arith, ◌==◌, ◌&&◌}
+use Rattle.std.proofs.Common.{◌≡◌, ℕ, ◌+◌, ◌≤◌, List, [], ◌∷◌, length, Bool, true, false, Option, Some, None, refl}
+use Rattle.std.proofs.Common.{sym, ap, ◌∙◌, subst, arith, ◌==◌, ◌&&◌}
 use Rattle.std.specs.Prelude.{not}
 use Rattle.std.proofs.lemmas.Bool.{and_parts, ne_eqb}
 use Rattle.sch_word.specs.declared.place.Place.{Place}
@@ -42,7 +43,8 @@ not_true true e = absurd (let bad : false ≡ true = e in cc)
 not_true false e = refl
 
 -- the free registers are scratch registers
-pub free_scratch : (registers registers' : ℕ → ℕ) → Kept is_free registers registers' → Kept is_scratch registers registers'
+pub free_scratch : (registers registers' : ℕ → ℕ) → Kept is_free registers registers'
+    → Kept is_scratch registers registers'
 free_scratch registers registers' k r e = k r (rw (other 0 refl, other 1 refl, other 2 refl) refl)
   where
     other : (s : ℕ) → is_scratch s ≡ true → (r == s) ≡ false
@@ -67,7 +69,9 @@ module _ (plan : Plan) (act : Activation plan) (parts : Parts) where
     pub word : (v : Value) → o ≡ Some v → IsWord parts v value
     pub ahead : Std [] place rest
 
-  pub atomic : (r : ℕ) (a : Atom Place) (charged : ℕ) (f : Frame) (t : Store) (x : View) (waiting : List MarkKind) (rest : List Item) → atom_selected words globals a ≡ true → At charged f x → length x.bytes ≡ size → Std waiting x.place (atom_code r a rest) → Atomic r x waiting rest (atom_value (held f) t a)
+  pub atomic : (r : ℕ) (a : Atom Place) (charged : ℕ) (f : Frame) (t : Store) (x : View) (waiting : List MarkKind)
+      (rest : List Item) → atom_selected words globals a ≡ true → At charged f x → length x.bytes ≡ size
+      → Std waiting x.place (atom_code r a rest) → Atomic r x waiting rest (atom_value (held f) t a)
   atomic r (Constant c) charged f t x waiting rest e p s h =
       let both = and_parts (is_constant c) (is_straight_constant c) e in
       let n = word (constant_number c) in
@@ -75,12 +79,20 @@ module _ (plan : Plan) (act : Activation plan) (parts : Parts) where
         value = n;
         place = x.place + h.0;
         leads = goes setting x _ (MovWord r (constant_number c)) h.0 waiting h.1 refl;
-        word = λ v g. let same : constant_value c ≡ v = cc in subst (λ v. IsWord parts v n) same (constant_word parts c both.0 both.1);
+        word = λ v g. let same : constant_value c ≡ v = cc in subst (λ v. IsWord parts v n) same
+            (constant_word parts c both.0 both.1);
         ahead = h.2;
       }
   atomic r (Variable q) charged f t x waiting rest e p s h =
       let l = loaded plan act parts charged f.places f.outgoing q r x waiting rest e p s h in
-      record { value = l.value; place = l.place; leads = l.leads; word = λ v g. held_value act.back parts (f.places q) l.value v l.holds g; ahead = l.ahead }
+      record {
+        value = l.value;
+        place = l.place;
+        leads = l.leads;
+        word = λ v g. held_value act.back parts (f.places q)
+            l.value v l.holds g;
+        ahead = l.ahead;
+      }
   atomic r (Literal n) charged f t x waiting rest e p s h = absurd (let bad : false ≡ true = e in cc)
 
   -- ---- one operand, in RAX
@@ -89,19 +101,27 @@ module _ (plan : Plan) (act : Activation plan) (parts : Parts) where
   Reads x waiting most rest None = Unit {0}
   Reads x waiting most rest (Some v) = Yields setting parts is_free x waiting most v rest
 
-  given_yields : (x : View) (waiting : List MarkKind) (c : ℕ) (t : Store) (rest : List Item) (o : Outcome Store Value) → Comes setting parts is_free x waiting c t rest o → Reads x waiting c rest (given o)
+  given_yields : (x : View) (waiting : List MarkKind) (c : ℕ) (t : Store) (rest : List Item) (o : Outcome Store Value)
+      → Comes setting parts is_free x waiting c t rest o → Reads x waiting c rest (given o)
   given_yields x waiting c t rest (gives v u) s = s.1
   given_yields x waiting c t rest (stops why u) s = tt
   given_yields x waiting c t rest (spent u) s = absurd s
 
-  reads_after : (x : View) (registers : ℕ → ℕ) (flags : Flags) (place : ℕ) (waiting : List MarkKind) (a b c most : ℕ) (rest : List Item) (o : Option Value) → Leads setting a b waiting x (moved_to x registers flags place) → Kept is_free x.registers registers → b + c ≤ most → Reads (moved_to x registers flags place) [] c rest o → Reads x waiting most rest o
+  reads_after : (x : View) (registers : ℕ → ℕ) (flags : Flags) (place : ℕ) (waiting : List MarkKind) (a b c most : ℕ)
+      (rest : List Item) (o : Option Value) → Leads setting a b waiting x (moved_to x registers flags place)
+      → Kept is_free x.registers registers → b + c ≤ most → Reads (moved_to x registers flags place) [] c rest o
+      → Reads x waiting most rest o
   reads_after x registers flags place waiting a b c most rest None p k le s = tt
-  reads_after x registers flags place waiting a b c most rest (Some v) p k le s = yields_after setting parts is_free x registers flags place waiting a b c most v rest p k le s
+  reads_after x registers flags place waiting a b c most rest (Some v) p k le s = yields_after setting parts is_free x
+      registers flags place waiting a b c most v rest p k le s
 
   reads_no_put : (which : Primitive) → only_reads which ≡ true → which ≡ Put → ⊥
   reads_no_put which r e = let bad : only_reads Put ≡ true = subst (λ p. only_reads p ≡ true) e r in absurd cc
 
-  read_here : (n : ℕ) (which : Primitive) (atoms : List (Atom Place)) (charged : ℕ) (f : Frame) (t : Store) (x : View) (waiting : List MarkKind) (rest : List Item) → read_selected words globals which atoms ≡ true → At charged f x → length x.bytes ≡ size → Std waiting x.place (read_code n which atoms rest) → Reads x waiting 32 rest (read which t (atom_values (held f) t atoms))
+  read_here : (n : ℕ) (which : Primitive) (atoms : List (Atom Place)) (charged : ℕ) (f : Frame) (t : Store) (x : View)
+      (waiting : List MarkKind) (rest : List Item) → read_selected words globals which atoms ≡ true → At charged f x
+      → length x.bytes ≡ size → Std waiting x.place (read_code n which atoms rest)
+      → Reads x waiting 32 rest (read which t (atom_values (held f) t atoms))
   read_here n which (a ∷ []) charged f t x waiting rest e p s h = by (atom_value (held f) t a) refl
     where
       checks : ((only_reads which && takes 1 which) ≡ true) × (atom_selected words globals a ≡ true)
@@ -113,13 +133,17 @@ module _ (plan : Plan) (act : Activation plan) (parts : Parts) where
       l : Atomic 0 x waiting (unary_code n which rest) (atom_value (held f) t a)
       l = atomic 0 a charged f t x waiting (unary_code n which rest) checks.1 p s h
 
-      by : (o : Option Value) → atom_value (held f) t a ≡ o → Reads x waiting 32 rest (read which t (and_value o (Some [])))
+      by : (o : Option Value) → atom_value (held f) t a ≡ o
+          → Reads x waiting 32 rest (read which t (and_value o (Some [])))
       by None g = tt
       by (Some v) g =
           let y = moved_to x (set_register x.registers 0 l.value) x.flags l.place in
-          reads_after x y.registers y.flags y.place waiting 1 1 20 32 rest _ l.leads (kept_set is_free x.registers 0 l.value refl) (omega arith)
-          (given_yields y [] 20 t rest _ (unary_here setting parts n which v y [] t rest reads.1 (reads_no_put which reads.0) (l.word v g) l.ahead))
-  read_here n which (a ∷ (b ∷ [])) charged f t x waiting rest e p s h = by (atom_value (held f) t a) (atom_value (held f) t b) refl refl
+          reads_after x y.registers y.flags y.place waiting 1 1 20 32 rest _ l.leads
+          (kept_set is_free x.registers 0 l.value refl) (omega arith)
+          (given_yields y [] 20 t rest _ (unary_here setting parts n which v y [] t rest reads.1
+          (reads_no_put which reads.0) (l.word v g) l.ahead))
+  read_here n which (a ∷ (b ∷ [])) charged f t x waiting rest e p s h = by (atom_value (held f) t a)
+      (atom_value (held f) t b) refl refl
     where
       checks : (takes 2 which ≡ true) × ((atom_selected words globals a && atom_selected words globals b) ≡ true)
       checks = and_parts (takes 2 which) (atom_selected words globals a && atom_selected words globals b) e
@@ -134,21 +158,32 @@ module _ (plan : Plan) (act : Activation plan) (parts : Parts) where
       y = moved_to x (set_register x.registers 0 l.value) x.flags l.place
 
       m : Atomic 1 y [] (binary_code n which rest) (atom_value (held f) t b)
-      m = atomic 1 b charged f t y [] (binary_code n which rest) both.1 (places_kept plan act parts charged f.places f.outgoing x.registers y.registers x.bytes (kept_set is_scratch x.registers 0 l.value refl) p) s l.ahead
+      m = atomic 1 b charged f t y [] (binary_code n which rest) both.1
+          (places_kept plan act parts charged f.places f.outgoing x.registers y.registers x.bytes
+          (kept_set is_scratch x.registers 0 l.value refl) p) s l.ahead
 
-      by : (o q : Option Value) → atom_value (held f) t a ≡ o → atom_value (held f) t b ≡ q → Reads x waiting 32 rest (read which t (and_value o (and_value q (Some []))))
+      by : (o q : Option Value) → atom_value (held f) t a ≡ o → atom_value (held f) t b ≡ q
+          → Reads x waiting 32 rest (read which t (and_value o (and_value q (Some []))))
       by None None g i = tt
       by None (Some u) g i = tt
       by (Some v) None g i = tt
       by (Some v) (Some u) g i =
           let z = moved_to x (set_register y.registers 1 m.value) x.flags m.place in
-          reads_after x z.registers z.flags z.place waiting 2 2 30 32 rest _ (leads_on setting.marks l.leads m.leads) (kept_then is_free x.registers y.registers z.registers (kept_set is_free x.registers 0 l.value refl) (kept_set is_free y.registers 1 m.value refl)) (omega arith)
-          (given_yields z [] 30 t rest _ (binary_here setting parts n which v u z [] t rest checks.0 (l.word v g) (m.word u i) m.ahead))
+          reads_after x z.registers z.flags z.place waiting 2 2 30 32 rest _ (leads_on setting.marks l.leads m.leads)
+          (kept_then is_free x.registers y.registers z.registers (kept_set is_free x.registers 0 l.value refl)
+          (kept_set is_free y.registers 1 m.value refl)) (omega arith)
+          (given_yields z [] 30 t rest _ (binary_here setting parts n which v u z [] t rest checks.0 (l.word v g)
+          (m.word u i) m.ahead))
   read_here n which [] charged f t x waiting rest e p s h = absurd (let bad : false ≡ true = e in cc)
-  read_here n which (a ∷ (b ∷ (c ∷ atoms))) charged f t x waiting rest e p s h = absurd (let bad : false ≡ true = e in cc)
+  read_here n which (a ∷ (b ∷ (c ∷ atoms))) charged f t x waiting rest e p s h = absurd
+      (let bad : false ≡ true = e in cc)
 
-  pub operand_here : (n : ℕ) (o : Operand Place) (charged : ℕ) (f : Frame) (t : Store) (x : View) (waiting : List MarkKind) (rest : List Item) → operand_selected words globals o ≡ true → At charged f x → length x.bytes ≡ size → Std waiting x.place (operand_code n o rest) → Reads x waiting 32 rest (operand_value (held f) t o)
-  operand_here n (operand.Read site which atoms) charged f t x waiting rest e p s h = read_here n which atoms charged f t x waiting rest e p s h
+  pub operand_here : (n : ℕ) (o : Operand Place) (charged : ℕ) (f : Frame) (t : Store) (x : View)
+      (waiting : List MarkKind) (rest : List Item) → operand_selected words globals o ≡ true → At charged f x
+      → length x.bytes ≡ size → Std waiting x.place (operand_code n o rest)
+      → Reads x waiting 32 rest (operand_value (held f) t o)
+  operand_here n (operand.Read site which atoms) charged f t x waiting rest e p s h = read_here n which atoms charged
+      f t x waiting rest e p s h
   operand_here n (operand.Atom a) charged f t x waiting rest e p s h = by (atom_value (held f) t a) refl
     where
       l : Atomic 0 x waiting rest (atom_value (held f) t a)
@@ -188,7 +223,10 @@ module _ (plan : Plan) (act : Activation plan) (parts : Parts) where
   ReadsSecond x waiting most rest None = Unit {0}
   ReadsSecond x waiting most rest (Some v) = Second x waiting most v rest
 
-  pub second_here : (n : ℕ) (o : Operand Place) (charged : ℕ) (f : Frame) (t : Store) (x : View) (waiting : List MarkKind) (rest : List Item) → operand_selected words globals o ≡ true → At charged f x → length x.bytes ≡ size → Std waiting x.place (second_code n o rest) → ReadsSecond x waiting 35 rest (operand_value (held f) t o)
+  pub second_here : (n : ℕ) (o : Operand Place) (charged : ℕ) (f : Frame) (t : Store) (x : View)
+      (waiting : List MarkKind) (rest : List Item) → operand_selected words globals o ≡ true → At charged f x
+      → length x.bytes ≡ size → Std waiting x.place (second_code n o rest)
+      → ReadsSecond x waiting 35 rest (operand_value (held f) t o)
   second_here n (operand.Atom a) charged f t x waiting rest e p s h = by (atom_value (held f) t a) refl
     where
       l : Atomic 1 x waiting rest (atom_value (held f) t a)
@@ -209,7 +247,8 @@ module _ (plan : Plan) (act : Activation plan) (parts : Parts) where
         second = l.word v g;
         ahead = l.ahead;
       }
-  second_here n (operand.Read site which atoms) charged f t x waiting rest e p s h = by (read which t (atom_values (held f) t atoms)) r
+  second_here n (operand.Read site which atoms) charged f t x waiting rest e p s h = by
+      (read which t (atom_values (held f) t atoms)) r
     where
       behind : List Item
       behind = Plain (MovTo (Reg 1) 0) ∷ (Plain (MovTo (Reg 0) 11) ∷ rest)
@@ -218,7 +257,9 @@ module _ (plan : Plan) (act : Activation plan) (parts : Parts) where
       y = moved_to x (set_register x.registers 11 (x.registers 0)) x.flags (x.place + h.0)
 
       r : Reads y [] 32 behind (read which t (atom_values (held f) t atoms))
-      r = read_here n which atoms charged f t y [] behind e (places_kept plan act parts charged f.places f.outgoing x.registers y.registers x.bytes (kept_set is_scratch x.registers 11 (x.registers 0) refl) p) s h.2
+      r = read_here n which atoms charged f t y [] behind e
+          (places_kept plan act parts charged f.places f.outgoing x.registers y.registers x.bytes
+          (kept_set is_scratch x.registers 11 (x.registers 0) refl) p) s h.2
 
       by : (o : Option Value) → Reads y [] 32 behind o → ReadsSecond x waiting 35 rest o
       by None r = tt
@@ -232,11 +273,17 @@ module _ (plan : Plan) (act : Activation plan) (parts : Parts) where
             place = w.place;
             least = 1 + r.least + 1 + 1;
             steps = 1 + r.steps + 1 + 1;
-            leads = leads_on setting.marks (leads_on setting.marks (leads_on setting.marks (goes setting x y (MovTo (Reg 11) 0) h.0 waiting h.1 refl) r.leads) (goes setting z u (MovTo (Reg 1) 0) r.ahead.0 [] r.ahead.1 refl)) (goes setting u w (MovTo (Reg 0) 11) r.ahead.2.0 [] r.ahead.2.1 refl);
+            leads = leads_on setting.marks (leads_on setting.marks
+                (leads_on setting.marks (goes setting x y (MovTo (Reg 11) 0) h.0 waiting h.1 refl) r.leads)
+                (goes setting z u (MovTo (Reg 1) 0) r.ahead.0 [] r.ahead.1 refl))
+                (goes setting u w (MovTo (Reg 0) 11) r.ahead.2.0 [] r.ahead.2.1 refl);
             few = (let q = r.few in omega (arith, q));
-            kept = kept_then is_scratch x.registers y.registers w.registers (kept_set is_scratch x.registers 11 (x.registers 0) refl)
+            kept = kept_then is_scratch x.registers y.registers w.registers
+                (kept_set is_scratch x.registers 11 (x.registers 0) refl)
                 (kept_then is_scratch y.registers r.registers w.registers (free_scratch y.registers r.registers r.kept)
-                (kept_then is_scratch r.registers u.registers w.registers (kept_set is_scratch r.registers 1 (r.registers 0) refl) (kept_set is_scratch u.registers 0 (r.registers 11) refl)));
+                (kept_then is_scratch r.registers u.registers w.registers
+                (kept_set is_scratch r.registers 1 (r.registers 0) refl)
+                (kept_set is_scratch u.registers 0 (r.registers 11) refl)));
             first = r.kept 11 refl;
             second = r.value;
             ahead = r.ahead.2.2;

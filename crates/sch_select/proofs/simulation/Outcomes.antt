@@ -59,7 +59,8 @@ module _ (plan : Plan) (body_steps : ℕ) where
 
   -- The machine comes to an address, with its frame, its depth and what lies below its frame as they were.
   -- Words of values stay words.
-  pub record Lands (act : Activation plan) (parts : Parts) (before : List MarkKind) (t : Store) (x : View) (c : ℕ) (v : Value) (w : World) : Type 0 where
+  pub record Lands (act : Activation plan) (parts : Parts) (before : List MarkKind) (t : Store) (x : View) (c : ℕ)
+      (v : Value) (w : World) : Type 0 where
     pub y : View
     pub events : List MarkKind
     pub least : ℕ
@@ -88,7 +89,9 @@ module _ (plan : Plan) (body_steps : ℕ) where
 
   -- ---- what is ahead, after some steps
 
-  pub ends_after : (before events : List MarkKind) (t t' : Store) (x y : View) (a b c most status : ℕ) (w : World) → Leads setting a b events x y → b + c + paid t' ≤ most + paid t → Ends (before ++ events) t' y c status w → Ends before t x most status w
+  pub ends_after : (before events : List MarkKind) (t t' : Store) (x y : View) (a b c most status : ℕ) (w : World)
+      → Leads setting a b events x y → b + c + paid t' ≤ most + paid t → Ends (before ++ events) t' y c status w
+      → Ends before t x most status w
   ends_after before events t t' x y a b c most status w p le e = record {
     last = e.last;
     events = events ++ e.events;
@@ -102,7 +105,9 @@ module _ (plan : Plan) (body_steps : ℕ) where
     silent = e.silent;
   }
 
-  pub goes_on_after : (before events : List MarkKind) (t t' : Store) (x y : View) (a b : ℕ) (w : World) → Leads setting a b events x y → t.entries ≤ a + t'.entries → Goes_on (before ++ events) t' y w → Goes_on before t x w
+  pub goes_on_after : (before events : List MarkKind) (t t' : Store) (x y : View) (a b : ℕ) (w : World)
+      → Leads setting a b events x y → t.entries ≤ a + t'.entries → Goes_on (before ++ events) t' y w
+      → Goes_on before t x w
   goes_on_after before events t t' x y a b w p l s = record {
     last = s.last;
     events = events ++ s.events;
@@ -112,12 +117,16 @@ module _ (plan : Plan) (body_steps : ℕ) where
     leads = leads_then setting.marks p s.leads;
     long = (let e = s.long in omega (arith, e, l));
     output_is = s.output_is;
-    marked = s.marked ∙ append_assoc before events (s.events ++ s.ahead) ∙ ap (λ l. before ++ l) (sym (append_assoc events s.events s.ahead));
+    marked = s.marked ∙ append_assoc before events (s.events ++ s.ahead)
+        ∙ ap (λ l. before ++ l) (sym (append_assoc events s.events s.ahead));
   }
 
-  pub after : (act : Activation plan) (parts parts' : Parts) → Words parts parts' → (before events : List MarkKind) (t t' : Store) (x y : View) (a b c most : ℕ) (r : Result) → Leads setting a b events x y →
+  pub after : (act : Activation plan) (parts parts' : Parts) → Words parts parts'
+      → (before events : List MarkKind) (t t' : Store) (x y : View) (a b c most : ℕ) (r : Result)
+      → Leads setting a b events x y →
       ((p : ℕ) → stack ≤ p → p + 8 ≤ act.frame → word_in y.bytes p ≡ word_in x.bytes p) →
-      t.entries ≤ a + t'.entries → t'.entries ≤ t.entries → b + c + paid t' ≤ most + paid t → Sim act parts' (before ++ events) t' y c r → Sim act parts before t x most r
+      t.entries ≤ a + t'.entries → t'.entries ≤ t.entries → b + c + paid t' ≤ most + paid t
+      → Sim act parts' (before ++ events) t' y c r → Sim act parts before t x most r
   after act parts parts' words before events t t' x y a b c most None p low l1 l2 le s = tt
   after act parts parts' words before events t t' x y a b c most (Some (gives v w)) p low l1 l2 le s = record {
     y = s.y;
@@ -139,7 +148,8 @@ module _ (plan : Plan) (body_steps : ℕ) where
     world = s.world;
     marked = s.marked ∙ append_assoc before events s.events;
   }
-  after act parts parts' words before events t t' x y a b c most (Some (stops why w)) p low l1 l2 le s = ends_after before events t t' x y a b c most (status_of why) w p le s
+  after act parts parts' words before events t t' x y a b c most (Some (stops why w)) p low l1 l2 le s = ends_after
+      before events t t' x y a b c most (status_of why) w p le s
   after act parts parts' words before events t t' x y a b c most (Some (spent w)) p low l1 l2 le s = λ few.
       goes_on_after before events t t' x y a b w p l1 (s (omega (arith, few, l2)))
 
@@ -151,7 +161,9 @@ module _ (plan : Plan) (body_steps : ℕ) where
     pub static_is : plan.static ≡ static_bytes
 
   -- the routine of a stop
-  pub stops_here : Laid → (before waiting : List MarkKind) (x : View) (c most : ℕ) (why : Stop) (w : World) → Halts setting x waiting c why → x.output ≡ w.state.store.output → map kind_of w.marks ≡ before ++ waiting → c + 3 ≤ most → Ends before w.state.store x most (status_of why) w
+  pub stops_here : Laid → (before waiting : List MarkKind) (x : View) (c most : ℕ) (why : Stop) (w : World)
+      → Halts setting x waiting c why → x.output ≡ w.state.store.output → map kind_of w.marks ≡ before ++ waiting
+      → c + 3 ≤ most → Ends before w.state.store x most (status_of why) w
   stops_here laid before waiting x c most why w s printed marked le =
       let y = moved_to x s.registers s.flags (setting.place_of (stop_label why)) in
       let e = laid.routine (routine.Stop why) y refl in

@@ -1,5 +1,6 @@
 -- Where the values of an activation and of a store are in the machine, and what loads and stores of them do.
-use Rattle.std.proofs.Common.{◌≡◌, ℕ, ◌+◌, ◌*◌, ◌^◌, ◌<◌, ◌≤◌, List, [], ◌∷◌, length, take, drop, Bool, true, false, cond, Option, Some, refl, sym, ap, ◌∙◌, subst, arith, ◌==◌, ⊎_elim, inl, inr, ◌⊎◌}
+use Rattle.std.proofs.Common.{◌≡◌, ℕ, ◌+◌, ◌*◌, ◌^◌, ◌<◌, ◌≤◌, List, [], ◌∷◌, length, take, drop, Bool, true, false}
+use Rattle.std.proofs.Common.{cond, Option, Some, refl, sym, ap, ◌∙◌, subst, arith, ◌==◌, ⊎_elim, inl, inr, ◌⊎◌}
 use Rattle.std.specs.Prelude.{pos, nat_eq, slice_get}
 use Rattle.std.proofs.lemmas.Bool.{ne_eqb, ltb-true, eqb-true, eqb-false, cases_lt}
 use Rattle.std.proofs.lemmas.Option.{slice_get_within}
@@ -60,7 +61,13 @@ pub not_register : (r k : ℕ) → is_register r ≡ true → is_register k ≡ 
 not_register r k e f = ne_eqb r k (λ same. let bad : true ≡ false = sym e ∙ ap is_register same ∙ f in absurd cc)
 
 pub no_scratch : (r : ℕ) → is_register r ≡ true → is_scratch r ≡ false
-no_scratch r e = rw (not_register r 0 e refl, not_register r 1 e refl, not_register r 2 e refl, not_register r 11 e refl) refl
+no_scratch r e = rw (
+  not_register r 0 e refl,
+  not_register r 1 e refl,
+  not_register r 2 e refl,
+  not_register r 11 e
+      refl,
+) refl
 
 -- What a word is to what a place holds, in an activation that returns to an address.
 abbrev pub Holds : ℕ → Parts → Cell → ℕ → Type 0
@@ -68,18 +75,21 @@ Holds back parts (Is v) x = IsWord parts v x
 Holds back parts Link x = x ≡ back
 Holds back parts Junk x = Unit {0}
 
-pub held_value : (back : ℕ) (parts : Parts) (c : Cell) (x : ℕ) (v : Value) → Holds back parts c x → value_in c ≡ Some v → IsWord parts v x
+pub held_value : (back : ℕ) (parts : Parts) (c : Cell) (x : ℕ) (v : Value) → Holds back parts c x
+    → value_in c ≡ Some v → IsWord parts v x
 held_value back parts (Is u) x v h e = let same : u ≡ v = cc in subst (λ v. IsWord parts v x) same h
 held_value back parts Link x v h e = absurd cc
 held_value back parts Junk x v h e = absurd cc
 
-pub holds_words : (back : ℕ) (before after : Parts) → Words before after → (c : Cell) (x : ℕ) → Holds back before c x → Holds back after c x
+pub holds_words : (back : ℕ) (before after : Parts) → Words before after → (c : Cell) (x : ℕ) → Holds back before c x
+    → Holds back after c x
 holds_words back before after w (Is v) x h = w v x h
 holds_words back before after w Link x h = h
 holds_words back before after w Junk x h = tt
 
 -- only a value or a link has to fit a word
-pub same_word : (back : ℕ) (parts : Parts) → back < 2 ^ 64 → (c : Cell) (x y : ℕ) → Holds back parts c x → (x < 2 ^ 64 → y ≡ x) → Holds back parts c y
+pub same_word : (back : ℕ) (parts : Parts) → back < 2 ^ 64 → (c : Cell) (x y : ℕ) → Holds back parts c x
+    → (x < 2 ^ 64 → y ≡ x) → Holds back parts c y
 same_word back parts small (Is v) x y h e = subst (IsWord parts v) (sym (e (fits parts v x h))) h
 same_word back parts small Link x y h e = e (subst (λ x. x < 2 ^ 64) (sym h) small) ∙ h
 same_word back parts small Junk x y h e = tt
@@ -103,10 +113,27 @@ pub record Activation (plan : Plan) : Type 0 where
   pub room : Room plan frame left
 
 module _ (plan : Plan) where
-  open plan use {setting, size, words, globals, closures, heap, stack, static, closures_low, heap_low, closures_high, stack_low, small, narrow, labels}
+  open plan use {
+    setting,
+    size,
+    words,
+    globals,
+    closures,
+    heap,
+    stack,
+    static,
+    closures_low,
+    heap_low,
+    closures_high,
+    stack_low,
+    small,
+    narrow,
+    labels,
+  }
 
   -- What the state has stands in the data: the globals, the static bytes of puts, and the heap.
-  pub record StoreAt (parts : Parts) (s : State Procedure) (bytes : List ℕ) (output : List ℕ) (answers : List Answer) : Type 0 where
+  pub record StoreAt (parts : Parts) (s : State Procedure) (bytes : List ℕ) (output : List ℕ)
+      (answers : List Answer) : Type 0 where
     pub size_is : length bytes ≡ size
     pub printed : output ≡ s.store.output
     pub left : answers ≡ s.store.answers
@@ -115,14 +142,16 @@ module _ (plan : Plan) where
     pub begins : 16 * parts.first ≡ closures
     pub ends : 16 * end_of parts ≡ heap + s.store.charged
     pub count : length s.store.globals ≡ globals
-    pub global : (g : ℕ) (o : Option Value) → slice_get s.store.globals g ≡ Some o → IsHeld parts o (word_in bytes (global_address g))
+    pub global : (g : ℕ) (o : Option Value) → slice_get s.store.globals g ≡ Some o
+        → IsHeld parts o (word_in bytes (global_address g))
     pub texts : take 288 (drop 512 bytes) ≡ static
     pub contents : HeapAt (code_of plan) parts s.cells s.procedures bytes
     pub new : AreNew parts (length s.cells) (length s.procedures)
 
   module _ (act : Activation plan) where
     -- The frame of the next call is behind the own one.
-    pub record PlacesAt (parts : Parts) (charged : ℕ) (places : Place → Cell) (outgoing : ℕ → Cell) (registers : ℕ → ℕ) (bytes : List ℕ) : Type 0 where
+    pub record PlacesAt (parts : Parts) (charged : ℕ) (places : Place → Cell) (outgoing : ℕ → Cell)
+        (registers : ℕ → ℕ) (bytes : List ℕ) : Type 0 where
       pub frame : registers 5 ≡ act.frame
       pub depth : registers 13 ≡ act.left
       pub free : registers 12 ≡ heap + charged
@@ -131,7 +160,10 @@ module _ (plan : Plan) where
       pub next : (j : ℕ) → j < words → Holds act.back parts (outgoing j) (word_in bytes (act.frame + 8 * (words + j)))
 
     -- other scratch registers
-    pub places_kept : (parts : Parts) (charged : ℕ) (places : Place → Cell) (outgoing : ℕ → Cell) (registers registers' : ℕ → ℕ) (bytes : List ℕ) → Kept is_scratch registers registers' → PlacesAt parts charged places outgoing registers bytes → PlacesAt parts charged places outgoing registers' bytes
+    pub places_kept : (parts : Parts) (charged : ℕ) (places : Place → Cell) (outgoing : ℕ → Cell)
+        (registers registers' : ℕ → ℕ) (bytes : List ℕ) → Kept is_scratch registers registers'
+        → PlacesAt parts charged places outgoing registers bytes
+        → PlacesAt parts charged places outgoing registers' bytes
     places_kept parts charged places outgoing registers registers' bytes k p = record {
       frame = k 5 refl ∙ p.frame;
       depth = k 13 refl ∙ p.depth;
@@ -141,22 +173,30 @@ module _ (plan : Plan) where
       next = p.next;
     }
 
-    pub slot_inside : (j : ℕ) (bytes : List ℕ) → length bytes ≡ size → j < words + words → Inside (length bytes) (act.frame + 8 * j)
-    slot_inside j bytes e lt = let a = act.room.low in let b = act.room.high in let c = heap_low in let f = stack_low in record { low = omega (arith, a, c, f); high = omega (arith, b, e, lt) }
+    pub slot_inside : (j : ℕ) (bytes : List ℕ) → length bytes ≡ size → j < words + words
+        → Inside (length bytes) (act.frame + 8 * j)
+    slot_inside j bytes e lt = let a = act.room.low in let b = act.room.high in let c = heap_low in let f =
+        stack_low in record { low = omega (arith, a, c, f); high = omega (arith, b, e, lt) }
 
-    pub slot_named : (j : ℕ) (x : View) → length x.bytes ≡ size → j < words + words → x.registers 5 ≡ act.frame → add64 (x.registers 5) (word (pos (8 * j))) ≡ act.frame + 8 * j
+    pub slot_named : (j : ℕ) (x : View) → length x.bytes ≡ size → j < words + words → x.registers 5 ≡ act.frame
+        → add64 (x.registers 5) (word (pos (8 * j))) ≡ act.frame + 8 * j
     slot_named j x e lt f = let b = act.room.high in let s = small in omega (arith, f, b, e, lt, s)
 
     -- ---- a place into a register
 
-    pub record Loaded (parts : Parts) (c : Cell) (r : ℕ) (x : View) (waiting : List MarkKind) (rest : List Item) : Type 0 where
+    pub record Loaded (parts : Parts) (c : Cell) (r : ℕ) (x : View) (waiting : List MarkKind) (rest : List Item) :
+        Type 0 where
       pub value : ℕ
       pub place : ℕ
       pub leads : Leads setting 1 1 waiting x (moved_to x (set_register x.registers r value) x.flags place)
       pub holds : Holds act.back parts c value
       pub ahead : Stands setting [] place rest
 
-    pub loaded : (parts : Parts) (charged : ℕ) (places : Place → Cell) (outgoing : ℕ → Cell) (p : Place) (r : ℕ) (x : View) (waiting : List MarkKind) (rest : List Item) → is_place words p ≡ true → PlacesAt parts charged places outgoing x.registers x.bytes → length x.bytes ≡ size → Stands setting waiting x.place (Plain (MovFrom r (place_operand p)) ∷ rest) → Loaded parts (places p) r x waiting rest
+    pub loaded : (parts : Parts) (charged : ℕ) (places : Place → Cell) (outgoing : ℕ → Cell) (p : Place) (r : ℕ)
+        (x : View) (waiting : List MarkKind) (rest : List Item) → is_place words p ≡ true
+        → PlacesAt parts charged places outgoing x.registers x.bytes → length x.bytes ≡ size
+        → Stands setting waiting x.place (Plain (MovFrom r (place_operand p)) ∷ rest)
+        → Loaded parts (places p) r x waiting rest
     loaded parts charged places outgoing (Reg q) r x waiting rest e f s h = record {
       value = x.registers q;
       place = x.place + h.0;
@@ -169,14 +209,17 @@ module _ (plan : Plan) where
         record {
           value = word_in x.bytes (act.frame + 8 * j);
           place = x.place + h.0;
-          leads = loads_word setting x r h.0 (act.frame + 8 * j) (arg.Base32 5 (pos (8 * j))) waiting h.1 (slot_named j x s (omega (arith, lt)) f.frame) (slot_inside j x.bytes s (omega (arith, lt)));
+          leads = loads_word setting x r h.0 (act.frame + 8 * j) (arg.Base32 5 (pos (8 * j))) waiting h.1
+              (slot_named j x s (omega (arith, lt)) f.frame) (slot_inside j x.bytes s (omega (arith, lt)));
           holds = f.slot j lt;
           ahead = h.2;
         }
 
     -- ---- a state that stays, where a word of the stack is written
 
-    pub store_kept : (parts : Parts) (s : State Procedure) (bytes : List ℕ) (output : List ℕ) (answers : List Answer) (a v : ℕ) → Inside (length bytes) a → stack ≤ a → StoreAt parts s bytes output answers → StoreAt parts s (with_word bytes a v) output answers
+    pub store_kept : (parts : Parts) (s : State Procedure) (bytes : List ℕ) (output : List ℕ) (answers : List Answer)
+        (a v : ℕ) → Inside (length bytes) a → stack ≤ a → StoreAt parts s bytes output answers
+        → StoreAt parts s (with_word bytes a v) output answers
     store_kept parts s bytes output answers a v within above g =
         let hl = heap_low in let sl = stack_low in let cl = closures_low in
         let w = g.within in let b = g.begins in let e = g.ends in
@@ -190,53 +233,75 @@ module _ (plan : Plan) where
           ends = g.ends;
           count = g.count;
           global = λ k o i. let lt = slice_get_within s.store.globals k o i in let c = g.count in
-              subst (IsHeld parts o) (sym (word_other bytes a v (global_address k) within (omega arith) (inl (omega (arith, lt, c, above, hl, sl))))) (g.global k o i);
+              subst (IsHeld parts o) (sym (word_other bytes a v (global_address k) within (omega arith)
+              (inl (omega (arith, lt, c, above, hl, sl))))) (g.global k o i);
           texts = before_word bytes a v 512 288 within (omega (arith, above, hl, sl)) ∙ g.texts;
-          contents = heap_kept (code_of plan) parts s.cells s.procedures bytes (with_word bytes a v) (λ p lo hi. word_other bytes a v p within (omega (arith, lo, b, cl)) (inl (omega (arith, hi, e, w, above)))) g.contents;
+          contents = heap_kept (code_of plan) parts s.cells s.procedures bytes (with_word bytes a v)
+              (λ p lo hi. word_other bytes a v p within (omega (arith, lo, b, cl))
+              (inl (omega (arith, hi, e, w, above)))) g.contents;
           new = g.new;
         }
 
     -- ---- a register into a place
 
-    pub record Written (parts : Parts) (charged : ℕ) (places : Place → Cell) (outgoing : ℕ → Cell) (x : View) (waiting : List MarkKind) (rest : List Item) : Type 0 where
+    pub record Written (parts : Parts) (charged : ℕ) (places : Place → Cell) (outgoing : ℕ → Cell) (x : View)
+        (waiting : List MarkKind) (rest : List Item) : Type 0 where
       pub y : View
       pub leads : Leads setting 1 1 waiting x y
       pub ahead : Stands setting [] y.place rest
       pub places_at : PlacesAt parts charged places outgoing y.registers y.bytes
-      pub world : (ps : Parts) (s : State Procedure) → StoreAt ps s x.bytes x.output x.answers → StoreAt ps s y.bytes y.output y.answers
+      pub world : (ps : Parts) (s : State Procedure) → StoreAt ps s x.bytes x.output x.answers
+          → StoreAt ps s y.bytes y.output y.answers
       pub size : length y.bytes ≡ length x.bytes
       pub accumulator : y.registers 0 ≡ x.registers 0
       pub below : (a : ℕ) → stack ≤ a → a + 8 ≤ act.frame → word_in y.bytes a ≡ word_in x.bytes a
 
-    either_holds : (parts : Parts) (b : Bool) (c e : Cell) (x y : ℕ) → Holds act.back parts c x → Holds act.back parts e y → Holds act.back parts (cond b c e) (cond b x y)
+    either_holds : (parts : Parts) (b : Bool) (c e : Cell) (x y : ℕ) → Holds act.back parts c x
+        → Holds act.back parts e y → Holds act.back parts (cond b c e) (cond b x y)
     either_holds parts true c e x y h g = h
     either_holds parts false c e x y h g = g
 
     -- a word of the own frame or the next, where one of them is written
-    slot_written : (parts : Parts) (c e : Cell) (v i j : ℕ) (bytes : List ℕ) → length bytes ≡ size → i < words + words → j < words + words → Holds act.back parts c v → Holds act.back parts e (word_in bytes (act.frame + 8 * i))
-        → (b : Bool) → (b ≡ true → i ≡ j) → (b ≡ false → i ≡ j → ⊥) → Holds act.back parts (cond b c e) (word_in (with_word bytes (act.frame + 8 * j) v) (act.frame + 8 * i))
+    slot_written : (parts : Parts) (c e : Cell) (v i j : ℕ) (bytes : List ℕ) → length bytes ≡ size → i < words + words
+        → j < words + words → Holds act.back parts c v → Holds act.back parts e (word_in bytes (act.frame + 8 * i))
+        → (b : Bool) → (b ≡ true → i ≡ j) → (b ≡ false → i ≡ j → ⊥)
+        → Holds act.back parts (cond b c e) (word_in (with_word bytes (act.frame + 8 * j) v) (act.frame + 8 * i))
     slot_written parts c e v i j bytes s li lj h g true same other =
-        subst (λ i. Holds act.back parts c (word_in (with_word bytes (act.frame + 8 * j) v) (act.frame + 8 * i))) (sym (same refl))
-        (same_word act.back parts act.back_fits c v _ h (λ f. word_same bytes (act.frame + 8 * j) v (slot_inside j bytes s lj) f))
+        subst (λ i. Holds act.back parts c (word_in (with_word bytes (act.frame + 8 * j) v) (act.frame + 8 * i)))
+        (sym (same refl))
+        (same_word act.back parts act.back_fits c v _ h (λ f. word_same bytes (act.frame + 8 * j) v
+        (slot_inside j bytes s lj) f))
     slot_written parts c e v i j bytes s li lj h g false same other =
         let l = (slot_inside i bytes s li).low in
         let far : (act.frame + 8 * i + 8 ≤ act.frame + 8 * j) ⊎ (act.frame + 8 * j + 8 ≤ act.frame + 8 * i) =
-        ⊎_elim (λ lt. inl (omega (arith, lt))) (λ le. ⊎_elim (λ lt. inr (omega (arith, lt))) (λ ge. absurd (other refl (omega (arith, le, ge)))) (cases_lt j i)) (cases_lt i j) in
-        subst (Holds act.back parts e) (sym (word_other bytes (act.frame + 8 * j) v (act.frame + 8 * i) (slot_inside j bytes s lj) l far)) g
+        ⊎_elim (λ lt. inl (omega (arith, lt))) (λ le. ⊎_elim (λ lt. inr (omega (arith, lt)))
+        (λ ge. absurd (other refl (omega (arith, le, ge)))) (cases_lt j i)) (cases_lt i j) in
+        subst (Holds act.back parts e)
+        (sym (word_other bytes (act.frame + 8 * j) v (act.frame + 8 * i) (slot_inside j bytes s lj) l far)) g
 
     -- a register into one of these words
-    word_written : (parts : Parts) (charged : ℕ) (places places' : Place → Cell) (outgoing outgoing' : ℕ → Cell) (j r : ℕ) (x : View) (waiting : List MarkKind) (rest : List Item) → j < words + words → PlacesAt parts charged places outgoing x.registers x.bytes → length x.bytes ≡ size
+    word_written : (parts : Parts) (charged : ℕ) (places places' : Place → Cell) (outgoing outgoing' : ℕ → Cell)
+        (j r : ℕ) (x : View) (waiting : List MarkKind) (rest : List Item) → j < words + words
+        → PlacesAt parts charged places outgoing x.registers x.bytes → length x.bytes ≡ size
         → ((k : ℕ) → is_register k ≡ true → Holds act.back parts (places' (Reg k)) (x.registers k))
-        → ((i : ℕ) → i < words → Holds act.back parts (places' (Slot i)) (word_in (with_word x.bytes (act.frame + 8 * j) (x.registers r)) (act.frame + 8 * i)))
-        → ((i : ℕ) → i < words → Holds act.back parts (outgoing' i) (word_in (with_word x.bytes (act.frame + 8 * j) (x.registers r)) (act.frame + 8 * (words + i))))
-        → Stands setting waiting x.place (Plain (MovTo (arg.Base32 5 (pos (8 * j))) r) ∷ rest) → Written parts charged places' outgoing' x waiting rest
+        → ((i : ℕ) → i < words → Holds act.back parts (places' (Slot i))
+        (word_in (with_word x.bytes (act.frame + 8 * j) (x.registers r)) (act.frame + 8 * i)))
+        → ((i : ℕ) → i < words → Holds act.back parts (outgoing' i)
+        (word_in (with_word x.bytes (act.frame + 8 * j) (x.registers r)) (act.frame + 8 * (words + i))))
+        → Stands setting waiting x.place (Plain (MovTo (arg.Base32 5 (pos (8 * j))) r) ∷ rest)
+        → Written parts charged places' outgoing' x waiting rest
     word_written parts charged places places' outgoing outgoing' j r x waiting rest lt f z regs slots nexts st =
         let within = slot_inside j x.bytes z lt in
-        let y : View = record x { bytes = with_word x.bytes (act.frame + 8 * j) (x.registers r); place = x.place + st.0 } in
+        let y : View = record x {
+          bytes = with_word x.bytes (act.frame + 8 * j) (x.registers r);
+          place = x.place +
+              st.0;
+        } in
         let low = act.room.low in let hl = heap_low in let sl = stack_low in
         record {
           y = y;
-          leads = stores_word setting x r st.0 (act.frame + 8 * j) (arg.Base32 5 (pos (8 * j))) waiting st.1 (slot_named j x z lt f.frame) within;
+          leads = stores_word setting x r st.0 (act.frame + 8 * j) (arg.Base32 5 (pos (8 * j))) waiting st.1
+              (slot_named j x z lt f.frame) within;
           ahead = st.2;
           places_at = record {
             frame = f.frame;
@@ -246,13 +311,19 @@ module _ (plan : Plan) where
             slot = slots;
             next = nexts;
           };
-          world = λ ps s at. store_kept ps s x.bytes x.output x.answers (act.frame + 8 * j) (x.registers r) within (omega (arith, low)) at;
+          world = λ ps s at. store_kept ps s x.bytes x.output x.answers (act.frame + 8 * j) (x.registers r) within
+              (omega (arith, low)) at;
           size = size_kept x.bytes (act.frame + 8 * j) (x.registers r) within;
           accumulator = refl;
-          below = λ a lo hi. word_other x.bytes (act.frame + 8 * j) (x.registers r) a within (omega (arith, lo, hl, sl)) (inl (omega (arith, hi)));
+          below = λ a lo hi. word_other x.bytes (act.frame + 8 * j) (x.registers r) a within
+              (omega (arith, lo, hl, sl)) (inl (omega (arith, hi)));
         }
 
-    pub written : (parts : Parts) (charged : ℕ) (places : Place → Cell) (outgoing : ℕ → Cell) (p : Place) (c : Cell) (r : ℕ) (x : View) (waiting : List MarkKind) (rest : List Item) → is_place words p ≡ true → Holds act.back parts c (x.registers r) → PlacesAt parts charged places outgoing x.registers x.bytes → length x.bytes ≡ size → Stands setting waiting x.place (Plain (MovTo (place_operand p) r) ∷ rest) → Written parts charged (set places p c) outgoing x waiting rest
+    pub written : (parts : Parts) (charged : ℕ) (places : Place → Cell) (outgoing : ℕ → Cell) (p : Place) (c : Cell)
+        (r : ℕ) (x : View) (waiting : List MarkKind) (rest : List Item) → is_place words p ≡ true
+        → Holds act.back parts c (x.registers r) → PlacesAt parts charged places outgoing x.registers x.bytes
+        → length x.bytes ≡ size → Stands setting waiting x.place (Plain (MovTo (place_operand p) r) ∷ rest)
+        → Written parts charged (set places p c) outgoing x waiting rest
     written parts charged places outgoing (Reg q) c r x waiting rest e h f g st =
         let y : View = record x { registers = set_register x.registers q (x.registers r); place = x.place + st.0 } in
         record {
@@ -263,7 +334,8 @@ module _ (plan : Plan) where
             frame = other 5 refl ∙ f.frame;
             depth = other 13 refl ∙ f.depth;
             free = other 12 refl ∙ f.free;
-            register = λ k i. either_holds parts (k == q) c (places (Reg k)) (x.registers r) (x.registers k) h (f.register k i);
+            register = λ k i. either_holds parts (k == q) c (places (Reg k)) (x.registers r) (x.registers k) h
+                (f.register k i);
             slot = f.slot;
             next = f.next;
           };
@@ -274,19 +346,33 @@ module _ (plan : Plan) where
         }
       where
         other : (k : ℕ) → is_register k ≡ false → set_register x.registers q (x.registers r) k ≡ x.registers k
-        other k i = ap (λ b. cond b (x.registers r) (x.registers k)) (ne_eqb k q (λ same. let bad : true ≡ false = sym e ∙ ap is_register (sym same) ∙ i in absurd cc))
+        other k i = ap (λ b. cond b (x.registers r) (x.registers k))
+            (ne_eqb k q (λ same. let bad : true ≡ false = sym e ∙ ap is_register (sym same) ∙ i in absurd cc))
     written parts charged places outgoing (Slot j) c r x waiting rest e h f z st =
         let lt = ltb-true j words e in
-        word_written parts charged places (set places (Slot j) c) outgoing outgoing j r x waiting rest (omega (arith, lt)) f z f.register
-        (λ i li. slot_written parts c (places (Slot i)) (x.registers r) i j x.bytes z (omega (arith, li)) (omega (arith, lt)) h (f.slot i li) (nat_eq i j) (eqb-true i j) (eqb-false i j))
-        (λ i li. slot_written parts Junk (outgoing i) (x.registers r) (words + i) j x.bytes z (omega (arith, li)) (omega (arith, lt)) tt (f.next i li) false (λ b. absurd (let bad : false ≡ true = b in cc)) (λ b same. omega (arith, same, lt)))
+        word_written parts charged places (set places (Slot j) c) outgoing outgoing j r x waiting rest
+        (omega (arith, lt)) f z f.register
+        (λ i li. slot_written parts c (places (Slot i)) (x.registers r) i j x.bytes z (omega (arith, li))
+        (omega (arith, lt)) h (f.slot i li) (nat_eq i j) (eqb-true i j) (eqb-false i j))
+        (λ i li. slot_written parts Junk (outgoing i) (x.registers r) (words + i) j x.bytes z (omega (arith, li))
+        (omega (arith, lt)) tt (f.next i li) false (λ b. absurd (let bad : false ≡ true = b in cc))
+        (λ b same. omega (arith, same, lt)))
         st
 
     -- a register into a slot of the next frame
-    pub handed : (parts : Parts) (charged : ℕ) (places : Place → Cell) (outgoing : ℕ → Cell) (k : ℕ) (c : Cell) (r : ℕ) (x : View) (waiting : List MarkKind) (rest : List Item) → k < words → Holds act.back parts c (x.registers r) → PlacesAt parts charged places outgoing x.registers x.bytes → length x.bytes ≡ size
-        → Stands setting waiting x.place (Plain (MovTo (arg.Base32 5 (pos (8 * (words + k)))) r) ∷ rest) → Written parts charged places (λ j. cond (nat_eq j k) c (outgoing j)) x waiting rest
+    pub handed : (parts : Parts) (charged : ℕ) (places : Place → Cell) (outgoing : ℕ → Cell) (k : ℕ) (c : Cell)
+        (r : ℕ) (x : View) (waiting : List MarkKind) (rest : List Item) → k < words
+        → Holds act.back parts c (x.registers r) → PlacesAt parts charged places outgoing x.registers x.bytes
+        → length x.bytes ≡ size
+        → Stands setting waiting x.place (Plain (MovTo (arg.Base32 5 (pos (8 * (words + k)))) r) ∷ rest)
+        → Written parts charged places (λ j. cond (nat_eq j k) c (outgoing j)) x waiting rest
     handed parts charged places outgoing k c r x waiting rest lt h f z st =
-        word_written parts charged places places outgoing (λ j. cond (nat_eq j k) c (outgoing j)) (words + k) r x waiting rest (omega (arith, lt)) f z f.register
-        (λ i li. slot_written parts Junk (places (Slot i)) (x.registers r) i (words + k) x.bytes z (omega (arith, li)) (omega (arith, lt)) tt (f.slot i li) false (λ b. absurd (let bad : false ≡ true = b in cc)) (λ b same. omega (arith, same, li)))
-        (λ i li. slot_written parts c (outgoing i) (x.registers r) (words + i) (words + k) x.bytes z (omega (arith, li)) (omega (arith, lt)) h (f.next i li) (nat_eq i k) (λ b. let same = eqb-true i k b in omega (arith, same)) (λ b same. eqb-false i k b (omega (arith, same))))
+        word_written parts charged places places outgoing (λ j. cond (nat_eq j k) c (outgoing j)) (words + k) r x
+        waiting rest (omega (arith, lt)) f z f.register
+        (λ i li. slot_written parts Junk (places (Slot i)) (x.registers r) i (words + k) x.bytes z (omega (arith, li))
+        (omega (arith, lt)) tt (f.slot i li) false (λ b. absurd (let bad : false ≡ true = b in cc))
+        (λ b same. omega (arith, same, li)))
+        (λ i li. slot_written parts c (outgoing i) (x.registers r) (words + i) (words + k) x.bytes z
+        (omega (arith, li)) (omega (arith, lt)) h (f.next i li) (nat_eq i k)
+        (λ b. let same = eqb-true i k b in omega (arith, same)) (λ b same. eqb-false i k b (omega (arith, same))))
         st

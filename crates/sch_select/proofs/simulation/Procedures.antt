@@ -1,5 +1,6 @@
 -- The machine does what the body of a procedure does, wherever the procedure is entered.
-use Rattle.std.proofs.Common.{◌≡◌, ℕ, zero, suc, ◌+◌, ◌*◌, ◌^◌, ◌<◌, ◌≤◌, List, [], ◌∷◌, ◌++◌, length, map, Bool, true, false, Option, Some, None, refl, sym, ap, ◌∙◌, subst, arith, append-nil, ◌==◌, ◌&&◌}
+use Rattle.std.proofs.Common.{◌≡◌, ℕ, zero, suc, ◌+◌, ◌*◌, ◌^◌, ◌<◌, ◌≤◌, List, [], ◌∷◌, ◌++◌, length, map, Bool}
+use Rattle.std.proofs.Common.{true, false, Option, Some, None, refl, sym, ap, ◌∙◌, subst, arith, append-nil, ◌==◌}
 use Rattle.std.specs.Prelude.{pos, not, nat_eq, nat_le, slice_get}
 use Rattle.std.specs.List.{list_all}
 use Rattle.std.proofs.lemmas.Bool.{and_parts, leb-true}
@@ -38,8 +39,8 @@ use Rattle.sch_asm.specs.Views.{View, Leads, full}
 use Rattle.sch_asm.proofs.EachItem.{goes, branches}
 use Rattle.sch_heap.specs.Parts.{Parts}
 use Rattle.sch_select.specs.Covered.{can_be_entered, may_stand, takes_no_list}
-use Rattle.sch_select.specs.Select.{kind_of, body_code, body_label, check_count, stop_label}
-use Rattle.sch_select.proofs.simulation.Straight.{moved_to, Halts}
+use Rattle.sch_select.specs.Select.{kind_of, body_code, check_count, stop_label}
+use Rattle.sch_select.proofs.simulation.Straight.{Halts}
 use Rattle.sch_select.proofs.simulation.Places.{Plan, code_of, Activation, StoreAt, PlacesAt}
 use Rattle.sch_select.proofs.simulation.Outcomes.{Ends, Goes_on, Lands, Sim, Laid, after, ends_after, goes_on_after, stops_here, paid}
 use Rattle.sch_select.proofs.simulation.Entering.{Enters}
@@ -57,9 +58,11 @@ entry_is [] label = refl
 entry_is (c ∷ codes) zero = refl
 entry_is (c ∷ codes) (suc label) = entry_is codes label
 
-pub each_at : (f : Code → Bool) (codes : List Code) (label : ℕ) (c : Code) → list_all f codes ≡ true → slice_get codes label ≡ Some c → f c ≡ true
+pub each_at : (f : Code → Bool) (codes : List Code) (label : ℕ) (c : Code) → list_all f codes ≡ true
+    → slice_get codes label ≡ Some c → f c ≡ true
 each_at f [] label c e i = absurd (let bad : None ≡ Some c = i in cc)
-each_at f (k ∷ codes) zero c e i = let j : Some k ≡ Some c = i in let same : k ≡ c = cc in subst (λ c. f c ≡ true) same (and_parts (f k) (list_all f codes) e).0
+each_at f (k ∷ codes) zero c e i = let j : Some k ≡ Some c = i in let same : k ≡ c = cc in subst (λ c. f c ≡ true)
+    same (and_parts (f k) (list_all f codes) e).0
 each_at f (k ∷ codes) (suc label) c e i = each_at f codes label c (and_parts (f k) (list_all f codes) e).1 i
 
 -- how many steps all bodies take at most
@@ -67,22 +70,28 @@ abbrev pub bodies_cost : List Code → ℕ
 bodies_cost [] = 0
 bodies_cost (c ∷ codes) = body_cost c.instructions + bodies_cost codes
 
-pub cost_within : (codes : List Code) (label : ℕ) (c : Code) → slice_get codes label ≡ Some c → body_cost c.instructions ≤ bodies_cost codes
+pub cost_within : (codes : List Code) (label : ℕ) (c : Code) → slice_get codes label ≡ Some c
+    → body_cost c.instructions ≤ bodies_cost codes
 cost_within [] label c i = absurd (let bad : None ≡ Some c = i in cc)
-cost_within (k ∷ codes) zero c i = let j : Some k ≡ Some c = i in let same : k ≡ c = cc in subst (λ c. body_cost c.instructions ≤ body_cost k.instructions + bodies_cost codes) same (omega arith)
+cost_within (k ∷ codes) zero c i = let j : Some k ≡ Some c = i in let same : k ≡ c = cc in subst
+    (λ c. body_cost c.instructions ≤ body_cost k.instructions + bodies_cost codes) same (omega arith)
 cost_within (k ∷ codes) (suc label) c i = let h = cost_within codes label c i in omega (arith, h)
 
 -- the body of a procedure stands where its label does
 pub record BodyAt (plan : Plan) (label : ℕ) (c : Code) (e : Entry) : Type 0 where
   pub n : ℕ
   pub following : List Item
-  pub stands : Stands plan.setting [] (code_of plan label) (check_count e.formals (item.Mark (Enter label) ∷ body_code n (n + c.labels) plan.words plan.stack (n + c.labels + 1) c.instructions (item.Label (n + c.labels) ∷ following)))
+  pub stands : Stands plan.setting [] (code_of plan label)
+      (check_count e.formals (item.Mark (Enter label) ∷ body_code n (n + c.labels) plan.words plan.stack
+      (n + c.labels + 1) c.instructions (item.Label (n + c.labels) ∷ following)))
 
 module _ (plan : Plan) (body_steps : ℕ) (laid : Laid plan body_steps) where
   open plan use {setting, words, globals, stack}
 
   -- an entry is taken
-  store_taken : (parts : Parts) (s : State Procedure) (left : ℕ) (bytes output : List ℕ) (answers : List Answer) → StoreAt plan parts s bytes output answers → StoreAt plan parts (record s { store = record s.store { entries = left } }) bytes output answers
+  store_taken : (parts : Parts) (s : State Procedure) (left : ℕ) (bytes output : List ℕ) (answers : List Answer)
+      → StoreAt plan parts s bytes output answers → StoreAt plan parts
+      (record s { store = record s.store { entries = left } }) bytes output answers
   store_taken parts s left bytes output answers g = record {
     size_is = g.size_is;
     printed = g.printed;
@@ -103,16 +112,23 @@ module _ (plan : Plan) (body_steps : ℕ) (laid : Laid plan body_steps) where
     abbrev inside : Activation plan
     inside = record act { nested = n }
 
-    taken_after : (parts : Parts) (before : List MarkKind) (t t' : Store) (x y : View) (c : ℕ) (r : Result) → y.bytes ≡ x.bytes → Leads setting 2 2 [] x y → t.entries ≡ suc t'.entries → 2 + c + paid plan body_steps t' ≤ 10 + paid plan body_steps t
+    taken_after : (parts : Parts) (before : List MarkKind) (t t' : Store) (x y : View) (c : ℕ) (r : Result)
+        → y.bytes ≡ x.bytes → Leads setting 2 2 [] x y → t.entries ≡ suc t'.entries
+        → 2 + c + paid plan body_steps t' ≤ 10 + paid plan body_steps t
         → Sim plan body_steps inside parts before t' y c r → Sim plan body_steps act parts before t x 10 r
     taken_after parts before t t' x y c None same l e le s = tt
     taken_after parts before t t' x y c (Some (stops why u)) same l e le s =
-        ends_after plan body_steps before [] t t' x y 2 2 c 10 (status_of why) u l le (subst (λ b. Ends plan body_steps b t' y c (status_of why) u) (sym (append-nil before)) s)
+        ends_after plan body_steps before [] t t' x y 2 2 c 10 (status_of why) u l le
+        (subst (λ b. Ends plan body_steps b t' y c (status_of why) u) (sym (append-nil before)) s)
     taken_after parts before t t' x y c (Some (spent u)) same l e le s = λ few.
-        goes_on_after plan body_steps before [] t t' x y 2 2 u l (omega (arith, e)) (subst (λ b. Goes_on plan body_steps b t' y u) (sym (append-nil before)) (s (omega (arith, few, e, nested_is))))
+        goes_on_after plan body_steps before [] t t' x y 2 2 u l (omega (arith, e))
+        (subst (λ b. Goes_on plan body_steps b t' y u) (sym (append-nil before))
+        (s (omega (arith, few, e, nested_is))))
     taken_after parts before t t' x y c (Some (gives v u)) same l e le s =
         let q : Lands plan body_steps inside parts before t x 10 v u =
-        after plan body_steps inside parts parts (λ v n h. h) before [] t t' x y 2 2 c 10 (Some (gives v u)) l (λ a lo hi. ap (λ b. word_in b a) same) (omega (arith, e)) (omega (arith, e)) le (subst (λ b. Lands plan body_steps inside parts b t' y c v u) (sym (append-nil before)) s) in
+        after plan body_steps inside parts parts (λ v n h. h) before [] t t' x y 2 2 c 10 (Some (gives v u)) l
+        (λ a lo hi. ap (λ b. word_in b a) same) (omega (arith, e)) (omega (arith, e)) le
+        (subst (λ b. Lands plan body_steps inside parts b t' y c v u) (sym (append-nil before)) s) in
         record {
           y = q.y;
           events = q.events;
@@ -134,11 +150,15 @@ module _ (plan : Plan) (body_steps : ℕ) (laid : Laid plan body_steps) where
           marked = q.marked;
         }
 
-  module _ (codes : List Code) (selected : list_all (form_selected words globals) codes ≡ true) (fitting : list_all can_be_entered codes ≡ true) (short : bodies_cost codes ≤ body_steps) (stood : (label : ℕ) (c : Code) (e : Entry) → slice_get codes label ≡ Some c → c.entry ≡ Some e → BodyAt plan label c e) where
+  module _ (codes : List Code) (selected : list_all (form_selected words globals) codes ≡ true)
+      (fitting : list_all can_be_entered codes ≡ true) (short : bodies_cost codes ≤ body_steps)
+      (stood : (label : ℕ) (c : Code) (e : Entry) → slice_get codes label ≡ Some c → c.entry ≡ Some e
+      → BodyAt plan label c e) where
     abbrev callee : ℕ → Callee
     callee n = enter (entry_at (entries_of codes)) (bodies_of codes) n
 
-    no_entries : (before : List MarkKind) (w : World) (x : View) → x.output ≡ w.state.store.output → map kind_of w.marks ≡ before → w.state.store.entries ≡ 0 → Goes_on plan body_steps before w.state.store x w
+    no_entries : (before : List MarkKind) (w : World) (x : View) → x.output ≡ w.state.store.output
+        → map kind_of w.marks ≡ before → w.state.store.entries ≡ 0 → Goes_on plan body_steps before w.state.store x w
     no_entries before w x printed m none = record {
       last = x;
       events = [];
@@ -152,7 +172,12 @@ module _ (plan : Plan) (body_steps : ℕ) (laid : Laid plan body_steps) where
     }
 
     -- a body that is entered, with one entry less to be nested in it
-    module _ (n : ℕ) (enters : Enters plan body_steps (callee n) n) (act : Activation plan) (nested_is : act.nested ≡ suc n) (is_entered : act.entered ≡ true) (self : Value) (p : Procedure) (vs : List Value) (parts : Parts) (before : List MarkKind) (w : World) (x : View) (at : x.place ≡ code_of plan p.label) (counted : x.registers 0 ≡ length vs) (small : length vs < 2 ^ 31) (places_at : PlacesAt plan act parts w.state.store.charged (entry_places self vs) (λ k. Junk) x.registers x.bytes) (g : StoreAt plan parts w.state x.bytes x.output x.answers) (m : map kind_of w.marks ≡ before) where
+    module _ (n : ℕ) (enters : Enters plan body_steps (callee n) n) (act : Activation plan)
+        (nested_is : act.nested ≡ suc n) (is_entered : act.entered ≡ true) (self : Value) (p : Procedure)
+        (vs : List Value) (parts : Parts) (before : List MarkKind) (w : World) (x : View)
+        (at : x.place ≡ code_of plan p.label) (counted : x.registers 0 ≡ length vs) (small : length vs < 2 ^ 31)
+        (places_at : PlacesAt plan act parts w.state.store.charged (entry_places self vs) (λ k. Junk) x.registers
+        x.bytes) (g : StoreAt plan parts w.state x.bytes x.output x.answers) (m : map kind_of w.marks ≡ before) where
       abbrev t : Store
       t = w.state.store
 
@@ -161,7 +186,8 @@ module _ (plan : Plan) (body_steps : ℕ) (laid : Laid plan body_steps) where
 
       -- what follows once the arguments fit
       abbrev entering : ℕ → List Value → World → Result
-      entering label arguments w = on_outcome w.marks (in_store take_entry w.state) (λ _ w. bodies_of codes label (callee n) act.left self arguments (marked (control.Enter label) w))
+      entering label arguments w = on_outcome w.marks (in_store take_entry w.state)
+          (λ _ w. bodies_of codes label (callee n) act.left self arguments (marked (control.Enter label) w))
 
       module _ (c : Code) (e : Entry) (is : slice_get codes p.label ≡ Some c) (entry_of : c.entry ≡ Some e) where
         abbrev b : BodyAt plan p.label c e
@@ -171,7 +197,8 @@ module _ (plan : Plan) (body_steps : ℕ) (laid : Laid plan body_steps) where
         out = b.n + c.labels
 
         abbrev body : List Item
-        body = item.Mark (Enter p.label) ∷ body_code b.n out words stack (out + 1) c.instructions (item.Label out ∷ b.following)
+        body = item.Mark (Enter p.label) ∷ body_code b.n out words stack (out + 1) c.instructions
+            (item.Label out ∷ b.following)
 
         h : Stands setting [] x.place (check_count e.formals body)
         h = subst (λ a. Stands setting [] a (check_count e.formals body)) (sym at) b.stands
@@ -185,22 +212,38 @@ module _ (plan : Plan) (body_steps : ℕ) (laid : Laid plan body_steps) where
         abbrev y : View
         y = record y1 { place = y1.place + h.2.0 }
 
-        checks : (nat_le (formals_of c.entry) max_operands ≡ true) × (list_all (instruction_selected words globals) c.instructions ≡ true)
-        checks = and_parts (nat_le (formals_of c.entry) max_operands) (list_all (instruction_selected words globals) c.instructions) (each_at (form_selected words globals) codes p.label c selected is)
+        checks : (nat_le (formals_of c.entry) max_operands ≡ true)
+            × (list_all (instruction_selected words globals) c.instructions ≡ true)
+        checks = and_parts (nat_le (formals_of c.entry) max_operands)
+            (list_all (instruction_selected words globals) c.instructions)
+            (each_at (form_selected words globals) codes p.label c selected is)
 
         fits : (takes_no_list c.entry ≡ true) × (list_all (may_stand true (is_form c.entry)) c.instructions ≡ true)
-        fits = and_parts (takes_no_list c.entry) (list_all (may_stand true (is_form c.entry)) c.instructions) (each_at can_be_entered codes p.label c fitting is)
+        fits = and_parts (takes_no_list c.entry) (list_all (may_stand true (is_form c.entry)) c.instructions)
+            (each_at can_be_entered codes p.label c fitting is)
 
         formals_few : e.formals ≤ 200
-        formals_few = leb-true e.formals max_operands (subst (λ o. nat_le (formals_of o) max_operands ≡ true) entry_of checks.0)
+        formals_few = leb-true e.formals max_operands (subst (λ o. nat_le (formals_of o) max_operands ≡ true) entry_of
+            checks.0)
 
         tested : (b : Bool) → nat_eq (length vs) e.formals ≡ b → condition y1.flags NE ≡ Some (not b)
-        tested b q = let f = formals_few in compared_ne (x.registers 0) e.formals (omega (arith, counted, small)) (omega (arith, f)) ∙ ap (λ k. Some (not (k == e.formals))) counted ∙ ap (λ b. Some (not b)) q
+        tested b q = let f = formals_few in compared_ne (x.registers 0) e.formals (omega (arith, counted, small))
+            (omega (arith, f)) ∙ ap (λ k. Some (not (k == e.formals))) counted ∙ ap (λ b. Some (not b)) q
 
         wrong : nat_eq (length vs) e.formals ≡ false → Ends plan body_steps before t x 10 (status_of WrongCount) w
         wrong q =
-            let halts : Halts setting x [] 2 WrongCount = record { registers = y1.registers; flags = y1.flags; least = 2; steps = 2; leads = leads_on setting.marks compared (branches setting y1 NE (stop_label WrongCount) body [] true h.2 (tested false q)); few = omega arith } in
-            stops_here plan body_steps laid before [] x 2 10 WrongCount w halts g.printed (m ∙ sym (append-nil before)) (omega arith)
+            let halts : Halts setting x [] 2 WrongCount = record {
+              registers = y1.registers;
+              flags = y1.flags;
+              least = 2;
+              steps = 2;
+              leads = leads_on setting.marks
+                  compared (branches setting y1 NE (stop_label WrongCount) body [] true h.2 (tested false q));
+              few =
+                  omega arith;
+            } in
+            stops_here plan body_steps laid before [] x 2 10 WrongCount w halts g.printed
+            (m ∙ sym (append-nil before)) (omega arith)
 
         -- the body itself
         module _ (left : ℕ) (left_is : t.entries ≡ suc left) (count_is : nat_eq (length vs) e.formals ≡ true) where
@@ -211,28 +254,54 @@ module _ (plan : Plan) (body_steps : ℕ) (laid : Laid plan body_steps) where
           v = marked (control.Enter p.label) u
 
           reaches : Leads setting 2 2 [] x y
-          reaches = leads_on setting.marks compared (branches setting y1 NE (stop_label WrongCount) body [] false h.2 (tested true count_is))
+          reaches = leads_on setting.marks compared (branches setting y1 NE (stop_label WrongCount) body [] false h.2
+              (tested true count_is))
 
-          inside_at : PlacesAt plan (inside act n nested_is) parts t.charged (entry_places self vs) (λ k. Junk) x.registers x.bytes
-          inside_at = record { frame = places_at.frame; depth = places_at.depth; free = places_at.free; register = places_at.register; slot = places_at.slot; next = places_at.next }
+          inside_at : PlacesAt plan (inside act n nested_is) parts t.charged (entry_places self vs) (λ k. Junk)
+              x.registers x.bytes
+          inside_at = record {
+            frame = places_at.frame;
+            depth = places_at.depth;
+            free = places_at.free;
+            register =
+                places_at.register;
+            slot = places_at.slot;
+            next = places_at.next;
+          }
 
-          runs : Sim plan body_steps (inside act n nested_is) parts before v.state.store y (body_cost c.instructions) (execute_each (callee n) act.left c.instructions None (beginning (Some e) self vs) v)
-          runs = body_sim plan body_steps laid (inside act n nested_is) b.n out (λ q. absurd (let bad : true ≡ false = sym is_entered ∙ q in cc)) true (callee n) (λ q. enters) (out + 1) c.instructions (item.Label out ∷ b.following) checks.1
-              (subst (λ a. list_all (may_stand true (not a)) c.instructions ≡ true) (sym is_entered) (subst (λ o. list_all (may_stand true (is_form o)) c.instructions ≡ true) entry_of fits.1))
-              None parts before (Enter p.label ∷ []) (beginning (Some e) self vs) v y h.2.4 inside_at (store_taken parts w.state left x.bytes x.output x.answers g) tt (map_one w.marks (control.Enter p.label) ∙ ap (λ l. l ++ Enter p.label ∷ []) m)
+          runs : Sim plan body_steps (inside act n nested_is) parts before v.state.store y (body_cost c.instructions)
+              (execute_each (callee n) act.left c.instructions None (beginning (Some e) self vs) v)
+          runs = body_sim plan body_steps laid (inside act n nested_is) b.n out
+              (λ q. absurd (let bad : true ≡ false = sym is_entered ∙ q in cc)) true (callee n) (λ q. enters)
+              (out + 1) c.instructions (item.Label out ∷ b.following) checks.1
+              (subst (λ a. list_all (may_stand true (not a)) c.instructions ≡ true) (sym is_entered)
+              (subst (λ o. list_all (may_stand true (is_form o)) c.instructions ≡ true) entry_of fits.1))
+              None parts before (Enter p.label ∷ []) (beginning (Some e) self vs) v y h.2.4 inside_at
+              (store_taken parts w.state left x.bytes x.output x.answers g) tt
+              (map_one w.marks (control.Enter p.label) ∙ ap (λ l. l ++ Enter p.label ∷ []) m)
 
           enters_body : Owed (bodies_of codes p.label (callee n) act.left self vs v)
           enters_body =
-              let within = cost_within codes p.label c is in let split = mul-suc body_steps left in let paid_for = ap (λ k. body_steps * k) left_is in
-              taken_after act n nested_is parts before t v.state.store x y (body_cost c.instructions) (bodies_of codes p.label (callee n) act.left self vs v) refl reaches left_is (omega (arith, within, short, split, paid_for))
-              (subst (λ o. Sim plan body_steps (inside act n nested_is) parts before v.state.store y (body_cost c.instructions) (do_known o (callee n) act.left self vs v)) (sym is)
-              (subst (λ o. Sim plan body_steps (inside act n nested_is) parts before v.state.store y (body_cost c.instructions) (execute_each (callee n) act.left c.instructions None (beginning o self vs) v)) (sym entry_of) runs))
+              let within = cost_within codes p.label c is in let split = mul-suc body_steps left in let paid_for = ap
+              (λ k. body_steps * k) left_is in
+              taken_after act n nested_is parts before t v.state.store x y (body_cost c.instructions)
+              (bodies_of codes p.label (callee n) act.left self vs v) refl reaches left_is
+              (omega (arith, within, short, split, paid_for))
+              (subst (λ o. Sim plan body_steps (inside act n nested_is) parts before v.state.store y
+              (body_cost c.instructions) (do_known o (callee n) act.left self vs v)) (sym is)
+              (subst (λ o. Sim plan body_steps (inside act n nested_is) parts before v.state.store y
+              (body_cost c.instructions) (execute_each (callee n) act.left c.instructions None
+              (beginning o self vs) v)) (sym entry_of) runs))
 
-        by_entries : nat_eq (length vs) e.formals ≡ true → (k : ℕ) → t.entries ≡ k → Owed (on_outcome w.marks (with_rest w.state.cells w.state.procedures (taken k t)) (λ _ w. bodies_of codes p.label (callee n) act.left self vs (marked (control.Enter p.label) w)))
+        by_entries : nat_eq (length vs) e.formals ≡ true → (k : ℕ) → t.entries ≡ k
+            → Owed (on_outcome w.marks (with_rest w.state.cells w.state.procedures (taken k t))
+            (λ _ w. bodies_of codes p.label (callee n) act.left self vs (marked (control.Enter p.label) w)))
         by_entries q zero z = λ few. no_entries before w x g.printed m z
         by_entries q (suc left) z = enters_body left z q
 
-        by_count : (b : Bool) → nat_eq (length vs) e.formals ≡ b → Owed (on_outcome w.marks (with_rest w.state.cells w.state.procedures (require b WrongCount (gives vs) t)) (entering p.label))
+        by_count : (b : Bool) → nat_eq (length vs) e.formals ≡ b
+            → Owed (on_outcome w.marks (with_rest w.state.cells w.state.procedures
+            (require b WrongCount (gives vs) t)) (entering p.label))
         by_count false q = wrong q
         by_count true q = by_entries q t.entries refl
 
@@ -243,19 +312,26 @@ module _ (plan : Plan) (body_steps : ℕ) (laid : Laid plan body_steps) where
         into : Owed (enter_body (bodies_of codes) (callee n) (Some e) self p vs act.left w)
         into =
             let no_rest = no_list e.rest (subst (λ o. takes_no_list o ≡ true) entry_of fits.0) in
-            subst (λ r. Owed (on_outcome w.marks (in_store (fit e.formals r vs) w.state) (entering p.label))) (sym no_rest) (by_count (nat_eq (length vs) e.formals) refl)
+            subst (λ r. Owed (on_outcome w.marks (in_store (fit e.formals r vs) w.state) (entering p.label)))
+            (sym no_rest) (by_count (nat_eq (length vs) e.formals) refl)
 
-      by_entry : (c : Code) → slice_get codes p.label ≡ Some c → (q : Option Entry) → c.entry ≡ q → Owed (enter_body (bodies_of codes) (callee n) q self p vs act.left w)
+      by_entry : (c : Code) → slice_get codes p.label ≡ Some c → (q : Option Entry) → c.entry ≡ q
+          → Owed (enter_body (bodies_of codes) (callee n) q self p vs act.left w)
       by_entry c i None j = tt
       by_entry c i (Some e) j = into c e i j
 
-      by_code : (o : Option Code) → slice_get codes p.label ≡ o → Owed (enter_body (bodies_of codes) (callee n) (entry_in o) self p vs act.left w)
+      by_code : (o : Option Code) → slice_get codes p.label ≡ o
+          → Owed (enter_body (bodies_of codes) (callee n) (entry_in o) self p vs act.left w)
       by_code None i = tt
       by_code (Some c) i = by_entry c i c.entry refl
 
-      entered : Owed (enter_body (bodies_of codes) (callee n) (entry_at (entries_of codes) p.label) self p vs act.left w)
-      entered = subst (λ o. Owed (enter_body (bodies_of codes) (callee n) o self p vs act.left w)) (sym (entry_is codes p.label)) (by_code (slice_get codes p.label) refl)
+      entered : Owed (enter_body (bodies_of codes) (callee n) (entry_at (entries_of codes) p.label) self p vs act.left
+          w)
+      entered = subst (λ o. Owed (enter_body (bodies_of codes) (callee n) o self p vs act.left w))
+          (sym (entry_is codes p.label)) (by_code (slice_get codes p.label) refl)
 
     pub enter_sim : (n : ℕ) → Enters plan body_steps (callee n) n
-    enter_sim zero act nested_is en self p vs parts before w x at counted small pl g m = λ few. no_entries before w x g.printed m (omega (arith, few, nested_is))
-    enter_sim (suc n) act nested_is en self p vs parts before w x at counted small pl g m = entered n (enter_sim n) act nested_is en self p vs parts before w x at counted small pl g m
+    enter_sim zero act nested_is en self p vs parts before w x at counted small pl g m = λ few. no_entries before w x
+        g.printed m (omega (arith, few, nested_is))
+    enter_sim (suc n) act nested_is en self p vs parts before w x at counted small pl g m = entered n (enter_sim n)
+        act nested_is en self p vs parts before w x at counted small pl g m

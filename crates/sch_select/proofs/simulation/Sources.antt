@@ -1,5 +1,6 @@
 -- What a closure captures is read, and the heap is tested for room.
-use Rattle.std.proofs.Common.{◌≡◌, ℕ, ◌+◌, ◌*◌, ◌%◌, ◌^◌, ◌<◌, ◌≤◌, List, [], ◌∷◌, Bool, true, false, cond, Option, Some, None, refl, sym, ap, ◌∙◌, subst, arith, ◌==◌, eq-eqb}
+use Rattle.std.proofs.Common.{◌≡◌, ℕ, ◌+◌, ◌*◌, ◌%◌, ◌^◌, ◌<◌, ◌≤◌, List, [], ◌∷◌, Bool, true, false, cond, Option}
+use Rattle.std.proofs.Common.{Some, None, refl, sym, ap, ◌∙◌, subst, arith, ◌==◌, eq-eqb}
 use Rattle.std.specs.Prelude.{pos, not, nat_le, nat_lt, slice_get}
 use Rattle.std.proofs.lemmas.Bool.{and_parts}
 use Rattle.std.proofs.lemmas.Option.{slice_get_within}
@@ -53,10 +54,12 @@ record Reads (o : Option Value) (k : ℕ) (procedures : List Procedure) (v : Val
   there : slice_get procedures n ≡ Some p
   value : slice_get p.fields k ≡ Some v
 
-field_reads : (o : Option Value) (k : ℕ) (procedures : List Procedure) (v : Value) → field o k procedures ≡ Some v → Reads o k procedures v
+field_reads : (o : Option Value) (k : ℕ) (procedures : List Procedure) (v : Value) → field o k procedures ≡ Some v
+    → Reads o k procedures v
 field_reads (Some (procedure n)) k procedures v e = by (slice_get procedures n) refl e
   where
-    by : (q : Option Procedure) → slice_get procedures n ≡ q → field_of q k ≡ Some v → Reads (Some (procedure n)) k procedures v
+    by : (q : Option Procedure) → slice_get procedures n ≡ q → field_of q k ≡ Some v
+        → Reads (Some (procedure n)) k procedures v
     by None s e = absurd (let bad : None ≡ Some v = e in cc)
     by (Some p) s e = record { n = n; p = p; is = refl; there = s; value = e }
 field_reads None k procedures v e = absurd (let bad : None ≡ Some v = e in cc)
@@ -93,8 +96,11 @@ module _ (plan : Plan) (act : Activation plan) (old parts : Parts) (stay : Stay 
   Sources r x waiting rest (Some v) = Sourced r x waiting v rest
 
   -- a field of the record that a word names
-  field_word : (s : State Procedure) (x : View) (n k : ℕ) (p : Procedure) (v : Value) (w : ℕ) → StoreAt plan old s x.bytes x.output x.answers → slice_get s.procedures n ≡ Some p → slice_get p.fields k ≡ Some v → Names parts (a_procedure n) 4 w
-      → (unit : ℕ) × (w ≡ 16 * unit + 4) × (closures ≤ field_address unit k) × (field_address unit k + 8 ≤ stack) × IsWord parts v (word_in x.bytes (field_address unit k))
+  field_word : (s : State Procedure) (x : View) (n k : ℕ) (p : Procedure) (v : Value) (w : ℕ)
+      → StoreAt plan old s x.bytes x.output x.answers → slice_get s.procedures n ≡ Some p
+      → slice_get p.fields k ≡ Some v → Names parts (a_procedure n) 4 w
+      → (unit : ℕ) × (w ≡ 16 * unit + 4) × (closures ≤ field_address unit k) × (field_address unit k + 8 ≤ stack)
+      × IsWord parts v (word_in x.bytes (field_address unit k))
   field_word s x n k p v w g e f name =
       let r = g.contents.procedure n p e in
       let inside = spot_within old (a_procedure n) r.at r.there in
@@ -102,10 +108,19 @@ module _ (plan : Plan) (act : Activation plan) (old parts : Parts) (stay : Stay 
       let lt = slice_get_within p.fields k v f in
       let same : Some name.at ≡ Some r.at = sym name.there ∙ stay (a_procedure n) r.at r.there in
       let at : name.at ≡ r.at = cc in
-      let b = g.begins in let z = g.ends in let i = g.within in
-      (r.at.unit, name.is ∙ ap (λ s. 16 * s.unit + 4) at, omega (arith, low, b), omega (arith, high, room, lt, z, i), words_by old parts stay v _ (r.field k v f))
+      let b = g.begins in let z = g.ends in let i = g.within in (
+        r.at.unit,
+        name.is ∙ ap (λ s. 16 * s.unit + 4) at,
+        omega (arith, low, b),
+        omega (arith, high, room, lt, z, i),
+        words_by old parts stay v _ (r.field k v f),
+      )
 
-  pub source_here : (r : ℕ) (q : Source Place) (charged : ℕ) (f : Frame) (s : State Procedure) (x : View) (waiting : List MarkKind) (rest : List Item) → source_selected words globals q ≡ true → PlacesAt plan act parts charged f.places f.outgoing x.registers x.bytes → StoreAt plan old s x.bytes x.output x.answers → Std waiting x.place (source_code r q rest) → Sources r x waiting rest (source_value (held f) s q)
+  pub source_here : (r : ℕ) (q : Source Place) (charged : ℕ) (f : Frame) (s : State Procedure) (x : View)
+      (waiting : List MarkKind) (rest : List Item) → source_selected words globals q ≡ true
+      → PlacesAt plan act parts charged f.places f.outgoing x.registers x.bytes
+      → StoreAt plan old s x.bytes x.output x.answers → Std waiting x.place (source_code r q rest)
+      → Sources r x waiting rest (source_value (held f) s q)
   source_here r (source.Atom a) charged f s x waiting rest e p g h = by (atom_value (held f) s.store a) refl
     where
       l : Atomic plan act parts r x waiting rest (atom_value (held f) s.store a)
@@ -132,7 +147,8 @@ module _ (plan : Plan) (act : Activation plan) (old parts : Parts) (stay : Stay 
       by : (o : Option Value) → field (held f q) k s.procedures ≡ o → Sources r x waiting rest o
       by None i = tt
       by (Some v) i =
-          let l = loaded plan act parts charged f.places f.outgoing q r x waiting behind (and_parts (is_place words q) (nat_lt k 1000) e).0 p g.size_is h in
+          let l = loaded plan act parts charged f.places f.outgoing q r x waiting behind
+          (and_parts (is_place words q) (nat_lt k 1000) e).0 p g.size_is h in
           let reads = field_reads (held f q) k s.procedures v i in
           let hv = by_cell (f.places q) l.value (procedure reads.n) l.holds reads.is in
           let w = field_word s x reads.n k reads.p v l.value g reads.there reads.value hv in
@@ -140,16 +156,21 @@ module _ (plan : Plan) (act : Activation plan) (old parts : Parts) (stay : Stay 
           let a = field_address w.0 k in
           let v0 : set_register x.registers r l.value r ≡ 16 * w.0 + 4 = set_one x.registers r l.value ∙ w.1 in
           let top = plan.near in let w3 = w.3 in
-          let named : add64 (y.registers r) (word (pos (4 + 8 * k))) ≡ a = ap (λ n. add64 n (word (pos (4 + 8 * k)))) v0 ∙ (let m : (16 * w.0 + 4 + (4 + 8 * k)) % 2 ^ 64 ≡ field_address w.0 k = omega (arith, w3, top) in m) in
+          let named : add64 (y.registers r) (word (pos (4 + 8 * k))) ≡ a = ap (λ n. add64 n (word (pos (4 + 8 * k))))
+          v0 ∙ (let m : (16 * w.0 + 4 + (4 + 8 * k)) % 2 ^ 64 ≡ field_address w.0 k = omega (arith, w3, top) in m)
+          in
           let n = word_in x.bytes a in
           record {
             registers = set_register y.registers r n;
             place = l.place + l.ahead.0;
             least = 2;
             steps = 2;
-            leads = leads_on setting.marks l.leads (loads_word setting y r l.ahead.0 a (Base32 r (pos (4 + 8 * k))) [] l.ahead.1 named (heap_inside plan act a x.bytes g.size_is w.2 w.3));
+            leads = leads_on setting.marks l.leads (loads_word setting y r l.ahead.0 a (Base32 r (pos (4 + 8 * k))) []
+                l.ahead.1 named (heap_inside plan act a x.bytes g.size_is w.2 w.3));
             few = omega arith;
-            kept = kept_then (is_one r) x.registers y.registers (set_register y.registers r n) (kept_set (is_one r) x.registers r l.value (eq-eqb r r refl)) (kept_set (is_one r) y.registers r n (eq-eqb r r refl));
+            kept = kept_then (is_one r) x.registers y.registers (set_register y.registers r n)
+                (kept_set (is_one r) x.registers r l.value (eq-eqb r r refl))
+                (kept_set (is_one r) y.registers r n (eq-eqb r r refl));
             value = subst (IsWord parts v) (sym (set_one y.registers r n)) w.4;
             ahead = l.ahead.2;
           }
@@ -174,7 +195,9 @@ module _ (plan : Plan) (act : Activation plan) (old parts : Parts) (stay : Stay 
   Tested true x waiting rest = HasRoom x waiting rest
   Tested false x waiting rest = Halts setting x waiting 4 HeapLimit
 
-  pub room_here : (next bytes : ℕ) (x : View) (waiting : List MarkKind) (rest : List Item) → x.registers 12 ≡ next → next ≤ stack → bytes < 2 ^ 31 → Std waiting x.place (check_heap stack bytes rest) → Tested (nat_le (next + bytes) stack) x waiting rest
+  pub room_here : (next bytes : ℕ) (x : View) (waiting : List MarkKind) (rest : List Item) → x.registers 12 ≡ next
+      → next ≤ stack → bytes < 2 ^ 31 → Std waiting x.place (check_heap stack bytes rest)
+      → Tested (nat_le (next + bytes) stack) x waiting rest
   room_here next bytes x waiting rest at low small h = by (nat_le (next + bytes) stack) refl
     where
       y : View
@@ -193,20 +216,27 @@ module _ (plan : Plan) (act : Activation plan) (old parts : Parts) (stay : Stay 
       sum_is = let n = plan.near in omega (arith, at, low, small, n)
 
       first : Leads setting 3 3 waiting x u
-      first = leads_on setting.marks (leads_on setting.marks (goes setting x y (MovTo (Reg 2) 12) h.0 waiting h.1 refl) (goes setting y z (AddNumber (Reg 2) (pos bytes)) h.2.0 [] h.2.1 refl)) (goes setting z u (CmpNumber (Reg 2) (pos stack)) h.2.2.0 [] h.2.2.1 refl)
+      first = leads_on setting.marks (leads_on setting.marks
+          (goes setting x y (MovTo (Reg 2) 12) h.0 waiting h.1 refl)
+          (goes setting y z (AddNumber (Reg 2) (pos bytes)) h.2.0 [] h.2.1 refl))
+          (goes setting z u (CmpNumber (Reg 2) (pos stack)) h.2.2.0 [] h.2.2.1 refl)
 
       kept : Kept (is_one 2) x.registers z.registers
-      kept = kept_then (is_one 2) x.registers y.registers z.registers (kept_set (is_one 2) x.registers 2 (x.registers 12) refl) (kept_set (is_one 2) y.registers 2 sum refl)
+      kept = kept_then (is_one 2) x.registers y.registers z.registers
+          (kept_set (is_one 2) x.registers 2 (x.registers 12) refl) (kept_set (is_one 2) y.registers 2 sum refl)
 
       above : (b : Bool) → nat_le (next + bytes) stack ≡ b → condition u.flags A ≡ Some (not b)
-      above b e = compared_a sum stack (let n = plan.near in let s = sum_is in omega (arith, s, low, small, n)) (let n = plan.near in omega (arith, n)) ∙ ap (λ k. Some (not (nat_le k stack))) sum_is ∙ ap (λ b. Some (not b)) e
+      above b e = compared_a sum stack (let n = plan.near in let s = sum_is in omega (arith, s, low, small, n))
+          (let n = plan.near in omega (arith, n)) ∙ ap (λ k. Some (not (nat_le k stack))) sum_is
+          ∙ ap (λ b. Some (not b)) e
 
       by : (b : Bool) → nat_le (next + bytes) stack ≡ b → Tested b x waiting rest
       by true e = record {
         registers = z.registers;
         flags = u.flags;
         place = u.place + h.2.2.2.0;
-        leads = leads_on setting.marks first (branches setting u A (stop_label HeapLimit) rest [] false h.2.2.2 (above true e));
+        leads = leads_on setting.marks first (branches setting u A (stop_label HeapLimit) rest [] false h.2.2.2
+            (above true e));
         kept = kept;
         ahead = h.2.2.2.4;
       }
@@ -215,6 +245,7 @@ module _ (plan : Plan) (act : Activation plan) (old parts : Parts) (stay : Stay 
         flags = u.flags;
         least = 4;
         steps = 4;
-        leads = leads_on setting.marks first (branches setting u A (stop_label HeapLimit) rest [] true h.2.2.2 (above false e));
+        leads = leads_on setting.marks first (branches setting u A (stop_label HeapLimit) rest [] true h.2.2.2
+            (above false e));
         few = omega arith;
       }

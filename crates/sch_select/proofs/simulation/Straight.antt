@@ -1,5 +1,6 @@
 -- From one place of a text to another by instructions without memory: checks, tests and their ends.
-use Rattle.std.proofs.Common.{◌≡◌, ℕ, ◌+◌, ◌^◌, ◌<◌, ◌≤◌, ◌%◌, List, [], ◌∷◌, Bool, true, false, cond, Some, refl, sym, ap, ◌∙◌, subst, arith, ◌==◌, ◌||◌}
+use Rattle.std.proofs.Common.{◌≡◌, ℕ, ◌+◌, ◌^◌, ◌<◌, ◌≤◌, ◌%◌, List, [], ◌∷◌, Bool, true, false, cond, Some, refl}
+use Rattle.std.proofs.Common.{sym, ap, ◌∙◌, subst, arith, ◌==◌, ◌||◌}
 use Rattle.std.specs.Prelude.{ℤ, pos, not, bit_and}
 use Rattle.std.proofs.lemmas.Bool.{ne_eqb}
 use Rattle.sch_word.specs.declared.stop.Stop.{Stop}
@@ -39,8 +40,10 @@ is_free r = (r == 0) || ((r == 1) || (r == 2))
 abbrev pub Kept : (free : ℕ → Bool) → (before after : ℕ → ℕ) → Type 0
 Kept free before after = (r : ℕ) → free r ≡ false → after r ≡ before r
 
-pub kept_set : (free : ℕ → Bool) (registers : ℕ → ℕ) (r v : ℕ) → free r ≡ true → Kept free registers (set_register registers r v)
-kept_set free registers r v e k f = ap (λ t. cond t v (registers k)) (ne_eqb k r (λ same. let bad : true ≡ false = sym e ∙ ap free (sym same) ∙ f in absurd cc))
+pub kept_set : (free : ℕ → Bool) (registers : ℕ → ℕ) (r v : ℕ) → free r ≡ true
+    → Kept free registers (set_register registers r v)
+kept_set free registers r v e k f = ap (λ t. cond t v (registers k))
+    (ne_eqb k r (λ same. let bad : true ≡ false = sym e ∙ ap free (sym same) ∙ f in absurd cc))
 
 pub kept_then : (free : ℕ → Bool) (a b c : ℕ → ℕ) → Kept free a b → Kept free b c → Kept free a c
 kept_then free a b c p q k f = q k f ∙ p k f
@@ -70,7 +73,9 @@ module _ (setting : Setting) where
     pub leads : Leads setting least steps waiting x (moved_to x registers flags (place_of (stop_label why)))
     pub few : steps ≤ most
 
-  pub halts_after : (x : View) (registers : ℕ → ℕ) (flags : Flags) (place : ℕ) (waiting : List MarkKind) (a b c most : ℕ) (why : Stop) → Leads setting a b waiting x (moved_to x registers flags place) → b + c ≤ most → Halts (moved_to x registers flags place) [] c why → Halts x waiting most why
+  pub halts_after : (x : View) (registers : ℕ → ℕ) (flags : Flags) (place : ℕ) (waiting : List MarkKind)
+      (a b c most : ℕ) (why : Stop) → Leads setting a b waiting x (moved_to x registers flags place) → b + c ≤ most
+      → Halts (moved_to x registers flags place) [] c why → Halts x waiting most why
   halts_after x registers flags place waiting a b c most why p le s = record {
     registers = s.registers;
     flags = s.flags;
@@ -86,22 +91,27 @@ module _ (setting : Setting) where
     pub tag : ℕ
     pub place : ℕ
     pub tag_is : tag ≡ x.registers r % size
-    pub leads : Leads setting 2 2 waiting x (moved_to x (set_register (set_register x.registers 2 (x.registers r)) 2 tag) (bits_of tag).flags place)
+    pub leads : Leads setting 2 2 waiting x (moved_to x
+        (set_register (set_register x.registers 2 (x.registers r)) 2 tag) (bits_of tag).flags place)
     pub ahead : Stands setting [] place rest
 
-  pub masked : (x : View) (r mask size : ℕ) (waiting : List MarkKind) (rest : List Item) → ((w : ℕ) → bit_and w mask ≡ w % size) → Stands setting waiting x.place (low_bits r mask rest) → Masked x r size waiting rest
+  pub masked : (x : View) (r mask size : ℕ) (waiting : List MarkKind) (rest : List Item)
+      → ((w : ℕ) → bit_and w mask ≡ w % size) → Stands setting waiting x.place (low_bits r mask rest)
+      → Masked x r size waiting rest
   masked x r mask size waiting rest is h =
       let y : View = record x { registers = set_register x.registers 2 (x.registers r); place = x.place + h.0 } in
       record {
         tag = bit_and (x.registers r) mask;
         place = y.place + h.2.0;
         tag_is = is (x.registers r);
-        leads = leads_on setting.marks (goes setting x y (MovTo (Reg 2) r) h.0 waiting h.1 refl) (goes setting y _ (AndNumber (Reg 2) (pos mask)) h.2.0 [] h.2.1 refl);
+        leads = leads_on setting.marks (goes setting x y (MovTo (Reg 2) r) h.0 waiting h.1 refl)
+            (goes setting y _ (AndNumber (Reg 2) (pos mask)) h.2.0 [] h.2.1 refl);
         ahead = h.2.2;
       }
 
   kept_tag : (registers : ℕ → ℕ) (v tag : ℕ) → Kept is_free registers (set_register (set_register registers 2 v) 2 tag)
-  kept_tag registers v tag = kept_then is_free registers (set_register registers 2 v) _ (kept_set is_free registers 2 v refl) (kept_set is_free (set_register registers 2 v) 2 tag refl)
+  kept_tag registers v tag = kept_then is_free registers (set_register registers 2 v) _
+      (kept_set is_free registers 2 v refl) (kept_set is_free (set_register registers 2 v) 2 tag refl)
 
   abbrev pub tagged : View → (r tag : ℕ) → Flags → ℕ → View
   tagged x r tag flags place = moved_to x (set_register (set_register x.registers 2 (x.registers r)) 2 tag) flags place
@@ -109,7 +119,8 @@ module _ (setting : Setting) where
   -- the words of values, with these parts of a heap
   module _ (parts : Parts) where
     -- The machine comes to the items that follow with a word of a value in RAX.
-    pub record Yields (free : ℕ → Bool) (x : View) (waiting : List MarkKind) (most : ℕ) (v : Value) (rest : List Item) : Type 0 where
+    pub record Yields (free : ℕ → Bool) (x : View) (waiting : List MarkKind) (most : ℕ) (v : Value)
+        (rest : List Item) : Type 0 where
       pub registers : ℕ → ℕ
       pub flags : Flags
       pub place : ℕ
@@ -127,7 +138,10 @@ module _ (setting : Setting) where
     Comes free x waiting most t rest (stops why u) = (u ≡ t) × Halts x waiting most why
     Comes free x waiting most t rest (spent u) = ⊥
 
-    pub yields_after : (free : ℕ → Bool) (x : View) (registers : ℕ → ℕ) (flags : Flags) (place : ℕ) (waiting : List MarkKind) (a b c most : ℕ) (v : Value) (rest : List Item) → Leads setting a b waiting x (moved_to x registers flags place) → Kept free x.registers registers → b + c ≤ most → Yields free (moved_to x registers flags place) [] c v rest → Yields free x waiting most v rest
+    pub yields_after : (free : ℕ → Bool) (x : View) (registers : ℕ → ℕ) (flags : Flags) (place : ℕ)
+        (waiting : List MarkKind) (a b c most : ℕ) (v : Value) (rest : List Item)
+        → Leads setting a b waiting x (moved_to x registers flags place) → Kept free x.registers registers
+        → b + c ≤ most → Yields free (moved_to x registers flags place) [] c v rest → Yields free x waiting most v rest
     yields_after free x registers flags place waiting a b c most v rest p k le s = record {
       registers = s.registers;
       flags = s.flags;
@@ -142,15 +156,24 @@ module _ (setting : Setting) where
     }
 
     -- what is ahead, after some steps
-    pub comes_after : (free : ℕ → Bool) (x : View) (registers : ℕ → ℕ) (flags : Flags) (place : ℕ) (waiting : List MarkKind) (a b c most : ℕ) (t : Store) (rest : List Item) (o : Outcome Store Value) → Leads setting a b waiting x (moved_to x registers flags place) → Kept free x.registers registers → b + c ≤ most → Comes free (moved_to x registers flags place) [] c t rest o → Comes free x waiting most t rest o
-    comes_after free x registers flags place waiting a b c most t rest (gives v u) p k le s = (s.0, yields_after free x registers flags place waiting a b c most v rest p k le s.1)
-    comes_after free x registers flags place waiting a b c most t rest (stops why u) p k le s = (s.0, halts_after x registers flags place waiting a b c most why p le s.1)
+    pub comes_after : (free : ℕ → Bool) (x : View) (registers : ℕ → ℕ) (flags : Flags) (place : ℕ)
+        (waiting : List MarkKind) (a b c most : ℕ) (t : Store) (rest : List Item) (o : Outcome Store Value)
+        → Leads setting a b waiting x (moved_to x registers flags place) → Kept free x.registers registers
+        → b + c ≤ most → Comes free (moved_to x registers flags place) [] c t rest o
+        → Comes free x waiting most t rest o
+    comes_after free x registers flags place waiting a b c most t rest (gives v u) p k le s =
+        (s.0, yields_after free x registers flags place waiting a b c most v rest p k le s.1)
+    comes_after free x registers flags place waiting a b c most t rest (stops why u) p k le s =
+        (s.0, halts_after x registers flags place waiting a b c most why p le s.1)
     comes_after free x registers flags place waiting a b c most t rest (spent u) p k le s = absurd s
 
     -- ---- a check that a register has a fixnum
 
-    pub fixnum_checked : (r : ℕ) (v : Value) (next : ℤ → Action Value) (x : View) (waiting : List MarkKind) (c : ℕ) (t : Store) (code rest : List Item) → IsWord parts v (x.registers r) → Stands setting waiting x.place (check_fixnum r code) →
-        ((n : ℤ) (tag : ℕ) (flags : Flags) (place : ℕ) → FixnumWord n (x.registers r) → Stands setting [] place code → Comes is_free (tagged x r tag flags place) [] c t rest (next n t)) →
+    pub fixnum_checked : (r : ℕ) (v : Value) (next : ℤ → Action Value) (x : View) (waiting : List MarkKind) (c : ℕ)
+        (t : Store) (code rest : List Item) → IsWord parts v (x.registers r)
+        → Stands setting waiting x.place (check_fixnum r code) →
+        ((n : ℤ) (tag : ℕ) (flags : Flags) (place : ℕ) → FixnumWord n (x.registers r) → Stands setting [] place code
+        → Comes is_free (tagged x r tag flags place) [] c t rest (next n t)) →
         Comes is_free x waiting (c + 3) t rest (as_fixnum v next t)
     fixnum_checked r v next x waiting c t code rest hv h K = by v hv
       where
@@ -169,14 +192,16 @@ module _ (setting : Setting) where
           flags = y.flags;
           least = 3;
           steps = 3;
-          leads = leads_on setting.marks m.leads (branches setting y NE (stop_label WrongType) code [] true m.ahead (at false e));
+          leads = leads_on setting.marks m.leads (branches setting y NE (stop_label WrongType) code [] true m.ahead
+              (at false e));
           few = omega arith;
         }
 
         by : (v : Value) → IsWord parts v (x.registers r) → Comes is_free x waiting (c + 3) t rest (as_fixnum v next t)
         by (fixnum n) hv =
             comes_after is_free x y.registers y.flags (m.place + m.ahead.0) waiting 3 3 c (c + 3) t rest (next n t)
-            (leads_on setting.marks m.leads (branches setting y NE (stop_label WrongType) code [] false m.ahead (at true (integer_tested parts (fixnum n) _ hv))))
+            (leads_on setting.marks m.leads (branches setting y NE (stop_label WrongType) code [] false m.ahead
+            (at true (integer_tested parts (fixnum n) _ hv))))
             (kept_tag x.registers (x.registers r) m.tag) (omega arith)
             (K n m.tag y.flags (m.place + m.ahead.0) hv m.ahead.4)
         by (character n) hv = (refl, wrong (integer_tested parts (character n) _ hv))
@@ -190,13 +215,17 @@ module _ (setting : Setting) where
 
     -- ---- a check that RAX has a character
 
-    pub character_checked : (v : Value) (next : ℕ → Action Value) (x : View) (waiting : List MarkKind) (c : ℕ) (t : Store) (code rest : List Item) → IsWord parts v (x.registers 0) → Stands setting waiting x.place (check_character code) →
-        ((byte : ℕ) (tag : ℕ) (flags : Flags) (place : ℕ) → IsWord parts (character byte) (x.registers 0) → Stands setting [] place code → Comes is_free (tagged x 0 tag flags place) [] c t rest (next byte t)) →
+    pub character_checked : (v : Value) (next : ℕ → Action Value) (x : View) (waiting : List MarkKind) (c : ℕ)
+        (t : Store) (code rest : List Item) → IsWord parts v (x.registers 0)
+        → Stands setting waiting x.place (check_character code) →
+        ((byte : ℕ) (tag : ℕ) (flags : Flags) (place : ℕ) → IsWord parts (character byte) (x.registers 0)
+        → Stands setting [] place code → Comes is_free (tagged x 0 tag flags place) [] c t rest (next byte t)) →
         Comes is_free x waiting (c + 4) t rest (as_character v next t)
     character_checked v next x waiting c t code rest hv h K = by v hv
       where
         m : Masked x 0 256 waiting (Plain (CmpNumber (Reg 2) (pos 46)) ∷ (JumpIf NE (stop_label WrongType) ∷ code))
-        m = masked x 0 255 256 waiting (Plain (CmpNumber (Reg 2) (pos 46)) ∷ (JumpIf NE (stop_label WrongType) ∷ code)) by_255 h
+        m = masked x 0 255 256 waiting (Plain (CmpNumber (Reg 2) (pos 46)) ∷
+            (JumpIf NE (stop_label WrongType) ∷ code)) by_255 h
 
         y : View
         y = tagged x 0 m.tag (bits_of m.tag).flags m.place
@@ -205,10 +234,12 @@ module _ (setting : Setting) where
         z = tagged x 0 m.tag (difference_of m.tag 46).flags (m.place + m.ahead.0)
 
         compared : Leads setting 3 3 waiting x z
-        compared = leads_on setting.marks m.leads (goes setting y z (CmpNumber (Reg 2) (pos 46)) m.ahead.0 [] m.ahead.1 refl)
+        compared = leads_on setting.marks m.leads (goes setting y z (CmpNumber (Reg 2) (pos 46)) m.ahead.0 []
+            m.ahead.1 refl)
 
         at : (b : Bool) → (x.registers 0 % 256 == 46) ≡ b → condition z.flags NE ≡ Some (not b)
-        at b e = compared_ne m.tag 46 (let i = m.tag_is in omega (arith, i)) (omega arith) ∙ ap (λ k. Some (not (k == 46))) m.tag_is ∙ ap (λ b. Some (not b)) e
+        at b e = compared_ne m.tag 46 (let i = m.tag_is in omega (arith, i)) (omega arith)
+            ∙ ap (λ k. Some (not (k == 46))) m.tag_is ∙ ap (λ b. Some (not b)) e
 
         wrong : (x.registers 0 % 256 == 46) ≡ false → Halts x waiting (c + 4) WrongType
         wrong e = record {
@@ -216,14 +247,17 @@ module _ (setting : Setting) where
           flags = z.flags;
           least = 4;
           steps = 4;
-          leads = leads_on setting.marks compared (branches setting z NE (stop_label WrongType) code [] true m.ahead.2 (at false e));
+          leads = leads_on setting.marks compared (branches setting z NE (stop_label WrongType) code [] true m.ahead.2
+              (at false e));
           few = omega arith;
         }
 
-        by : (v : Value) → IsWord parts v (x.registers 0) → Comes is_free x waiting (c + 4) t rest (as_character v next t)
+        by : (v : Value) → IsWord parts v (x.registers 0) → Comes is_free x waiting (c + 4) t rest
+            (as_character v next t)
         by (character n) hv =
             comes_after is_free x z.registers z.flags (z.place + m.ahead.2.0) waiting 4 4 c (c + 4) t rest (next n t)
-            (leads_on setting.marks compared (branches setting z NE (stop_label WrongType) code [] false m.ahead.2 (at true (character_tested parts (character n) _ hv))))
+            (leads_on setting.marks compared (branches setting z NE (stop_label WrongType) code [] false m.ahead.2
+            (at true (character_tested parts (character n) _ hv))))
             (kept_tag x.registers (x.registers 0) m.tag) (omega arith)
             (K n m.tag z.flags (z.place + m.ahead.2.0) hv m.ahead.2.4)
         by (fixnum n) hv = (refl, wrong (character_tested parts (fixnum n) _ hv))
@@ -237,7 +271,9 @@ module _ (setting : Setting) where
 
     -- ---- a boolean, by a condition
 
-    pub booleans : (x : View) (n c : ℕ) (b : Bool) (waiting : List MarkKind) (rest : List Item) → condition x.flags c ≡ Some b → Stands setting waiting x.place (boolean_code n c rest) → Yields is_free x waiting 3 (boolean b) rest
+    pub booleans : (x : View) (n c : ℕ) (b : Bool) (waiting : List MarkKind) (rest : List Item)
+        → condition x.flags c ≡ Some b → Stands setting waiting x.place (boolean_code n c rest)
+        → Yields is_free x waiting 3 (boolean b) rest
     booleans x n c b waiting rest e h = by b e
       where
         y : View
@@ -253,7 +289,8 @@ module _ (setting : Setting) where
           place = place_of n;
           least = 2;
           steps = 2;
-          leads = leads_on setting.marks first (branches setting y c n (Plain (MovNumber (Reg 0) (pos false_word)) ∷ (Label n ∷ rest)) [] true h.2 e);
+          leads = leads_on setting.marks first (branches setting y c n
+              (Plain (MovNumber (Reg 0) (pos false_word)) ∷ (Label n ∷ rest)) [] true h.2 e);
           few = omega arith;
           kept = kept_set is_free x.registers 0 true_word refl;
           value = refl;
@@ -268,21 +305,29 @@ module _ (setting : Setting) where
               place = u.place;
               least = 3;
               steps = 3;
-              leads = leads_on setting.marks (leads_on setting.marks first (branches setting y c n (Plain (MovNumber (Reg 0) (pos false_word)) ∷ (Label n ∷ rest)) [] false h.2 e)) (goes setting z u (MovNumber (Reg 0) (pos false_word)) h.2.4.0 [] h.2.4.1 refl);
+              leads = leads_on setting.marks (leads_on setting.marks first
+                  (branches setting y c n (Plain (MovNumber (Reg 0) (pos false_word)) ∷ (Label n ∷ rest)) [] false h.2
+                  e)) (goes setting z u (MovNumber (Reg 0) (pos false_word)) h.2.4.0 [] h.2.4.1 refl);
               few = omega arith;
-              kept = kept_then is_free x.registers y.registers u.registers (kept_set is_free x.registers 0 true_word refl) (kept_set is_free y.registers 0 false_word refl);
+              kept = kept_then is_free x.registers y.registers u.registers
+                  (kept_set is_free x.registers 0 true_word refl) (kept_set is_free y.registers 0 false_word refl);
               value = refl;
               ahead = h.2.4.2.2;
             }
 
     -- whether the low bits of RAX are these
-    pub tests : (x : View) (n mask size tag : ℕ) (b : Bool) (waiting : List MarkKind) (rest : List Item) → ((w : ℕ) → bit_and w mask ≡ w % size) → size ≤ 256 → 0 < size → tag < 256 → (x.registers 0 % size == tag) ≡ b → Stands setting waiting x.place (test_code n mask tag rest) → Yields is_free x waiting 6 (boolean b) rest
+    pub tests : (x : View) (n mask size tag : ℕ) (b : Bool) (waiting : List MarkKind) (rest : List Item)
+        → ((w : ℕ) → bit_and w mask ≡ w % size) → size ≤ 256 → 0 < size → tag < 256
+        → (x.registers 0 % size == tag) ≡ b → Stands setting waiting x.place (test_code n mask tag rest)
+        → Yields is_free x waiting 6 (boolean b) rest
     tests x n mask size tag b waiting rest is small some low e h =
         let m = masked x 0 mask size waiting (Plain (CmpNumber (Reg 2) (pos tag)) ∷ boolean_code n E rest) is h in
         let y : View = tagged x 0 m.tag (bits_of m.tag).flags m.place in
         let z : View = tagged x 0 m.tag (difference_of m.tag tag).flags (m.place + m.ahead.0) in
-        let lt : m.tag < 2 ^ 64 = (let i = m.tag_is in let k = mod-lt (x.registers 0) some in omega (arith, i, k, small)) in
-        let at : condition z.flags E ≡ Some b = compared_e m.tag tag lt (omega (arith, low)) ∙ ap (λ k. Some (k == tag)) m.tag_is ∙ ap Some e in
+        let lt : m.tag < 2 ^ 64 = (let i = m.tag_is in let k = mod-lt (x.registers 0) some in omega
+        (arith, i, k, small)) in
+        let at : condition z.flags E ≡ Some b = compared_e m.tag tag lt (omega (arith, low))
+        ∙ ap (λ k. Some (k == tag)) m.tag_is ∙ ap Some e in
         yields_after is_free x z.registers z.flags z.place waiting 3 3 3 6 (boolean b) rest
         (leads_on setting.marks m.leads (goes setting y z (CmpNumber (Reg 2) (pos tag)) m.ahead.0 [] m.ahead.1 refl))
         (kept_tag x.registers (x.registers 0) m.tag) (omega arith)
@@ -290,7 +335,9 @@ module _ (setting : Setting) where
 
     -- ---- the end of what computes a fixnum
 
-    pub ends_fixnum : (n : ℤ) (c : Computed) (x : View) (waiting : List MarkKind) (t : Store) (rest : List Item) → Computes n c → x.registers 0 ≡ c.value → x.flags ≡ c.flags → Stands setting waiting x.place (overflow_code rest) → Comes is_free x waiting 1 t rest (fixnum_or_stop n t)
+    pub ends_fixnum : (n : ℤ) (c : Computed) (x : View) (waiting : List MarkKind) (t : Store) (rest : List Item)
+        → Computes n c → x.registers 0 ≡ c.value → x.flags ≡ c.flags
+        → Stands setting waiting x.place (overflow_code rest) → Comes is_free x waiting 1 t rest (fixnum_or_stop n t)
     ends_fixnum n c x waiting t rest h value flags st = by (is_fixnum n) refl
       where
         at : (b : Bool) → is_fixnum n ≡ b → condition x.flags O ≡ Some (not b)

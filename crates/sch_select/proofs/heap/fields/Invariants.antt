@@ -5,5 +5,6 @@ use Rattle.sch_select.proofs.heap.fields.Given as goal
 
 abbrev pub invariant-loop-x : goal.invariant-loop-x
 invariant-loop-x l = record {
-  items : (rest : List Item) → l.out ++ fields_code l.next (drop l.x-index l.sources) rest ≡ l.initial.out ++ fields_code l.offset l.sources rest;
+  items : (rest : List Item) → l.out ++ fields_code l.next (drop l.x-index l.sources) rest ≡ l.initial.out ++
+      fields_code l.offset l.sources rest;
 }

@@ -1,5 +1,4 @@
 use Rattle.std.proofs.Common.{◌≡◌, ◌++◌, [], None, map, refl, ap, ◌∙◌, sym, subst}
-use Rattle.sch_names.specs.NamesView.{names_of}
 use Rattle.sch_read.specs.Views.{data_of}
 use Rattle.sch_sketch.specs.DraftView.{drafts_of}
 use Rattle.sch_numbers.specs.Named.{firsts}
