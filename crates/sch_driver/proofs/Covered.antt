@@ -1,6 +1,6 @@
 -- A call-free frame program is one that selection covers.
 use Rattle.std.proofs.Common.{◌≡◌, ℕ, Bool, true, false, List, [], ◌∷◌, refl, ◌∙◌, ap}
-use Rattle.std.specs.Prelude.{◌&&◌, IsTrue, nat_le, length, not}
+use Rattle.std.specs.Prelude.{◌&&◌, ◌||◌, IsTrue, nat_le, length, not}
 use Rattle.std.specs.List.{list_all}
 use Rattle.std.proofs.lemmas.Bool.{and_from, and_parts}
 use Rattle.sch_word.specs.declared.place.Place.{Place}
@@ -18,7 +18,7 @@ use Rattle.sch_frames.specs.CallFree.{is_call_free_instruction, is_call_free_cod
 use Rattle.sch_frames.specs.Tree.{Code}
 use Rattle.sch_frames.specs.Tree as tree
 use Rattle.sch_select.specs.Covered as covered
-use Rattle.sch_select.specs.Covered.{is_covered_source, is_covered_group, is_covered_operation, is_covered_instruction, is_covered_code, is_covered_program}
+use Rattle.sch_select.specs.Covered.{is_covered_source, is_covered_group, is_covered_operation, is_covered_instruction, is_covered_code, without_calls, is_covered_program}
 
 source_covered : (s : Source Place) → is_call_free_source s ≡ true → source_low s ≡ true → is_covered_source s ≡ true
 source_covered (source.Atom a) h l = h
@@ -101,6 +101,37 @@ codes_covered : (cs : List Code) → list_all is_call_free_code cs ≡ true → 
 codes_covered [] h = refl
 codes_covered (c ∷ cs) h = let p = and_parts _ _ h in and_from _ _ (code_covered c p.0) (codes_covered cs p.1)
 
+-- ## Calls: none stands in a call-free body
+
+may_stand : (i : Instruction) → is_call_free_instruction i ≡ true → covered.may_stand false true i ≡ true
+may_stand (Do o) h = refl
+may_stand (Store p) h = refl
+may_stand (Copy p q) h = refl
+may_stand (Load p o) h = refl
+may_stand (Pass k o) h = refl
+may_stand (Fix ms) h = refl
+may_stand (Call spread count) h = absurd cc
+may_stand (Tail spread count) h = absurd cc
+may_stand Return h = refl
+may_stand End h = refl
+may_stand (IfFalse k) h = refl
+may_stand (Jump k) h = refl
+may_stand (Label k) h = refl
+may_stand (Mark m) h = refl
+
+all_may_stand : (is : List Instruction) → list_all is_call_free_instruction is ≡ true → list_all (covered.may_stand false true) is ≡ true
+all_may_stand [] h = refl
+all_may_stand (i ∷ is) h = let p = and_parts _ _ h in and_from _ _ (may_stand i p.0) (all_may_stand is p.1)
+
+codes_without_calls : (cs : List Code) → list_all is_call_free_code cs ≡ true → list_all without_calls cs ≡ true
+codes_without_calls [] h = refl
+codes_without_calls (c ∷ cs) h =
+    let p = and_parts _ _ h in
+    let q = and_parts _ _ p.0 in
+    and_from _ _ (all_may_stand c.instructions q.0) (codes_without_calls cs p.1)
+
+-- ## Programs
+
 no_library : (library : List ℕ) → is_empty library ≡ true → nat_le (length library) covered.max_library ≡ true
 no_library [] h = refl
 no_library (x ∷ xs) h = absurd cc
@@ -109,4 +140,6 @@ no_library (x ∷ xs) h = absurd cc
 pub call_free_covered : (p : tree.Source) → IsTrue (is_call_free_program p) → IsTrue (is_covered_program p)
 call_free_covered p h =
     let q = and_parts _ _ h in
-    and_from _ _ (no_library p.library q.0) (codes_covered p.bodies q.1)
+    and_from _ _ (no_library p.library q.0)
+    (and_from _ _ (codes_covered p.bodies q.1)
+    (ap (λ b. b || list_all covered.can_be_entered p.bodies) (codes_without_calls p.bodies q.1)))

@@ -1,6 +1,6 @@
 -- The image of a program whose items follow the runs of its frames.
-use Rattle.std.proofs.Common.{◌≡◌, ◌≤◌, ℕ, ◌+◌, ◌*◌, List, [], ◌∷◌, ◌++◌, length, Option, Some, None, refl, sym, ap, ◌∙◌, subst, arith}
-use Rattle.std.specs.Prelude.{IsTrue, IfErr, IsErrAnd, Result, Ok, Err, replicate, false}
+use Rattle.std.proofs.Common.{◌≡◌, ◌≤◌, ℕ, ◌+◌, ◌*◌, List, [], ◌∷◌, ◌++◌, length, Option, Some, sym, ap, ◌∙◌, subst, arith}
+use Rattle.std.specs.Prelude.{IsTrue, IfErr, IsErrAnd, Result, Ok, Err, replicate}
 use Rattle.std.specs.List.{flat_map}
 use Rattle.std.proofs.lemmas.List.{append-nil}
 use Rattle.sch_word.specs.declared.answer.Answer.{Answer}
@@ -26,7 +26,10 @@ use Rattle.sch_control.specs.Work.{codes_work}
 use Rattle.sch_control.specs.Tree as control
 use Rattle.sch_control.specs.Run as control_run
 use Rattle.sch_frames.specs.Does.{Follows, SameRuns}
+use Rattle.sch_frames.specs.CallFree.{is_call_free_program}
+use Rattle.sch_frames.specs.Run as frames_run
 use Rattle.sch_frames.specs.Tree as frames
+use Rattle.sch_frames.proofs.DepthFree.{depth_free}
 use Rattle.sch_select.specs.Follows.{FollowsFrames}
 use Rattle.sch_lang.specs.Measures.{program_size}
 use Rattle.sch_lang.specs.Tree as lang
@@ -51,11 +54,13 @@ image_follows text words zeros image runs lies f =
 not_wrong : (a b : Option Run) (r : Run) → a ≡ Some r → Follows a b → b ≡ Some r
 not_wrong a b r e = subst (λ o. Follows o b → b ≡ Some r) (sym e) (λ f. f)
 
-pub assembled : (p : control.Source) (f : frames.Source) (heap depth : ℕ) (a routines : Asm) (code : List Insn) (marks : List Mark) (words text : List ℕ) (zeros : ℕ) (image : Image)
-    → SameRuns p f → FollowsFrames f heap depth a.items a.words a.zeros → AreEffective routines.items → AreResolved (a.items ++ routines.items) a.words code marks words → AllValid code
+-- A call-free program makes no call, so that its runs are the same at every depth. It is selected with the least
+-- one, lest it want a stack that it never uses; what is selected so follows the runs at the depth that is asked for.
+pub assembled : (p : control.Source) (f : frames.Source) (heap depth least : ℕ) (a routines : Asm) (code : List Insn) (marks : List Mark) (words text : List ℕ) (zeros : ℕ) (image : Image)
+    → SameRuns p f → IsTrue (is_call_free_program f) → FollowsFrames f heap least a.items a.words a.zeros → AreEffective routines.items → AreResolved (a.items ++ routines.items) a.words code marks words → AllValid code
     → length (flat_map spelling code) ≤ max_text_size → length (flat_map spelling code) ≤ assembled_bound p
     → text ≡ flat_map spelling code → zeros ≡ a.zeros → IsProgramImage text words zeros image → IsAssembled p heap depth image
-assembled p f heap depth a routines code marks words text zeros image same follows effective resolved valid fits bound text_is zeros_are lies =
+assembled p f heap depth least a routines code marks words text zeros image same free follows effective resolved valid fits bound text_is zeros_are lies =
     let lies' : IsProgramImage (flat_map spelling code) words a.zeros image =
     subst (λ t. IsProgramImage t words a.zeros image) text_is (subst (λ z. IsProgramImage text words z image) zeros_are lies) in
     record {
@@ -64,7 +69,9 @@ assembled p f heap depth a routines code marks words text zeros image same follo
       follows = λ runs are.
           image_follows (flat_map spelling code) words a.zeros image runs lies'
           (follows.follows routines.items code marks words effective a.marked routines.marked resolved valid fits runs
-          (record { are = λ answers entries. not_wrong (control_run.run p heap depth answers entries) _ (runs answers entries) (are answers entries) (same heap depth answers entries) }));
+          (record { are = λ answers entries.
+          depth_free f free heap least depth answers entries
+          ∙ not_wrong (control_run.run p heap depth answers entries) (frames_run.run f heap depth answers entries) (runs answers entries) (are answers entries) (same heap depth answers entries) }));
     }
 
 -- ## What is too large

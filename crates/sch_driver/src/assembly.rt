@@ -16,7 +16,7 @@ use sch_frames::frame_program;
 use sch_insn::Insn;
 use sch_runtime::routines;
 use sch_select::select;
-use sch_word::{Bytes, Limits, Mem};
+use sch_word::{Bytes, Limits, MIN_DEPTH, Mem};
 use std::alloc::Global;
 
 /// The spellings of instructions, one after the other.
@@ -34,6 +34,9 @@ fn text_of(alloc: Global, code: &[Insn]) -> Result<Bytes, Mem>
 }
 
 /// The image of a call-free program, under limits of heap and depth.
+///
+/// It makes no call, so that it does the same at every depth. Its code is selected with the least one: a
+/// program of large frames would not fit in memory for a stack that it never uses.
 pub(crate) fn assemble(
     alloc: Global,
     p: &ControlProgram,
@@ -44,7 +47,11 @@ pub(crate) fn assemble(
     ensures refused { IfErr result (IsUnfit (source p.now)) }
 {
     let frames = frame_program(alloc, p)?;
-    let code = select(alloc, &frames, limits)?;
+    let shallow = Limits {
+        heap: limits.heap,
+        depth: MIN_DEPTH,
+    };
+    let code = select(alloc, &frames, shallow)?;
     let routines = routines(alloc, limits)?;
     let resolved = resolve(alloc, &code, &routines)?;
     let text = text_of(alloc, resolved.code.as_slice())?;

@@ -1,4 +1,5 @@
 mod Arriving
+pub mod DepthFree
 mod FrameBodies
 mod layouts
 mod runs
