@@ -2,6 +2,8 @@
 #![tactic(auto)]
 
 #[cfg(test)]
+mod call_free;
+#[cfg(test)]
 mod program;
 #[cfg(test)]
 mod straight;

@@ -9,7 +9,7 @@ use std::test::Fail;
 const RUN: [&str; 4] = ["run", "a", "--heap", "4096"];
 
 // Runs a source that ends with 0.
-fn check_printed(alloc: Global, source: &[u8], printed: &[u8]) -> Result<(), Fail> {
+pub(crate) fn check_printed(alloc: Global, source: &[u8], printed: &[u8]) -> Result<(), Fail> {
     let ending = perform(alloc, &RUN, source, &[])?;
     if ending.status != 0 || ending.printed.as_slice() != printed || !ending.said.is_empty() {
         return Err(Fail::from("another end or output"));
@@ -101,7 +101,7 @@ fn choices_print(rt: HostRuntime) -> Result<(), Fail> {
 }
 
 // Runs a source that stops.
-fn check_stop(
+pub(crate) fn check_stop(
     alloc: Global,
     source: &[u8],
     status: u8,

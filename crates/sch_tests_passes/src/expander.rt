@@ -5,7 +5,7 @@ ghost use Rattle.sch_read.specs.Grammar.{atom, list, symbol};
 ghost use Rattle.sch_read.specs.Valid.{weight};
 ghost use Rattle.sch_read.specs.Views.{tree_of, data_of};
 
-use sch_core::{CoreError, Kind, core};
+use sch_core::{CoreError, Kind, Library, core};
 use sch_lang::Program;
 use sch_read::{Atom, Datum, Node, read_all};
 use sch_word::{List, Mem};
@@ -21,7 +21,7 @@ fn program_of(alloc: Global, text: &[u8]) -> Result<Program, CoreError> {
         return Err(CoreError::Memory);
     }
     match read_all(alloc, text) {
-        Ok(items) => core(alloc, items.as_slice()),
+        Ok(items) => core(alloc, Library::empty(alloc), items.as_slice()),
         Err(_) => Err(CoreError::Memory),
     }
 }
@@ -29,7 +29,7 @@ fn program_of(alloc: Global, text: &[u8]) -> Result<Program, CoreError> {
 // How many globals and sites the program of a text has.
 #[test]
 fn expands_each_form(rt: HostRuntime) -> Result<(), Fail> {
-    let rows: [(&[u8], usize, usize); 6] = [
+    let rows: [(&[u8], usize, usize); 12] = [
         (b"", 0, 0),
         (b"(display 1)(newline)(display #\\a)", 0, 3),
         (
@@ -52,6 +52,16 @@ fn expands_each_form(rt: HostRuntime) -> Result<(), Fail> {
             0,
             5,
         ),
+        (b"(define (f x) (f x))(define g 1)(set! g 2)", 2, 1),
+        (
+            b"(letrec ((a 1)) (let loop ((i 0)) (if i (loop i) a)))",
+            0,
+            3,
+        ),
+        (b"\"a\"'(1 2)'b(do ((i 0 (+ i 1))) ((= i 5) i))", 0, 4),
+        (b"(cond (1 => (lambda (x) x)))", 0, 2),
+        (b"(case 1 ((x) 2))", 0, 2),
+        (b"(let () (define x 1) x)", 0, 2),
     ];
     for (text, globals, sites) in rows {
         let program = program_of(rt.alloc(), text)?;
@@ -61,33 +71,48 @@ fn expands_each_form(rt: HostRuntime) -> Result<(), Fail> {
     Ok(())
 }
 
-// The place of the fault of a text that is badly formed, or not built yet.
-fn refused(alloc: Global, text: &[u8]) -> Option<(bool, u32)> {
+// The place of the fault of a text that is badly formed.
+fn refused(alloc: Global, text: &[u8]) -> Option<u32> {
     match program_of(alloc, text) {
-        Err(CoreError::BadForm(at)) => Some((true, at)),
-        Err(CoreError::Unbuilt(at)) => Some((false, at)),
+        Err(CoreError::BadForm(at)) => Some(at),
         _ => None,
     }
 }
 
 #[test]
 fn refuses_each_form(rt: HostRuntime) -> Result<(), Fail> {
-    let rows: [(&[u8], bool, u32); 11] = [
-        (b"(cond)", true, 0),
-        (b"(cond (else))", true, 0),
-        (b"(cond (else 1) (2))", true, 0),
-        (b"(cond (1 =>))", true, 9),
-        (b"(cond (1 => 2))", false, 6),
-        (b"(case 1)", true, 0),
-        (b"(case 1 ((2)))", true, 0),
-        (b"(case 1 ((x) 2))", false, 10),
-        (b"(let* ((x 1)))", true, 0),
-        (b"(let () (define x 1) x)", false, 8),
-        (b"(or (lambda () 1) 2)", false, 4),
+    let rows: [(&[u8], u32); 15] = [
+        (b"(cond)", 0),
+        (b"(cond (else))", 0),
+        (b"(cond (else 1) (2))", 0),
+        (b"(cond (1 =>))", 9),
+        (b"(case 1)", 0),
+        (b"(case 1 ((2)))", 0),
+        (b"(let* ((x 1)))", 0),
+        (b"(let () (define x 1))", 0),
+        (b"(let ((x 1) (x 2)) x)", 0),
+        (b"(lambda (x x) 1)", 0),
+        (b"(set! if 1)", 0),
+        (b"(define (f 1) 2)", 0),
+        (b"(define if . 1)", 0),
+        (b"(do ((i 0)) ())", 0),
+        (b"(let () (define x) 1)", 8),
     ];
-    for (text, is_bad, at) in rows {
-        assert!(rt; matches!(refused(rt.alloc(), text), Some((b, p)) if b == is_bad && p == at));
+    for (text, at) in rows {
+        assert!(rt; matches!(refused(rt.alloc(), text), Some(p) if p == at));
     }
+    Ok(())
+}
+
+#[test]
+fn names_that_are_not_bound(rt: HostRuntime) -> Result<(), Fail> {
+    let alloc = rt.alloc();
+    let assigned = program_of(alloc, b"(set! q 1)");
+    assert!(rt; matches!(assigned, Err(CoreError::Unbound(6, _))));
+    let called = program_of(alloc, b"(lambda (x) (if #f (set! car x)))(car 1)");
+    assert!(rt; matches!(called, Err(CoreError::Unbound(25, _))));
+    let keyword = program_of(alloc, b"(define (if) 1)");
+    assert!(rt; matches!(keyword, Err(CoreError::KeywordDefined(0))));
     Ok(())
 }
 
@@ -185,7 +210,7 @@ fn in_beginnings(alloc: Global, levels: u32) -> Result<Datum, Mem>
 fn is_walked(alloc: Global, levels: u32) -> Result<bool, Mem> {
     let mut items = List::new(alloc);
     items.push(in_beginnings(alloc, levels.min(1_000_000))?)?;
-    match core(alloc, items.as_slice()) {
+    match core(alloc, Library::empty(alloc), items.as_slice()) {
         Err(CoreError::BadForm(0)) => Ok(true),
         _ => Ok(false),
     }
@@ -193,8 +218,8 @@ fn is_walked(alloc: Global, levels: u32) -> Result<bool, Mem> {
 
 #[test]
 fn very_deep_data_are_out_of_memory(rt: HostRuntime) -> Result<(), Fail> {
-    assert_eq!(rt; is_walked(rt.alloc(), 3_999)?, true);
-    assert_eq!(rt; is_walked(rt.alloc(), 4_000)?, false);
+    assert_eq!(rt; is_walked(rt.alloc(), 900)?, true);
+    assert_eq!(rt; is_walked(rt.alloc(), 1_100)?, false);
     assert_eq!(rt; is_walked(rt.alloc(), 300_000)?, false);
     Ok(())
 }
