@@ -1,5 +1,0 @@
-pub mod Best
-pub mod Readings
-pub mod Sketches
-pub mod LastDraft
-pub mod Stacks

@@ -1,7 +1,0 @@
-pub mod FaultOrder
-pub mod DraftView
-pub mod Expands
-pub mod Faults
-pub mod Reads
-pub mod Following
-pub mod WalkStack

@@ -1,4 +1,0 @@
-pub mod NameTables
-pub mod NameNumbers
-pub mod Tabling
-pub mod Counts

@@ -1,6 +1,0 @@
-use Rattle.std.proofs.Common.{◌∙◌}
-use Rattle.sch_scope.proofs.NameTables.{among}
-use Rattle.sch_scope.proofs.names.Names.contains.Goals as goal
-
-pub returns : goal.returns
-returns c = c.contains.ensures ∙ among c.args.x.now c.args.self.now.set.keys
