@@ -31,7 +31,6 @@ core_status (core.KeywordDefined at) = BadForm
 core_status (core.Unbound at name) = Unbound
 core_status (core.Limit kind at) = PastLimit
 core_status core.Memory = OutOfMemory
-core_status (core.Unbuilt at) = NotBuilt
 
 abbrev pub refusal_status : CompileError → Status
 refusal_status (compiling.Read error) = read_status error
@@ -76,7 +75,6 @@ core_line name (core.KeywordDefined at) = place_line name at (codes "keyword def
 core_line name (core.Unbound at unbound) = place_line name at (codes "unbound ") unbound
 core_line name (core.Limit kind at) = place_line name at (limit_text kind) []
 core_line name core.Memory = out_of_memory_line
-core_line name (core.Unbuilt at) = place_line name at (codes "not built") []
 
 abbrev pub refusal_line : List ℕ → CompileError → List ℕ
 refusal_line name (compiling.Read error) = read_line name error

@@ -107,7 +107,6 @@ fn core_status(error: &CoreError) -> Status
         CoreError::Unbound(_, _) => Status::Unbound,
         CoreError::Limit(_, _) => Status::PastLimit,
         CoreError::Memory => Status::OutOfMemory,
-        CoreError::Unbuilt(_) => Status::NotBuilt,
     }
 }
 
@@ -175,7 +174,6 @@ fn say_core_error<E: Outlet>(err: &mut E, name: &str, error: &CoreError)
         CoreError::Unbound(at, unbound) => say_at(err, name, *at, "unbound ", unbound.as_slice()),
         CoreError::Limit(kind, at) => say_at(err, name, *at, limit_text(*kind), b""),
         CoreError::Memory => say_out_of_memory(err),
-        CoreError::Unbuilt(at) => say_at(err, name, *at, "not built", b""),
     }
 }
 

@@ -1,5 +1,5 @@
 -- What a text means, and why one is not compiled.
-use Rattle.std.specs.Prelude.{◌≡◌, ◌<◌, ◌≤◌, ℕ, ◌+◌, ◌*◌, ◌^◌, List, IsTrue, Some}
+use Rattle.std.specs.Prelude.{◌≡◌, ◌<◌, ◌≤◌, ℕ, ◌+◌, ◌*◌, ◌^◌, List, [], IsTrue, Some}
 use Rattle.sch_word.specs.runs.ProgramLayout.{max_text_size}
 use Rattle.sch_lang.specs.Tree as tree
 use Rattle.sch_lang.specs.Measures.{program_size}
@@ -20,11 +20,11 @@ use Rattle.sch_driver.specs.declared.error.CompileError.TheVariants.{Read, Core,
 abbrev pub max_source_size : ℕ
 max_source_size = 2 ^ 20
 
--- The text is read and expanded: it spells data, and they have this core program.
+-- The text is read and expanded: it spells data, and they have this core program, without a library.
 pub record Means (text : List ℕ) (p : tree.Source) : Type 0 where
   pub items : Data
   pub spells : Spells text items
-  pub program : IsProgramOf items p
+  pub program : IsProgramOf [] items p
 
 -- a text without a fault, all of whose forms are call-free
 pub record IsBuilt (text : List ℕ) (p : tree.Source) : Type 0 where
@@ -58,7 +58,7 @@ abbrev pub IsErrorOf : List ℕ → CompileError → Type 0
 IsErrorOf text (Read read.Memory) = ⊥
 IsErrorOf text (Read error) = reading.IsErrorIn text error
 IsErrorOf text (Core core.Memory) = ⊥
-IsErrorOf text (Core error) = (items : Data) × Spells text items × expanding.IsErrorIn items error
+IsErrorOf text (Core error) = (items : Data) × Spells text items × expanding.IsErrorIn [] items error
 IsErrorOf text (NotBuilt at) = IsNotBuilt text at
 IsErrorOf text (TextTooLarge bytes) = IsTextTooLarge text bytes
 IsErrorOf text Memory = Unit {0}

@@ -7,7 +7,7 @@ ghost use Rattle.sch_read.specs.Valid.{max_weight};
 ghost use Rattle.sch_driver.specs.Causes.{IsBuilt, IsErrorOf, max_source_size};
 
 use crate::error::CompileError;
-use sch_core::{core, form_places};
+use sch_core::{Library, core, form_places};
 use sch_lang::Program;
 use sch_passes::{are_walkable, first_call};
 use sch_read::read_all;
@@ -22,7 +22,7 @@ pub(crate) fn read_program(alloc: Global, text: &[u8]) -> Result<Program, Compil
     ensures refused { IfErr result (IsErrorOf text.now) }
 {
     let items = read_all(alloc, text)?;
-    let program = core(alloc, items.as_slice())?;
+    let program = core(alloc, Library::empty(alloc), items.as_slice())?;
     let places = form_places(alloc, items.as_slice())?;
     match first_call(places.as_slice(), program.forms.as_slice()) {
         Some(at) => Err(CompileError::NotBuilt(at)),
