@@ -1,5 +1,5 @@
 -- The causes of the statuses exclude one another.
-use Rattle.std.proofs.Common.{◌≡◌, ◌≢◌, ◌≤◌, ◌<◌, ℕ, List, length, Some, refl, sym, ap, ◌∙◌, subst, arith, Result, Ok, Err, IsTrue}
+use Rattle.std.proofs.Common.{◌≡◌, ◌≢◌, ◌≤◌, ◌<◌, ℕ, List, [], length, Some, refl, sym, ap, ◌∙◌, subst, arith, Result, Ok, Err, IsTrue}
 use Rattle.std.specs.Prelude.{⊤}
 use Rattle.sch_word.specs.runs.ProgramLayout.{max_text_size}
 use Rattle.sch_lang.specs.Tree.{Source}
@@ -53,16 +53,16 @@ core_kept e v is = v (ap core_status is)
 
 -- ---- what is found in a text
 
--- what is found in data: a program that is call-free, or whose first form with a call is at this place
+-- what is found in data: a program that is call-free, or whose first form that is not is at this place
 data InData (items : Data) : Result ⊤ Failure → Type 0 where
-  free : (p : Source) → IsProgramOf library items p → IsTrue (is_call_free_program p) → InData items (Ok tt)
-  calls : (at : ℕ) (p : Source) → IsProgramOf library items p → first_call (form_places items) p.forms ≡ Some at → InData items (Err (failure.Compile (compiling.NotBuilt at)))
+  free : (p : Source) → IsProgramOf [] items p → IsTrue (is_call_free_program p) → InData items (Ok tt)
+  call : (at : ℕ) (p : Source) → IsProgramOf [] items p → first_call (form_places items) p.forms ≡ Some at → InData items (Err (failure.Compile (compiling.NotBuilt at)))
 
 data InText (text : List ℕ) : Result ⊤ Failure → Type 0 where
   long : max_source_size < length text → InText text (Err failure.TooLong)
   faulty : (e : ReadError) → length text ≤ max_source_size → (f : Fault) → HasFault text f → e ≡ error_of f → InText text (Err (failure.Compile (compiling.Read e)))
-  wrong : (e : CoreError) → length text ≤ max_source_size → (items : Data) → Spells text items → expanding.IsErrorIn library items e → e ≢ core.Memory → InText text (Err (failure.Compile (compiling.Core e)))
-  right : (verdict : Result ⊤ Failure) → length text ≤ max_source_size → (items : Data) → Spells text items → (p : Source) → IsProgramOf library items p → InData items verdict → InText text verdict
+  wrong : (e : CoreError) → length text ≤ max_source_size → (items : Data) → Spells text items → expanding.IsErrorIn [] items e → e ≢ core.Memory → InText text (Err (failure.Compile (compiling.Core e)))
+  right : (verdict : Result ⊤ Failure) → length text ≤ max_source_size → (items : Data) → Spells text items → (p : Source) → IsProgramOf [] items p → InData items verdict → InText text verdict
 
 found_built : (text : List ℕ) (p : Source) → length text ≤ max_source_size → IsBuilt text p → InText text (Ok tt)
 found_built text p short is = right (Ok tt) short is.means.items is.means.spells p is.means.program (free p is.means.program is.call_free)
@@ -78,7 +78,7 @@ reading_of text (read.DeepNesting at) h = h
 reading_of text (read.LiteralRange at) h = h
 reading_of text read.Memory h = absurd h
 
-expanding_of : (text : List ℕ) (error : CoreError) → IsErrorOf text (compiling.Core error) → (items : Data) × Spells text items × expanding.IsErrorIn library items error
+expanding_of : (text : List ℕ) (error : CoreError) → IsErrorOf text (compiling.Core error) → (items : Data) × Spells text items × expanding.IsErrorIn [] items error
 expanding_of text (core.BadForm at) h = h
 expanding_of text (core.Unbound at name) h = h
 expanding_of text (core.KeywordDefined at) h = h
@@ -92,7 +92,7 @@ found text (Err e) (refused (failure.Compile (compiling.Read error)) h v) = let 
 found text (Err e) (refused (failure.Compile (compiling.Core error)) h v) =
     let k = expanding_of text error h.1 in wrong error h.0 k.0 k.1 k.2 (core_kept error v)
 found text (Err e) (refused (failure.Compile (compiling.NotBuilt at)) h v) =
-    right (Err (failure.Compile (compiling.NotBuilt at))) h.0 h.1.means.items h.1.means.spells h.1.program h.1.means.program (calls at h.1.program h.1.means.program h.1.call)
+    right (Err (failure.Compile (compiling.NotBuilt at))) h.0 h.1.means.items h.1.means.spells h.1.program h.1.means.program (call at h.1.program h.1.means.program h.1.call)
 found text (Err e) (refused (failure.Compile (compiling.TextTooLarge bytes)) h v) = found_built text h.1.program h.0 h.1.built
 found text (Err e) (refused (failure.Compile compiling.Memory) h v) = absurd (v refl)
 found text (Err e) (refused failure.Memory h v) = absurd (v refl)
@@ -110,9 +110,9 @@ some_some e = cc
 
 one_in_data : (items : Data) (one two : Result ⊤ Failure) → InData items one → InData items two → one ≡ two
 one_in_data items _ _ (free p a h) (free q b k) = refl
-one_in_data items _ _ (free p a h) (calls at q b e) = absurd (not_free items p q at a b h e)
-one_in_data items _ _ (calls at p a e) (free q b h) = absurd (not_free items q p at b a h e)
-one_in_data items _ _ (calls at p a e) (calls at' q b e') = ap (λ place. Err (failure.Compile (compiling.NotBuilt place))) (some_some (sym e ∙ call_of items p q at' a b e'))
+one_in_data items _ _ (free p a h) (call at q b e) = absurd (not_free items p q at a b h e)
+one_in_data items _ _ (call at p a e) (free q b h) = absurd (not_free items q p at b a h e)
+one_in_data items _ _ (call at p a e) (call at' q b e') = ap (λ place. Err (failure.Compile (compiling.NotBuilt place))) (some_some (sym e ∙ call_of items p q at' a b e'))
 
 one_in_text : (text : List ℕ) (one two : Result ⊤ Failure) → InText text one → InText text two → one ≡ two
 one_in_text text _ _ (long g) (long g') = refl
@@ -126,11 +126,11 @@ one_in_text text _ _ (faulty e h f a is) (right r h' xs b p c d) = absurd (spell
 one_in_text text _ _ (wrong e h xs a b k) (long g) = absurd (both_lengths text g h)
 one_in_text text _ _ (wrong e h xs a b k) (faulty e' h' f c is) = absurd (spells_faultless text xs f a c)
 one_in_text text _ _ (wrong e h xs a b k) (wrong e' h' ys a' b' k') =
-    ap (λ x. Err (failure.Compile (compiling.Core x))) (one_error library xs e e' k k' b (subst (λ zs. expanding.IsErrorIn library zs e') (sym (spells_one text xs ys a a')) b'))
-one_in_text text _ _ (wrong e h xs a b k) (right r h' ys a' p b' c) = absurd (k (never_both library xs p e (subst (λ zs. IsProgramOf library zs p) (sym (spells_one text xs ys a a')) b') b))
+    ap (λ x. Err (failure.Compile (compiling.Core x))) (one_error [] xs e e' k k' b (subst (λ zs. expanding.IsErrorIn [] zs e') (sym (spells_one text xs ys a a')) b'))
+one_in_text text _ _ (wrong e h xs a b k) (right r h' ys a' p b' c) = absurd (k (never_both [] xs p e (subst (λ zs. IsProgramOf [] zs p) (sym (spells_one text xs ys a a')) b') b))
 one_in_text text _ _ (right r h xs a p b c) (long g) = absurd (both_lengths text g h)
 one_in_text text _ _ (right r h xs a p b c) (faulty e h' f d is) = absurd (spells_faultless text xs f a d)
-one_in_text text _ _ (right r h xs a p b c) (wrong e h' ys a' b' k) = absurd (k (never_both library ys p e (subst (λ zs. IsProgramOf library zs p) (spells_one text xs ys a a') b) b'))
+one_in_text text _ _ (right r h xs a p b c) (wrong e h' ys a' b' k) = absurd (k (never_both [] ys p e (subst (λ zs. IsProgramOf [] zs p) (spells_one text xs ys a a') b) b'))
 one_in_text text _ _ (right r h xs a p b c) (right r' h' ys a' p' b' c') = one_in_data xs r r' c (subst (λ zs. InData zs r') (sym (spells_one text xs ys a a')) c')
 
 pub same : (text : List ℕ) (one two : Result ⊤ Failure) → IsVerdict text one → IsVerdict text two → but_for_size one ≡ but_for_size two
@@ -140,7 +140,7 @@ same text one two h k = one_in_text text (but_for_size one) (but_for_size two) (
 
 -- a text has one core program
 same_program : (text : List ℕ) (p q : Source) → Means text p → Means text q → p ≡ q
-same_program text p q m n = one_program library m.items p q m.program (subst (λ items. IsProgramOf library items q) (sym (spells_one text m.items n.items m.spells n.spells)) n.program)
+same_program text p q m n = one_program [] m.items p q m.program (subst (λ items. IsProgramOf [] items q) (sym (spells_one text m.items n.items m.spells n.spells)) n.program)
 
 beyond : (low middle high : ℕ) → low < middle → middle ≤ high → high ≤ low → ⊥
 beyond low middle high a b c = omega (arith, a, b, c)

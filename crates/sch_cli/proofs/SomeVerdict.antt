@@ -1,5 +1,5 @@
 -- A text has a verdict.
-use Rattle.std.proofs.Common.{◌≡◌, ◌≢◌, ◌≤◌, ◌<◌, ◌⊎◌, inl, inr, ℕ, List, length, refl, Result, Ok, Err}
+use Rattle.std.proofs.Common.{◌≡◌, ◌≢◌, ◌≤◌, ◌<◌, ◌⊎◌, inl, inr, ℕ, List, [], length, refl, Result, Ok, Err}
 use Rattle.std.specs.Prelude.{⊤}
 use Rattle.std.proofs.lemmas.Bool.{cases_lt}
 use Rattle.sch_lang.specs.Tree.{Source}
@@ -43,7 +43,7 @@ read_known (Flawed at bad_string) e = cc
 read_known (DeepNesting at) e = cc
 read_known (LiteralRange at) e = cc
 
-core_error : (text : List ℕ) (items : Data) (e : CoreError) → Spells text items → e ≢ core.Memory → expanding.IsErrorIn library items e → IsErrorOf text (compiling.Core e)
+core_error : (text : List ℕ) (items : Data) (e : CoreError) → Spells text items → e ≢ core.Memory → expanding.IsErrorIn [] items e → IsErrorOf text (compiling.Core e)
 core_error text items (core.BadForm at) spells k h = (items, spells, h)
 core_error text items (core.Unbound at name) spells k h = (items, spells, h)
 core_error text items (core.KeywordDefined at) spells k h = (items, spells, h)
@@ -68,7 +68,7 @@ of_program text p short (inl is) = (Ok tt, accepted p (record { short = short; b
 of_program text p short (inr n) = (Err (failure.Compile (compiling.NotBuilt n.0)), refused (failure.Compile (compiling.NotBuilt n.0)) (short, n.1) (not_built n.0))
 
 of_data : (text : List ℕ) (items : Data) → length text ≤ max_source_size → Spells text items →
-    ((p : Source) × IsProgramOf library items p) ⊎ ((e : CoreError) × (e ≢ core.Memory) × expanding.IsErrorIn library items e) → Verdict text
+    ((p : Source) × IsProgramOf [] items p) ⊎ ((e : CoreError) × (e ≢ core.Memory) × expanding.IsErrorIn [] items e) → Verdict text
 of_data text items short spells (inl found) =
     of_program text found.0 short (built_or_not text found.0 (record { items = items; spells = spells; program = found.1 }))
 of_data text items short spells (inr wrong) =
@@ -78,7 +78,7 @@ of_data text items short spells (inr wrong) =
     )
 
 of_text : (text : List ℕ) → length text ≤ max_source_size → ((items : Data) × Spells text items) ⊎ ((f : Fault) × HasFault text f) → Verdict text
-of_text text short (inl found) = of_data text found.0 short found.1 (program_or_error library found.0)
+of_text text short (inl found) = of_data text found.0 short found.1 (program_or_error [] found.0)
 of_text text short (inr faulty) =
     let f = faulty.0 in
     (Err (failure.Compile (compiling.Read (error_of f))), refused (failure.Compile (compiling.Read (error_of f))) (short, read_error text f faulty.1) (read_known f))

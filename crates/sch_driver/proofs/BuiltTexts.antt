@@ -8,7 +8,6 @@ use Rattle.sch_read.proofs.texts.TextAnswers.{spells_one}
 use Rattle.sch_core.specs.Programs.{IsProgramOf, form_places}
 use Rattle.sch_core.proofs.DataLaws.{one_program}
 use Rattle.sch_core.proofs.Answering.{as_many}
-use Rattle.sch_toplevel.specs.Forms.{own_names}
 use Rattle.sch_lang.specs.Tree.{Expressions, no_expressions, and_expression, count, Source}
 use Rattle.sch_lang.specs.CallFree.{is_call_free, are_call_free, is_call_free_program, first_call}
 use Rattle.sch_lang.specs.Straight.{no_procedures}
@@ -27,20 +26,20 @@ none_call [] (and_expression x es) e h = absurd cc
 none_call (at ∷ places) (and_expression x es) e h =
     one_call (is_call_free x) (are_call_free es) (first_call places es) at h (λ found. none_call places es (omega (arith, e)) found)
 
-pub built : (text : List ℕ) (items : Data) (p : Source) → Spells text items → IsProgramOf library items p → length (form_places items) ≡ count p.forms → first_call (form_places items) p.forms ≡ None → IsBuilt text p
+pub built : (text : List ℕ) (items : Data) (p : Source) → Spells text items → IsProgramOf [] items p → length (form_places items) ≡ count p.forms → first_call (form_places items) p.forms ≡ None → IsBuilt text p
 built text items p spells program places none = record {
   means = record { items = items; spells = spells; program = program };
   call_free = and_from _ _ (ap (λ q. no_procedures q.library) program.numbered) (none_call (form_places items) p.forms places none);
 }
 
-pub not_built : (text : List ℕ) (items : Data) (p : Source) (at : ℕ) → Spells text items → IsProgramOf library items p → first_call (form_places items) p.forms ≡ Some at → IsNotBuilt text at
+pub not_built : (text : List ℕ) (items : Data) (p : Source) (at : ℕ) → Spells text items → IsProgramOf [] items p → first_call (form_places items) p.forms ≡ Some at → IsNotBuilt text at
 not_built text items p at spells program other = record { program = p; means = record { items = items; spells = spells; program = program }; call = other }
 
 -- ---- a text is built or not
 
 -- each form has its place
-places_many : (items : Data) (p : Source) → IsProgramOf library items p → length (form_places items) ≡ count p.forms
-places_many items p program = as_many library items program.assigned (own_names items program.assigned) program.drafts program.expands.expands ∙ ap (λ q. count q.forms) (sym program.numbered)
+places_many : (items : Data) (p : Source) → IsProgramOf [] items p → length (form_places items) ≡ count p.forms
+places_many items p program = as_many [] items program.assigned _ program.drafts program.expands.expands ∙ ap (λ q. count q.forms) (sym program.numbered)
 
 pub built_or_not : (text : List ℕ) (p : Source) → Means text p → IsBuilt text p ⊎ ((at : ℕ) × IsNotBuilt text at)
 built_or_not text p m = go (first_call (form_places m.items) p.forms) refl
@@ -71,15 +70,15 @@ none_some : {A : Type 0} {a : A} → None ≡ Some a → ⊥
 none_some e = cc
 
 -- the first form with a call of one program of the data is that of the other
-pub call_of : (items : Data) (p q : Source) (at : ℕ) → IsProgramOf library items p → IsProgramOf library items q → first_call (form_places items) q.forms ≡ Some at → first_call (form_places items) p.forms ≡ Some at
-call_of items p q at a b e = subst (λ r. first_call (form_places items) r.forms ≡ Some at) (sym (one_program library items p q a b)) e
+pub call_of : (items : Data) (p q : Source) (at : ℕ) → IsProgramOf [] items p → IsProgramOf [] items q → first_call (form_places items) q.forms ≡ Some at → first_call (form_places items) p.forms ≡ Some at
+call_of items p q at a b e = subst (λ r. first_call (form_places items) r.forms ≡ Some at) (sym (one_program [] items p q a b)) e
 
-pub not_free : (items : Data) (p q : Source) (at : ℕ) → IsProgramOf library items p → IsProgramOf library items q → IsTrue (is_call_free_program p) → first_call (form_places items) q.forms ≡ Some at → ⊥
+pub not_free : (items : Data) (p q : Source) (at : ℕ) → IsProgramOf [] items p → IsProgramOf [] items q → IsTrue (is_call_free_program p) → first_call (form_places items) q.forms ≡ Some at → ⊥
 not_free items p q at a b h e = none_some (sym (all_free (form_places items) p h) ∙ call_of items p q at a b e)
 
 pub never_both : (text : List ℕ) (p : Source) (at : ℕ) → IsBuilt text p → IsNotBuilt text at → ⊥
 never_both text p at is n =
     let items = is.means.items in
     let same = sym (spells_one text items n.means.items is.means.spells n.means.spells) in
-    not_free items p n.program at is.means.program (subst (λ xs. IsProgramOf library xs n.program) same n.means.program) is.call_free
+    not_free items p n.program at is.means.program (subst (λ xs. IsProgramOf [] xs n.program) same n.means.program) is.call_free
     (subst (λ xs. first_call (form_places xs) n.program.forms ≡ Some at) same n.call)

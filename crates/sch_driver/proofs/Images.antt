@@ -69,9 +69,11 @@ assembled p f heap depth least a routines code marks words text zeros image same
       follows = λ runs are.
           image_follows (flat_map spelling code) words a.zeros image runs lies'
           (follows.follows routines.items code marks words effective a.marked routines.marked resolved valid fits runs
-          (record { are = λ answers entries.
-          depth_free f free heap least depth answers entries
-          ∙ not_wrong (control_run.run p heap depth answers entries) (frames_run.run f heap depth answers entries) (runs answers entries) (are answers entries) (same heap depth answers entries) }));
+          (record {
+            are = λ answers entries.
+                depth_free f free heap least depth answers entries
+                ∙ not_wrong (control_run.run p heap depth answers entries) (frames_run.run f heap depth answers entries) (runs answers entries) (are answers entries) (same heap depth answers entries);
+          }));
     }
 
 -- ## What is too large

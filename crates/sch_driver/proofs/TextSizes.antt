@@ -1,9 +1,10 @@
 -- How long the text of the items is that are selected for a program.
-use Rattle.std.proofs.Common.{◌≡◌, ◌≤◌, ℕ, ◌+◌, ◌*◌, List, [], ◌∷◌, true, refl, arith}
+use Rattle.std.proofs.Common.{◌≡◌, ◌≤◌, ℕ, ◌+◌, ◌*◌, List, [], ◌∷◌, length, true, refl, ap, arith}
 use Rattle.std.specs.Prelude.{IsTrue}
 use Rattle.std.specs.List.{list_all}
 use Rattle.std.proofs.lemmas.Bool.{and_parts}
 use Rattle.sch_frames.specs.CallFree.{is_call_free_instruction, is_call_free_code, is_call_free_program}
+use Rattle.sch_word.specs.trees.Straight.{is_empty}
 use Rattle.sch_frames.specs.declared.instruction.Instruction.{Instruction}
 use Rattle.sch_frames.specs.declared.instruction.Instruction.TheVariants.{Do, Store, Copy, Load, Pass, Fix, Call, Tail, Return, End, IfFalse, Jump, Label, Mark}
 use Rattle.sch_frames.specs.Sizes as frames
@@ -16,7 +17,7 @@ use Rattle.sch_select.specs.Sizes as select
 -- Selection counts the calls too, and a call-free body has none.
 same_groups : (is : List Instruction) → list_all is_call_free_instruction is ≡ true → select.grouped is ≡ frames.grouped is
 same_groups [] h = refl
-same_groups (Fix ms ∷ is) h = let e : select.grouped is ≡ frames.grouped is = same_groups is (and_parts _ _ h).1 in omega (arith, e)
+same_groups (Fix ms ∷ is) h = ap (λ n. length ms + n) (same_groups is (and_parts _ _ h).1)
 same_groups (Do o ∷ is) h = same_groups is (and_parts _ _ h).1
 same_groups (Store p ∷ is) h = same_groups is h
 same_groups (Copy p q ∷ is) h = same_groups is h
@@ -46,4 +47,7 @@ same_closures (c ∷ cs) h =
 -- The bound on a text that selection gives, by the work in a call-free frame program.
 pub text_by_work : (p : Source) (size work : ℕ) → IsTrue (is_call_free_program p)
     → size ≤ 512 + 64 * (program_size p + select.closures_in p.bodies) → program_work p ≤ work → size ≤ 512 + 64 * work
-text_by_work p size work free h k = let e : select.closures_in p.bodies ≡ frames.closures_in p.bodies = same_closures p.bodies (and_parts _ _ free).1 in omega (arith, h, k, e)
+text_by_work p size work free h k =
+    let q = and_parts (is_empty p.library) (list_all is_call_free_code p.bodies) free in
+    let e : select.closures_in p.bodies ≡ frames.closures_in p.bodies = same_closures p.bodies q.1 in
+    omega (arith, h, k, e)

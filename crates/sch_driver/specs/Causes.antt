@@ -21,15 +21,11 @@ use Rattle.sch_driver.specs.declared.error.CompileError.TheVariants.{Read, Core,
 abbrev pub max_source_size : ℕ
 max_source_size = 2 ^ 20
 
--- the library that all texts are given, which has no definition yet
-abbrev pub library : List Definition
-library = []
-
--- The text is read and expanded: it spells data, and with the library they have this core program.
+-- The text is read and expanded: it spells data, and they have this core program, without a library.
 pub record Means (text : List ℕ) (p : tree.Source) : Type 0 where
   pub items : Data
   pub spells : Spells text items
-  pub program : IsProgramOf library items p
+  pub program : IsProgramOf [] items p
 
 -- a text without a fault, all of whose forms are call-free
 pub record IsBuilt (text : List ℕ) (p : tree.Source) : Type 0 where
@@ -63,7 +59,7 @@ abbrev pub IsErrorOf : List ℕ → CompileError → Type 0
 IsErrorOf text (Read read.Memory) = ⊥
 IsErrorOf text (Read error) = reading.IsErrorIn text error
 IsErrorOf text (Core core.Memory) = ⊥
-IsErrorOf text (Core error) = (items : Data) × Spells text items × expanding.IsErrorIn library items error
+IsErrorOf text (Core error) = (items : Data) × Spells text items × expanding.IsErrorIn [] items error
 IsErrorOf text (NotBuilt at) = IsNotBuilt text at
 IsErrorOf text (TextTooLarge bytes) = IsTextTooLarge text bytes
 IsErrorOf text Memory = Unit {0}

@@ -11,7 +11,7 @@ ghost use Rattle.sch_lang.specs.Tree.{count};
 ghost use Rattle.sch_driver.specs.Causes.{IsBuilt, IsErrorOf, library, max_source_size};
 
 use crate::error::CompileError;
-use sch_core::{CoreError, Library, core, form_places};
+use sch_core::{Library, core, form_places};
 use sch_lang::Program;
 use sch_passes::{are_walkable, first_call};
 use sch_read::{Datum, read_all};
@@ -38,7 +38,7 @@ pub(crate) fn read_program(alloc: Global, text: &[u8]) -> Result<Program, Compil
     ensures refused { IfErr result (IsErrorOf text.now) }
 {
     let items = read_all(alloc, text)?;
-    let program = expand(alloc, items.as_slice())?;
+    let program = core(alloc, Library::empty(alloc), items.as_slice())?;
     let places = form_places(alloc, items.as_slice())?;
     match first_call(places.as_slice(), program.forms.as_slice()) {
         Some(at) => Err(CompileError::NotBuilt(at)),

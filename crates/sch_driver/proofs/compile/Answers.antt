@@ -1,4 +1,4 @@
-use Rattle.std.proofs.Common.{◌≡◌, arith, subst}
+use Rattle.std.proofs.Common.{arith, subst}
 use Rattle.std.specs.Prelude.{IsTrue}
 use Rattle.sch_word.specs.runs.Orders.{is_order_table}
 use Rattle.sch_lang.specs.ProgramView.{source}

@@ -6,7 +6,7 @@ use Rattle.sch_control.specs.ProgramView.{source}
 use Rattle.sch_control.specs.Work.{codes_work}
 use Rattle.sch_frames.specs.ProgramView as frames
 use Rattle.sch_asm.specs.Codes.{text_size}
-use Rattle.sch_driver.proofs.Covered.{call_free_covered}
+use Rattle.sch_select.proofs.programs.CallFreePrograms.{call_free_covered}
 use Rattle.sch_driver.proofs.TextSizes.{text_by_work}
 use Rattle.sch_driver.specs.Assembled.{assembled_bound}
 use Rattle.sch_driver.proofs.Images.{assembled, refused_for, text_within, unfit}

@@ -1,6 +1,4 @@
-use Rattle.std.proofs.Common.{◌≡◌, ◌++◌, ◌∙◌, ap, arith, sym}
-use Rattle.std.specs.Prelude.{slice_index_or}
-use Rattle.sch_insn.specs.Spelling.{spelling}
+use Rattle.std.proofs.Common.{◌++◌, ◌∙◌, ap, arith}
 use Rattle.sch_driver.proofs.Spelled.{valid_at, spelled_more, spelled_whole}
 use Rattle.sch_driver.proofs.assembly.text_of.Goals as goal
 

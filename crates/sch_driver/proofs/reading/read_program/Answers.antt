@@ -1,4 +1,4 @@
-use Rattle.std.proofs.Common.{◌≡◌, length, ap, sym, subst, ◌∙◌}
+use Rattle.std.proofs.Common.{◌≡◌, [], length, ap, sym, subst, ◌∙◌}
 use Rattle.sch_read.specs.Views.{data_of}
 use Rattle.sch_core.specs.Programs.{IsProgramOf, form_places}
 use Rattle.sch_lang.specs.ProgramView.{source}
@@ -16,7 +16,8 @@ returns-in-Some-clause-refused c =
     let places = c.as_slice-3.ensures ∙ (c.in_ok-places.ensures ∙ ap (λ l. form_places (data_of l)) c.as_slice-2.ensures) in
     let found = c.first_call.ensures
     ∙ (ap (λ l. first_call l (expressions_of c.as_slice-4.result.now)) places ∙ ap (λ l. first_call (form_places (data_of items)) (expressions_of l)) c.as_slice-4.ensures) in
-    not_built c.args.text.now (data_of items) p c.in-Some.at c.in_ok-items.ensures.found (subst (λ l. IsProgramOf library (data_of l) p) c.as_slice.ensures c.in_ok-program.ensures.found)
+    not_built c.args.text.now (data_of items) p c.in-Some.at c.in_ok-items.ensures.found
+    (subst (λ l. IsProgramOf [] (data_of l) p) c.as_slice.ensures (subst (λ ds. IsProgramOf ds (data_of c.as_slice.result.now) p) c.empty.ensures c.in_ok-program.ensures.found))
     (sym found ∙ c.in-Some.is)
 
 pub returns-in-None-clause-built : goal.returns-in-None-clause-built
@@ -26,6 +27,7 @@ returns-in-None-clause-built c =
     let places = c.as_slice-3.ensures ∙ (c.in_ok-places.ensures ∙ ap (λ l. form_places (data_of l)) c.as_slice-2.ensures) in
     let found = c.first_call.ensures
     ∙ (ap (λ l. first_call l (expressions_of c.as_slice-4.result.now)) places ∙ ap (λ l. first_call (form_places (data_of items)) (expressions_of l)) c.as_slice-4.ensures) in
-    built c.args.text.now (data_of items) p c.in_ok-items.ensures.found (subst (λ l. IsProgramOf library (data_of l) p) c.as_slice.ensures c.in_ok-program.ensures.found)
+    built c.args.text.now (data_of items) p c.in_ok-items.ensures.found
+    (subst (λ l. IsProgramOf [] (data_of l) p) c.as_slice.ensures (subst (λ ds. IsProgramOf ds (data_of c.as_slice.result.now) p) c.empty.ensures c.in_ok-program.ensures.found))
     (subst (λ l. length (form_places (data_of l)) ≡ count p.forms) c.as_slice.ensures c.in_ok-program.ensures.places)
     (sym found ∙ c.in-None.is)
