@@ -16,7 +16,7 @@ use Rattle.sch_core.specs.declared.error.CoreError.{CoreError}
 use Rattle.sch_core.specs.declared.error.CoreError.TheVariants as core
 use Rattle.sch_core.specs.Programs.{IsProgramOf, form_places}
 use Rattle.sch_core.proofs.DataLaws.{never_both, one_error, one_program}
-use Rattle.sch_driver.specs.Causes.{IsBuilt, IsErrorOf, IsTextTooLarge, Means, library, max_source_size, text_bound}
+use Rattle.sch_driver.specs.Causes.{IsBuilt, IsErrorOf, IsTextTooLarge, Means, max_source_size, text_bound}
 use Rattle.sch_driver.specs.declared.error.CompileError.TheVariants as compiling
 use Rattle.sch_driver.proofs.BuiltTexts.{not_free, call_of}
 use Rattle.sch_cli.specs.declared.failure.Failure.{Failure}

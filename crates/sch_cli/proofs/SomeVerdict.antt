@@ -12,7 +12,7 @@ use Rattle.sch_core.specs.Programs.{IsProgramOf}
 use Rattle.sch_core.specs.declared.error.CoreError.{CoreError}
 use Rattle.sch_core.specs.declared.error.CoreError.TheVariants as core
 use Rattle.sch_core.proofs.DataLaws.{program_or_error}
-use Rattle.sch_driver.specs.Causes.{IsBuilt, IsErrorOf, IsNotBuilt, library, max_source_size}
+use Rattle.sch_driver.specs.Causes.{IsBuilt, IsErrorOf, IsNotBuilt, max_source_size}
 use Rattle.sch_driver.specs.declared.error.CompileError.TheVariants as compiling
 use Rattle.sch_driver.proofs.BuiltTexts.{built_or_not}
 use Rattle.sch_cli.specs.declared.failure.Failure.{Failure}

@@ -11,7 +11,7 @@ use Rattle.sch_core.proofs.Answering.{as_many}
 use Rattle.sch_lang.specs.Tree.{Expressions, no_expressions, and_expression, count, Source}
 use Rattle.sch_lang.specs.CallFree.{is_call_free, are_call_free, is_call_free_program, first_call}
 use Rattle.sch_lang.specs.Straight.{no_procedures}
-use Rattle.sch_driver.specs.Causes.{IsBuilt, IsNotBuilt, Means, library}
+use Rattle.sch_driver.specs.Causes.{IsBuilt, IsNotBuilt, Means}
 
 -- ---- what is found of the forms
 

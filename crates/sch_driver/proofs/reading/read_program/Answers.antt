@@ -5,7 +5,6 @@ use Rattle.sch_lang.specs.ProgramView.{source}
 use Rattle.sch_lang.specs.CallFree.{first_call}
 use Rattle.sch_lang.specs.Tree.{count}
 use Rattle.sch_lang.specs.View.{expressions_of}
-use Rattle.sch_driver.specs.Causes.{library}
 use Rattle.sch_driver.proofs.BuiltTexts.{built, not_built}
 use Rattle.sch_driver.proofs.reading.read_program.Goals as goal
 
