@@ -124,7 +124,7 @@ module _ (ds : List Definition) (items : Data) (given own : List (List ℕ)) (o 
             AllQuotable items → IsValidOnceRanged (program_of ds own es)
         valid_once d i k m w =
             let v = valid_program ds items faultless.names es (as_many ds items faultless.names (own_names items faultless.names) es expands.expands) d i k m expands.expands w
-                (ap (λ p. first_excess (form_places items) p.forms) (sym same) ∙ fits) in
+            (ap (λ p. first_excess (form_places items) p.forms) (sym same) ∙ fits) in
             λ x. ap is_valid same ∙ v
 
         pub small : (p : Source) → p ≡ program_of ds own es → nodes_and_bound p ≤ 16 * weights items + size_of_definitions ds

@@ -25,9 +25,9 @@ module _ (places : List ℕ) (forms : List Exp) (i n : ℕ) (m : n ≡ min (leng
 
   pub excess_end : n ≤ i → ◌≡◌ {A = Option (Kind × ℕ)} None r
   excess_end l = elim (shorter (omega (arith, l, m))) [
-      inl a ↦ sym (ap (λ ps. first_excess ps (left (drop i forms))) (drop_all i places a)) ∙ k
+    | inl a ↦ sym (ap (λ ps. first_excess ps (left (drop i forms))) (drop_all i places a)) ∙ k
     | inr b ↦ sym (ap (first_excess (drop i places)) (no_expression forms i b) ∙ no_place (drop i places)) ∙ k
-    ]
+  ]
     where
       shorter : min (length places) (length forms) ≤ i → (length places ≤ i) ⊎ (length forms ≤ i)
       shorter h = grind arith

@@ -239,7 +239,7 @@ module _ (own globals symbols own' globals' symbols' : List (List ℕ)) where
         let i = alike None a s l s' l' in
         let j = alike None b (s + length (widths a)) (l + length (quotes_in a)) (s' + length (widths a)) (l' + length (quotes_in a)) in
         let k = alike None c (s + length (widths a) + length (widths b)) (l + length (quotes_in a) + length (quotes_in b))
-            (s' + length (widths a) + length (widths b)) (l' + length (quotes_in a) + length (quotes_in b)) in
+        (s' + length (widths a) + length (widths b)) (l' + length (quotes_in a) + length (quotes_in b)) in
         λ p. branch (i p) (j p) (k p)
     alike v (draft.sequence es) s l s' l' = ap sequence (alike_each [] es s l s' l')
     alike v (draft.bind vs es e) s l s' l' =

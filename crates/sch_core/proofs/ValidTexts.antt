@@ -65,8 +65,8 @@ from_table x (y ∷ names) before h = go (is_among y before) (from_table x names
     go : (b : Bool) → is_among x (cond b before (before ++ y ∷ []) ++ names) ≡ true → is_among x (before ++ y ∷ names) ≡ true
     go true k =
         elim (some_left _ _ (sym (among_append x before names) ∙ k)) [
-          inl m ↦ among_left x before (y ∷ names) m
-        | inr m ↦ among_right x before (y ∷ names) (among_cons x y names m)
+          | inl m ↦ among_left x before (y ∷ names) m
+          | inr m ↦ among_right x before (y ∷ names) (among_cons x y names m)
         ]
     go false k = subst (λ l. is_among x l ≡ true) (append_assoc before (y ∷ []) names) k
 
@@ -88,8 +88,8 @@ seen_there x (d ∷ ds) h = hidden_there (is_hidden d.name) x d.name (seen ds) (
 names_there : (ds : List Definition) (items : Data) (assigned : List (List ℕ)) → HasNames ds (own_names items assigned) (text_globals (seen ds) items assigned)
 names_there ds items assigned x h =
     elim (some_left _ _ (sym (among_append x (seen ds) (defined items)) ∙ from_table x (seen ds ++ defined items) [] h)) [
-      inl m ↦ among_right x (own_names items assigned) (names_of_each ds) (seen_there x ds m)
-    | inr m ↦ among_left x (own_names items assigned) (names_of_each ds) (into_table x (defined items ++ assigned) (among_left x (defined items) assigned m))
+      | inl m ↦ among_right x (own_names items assigned) (names_of_each ds) (seen_there x ds m)
+      | inr m ↦ among_left x (own_names items assigned) (names_of_each ds) (into_table x (defined items ++ assigned) (among_left x (defined items) assigned m))
     ]
 
 -- ## Forms

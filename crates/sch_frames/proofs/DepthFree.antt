@@ -65,10 +65,11 @@ module _ (callee : Callee) (depth depth' : ℕ) where
       (λ v w. after_value (with_procedures w.state (members_made (held (inner w)) w.state members))
       (λ s. next None (inner w) (record { state = s; marks = w.marks })) (λ s. next' None (inner w) (record { state = s; marks = w.marks }))
       (λ s. same None (inner w) (record { state = s; marks = w.marks }))) where
-    inner : World → Frame
-    inner w = with_members f members (procedures_from (length w.state.procedures) (length members))
-    made : More → Value → World → Result
-    made next v w = with_value (with_procedures w.state (members_made (held (inner w)) w.state members)) (λ s. next None (inner w) (record { state = s; marks = w.marks }))
+        inner : World → Frame
+        inner w = with_members f members (procedures_from (length w.state.procedures) (length members))
+
+        made : More → Value → World → Result
+        made next v w = with_value (with_procedures w.state (members_made (held (inner w)) w.state members)) (λ s. next None (inner w) (record { state = s; marks = w.marks }))
   step_same (Call spread count) h next next' same f w = absurd cc
   step_same (Tail spread count) h next next' same f w = absurd cc
   step_same Return h next next' same f w = refl

@@ -31,10 +31,7 @@ fn assignments_print(rt: HostRuntime) -> Result<(), Fail> {
 fn procedures_are_made(rt: HostRuntime) -> Result<(), Fail> {
     let rows: [(&[u8], &[u8]); 4] = [
         (b"(define (f x) x)(display f)", b"#<procedure>"),
-        (
-            b"(let ((x 1)) (display (procedure? (lambda () x))))",
-            b"#t",
-        ),
+        (b"(let ((x 1)) (display (procedure? (lambda () x))))", b"#t"),
         (
             b"(letrec ((f (lambda () g)) (g (lambda () f))) (display (eq? f g))(display (eq? f f)))",
             b"#f#t",

@@ -98,11 +98,7 @@ fn texts_that_are_refused(rt: HostRuntime) -> Result<(), Fail> {
         ),
         (b"(display \"a\")", 11, b"a: byte 0: not built\n"),
         (b"(newlin)", 6, b"a: byte 1: unbound newlin\n"),
-        (
-            b"(newline)(display (car 1))",
-            11,
-            b"a: byte 9: not built\n",
-        ),
+        (b"(newline)(display (car 1))", 11, b"a: byte 9: not built\n"),
         (b"(display)", 6, b"a: byte 1: unbound display\n"),
     ];
     for (source, status, said) in rows {
@@ -344,7 +340,10 @@ fn sources_run(rt: HostRuntime) -> Result<(), Fail> {
     assert_eq!(rt; absent.said.as_slice(), b"c: read failed\n".as_slice());
     let other = perform(rt.alloc(), &["run", "a"], b"(define (f) 1)(f)", &[])?;
     assert_eq!(rt; other.status, 11);
-    assert_eq!(rt; other.said.as_slice(), b"a: byte 14: not built\n".as_slice());
+    assert_eq!(rt;
+        other.said.as_slice(),
+        b"a: byte 14: not built\n".as_slice()
+    );
     let faulty = perform(rt.alloc(), &["run", "a"], b"(newline) x", &[])?;
     assert_eq!(rt; faulty.status, 6);
     assert_eq!(rt; faulty.printed.as_slice(), [].as_slice());

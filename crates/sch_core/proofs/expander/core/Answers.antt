@@ -22,7 +22,7 @@ returns-in-Some-clause-fault c =
     let items = data_of c.args.items.now in
     let names = ap given c.as_slice-2.ensures ∙ (c.in_ok-seen.ensures ∙ ap (λ l. seen (definitions_of l)) c.as_slice.ensures) in
     let error = faulty_error ds items c.error_of.result c.in-Some.f c.error_of.ensures
-        (faulty ds items _ _ _ _ names c.in_ok-own.ensures c.in-Some.f c.in-Some.is) in
+    (faulty ds items _ _ _ _ names c.in_ok-own.ensures c.in-Some.f c.in-Some.is) in
     error
 
 pub returns-in-Some-clause-only : goal.returns-in-Some-clause-only
@@ -31,7 +31,7 @@ returns-in-Some-clause-only c =
     let items = data_of c.args.items.now in
     let names = ap given c.as_slice-2.ensures ∙ (c.in_ok-seen.ensures ∙ ap (λ l. seen (definitions_of l)) c.as_slice.ensures) in
     let error = faulty_error ds items c.error_of.result c.in-Some.f c.error_of.ensures
-        (faulty ds items _ _ _ _ names c.in_ok-own.ensures c.in-Some.f c.in-Some.is) in
+    (faulty ds items _ _ _ _ names c.in_ok-own.ensures c.in-Some.f c.in-Some.is) in
     λ p q. never_both ds items p c.error_of.result q error
 
 pub returns-in-Some-2-clause-fault : goal.returns-in-Some-2-clause-fault
@@ -44,11 +44,11 @@ returns-in-Some-2-clause-fault c =
     let forms = expressions_of c.as_slice-5.result.now in
     let at : places ≡ form_places items = c.as_slice-4.ensures ∙ c.in_ok-places.ensures in
     let n : forms ≡ numbered_each [] [] [] [] es 0 0 =
-        ap expressions_of c.as_slice-5.ensures ∙ (c.in_ok-forms.ensures ∙ ap (λ l. numbered_each [] [] [] [] (drafts_of l) 0 0) c.as_slice-3.ensures) in
+    ap expressions_of c.as_slice-5.ensures ∙ (c.in_ok-forms.ensures ∙ ap (λ l. numbered_each [] [] [] [] (drafts_of l) 0 0) c.as_slice-3.ensures) in
     let none = c.in_default.is in
     let h : first_excess places forms ≡ Some (c.in-Some-2.kind, c.in-Some-2.at) = sym c.in_ok-kind.ensures ∙ c.in-Some-2.is in
     let error = excessive_error ds items c.in-Some-2.kind c.in-Some-2.at (first_counted places forms c.in-Some-2.kind c.in-Some-2.at h)
-        (exceeding ds items _ _ _ es names c.in_ok-own.ensures none places [] [] [] 0 0 forms at n c.in-Some-2.kind c.in-Some-2.at h) in
+    (exceeding ds items _ _ _ es names c.in_ok-own.ensures none places [] [] [] 0 0 forms at n c.in-Some-2.kind c.in-Some-2.at h) in
     error
 
 pub returns-in-Some-2-clause-only : goal.returns-in-Some-2-clause-only
@@ -61,11 +61,11 @@ returns-in-Some-2-clause-only c =
     let forms = expressions_of c.as_slice-5.result.now in
     let at : places ≡ form_places items = c.as_slice-4.ensures ∙ c.in_ok-places.ensures in
     let n : forms ≡ numbered_each [] [] [] [] es 0 0 =
-        ap expressions_of c.as_slice-5.ensures ∙ (c.in_ok-forms.ensures ∙ ap (λ l. numbered_each [] [] [] [] (drafts_of l) 0 0) c.as_slice-3.ensures) in
+    ap expressions_of c.as_slice-5.ensures ∙ (c.in_ok-forms.ensures ∙ ap (λ l. numbered_each [] [] [] [] (drafts_of l) 0 0) c.as_slice-3.ensures) in
     let none = c.in_default.is in
     let h : first_excess places forms ≡ Some (c.in-Some-2.kind, c.in-Some-2.at) = sym c.in_ok-kind.ensures ∙ c.in-Some-2.is in
     let error = excessive_error ds items c.in-Some-2.kind c.in-Some-2.at (first_counted places forms c.in-Some-2.kind c.in-Some-2.at h)
-        (exceeding ds items _ _ _ es names c.in_ok-own.ensures none places [] [] [] 0 0 forms at n c.in-Some-2.kind c.in-Some-2.at h) in
+    (exceeding ds items _ _ _ es names c.in_ok-own.ensures none places [] [] [] 0 0 forms at n c.in-Some-2.kind c.in-Some-2.at h) in
     λ p q. never_both ds items p _ q error
 
 pub assemble-requires : goal.assemble-requires
@@ -78,14 +78,14 @@ assemble-requires c =
     let forms = expressions_of c.as_slice-5.result.now in
     let at : places ≡ form_places items = c.as_slice-4.ensures ∙ c.in_ok-places.ensures in
     let n : forms ≡ numbered_each [] [] [] [] es 0 0 =
-        ap expressions_of c.as_slice-5.ensures ∙ (c.in_ok-forms.ensures ∙ ap (λ l. numbered_each [] [] [] [] (drafts_of l) 0 0) c.as_slice-3.ensures) in
+    ap expressions_of c.as_slice-5.ensures ∙ (c.in_ok-forms.ensures ∙ ap (λ l. numbered_each [] [] [] [] (drafts_of l) 0 0) c.as_slice-3.ensures) in
     let none = c.in_default.is in
     let h : first_excess places forms ≡ None = sym c.in_ok-kind.ensures ∙ c.in_default-2.is in
     let quotable = c.are_quotable.ensures (search rules) in
     record {
       valid = λ x. ∥∥₁_elim c.args.library.sound (Prim.hlevel props) (λ s.
           let v : IsValidOnceRanged (program_of ds (names_of c.in_ok-own.field-0.own) es) =
-              valid_once ds items _ _ _ es names c.in_ok-own.ensures none places [] [] [] 0 0 forms at n h s.sound s.ordered s.few (omega (arith, s.small, c.requires.light)) quotable in
+          valid_once ds items _ _ _ es names c.in_ok-own.ensures none places [] [] [] 0 0 forms at n h s.sound s.ordered s.few (omega (arith, s.small, c.requires.light)) quotable in
           subst (λ l. IsValidOnceRanged (program_of ds (names_of c.in_ok-own.field-0.own) (drafts_of l))) (sym c.as_slice-6.ensures) v x);
     }
 
@@ -99,11 +99,11 @@ returns-clause-found c =
     let forms = expressions_of c.as_slice-5.result.now in
     let at : places ≡ form_places items = c.as_slice-4.ensures ∙ c.in_ok-places.ensures in
     let n : forms ≡ numbered_each [] [] [] [] es 0 0 =
-        ap expressions_of c.as_slice-5.ensures ∙ (c.in_ok-forms.ensures ∙ ap (λ l. numbered_each [] [] [] [] (drafts_of l) 0 0) c.as_slice-3.ensures) in
+    ap expressions_of c.as_slice-5.ensures ∙ (c.in_ok-forms.ensures ∙ ap (λ l. numbered_each [] [] [] [] (drafts_of l) 0 0) c.as_slice-3.ensures) in
     let none = c.in_default.is in
     let h : first_excess places forms ≡ None = sym c.in_ok-kind.ensures ∙ c.in_default-2.is in
     let q : source c.in_ok-program.program ≡ program_of ds (names_of c.in_ok-own.field-0.own) es =
-        c.in_ok-program.ensures ∙ ap (λ l. program_of ds (names_of c.in_ok-own.field-0.own) (drafts_of l)) c.as_slice-6.ensures in
+    c.in_ok-program.ensures ∙ ap (λ l. program_of ds (names_of c.in_ok-own.field-0.own) (drafts_of l)) c.as_slice-6.ensures in
     found ds items _ _ _ es names c.in_ok-own.ensures none places [] [] [] 0 0 forms at n h _ q
 
 pub returns-clause-size : goal.returns-clause-size
@@ -116,11 +116,11 @@ returns-clause-size c =
     let forms = expressions_of c.as_slice-5.result.now in
     let at : places ≡ form_places items = c.as_slice-4.ensures ∙ c.in_ok-places.ensures in
     let n : forms ≡ numbered_each [] [] [] [] es 0 0 =
-        ap expressions_of c.as_slice-5.ensures ∙ (c.in_ok-forms.ensures ∙ ap (λ l. numbered_each [] [] [] [] (drafts_of l) 0 0) c.as_slice-3.ensures) in
+    ap expressions_of c.as_slice-5.ensures ∙ (c.in_ok-forms.ensures ∙ ap (λ l. numbered_each [] [] [] [] (drafts_of l) 0 0) c.as_slice-3.ensures) in
     let none = c.in_default.is in
     let h : first_excess places forms ≡ None = sym c.in_ok-kind.ensures ∙ c.in_default-2.is in
     let q : source c.in_ok-program.program ≡ program_of ds (names_of c.in_ok-own.field-0.own) es =
-        c.in_ok-program.ensures ∙ ap (λ l. program_of ds (names_of c.in_ok-own.field-0.own) (drafts_of l)) c.as_slice-6.ensures in
+    c.in_ok-program.ensures ∙ ap (λ l. program_of ds (names_of c.in_ok-own.field-0.own) (drafts_of l)) c.as_slice-6.ensures in
     small ds items _ _ _ es names c.in_ok-own.ensures none places [] [] [] 0 0 forms at n h _ q
 
 pub returns-clause-places : goal.returns-clause-places
@@ -133,11 +133,11 @@ returns-clause-places c =
     let forms = expressions_of c.as_slice-5.result.now in
     let at : places ≡ form_places items = c.as_slice-4.ensures ∙ c.in_ok-places.ensures in
     let n : forms ≡ numbered_each [] [] [] [] es 0 0 =
-        ap expressions_of c.as_slice-5.ensures ∙ (c.in_ok-forms.ensures ∙ ap (λ l. numbered_each [] [] [] [] (drafts_of l) 0 0) c.as_slice-3.ensures) in
+    ap expressions_of c.as_slice-5.ensures ∙ (c.in_ok-forms.ensures ∙ ap (λ l. numbered_each [] [] [] [] (drafts_of l) 0 0) c.as_slice-3.ensures) in
     let none = c.in_default.is in
     let h : first_excess places forms ≡ None = sym c.in_ok-kind.ensures ∙ c.in_default-2.is in
     let q : source c.in_ok-program.program ≡ program_of ds (names_of c.in_ok-own.field-0.own) es =
-        c.in_ok-program.ensures ∙ ap (λ l. program_of ds (names_of c.in_ok-own.field-0.own) (drafts_of l)) c.as_slice-6.ensures in
+    c.in_ok-program.ensures ∙ ap (λ l. program_of ds (names_of c.in_ok-own.field-0.own) (drafts_of l)) c.as_slice-6.ensures in
     places_are ds items _ _ _ es names c.in_ok-own.ensures none places [] [] [] 0 0 forms at n h _ q
 
 pub returns-clause-only : goal.returns-clause-only
@@ -150,11 +150,11 @@ returns-clause-only c =
     let forms = expressions_of c.as_slice-5.result.now in
     let at : places ≡ form_places items = c.as_slice-4.ensures ∙ c.in_ok-places.ensures in
     let n : forms ≡ numbered_each [] [] [] [] es 0 0 =
-        ap expressions_of c.as_slice-5.ensures ∙ (c.in_ok-forms.ensures ∙ ap (λ l. numbered_each [] [] [] [] (drafts_of l) 0 0) c.as_slice-3.ensures) in
+    ap expressions_of c.as_slice-5.ensures ∙ (c.in_ok-forms.ensures ∙ ap (λ l. numbered_each [] [] [] [] (drafts_of l) 0 0) c.as_slice-3.ensures) in
     let none = c.in_default.is in
     let h : first_excess places forms ≡ None = sym c.in_ok-kind.ensures ∙ c.in_default-2.is in
     let q : source c.in_ok-program.program ≡ program_of ds (names_of c.in_ok-own.field-0.own) es =
-        c.in_ok-program.ensures ∙ ap (λ l. program_of ds (names_of c.in_ok-own.field-0.own) (drafts_of l)) c.as_slice-6.ensures in
+    c.in_ok-program.ensures ∙ ap (λ l. program_of ds (names_of c.in_ok-own.field-0.own) (drafts_of l)) c.as_slice-6.ensures in
     λ p r. one_program ds items _ p (found ds items _ _ _ es names c.in_ok-own.ensures none places [] [] [] 0 0 forms at n h _ q) r
 
 pub returns-in_err-program-clause-only : goal.returns-in_err-program-clause-only
