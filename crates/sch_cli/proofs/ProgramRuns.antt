@@ -1,6 +1,5 @@
 -- A program that was run ends as it means, and stops at a failed output only where the outlet failed.
-use Rattle.std.proofs.Common.{◌≡◌, ℕ, zero, suc, List, [], refl, sym, ap, ◌∙◌, subst, arith}
-use Rattle.std.specs.Prelude.{slice_index_or}
+use Rattle.std.proofs.Common.{◌≡◌, ℕ, List, [], refl, sym, ap, ◌∙◌, subst, arith}
 use Rattle.sch_word.specs.declared.answer.Answer.{Answer}
 use Rattle.sch_word.specs.declared.stop.Stop.{Stop}
 use Rattle.sch_word.specs.declared.stop.Stop.TheVariants.{WrongType, OutOfRange, NotProcedure, WrongCount, DivideByZero, Overflow, HeapLimit, DepthLimit, Unset, OutputFailed}
@@ -19,7 +18,6 @@ use Rattle.sch_lang.specs.Meaning.{Closure}
 use Rattle.sch_lang.specs.Run.{outcome, run}
 use Rattle.sch_lang.proofs.OutputFails.{fails_by_answer, refused_gives}
 use Rattle.sch_driver.specs.Headline.{IsImageOf}
-use Rattle.sch_word.specs.runs.Answers.{TakesNothing}
 use Rattle.sch_step.specs.declared.ends.RunEnd.{RunEnd}
 use Rattle.sch_cli.specs.declared.status.Status.{Status}
 use Rattle.sch_cli.specs.declared.status.Status.TheVariants.{Stopped}
