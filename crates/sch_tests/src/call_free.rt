@@ -16,7 +16,7 @@ fn assignments_print(rt: HostRuntime) -> Result<(), Fail> {
             b"27",
         ),
         (
-            b"(let () (define x 5) (define y (+ x 1)) (set! x y) (display x))",
+            b"(let () (define x 5) (define (f) x) (set! x 6) (display x))",
             b"6",
         ),
         (b"(let ((t 5)) (display (or #f t)))", b"5"),
