@@ -141,16 +141,16 @@ fn straight_code_stops(rt: HostRuntime) -> Result<(), Fail> {
     Ok(())
 }
 
-// Comparisons of 200 operands, whose text would be longer than that of an image may be.
-fn many_comparisons(alloc: Global) -> Result<Bytes, Mem> {
+// Products of 20 operands, whose text would be longer than that of an image may be.
+fn many_products(alloc: Global) -> Result<Bytes, Mem> {
     let mut form = Bytes::new(alloc);
-    form.extend_from_slice(b"(< 0")?;
-    for _ in 0..199 {
-        form.extend_from_slice(b" 0")?;
+    form.extend_from_slice(b"(* 1")?;
+    for _ in 0..19 {
+        form.extend_from_slice(b" 1")?;
     }
     form.extend_from_slice(b")\n")?;
     let mut source = Bytes::new(alloc);
-    for _ in 0..2_580 {
+    for _ in 0..20_000 {
         source.extend_from_slice(form.as_slice())?;
     }
     Ok(source)
@@ -158,7 +158,7 @@ fn many_comparisons(alloc: Global) -> Result<Bytes, Mem> {
 
 #[test]
 fn a_text_past_the_limit_is_refused(rt: HostRuntime) -> Result<(), Fail> {
-    let source = many_comparisons(rt.alloc())?;
+    let source = many_products(rt.alloc())?;
     let ending = perform(rt.alloc(), &["run", "a"], source.as_slice(), &[])?;
     assert_eq!(rt; ending.status, 7);
     assert_eq!(rt; ending.printed.as_slice(), [].as_slice());
