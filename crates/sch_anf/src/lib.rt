@@ -12,7 +12,7 @@ ghost use Rattle.sch_flat.specs.ProgramView.{source};
 ghost use Rattle.sch_flat.specs.Straight.{is_straight_program};
 ghost use Rattle.sch_normal.specs.Counted.{BindNoMore};
 ghost use Rattle.sch_normal.specs.Dropped.{dropped_of};
-ghost use Rattle.sch_normal.specs.Kept.{SameCalls, StaysCallFree, StaysStraight};
+ghost use Rattle.sch_normal.specs.Kept.{SameCalls, StaysObjectFree, StaysStraight};
 ghost use Rattle.sch_normal.specs.Normal.{normal_source};
 ghost use Rattle.sch_normal.specs.SameRun.{SameRun};
 ghost use Rattle.sch_orders.specs.Table.{given_table};
@@ -54,9 +54,9 @@ pub fn normalize(alloc: Global, p: &FlatProgram) -> Result<ControlProgram, Mem>
     ensures tests { IfOk result (λ q. tests_of (control.source q).bodies ≡ measures.tests_of (source p.now)) }
     // The nodes with a site are the calls and primitives of `p`.
     ensures calls { IfOk result (λ q. SameCalls (source p.now) (control.source q)) }
-    // Of straight code it makes straight code, and of call-free code call-free code.
+    // Of straight code it makes straight code, and of object-free code object-free code.
     ensures straight { IfOk result (λ q. StaysStraight (source p.now) (control.source q)) }
-    ensures call_free { IfOk result (λ q. StaysCallFree (source p.now) (control.source q)) }
+    ensures object_free { IfOk result (λ q. StaysObjectFree (source p.now) (control.source q)) }
     // It drops as many atoms.
     ensures dropped { IfOk result (λ q. dropped_of (control.source q).bodies ≡ measures.dropped_of (source p.now)) }
     // No body has more variables than its flat body may need.

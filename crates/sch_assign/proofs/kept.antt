@@ -9,4 +9,4 @@ pub mod SizeKept
 pub mod StraightKept
 pub mod ValidKept
 pub mod WeightKept
-pub mod CallFreeKept
+pub mod ObjectFreeKept

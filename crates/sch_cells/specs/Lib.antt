@@ -12,5 +12,5 @@ pub mod UnboxedMeaning
 pub mod Valid
 pub mod Variables
 pub mod View
-pub mod CallFree
+pub mod ObjectFree
 pub mod Recursive

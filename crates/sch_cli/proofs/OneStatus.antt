@@ -3,7 +3,7 @@ use Rattle.std.proofs.Common.{◌≡◌, ◌≢◌, ◌≤◌, ◌<◌, ℕ, Lis
 use Rattle.std.specs.Prelude.{⊤}
 use Rattle.sch_word.specs.runs.ProgramLayout.{max_text_size}
 use Rattle.sch_lang.specs.Tree.{Source}
-use Rattle.sch_lang.specs.CallFree.{first_call, is_call_free_program}
+use Rattle.sch_lang.specs.ObjectFree.{first_object, is_object_free_program}
 use Rattle.sch_read.specs.Answer as reading
 use Rattle.sch_read.specs.Fault.{Fault, Unclosed, StrayClose, DeepNesting, LiteralRange, Flawed}
 use Rattle.sch_read.specs.Grammar.{Data, bad_token, bad_number, bad_string}
@@ -53,10 +53,10 @@ core_kept e v is = v (ap core_status is)
 
 -- ---- what is found in a text
 
--- what is found in data: a program that is call-free, or whose first form that is not is at this place
+-- what is found in data: a program that is object-free, or whose first form that is not is at this place
 data InData (items : Data) : Result ⊤ Failure → Type 0 where
-  free : (p : Source) → IsProgramOf [] items p → IsTrue (is_call_free_program p) → InData items (Ok tt)
-  call : (at : ℕ) (p : Source) → IsProgramOf [] items p → first_call (form_places items) p.forms ≡ Some at → InData items (Err (failure.Compile (compiling.NotBuilt at)))
+  free : (p : Source) → IsProgramOf [] items p → IsTrue (is_object_free_program p) → InData items (Ok tt)
+  call : (at : ℕ) (p : Source) → IsProgramOf [] items p → first_object (form_places items) p.forms ≡ Some at → InData items (Err (failure.Compile (compiling.NotBuilt at)))
 
 data InText (text : List ℕ) : Result ⊤ Failure → Type 0 where
   long : max_source_size < length text → InText text (Err failure.TooLong)
@@ -65,7 +65,7 @@ data InText (text : List ℕ) : Result ⊤ Failure → Type 0 where
   right : (verdict : Result ⊤ Failure) → length text ≤ max_source_size → (items : Data) → Spells text items → (p : Source) → IsProgramOf [] items p → InData items verdict → InText text verdict
 
 found_built : (text : List ℕ) (p : Source) → length text ≤ max_source_size → IsBuilt text p → InText text (Ok tt)
-found_built text p short is = right (Ok tt) short is.means.items is.means.spells p is.means.program (free p is.means.program is.call_free)
+found_built text p short is = right (Ok tt) short is.means.items is.means.spells p is.means.program (free p is.means.program is.object_free)
 
 -- an error of the driver's that is no lack of memory is one of the reader or of the expander
 reading_of : (text : List ℕ) (error : ReadError) → IsErrorOf text (compiling.Read error) → reading.IsErrorIn text error

@@ -45,7 +45,7 @@ const USAGE: &str =
 /// keyword, 6 it has an unbound variable, 7 it passes a limit, as that of 1,048,576 bytes (an image:
 /// 134,217,728) or that of the text of its image, 16,777,216 bytes, 8 NAME stands for no image, or its
 /// image got stuck or exited with a status of no stop, 9 the steps were spent, 10 there was no memory,
-/// 11 a form of NAME is not call-free and cannot be compiled today, 65 to 74 the image ended with this stop.
+/// 11 a form of NAME is not object-free and cannot be compiled today, 65 to 74 the image ended with this stop.
 pub fn schc<D: Disk, O: Outlet, E: Outlet>(
     alloc: Global,
     words: &[String],

@@ -6,4 +6,4 @@ pub mod ScopedKept
 pub mod StraightKept
 pub mod ValidKept
 pub mod VariablesKept
-pub mod CallFreeKept
+pub mod ObjectFreeKept

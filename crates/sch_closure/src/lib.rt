@@ -8,13 +8,13 @@ ghost use Rattle.sch_cells.specs.Bodies.{bodies_of};
 ghost use Rattle.sch_cells.specs.BoxedMeaning.{run};
 ghost use Rattle.sch_cells.specs.ProgramView.{source};
 ghost use Rattle.sch_cells.specs.Measures.{call_sites_of, dropped_of, program_size, sites_of, tests_of};
-ghost use Rattle.sch_cells.specs.CallFree.{is_call_free_program};
+ghost use Rattle.sch_cells.specs.ObjectFree.{is_object_free_program};
 ghost use Rattle.sch_cells.specs.Straight.{is_straight_program};
 ghost use Rattle.sch_cells.specs.View.{trees_of as trees};
 ghost use Rattle.sch_flat.specs.Measures as measures;
 ghost use Rattle.sch_flat.specs.ProgramView as view;
 ghost use Rattle.sch_flat.specs.Run as meaning;
-ghost use Rattle.sch_flat.specs.CallFree as call_free;
+ghost use Rattle.sch_flat.specs.ObjectFree as object_free;
 ghost use Rattle.sch_flat.specs.Straight as straight;
 ghost use Rattle.sch_flat.specs.View.{body, made, trees_of};
 ghost use Rattle.sch_closure.specs.Closed.{closed_source};
@@ -57,7 +57,7 @@ pub fn close(alloc: Global, p: &CellProgram<Boxed>) -> Result<FlatProgram, Mem>
     // It weighs what `p` does.
     ensures weight { IfOk result (λ q. weight_after (view.source q) ≡ weight_before (source p.now)) }
     ensures straight { IfOk result (λ q. IsTrue (is_straight_program (source p.now)) → IsTrue (straight.is_straight_program (view.source q))) }
-    ensures call_free { IfOk result (λ q. IsTrue (is_call_free_program (source p.now)) → IsTrue (call_free.is_call_free_program (view.source q))) }
+    ensures object_free { IfOk result (λ q. IsTrue (is_object_free_program (source p.now)) → IsTrue (object_free.is_object_free_program (view.source q))) }
 {
     close_program(alloc, p)
 }

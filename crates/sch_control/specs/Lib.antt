@@ -10,6 +10,6 @@ pub mod Straight
 pub mod Tree
 pub mod Valid
 pub mod View
-pub mod CallFree
+pub mod ObjectFree
 pub mod Weights
 pub mod Work

@@ -9,7 +9,7 @@ use Rattle.sch_core.specs.Programs.{IsProgramOf, form_places}
 use Rattle.sch_core.proofs.DataLaws.{one_program}
 use Rattle.sch_core.proofs.Answering.{as_many}
 use Rattle.sch_lang.specs.Tree.{Expressions, no_expressions, and_expression, count, Source}
-use Rattle.sch_lang.specs.CallFree.{is_call_free, are_call_free, is_call_free_program, first_call}
+use Rattle.sch_lang.specs.ObjectFree.{is_object_free, are_object_free, is_object_free_program, first_object}
 use Rattle.sch_lang.specs.Straight.{no_procedures}
 use Rattle.sch_driver.specs.Causes.{IsBuilt, IsNotBuilt, Means}
 
@@ -19,20 +19,20 @@ one_call : (b rest : Bool) (found : Option ℕ) (at : ℕ) → cond b found (Som
 one_call true rest found at h k = k h
 one_call false rest found at h k = absurd cc
 
--- all forms are call-free where none is found that is not and each has its place
-none_call : (places : List ℕ) (es : Expressions) → length places ≡ count es → first_call places es ≡ None → are_call_free es ≡ true
+-- all forms are object-free where none is found that is not and each has its place
+none_call : (places : List ℕ) (es : Expressions) → length places ≡ count es → first_object places es ≡ None → are_object_free es ≡ true
 none_call places no_expressions e h = refl
 none_call [] (and_expression x es) e h = absurd cc
 none_call (at ∷ places) (and_expression x es) e h =
-    one_call (is_call_free x) (are_call_free es) (first_call places es) at h (λ found. none_call places es (omega (arith, e)) found)
+    one_call (is_object_free x) (are_object_free es) (first_object places es) at h (λ found. none_call places es (omega (arith, e)) found)
 
-pub built : (text : List ℕ) (items : Data) (p : Source) → Spells text items → IsProgramOf [] items p → length (form_places items) ≡ count p.forms → first_call (form_places items) p.forms ≡ None → IsBuilt text p
+pub built : (text : List ℕ) (items : Data) (p : Source) → Spells text items → IsProgramOf [] items p → length (form_places items) ≡ count p.forms → first_object (form_places items) p.forms ≡ None → IsBuilt text p
 built text items p spells program places none = record {
   means = record { items = items; spells = spells; program = program };
-  call_free = and_from _ _ (ap (λ q. no_procedures q.library) program.numbered) (none_call (form_places items) p.forms places none);
+  object_free = and_from _ _ (ap (λ q. no_procedures q.library) program.numbered) (none_call (form_places items) p.forms places none);
 }
 
-pub not_built : (text : List ℕ) (items : Data) (p : Source) (at : ℕ) → Spells text items → IsProgramOf [] items p → first_call (form_places items) p.forms ≡ Some at → IsNotBuilt text at
+pub not_built : (text : List ℕ) (items : Data) (p : Source) (at : ℕ) → Spells text items → IsProgramOf [] items p → first_object (form_places items) p.forms ≡ Some at → IsNotBuilt text at
 not_built text items p at spells program other = record { program = p; means = record { items = items; spells = spells; program = program }; call = other }
 
 -- ---- a text is built or not
@@ -42,9 +42,9 @@ places_many : (items : Data) (p : Source) → IsProgramOf [] items p → length 
 places_many items p program = as_many [] items program.assigned _ program.drafts program.expands.expands ∙ ap (λ q. count q.forms) (sym program.numbered)
 
 pub built_or_not : (text : List ℕ) (p : Source) → Means text p → IsBuilt text p ⊎ ((at : ℕ) × IsNotBuilt text at)
-built_or_not text p m = go (first_call (form_places m.items) p.forms) refl
+built_or_not text p m = go (first_object (form_places m.items) p.forms) refl
   where
-    go : (found : Option ℕ) → first_call (form_places m.items) p.forms ≡ found → IsBuilt text p ⊎ ((at : ℕ) × IsNotBuilt text at)
+    go : (found : Option ℕ) → first_object (form_places m.items) p.forms ≡ found → IsBuilt text p ⊎ ((at : ℕ) × IsNotBuilt text at)
     go None e = inl (built text m.items p m.spells m.program (places_many m.items p m.program) e)
     go (Some at) e = inr (at, not_built text m.items p at m.spells m.program e)
 
@@ -53,32 +53,32 @@ both_free : (here rest : Bool) (at : ℕ) (other : Option ℕ) → IsTrue (here 
 both_free true rest at other h k = k h
 both_free false rest at other h k = absurd cc
 
-no_call : (places : List ℕ) (es : Expressions) → IsTrue (are_call_free es) → first_call places es ≡ None
+no_call : (places : List ℕ) (es : Expressions) → IsTrue (are_object_free es) → first_object places es ≡ None
 no_call [] es h = refl
 no_call (at ∷ places) no_expressions h = refl
-no_call (at ∷ places) (and_expression e es) h = both_free (is_call_free e) (are_call_free es) at (first_call places es) h (no_call places es)
+no_call (at ∷ places) (and_expression e es) h = both_free (is_object_free e) (are_object_free es) at (first_object places es) h (no_call places es)
 
 second : (a b : Bool) → IsTrue (a && b) → IsTrue b
 second true b h = h
 second false b h = absurd cc
 
--- a call-free program has no form that is not call-free
-all_free : (places : List ℕ) (p : Source) → IsTrue (is_call_free_program p) → first_call places p.forms ≡ None
-all_free places p h = no_call places p.forms (second (no_procedures p.library) (are_call_free p.forms) h)
+-- a object-free program has no form that is not object-free
+all_free : (places : List ℕ) (p : Source) → IsTrue (is_object_free_program p) → first_object places p.forms ≡ None
+all_free places p h = no_call places p.forms (second (no_procedures p.library) (are_object_free p.forms) h)
 
 none_some : {A : Type 0} {a : A} → None ≡ Some a → ⊥
 none_some e = cc
 
 -- the first form with a call of one program of the data is that of the other
-pub call_of : (items : Data) (p q : Source) (at : ℕ) → IsProgramOf [] items p → IsProgramOf [] items q → first_call (form_places items) q.forms ≡ Some at → first_call (form_places items) p.forms ≡ Some at
-call_of items p q at a b e = subst (λ r. first_call (form_places items) r.forms ≡ Some at) (sym (one_program [] items p q a b)) e
+pub call_of : (items : Data) (p q : Source) (at : ℕ) → IsProgramOf [] items p → IsProgramOf [] items q → first_object (form_places items) q.forms ≡ Some at → first_object (form_places items) p.forms ≡ Some at
+call_of items p q at a b e = subst (λ r. first_object (form_places items) r.forms ≡ Some at) (sym (one_program [] items p q a b)) e
 
-pub not_free : (items : Data) (p q : Source) (at : ℕ) → IsProgramOf [] items p → IsProgramOf [] items q → IsTrue (is_call_free_program p) → first_call (form_places items) q.forms ≡ Some at → ⊥
+pub not_free : (items : Data) (p q : Source) (at : ℕ) → IsProgramOf [] items p → IsProgramOf [] items q → IsTrue (is_object_free_program p) → first_object (form_places items) q.forms ≡ Some at → ⊥
 not_free items p q at a b h e = none_some (sym (all_free (form_places items) p h) ∙ call_of items p q at a b e)
 
 pub never_both : (text : List ℕ) (p : Source) (at : ℕ) → IsBuilt text p → IsNotBuilt text at → ⊥
 never_both text p at is n =
     let items = is.means.items in
     let same = sym (spells_one text items n.means.items is.means.spells n.means.spells) in
-    not_free items p n.program at is.means.program (subst (λ xs. IsProgramOf [] xs n.program) same n.means.program) is.call_free
-    (subst (λ xs. first_call (form_places xs) n.program.forms ≡ Some at) same n.call)
+    not_free items p n.program at is.means.program (subst (λ xs. IsProgramOf [] xs n.program) same n.means.program) is.object_free
+    (subst (λ xs. first_object (form_places xs) n.program.forms ≡ Some at) same n.call)

@@ -26,7 +26,7 @@ use Rattle.sch_control.specs.Work.{codes_work}
 use Rattle.sch_control.specs.Tree as control
 use Rattle.sch_control.specs.Run as control_run
 use Rattle.sch_frames.specs.Does.{Follows, SameRuns}
-use Rattle.sch_frames.specs.CallFree.{is_call_free_program}
+use Rattle.sch_frames.specs.ObjectFree.{is_object_free_program}
 use Rattle.sch_frames.specs.Run as frames_run
 use Rattle.sch_frames.specs.Tree as frames
 use Rattle.sch_frames.proofs.DepthFree.{depth_free}
@@ -54,10 +54,10 @@ image_follows text words zeros image runs lies f =
 not_wrong : (a b : Option Run) (r : Run) → a ≡ Some r → Follows a b → b ≡ Some r
 not_wrong a b r e = subst (λ o. Follows o b → b ≡ Some r) (sym e) (λ f. f)
 
--- A call-free program makes no call, so that its runs are the same at every depth. It is selected with the least
+-- A object-free program makes no call, so that its runs are the same at every depth. It is selected with the least
 -- one, lest it want a stack that it never uses; what is selected so follows the runs at the depth that is asked for.
 pub assembled : (p : control.Source) (f : frames.Source) (heap depth least : ℕ) (a routines : Asm) (code : List Insn) (marks : List Mark) (words text : List ℕ) (zeros : ℕ) (image : Image)
-    → SameRuns p f → IsTrue (is_call_free_program f) → FollowsFrames f heap least a.items a.words a.zeros → AreEffective routines.items → AreResolved (a.items ++ routines.items) a.words code marks words → AllValid code
+    → SameRuns p f → IsTrue (is_object_free_program f) → FollowsFrames f heap least a.items a.words a.zeros → AreEffective routines.items → AreResolved (a.items ++ routines.items) a.words code marks words → AllValid code
     → length (flat_map spelling code) ≤ max_text_size → length (flat_map spelling code) ≤ assembled_bound p
     → text ≡ flat_map spelling code → zeros ≡ a.zeros → IsProgramImage text words zeros image → IsAssembled p heap depth image
 assembled p f heap depth least a routines code marks words text zeros image same free follows effective resolved valid fits bound text_is zeros_are lies =

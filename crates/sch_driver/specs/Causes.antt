@@ -3,7 +3,7 @@ use Rattle.std.specs.Prelude.{◌≡◌, ◌<◌, ◌≤◌, ℕ, ◌+◌, ◌*�
 use Rattle.sch_word.specs.runs.ProgramLayout.{max_text_size}
 use Rattle.sch_lang.specs.Tree as tree
 use Rattle.sch_lang.specs.Measures.{program_size}
-use Rattle.sch_lang.specs.CallFree.{is_call_free_program, first_call}
+use Rattle.sch_lang.specs.ObjectFree.{is_object_free_program, first_object}
 use Rattle.sch_read.specs.Answer as reading
 use Rattle.sch_read.specs.declared.error.ReadError.{ReadError}
 use Rattle.sch_read.specs.declared.error.ReadError.TheVariants as read
@@ -26,16 +26,16 @@ pub record Means (text : List ℕ) (p : tree.Source) : Type 0 where
   pub spells : Spells text items
   pub program : IsProgramOf [] items p
 
--- a text without a fault, all of whose forms are call-free
+-- a text without a fault, all of whose forms are object-free
 pub record IsBuilt (text : List ℕ) (p : tree.Source) : Type 0 where
   pub means : Means text p
-  pub call_free : IsTrue (is_call_free_program p)
+  pub object_free : IsTrue (is_object_free_program p)
 
--- a text without a fault, whose form at this place is the first that is not call-free
+-- a text without a fault, whose form at this place is the first that is not object-free
 pub record IsNotBuilt (text : List ℕ) (at : ℕ) : Type 0 where
   pub program : tree.Source
   pub means : Means text program
-  pub call : first_call (form_places means.items) program.forms ≡ Some at
+  pub call : first_object (form_places means.items) program.forms ≡ Some at
 
 -- the most bytes of the text of an image, by the size of its core program: a part for the routines and the
 -- starts of forms, and a part for each unit of the size

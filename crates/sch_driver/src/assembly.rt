@@ -3,7 +3,7 @@
 ghost use Rattle.std.specs.Prelude.{◌≡◌, ◌++◌, IfOk, IfErr, IsTrue, OnOk, true};
 ghost use Rattle.std.specs.List.{flat_map};
 ghost use Rattle.sch_insn.specs.Spelling.{AllValid, spelling};
-ghost use Rattle.sch_control.specs.CallFree.{is_call_free_program};
+ghost use Rattle.sch_control.specs.ObjectFree.{is_object_free_program};
 ghost use Rattle.sch_control.specs.ProgramView.{source};
 ghost use Rattle.sch_driver.specs.Assembled.{IsAssembled, IsUnfit};
 
@@ -33,7 +33,7 @@ fn text_of(alloc: Global, code: &[Insn]) -> Result<Bytes, Mem>
     Ok(text)
 }
 
-/// The image of a call-free program, under limits of heap and depth.
+/// The image of a object-free program, under limits of heap and depth.
 ///
 /// It makes no call, so that it does the same at every depth. Its code is selected with the least one: a
 /// program of large frames would not fit in memory for a stack that it never uses.
@@ -42,7 +42,7 @@ pub(crate) fn assemble(
     p: &ControlProgram,
     limits: Limits,
 ) -> Result<Image, CompileError>
-    requires call_free { IsTrue (is_call_free_program (source p.now)) }
+    requires object_free { IsTrue (is_object_free_program (source p.now)) }
     ensures does { IfOk result (IsAssembled (source p.now) limits.heap limits.depth) }
     ensures refused { IfErr result (IsUnfit (source p.now)) }
 {

@@ -20,7 +20,7 @@ pub enum CompileError {
     /// The data have no core program, for another cause than a lack of memory.
     #[error("not expanded")]
     Core(CoreError),
-    /// The top-level form at this place is the first that is not call-free.
+    /// The top-level form at this place is the first that is not object-free.
     #[error("byte {0}: not built")]
     NotBuilt(u32),
     /// The text of the image would have this number of bytes, more than 16,777,216.

@@ -1,4 +1,4 @@
-//! Reads and expands a text, and refuses what is not call-free.
+//! Reads and expands a text, and refuses what is not object-free.
 
 ghost use Rattle.std.specs.Prelude.{◌≤◌, ◌*◌, length, IfOk, IfErr};
 ghost use Rattle.sch_lang.specs.Measures.{nodes_and_bound};
@@ -9,11 +9,11 @@ ghost use Rattle.sch_driver.specs.Causes.{IsBuilt, IsErrorOf, max_source_size};
 use crate::error::CompileError;
 use sch_core::{Library, core, form_places};
 use sch_lang::Program;
-use sch_passes::{are_walkable, first_call};
+use sch_passes::{are_walkable, first_object};
 use sch_read::read_all;
 use std::alloc::Global;
 
-/// The core program of a text whose forms are all call-free. A form whose sequences have more than 10,000
+/// The core program of a text whose forms are all object-free. A form whose sequences have more than 10,000
 /// parts together is out of memory.
 pub(crate) fn read_program(alloc: Global, text: &[u8]) -> Result<Program, CompileError>
     requires short { length text.now ≤ max_source_size }
@@ -24,7 +24,7 @@ pub(crate) fn read_program(alloc: Global, text: &[u8]) -> Result<Program, Compil
     let items = read_all(alloc, text)?;
     let program = core(alloc, Library::empty(alloc), items.as_slice())?;
     let places = form_places(alloc, items.as_slice())?;
-    match first_call(places.as_slice(), program.forms.as_slice()) {
+    match first_object(places.as_slice(), program.forms.as_slice()) {
         Some(at) => Err(CompileError::NotBuilt(at)),
         None if are_walkable(program.forms.as_slice()) => Ok(program),
         None => Err(CompileError::Memory),

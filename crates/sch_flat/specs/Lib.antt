@@ -8,4 +8,4 @@ pub mod ProgramView
 pub mod Meaning
 pub mod Run
 pub mod Examples
-pub mod CallFree
+pub mod ObjectFree

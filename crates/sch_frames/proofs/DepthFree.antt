@@ -1,4 +1,4 @@
--- A call-free program never looks at its depth: only calls and tail calls do. So its runs under one limit of
+-- A object-free program never looks at its depth: only calls and tail calls do. So its runs under one limit of
 -- depth are its runs under any other, and its code may be selected with the least one, whose stack is small.
 use Rattle.std.proofs.Common.{◌≡◌, ℕ, zero, suc, List, [], ◌∷◌, length, Bool, true, false, Option, Some, None, refl, ap, ◌∙◌}
 use Rattle.std.specs.Prelude.{IsTrue}
@@ -16,7 +16,7 @@ use Rattle.sch_control.specs.Meaning.{World, Result, Callee, marked, with_value,
 use Rattle.sch_control.specs.Run.{Bodies, do_forms, enter, entry_at, seen_of, starting_world}
 use Rattle.sch_frames.specs.declared.instruction.Instruction.{Instruction}
 use Rattle.sch_frames.specs.declared.instruction.Instruction.TheVariants.{Do, Store, Copy, Load, Pass, Fix, Call, Tail, Return, End, IfFalse, Jump, Label, Mark}
-use Rattle.sch_frames.specs.CallFree.{is_call_free_instruction, is_call_free_code, is_call_free_program}
+use Rattle.sch_frames.specs.ObjectFree.{is_object_free_instruction, is_object_free_code, is_object_free_program}
 use Rattle.sch_frames.specs.Meaning.{Frame, More, Is, held, value_in, with_place, with_members, sought, execute, execute_each, beginning}
 use Rattle.sch_frames.specs.Run.{bodies_of, do_code, entries_of, run}
 use Rattle.sch_frames.specs.Tree.{Code, Source}
@@ -51,7 +51,7 @@ either_same false first first' second second' e e' = e'
 -- ## Instructions
 
 module _ (callee : Callee) (depth depth' : ℕ) where
-  step_same : (i : Instruction) → is_call_free_instruction i ≡ true → (next next' : More) → ((seeking : Option ℕ) (f : Frame) (w : World) → next seeking f w ≡ next' seeking f w)
+  step_same : (i : Instruction) → is_object_free_instruction i ≡ true → (next next' : More) → ((seeking : Option ℕ) (f : Frame) (w : World) → next seeking f w ≡ next' seeking f w)
       → (f : Frame) (w : World) → execute callee depth i next f w ≡ execute callee depth' i next' f w
   step_same (Do o) h next next' same f w =
       after_ending w.marks (operate (held f) o w.state) (λ v w. next None (record f { accumulator = Is v }) w) (λ v w. next' None (record f { accumulator = Is v }) w)
@@ -81,7 +81,7 @@ module _ (callee : Callee) (depth depth' : ℕ) where
   step_same (Label l) h next next' same f w = same None f w
   step_same (Mark m) h next next' same f w = same None f (marked m w)
 
-  each_same : (is : List Instruction) → list_all is_call_free_instruction is ≡ true → (seeking : Option ℕ) (f : Frame) (w : World)
+  each_same : (is : List Instruction) → list_all is_object_free_instruction is ≡ true → (seeking : Option ℕ) (f : Frame) (w : World)
       → execute_each callee depth is seeking f w ≡ execute_each callee depth' is seeking f w
   each_same [] h seeking f w = refl
   each_same (i ∷ is) h (Some l) f w = each_same is (and_parts _ _ h).1 (sought l i) f w
@@ -90,10 +90,10 @@ module _ (callee : Callee) (depth depth' : ℕ) where
 
   -- ## Bodies
 
-  code_same : (c : Code) → is_call_free_code c ≡ true → (self : Value) (arguments : List Value) (w : World) → do_code c callee depth self arguments w ≡ do_code c callee depth' self arguments w
+  code_same : (c : Code) → is_object_free_code c ≡ true → (self : Value) (arguments : List Value) (w : World) → do_code c callee depth self arguments w ≡ do_code c callee depth' self arguments w
   code_same c h self arguments w = each_same c.instructions (and_parts _ _ h).0 None (beginning c.entry self arguments) w
 
-  body_same : (codes : List Code) → list_all is_call_free_code codes ≡ true → (label : ℕ) (self : Value) (arguments : List Value) (w : World)
+  body_same : (codes : List Code) → list_all is_object_free_code codes ≡ true → (label : ℕ) (self : Value) (arguments : List Value) (w : World)
       → bodies_of codes label callee depth self arguments w ≡ bodies_of codes label callee depth' self arguments w
   body_same [] h label self arguments w = refl
   body_same (c ∷ codes) h zero self arguments w = code_same c (and_parts _ _ h).0 self arguments w
@@ -111,8 +111,8 @@ module _ (callee : Callee) (depth depth' : ℕ) where
 
 -- ## Programs
 
--- The runs of a call-free program do not depend on the depth.
-pub depth_free : (p : Source) → IsTrue (is_call_free_program p) → (heap depth depth' : ℕ) (answers : List Answer) (entries : ℕ)
+-- The runs of a object-free program do not depend on the depth.
+pub depth_free : (p : Source) → IsTrue (is_object_free_program p) → (heap depth depth' : ℕ) (answers : List Answer) (entries : ℕ)
     → run p heap depth answers entries ≡ run p heap depth' answers entries
 depth_free p h heap depth depth' answers entries =
     let callee = enter (entry_at (entries_of p.bodies)) (bodies_of p.bodies) entries in

@@ -1,4 +1,4 @@
-pub mod CallFreeSlots
+pub mod ObjectFreeSlots
 pub mod Labels
 pub mod Laid
 pub mod LayoutSize

@@ -1,4 +1,4 @@
-pub mod CallFree
+pub mod ObjectFree
 pub mod Does
 pub mod Layout
 pub mod Meaning

@@ -3,13 +3,13 @@
 ghost use Rattle.std.specs.Prelude.{◌≡◌, ◌≤◌, ◌+◌, ◌*◌, IfOk, IsTrue};
 ghost use Rattle.std.specs.List.{list_all};
 ghost use Rattle.sch_word.specs.values.StaticsView.{statics};
-ghost use Rattle.sch_control.specs.CallFree as control_call_free;
+ghost use Rattle.sch_control.specs.ObjectFree as control_object_free;
 ghost use Rattle.sch_control.specs.ProgramView as control;
 ghost use Rattle.sch_control.specs.Sizes.{expressions_size};
 ghost use Rattle.sch_control.specs.SourceView as control_bodies;
 ghost use Rattle.sch_control.specs.Straight as control_straight;
 ghost use Rattle.sch_control.specs.Work.{codes_work};
-ghost use Rattle.sch_frames.specs.CallFree.{code_begins, each_begins, is_call_free_code, is_call_free_program};
+ghost use Rattle.sch_frames.specs.ObjectFree.{code_begins, each_begins, is_object_free_code, is_object_free_program};
 ghost use Rattle.sch_frames.specs.Does.{FramesOf, SameRuns};
 ghost use Rattle.sch_frames.specs.ProgramView.{source};
 ghost use Rattle.sch_frames.specs.Sizes.{calls_parts, closures_in, codes_size, entries_size, largest_frame, most_words, program_size, program_work};
@@ -27,8 +27,8 @@ use std::alloc::Global;
 fn frame_bodies(alloc: Global, bodies: &[Body]) -> Result<List<FrameBody>, Mem>
     ensures frames { IfOk result (λ made. FramesOf (control_bodies.codes_of bodies.now) (codes_of made)) }
     ensures begin { IfOk result (λ made. IsTrue (list_all code_begins (codes_of made))) }
-    ensures call_free { IfOk result (λ made. IsTrue (list_all control_call_free.is_call_free_code (control_bodies.codes_of bodies.now))
-        → IsTrue (list_all is_call_free_code (codes_of made))) }
+    ensures object_free { IfOk result (λ made. IsTrue (list_all control_object_free.is_object_free_code (control_bodies.codes_of bodies.now))
+        → IsTrue (list_all is_object_free_code (codes_of made))) }
     ensures straight { IfOk result (λ made. IsTrue (list_all control_straight.is_straight_code (control_bodies.codes_of bodies.now))
         → IsTrue (list_all is_straight_code (codes_of made))) }
     ensures size { IfOk result (λ made. codes_size (codes_of made)
@@ -54,14 +54,14 @@ pub fn frame_program(alloc: Global, p: &ControlProgram) -> Result<FrameProgram, 
     ensures library { IfOk result (λ q. q.library ≡ p.now.library) }
     ensures statics { IfOk result (λ q. statics q.statics ≡ statics p.now.statics) }
     ensures begin { IfOk result (λ q. IsTrue (each_begins (source q))) }
-    ensures call_free { IfOk result (λ q.
-        IsTrue (control_call_free.is_call_free_program (control.source p.now)) → IsTrue (is_call_free_program (source q))) }
+    ensures object_free { IfOk result (λ q.
+        IsTrue (control_object_free.is_object_free_program (control.source p.now)) → IsTrue (is_object_free_program (source q))) }
     ensures straight { IfOk result (λ q.
         IsTrue (control_straight.is_straight_program (control.source p.now)) → IsTrue (is_straight_program (source q))) }
     ensures size { IfOk result (λ q. program_size (source q)
         ≤ 2 * expressions_size (control_bodies.codes_of p.now.bodies) + 4 * calls_parts (control_bodies.codes_of p.now.bodies)
         + entries_size (control_bodies.codes_of p.now.bodies)) }
-    ensures call_free_size { IfOk result (λ q. IsTrue (control_call_free.is_call_free_program (control.source p.now)) → program_size (source q)
+    ensures object_free_size { IfOk result (λ q. IsTrue (control_object_free.is_object_free_program (control.source p.now)) → program_size (source q)
         ≤ 2 * expressions_size (control_bodies.codes_of p.now.bodies) + entries_size (control_bodies.codes_of p.now.bodies)) }
     ensures straight_size { IfOk result (λ q. IsTrue (control_straight.is_straight_program (control.source p.now))
         → program_size (source q) ≤ 2 * expressions_size (control_bodies.codes_of p.now.bodies)) }

@@ -1,11 +1,11 @@
 //! Bodies with a slot for each variable.
 
 ghost use Rattle.std.specs.Prelude.{◌≡◌, ◌≤◌, ◌+◌, ◌*◌, ◌-◌, [], length, max, None, IfOk, IsTrue};
-ghost use Rattle.sch_control.specs.CallFree as control_call_free;
+ghost use Rattle.sch_control.specs.ObjectFree as control_object_free;
 ghost use Rattle.sch_control.specs.SourceView as control;
 ghost use Rattle.sch_control.specs.Straight as control_straight;
 ghost use Rattle.sch_control.specs.View.{expression};
-ghost use Rattle.sch_frames.specs.CallFree.{code_begins, is_call_free_code};
+ghost use Rattle.sch_frames.specs.ObjectFree.{code_begins, is_object_free_code};
 ghost use Rattle.sch_frames.specs.Does.{FrameOf};
 ghost use Rattle.sch_frames.specs.Layout.{entering, is_entered, labels, lay, most_operands, own_slots, slots_base, slots_words};
 ghost use Rattle.sch_control.specs.Sizes.{expression_size};
@@ -124,8 +124,8 @@ fn laid_out(alloc: Global, slots: Slots, b: &Body) -> Result<Writer, Mem>
 pub fn frame_slots(alloc: Global, b: &Body) -> Result<FrameBody, Mem>
     ensures same { IfOk result (λ f. FrameOf (control.code_of b.now) (code_of f)) }
     ensures begins { IfOk result (λ f. IsTrue (code_begins (code_of f))) }
-    ensures call_free { IfOk result (λ f.
-        IsTrue (control_call_free.is_call_free_code (control.code_of b.now)) → IsTrue (is_call_free_code (code_of f))) }
+    ensures object_free { IfOk result (λ f.
+        IsTrue (control_object_free.is_object_free_code (control.code_of b.now)) → IsTrue (is_object_free_code (code_of f))) }
     ensures straight { IfOk result (λ f.
         IsTrue (control_straight.is_straight_code (control.code_of b.now)) → IsTrue (is_straight_code (code_of f))) }
     ensures words { IfOk result (λ f. f.words ≡ slots_words (control.code_of b.now)) }

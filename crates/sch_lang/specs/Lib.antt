@@ -12,4 +12,4 @@ pub mod Tree
 pub mod Valid
 pub mod Variables
 pub mod View
-pub mod CallFree
+pub mod ObjectFree

@@ -4,5 +4,5 @@ pub mod DroppedKept
 pub mod StraightKept
 pub mod Size
 pub mod BindNoMore
-pub mod CallFreeKept
+pub mod ObjectFreeKept
 pub mod WorkKept

@@ -2,10 +2,10 @@
 use Rattle.std.specs.Prelude.{◌≡◌, ℕ, IsTrue, nat_eq}
 use Rattle.std.specs.List.{count_by}
 use Rattle.sch_flat.specs.Measures.{call_sites_of}
-use Rattle.sch_flat.specs.CallFree as from_free
+use Rattle.sch_flat.specs.ObjectFree as from_free
 use Rattle.sch_flat.specs.Straight as from
 use Rattle.sch_flat.specs.Tree as flat
-use Rattle.sch_control.specs.CallFree.{is_call_free_program}
+use Rattle.sch_control.specs.ObjectFree.{is_object_free_program}
 use Rattle.sch_control.specs.Straight.{is_straight_program}
 use Rattle.sch_control.specs.Tree as control
 use Rattle.sch_control.specs.Valid.{sites_of_each}
@@ -18,6 +18,6 @@ SameCalls p q = (site : ℕ) → count_by (λ at. nat_eq at.0 site) (sites_of_ea
 abbrev pub StaysStraight : flat.Source → control.Source → Type 0
 StaysStraight p q = IsTrue (from.is_straight_program p) → IsTrue (is_straight_program q)
 
--- of call-free code, call-free code
-abbrev pub StaysCallFree : flat.Source → control.Source → Type 0
-StaysCallFree p q = IsTrue (from_free.is_call_free_program p) → IsTrue (is_call_free_program q)
+-- of object-free code, object-free code
+abbrev pub StaysObjectFree : flat.Source → control.Source → Type 0
+StaysObjectFree p q = IsTrue (from_free.is_object_free_program p) → IsTrue (is_object_free_program q)

@@ -1,2 +1,2 @@
-mod CallFreeTrees
+mod ObjectFreeTrees
 mod Chain

@@ -3,20 +3,20 @@
 #![tactic(auto)]
 
 ghost use Rattle.std.specs.Prelude.{◌≤◌, ◌*◌, ◌^◌, IfOk, IsTrue};
-ghost use Rattle.sch_control.specs.CallFree as control;
+ghost use Rattle.sch_control.specs.ObjectFree as control;
 ghost use Rattle.sch_control.specs.Fits.{table_fits};
 ghost use Rattle.sch_control.specs.ProgramView as control_view;
 ghost use Rattle.sch_control.specs.Work.{codes_work};
-ghost use Rattle.sch_lang.specs.CallFree.{is_call_free_program};
+ghost use Rattle.sch_lang.specs.ObjectFree.{is_object_free_program};
 ghost use Rattle.sch_lang.specs.Measures.{nodes_and_bound, program_size};
 ghost use Rattle.sch_lang.specs.ProgramView.{source};
 ghost use Rattle.sch_orders.specs.Table.{given_table};
 ghost use Rattle.sch_passes.specs.Chain.{RunsAs};
 
-mod call_free;
+mod object_free;
 mod walkable;
 
-pub use call_free::first_call;
+pub use object_free::first_object;
 use sch_anf::normalize;
 use sch_assign::convert_assign;
 use sch_closure::close;
@@ -36,7 +36,7 @@ pub fn control_program(alloc: Global, p: &Program) -> Result<ControlProgram, Mem
     ensures runs { IfOk result (λ q. RunsAs (source p.now) (control_view.source q)) }
     // The table that lists, at each site, what is bound and then the other parts by number fits it.
     ensures fits { IfOk result (λ q. IsTrue (table_fits (control_view.source q) (given_table (control_view.source q)))) }
-    ensures call_free { IfOk result (λ q. IsTrue (is_call_free_program (source p.now)) → IsTrue (control.is_call_free_program (control_view.source q))) }
+    ensures object_free { IfOk result (λ q. IsTrue (is_object_free_program (source p.now)) → IsTrue (control.is_object_free_program (control_view.source q))) }
     // There is at most seven times as much work in it as the size of `p`.
     ensures work { IfOk result (λ q. codes_work (control_view.source q).bodies ≤ 7 * program_size (source p.now)) }
 {

@@ -1,14 +1,14 @@
--- Straight code is numbered to straight code, and no other code is; so is call-free code.
+-- Straight code is numbered to straight code, and no other code is; so is object-free code.
 use Rattle.std.proofs.Common.{◌≡◌, ℕ, true, List, [], refl, ap, ◌∙◌}
 use Rattle.std.specs.Prelude.{◌&&◌}
-use Rattle.sch_word.specs.trees.Straight.{is_straight_node, is_call_free_node}
+use Rattle.sch_word.specs.trees.Straight.{is_straight_node, is_object_free_node}
 use Rattle.sch_word.proofs.Shaped.{equal_joins}
 use Rattle.sch_lang.specs.Tree.{Expressions, Lambdas, Source, no_expressions, and_expression, no_lambdas, and_lambda}
 use Rattle.sch_lang.specs.Measures.{over_each, shape}
 use Rattle.sch_lang.specs.InScope.{IsClosed}
-use Rattle.sch_lang.specs.CallFree as from_free
+use Rattle.sch_lang.specs.ObjectFree as from_free
 use Rattle.sch_lang.specs.Straight as from
-use Rattle.sch_cells.specs.CallFree as to_free
+use Rattle.sch_cells.specs.ObjectFree as to_free
 use Rattle.sch_cells.specs.Measures as measures
 use Rattle.sch_cells.specs.Straight as to
 use Rattle.sch_rename.specs.Made.{binds_lambdas, renamed_each, renamed_lambdas, renamed_source}
@@ -30,14 +30,14 @@ straight_kept p c =
     ∙ each_is p.forms in
     rw (library_kept p.library [] 0, k) refl
 
-each_free : (es : Expressions) → over_each true (λ a b. a && b) (λ e. is_call_free_node (shape e)) es ≡ from_free.are_call_free es
+each_free : (es : Expressions) → over_each true (λ a b. a && b) (λ e. is_object_free_node (shape e)) es ≡ from_free.are_object_free es
 each_free no_expressions = refl
-each_free (and_expression e es) = ap (λ b. from_free.is_call_free e && b) (each_free es)
+each_free (and_expression e es) = ap (λ b. from_free.is_object_free e && b) (each_free es)
 
-pub call_free_kept : (p : Source) → IsClosed p → to_free.is_call_free_program (renamed_source p) ≡ from_free.is_call_free_program p
-call_free_kept p c =
-    let k : to_free.are_call_free (renamed_each p.forms [] (binds_lambdas p.library)) ≡ from_free.are_call_free p.forms =
-    each_kept (equal_joins true (λ a b. a && b)) (λ e. is_call_free_node (shape e)) (λ e. is_call_free_node (measures.shape e))
-    (λ e s x f i. ap is_call_free_node (shape_kept e s x f i)) p.forms [] (binds_lambdas p.library) tt c.forms
+pub object_free_kept : (p : Source) → IsClosed p → to_free.is_object_free_program (renamed_source p) ≡ from_free.is_object_free_program p
+object_free_kept p c =
+    let k : to_free.are_object_free (renamed_each p.forms [] (binds_lambdas p.library)) ≡ from_free.are_object_free p.forms =
+    each_kept (equal_joins true (λ a b. a && b)) (λ e. is_object_free_node (shape e)) (λ e. is_object_free_node (measures.shape e))
+    (λ e s x f i. ap is_object_free_node (shape_kept e s x f i)) p.forms [] (binds_lambdas p.library) tt c.forms
     ∙ each_free p.forms in
     rw (library_kept p.library [] 0, k) refl

@@ -11,6 +11,6 @@ pub mod Starting
 pub mod JoinedProgram
 pub mod CoveredPrograms
 pub mod StraightPrograms
-pub mod CallFreePrograms
+pub mod ObjectFreePrograms
 pub mod Examples
 pub mod CallExamples

@@ -3,7 +3,7 @@
 use Rattle.std.specs.Prelude.{ℕ, Bool, true, false, ◌&&◌, ◌||◌, not, nat_le, nat_lt, List, length, Option, Some, None}
 use Rattle.std.specs.List.{list_all}
 use Rattle.sch_word.specs.declared.place.Place.{Place}
-use Rattle.sch_word.specs.trees.Shape.{max_free_variables}
+use Rattle.sch_word.specs.trees.Shape.{max_free_variables, max_library}
 use Rattle.sch_control.specs.declared.body.Entry.{Entry}
 use Rattle.sch_control.specs.declared.operation.Source.{Source}
 use Rattle.sch_control.specs.declared.operation.Source.TheVariants as source
@@ -14,7 +14,7 @@ use Rattle.sch_control.specs.declared.operation.Operation.TheVariants as operati
 use Rattle.sch_control.specs.Straight.{is_form, is_straight_atom, is_straight_operand, is_straight_operation}
 use Rattle.sch_frames.specs.declared.instruction.Instruction.{Instruction}
 use Rattle.sch_frames.specs.declared.instruction.Instruction.TheVariants.{Do, Load, Pass, Fix, Call, Tail, End}
-use Rattle.sch_frames.specs.CallFree.{marks_settled}
+use Rattle.sch_frames.specs.ObjectFree.{marks_settled}
 use Rattle.sch_frames.specs.Tree.{Code}
 use Rattle.sch_frames.specs.Tree as tree
 
@@ -77,10 +77,6 @@ abbrev pub can_be_entered : Code → Bool
 can_be_entered c = takes_no_list c.entry && list_all (may_stand true (is_form c.entry)) c.instructions
 
 -- ## Programs
-
--- the most procedures of a library
-abbrev pub max_library : ℕ
-max_library = 1048576
 
 abbrev pub is_covered_program : tree.Source → Bool
 is_covered_program p =

@@ -2,7 +2,7 @@
 #![tactic(auto)]
 
 #[cfg(test)]
-mod call_free;
+mod object_free;
 #[cfg(test)]
 mod program;
 #[cfg(test)]

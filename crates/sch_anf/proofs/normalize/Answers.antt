@@ -5,14 +5,14 @@ use Rattle.sch_control.specs.Fits.{table_fits}
 use Rattle.sch_control.specs.Sizes.{expressions_size}
 use Rattle.sch_control.specs.Work.{codes_work}
 use Rattle.sch_flat.specs.Measures.{program_size}
-use Rattle.sch_normal.specs.Kept.{SameCalls, StaysCallFree, StaysStraight}
+use Rattle.sch_normal.specs.Kept.{SameCalls, StaysObjectFree, StaysStraight}
 use Rattle.sch_normal.specs.Normal.{normal_source}
 use Rattle.sch_normal.specs.SameRun.{SameRun}
 use Rattle.sch_orders.specs.Table.{given_table}
 use Rattle.sch_normal.specs.Tests.{tests_of}
 use Rattle.sch_normal.proofs.kept.CallsKept.{program_calls}
 use Rattle.sch_normal.proofs.runs.Program.{normal_runs}
-use Rattle.sch_normal.proofs.kept.CallFreeKept.{program_call_free}
+use Rattle.sch_normal.proofs.kept.ObjectFreeKept.{program_object_free}
 use Rattle.sch_normal.proofs.kept.StraightKept.{program_straight}
 use Rattle.sch_normal.specs.Counted.{BindNoMore}
 use Rattle.sch_normal.specs.Dropped.{dropped_of}
@@ -55,9 +55,9 @@ pub returns-clause-straight : goal.returns-clause-straight
 returns-clause-straight c =
     if_ok c.normal_program.result _ _ c.normal_program.ensures (λ q made. subst (λ s. StaysStraight (source c.args.p.now) s) (sym made) (program_straight (source c.args.p.now)))
 
-pub returns-clause-call_free : goal.returns-clause-call_free
-returns-clause-call_free c =
-    if_ok c.normal_program.result _ _ c.normal_program.ensures (λ q made. subst (λ s. StaysCallFree (source c.args.p.now) s) (sym made) (program_call_free (source c.args.p.now)))
+pub returns-clause-object_free : goal.returns-clause-object_free
+returns-clause-object_free c =
+    if_ok c.normal_program.result _ _ c.normal_program.ensures (λ q made. subst (λ s. StaysObjectFree (source c.args.p.now) s) (sym made) (program_object_free (source c.args.p.now)))
 
 pub returns-clause-size : goal.returns-clause-size
 returns-clause-size c =

@@ -11,7 +11,7 @@ pub control_program-requires : goal.control_program-requires
 control_program-requires c = record { small = omega (arith, c.in_ok-program.ensures.size) }
 
 pub assemble-requires : goal.assemble-requires
-assemble-requires c = record { call_free = c.in_ok-control.ensures.call_free c.in_ok-program.ensures.built.call_free }
+assemble-requires c = record { object_free = c.in_ok-control.ensures.object_free c.in_ok-program.ensures.built.object_free }
 
 pub returns-clause-compiled : goal.returns-clause-compiled
 returns-clause-compiled c =

@@ -1,4 +1,4 @@
--- In the layout of a valid call-free body each field has a number that a field may have, and each mark has an
+-- In the layout of a valid object-free body each field has a number that a field may have, and each mark has an
 -- instruction behind it.
 use Rattle.std.proofs.Common.{◌≡◌, ◌≤◌, ℕ, zero, suc, List, [], ◌∷◌, Option, Some, None, true, false, refl, arith}
 use Rattle.std.specs.Prelude.{◌&&◌, nat_lt, nat_le, nat_eq}
@@ -12,17 +12,17 @@ use Rattle.sch_control.specs.declared.operation.Operation.{Operation}
 use Rattle.sch_control.specs.declared.operation.Operation.TheVariants as operation
 use Rattle.sch_control.specs.declared.operation.Source.{Source}
 use Rattle.sch_control.specs.declared.operation.Source.TheVariants as source
-use Rattle.sch_control.specs.CallFree as control_call_free
-use Rattle.sch_control.specs.CallFree.{is_call_free}
+use Rattle.sch_control.specs.ObjectFree as control_object_free
+use Rattle.sch_control.specs.ObjectFree.{is_object_free}
 use Rattle.sch_control.specs.Tree as control
 use Rattle.sch_control.specs.Tree.{Expression, perform, bind, sequence, branch, fix, call, tail_call, return, end, save}
 use Rattle.sch_control.specs.Valid.{source_field, operation_field, group_fields, fields_of, fields_there, entry_shaped, fields_known, shaped_whole, shaped}
 use Rattle.sch_frames.specs.declared.instruction.Instruction.{Instruction}
 use Rattle.sch_frames.specs.declared.instruction.Instruction.TheVariants.{Label, Mark}
-use Rattle.sch_frames.specs.CallFree.{is_call_free_code, source_low, member_low, operation_low, instruction_low, marks_settled, begins}
+use Rattle.sch_frames.specs.ObjectFree.{is_object_free_code, source_low, member_low, operation_low, instruction_low, marks_settled, begins}
 use Rattle.sch_frames.specs.Layout.{Slots, source_at, sources_at, members_at, operation_at, lay, leave, arrivals, entering, slots_base, slots_for, slots_layout}
 use Rattle.sch_frames.proofs.runs.Entering.{entering_passes}
-use Rattle.sch_frames.proofs.layouts.CallFreeSlots.{slots_free, slots_begin}
+use Rattle.sch_frames.proofs.layouts.ObjectFreeSlots.{slots_free, slots_begin}
 use Rattle.sch_frames.proofs.layouts.Laid.{Steers, Passes, lay_passes}
 use Rattle.sch_frames.proofs.layouts.SlotsFrame.{slots_of}
 
@@ -60,7 +60,7 @@ module _ (place : ℕ → Place) (fields : ℕ) (few : fields ≤ max_free_varia
   operation_is (operation.MakeClosure c) h = sources_are c.fields h
 
 module _ (slots : Slots) (fields : ℕ) (few : fields ≤ max_free_variables) where
-  parts_low : (e : Expression) → is_call_free e ≡ true → fields_there fields e ≡ true → Passes slots instruction_low low_steers e
+  parts_low : (e : Expression) → is_object_free e ≡ true → fields_there fields e ≡ true → Passes slots instruction_low low_steers e
   parts_low (perform o) c h = operation_is slots.place fields few o h
   parts_low (bind x a b) c h = let p = and_parts _ _ c in let q = and_parts _ _ h in (refl, (parts_low a p.0 q.0, parts_low b p.1 q.1))
   parts_low (sequence a b) c h = let p = and_parts _ _ c in let q = and_parts _ _ h in (parts_low a p.0 q.0, parts_low b p.1 q.1)
@@ -87,7 +87,7 @@ few_fields (Some e) h =
     let q = and_parts _ (nat_le e.fields max_free_variables) p.1 in
     leb-true e.fields max_free_variables q.1
 
-slots_low : (c : control.Code) → control_call_free.is_call_free_code c ≡ true → shaped_whole c ≡ true → fields_known c ≡ true → list_all instruction_low (slots_layout c) ≡ true
+slots_low : (c : control.Code) → control_object_free.is_object_free_code c ≡ true → shaped_whole c ≡ true → fields_known c ≡ true → list_all instruction_low (slots_layout c) ≡ true
 slots_low c free whole there =
     let few = few_fields c.entry (and_parts (entry_shaped c.entry) (shaped c.expression) whole).0 in
     entering_passes instruction_low (λ to from. refl) c.entry (slots_base c) _
@@ -99,7 +99,7 @@ leave_settled : (test : Option ℕ) (rest : List Instruction) → marks_settled 
 leave_settled None rest h = h
 leave_settled (Some l) rest h = h
 
-lay_settled : (slots : Slots) (e : Expression) → is_call_free e ≡ true → (n : ℕ) (test : Option ℕ) (rest : List Instruction) → marks_settled false rest ≡ true → marks_settled false (lay slots e n test rest) ≡ true
+lay_settled : (slots : Slots) (e : Expression) → is_object_free e ≡ true → (n : ℕ) (test : Option ℕ) (rest : List Instruction) → marks_settled false rest ≡ true → marks_settled false (lay slots e n test rest) ≡ true
 lay_settled slots (perform o) c n test rest h = leave_settled test rest h
 lay_settled slots (bind x a b) c n test rest h = let p = and_parts _ _ c in lay_settled slots a p.0 _ _ _ (lay_settled slots b p.1 _ _ _ h)
 lay_settled slots (sequence a b) c n test rest h = let p = and_parts _ _ c in lay_settled slots a p.0 _ _ _ (lay_settled slots b p.1 _ _ _ h)
@@ -129,8 +129,8 @@ may_wait (Label l ∷ is) b h = absurd cc
 may_wait (Mark m ∷ is) b h = absurd cc
 may_wait (_ ∷ is) b h = h
 
-pub slots_call_free : (c : control.Code) → shaped_whole c ≡ true → fields_known c ≡ true → control_call_free.is_call_free_code c ≡ true → is_call_free_code (slots_of c) ≡ true
-slots_call_free c whole there free =
+pub slots_object_free : (c : control.Code) → shaped_whole c ≡ true → fields_known c ≡ true → control_object_free.is_object_free_code c ≡ true → is_object_free_code (slots_of c) ≡ true
+slots_object_free c whole there free =
     and_from _ _ (slots_free c free)
     (and_from _ _ (slots_low c free whole there)
     (may_wait (slots_layout c) (slots_begin c) (entering_settled (slots_base c) c.entry _ (lay_settled (slots_for c) c.expression free 0 None [] refl))))

@@ -17,7 +17,7 @@ use Rattle.sch_control.specs.declared.operation.Operand.{Operand}
 use Rattle.sch_control.specs.declared.operation.Operand.TheVariants as operand
 use Rattle.sch_control.specs.declared.operation.Source.TheVariants as source
 use Rattle.sch_control.specs.declared.operation.Operation.TheVariants as operation
-use Rattle.sch_control.specs.CallFree as control_call_free
+use Rattle.sch_control.specs.ObjectFree as control_object_free
 use Rattle.sch_control.specs.Run as control_run
 use Rattle.sch_control.specs.Sizes.{expression_size}
 use Rattle.sch_control.specs.Tree as control
@@ -25,7 +25,7 @@ use Rattle.sch_control.specs.Tree.{Expression, perform, bind, branch, fix, call,
 use Rattle.sch_control.specs.Valid as control_valid
 use Rattle.sch_frames.specs.declared.instruction.Instruction.{Instruction}
 use Rattle.sch_frames.specs.declared.instruction.Instruction.TheVariants.{Do, Store, Copy, Load, Pass, Call, Tail, Return, End, IfFalse, Jump, Label, Mark}
-use Rattle.sch_frames.specs.CallFree.{is_call_free_program, each_begins, begins}
+use Rattle.sch_frames.specs.ObjectFree.{is_object_free_program, each_begins, begins}
 use Rattle.sch_frames.specs.Layout.{slots_layout, slots_words, labels, most_operands}
 use Rattle.sch_frames.specs.Run.{run}
 use Rattle.sch_frames.specs.Sizes.{call_parts, calls_parts, entries_size, instructions_size, most_words, nodes}
@@ -151,27 +151,27 @@ looping_valid : both_valid looping ≡ true
 looping_valid = refl
 
 -- a procedure is made, and is the same object as itself; none is entered
-abbrev pub call_free : control.Source
-call_free = program
+abbrev pub object_free : control.Source
+object_free = program
     (form 3 (fix (record { at = 2; closure = record { label = 1; fields = source.Atom (Variable 2) ∷ [] } } ∷ [])
     (end (perform (operation.Prim 0 Put (operand.Read 1 Eq (Variable 2 ∷ Variable 2 ∷ []) ∷ [])))))
     ∷ lambda 1 1 3 (return (perform (operation.Field 1 0)))
     ∷ []) (1 ∷ 2 ∷ []) ([] ∷ [] ∷ [])
 
-call_free_runs : Both call_free 1 1 (seen (codes "#t") 0 16 (ended 0))
-call_free_runs = (refl, refl)
+object_free_runs : Both object_free 1 1 (seen (codes "#t") 0 16 (ended 0))
+object_free_runs = (refl, refl)
 
-call_free_valid : both_valid call_free ≡ true
-call_free_valid = refl
+object_free_valid : both_valid object_free ≡ true
+object_free_valid = refl
 
-call_free_rows :
-    (control_call_free.is_call_free_program call_free ≡ true)
-    × (is_call_free_program (framed call_free) ≡ true)
-    × (control_call_free.is_call_free_program calling ≡ false)
-    × (is_call_free_program (framed calling) ≡ false)
-    × (control_call_free.is_call_free_program (program (twice ∷ []) [] []) ≡ false)
-    × (control_call_free.is_call_free (tail_call (applied 0 2 [])) ≡ false)
-call_free_rows = (refl, refl, refl, refl, refl, refl)
+object_free_rows :
+    (control_object_free.is_object_free_program object_free ≡ true)
+    × (is_object_free_program (framed object_free) ≡ true)
+    × (control_object_free.is_object_free_program calling ≡ false)
+    × (is_object_free_program (framed calling) ≡ false)
+    × (control_object_free.is_object_free_program (program (twice ∷ []) [] []) ≡ false)
+    × (control_object_free.is_object_free (tail_call (applied 0 2 [])) ≡ false)
+object_free_rows = (refl, refl, refl, refl, refl, refl)
 
 -- a label or a mark is nothing that is done
 begins_rows :

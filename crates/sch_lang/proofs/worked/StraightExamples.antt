@@ -4,7 +4,7 @@ use Rattle.sch_word.specs.declared.constant.Const.TheVariants.{Fixnum}
 use Rattle.sch_word.specs.declared.primitive.Primitive.TheVariants.{Add, Put}
 use Rattle.sch_lang.specs.Tree.{Expression, constant, local, global, set_local, define, bind, lambda, call, operation, no_expressions, expressions}
 use Rattle.sch_lang.specs.Straight.{is_straight, first_other}
-use Rattle.sch_lang.specs.CallFree.{first_call}
+use Rattle.sch_lang.specs.ObjectFree.{first_object}
 
 abbrev one : Expression
 one = constant (Fixnum (pos 1))
@@ -35,10 +35,10 @@ call_row = refl
 deep_row : is_straight (define 0 (bind 1 (expressions (one ∷ [])) (operation 2 Add (expressions (local 0 ∷ call 5 (global 0) no_expressions ∷ []))))) ≡ false
 deep_row = refl
 
--- a local variable that is assigned is call-free, and so is a procedure that is made
-call_free_row : first_call (0 ∷ 12 ∷ []) (expressions (assigns_local ∷ lambda [] 0 false display_one ∷ [])) ≡ None
-call_free_row = refl
+-- a local variable that is assigned is object-free, and so is a procedure that is made
+object_free_row : first_object (0 ∷ 12 ∷ []) (expressions (assigns_local ∷ lambda [] 0 false display_one ∷ [])) ≡ None
+object_free_row = refl
 
 -- a call, also one in the body of a procedure, is not
-called_row : first_call (0 ∷ 12 ∷ 45 ∷ []) (expressions (assigns_local ∷ lambda [] 0 false (call 4 (global 0) no_expressions) ∷ display_one ∷ [])) ≡ Some 12
+called_row : first_object (0 ∷ 12 ∷ 45 ∷ []) (expressions (assigns_local ∷ lambda [] 0 false (call 4 (global 0) no_expressions) ∷ display_one ∷ [])) ≡ Some 12
 called_row = refl

@@ -34,9 +34,9 @@ returns-clause-runs c =
     c.in_ok-renamed.ensures.runs c.in_ok-converted.ensures.runs c.in_ok-flat.ensures.runs c.in_ok-control.ensures.runs
     sites
 
-pub returns-clause-call_free : goal.returns-clause-call_free
-returns-clause-call_free c h =
-    c.in_ok-control.ensures.call_free (c.in_ok-flat.ensures.call_free (c.in_ok-converted.ensures.call_free (c.in_ok-renamed.ensures.call_free ∙ h)))
+pub returns-clause-object_free : goal.returns-clause-object_free
+returns-clause-object_free c h =
+    c.in_ok-control.ensures.object_free (c.in_ok-flat.ensures.object_free (c.in_ok-converted.ensures.object_free (c.in_ok-renamed.ensures.object_free ∙ h)))
 
 pub returns-clause-work : goal.returns-clause-work
 returns-clause-work c =

@@ -40,7 +40,7 @@ use Rattle.sch_select.proofs.items.ProgramSound.{in_front}
 use Rattle.sch_select.proofs.programs.Selected.{atom_selected, read_selected, operand_selected, source_selected}
 use Rattle.sch_select.proofs.programs.Selected.{closure_selected, members_selected, operation_selected}
 use Rattle.sch_select.proofs.programs.Selected.{instruction_selected, form_selected, selects, takes}
-use Rattle.sch_frames.specs.CallFree.{marks_settled}
+use Rattle.sch_frames.specs.ObjectFree.{marks_settled}
 use Rattle.sch_control.specs.Valid.{only_reads}
 
 impossible : {A : Type 0} → false ≡ true → A

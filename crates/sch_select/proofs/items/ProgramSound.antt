@@ -52,7 +52,7 @@ use Rattle.sch_select.proofs.items.Sound.{items_valid, arg_valid, fits_32, fits_
 use Rattle.sch_select.proofs.programs.Selected.{atom_selected, read_selected, operand_selected, source_selected}
 use Rattle.sch_select.proofs.programs.Selected.{closure_selected, members_selected, operation_selected}
 use Rattle.sch_select.proofs.programs.Selected.{instruction_selected, form_selected, selects, takes}
-use Rattle.sch_frames.specs.CallFree.{marks_settled}
+use Rattle.sch_frames.specs.ObjectFree.{marks_settled}
 use Rattle.sch_control.specs.Valid.{only_reads}
 use Rattle.sch_word.specs.trees.Straight.{is_straight_constant}
 

@@ -30,7 +30,7 @@ use Rattle.sch_select.proofs.programs.Selected.{takes, atom_selected, read_selec
 use Rattle.sch_select.proofs.programs.Selected.{source_selected, closure_selected, members_selected}
 use Rattle.sch_select.proofs.programs.Selected.{primitive_selected, operation_selected, instruction_selected}
 use Rattle.sch_select.proofs.programs.Selected.{form_selected, members_few, operation_few, labels_few, selects, fits}
-use Rattle.sch_frames.specs.CallFree.{marks_settled}
+use Rattle.sch_frames.specs.ObjectFree.{marks_settled}
 use Rattle.sch_select.specs.Covered.{is_covered_source, is_covered_closure, is_covered_group, is_covered_operation}
 use Rattle.sch_select.specs.Covered.{is_covered_instruction, is_covered_code, is_covered_program, can_be_entered}
 use Rattle.sch_select.specs.Covered.{max_library, without_calls}

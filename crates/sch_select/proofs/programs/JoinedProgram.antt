@@ -45,7 +45,7 @@ use Rattle.sch_select.proofs.programs.Starting.{ends_at, contents_there, new_the
 use Rattle.sch_select.proofs.programs.EnterCounts.{counts_entries}
 use Rattle.sch_select.proofs.programs.Whole.{Starts, program_ends, program_follows, program_passes}
 use Rattle.sch_select.proofs.programs.Selected.{fits, form_selected, selects}
-use Rattle.sch_frames.specs.CallFree.{marks_settled}
+use Rattle.sch_frames.specs.ObjectFree.{marks_settled}
 
 -- ---- what stands behind the forms
 

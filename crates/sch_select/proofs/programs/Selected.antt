@@ -26,7 +26,7 @@ use Rattle.sch_frames.specs.declared.instruction.Instruction.TheVariants.{Mark}
 use Rattle.sch_frames.specs.Tree.{Code}
 use Rattle.sch_frames.specs.Tree as tree
 use Rattle.sch_frames.specs.Valid.{formals_of, handed_over, is_place}
-use Rattle.sch_frames.specs.CallFree.{marks_settled}
+use Rattle.sch_frames.specs.ObjectFree.{marks_settled}
 use Rattle.sch_select.specs.Covered.{can_be_entered, without_calls}
 
 -- a straight primitive of n operands

@@ -13,7 +13,7 @@ use Rattle.sch_frames.specs.declared.instruction.Instruction.{Instruction}
 use Rattle.sch_frames.specs.declared.instruction.Instruction.TheVariants.{Do, Store, End, IfFalse, Jump, Label}
 use Rattle.sch_frames.specs.Straight.{begins_with_operation, is_straight_instruction, is_straight_code, is_straight_program}
 use Rattle.sch_frames.specs.Tree.{Code, Source}
-use Rattle.sch_frames.specs.CallFree.{marks_settled}
+use Rattle.sch_frames.specs.ObjectFree.{marks_settled}
 use Rattle.sch_select.specs.Covered.{is_covered_operation, is_covered_instruction, is_covered_code}
 use Rattle.sch_select.specs.Covered.{is_covered_program, max_library, may_stand, without_calls}
 use Rattle.sch_select.specs.Sizes.{grouped, jumped, closures_in}

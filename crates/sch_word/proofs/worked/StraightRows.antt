@@ -1,9 +1,9 @@
 -- Worked rows of straight code: which constants, primitives and nodes are of it.
-use Rattle.std.proofs.Common.{◌≡◌, refl, true, false, [], pos}
+use Rattle.std.proofs.Common.{◌≡◌, refl, Bool, true, false, [], ◌∷◌, pos}
 use Rattle.sch_word.specs.declared.constant.Const.TheVariants.{Fixnum, Nil, Symbol}
 use Rattle.sch_word.specs.declared.primitive.Primitive.TheVariants.{Car, Cons, IsPair, Multiply, Put, StringRef}
-use Rattle.sch_word.specs.trees.Shape.{constant, literal, set_variable, global, lambda, call, operation, new_cells, field}
-use Rattle.sch_word.specs.trees.Straight.{is_straight_constant, is_straight_primitive, is_straight_node, is_call_free_node}
+use Rattle.sch_word.specs.trees.Shape.{Procedure, constant, literal, set_variable, global, fix, lambda, call, operation, new_cells, field}
+use Rattle.sch_word.specs.trees.Straight.{is_straight_constant, is_straight_primitive, is_straight_node, is_object_free_node}
 
 number_row : is_straight_constant (Fixnum (pos 7)) ≡ true
 number_row = refl
@@ -54,10 +54,20 @@ field_row = refl
 procedure_row : is_straight_node (lambda (record { name = []; formals = 0; rest = false; free = 0; variables = 0 })) ≡ false
 procedure_row = refl
 
--- call-free code may assign, make cells and procedures, and take them apart; it calls none, and has no
--- objects, literals or symbols
-call_free_rows : (is_call_free_node set_variable ≡ true) × (is_call_free_node (new_cells 2) ≡ true) × (is_call_free_node field ≡ true) × (is_call_free_node (operation 0 Multiply 2) ≡ true)
-call_free_rows = (refl, refl, refl, refl)
+-- a procedure of two formals, the last a rest variable or none
+abbrev taking : Bool → Procedure
+taking rest = record { name = []; formals = 2; rest = rest; free = 0; variables = 2 }
 
-not_call_free_rows : (is_call_free_node (call 0 1 false) ≡ false) × (is_call_free_node (operation 0 Cons 2) ≡ false) × (is_call_free_node (literal 0) ≡ false) × (is_call_free_node (constant (Symbol 0)) ≡ false)
-not_call_free_rows = (refl, refl, refl, refl)
+-- object-free code may assign, make cells and procedures, take them apart and call them; it has no objects, literals
+-- or symbols, and no lists of operands
+object_free_rows : (is_object_free_node set_variable ≡ true) × (is_object_free_node (new_cells 2) ≡ true) × (is_object_free_node field ≡ true) × (is_object_free_node (operation 0 Multiply 2) ≡ true)
+object_free_rows = (refl, refl, refl, refl)
+
+called_rows : (is_object_free_node (call 0 1 false) ≡ true) × (is_object_free_node (lambda (taking false)) ≡ true) × (is_object_free_node (fix 2 (taking false ∷ taking false ∷ [])) ≡ true)
+called_rows = (refl, refl, refl)
+
+not_object_free_rows : (is_object_free_node (operation 0 Cons 2) ≡ false) × (is_object_free_node (literal 0) ≡ false) × (is_object_free_node (constant (Symbol 0)) ≡ false)
+not_object_free_rows = (refl, refl, refl)
+
+list_rows : (is_object_free_node (call 0 1 true) ≡ false) × (is_object_free_node (lambda (taking true)) ≡ false) × (is_object_free_node (fix 2 (taking false ∷ taking true ∷ [])) ≡ false)
+list_rows = (refl, refl, refl)

@@ -68,6 +68,10 @@ max_variables = 1000
 abbrev pub max_free_variables : ℕ
 max_free_variables = 1000
 
+-- procedures of a library
+abbrev pub max_library : ℕ
+max_library = 1048576
+
 -- ## Sites
 
 -- the site of a node and how many parts it has, the operator of a call among them

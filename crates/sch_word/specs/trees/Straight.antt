@@ -1,12 +1,14 @@
 -- Straight code: what has no calls, no procedures, no local variables that are assigned, no objects, no
--- literals and no symbols. And call-free code, which may assign local variables and make cells and
--- procedures, but calls none.
-use Rattle.std.specs.Prelude.{Bool, true, false, List, [], ◌∷◌}
+-- literals and no symbols. And object-free code, which may assign local variables, make cells and procedures, and
+-- call them. It has no pairs, strings and vectors, no literals and symbols, and so no lists of operands: no procedure
+-- takes one, and no call spreads one.
+use Rattle.std.specs.Prelude.{Bool, true, false, not, List, [], ◌∷◌}
+use Rattle.std.specs.List.{list_all}
 use Rattle.sch_word.specs.declared.constant.Const.{Const}
 use Rattle.sch_word.specs.declared.constant.Const.TheVariants.{Symbol}
 use Rattle.sch_word.specs.declared.primitive.Primitive.{Primitive}
 use Rattle.sch_word.specs.declared.primitive.Primitive.TheVariants.{Eq, Eqv, IsBoolean, IsPair, IsNull, IsSymbol, IsInteger, IsChar, IsString, IsVector, IsProcedure, Add, Subtract, Multiply, Quotient, Remainder, Modulo, Equal, Less, Greater, LessEqual, GreaterEqual, CharToInteger, IntegerToChar, Put}
-use Rattle.sch_word.specs.trees.Shape.{Shape, constant, literal, variable, global, set_global, define, branch, sequence, bind, call, operation}
+use Rattle.sch_word.specs.trees.Shape.{Shape, Procedure, constant, literal, variable, global, set_global, define, branch, sequence, bind, fix, lambda, call, operation}
 
 -- a constant that is no symbol
 abbrev pub is_straight_constant : Const → Bool
@@ -55,13 +57,19 @@ is_straight_node (bind site inits) = true
 is_straight_node (operation site which operands) = is_straight_primitive which
 is_straight_node _ = false
 
--- a node of call-free code
-abbrev pub is_call_free_node : Shape → Bool
-is_call_free_node (constant c) = is_straight_constant c
-is_call_free_node (literal n) = false
-is_call_free_node (call site operands spread) = false
-is_call_free_node (operation site which operands) = is_straight_primitive which
-is_call_free_node _ = true
+-- a procedure without a rest variable
+abbrev pub takes_no_list : Procedure → Bool
+takes_no_list p = not p.rest
+
+-- a node of object-free code
+abbrev pub is_object_free_node : Shape → Bool
+is_object_free_node (constant c) = is_straight_constant c
+is_object_free_node (literal n) = false
+is_object_free_node (fix count ps) = list_all takes_no_list ps
+is_object_free_node (lambda p) = takes_no_list p
+is_object_free_node (call site operands spread) = not spread
+is_object_free_node (operation site which operands) = is_straight_primitive which
+is_object_free_node _ = true
 
 abbrev pub is_empty : {A : Type 0} → List A → Bool
 is_empty [] = true

@@ -1,6 +1,6 @@
-use Rattle.sch_control.specs.CallFree as control_call_free
+use Rattle.sch_control.specs.ObjectFree as control_object_free
 use Rattle.sch_control.specs.Straight as control_straight
-use Rattle.sch_frames.specs.CallFree.{code_begins, is_call_free_code}
+use Rattle.sch_frames.specs.ObjectFree.{code_begins, is_object_free_code}
 use Rattle.sch_frames.specs.Straight.{is_straight_code}
 use Rattle.sch_frames.proofs.FrameBodies.{body_passes, frames_next, all_next, size_next, work_next, words_next}
 use Rattle.sch_frames.proofs.bodies.frame_bodies.Goals as goal
@@ -19,8 +19,8 @@ loop-b-preserved c =
     record {
       frames = frames_next bodies i b here is made next f more c.loop-b.invariant.frames c.in_ok-frame_slots.ensures.same;
       begin = all_next bodies i b here is made next f more code_begins c.loop-b.invariant.begin c.in_ok-frame_slots.ensures.begins;
-      call_free = λ s. all_next bodies i b here is made next f more is_call_free_code (c.loop-b.invariant.call_free s)
-          (c.in_ok-frame_slots.ensures.call_free (body_passes bodies i b here is control_call_free.is_call_free_code s));
+      object_free = λ s. all_next bodies i b here is made next f more is_object_free_code (c.loop-b.invariant.object_free s)
+          (c.in_ok-frame_slots.ensures.object_free (body_passes bodies i b here is control_object_free.is_object_free_code s));
       straight = λ s. all_next bodies i b here is made next f more is_straight_code (c.loop-b.invariant.straight s)
           (c.in_ok-frame_slots.ensures.straight (body_passes bodies i b here is control_straight.is_straight_code s));
       size = size_next bodies i b here is made next f more c.loop-b.invariant.size c.in_ok-frame_slots.ensures.work;

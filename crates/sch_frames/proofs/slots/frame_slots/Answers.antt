@@ -2,10 +2,10 @@ use Rattle.std.proofs.Common.{◌≡◌}
 use Rattle.sch_control.specs.SourceView as control
 use Rattle.sch_control.specs.View.{expression}
 use Rattle.sch_frames.specs.Layout.{slots_layout}
-use Rattle.sch_frames.proofs.layouts.CallFreeSlots.{slots_begin}
+use Rattle.sch_frames.proofs.layouts.ObjectFreeSlots.{slots_begin}
 use Rattle.sch_frames.proofs.layouts.LayoutSize.{slots_size, slots_work, labels_size}
 use Rattle.sch_frames.proofs.layouts.LayoutWork.{slots_done}
-use Rattle.sch_frames.proofs.layouts.SettledSlots.{slots_call_free}
+use Rattle.sch_frames.proofs.layouts.SettledSlots.{slots_object_free}
 use Rattle.sch_frames.proofs.layouts.SlotsFrame.{slots_placed, slots_does, slots_forward, slots_shaped}
 use Rattle.sch_frames.proofs.layouts.StraightSlots.{slots_straight}
 use Rattle.sch_frames.proofs.Written.{layout_written}
@@ -34,10 +34,10 @@ returns-clause-begins c =
     let i : c.in_ok-out.out.instructions ≡ slots_layout (control.code_of c.args.b.now) = layout_written (control.code_of c.args.b.now) _ _ _ _ c.room_for-room.ensures.base c.room_for-room.ensures.aside c.room_for-room.ensures.entered c.in_ok-out.ensures.instructions in
     rw i (slots_begin (control.code_of c.args.b.now))
 
-pub returns-clause-call_free : goal.returns-clause-call_free
-returns-clause-call_free c h =
+pub returns-clause-object_free : goal.returns-clause-object_free
+returns-clause-object_free c h =
     let i : c.in_ok-out.out.instructions ≡ slots_layout (control.code_of c.args.b.now) = layout_written (control.code_of c.args.b.now) _ _ _ _ c.room_for-room.ensures.base c.room_for-room.ensures.aside c.room_for-room.ensures.entered c.in_ok-out.ensures.instructions in
-    rw i (slots_call_free (control.code_of c.args.b.now) c.args.b.now.shaped c.args.b.now.fields h)
+    rw i (slots_object_free (control.code_of c.args.b.now) c.args.b.now.shaped c.args.b.now.fields h)
 
 pub returns-clause-straight : goal.returns-clause-straight
 returns-clause-straight c s =

@@ -1,20 +1,20 @@
 use Rattle.std.proofs.Common.{refl, sym, ◌∙◌, arith}
-use Rattle.sch_passes.proofs.CallFreeTrees.{call_here, call_is, call_later, no_call}
-use Rattle.sch_passes.proofs.call_free.first_call.Goals as goal
+use Rattle.sch_passes.proofs.ObjectFreeTrees.{call_here, call_is, call_later, no_call}
+use Rattle.sch_passes.proofs.object_free.first_object.Goals as goal
 
 pub loop-i-init : goal.loop-i-init
 loop-i-init c = refl
 
-pub returns-then-not-is_call_free : goal.returns-then-not-is_call_free
-returns-then-not-is_call_free c =
+pub returns-then-not-is_object_free : goal.returns-then-not-is_object_free
+returns-then-not-is_object_free c =
     call_here c.args.places.now c.args.forms.now c.loop-i.i c.min-n.result c.index-forms-i.result c.min-n.ensures c.loop-i-test.true c.index-forms-i.is c.loop-i.invariant
-    (sym c.if-not-is_call_free.true ∙ c.is_call_free.ensures)
+    (sym c.if-not-is_object_free.true ∙ c.is_object_free.ensures)
     ∙ sym (call_is c.args.places.now c.args.forms.now)
 
 pub loop-i-preserved : goal.loop-i-preserved
 loop-i-preserved c =
     call_later c.args.places.now c.args.forms.now c.loop-i.i c.min-n.result c.index-forms-i.result c.min-n.ensures c.loop-i-test.true c.index-forms-i.is c.loop-i.invariant
-    (sym c.if-not-is_call_free.false ∙ c.is_call_free.ensures)
+    (sym c.if-not-is_object_free.false ∙ c.is_object_free.ensures)
 
 pub returns : goal.returns
 returns c =

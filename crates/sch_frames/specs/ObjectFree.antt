@@ -1,4 +1,4 @@
--- Which programs are call-free, and how bodies begin.
+-- Which programs are object-free, and how bodies begin.
 use Rattle.std.specs.Prelude.{Bool, true, false, ◌&&◌, not, nat_lt, List, [], ◌∷◌}
 use Rattle.std.specs.List.{list_all}
 use Rattle.sch_word.specs.declared.place.Place.{Place}
@@ -10,20 +10,20 @@ use Rattle.sch_control.specs.declared.operation.Operation.{Operation}
 use Rattle.sch_control.specs.declared.operation.Operation.TheVariants as operation
 use Rattle.sch_control.specs.declared.operation.Source.{Source as Captured}
 use Rattle.sch_control.specs.declared.operation.Source.TheVariants as captured
-use Rattle.sch_control.specs.CallFree.{is_call_free_member, is_call_free_operation}
+use Rattle.sch_control.specs.ObjectFree.{is_object_free_member, is_object_free_operation}
 use Rattle.sch_frames.specs.declared.instruction.Instruction.{Instruction}
 use Rattle.sch_frames.specs.declared.instruction.Instruction.TheVariants.{Do, Load, Pass, Fix, Call, Tail, Label, Mark}
 use Rattle.sch_frames.specs.Tree.{Code, Source}
 
 -- neither a call nor what hands over the operands of one
-abbrev pub is_call_free_instruction : Instruction → Bool
-is_call_free_instruction (Do o) = is_call_free_operation o
-is_call_free_instruction (Load p o) = false
-is_call_free_instruction (Pass k o) = false
-is_call_free_instruction (Fix members) = list_all is_call_free_member members
-is_call_free_instruction (Call spread count) = false
-is_call_free_instruction (Tail spread count) = false
-is_call_free_instruction _ = true
+abbrev pub is_object_free_instruction : Instruction → Bool
+is_object_free_instruction (Do o) = is_object_free_operation o
+is_object_free_instruction (Load p o) = false
+is_object_free_instruction (Pass k o) = false
+is_object_free_instruction (Fix members) = list_all is_object_free_member members
+is_object_free_instruction (Call spread count) = false
+is_object_free_instruction (Tail spread count) = false
+is_object_free_instruction _ = true
 
 -- ## Fields: each has a number that a field may have
 
@@ -61,12 +61,12 @@ marks_settled waiting (_ ∷ instructions) = marks_settled false instructions
 -- ## Bodies
 
 -- the mark of a body waits for its first instruction
-abbrev pub is_call_free_code : Code → Bool
-is_call_free_code c = list_all is_call_free_instruction c.instructions && (list_all instruction_low c.instructions && marks_settled true c.instructions)
+abbrev pub is_object_free_code : Code → Bool
+is_object_free_code c = list_all is_object_free_instruction c.instructions && (list_all instruction_low c.instructions && marks_settled true c.instructions)
 
 -- no body makes a call, be it of a form or of a procedure
-abbrev pub is_call_free_program : Source → Bool
-is_call_free_program p = is_empty p.library && list_all is_call_free_code p.bodies
+abbrev pub is_object_free_program : Source → Bool
+is_object_free_program p = is_empty p.library && list_all is_object_free_code p.bodies
 
 -- Something is done first, so that the mark of a body has its instruction behind it, and no label between.
 abbrev pub begins : List Instruction → Bool

@@ -1,10 +1,10 @@
--- Trees that are call-free: their parts, and loops over lists of them.
+-- Trees that are object-free: their parts, and loops over lists of them.
 use Rattle.std.proofs.Common.{◌≡◌, ℕ, zero, suc, ◌+◌, ◌<◌, ◌≤◌, Bool, true, false, List, [], ◌∷◌, length, map, drop, min, Option, Some, None, cond, refl, sym, ap, ◌∙◌, arith}
 use Rattle.std.specs.Prelude.{◌&&◌, slice_index_or}
 use Rattle.std.specs.List.{list_all}
 use Rattle.std.proofs.Common.{add-one}
-use Rattle.sch_word.specs.trees.Straight.{is_call_free_node}
-use Rattle.sch_lang.specs.CallFree.{is_call_free, are_call_free, first_call}
+use Rattle.sch_word.specs.trees.Straight.{is_object_free_node}
+use Rattle.sch_lang.specs.ObjectFree.{is_object_free, are_object_free, first_object}
 use Rattle.sch_lang.specs.declared.tree.Exp.{Exp}
 use Rattle.sch_lang.specs.declared.tree.Lambda.{Lambda}
 use Rattle.sch_lang.specs.Measures.{over_each, over_lambdas, shape}
@@ -15,14 +15,14 @@ use Rattle.sch_lang.proofs.worked.Rows.{expressions_of_list, lambdas_of_list}
 -- ## Parts of a node
 
 abbrev pub every_part : Expressions → Bool
-every_part = over_each true (λ a b. a && b) (λ e. is_call_free_node (shape e))
+every_part = over_each true (λ a b. a && b) (λ e. is_object_free_node (shape e))
 
 abbrev pub every_lambda : Lambdas → Bool
-every_lambda = over_lambdas true (λ a b. a && b) (λ e. is_call_free_node (shape e))
+every_lambda = over_lambdas true (λ a b. a && b) (λ e. is_object_free_node (shape e))
 
-pub each_free : (es : Expressions) → are_call_free es ≡ every_part es
+pub each_free : (es : Expressions) → are_object_free es ≡ every_part es
 each_free no_expressions = refl
-each_free (and_expression e es) = ap (λ b. is_call_free e && b) (each_free es)
+each_free (and_expression e es) = ap (λ b. is_object_free e && b) (each_free es)
 
 pub and_of_true : (x y r : Bool) → true ≡ x → r ≡ y → r ≡ (x && y)
 and_of_true true y r h k = k
@@ -36,15 +36,15 @@ first_false true y false h k = absurd cc
 -- ## Lists
 
 abbrev pub is_free : Exp → Bool
-is_free e = is_call_free (expression e)
+is_free e = is_object_free (expression e)
 
 abbrev pub body_free : Lambda → Bool
-body_free l = is_call_free (expression l.body)
+body_free l = is_object_free (expression l.body)
 
-pub all_free : (es : List Exp) → are_call_free (expressions_of es) ≡ list_all is_free es
-all_free es = ap are_call_free (expressions_of_list es) ∙ go es
+pub all_free : (es : List Exp) → are_object_free (expressions_of es) ≡ list_all is_free es
+all_free es = ap are_object_free (expressions_of_list es) ∙ go es
   where
-    go : (es : List Exp) → are_call_free (expressions (map expression es)) ≡ list_all is_free es
+    go : (es : List Exp) → are_object_free (expressions (map expression es)) ≡ list_all is_free es
     go [] = refl
     go (e ∷ es) = ap (λ b. is_free e && b) (go es)
 
@@ -82,10 +82,10 @@ module _ {X : Type 0} (test : X → Bool) where
 -- ## A loop over forms with their places
 
 abbrev pub call_of : List ℕ → List Exp → Option ℕ
-call_of places items = first_call places (expressions (map expression items))
+call_of places items = first_object places (expressions (map expression items))
 
-pub call_is : (places : List ℕ) (es : List Exp) → first_call places (expressions_of es) ≡ call_of places es
-call_is places es = ap (first_call places) (expressions_of_list es)
+pub call_is : (places : List ℕ) (es : List Exp) → first_object places (expressions_of es) ≡ call_of places es
+call_is places es = ap (first_object places) (expressions_of_list es)
 
 next_call : (places : List ℕ) (items : List Exp) (i : ℕ) (e : Exp) → i < length places → i < length items → e ≡ slice_index_or items i e
     → call_of (drop i places) (drop i items) ≡ cond (is_free e) (call_of (drop (suc i) places) (drop (suc i) items)) (Some (slice_index_or places i 0))

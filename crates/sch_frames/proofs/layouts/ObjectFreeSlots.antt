@@ -1,4 +1,4 @@
--- The layout of call-free code is call-free, and each layout begins with what is done.
+-- The layout of object-free code is object-free, and each layout begins with what is done.
 use Rattle.std.proofs.Common.{◌≡◌, ◌≤◌, ℕ, suc, ◌+◌, ◌*◌, List, [], ◌∷◌, Option, Some, None, true, refl, ap, ◌∙◌, arith}
 use Rattle.std.specs.Prelude.{◌&&◌}
 use Rattle.std.specs.List.{list_all}
@@ -12,15 +12,15 @@ use Rattle.sch_control.specs.declared.operation.Operation.{Operation}
 use Rattle.sch_control.specs.declared.operation.Operation.TheVariants as operation
 use Rattle.sch_control.specs.declared.body.Entry.{Entry}
 use Rattle.sch_control.specs.declared.mark.MarkKind.TheVariants as mark
-use Rattle.sch_control.specs.CallFree as control_call_free
-use Rattle.sch_control.specs.CallFree.{is_call_free, is_call_free_source, is_call_free_member, is_call_free_operation}
+use Rattle.sch_control.specs.ObjectFree as control_object_free
+use Rattle.sch_control.specs.ObjectFree.{is_object_free, is_object_free_source, is_object_free_member, is_object_free_operation}
 use Rattle.sch_control.specs.Straight.{is_straight_operand}
 use Rattle.sch_control.specs.Sizes.{expressions_size}
 use Rattle.sch_control.specs.Tree as control
 use Rattle.sch_control.specs.Tree.{Expression, perform, bind, sequence, branch, fix, call, tail_call, return, end, save}
 use Rattle.sch_frames.specs.declared.instruction.Instruction.{Instruction}
 use Rattle.sch_frames.specs.declared.instruction.Instruction.TheVariants.{Store, Return, End, Jump, Label, Mark}
-use Rattle.sch_frames.specs.CallFree.{is_call_free_instruction, begins, code_begins}
+use Rattle.sch_frames.specs.ObjectFree.{is_object_free_instruction, begins, code_begins}
 use Rattle.sch_frames.specs.Layout.{Slots, operand_at, source_at, sources_at, members_at, operation_at, labels, lay, entering, slots_base, slots_for, slots_layout}
 use Rattle.sch_frames.specs.Sizes.{call_parts, calls_parts, entries_size}
 use Rattle.sch_frames.proofs.runs.Entering.{entering_passes}
@@ -28,24 +28,24 @@ use Rattle.sch_frames.proofs.layouts.Laid.{Steers, Passes, lay_passes}
 use Rattle.sch_frames.proofs.layouts.SlotsFrame.{slots_of}
 use Rattle.sch_frames.proofs.layouts.StraightSlots.{atom_kept, operand_kept, operands_kept}
 
-call_free_steers : Steers is_call_free_instruction
-call_free_steers = record { if_false = λ l. refl; jump = λ l. refl; label = λ l. refl; return_mark = refl; return = refl; end = refl }
+object_free_steers : Steers is_object_free_instruction
+object_free_steers = record { if_false = λ l. refl; jump = λ l. refl; label = λ l. refl; return_mark = refl; return = refl; end = refl }
 
 module _ (place : ℕ → Place) where
-  source_free : (c : Source ℕ) → is_call_free_source (source_at place c) ≡ is_call_free_source c
+  source_free : (c : Source ℕ) → is_object_free_source (source_at place c) ≡ is_object_free_source c
   source_free (source.Atom a) = atom_kept place a
   source_free (source.Field x k) = refl
 
-  sources_free : (cs : List (Source ℕ)) → list_all is_call_free_source (sources_at place cs) ≡ list_all is_call_free_source cs
+  sources_free : (cs : List (Source ℕ)) → list_all is_object_free_source (sources_at place cs) ≡ list_all is_object_free_source cs
   sources_free [] = refl
-  sources_free (c ∷ cs) = ap (λ b. b && list_all is_call_free_source (sources_at place cs)) (source_free c) ∙ ap (λ b. is_call_free_source c && b) (sources_free cs)
+  sources_free (c ∷ cs) = ap (λ b. b && list_all is_object_free_source (sources_at place cs)) (source_free c) ∙ ap (λ b. is_object_free_source c && b) (sources_free cs)
 
-  members_free : (members : List (Member ℕ)) → list_all is_call_free_member (members_at place members) ≡ list_all is_call_free_member members
+  members_free : (members : List (Member ℕ)) → list_all is_object_free_member (members_at place members) ≡ list_all is_object_free_member members
   members_free [] = refl
   members_free (m ∷ members) =
-      ap (λ b. b && list_all is_call_free_member (members_at place members)) (sources_free m.closure.fields) ∙ ap (λ b. is_call_free_member m && b) (members_free members)
+      ap (λ b. b && list_all is_object_free_member (members_at place members)) (sources_free m.closure.fields) ∙ ap (λ b. is_object_free_member m && b) (members_free members)
 
-  operation_free : (o : Operation ℕ) → is_call_free_operation (operation_at place o) ≡ is_call_free_operation o
+  operation_free : (o : Operation ℕ) → is_object_free_operation (operation_at place o) ≡ is_object_free_operation o
   operation_free (operation.Operand o) = operand_kept place o
   operation_free (operation.Prim site which operands) = ap (λ b. is_straight_primitive which && b) (operands_kept place operands)
   operation_free (operation.Global g) = refl
@@ -54,24 +54,24 @@ module _ (place : ℕ → Place) where
   operation_free (operation.NewCell c) = source_free c
   operation_free operation.UnsetCell = refl
   operation_free (operation.CellGet c) = source_free c
-  operation_free (operation.CellSet c o) = ap (λ b. b && is_straight_operand (operand_at place o)) (source_free c) ∙ ap (λ b. is_call_free_source c && b) (operand_kept place o)
+  operation_free (operation.CellSet c o) = ap (λ b. b && is_straight_operand (operand_at place o)) (source_free c) ∙ ap (λ b. is_object_free_source c && b) (operand_kept place o)
   operation_free (operation.MakeClosure c) = sources_free c.fields
 
 module _ (slots : Slots) where
-  parts_call_free : (e : Expression) → is_call_free e ≡ true → Passes slots is_call_free_instruction call_free_steers e
-  parts_call_free (perform o) c = operation_free slots.place o ∙ c
-  parts_call_free (bind x a b) c = let parts = and_parts _ _ c in (refl, (parts_call_free a parts.0, parts_call_free b parts.1))
-  parts_call_free (sequence a b) c = let parts = and_parts _ _ c in (parts_call_free a parts.0, parts_call_free b parts.1)
-  parts_call_free (branch a b d) c =
+  parts_object_free : (e : Expression) → is_object_free e ≡ true → Passes slots is_object_free_instruction object_free_steers e
+  parts_object_free (perform o) c = operation_free slots.place o ∙ c
+  parts_object_free (bind x a b) c = let parts = and_parts _ _ c in (refl, (parts_object_free a parts.0, parts_object_free b parts.1))
+  parts_object_free (sequence a b) c = let parts = and_parts _ _ c in (parts_object_free a parts.0, parts_object_free b parts.1)
+  parts_object_free (branch a b d) c =
       let parts = and_parts _ _ c in
       let arms = and_parts _ _ parts.1 in
-      (parts_call_free a parts.0, (parts_call_free b arms.0, parts_call_free d arms.1))
-  parts_call_free (fix members e) c = let parts = and_parts _ _ c in (members_free slots.place members ∙ parts.0, parts_call_free e parts.1)
-  parts_call_free (return e) c = parts_call_free e c
-  parts_call_free (end e) c = parts_call_free e c
-  parts_call_free (call a restores) c = absurd cc
-  parts_call_free (tail_call a) c = absurd cc
-  parts_call_free (save saves e) c = parts_call_free e c
+      (parts_object_free a parts.0, (parts_object_free b arms.0, parts_object_free d arms.1))
+  parts_object_free (fix members e) c = let parts = and_parts _ _ c in (members_free slots.place members ∙ parts.0, parts_object_free e parts.1)
+  parts_object_free (return e) c = parts_object_free e c
+  parts_object_free (end e) c = parts_object_free e c
+  parts_object_free (call a restores) c = absurd cc
+  parts_object_free (tail_call a) c = absurd cc
+  parts_object_free (save saves e) c = parts_object_free e c
 
   lay_begins : (e : Expression) (n : ℕ) (test : Option ℕ) (rest : List Instruction) → begins (lay slots e n test rest) ≡ true
   lay_begins (perform o) n test rest = refl
@@ -87,13 +87,13 @@ module _ (slots : Slots) where
   lay_begins (tail_call a) n test rest = refl
   lay_begins (save saves e) n test rest = lay_begins e n test rest
 
-pub slots_free : (c : control.Code) → control_call_free.is_call_free_code c ≡ true → list_all is_call_free_instruction (slots_layout c) ≡ true
+pub slots_free : (c : control.Code) → control_object_free.is_object_free_code c ≡ true → list_all is_object_free_instruction (slots_layout c) ≡ true
 slots_free c h =
-    entering_passes is_call_free_instruction (λ to from. refl) c.entry (slots_base c) _
-    (lay_passes (slots_for c) is_call_free_instruction call_free_steers c.expression (parts_call_free (slots_for c) c.expression h) 0 None [] refl)
+    entering_passes is_object_free_instruction (λ to from. refl) c.entry (slots_base c) _
+    (lay_passes (slots_for c) is_object_free_instruction object_free_steers c.expression (parts_object_free (slots_for c) c.expression h) 0 None [] refl)
 
--- call-free code hands nothing over
-free_parts : (e : Expression) → is_call_free e ≡ true → call_parts e ≡ 0
+-- object-free code hands nothing over
+free_parts : (e : Expression) → is_object_free e ≡ true → call_parts e ≡ 0
 free_parts (perform o) h = refl
 free_parts (bind x a b) h = let p = and_parts _ _ h in let i = free_parts a p.0 in let j = free_parts b p.1 in omega (arith, i, j)
 free_parts (sequence a b) h = let p = and_parts _ _ h in let i = free_parts a p.0 in let j = free_parts b p.1 in omega (arith, i, j)
@@ -111,12 +111,12 @@ free_parts (call a restores) h = absurd cc
 free_parts (tail_call a) h = absurd cc
 free_parts (save saves e) h = free_parts e h
 
-frees_parts : (cs : List control.Code) → list_all control_call_free.is_call_free_code cs ≡ true → calls_parts cs ≡ 0
+frees_parts : (cs : List control.Code) → list_all control_object_free.is_object_free_code cs ≡ true → calls_parts cs ≡ 0
 frees_parts [] h = refl
 frees_parts (c ∷ cs) h = let p = and_parts _ _ h in let i = free_parts c.expression p.0 in let j = frees_parts cs p.1 in omega (arith, i, j)
 
 -- so what is bounded with it is bounded without it
-pub free_bounded : (cs : List control.Code) (n : ℕ) → list_all control_call_free.is_call_free_code cs ≡ true
+pub free_bounded : (cs : List control.Code) (n : ℕ) → list_all control_object_free.is_object_free_code cs ≡ true
     → n ≤ 2 * expressions_size cs + 4 * calls_parts cs + entries_size cs → n ≤ 2 * expressions_size cs + entries_size cs
 free_bounded cs n h le = let parts = frees_parts cs h in omega (arith, parts, le)
 

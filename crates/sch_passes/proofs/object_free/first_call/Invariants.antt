@@ -1,6 +1,6 @@
 use Rattle.std.proofs.Common.{◌≡◌, drop}
-use Rattle.sch_passes.proofs.CallFreeTrees.{call_of}
-use Rattle.sch_passes.proofs.call_free.first_call.Given as goal
+use Rattle.sch_passes.proofs.ObjectFreeTrees.{call_of}
+use Rattle.sch_passes.proofs.object_free.first_object.Given as goal
 
 abbrev pub invariant-loop-i : goal.invariant-loop-i
 invariant-loop-i l = call_of (drop l.i l.places) (drop l.i l.forms) ≡ call_of l.places l.forms

@@ -1,37 +1,37 @@
--- Call-free code stays call-free, the bodies of its procedures too.
+-- Object-free code stays object-free, the bodies of its procedures too.
 use Rattle.std.proofs.Common.{ℕ, suc, ◌+◌, Bool, true, List, [], ◌∷◌, ◌++◌, refl}
 use Rattle.std.specs.Prelude.{IsTrue, ◌&&◌}
 use Rattle.std.specs.List.{list_all}
-use Rattle.sch_word.specs.trees.Straight.{is_straight_primitive, is_call_free_node, is_empty}
+use Rattle.sch_word.specs.trees.Straight.{is_straight_primitive, is_object_free_node, is_empty}
 use Rattle.sch_word.proofs.Shaped.{parts, both_true}
-use Rattle.sch_cells.specs.CallFree.{is_call_free, are_call_free, is_call_free_program}
+use Rattle.sch_cells.specs.ObjectFree.{is_object_free, are_object_free, is_object_free_program}
 use Rattle.sch_cells.specs.Measures.{over_lambdas, shape}
 use Rattle.sch_cells.specs.Straight.{no_procedures}
 use Rattle.sch_cells.specs.Tree.{Tree, Trees, Lambdas, Source, constant, literal, variable, global, set_variable, set_global, define, branch, sequence, bind, fix, letrec, lambda, call, operation, new_cells, cell_get, cell_set, no_trees, and_tree, no_lambdas, and_lambda}
-use Rattle.sch_flat.specs.CallFree as to
+use Rattle.sch_flat.specs.ObjectFree as to
 use Rattle.sch_flat.specs.Tree as flat
 use Rattle.sch_closure.specs.Closed.{place, procedures, procedures_each, procedures_lambdas, fields_of, closed, closed_each, body_of, all_procedures, all_of_each, all_of_lambdas, labels, closed_source}
 use Rattle.sch_closure.specs.Fresh.{Fresh, FreshEach, FreshLambdas}
 
 -- the bodies of some procedures
 abbrev are_free : Lambdas → Bool
-are_free = over_lambdas true (λ a b. a && b) (λ e. is_call_free_node (shape e))
+are_free = over_lambdas true (λ a b. a && b) (λ e. is_object_free_node (shape e))
 
 abbrev all_free : List flat.Body → Bool
-all_free = list_all to.is_call_free_body
+all_free = list_all to.is_object_free_body
 
 all_append : (xs ys : List flat.Body) → IsTrue (all_free xs) → IsTrue (all_free ys) → IsTrue (all_free (xs ++ ys))
 all_append [] ys p q = q
 all_append (b ∷ xs) ys p q =
-    let k = parts (to.is_call_free_body b) (all_free xs) p in
+    let k = parts (to.is_object_free_body b) (all_free xs) p in
     both_true k.0 (all_append xs ys k.1 q)
 
-any_variable : (v : flat.Variable) → IsTrue (to.is_call_free (flat.variable v))
+any_variable : (v : flat.Variable) → IsTrue (to.is_object_free (flat.variable v))
 any_variable (flat.bound x) = refl
 any_variable (flat.free k) = refl
 
 mutual
-  tree_kept : (e : Tree) (fs : List ℕ) (n : ℕ) → Fresh e fs → IsTrue (is_call_free e) → IsTrue (to.is_call_free (closed e fs n))
+  tree_kept : (e : Tree) (fs : List ℕ) (n : ℕ) → Fresh e fs → IsTrue (is_object_free e) → IsTrue (to.is_object_free (closed e fs n))
   tree_kept (constant c) fs n f s = s
   tree_kept (literal k) fs n f s = s
   tree_kept (variable x) fs n f s = any_variable (place fs x)
@@ -40,34 +40,34 @@ mutual
   tree_kept (set_global g e) fs n f s = tree_kept e fs n f s
   tree_kept (define g e) fs n f s = tree_kept e fs n f s
   tree_kept (branch a b c) fs n f s =
-      let p = parts (is_call_free a) (is_call_free b && is_call_free c) s in
-      let q = parts (is_call_free b) (is_call_free c) p.1 in
+      let p = parts (is_object_free a) (is_object_free b && is_object_free c) s in
+      let q = parts (is_object_free b) (is_object_free c) p.1 in
       both_true (tree_kept a fs n f.0 p.0) (both_true (tree_kept b fs (n + procedures a) f.1 q.0) (tree_kept c fs (n + procedures a + procedures b) f.2 q.1))
   tree_kept (sequence es) fs n f s = each_kept es fs n f s
   tree_kept (bind site x es e) fs n f s =
-      let p = parts (are_call_free es) (is_call_free e) s in
+      let p = parts (are_object_free es) (is_object_free e) s in
       both_true (each_kept es fs n f.1 p.0) (tree_kept e fs (n + procedures_each es) f.2 p.1)
   tree_kept (fix x ls e) fs n f s =
-      let p = parts (are_free ls) (is_call_free e) s in
+      let p = parts (are_free ls) (is_object_free e) s in
       tree_kept e fs (n + procedures_lambdas ls) f.2 p.1
   tree_kept (letrec site x es e) fs n f s = absurd f
   tree_kept (lambda name x m rest e) fs n f s = refl
   tree_kept (call site spread g es) fs n f s = absurd (cc)
   tree_kept (operation site which es) fs n f s =
-      let p = parts (is_straight_primitive which) (are_call_free es) s in
+      let p = parts (is_straight_primitive which) (are_object_free es) s in
       both_true p.0 (each_kept es fs n f p.1)
   tree_kept (new_cells cs e) fs n f s = tree_kept e fs n f.1 s
   tree_kept (cell_get x) fs n f s = refl
   tree_kept (cell_set x e) fs n f s = tree_kept e fs n f s
 
-  each_kept : (es : Trees) (fs : List ℕ) (n : ℕ) → FreshEach es fs → IsTrue (are_call_free es) → IsTrue (to.are_call_free (closed_each es fs n))
+  each_kept : (es : Trees) (fs : List ℕ) (n : ℕ) → FreshEach es fs → IsTrue (are_object_free es) → IsTrue (to.are_object_free (closed_each es fs n))
   each_kept no_trees fs n f s = refl
   each_kept (and_tree e es) fs n f s =
-      let p = parts (is_call_free e) (are_call_free es) s in
+      let p = parts (is_object_free e) (are_object_free es) s in
       both_true (tree_kept e fs n f.0 p.0) (each_kept es fs (n + procedures e) f.1 p.1)
 
 mutual
-  bodies_kept : (e : Tree) (fs : List ℕ) (n : ℕ) → Fresh e fs → IsTrue (is_call_free e) → IsTrue (all_free (all_procedures body_of e n))
+  bodies_kept : (e : Tree) (fs : List ℕ) (n : ℕ) → Fresh e fs → IsTrue (is_object_free e) → IsTrue (all_free (all_procedures body_of e n))
   bodies_kept (constant c) fs n f s = refl
   bodies_kept (literal k) fs n f s = refl
   bodies_kept (variable x) fs n f s = refl
@@ -76,35 +76,35 @@ mutual
   bodies_kept (set_global g e) fs n f s = bodies_kept e fs n f s
   bodies_kept (define g e) fs n f s = bodies_kept e fs n f s
   bodies_kept (branch a b c) fs n f s =
-      let p = parts (is_call_free a) (is_call_free b && is_call_free c) s in
-      let q = parts (is_call_free b) (is_call_free c) p.1 in
+      let p = parts (is_object_free a) (is_object_free b && is_object_free c) s in
+      let q = parts (is_object_free b) (is_object_free c) p.1 in
       all_append (all_procedures body_of a n) (all_procedures body_of b (n + procedures a) ++ all_procedures body_of c (n + procedures a + procedures b)) (bodies_kept a fs n f.0 p.0)
       (all_append (all_procedures body_of b (n + procedures a)) (all_procedures body_of c (n + procedures a + procedures b)) (bodies_kept b fs (n + procedures a) f.1 q.0) (bodies_kept c fs (n + procedures a + procedures b) f.2 q.1))
   bodies_kept (sequence es) fs n f s = bodies_of_each es fs n f s
   bodies_kept (bind site x es e) fs n f s =
-      let p = parts (are_call_free es) (is_call_free e) s in
+      let p = parts (are_object_free es) (is_object_free e) s in
       all_append (all_of_each body_of es n) (all_procedures body_of e (n + procedures_each es)) (bodies_of_each es fs n f.1 p.0) (bodies_kept e fs (n + procedures_each es) f.2 p.1)
   bodies_kept (fix x ls e) fs n f s =
-      let p = parts (are_free ls) (is_call_free e) s in
+      let p = parts (are_free ls) (is_object_free e) s in
       all_append (all_of_lambdas body_of ls n) (all_procedures body_of e (n + procedures_lambdas ls)) (bodies_of_lambdas ls n f.1 p.0) (bodies_kept e fs (n + procedures_lambdas ls) f.2 p.1)
   bodies_kept (letrec site x es e) fs n f s = absurd f
   bodies_kept (lambda name x m rest e) fs n f s = both_true (tree_kept e (fields_of x m e) (suc n) f.1 s) (bodies_kept e (fields_of x m e) (suc n) f.1 s)
   bodies_kept (call site spread g es) fs n f s = absurd (cc)
-  bodies_kept (operation site which es) fs n f s = bodies_of_each es fs n f (parts (is_straight_primitive which) (are_call_free es) s).1
+  bodies_kept (operation site which es) fs n f s = bodies_of_each es fs n f (parts (is_straight_primitive which) (are_object_free es) s).1
   bodies_kept (new_cells cs e) fs n f s = bodies_kept e fs n f.1 s
   bodies_kept (cell_get x) fs n f s = refl
   bodies_kept (cell_set x e) fs n f s = bodies_kept e fs n f s
 
-  bodies_of_each : (es : Trees) (fs : List ℕ) (n : ℕ) → FreshEach es fs → IsTrue (are_call_free es) → IsTrue (all_free (all_of_each body_of es n))
+  bodies_of_each : (es : Trees) (fs : List ℕ) (n : ℕ) → FreshEach es fs → IsTrue (are_object_free es) → IsTrue (all_free (all_of_each body_of es n))
   bodies_of_each no_trees fs n f s = refl
   bodies_of_each (and_tree e es) fs n f s =
-      let p = parts (is_call_free e) (are_call_free es) s in
+      let p = parts (is_object_free e) (are_object_free es) s in
       all_append (all_procedures body_of e n) (all_of_each body_of es (n + procedures e)) (bodies_kept e fs n f.0 p.0) (bodies_of_each es fs (n + procedures e) f.1 p.1)
 
   bodies_of_lambdas : (ls : Lambdas) (n : ℕ) → FreshLambdas ls → IsTrue (are_free ls) → IsTrue (all_free (all_of_lambdas body_of ls n))
   bodies_of_lambdas no_lambdas n f s = refl
   bodies_of_lambdas (and_lambda name x m rest e ls) n f s =
-      let p = parts (is_call_free e) (are_free ls) s in
+      let p = parts (is_object_free e) (are_free ls) s in
       both_true (tree_kept e (fields_of x m e) (suc n) f.0.1 p.0)
       (all_append (all_procedures body_of e (suc n)) (all_of_lambdas body_of ls (suc n + procedures e)) (bodies_kept e (fields_of x m e) (suc n) f.0.1 p.0) (bodies_of_lambdas ls (suc n + procedures e) f.1 p.1))
 
@@ -116,9 +116,9 @@ no_labels : (ls : Lambdas) → IsTrue (no_procedures ls) → IsTrue (is_empty (l
 no_labels no_lambdas h = refl
 no_labels (and_lambda name x m rest e ls) h = absurd (cc)
 
-pub call_free_kept : (p : Source) → FreshLambdas p.library → FreshEach p.forms [] → IsTrue (is_call_free_program p) → IsTrue (to.is_call_free_program (closed_source p))
-call_free_kept p fl f s =
-    let k = parts (no_procedures p.library) (are_call_free p.forms) s in
+pub object_free_kept : (p : Source) → FreshLambdas p.library → FreshEach p.forms [] → IsTrue (is_object_free_program p) → IsTrue (to.is_object_free_program (closed_source p))
+object_free_kept p fl f s =
+    let k = parts (no_procedures p.library) (are_object_free p.forms) s in
     let n = procedures_lambdas p.library in
     both_true (no_labels p.library k.0)
     (both_true (all_append (all_of_lambdas body_of p.library 0) (all_of_each body_of p.forms n) (bodies_of_lambdas p.library 0 fl (none_free p.library k.0)) (bodies_of_each p.forms [] n f k.1))
