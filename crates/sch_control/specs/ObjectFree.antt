@@ -1,7 +1,10 @@
 -- Which programs are object-free.
-use Rattle.std.specs.Prelude.{Bool, true, false, ◌&&◌}
+use Rattle.std.specs.Prelude.{Bool, true, ◌&&◌, not, nat_le, length, Option, Some, None}
 use Rattle.std.specs.List.{list_all}
-use Rattle.sch_word.specs.trees.Straight.{is_straight_primitive, is_empty}
+use Rattle.sch_word.specs.trees.Shape.{max_library}
+use Rattle.sch_word.specs.trees.Straight.{is_straight_primitive}
+use Rattle.sch_control.specs.declared.body.Entry.{Entry}
+use Rattle.sch_control.specs.declared.operation.Application.{Application}
 use Rattle.sch_control.specs.declared.operation.Source.{Source as Captured}
 use Rattle.sch_control.specs.declared.operation.Source.TheVariants.{Atom, Field}
 use Rattle.sch_control.specs.declared.operation.Closure.{Closure}
@@ -35,24 +38,32 @@ is_object_free_operation (operation.CellGet s) = is_object_free_source s
 is_object_free_operation (operation.CellSet s o) = is_object_free_source s && is_straight_operand o
 is_object_free_operation (operation.MakeClosure c) = is_object_free_closure c
 
+-- a call that spreads no list
+abbrev pub is_object_free_application : {V : Type 0} → Application V → Bool
+is_object_free_application a = not a.spread && (is_straight_operand a.operator && list_all is_straight_operand a.operands)
+
 -- ## Bodies
 
--- it makes no calls
 abbrev pub is_object_free : Expression → Bool
 is_object_free (perform o) = is_object_free_operation o
 is_object_free (bind x a b) = is_object_free a && is_object_free b
 is_object_free (sequence a b) = is_object_free a && is_object_free b
 is_object_free (branch a b c) = is_object_free a && (is_object_free b && is_object_free c)
 is_object_free (fix members e) = list_all is_object_free_member members && is_object_free e
-is_object_free (call a restores) = false
-is_object_free (tail_call a) = false
+is_object_free (call a restores) = is_object_free_application a
+is_object_free (tail_call a) = is_object_free_application a
 is_object_free (return e) = is_object_free e
 is_object_free (end e) = is_object_free e
 is_object_free (save saves e) = is_object_free e
 
-abbrev pub is_object_free_code : Code → Bool
-is_object_free_code c = is_object_free c.expression
+-- a form, or a procedure without a rest variable
+abbrev pub takes_no_list : Option Entry → Bool
+takes_no_list None = true
+takes_no_list (Some e) = not e.rest
 
--- without a library, whose procedures serve to be called
+abbrev pub is_object_free_code : Code → Bool
+is_object_free_code c = takes_no_list c.entry && is_object_free c.expression
+
+-- with no more procedures in the library than it may have
 abbrev pub is_object_free_program : Source → Bool
-is_object_free_program p = is_empty p.library && list_all is_object_free_code p.bodies
+is_object_free_program p = nat_le (length p.library) max_library && list_all is_object_free_code p.bodies

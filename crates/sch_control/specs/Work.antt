@@ -13,14 +13,14 @@ operands_work [] = 0
 operands_work (o ∷ operands) = 3 + operand_size o + operands_work operands
 
 -- One for each node with what its operation has. A branch has a jump over its third part, and one test more than the
--- branches in its test; a call also loads its operator, and then the return address.
+-- branches in its test; a call counts twice, and also loads its operator, and then the return address.
 abbrev pub expression_work : Expression → ℕ
 expression_work (perform o) = suc (operation_size o)
 expression_work (bind x a b) = suc (expression_work a + expression_work b)
 expression_work (sequence a b) = suc (expression_work a + expression_work b)
 expression_work (branch a b c) = 3 + (expression_work a + (expression_work b + expression_work c))
 expression_work (fix members e) = suc (length members + length (member_atoms members) + expression_work e)
-expression_work (call a restores) = 3 + operand_size a.operator + operands_work a.operands
+expression_work (call a restores) = 4 + operand_size a.operator + operands_work a.operands
 expression_work (tail_call a) = 2 + operand_size a.operator + operands_work a.operands
 expression_work (return e) = suc (expression_work e)
 expression_work (end e) = suc (expression_work e)

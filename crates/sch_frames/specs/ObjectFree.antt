@@ -1,28 +1,28 @@
--- Which programs are object-free, and how bodies begin.
-use Rattle.std.specs.Prelude.{Bool, true, false, ◌&&◌, not, nat_lt, List, [], ◌∷◌}
+-- Which programs are object-free, with what they keep to beside; and how bodies begin.
+use Rattle.std.specs.Prelude.{Bool, true, false, ◌&&◌, not, nat_le, nat_lt, List, [], ◌∷◌, length}
 use Rattle.std.specs.List.{list_all}
 use Rattle.sch_word.specs.declared.place.Place.{Place}
-use Rattle.sch_word.specs.trees.Shape.{max_free_variables}
-use Rattle.sch_word.specs.trees.Straight.{is_empty}
+use Rattle.sch_word.specs.trees.Shape.{max_free_variables, max_library}
 use Rattle.sch_control.specs.declared.operation.Closure.{Closure}
 use Rattle.sch_control.specs.declared.operation.Member.{Member}
 use Rattle.sch_control.specs.declared.operation.Operation.{Operation}
 use Rattle.sch_control.specs.declared.operation.Operation.TheVariants as operation
 use Rattle.sch_control.specs.declared.operation.Source.{Source as Captured}
 use Rattle.sch_control.specs.declared.operation.Source.TheVariants as captured
-use Rattle.sch_control.specs.ObjectFree.{is_object_free_member, is_object_free_operation}
+use Rattle.sch_control.specs.ObjectFree.{is_object_free_member, is_object_free_operation, takes_no_list}
+use Rattle.sch_control.specs.Straight.{is_form, is_straight_operand}
 use Rattle.sch_frames.specs.declared.instruction.Instruction.{Instruction}
-use Rattle.sch_frames.specs.declared.instruction.Instruction.TheVariants.{Do, Load, Pass, Fix, Call, Tail, Label, Mark}
+use Rattle.sch_frames.specs.declared.instruction.Instruction.TheVariants.{Do, Load, Pass, Fix, Call, Tail, End, Label, Mark}
 use Rattle.sch_frames.specs.Tree.{Code, Source}
 
--- neither a call nor what hands over the operands of one
+-- no object is made, no list is spread, and no operand is an object
 abbrev pub is_object_free_instruction : Instruction → Bool
 is_object_free_instruction (Do o) = is_object_free_operation o
-is_object_free_instruction (Load p o) = false
-is_object_free_instruction (Pass k o) = false
+is_object_free_instruction (Load p o) = is_straight_operand o
+is_object_free_instruction (Pass k o) = is_straight_operand o
 is_object_free_instruction (Fix members) = list_all is_object_free_member members
-is_object_free_instruction (Call spread count) = false
-is_object_free_instruction (Tail spread count) = false
+is_object_free_instruction (Call spread count) = not spread
+is_object_free_instruction (Tail spread count) = not spread
 is_object_free_instruction _ = true
 
 -- ## Fields: each has a number that a field may have
@@ -58,15 +58,25 @@ marks_settled waiting (Mark m ∷ instructions) = marks_settled true instruction
 marks_settled waiting (Label l ∷ instructions) = not waiting && marks_settled false instructions
 marks_settled waiting (_ ∷ instructions) = marks_settled false instructions
 
+-- ## Ends: those of forms stand only where a form may end
+
+abbrev pub may_stand : (ends : Bool) → Instruction → Bool
+may_stand ends End = ends
+may_stand ends _ = true
+
 -- ## Bodies
 
--- the mark of a body waits for its first instruction
+-- The mark of a body waits for its first instruction.
 abbrev pub is_object_free_code : Code → Bool
-is_object_free_code c = list_all is_object_free_instruction c.instructions && (list_all instruction_low c.instructions && marks_settled true c.instructions)
+is_object_free_code c =
+    takes_no_list c.entry
+    && (list_all is_object_free_instruction c.instructions
+    && (list_all instruction_low c.instructions
+    && (list_all (may_stand (is_form c.entry)) c.instructions && marks_settled true c.instructions)))
 
--- no body makes a call, be it of a form or of a procedure
+-- with no more procedures in the library than it may have
 abbrev pub is_object_free_program : Source → Bool
-is_object_free_program p = is_empty p.library && list_all is_object_free_code p.bodies
+is_object_free_program p = nat_le (length p.library) max_library && list_all is_object_free_code p.bodies
 
 -- Something is done first, so that the mark of a body has its instruction behind it, and no label between.
 abbrev pub begins : List Instruction → Bool

@@ -6,7 +6,7 @@ use Rattle.sch_control.specs.Sizes.{operand_size, operation_size}
 use Rattle.sch_control.specs.Tree as control
 use Rattle.sch_control.specs.Tree.{Expression, perform, bind, sequence, branch, fix, call, tail_call, return, end, save}
 use Rattle.sch_frames.specs.declared.instruction.Instruction.{Instruction}
-use Rattle.sch_frames.specs.declared.instruction.Instruction.TheVariants.{Do, Load, Pass, Fix, Label, Mark}
+use Rattle.sch_frames.specs.declared.instruction.Instruction.TheVariants.{Do, Load, Pass, Fix, Call, Label, Mark}
 use Rattle.sch_frames.specs.Layout.{slots_words}
 use Rattle.sch_frames.specs.Tree.{Code, Source}
 
@@ -84,12 +84,13 @@ abbrev pub entries_size : List control.Code → ℕ
 entries_size [] = 0
 entries_size (c ∷ codes) = entry_size c.entry + entries_size codes
 
--- ## Closures and procedures
+-- ## Closures, calls and procedures
 
--- the closures that groups make
+-- the closures that groups make, and the calls that are no tail calls
 abbrev pub grouped : List Instruction → ℕ
 grouped [] = 0
 grouped (Fix members ∷ instructions) = length members + grouped instructions
+grouped (Call spread count ∷ instructions) = suc (grouped instructions)
 grouped (_ ∷ instructions) = grouped instructions
 
 -- a procedure's body is jumped over
@@ -97,12 +98,12 @@ abbrev pub jumped : Option Entry → ℕ
 jumped None = 0
 jumped (Some e) = 1
 
--- the closures that groups make, and the procedures
+-- the closures that groups make, these calls, and the procedures
 abbrev pub closures_in : List Code → ℕ
 closures_in [] = 0
 closures_in (c ∷ codes) = jumped c.entry + (grouped c.instructions + closures_in codes)
 
--- what there is to do in a body, with its closures and the jump over it
+-- what there is to do in a body, with its closures, its calls and the jump over it
 abbrev pub code_work : Code → ℕ
 code_work c = instructions_size c.instructions + grouped c.instructions + jumped c.entry
 

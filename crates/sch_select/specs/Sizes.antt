@@ -1,30 +1,11 @@
--- What has more code than the sizes of a program's instructions say: closures, procedures and calls. How many
--- steps and how many marks a program has.
-use Rattle.std.specs.Prelude.{ℕ, suc, ◌+◌, ◌*◌, List, [], ◌∷◌, length, Option, Some, None}
-use Rattle.sch_control.specs.declared.body.Entry.{Entry}
+-- How many steps and how many marks a program has.
+use Rattle.std.specs.Prelude.{ℕ, suc, ◌+◌, ◌*◌, List, [], ◌∷◌, length}
 use Rattle.sch_frames.specs.declared.instruction.Instruction.{Instruction}
-use Rattle.sch_frames.specs.declared.instruction.Instruction.TheVariants.{Fix, Call, Mark}
-use Rattle.sch_frames.specs.Sizes.{program_size}
+use Rattle.sch_frames.specs.declared.instruction.Instruction.TheVariants.{Mark}
+use Rattle.sch_frames.specs.Sizes.{closures_in, program_size}
 use Rattle.sch_frames.specs.Tree.{Code, Source}
 use Rattle.sch_asm.specs.declared.item.Item.{Item}
 use Rattle.sch_asm.specs.declared.item.Item.TheVariants as item
-
--- the closures that groups make, and the calls that are no tail calls
-abbrev pub grouped : List Instruction → ℕ
-grouped [] = 0
-grouped (Fix members ∷ instructions) = length members + grouped instructions
-grouped (Call spread count ∷ instructions) = suc (grouped instructions)
-grouped (_ ∷ instructions) = grouped instructions
-
--- a procedure's body is jumped over, and begins with a check
-abbrev pub jumped : Option Entry → ℕ
-jumped None = 0
-jumped (Some e) = 1
-
--- the closures that groups make, these calls, and the procedures
-abbrev pub closures_in : List Code → ℕ
-closures_in [] = 0
-closures_in (c ∷ codes) = jumped c.entry + (grouped c.instructions + closures_in codes)
 
 -- ## Steps
 

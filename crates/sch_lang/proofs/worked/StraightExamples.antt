@@ -1,10 +1,10 @@
 -- Worked rows of straight programs: where the first form stands that is not straight.
-use Rattle.std.proofs.Common.{◌≡◌, refl, false, [], ◌∷◌, pos, Some, None}
+use Rattle.std.proofs.Common.{◌≡◌, refl, true, false, [], ◌∷◌, pos, Some, None}
 use Rattle.sch_word.specs.declared.constant.Const.TheVariants.{Fixnum}
 use Rattle.sch_word.specs.declared.primitive.Primitive.TheVariants.{Add, Put}
-use Rattle.sch_lang.specs.Tree.{Expression, constant, local, global, set_local, define, bind, lambda, call, operation, no_expressions, expressions}
+use Rattle.sch_lang.specs.Tree.{Expression, constant, local, global, set_local, define, bind, fix, lambda, literal, call, operation, no_expressions, expressions, no_lambdas, and_lambda}
 use Rattle.sch_lang.specs.Straight.{is_straight, first_other}
-use Rattle.sch_lang.specs.ObjectFree.{first_object}
+use Rattle.sch_lang.specs.ObjectFree.{first_object, is_object_free, is_object_free_library}
 
 abbrev one : Expression
 one = constant (Fixnum (pos 1))
@@ -35,10 +35,17 @@ call_row = refl
 deep_row : is_straight (define 0 (bind 1 (expressions (one ∷ [])) (operation 2 Add (expressions (local 0 ∷ call 5 (global 0) no_expressions ∷ []))))) ≡ false
 deep_row = refl
 
--- a local variable that is assigned is object-free, and so is a procedure that is made
-object_free_row : first_object (0 ∷ 12 ∷ []) (expressions (assigns_local ∷ lambda [] 0 false display_one ∷ [])) ≡ None
+-- a local variable that is assigned is object-free, and so is a procedure that is made, or called
+object_free_row : first_object (0 ∷ 12 ∷ 45 ∷ []) (expressions (assigns_local ∷ lambda [] 0 false display_one ∷ call 4 (global 0) no_expressions ∷ [])) ≡ None
 object_free_row = refl
 
--- a call, also one in the body of a procedure, is not
-called_row : first_object (0 ∷ 12 ∷ 45 ∷ []) (expressions (assigns_local ∷ lambda [] 0 false (call 4 (global 0) no_expressions) ∷ display_one ∷ [])) ≡ Some 12
-called_row = refl
+-- a procedure that takes a list is not, also one in the body of another
+list_row : first_object (0 ∷ 12 ∷ 45 ∷ []) (expressions (assigns_local ∷ lambda [] 0 false (lambda [] 1 true (local 0)) ∷ display_one ∷ [])) ≡ Some 12
+list_row = refl
+
+-- in a group, and in a library
+group_row : is_object_free (fix (and_lambda [] 1 true (local 0) no_lambdas) one) ≡ false
+group_row = refl
+
+library_rows : (is_object_free_library (and_lambda [] 1 false (local 0) no_lambdas) ≡ true) × (is_object_free_library (and_lambda [] 1 true (local 0) no_lambdas) ≡ false) × (is_object_free_library (and_lambda [] 0 false (literal 0) no_lambdas) ≡ false)
+library_rows = (refl, refl, refl)
