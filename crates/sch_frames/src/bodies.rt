@@ -61,11 +61,7 @@ pub fn frame_program(alloc: Global, p: &ControlProgram) -> Result<FrameProgram, 
     ensures size { IfOk result (λ q. program_size (source q)
         ≤ 2 * expressions_size (control_bodies.codes_of p.now.bodies) + 4 * calls_parts (control_bodies.codes_of p.now.bodies)
         + entries_size (control_bodies.codes_of p.now.bodies)) }
-    ensures object_free_size { IfOk result (λ q. IsTrue (control_object_free.is_object_free_program (control.source p.now)) → program_size (source q)
-        ≤ 2 * expressions_size (control_bodies.codes_of p.now.bodies) + entries_size (control_bodies.codes_of p.now.bodies)) }
-    ensures straight_size { IfOk result (λ q. IsTrue (control_straight.is_straight_program (control.source p.now))
-        → program_size (source q) ≤ 2 * expressions_size (control_bodies.codes_of p.now.bodies)) }
-    // With its closures and the jumps over its procedures, there is no more to do than is counted of `p`.
+    // With its closures, its calls and the jumps over its procedures, there is no more to do than is counted of `p`.
     ensures work { IfOk result (λ q. program_work (source q) ≤ codes_work (control.source p.now).bodies) }
     ensures words { IfOk result (λ q. q.words ≡ most_words (control_bodies.codes_of p.now.bodies)) }
 {

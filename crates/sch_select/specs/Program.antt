@@ -116,8 +116,11 @@ max_stack = 1073741824
 abbrev pub max_data : ℕ
 max_data = 0xBF000000
 
--- A form has a frame, each call that is pending has one, and one more stands behind, into which operands are
--- handed over before the depth that is left is looked at.
+-- the frames of a form and of the calls that may be pending
+abbrev pub frames_bytes : (words depth : ℕ) → ℕ
+frames_bytes words depth = 8 * (words * suc depth)
+
+-- One more stands behind these, into which operands are handed over before the depth that is left is looked at.
 abbrev pub stack_bytes : (words depth : ℕ) → ℕ
 stack_bytes words depth = 8 * (words * depth) + 16 * words
 

@@ -5,17 +5,17 @@ ghost use Rattle.sch_asm.specs.Codes.{text_size};
 ghost use Rattle.sch_asm.specs.Items.{AreOwn};
 ghost use Rattle.sch_asm.specs.declared.item.Item.TheVariants as item;
 ghost use Rattle.sch_asm.specs.declared.assembly.Word.TheVariants.{Fixed};
+ghost use Rattle.sch_frames.specs.ObjectFree.{is_object_free_program};
 ghost use Rattle.sch_frames.specs.ProgramView.{source};
-ghost use Rattle.sch_frames.specs.Sizes.{program_size};
+ghost use Rattle.sch_frames.specs.Sizes.{closures_in, program_size};
 ghost use Rattle.sch_frames.specs.SourceView.{codes_of};
-ghost use Rattle.sch_select.specs.Covered.{is_covered_program};
 ghost use Rattle.sch_select.specs.Follows.{EndsFrames, EntersFrames, FollowsFrames, PassesFrames};
 ghost use Rattle.sch_select.specs.Jumps.{jumps_ahead};
 ghost use Rattle.sch_select.specs.Program.{own_label, closure_words, closures_address, data_words, laid_code};
 ghost use Rattle.sch_select.specs.Program.{global_word, global_words, heap_address, program_zeros, max_data};
-ghost use Rattle.sch_select.specs.Program.{max_stack, put_value_code, stack_bytes, static_bytes, word_list};
+ghost use Rattle.sch_select.specs.Program.{frames_bytes, max_stack, put_value_code, stack_bytes, static_bytes, word_list};
 ghost use Rattle.sch_select.specs.Select.{body_label, put_label};
-ghost use Rattle.sch_select.specs.Sizes.{bodies_marked, closures_in, marks_in};
+ghost use Rattle.sch_select.specs.Sizes.{bodies_marked, marks_in};
 
 use crate::code::{GLOBALS_ADDRESS, PUT_LABEL, body_label};
 use crate::walk::{Frames, forms};
@@ -103,21 +103,15 @@ struct Layout {
     zeros: u64,
 }
 
-/// The bytes of the stack. A stack that would be too large but for its last frame is out of memory.
-fn stack_of(words: u32, depth: u64) -> Result<u64, Mem>
+/// The bytes of the stack.
+fn stack_of(words: u32, depth: u64) -> u64
     requires words { words ≤ 2048 }
-    ensures bytes { IfOk result (λ n. n ≡ stack_bytes words depth) }
-    ensures few { IfOk result (λ n. n ≤ max_stack + 16384) }
+    requires fits { frames_bytes words depth ≤ max_stack }
+    ensures bytes { result ≡ stack_bytes words depth }
+    ensures few { result ≤ max_stack + 16384 }
 {
     let frame = 8 * words as u64;
-    let frames = match frame.checked_mul(depth) {
-        Some(frames) if frames <= 1_073_741_824 => frames,
-        _ => return Err(Mem),
-    };
-    if frames + frame > 1_073_741_824 {
-        return Err(Mem);
-    }
-    Ok(frames + 2 * frame)
+    frame * depth + 2 * frame
 }
 
 fn lay_out(globals: u64, library: u64, stack_size: u64, limits: Limits) -> Layout
@@ -282,10 +276,10 @@ fn items_of(alloc: Global, p: &FrameProgram, layout: Layout, depth: u64) -> Resu
 /// Resolved with the run-time routines, they do what the program does, whatever the machine is given and
 /// whatever the kernel answers, and pass the program's marks. Programs with literals, symbols or objects have no
 /// code yet. Time and memory are linear in the instructions, the labels, the globals and the library. The addresses
-/// below the stack are numbers of 31 bits. A stack of more than 1,073,741,824 bytes, without its last frame, is out
-/// of memory.
+/// below the stack are numbers of 31 bits.
 pub fn select(alloc: Global, p: &FrameProgram, limits: Limits) -> Result<Asm, Mem>
-    requires covered { IsTrue (is_covered_program (source p.now)) }
+    requires object_free { IsTrue (is_object_free_program (source p.now)) }
+    requires stack { frames_bytes p.now.words limits.depth ≤ max_stack }
     ensures follows { IfOk result (λ a. FollowsFrames (source p.now) limits.heap limits.depth a.items a.words a.zeros) }
     ensures steps { IfOk result (λ a. EndsFrames (source p.now) limits.heap limits.depth a.items a.words a.zeros) }
     ensures passes { IfOk result (λ a. PassesFrames (source p.now) limits.heap limits.depth a.items a.words a.zeros) }
@@ -300,7 +294,7 @@ pub fn select(alloc: Global, p: &FrameProgram, limits: Limits) -> Result<Asm, Me
 {
     let globals = p.statics.globals.len();
     let library = p.library.len();
-    let stack_size = stack_of(p.words, limits.depth)?;
+    let stack_size = stack_of(p.words, limits.depth);
     let layout = lay_out(globals as u64, library as u64, stack_size, limits);
     let items = items_of(alloc, p, layout, limits.depth)?;
     let words = words_of(alloc, p, layout.closures)?;
