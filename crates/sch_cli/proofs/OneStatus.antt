@@ -1,5 +1,5 @@
 -- The causes of the statuses exclude one another.
-use Rattle.std.proofs.Common.{◌≡◌, ◌≢◌, ◌≤◌, ◌<◌, ℕ, List, [], length, Some, refl, sym, ap, ◌∙◌, subst, arith, Result, Ok, Err, IsTrue}
+use Rattle.std.proofs.Common.{◌≡◌, ◌≢◌, ◌≤◌, ◌<◌, ℕ, suc, List, [], length, Some, refl, sym, ap, ◌∙◌, subst, arith, Result, Ok, Err, IsTrue}
 use Rattle.std.specs.Prelude.{⊤}
 use Rattle.sch_word.specs.runs.ProgramLayout.{max_text_size}
 use Rattle.sch_lang.specs.Tree.{Source}
@@ -16,14 +16,15 @@ use Rattle.sch_core.specs.declared.error.CoreError.{CoreError}
 use Rattle.sch_core.specs.declared.error.CoreError.TheVariants as core
 use Rattle.sch_core.specs.Programs.{IsProgramOf, form_places}
 use Rattle.sch_core.proofs.DataLaws.{never_both, one_error, one_program}
-use Rattle.sch_driver.specs.Causes.{IsBuilt, IsErrorOf, IsTextTooLarge, Means, max_source_size, text_bound}
+use Rattle.sch_select.specs.Program.{frames_bytes, max_stack}
+use Rattle.sch_driver.specs.Causes.{IsBuilt, IsErrorOf, IsStackTooLarge, IsTextTooLarge, Means, frame_bound, max_source_size, text_bound}
 use Rattle.sch_driver.specs.declared.error.CompileError.TheVariants as compiling
 use Rattle.sch_driver.proofs.BuiltTexts.{not_free, call_of}
 use Rattle.sch_cli.specs.declared.failure.Failure.{Failure}
 use Rattle.sch_cli.specs.declared.failure.Failure.TheVariants as failure
 use Rattle.sch_cli.specs.declared.status.Status.TheVariants.{OutOfMemory}
 use Rattle.sch_cli.specs.Failures.{core_status, read_status}
-use Rattle.sch_cli.specs.Laws.{IsVerdict, accepted, refused, but_for_size}
+use Rattle.sch_cli.specs.Laws.{IsSmall, IsVerdict, accepted, refused, but_for_size}
 
 -- ---- errors
 
@@ -68,37 +69,38 @@ found_built : (text : List ℕ) (p : Source) → length text ≤ max_source_size
 found_built text p short is = right (Ok tt) short is.means.items is.means.spells p is.means.program (free p is.means.program is.object_free)
 
 -- an error of the driver's that is no lack of memory is one of the reader or of the expander
-reading_of : (text : List ℕ) (error : ReadError) → IsErrorOf text (compiling.Read error) → reading.IsErrorIn text error
-reading_of text (read.Unclosed at) h = h
-reading_of text (read.StrayClose at) h = h
-reading_of text (read.BadToken at) h = h
-reading_of text (read.BadNumber at) h = h
-reading_of text (read.BadString at) h = h
-reading_of text (read.DeepNesting at) h = h
-reading_of text (read.LiteralRange at) h = h
-reading_of text read.Memory h = absurd h
+reading_of : (text : List ℕ) (depth : ℕ) (error : ReadError) → IsErrorOf text depth (compiling.Read error) → reading.IsErrorIn text error
+reading_of text depth (read.Unclosed at) h = h
+reading_of text depth (read.StrayClose at) h = h
+reading_of text depth (read.BadToken at) h = h
+reading_of text depth (read.BadNumber at) h = h
+reading_of text depth (read.BadString at) h = h
+reading_of text depth (read.DeepNesting at) h = h
+reading_of text depth (read.LiteralRange at) h = h
+reading_of text depth read.Memory h = absurd h
 
-expanding_of : (text : List ℕ) (error : CoreError) → IsErrorOf text (compiling.Core error) → (items : Data) × Spells text items × expanding.IsErrorIn [] items error
-expanding_of text (core.BadForm at) h = h
-expanding_of text (core.Unbound at name) h = h
-expanding_of text (core.KeywordDefined at) h = h
-expanding_of text (core.Limit kind at) h = h
-expanding_of text core.Memory h = absurd h
+expanding_of : (text : List ℕ) (depth : ℕ) (error : CoreError) → IsErrorOf text depth (compiling.Core error) → (items : Data) × Spells text items × expanding.IsErrorIn [] items error
+expanding_of text depth (core.BadForm at) h = h
+expanding_of text depth (core.Unbound at name) h = h
+expanding_of text depth (core.KeywordDefined at) h = h
+expanding_of text depth (core.Limit kind at) h = h
+expanding_of text depth core.Memory h = absurd h
 
-found : (text : List ℕ) (verdict : Result ⊤ Failure) → IsVerdict text verdict → InText text (but_for_size verdict)
-found text (Ok done) (accepted p is) = found_built text p is.short is.built
-found text (Err e) (refused failure.TooLong h v) = long h
-found text (Err e) (refused (failure.Compile (compiling.Read error)) h v) = let f = read_fault text error (reading_of text error h.1) v in faulty error h.0 f.0 f.1 f.2
-found text (Err e) (refused (failure.Compile (compiling.Core error)) h v) =
-    let k = expanding_of text error h.1 in wrong error h.0 k.0 k.1 k.2 (core_kept error v)
-found text (Err e) (refused (failure.Compile (compiling.NotBuilt at)) h v) =
-    right (Err (failure.Compile (compiling.NotBuilt at))) h.0 h.1.means.items h.1.means.spells h.1.program h.1.means.program (call at h.1.program h.1.means.program h.1.call)
-found text (Err e) (refused (failure.Compile (compiling.TextTooLarge bytes)) h v) = found_built text h.1.program h.0 h.1.built
-found text (Err e) (refused (failure.Compile compiling.Memory) h v) = absurd (v refl)
-found text (Err e) (refused failure.Memory h v) = absurd (v refl)
-found text (Err e) (refused failure.ReadFailed h v) = absurd h
-found text (Err e) (refused failure.WriteFailed h v) = absurd h
-found text (Err e) (refused (failure.Image error) h v) = absurd h
+found : (text : List ℕ) (depth : ℕ) (verdict : Result ⊤ Failure) → IsVerdict text depth verdict → InText text (but_for_size verdict)
+found text depth (Ok done) (accepted p is) = found_built text p is.short is.built
+found text depth (Err e) (refused failure.TooLong h v) = long h
+found text depth (Err e) (refused (failure.Compile (compiling.Read error)) h v) = let f = read_fault text error (reading_of text depth error h.1) v in faulty error h.0 f.0 f.1 f.2
+found text depth (Err e) (refused (failure.Compile (compiling.Core error)) h v) =
+    let k = expanding_of text depth error h.1 in wrong error h.0 k.0 k.1 k.2 (core_kept error v)
+found text depth (Err e) (refused (failure.Compile (compiling.NotBuilt at)) h v) =
+    right (Err (failure.Compile (compiling.NotBuilt at))) h.0 h.1.means.items h.1.means.spells h.1.program h.1.means.program (call at h.1.program h.1.means.program h.1.object)
+found text depth (Err e) (refused (failure.Compile (compiling.StackTooLarge words)) h v) = found_built text h.1.program h.0 h.1.built
+found text depth (Err e) (refused (failure.Compile (compiling.TextTooLarge bytes)) h v) = found_built text h.1.program h.0 h.1.built
+found text depth (Err e) (refused (failure.Compile compiling.Memory) h v) = absurd (v refl)
+found text depth (Err e) (refused failure.Memory h v) = absurd (v refl)
+found text depth (Err e) (refused failure.ReadFailed h v) = absurd h
+found text depth (Err e) (refused failure.WriteFailed h v) = absurd h
+found text depth (Err e) (refused (failure.Image error) h v) = absurd h
 
 -- ---- one thing is found
 
@@ -133,8 +135,8 @@ one_in_text text _ _ (right r h xs a p b c) (faulty e h' f d is) = absurd (spell
 one_in_text text _ _ (right r h xs a p b c) (wrong e h' ys a' b' k) = absurd (k (never_both [] ys p e (subst (λ zs. IsProgramOf [] zs p) (spells_one text xs ys a a') b) b'))
 one_in_text text _ _ (right r h xs a p b c) (right r' h' ys a' p' b' c') = one_in_data xs r r' c (subst (λ zs. InData zs r') (sym (spells_one text xs ys a a')) c')
 
-pub same : (text : List ℕ) (one two : Result ⊤ Failure) → IsVerdict text one → IsVerdict text two → but_for_size one ≡ but_for_size two
-same text one two h k = one_in_text text (but_for_size one) (but_for_size two) (found text one h) (found text two k)
+pub same : (text : List ℕ) (depth : ℕ) (one two : Result ⊤ Failure) → IsVerdict text depth one → IsVerdict text depth two → but_for_size one ≡ but_for_size two
+same text depth one two h k = one_in_text text (but_for_size one) (but_for_size two) (found text depth one h) (found text depth two k)
 
 -- ---- a text of a small program
 
@@ -150,19 +152,29 @@ not_too_large text p bytes is low large =
     beyond max_text_size bytes (text_bound large.program) large.large large.bound
     (subst (λ q. text_bound q ≤ max_text_size) (same_program text p large.program is.means large.built.means) low)
 
-whole : (text : List ℕ) (p : Source) → IsBuilt text p → text_bound p ≤ max_text_size → (verdict : Result ⊤ Failure) → IsVerdict text verdict → but_for_size verdict ≡ verdict
-whole text p is low (Ok done) (accepted q a) = refl
-whole text p is low (Err e) (refused failure.TooLong h v) = refl
-whole text p is low (Err e) (refused (failure.Compile (compiling.Read error)) h v) = refl
-whole text p is low (Err e) (refused (failure.Compile (compiling.Core error)) h v) = refl
-whole text p is low (Err e) (refused (failure.Compile (compiling.NotBuilt at)) h v) = refl
-whole text p is low (Err e) (refused (failure.Compile (compiling.TextTooLarge bytes)) h v) = absurd (not_too_large text p bytes is low h.1)
-whole text p is low (Err e) (refused (failure.Compile compiling.Memory) h v) = refl
-whole text p is low (Err e) (refused failure.Memory h v) = refl
-whole text p is low (Err e) (refused failure.ReadFailed h v) = refl
-whole text p is low (Err e) (refused failure.WriteFailed h v) = refl
-whole text p is low (Err e) (refused (failure.Image error) h v) = refl
+more_words : (words most depth : ℕ) → words ≤ most → frames_bytes words depth ≤ frames_bytes most depth
+more_words words most depth h = let m = mul-le words most (suc depth) h in omega (arith, m)
 
-pub small : (text : List ℕ) (p : Source) → IsBuilt text p → text_bound p ≤ max_text_size →
-    (one two : Result ⊤ Failure) → IsVerdict text one → IsVerdict text two → one ≡ two
-small text p is low one two h k = sym (whole text p is low one h) ∙ same text one two h k ∙ whole text p is low two k
+stack_not_too_large : (text : List ℕ) (depth : ℕ) (p : Source) (words : ℕ) → IsBuilt text p → frames_bytes (frame_bound p) depth ≤ max_stack → IsStackTooLarge text depth words → ⊥
+stack_not_too_large text depth p words is low large =
+    beyond max_stack (frames_bytes words depth) (frames_bytes (frame_bound large.program) depth) large.large
+    (more_words words (frame_bound large.program) depth large.frame.bound)
+    (subst (λ q. frames_bytes (frame_bound q) depth ≤ max_stack) (same_program text p large.program is.means large.built.means) low)
+
+whole : (text : List ℕ) (depth : ℕ) (p : Source) → IsBuilt text p → IsSmall p depth → (verdict : Result ⊤ Failure) → IsVerdict text depth verdict → but_for_size verdict ≡ verdict
+whole text depth p is low (Ok done) (accepted q a) = refl
+whole text depth p is low (Err e) (refused failure.TooLong h v) = refl
+whole text depth p is low (Err e) (refused (failure.Compile (compiling.Read error)) h v) = refl
+whole text depth p is low (Err e) (refused (failure.Compile (compiling.Core error)) h v) = refl
+whole text depth p is low (Err e) (refused (failure.Compile (compiling.NotBuilt at)) h v) = refl
+whole text depth p is low (Err e) (refused (failure.Compile (compiling.StackTooLarge words)) h v) = absurd (stack_not_too_large text depth p words is low.stack h.1)
+whole text depth p is low (Err e) (refused (failure.Compile (compiling.TextTooLarge bytes)) h v) = absurd (not_too_large text p bytes is low.text h.1)
+whole text depth p is low (Err e) (refused (failure.Compile compiling.Memory) h v) = refl
+whole text depth p is low (Err e) (refused failure.Memory h v) = refl
+whole text depth p is low (Err e) (refused failure.ReadFailed h v) = refl
+whole text depth p is low (Err e) (refused failure.WriteFailed h v) = refl
+whole text depth p is low (Err e) (refused (failure.Image error) h v) = refl
+
+pub small : (text : List ℕ) (depth : ℕ) (p : Source) → IsBuilt text p → IsSmall p depth →
+    (one two : Result ⊤ Failure) → IsVerdict text depth one → IsVerdict text depth two → one ≡ two
+small text depth p is low one two h k = sym (whole text depth p is low one h) ∙ same text depth one two h k ∙ whole text depth p is low two k

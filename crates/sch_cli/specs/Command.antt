@@ -1,5 +1,5 @@
 -- The words that are a command.
-use Rattle.std.specs.Prelude.{ℕ, ◌^◌, ◌%◌, nat_le, List, [], ◌∷◌, length, codes, Bool, true, false, not, ◌&&◌, ◌==◌, Option, Some, None, if◌then◌else◌}
+use Rattle.std.specs.Prelude.{ℕ, ◌^◌, ◌%◌, nat_le, List, [], ◌∷◌, length, codes, Bool, true, false, not, ◌&&◌, ◌||◌, ◌==◌, Option, Some, None, if◌then◌else◌}
 use Rattle.std.specs.Str.{bytes_eq}
 use Rattle.std.specs.Char.{is_ascii_digit}
 use Rattle.std.specs.List.{list_all}
@@ -43,10 +43,11 @@ are_names source target = is_name source && is_name target && not (bytes_eq sour
 -- what the options give, each where it is there
 pub record Options : Type 0 where
   pub heap : Option ℕ
+  pub depth : Option ℕ
   pub steps : Option ℕ
 
 abbrev pub no_options : Options
-no_options = record { heap = None; steps = None }
+no_options = record { heap = None; depth = None; steps = None }
 
 -- the most digits of a number
 abbrev pub max_digits : ℕ
@@ -62,15 +63,18 @@ with_option option digits given =
     let n = digits_value 10 digits in
     if not (is_number digits) then None
     else if bytes_eq option (codes "--heap") && not (is_some given.heap) then Some (record given { heap = Some n })
+    else if bytes_eq option (codes "--depth") && not (is_some given.depth) then Some (record given { depth = Some n })
     else if bytes_eq option (codes "--steps") && not (is_some given.steps) then Some (record given { steps = Some n })
     else None
 
--- the options in what follows the names, in any order
+-- these options with those in what follows, in any order
+abbrev pub with_options : Options → List (List ℕ) → Option Options
+with_options given [] = Some given
+with_options given (option ∷ digits ∷ rest) = option_and_then (λ more. with_options more rest) (with_option option digits given)
+with_options given (word ∷ []) = None
+
 abbrev pub options_in : List (List ℕ) → Option Options
-options_in [] = Some no_options
-options_in (option ∷ digits ∷ []) = with_option option digits no_options
-options_in (option ∷ digits ∷ other ∷ others ∷ []) = option_and_then (with_option other others) (with_option option digits no_options)
-options_in _ = None
+options_in words = with_options no_options words
 
 -- the most steps
 abbrev pub max_steps : ℕ
@@ -82,9 +86,12 @@ are_limits heap depth = nat_le MIN_HEAP heap && nat_le heap MAX_HEAP && heap % 1
 
 -- ---- the verbs, with the options that they take
 
--- a command under limits, where they are admitted
-abbrev pub with_limits : (heap depth : ℕ) → ((heap depth : ℕ) → Command) → Option Command
-with_limits heap depth make = if are_limits heap depth then Some (make heap depth) else None
+-- a command under the limits that are given, where they are admitted
+abbrev pub with_limits : Options → ((heap depth : ℕ) → Command) → Option Command
+with_limits given make =
+    let heap = unwrap_or given.heap default_heap in
+    let depth = unwrap_or given.depth default_depth in
+    if are_limits heap depth then Some (make heap depth) else None
 
 -- a command with a number of steps, where it is admitted
 abbrev pub with_steps : (steps : ℕ) → Option Command → Option Command
@@ -92,17 +99,17 @@ with_steps steps made = if nat_le steps max_steps then made else None
 
 abbrev pub compile_of : (source target : List ℕ) → Options → Option Command
 compile_of source target given =
-    if is_some given.steps then None else with_limits (unwrap_or given.heap default_heap) default_depth (compile source target)
+    if is_some given.steps then None else with_limits given (compile source target)
 
 abbrev pub run_of : (source : List ℕ) → Options → Option Command
 run_of source given =
     let steps = unwrap_or given.steps default_steps in
-    with_steps steps (with_limits (unwrap_or given.heap default_heap) default_depth (λ heap depth. run source heap depth steps))
+    with_steps steps (with_limits given (λ heap depth. run source heap depth steps))
 
 abbrev pub step_of : (image : List ℕ) → Options → Option Command
 step_of image given =
     let steps = unwrap_or given.steps default_steps in
-    if is_some given.heap then None else with_steps steps (Some (step image steps))
+    if is_some given.heap || is_some given.depth then None else with_steps steps (Some (step image steps))
 
 -- what follows the word `compile`, and what follows a verb with one name
 abbrev pub compile_in : (source : List ℕ) → List (List ℕ) → Option Command
@@ -113,8 +120,8 @@ compile_in source [] = None
 abbrev pub with_one_name : (name : List ℕ) → (options : List (List ℕ)) → (List ℕ → Options → Option Command) → Option Command
 with_one_name name options verb_of = if is_name name then option_and_then (verb_of name) (options_in options) else None
 
--- The command of the words: `compile NAME NAME2 [--heap N]`, `run NAME [--heap N] [--steps N]` or
--- `step NAME [--steps N]`.
+-- The command of the words: `compile NAME NAME2 [--heap N] [--depth N]`, `run NAME [--heap N] [--depth N] [--steps N]`
+-- or `step NAME [--steps N]`.
 abbrev pub command : List (List ℕ) → Option Command
 command (verb ∷ name ∷ rest) =
     if bytes_eq verb (codes "compile") then compile_in name rest

@@ -5,7 +5,7 @@ use Rattle.sch_cli.specs.declared.command.Command.TheVariants.{Compile, Run, Ste
 use Rattle.sch_cli.specs.declared.command.Options.{Options}
 
 abbrev pub options_of : Options → commands.Options
-options_of given = record { heap = given.heap; steps = given.steps }
+options_of given = record { heap = given.heap; depth = given.depth; steps = given.steps }
 
 abbrev pub command_of : Command → commands.Command
 command_of (Compile source target limits) = commands.compile source.now target.now limits.heap limits.depth

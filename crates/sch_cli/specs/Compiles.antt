@@ -29,7 +29,7 @@ pub data Compiles (source target : List ℕ) (heap depth : ℕ) (disk : DiskChan
   -- the source is one that compiles; a failed write leaves any bytes in the target
   not_written : DiskFailed disk → FileIs disk source (HasProgram heap depth) → FilesChange disk (Spoils target) → HadCalls 2 disk →
       Compiles source target heap depth disk (Err WriteFailed)
-  refused : (failure : Failure) → FileIs disk source (λ text. IsRefused text failure) → SameFiles disk → HadCalls 1 disk →
+  refused : (failure : Failure) → FileIs disk source (λ text. IsRefused text depth failure) → SameFiles disk → HadCalls 1 disk →
       Compiles source target heap depth disk (Err failure)
   no_memory : SameFiles disk → HadCalls 1 disk → Compiles source target heap depth disk (Err Memory)
 

@@ -36,6 +36,7 @@ abbrev pub refusal_status : CompileError → Status
 refusal_status (compiling.Read error) = read_status error
 refusal_status (compiling.Core error) = core_status error
 refusal_status (compiling.NotBuilt at) = NotBuilt
+refusal_status (compiling.StackTooLarge words) = PastLimit
 refusal_status (compiling.TextTooLarge bytes) = PastLimit
 refusal_status compiling.Memory = OutOfMemory
 
@@ -80,6 +81,7 @@ abbrev pub refusal_line : List ℕ → CompileError → List ℕ
 refusal_line name (compiling.Read error) = read_line name error
 refusal_line name (compiling.Core error) = core_line name error
 refusal_line name (compiling.NotBuilt at) = place_line name at (codes "not built") []
+refusal_line name (compiling.StackTooLarge words) = name ++ codes ": limit stack\n"
 refusal_line name (compiling.TextTooLarge bytes) = name ++ codes ": limit text\n"
 refusal_line name compiling.Memory = out_of_memory_line
 

@@ -10,10 +10,10 @@ pub record IsAccepted (text : List ℕ) (p : tree.Source) : Type 0 where
   pub short : length text ≤ max_source_size
   pub built : IsBuilt text p
 
--- The failure is one of the text. Out of memory may come in place of any other; the failures of the
+-- The failure is one of the text, compiled for a depth. Out of memory may come in place of any other; the failures of the
 -- disk, and those of an image, are none of a text.
-abbrev pub IsRefused : List ℕ → Failure → Type 0
-IsRefused text TooLong = max_source_size < length text
-IsRefused text (Compile error) = (length text ≤ max_source_size) × IsErrorOf text error
-IsRefused text Memory = Unit {0}
-IsRefused text _ = ⊥
+abbrev pub IsRefused : List ℕ → (depth : ℕ) → Failure → Type 0
+IsRefused text depth TooLong = max_source_size < length text
+IsRefused text depth (Compile error) = (length text ≤ max_source_size) × IsErrorOf text depth error
+IsRefused text depth Memory = Unit {0}
+IsRefused text depth _ = ⊥

@@ -66,7 +66,7 @@ pub record RunsProgram (p : tree.Source) (table : List (List ℕ)) (heap depth s
 pub data RunsSource (name : List ℕ) (heap depth steps : ℕ) (disk : DiskChange) (out : StreamChange) : Result RunEnd Failure → Type 0 where
   not_read : DiskFailed disk → TookNothing out → RunsSource name heap depth steps disk out (Err ReadFailed)
   no_memory : TookNothing out → RunsSource name heap depth steps disk out (Err Memory)
-  refused : (failure : Failure) → FileIs disk name (λ text. IsRefused text failure) → TookNothing out →
+  refused : (failure : Failure) → FileIs disk name (λ text. IsRefused text depth failure) → TookNothing out →
       RunsSource name heap depth steps disk out (Err failure)
   ran : (p : tree.Source) (orders : List (List ℕ)) (end : RunEnd) → FileIs disk name (λ text. IsAccepted text p) →
       RunsProgram p orders heap depth steps end out → RunsSource name heap depth steps disk out (Ok end)

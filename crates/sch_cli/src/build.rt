@@ -15,7 +15,7 @@ use std::alloc::Global;
 pub fn build(alloc: Global, text: &[u8], limits: Limits) -> Result<Bytes, Failure>
     requires { length text.now ≤ max_source_size }
     ensures made { IfOk result (IsFileOf text.now limits.heap limits.depth) }
-    ensures refused { IfErr result (IsRefused text.now) }
+    ensures refused { IfErr result (IsRefused text.now limits.depth) }
 {
     let compiled = compile(alloc, text, limits)?;
     Ok(compiled.image)
@@ -25,7 +25,7 @@ pub fn build(alloc: Global, text: &[u8], limits: Limits) -> Result<Bytes, Failur
 pub fn image_of(alloc: Global, text: &[u8], limits: Limits) -> Result<Image, Failure>
     requires { length text.now ≤ max_source_size }
     ensures made { IfOk result (DoesText text.now limits.heap limits.depth) }
-    ensures refused { IfErr result (IsRefused text.now) }
+    ensures refused { IfErr result (IsRefused text.now limits.depth) }
 {
     let file = build(alloc, text, limits)?;
     match read_image(alloc, file.as_slice()) {

@@ -5,7 +5,7 @@ ghost use Rattle.std.specs.Char.{is_ascii_digit};
 ghost use Rattle.std.specs.List.{list_all};
 ghost use Rattle.std.specs.Option.{option_map, unwrap_or};
 ghost use Rattle.std.specs.Str.Parse.{digits_value};
-ghost use Rattle.sch_cli.specs.Command.{are_limits, are_names, command, compile_in, default_depth, default_heap, default_steps, is_name, is_number, max_steps, with_one_name, options_in, run_of, step_of, with_option};
+ghost use Rattle.sch_cli.specs.Command.{are_limits, are_names, command, compile_in, default_depth, default_heap, default_steps, is_name, is_number, max_steps, with_one_name, options_in, run_of, step_of, with_option, with_options};
 ghost use Rattle.sch_cli.specs.CommandView.{command_of, options_of};
 
 use sch_word::Limits;
@@ -37,6 +37,7 @@ pub struct SourceRun<'a> {
 #[derive(Clone, Copy)]
 pub struct Options {
     pub heap: Option<u64>,
+    pub depth: Option<u64>,
     pub steps: Option<u64>,
 }
 
@@ -146,7 +147,7 @@ fn read_step<'a>(image: &'a String, rest: &'a [String]) -> Option<Command<'a>>
     let Some(given) = read_options(rest) else {
         return None;
     };
-    if given.heap.is_some() {
+    if given.heap.is_some() || given.depth.is_some() {
         return None;
     }
     let Some(steps) = given.steps() else {
@@ -164,20 +165,27 @@ fn read_options(words: &[String]) -> Option<Options>
 {
     let none = Options {
         heap: None,
+        depth: None,
         steps: None,
     };
-    match words {
-        [] => Some(none),
-        [option, digits] => none.with(option.as_str(), digits.as_str()),
-        [option, digits, other, others] => match none.with(option.as_str(), digits.as_str()) {
-            Some(given) => given.with(other.as_str(), others.as_str()),
-            None => None,
-        },
-        _ => None,
-    }
+    none.with_each(words)
 }
 
 impl Options {
+    /// These options with those in the words, each of which may be given once.
+    fn with_each(self, words: &[String]) -> Option<Options>
+        ensures { option_map options_of result ≡ with_options (options_of self) (map string_bytes words.now) }
+    {
+        match words {
+            [] => Some(self),
+            [option, digits, rest @ ..] => match self.with(option.as_str(), digits.as_str()) {
+                Some(more) => more.with_each(rest),
+                None => None,
+            },
+            _ => None,
+        }
+    }
+
     /// These options with one more, which may be given once.
     fn with(self, option: &str, digits: &str) -> Option<Options>
         ensures { option_map options_of result ≡ with_option option.now digits.now (options_of self) }
@@ -188,13 +196,19 @@ impl Options {
         if option == "--heap" && self.heap.is_none() {
             return Some(Options {
                 heap: Some(number),
-                steps: self.steps,
+                ..self
+            });
+        }
+        if option == "--depth" && self.depth.is_none() {
+            return Some(Options {
+                depth: Some(number),
+                ..self
             });
         }
         if option == "--steps" && self.steps.is_none() {
             return Some(Options {
-                heap: self.heap,
                 steps: Some(number),
+                ..self
             });
         }
         None
@@ -202,10 +216,13 @@ impl Options {
 
     /// The limits of a program, if they are admitted.
     fn limits(self) -> Option<Limits>
-        ensures admitted { is_some result ≡ are_limits (unwrap_or self.heap default_heap) default_depth }
-        ensures value { IfSome result (λ limits. (limits.heap ≡ unwrap_or self.heap default_heap) × (limits.depth ≡ default_depth)) }
+        ensures admitted { is_some result ≡ are_limits (unwrap_or self.heap default_heap) (unwrap_or self.depth default_depth) }
+        ensures value { IfSome result (λ limits. (limits.heap ≡ unwrap_or self.heap default_heap) × (limits.depth ≡ unwrap_or self.depth default_depth)) }
     {
-        Limits::new(self.heap.unwrap_or(DEFAULT_HEAP), DEFAULT_DEPTH)
+        Limits::new(
+            self.heap.unwrap_or(DEFAULT_HEAP),
+            self.depth.unwrap_or(DEFAULT_DEPTH),
+        )
     }
 
     /// The steps, if there are not too many.

@@ -82,7 +82,7 @@ fn refusal_status(error: &CompileError) -> Status
         CompileError::Read(error) => read_status(*error),
         CompileError::Core(error) => core_status(error),
         CompileError::NotBuilt(_) => Status::NotBuilt,
-        CompileError::TextTooLarge(_) => Status::PastLimit,
+        CompileError::StackTooLarge(_) | CompileError::TextTooLarge(_) => Status::PastLimit,
         CompileError::Memory => Status::OutOfMemory,
     }
 }
@@ -143,6 +143,7 @@ fn say_refusal<E: Outlet>(err: &mut E, name: &str, error: &CompileError)
         CompileError::Read(error) => say_read_error(err, name, *error),
         CompileError::Core(error) => say_core_error(err, name, error),
         CompileError::NotBuilt(at) => say_at(err, name, *at, "not built", b""),
+        CompileError::StackTooLarge(_) => say(err, name, ": limit stack\n"),
         CompileError::TextTooLarge(_) => say(err, name, ": limit text\n"),
         CompileError::Memory => say_out_of_memory(err),
     }

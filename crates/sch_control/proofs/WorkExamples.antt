@@ -3,6 +3,7 @@ use Rattle.std.proofs.Common.{◌≡◌, ◌+◌, refl, false, [], ◌∷◌, ma
 use Rattle.sch_word.specs.declared.constant.Const.TheVariants.{Nil}
 use Rattle.sch_word.specs.declared.primitive.Primitive.TheVariants.{Add}
 use Rattle.sch_word.specs.trees.Shape.{Made, Procedure, constant, literal, variable, global, set_variable, set_global, define, branch, sequence, bind, fix, letrec, lambda, call, operation, new_cells, cell_get, cell_set, field, make_closure, fix_closures}
+use Rattle.sch_control.specs.Sizes.{most_variables}
 use Rattle.sch_control.specs.Weights.{weight_of}
 use Rattle.sch_control.specs.Work.{code_work, codes_work, expression_work}
 use Rattle.sch_control.proofs.Examples.{around, looping, taking}
@@ -18,6 +19,13 @@ taking_work = refl
 
 saved_work : expression_work (around []) ≡ 10
 saved_work = refl
+
+-- the form has five variables, its procedure four
+most_row : most_variables taking.bodies ≡ 5
+most_row = refl
+
+none_row : most_variables [] ≡ 0
+none_row = refl
 
 -- ## Weights
 

@@ -1,5 +1,5 @@
--- Sizes of expressions: how much there is to do.
-use Rattle.std.specs.Prelude.{ℕ, suc, ◌+◌, List, [], ◌∷◌, length}
+-- Sizes of expressions: how much there is to do; and how many variables bodies have.
+use Rattle.std.specs.Prelude.{ℕ, suc, ◌+◌, max, List, [], ◌∷◌, length}
 use Rattle.sch_control.specs.declared.operation.Operand.{Operand}
 use Rattle.sch_control.specs.declared.operation.Operand.TheVariants as operand
 use Rattle.sch_control.specs.declared.operation.Operation.{Operation}
@@ -38,3 +38,8 @@ expression_size (save saves e) = suc (expression_size e)
 abbrev pub expressions_size : List Code → ℕ
 expressions_size [] = 0
 expressions_size (c ∷ codes) = expression_size c.expression + expressions_size codes
+
+-- the most variables of a body, with its return address and its closure, and 0 where there is no body
+abbrev pub most_variables : List Code → ℕ
+most_variables [] = 0
+most_variables (c ∷ codes) = max c.variables (most_variables codes)

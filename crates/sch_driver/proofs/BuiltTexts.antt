@@ -62,7 +62,7 @@ second : (a b : Bool) → IsTrue (a && b) → IsTrue b
 second true b h = h
 second false b h = absurd cc
 
--- a object-free program has no form that is not object-free
+-- an object-free program has no form that is not object-free
 all_free : (places : List ℕ) (p : Source) → IsTrue (is_object_free_program p) → first_object places p.forms ≡ None
 all_free places p h = no_call places p.forms (second (no_procedures p.library) (are_object_free p.forms) h)
 

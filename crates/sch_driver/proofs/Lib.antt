@@ -1,4 +1,3 @@
 pub mod Images
 pub mod Spelled
-pub mod TextSizes
 pub mod BuiltTexts

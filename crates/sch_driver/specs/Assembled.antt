@@ -10,31 +10,44 @@ use Rattle.sch_asm.specs.declared.error.AsmError.{AsmError}
 use Rattle.sch_asm.specs.declared.error.AsmError.TheVariants as asm
 use Rattle.sch_elf.specs.declared.image.Image.{Image}
 use Rattle.sch_elf.specs.Layout.{memory}
+use Rattle.sch_control.specs.Sizes.{most_variables}
 use Rattle.sch_control.specs.Work.{codes_work}
 use Rattle.sch_control.specs.Tree.{Source}
 use Rattle.sch_control.specs.Run.{run}
-use Rattle.sch_driver.specs.Causes.{text_base}
+use Rattle.sch_select.specs.Program.{frames_bytes, max_stack, stack_bytes}
+use Rattle.sch_driver.specs.Causes.{max_frame, text_base}
 use Rattle.sch_driver.specs.Headline.{HasProgramLayout}
 use Rattle.sch_driver.specs.declared.error.CompileError.{CompileError}
-use Rattle.sch_driver.specs.declared.error.CompileError.TheVariants.{TextTooLarge, Memory}
+use Rattle.sch_driver.specs.declared.error.CompileError.TheVariants.{TextTooLarge, StackTooLarge, Memory}
 
 -- the most bytes of the text, by the work in the control program
 abbrev pub assembled_bound : Source → ℕ
 assembled_bound p = text_base + 64 * codes_work p.bodies
 
--- The image is laid out as a program's, and where the control program is never wrong, it follows its runs.
-pub record IsAssembled (p : Source) (heap depth : ℕ) (image : Image) : Type 0 where
+-- The most words of a frame: a slot for each variable, and for each of the most operands or formals.
+pub record IsFrameSize (p : Source) (words : ℕ) : Type 0 where
+  pub few : words ≤ max_frame
+  pub bound : words ≤ 200 + most_variables p.bodies
+
+-- The image is laid out as a program's, with room behind its words for the heap and for frames of so many words at
+-- this depth, and where the control program is never wrong, it follows its runs.
+pub record IsAssembled (p : Source) (heap depth frame_words : ℕ) (image : Image) : Type 0 where
   pub laid_out : HasProgramLayout image
   pub bound : length (flat_map spelling laid_out.code) ≤ assembled_bound p
+  pub room : laid_out.zeros ≡ heap + stack_bytes frame_words depth
+  pub frame : IsFrameSize p frame_words
+  pub fits : frames_bytes frame_words depth ≤ max_stack
   pub follows : (runs : List Answer → ℕ → Run)
       → ((answers : List Answer) (entries : ℕ) → run p heap depth answers entries ≡ Some (runs answers entries))
       → FollowsRuns image.entry (memory image.segments) runs
 
--- Why there is no image of a control program: its text would be too large, or there was no memory.
-abbrev pub IsUnfit : Source → CompileError → Type 0
-IsUnfit p (TextTooLarge bytes) = (max_text_size < bytes) × (bytes ≤ assembled_bound p)
-IsUnfit p Memory = Unit {0}
-IsUnfit p _ = ⊥
+-- Why there is no image of a control program at a depth: the frames of its calls would take too much, its text would
+-- be too large, or there was no memory.
+abbrev pub IsUnfit : Source → (depth : ℕ) → CompileError → Type 0
+IsUnfit p depth (StackTooLarge words) = (max_stack < frames_bytes words depth) × IsFrameSize p words
+IsUnfit p depth (TextTooLarge bytes) = (max_text_size < bytes) × (bytes ≤ assembled_bound p)
+IsUnfit p depth Memory = Unit {0}
+IsUnfit p depth _ = ⊥
 
 -- the error of a text that is not resolved
 abbrev pub of_assembly : AsmError → CompileError

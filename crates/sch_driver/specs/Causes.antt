@@ -2,6 +2,7 @@
 use Rattle.std.specs.Prelude.{◌≡◌, ◌<◌, ◌≤◌, ℕ, ◌+◌, ◌*◌, ◌^◌, List, [], IsTrue, Some}
 use Rattle.sch_word.specs.runs.ProgramLayout.{max_text_size}
 use Rattle.sch_lang.specs.Tree as tree
+use Rattle.sch_lang.specs.Bodies.{most_variables}
 use Rattle.sch_lang.specs.Measures.{program_size}
 use Rattle.sch_lang.specs.ObjectFree.{is_object_free_program, first_object}
 use Rattle.sch_read.specs.Answer as reading
@@ -13,8 +14,9 @@ use Rattle.sch_core.specs.Answer as expanding
 use Rattle.sch_core.specs.declared.error.CoreError.{CoreError}
 use Rattle.sch_core.specs.declared.error.CoreError.TheVariants as core
 use Rattle.sch_core.specs.Programs.{IsProgramOf, form_places}
+use Rattle.sch_select.specs.Program.{frames_bytes, max_stack}
 use Rattle.sch_driver.specs.declared.error.CompileError.{CompileError}
-use Rattle.sch_driver.specs.declared.error.CompileError.TheVariants.{Read, Core, NotBuilt, TextTooLarge, Memory}
+use Rattle.sch_driver.specs.declared.error.CompileError.TheVariants.{Read, Core, NotBuilt, StackTooLarge, TextTooLarge, Memory}
 
 -- the most bytes of a source: 1 MiB (the project's own)
 abbrev pub max_source_size : ℕ
@@ -35,7 +37,7 @@ pub record IsBuilt (text : List ℕ) (p : tree.Source) : Type 0 where
 pub record IsNotBuilt (text : List ℕ) (at : ℕ) : Type 0 where
   pub program : tree.Source
   pub means : Means text program
-  pub call : first_object (form_places means.items) program.forms ≡ Some at
+  pub object : first_object (form_places means.items) program.forms ≡ Some at
 
 -- the most bytes of the text of an image, by the size of its core program: a part for the routines and the
 -- starts of forms, and a part for each unit of the size
@@ -45,6 +47,26 @@ text_base = 2 ^ 16
 abbrev pub text_bound : tree.Source → ℕ
 text_bound p = text_base + 512 * program_size p
 
+-- the most words of a frame, of any program and by the variables of its bodies (the project's own)
+abbrev pub max_frame : ℕ
+max_frame = 2048
+
+abbrev pub frame_bound : tree.Source → ℕ
+frame_bound p = 2 * most_variables p + 216
+
+-- A frame of the core program may have so many words.
+pub record MayHaveFrames (program : tree.Source) (words : ℕ) : Type 0 where
+  pub few : words ≤ max_frame
+  pub bound : words ≤ frame_bound program
+
+-- A text that is built, and a number of words that its frames may have; at this depth they would take more than the
+-- 1,073,741,824 bytes of a stack.
+pub record IsStackTooLarge (text : List ℕ) (depth words : ℕ) : Type 0 where
+  pub program : tree.Source
+  pub built : IsBuilt text program
+  pub large : max_stack < frames_bytes words depth
+  pub frame : MayHaveFrames program words
+
 -- A text that is built, and a number of bytes that is more than the text of an image may have, and no more
 -- than what that of its core program has at most.
 pub record IsTextTooLarge (text : List ℕ) (bytes : ℕ) : Type 0 where
@@ -53,15 +75,16 @@ pub record IsTextTooLarge (text : List ℕ) (bytes : ℕ) : Type 0 where
   pub large : max_text_size < bytes
   pub bound : bytes ≤ text_bound program
 
--- The error is one of the text. Out of memory may come in place of any other, and is named so alone.
-abbrev pub IsErrorOf : List ℕ → CompileError → Type 0
-IsErrorOf text (Read read.Memory) = ⊥
-IsErrorOf text (Read error) = reading.IsErrorIn text error
-IsErrorOf text (Core core.Memory) = ⊥
-IsErrorOf text (Core error) = (items : Data) × Spells text items × expanding.IsErrorIn [] items error
-IsErrorOf text (NotBuilt at) = IsNotBuilt text at
-IsErrorOf text (TextTooLarge bytes) = IsTextTooLarge text bytes
-IsErrorOf text Memory = Unit {0}
+-- The error is one of the text, compiled for a depth. Out of memory may come in place of any other, and is named so alone.
+abbrev pub IsErrorOf : List ℕ → (depth : ℕ) → CompileError → Type 0
+IsErrorOf text depth (Read read.Memory) = ⊥
+IsErrorOf text depth (Read error) = reading.IsErrorIn text error
+IsErrorOf text depth (Core core.Memory) = ⊥
+IsErrorOf text depth (Core error) = (items : Data) × Spells text items × expanding.IsErrorIn [] items error
+IsErrorOf text depth (NotBuilt at) = IsNotBuilt text at
+IsErrorOf text depth (StackTooLarge words) = IsStackTooLarge text depth words
+IsErrorOf text depth (TextTooLarge bytes) = IsTextTooLarge text bytes
+IsErrorOf text depth Memory = Unit {0}
 
 -- the error of a text that is not read, and of data that are not expanded
 abbrev pub of_reading : ReadError → CompileError

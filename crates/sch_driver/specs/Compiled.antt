@@ -1,11 +1,12 @@
 -- What is compiled of a text.
-use Rattle.std.specs.Prelude.{◌≡◌, ◌≤◌, ℕ, List, length}
+use Rattle.std.specs.Prelude.{◌≡◌, ◌≤◌, ◌+◌, ℕ, List, length}
 use Rattle.std.specs.List.{flat_map}
 use Rattle.sch_insn.specs.Spelling.{spelling}
 use Rattle.sch_lang.specs.Tree as tree
 use Rattle.sch_control.specs.Tree as control
 use Rattle.sch_orders.specs.Table.{given_table}
-use Rattle.sch_driver.specs.Causes.{IsBuilt, text_bound}
+use Rattle.sch_select.specs.Program.{frames_bytes, max_stack, stack_bytes}
+use Rattle.sch_driver.specs.Causes.{IsBuilt, MayHaveFrames, text_bound}
 use Rattle.sch_passes.specs.Chain.{RunsAs}
 use Rattle.sch_driver.specs.Headline.{IsProgram}
 
@@ -16,10 +17,14 @@ pub record AreGiven (p : tree.Source) (orders : List (List ℕ)) : Type 0 where
   pub given : orders ≡ given_table program
 
 -- The file is a program for the core program of a text, under these limits and the orders that are listed. Its
--- text is no longer than the size of the core program allows.
-pub record IsCompiled (text : List ℕ) (heap depth : ℕ) (file : List ℕ) (orders : List (List ℕ)) : Type 0 where
+-- text is no longer than the size of the core program allows. Behind the words of its data it has room for the heap
+-- and for the frames of calls, of the words that are listed.
+pub record IsCompiled (text : List ℕ) (heap depth : ℕ) (file : List ℕ) (orders : List (List ℕ)) (frame_words : ℕ) : Type 0 where
   pub program : tree.Source
   pub built : IsBuilt text program
   pub is_program : IsProgram file program orders heap depth
   pub listed : AreGiven program orders
   pub bound : length (flat_map spelling is_program.does.laid_out.code) ≤ text_bound program
+  pub room : is_program.does.laid_out.zeros ≡ heap + stack_bytes frame_words depth
+  pub frame : MayHaveFrames program frame_words
+  pub fits : frames_bytes frame_words depth ≤ max_stack

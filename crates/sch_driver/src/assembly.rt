@@ -1,11 +1,14 @@
 //! From a control program to an image.
 
-ghost use Rattle.std.specs.Prelude.{◌≡◌, ◌++◌, IfOk, IfErr, IsTrue, OnOk, true};
+ghost use Rattle.std.specs.Prelude.{◌≡◌, ◌<◌, ◌≤◌, IfOk, IfErr, IsTrue, OnOk};
 ghost use Rattle.std.specs.List.{flat_map};
 ghost use Rattle.sch_insn.specs.Spelling.{AllValid, spelling};
 ghost use Rattle.sch_control.specs.ObjectFree.{is_object_free_program};
 ghost use Rattle.sch_control.specs.ProgramView.{source};
+ghost use Rattle.sch_select.specs.Program.{frames_bytes, max_stack};
 ghost use Rattle.sch_driver.specs.Assembled.{IsAssembled, IsUnfit};
+ghost use Rattle.sch_driver.specs.Causes.{max_frame};
+ghost use Rattle.sch_driver.specs.declared.error.CompileError.TheVariants as error;
 
 use crate::error::CompileError;
 use sch_asm::resolve;
@@ -16,8 +19,11 @@ use sch_frames::frame_program;
 use sch_insn::Insn;
 use sch_runtime::routines;
 use sch_select::select;
-use sch_word::{Bytes, Limits, MIN_DEPTH, Mem};
+use sch_word::{Bytes, Limits, Mem};
 use std::alloc::Global;
+
+/// The most bytes that the frames of calls may take.
+const MAX_STACK: u64 = 1_073_741_824;
 
 /// The spellings of instructions, one after the other.
 fn text_of(alloc: Global, code: &[Insn]) -> Result<Bytes, Mem>
@@ -33,28 +39,45 @@ fn text_of(alloc: Global, code: &[Insn]) -> Result<Bytes, Mem>
     Ok(text)
 }
 
-/// The image of a object-free program, under limits of heap and depth.
-///
-/// It makes no call, so that it does the same at every depth. Its code is selected with the least one: a
-/// program of large frames would not fit in memory for a stack that it never uses.
+/// An image, and the words of its largest frame.
+#[derive(Drop)]
+pub(crate) struct Assembled {
+    pub(crate) image: Image,
+    pub(crate) frame_words: u32,
+}
+
+/// Checks that frames of so many words have room on the stack at a depth.
+fn check_stack(words: u32, depth: u64) -> Result<(), CompileError>
+    requires few { words ≤ max_frame }
+    requires depth { depth ≤ 10000000 }
+    ensures fits { OnOk result (frames_bytes words depth ≤ max_stack) }
+    ensures refused { IfErr result (λ e. (e ≡ error.StackTooLarge words) × (max_stack < frames_bytes words depth)) }
+{
+    if 8 * words as u64 * (depth + 1) > MAX_STACK {
+        return Err(CompileError::StackTooLarge(words as u64));
+    }
+    Ok(())
+}
+
+/// The image of an object-free program, under limits of heap and depth. The stack is looked at before the text.
 pub(crate) fn assemble(
     alloc: Global,
     p: &ControlProgram,
     limits: Limits,
-) -> Result<Image, CompileError>
+) -> Result<Assembled, CompileError>
     requires object_free { IsTrue (is_object_free_program (source p.now)) }
-    ensures does { IfOk result (IsAssembled (source p.now) limits.heap limits.depth) }
-    ensures refused { IfErr result (IsUnfit (source p.now)) }
+    ensures does { IfOk result (λ a. IsAssembled (source p.now) limits.heap limits.depth a.frame_words a.image) }
+    ensures refused { IfErr result (IsUnfit (source p.now) limits.depth) }
 {
     let frames = frame_program(alloc, p)?;
-    let shallow = Limits {
-        heap: limits.heap,
-        depth: MIN_DEPTH,
-    };
-    let code = select(alloc, &frames, shallow)?;
+    check_stack(frames.words, limits.depth)?;
+    let code = select(alloc, &frames, limits)?;
     let routines = routines(alloc, limits)?;
     let resolved = resolve(alloc, &code, &routines)?;
     let text = text_of(alloc, resolved.code.as_slice())?;
     let image = program_image(alloc, text, resolved.words, resolved.zeros)?;
-    Ok(image)
+    Ok(Assembled {
+        image,
+        frame_words: frames.words,
+    })
 }

@@ -23,6 +23,10 @@ pub enum CompileError {
     /// The top-level form at this place is the first that is not object-free.
     #[error("byte {0}: not built")]
     NotBuilt(u32),
+    /// Frames of this number of words would take more than 1,073,741,824 bytes of stack at the depth that is
+    /// asked for.
+    #[error("frames of {0} words")]
+    StackTooLarge(u64),
     /// The text of the image would have this number of bytes, more than 16,777,216.
     #[error("text of {0} bytes")]
     TextTooLarge(u64),

@@ -23,11 +23,14 @@ use std::alloc::Global;
 /// The most bytes of a source: 1 MiB.
 pub const MAX_SOURCE_SIZE: u64 = 1 << 20;
 
-/// What is listed of a program that is compiled: for each site of its core program the order in which the
-/// parts of the site are evaluated (R5RS 4.1.3 leaves it open).
+/// What is listed of a program that is compiled.
 #[derive(Drop)]
 pub struct Listing {
+    /// For each site of its core program the order in which the parts of the site are evaluated (R5RS 4.1.3 leaves
+    /// it open).
     pub orders: List<List<u32>>,
+    /// How many words of 8 bytes its largest frame has.
+    pub frame_words: u32,
 }
 
 /// The file of a compiled program, and its listing.
@@ -43,16 +46,19 @@ pub struct Compiled {
 /// An error has its cause in the text, or is out of memory. No pass is quadratic in the text.
 pub fn compile(alloc: Global, text: &[u8], limits: Limits) -> Result<Compiled, CompileError>
     requires short { length text.now ≤ max_source_size }
-    ensures compiled { IfOk result (λ c. IsCompiled text.now limits.heap limits.depth c.image c.listing.orders) }
-    ensures refused { IfErr result (IsErrorOf text.now) }
+    ensures compiled { IfOk result (λ c. IsCompiled text.now limits.heap limits.depth c.image c.listing.orders c.listing.frame_words) }
+    ensures refused { IfErr result (IsErrorOf text.now limits.depth) }
 {
     let program = read_program(alloc, text)?;
     let control = control_program(alloc, &program)?;
-    let image = assemble(alloc, &control, limits)?;
+    let assembled = assemble(alloc, &control, limits)?;
     let orders = given_orders(alloc, &control)?;
-    let file = write_image(alloc, &image)?;
+    let file = write_image(alloc, &assembled.image)?;
     Ok(Compiled {
         image: file,
-        listing: Listing { orders },
+        listing: Listing {
+            orders,
+            frame_words: assembled.frame_words,
+        },
     })
 }

@@ -1,6 +1,6 @@
 //! Reads and expands a text, and refuses what is not object-free.
 
-ghost use Rattle.std.specs.Prelude.{◌≤◌, ◌*◌, length, IfOk, IfErr};
+ghost use Rattle.std.specs.Prelude.{◌≤◌, ◌*◌, ℕ, length, IfOk, IfErr};
 ghost use Rattle.sch_lang.specs.Measures.{nodes_and_bound};
 ghost use Rattle.sch_lang.specs.ProgramView.{source};
 ghost use Rattle.sch_read.specs.Valid.{max_weight};
@@ -19,7 +19,7 @@ pub(crate) fn read_program(alloc: Global, text: &[u8]) -> Result<Program, Compil
     requires short { length text.now ≤ max_source_size }
     ensures built { IfOk result (λ p. IsBuilt text.now (source p)) }
     ensures size { IfOk result (λ p. nodes_and_bound (source p) ≤ 16 * max_weight) }
-    ensures refused { IfErr result (IsErrorOf text.now) }
+    ensures refused { IfErr result (λ e. (depth : ℕ) → IsErrorOf text.now depth e) }
 {
     let items = read_all(alloc, text)?;
     let program = core(alloc, Library::empty(alloc), items.as_slice())?;

@@ -4,7 +4,7 @@ use Rattle.sch_word.specs.runs.Orders.{is_order_table}
 use Rattle.sch_lang.specs.ProgramView.{source}
 use Rattle.sch_lang.specs.Run.{run}
 use Rattle.sch_control.specs.ProgramView as control
-use Rattle.sch_driver.proofs.Images.{bound_chain}
+use Rattle.sch_driver.proofs.Images.{bound_chain, frame_chain}
 use Rattle.sch_driver.proofs.compile.Goals as goal
 
 pub control_program-requires : goal.control_program-requires
@@ -18,13 +18,13 @@ returns-clause-compiled c =
     let p = source c.in_ok-program.program in
     let orders = c.in_ok-orders.orders in
     let runs = c.in_ok-control.ensures.runs in
-    let does = c.in_ok-image.ensures.does in
+    let does = c.in_ok-assembled.ensures.does in
     let limits = c.args.limits in
     record {
       program = p;
       built = c.in_ok-program.ensures.built;
       is_program = record {
-        image = c.in_ok-image.image;
+        image = c.in_ok-assembled.assembled.image;
         does = record {
           laid_out = does.laid_out;
           follows = record {
@@ -41,4 +41,7 @@ returns-clause-compiled c =
         given = c.in_ok-orders.ensures.orders;
       };
       bound = bound_chain p (control.source c.in_ok-control.control) does.laid_out.code does.bound c.in_ok-control.ensures.work;
+      room = does.room;
+      frame = frame_chain p (control.source c.in_ok-control.control) c.in_ok-assembled.assembled.frame_words does.frame c.in_ok-control.ensures.variables;
+      fits = does.fits;
     }

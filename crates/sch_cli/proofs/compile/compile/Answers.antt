@@ -22,9 +22,9 @@ returns-in_err-file g c =
     let disk = disk_change g.D.Disk.files g.D.Disk.faults g.D.Disk.calls c.args.disk.now c.read_file.new.disk in
     let why = c.in_err-file.field-0.0 in
     let text = c.in_ok-text.text in
-    let is = subst (λ lent. IsRefused lent why) c.as_slice.ensures c.in_err-file.ensures.refused in
+    let is = subst (λ lent. IsRefused lent c.args.limits.depth why) c.as_slice.ensures c.in_err-file.ensures.refused in
     subst (Compiles source target c.args.limits.heap c.args.limits.depth disk) (sym (failed_with c.from_residual-in_err-file.result why c.from_residual-in_err-file.ensures.1))
-    (refused why (file_is disk source text (λ file. IsRefused file why) c.in_ok-text.ensures.read.found is) c.read_file.ensures.unchanged c.read_file.ensures.calls)
+    (refused why (file_is disk source text (λ file. IsRefused file c.args.limits.depth why) c.in_ok-text.ensures.read.found is) c.read_file.ensures.unchanged c.read_file.ensures.calls)
 
 pub returns : goal.returns
 returns g c =

@@ -23,9 +23,9 @@ returns-in_err-image-clause-ran g c =
     let disk = disk_change g.D.Disk.files g.D.Disk.faults g.D.Disk.calls c.args.disk.now c.read_file.new.disk in
     let out = stream_change g.O.Outlet.bytes g.O.Outlet.left g.O.Outlet.faults c.args.out.now c.args.out.now in
     let why = c.in_err-image.field-0.0 in
-    let is = subst (λ lent. IsRefused lent why) c.as_slice.ensures c.in_err-image.ensures.refused in
+    let is = subst (λ lent. IsRefused lent c.args.wanted.limits.depth why) c.as_slice.ensures c.in_err-image.ensures.refused in
     subst (RunsSource name c.args.wanted.limits.heap c.args.wanted.limits.depth c.args.wanted.steps disk out) (sym (failed_with c.from_residual-in_err-image.result why c.from_residual-in_err-image.ensures.1))
-    (refused why (file_is disk name c.in_ok-text.text (λ file. IsRefused file why) c.in_ok-text.ensures.read.found is) (took_nothing (g.O.Outlet.bytes c.args.out.now)))
+    (refused why (file_is disk name c.in_ok-text.text (λ file. IsRefused file c.args.wanted.limits.depth why) c.in_ok-text.ensures.read.found is) (took_nothing (g.O.Outlet.bytes c.args.out.now)))
 
 pub returns-in_err-end-clause-ran : goal.returns-in_err-end-clause-ran
 returns-in_err-end-clause-ran g c =
