@@ -1,5 +1,5 @@
 -- The causes of the statuses exclude one another.
-use Rattle.std.proofs.Common.{◌≡◌, ◌≢◌, ◌≤◌, ◌<◌, ℕ, suc, List, [], length, Some, refl, sym, ap, ◌∙◌, subst, arith, Result, Ok, Err, IsTrue}
+use Rattle.std.proofs.Common.{◌≡◌, ◌≢◌, ◌≤◌, ◌<◌, ℕ, suc, List, [], length, Some, refl, sym, ap, ◌∙◌, subst, arith, ◌*◌, mul-le-mul, le_refl, Result, Ok, Err, IsTrue}
 use Rattle.std.specs.Prelude.{⊤}
 use Rattle.sch_word.specs.runs.ProgramLayout.{max_text_size}
 use Rattle.sch_lang.specs.Tree.{Source}
@@ -153,7 +153,7 @@ not_too_large text p bytes is low large =
     (subst (λ q. text_bound q ≤ max_text_size) (same_program text p large.program is.means large.built.means) low)
 
 more_words : (words most depth : ℕ) → words ≤ most → frames_bytes words depth ≤ frames_bytes most depth
-more_words words most depth h = let m = mul-le words most (suc depth) h in omega (arith, m)
+more_words words most depth h = let m : words * suc depth ≤ most * suc depth = mul-le-mul h (le_refl (suc depth)) in omega (arith, m)
 
 stack_not_too_large : (text : List ℕ) (depth : ℕ) (p : Source) (words : ℕ) → IsBuilt text p → frames_bytes (frame_bound p) depth ≤ max_stack → IsStackTooLarge text depth words → ⊥
 stack_not_too_large text depth p words is low large =

@@ -1,4 +1,4 @@
-//! Code without calls, run over memory: assignments, cells, procedures, and the heap that they take.
+//! Assignments, cells and procedures that are made, run over memory, and the heap that they take.
 
 use crate::straight::{check_printed, check_stop};
 use sch_word::{Bytes, Mem};

@@ -158,7 +158,7 @@ fn program_has_its_header(rt: HostRuntime) -> Result<(), Fail> {
 
 #[test]
 fn words_that_are_no_command(rt: HostRuntime) -> Result<(), Fail> {
-    let commands: [&[&str]; 25] = [
+    let commands: [&[&str]; 29] = [
         &[],
         &["compile"],
         &["compile", "a"],
@@ -182,7 +182,11 @@ fn words_that_are_no_command(rt: HostRuntime) -> Result<(), Fail> {
         &["step", "a", "--heap", "4096"],
         &["run", "a", "--steps", "1000000000000000001"],
         &["run", "a", "--steps", "1x"],
-        &["run", "a", "--depth", "1"],
+        &["run", "a", "--depth", "0"],
+        &["run", "a", "--depth", "10000001"],
+        &["compile", "a", "b", "--depth"],
+        &["run", "a", "--depth", "1", "--steps", "1", "--depth", "1"],
+        &["step", "a", "--depth", "1"],
         &["step", ""],
     ];
     for words in commands {
@@ -199,12 +203,19 @@ fn words_that_are_no_command(rt: HostRuntime) -> Result<(), Fail> {
 
 #[test]
 fn words_with_options(rt: HostRuntime) -> Result<(), Fail> {
-    let commands: [(&[&str], u8); 5] = [
+    let commands: [(&[&str], u8); 7] = [
         (&["run", "a", "--heap", "4096"], 0),
         (&["run", "a", "--heap", "0000000000000004096"], 0),
         (&["run", "a", "--steps", "0", "--heap", "8192"], 9),
         (&["run", "a", "--heap", "8192", "--steps", "0"], 9),
         (&["compile", "a", "b", "--heap", "1073741824"], 0),
+        (&["compile", "a", "b", "--depth", "10000000"], 0),
+        (
+            &[
+                "run", "a", "--steps", "0", "--depth", "1", "--heap", "8192",
+            ],
+            9,
+        ),
     ];
     for (words, status) in commands {
         let outcome = call(rt.alloc(), words, b"", &[], &[])?;

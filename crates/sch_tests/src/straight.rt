@@ -5,8 +5,8 @@ use sch_word::{Bytes, Mem};
 use std::alloc::Global;
 use std::test::Fail;
 
-/// With the least heap, so that an image has few zeros to load.
-const RUN: [&str; 4] = ["run", "a", "--heap", "4096"];
+/// With the least heap and a small depth, so that an image has few zeros to load.
+const RUN: [&str; 6] = ["run", "a", "--heap", "4096", "--depth", "20"];
 
 // Runs a source that ends with 0.
 pub(crate) fn check_printed(alloc: Global, source: &[u8], printed: &[u8]) -> Result<(), Fail> {
@@ -150,7 +150,7 @@ fn many_products(alloc: Global) -> Result<Bytes, Mem> {
     }
     form.extend_from_slice(b")\n")?;
     let mut source = Bytes::new(alloc);
-    for _ in 0..14_000 {
+    for _ in 0..9_000 {
         source.extend_from_slice(form.as_slice())?;
     }
     Ok(source)

@@ -7,8 +7,8 @@ ghost use Rattle.sch_control.specs.declared.operation.Atom.TheVariants.{Constant
 ghost use Rattle.sch_control.specs.declared.operation.Operand.TheVariants as operands;
 ghost use Rattle.sch_control.specs.declared.operation.Operation.TheVariants as operations;
 ghost use Rattle.sch_frames.specs.declared.instruction.Instruction.TheVariants as instructions;
+ghost use Rattle.sch_frames.specs.ObjectFree.{is_object_free_program};
 ghost use Rattle.sch_frames.specs.ProgramView.{source};
-ghost use Rattle.sch_select.specs.Covered.{is_covered_program};
 
 use sch_control::{Atom, Operand, Operation};
 use sch_frames::{FrameBody, FrameProgram, Instruction};
@@ -40,7 +40,7 @@ fn shown(alloc: Global) -> Result<FrameBody, Mem>
 
 // A program of one form.
 fn program(alloc: Global) -> Result<FrameProgram, Mem>
-    ensures { IfOk result (λ p. IsTrue (is_covered_program (source p))) }
+    ensures { IfOk result (λ p. IsTrue (is_object_free_program (source p))) }
 {
     let mut bodies = List::new(alloc);
     bodies.push(shown(alloc)?)?;
