@@ -40,7 +40,8 @@ fn shown(alloc: Global) -> Result<FrameBody, Mem>
 
 // A program of one form.
 fn program(alloc: Global) -> Result<FrameProgram, Mem>
-    ensures { IfOk result (λ p. IsTrue (is_object_free_program (source p))) }
+    ensures object_free { IfOk result (λ p. IsTrue (is_object_free_program (source p))) }
+    ensures words { IfOk result (λ p. p.words ≡ 0) }
 {
     let mut bodies = List::new(alloc);
     bodies.push(shown(alloc)?)?;
