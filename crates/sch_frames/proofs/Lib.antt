@@ -1,5 +1,4 @@
 mod Arriving
-pub mod DepthFree
 mod FrameBodies
 mod layouts
 mod runs

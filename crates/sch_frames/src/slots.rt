@@ -133,7 +133,7 @@ pub fn frame_slots(alloc: Global, b: &Body) -> Result<FrameBody, Mem>
         ≤ 3 * nodes (expression b.now.exp) + 2 * call_parts (expression b.now.exp) + (formals_of b.now.entry + 2)) }
     ensures work { IfOk result (λ f. instructions_size f.instructions
         ≤ 2 * expression_size (expression b.now.exp) + 4 * call_parts (expression b.now.exp) + entry_size b.now.entry) }
-    // With its closures and the jump over it, there is no more to do than is counted of the body.
+    // With its closures, its calls and the jump over it, there is no more to do than is counted of the body.
     ensures all_work { IfOk result (λ f. code_work (code_of f) ≤ control_work.code_work (control.code_of b.now)) }
     ensures labels { IfOk result (λ f. f.labels ≤ 2 * nodes (expression b.now.exp)) }
 {

@@ -37,30 +37,29 @@ pub record Steers (test : Instruction → Bool) : Type 0 where
   pub label : (l : ℕ) → test (Label l) ≡ true
   pub return_mark : test (Mark mark.Return) ≡ true
   pub return : test Return ≡ true
-  pub end : test End ≡ true
 
 pub placed_steers : (words : ℕ) → Steers (instruction_placed words)
-placed_steers words = record { if_false = λ l. refl; jump = λ l. refl; label = λ l. refl; return_mark = refl; return = refl; end = refl }
+placed_steers words = record { if_false = λ l. refl; jump = λ l. refl; label = λ l. refl; return_mark = refl; return = refl }
 
 pub shaped_steers : Steers instruction_shaped
-shaped_steers = record { if_false = λ l. refl; jump = λ l. refl; label = λ l. refl; return_mark = refl; return = refl; end = refl }
+shaped_steers = record { if_false = λ l. refl; jump = λ l. refl; label = λ l. refl; return_mark = refl; return = refl }
 
 pub known_steers : (names : Names) → Steers (instruction_known names)
-known_steers names = record { if_false = λ l. refl; jump = λ l. refl; label = λ l. refl; return_mark = refl; return = refl; end = refl }
+known_steers names = record { if_false = λ l. refl; jump = λ l. refl; label = λ l. refl; return_mark = refl; return = refl }
 
 module _ (slots : Slots) (test : Instruction → Bool) (steers : Steers test) where
   -- what is done before what follows passes it
   abbrev pub Leads : (List Instruction → List Instruction) → Type 0
   Leads code = (rest : List Instruction) → list_all test rest ≡ true → list_all test (code rest) ≡ true
 
-  -- what is done, stored and called passes it
+  -- what is done, stored and called passes it, and so do the ends of forms
   abbrev pub Passes : Expression → Type 0
   Passes (perform o) = test (Do (operation_at slots.place o)) ≡ true
   Passes (bind x a b) = (test (Store (slots.place x)) ≡ true) × (Passes a × Passes b)
   Passes (sequence a b) = Passes a × Passes b
   Passes (branch a b c) = Passes a × (Passes b × Passes c)
   Passes (return e) = Passes e
-  Passes (end e) = Passes e
+  Passes (end e) = (test End ≡ true) × Passes e
   Passes (fix members e) = (test (Fix (members_at slots.place members)) ≡ true) × Passes e
   Passes (call a restores) = Leads (λ rest. prepared slots false a (Mark (mark.Call a.site) ∷ (Call a.spread (length a.operands) ∷ restored slots.home rest)))
   Passes (tail_call a) = Leads (λ rest. prepared slots true a (Mark (mark.Tail a.site) ∷ (Tail a.spread (length a.operands) ∷ rest)))
@@ -77,7 +76,7 @@ module _ (slots : Slots) (test : Instruction → Bool) (steers : Steers test) wh
   lay_passes (branch a b c) p n to rest h =
       lay_passes a p.0 _ _ _ (lay_passes b p.1.0 _ _ _ (and_from _ _ (steers.jump _) (and_from _ _ (steers.label _) (lay_passes c p.1.1 _ _ _ (and_from _ _ (steers.label _) h)))))
   lay_passes (return e) p n to rest h = lay_passes e p _ _ _ (and_from _ _ steers.return_mark (and_from _ _ steers.return h))
-  lay_passes (end e) p n to rest h = lay_passes e p _ _ _ (and_from _ _ steers.end h)
+  lay_passes (end e) p n to rest h = lay_passes e p.1 _ _ _ (and_from _ _ p.0 h)
   lay_passes (fix members e) p n to rest h = and_from _ _ p.0 (lay_passes e p.1 _ _ _ h)
   lay_passes (call a restores) p n to rest h = p (leave to rest) (leave_pass to rest h)
   lay_passes (tail_call a) p n to rest h = p rest h
@@ -223,7 +222,7 @@ module _ (slots : Slots) (words most : ℕ) (P : ℕ → Type 0) (there : (x : �
   uses_placed (call a restores) le h = λ rest i. let wide = room.aside in prepared_placed false a h le _ (and_from _ _ (le-leb (length a.operands) (6 + words) (omega (arith, le, wide))) (room.back rest i))
   uses_placed (tail_call a) le h = λ rest i. let wide = room.aside in prepared_placed true a h le _ (and_from _ _ (le-leb (length a.operands) (6 + words) (omega (arith, le, wide))) i)
   uses_placed (return e) le h = uses_placed e le h
-  uses_placed (end e) le h = uses_placed e le h
+  uses_placed (end e) le h = (refl, uses_placed e le h)
   uses_placed (save saves e) le h = uses_placed e le h
 
 -- ## Shape and names
@@ -336,14 +335,14 @@ pub record Unplaced (test : Instruction → Bool) : Type 0 where
   pub copies : (to from : Place) → test (Copy to from) ≡ true
   pub passes : (j : ℕ) (p : Place) → test (Pass j (operand.Atom (Variable p))) ≡ true
 
-handed_passes : (test : Instruction → Bool) → Unplaced test → (tail : Bool) (k : ℕ) (p : Place) → test (handed tail k p) ≡ true
+pub handed_passes : (test : Instruction → Bool) → Unplaced test → (tail : Bool) (k : ℕ) (p : Place) → test (handed tail k p) ≡ true
 handed_passes test u true k p = u.copies (arrival k) p
 handed_passes test u false k p = by (argument_register k) (argument_slot k) where
   by : (o : Option ℕ) (j : ℕ) → test (passed o j p) ≡ true
   by (Some r) j = u.copies (Reg r) p
   by None j = u.passes j p
 
-restored_passes : (test : Instruction → Bool) → Unplaced test → (home : Option Place) (rest : List Instruction) → list_all test rest ≡ true → list_all test (restored home rest) ≡ true
+pub restored_passes : (test : Instruction → Bool) → Unplaced test → (home : Option Place) (rest : List Instruction) → list_all test rest ≡ true → list_all test (restored home rest) ≡ true
 restored_passes test u None rest h = h
 restored_passes test u (Some p) rest h = and_from _ _ (u.copies link_register p) h
 
@@ -373,7 +372,7 @@ module _ (slots : Slots) where
       let most = and_parts _ _ more.1 in
       (parts_shaped a more.0, (parts_shaped b most.0, parts_shaped c most.1))
   parts_shaped (return e) h = parts_shaped e h
-  parts_shaped (end e) h = parts_shaped e h
+  parts_shaped (end e) h = (refl, parts_shaped e h)
   parts_shaped (fix members e) h = let parts = and_parts _ _ h in (group_same_shape slots.place members ∙ parts.0, parts_shaped e parts.1)
   parts_shaped (call a restores) h =
       let parts = and_parts _ _ h in
@@ -416,7 +415,7 @@ module _ (slots : Slots) where
         let most = and_parts _ _ more.1 in
         (parts_named a more.0, (parts_named b most.0, parts_named c most.1))
     parts_named (return e) h = parts_named e h
-    parts_named (end e) h = parts_named e h
+    parts_named (end e) h = (refl, parts_named e h)
     parts_named (fix members e) h = let parts = and_parts _ _ h in (group_same_names slots.place names members ∙ parts.0, parts_named e parts.1)
     parts_named (call a restores) h = λ rest i. prepared_named false a h _ (restored_passes (instruction_known names) (unplaced_known names) slots.home rest i)
     parts_named (tail_call a) h = λ rest i. prepared_named true a h _ i

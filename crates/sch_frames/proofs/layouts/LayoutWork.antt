@@ -19,7 +19,7 @@ use Rattle.sch_frames.specs.Layout.{Slots, leave, labels, lay, member_at, set_as
 use Rattle.sch_frames.specs.Sizes.{grouped, instructions_size, jumped}
 use Rattle.sch_frames.proofs.layouts.LayoutSize.{operand_kept, operation_kept, members_kept}
 
--- what there is to do in instructions, with the closures of groups
+-- what there is to do in instructions, with the closures of groups and the calls
 abbrev done : List Instruction → ℕ
 done is = instructions_size is + grouped is
 

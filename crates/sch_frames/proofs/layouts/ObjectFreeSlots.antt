@@ -1,10 +1,13 @@
 -- The layout of object-free code is object-free, and each layout begins with what is done.
-use Rattle.std.proofs.Common.{◌≡◌, ◌≤◌, ℕ, suc, ◌+◌, ◌*◌, List, [], ◌∷◌, Option, Some, None, true, refl, ap, ◌∙◌, arith}
+use Rattle.std.proofs.Common.{◌≡◌, ℕ, suc, ◌+◌, List, [], ◌∷◌, Option, Some, None, Bool, true, false, refl, ap, ◌∙◌}
 use Rattle.std.specs.Prelude.{◌&&◌}
 use Rattle.std.specs.List.{list_all}
-use Rattle.std.proofs.lemmas.Bool.{and_parts}
+use Rattle.std.proofs.lemmas.Bool.{and_parts, and_from}
 use Rattle.sch_word.specs.declared.place.Place.{Place}
+use Rattle.sch_word.specs.declared.place.Place.TheVariants.{Slot}
 use Rattle.sch_word.specs.trees.Straight.{is_straight_primitive}
+use Rattle.sch_control.specs.declared.operation.Application.{Application}
+use Rattle.sch_control.specs.declared.operation.Operand.{Operand}
 use Rattle.sch_control.specs.declared.operation.Source.{Source}
 use Rattle.sch_control.specs.declared.operation.Source.TheVariants as source
 use Rattle.sch_control.specs.declared.operation.Member.{Member}
@@ -12,24 +15,24 @@ use Rattle.sch_control.specs.declared.operation.Operation.{Operation}
 use Rattle.sch_control.specs.declared.operation.Operation.TheVariants as operation
 use Rattle.sch_control.specs.declared.body.Entry.{Entry}
 use Rattle.sch_control.specs.declared.mark.MarkKind.TheVariants as mark
-use Rattle.sch_control.specs.ObjectFree as control_object_free
 use Rattle.sch_control.specs.ObjectFree.{is_object_free, is_object_free_source, is_object_free_member, is_object_free_operation}
 use Rattle.sch_control.specs.Straight.{is_straight_operand}
-use Rattle.sch_control.specs.Sizes.{expressions_size}
 use Rattle.sch_control.specs.Tree as control
 use Rattle.sch_control.specs.Tree.{Expression, perform, bind, sequence, branch, fix, call, tail_call, return, end, save}
 use Rattle.sch_frames.specs.declared.instruction.Instruction.{Instruction}
 use Rattle.sch_frames.specs.declared.instruction.Instruction.TheVariants.{Store, Return, End, Jump, Label, Mark}
 use Rattle.sch_frames.specs.ObjectFree.{is_object_free_instruction, begins, code_begins}
-use Rattle.sch_frames.specs.Layout.{Slots, operand_at, source_at, sources_at, members_at, operation_at, labels, lay, entering, slots_base, slots_for, slots_layout}
-use Rattle.sch_frames.specs.Sizes.{call_parts, calls_parts, entries_size}
+use Rattle.sch_frames.specs.Layout.{Slots, operand_at, source_at, sources_at, members_at, operation_at, prepared, labels, lay, entering, slots_base, slots_for, slots_layout}
 use Rattle.sch_frames.proofs.runs.Entering.{entering_passes}
-use Rattle.sch_frames.proofs.layouts.Laid.{Steers, Passes, lay_passes}
+use Rattle.sch_frames.proofs.layouts.Laid.{Steers, Leads, Passes, Loads, Unplaced, handed_passes, prepared_passes, restored_passes, lay_passes}
 use Rattle.sch_frames.proofs.layouts.SlotsFrame.{slots_of}
 use Rattle.sch_frames.proofs.layouts.StraightSlots.{atom_kept, operand_kept, operands_kept}
 
 object_free_steers : Steers is_object_free_instruction
-object_free_steers = record { if_false = λ l. refl; jump = λ l. refl; label = λ l. refl; return_mark = refl; return = refl; end = refl }
+object_free_steers = record { if_false = λ l. refl; jump = λ l. refl; label = λ l. refl; return_mark = refl; return = refl }
+
+object_free_unplaced : Unplaced is_object_free_instruction
+object_free_unplaced = record { copies = λ to from. refl; passes = λ j p. refl }
 
 module _ (place : ℕ → Place) where
   source_free : (c : Source ℕ) → is_object_free_source (source_at place c) ≡ is_object_free_source c
@@ -58,6 +61,17 @@ module _ (place : ℕ → Place) where
   operation_free (operation.MakeClosure c) = sources_free c.fields
 
 module _ (slots : Slots) where
+  loads_free : (operands : List (Operand ℕ)) (slot : ℕ) → list_all is_straight_operand operands ≡ true → Loads slots is_object_free_instruction object_free_steers slot operands
+  loads_free [] slot h = tt
+  loads_free (o ∷ operands) slot h = let parts = and_parts _ _ h in (operand_kept slots.place o ∙ parts.0, loads_free operands (suc slot) parts.1)
+
+  prepared_free : (tail : Bool) (a : Application ℕ) → (is_straight_operand a.operator && list_all is_straight_operand a.operands) ≡ true
+      → Leads slots is_object_free_instruction object_free_steers (prepared slots tail a)
+  prepared_free tail a h =
+      let parts = and_parts _ _ h in
+      prepared_passes slots is_object_free_instruction object_free_steers tail a (operand_kept slots.place a.operator ∙ parts.0) (loads_free a.operands slots.aside parts.1)
+      (λ k lt. handed_passes is_object_free_instruction object_free_unplaced tail k (Slot (slots.aside + k)))
+
   parts_object_free : (e : Expression) → is_object_free e ≡ true → Passes slots is_object_free_instruction object_free_steers e
   parts_object_free (perform o) c = operation_free slots.place o ∙ c
   parts_object_free (bind x a b) c = let parts = and_parts _ _ c in (refl, (parts_object_free a parts.0, parts_object_free b parts.1))
@@ -68,9 +82,11 @@ module _ (slots : Slots) where
       (parts_object_free a parts.0, (parts_object_free b arms.0, parts_object_free d arms.1))
   parts_object_free (fix members e) c = let parts = and_parts _ _ c in (members_free slots.place members ∙ parts.0, parts_object_free e parts.1)
   parts_object_free (return e) c = parts_object_free e c
-  parts_object_free (end e) c = parts_object_free e c
-  parts_object_free (call a restores) c = absurd cc
-  parts_object_free (tail_call a) c = absurd cc
+  parts_object_free (end e) c = (refl, parts_object_free e c)
+  parts_object_free (call a restores) c =
+      let parts = and_parts _ _ c in
+      λ rest i. prepared_free false a parts.1 _ (and_from _ _ parts.0 (restored_passes is_object_free_instruction object_free_unplaced slots.home rest i))
+  parts_object_free (tail_call a) c = let parts = and_parts _ _ c in λ rest i. prepared_free true a parts.1 _ (and_from _ _ parts.0 i)
   parts_object_free (save saves e) c = parts_object_free e c
 
   lay_begins : (e : Expression) (n : ℕ) (test : Option ℕ) (rest : List Instruction) → begins (lay slots e n test rest) ≡ true
@@ -87,38 +103,10 @@ module _ (slots : Slots) where
   lay_begins (tail_call a) n test rest = refl
   lay_begins (save saves e) n test rest = lay_begins e n test rest
 
-pub slots_free : (c : control.Code) → control_object_free.is_object_free_code c ≡ true → list_all is_object_free_instruction (slots_layout c) ≡ true
+pub slots_free : (c : control.Code) → is_object_free c.expression ≡ true → list_all is_object_free_instruction (slots_layout c) ≡ true
 slots_free c h =
     entering_passes is_object_free_instruction (λ to from. refl) c.entry (slots_base c) _
     (lay_passes (slots_for c) is_object_free_instruction object_free_steers c.expression (parts_object_free (slots_for c) c.expression h) 0 None [] refl)
-
--- object-free code hands nothing over
-free_parts : (e : Expression) → is_object_free e ≡ true → call_parts e ≡ 0
-free_parts (perform o) h = refl
-free_parts (bind x a b) h = let p = and_parts _ _ h in let i = free_parts a p.0 in let j = free_parts b p.1 in omega (arith, i, j)
-free_parts (sequence a b) h = let p = and_parts _ _ h in let i = free_parts a p.0 in let j = free_parts b p.1 in omega (arith, i, j)
-free_parts (branch a b c) h =
-    let p = and_parts _ _ h in
-    let q = and_parts _ _ p.1 in
-    let i = free_parts a p.0 in
-    let j = free_parts b q.0 in
-    let k = free_parts c q.1 in
-    omega (arith, i, j, k)
-free_parts (fix members e) h = free_parts e (and_parts _ _ h).1
-free_parts (return e) h = free_parts e h
-free_parts (end e) h = free_parts e h
-free_parts (call a restores) h = absurd cc
-free_parts (tail_call a) h = absurd cc
-free_parts (save saves e) h = free_parts e h
-
-frees_parts : (cs : List control.Code) → list_all control_object_free.is_object_free_code cs ≡ true → calls_parts cs ≡ 0
-frees_parts [] h = refl
-frees_parts (c ∷ cs) h = let p = and_parts _ _ h in let i = free_parts c.expression p.0 in let j = frees_parts cs p.1 in omega (arith, i, j)
-
--- so what is bounded with it is bounded without it
-pub free_bounded : (cs : List control.Code) (n : ℕ) → list_all control_object_free.is_object_free_code cs ≡ true
-    → n ≤ 2 * expressions_size cs + 4 * calls_parts cs + entries_size cs → n ≤ 2 * expressions_size cs + entries_size cs
-free_bounded cs n h le = let parts = frees_parts cs h in omega (arith, parts, le)
 
 entering_begins : (base : ℕ) (entry : Option Entry) (rest : List Instruction) → begins rest ≡ true → begins (entering base entry rest) ≡ true
 entering_begins base None rest h = h

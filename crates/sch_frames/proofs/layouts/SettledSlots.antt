@@ -1,33 +1,76 @@
--- In the layout of a valid object-free body each field has a number that a field may have, and each mark has an
--- instruction behind it.
-use Rattle.std.proofs.Common.{◌≡◌, ◌≤◌, ℕ, zero, suc, List, [], ◌∷◌, Option, Some, None, true, false, refl, arith}
+-- In the layout of a valid body each field has a number that a field may have, a form ends only in the body of a form,
+-- and each mark has an instruction behind it.
+use Rattle.std.proofs.Common.{◌≡◌, ◌≤◌, ℕ, zero, suc, ◌+◌, List, [], ◌∷◌, length, Option, Some, None, Bool, true, false, refl, arith}
 use Rattle.std.specs.Prelude.{◌&&◌, nat_lt, nat_le, nat_eq}
 use Rattle.std.specs.List.{list_all}
 use Rattle.std.proofs.lemmas.Bool.{and_parts, and_from, ltb-true, lt-ltb, leb-true}
 use Rattle.sch_word.specs.declared.place.Place.{Place}
+use Rattle.sch_word.specs.declared.place.Place.TheVariants.{Slot}
 use Rattle.sch_word.specs.trees.Shape.{max_operands, max_free_variables}
 use Rattle.sch_control.specs.declared.body.Entry.{Entry}
+use Rattle.sch_control.specs.declared.mark.MarkKind.{MarkKind}
+use Rattle.sch_control.specs.declared.operation.Application.{Application}
+use Rattle.sch_control.specs.declared.operation.Operand.{Operand}
 use Rattle.sch_control.specs.declared.operation.Member.{Member}
 use Rattle.sch_control.specs.declared.operation.Operation.{Operation}
 use Rattle.sch_control.specs.declared.operation.Operation.TheVariants as operation
 use Rattle.sch_control.specs.declared.operation.Source.{Source}
 use Rattle.sch_control.specs.declared.operation.Source.TheVariants as source
 use Rattle.sch_control.specs.ObjectFree as control_object_free
-use Rattle.sch_control.specs.ObjectFree.{is_object_free}
+use Rattle.sch_control.specs.ObjectFree.{is_object_free, takes_no_list}
+use Rattle.sch_control.specs.Straight.{is_form}
 use Rattle.sch_control.specs.Tree as control
 use Rattle.sch_control.specs.Tree.{Expression, perform, bind, sequence, branch, fix, call, tail_call, return, end, save}
-use Rattle.sch_control.specs.Valid.{source_field, operation_field, group_fields, fields_of, fields_there, entry_shaped, fields_known, shaped_whole, shaped}
+use Rattle.sch_control.specs.Valid.{Position, value, no_call, ends_form, positioned, last_position, is_bare, source_field, operation_field, group_fields, fields_of, fields_there, entry_shaped, ended, fields_known, shaped_whole, shaped}
 use Rattle.sch_frames.specs.declared.instruction.Instruction.{Instruction}
-use Rattle.sch_frames.specs.declared.instruction.Instruction.TheVariants.{Label, Mark}
-use Rattle.sch_frames.specs.ObjectFree.{is_object_free_code, source_low, member_low, operation_low, instruction_low, marks_settled, begins}
-use Rattle.sch_frames.specs.Layout.{Slots, source_at, sources_at, members_at, operation_at, lay, leave, arrivals, entering, slots_base, slots_for, slots_layout}
+use Rattle.sch_frames.specs.declared.instruction.Instruction.TheVariants.{Load, Call, Tail, Label, Mark}
+use Rattle.sch_frames.specs.Meaning.{closure_register, argument_register, argument_slot}
+use Rattle.sch_frames.specs.ObjectFree.{is_object_free_code, source_low, member_low, operation_low, instruction_low, marks_settled, may_stand, begins}
+use Rattle.sch_frames.specs.Layout.{Slots, operand_at, source_at, sources_at, members_at, operation_at, set_aside, passed, handed, hand_over, prepared, restored, lay, leave, arrivals, entering, slots_base, slots_for, slots_layout}
 use Rattle.sch_frames.proofs.runs.Entering.{entering_passes}
 use Rattle.sch_frames.proofs.layouts.ObjectFreeSlots.{slots_free, slots_begin}
-use Rattle.sch_frames.proofs.layouts.Laid.{Steers, Passes, lay_passes}
+use Rattle.sch_frames.proofs.layouts.Laid.{Steers, Leads, Passes, Loads, Unplaced, handed_passes, prepared_passes, restored_passes, lay_passes}
 use Rattle.sch_frames.proofs.layouts.SlotsFrame.{slots_of}
 
+-- a test that a call passes, with all that is done for it
+record Unasked (test : Instruction → Bool) : Type 0 where
+  pub loads : (p : Place) (o : Operand Place) → test (Load p o) ≡ true
+  pub unplaced : Unplaced test
+  pub marks : (m : MarkKind) → test (Mark m) ≡ true
+  pub calls : (spread : Bool) (count : ℕ) → test (Call spread count) ≡ true
+  pub tails : (spread : Bool) (count : ℕ) → test (Tail spread count) ≡ true
+
+module _ (slots : Slots) (test : Instruction → Bool) (steers : Steers test) (unasked : Unasked test) where
+  loads_pass : (operands : List (Operand ℕ)) (slot : ℕ) → Loads slots test steers slot operands
+  loads_pass [] slot = tt
+  loads_pass (o ∷ operands) slot = (unasked.loads (Slot slot) (operand_at slots.place o), loads_pass operands (suc slot))
+
+  prepared_pass : (tail : Bool) (a : Application ℕ) → Leads slots test steers (prepared slots tail a)
+  prepared_pass tail a =
+      prepared_passes slots test steers tail a (unasked.loads closure_register (operand_at slots.place a.operator)) (loads_pass a.operands slots.aside)
+      (λ k lt. handed_passes test unasked.unplaced tail k (Slot (slots.aside + k)))
+
+  call_passes : (a : Application ℕ) → Passes slots test steers (call a [])
+  call_passes a = λ rest i.
+      prepared_pass false a _ (and_from _ _ (unasked.marks _) (and_from _ _ (unasked.calls _ _) (restored_passes test unasked.unplaced slots.home rest i)))
+
+  tail_passes : (a : Application ℕ) → Passes slots test steers (tail_call a)
+  tail_passes a = λ rest i. prepared_pass true a _ (and_from _ _ (unasked.marks _) (and_from _ _ (unasked.tails _ _) i))
+
 low_steers : Steers instruction_low
-low_steers = record { if_false = λ l. refl; jump = λ l. refl; label = λ l. refl; return_mark = refl; return = refl; end = refl }
+low_steers = record { if_false = λ l. refl; jump = λ l. refl; label = λ l. refl; return_mark = refl; return = refl }
+
+low_unasked : Unasked instruction_low
+low_unasked = record { loads = λ p o. refl; unplaced = record { copies = λ to from. refl; passes = λ j p. refl }; marks = λ m. refl; calls = λ spread count. refl; tails = λ spread count. refl }
+
+stand_steers : (ends : Bool) → Steers (may_stand ends)
+stand_steers ends = record { if_false = λ l. refl; jump = λ l. refl; label = λ l. refl; return_mark = refl; return = refl }
+
+stand_unasked : (ends : Bool) → Unasked (may_stand ends)
+stand_unasked ends = record { loads = λ p o. refl; unplaced = record { copies = λ to from. refl; passes = λ j p. refl }; marks = λ m. refl; calls = λ spread count. refl; tails = λ spread count. refl }
+
+never : {ends : Bool} → false ≡ true → ends ≡ true
+never h = absurd cc
 
 -- ## Fields
 
@@ -60,25 +103,17 @@ module _ (place : ℕ → Place) (fields : ℕ) (few : fields ≤ max_free_varia
   operation_is (operation.MakeClosure c) h = sources_are c.fields h
 
 module _ (slots : Slots) (fields : ℕ) (few : fields ≤ max_free_variables) where
-  parts_low : (e : Expression) → is_object_free e ≡ true → fields_there fields e ≡ true → Passes slots instruction_low low_steers e
-  parts_low (perform o) c h = operation_is slots.place fields few o h
-  parts_low (bind x a b) c h = let p = and_parts _ _ c in let q = and_parts _ _ h in (refl, (parts_low a p.0 q.0, parts_low b p.1 q.1))
-  parts_low (sequence a b) c h = let p = and_parts _ _ c in let q = and_parts _ _ h in (parts_low a p.0 q.0, parts_low b p.1 q.1)
-  parts_low (branch a b d) c h =
-      let p = and_parts _ _ c in
-      let q = and_parts _ _ h in
-      let p' = and_parts _ _ p.1 in
-      let q' = and_parts _ _ q.1 in
-      (parts_low a p.0 q.0, (parts_low b p'.0 q'.0, parts_low d p'.1 q'.1))
-  parts_low (fix members e) c h =
-      let p = and_parts _ _ c in
-      let q = and_parts _ _ h in
-      (members_are slots.place fields few members q.0, parts_low e p.1 q.1)
-  parts_low (return e) c h = parts_low e c h
-  parts_low (end e) c h = parts_low e c h
-  parts_low (call a restores) c h = absurd cc
-  parts_low (tail_call a) c h = absurd cc
-  parts_low (save saves e) c h = parts_low e c h
+  parts_low : (e : Expression) → fields_there fields e ≡ true → Passes slots instruction_low low_steers e
+  parts_low (perform o) h = operation_is slots.place fields few o h
+  parts_low (bind x a b) h = let p = and_parts _ _ h in (refl, (parts_low a p.0, parts_low b p.1))
+  parts_low (sequence a b) h = let p = and_parts _ _ h in (parts_low a p.0, parts_low b p.1)
+  parts_low (branch a b c) h = let p = and_parts _ _ h in let q = and_parts _ _ p.1 in (parts_low a p.0, (parts_low b q.0, parts_low c q.1))
+  parts_low (fix members e) h = let p = and_parts _ _ h in (members_are slots.place fields few members p.0, parts_low e p.1)
+  parts_low (return e) h = parts_low e h
+  parts_low (end e) h = (refl, parts_low e h)
+  parts_low (call a restores) h = call_passes slots instruction_low low_steers low_unasked a
+  parts_low (tail_call a) h = tail_passes slots instruction_low low_steers low_unasked a
+  parts_low (save saves e) h = parts_low e h
 
 few_fields : (entry : Option Entry) → entry_shaped entry ≡ true → fields_of entry ≤ max_free_variables
 few_fields None h = omega arith
@@ -87,11 +122,41 @@ few_fields (Some e) h =
     let q = and_parts _ (nat_le e.fields max_free_variables) p.1 in
     leb-true e.fields max_free_variables q.1
 
-slots_low : (c : control.Code) → control_object_free.is_object_free_code c ≡ true → shaped_whole c ≡ true → fields_known c ≡ true → list_all instruction_low (slots_layout c) ≡ true
-slots_low c free whole there =
+slots_low : (c : control.Code) → shaped_whole c ≡ true → fields_known c ≡ true → list_all instruction_low (slots_layout c) ≡ true
+slots_low c whole there =
     let few = few_fields c.entry (and_parts (entry_shaped c.entry) (shaped c.expression) whole).0 in
     entering_passes instruction_low (λ to from. refl) c.entry (slots_base c) _
-    (lay_passes (slots_for c) instruction_low low_steers c.expression (parts_low (slots_for c) (fields_of c.entry) few c.expression free there) 0 None [] refl)
+    (lay_passes (slots_for c) instruction_low low_steers c.expression (parts_low (slots_for c) (fields_of c.entry) few c.expression there) 0 None [] refl)
+
+-- ## Ends
+
+module _ (slots : Slots) (ends : Bool) where
+  -- an expression has the end of a form only where it may end one
+  parts_stand : (e : Expression) (at : Position) → (ends_form at ≡ true → ends ≡ true) → positioned e at ≡ true → Passes slots (may_stand ends) (stand_steers ends) e
+  parts_stand (perform o) at may h = refl
+  parts_stand (bind x a b) at may h = let p = and_parts _ _ h in (refl, (parts_stand a value never p.0, parts_stand b at may p.1))
+  parts_stand (sequence a b) at may h = let p = and_parts _ _ h in (parts_stand a no_call never p.0, parts_stand b at may p.1)
+  parts_stand (branch a b c) at may h =
+      let p = and_parts _ _ h in
+      let q = and_parts _ _ p.1 in
+      (parts_stand a value never p.0, (parts_stand b at may q.0, parts_stand c at may q.1))
+  parts_stand (fix members e) at may h = (refl, parts_stand e at may h)
+  parts_stand (return e) at may h = parts_stand e no_call never (and_parts _ _ h).1
+  parts_stand (end e) at may h = let p = and_parts _ _ h in (may p.0, parts_stand e value never p.1)
+  parts_stand (call a restores) at may h = call_passes slots (may_stand ends) (stand_steers ends) (stand_unasked ends) a
+  parts_stand (tail_call a) at may h = tail_passes slots (may_stand ends) (stand_steers ends) (stand_unasked ends) a
+  parts_stand (save saves e) at may h = parts_stand e at may h
+
+last_may : (entry : Option Entry) → ends_form (last_position entry) ≡ true → is_form entry ≡ true
+last_may None h = refl
+last_may (Some e) h = h
+
+slots_stand : (c : control.Code) → ended c ≡ true → list_all (may_stand (is_form c.entry)) (slots_layout c) ≡ true
+slots_stand c h =
+    let ends = is_form c.entry in
+    entering_passes (may_stand ends) (λ to from. refl) c.entry (slots_base c) _
+    (lay_passes (slots_for c) (may_stand ends) (stand_steers ends) c.expression
+    (parts_stand (slots_for c) ends c.expression (last_position c.entry) (last_may c.entry) (and_parts (is_bare c.expression) _ h).1) 0 None [] refl)
 
 -- ## Marks
 
@@ -99,20 +164,40 @@ leave_settled : (test : Option ℕ) (rest : List Instruction) → marks_settled 
 leave_settled None rest h = h
 leave_settled (Some l) rest h = h
 
-lay_settled : (slots : Slots) (e : Expression) → is_object_free e ≡ true → (n : ℕ) (test : Option ℕ) (rest : List Instruction) → marks_settled false rest ≡ true → marks_settled false (lay slots e n test rest) ≡ true
-lay_settled slots (perform o) c n test rest h = leave_settled test rest h
-lay_settled slots (bind x a b) c n test rest h = let p = and_parts _ _ c in lay_settled slots a p.0 _ _ _ (lay_settled slots b p.1 _ _ _ h)
-lay_settled slots (sequence a b) c n test rest h = let p = and_parts _ _ c in lay_settled slots a p.0 _ _ _ (lay_settled slots b p.1 _ _ _ h)
-lay_settled slots (branch a b d) c n test rest h =
-    let p = and_parts _ _ c in
-    let q = and_parts _ _ p.1 in
-    lay_settled slots a p.0 _ _ _ (lay_settled slots b q.0 _ _ _ (lay_settled slots d q.1 _ _ _ h))
-lay_settled slots (fix members e) c n test rest h = let p = and_parts _ _ c in lay_settled slots e p.1 _ _ _ h
-lay_settled slots (return e) c n test rest h = lay_settled slots e c _ _ _ h
-lay_settled slots (end e) c n test rest h = lay_settled slots e c _ _ _ h
-lay_settled slots (call a restores) c n test rest h = absurd cc
-lay_settled slots (tail_call a) c n test rest h = absurd cc
-lay_settled slots (save saves e) c n test rest h = lay_settled slots e c _ _ _ h
+handed_settled : (tail : Bool) (k : ℕ) (p : Place) (rest : List Instruction) → marks_settled false rest ≡ true → marks_settled false (handed tail k p ∷ rest) ≡ true
+handed_settled true k p rest h = h
+handed_settled false k p rest h = by (argument_register k) (argument_slot k) where
+  by : (o : Option ℕ) (j : ℕ) → marks_settled false (passed o j p ∷ rest) ≡ true
+  by (Some r) j = h
+  by None j = h
+
+over_settled : (tail : Bool) (aside left from : ℕ) (rest : List Instruction) → marks_settled false rest ≡ true → marks_settled false (hand_over tail aside from left rest) ≡ true
+over_settled tail aside zero from rest h = h
+over_settled tail aside (suc left) from rest h = handed_settled tail from (Slot (aside + from)) (hand_over tail aside (suc from) left rest) (over_settled tail aside left (suc from) rest h)
+
+aside_settled : (place : ℕ → Place) (operands : List (Operand ℕ)) (slot : ℕ) (rest : List Instruction) → marks_settled false rest ≡ true → marks_settled false (set_aside place slot operands rest) ≡ true
+aside_settled place [] slot rest h = h
+aside_settled place (o ∷ operands) slot rest h = aside_settled place operands (suc slot) rest h
+
+restored_settled : (home : Option Place) (rest : List Instruction) → marks_settled false rest ≡ true → marks_settled false (restored home rest) ≡ true
+restored_settled None rest h = h
+restored_settled (Some p) rest h = h
+
+module _ (slots : Slots) where
+  prepared_settled : (tail : Bool) (a : Application ℕ) (rest : List Instruction) → marks_settled false rest ≡ true → marks_settled false (prepared slots tail a rest) ≡ true
+  prepared_settled tail a rest h = aside_settled slots.place a.operands slots.aside _ (over_settled tail slots.aside (length a.operands) 0 rest h)
+
+  lay_settled : (e : Expression) (n : ℕ) (test : Option ℕ) (rest : List Instruction) → marks_settled false rest ≡ true → marks_settled false (lay slots e n test rest) ≡ true
+  lay_settled (perform o) n test rest h = leave_settled test rest h
+  lay_settled (bind x a b) n test rest h = lay_settled a _ _ _ (lay_settled b _ _ _ h)
+  lay_settled (sequence a b) n test rest h = lay_settled a _ _ _ (lay_settled b _ _ _ h)
+  lay_settled (branch a b c) n test rest h = lay_settled a _ _ _ (lay_settled b _ _ _ (lay_settled c _ _ _ h))
+  lay_settled (fix members e) n test rest h = lay_settled e _ _ _ h
+  lay_settled (return e) n test rest h = lay_settled e _ _ _ h
+  lay_settled (end e) n test rest h = lay_settled e _ _ _ h
+  lay_settled (call a restores) n test rest h = prepared_settled false a _ (restored_settled slots.home _ (leave_settled test rest h))
+  lay_settled (tail_call a) n test rest h = prepared_settled true a _ h
+  lay_settled (save saves e) n test rest h = lay_settled e _ _ _ h
 
 arrivals_settled : (base count from : ℕ) (rest : List Instruction) → marks_settled false rest ≡ true → marks_settled false (arrivals base from count rest) ≡ true
 arrivals_settled base zero from rest h = h
@@ -129,8 +214,11 @@ may_wait (Label l ∷ is) b h = absurd cc
 may_wait (Mark m ∷ is) b h = absurd cc
 may_wait (_ ∷ is) b h = h
 
-pub slots_object_free : (c : control.Code) → shaped_whole c ≡ true → fields_known c ≡ true → control_object_free.is_object_free_code c ≡ true → is_object_free_code (slots_of c) ≡ true
-slots_object_free c whole there free =
-    and_from _ _ (slots_free c free)
-    (and_from _ _ (slots_low c free whole there)
-    (may_wait (slots_layout c) (slots_begin c) (entering_settled (slots_base c) c.entry _ (lay_settled (slots_for c) c.expression free 0 None [] refl))))
+pub slots_object_free : (c : control.Code) → ended c ≡ true → shaped_whole c ≡ true → fields_known c ≡ true → control_object_free.is_object_free_code c ≡ true → is_object_free_code (slots_of c) ≡ true
+slots_object_free c bare whole there free =
+    let parts = and_parts (takes_no_list c.entry) (is_object_free c.expression) free in
+    and_from _ _ parts.0
+    (and_from _ _ (slots_free c parts.1)
+    (and_from _ _ (slots_low c whole there)
+    (and_from _ _ (slots_stand c bare)
+    (may_wait (slots_layout c) (slots_begin c) (entering_settled (slots_base c) c.entry _ (lay_settled (slots_for c) c.expression 0 None [] refl))))))

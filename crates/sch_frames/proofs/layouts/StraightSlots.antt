@@ -1,5 +1,5 @@
 -- The layout of straight code is straight code.
-use Rattle.std.proofs.Common.{◌≡◌, ◌≤◌, ℕ, suc, ◌+◌, ◌*◌, List, [], ◌∷◌, Option, Some, None, true, refl, ap, ◌∙◌, arith}
+use Rattle.std.proofs.Common.{◌≡◌, ℕ, suc, ◌+◌, List, [], ◌∷◌, Option, Some, None, true, refl, ap, ◌∙◌}
 use Rattle.std.specs.Prelude.{◌&&◌}
 use Rattle.std.specs.List.{list_all}
 use Rattle.std.proofs.lemmas.Bool.{and_parts, and_from}
@@ -19,54 +19,8 @@ use Rattle.sch_control.specs.Tree.{Expression, perform, bind, sequence, branch, 
 use Rattle.sch_frames.specs.declared.instruction.Instruction.{Instruction}
 use Rattle.sch_frames.specs.declared.instruction.Instruction.TheVariants.{Store, End, Jump, Label}
 use Rattle.sch_frames.specs.Layout.{Slots, leave, labels, lay, atom_at, atoms_at, operand_at, operands_at, operation_at, entering, slots_base, slots_for}
-use Rattle.sch_control.specs.Sizes.{expressions_size}
-use Rattle.sch_frames.specs.Sizes.{call_parts, calls_parts, entry_size, entries_size}
 use Rattle.sch_frames.specs.Straight.{begins_with_operation, is_straight_instruction, is_straight_code}
 use Rattle.sch_frames.proofs.layouts.SlotsFrame.{slots_of}
-
--- ## Straight code hands nothing over
-
-pub straight_parts : (e : Expression) → is_straight e ≡ true → call_parts e ≡ 0
-straight_parts (perform o) h = refl
-straight_parts (bind x a b) h = let p = and_parts _ _ h in let i = straight_parts a p.0 in let j = straight_parts b p.1 in omega (arith, i, j)
-straight_parts (sequence a b) h = let p = and_parts _ _ h in let i = straight_parts a p.0 in let j = straight_parts b p.1 in omega (arith, i, j)
-straight_parts (branch a b c) h =
-    let p = and_parts _ _ h in
-    let q = and_parts _ _ p.1 in
-    let i = straight_parts a p.0 in
-    let j = straight_parts b q.0 in
-    let k = straight_parts c q.1 in
-    omega (arith, i, j, k)
-straight_parts (end e) h = straight_parts e h
-straight_parts (fix members e) h = absurd cc
-straight_parts (call a restores) h = absurd cc
-straight_parts (tail_call a) h = absurd cc
-straight_parts (return e) h = absurd cc
-straight_parts (save saves e) h = absurd cc
-
--- a form stores nothing as it is entered
-form_stores : (entry : Option Entry) → is_form entry ≡ true → entry_size entry ≡ 0
-form_stores None h = refl
-form_stores (Some e) h = absurd cc
-
-straight_hand_over : (cs : List control.Code) → list_all control_straight.is_straight_code cs ≡ true → (calls_parts cs ≡ 0) × (entries_size cs ≡ 0)
-straight_hand_over [] h = (refl, refl)
-straight_hand_over (c ∷ cs) h =
-    let p = and_parts _ _ h in
-    let q = and_parts _ _ p.0 in
-    let i = straight_parts c.expression q.1 in
-    let j = form_stores c.entry q.0 in
-    let k = straight_hand_over cs p.1 in
-    let k0 = k.0 in
-    let k1 = k.1 in
-    (omega (arith, i, k0), omega (arith, j, k1))
-
--- so what is bounded with it is bounded without it
-pub straight_bounded : (cs : List control.Code) (n : ℕ) → list_all control_straight.is_straight_code cs ≡ true
-    → n ≤ 2 * expressions_size cs + 4 * calls_parts cs + entries_size cs → n ≤ 2 * expressions_size cs
-straight_bounded cs n h le = by (straight_hand_over cs h) where
-  by : (calls_parts cs ≡ 0) × (entries_size cs ≡ 0) → n ≤ 2 * expressions_size cs
-  by none = let parts = none.0 in let entries = none.1 in omega (arith, parts, entries, le)
 
 -- ## Operations
 

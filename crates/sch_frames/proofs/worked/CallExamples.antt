@@ -12,7 +12,7 @@ use Rattle.sch_word.specs.runs.Runs as runs_of
 use Rattle.sch_word.specs.runs.Runs.{Run, ended, going}
 use Rattle.sch_control.specs.declared.mark.MarkKind.TheVariants as mark
 use Rattle.sch_control.specs.declared.operation.Application.{Application}
-use Rattle.sch_control.specs.declared.operation.Atom.TheVariants.{Constant, Variable}
+use Rattle.sch_control.specs.declared.operation.Atom.TheVariants.{Constant, Literal, Variable}
 use Rattle.sch_control.specs.declared.operation.Operand.{Operand}
 use Rattle.sch_control.specs.declared.operation.Operand.TheVariants as operand
 use Rattle.sch_control.specs.declared.operation.Source.TheVariants as source
@@ -25,7 +25,7 @@ use Rattle.sch_control.specs.Tree.{Expression, perform, bind, branch, fix, call,
 use Rattle.sch_control.specs.Valid as control_valid
 use Rattle.sch_frames.specs.declared.instruction.Instruction.{Instruction}
 use Rattle.sch_frames.specs.declared.instruction.Instruction.TheVariants.{Do, Store, Copy, Load, Pass, Call, Tail, Return, End, IfFalse, Jump, Label, Mark}
-use Rattle.sch_frames.specs.ObjectFree.{is_object_free_program, each_begins, begins}
+use Rattle.sch_frames.specs.ObjectFree.{is_object_free_instruction, is_object_free_code, is_object_free_program, each_begins, begins}
 use Rattle.sch_frames.specs.Layout.{slots_layout, slots_words, labels, most_operands}
 use Rattle.sch_frames.specs.Run.{run}
 use Rattle.sch_frames.specs.Sizes.{call_parts, calls_parts, entries_size, instructions_size, most_words, nodes}
@@ -167,11 +167,41 @@ object_free_valid = refl
 object_free_rows :
     (control_object_free.is_object_free_program object_free ≡ true)
     × (is_object_free_program (framed object_free) ≡ true)
-    × (control_object_free.is_object_free_program calling ≡ false)
-    × (is_object_free_program (framed calling) ≡ false)
-    × (control_object_free.is_object_free_program (program (twice ∷ []) [] []) ≡ false)
-    × (control_object_free.is_object_free (tail_call (applied 0 2 [])) ≡ false)
-object_free_rows = (refl, refl, refl, refl, refl, refl)
+    × (control_object_free.is_object_free_program calling ≡ true)
+    × (is_object_free_program (framed calling) ≡ true)
+    × (is_object_free_program (framed looping) ≡ true)
+    × (control_object_free.is_object_free_program (program (twice ∷ []) [] []) ≡ true)
+    × (is_object_free_code (frame twice) ≡ true)
+object_free_rows = (refl, refl, refl, refl, refl, refl, refl)
+
+-- a list is spread, an operand is a literal, or a list of operands is taken
+abbrev spreading : control.Code
+spreading = lambda 2 0 4 (tail_call (record { site = 0; spread = true; operator = held_in 2; operands = held_in 3 ∷ [] }))
+
+abbrev with_literal : control.Code
+with_literal = lambda 1 0 3 (tail_call (applied 0 2 (operand.Atom (Literal 0) ∷ [])))
+
+abbrev with_rest : control.Code
+with_rest = record { name = []; entry = Some (record { formals = 1; rest = true; fields = 0 }); variables = 3; expression = return (perform (operation.Operand (number 1))) }
+
+abbrev procedure_with : List Instruction → Code
+procedure_with instructions = record { entry = Some (record { formals = 0; rest = false; fields = 0 }); words = 2; labels = 1; instructions = instructions }
+
+abbrev form_with : List Instruction → Code
+form_with instructions = record { entry = None; words = 2; labels = 1; instructions = instructions }
+
+with_objects_rows :
+    (map control_object_free.is_object_free_code (spreading ∷ with_literal ∷ with_rest ∷ []) ≡ false ∷ false ∷ false ∷ [])
+    × (map is_object_free_code (frame spreading ∷ frame with_literal ∷ frame with_rest ∷ []) ≡ false ∷ false ∷ false ∷ [])
+    × (map is_object_free_instruction (Load (Slot 0) (operand.Atom (Literal 0)) ∷ Pass 0 (operand.Atom (Literal 0)) ∷ Call true 1 ∷ Tail true 1 ∷ []) ≡ false ∷ false ∷ false ∷ false ∷ [])
+    × (map is_object_free_instruction (Load (Slot 0) (number 0) ∷ Pass 0 (number 0) ∷ Call false 1 ∷ Tail false 1 ∷ []) ≡ true ∷ true ∷ true ∷ true ∷ [])
+with_objects_rows = (refl, refl, refl, refl)
+
+-- a form ends only in its own body, and the mark of a call has the call behind it, with no label between
+settled_rows :
+    (map is_object_free_code (form_with (Copy (Slot 0) (Slot 1) ∷ End ∷ []) ∷ procedure_with (Copy (Slot 0) (Slot 1) ∷ End ∷ []) ∷ []) ≡ true ∷ false ∷ [])
+    × (map is_object_free_code (procedure_with (Copy (Slot 0) (Slot 1) ∷ Mark (mark.Tail 0) ∷ Tail false 0 ∷ []) ∷ procedure_with (Copy (Slot 0) (Slot 1) ∷ Mark (mark.Tail 0) ∷ Label 0 ∷ Tail false 0 ∷ []) ∷ []) ≡ true ∷ false ∷ [])
+settled_rows = (refl, refl)
 
 -- a label or a mark is nothing that is done
 begins_rows :

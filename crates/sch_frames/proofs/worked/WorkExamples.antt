@@ -1,10 +1,10 @@
 -- Worked rows: how much there is to do in bodies and in their layouts.
-use Rattle.std.proofs.Common.{◌≡◌, refl, [], ◌∷◌, None, map}
+use Rattle.std.proofs.Common.{◌≡◌, false, refl, [], ◌∷◌, None, map}
 use Rattle.sch_word.specs.declared.place.Place.{Place}
 use Rattle.sch_word.specs.declared.place.Place.TheVariants.{Slot}
 use Rattle.sch_control.specs.declared.operation.Member.{Member}
 use Rattle.sch_control.specs.Work as control_work
-use Rattle.sch_frames.specs.declared.instruction.Instruction.TheVariants.{Fix, Return}
+use Rattle.sch_frames.specs.declared.instruction.Instruction.TheVariants.{Fix, Call, Tail}
 use Rattle.sch_frames.specs.Sizes.{closures_in, code_work, grouped, jumped, program_size, program_work}
 use Rattle.sch_frames.proofs.worked.CallExamples.{object_free, calling, frame, framed, twice}
 
@@ -12,17 +12,17 @@ use Rattle.sch_frames.proofs.worked.CallExamples.{object_free, calling, frame, f
 group_rows : (program_size (framed object_free) ∷ closures_in (framed object_free).bodies ∷ program_work (framed object_free) ∷ control_work.codes_work object_free.bodies ∷ []) ≡ 13 ∷ 2 ∷ 15 ∷ 15 ∷ []
 group_rows = refl
 
--- two procedures, whose closures are made one by one
-closure_rows : (closures_in (framed calling).bodies ∷ map jumped (twice.entry ∷ None ∷ []) ≡ 2 ∷ 1 ∷ 0 ∷ [])
+-- two procedures, whose closures are made one by one, and two calls
+closure_rows : (closures_in (framed calling).bodies ∷ map jumped (twice.entry ∷ None ∷ []) ≡ 4 ∷ 1 ∷ 0 ∷ [])
 closure_rows = refl
 
 abbrev member : Member Place
 member = record { at = Slot 2; closure = record { label = 1; fields = [] } }
 
 -- an operand that is handed over in a register takes one instruction there, of the two that are counted
-call_rows : (code_work (frame twice) ∷ control_work.code_work twice ∷ []) ≡ 19 ∷ 21 ∷ []
+call_rows : (code_work (frame twice) ∷ control_work.code_work twice ∷ []) ≡ 20 ∷ 22 ∷ []
 call_rows = refl
 
--- a group of two and one of one
-grouped_row : grouped (Fix (member ∷ member ∷ []) ∷ Return ∷ Fix (member ∷ []) ∷ []) ≡ 3
+-- a group of two, a call, which is no tail call, and a group of one
+grouped_row : grouped (Fix (member ∷ member ∷ []) ∷ Call false 0 ∷ Tail false 0 ∷ Fix (member ∷ []) ∷ []) ≡ 4
 grouped_row = refl

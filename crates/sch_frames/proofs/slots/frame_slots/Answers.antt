@@ -37,7 +37,7 @@ returns-clause-begins c =
 pub returns-clause-object_free : goal.returns-clause-object_free
 returns-clause-object_free c h =
     let i : c.in_ok-out.out.instructions ≡ slots_layout (control.code_of c.args.b.now) = layout_written (control.code_of c.args.b.now) _ _ _ _ c.room_for-room.ensures.base c.room_for-room.ensures.aside c.room_for-room.ensures.entered c.in_ok-out.ensures.instructions in
-    rw i (slots_object_free (control.code_of c.args.b.now) c.args.b.now.shaped c.args.b.now.fields h)
+    rw i (slots_object_free (control.code_of c.args.b.now) c.args.b.now.ended c.args.b.now.shaped c.args.b.now.fields h)
 
 pub returns-clause-straight : goal.returns-clause-straight
 returns-clause-straight c s =
