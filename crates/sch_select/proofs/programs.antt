@@ -9,8 +9,7 @@ pub mod Passing
 pub mod Whole
 pub mod Starting
 pub mod JoinedProgram
-pub mod CoveredPrograms
-pub mod StraightPrograms
+pub mod FreeCodes
 pub mod ObjectFreePrograms
 pub mod Examples
 pub mod CallExamples

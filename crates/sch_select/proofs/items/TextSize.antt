@@ -22,7 +22,7 @@ use Rattle.sch_control.specs.declared.operation.Operation.TheVariants as operati
 use Rattle.sch_frames.specs.declared.instruction.Instruction.{Instruction}
 use Rattle.sch_frames.specs.declared.instruction.Instruction.TheVariants as instruction
 use Rattle.sch_control.specs.Sizes.{operand_size, operands_size, operation_size}
-use Rattle.sch_frames.specs.Sizes.{instruction_size, instructions_size, codes_size, program_size}
+use Rattle.sch_frames.specs.Sizes.{closures_in, codes_size, grouped, instruction_size, instructions_size, jumped, program_size}
 use Rattle.sch_frames.specs.Tree.{Code}
 use Rattle.sch_frames.specs.Tree as tree
 use Rattle.sch_insn.specs.declared.insn.Arg.TheVariants.{Reg, Base32}
@@ -44,7 +44,6 @@ use Rattle.sch_select.specs.Select.{cell_operand, check_heap, part_code, part_op
 use Rattle.sch_select.specs.Select.{closure_bytes, group_bytes, places_code, records_code, group_code, check_depth}
 use Rattle.sch_select.specs.Select.{check_operator, enter_code, call_code, tail_code}
 use Rattle.sch_select.specs.Program.{passed_code, entry_code, forms_code, labels_end, own_label, heap_of, program_code, put_value_code}
-use Rattle.sch_select.specs.Sizes.{grouped, jumped, closures_in}
 use Rattle.sch_word.specs.declared.stop.Stop.TheVariants.{Unset}
 
 -- ## Atoms

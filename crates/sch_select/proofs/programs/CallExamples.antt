@@ -27,11 +27,12 @@ use Rattle.sch_asm.specs.Codes.{bytes_of}
 use Rattle.sch_asm.specs.Data.{data_at}
 use Rattle.sch_asm.specs.Views.{text_at}
 use Rattle.sch_runtime.specs.Code.{routine_items}
-use Rattle.sch_select.specs.Covered.{is_covered_program}
+use Rattle.sch_frames.specs.ObjectFree.{is_object_free_program}
 use Rattle.sch_select.specs.Marks.{enters_procedure, marks_passed, plain_code}
-use Rattle.sch_select.specs.Program.{program_code, program_words, program_zeros, stack_bytes}
+use Rattle.sch_select.specs.Program.{frames_bytes, program_code, program_words, program_zeros, stack_bytes}
 use Rattle.sch_select.specs.Select.{kind_of}
-use Rattle.sch_select.specs.Sizes.{closures_in, steps_bound}
+use Rattle.sch_frames.specs.Sizes.{closures_in}
+use Rattle.sch_select.specs.Sizes.{steps_bound}
 use Rattle.sch_select.proofs.programs.Examples.{text_of, number}
 
 -- how a program ends within 600 steps, with 16 bytes of heap and this depth
@@ -89,7 +90,7 @@ abbrev given : Place → List Instruction
 given p = Load (Slot 2) (number (pos 0)) ∷ Do (operation.Operand (at p)) ∷ Return ∷ []
 
 operands :
-    (is_covered_program (eight 8 (given (Slot 1))) ≡ true)
+    (is_object_free_program (eight 8 (given (Slot 1))) ≡ true)
     × (ends_at 1 (eight 8 (given (Reg 3))) ≡ Some (0, codes "19"))
     × (ends_at 1 (eight 8 (given (Reg 8))) ≡ Some (0, codes "29"))
     × (ends_at 1 (eight 8 (given (Reg 7))) ≡ Some (0, codes "69"))
@@ -137,7 +138,7 @@ abbrev endless : Source
 endless = inside (Tail false 0 ∷ [])
 
 depths :
-    (is_covered_program deeper ≡ true)
+    (is_object_free_program deeper ≡ true)
     × (ends_at 3 deeper ≡ Some (0, codes "7"))
     × (ends_at 2 deeper ≡ Some (72, []))
     × (ends_at 1 looping ≡ Some (0, codes "7"))
@@ -152,7 +153,7 @@ runs :
     × (run endless 16 1 [] 4 ≡ Some (record { output = []; entries = 4; charged = 16; answers = 0; end = going }))
 runs = (refl, refl, refl)
 
--- ## Which programs with calls are covered
+-- ## Which programs with calls are object-free
 
 -- a procedure of one formal, which may take a list
 abbrev taking : (rest : Bool) → (form body : List Instruction) → Source
@@ -163,15 +164,15 @@ taking rest form body = record {
   words = 3;
 }
 
--- with a call there are no rest lists, no lists that are spread, and no procedures that end as a form does
-covers :
-    (is_covered_program (taking false (Call false 1 ∷ Ended ∷ []) (Return ∷ [])) ≡ true)
-    × (is_covered_program (taking false (Call true 1 ∷ Ended ∷ []) (Return ∷ [])) ≡ false)
-    × (is_covered_program (taking false (Call false 1 ∷ Ended ∷ []) (Ended ∷ [])) ≡ false)
-    × (is_covered_program (taking true (Call false 1 ∷ Ended ∷ []) (Return ∷ [])) ≡ false)
-    × (is_covered_program (taking true (Ended ∷ []) (Return ∷ [])) ≡ true)
-    × (is_covered_program (taking true (Ended ∷ []) (Tail false 1 ∷ [])) ≡ false)
-covers = (refl, refl, refl, refl, refl, refl)
+-- there are no rest lists, no lists that are spread, and no procedures that end as a form does
+object_free :
+    (is_object_free_program (taking false (Call false 1 ∷ Ended ∷ []) (Return ∷ [])) ≡ true)
+    × (is_object_free_program (taking false (Call true 1 ∷ Ended ∷ []) (Return ∷ [])) ≡ false)
+    × (is_object_free_program (taking false (Call false 1 ∷ Ended ∷ []) (Ended ∷ [])) ≡ false)
+    × (is_object_free_program (taking true (Call false 1 ∷ Ended ∷ []) (Return ∷ [])) ≡ false)
+    × (is_object_free_program (taking true (Ended ∷ []) (Return ∷ [])) ≡ false)
+    × (is_object_free_program (taking false (Ended ∷ []) (Tail false 1 ∷ [])) ≡ true)
+object_free = (refl, refl, refl, refl, refl, refl)
 
 -- ## Marks and bounds
 
@@ -190,8 +191,9 @@ marks = (refl, refl, refl, refl, refl, refl)
 
 -- frames for the form, for each depth, and one more; the bound of steps grows with entries and answers
 bounds :
-    (stack_bytes 3 10 ≡ 288)
+    (frames_bytes 3 10 ≡ 264)
+    × (stack_bytes 3 10 ≡ 288)
     × (program_zeros noted 16 10 ≡ 304)
     × (closures_in noted.bodies ≡ 2)
     × (steps_bound noted 2 1 ≡ 256 * 12 * 3 + 26)
-bounds = (refl, refl, refl, refl)
+bounds = (refl, refl, refl, refl, refl)

@@ -19,7 +19,7 @@ use Rattle.sch_frames.specs.declared.instruction.Instruction.{Instruction}
 use Rattle.sch_frames.specs.declared.instruction.Instruction.TheVariants.{Do, Store, Fix, Return, End, IfFalse, Jump, Label}
 use Rattle.sch_control.specs.declared.operation.Source as closure
 use Rattle.sch_control.specs.declared.operation.Source.TheVariants as source
-use Rattle.sch_select.specs.Covered.{is_covered_program}
+use Rattle.sch_frames.specs.ObjectFree.{is_object_free_program}
 use Rattle.sch_frames.specs.Tree.{Source}
 use Rattle.sch_insn.specs.Decode.{escaped_of, long_of, narrow_of, operand_of, rexed_of, wide_of}
 use Rattle.sch_insn.specs.Machine.{test_of}
@@ -74,7 +74,7 @@ shows which a b = one_form 0 (Do (operation.Prim 1 which (number a ∷ number b 
     (operand.Atom (Variable (Slot 1))))
 
 products :
-    (is_covered_program (shows prim.Multiply (pos 6) (negsuc 6)) ≡ true)
+    (is_object_free_program (shows prim.Multiply (pos 6) (negsuc 6)) ≡ true)
     × (ends (shows prim.Multiply (pos 6) (negsuc 6)) [] ≡ Some (0, codes "-42"))
     × (ends (shows prim.Multiply (pos 1073741824) (pos 1073741824)) [] ≡ Some (70, []))
     × (ends (shows prim.Add (pos 1152921504606846975) (pos 1)) [] ≡ Some (70, []))
@@ -157,7 +157,7 @@ no_cell = one_form 0 (Do (operation.CellGet (fixed (pos 1))) ∷ End ∷ [])
 
 -- the limit of the heap is met before anything is written
 cells :
-    (is_covered_program (two_cells 0) ≡ true)
+    (is_object_free_program (two_cells 0) ≡ true)
     × (ends_in 32 (two_cells 0) [] ≡ Some (0, codes "3"))
     × (ends_in 32 (two_cells 1) [] ≡ Some (0, codes "2"))
     × (ends_in 16 (two_cells 1) [] ≡ Some (71, []))
@@ -201,7 +201,7 @@ abbrev library : Source
 library = with_procedure (Do (operation.Global 0) ∷ Store (Slot 1) ∷ shown 1)
 
 closures :
-    (is_covered_program group ≡ true)
+    (is_object_free_program group ≡ true)
     × (ends_in 32 (captures 0) [] ≡ Some (0, codes "5"))
     × (ends_in 32 (captures 1) [] ≡ Some (0, codes "6"))
     × (ends_in 16 (captures 0) [] ≡ Some (71, []))

@@ -29,7 +29,8 @@ use Rattle.sch_asm.specs.Views.{View, Leads}
 use Rattle.sch_asm.proofs.EachItem.{jumps}
 use Rattle.sch_heap.specs.Parts.{Parts}
 use Rattle.sch_control.specs.Straight.{is_form}
-use Rattle.sch_select.specs.Covered.{may_stand, takes_no_list}
+use Rattle.sch_frames.specs.ObjectFree.{is_object_free_code, may_stand}
+use Rattle.sch_select.proofs.programs.FreeCodes.{code_parts}
 use Rattle.sch_select.specs.Select.{kind_of, body_label, check_count}
 use Rattle.sch_select.specs.Program.{passed_code, entry_code, form_code, forms_code, labels_end}
 use Rattle.sch_select.proofs.simulation.Places.{Plan, Room, Activation, StoreAt, PlacesAt}
@@ -37,7 +38,7 @@ use Rattle.sch_select.proofs.simulation.Entering.{Enters}
 use Rattle.sch_select.proofs.programs.Standing.{after_body, entered_code}
 use Rattle.sch_select.proofs.simulation.Outcomes.{Ends, Goes_on, Sim, Laid, ends_after, paid}
 use Rattle.sch_select.proofs.simulation.Bodies.{body_cost, body_sim, map_one}
-use Rattle.sch_select.proofs.programs.Selected.{fits, form_selected, instruction_selected}
+use Rattle.sch_select.proofs.programs.Selected.{form_selected, instruction_selected}
 
 -- how many steps forms take at most
 abbrev pub forms_cost : List Code → ℕ
@@ -45,16 +46,12 @@ forms_cost [] = 4
 forms_cost (c ∷ cs) = suc (body_cost c.instructions) + forms_cost cs
 
 -- a form ends as forms do
-form_stands : (calls : Bool) (c : Code) → c.entry ≡ None → fits calls c ≡ true
-    → list_all (may_stand calls true) c.instructions ≡ true
-form_stands false c i e = e
-form_stands true c i e =
-    subst (λ o. list_all (may_stand true (is_form o)) c.instructions ≡ true) i
-    (and_parts (takes_no_list c.entry) (list_all (may_stand true (is_form c.entry)) c.instructions) e).1
+form_stands : (c : Code) → c.entry ≡ None → is_object_free_code c ≡ true
+    → list_all (may_stand true) c.instructions ≡ true
+form_stands c i e = subst (λ o. list_all (may_stand (is_form o)) c.instructions ≡ true) i (code_parts c e).stands
 
 module _ (plan : Plan) (body_steps : ℕ) (laid : Laid plan body_steps) (depth : ℕ) (room : Room plan plan.stack depth)
-    (calls : Bool) (nested : ℕ) (all : List Code) (callee : Callee)
-    (enters : calls ≡ true → Enters plan body_steps callee nested) where
+    (nested : ℕ) (all : List Code) (callee : Callee) (enters : Enters plan body_steps callee nested) where
   open plan use {setting, words, globals, heap, stack, labels}
 
   -- between two forms, with some parts of the heap
@@ -109,7 +106,7 @@ module _ (plan : Plan) (body_steps : ℕ) (laid : Laid plan body_steps) (depth :
       (do_forms (entries_of cs) label (bodies_of all) callee depth w)
 
   one_form : (c : Code) (cs : List Code) (label n : ℕ) (following : List Item) → form_selected words globals c ≡ true
-      → fits calls c ≡ true → slice_get all label ≡ Some c → Rest cs (suc label) following
+      → is_object_free_code c ≡ true → slice_get all label ≡ Some c → Rest cs (suc label) following
       → (before : List MarkKind) (w : World) (x : View) → Stands setting [] x.place
       (form_code words stack label n c following) → Ready w x → map kind_of w.marks ≡ before
       → Owed before w.state.store x (suc (body_cost c.instructions) + forms_cost cs)
@@ -148,9 +145,9 @@ module _ (plan : Plan) (body_steps : ℕ) (laid : Laid plan body_steps) (depth :
       done : c.entry ≡ None → Stands setting [] x.place (entered_code plan label n c following)
           → Sim plan body_steps act r.parts before w.state.store x (body_cost c.instructions)
           (execute_each callee depth c.instructions None (beginning None unspecified []) entered)
-      done i h = body_sim plan body_steps laid act n out (λ z. refl) calls callee enters (n + c.labels + 1)
+      done i h = body_sim plan body_steps laid act n out (λ z. refl) callee enters (n + c.labels + 1)
           c.instructions (item.Label out ∷ following) (and_parts (nat_le (formals_of c.entry) max_operands)
-          (list_all (instruction_selected words globals) c.instructions) e).1 (form_stands calls c i e')
+          (list_all (instruction_selected words globals) c.instructions) e).1 (form_stands c i e')
           None r.parts before (Enter label ∷ []) (beginning None unspecified []) entered x h here r.world tt
           (map_one w.marks (control.Enter label) ∙ ap (λ l. l ++ Enter label ∷ []) m)
 
@@ -227,7 +224,7 @@ module _ (plan : Plan) (body_steps : ℕ) (laid : Laid plan body_steps) (depth :
           (goes_on (after_body plan label n x.place c following h.2) _ (done i h.2)))
 
   pub forms_sim : (cs : List Code) (label n : ℕ) (behind_all : List Item)
-      → list_all (form_selected words globals) cs ≡ true → list_all (fits calls) cs ≡ true → Are label cs
+      → list_all (form_selected words globals) cs ≡ true → list_all is_object_free_code cs ≡ true → Are label cs
       → (before : List MarkKind) (w : World) (x : View) → Stands setting [] x.place
       (forms_code words stack label n cs (rest_code behind_all)) → Ready w x → map kind_of w.marks ≡ before
       → Owed before w.state.store x (forms_cost cs) (do_forms (entries_of cs) label (bodies_of all) callee depth w)
@@ -248,7 +245,7 @@ module _ (plan : Plan) (body_steps : ℕ) (laid : Laid plan body_steps) (depth :
         silent = s.silent;
       }
   forms_sim (c ∷ cs) label n behind_all e e' at before w x h r m =
-      let parts' = and_parts (fits calls c) (list_all (fits calls) cs) e' in
+      let parts' = and_parts (is_object_free_code c) (list_all is_object_free_code cs) e' in
       let parts = and_parts (form_selected words globals c) (list_all (form_selected words globals) cs) e in
       let sum : label + 0 ≡ label = omega arith in
       one_form c cs label n (forms_code words stack (suc label) (labels_end n c) cs (rest_code behind_all)) parts.0

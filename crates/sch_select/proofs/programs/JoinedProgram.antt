@@ -44,8 +44,8 @@ use Rattle.sch_select.proofs.programs.Starting.{parts_at_start, bytes_count, tex
 use Rattle.sch_select.proofs.programs.Starting.{ends_at, contents_there, new_there}
 use Rattle.sch_select.proofs.programs.EnterCounts.{counts_entries}
 use Rattle.sch_select.proofs.programs.Whole.{Starts, program_ends, program_follows, program_passes}
-use Rattle.sch_select.proofs.programs.Selected.{fits, form_selected, selects}
-use Rattle.sch_frames.specs.ObjectFree.{marks_settled}
+use Rattle.sch_select.proofs.programs.Selected.{form_selected, selects}
+use Rattle.sch_frames.specs.ObjectFree.{is_object_free_code, marks_settled}
 
 -- ---- what stands behind the forms
 
@@ -137,7 +137,7 @@ module _ (p : Source) (limit depth : ℕ) (words_few : p.words ≤ 2048)
     passes : PassesMarks 0x400000 (text_at (flat_map spelling code) ∷ data_at
         (bytes ++ replicate (program_zeros p limit depth) 0) ∷ []) (marks_at marks) (marks_passed p limit depth)
 
-  module _ (calls : Bool) (selected : selects p ≡ true) (fitting : list_all (fits calls) p.bodies ≡ true)
+  module _ (selected : selects p ≡ true) (object_free : list_all is_object_free_code p.bodies ≡ true)
       (known : library_known (length p.library) p.statics.globals ≡ true) where
     forms : list_all (form_selected p.words globals) p.bodies ≡ true
     forms = (and_parts (list_all (form_selected p.words globals) p.bodies)
@@ -167,7 +167,7 @@ module _ (p : Source) (limit depth : ℕ) (words_few : p.words ≤ 2048)
         } in
         let parts = parts_at_start r.place_of r.small p.statics.globals p.library zeros globals_few library_few in
         let count = bytes_count r.place_of r.small p.statics.globals p.library zeros globals_few library_few in
-        let starts : Starts plan (bodies_cost p.bodies) laid depth room calls parts p limit (bytes_at r.place_of) =
+        let starts : Starts plan (bodies_cost p.bodies) laid depth room parts p limit (bytes_at r.place_of) =
         record {
           size_is = omega (arith, count);
           texts = texts_there r.place_of r.small p.statics.globals p.library zeros globals_few library_few;
@@ -181,12 +181,12 @@ module _ (p : Source) (limit depth : ℕ) (words_few : p.words ≤ 2048)
         } in
         subst (λ w. Done w code marks) (sym r.bytes)
         (record {
-          follows = program_follows plan (bodies_cost p.bodies) laid depth room calls p limit parts
-              (bytes_at r.place_of) (item.Label put_label ∷ put_value_code) forms fitting (omega arith) j.first starts;
-          ends = program_ends plan (bodies_cost p.bodies) laid depth room calls p limit parts (bytes_at r.place_of)
-              (item.Label put_label ∷ put_value_code) forms fitting (omega arith) j.first starts refl;
-          passes = program_passes plan (bodies_cost p.bodies) laid depth room calls p limit parts
-              (bytes_at r.place_of) (item.Label put_label ∷ put_value_code) forms fitting (omega arith) j.first starts;
+          follows = program_follows plan (bodies_cost p.bodies) laid depth room p limit parts
+              (bytes_at r.place_of) (item.Label put_label ∷ put_value_code) forms object_free (omega arith) j.first starts;
+          ends = program_ends plan (bodies_cost p.bodies) laid depth room p limit parts (bytes_at r.place_of)
+              (item.Label put_label ∷ put_value_code) forms object_free (omega arith) j.first starts refl;
+          passes = program_passes plan (bodies_cost p.bodies) laid depth room p limit parts
+              (bytes_at r.place_of) (item.Label put_label ∷ put_value_code) forms object_free (omega arith) j.first starts;
         })
 
     pub frames_follow : FollowsFrames p limit depth (program_code p limit depth) (program_words p)

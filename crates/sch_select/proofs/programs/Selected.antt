@@ -27,7 +27,6 @@ use Rattle.sch_frames.specs.Tree.{Code}
 use Rattle.sch_frames.specs.Tree as tree
 use Rattle.sch_frames.specs.Valid.{formals_of, handed_over, is_place}
 use Rattle.sch_frames.specs.ObjectFree.{marks_settled}
-use Rattle.sch_select.specs.Covered.{can_be_entered, without_calls}
 
 -- a straight primitive of n operands
 abbrev pub takes : ℕ → Primitive → Bool
@@ -94,11 +93,6 @@ module _ (words globals : ℕ) where
 
   abbrev pub form_selected : Code → Bool
   form_selected c = nat_le (formals_of c.entry) max_operands && list_all instruction_selected c.instructions
-
--- what a body meets, by whether the program makes calls
-abbrev pub fits : (calls : Bool) → Code → Bool
-fits false c = without_calls c
-fits true c = can_be_entered c
 
 -- the bodies that an instruction names are among those that there are
 abbrev pub members_few : ℕ → List (Member Place) → Bool

@@ -9,9 +9,9 @@ use Rattle.sch_control.specs.Parts.{member_atoms, source_atoms}
 use Rattle.sch_control.specs.Sizes.{operation_size}
 use Rattle.sch_frames.specs.declared.instruction.Instruction.{Instruction}
 use Rattle.sch_frames.specs.declared.instruction.Instruction.TheVariants as instruction
-use Rattle.sch_frames.specs.Sizes.{codes_size, instruction_size, instructions_size}
+use Rattle.sch_frames.specs.Sizes.{closures_in, codes_size, grouped, instruction_size, instructions_size}
 use Rattle.sch_frames.specs.Tree.{Code, Source}
-use Rattle.sch_select.specs.Sizes.{closures_in, grouped, steps_bound}
+use Rattle.sch_select.specs.Sizes.{steps_bound}
 use Rattle.sch_select.proofs.simulation.Bodies.{body_cost, instruction_cost}
 use Rattle.sch_select.proofs.simulation.EachOperation.{operation_cost}
 use Rattle.sch_select.proofs.simulation.Procedures.{bodies_cost}

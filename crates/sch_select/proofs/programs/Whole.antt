@@ -14,6 +14,7 @@ use Rattle.sch_control.specs.Run.{seen_of, do_forms, enter, entry_at, starting_w
 use Rattle.sch_control.specs.declared.body.Entry.{Entry}
 use Rattle.sch_frames.specs.Tree.{Code, Source}
 use Rattle.sch_frames.specs.Run.{bodies_of, entries_of}
+use Rattle.sch_frames.specs.ObjectFree.{is_object_free_code}
 use Rattle.sch_insn.specs.declared.insn.Insn.TheVariants.{MovWord}
 use Rattle.sch_insn.specs.Behaves.{Given, exit_of, FollowsRuns}
 use Rattle.sch_insn.specs.Step.{go_on, mach}
@@ -48,7 +49,7 @@ use Rattle.sch_select.proofs.simulation.Entering.{Enters}
 use Rattle.sch_select.proofs.simulation.Procedures.{BodyAt, bodies_cost, enter_sim}
 use Rattle.sch_select.proofs.programs.Standing.{bodies_stand}
 use Rattle.sch_select.proofs.programs.Forms.{Owed, forms_sim, forms_cost}
-use Rattle.sch_select.proofs.programs.Selected.{fits, form_selected}
+use Rattle.sch_select.proofs.programs.Selected.{form_selected}
 
 -- ---- globals, when a program starts
 
@@ -69,8 +70,7 @@ pub values_count : (gs : List (Option ℕ)) → length (starting_values gs) ≡ 
 values_count [] = refl
 values_count (g ∷ gs) = ap suc (values_count gs)
 
-module _ (plan : Plan) (body_steps : ℕ) (laid : Laid plan body_steps) (depth : ℕ) (room : Room plan plan.stack depth)
-    (calls : Bool) where
+module _ (plan : Plan) (body_steps : ℕ) (laid : Laid plan body_steps) (depth : ℕ) (room : Room plan plan.stack depth) where
   open plan use {setting, size, words, globals, closures, heap, stack, static, labels}
 
   -- RBP, R12 and R13 are set, and the forms follow
@@ -84,9 +84,9 @@ module _ (plan : Plan) (body_steps : ℕ) (laid : Laid plan body_steps) (depth :
       { way = q.way; last = full setting e.last; path = q.path; exits = e.exits; output_is = e.output_is }
 
   -- from a result to what is seen
-  seen_does : (p : Source) (n : ℕ) (callee : Callee) (enters : calls ≡ true → Enters plan body_steps callee n)
+  seen_does : (p : Source) (n : ℕ) (callee : Callee) (enters : Enters plan body_steps callee n)
       (t : Store) (x z : View) (c : ℕ) (answers : List Answer) (result : Result) (r : Run) → t.entries ≡ n
-      → Leads setting 3 3 [] x z → Owed plan body_steps laid depth room calls n p.bodies callee enters [] t z c result
+      → Leads setting 3 3 [] x z → Owed plan body_steps laid depth room n p.bodies callee enters [] t z c result
       → seen_of answers n result ≡ Some r → Does (full setting x) n r.end r.output
   seen_does p n callee enters t x z c answers None r e l s h = absurd cc
   seen_does p n callee enters t x z c answers (Some (gives v w)) r e l s h =
@@ -141,10 +141,10 @@ module _ (plan : Plan) (body_steps : ℕ) (laid : Laid plan body_steps) (depth :
       (λ status q. let is : k ≡ status = cc in subst (λ j. exit_of (mach m (full setting x)) ≡ Some
       (j, w.state.store.output)) is (exits_by t x z (forms_cost p.bodies) k m w l s le)) status q
 
-  ends_does : (p : Source) (n : ℕ) (callee : Callee) (enters : calls ≡ true → Enters plan body_steps callee n)
+  ends_does : (p : Source) (n : ℕ) (callee : Callee) (enters : Enters plan body_steps callee n)
       → bodies_cost p.bodies ≡ body_steps → (t : Store) (x z : View) (answers : List Answer) (result : Result)
       (r : Run) → t.entries ≡ n → t.answers ≡ answers → Leads setting 3 3 [] x z
-      → Owed plan body_steps laid depth room calls n p.bodies callee enters [] t z (forms_cost p.bodies) result
+      → Owed plan body_steps laid depth room n p.bodies callee enters [] t z (forms_cost p.bodies) result
       → seen_of answers n result ≡ Some r
       → (status : ℕ) → r.end ≡ ended status → exit_of (mach (steps_bound p r.entries r.answers) (full setting x)) ≡
       Some (status, r.output)
@@ -174,9 +174,9 @@ module _ (plan : Plan) (body_steps : ℕ) (laid : Laid plan body_steps) (depth :
         ends = inr (status, e.exits, e.silent, refl);
       }
 
-  marks_does : (p : Source) (n : ℕ) (callee : Callee) (enters : calls ≡ true → Enters plan body_steps callee n)
+  marks_does : (p : Source) (n : ℕ) (callee : Callee) (enters : Enters plan body_steps callee n)
       (t : Store) (x z : View) (c : ℕ) (result : Result) (marks : List control.MarkKind) → t.entries ≡ n
-      → Leads setting 3 3 [] x z → Owed plan body_steps laid depth room calls n p.bodies callee enters [] t z c result
+      → Leads setting 3 3 [] x z → Owed plan body_steps laid depth room n p.bodies callee enters [] t z c result
       → marks_of result ≡ Some marks → Passes setting.marks (full setting x) n (map kind_of marks)
   marks_does p n callee enters t x z c None marks e l s h = absurd (let bad : None ≡ Some marks = h in cc)
   marks_does p n callee enters t x z c (Some (gives v w)) marks e l s h =
@@ -215,7 +215,7 @@ module _ (plan : Plan) (body_steps : ℕ) (laid : Laid plan body_steps) (depth :
 
   module _ (p : Source) (limit : ℕ) (parts : Parts) (bytes : List ℕ) (rest : List Item)
       (selected : list_all (form_selected words globals) p.bodies ≡ true)
-      (fitting : list_all (fits calls) p.bodies ≡ true) (short : bodies_cost p.bodies ≤ body_steps)
+      (object_free : list_all is_object_free_code p.bodies ≡ true) (short : bodies_cost p.bodies ≤ body_steps)
       (h : Stands setting [] 0x400000
       (started (forms_code words stack 0 (own_label p) p.bodies (item.Jump (label_of routine.End) ∷ rest))))
       (s : Starts parts p limit bytes) where
@@ -229,9 +229,8 @@ module _ (plan : Plan) (body_steps : ℕ) (laid : Laid plan body_steps) (depth :
     abbrev callee : ℕ → Callee
     callee n = enter (entry_at (entries_of p.bodies)) (bodies_of p.bodies) n
 
-    enters : (n : ℕ) → calls ≡ true → Enters plan body_steps (callee n) n
-    enters n is = enter_sim plan body_steps laid p.bodies selected
-        (subst (λ b. list_all (fits b) p.bodies ≡ true) is fitting) short stood n
+    enters : (n : ℕ) → Enters plan body_steps (callee n) n
+    enters n = enter_sim plan body_steps laid p.bodies selected object_free short stood n
 
     -- the machine at its start, and where the forms begin
     abbrev first : Given → List Answer → View
@@ -266,7 +265,7 @@ module _ (plan : Plan) (body_steps : ℕ) (laid : Laid plan body_steps) (depth :
         (goes setting y2 (ready g answers) (MovWord 13 (pos depth)) h.2.2.0 [] h.2.2.1 refl)
 
     forms_done : (g : Given) (answers : List Answer) (n : ℕ)
-        → Owed plan body_steps laid depth room calls n p.bodies (callee n) (enters n) []
+        → Owed plan body_steps laid depth room n p.bodies (callee n) (enters n) []
         (starting_store p.statics limit answers n) (ready g answers) (forms_cost p.bodies) (outcome answers n)
     forms_done g answers n =
         let w = starting_world p.statics p.library limit answers n in
@@ -286,8 +285,8 @@ module _ (plan : Plan) (body_steps : ℕ) (laid : Laid plan body_steps) (depth :
           contents = s.contents;
           new = s.new;
         } in
-        forms_sim plan body_steps laid depth room calls n p.bodies (callee n) (enters n) p.bodies 0 (own_label p) rest
-        selected fitting (λ j c e. let sum : 0 + j ≡ j = omega arith in ap (slice_get p.bodies) sum ∙ e) [] w
+        forms_sim plan body_steps laid depth room n p.bodies (callee n) (enters n) p.bodies 0 (own_label p) rest
+        selected object_free (λ j c e. let sum : 0 + j ≡ j = omega arith in ap (slice_get p.bodies) sum ∙ e) [] w
         (ready g answers) h.2.2.2
         (record { parts = parts; frame = refl; deep = refl; few = omega arith; free = free; world = world }) refl
 

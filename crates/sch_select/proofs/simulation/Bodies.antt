@@ -35,7 +35,7 @@ use Rattle.sch_asm.specs.Views.{View, Leads, full}
 use Rattle.sch_asm.proofs.EachItem.{goes, branches, jumps}
 use Rattle.sch_heap.specs.Parts.{Parts}
 use Rattle.sch_heap.specs.Encoded.{IsWord}
-use Rattle.sch_select.specs.Covered.{may_stand}
+use Rattle.sch_frames.specs.ObjectFree.{may_stand}
 use Rattle.sch_select.specs.Select.{kind_of, place_operand, instruction_code, body_code}
 use Rattle.sch_heap.proofs.Encodings.{fits, false_tested}
 use Rattle.sch_select.proofs.simulation.Straight.{kept_set, moved_to}
@@ -70,8 +70,8 @@ body_cost [] = 0
 body_cost (i ∷ instructions) = instruction_cost i + body_cost instructions
 
 module _ (plan : Plan) (body_steps : ℕ) (laid : Laid plan body_steps) (act : Activation plan) (base out : ℕ)
-    (out_is : act.entered ≡ false → plan.setting.place_of out ≡ act.back) (calls : Bool) (callee : Callee)
-    (enters : calls ≡ true → Enters plan body_steps callee act.nested) where
+    (out_is : act.entered ≡ false → plan.setting.place_of out ≡ act.back) (callee : Callee)
+    (enters : Enters plan body_steps callee act.nested) where
   open plan use {setting, size, words, globals, stack}
 
   abbrev Here : List MarkKind → ℕ → List Item → Type 0
@@ -124,7 +124,7 @@ module _ (plan : Plan) (body_steps : ℕ) (laid : Laid plan body_steps) (act : A
 
   instruction_sim : (n : ℕ) (i : Instruction) (k : More) (c : ℕ) (rest : List Item) → Cont k c rest
       → (parts : Parts) (before waiting : List MarkKind) (f : Frame) (w : World) (x : View)
-      → instruction_selected words globals i ≡ true → may_stand calls (not act.entered) i ≡ true
+      → instruction_selected words globals i ≡ true → may_stand (not act.entered) i ≡ true
       → Here waiting x.place (instruction_code base out words stack n i rest) → In parts f w x → Kept parts w x
       → Holds act.back parts f.accumulator (x.registers 0) → map kind_of w.marks ≡ before ++ waiting
       → Owed parts before w x (instruction_cost i + c) (execute callee act.left i k f w)
@@ -266,13 +266,13 @@ module _ (plan : Plan) (body_steps : ℕ) (laid : Laid plan body_steps) (act : A
   instruction_sim n (Call true count) k c rest K parts before waiting f w x e e' h p g a m = absurd
       (let bad : false ≡ true = e in cc)
   instruction_sim n (Call false count) k c rest K parts before waiting f w x e e' h p g a m =
-      call_sim plan body_steps laid act callee (enters e') (k None) c rest
+      call_sim plan body_steps laid act callee enters (k None) c rest
       (λ parts before waiting f w x h p g a m. K None parts before waiting f w x h p g a m) parts before waiting f
       w x p g m n count (few_operands count e) h
   instruction_sim n (Tail true count) k c rest K parts before waiting f w x e e' h p g a m = absurd
       (let bad : false ≡ true = e in cc)
   instruction_sim n (Tail false count) k c rest K parts before waiting f w x e e' h p g a m =
-      tail_sim plan body_steps laid act callee (enters e') (k None) c rest
+      tail_sim plan body_steps laid act callee enters (k None) c rest
       (λ parts before waiting f w x h p g a m. K None parts before waiting f w x h p g a m) parts before waiting f
       w x p g m count (few_operands count e) h
   instruction_sim n (Fix members) k c rest K parts before waiting f w x e e' h p g a m =
@@ -370,15 +370,15 @@ module _ (plan : Plan) (body_steps : ℕ) (laid : Laid plan body_steps) (act : A
 
   pub body_sim : (n : ℕ) (instructions : List Instruction) (rest : List Item)
       → list_all (instruction_selected words globals) instructions ≡ true
-      → list_all (may_stand calls (not act.entered)) instructions ≡ true
+      → list_all (may_stand (not act.entered)) instructions ≡ true
       → Cont (execute_each callee act.left instructions) (body_cost instructions)
       (body_code base out words stack n instructions rest)
   body_sim n [] rest e e' look parts before waiting f w x h p g a m = tt
   body_sim n (i ∷ instructions) rest e e' None parts before waiting f w x h p g a m =
       let checks = and_parts (instruction_selected words globals i)
       (list_all (instruction_selected words globals) instructions) e in
-      let checks' = and_parts (may_stand calls (not act.entered) i)
-      (list_all (may_stand calls (not act.entered)) instructions) e' in
+      let checks' = and_parts (may_stand (not act.entered) i)
+      (list_all (may_stand (not act.entered)) instructions) e' in
       instruction_sim n i (execute_each callee act.left instructions) (body_cost instructions)
       (body_code base out words stack (n + 12) instructions rest)
       (body_sim (n + 12) instructions rest checks.1 checks'.1) parts before waiting f w x checks.0 checks'.0 h p g
@@ -386,8 +386,8 @@ module _ (plan : Plan) (body_steps : ℕ) (laid : Laid plan body_steps) (act : A
   body_sim n (i ∷ instructions) rest e e' (Some l) parts before waiting f w x h p g a m =
       let checks = and_parts (instruction_selected words globals i)
       (list_all (instruction_selected words globals) instructions) e in
-      let checks' = and_parts (may_stand calls (not act.entered) i)
-      (list_all (may_stand calls (not act.entered)) instructions) e' in
+      let checks' = and_parts (may_stand (not act.entered) i)
+      (list_all (may_stand (not act.entered)) instructions) e' in
       passed_over n i (execute_each callee act.left instructions) (body_cost instructions)
       (body_code base out words stack (n + 12) instructions rest)
       (body_sim (n + 12) instructions rest checks.1 checks'.1) l parts before waiting f w x h p g a m

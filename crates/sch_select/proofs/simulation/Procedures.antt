@@ -38,7 +38,9 @@ use Rattle.sch_asm.specs.Data.{word_in}
 use Rattle.sch_asm.specs.Views.{View, Leads, full}
 use Rattle.sch_asm.proofs.EachItem.{goes, branches}
 use Rattle.sch_heap.specs.Parts.{Parts}
-use Rattle.sch_select.specs.Covered.{can_be_entered, may_stand, takes_no_list}
+use Rattle.sch_control.specs.ObjectFree.{takes_no_list}
+use Rattle.sch_frames.specs.ObjectFree.{is_object_free_code, may_stand}
+use Rattle.sch_select.proofs.programs.FreeCodes.{IsFree, code_parts}
 use Rattle.sch_select.specs.Select.{kind_of, body_code, check_count, stop_label}
 use Rattle.sch_select.proofs.simulation.Straight.{Halts}
 use Rattle.sch_select.proofs.simulation.Places.{Plan, code_of, Activation, StoreAt, PlacesAt}
@@ -151,7 +153,7 @@ module _ (plan : Plan) (body_steps : ℕ) (laid : Laid plan body_steps) where
         }
 
   module _ (codes : List Code) (selected : list_all (form_selected words globals) codes ≡ true)
-      (fitting : list_all can_be_entered codes ≡ true) (short : bodies_cost codes ≤ body_steps)
+      (object_free : list_all is_object_free_code codes ≡ true) (short : bodies_cost codes ≤ body_steps)
       (stood : (label : ℕ) (c : Code) (e : Entry) → slice_get codes label ≡ Some c → c.entry ≡ Some e
       → BodyAt plan label c e) where
     abbrev callee : ℕ → Callee
@@ -218,9 +220,8 @@ module _ (plan : Plan) (body_steps : ℕ) (laid : Laid plan body_steps) where
             (list_all (instruction_selected words globals) c.instructions)
             (each_at (form_selected words globals) codes p.label c selected is)
 
-        fits : (takes_no_list c.entry ≡ true) × (list_all (may_stand true (is_form c.entry)) c.instructions ≡ true)
-        fits = and_parts (takes_no_list c.entry) (list_all (may_stand true (is_form c.entry)) c.instructions)
-            (each_at can_be_entered codes p.label c fitting is)
+        kept : IsFree c
+        kept = code_parts c (each_at is_object_free_code codes p.label c object_free is)
 
         formals_few : e.formals ≤ 200
         formals_few = leb-true e.formals max_operands (subst (λ o. nat_le (formals_of o) max_operands ≡ true) entry_of
@@ -272,10 +273,10 @@ module _ (plan : Plan) (body_steps : ℕ) (laid : Laid plan body_steps) where
           runs : Sim plan body_steps (inside act n nested_is) parts before v.state.store y (body_cost c.instructions)
               (execute_each (callee n) act.left c.instructions None (beginning (Some e) self vs) v)
           runs = body_sim plan body_steps laid (inside act n nested_is) b.n out
-              (λ q. absurd (let bad : true ≡ false = sym is_entered ∙ q in cc)) true (callee n) (λ q. enters)
+              (λ q. absurd (let bad : true ≡ false = sym is_entered ∙ q in cc)) (callee n) enters
               (out + 1) c.instructions (item.Label out ∷ b.following) checks.1
-              (subst (λ a. list_all (may_stand true (not a)) c.instructions ≡ true) (sym is_entered)
-              (subst (λ o. list_all (may_stand true (is_form o)) c.instructions ≡ true) entry_of fits.1))
+              (subst (λ a. list_all (may_stand (not a)) c.instructions ≡ true) (sym is_entered)
+              (subst (λ o. list_all (may_stand (is_form o)) c.instructions ≡ true) entry_of kept.stands))
               None parts before (Enter p.label ∷ []) (beginning (Some e) self vs) v y h.2.4 inside_at
               (store_taken parts w.state left x.bytes x.output x.answers g) tt
               (map_one w.marks (control.Enter p.label) ∙ ap (λ l. l ++ Enter p.label ∷ []) m)
@@ -311,7 +312,7 @@ module _ (plan : Plan) (body_steps : ℕ) (laid : Laid plan body_steps) where
 
         into : Owed (enter_body (bodies_of codes) (callee n) (Some e) self p vs act.left w)
         into =
-            let no_rest = no_list e.rest (subst (λ o. takes_no_list o ≡ true) entry_of fits.0) in
+            let no_rest = no_list e.rest (subst (λ o. takes_no_list o ≡ true) entry_of kept.no_list) in
             subst (λ r. Owed (on_outcome w.marks (in_store (fit e.formals r vs) w.state) (entering p.label)))
             (sym no_rest) (by_count (nat_eq (length vs) e.formals) refl)
 

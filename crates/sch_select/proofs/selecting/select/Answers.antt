@@ -3,12 +3,12 @@ use Rattle.std.specs.Prelude.{IsTrue, false}
 use Rattle.sch_asm.specs.Items.{AreItems, AreKnown, AreOwn, IsEachOnce, labels_in, marks_arrive}
 use Rattle.sch_asm.specs.Codes.{text_size}
 use Rattle.sch_frames.specs.ProgramView.{source}
-use Rattle.sch_frames.specs.Sizes.{program_size}
+use Rattle.sch_frames.specs.Sizes.{closures_in, program_size}
 use Rattle.sch_select.specs.Follows.{EndsFrames, EntersFrames, FollowsFrames, PassesFrames}
 use Rattle.sch_select.specs.Program.{max_data, max_stack, program_words, program_zeros, own_label}
-use Rattle.sch_select.specs.Sizes.{bodies_marked, closures_in, marks_in}
-use Rattle.sch_select.proofs.programs.CoveredPrograms.{calls_fitting, covered_selected, globals_known, labels_known}
-use Rattle.sch_select.proofs.programs.CoveredPrograms.{library_small, procedures_known}
+use Rattle.sch_select.specs.Sizes.{bodies_marked, marks_in}
+use Rattle.sch_select.proofs.programs.ObjectFreePrograms.{codes_free, globals_known, labels_known, object_free_selected}
+use Rattle.sch_select.proofs.programs.ObjectFreePrograms.{library_small, procedures_known}
 use Rattle.sch_select.proofs.programs.JoinedProgram.{frames_end, frames_enter, frames_follow, frames_pass}
 use Rattle.sch_select.proofs.items.ProgramFacts.{all_forward, bodies_count, data_end, globals_few, program_own}
 use Rattle.sch_select.proofs.items.ProgramFacts.{whole_items, whole_words, words_are, words_few}
@@ -31,7 +31,7 @@ lay_out-layout-requires-clause-few c = let e = c.len-globals.ensures in let f = 
 
 pub lay_out-layout-requires-clause-library : goal.lay_out-layout-requires-clause-library
 lay_out-layout-requires-clause-library c = let e = c.len-library.ensures in let f = library_small c.args.p.now
-    c.requires.covered in omega (arith, e, f)
+    c.requires.object_free in omega (arith, e, f)
 
 pub invariant_of-result : goal.invariant_of-result
 invariant_of-result c =
@@ -41,10 +41,10 @@ invariant_of-result c =
     let i = sym (whole_items q l.heap l.depth _ _ _ _ _ _ c.lay_out-layout.ensures.stack c.lay_out-layout.ensures.heap
     c.len-globals.ensures c.len-library.ensures (sym (bodies_count p.bodies)) c.in_ok-items.ensures) in
     let w = sym (whole_words q _ _ c.lay_out-layout.ensures.closures c.len-globals.ensures c.in_ok-words.ensures) in
-    let s = covered_selected p c.requires.covered in
+    let s = object_free_selected p c.requires.object_free in
     record {
       sound = subst AreItems i (program_sound q l.heap l.depth (words_few p) (globals_few p)
-          (library_small p c.requires.covered) l.admitted.heap_high l.admitted.depth_high s);
+          (library_small p c.requires.object_free) l.admitted.heap_high l.admitted.depth_high s);
       once = subst (λ is. IsEachOnce (labels_in is)) i (program_once q l.heap l.depth (all_forward p.bodies));
       known = subst (λ ws. AreKnown c.in_ok-items.items ws) w
           (subst (λ is. AreKnown is (program_words q)) i (program_known q l.heap l.depth (all_forward p.bodies)
@@ -61,13 +61,13 @@ returns-clause-follows c =
     c.len-globals.ensures c.len-library.ensures (sym (bodies_count p.bodies)) c.in_ok-items.ensures) in
     let w = sym (whole_words q _ _ c.lay_out-layout.ensures.closures c.len-globals.ensures c.in_ok-words.ensures) in
     subst (λ z. FollowsFrames q l.heap l.depth c.in_ok-items.items c.in_ok-words.words z)
-    (sym (c.lay_out-layout.ensures.zeros ∙ ap (λ n. l.heap + n) c.in_ok-stack_size.ensures.bytes))
+    (sym (c.lay_out-layout.ensures.zeros ∙ ap (λ n. l.heap + n) c.stack_of-stack_size.ensures.bytes))
     (subst (λ ws. FollowsFrames q l.heap l.depth c.in_ok-items.items ws (program_zeros q l.heap l.depth)) w
     (subst (λ is. FollowsFrames q l.heap l.depth is (program_words q) (program_zeros q l.heap l.depth)) i
-    (frames_follow q l.heap l.depth (words_few p) (globals_few p) (library_small p c.requires.covered)
-    l.admitted.heap_high l.admitted.depth_high (few_bytes _ _ c.in_ok-stack_size.ensures.bytes
-    c.in_ok-stack_size.ensures.few) (calls_fitting p c.requires.covered).0 (covered_selected p c.requires.covered)
-    (calls_fitting p c.requires.covered).1 (globals_known p))))
+    (frames_follow q l.heap l.depth (words_few p) (globals_few p) (library_small p c.requires.object_free)
+    l.admitted.heap_high l.admitted.depth_high (few_bytes _ _ c.stack_of-stack_size.ensures.bytes
+    c.stack_of-stack_size.ensures.few) (object_free_selected p c.requires.object_free)
+    (codes_free p c.requires.object_free) (globals_known p))))
 
 pub returns-clause-passes : goal.returns-clause-passes
 returns-clause-passes c =
@@ -78,13 +78,13 @@ returns-clause-passes c =
     c.len-globals.ensures c.len-library.ensures (sym (bodies_count p.bodies)) c.in_ok-items.ensures) in
     let w = sym (whole_words q _ _ c.lay_out-layout.ensures.closures c.len-globals.ensures c.in_ok-words.ensures) in
     subst (λ z. PassesFrames q l.heap l.depth c.in_ok-items.items c.in_ok-words.words z)
-    (sym (c.lay_out-layout.ensures.zeros ∙ ap (λ n. l.heap + n) c.in_ok-stack_size.ensures.bytes))
+    (sym (c.lay_out-layout.ensures.zeros ∙ ap (λ n. l.heap + n) c.stack_of-stack_size.ensures.bytes))
     (subst (λ ws. PassesFrames q l.heap l.depth c.in_ok-items.items ws (program_zeros q l.heap l.depth)) w
     (subst (λ is. PassesFrames q l.heap l.depth is (program_words q) (program_zeros q l.heap l.depth)) i
-    (frames_pass q l.heap l.depth (words_few p) (globals_few p) (library_small p c.requires.covered)
-    l.admitted.heap_high l.admitted.depth_high (few_bytes _ _ c.in_ok-stack_size.ensures.bytes
-    c.in_ok-stack_size.ensures.few) (calls_fitting p c.requires.covered).0 (covered_selected p c.requires.covered)
-    (calls_fitting p c.requires.covered).1 (globals_known p))))
+    (frames_pass q l.heap l.depth (words_few p) (globals_few p) (library_small p c.requires.object_free)
+    l.admitted.heap_high l.admitted.depth_high (few_bytes _ _ c.stack_of-stack_size.ensures.bytes
+    c.stack_of-stack_size.ensures.few) (object_free_selected p c.requires.object_free)
+    (codes_free p c.requires.object_free) (globals_known p))))
 
 pub returns-clause-steps : goal.returns-clause-steps
 returns-clause-steps c =
@@ -95,13 +95,13 @@ returns-clause-steps c =
     c.len-globals.ensures c.len-library.ensures (sym (bodies_count p.bodies)) c.in_ok-items.ensures) in
     let w = sym (whole_words q _ _ c.lay_out-layout.ensures.closures c.len-globals.ensures c.in_ok-words.ensures) in
     subst (λ z. EndsFrames q l.heap l.depth c.in_ok-items.items c.in_ok-words.words z)
-    (sym (c.lay_out-layout.ensures.zeros ∙ ap (λ n. l.heap + n) c.in_ok-stack_size.ensures.bytes))
+    (sym (c.lay_out-layout.ensures.zeros ∙ ap (λ n. l.heap + n) c.stack_of-stack_size.ensures.bytes))
     (subst (λ ws. EndsFrames q l.heap l.depth c.in_ok-items.items ws (program_zeros q l.heap l.depth)) w
     (subst (λ is. EndsFrames q l.heap l.depth is (program_words q) (program_zeros q l.heap l.depth)) i
-    (frames_end q l.heap l.depth (words_few p) (globals_few p) (library_small p c.requires.covered)
-    l.admitted.heap_high l.admitted.depth_high (few_bytes _ _ c.in_ok-stack_size.ensures.bytes
-    c.in_ok-stack_size.ensures.few) (calls_fitting p c.requires.covered).0 (covered_selected p c.requires.covered)
-    (calls_fitting p c.requires.covered).1 (globals_known p))))
+    (frames_end q l.heap l.depth (words_few p) (globals_few p) (library_small p c.requires.object_free)
+    l.admitted.heap_high l.admitted.depth_high (few_bytes _ _ c.stack_of-stack_size.ensures.bytes
+    c.stack_of-stack_size.ensures.few) (object_free_selected p c.requires.object_free)
+    (codes_free p c.requires.object_free) (globals_known p))))
 
 pub returns-clause-entries : goal.returns-clause-entries
 returns-clause-entries c =
@@ -112,13 +112,13 @@ returns-clause-entries c =
     c.len-globals.ensures c.len-library.ensures (sym (bodies_count p.bodies)) c.in_ok-items.ensures) in
     let w = sym (whole_words q _ _ c.lay_out-layout.ensures.closures c.len-globals.ensures c.in_ok-words.ensures) in
     subst (λ z. EntersFrames q l.heap l.depth c.in_ok-items.items c.in_ok-words.words z)
-    (sym (c.lay_out-layout.ensures.zeros ∙ ap (λ n. l.heap + n) c.in_ok-stack_size.ensures.bytes))
+    (sym (c.lay_out-layout.ensures.zeros ∙ ap (λ n. l.heap + n) c.stack_of-stack_size.ensures.bytes))
     (subst (λ ws. EntersFrames q l.heap l.depth c.in_ok-items.items ws (program_zeros q l.heap l.depth)) w
     (subst (λ is. EntersFrames q l.heap l.depth is (program_words q) (program_zeros q l.heap l.depth)) i
-    (frames_enter q l.heap l.depth (words_few p) (globals_few p) (library_small p c.requires.covered)
-    l.admitted.heap_high l.admitted.depth_high (few_bytes _ _ c.in_ok-stack_size.ensures.bytes
-    c.in_ok-stack_size.ensures.few) (calls_fitting p c.requires.covered).0 (covered_selected p c.requires.covered)
-    (calls_fitting p c.requires.covered).1 (globals_known p))))
+    (frames_enter q l.heap l.depth (words_few p) (globals_few p) (library_small p c.requires.object_free)
+    l.admitted.heap_high l.admitted.depth_high (few_bytes _ _ c.stack_of-stack_size.ensures.bytes
+    c.stack_of-stack_size.ensures.few) (object_free_selected p c.requires.object_free)
+    (codes_free p c.requires.object_free) (globals_known p))))
 
 pub returns-clause-own : goal.returns-clause-own
 returns-clause-own c =
@@ -172,10 +172,10 @@ returns-clause-ends c =
     let w = sym (whole_words q _ _ c.lay_out-layout.ensures.closures c.len-globals.ensures c.in_ok-words.ensures) in
     subst (λ ws. 8 * length ws + c.lay_out-layout.result.zeros ≤ max_data) w
     (subst (λ z. 8 * length (program_words q) + z ≤ max_data)
-    (sym (c.lay_out-layout.ensures.zeros ∙ ap (λ n. l.heap + n) c.in_ok-stack_size.ensures.bytes))
-    (data_end q l.heap l.depth (few_bytes _ _ c.in_ok-stack_size.ensures.bytes c.in_ok-stack_size.ensures.few)
-    (globals_few p) (library_small p c.requires.covered) l.admitted.heap_high))
+    (sym (c.lay_out-layout.ensures.zeros ∙ ap (λ n. l.heap + n) c.stack_of-stack_size.ensures.bytes))
+    (data_end q l.heap l.depth (few_bytes _ _ c.stack_of-stack_size.ensures.bytes c.stack_of-stack_size.ensures.few)
+    (globals_few p) (library_small p c.requires.object_free) l.admitted.heap_high))
 
 pub returns-clause-zeros : goal.returns-clause-zeros
 returns-clause-zeros c = c.lay_out-layout.ensures.zeros
-    ∙ ap (λ n. c.args.limits.heap + n) c.in_ok-stack_size.ensures.bytes
+    ∙ ap (λ n. c.args.limits.heap + n) c.stack_of-stack_size.ensures.bytes
