@@ -56,16 +56,17 @@ not_wrong : (a b : Option Run) (r : Run) → a ≡ Some r → Follows a b → b 
 not_wrong a b r e = subst (λ o. Follows o b → b ≡ Some r) (sym e) (λ f. f)
 
 -- What is selected of the frames, with the routines, follows the runs of the control program.
-pub assembled : (p : control.Source) (f : frames.Source) (heap depth : ℕ) (a routines : Asm) (code : List Insn) (marks : List Mark) (words text : List ℕ) (zeros : ℕ) (image : Image)
-    → SameRuns p f → FollowsFrames f heap depth a.items a.words a.zeros → a.zeros ≡ program_zeros f heap depth → IsFrameSize p f.words → frames_bytes f.words depth ≤ max_stack
+pub assembled : (p : control.Source) (f : frames.Source) (heap depth : ℕ) (a routines : Asm) (code : List Insn) (marks : List Mark) (words text : List ℕ) (zeros : ℕ) (image : Image) (instructions : ℕ)
+    → instructions ≡ length code → SameRuns p f → FollowsFrames f heap depth a.items a.words a.zeros → a.zeros ≡ program_zeros f heap depth → IsFrameSize p f.words → frames_bytes f.words depth ≤ max_stack
     → AreEffective routines.items → AreResolved (a.items ++ routines.items) a.words code marks words → AllValid code
     → length (flat_map spelling code) ≤ max_text_size → length (flat_map spelling code) ≤ assembled_bound p
-    → text ≡ flat_map spelling code → zeros ≡ a.zeros → IsProgramImage text words zeros image → IsAssembled p heap depth f.words image
-assembled p f heap depth a routines code marks words text zeros image same follows room frame stack effective resolved valid short bound text_is zeros_are lies =
+    → text ≡ flat_map spelling code → zeros ≡ a.zeros → IsProgramImage text words zeros image → IsAssembled p heap depth f.words instructions image
+assembled p f heap depth a routines code marks words text zeros image instructions counted same follows room frame stack effective resolved valid short bound text_is zeros_are lies =
     let lies' : IsProgramImage (flat_map spelling code) words a.zeros image =
     subst (λ t. IsProgramImage t words a.zeros image) text_is (subst (λ z. IsProgramImage text words z image) zeros_are lies) in
     record {
       laid_out = record { code = code; valid = valid; short = short; words = words; zeros = a.zeros; lies = lies' };
+      counted = counted;
       bound = bound;
       room = room;
       frame = frame;

@@ -29,10 +29,11 @@ pub record IsFrameSize (p : Source) (words : ℕ) : Type 0 where
   pub few : words ≤ max_frame
   pub bound : words ≤ 200 + most_variables p.bodies
 
--- The image is laid out as a program's, with room behind its words for the heap and for frames of so many words at
+-- The image is laid out as a program's of so many instructions, with room behind its words for the heap and for frames of so many words at
 -- this depth, and where the control program is never wrong, it follows its runs.
-pub record IsAssembled (p : Source) (heap depth frame_words : ℕ) (image : Image) : Type 0 where
+pub record IsAssembled (p : Source) (heap depth frame_words instructions : ℕ) (image : Image) : Type 0 where
   pub laid_out : HasProgramLayout image
+  pub counted : instructions ≡ length laid_out.code
   pub bound : length (flat_map spelling laid_out.code) ≤ assembled_bound p
   pub room : laid_out.zeros ≡ heap + stack_bytes frame_words depth
   pub frame : IsFrameSize p frame_words

@@ -8,6 +8,7 @@ use Rattle.sch_orders.specs.Table.{given_table}
 use Rattle.sch_select.specs.Program.{frames_bytes, max_stack, stack_bytes}
 use Rattle.sch_driver.specs.Causes.{IsBuilt, MayHaveFrames, text_bound}
 use Rattle.sch_passes.specs.Chain.{RunsAs}
+use Rattle.sch_driver.specs.declared.listing.Listing.{Listing}
 use Rattle.sch_driver.specs.Headline.{IsProgram}
 
 -- The orders are those given for a control program that runs as the core program.
@@ -16,15 +17,16 @@ pub record AreGiven (p : tree.Source) (orders : List (List ℕ)) : Type 0 where
   pub runs : RunsAs p program
   pub given : orders ≡ given_table program
 
--- The file is a program for the core program of a text, under these limits and the orders that are listed. Its
--- text is no longer than the size of the core program allows. Behind the words of its data it has room for the heap
--- and for the frames of calls, of the words that are listed.
-pub record IsCompiled (text : List ℕ) (heap depth : ℕ) (file : List ℕ) (orders : List (List ℕ)) (frame_words : ℕ) : Type 0 where
+-- The file is a program for the core program of a text, under these limits and the orders that are listed, of as many
+-- instructions as are listed. Its text is no longer than the size of the core program allows. Behind the words of its
+-- data it has room for the heap and for the frames of calls, of the words that are listed.
+pub record IsCompiled (text : List ℕ) (heap depth : ℕ) (file : List ℕ) (listing : Listing) : Type 0 where
   pub program : tree.Source
   pub built : IsBuilt text program
-  pub is_program : IsProgram file program orders heap depth
-  pub listed : AreGiven program orders
+  pub is_program : IsProgram file program listing.orders heap depth
+  pub listed : AreGiven program listing.orders
+  pub counted : listing.instructions ≡ length is_program.does.laid_out.code
   pub bound : length (flat_map spelling is_program.does.laid_out.code) ≤ text_bound program
-  pub room : is_program.does.laid_out.zeros ≡ heap + stack_bytes frame_words depth
-  pub frame : MayHaveFrames program frame_words
-  pub fits : frames_bytes frame_words depth ≤ max_stack
+  pub room : is_program.does.laid_out.zeros ≡ heap + stack_bytes listing.frame_words depth
+  pub frame : MayHaveFrames program listing.frame_words
+  pub fits : frames_bytes listing.frame_words depth ≤ max_stack

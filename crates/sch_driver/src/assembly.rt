@@ -39,11 +39,12 @@ fn text_of(alloc: Global, code: &[Insn]) -> Result<Bytes, Mem>
     Ok(text)
 }
 
-/// An image, and the words of its largest frame.
+/// An image, with how many words its largest frame has and how many instructions its text.
 #[derive(Drop)]
 pub(crate) struct Assembled {
     pub(crate) image: Image,
     pub(crate) frame_words: u32,
+    pub(crate) instructions: u64,
 }
 
 /// Checks that frames of so many words have room on the stack at a depth.
@@ -66,7 +67,7 @@ pub(crate) fn assemble(
     limits: Limits,
 ) -> Result<Assembled, CompileError>
     requires object_free { IsTrue (is_object_free_program (source p.now)) }
-    ensures does { IfOk result (λ a. IsAssembled (source p.now) limits.heap limits.depth a.frame_words a.image) }
+    ensures does { IfOk result (λ a. IsAssembled (source p.now) limits.heap limits.depth a.frame_words a.instructions a.image) }
     ensures refused { IfErr result (IsUnfit (source p.now) limits.depth) }
 {
     let frames = frame_program(alloc, p)?;
@@ -74,10 +75,12 @@ pub(crate) fn assemble(
     let code = select(alloc, &frames, limits)?;
     let routines = routines(alloc, limits)?;
     let resolved = resolve(alloc, &code, &routines)?;
+    let instructions = resolved.code.len() as u64;
     let text = text_of(alloc, resolved.code.as_slice())?;
     let image = program_image(alloc, text, resolved.words, resolved.zeros)?;
     Ok(Assembled {
         image,
         frame_words: frames.words,
+        instructions,
     })
 }

@@ -8,37 +8,22 @@ ghost use Rattle.sch_driver.specs.Compiled.{IsCompiled};
 mod assembly;
 mod error;
 mod laws;
+mod listing;
 mod reading;
 
 use crate::assembly::assemble;
 use crate::reading::read_program;
 pub use error::CompileError;
 pub use laws::a_text_is_built_or_not;
+pub use listing::{Compiled, Listing};
 use sch_elf::write_image;
 use sch_orders::given_orders;
 use sch_passes::control_program;
-use sch_word::{Bytes, Limits, List};
+use sch_word::Limits;
 use std::alloc::Global;
 
 /// The most bytes of a source: 1 MiB.
 pub const MAX_SOURCE_SIZE: u64 = 1 << 20;
-
-/// What is listed of a program that is compiled.
-#[derive(Drop)]
-pub struct Listing {
-    /// For each site of its core program the order in which the parts of the site are evaluated (R5RS 4.1.3 leaves
-    /// it open).
-    pub orders: List<List<u32>>,
-    /// How many words of 8 bytes its largest frame has.
-    pub frame_words: u32,
-}
-
-/// The file of a compiled program, and its listing.
-#[derive(Drop)]
-pub struct Compiled {
-    pub image: Bytes,
-    pub listing: Listing,
-}
 
 /// Compiles a text: the file, an executable for x86-64, does what the text means, under limits of heap and
 /// depth and with the orders that are listed.
@@ -46,7 +31,7 @@ pub struct Compiled {
 /// An error has its cause in the text, or is out of memory. No pass is quadratic in the text.
 pub fn compile(alloc: Global, text: &[u8], limits: Limits) -> Result<Compiled, CompileError>
     requires short { length text.now ≤ max_source_size }
-    ensures compiled { IfOk result (λ c. IsCompiled text.now limits.heap limits.depth c.image c.listing.orders c.listing.frame_words) }
+    ensures compiled { IfOk result (λ c. IsCompiled text.now limits.heap limits.depth c.image c.listing) }
     ensures refused { IfErr result (IsErrorOf text.now limits.depth) }
 {
     let program = read_program(alloc, text)?;
@@ -59,6 +44,7 @@ pub fn compile(alloc: Global, text: &[u8], limits: Limits) -> Result<Compiled, C
         listing: Listing {
             orders,
             frame_words: assembled.frame_words,
+            instructions: assembled.instructions,
         },
     })
 }

@@ -41,6 +41,7 @@ returns-clause-compiled c =
         given = c.in_ok-orders.ensures.orders;
       };
       bound = bound_chain p (control.source c.in_ok-control.control) does.laid_out.code does.bound c.in_ok-control.ensures.work;
+      counted = does.counted;
       room = does.room;
       frame = frame_chain p (control.source c.in_ok-control.control) c.in_ok-assembled.assembled.frame_words does.frame c.in_ok-control.ensures.variables;
       fits = does.fits;
