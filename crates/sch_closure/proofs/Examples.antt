@@ -1,8 +1,10 @@
 -- What closing makes of small programs: fields in the order in which variables are free, a group whose first
 -- procedure takes the second, a variable that is free in a procedure inside, and a cell in a body.
-use Rattle.std.proofs.Common.{◌≡◌, refl, true, false, [], ◌∷◌}
-use Rattle.sch_cells.specs.Tree.{variable, fix, lambda, call, no_lambdas, and_lambda, trees}
+use Rattle.std.proofs.Common.{◌≡◌, refl, Bool, true, false, [], ◌∷◌}
+use Rattle.sch_cells.specs.ObjectFree.{is_object_free_program}
+use Rattle.sch_cells.specs.Tree.{variable, fix, lambda, call, no_lambdas, and_lambda, trees, Source}
 use Rattle.sch_cells.specs.Examples.{function, program, nested_lambdas, even_odd, assigned_formal_boxed}
+use Rattle.sch_flat.specs.ObjectFree as to
 use Rattle.sch_flat.specs.Tree as flat
 use Rattle.sch_flat.specs.Tree.{bound, free, make_closure, fix_closures}
 use Rattle.sch_flat.specs.Examples as made
@@ -39,8 +41,33 @@ in_a_group = refl
 
 -- ## Weights, before and after: of three procedures (6, 4, 4), and of a group of two (5 each)
 
-nested_weight : (weight_before nested_lambdas ∷ weight_after nested ∷ []) ≡ 54 ∷ 54 ∷ []
+nested_weight : (weight_before nested_lambdas ∷ weight_after nested ∷ []) ≡ 57 ∷ 57 ∷ []
 nested_weight = refl
 
-group_weight : (weight_before even_odd ∷ weight_after made.even_odd ∷ []) ≡ 105 ∷ 105 ∷ []
+group_weight : (weight_before even_odd ∷ weight_after made.even_odd ∷ []) ≡ 108 ∷ 108 ∷ []
 group_weight = refl
+
+-- ## Object-free programs, before and after
+
+group_free : (is_object_free_program even_odd ∷ to.is_object_free_program made.even_odd ∷ []) ≡ true ∷ true ∷ []
+group_free = refl
+
+-- a library of one procedure, which calls its formal with it
+abbrev calling : (rest spread : Bool) → Source
+calling rest spread = record {
+  statics = even_odd.statics;
+  library = and_lambda [] 0 1 rest (call 0 spread (variable 0) (trees (variable 0 ∷ []))) no_lambdas;
+  forms = trees [];
+  sites = 2 ∷ [];
+  variables = 1;
+}
+
+library_free : (is_object_free_program (calling false false) ∷ to.is_object_free_program (closed_source (calling false false)) ∷ []) ≡ true ∷ true ∷ []
+library_free = refl
+
+-- a procedure that takes a list, and a call that spreads one
+rest_row : (is_object_free_program (calling true false) ∷ to.is_object_free_program (closed_source (calling true false)) ∷ []) ≡ false ∷ false ∷ []
+rest_row = refl
+
+spread_row : (is_object_free_program (calling false true) ∷ to.is_object_free_program (closed_source (calling false true)) ∷ []) ≡ false ∷ false ∷ []
+spread_row = refl

@@ -1,5 +1,5 @@
 -- Worked rows: what normalizing makes, and how it runs.
-use Rattle.std.proofs.Common.{map, ◌≡◌, refl, ℕ, true, false, [], ◌∷◌, Some, None, pos, negsuc}
+use Rattle.std.proofs.Common.{map, ◌≡◌, refl, ℕ, Bool, true, false, [], ◌∷◌, Some, None, pos, negsuc}
 use Rattle.std.specs.Prelude.{◌&&◌}
 use Rattle.std.specs.List.{list_all}
 use Rattle.std.specs.Fmt.{signed_decimal}
@@ -7,12 +7,14 @@ use Rattle.sch_word.specs.declared.constant.Const.TheVariants.{Fixnum}
 use Rattle.sch_word.specs.declared.primitive.Primitive.TheVariants.{Add, Car, Cons, IsPair, Put}
 use Rattle.sch_word.specs.values.Literals.{no_literals}
 use Rattle.sch_word.specs.runs.Runs.{ended}
+use Rattle.sch_flat.specs.ObjectFree as from
 use Rattle.sch_flat.specs.Tree as flat
 use Rattle.sch_flat.specs.Tree.{Tree, Trees, constant, global, set_global, branch, sequence, bind, call, operation, make_closure, variable, cell_set, trees}
 use Rattle.sch_control.specs.declared.operation.Atom.TheVariants as atom
 use Rattle.sch_control.specs.declared.operation.Operand.{Operand}
 use Rattle.sch_control.specs.declared.operation.Operand.TheVariants as operand
 use Rattle.sch_control.specs.declared.operation.Operation.TheVariants as does
+use Rattle.sch_control.specs.ObjectFree.{is_object_free_program}
 use Rattle.sch_control.specs.Tree as to
 use Rattle.sch_control.specs.Tree.{Expression}
 use Rattle.sch_control.specs.Run as control
@@ -115,8 +117,30 @@ size_row = refl
 
 -- the first form is a closure that is bound, set and ends; its procedure is entered, displays its formal and returns it;
 -- the second form binds a pair, what it takes of it, and the operator
-work_row : map code_work (normal_source two_forms).bodies ≡ 5 ∷ 7 ∷ 18 ∷ []
+work_row : map code_work (normal_source two_forms).bodies ≡ 5 ∷ 7 ∷ 19 ∷ []
 work_row = refl
 
-weight_row : weight two_forms ≡ 39
+weight_row : weight two_forms ≡ 40
 weight_row = refl
+
+-- ## A library of one procedure, which calls its formal with it, and a form that calls a global: before and after
+
+abbrev calling : (rest spread : Bool) → flat.Source
+calling rest spread = record {
+  statics = two_forms.statics;
+  library = 0 ∷ [];
+  bodies = record { name = []; first = 0; formals = 1; rest = rest; fields = 0; code = call 0 spread (variable (flat.bound 0)) (trees (variable (flat.bound 0) ∷ [])) } ∷ [];
+  forms = trees (call 1 false (global 0) (trees (call 2 false (global 0) (trees []) ∷ [])) ∷ []);
+  starts = 1 ∷ [];
+  sites = 2 ∷ 2 ∷ 1 ∷ [];
+}
+
+called_row : (from.is_object_free_program (calling false false) ∷ is_object_free_program (normal_source (calling false false)) ∷ []) ≡ true ∷ true ∷ []
+called_row = refl
+
+-- a procedure that takes a list, and a call that spreads one
+rest_row : (from.is_object_free_program (calling true false) ∷ is_object_free_program (normal_source (calling true false)) ∷ []) ≡ false ∷ false ∷ []
+rest_row = refl
+
+spread_row : (from.is_object_free_program (calling false true) ∷ is_object_free_program (normal_source (calling false true)) ∷ []) ≡ false ∷ false ∷ []
+spread_row = refl

@@ -1,21 +1,24 @@
 -- Object-free code stays object-free, the bodies of its procedures too.
-use Rattle.std.proofs.Common.{ℕ, suc, ◌+◌, Bool, true, List, [], ◌∷◌, ◌++◌, refl}
-use Rattle.std.specs.Prelude.{IsTrue, ◌&&◌}
+use Rattle.std.proofs.Common.{◌≡◌, ℕ, suc, ◌+◌, Bool, List, [], ◌∷◌, ◌++◌, length, refl, ap}
+use Rattle.std.specs.Prelude.{IsTrue, ◌&&◌, not, nat_le}
 use Rattle.std.specs.List.{list_all}
-use Rattle.sch_word.specs.trees.Straight.{is_straight_primitive, is_object_free_node, is_empty}
+use Rattle.sch_word.specs.trees.Shape.{max_library}
+use Rattle.sch_word.specs.trees.Straight.{is_straight_primitive, takes_no_list}
 use Rattle.sch_word.proofs.Shaped.{parts, both_true}
-use Rattle.sch_cells.specs.ObjectFree.{is_object_free, are_object_free, is_object_free_program}
-use Rattle.sch_cells.specs.Measures.{over_lambdas, shape}
-use Rattle.sch_cells.specs.Straight.{no_procedures}
-use Rattle.sch_cells.specs.Tree.{Tree, Trees, Lambdas, Source, constant, literal, variable, global, set_variable, set_global, define, branch, sequence, bind, fix, letrec, lambda, call, operation, new_cells, cell_get, cell_set, no_trees, and_tree, no_lambdas, and_lambda}
+use Rattle.sch_cells.specs.Bodies as text
+use Rattle.sch_cells.specs.ObjectFree.{is_object_free, are_object_free, are_object_free_bodies, is_object_free_library, is_object_free_program}
+use Rattle.sch_cells.specs.Tree.{Tree, Trees, Lambdas, Source, constant, literal, variable, global, set_variable, set_global, define, branch, sequence, bind, fix, letrec, lambda, call, operation, new_cells, cell_get, cell_set, no_trees, and_tree, no_lambdas, and_lambda, count_lambdas}
 use Rattle.sch_flat.specs.ObjectFree as to
 use Rattle.sch_flat.specs.Tree as flat
 use Rattle.sch_closure.specs.Closed.{place, procedures, procedures_each, procedures_lambdas, fields_of, closed, closed_each, body_of, all_procedures, all_of_each, all_of_lambdas, labels, closed_source}
 use Rattle.sch_closure.specs.Fresh.{Fresh, FreshEach, FreshLambdas}
 
--- the bodies of some procedures
+-- no procedure takes a list
+abbrev take_no_lists : Lambdas → Bool
+take_no_lists ls = list_all takes_no_list (text.procedures ls)
+
 abbrev are_free : Lambdas → Bool
-are_free = over_lambdas true (λ a b. a && b) (λ e. is_object_free_node (shape e))
+are_free ls = take_no_lists ls && are_object_free_bodies ls
 
 abbrev all_free : List flat.Body → Bool
 all_free = list_all to.is_object_free_body
@@ -48,11 +51,14 @@ mutual
       let p = parts (are_object_free es) (is_object_free e) s in
       both_true (each_kept es fs n f.1 p.0) (tree_kept e fs (n + procedures_each es) f.2 p.1)
   tree_kept (fix x ls e) fs n f s =
-      let p = parts (are_free ls) (is_object_free e) s in
-      tree_kept e fs (n + procedures_lambdas ls) f.2 p.1
+      let p = parts (take_no_lists ls) (are_object_free_bodies ls && is_object_free e) s in
+      tree_kept e fs (n + procedures_lambdas ls) f.2 (parts (are_object_free_bodies ls) (is_object_free e) p.1).1
   tree_kept (letrec site x es e) fs n f s = absurd f
   tree_kept (lambda name x m rest e) fs n f s = refl
-  tree_kept (call site spread g es) fs n f s = absurd (cc)
+  tree_kept (call site spread g es) fs n f s =
+      let p = parts (not spread) (is_object_free g && are_object_free es) s in
+      let q = parts (is_object_free g) (are_object_free es) p.1 in
+      both_true p.0 (both_true (tree_kept g fs n f.0 q.0) (each_kept es fs (n + procedures g) f.1 q.1))
   tree_kept (operation site which es) fs n f s =
       let p = parts (is_straight_primitive which) (are_object_free es) s in
       both_true p.0 (each_kept es fs n f p.1)
@@ -85,11 +91,17 @@ mutual
       let p = parts (are_object_free es) (is_object_free e) s in
       all_append (all_of_each body_of es n) (all_procedures body_of e (n + procedures_each es)) (bodies_of_each es fs n f.1 p.0) (bodies_kept e fs (n + procedures_each es) f.2 p.1)
   bodies_kept (fix x ls e) fs n f s =
-      let p = parts (are_free ls) (is_object_free e) s in
-      all_append (all_of_lambdas body_of ls n) (all_procedures body_of e (n + procedures_lambdas ls)) (bodies_of_lambdas ls n f.1 p.0) (bodies_kept e fs (n + procedures_lambdas ls) f.2 p.1)
+      let p = parts (take_no_lists ls) (are_object_free_bodies ls && is_object_free e) s in
+      let q = parts (are_object_free_bodies ls) (is_object_free e) p.1 in
+      all_append (all_of_lambdas body_of ls n) (all_procedures body_of e (n + procedures_lambdas ls)) (bodies_of_lambdas ls n f.1 p.0 q.0) (bodies_kept e fs (n + procedures_lambdas ls) f.2 q.1)
   bodies_kept (letrec site x es e) fs n f s = absurd f
-  bodies_kept (lambda name x m rest e) fs n f s = both_true (tree_kept e (fields_of x m e) (suc n) f.1 s) (bodies_kept e (fields_of x m e) (suc n) f.1 s)
-  bodies_kept (call site spread g es) fs n f s = absurd (cc)
+  bodies_kept (lambda name x m rest e) fs n f s =
+      let p = parts (not rest) (is_object_free e) s in
+      both_true (both_true p.0 (tree_kept e (fields_of x m e) (suc n) f.1 p.1)) (bodies_kept e (fields_of x m e) (suc n) f.1 p.1)
+  bodies_kept (call site spread g es) fs n f s =
+      let p = parts (not spread) (is_object_free g && are_object_free es) s in
+      let q = parts (is_object_free g) (are_object_free es) p.1 in
+      all_append (all_procedures body_of g n) (all_of_each body_of es (n + procedures g)) (bodies_kept g fs n f.0 q.0) (bodies_of_each es fs (n + procedures g) f.1 q.1)
   bodies_kept (operation site which es) fs n f s = bodies_of_each es fs n f (parts (is_straight_primitive which) (are_object_free es) s).1
   bodies_kept (new_cells cs e) fs n f s = bodies_kept e fs n f.1 s
   bodies_kept (cell_get x) fs n f s = refl
@@ -101,25 +113,25 @@ mutual
       let p = parts (is_object_free e) (are_object_free es) s in
       all_append (all_procedures body_of e n) (all_of_each body_of es (n + procedures e)) (bodies_kept e fs n f.0 p.0) (bodies_of_each es fs (n + procedures e) f.1 p.1)
 
-  bodies_of_lambdas : (ls : Lambdas) (n : ℕ) → FreshLambdas ls → IsTrue (are_free ls) → IsTrue (all_free (all_of_lambdas body_of ls n))
-  bodies_of_lambdas no_lambdas n f s = refl
-  bodies_of_lambdas (and_lambda name x m rest e ls) n f s =
-      let p = parts (is_object_free e) (are_free ls) s in
-      both_true (tree_kept e (fields_of x m e) (suc n) f.0.1 p.0)
-      (all_append (all_procedures body_of e (suc n)) (all_of_lambdas body_of ls (suc n + procedures e)) (bodies_kept e (fields_of x m e) (suc n) f.0.1 p.0) (bodies_of_lambdas ls (suc n + procedures e) f.1 p.1))
+  bodies_of_lambdas : (ls : Lambdas) (n : ℕ) → FreshLambdas ls → IsTrue (take_no_lists ls) → IsTrue (are_object_free_bodies ls) → IsTrue (all_free (all_of_lambdas body_of ls n))
+  bodies_of_lambdas no_lambdas n f r s = refl
+  bodies_of_lambdas (and_lambda name x m rest e ls) n f r s =
+      let p = parts (is_object_free e) (are_object_free_bodies ls) s in
+      let q = parts (not rest) (take_no_lists ls) r in
+      both_true (both_true q.0 (tree_kept e (fields_of x m e) (suc n) f.0.1 p.0))
+      (all_append (all_procedures body_of e (suc n)) (all_of_lambdas body_of ls (suc n + procedures e)) (bodies_kept e (fields_of x m e) (suc n) f.0.1 p.0) (bodies_of_lambdas ls (suc n + procedures e) f.1 q.1 p.1))
 
-none_free : (ls : Lambdas) → IsTrue (no_procedures ls) → IsTrue (are_free ls)
-none_free no_lambdas h = refl
-none_free (and_lambda name x m rest e ls) h = absurd (cc)
-
-no_labels : (ls : Lambdas) → IsTrue (no_procedures ls) → IsTrue (is_empty (labels ls 0))
-no_labels no_lambdas h = refl
-no_labels (and_lambda name x m rest e ls) h = absurd (cc)
+-- each procedure of the library has a label
+labels_length : (ls : Lambdas) (n : ℕ) → length (labels ls n) ≡ count_lambdas ls
+labels_length no_lambdas n = refl
+labels_length (and_lambda name x m rest e ls) n = ap suc (labels_length ls (suc n + procedures e))
 
 pub object_free_kept : (p : Source) → FreshLambdas p.library → FreshEach p.forms [] → IsTrue (is_object_free_program p) → IsTrue (to.is_object_free_program (closed_source p))
 object_free_kept p fl f s =
-    let k = parts (no_procedures p.library) (are_object_free p.forms) s in
+    let k = parts (is_object_free_library p.library) (are_object_free p.forms) s in
+    let few = parts (nat_le (count_lambdas p.library) max_library) (are_free p.library) k.0 in
+    let l = parts (take_no_lists p.library) (are_object_free_bodies p.library) few.1 in
     let n = procedures_lambdas p.library in
-    both_true (no_labels p.library k.0)
-    (both_true (all_append (all_of_lambdas body_of p.library 0) (all_of_each body_of p.forms n) (bodies_of_lambdas p.library 0 fl (none_free p.library k.0)) (bodies_of_each p.forms [] n f k.1))
+    both_true (rw (labels_length p.library 0) few.0)
+    (both_true (all_append (all_of_lambdas body_of p.library 0) (all_of_each body_of p.forms n) (bodies_of_lambdas p.library 0 fl l.0 l.1) (bodies_of_each p.forms [] n f k.1))
     (each_kept p.forms [] n f k.1))

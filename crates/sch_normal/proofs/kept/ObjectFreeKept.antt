@@ -1,20 +1,23 @@
 -- The normal form of object-free code is object-free, and so are the bodies of its procedures.
 use Rattle.std.proofs.Common.{◌≡◌, ℕ, zero, suc, ◌+◌, ◌-◌, Bool, true, false, cond, List, [], ◌∷◌, ◌++◌, length, map, take, drop, refl, Option, Some, None}
-use Rattle.std.specs.Prelude.{◌&&◌}
+use Rattle.std.specs.Prelude.{◌&&◌, not, nat_le}
 use Rattle.std.specs.List.{list_all}
+use Rattle.std.proofs.lemmas.List.{length-map}
 use Rattle.sch_word.specs.trees.Bindings.{numbers, with_variables}
-use Rattle.sch_word.specs.trees.Straight.{is_straight_primitive, is_empty}
+use Rattle.sch_word.specs.trees.Shape.{max_library}
+use Rattle.sch_word.specs.trees.Straight.{is_straight_primitive}
 use Rattle.sch_flat.specs.ObjectFree as from
 use Rattle.sch_flat.specs.Tree as flat
 use Rattle.sch_flat.specs.Tree.{Tree, Trees, Body, Made, NewCell, Variable, constant, literal, variable, global, set_global, define, branch, sequence, bind, make_closure, fix_closures, call, operation, new_cells, cell_get, cell_set, no_trees, and_tree}
-use Rattle.sch_control.specs.ObjectFree.{is_object_free_source, is_object_free_member, is_object_free_operation, is_object_free, is_object_free_code, is_object_free_program}
+use Rattle.sch_control.specs.ObjectFree.{is_object_free_source, is_object_free_member, is_object_free_operation, is_object_free_application, is_object_free, is_object_free_code, is_object_free_program}
 use Rattle.sch_control.specs.Straight.{is_straight_atom, is_straight_operand}
+use Rattle.sch_control.specs.declared.operation.Application.{Application}
 use Rattle.sch_control.specs.declared.operation.Atom.TheVariants as atom
 use Rattle.sch_control.specs.declared.operation.Operand.TheVariants as operand
 use Rattle.sch_control.specs.declared.operation.Operation.TheVariants as does
 use Rattle.sch_control.specs.Tree as tree
 use Rattle.sch_control.specs.Tree.{Expression, Code}
-use Rattle.sch_normal.specs.Normal.{Scope, is_simple, atom_of, atoms_of, simple_operand, source_of, needs_variable, part_binds, binds, inits_bind, init_numbers, numbers_for, operand_at, operands_at, members_of, cell_operation, cells_scope, finished, bound_unless, normal, normal_parts, with_new_cells, with_operands, with_inits, procedure_code, form_code, normal_bodies, normal_source, new_label}
+use Rattle.sch_normal.specs.Normal.{Scope, is_simple, atom_of, atoms_of, simple_operand, source_of, needs_variable, part_binds, binds, operands_bind, inits_bind, init_numbers, numbers_for, operand_at, operands_at, members_of, cell_operation, cells_scope, finished, called, bound_unless, normal, normal_parts, with_new_cells, with_operands, with_inits, procedure_code, form_code, normal_bodies, normal_source, new_label}
 use Rattle.sch_normal.proofs.runs.Orders.{and_left, and_right}
 use Rattle.sch_normal.proofs.valid.Parts.{both}
 
@@ -93,6 +96,10 @@ finished_free : (tail : Bool) (e : Expression) → is_object_free e ≡ true →
 finished_free true e h = h
 finished_free false e h = h
 
+called_free : (tail : Bool) (a : Application ℕ) → is_object_free_application a ≡ true → is_object_free (called tail a) ≡ true
+called_free true a h = h
+called_free false a h = h
+
 bound_free : (b : Bool) (n : ℕ) (x y : Expression) → is_object_free x ≡ true → is_object_free y ≡ true → is_object_free (bound_unless b n x y) ≡ true
 bound_free true n x y h k = k
 bound_free false n x y h k = both (is_object_free x) (is_object_free y) h k
@@ -126,7 +133,17 @@ module _ (starts : List ℕ) where
     object_free_kept tail (fix_closures first ms e) scope n h =
         let inner = with_variables first (numbers_for ms n) scope in
         both (list_all is_object_free_member (members_of starts inner ms n)) (is_object_free (normal starts tail e inner (n + length ms))) (members_free starts inner ms n) (object_free_kept tail e inner (n + length ms) h)
-    object_free_kept tail (call site spread f es) scope n h = absurd (cc)
+    object_free_kept tail (call site spread f es) scope n h =
+        let k = and_right (not spread) (from.is_object_free f && from.are_object_free es) h in
+        let here = and_left (from.is_object_free f) (from.are_object_free es) k in
+        let rest = and_right (from.is_object_free f) (from.are_object_free es) k in
+        let m = n + operands_bind es in
+        let a : Application ℕ = record { site = site; spread = spread; operator = operand_at scope f m; operands = operands_at scope es n } in
+        let last = called tail a in
+        let operands = both (is_straight_operand a.operator) (list_all is_straight_operand a.operands) (operand_free scope f m here) (operands_free scope es n rest) in
+        let applied = both (not spread) (is_straight_operand a.operator && list_all is_straight_operand a.operands) (and_left (not spread) (from.is_object_free f && from.are_object_free es) h) operands in
+        each_free es scope n (bound_unless (is_simple f) m (normal starts false f scope (suc m)) last) rest
+        (bound_free (is_simple f) m (normal starts false f scope (suc m)) last (object_free_kept false f scope (suc m) here) (called_free tail a applied))
     object_free_kept tail (operation site which es) scope n h =
         let k = and_right (is_straight_primitive which) (from.are_object_free es) h in
         let after = tree.perform (does.Prim site which (operands_at scope es n)) in
@@ -170,8 +187,11 @@ module _ (starts : List ℕ) where
   procedures_free : (bs : List Body) → list_all from.is_object_free_body bs ≡ true → list_all is_object_free_code (map (procedure_code starts) bs) ≡ true
   procedures_free [] h = refl
   procedures_free (b ∷ bs) h =
+      let scope = with_variables b.first (numbers 2 b.formals) [] in
+      let here = and_left (from.is_object_free_body b) (list_all from.is_object_free_body bs) h in
       both (is_object_free_code (procedure_code starts b)) (list_all is_object_free_code (map (procedure_code starts) bs))
-      (object_free_kept true b.code (with_variables b.first (numbers 2 b.formals) []) (2 + b.formals) (and_left (from.is_object_free_body b) (list_all from.is_object_free_body bs) h))
+      (both (not b.rest) (is_object_free (normal starts true b.code scope (2 + b.formals))) (and_left (not b.rest) (from.is_object_free b.code) here)
+      (object_free_kept true b.code scope (2 + b.formals) (and_right (not b.rest) (from.is_object_free b.code) here)))
       (procedures_free bs (and_right (from.is_object_free_body b) (list_all from.is_object_free_body bs) h))
 
   taken_free : (n : ℕ) (bs : List Body) → list_all from.is_object_free_body bs ≡ true → list_all from.is_object_free_body (take n bs) ≡ true
@@ -202,14 +222,11 @@ module _ (starts : List ℕ) where
       (object_free_kept false e [] 2 (and_left (from.is_object_free e) (from.are_object_free es) k))
       (codes_free es places (drop (place - before) bodies) place (dropped_free (place - before) bodies h) (and_right (from.is_object_free e) (from.are_object_free es) k)))
 
-none_labelled : (starts library : List ℕ) → is_empty library ≡ true → is_empty (map (new_label starts) library) ≡ true
-none_labelled starts [] h = refl
-none_labelled starts (l ∷ library) h = absurd (cc)
-
--- What normalizing makes of a object-free program is object-free.
+-- What normalizing makes of an object-free program is object-free.
 pub program_object_free : (p : flat.Source) → from.is_object_free_program p ≡ true → is_object_free_program (normal_source p) ≡ true
 program_object_free p h =
-    let k = and_right (is_empty p.library) (list_all from.is_object_free_body p.bodies && from.are_object_free p.forms) h in
-    both (is_empty (map (new_label p.starts) p.library)) (list_all is_object_free_code (normal_bodies p.starts 0 p.bodies p.forms p.starts))
-    (none_labelled p.starts p.library (and_left (is_empty p.library) (list_all from.is_object_free_body p.bodies && from.are_object_free p.forms) h))
-    (codes_free p.starts p.forms p.starts p.bodies 0 (and_left (list_all from.is_object_free_body p.bodies) (from.are_object_free p.forms) k) (and_right (list_all from.is_object_free_body p.bodies) (from.are_object_free p.forms) k))
+    let all = list_all from.is_object_free_body p.bodies in
+    let k = and_right (nat_le (length p.library) max_library) (all && from.are_object_free p.forms) h in
+    both (nat_le (length (map (new_label p.starts) p.library)) max_library) (list_all is_object_free_code (normal_bodies p.starts 0 p.bodies p.forms p.starts))
+    (rw (length-map p.library (new_label p.starts)) (and_left (nat_le (length p.library) max_library) (all && from.are_object_free p.forms) h))
+    (codes_free p.starts p.forms p.starts p.bodies 0 (and_left all (from.are_object_free p.forms) k) (and_right all (from.are_object_free p.forms) k))

@@ -75,7 +75,7 @@ operand_long : (o : Operand ℕ) → length (operand_atoms o) ≤ operand_size o
 operand_long (operand.Atom a) = omega arith
 operand_long (operand.Read site which atoms) = omega arith
 
-called_size : (tail : Bool) (a : Application ℕ) → expression_work (called tail a) ≤ operand_size a.operator + operands_work a.operands + 3
+called_size : (tail : Bool) (a : Application ℕ) → expression_work (called tail a) ≤ operand_size a.operator + operands_work a.operands + 4
 called_size true a = omega arith
 called_size false a = omega arith
 
