@@ -80,11 +80,11 @@ work_more cs fs c f h e = let a = frames_push fs f in let b = codes_push cs c in
     codes_push (x ∷ cs) c = let e = codes_push cs c in omega (arith, e)
 
 -- no frame has more words beside its variables than a call may have operands
-pub bodies_room : (bodies : List Body) → most_words (control.codes_of bodies) ≤ max_operands + most_variables (control.codes_of bodies)
-bodies_room [] = omega arith
-bodies_room (b ∷ bodies) =
+pub frame_words : (bodies : List Body) → most_words (control.codes_of bodies) ≤ max_operands + most_variables (control.codes_of bodies)
+frame_words [] = omega arith
+frame_words (b ∷ bodies) =
     let here : slots_words (control.code_of b) ≤ max_operands + b.variables = slots_room (control.code_of b) b.shaped in
-    let more : most_words (control.codes_of bodies) ≤ max_operands + most_variables (control.codes_of bodies) = bodies_room bodies in
+    let more : most_words (control.codes_of bodies) ≤ max_operands + most_variables (control.codes_of bodies) = frame_words bodies in
     let left = le-max_left b.variables (most_variables (control.codes_of bodies)) in
     let right = le-max_right b.variables (most_variables (control.codes_of bodies)) in
     max-le (omega (arith, here, left)) (omega (arith, more, right))

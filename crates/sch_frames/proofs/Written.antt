@@ -1,5 +1,5 @@
 -- A body whose code of entry and expression are written one after the other is laid out whole.
-use Rattle.std.proofs.Common.{◌≡◌, ℕ, ◌+◌, Bool, List, [], ◌++◌, None, Option, refl, sym, ◌∙◌, append-nil}
+use Rattle.std.proofs.Common.{◌≡◌, ℕ, Bool, List, [], ◌++◌, None, Option, refl, sym, ◌∙◌, append-nil}
 use Rattle.sch_control.specs.declared.body.Entry.{Entry}
 use Rattle.sch_control.specs.Tree.{Expression, Code}
 use Rattle.sch_frames.specs.declared.instruction.Instruction.{Instruction}

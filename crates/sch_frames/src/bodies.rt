@@ -66,7 +66,7 @@ pub fn frame_program(alloc: Global, p: &ControlProgram) -> Result<FrameProgram, 
     ensures work { IfOk result (λ q. program_work (source q) ≤ codes_work (control.source p.now).bodies) }
     ensures words { IfOk result (λ q. q.words ≡ most_words (control_bodies.codes_of p.now.bodies)) }
     // Beside the variables of a body its frame has at most as many words as a call may have operands.
-    ensures room { IfOk result (λ q. q.words ≤ max_operands + most_variables (control_bodies.codes_of p.now.bodies)) }
+    ensures frame_words { IfOk result (λ q. q.words ≤ max_operands + most_variables (control_bodies.codes_of p.now.bodies)) }
 {
     let bodies = frame_bodies(alloc, p.bodies.as_slice())?;
     let q = FrameProgram::new(alloc, p, bodies)?;

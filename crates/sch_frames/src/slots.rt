@@ -127,7 +127,7 @@ pub fn frame_slots(alloc: Global, b: &Body) -> Result<FrameBody, Mem>
         IsTrue (control_straight.is_straight_code (control.code_of b.now)) → IsTrue (is_straight_code (code_of f))) }
     ensures words { IfOk result (λ f. f.words ≡ slots_words (control.code_of b.now)) }
     // Beside its variables a frame has at most as many words as a call may have operands.
-    ensures room { IfOk result (λ f. f.words ≤ max_operands + b.now.variables) }
+    ensures frame_words { IfOk result (λ f. f.words ≤ max_operands + b.now.variables) }
     ensures size { IfOk result (λ f. length f.instructions
         ≤ 3 * nodes (expression b.now.exp) + 2 * call_parts (expression b.now.exp) + (formals_of b.now.entry + 2)) }
     ensures work { IfOk result (λ f. instructions_size f.instructions

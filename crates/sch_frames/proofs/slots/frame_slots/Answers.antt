@@ -44,8 +44,8 @@ returns-clause-straight c s =
     let i : c.in_ok-out.out.instructions ≡ slots_layout (control.code_of c.args.b.now) = layout_written (control.code_of c.args.b.now) _ _ _ c.room_for-room.ensures.base c.room_for-room.ensures.entered c.in_ok-out.ensures.instructions in
     rw i (slots_straight (control.code_of c.args.b.now) s)
 
-pub returns-clause-room : goal.returns-clause-room
-returns-clause-room c =
+pub returns-clause-frame_words : goal.returns-clause-frame_words
+returns-clause-frame_words c =
     let words = c.room_for-room.ensures.words in
     let few : slots_words (control.code_of c.args.b.now) ≤ 200 + c.args.b.now.variables = slots_room (control.code_of c.args.b.now) c.args.b.now.shaped in
     omega (arith, words, few)
