@@ -114,10 +114,12 @@ fn laid_out(alloc: Global, slots: Slots, b: &Body) -> Result<Writer, Mem>
 
 /// The frame body of a body, with a slot for each variable.
 ///
-/// A procedure stores its arguments in the slots of its formals and keeps its return address in a slot. The slots in
-/// which arguments arrive are free then: there a call sets each operand aside before it hands them over. Memory is used as the answer's instructions need it: at most three for each node of the
-/// body, two for each operand of a call, and one for each formal. What is past the numbers of 32 bits, for which
-/// a body needs 2^31 nodes, is answered as out of memory too.
+/// A procedure stores its arguments in the slots of its formals and keeps its return address in a slot. The slots
+/// in which arguments arrive are free then: there a call sets its operands aside, before it hands them over.
+///
+/// Memory is used as the answer's instructions need it: at most three for each node of the body, two for each
+/// operand of a call, and one for each formal. What is past the numbers of 32 bits, for which a body needs 2^31
+/// nodes, is answered as out of memory too.
 pub fn frame_slots(alloc: Global, b: &Body) -> Result<FrameBody, Mem>
     ensures same { IfOk result (λ f. FrameOf (control.code_of b.now) (code_of f)) }
     ensures begins { IfOk result (λ f. IsTrue (code_begins (code_of f))) }
