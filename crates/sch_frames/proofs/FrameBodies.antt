@@ -2,9 +2,11 @@
 use Rattle.std.proofs.Common.{◌≡◌, ℕ, ◌+◌, ◌++◌, ◌*◌, ◌<◌, ◌≤◌, List, [], ◌∷◌, length, take, get_or, Bool, true, false, refl, sym, ap, ◌∙◌, subst, max, ⊎_elim, arith}
 use Rattle.std.specs.List.{list_all}
 use Rattle.std.proofs.lemmas.Bool.{and_from, cases_Bool}
+use Rattle.std.proofs.Math.Nat.{le-max_left, le-max_right, max-le}
 use Rattle.std.proofs.lemmas.List.{take_more}
 use Rattle.std.proofs.lemmas.List.Recursion.{max_push}
 use Rattle.std.proofs.lemmas.List.Folds.{list_all_at, list_all-append}
+use Rattle.sch_word.specs.trees.Shape.{max_operands}
 use Rattle.sch_control.specs.declared.body.Body.{Body}
 use Rattle.sch_control.specs.SourceView as control
 use Rattle.sch_control.specs.Tree as tree
@@ -15,9 +17,10 @@ use Rattle.sch_frames.specs.declared.body.FrameBody.{FrameBody}
 use Rattle.sch_frames.specs.Does.{FrameOf, FramesOf}
 use Rattle.sch_frames.specs.Layout.{slots_words}
 use Rattle.sch_control.specs.Sizes.{expression_size, expressions_size}
-use Rattle.sch_frames.specs.Sizes.{call_parts, calls_parts, closures_in, code_work, codes_size, entries_size, entry_size, instructions_size, largest_frame, most_words}
+use Rattle.sch_frames.specs.Sizes.{call_parts, calls_parts, closures_in, code_work, codes_size, entries_size, entry_size, instructions_size, largest_frame, most_variables, most_words}
 use Rattle.sch_frames.specs.SourceView.{code_of, codes_of}
 use Rattle.sch_frames.specs.Tree.{Code}
+use Rattle.sch_frames.proofs.layouts.SlotsFrame.{slots_room}
 
 -- ## Lists that grow
 
@@ -75,6 +78,16 @@ work_more cs fs c f h e = let a = frames_push fs f in let b = codes_push cs c in
     codes_push : (cs : List tree.Code) (c : tree.Code) → codes_work (cs ++ c ∷ []) ≡ codes_work cs + work.code_work c
     codes_push [] c = omega arith
     codes_push (x ∷ cs) c = let e = codes_push cs c in omega (arith, e)
+
+-- no frame has more words beside its variables than a call may have operands
+pub frame_words : (bodies : List Body) → most_words (control.codes_of bodies) ≤ max_operands + most_variables (control.codes_of bodies)
+frame_words [] = omega arith
+frame_words (b ∷ bodies) =
+    let here : slots_words (control.code_of b) ≤ max_operands + b.variables = slots_room (control.code_of b) b.shaped in
+    let more : most_words (control.codes_of bodies) ≤ max_operands + most_variables (control.codes_of bodies) = frame_words bodies in
+    let left = le-max_left b.variables (most_variables (control.codes_of bodies)) in
+    let right = le-max_right b.variables (most_variables (control.codes_of bodies)) in
+    max-le (omega (arith, here, left)) (omega (arith, more, right))
 
 -- ## A body of a list
 

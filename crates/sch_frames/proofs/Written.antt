@@ -1,5 +1,5 @@
 -- A body whose code of entry and expression are written one after the other is laid out whole.
-use Rattle.std.proofs.Common.{◌≡◌, ℕ, ◌+◌, Bool, List, [], ◌++◌, None, Option, refl, sym, ◌∙◌, append-nil}
+use Rattle.std.proofs.Common.{◌≡◌, ℕ, Bool, List, [], ◌++◌, None, Option, refl, sym, ◌∙◌, append-nil}
 use Rattle.sch_control.specs.declared.body.Entry.{Entry}
 use Rattle.sch_control.specs.Tree.{Expression, Code}
 use Rattle.sch_frames.specs.declared.instruction.Instruction.{Instruction}
@@ -13,6 +13,6 @@ whole_written slots entry e base n start first second s z h h' =
     sym (append-nil second) ∙ (h' [] ∙ (h _ ∙ rw (s, z) refl))
 
 -- what is written with the room that a body needs is its layout
-pub layout_written : (c : Code) (instructions : List Instruction) (base aside : ℕ) (entered : Bool) → base ≡ slots_base c → aside ≡ slots_base c + c.variables → entered ≡ is_entered c.entry
-    → instructions ≡ entering base c.entry (lay (own_slots base aside entered) c.expression 0 None []) → instructions ≡ slots_layout c
-layout_written c instructions base aside entered b a e i = i ∙ rw (b, a, e) refl
+pub layout_written : (c : Code) (instructions : List Instruction) (base : ℕ) (entered : Bool) → base ≡ slots_base c → entered ≡ is_entered c.entry
+    → instructions ≡ entering base c.entry (lay (own_slots base entered) c.expression 0 None []) → instructions ≡ slots_layout c
+layout_written c instructions base entered b e i = i ∙ rw (b, e) refl

@@ -117,10 +117,11 @@ abbrev pub handed : (tail : Bool) → (k : ℕ) → Place → Instruction
 handed true k p = Copy (arrival k) p
 handed false k p = passed (argument_register k) (argument_slot k) p
 
--- the operands that are set aside, from one on
-abbrev pub hand_over : (tail : Bool) → (aside from count : ℕ) → List Instruction → List Instruction
-hand_over tail aside from zero rest = rest
-hand_over tail aside from (suc count) rest = handed tail from (Slot (aside + from)) ∷ hand_over tail aside (suc from) count rest
+-- The operands that are set aside, from one on. A tail call hands each over in a register or in a slot from which
+-- one before it has been handed over.
+abbrev pub hand_over : (tail : Bool) → (from count : ℕ) → List Instruction → List Instruction
+hand_over tail from zero rest = rest
+hand_over tail from (suc count) rest = handed tail from (Slot from) ∷ hand_over tail (suc from) count rest
 
 -- the return address is back in its register, where there is one
 abbrev pub restored : (home : Option Place) → List Instruction → List Instruction
@@ -129,11 +130,10 @@ restored (Some p) rest = Copy link_register p ∷ rest
 
 -- ## Expressions
 
--- Where a body keeps what it has: each variable; the operands of its calls, from one slot on; and, if it is a
--- procedure's, its return address round calls.
+-- Where a body keeps what it has: each variable, and, if it is a procedure's, its return address round calls. The
+-- operands of its calls are set aside in the first slots.
 pub record Slots : Type 0 where
   pub place : ℕ → Place
-  pub aside : ℕ
   pub home : Option Place
 
 module _ (slots : Slots) where
@@ -141,7 +141,7 @@ module _ (slots : Slots) where
   abbrev pub prepared : (tail : Bool) → Application ℕ → List Instruction → List Instruction
   prepared tail a rest =
       Load closure_register (operand_at slots.place a.operator)
-      ∷ set_aside slots.place slots.aside a.operands (hand_over tail slots.aside 0 (length a.operands) rest)
+      ∷ set_aside slots.place 0 a.operands (hand_over tail 0 (length a.operands) rest)
 
   -- the instructions of an expression, whose labels are numbered from n on, and then the rest
   abbrev pub lay : Expression → (n : ℕ) → (test : Option ℕ) → List Instruction → List Instruction
@@ -172,8 +172,8 @@ abbrev pub home_of : (entered : Bool) → (base : ℕ) → Option Place
 home_of true base = Some (Slot base)
 home_of false base = None
 
-abbrev pub own_slots : (base aside : ℕ) → (entered : Bool) → Slots
-own_slots base aside entered = record { place = own_slot base; aside = aside; home = home_of entered base }
+abbrev pub own_slots : (base : ℕ) → (entered : Bool) → Slots
+own_slots base entered = record { place = own_slot base; home = home_of entered base }
 
 -- each formal from one on is stored in its slot
 abbrev pub arrivals : (base from count : ℕ) → List Instruction → List Instruction
@@ -203,16 +203,17 @@ most_operands (return e) = most_operands e
 most_operands (end e) = most_operands e
 most_operands (save saves e) = most_operands e
 
--- the slots in which arguments arrive or tail calls hand them over, which are those before the base
+-- The slots in which arguments arrive, operands are set aside and tail calls hand them over, which are those before
+-- the base: an argument has been stored elsewhere before an operand is set aside.
 abbrev pub slots_base : control.Code → ℕ
-slots_base c = max (formals_of c.entry) (most_operands c.expression) - 6
+slots_base c = max (formals_of c.entry - 6) (most_operands c.expression)
 
 abbrev pub slots_for : control.Code → Slots
-slots_for c = own_slots (slots_base c) (slots_base c + c.variables) (is_entered c.entry)
+slots_for c = own_slots (slots_base c) (is_entered c.entry)
 
--- the size of the frame, which has a slot for each variable and one for each operand of a call
+-- the size of the frame, which has a slot for each variable behind these
 abbrev pub slots_words : control.Code → ℕ
-slots_words c = slots_base c + c.variables + most_operands c.expression
+slots_words c = slots_base c + c.variables
 
 abbrev pub slots_layout : control.Code → List Instruction
 slots_layout c = entering (slots_base c) c.entry (lay (slots_for c) c.expression 0 None [])

@@ -2,6 +2,7 @@
 
 ghost use Rattle.std.specs.Prelude.{◌≡◌, ◌≤◌, ◌+◌, ◌*◌, IfOk, IsTrue};
 ghost use Rattle.std.specs.List.{list_all};
+ghost use Rattle.sch_word.specs.trees.Shape.{max_operands};
 ghost use Rattle.sch_word.specs.values.StaticsView.{statics};
 ghost use Rattle.sch_control.specs.ObjectFree as control_object_free;
 ghost use Rattle.sch_control.specs.ProgramView as control;
@@ -12,7 +13,7 @@ ghost use Rattle.sch_control.specs.Work.{codes_work};
 ghost use Rattle.sch_frames.specs.ObjectFree.{code_begins, each_begins, is_object_free_code, is_object_free_program};
 ghost use Rattle.sch_frames.specs.Does.{FramesOf, SameRuns};
 ghost use Rattle.sch_frames.specs.ProgramView.{source};
-ghost use Rattle.sch_frames.specs.Sizes.{calls_parts, closures_in, codes_size, entries_size, largest_frame, most_words, program_size, program_work};
+ghost use Rattle.sch_frames.specs.Sizes.{calls_parts, closures_in, codes_size, entries_size, largest_frame, most_variables, most_words, program_size, program_work};
 ghost use Rattle.sch_frames.specs.SourceView.{codes_of};
 ghost use Rattle.sch_frames.specs.Straight.{is_straight_code, is_straight_program};
 
@@ -64,6 +65,8 @@ pub fn frame_program(alloc: Global, p: &ControlProgram) -> Result<FrameProgram, 
     // With its closures, its calls and the jumps over its procedures, there is no more to do than is counted of `p`.
     ensures work { IfOk result (λ q. program_work (source q) ≤ codes_work (control.source p.now).bodies) }
     ensures words { IfOk result (λ q. q.words ≡ most_words (control_bodies.codes_of p.now.bodies)) }
+    // Beside the variables of a body its frame has at most as many words as a call may have operands.
+    ensures frame_words { IfOk result (λ q. q.words ≤ max_operands + most_variables (control_bodies.codes_of p.now.bodies)) }
 {
     let bodies = frame_bodies(alloc, p.bodies.as_slice())?;
     let q = FrameProgram::new(alloc, p, bodies)?;

@@ -1,7 +1,6 @@
-//! Calls: operands are set aside, each in a slot of its own, and then handed over.
+//! Calls: operands are set aside, each in a slot of its own before those of variables, and then handed over.
 
 ghost use Rattle.std.specs.Prelude.{◌≡◌, ◌+◌, ◌∷◌, false, length, true, IfOk, OnOk};
-ghost use Rattle.sch_word.specs.declared.place.Place.TheVariants.{Slot};
 ghost use Rattle.sch_control.specs.declared.mark.MarkKind.TheVariants as mark;
 ghost use Rattle.sch_frames.specs.Layout.{arrival, hand_over, handed, home_of, leave, own_slot, own_slots, prepared, restored, set_aside, Writes};
 ghost use Rattle.sch_frames.specs.Meaning.{argument_register, argument_slot, closure_register, link_register};
@@ -76,16 +75,6 @@ fn short(n: usize) -> Result<u32, Mem>
     }
 }
 
-/// The slot with this number behind another one. A slot past the numbers of 32 bits is out of memory.
-fn slot_behind(first: u32, k: u32) -> Result<Place, Mem>
-    ensures { IfOk result (λ p. p ≡ Slot (first + k)) }
-{
-    match first.checked_add(k) {
-        Some(slot) => Ok(Place::Slot(slot)),
-        None => Err(Mem),
-    }
-}
-
 /// The next slot.
 fn following(slot: u32) -> Result<u32, Mem>
     ensures { IfOk result (λ n. n ≡ slot + 1) }
@@ -104,10 +93,10 @@ fn set_aside(
     out: &mut Writer,
 ) -> Result<(), Mem>
     ensures instructions { OnOk result (Writes out.old.instructions out.new.instructions
-        (set_aside (own_slot slots.base) slots.aside operands.now)) }
+        (set_aside (own_slot slots.base) 0 operands.now)) }
     ensures labels { OnOk result (out.new.labels ≡ out.old.labels) }
 {
-    let mut next = slots.aside;
+    let mut next = 0;
     for o in operands {
         put(
             out,
@@ -118,14 +107,13 @@ fn set_aside(
     Ok(())
 }
 
-/// The operands that are set aside are handed over.
-fn hand_over(tail: bool, aside: u32, count: u32, out: &mut Writer) -> Result<(), Mem>
-    ensures instructions { OnOk result (Writes out.old.instructions out.new.instructions (hand_over tail aside 0 count)) }
+/// The operands that are set aside are handed over, the first before the others.
+fn hand_over(tail: bool, count: u32, out: &mut Writer) -> Result<(), Mem>
+    ensures instructions { OnOk result (Writes out.old.instructions out.new.instructions (hand_over tail 0 count)) }
     ensures labels { OnOk result (out.new.labels ≡ out.old.labels) }
 {
     for k in 0..count {
-        let from = slot_behind(aside, k)?;
-        put(out, handed(tail, k, from))?;
+        put(out, handed(tail, k, Place::Slot(k)))?;
     }
     Ok(())
 }
@@ -139,7 +127,7 @@ fn prepare(
     out: &mut Writer,
 ) -> Result<u32, Mem>
     ensures instructions { OnOk result (Writes out.old.instructions out.new.instructions
-        (prepared (own_slots slots.base slots.aside slots.entered) tail a.now)) }
+        (prepared (own_slots slots.base slots.entered) tail a.now)) }
     ensures labels { OnOk result (out.new.labels ≡ out.old.labels) }
     ensures count { IfOk result (λ n. n ≡ length a.now.operands) }
 {
@@ -148,7 +136,7 @@ fn prepare(
     let operator = operand_at(alloc, slots.base, &a.operator)?;
     put(out, Instruction::Load(CLOSURE, operator))?;
     set_aside(alloc, slots, operands, out)?;
-    hand_over(tail, slots.aside, count, out)?;
+    hand_over(tail, count, out)?;
     Ok(count)
 }
 
@@ -172,7 +160,7 @@ pub(crate) fn write_call(
     out: &mut Writer,
 ) -> Result<(), Mem>
     ensures instructions { OnOk result (Writes out.old.instructions out.new.instructions
-        (λ rest. prepared (own_slots slots.base slots.aside slots.entered) false a.now
+        (λ rest. prepared (own_slots slots.base slots.entered) false a.now
         (Mark (mark.Call a.now.site) ∷ (Call a.now.spread (length a.now.operands)
         ∷ restored (home_of slots.entered slots.base) (leave test rest))))) }
     ensures labels { OnOk result (out.new.labels ≡ out.old.labels) }
@@ -193,7 +181,7 @@ pub(crate) fn write_tail_call(
     out: &mut Writer,
 ) -> Result<(), Mem>
     ensures instructions { OnOk result (Writes out.old.instructions out.new.instructions
-        (λ rest. prepared (own_slots slots.base slots.aside slots.entered) true a.now
+        (λ rest. prepared (own_slots slots.base slots.entered) true a.now
         (Mark (mark.Tail a.now.site) ∷ (Tail a.now.spread (length a.now.operands) ∷ rest)))) }
     ensures labels { OnOk result (out.new.labels ≡ out.old.labels) }
 {

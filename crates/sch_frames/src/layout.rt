@@ -102,7 +102,7 @@ pub(crate) fn lay(
     out: &mut Writer,
 ) -> Result<(), Mem>
     ensures instructions { OnOk result (Writes out.old.instructions out.new.instructions
-        (lay (own_slots slots.base slots.aside slots.entered) (expression e.now) out.old.labels test)) }
+        (lay (own_slots slots.base slots.entered) (expression e.now) out.old.labels test)) }
     ensures labels { OnOk result (out.new.labels ≡ out.old.labels + labels (expression e.now)) }
 {
     match e {

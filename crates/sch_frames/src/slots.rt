@@ -1,6 +1,7 @@
 //! Bodies with a slot for each variable.
 
 ghost use Rattle.std.specs.Prelude.{◌≡◌, ◌≤◌, ◌+◌, ◌*◌, ◌-◌, [], length, max, None, IfOk, IsTrue};
+ghost use Rattle.sch_word.specs.trees.Shape.{max_operands};
 ghost use Rattle.sch_control.specs.ObjectFree as control_object_free;
 ghost use Rattle.sch_control.specs.SourceView as control;
 ghost use Rattle.sch_control.specs.Straight as control_straight;
@@ -70,29 +71,25 @@ fn room_with(entry: Option<Entry>, variables: u32, most: u32) -> Room
     requires formals { formals_of entry ≤ 200 }
     requires variables { variables ≤ 1002 }
     requires most { most ≤ 200 }
-    ensures base { result.slots.base ≡ max (formals_of entry) most - 6 }
-    ensures aside { result.slots.aside ≡ max (formals_of entry) most - 6 + variables }
+    ensures base { result.slots.base ≡ max (formals_of entry - 6) most }
     ensures entered { result.slots.entered ≡ is_entered entry }
-    ensures words { result.words ≡ max (formals_of entry) most - 6 + variables + most }
+    ensures words { result.words ≡ max (formals_of entry - 6) most + variables }
 {
-    let formals = formals_of(entry);
-    let base = larger(formals as usize, most as usize).saturating_sub(6) as u32;
-    let aside = base + variables;
+    let arriving = formals_of(entry).saturating_sub(6);
+    let base = larger(arriving as usize, most as usize) as u32;
     let slots = Slots {
         base,
-        aside,
         entered: entry.is_some(),
     };
     Room {
         slots,
-        words: aside + most,
+        words: base + variables,
     }
 }
 
 /// The room that a body needs.
 fn room_for(b: &Body) -> Room
     ensures base { result.slots.base ≡ slots_base (control.code_of b.now) }
-    ensures aside { result.slots.aside ≡ slots_base (control.code_of b.now) + b.now.variables }
     ensures entered { result.slots.entered ≡ is_entered b.now.entry }
     ensures words { result.words ≡ slots_words (control.code_of b.now) }
 {
@@ -103,7 +100,7 @@ fn room_for(b: &Body) -> Room
 fn laid_out(alloc: Global, slots: Slots, b: &Body) -> Result<Writer, Mem>
     requires formals { formals_of b.now.entry ≤ 200 }
     ensures instructions { IfOk result (λ out. out.instructions
-        ≡ entering slots.base b.now.entry (lay (own_slots slots.base slots.aside slots.entered) (expression b.now.exp) 0 None [])) }
+        ≡ entering slots.base b.now.entry (lay (own_slots slots.base slots.entered) (expression b.now.exp) 0 None [])) }
     ensures labels { IfOk result (λ out. out.labels ≡ labels (expression b.now.exp)) }
 {
     let mut out = Writer {
@@ -117,10 +114,12 @@ fn laid_out(alloc: Global, slots: Slots, b: &Body) -> Result<Writer, Mem>
 
 /// The frame body of a body, with a slot for each variable.
 ///
-/// A call sets each operand aside in a slot of its own and then hands it over, and a procedure keeps its return
-/// address in a slot. Memory is used as the answer's instructions need it: at most three for each node of the
-/// body, two for each operand of a call, and one for each formal. What is past the numbers of 32 bits, for which
-/// a body needs 2^31 nodes, is answered as out of memory too.
+/// A procedure stores its arguments in the slots of its formals and keeps its return address in a slot. The slots
+/// in which arguments arrive are free then: there a call sets its operands aside, before it hands them over.
+///
+/// Memory is used as the answer's instructions need it: at most three for each node of the body, two for each
+/// operand of a call, and one for each formal. What is past the numbers of 32 bits, for which a body needs 2^31
+/// nodes, is answered as out of memory too.
 pub fn frame_slots(alloc: Global, b: &Body) -> Result<FrameBody, Mem>
     ensures same { IfOk result (λ f. FrameOf (control.code_of b.now) (code_of f)) }
     ensures begins { IfOk result (λ f. IsTrue (code_begins (code_of f))) }
@@ -129,6 +128,8 @@ pub fn frame_slots(alloc: Global, b: &Body) -> Result<FrameBody, Mem>
     ensures straight { IfOk result (λ f.
         IsTrue (control_straight.is_straight_code (control.code_of b.now)) → IsTrue (is_straight_code (code_of f))) }
     ensures words { IfOk result (λ f. f.words ≡ slots_words (control.code_of b.now)) }
+    // Beside its variables a frame has at most as many words as a call may have operands.
+    ensures frame_words { IfOk result (λ f. f.words ≤ max_operands + b.now.variables) }
     ensures size { IfOk result (λ f. length f.instructions
         ≤ 3 * nodes (expression b.now.exp) + 2 * call_parts (expression b.now.exp) + (formals_of b.now.entry + 2)) }
     ensures work { IfOk result (λ f. instructions_size f.instructions

@@ -7,11 +7,10 @@ use crate::instruction::Instruction;
 use sch_word::{List, Mem};
 
 /// Where a body keeps what it has. Its variables are in slots from `base` on, and the operands of its calls are
-/// set aside from `aside` on. A body that is `entered` keeps its return address in the slot at the base.
+/// set aside in the slots before these. A body that is `entered` keeps its return address in the slot at the base.
 #[derive(Clone, Copy)]
 pub(crate) struct Slots {
     pub base: u32,
-    pub aside: u32,
     pub entered: bool,
 }
 

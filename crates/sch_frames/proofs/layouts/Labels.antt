@@ -39,14 +39,14 @@ module _ (slots : Slots) where
   passed_labels (Some r) j p rest = refl
   passed_labels None j p rest = refl
 
-  over_labels : (tail : Bool) (left from : ℕ) (rest : List Instruction) → labels_in (hand_over tail slots.aside from left rest) ≡ labels_in rest
+  over_labels : (tail : Bool) (left from : ℕ) (rest : List Instruction) → labels_in (hand_over tail from left rest) ≡ labels_in rest
   over_labels tail zero from rest = refl
   over_labels true (suc left) from rest = over_labels true left (suc from) rest
   over_labels false (suc left) from rest =
-      passed_labels (argument_register from) (argument_slot from) (Slot (slots.aside + from)) (hand_over false slots.aside (suc from) left rest) ∙ over_labels false left (suc from) rest
+      passed_labels (argument_register from) (argument_slot from) (Slot from) (hand_over false (suc from) left rest) ∙ over_labels false left (suc from) rest
 
   prepared_labels : (tail : Bool) (a : Application ℕ) (rest : List Instruction) → labels_in (prepared slots tail a rest) ≡ labels_in rest
-  prepared_labels tail a rest = aside_labels a.operands slots.aside _ ∙ over_labels tail (length a.operands) 0 rest
+  prepared_labels tail a rest = aside_labels a.operands 0 _ ∙ over_labels tail (length a.operands) 0 rest
 
   restored_labels : (home : Option Place) (rest : List Instruction) → labels_in (restored home rest) ≡ labels_in rest
   restored_labels None rest = refl
@@ -65,14 +65,14 @@ module _ (slots : Slots) where
   passed_ahead (Some r) j p rest = refl
   passed_ahead None j p rest = refl
 
-  over_ahead : (tail : Bool) (left from : ℕ) (rest : List Instruction) → jumps_ahead (hand_over tail slots.aside from left rest) ≡ jumps_ahead rest
+  over_ahead : (tail : Bool) (left from : ℕ) (rest : List Instruction) → jumps_ahead (hand_over tail from left rest) ≡ jumps_ahead rest
   over_ahead tail zero from rest = refl
   over_ahead true (suc left) from rest = over_ahead true left (suc from) rest
   over_ahead false (suc left) from rest =
-      passed_ahead (argument_register from) (argument_slot from) (Slot (slots.aside + from)) (hand_over false slots.aside (suc from) left rest) ∙ over_ahead false left (suc from) rest
+      passed_ahead (argument_register from) (argument_slot from) (Slot from) (hand_over false (suc from) left rest) ∙ over_ahead false left (suc from) rest
 
   prepared_ahead : (tail : Bool) (a : Application ℕ) (rest : List Instruction) → jumps_ahead (prepared slots tail a rest) ≡ jumps_ahead rest
-  prepared_ahead tail a rest = aside_ahead a.operands slots.aside _ ∙ over_ahead tail (length a.operands) 0 rest
+  prepared_ahead tail a rest = aside_ahead a.operands 0 _ ∙ over_ahead tail (length a.operands) 0 rest
 
   restored_ahead : (home : Option Place) (rest : List Instruction) → jumps_ahead (restored home rest) ≡ jumps_ahead rest
   restored_ahead None rest = refl

@@ -93,15 +93,15 @@ module _ (slots : Slots) (test : Instruction → Bool) (steers : Steers test) wh
   aside_passes [] slot rest l h = h
   aside_passes (o ∷ operands) slot rest l h = and_from _ _ l.0 (aside_passes operands (suc slot) rest l.1 h)
 
-  over_passes : (tail : Bool) (number : ℕ) → ((k : ℕ) → k < number → test (handed tail k (Slot (slots.aside + k))) ≡ true) → (left from : ℕ) → from + left ≡ number → (rest : List Instruction)
-      → list_all test rest ≡ true → list_all test (hand_over tail slots.aside from left rest) ≡ true
+  over_passes : (tail : Bool) (number : ℕ) → ((k : ℕ) → k < number → test (handed tail k (Slot k)) ≡ true) → (left from : ℕ) → from + left ≡ number → (rest : List Instruction)
+      → list_all test rest ≡ true → list_all test (hand_over tail from left rest) ≡ true
   over_passes tail number f zero from e rest h = h
   over_passes tail number f (suc left) from e rest h = and_from _ _ (f from (omega (arith, e))) (over_passes tail number f left (suc from) (omega (arith, e)) rest h)
 
-  pub prepared_passes : (tail : Bool) (a : Application ℕ) → test (Load closure_register (operand_at slots.place a.operator)) ≡ true → Loads slots.aside a.operands
-      → ((k : ℕ) → k < length a.operands → test (handed tail k (Slot (slots.aside + k))) ≡ true) → Leads (prepared slots tail a)
+  pub prepared_passes : (tail : Bool) (a : Application ℕ) → test (Load closure_register (operand_at slots.place a.operator)) ≡ true → Loads 0 a.operands
+      → ((k : ℕ) → k < length a.operands → test (handed tail k (Slot k)) ≡ true) → Leads (prepared slots tail a)
   prepared_passes tail a o l f rest h =
-      and_from _ _ o (aside_passes a.operands slots.aside _ l (over_passes tail (length a.operands) f (length a.operands) 0 (omega arith) rest h))
+      and_from _ _ o (aside_passes a.operands 0 _ l (over_passes tail (length a.operands) f (length a.operands) 0 (omega arith) rest h))
 
 -- ## Places
 
@@ -154,10 +154,9 @@ module _ (place : ℕ → Place) (words : ℕ) (P : ℕ → Type 0) (there : (x 
       list_all-append (is_atom words) (source_atoms (sources_at place m.closure.fields)) _
       ∙ and_from _ _ (sources_placed m.closure.fields (have_left P (source_atoms m.closure.fields) _ h)) (member_atoms_placed members (have_right P (source_atoms m.closure.fields) _ h))
 
--- a slot past those of the variables for each operand, and the place of the return address
+-- a slot for each operand, and the place of the return address
 pub record Roomy (slots : Slots) (words most : ℕ) : Type 0 where
-  pub aside : slots.aside + most ≤ words
-  pub before : most ≤ 6 + slots.aside
+  pub aside : most ≤ words
   pub back : (rest : List Instruction) → list_all (instruction_placed words) rest ≡ true → list_all (instruction_placed words) (restored slots.home rest) ≡ true
 
 pub arrival_placed : (words k : ℕ) → k < 6 + words → is_place words (arrival k) ≡ true
@@ -198,8 +197,8 @@ module _ (slots : Slots) (words most : ℕ) (P : ℕ → Type 0) (there : (x : �
       let wide = room.aside in
       prepared_passes slots (instruction_placed words) (placed_steers words) tail a
       (operand_placed slots.place words P there a.operator (have_left P (operand_atoms a.operator) _ h))
-      (loads_placed a.operands slots.aside (have_right P (operand_atoms a.operator) _ h) (omega (arith, le, wide)))
-      (λ k lt. handed_placed words tail k (Slot (slots.aside + k)) (omega (arith, lt, le, wide)) (lt-ltb (slots.aside + k) words (omega (arith, lt, le, wide))))
+      (loads_placed a.operands 0 (have_right P (operand_atoms a.operator) _ h) (omega (arith, le, wide)))
+      (λ k lt. handed_placed words tail k (Slot k) (omega (arith, lt, le, wide)) (lt-ltb k words (omega (arith, lt, le, wide))))
 
   pub uses_placed : (e : Expression) → most_operands e ≤ most → Uses P e → Passes slots (instruction_placed words) (placed_steers words) e
   uses_placed (perform o) le h = operation_placed slots.place words P there o h
@@ -360,8 +359,8 @@ module _ (slots : Slots) where
   prepared_shaped : (tail : Bool) (a : Application ℕ) → operands_shaped (a.operator ∷ a.operands) ≡ true → Leads slots instruction_shaped shaped_steers (prepared slots tail a)
   prepared_shaped tail a h =
       let parts = and_parts _ _ h in
-      prepared_passes slots instruction_shaped shaped_steers tail a (operand_same_shape slots.place a.operator ∙ parts.0) (loads_shaped a.operands slots.aside parts.1)
-      (λ k lt. handed_passes instruction_shaped unplaced_shaped tail k (Slot (slots.aside + k)))
+      prepared_passes slots instruction_shaped shaped_steers tail a (operand_same_shape slots.place a.operator ∙ parts.0) (loads_shaped a.operands 0 parts.1)
+      (λ k lt. handed_passes instruction_shaped unplaced_shaped tail k (Slot k))
 
   pub parts_shaped : (e : Expression) → shaped e ≡ true → Passes slots instruction_shaped shaped_steers e
   parts_shaped (perform o) h = operation_same_shape slots.place o ∙ h
@@ -404,7 +403,7 @@ module _ (slots : Slots) where
     prepared_named : (tail : Bool) (a : Application ℕ) → application_known names a ≡ true → Leads slots (instruction_known names) (known_steers names) (prepared slots tail a)
     prepared_named tail a h =
         prepared_passes slots (instruction_known names) (known_steers names) tail a (operand_same_names slots.place names a.operator ∙ known_left (operand_atoms a.operator) _ h)
-        (loads_named a.operands slots.aside (known_right (operand_atoms a.operator) _ h)) (λ k lt. handed_passes (instruction_known names) (unplaced_known names) tail k (Slot (slots.aside + k)))
+        (loads_named a.operands 0 (known_right (operand_atoms a.operator) _ h)) (λ k lt. handed_passes (instruction_known names) (unplaced_known names) tail k (Slot k))
 
     pub parts_named : (e : Expression) → parts_known e ≡ true → Passes slots (instruction_known names) (known_steers names) e
     parts_named (perform o) h = operation_same_names slots.place names o ∙ h

@@ -87,16 +87,16 @@ handed_work false k p = by (argument_register k) (argument_slot k) where
   by (Some r) j = omega arith
   by None j = omega arith
 
-over_work : (tail : Bool) (aside left from : ℕ) (rest : List Instruction) → instructions_size (hand_over tail aside from left rest) ≤ 2 * left + instructions_size rest
-over_work tail aside zero from rest = omega arith
-over_work tail aside (suc left) from rest =
-    let h = over_work tail aside left (suc from) rest in
-    let k = handed_work tail from (Slot (aside + from)) in
+over_work : (tail : Bool) (left from : ℕ) (rest : List Instruction) → instructions_size (hand_over tail from left rest) ≤ 2 * left + instructions_size rest
+over_work tail zero from rest = omega arith
+over_work tail (suc left) from rest =
+    let h = over_work tail left (suc from) rest in
+    let k = handed_work tail from (Slot from) in
     omega (arith, h, k)
 
-over_size : (tail : Bool) (aside left from : ℕ) (rest : List Instruction) → length (hand_over tail aside from left rest) ≡ left + length rest
-over_size tail aside zero from rest = omega arith
-over_size tail aside (suc left) from rest = let h = over_size tail aside left (suc from) rest in omega (arith, h)
+over_size : (tail : Bool) (left from : ℕ) (rest : List Instruction) → length (hand_over tail from left rest) ≡ left + length rest
+over_size tail zero from rest = omega arith
+over_size tail (suc left) from rest = let h = over_size tail left (suc from) rest in omega (arith, h)
 
 restored_work : (home : Option Place) (rest : List Instruction) → instructions_size (restored home rest) ≤ suc (instructions_size rest)
 restored_work None rest = omega arith
@@ -121,15 +121,15 @@ module _ (slots : Slots) where
       → instructions_size (prepared slots tail a rest) ≤ 2 + length (application_atoms a) + 4 * length a.operands + instructions_size rest
   prepared_work tail a rest =
       let o = operand_bounded slots.place a.operator in
-      let b = aside_work slots.place a.operands slots.aside (hand_over tail slots.aside 0 (length a.operands) rest) in
-      let c = over_work tail slots.aside (length a.operands) 0 rest in
+      let b = aside_work slots.place a.operands 0 (hand_over tail 0 (length a.operands) rest) in
+      let c = over_work tail (length a.operands) 0 rest in
       let l = length-append (operand_atoms a.operator) (operands_atoms a.operands) in
       omega (arith, o, b, c, l)
 
   prepared_size : (tail : Bool) (a : Application ℕ) (rest : List Instruction) → length (prepared slots tail a rest) ≡ 1 + 2 * length a.operands + length rest
   prepared_size tail a rest =
-      let b = aside_size slots.place a.operands slots.aside (hand_over tail slots.aside 0 (length a.operands) rest) in
-      let c = over_size tail slots.aside (length a.operands) 0 rest in
+      let b = aside_size slots.place a.operands 0 (hand_over tail 0 (length a.operands) rest) in
+      let c = over_size tail (length a.operands) 0 rest in
       omega (arith, b, c)
 
   lay_work : (e : Expression) (n : ℕ) (test : Option ℕ) (rest : List Instruction)

@@ -44,11 +44,11 @@ handed_done false k p rest = by (argument_register k) (argument_slot k)
     by (Some r) j = omega arith
     by None j = omega arith
 
-over_done : (tail : Bool) (aside left from : ℕ) (rest : List Instruction) → done (hand_over tail aside from left rest) ≤ 2 * left + done rest
-over_done tail aside zero from rest = omega arith
-over_done tail aside (suc left) from rest =
-    let h = over_done tail aside left (suc from) rest in
-    let k = handed_done tail from (Slot (aside + from)) (hand_over tail aside (suc from) left rest) in
+over_done : (tail : Bool) (left from : ℕ) (rest : List Instruction) → done (hand_over tail from left rest) ≤ 2 * left + done rest
+over_done tail zero from rest = omega arith
+over_done tail (suc left) from rest =
+    let h = over_done tail left (suc from) rest in
+    let k = handed_done tail from (Slot from) (hand_over tail (suc from) left rest) in
     omega (arith, h, k)
 
 aside_done : (place : ℕ → Place) (operands : List (Operand ℕ)) (slot : ℕ) (rest : List Instruction)
@@ -66,8 +66,8 @@ module _ (slots : Slots) where
       → done (prepared slots tail a rest) ≤ suc (operand_size a.operator + operands_work a.operands + done rest)
   prepared_done tail a rest =
       let o = operand_kept slots.place a.operator in
-      let b = aside_done slots.place a.operands slots.aside (hand_over tail slots.aside 0 (length a.operands) rest) in
-      let c = over_done tail slots.aside (length a.operands) 0 rest in
+      let b = aside_done slots.place a.operands 0 (hand_over tail 0 (length a.operands) rest) in
+      let c = over_done tail (length a.operands) 0 rest in
       omega (arith, o, b, c)
 
   lay_done : (e : Expression) (n : ℕ) (test : Option ℕ) (rest : List Instruction) → done (lay slots e n test rest) ≤ expression_work e + tested test + done rest

@@ -69,8 +69,8 @@ module _ (slots : Slots) where
       → Leads slots is_object_free_instruction object_free_steers (prepared slots tail a)
   prepared_free tail a h =
       let parts = and_parts _ _ h in
-      prepared_passes slots is_object_free_instruction object_free_steers tail a (operand_kept slots.place a.operator ∙ parts.0) (loads_free a.operands slots.aside parts.1)
-      (λ k lt. handed_passes is_object_free_instruction object_free_unplaced tail k (Slot (slots.aside + k)))
+      prepared_passes slots is_object_free_instruction object_free_steers tail a (operand_kept slots.place a.operator ∙ parts.0) (loads_free a.operands 0 parts.1)
+      (λ k lt. handed_passes is_object_free_instruction object_free_unplaced tail k (Slot k))
 
   parts_object_free : (e : Expression) → is_object_free e ≡ true → Passes slots is_object_free_instruction object_free_steers e
   parts_object_free (perform o) c = operation_free slots.place o ∙ c

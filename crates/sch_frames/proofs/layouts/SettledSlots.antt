@@ -1,6 +1,6 @@
 -- In the layout of a valid body each field has a number that a field may have, a form ends only in the body of a form,
 -- and each mark has an instruction behind it.
-use Rattle.std.proofs.Common.{◌≡◌, ◌≤◌, ℕ, zero, suc, ◌+◌, List, [], ◌∷◌, length, Option, Some, None, Bool, true, false, refl, arith}
+use Rattle.std.proofs.Common.{◌≡◌, ◌≤◌, ℕ, zero, suc, List, [], ◌∷◌, length, Option, Some, None, Bool, true, false, refl, arith}
 use Rattle.std.specs.Prelude.{◌&&◌, nat_lt, nat_le, nat_eq}
 use Rattle.std.specs.List.{list_all}
 use Rattle.std.proofs.lemmas.Bool.{and_parts, and_from, ltb-true, lt-ltb, leb-true}
@@ -47,8 +47,8 @@ module _ (slots : Slots) (test : Instruction → Bool) (steers : Steers test) (u
 
   prepared_pass : (tail : Bool) (a : Application ℕ) → Leads slots test steers (prepared slots tail a)
   prepared_pass tail a =
-      prepared_passes slots test steers tail a (unasked.loads closure_register (operand_at slots.place a.operator)) (loads_pass a.operands slots.aside)
-      (λ k lt. handed_passes test unasked.unplaced tail k (Slot (slots.aside + k)))
+      prepared_passes slots test steers tail a (unasked.loads closure_register (operand_at slots.place a.operator)) (loads_pass a.operands 0)
+      (λ k lt. handed_passes test unasked.unplaced tail k (Slot k))
 
   call_passes : (a : Application ℕ) → Passes slots test steers (call a [])
   call_passes a = λ rest i.
@@ -171,9 +171,9 @@ handed_settled false k p rest h = by (argument_register k) (argument_slot k) whe
   by (Some r) j = h
   by None j = h
 
-over_settled : (tail : Bool) (aside left from : ℕ) (rest : List Instruction) → marks_settled false rest ≡ true → marks_settled false (hand_over tail aside from left rest) ≡ true
-over_settled tail aside zero from rest h = h
-over_settled tail aside (suc left) from rest h = handed_settled tail from (Slot (aside + from)) (hand_over tail aside (suc from) left rest) (over_settled tail aside left (suc from) rest h)
+over_settled : (tail : Bool) (left from : ℕ) (rest : List Instruction) → marks_settled false rest ≡ true → marks_settled false (hand_over tail from left rest) ≡ true
+over_settled tail zero from rest h = h
+over_settled tail (suc left) from rest h = handed_settled tail from (Slot from) (hand_over tail (suc from) left rest) (over_settled tail left (suc from) rest h)
 
 aside_settled : (place : ℕ → Place) (operands : List (Operand ℕ)) (slot : ℕ) (rest : List Instruction) → marks_settled false rest ≡ true → marks_settled false (set_aside place slot operands rest) ≡ true
 aside_settled place [] slot rest h = h
@@ -185,7 +185,7 @@ restored_settled (Some p) rest h = h
 
 module _ (slots : Slots) where
   prepared_settled : (tail : Bool) (a : Application ℕ) (rest : List Instruction) → marks_settled false rest ≡ true → marks_settled false (prepared slots tail a rest) ≡ true
-  prepared_settled tail a rest h = aside_settled slots.place a.operands slots.aside _ (over_settled tail slots.aside (length a.operands) 0 rest h)
+  prepared_settled tail a rest h = aside_settled slots.place a.operands 0 _ (over_settled tail (length a.operands) 0 rest h)
 
   lay_settled : (e : Expression) (n : ℕ) (test : Option ℕ) (rest : List Instruction) → marks_settled false rest ≡ true → marks_settled false (lay slots e n test rest) ≡ true
   lay_settled (perform o) n test rest h = leave_settled test rest h

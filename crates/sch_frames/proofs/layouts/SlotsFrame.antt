@@ -1,9 +1,10 @@
 -- The layout with a slot for each variable is a valid frame body of its body.
 use Rattle.std.proofs.Common.{◌≡◌, ℕ, zero, suc, ◌+◌, ◌-◌, ◌≤◌, List, [], Option, Some, None, Bool, true, false, refl, ap, ◌∙◌, arith}
-use Rattle.std.specs.Prelude.{max, nat_lt}
+use Rattle.std.specs.Prelude.{nat_lt}
 use Rattle.std.specs.List.{list_all}
 use Rattle.std.proofs.Math.Nat.{le-max_left, le-max_right, max-le}
 use Rattle.std.proofs.lemmas.Bool.{and_parts, and_from, le-leb, leb-true, lt-ltb}
+use Rattle.sch_word.specs.trees.Shape.{max_operands}
 use Rattle.sch_control.specs.declared.body.Entry.{Entry}
 use Rattle.sch_control.specs.Meaning.{nothing, falls_off}
 use Rattle.sch_control.specs.Run as control_run
@@ -15,7 +16,7 @@ use Rattle.sch_frames.specs.Does.{FrameOf, world}
 use Rattle.sch_frames.specs.Tree.{Code}
 use Rattle.sch_frames.specs.Valid.{is_place, placed, forward, shaped, formals_of, labels_in, jumps_ahead, instruction_placed, instruction_shaped, instruction_known}
 use Rattle.sch_frames.specs.Layout.{labels, lay, restored, own_slot, home_of, is_entered, most_operands, arrivals, entering, slots_base, slots_for, slots_words, slots_layout}
-use Rattle.sch_frames.proofs.runs.Agrees.{Uses, Within}
+use Rattle.sch_frames.proofs.runs.Agrees.{Behind, Uses, Within}
 use Rattle.sch_frames.proofs.runs.Entering.{own_apart, enters, entering_placed, entering_passes}
 use Rattle.sch_frames.proofs.layouts.Labels.{Right, right, lay_below}
 use Rattle.sch_frames.proofs.layouts.Laid.{Roomy, lay_passes, placed_steers, uses_placed, shaped_steers, parts_shaped, known_steers, parts_named}
@@ -52,12 +53,26 @@ operands_most (return e) h = operands_most e h
 operands_most (end e) h = operands_most e h
 operands_most (save saves e) h = operands_most e h
 
+-- before the variables there are at most as many slots as a call may have operands
+base_most : (c : control.Code) → shaped_whole c ≡ true → slots_base c ≤ max_operands
+base_most c h =
+    let shape = and_parts _ _ h in
+    let few = formals_most c.entry shape.0 in
+    let most = operands_most c.expression shape.1 in
+    max-le (omega (arith, few)) most
+
+pub slots_room : (c : control.Code) → shaped_whole c ≡ true → slots_words c ≤ max_operands + c.variables
+slots_room c h = let few = base_most c h in omega (arith, few)
+
 module _ (c : control.Code) (scoped : in_scope_whole c ≡ true) (counted : numbered c ≡ true) where
   numbers : Numbered c
   numbers = numbered_is c counted
 
   uses : Uses (Within c.variables) c.expression
-  uses = code_uses c scoped numbers
+  uses = code_uses (Within c.variables) c (λ x w. w) scoped numbers
+
+  uses_behind : Uses Behind c.expression
+  uses_behind = code_uses Behind c (λ x w. w.0) scoped numbers
 
   first_two : 2 + formals_of c.entry ≤ c.variables
   first_two = by c.entry numbers.first where
@@ -66,27 +81,24 @@ module _ (c : control.Code) (scoped : in_scope_whole c ≡ true) (counted : numb
     by (Some e) h = omega (arith, h)
 
   formals_fit : formals_of c.entry - 6 ≤ slots_base c
-  formals_fit = let h = le-max_left (formals_of c.entry) (most_operands c.expression) in omega (arith, h)
+  formals_fit = le-max_left (formals_of c.entry - 6) (most_operands c.expression)
 
-  operands_fit : most_operands c.expression ≤ 6 + (slots_base c + c.variables)
-  operands_fit = let h = le-max_right (formals_of c.entry) (most_operands c.expression) in omega (arith, h)
+  operands_fit : most_operands c.expression ≤ slots_base c
+  operands_fit = le-max_right (formals_of c.entry - 6) (most_operands c.expression)
 
   roomy : Roomy (slots_for c) (slots_words c) (most_operands c.expression)
-  roomy = record { aside = omega arith; before = operands_fit; back = by (is_entered c.entry) } where
+  roomy = record { aside = let h = operands_fit in omega (arith, h); back = by (is_entered c.entry) } where
     by : (entered : Bool) (rest : List Instruction) → list_all (instruction_placed (slots_words c)) rest ≡ true → list_all (instruction_placed (slots_words c)) (restored (home_of entered (slots_base c)) rest) ≡ true
     by true rest h = let two = first_two in and_from _ _ (lt-ltb (slots_base c) (slots_words c) (omega (arith, two))) h
     by false rest h = h
 
   pub slots_placed : shaped_whole c ≡ true → placed c.entry (slots_words c) (slots_layout c) ≡ true
   slots_placed h =
-      let shape = and_parts _ _ h in
-      let few = formals_most c.entry shape.0 in
-      let most = operands_most c.expression shape.1 in
-      let both : max (formals_of c.entry) (most_operands c.expression) ≤ 200 = max-le few most in
+      let both = base_most c h in
       let fit = formals_fit in
       let two = first_two in
       let variables = numbers.most in
-      and_from _ _ (le-leb (slots_words c) 2048 (omega (arith, both, most, variables)))
+      and_from _ _ (le-leb (slots_words c) 2048 (omega (arith, both, variables)))
       (and_from _ _ (le-leb (formals_of c.entry) (6 + slots_words c) (omega (arith, fit)))
       (entering_placed c.entry (slots_base c) (slots_words c) _ fit (omega (arith, two))
       (lay_passes (slots_for c) (instruction_placed (slots_words c)) (placed_steers _) c.expression
@@ -98,9 +110,9 @@ module _ (c : control.Code) (scoped : in_scope_whole c ≡ true) (counted : numb
   slots_does bare = record {
     entry = refl;
     does = λ callee callee' follow depth self arguments l state marks marks'.
-        enters c.entry (slots_base c) (slots_base c + c.variables) c.variables formals_fit self arguments l callee' depth _ (world state marks') _
-        (λ f a. same (slots_for c) c.variables (own_apart (slots_base c) c.variables (is_entered c.entry) (let two = first_two in omega (arith, two))) callee callee' follow depth
-        c.expression (and_parts _ _ bare).0 uses operands_fit 0 None [] tt
+        enters c.entry (slots_base c) formals_fit self arguments l callee' depth _ (world state marks') _
+        (λ f a. same (slots_for c) (slots_base c) (own_apart (slots_base c) (is_entered c.entry)) callee callee' follow depth
+        c.expression (and_parts _ _ bare).0 uses_behind operands_fit 0 None [] tt
         (control_run.beginning c.entry self arguments) nothing f state marks marks' falls_off a (λ v environment saved f s marks marks' r e. tt));
     names = λ names h.
         entering_passes (instruction_known names) (λ to from. refl) c.entry (slots_base c) _

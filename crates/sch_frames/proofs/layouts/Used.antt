@@ -25,6 +25,10 @@ each_right : (P : ℕ → Type 0) (xs ys : List ℕ) → EachHas P (xs ++ ys) �
 each_right P [] ys h = h
 each_right P (x ∷ xs) ys h = each_right P xs ys h.1
 
+each_more : (P Q : ℕ → Type 0) → ((x : ℕ) → P x → Q x) → (xs : List ℕ) → EachHas P xs → EachHas Q xs
+each_more P Q f [] h = tt
+each_more P Q f (x ∷ xs) h = (f x h.0, each_more P Q f xs h.1)
+
 each_from : (P : ℕ → Type 0) (test : ℕ → Bool) → ((x : ℕ) → test x ≡ true → P x) → (xs : List ℕ) → list_all test xs ≡ true → EachHas P xs
 each_from P test f [] h = tt
 each_from P test f (x ∷ xs) h = let parts = and_parts _ _ h in (f x parts.0, each_from P test f xs parts.1)
@@ -111,5 +115,7 @@ numbered_is c h =
           (bound_in c.expression) d.0;
     }
 
-pub code_uses : (c : Code) → in_scope c.expression (first_scope c.entry) ≡ true → Numbered c → Uses (Within c.variables) c.expression
-code_uses c h n = used (Within c.variables) c.expression (first_scope c.entry) h (λ x s. scoped c.entry c.variables x s n.first) n.each
+-- what holds of each variable within the number of them holds of all that a body uses
+pub code_uses : (P : ℕ → Type 0) (c : Code) → ((x : ℕ) → Within c.variables x → P x) → in_scope c.expression (first_scope c.entry) ≡ true → Numbered c → Uses P c.expression
+code_uses P c f h n =
+    used P c.expression (first_scope c.entry) h (λ x s. f x (scoped c.entry c.variables x s n.first)) (each_more (Within c.variables) P f (bound_in c.expression) n.each)

@@ -15,7 +15,7 @@ use Rattle.sch_frames.specs.declared.instruction.Instruction.{Instruction}
 use Rattle.sch_frames.specs.Does.{Follows, EndsAs}
 use Rattle.sch_frames.specs.Meaning.{Cell, Is, Frame, closure_register, link_register, argument_register, argument_slot, value_in, held, cell_of, same_place, set, with_place, with_outgoing, argument, arguments, parts, execute_each}
 use Rattle.sch_frames.specs.Layout.{Slots, operand_at, set_aside, in_either, arrival, passed, handed, hand_over, prepared}
-use Rattle.sch_frames.proofs.runs.Agrees.{Within, Apart, Agrees, set_other, set_self, agrees_kept, found}
+use Rattle.sch_frames.proofs.runs.Agrees.{Behind, Apart, Agrees, set_other, set_self, agrees_kept, found}
 use Rattle.sch_frames.proofs.runs.Following.{onto_end}
 use Rattle.sch_frames.proofs.runs.Operating.{AtomsHave, have_left, have_right, operand_follows}
 
@@ -113,33 +113,33 @@ abbrev pub with_aside : Frame → (slot : ℕ) → List Value → Frame
 with_aside f slot [] = f
 with_aside f slot (v ∷ vs) = with_aside (with_place f (Slot slot) (Is v)) (suc slot) vs
 
--- no slot from one on
-abbrev pub Outside : ℕ → Place → Type 0
-Outside n (Reg r) = Unit {0}
-Outside n (Slot j) = j < n
+-- none of a number of slots from one on
+abbrev pub Outside : (slot count : ℕ) → Place → Type 0
+Outside slot count (Reg r) = Unit {0}
+Outside slot count (Slot j) = (k : ℕ) → slot ≤ k → k < slot + count → j ≢ k
 
-pub aside_other : (vs : List Value) (slot : ℕ) (f : Frame) (q : Place) → Outside slot q → (with_aside f slot vs).places q ≡ f.places q
+pub aside_other : (vs : List Value) (slot : ℕ) (f : Frame) (q : Place) → Outside slot (length vs) q → (with_aside f slot vs).places q ≡ f.places q
 aside_other [] slot f q o = refl
 aside_other (v ∷ vs) slot f q o = aside_other vs (suc slot) (with_place f (Slot slot) (Is v)) q (wider q o) ∙ set_other f.places (Slot slot) q (Is v) (apart q o) where
-  wider : (q : Place) → Outside slot q → Outside (suc slot) q
+  wider : (q : Place) → Outside slot (suc (length vs)) q → Outside (suc slot) (length vs) q
   wider (Reg r) o = tt
-  wider (Slot j) o = omega (arith, o)
+  wider (Slot j) o = λ k le lt. o k (omega (arith, le)) (omega (arith, lt))
 
-  apart : (q : Place) → Outside slot q → same_place q (Slot slot) ≡ false
+  apart : (q : Place) → Outside slot (suc (length vs)) q → same_place q (Slot slot) ≡ false
   apart (Reg r) o = refl
-  apart (Slot j) o = ne_eqb j slot (λ e. omega (arith, o, e))
+  apart (Slot j) o = ne_eqb j slot (o slot (omega arith) (omega arith))
 
 pub aside_at : (vs : List Value) (slot : ℕ) (f : Frame) (k : ℕ) (v : Value) → slice_get vs k ≡ Some v → (with_aside f slot vs).places (Slot (slot + k)) ≡ Is v
 aside_at [] slot f k v e = absurd cc
 aside_at (u ∷ us) slot f zero v e =
     subst (λ n. (with_aside f slot (u ∷ us)).places (Slot n) ≡ Is v) (omega arith)
-    (aside_other us (suc slot) (with_place f (Slot slot) (Is u)) (Slot slot) (omega arith) ∙ (set_self f.places (Slot slot) (Is u) ∙ same_cell e))
+    (aside_other us (suc slot) (with_place f (Slot slot) (Is u)) (Slot slot) (λ k le lt e. omega (arith, le, e)) ∙ (set_self f.places (Slot slot) (Is u) ∙ same_cell e))
 aside_at (u ∷ us) slot f (suc k) v e =
     subst (λ n. (with_aside f slot (u ∷ us)).places (Slot n) ≡ Is v) (omega arith) (aside_at us (suc slot) (with_place f (Slot slot) (Is u)) k v e)
 
 -- the frame with all that is set aside, and the closure in its register
-abbrev pub put_aside : (aside : ℕ) → (operator : Value) → List Value → Frame → Frame
-put_aside aside operator vs f = with_aside (with_place f closure_register (Is operator)) aside vs
+abbrev pub put_aside : (operator : Value) → List Value → Frame → Frame
+put_aside operator vs f = with_aside (with_place f closure_register (Is operator)) 0 vs
 
 -- what the callee finds where operands are passed
 abbrev pub outgoing_view : Frame → Place → Cell
@@ -166,13 +166,13 @@ moved_in k v f = with_place f (arrival k) (Is v)
 abbrev pub LinkOf : Frame → Frame → Type 0
 LinkOf f0 f = f.places link_register ≡ f0.places link_register
 
-module _ (slots : Slots) (count : ℕ) (at : Apart slots count) (callee : Callee) (depth : ℕ) where
+module _ (slots : Slots) (room : ℕ) (at : Apart slots room) (callee : Callee) (depth : ℕ) where
   abbrev run : List Instruction → Frame → World → Result
   run is f w = execute_each callee depth is None f w
 
   -- each operand is set aside
-  pub set_aside_does : (operands : List (Operand ℕ)) (vs : List Value) (slot : ℕ) (environment : Environment) (f : Frame) (w : World) (rest : List Instruction) → slots.aside ≤ slot
-      → Agrees slots count environment f.places → AtomsHave (Within count) (operands_atoms operands) → Values environment w.state.store operands vs
+  pub set_aside_does : (operands : List (Operand ℕ)) (vs : List Value) (slot : ℕ) (environment : Environment) (f : Frame) (w : World) (rest : List Instruction) → slot + length operands ≤ room
+      → Agrees slots environment f.places → AtomsHave Behind (operands_atoms operands) → Values environment w.state.store operands vs
       → run (set_aside slots.place slot operands rest) f w ≡ run rest (with_aside f slot vs) w
   set_aside_does [] [] slot environment f w rest le r u h = refl
   set_aside_does [] (v ∷ vs) slot environment f w rest le r u h = absurd h
@@ -180,35 +180,35 @@ module _ (slots : Slots) (count : ℕ) (at : Apart slots count) (callee : Callee
   set_aside_does (o ∷ operands) (v ∷ vs) slot environment f w rest le r u h =
       ap (λ x. with_value x (λ v. run (set_aside slots.place (suc slot) operands rest) (with_place f (Slot slot) (Is v)) w))
       (follows_some (operand_value environment w.state.store o) (operand_value (held f) w.state.store (operand_at slots.place o)) v h.0
-      (operand_follows slots.place (Within count) environment (held f) (found slots count at f r) w.state.store o (have_left (Within count) (operand_atoms o) _ u)))
+      (operand_follows slots.place Behind environment (held f) (found slots room at f r) w.state.store o (have_left Behind (operand_atoms o) _ u)))
       ∙ set_aside_does operands vs (suc slot) environment (with_place f (Slot slot) (Is v)) w rest (omega (arith, le))
-      (agrees_kept slots count at f.places (set f.places (Slot slot) (Is v)) r (λ j lt. set_other f.places (Slot slot) (Slot j) (Is v) (ne_eqb j slot (λ e. omega (arith, le, lt, e)))) refl)
-      (have_right (Within count) (operand_atoms o) _ u) h.1
+      (agrees_kept slots room at f.places (set f.places (Slot slot) (Is v)) r (λ j lt. set_other f.places (Slot slot) (Slot j) (Is v) (ne_eqb j slot (λ e. omega (arith, le, lt, e)))) refl)
+      (have_right Behind (operand_atoms o) _ u) h.1
 
   -- ## What is set aside is handed over
 
   -- how operands are handed over: where they are seen then, and what stays
-  pub record Moves (tail : Bool) (number : ℕ) (view : Frame → Place → Cell) (moved : ℕ → Value → Frame → Frame) (Kept : Frame → Type 0) : Type 0 where
-    pub does : (k : ℕ) (v : Value) (f : Frame) (w : World) (rest : List Instruction) → f.places (Slot (slots.aside + k)) ≡ Is v
-        → run (handed tail k (Slot (slots.aside + k)) ∷ rest) f w ≡ run rest (moved k v f) w
+  pub record Moves (tail : Bool) (view : Frame → Place → Cell) (moved : ℕ → Value → Frame → Frame) (Kept : Frame → Type 0) : Type 0 where
+    pub does : (k : ℕ) (v : Value) (f : Frame) (w : World) (rest : List Instruction) → f.places (Slot k) ≡ Is v
+        → run (handed tail k (Slot k) ∷ rest) f w ≡ run rest (moved k v f) w
     pub seen : (k : ℕ) (v : Value) (f : Frame) (q : Place) → view (moved k v f) q ≡ set (view f) (arrival k) (Is v) q
-    pub waits : (k : ℕ) (v : Value) (f : Frame) (j : ℕ) → k < number → (moved k v f).places (Slot (slots.aside + j)) ≡ f.places (Slot (slots.aside + j))
+    pub waits : (k : ℕ) (v : Value) (f : Frame) (j : ℕ) → k < j → (moved k v f).places (Slot j) ≡ f.places (Slot j)
     pub closure : (k : ℕ) (v : Value) (f : Frame) → (moved k v f).places closure_register ≡ f.places closure_register
     pub kept : (k : ℕ) (v : Value) (f : Frame) → Kept f → Kept (moved k v f)
 
-  module _ (tail : Bool) (number : ℕ) (view : Frame → Place → Cell) (moved : ℕ → Value → Frame → Frame) (Kept : Frame → Type 0) (m : Moves tail number view moved Kept)
+  module _ (tail : Bool) (number : ℕ) (view : Frame → Place → Cell) (moved : ℕ → Value → Frame → Frame) (Kept : Frame → Type 0) (m : Moves tail view moved Kept)
       (operator : Value) (vs : List Value) (whole : length vs ≡ number) where
-    -- the operands before one are handed over
+    -- the operands before one are handed over, and the others wait where they are set aside
     pub record Ready (from : ℕ) (f : Frame) : Type 0 where
       pub ready : (k : ℕ) (v : Value) → k < from → slice_get vs k ≡ Some v → view f (arrival k) ≡ Is v
-      pub waiting : (k : ℕ) (v : Value) → slice_get vs k ≡ Some v → f.places (Slot (slots.aside + k)) ≡ Is v
+      pub waiting : (k : ℕ) (v : Value) → from ≤ k → slice_get vs k ≡ Some v → f.places (Slot k) ≡ Is v
       pub closure : f.places closure_register ≡ Is operator
       pub kept : Kept f
 
-    next_ready : (from : ℕ) (v : Value) (f : Frame) → from < number → slice_get vs from ≡ Some v → Ready from f → Ready (suc from) (moved from v f)
-    next_ready from v f lt e r = record {
+    next_ready : (from : ℕ) (v : Value) (f : Frame) → slice_get vs from ≡ Some v → Ready from f → Ready (suc from) (moved from v f)
+    next_ready from v f e r = record {
       ready = λ k u l h. by k u l h (cases_eq k from);
-      waiting = λ k u h. m.waits from v f k lt ∙ r.waiting k u h;
+      waiting = λ k u le h. m.waits from v f k (omega (arith, le)) ∙ r.waiting k u (omega (arith, le)) h;
       closure = m.closure from v f ∙ r.closure;
       kept = m.kept from v f r.kept;
     } where
@@ -220,31 +220,31 @@ module _ (slots : Slots) (count : ℕ) (at : Apart slots count) (callee : Callee
           m.seen from v f (arrival k) ∙ (set_other (view f) (arrival from) (arrival k) (Is v) (arrivals_apart k from n) ∙ r.ready k u (omega (arith, l, n)) h)
 
     pub hand_over_does : (left from : ℕ) (f : Frame) (w : World) (rest : List Instruction) (r : Result) → from + left ≡ number → Ready from f
-        → ((f : Frame) → Ready number f → EndsAs r (run rest f w)) → EndsAs r (run (hand_over tail slots.aside from left rest) f w)
+        → ((f : Frame) → Ready number f → EndsAs r (run rest f w)) → EndsAs r (run (hand_over tail from left rest) f w)
     hand_over_does zero from f w rest r e h go = go f (subst (λ n. Ready n f) (omega (arith, e)) h)
     hand_over_does (suc left) from f w rest r e h go =
         let lt : from < number = omega (arith, e) in
         let got : (v : Value) × (slice_get vs from ≡ Some v) = there vs from (subst (λ n. from < n) (sym whole) lt) in
-        onto_end r _ _ (m.does from got.0 f w (hand_over tail slots.aside (suc from) left rest) (h.waiting from got.0 got.1))
-        (hand_over_does left (suc from) (moved from got.0 f) w rest r (omega (arith, e)) (next_ready from got.0 f lt got.1 h) go)
+        onto_end r _ _ (m.does from got.0 f w (hand_over tail (suc from) left rest) (h.waiting from got.0 (omega arith) got.1))
+        (hand_over_does left (suc from) (moved from got.0 f) w rest r (omega (arith, e)) (next_ready from got.0 f got.1 h) go)
 
-    pub prepared_does : (a : Application ℕ) (environment : Environment) (f : Frame) (w : World) (rest : List Instruction) (r : Result) → length a.operands ≡ number
-        → Agrees slots count environment f.places → AtomsHave (Within count) (application_atoms a) → operand_value environment w.state.store a.operator ≡ Some operator
-        → Values environment w.state.store a.operands vs → Kept (put_aside slots.aside operator vs f) → ((f : Frame) → Ready number f → EndsAs r (run rest f w))
+    pub prepared_does : (a : Application ℕ) (environment : Environment) (f : Frame) (w : World) (rest : List Instruction) (r : Result) → length a.operands ≡ number → length a.operands ≤ room
+        → Agrees slots environment f.places → AtomsHave Behind (application_atoms a) → operand_value environment w.state.store a.operator ≡ Some operator
+        → Values environment w.state.store a.operands vs → Kept (put_aside operator vs f) → ((f : Frame) → Ready number f → EndsAs r (run rest f w))
         → EndsAs r (run (prepared slots tail a rest) f w)
-    prepared_does a environment f w rest r same_number agrees u o h kept go =
-        onto_end r (run (hand_over tail slots.aside 0 (length a.operands) rest) (put_aside slots.aside operator vs f) w) _
-        (ap (λ x. with_value x (λ v. run (set_aside slots.place slots.aside a.operands (hand_over tail slots.aside 0 (length a.operands) rest)) (with_place f closure_register (Is v)) w))
+    prepared_does a environment f w rest r same_number few agrees u o h kept go =
+        onto_end r (run (hand_over tail 0 (length a.operands) rest) (put_aside operator vs f) w) _
+        (ap (λ x. with_value x (λ v. run (set_aside slots.place 0 a.operands (hand_over tail 0 (length a.operands) rest)) (with_place f closure_register (Is v)) w))
         (follows_some (operand_value environment w.state.store a.operator) (operand_value (held f) w.state.store (operand_at slots.place a.operator)) operator o
-        (operand_follows slots.place (Within count) environment (held f) (found slots count at f agrees) w.state.store a.operator (have_left (Within count) (operand_atoms a.operator) _ u)))
-        ∙ set_aside_does a.operands vs slots.aside environment (with_place f closure_register (Is operator)) w (hand_over tail slots.aside 0 (length a.operands) rest) (omega arith)
-        (agrees_kept slots count at f.places (set f.places closure_register (Is operator)) agrees (λ j lt. refl) refl)
-        (have_right (Within count) (operand_atoms a.operator) _ u) h)
-        (hand_over_does (length a.operands) 0 (put_aside slots.aside operator vs f) w rest r (omega (arith, same_number))
+        (operand_follows slots.place Behind environment (held f) (found slots room at f agrees) w.state.store a.operator (have_left Behind (operand_atoms a.operator) _ u)))
+        ∙ set_aside_does a.operands vs 0 environment (with_place f closure_register (Is operator)) w (hand_over tail 0 (length a.operands) rest) (omega (arith, few))
+        (agrees_kept slots room at f.places (set f.places closure_register (Is operator)) agrees (λ j lt. refl) refl)
+        (have_right Behind (operand_atoms a.operator) _ u) h)
+        (hand_over_does (length a.operands) 0 (put_aside operator vs f) w rest r (omega (arith, same_number))
         (record {
           ready = λ k v l e. absurd (never k l);
-          waiting = λ k v e. aside_at vs slots.aside (with_place f closure_register (Is operator)) k v e;
-          closure = aside_other vs slots.aside (with_place f closure_register (Is operator)) closure_register tt;
+          waiting = λ k v le e. subst (λ n. (put_aside operator vs f).places (Slot n) ≡ Is v) (omega arith) (aside_at vs 0 (with_place f closure_register (Is operator)) k v e);
+          closure = aside_other vs 0 (with_place f closure_register (Is operator)) closure_register tt;
           kept = kept;
         }) go) where
           never : (k : ℕ) → k < 0 → ⊥
@@ -252,11 +252,11 @@ module _ (slots : Slots) (count : ℕ) (at : Apart slots count) (callee : Callee
 
   -- ## Calls and tail calls
 
-  pub call_moves : (number : ℕ) (f0 : Frame) → Moves false number outgoing_view moved_out (SlotsOf f0)
-  call_moves number f0 = record {
-    does = λ k v f w rest e. moves (argument_register k) (argument_slot k) (Slot (slots.aside + k)) v f w rest e;
+  pub call_moves : (f0 : Frame) → Moves false outgoing_view moved_out (SlotsOf f0)
+  call_moves f0 = record {
+    does = λ k v f w rest e. moves (argument_register k) (argument_slot k) (Slot k) v f w rest e;
     seen = λ k v f q. seen (argument_register k) (argument_slot k) v f q;
-    waits = λ k v f j lt. stays (argument_register k) (argument_slot k) v f (slots.aside + j);
+    waits = λ k v f j lt. stays (argument_register k) (argument_slot k) v f j;
     closure = λ k v f. closure k v f (argument_register k) refl;
     kept = λ k v f h j. stays (argument_register k) (argument_slot k) v f j ∙ h j;
   } where
@@ -279,17 +279,18 @@ module _ (slots : Slots) (count : ℕ) (at : Apart slots count) (callee : Callee
     closure k v f (Some r) e = set_other f.places (Reg r) closure_register (Is v) (not_closure k r e)
     closure k v f None e = refl
 
-  pub tail_moves : (number : ℕ) (f0 : Frame) → number ≤ 6 + slots.aside → Moves true number own_view moved_in (LinkOf f0)
-  tail_moves number f0 le = record {
+  -- a slot in which an operand is handed over lies before those of the operands that wait
+  pub tail_moves : (f0 : Frame) → Moves true own_view moved_in (LinkOf f0)
+  tail_moves f0 = record {
     does = λ k v f w rest e. ap (λ c. run rest (with_place f (arrival k) c) w) e;
     seen = λ k v f q. refl;
-    waits = λ k v f j lt. set_other f.places (arrival k) (Slot (slots.aside + j)) (Is v) (waits k j lt (argument_register k) refl);
+    waits = λ k v f j lt. set_other f.places (arrival k) (Slot j) (Is v) (waits k j lt (argument_register k) refl);
     closure = λ k v f. set_other f.places (arrival k) closure_register (Is v) (closure k (argument_register k) refl);
     kept = λ k v f h. set_other f.places (arrival k) link_register (Is v) (link k (argument_register k) refl) ∙ h;
   } where
-    waits : (k j : ℕ) → k < number → (o : Option ℕ) → argument_register k ≡ o → same_place (Slot (slots.aside + j)) (in_either o (argument_slot k)) ≡ false
+    waits : (k j : ℕ) → k < j → (o : Option ℕ) → argument_register k ≡ o → same_place (Slot j) (in_either o (argument_slot k)) ≡ false
     waits k j lt (Some r) e = refl
-    waits k j lt None e = let s = slot_of k e in ne_eqb (slots.aside + j) (argument_slot k) (λ i. omega (arith, i, s, lt, le))
+    waits k j lt None e = let s = slot_of k e in ne_eqb j (argument_slot k) (λ i. omega (arith, i, s, lt))
 
     closure : (k : ℕ) (o : Option ℕ) → argument_register k ≡ o → same_place closure_register (in_either o (argument_slot k)) ≡ false
     closure k (Some r) e = not_closure k r e

@@ -29,15 +29,15 @@ slots_apart base (suc x) (suc y) n = ne_eqb (base + suc x) (base + suc y) (λ e.
 base_apart : (base x : ℕ) → same_place (Slot base) (own_slot base (suc x)) ≡ false
 base_apart base x = ne_eqb base (base + suc x) (λ e. omega (arith, e))
 
-pub own_apart : (base count : ℕ) (entered : Bool) → 0 < count → Apart (own_slots base (base + count) entered) count
-own_apart base count entered some = record {
+pub own_apart : (base : ℕ) (entered : Bool) → Apart (own_slots base entered) base
+own_apart base entered = record {
   apart = slots_apart base;
   link = refl;
-  before = λ x lt. omega (arith, lt);
+  behind = λ x. omega arith;
   home = by entered;
 } where
-  by : (entered : Bool) → HomeApart (own_slot base) (base + count) (home_of entered base)
-  by true = (omega (arith, some), base_apart base)
+  by : (entered : Bool) → HomeApart (own_slot base) base (home_of entered base)
+  by true = (omega arith, base_apart base)
   by false = tt
 
 module _ (base formals : ℕ) (before : (j : ℕ) → suc (suc (suc (suc (suc (suc j))))) < formals → j < base) (self : Value) (arguments : List Value) where
@@ -111,9 +111,9 @@ module _ (base formals : ℕ) (before : (j : ℕ) → suc (suc (suc (suc (suc (s
         arrive count (suc from) rest (with_place f (own_slot base (suc (suc from))) (f.places (arrival from))) w r (omega (arith, e))
         (next from f.places (omega (arith, e)) a) go
 
-  agrees : (e : Entry) (aside count : ℕ) → length arguments ≡ formals → (places : Place → Cell) → Arrived formals places
-      → Agrees (own_slots base aside true) count (control_run.beginning (Some e) self arguments) places
-  agrees e aside count l places a = record { variables = λ x v lt h. by x v h; link = λ v h. a.link; home = λ v h. a.home } where
+  agrees : (e : Entry) → length arguments ≡ formals → (places : Place → Cell) → Arrived formals places
+      → Agrees (own_slots base true) (control_run.beginning (Some e) self arguments) places
+  agrees e l places a = record { variables = λ x v h. by x v h; link = λ v h. a.link; home = λ v h. a.home } where
     is_some : {v u : Value} → Some v ≡ Some u → Is v ≡ Is u
     is_some h = ap cell_of h
 
@@ -129,15 +129,15 @@ nothing_there : {A : Type 0} (v : Value) → None ≡ Some v → A
 nothing_there v h = absurd (cc)
 
 -- what is done behind the entering code is done from the values of the formals in their slots
-pub enters : (entry : Option Entry) (base aside count : ℕ) → formals_of entry - 6 ≤ base → (self : Value) (arguments : List Value) → length arguments ≡ formals_of entry
+pub enters : (entry : Option Entry) (base : ℕ) → formals_of entry - 6 ≤ base → (self : Value) (arguments : List Value) → length arguments ≡ formals_of entry
     → (callee : Callee) (depth : ℕ) (rest : List Instruction) (w : World) (r : Result)
-    → ((f : Frame) → Agrees (own_slots base aside (is_entered entry)) count (control_run.beginning entry self arguments) f.places → EndsAs r (execute_each callee depth rest None f w))
+    → ((f : Frame) → Agrees (own_slots base (is_entered entry)) (control_run.beginning entry self arguments) f.places → EndsAs r (execute_each callee depth rest None f w))
     → EndsAs r (execute_each callee depth (entering base entry rest) None (beginning entry self arguments) w)
-enters None base aside count le self arguments l callee depth rest w r go =
-    go (beginning None self arguments) (record { variables = λ x v lt h. nothing_there v h; link = λ v h. nothing_there v h; home = λ v h. nothing_there v h })
-enters (Some e) base aside count le self arguments l callee depth rest w r go =
+enters None base le self arguments l callee depth rest w r go =
+    go (beginning None self arguments) (record { variables = λ x v h. nothing_there v h; link = λ v h. nothing_there v h; home = λ v h. nothing_there v h })
+enters (Some e) base le self arguments l callee depth rest w r go =
     arrive base e.formals (λ j h. before_base base e.formals j le h) self arguments callee depth e.formals 0 rest _ w r (omega arith) (first base e.formals (λ j h. before_base base e.formals j le h) self arguments)
-    (λ f a. go f (agrees base e.formals (λ j h. before_base base e.formals j le h) self arguments e aside count l f.places a))
+    (λ f a. go f (agrees base e.formals (λ j h. before_base base e.formals j le h) self arguments e l f.places a))
 
 -- ## Tests that the entering code passes
 

@@ -24,7 +24,7 @@ use Rattle.sch_frames.specs.declared.instruction.Instruction.TheVariants.{Fix, C
 use Rattle.sch_frames.specs.Does.{unmarked, EndsAs, world, CalleesFollow}
 use Rattle.sch_frames.specs.Meaning.{Cell, Is, Frame, link_register, argument_register, argument_slot, value_in, held, same_place, with_place, with_members, argument_in, parts, kept, after_call, if_link, execute_each}
 use Rattle.sch_frames.specs.Layout.{Slots, sources_at, members_at, operation_at, in_either, prepared, restored, leave, labels, most_operands, lay}
-use Rattle.sch_frames.proofs.runs.Agrees.{MembersUse, Uses, Within, Before, HomeApart, Apart, Holds, Agrees, at_slot, set_other, set_self, found, bound, members_bound}
+use Rattle.sch_frames.proofs.runs.Agrees.{MembersUse, Uses, Behind, From, HomeApart, Apart, Holds, Agrees, at_slot, set_other, set_self, found, bound, members_bound}
 use Rattle.sch_frames.proofs.runs.Arguments.{Values, values_are, values_length, aside_other, below_length, parts_are, outgoing_view, moved_out, SlotsOf, call_moves, own_view, moved_in, LinkOf, tail_moves, put_aside, prepared_does}
 use Rattle.sch_frames.proofs.runs.Following.{onto_end, with_value_ends, on_outcome_ends, on_ending_ends, on_return_ends, call_in_ends, with_procedures_follow, either_ends}
 use Rattle.sch_frames.proofs.runs.Operating.{AtomsHave, operate_follows, members_follow}
@@ -50,7 +50,7 @@ unnoted : (members : List (Member ℕ)) (w : World) → note_members plain no_re
 unnoted [] w = refl
 unnoted (m ∷ members) w = unnoted members w
 
-module _ (slots : Slots) (count : ℕ) (at : Apart slots count) (callee callee' : Callee) (follow : CalleesFollow callee callee') (depth : ℕ) where
+module _ (slots : Slots) (room : ℕ) (at : Apart slots room) (callee callee' : Callee) (follow : CalleesFollow callee callee') (depth : ℕ) where
   abbrev run : List Instruction → Option ℕ → Frame → World → Result
   run is seeking f w = execute_each callee' depth is seeking f w
 
@@ -70,7 +70,7 @@ module _ (slots : Slots) (count : ℕ) (at : Apart slots count) (callee callee' 
   -- what follows an expression is followed by what stands behind its layout
   abbrev Next : Option ℕ → List Instruction → Then → Type 0
   Next test rest next = (v : Value) (environment saved : Environment) (f : Frame) (s : State Procedure) (marks marks' : List MarkKind)
-      → Agrees slots count environment f.places → f.accumulator ≡ Is v → EndsAs (next v environment saved (world s marks)) (go_on test v rest f (world s marks'))
+      → Agrees slots environment f.places → f.accumulator ≡ Is v → EndsAs (next v environment saved (world s marks)) (go_on test v rest f (world s marks'))
 
   abbrev Below : Option ℕ → ℕ → Type 0
   Below None n = Unit {0}
@@ -107,7 +107,7 @@ module _ (slots : Slots) (count : ℕ) (at : Apart slots count) (callee callee' 
   ended n None rest v f w b = refl
   ended n (Some l) rest v f w b = ap (λ t. either (is_true v) (run rest None f w) t) (past_label callee' depth slots (suc n) l rest f w (omega (arith, b)))
 
-  same_return : (environment : Environment) (rest : List Instruction) (f : Frame) (s : State Procedure) (marks marks' : List MarkKind) (v : Value) → Agrees slots count environment f.places → f.accumulator ≡ Is v
+  same_return : (environment : Environment) (rest : List Instruction) (f : Frame) (s : State Procedure) (marks marks' : List MarkKind) (v : Value) → Agrees slots environment f.places → f.accumulator ≡ Is v
       → EndsAs (with_value (environment 0) (λ link. Some (gives v (marked mark.Return (world s marks))))) (run (Mark mark.Return ∷ (Return ∷ rest)) None f (world s marks'))
   same_return environment rest f s marks marks' v r e = by (environment 0) refl where
     by : (o : Option Value) → environment 0 ≡ o
@@ -125,10 +125,10 @@ module _ (slots : Slots) (count : ℕ) (at : Apart slots count) (callee callee' 
       (λ _ w. let inner = with_members f members (procedures_from (length w.state.procedures) count) in
       with_value (with_procedures w.state (members_made (held inner) w.state members)) (λ s. run rest None inner (record { state = s; marks = w.marks })))
 
-  same_group : (members : List (Member ℕ)) (e : Expression) → MembersUse (Within count) members → AtomsHave (Within count) (member_atoms members) → (rest : List Instruction) (next : Then)
-      → ((environment saved : Environment) (f : Frame) (s : State Procedure) → Agrees slots count environment f.places → (marks marks' : List MarkKind)
+  same_group : (members : List (Member ℕ)) (e : Expression) → MembersUse Behind members → AtomsHave Behind (member_atoms members) → (rest : List Instruction) (next : Then)
+      → ((environment saved : Environment) (f : Frame) (s : State Procedure) → Agrees slots environment f.places → (marks marks' : List MarkKind)
       → EndsAs (does e environment saved (world s marks) next) (run rest None f (world s marks')))
-      → (environment saved : Environment) (f : Frame) (s : State Procedure) (marks marks' : List MarkKind) → Agrees slots count environment f.places
+      → (environment saved : Environment) (f : Frame) (s : State Procedure) (marks marks' : List MarkKind) → Agrees slots environment f.places
       → EndsAs (does (fix members e) environment saved (world s marks) next) (run (Fix (members_at slots.place members) ∷ rest) None f (world s marks'))
   same_group members e u h rest next go environment saved f s marks marks' r =
       onto_end (does (fix members e) environment saved (world s marks) next) (group (members_at slots.place members) (member_bytes members) (length members) rest f s marks') _
@@ -136,10 +136,10 @@ module _ (slots : Slots) (count : ℕ) (at : Apart slots count) (callee callee' 
       ∙ ap (λ n. group (members_at slots.place members) (member_bytes members) n rest f s marks') (length_members slots.place members))
       (on_outcome_ends marks marks' (in_store (charge_each (member_bytes members)) s) _ _
       (λ _ s. let vs = procedures_from (length s.procedures) (length members) in
-      let r' : Agrees slots count (put_each environment members vs) (with_members f (members_at slots.place members) vs).places = members_bound slots count at members vs environment f u r in
+      let r' : Agrees slots (put_each environment members vs) (with_members f (members_at slots.place members) vs).places = members_bound slots room at members vs environment f u r in
       with_value_ends (with_procedures s (members_made (put_each environment members vs) s members))
       (with_procedures s (members_made (held (with_members f (members_at slots.place members) vs)) s (members_at slots.place members))) _ _
-      (with_procedures_follow s _ _ (members_follow slots.place (Within count) (put_each environment members vs) (held (with_members f (members_at slots.place members) vs)) (found slots count at (with_members f (members_at slots.place members) vs) r') s members h))
+      (with_procedures_follow s _ _ (members_follow slots.place Behind (put_each environment members vs) (held (with_members f (members_at slots.place members) vs)) (found slots room at (with_members f (members_at slots.place members) vs) r') s members h))
       (λ s. subst (λ w. EndsAs (does e (put_each environment members vs) (put_inside no_region saved members vs) w next) (run rest None (with_members f (members_at slots.place members) vs) (world s marks')))
       (sym (unnoted members (world s marks)))
       (go (put_each environment members vs) (put_inside no_region saved members vs) (with_members f (members_at slots.place members) vs) s r' marks marks'))))
@@ -159,47 +159,47 @@ module _ (slots : Slots) (count : ℕ) (at : Apart slots count) (callee callee' 
   unrestored [] w = refl
   unrestored (x ∷ xs) w = unrestored xs w
 
-  kept_slot : (places : Place → Cell) (p : Place) → Before slots.aside p → kept places p ≡ places p
+  kept_slot : (places : Place → Cell) (p : Place) → From room p → kept places p ≡ places p
   kept_slot places (Reg r) b = absurd b
   kept_slot places (Slot j) b = refl
 
-  not_link : (p : Place) → Before slots.aside p → same_place p link_register ≡ false
+  not_link : (p : Place) → From room p → same_place p link_register ≡ false
   not_link (Reg r) b = absurd b
   not_link (Slot j) b = refl
 
   -- behind a call, in a frame whose slots are those before it
-  returned : (test : Option ℕ) (rest : List Instruction) (next : Then) → Next test rest next → (environment saved : Environment) (f g : Frame) → Agrees slots count environment f.places
-      → ((j : ℕ) → j < slots.aside → g.places (Slot j) ≡ f.places (Slot j)) → (v : Value) (s : State Procedure) (marks marks' : List MarkKind)
+  returned : (test : Option ℕ) (rest : List Instruction) (next : Then) → Next test rest next → (environment saved : Environment) (f g : Frame) → Agrees slots environment f.places
+      → ((j : ℕ) → room ≤ j → g.places (Slot j) ≡ f.places (Slot j)) → (v : Value) (s : State Procedure) (marks marks' : List MarkKind)
       → EndsAs (next v environment saved (world s marks)) (run (restored slots.home (leave test rest)) None (after_call g v) (world s marks'))
   returned test rest next h environment saved f g r same_slots v s marks marks' = by slots.home refl where
-    behind : (p : Place) → Before slots.aside p → kept g.places p ≡ f.places p
-    behind p b = kept_slot g.places p b ∙ at_slot slots count at f.places g.places same_slots p b
+    behind : (p : Place) → From room p → kept g.places p ≡ f.places p
+    behind p b = kept_slot g.places p b ∙ at_slot slots room at f.places g.places same_slots p b
 
     by : (home : Option Place) → slots.home ≡ home → EndsAs (next v environment saved (world s marks)) (run (restored home (leave test rest)) None (after_call g v) (world s marks'))
     by None e =
         onto_end (next v environment saved (world s marks)) _ _ (leaving test rest (after_call g v) (world s marks') v refl)
         (h v environment saved (after_call g v) s marks marks' (record {
-          variables = λ x u lt i. behind (slots.place (suc x)) (at.before x lt) ∙ r.variables x u lt i;
+          variables = λ x u i. behind (slots.place (suc x)) (at.behind x) ∙ r.variables x u i;
           link = λ u i. absurd (subst (λ o. Holds o f.places) e (r.home u i));
           home = λ u i. absurd (subst (λ o. Holds o f.places) e (r.home u i));
         }) refl)
     by (Some p) e =
-        let apart : HomeApart slots.place slots.aside (Some p) = subst (HomeApart slots.place slots.aside) e at.home in
+        let apart : HomeApart slots.place room (Some p) = subst (HomeApart slots.place room) e at.home in
         let g' : Frame = with_place (after_call g v) link_register (kept g.places p) in
         onto_end (next v environment saved (world s marks)) _ _ (leaving test rest g' (world s marks') v refl)
         (h v environment saved g' s marks marks' (record {
-          variables = λ x u lt i.
-              set_other (kept g.places) link_register (slots.place (suc x)) (kept g.places p) (not_link (slots.place (suc x)) (at.before x lt))
-              ∙ (behind (slots.place (suc x)) (at.before x lt) ∙ r.variables x u lt i);
+          variables = λ x u i.
+              set_other (kept g.places) link_register (slots.place (suc x)) (kept g.places p) (not_link (slots.place (suc x)) (at.behind x))
+              ∙ (behind (slots.place (suc x)) (at.behind x) ∙ r.variables x u i);
           link = λ u i. set_self (kept g.places) link_register (kept g.places p) ∙ (behind p apart.0 ∙ subst (λ o. Holds o f.places) e (r.home u i));
           home = λ u i. subst (λ o. Holds o g'.places) (sym e)
               (set_other (kept g.places) link_register p (kept g.places p) (not_link p apart.0) ∙ (behind p apart.0 ∙ subst (λ o. Holds o f.places) e (r.home u i)));
         }) refl)
 
-  same_call : (a : Application ℕ) (restores : List ℕ) → AtomsHave (Within count) (application_atoms a) → (n : ℕ) (test : Option ℕ) (rest : List Instruction)
-      → (environment saved : Environment) (f : Frame) (s : State Procedure) (marks marks' : List MarkKind) (next : Then) → Agrees slots count environment f.places → Next test rest next
+  same_call : (a : Application ℕ) (restores : List ℕ) → AtomsHave Behind (application_atoms a) → length a.operands ≤ room → (n : ℕ) (test : Option ℕ) (rest : List Instruction)
+      → (environment saved : Environment) (f : Frame) (s : State Procedure) (marks marks' : List MarkKind) (next : Then) → Agrees slots environment f.places → Next test rest next
       → EndsAs (does (call a restores) environment saved (world s marks) next) (run (lay slots (call a restores) n test rest) None f (world s marks'))
-  same_call a restores u n test rest environment saved f s marks marks' next r h =
+  same_call a restores u few n test rest environment saved f s marks marks' next r h =
       by (operand_value environment s.store a.operator) refl (operand_values environment s.store a.operands) refl where
         by : (x : Option Value) → operand_value environment s.store a.operator ≡ x → (ys : Option (List Value)) → operand_values environment s.store a.operands ≡ ys
             → EndsAs (with_value (and_value x ys)
@@ -211,10 +211,10 @@ module _ (slots : Slots) (count : ℕ) (at : Apart slots count) (callee callee' 
         by (Some operator) ex (Some vs) ey =
             let values : Values environment s.store a.operands vs = values_are environment s.store a.operands vs ey in
             let l : length vs ≡ length a.operands = values_length environment s.store a.operands vs values in
-            let f0 : Frame = put_aside slots.aside operator vs f in
-            let moves = call_moves slots count at callee' depth (length a.operands) f0 in
-            prepared_does slots count at callee' depth false (length a.operands) outgoing_view moved_out (SlotsOf f0) moves operator vs l
-            a environment f (world s marks') _ _ refl r u ex values (λ j. refl)
+            let f0 : Frame = put_aside operator vs f in
+            let moves = call_moves slots room at callee' depth f0 in
+            prepared_does slots room at callee' depth false (length a.operands) outgoing_view moved_out (SlotsOf f0) moves operator vs l
+            a environment f (world s marks') _ _ refl few r u ex values (λ j. refl)
             (λ g ready. onto_end _ (with_value (Some (operator ∷ vs)) (λ vs. on_return (call_in callee' a.spread false depth vs (world s (marks' ++ mark.Call a.site ∷ [])))
             (λ v w. run (restored slots.home (leave test rest)) None (after_call g v) w))) _
             (ap (λ o. with_value o (λ vs. on_return (call_in callee' a.spread false depth vs (world s (marks' ++ mark.Call a.site ∷ [])))
@@ -224,10 +224,10 @@ module _ (slots : Slots) (count : ℕ) (at : Apart slots count) (callee callee' 
             (on_return_ends (call_in callee a.spread false depth (operator ∷ vs) (world s (marks ++ mark.Call a.site ∷ []))) (call_in callee' a.spread false depth (operator ∷ vs) (world s (marks' ++ mark.Call a.site ∷ []))) _ _
             (call_in_ends callee callee' follow a.spread false depth (operator ∷ vs) s (marks ++ mark.Call a.site ∷ []) (marks' ++ mark.Call a.site ∷ []))
             (λ v s marks marks'. subst (λ w. EndsAs (next v environment saved w) (run (restored slots.home (leave test rest)) None (after_call g v) (world s marks'))) (sym (unrestored restores (world s marks)))
-            (returned test rest next h environment saved f g r (λ j lt. ready.kept j ∙ aside_other vs slots.aside (with_place f (Reg 14) (Is operator)) (Slot j) lt) v s marks marks'))))
+            (returned test rest next h environment saved f g r (λ j lt. ready.kept j ∙ aside_other vs 0 (with_place f (Reg 14) (Is operator)) (Slot j) (λ k le below e. omega (arith, lt, l, few, below, e))) v s marks marks'))))
 
-  same_tail : (a : Application ℕ) → AtomsHave (Within count) (application_atoms a) → length a.operands ≤ 6 + slots.aside → (n : ℕ) (test : Option ℕ) (rest : List Instruction)
-      → (environment saved : Environment) (f : Frame) (s : State Procedure) (marks marks' : List MarkKind) (next : Then) → Agrees slots count environment f.places
+  same_tail : (a : Application ℕ) → AtomsHave Behind (application_atoms a) → length a.operands ≤ room → (n : ℕ) (test : Option ℕ) (rest : List Instruction)
+      → (environment saved : Environment) (f : Frame) (s : State Procedure) (marks marks' : List MarkKind) (next : Then) → Agrees slots environment f.places
       → EndsAs (does (tail_call a) environment saved (world s marks) next) (run (lay slots (tail_call a) n test rest) None f (world s marks'))
   same_tail a u few n test rest environment saved f s marks marks' next r =
       by (environment 0) refl (operand_value environment s.store a.operator) refl (operand_values environment s.store a.operands) refl where
@@ -240,24 +240,24 @@ module _ (slots : Slots) (count : ℕ) (at : Apart slots count) (callee callee' 
         by (Some back) eo (Some operator) ex (Some vs) ey =
             let values : Values environment s.store a.operands vs = values_are environment s.store a.operands vs ey in
             let l : length vs ≡ length a.operands = values_length environment s.store a.operands vs values in
-            let f0 : Frame = put_aside slots.aside operator vs f in
-            let moves = tail_moves slots count at callee' depth (length a.operands) f0 few in
-            prepared_does slots count at callee' depth true (length a.operands) own_view moved_in (LinkOf f0) moves operator vs l
-            a environment f (world s marks') _ _ refl r u ex values refl
+            let f0 : Frame = put_aside operator vs f in
+            let moves = tail_moves slots room at callee' depth f0 in
+            prepared_does slots room at callee' depth true (length a.operands) own_view moved_in (LinkOf f0) moves operator vs l
+            a environment f (world s marks') _ _ refl few r u ex values refl
             (λ g ready. onto_end _ (call_in callee' a.spread true depth (operator ∷ vs) (world s (marks' ++ mark.Tail a.site ∷ []))) _
             (ap (λ c. if_link c (with_value (parts g.places (λ j. g.places (Slot j)) (length a.operands)) (λ vs. call_in callee' a.spread true depth vs (world s (marks' ++ mark.Tail a.site ∷ [])))))
-            (ready.kept ∙ (aside_other vs slots.aside (with_place f (Reg 14) (Is operator)) link_register tt ∙ r.link back eo))
+            (ready.kept ∙ (aside_other vs 0 (with_place f (Reg 14) (Is operator)) link_register tt ∙ r.link back eo))
             ∙ ap (λ o. with_value o (λ vs. call_in callee' a.spread true depth vs (world s (marks' ++ mark.Tail a.site ∷ []))))
             (parts_are operator vs (length a.operands) g.places (λ j. g.places (Slot j)) l ready.closure
             (λ k v e. argument_own (argument_register k) (argument_slot k) g ∙ ap value_in (ready.ready k v (subst (λ m. k < m) l (below_length vs k v e)) e))))
             (call_in_ends callee callee' follow a.spread true depth (operator ∷ vs) s (marks ++ mark.Tail a.site ∷ []) (marks' ++ mark.Tail a.site ∷ [])))
 
-  pub same : (e : Expression) → is_bare e ≡ true → Uses (Within count) e → most_operands e ≤ 6 + slots.aside → (n : ℕ) (test : Option ℕ) (rest : List Instruction) → Below test n
-      → (environment saved : Environment) (f : Frame) (s : State Procedure) (marks marks' : List MarkKind) (next : Then) → Agrees slots count environment f.places → Next test rest next
+  pub same : (e : Expression) → is_bare e ≡ true → Uses Behind e → most_operands e ≤ room → (n : ℕ) (test : Option ℕ) (rest : List Instruction) → Below test n
+      → (environment saved : Environment) (f : Frame) (s : State Procedure) (marks marks' : List MarkKind) (next : Then) → Agrees slots environment f.places → Next test rest next
       → EndsAs (does e environment saved (world s marks) next) (run (lay slots e n test rest) None f (world s marks'))
   same (perform o) c u few n test rest b environment saved f s marks marks' next r h =
       on_ending_ends marks marks' (operate environment o s) (operate (held f) (operation_at slots.place o) s) _ _
-      (operate_follows slots.place (Within count) environment (held f) (found slots count at f r) o s u)
+      (operate_follows slots.place Behind environment (held f) (found slots room at f r) o s u)
       (λ v s. onto_end (next v environment saved (world s marks)) _ _ (leaving test rest (record f { accumulator = Is v }) (world s marks') v refl)
       (h v environment saved (record f { accumulator = Is v }) s marks marks' r refl))
   same (bind x a b) c u few n test rest below environment saved f s marks marks' next r h =
@@ -266,7 +266,7 @@ module _ (slots : Slots) (count : ℕ) (at : Apart slots count) (callee callee' 
       let right = le-max_right (most_operands a) (most_operands b) in
       same a parts.0 u.1.0 (omega (arith, left, few)) n None _ tt environment saved f s marks marks' _ r
       (λ v environment saved f s marks marks' r e. same b parts.1 u.1.1 (omega (arith, right, few)) (n + labels a) test rest (below_up test n (n + labels a) (omega arith) below)
-      (put environment x v) saved (with_place f (slots.place x) f.accumulator) s marks marks' next (bound slots count at r x v u.0.0 f.accumulator e) h)
+      (put environment x v) saved (with_place f (slots.place x) f.accumulator) s marks marks' next (bound slots room at r x v u.0 f.accumulator e) h)
   same (sequence a b) c u few n test rest below environment saved f s marks marks' next r h =
       let parts = and_parts _ _ c in
       let left = le-max_left (most_operands a) (most_operands b) in
@@ -294,7 +294,7 @@ module _ (slots : Slots) (count : ℕ) (at : Apart slots count) (callee callee' 
   same (fix members e) c u few n test rest below environment saved f s marks marks' next r h =
       same_group members e u.0 u.1.0 (lay slots e n test rest) next (λ environment saved f s r marks marks'. same e c u.1.1 few n test rest below environment saved f s marks marks' next r h)
       environment saved f s marks marks' r
-  same (call a restores) c u few n test rest below environment saved f s marks marks' next r h = same_call a restores u n test rest environment saved f s marks marks' next r h
+  same (call a restores) c u few n test rest below environment saved f s marks marks' next r h = same_call a restores u few n test rest environment saved f s marks marks' next r h
   same (tail_call a) c u few n test rest below environment saved f s marks marks' next r h = same_tail a u few n test rest environment saved f s marks marks' next r
   same (return e) c u few n test rest below environment saved f s marks marks' next r h =
       same e c u few n None _ tt environment saved f s marks marks' _ r (λ v environment saved f s marks marks' r i. same_return environment rest f s marks marks' v r i)

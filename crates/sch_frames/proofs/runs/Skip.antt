@@ -34,14 +34,14 @@ module _ (callee : Callee) (depth : ℕ) (slots : Slots) where
   sought_passed (Some r) j p l = refl
   sought_passed None j p l = refl
 
-  past_over : (tail : Bool) (left from : ℕ) (rest : List Instruction) (l : ℕ) (f : Frame) (w : World) → run (hand_over tail slots.aside from left rest) (Some l) f w ≡ run rest (Some l) f w
+  past_over : (tail : Bool) (left from : ℕ) (rest : List Instruction) (l : ℕ) (f : Frame) (w : World) → run (hand_over tail from left rest) (Some l) f w ≡ run rest (Some l) f w
   past_over tail zero from rest l f w = refl
   past_over true (suc left) from rest l f w = past_over true left (suc from) rest l f w
   past_over false (suc left) from rest l f w =
-      ap (λ t. run (hand_over false slots.aside (suc from) left rest) t f w) (sought_passed (argument_register from) (argument_slot from) (Slot (slots.aside + from)) l) ∙ past_over false left (suc from) rest l f w
+      ap (λ t. run (hand_over false (suc from) left rest) t f w) (sought_passed (argument_register from) (argument_slot from) (Slot from) l) ∙ past_over false left (suc from) rest l f w
 
   past_prepared : (tail : Bool) (a : Application ℕ) (rest : List Instruction) (l : ℕ) (f : Frame) (w : World) → run (prepared slots tail a rest) (Some l) f w ≡ run rest (Some l) f w
-  past_prepared tail a rest l f w = past_aside a.operands slots.aside _ l f w ∙ past_over tail (length a.operands) 0 rest l f w
+  past_prepared tail a rest l f w = past_aside a.operands 0 _ l f w ∙ past_over tail (length a.operands) 0 rest l f w
 
   past_restored : (home : Option Place) (rest : List Instruction) (l : ℕ) (f : Frame) (w : World) → run (restored home rest) (Some l) f w ≡ run rest (Some l) f w
   past_restored None rest l f w = refl

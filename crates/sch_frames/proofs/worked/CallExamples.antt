@@ -28,7 +28,7 @@ use Rattle.sch_frames.specs.declared.instruction.Instruction.TheVariants.{Do, St
 use Rattle.sch_frames.specs.ObjectFree.{is_object_free_instruction, is_object_free_code, is_object_free_program, each_begins, begins}
 use Rattle.sch_frames.specs.Layout.{slots_layout, slots_words, labels, most_operands}
 use Rattle.sch_frames.specs.Run.{run}
-use Rattle.sch_frames.specs.Sizes.{call_parts, calls_parts, entries_size, instructions_size, most_words, nodes}
+use Rattle.sch_frames.specs.Sizes.{call_parts, calls_parts, entries_size, instructions_size, most_variables, most_words, nodes}
 use Rattle.sch_frames.specs.Tree.{Code, Source}
 use Rattle.sch_frames.specs.Valid.{code_valid, is_valid}
 
@@ -78,38 +78,38 @@ both_valid p =
 
 -- ## Layouts
 
--- (lambda (f x) (f (f x))): the operand is set aside in slot 5 and handed over; the return address is back behind
+-- (lambda (f x) (f (f x))): the operand is set aside in slot 0 and handed over; the return address is back behind
 -- the call that is not in tail position
 abbrev pub twice : control.Code
 twice = lambda 2 0 5 (bind 4 (call (applied 0 2 (held_in 3 ∷ [])) []) (tail_call (applied 1 2 (held_in 4 ∷ []))))
 
 twice_layout : slots_layout twice ≡
-    Copy (Slot 0) (Reg 15) ∷ Copy (Slot 1) (Reg 14) ∷ Copy (Slot 2) (Reg 3) ∷ Copy (Slot 3) (Reg 8)
-    ∷ Load (Reg 14) (held_in (Slot 2)) ∷ Load (Slot 5) (held_in (Slot 3)) ∷ Copy (Reg 3) (Slot 5) ∷ Mark (mark.Call 0) ∷ Call false 1
-    ∷ Copy (Reg 15) (Slot 0) ∷ Store (Slot 4)
-    ∷ Load (Reg 14) (held_in (Slot 2)) ∷ Load (Slot 5) (held_in (Slot 4)) ∷ Copy (Reg 3) (Slot 5) ∷ Mark (mark.Tail 1) ∷ Tail false 1 ∷ []
+    Copy (Slot 1) (Reg 15) ∷ Copy (Slot 2) (Reg 14) ∷ Copy (Slot 3) (Reg 3) ∷ Copy (Slot 4) (Reg 8)
+    ∷ Load (Reg 14) (held_in (Slot 3)) ∷ Load (Slot 0) (held_in (Slot 4)) ∷ Copy (Reg 3) (Slot 0) ∷ Mark (mark.Call 0) ∷ Call false 1
+    ∷ Copy (Reg 15) (Slot 1) ∷ Store (Slot 5)
+    ∷ Load (Reg 14) (held_in (Slot 3)) ∷ Load (Slot 0) (held_in (Slot 5)) ∷ Copy (Reg 3) (Slot 0) ∷ Mark (mark.Tail 1) ∷ Tail false 1 ∷ []
 twice_layout = refl
 
 abbrev eight : List (Operand ℕ)
 eight = number 0 ∷ number 1 ∷ number 2 ∷ number 3 ∷ number 4 ∷ number 5 ∷ number 6 ∷ held_in 2 ∷ []
 
-abbrev eight_aside : (first : ℕ) → Operand Place → List Instruction → List Instruction
-eight_aside first last rest =
-    Load (Slot 6) (number 0) ∷ Load (Slot 7) (number 1) ∷ Load (Slot 8) (number 2) ∷ Load (Slot 9) (number 3) ∷ Load (Slot 10) (number 4) ∷ Load (Slot 11) (number 5)
-    ∷ Load (Slot 12) (number 6) ∷ Load (Slot 13) last
-    ∷ Copy (Reg 3) (Slot 6) ∷ Copy (Reg 8) (Slot 7) ∷ Copy (Reg 9) (Slot 8) ∷ Copy (Reg 10) (Slot 9) ∷ Copy (Reg 6) (Slot 10) ∷ Copy (Reg 7) (Slot 11) ∷ rest
+abbrev eight_aside : Operand Place → List Instruction → List Instruction
+eight_aside last rest =
+    Load (Slot 0) (number 0) ∷ Load (Slot 1) (number 1) ∷ Load (Slot 2) (number 2) ∷ Load (Slot 3) (number 3) ∷ Load (Slot 4) (number 4) ∷ Load (Slot 5) (number 5)
+    ∷ Load (Slot 6) (number 6) ∷ Load (Slot 7) last
+    ∷ Copy (Reg 3) (Slot 0) ∷ Copy (Reg 8) (Slot 1) ∷ Copy (Reg 9) (Slot 2) ∷ Copy (Reg 10) (Slot 3) ∷ Copy (Reg 6) (Slot 4) ∷ Copy (Reg 7) (Slot 5) ∷ rest
 
 -- the seventh operand and the eighth of a call go into the frame that it opens; a form keeps no return address
 call_layout : slots_layout (form 4 (bind 2 (perform (operation.MakeClosure (record { label = 1; fields = [] }))) (end (branch (call (applied 0 2 eight) []) (perform (operation.Operand (number 0))) (perform (operation.Operand (number 1))))))) ≡
-    Do (operation.MakeClosure (record { label = 1; fields = [] })) ∷ Store (Slot 4) ∷ Load (Reg 14) (held_in (Slot 4))
-    ∷ eight_aside 6 (held_in (Slot 4)) (Pass 0 (held_in (Slot 12)) ∷ Pass 1 (held_in (Slot 13)) ∷ Mark (mark.Call 0) ∷ Call false 8 ∷ IfFalse 0
+    Do (operation.MakeClosure (record { label = 1; fields = [] })) ∷ Store (Slot 10) ∷ Load (Reg 14) (held_in (Slot 10))
+    ∷ eight_aside (held_in (Slot 10)) (Pass 0 (held_in (Slot 6)) ∷ Pass 1 (held_in (Slot 7)) ∷ Mark (mark.Call 0) ∷ Call false 8 ∷ IfFalse 0
     ∷ Do (operation.Operand (number 0)) ∷ Jump 1 ∷ Label 0 ∷ Do (operation.Operand (number 1)) ∷ Label 1 ∷ End ∷ [])
 call_layout = refl
 
--- those of a tail call go where the own arguments arrive, before the slots of variables
+-- those of a tail call go where the own arguments arrive, from which the first two have been handed over
 tail_layout : slots_layout (lambda 1 0 4 (tail_call (applied 0 2 eight))) ≡
-    Copy (Slot 2) (Reg 15) ∷ Copy (Slot 3) (Reg 14) ∷ Copy (Slot 4) (Reg 3) ∷ Load (Reg 14) (held_in (Slot 4))
-    ∷ eight_aside 6 (held_in (Slot 4)) (Copy (Slot 0) (Slot 12) ∷ Copy (Slot 1) (Slot 13) ∷ Mark (mark.Tail 0) ∷ Tail false 8 ∷ [])
+    Copy (Slot 8) (Reg 15) ∷ Copy (Slot 9) (Reg 14) ∷ Copy (Slot 10) (Reg 3) ∷ Load (Reg 14) (held_in (Slot 10))
+    ∷ eight_aside (held_in (Slot 10)) (Copy (Slot 0) (Slot 6) ∷ Copy (Slot 1) (Slot 7) ∷ Mark (mark.Tail 0) ∷ Tail false 8 ∷ [])
 tail_layout = refl
 
 -- ## Programs
@@ -223,6 +223,7 @@ size_rows :
     × (most_operands (bind 3 (call (applied 0 2 eight) []) (tail_call (applied 1 2 (number 1 ∷ [])))) ≡ 8)
     × (slots_words twice ≡ 6)
     × (slots_words (lambda 9 0 11 (return (perform (operation.Operand (held_in 10))))) ≡ 14)
-    × (slots_words (lambda 1 0 4 (tail_call (applied 0 2 eight))) ≡ 14)
-    × (most_words (twice ∷ lambda 1 0 4 (tail_call (applied 0 2 eight)) ∷ form 2 (end (perform (operation.Operand (number 1)))) ∷ []) ≡ 14)
-size_rows = (refl, refl, refl, refl, refl, refl, refl, refl, refl, refl, refl)
+    × (slots_words (lambda 1 0 4 (tail_call (applied 0 2 eight))) ≡ 12)
+    × (most_words (twice ∷ lambda 1 0 4 (tail_call (applied 0 2 eight)) ∷ form 2 (end (perform (operation.Operand (number 1)))) ∷ []) ≡ 12)
+    × (most_variables (lambda 1 0 4 (tail_call (applied 0 2 eight)) ∷ twice ∷ form 2 (end (perform (operation.Operand (number 1)))) ∷ []) ≡ 5)
+size_rows = (refl, refl, refl, refl, refl, refl, refl, refl, refl, refl, refl, refl)

@@ -6,6 +6,6 @@ use Rattle.sch_frames.proofs.calls.set_aside.Given as goal
 abbrev pub invariant-loop-o : goal.invariant-loop-o
 invariant-loop-o l = record {
   written : (rest : List Instruction) → l.out.instructions ++ set_aside (own_slot l.slots.base) l.next (drop l.o-index l.operands) rest
-      ≡ l.initial.out.instructions ++ set_aside (own_slot l.slots.base) l.slots.aside l.operands rest;
+      ≡ l.initial.out.instructions ++ set_aside (own_slot l.slots.base) 0 l.operands rest;
   labels : l.out.labels ≡ l.initial.out.labels;
 }

@@ -1,12 +1,12 @@
-use Rattle.std.proofs.Common.{◌≡◌}
+use Rattle.std.proofs.Common.{◌≡◌, ◌≤◌, ◌+◌, arith}
 use Rattle.sch_control.specs.SourceView as control
 use Rattle.sch_control.specs.View.{expression}
-use Rattle.sch_frames.specs.Layout.{slots_layout}
+use Rattle.sch_frames.specs.Layout.{slots_layout, slots_words}
 use Rattle.sch_frames.proofs.layouts.ObjectFreeSlots.{slots_begin}
 use Rattle.sch_frames.proofs.layouts.LayoutSize.{slots_size, slots_work, labels_size}
 use Rattle.sch_frames.proofs.layouts.LayoutWork.{slots_done}
 use Rattle.sch_frames.proofs.layouts.SettledSlots.{slots_object_free}
-use Rattle.sch_frames.proofs.layouts.SlotsFrame.{slots_placed, slots_does, slots_forward, slots_shaped}
+use Rattle.sch_frames.proofs.layouts.SlotsFrame.{slots_placed, slots_does, slots_forward, slots_room, slots_shaped}
 use Rattle.sch_frames.proofs.layouts.StraightSlots.{slots_straight}
 use Rattle.sch_frames.proofs.Written.{layout_written}
 use Rattle.sch_frames.proofs.slots.frame_slots.Goals as goal
@@ -14,7 +14,7 @@ use Rattle.sch_frames.proofs.slots.frame_slots.Goals as goal
 pub invariant_of-result : goal.invariant_of-result
 invariant_of-result c =
     let b = c.args.b.now in
-    let i : c.in_ok-out.out.instructions ≡ slots_layout (control.code_of c.args.b.now) = layout_written (control.code_of c.args.b.now) _ _ _ _ c.room_for-room.ensures.base c.room_for-room.ensures.aside c.room_for-room.ensures.entered c.in_ok-out.ensures.instructions in
+    let i : c.in_ok-out.out.instructions ≡ slots_layout (control.code_of c.args.b.now) = layout_written (control.code_of c.args.b.now) _ _ _ c.room_for-room.ensures.base c.room_for-room.ensures.entered c.in_ok-out.ensures.instructions in
     let l = c.in_ok-out.ensures.labels in
     let words = c.room_for-room.ensures.words in
     record {
@@ -26,37 +26,43 @@ invariant_of-result c =
 pub returns-clause-same : goal.returns-clause-same
 returns-clause-same c =
     let b = c.args.b.now in
-    let i : c.in_ok-out.out.instructions ≡ slots_layout (control.code_of c.args.b.now) = layout_written (control.code_of c.args.b.now) _ _ _ _ c.room_for-room.ensures.base c.room_for-room.ensures.aside c.room_for-room.ensures.entered c.in_ok-out.ensures.instructions in
+    let i : c.in_ok-out.out.instructions ≡ slots_layout (control.code_of c.args.b.now) = layout_written (control.code_of c.args.b.now) _ _ _ c.room_for-room.ensures.base c.room_for-room.ensures.entered c.in_ok-out.ensures.instructions in
     rw (i, c.in_ok-out.ensures.labels, c.room_for-room.ensures.words) (slots_does (control.code_of b) b.scoped b.numbered b.ended)
 
 pub returns-clause-begins : goal.returns-clause-begins
 returns-clause-begins c =
-    let i : c.in_ok-out.out.instructions ≡ slots_layout (control.code_of c.args.b.now) = layout_written (control.code_of c.args.b.now) _ _ _ _ c.room_for-room.ensures.base c.room_for-room.ensures.aside c.room_for-room.ensures.entered c.in_ok-out.ensures.instructions in
+    let i : c.in_ok-out.out.instructions ≡ slots_layout (control.code_of c.args.b.now) = layout_written (control.code_of c.args.b.now) _ _ _ c.room_for-room.ensures.base c.room_for-room.ensures.entered c.in_ok-out.ensures.instructions in
     rw i (slots_begin (control.code_of c.args.b.now))
 
 pub returns-clause-object_free : goal.returns-clause-object_free
 returns-clause-object_free c h =
-    let i : c.in_ok-out.out.instructions ≡ slots_layout (control.code_of c.args.b.now) = layout_written (control.code_of c.args.b.now) _ _ _ _ c.room_for-room.ensures.base c.room_for-room.ensures.aside c.room_for-room.ensures.entered c.in_ok-out.ensures.instructions in
+    let i : c.in_ok-out.out.instructions ≡ slots_layout (control.code_of c.args.b.now) = layout_written (control.code_of c.args.b.now) _ _ _ c.room_for-room.ensures.base c.room_for-room.ensures.entered c.in_ok-out.ensures.instructions in
     rw i (slots_object_free (control.code_of c.args.b.now) c.args.b.now.ended c.args.b.now.shaped c.args.b.now.fields h)
 
 pub returns-clause-straight : goal.returns-clause-straight
 returns-clause-straight c s =
-    let i : c.in_ok-out.out.instructions ≡ slots_layout (control.code_of c.args.b.now) = layout_written (control.code_of c.args.b.now) _ _ _ _ c.room_for-room.ensures.base c.room_for-room.ensures.aside c.room_for-room.ensures.entered c.in_ok-out.ensures.instructions in
+    let i : c.in_ok-out.out.instructions ≡ slots_layout (control.code_of c.args.b.now) = layout_written (control.code_of c.args.b.now) _ _ _ c.room_for-room.ensures.base c.room_for-room.ensures.entered c.in_ok-out.ensures.instructions in
     rw i (slots_straight (control.code_of c.args.b.now) s)
+
+pub returns-clause-frame_words : goal.returns-clause-frame_words
+returns-clause-frame_words c =
+    let words = c.room_for-room.ensures.words in
+    let few : slots_words (control.code_of c.args.b.now) ≤ 200 + c.args.b.now.variables = slots_room (control.code_of c.args.b.now) c.args.b.now.shaped in
+    omega (arith, words, few)
 
 pub returns-clause-size : goal.returns-clause-size
 returns-clause-size c =
-    let i : c.in_ok-out.out.instructions ≡ slots_layout (control.code_of c.args.b.now) = layout_written (control.code_of c.args.b.now) _ _ _ _ c.room_for-room.ensures.base c.room_for-room.ensures.aside c.room_for-room.ensures.entered c.in_ok-out.ensures.instructions in
+    let i : c.in_ok-out.out.instructions ≡ slots_layout (control.code_of c.args.b.now) = layout_written (control.code_of c.args.b.now) _ _ _ c.room_for-room.ensures.base c.room_for-room.ensures.entered c.in_ok-out.ensures.instructions in
     rw i (slots_size (control.code_of c.args.b.now))
 
 pub returns-clause-work : goal.returns-clause-work
 returns-clause-work c =
-    let i : c.in_ok-out.out.instructions ≡ slots_layout (control.code_of c.args.b.now) = layout_written (control.code_of c.args.b.now) _ _ _ _ c.room_for-room.ensures.base c.room_for-room.ensures.aside c.room_for-room.ensures.entered c.in_ok-out.ensures.instructions in
+    let i : c.in_ok-out.out.instructions ≡ slots_layout (control.code_of c.args.b.now) = layout_written (control.code_of c.args.b.now) _ _ _ c.room_for-room.ensures.base c.room_for-room.ensures.entered c.in_ok-out.ensures.instructions in
     rw i (slots_work (control.code_of c.args.b.now))
 
 pub returns-clause-all_work : goal.returns-clause-all_work
 returns-clause-all_work c =
-    let i : c.in_ok-out.out.instructions ≡ slots_layout (control.code_of c.args.b.now) = layout_written (control.code_of c.args.b.now) _ _ _ _ c.room_for-room.ensures.base c.room_for-room.ensures.aside c.room_for-room.ensures.entered c.in_ok-out.ensures.instructions in
+    let i : c.in_ok-out.out.instructions ≡ slots_layout (control.code_of c.args.b.now) = layout_written (control.code_of c.args.b.now) _ _ _ c.room_for-room.ensures.base c.room_for-room.ensures.entered c.in_ok-out.ensures.instructions in
     rw i (slots_done (control.code_of c.args.b.now))
 
 pub returns-clause-labels : goal.returns-clause-labels
