@@ -3,6 +3,7 @@ use Rattle.std.specs.Prelude.{◌≡◌, ◌<◌, ◌≤◌, ◌+◌, ◌*◌, �
 use Rattle.std.specs.List.{flat_map}
 use Rattle.sch_word.specs.declared.answer.Answer.{Answer}
 use Rattle.sch_word.specs.runs.Runs.{Run}
+use Rattle.sch_word.specs.trees.Shape.{max_operands}
 use Rattle.sch_word.specs.runs.ProgramLayout.{max_text_size}
 use Rattle.sch_insn.specs.Behaves.{FollowsRuns}
 use Rattle.sch_insn.specs.Spelling.{spelling}
@@ -14,8 +15,9 @@ use Rattle.sch_control.specs.Sizes.{most_variables}
 use Rattle.sch_control.specs.Work.{codes_work}
 use Rattle.sch_control.specs.Tree.{Source}
 use Rattle.sch_control.specs.Run.{run}
+use Rattle.sch_frames.specs.Valid.{max_words}
 use Rattle.sch_select.specs.Program.{frames_bytes, max_stack, stack_bytes}
-use Rattle.sch_driver.specs.Causes.{max_frame, text_base}
+use Rattle.sch_driver.specs.Causes.{text_base}
 use Rattle.sch_driver.specs.Headline.{HasProgramLayout}
 use Rattle.sch_driver.specs.declared.error.CompileError.{CompileError}
 use Rattle.sch_driver.specs.declared.error.CompileError.TheVariants.{TextTooLarge, StackTooLarge, Memory}
@@ -26,8 +28,8 @@ assembled_bound p = text_base + 64 * codes_work p.bodies
 
 -- The most words of a frame: a slot for each variable, and for each of the most operands or formals.
 pub record IsFrameSize (p : Source) (words : ℕ) : Type 0 where
-  pub few : words ≤ max_frame
-  pub bound : words ≤ 200 + most_variables p.bodies
+  pub few : words ≤ max_words
+  pub bound : words ≤ max_operands + most_variables p.bodies
 
 -- The image is laid out as a program's of so many instructions, with room behind its words for the heap and for frames of so many words at
 -- this depth, and where the control program is never wrong, it follows its runs.

@@ -14,6 +14,7 @@ use Rattle.sch_core.specs.Answer as expanding
 use Rattle.sch_core.specs.declared.error.CoreError.{CoreError}
 use Rattle.sch_core.specs.declared.error.CoreError.TheVariants as core
 use Rattle.sch_core.specs.Programs.{IsProgramOf, form_places}
+use Rattle.sch_frames.specs.Valid.{max_words}
 use Rattle.sch_select.specs.Program.{frames_bytes, max_stack}
 use Rattle.sch_driver.specs.declared.error.CompileError.{CompileError}
 use Rattle.sch_driver.specs.declared.error.CompileError.TheVariants.{Read, Core, NotBuilt, StackTooLarge, TextTooLarge, Memory}
@@ -47,16 +48,13 @@ text_base = 2 ^ 16
 abbrev pub text_bound : tree.Source → ℕ
 text_bound p = text_base + 512 * program_size p
 
--- the most words of a frame, of any program and by the variables of its bodies (the project's own)
-abbrev pub max_frame : ℕ
-max_frame = 2048
-
+-- the most words of a frame, by the variables of a program's bodies (the project's own)
 abbrev pub frame_bound : tree.Source → ℕ
 frame_bound p = 2 * most_variables p + 216
 
 -- A frame of the core program may have so many words.
 pub record MayHaveFrames (program : tree.Source) (words : ℕ) : Type 0 where
-  pub few : words ≤ max_frame
+  pub few : words ≤ max_words
   pub bound : words ≤ frame_bound program
 
 -- A text that is built, and a number of words that its frames may have; at this depth they would take more than the

@@ -5,9 +5,9 @@ ghost use Rattle.std.specs.List.{flat_map};
 ghost use Rattle.sch_insn.specs.Spelling.{AllValid, spelling};
 ghost use Rattle.sch_control.specs.ObjectFree.{is_object_free_program};
 ghost use Rattle.sch_control.specs.ProgramView.{source};
+ghost use Rattle.sch_frames.specs.Valid.{max_words};
 ghost use Rattle.sch_select.specs.Program.{frames_bytes, max_stack};
 ghost use Rattle.sch_driver.specs.Assembled.{IsAssembled, IsUnfit};
-ghost use Rattle.sch_driver.specs.Causes.{max_frame};
 ghost use Rattle.sch_driver.specs.declared.error.CompileError.TheVariants as error;
 
 use crate::error::CompileError;
@@ -49,7 +49,7 @@ pub(crate) struct Assembled {
 
 /// Checks that frames of so many words have room on the stack at a depth.
 fn check_stack(words: u32, depth: u64) -> Result<(), CompileError>
-    requires few { words ≤ max_frame }
+    requires few { words ≤ max_words }
     requires depth { depth ≤ 10000000 }
     ensures fits { OnOk result (frames_bytes words depth ≤ max_stack) }
     ensures refused { IfErr result (λ e. (e ≡ error.StackTooLarge words) × (max_stack < frames_bytes words depth)) }

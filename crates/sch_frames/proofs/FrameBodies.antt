@@ -16,8 +16,8 @@ use Rattle.sch_control.specs.Work.{codes_work}
 use Rattle.sch_frames.specs.declared.body.FrameBody.{FrameBody}
 use Rattle.sch_frames.specs.Does.{FrameOf, FramesOf}
 use Rattle.sch_frames.specs.Layout.{slots_words}
-use Rattle.sch_control.specs.Sizes.{expression_size, expressions_size}
-use Rattle.sch_frames.specs.Sizes.{call_parts, calls_parts, closures_in, code_work, codes_size, entries_size, entry_size, instructions_size, largest_frame, most_variables, most_words}
+use Rattle.sch_control.specs.Sizes.{expression_size, expressions_size, most_variables}
+use Rattle.sch_frames.specs.Sizes.{call_parts, calls_parts, closures_in, code_work, codes_size, entries_size, entry_size, instructions_size, largest_frame, most_words}
 use Rattle.sch_frames.specs.SourceView.{code_of, codes_of}
 use Rattle.sch_frames.specs.Tree.{Code}
 use Rattle.sch_frames.proofs.layouts.SlotsFrame.{slots_room}

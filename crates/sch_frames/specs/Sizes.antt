@@ -50,11 +50,6 @@ abbrev pub most_words : List control.Code → ℕ
 most_words [] = 0
 most_words (c ∷ codes) = max (slots_words c) (most_words codes)
 
--- the most variables of one of some bodies, with the return address and the closure, and 0 where there are none
-abbrev pub most_variables : List control.Code → ℕ
-most_variables [] = 0
-most_variables (c ∷ codes) = max c.variables (most_variables codes)
-
 -- ## Instructions
 
 -- One for each instruction, with what its operation has. Labels and marks are nothing that is done.

@@ -6,14 +6,14 @@ ghost use Rattle.sch_word.specs.trees.Shape.{max_operands};
 ghost use Rattle.sch_word.specs.values.StaticsView.{statics};
 ghost use Rattle.sch_control.specs.ObjectFree as control_object_free;
 ghost use Rattle.sch_control.specs.ProgramView as control;
-ghost use Rattle.sch_control.specs.Sizes.{expressions_size};
+ghost use Rattle.sch_control.specs.Sizes.{expressions_size, most_variables};
 ghost use Rattle.sch_control.specs.SourceView as control_bodies;
 ghost use Rattle.sch_control.specs.Straight as control_straight;
 ghost use Rattle.sch_control.specs.Work.{codes_work};
 ghost use Rattle.sch_frames.specs.ObjectFree.{code_begins, each_begins, is_object_free_code, is_object_free_program};
 ghost use Rattle.sch_frames.specs.Does.{FramesOf, SameRuns};
 ghost use Rattle.sch_frames.specs.ProgramView.{source};
-ghost use Rattle.sch_frames.specs.Sizes.{calls_parts, closures_in, codes_size, entries_size, largest_frame, most_variables, most_words, program_size, program_work};
+ghost use Rattle.sch_frames.specs.Sizes.{calls_parts, closures_in, codes_size, entries_size, largest_frame, most_words, program_size, program_work};
 ghost use Rattle.sch_frames.specs.SourceView.{codes_of};
 ghost use Rattle.sch_frames.specs.Straight.{is_straight_code, is_straight_program};
 

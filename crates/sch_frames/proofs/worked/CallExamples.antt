@@ -19,7 +19,7 @@ use Rattle.sch_control.specs.declared.operation.Source.TheVariants as source
 use Rattle.sch_control.specs.declared.operation.Operation.TheVariants as operation
 use Rattle.sch_control.specs.ObjectFree as control_object_free
 use Rattle.sch_control.specs.Run as control_run
-use Rattle.sch_control.specs.Sizes.{expression_size}
+use Rattle.sch_control.specs.Sizes.{expression_size, most_variables}
 use Rattle.sch_control.specs.Tree as control
 use Rattle.sch_control.specs.Tree.{Expression, perform, bind, branch, fix, call, tail_call, return, end}
 use Rattle.sch_control.specs.Valid as control_valid
@@ -28,7 +28,7 @@ use Rattle.sch_frames.specs.declared.instruction.Instruction.TheVariants.{Do, St
 use Rattle.sch_frames.specs.ObjectFree.{is_object_free_instruction, is_object_free_code, is_object_free_program, each_begins, begins}
 use Rattle.sch_frames.specs.Layout.{slots_layout, slots_words, labels, most_operands}
 use Rattle.sch_frames.specs.Run.{run}
-use Rattle.sch_frames.specs.Sizes.{call_parts, calls_parts, entries_size, instructions_size, most_variables, most_words, nodes}
+use Rattle.sch_frames.specs.Sizes.{call_parts, calls_parts, entries_size, instructions_size, most_words, nodes}
 use Rattle.sch_frames.specs.Tree.{Code, Source}
 use Rattle.sch_frames.specs.Valid.{code_valid, is_valid}
 
