@@ -1,2 +1,5 @@
-mod ObjectFreeTrees
+mod BodiesKept
+mod BodyOrder
 mod Chain
+mod Examples
+mod ObjectFreeTrees

@@ -2,11 +2,13 @@
 //! that way.
 #![tactic(auto)]
 
-ghost use Rattle.std.specs.Prelude.{◌≤◌, ◌*◌, ◌^◌, IfOk, IsTrue};
+ghost use Rattle.std.specs.Prelude.{◌≡◌, ◌≤◌, ◌+◌, ◌*◌, ◌^◌, map, IfOk, IsTrue};
 ghost use Rattle.sch_control.specs.ObjectFree as control;
 ghost use Rattle.sch_control.specs.Fits.{table_fits};
 ghost use Rattle.sch_control.specs.ProgramView as control_view;
+ghost use Rattle.sch_control.specs.Sizes as sizes;
 ghost use Rattle.sch_control.specs.Work.{codes_work};
+ghost use Rattle.sch_lang.specs.Bodies.{bodies_of, most_variables};
 ghost use Rattle.sch_lang.specs.ObjectFree.{is_object_free_program};
 ghost use Rattle.sch_lang.specs.Measures.{nodes_and_bound, program_size};
 ghost use Rattle.sch_lang.specs.ProgramView.{source};
@@ -39,6 +41,13 @@ pub fn control_program(alloc: Global, p: &Program) -> Result<ControlProgram, Mem
     ensures object_free { IfOk result (λ q. IsTrue (is_object_free_program (source p.now)) → IsTrue (control.is_object_free_program (control_view.source q))) }
     // There is at most seven times as much work in it as the size of `p`.
     ensures work { IfOk result (λ q. codes_work (control_view.source q).bodies ≤ 7 * program_size (source p.now)) }
+    // No body has more variables, its return address and its closure among them, than two more than the largest body
+    // of `p` may need.
+    ensures variables { IfOk result (λ q. sizes.most_variables (control_view.source q).bodies ≤ 2 + most_variables (source p.now)) }
+    // The bodies have the names of those of `p`, in their order: the library's procedures, each followed by those
+    // inside it, and then each top-level form, whose name is `form`, followed by its procedures in the order of the
+    // text.
+    ensures names { IfOk result (λ q. map (λ c. c.name) (control_view.source q).bodies ≡ map (λ b. b.name) (bodies_of (source p.now))) }
 {
     let renamed = rename(alloc, p)?;
     let converted = convert_assign(alloc, &renamed)?;

@@ -1,5 +1,6 @@
 use Rattle.std.proofs.Common.{ap, ◌∙◌, arith}
 use Rattle.std.specs.Prelude.{length}
+use Rattle.sch_lang.specs.Bodies.{bodies_of}
 use Rattle.sch_lang.specs.ProgramView.{source}
 use Rattle.sch_lang.proofs.BodyCounts.{bodies_within_nodes}
 use Rattle.sch_lang.proofs.Measured.{bound_within_nodes}
@@ -8,6 +9,7 @@ use Rattle.sch_cells.specs.BoxedMeaning as boxed
 use Rattle.sch_cells.specs.UnboxedMeaning as unboxed
 use Rattle.sch_flat.specs.ProgramView as flat
 use Rattle.sch_control.specs.ProgramView as control
+use Rattle.sch_passes.proofs.BodiesKept.{flat_order, names_kept, variables_kept}
 use Rattle.sch_passes.proofs.Chain.{runs_as}
 use Rattle.sch_passes.proofs.control_program.Goals as goal
 
@@ -41,3 +43,17 @@ returns-clause-object_free c h =
 pub returns-clause-work : goal.returns-clause-work
 returns-clause-work c =
     omega (arith, c.in_ok-control.ensures.work, c.in_ok-flat.ensures.weight, c.in_ok-converted.ensures.weight, c.in_ok-renamed.ensures.size)
+
+pub returns-clause-variables : goal.returns-clause-variables
+returns-clause-variables c =
+    let f = flat.source c.in_ok-flat.flat in
+    let made = c.in_ok-flat.ensures in
+    let order = flat_order f (cells.source c.in_ok-converted.converted) made.made made.bodies made.forms ∙ (c.in_ok-converted.ensures.bodies ∙ c.in_ok-renamed.ensures.bodies) in
+    variables_kept f (control.source c.in_ok-control.control) (bodies_of (source c.args.p.now)) c.in_ok-control.ensures.variables order
+
+pub returns-clause-names : goal.returns-clause-names
+returns-clause-names c =
+    let f = flat.source c.in_ok-flat.flat in
+    let made = c.in_ok-flat.ensures in
+    let order = flat_order f (cells.source c.in_ok-converted.converted) made.made made.bodies made.forms ∙ (c.in_ok-converted.ensures.bodies ∙ c.in_ok-renamed.ensures.bodies) in
+    names_kept f (control.source c.in_ok-control.control) (bodies_of (source c.args.p.now)) c.in_ok-control.ensures.made order
