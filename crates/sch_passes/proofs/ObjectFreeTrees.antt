@@ -1,13 +1,13 @@
 -- Trees that are object-free: their parts, and loops over lists of them.
 use Rattle.std.proofs.Common.{◌≡◌, ℕ, zero, suc, ◌+◌, ◌<◌, ◌≤◌, Bool, true, false, List, [], ◌∷◌, length, map, drop, min, Option, Some, None, cond, refl, sym, ap, ◌∙◌, arith}
-use Rattle.std.specs.Prelude.{◌&&◌, slice_index_or}
+use Rattle.std.specs.Prelude.{◌&&◌, not, slice_index_or}
 use Rattle.std.specs.List.{list_all}
 use Rattle.std.proofs.Common.{add-one}
-use Rattle.sch_word.specs.trees.Straight.{is_object_free_node}
+use Rattle.sch_word.specs.trees.Straight.{is_object_free_node, takes_no_list}
 use Rattle.sch_lang.specs.ObjectFree.{is_object_free, are_object_free, first_object}
 use Rattle.sch_lang.specs.declared.tree.Exp.{Exp}
 use Rattle.sch_lang.specs.declared.tree.Lambda.{Lambda}
-use Rattle.sch_lang.specs.Measures.{over_each, over_lambdas, shape}
+use Rattle.sch_lang.specs.Measures.{over_each, over_lambdas, procedures, shape}
 use Rattle.sch_lang.specs.Tree.{Expressions, no_expressions, and_expression, expressions, Lambdas, lambdas}
 use Rattle.sch_lang.specs.View.{expression, expressions_of, function, lambdas_of}
 use Rattle.sch_lang.proofs.worked.Rows.{expressions_of_list, lambdas_of_list}
@@ -55,6 +55,19 @@ bodies_free ls = ap every_lambda (lambdas_of_list ls) ∙ go ls
     go [] = refl
     go (l ∷ ls) = ap (λ b. body_free l && b) (go ls)
 
+abbrev pub takes_none : Lambda → Bool
+takes_none l = not l.rest
+
+abbrev take_none : Lambdas → Bool
+take_none ls = list_all takes_no_list (procedures ls)
+
+pub none_taken : (ls : List Lambda) → take_none (lambdas_of ls) ≡ list_all takes_none ls
+none_taken ls = ap take_none (lambdas_of_list ls) ∙ go ls
+  where
+    go : (ls : List Lambda) → take_none (lambdas (map function ls)) ≡ list_all takes_none ls
+    go [] = refl
+    go (l ∷ ls) = ap (λ b. takes_none l && b) (go ls)
+
 -- ## A loop
 
 module _ {X : Type 0} (test : X → Bool) where
@@ -81,43 +94,43 @@ module _ {X : Type 0} (test : X → Bool) where
 
 -- ## A loop over forms with their places
 
-abbrev pub call_of : List ℕ → List Exp → Option ℕ
-call_of places items = first_object places (expressions (map expression items))
+abbrev pub object_in : List ℕ → List Exp → Option ℕ
+object_in places items = first_object places (expressions (map expression items))
 
-pub call_is : (places : List ℕ) (es : List Exp) → first_object places (expressions_of es) ≡ call_of places es
-call_is places es = ap (first_object places) (expressions_of_list es)
+pub object_is : (places : List ℕ) (es : List Exp) → first_object places (expressions_of es) ≡ object_in places es
+object_is places es = ap (first_object places) (expressions_of_list es)
 
-next_call : (places : List ℕ) (items : List Exp) (i : ℕ) (e : Exp) → i < length places → i < length items → e ≡ slice_index_or items i e
-    → call_of (drop i places) (drop i items) ≡ cond (is_free e) (call_of (drop (suc i) places) (drop (suc i) items)) (Some (slice_index_or places i 0))
-next_call [] items i e p l at = absurd (omega (arith, p))
-next_call (x ∷ places) [] i e p l at = absurd (omega (arith, l))
-next_call (x ∷ places) (y ∷ items) zero e p l at = ap (λ z. cond (is_free z) (call_of places items) (Some x)) (sym at)
-next_call (x ∷ places) (y ∷ items) (suc i) e p l at = next_call places items i e (omega (arith, p)) (omega (arith, l)) at
+next_object : (places : List ℕ) (items : List Exp) (i : ℕ) (e : Exp) → i < length places → i < length items → e ≡ slice_index_or items i e
+    → object_in (drop i places) (drop i items) ≡ cond (is_free e) (object_in (drop (suc i) places) (drop (suc i) items)) (Some (slice_index_or places i 0))
+next_object [] items i e p l at = absurd (omega (arith, p))
+next_object (x ∷ places) [] i e p l at = absurd (omega (arith, l))
+next_object (x ∷ places) (y ∷ items) zero e p l at = ap (λ z. cond (is_free z) (object_in places items) (Some x)) (sym at)
+next_object (x ∷ places) (y ∷ items) (suc i) e p l at = next_object places items i e (omega (arith, p)) (omega (arith, l)) at
 
 module _ (places : List ℕ) (items : List Exp) (i n : ℕ) (e : Exp) (m : n ≡ min (length places) (length items)) (l : i < n) (at : e ≡ slice_index_or items i e)
-    (inv : call_of (drop i places) (drop i items) ≡ call_of places items) where
-  here : cond (is_free e) (call_of (drop (suc i) places) (drop (suc i) items)) (Some (slice_index_or places i 0)) ≡ call_of places items
-  here = sym (next_call places items i e (omega (arith, m, l)) (omega (arith, m, l)) at) ∙ inv
+    (inv : object_in (drop i places) (drop i items) ≡ object_in places items) where
+  here : cond (is_free e) (object_in (drop (suc i) places) (drop (suc i) items)) (Some (slice_index_or places i 0)) ≡ object_in places items
+  here = sym (next_object places items i e (omega (arith, m, l)) (omega (arith, m, l)) at) ∙ inv
 
-  pub call_here : false ≡ is_free e → Some (slice_index_or places i 0) ≡ call_of places items
-  call_here f = ap (λ b. cond b (call_of (drop (suc i) places) (drop (suc i) items)) (Some (slice_index_or places i 0))) f ∙ here
+  pub object_here : false ≡ is_free e → Some (slice_index_or places i 0) ≡ object_in places items
+  object_here f = ap (λ b. cond b (object_in (drop (suc i) places) (drop (suc i) items)) (Some (slice_index_or places i 0))) f ∙ here
 
-  pub call_later : true ≡ is_free e → call_of (drop (i + 1) places) (drop (i + 1) items) ≡ call_of places items
-  call_later f =
-      ap (λ j. call_of (drop j places) (drop j items)) (add-one i)
-      ∙ (ap (λ b. cond b (call_of (drop (suc i) places) (drop (suc i) items)) (Some (slice_index_or places i 0))) f ∙ here)
+  pub object_later : true ≡ is_free e → object_in (drop (i + 1) places) (drop (i + 1) items) ≡ object_in places items
+  object_later f =
+      ap (λ j. object_in (drop j places) (drop j items)) (add-one i)
+      ∙ (ap (λ b. cond b (object_in (drop (suc i) places) (drop (suc i) items)) (Some (slice_index_or places i 0))) f ∙ here)
 
-call_ends : (places : List ℕ) (items : List Exp) (i : ℕ) → min (length places) (length items) ≤ i → call_of (drop i places) (drop i items) ≡ None
-call_ends [] items zero h = refl
-call_ends [] items (suc i) h = refl
-call_ends (x ∷ places) [] zero h = refl
-call_ends (x ∷ places) [] (suc i) h = nothing_left (drop i places)
+objects_end : (places : List ℕ) (items : List Exp) (i : ℕ) → min (length places) (length items) ≤ i → object_in (drop i places) (drop i items) ≡ None
+objects_end [] items zero h = refl
+objects_end [] items (suc i) h = refl
+objects_end (x ∷ places) [] zero h = refl
+objects_end (x ∷ places) [] (suc i) h = nothing_left (drop i places)
   where
-    nothing_left : (places : List ℕ) → call_of places [] ≡ None
+    nothing_left : (places : List ℕ) → object_in places [] ≡ None
     nothing_left [] = refl
     nothing_left (x ∷ places) = refl
-call_ends (x ∷ places) (y ∷ items) zero h = absurd (omega (arith, h))
-call_ends (x ∷ places) (y ∷ items) (suc i) h = call_ends places items i (omega (arith, h))
+objects_end (x ∷ places) (y ∷ items) zero h = absurd (omega (arith, h))
+objects_end (x ∷ places) (y ∷ items) (suc i) h = objects_end places items i (omega (arith, h))
 
-pub no_call : (places : List ℕ) (items : List Exp) (i n : ℕ) → n ≡ min (length places) (length items) → n ≤ i → call_of (drop i places) (drop i items) ≡ call_of places items → None ≡ call_of places items
-no_call places items i n m l inv = sym (call_ends places items i (omega (arith, m, l))) ∙ inv
+pub no_object : (places : List ℕ) (items : List Exp) (i n : ℕ) → n ≡ min (length places) (length items) → n ≤ i → object_in (drop i places) (drop i items) ≡ object_in places items → None ≡ object_in places items
+no_object places items i n m l inv = sym (objects_end places items i (omega (arith, m, l))) ∙ inv

@@ -1,9 +1,10 @@
 //! Which forms of a program are object-free.
 
+ghost use Rattle.std.specs.List.{list_all};
 ghost use Rattle.std.specs.Prelude.{◌≡◌, ◌&&◌, true};
-ghost use Rattle.sch_word.specs.trees.Straight.{is_object_free_node, is_straight_constant, is_straight_primitive};
+ghost use Rattle.sch_word.specs.trees.Straight.{is_object_free_node, is_straight_constant, is_straight_primitive, takes_no_list};
 ghost use Rattle.sch_lang.specs.ObjectFree.{are_object_free, first_object, is_object_free};
-ghost use Rattle.sch_lang.specs.Measures.{over_lambdas, shape};
+ghost use Rattle.sch_lang.specs.Measures.{over_lambdas, procedures, shape};
 ghost use Rattle.sch_lang.specs.View.{expression, expressions_of, lambdas_of};
 
 use sch_lang::{Exp, Lambda};
@@ -43,28 +44,41 @@ fn is_straight_primitive(which: Prim) -> bool
     }
 }
 
+/// Whether none of these procedures takes a list.
+fn take_no_lists(ls: &List<Lambda>) -> bool
+    ensures { result ≡ list_all takes_no_list (procedures (lambdas_of ls.now)) }
+{
+    for l in ls.as_slice() {
+        if l.rest {
+            return false;
+        }
+    }
+    true
+}
+
 /// Whether each node of an expression is one of object-free code.
-#[cycle(calls)]
+#[cycle(objects)]
 fn is_object_free(e: &Exp) -> bool
     ensures { result ≡ is_object_free (expression e.now) }
 {
     match e {
         Exp::Constant(c) => is_straight_constant(*c),
-        Exp::Literal(_) | Exp::Call(..) => false,
+        Exp::Literal(_) => false,
         Exp::Local(_) | Exp::Global(_) => true,
         Exp::SetLocal(_, e) | Exp::SetGlobal(_, e) | Exp::Define(_, e) => is_object_free(e),
         Exp::If(a, b, c) => is_object_free(a) && is_object_free(b) && is_object_free(c),
         Exp::Seq(es) => are_object_free(es),
         Exp::Let(_, es, e) => are_object_free(es) && is_object_free(e),
-        Exp::Fix(ls, e) => lambdas_object_free(ls) && is_object_free(e),
+        Exp::Fix(ls, e) => take_no_lists(ls) && bodies_object_free(ls) && is_object_free(e),
         Exp::Rec(_, es, e) => are_object_free(es) && is_object_free(e),
-        Exp::Lambda(l) => is_object_free(&l.body),
+        Exp::Lambda(l) => !l.rest && is_object_free(&l.body),
+        Exp::Call(_, f, es) => is_object_free(f) && are_object_free(es),
         Exp::Prim(_, which, es) => is_straight_primitive(*which) && are_object_free(es),
     }
 }
 
 /// Whether all of these are object-free.
-#[cycle(calls)]
+#[cycle(objects)]
 fn are_object_free(es: &List<Exp>) -> bool
     ensures { result ≡ are_object_free (expressions_of es.now) }
 {
@@ -77,8 +91,8 @@ fn are_object_free(es: &List<Exp>) -> bool
 }
 
 /// Whether the bodies of all of these are object-free.
-#[cycle(calls)]
-fn lambdas_object_free(ls: &List<Lambda>) -> bool
+#[cycle(objects)]
+fn bodies_object_free(ls: &List<Lambda>) -> bool
     ensures { result ≡ over_lambdas true (λ a b. a && b) (λ e. is_object_free_node (shape e)) (lambdas_of ls.now) }
 {
     for l in ls.as_slice() {
