@@ -1,4 +1,4 @@
--- A whole program: its items and its data.
+-- A whole object-free program: its items and its data.
 use Rattle.std.specs.Prelude.{ℕ, zero, suc, ◌+◌, ◌*◌, ◌/◌, ◌%◌, List, [], ◌∷◌, ◌++◌, length, replicate, codes, pos}
 use Rattle.std.specs.Prelude.{Option, Some, None}
 use Rattle.std.specs.Int.{w64, from_le_bytes}

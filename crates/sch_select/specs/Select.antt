@@ -1,5 +1,6 @@
 -- The items of each instruction of a body. What follows is an argument, so nothing is appended. RAX is the
--- accumulator, RCX has a second operand, RDX and R11 are free, and RBP has the address of the frame.
+-- accumulator, RCX has a second operand, RDX and R11 are free, and RBP has the address of the frame. Of code that is
+-- not object-free nothing is claimed, whatever its items are here.
 use Rattle.std.specs.Prelude.{ℕ, ◌+◌, ◌*◌, List, [], ◌∷◌, length, pos, negsuc}
 use Rattle.sch_word.specs.declared.place.Place.{Place}
 use Rattle.sch_word.specs.declared.place.Place.TheVariants as place

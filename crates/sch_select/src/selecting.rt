@@ -114,6 +114,7 @@ fn stack_of(words: u32, depth: u64) -> u64
     frame * depth + 2 * frame
 }
 
+/// Where a program's data lie, with a number of globals and of procedures in the library.
 fn lay_out(globals: u64, library: u64, stack_size: u64, limits: Limits) -> Layout
     requires few { globals ≤ 29360128 }
     requires library { library ≤ 1048576 }
@@ -274,9 +275,9 @@ fn items_of(alloc: Global, p: &FrameProgram, layout: Layout, depth: u64) -> Resu
 /// follow one after the other, those of procedures jumped over, and behind them the routine that puts any value.
 ///
 /// Resolved with the run-time routines, they do what the program does, whatever the machine is given and
-/// whatever the kernel answers, and pass the program's marks. Programs with literals, symbols or objects have no
-/// code yet. Time and memory are linear in the instructions, the labels, the globals and the library. The addresses
-/// below the stack are numbers of 31 bits.
+/// whatever the kernel answers, and pass the program's marks. Programs that are not object-free have no code yet. The
+/// frames of a form and of the calls that may be pending take at most 2^30 bytes. Time and memory are linear in the
+/// instructions, the labels, the globals and the library. The addresses below the stack are numbers of 31 bits.
 pub fn select(alloc: Global, p: &FrameProgram, limits: Limits) -> Result<Asm, Mem>
     requires object_free { IsTrue (is_object_free_program (source p.now)) }
     requires stack { frames_bytes p.now.words limits.depth ≤ max_stack }

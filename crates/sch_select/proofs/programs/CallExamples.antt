@@ -6,6 +6,7 @@ use Rattle.sch_word.specs.declared.constant.Const.TheVariants.{Fixnum}
 use Rattle.sch_word.specs.declared.place.Place.{Place}
 use Rattle.sch_word.specs.declared.place.Place.TheVariants.{Reg, Slot}
 use Rattle.sch_word.specs.declared.primitive.Primitive.TheVariants as prim
+use Rattle.sch_word.specs.declared.stop.Stop.TheVariants.{WrongCount}
 use Rattle.sch_word.specs.runs.Runs.{ended, going}
 use Rattle.sch_word.specs.values.Literals.{no_literals}
 use Rattle.sch_control.specs.declared.operation.Atom.TheVariants.{Constant, Variable}
@@ -18,19 +19,24 @@ use Rattle.sch_frames.specs.declared.instruction.Instruction.TheVariants.{Do, St
 use Rattle.sch_frames.specs.declared.instruction.Instruction.TheVariants.{Return, End as Ended, IfFalse, Jump, Label, Mark}
 use Rattle.sch_control.specs.declared.mark.MarkKind.TheVariants as mark
 use Rattle.sch_frames.specs.Run.{entries_of, run}
-use Rattle.sch_frames.specs.Tree.{Source}
+use Rattle.sch_frames.specs.Tree.{Code, Source}
 use Rattle.sch_insn.specs.Behaves.{exit_of, start, zeros}
 use Rattle.sch_insn.specs.Decode.{escaped_of, long_of, narrow_of, operand_of, rexed_of, wide_of}
 use Rattle.sch_insn.specs.Machine.{test_of}
 use Rattle.sch_insn.specs.Step.{mach}
+use Rattle.sch_insn.specs.declared.condition.TheConstants.{NE}
+use Rattle.sch_insn.specs.declared.insn.Arg.TheVariants as register
+use Rattle.sch_insn.specs.declared.insn.Insn.TheVariants.{CmpNumber, JumpTo}
+use Rattle.sch_asm.specs.declared.item.Item.TheVariants as item
+use Rattle.sch_asm.specs.declared.item.MarkKind.TheVariants as item_mark
 use Rattle.sch_asm.specs.Codes.{bytes_of}
 use Rattle.sch_asm.specs.Data.{data_at}
 use Rattle.sch_asm.specs.Views.{text_at}
 use Rattle.sch_runtime.specs.Code.{routine_items}
 use Rattle.sch_frames.specs.ObjectFree.{is_object_free_program}
 use Rattle.sch_select.specs.Marks.{enters_procedure, marks_passed, plain_code}
-use Rattle.sch_select.specs.Program.{frames_bytes, program_code, program_words, program_zeros, stack_bytes}
-use Rattle.sch_select.specs.Select.{kind_of}
+use Rattle.sch_select.specs.Program.{form_code, frames_bytes, program_code, program_words, program_zeros, stack_bytes}
+use Rattle.sch_select.specs.Select.{body_label, kind_of, stop_label}
 use Rattle.sch_frames.specs.Sizes.{closures_in}
 use Rattle.sch_select.specs.Sizes.{steps_bound}
 use Rattle.sch_select.proofs.programs.Examples.{text_of, number}
@@ -188,6 +194,14 @@ marks :
     × (enters_procedure (entries_of noted.bodies) (kind_of (mark.Enter 0)) ≡ false)
     × (list_all plain_code noted.bodies ≡ true)
 marks = (refl, refl, refl, refl, refl, refl)
+
+-- a procedure is jumped over, and its mark stands behind the check of its operands' count
+abbrev returning : Code
+returning = record { entry = Some (record { formals = 2; rest = false; fields = 0 }); words = 3; labels = 0; instructions = Return ∷ [] }
+
+entered : form_code 3 0 1 2000 returning [] ≡
+    item.Jump 2000 ∷ item.Label (body_label 1) ∷ item.Plain (CmpNumber (register.Reg 0) (pos 2)) ∷ item.JumpIf NE (stop_label WrongCount) ∷ item.Mark (item_mark.Enter 1) ∷ item.Plain (JumpTo (register.Reg 15)) ∷ item.Label 2000 ∷ []
+entered = refl
 
 -- frames for the form, for each depth, and one more; the bound of steps grows with entries and answers
 bounds :

@@ -1,6 +1,6 @@
 -- A program joined with its routines and resolved follows its runs.
 use Rattle.std.proofs.Common.{◌≡◌, ℕ, suc, ◌+◌, ◌-◌, ◌*◌, ◌^◌, ◌<◌, ◌≤◌, List, [], ◌∷◌, ◌++◌, length, replicate}
-use Rattle.std.proofs.Common.{Option, Some, None, Bool, true, false, refl, sym, ap, subst, arith}
+use Rattle.std.proofs.Common.{Option, Some, None, true, false, refl, sym, ap, subst, arith}
 use Rattle.std.specs.Prelude.{IsTrue}
 use Rattle.std.specs.List.{list_all, flat_map}
 use Rattle.std.proofs.lemmas.Bool.{and_parts}
@@ -12,6 +12,7 @@ use Rattle.sch_frames.specs.Tree.{Code, Source}
 use Rattle.sch_insn.specs.declared.insn.Insn.{Insn}
 use Rattle.sch_insn.specs.Behaves.{FollowsRuns}
 use Rattle.sch_insn.specs.Spelling.{AllValid, spelling}
+use Rattle.sch_asm.specs.declared.assembly.Word.{Word}
 use Rattle.sch_asm.specs.declared.item.Item.{Item}
 use Rattle.sch_asm.specs.declared.item.Item.TheVariants as item
 use Rattle.sch_asm.specs.declared.item.Mark as mark
@@ -46,6 +47,14 @@ use Rattle.sch_select.proofs.programs.EnterCounts.{counts_entries}
 use Rattle.sch_select.proofs.programs.Whole.{Starts, program_ends, program_follows, program_passes}
 use Rattle.sch_select.proofs.programs.Selected.{form_selected, selects}
 use Rattle.sch_frames.specs.ObjectFree.{is_object_free_code, marks_settled}
+
+-- what items, with the words and the zeros of data, do of a program
+pub record IsSelected (p : Source) (heap depth : ℕ) (items : List Item) (data_words : List Word) (zeros : ℕ) : Type
+    0 where
+  pub follows : FollowsFrames p heap depth items data_words zeros
+  pub ends : EndsFrames p heap depth items data_words zeros
+  pub passes : PassesFrames p heap depth items data_words zeros
+  pub enters : EntersFrames p heap depth items data_words zeros
 
 -- ---- what stands behind the forms
 
@@ -189,30 +198,25 @@ module _ (p : Source) (limit depth : ℕ) (words_few : p.words ≤ 2048)
               (bytes_at r.place_of) (item.Label put_label ∷ put_value_code) forms object_free (omega arith) j.first starts;
         })
 
-    pub frames_follow : FollowsFrames p limit depth (program_code p limit depth) (program_words p)
-        (program_zeros p limit depth)
-    frames_follow = record {
-      follows = λ routines code marks words effective arrive arrive' r valid small.
-          (done routines code marks words effective arrive arrive' r valid small).follows;
-    }
-
-    pub frames_end : EndsFrames p limit depth (program_code p limit depth) (program_words p)
-        (program_zeros p limit depth)
-    frames_end = record {
-      ends = λ routines code marks words effective arrive arrive' r valid small.
-          (done routines code marks words effective arrive arrive' r valid small).ends;
-    }
-
-    pub frames_pass : PassesFrames p limit depth (program_code p limit depth) (program_words p)
-        (program_zeros p limit depth)
-    frames_pass = record {
-      passes = λ routines code marks words effective arrive arrive' r valid small.
-          (done routines code marks words effective arrive arrive' r valid small).passes;
-    }
-
-    pub frames_enter : EntersFrames p limit depth (program_code p limit depth) (program_words p) (program_zeros p limit depth)
-    frames_enter = record {
-      enters = λ plain routines code marks words effective arrive arrive' r valid small runs are.
-          let d = done routines code marks words effective arrive arrive' r valid small in
-          counts_entries p limit depth plain 0x400000 (text_at (flat_map spelling code) ∷ data_at (words ++ replicate (program_zeros p limit depth) 0) ∷ []) (marks_at marks) runs d.passes (d.follows runs are) are;
+    pub program_selected : IsSelected p limit depth (program_code p limit depth) (program_words p) (program_zeros p limit depth)
+    program_selected = record {
+      follows = record {
+        follows = λ routines code marks words effective arrive arrive' r valid small.
+            (done routines code marks words effective arrive arrive' r valid small).follows;
+      };
+      ends = record {
+        ends = λ routines code marks words effective arrive arrive' r valid small.
+            (done routines code marks words effective arrive arrive' r valid small).ends;
+      };
+      passes = record {
+        passes = λ routines code marks words effective arrive arrive' r valid small.
+            (done routines code marks words effective arrive arrive' r valid small).passes;
+      };
+      enters = record {
+        enters = λ plain routines code marks words effective arrive arrive' r valid small runs are.
+            let d = done routines code marks words effective arrive arrive' r valid small in
+            counts_entries p limit depth plain 0x400000
+            (text_at (flat_map spelling code) ∷ data_at (words ++ replicate (program_zeros p limit depth) 0) ∷ [])
+            (marks_at marks) runs d.passes (d.follows runs are) are;
+      };
     }
