@@ -25,7 +25,7 @@ abbrev control_of : lang.Source → control.Source
 control_of p = normal_source (closed_source (converted (renamed_source p)))
 
 -- a library with (define (f x) (lambda (y) (x (car y)))), and three forms: (define make (lambda (n) (set! n 1) (lambda () n))),
--- (%put 1), and a group of `even` and `odd`, of which each calls the other, round (lambda () odd)
+-- (%put 1), and a group of `even` and `odd`, of which each calls the other, round (lambda () even)
 abbrev small : lang.Source
 small = record {
   statics = record { symbols = []; literals = no_literals; globals = Some 0 ∷ None ∷ [] };
@@ -33,7 +33,7 @@ small = record {
   forms = expressions
       (define 1 (lambda (codes "make") 1 false (sequence (expressions (set_local 0 (number (pos 1)) ∷ lambda (codes "get") 0 false (local 0) ∷ []))))
       ∷ put 2 (number (pos 1))
-      ∷ fix (and_lambda (codes "even") 1 false (apply 3 (local 2) (local 0 ∷ [])) (and_lambda (codes "odd") 1 false (apply 4 (local 1) (local 0 ∷ [])) no_lambdas)) (lambda (codes "last") 0 false (local 1))
+      ∷ fix (and_lambda (codes "even") 1 false (apply 3 (local 1) (local 0 ∷ [])) (and_lambda (codes "odd") 1 false (apply 4 (local 2) (local 0 ∷ [])) no_lambdas)) (lambda (codes "last") 0 false (local 1))
       ∷ []);
   sites = 2 ∷ 1 ∷ 1 ∷ 2 ∷ 2 ∷ [];
 }
@@ -49,11 +49,12 @@ names_after : map (λ c. c.name) (control_of small).bodies ≡
     codes "f" ∷ codes "g" ∷ codes "form" ∷ codes "make" ∷ codes "get" ∷ codes "form" ∷ codes "form" ∷ codes "even" ∷ codes "odd" ∷ codes "last" ∷ []
 names_after = refl
 
--- of g the formal, the operator, which is free there, and the operand
+-- of g the formal, the operator, which is free there, and the operand; of make two for the formal, which is assigned, and
+-- the assignment
 variables_before : map (λ b. b.variables) (bodies_of small) ≡ 1 ∷ 3 ∷ 1 ∷ 3 ∷ 0 ∷ 0 ∷ 2 ∷ 2 ∷ 2 ∷ 0 ∷ []
 variables_before = refl
 
--- two more, but one more in make, where the assignment before the last part is bound to no variable
+-- two more each, but one more in make, whose assignment is bound to no variable
 variables_after : map (λ c. c.variables) (control_of small).bodies ≡ 3 ∷ 5 ∷ 3 ∷ 4 ∷ 2 ∷ 2 ∷ 4 ∷ 4 ∷ 4 ∷ 2 ∷ []
 variables_after = refl
 
