@@ -21,6 +21,7 @@ use Rattle.sch_control.specs.Tree.{Expression, perform, bind, sequence, branch, 
 use Rattle.sch_frames.specs.declared.instruction.Instruction.{Instruction}
 use Rattle.sch_frames.specs.declared.instruction.Instruction.TheVariants.{Do, Store, Copy, Load, Pass, Fix, Call, Tail, Return, End, IfFalse, Jump, Label, Mark}
 use Rattle.sch_frames.specs.Meaning.{argument_register, argument_slot, closure_register, link_register}
+use Rattle.sch_frames.specs.Tree.{Code}
 use Rattle.sch_frames.specs.Valid.{formals_of}
 
 -- ## Labels
@@ -215,5 +216,9 @@ slots_for c = own_slots (slots_base c) (is_entered c.entry)
 abbrev pub slots_words : control.Code → ℕ
 slots_words c = slots_base c + c.variables
 
+-- how a body is laid out, with a slot for each variable
 abbrev pub slots_layout : control.Code → List Instruction
 slots_layout c = entering (slots_base c) c.entry (lay (slots_for c) c.expression 0 None [])
+
+abbrev pub slots_code : control.Code → Code
+slots_code c = record { entry = c.entry; words = slots_words c; labels = labels c.expression; instructions = slots_layout c }

@@ -3,6 +3,8 @@ use Rattle.std.specs.Prelude.{Bool, true, false, ◌&&◌, not, nat_le, nat_lt, 
 use Rattle.std.specs.List.{list_all}
 use Rattle.sch_word.specs.declared.place.Place.{Place}
 use Rattle.sch_word.specs.trees.Shape.{max_free_variables, max_library}
+use Rattle.sch_control.specs.declared.mark.MarkKind.{MarkKind}
+use Rattle.sch_control.specs.declared.mark.MarkKind.TheVariants.{Enter}
 use Rattle.sch_control.specs.declared.operation.Closure.{Closure}
 use Rattle.sch_control.specs.declared.operation.Member.{Member}
 use Rattle.sch_control.specs.declared.operation.Operation.{Operation}
@@ -64,6 +66,16 @@ abbrev pub may_stand : (ends : Bool) → Instruction → Bool
 may_stand ends End = ends
 may_stand ends _ = true
 
+-- ## Marks of entries: none stands among instructions, since that of a body stands in front of it
+
+abbrev pub is_enter : MarkKind → Bool
+is_enter (Enter label) = true
+is_enter _ = false
+
+abbrev pub plain_instruction : Instruction → Bool
+plain_instruction (Mark m) = not (is_enter m)
+plain_instruction _ = true
+
 -- ## Bodies
 
 -- The mark of a body waits for its first instruction.
@@ -72,7 +84,8 @@ is_object_free_code c =
     takes_no_list c.entry
     && (list_all is_object_free_instruction c.instructions
     && (list_all instruction_low c.instructions
-    && (list_all (may_stand (is_form c.entry)) c.instructions && marks_settled true c.instructions)))
+    && (list_all (may_stand (is_form c.entry)) c.instructions
+    && (list_all plain_instruction c.instructions && marks_settled true c.instructions))))
 
 -- with no more procedures in the library than it may have
 abbrev pub is_object_free_program : Source → Bool

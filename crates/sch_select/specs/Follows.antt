@@ -19,7 +19,7 @@ use Rattle.sch_asm.specs.Items.{marks_arrive}
 use Rattle.sch_asm.specs.Stands.{marks_at}
 use Rattle.sch_asm.specs.Views.{text_at}
 use Rattle.sch_select.specs.Ends.{EndsWithin}
-use Rattle.sch_select.specs.Marks.{CountsEntries, PassesMarks, marks_passed, plain_code}
+use Rattle.sch_select.specs.Marks.{CountsEntries, PassesMarks, marks_passed}
 use Rattle.sch_select.specs.Sizes.{steps_bound}
 
 -- The runs of a frame program that is never wrong, under limits of heap and depth.
@@ -58,10 +58,9 @@ pub record EndsFrames (p : Source) (heap depth : ℕ) (items : List Item) (data_
       → EndsWithin text_address (text_at (flat_map spelling code) ∷ data_at (words ++ replicate zeros 0) ∷ []) runs
       (steps_bound p)
 
--- Resolved so, the text passes a mark of an entry for each entry that a run takes, where no such mark stands among
--- the instructions of bodies.
+-- Resolved so, the text passes a mark of an entry for each entry that a run takes.
 pub record EntersFrames (p : Source) (heap depth : ℕ) (items : List Item) (data_words : List Word) (zeros : ℕ) : Type 0 where
-  pub enters : IsTrue (list_all plain_code p.bodies) → (routines : List Item) (code : List Insn) (marks : List mark.Mark) (words : List ℕ)
+  pub enters : (routines : List Item) (code : List Insn) (marks : List mark.Mark) (words : List ℕ)
       → AreEffective routines → IsTrue (marks_arrive false items) → IsTrue (marks_arrive false routines)
       → AreResolved (items ++ routines) data_words code marks words
       → AllValid code → length (flat_map spelling code) ≤ max_text_size

@@ -35,20 +35,6 @@ marks_passed p heap depth answers entries =
     marks_of (outcome_of (entries_of p.bodies) (bodies_of p.bodies) depth entries
     (starting_world p.statics p.library heap answers entries))
 
--- ## Marks of entries
-
-abbrev pub is_enter : control.MarkKind → Bool
-is_enter (Enter label) = true
-is_enter _ = false
-
--- no mark of an entry stands among instructions
-abbrev pub plain_instruction : Instruction → Bool
-plain_instruction (Mark m) = not (is_enter m)
-plain_instruction _ = true
-
-abbrev pub plain_code : Code → Bool
-plain_code c = list_all plain_instruction c.instructions
-
 -- ## What a machine passes
 
 -- A beginning may be the whole.
