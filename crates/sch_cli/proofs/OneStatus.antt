@@ -19,7 +19,7 @@ use Rattle.sch_core.proofs.DataLaws.{never_both, one_error, one_program}
 use Rattle.sch_select.specs.Program.{frames_bytes, max_stack}
 use Rattle.sch_driver.specs.Causes.{IsBuilt, IsErrorOf, IsStackTooLarge, IsTextTooLarge, Means, frame_bound, max_source_size, text_bound}
 use Rattle.sch_driver.specs.declared.error.CompileError.TheVariants as compiling
-use Rattle.sch_driver.proofs.BuiltTexts.{not_free, call_of}
+use Rattle.sch_driver.proofs.BuiltTexts.{not_free, object_of}
 use Rattle.sch_cli.specs.declared.failure.Failure.{Failure}
 use Rattle.sch_cli.specs.declared.failure.Failure.TheVariants as failure
 use Rattle.sch_cli.specs.declared.status.Status.TheVariants.{OutOfMemory}
@@ -57,7 +57,7 @@ core_kept e v is = v (ap core_status is)
 -- what is found in data: a program that is object-free, or whose first form that is not is at this place
 data InData (items : Data) : Result ⊤ Failure → Type 0 where
   free : (p : Source) → IsProgramOf [] items p → IsTrue (is_object_free_program p) → InData items (Ok tt)
-  call : (at : ℕ) (p : Source) → IsProgramOf [] items p → first_object (form_places items) p.forms ≡ Some at → InData items (Err (failure.Compile (compiling.NotBuilt at)))
+  object : (at : ℕ) (p : Source) → IsProgramOf [] items p → first_object (form_places items) p.forms ≡ Some at → InData items (Err (failure.Compile (compiling.NotBuilt at)))
 
 data InText (text : List ℕ) : Result ⊤ Failure → Type 0 where
   long : max_source_size < length text → InText text (Err failure.TooLong)
@@ -93,7 +93,7 @@ found text depth (Err e) (refused (failure.Compile (compiling.Read error)) h v) 
 found text depth (Err e) (refused (failure.Compile (compiling.Core error)) h v) =
     let k = expanding_of text depth error h.1 in wrong error h.0 k.0 k.1 k.2 (core_kept error v)
 found text depth (Err e) (refused (failure.Compile (compiling.NotBuilt at)) h v) =
-    right (Err (failure.Compile (compiling.NotBuilt at))) h.0 h.1.means.items h.1.means.spells h.1.program h.1.means.program (call at h.1.program h.1.means.program h.1.object)
+    right (Err (failure.Compile (compiling.NotBuilt at))) h.0 h.1.means.items h.1.means.spells h.1.program h.1.means.program (object at h.1.program h.1.means.program h.1.object)
 found text depth (Err e) (refused (failure.Compile (compiling.StackTooLarge words)) h v) = found_built text h.1.program h.0 h.1.built
 found text depth (Err e) (refused (failure.Compile (compiling.TextTooLarge bytes)) h v) = found_built text h.1.program h.0 h.1.built
 found text depth (Err e) (refused (failure.Compile compiling.Memory) h v) = absurd (v refl)
@@ -112,9 +112,9 @@ some_some e = cc
 
 one_in_data : (items : Data) (one two : Result ⊤ Failure) → InData items one → InData items two → one ≡ two
 one_in_data items _ _ (free p a h) (free q b k) = refl
-one_in_data items _ _ (free p a h) (call at q b e) = absurd (not_free items p q at a b h e)
-one_in_data items _ _ (call at p a e) (free q b h) = absurd (not_free items q p at b a h e)
-one_in_data items _ _ (call at p a e) (call at' q b e') = ap (λ place. Err (failure.Compile (compiling.NotBuilt place))) (some_some (sym e ∙ call_of items p q at' a b e'))
+one_in_data items _ _ (free p a h) (object at q b e) = absurd (not_free items p q at a b h e)
+one_in_data items _ _ (object at p a e) (free q b h) = absurd (not_free items q p at b a h e)
+one_in_data items _ _ (object at p a e) (object at' q b e') = ap (λ place. Err (failure.Compile (compiling.NotBuilt place))) (some_some (sym e ∙ object_of items p q at' a b e'))
 
 one_in_text : (text : List ℕ) (one two : Result ⊤ Failure) → InText text one → InText text two → one ≡ two
 one_in_text text _ _ (long g) (long g') = refl

@@ -35,12 +35,13 @@ use Rattle.sch_frames.specs.Tree as frames
 use Rattle.sch_select.specs.Follows.{FollowsFrames}
 use Rattle.sch_frames.specs.Sizes.{closures_in, program_size, program_work}
 use Rattle.sch_select.specs.Program.{frames_bytes, max_stack, program_zeros}
+use Rattle.sch_passes.specs.Chain.{RunsAs}
 use Rattle.sch_lang.specs.Bodies as bodies
 use Rattle.sch_lang.specs.Measures as core
 use Rattle.sch_lang.specs.Tree as lang
 use Rattle.sch_driver.specs.declared.error.CompileError.{CompileError}
 use Rattle.sch_driver.specs.declared.error.CompileError.TheVariants as compile_error
-use Rattle.sch_driver.specs.Causes.{IsBuilt, IsErrorOf, MayHaveFrames, text_bound}
+use Rattle.sch_driver.specs.Causes.{IsBuilt, IsErrorOf, HasFrames, text_bound}
 use Rattle.sch_driver.specs.Assembled.{IsAssembled, IsFrameSize, IsUnfit, assembled_bound, of_assembly}
 
 -- the memory of an image is its text and its data
@@ -107,16 +108,16 @@ pub bound_chain : (p : lang.Source) (q : control.Source) (code : List Insn) → 
     → length (flat_map spelling code) ≤ text_bound p
 bound_chain p q code h size = omega (arith, h, size)
 
--- a frame of the control program is one that the core program may have
-pub frame_chain : (p : lang.Source) (q : control.Source) (words : ℕ) → IsFrameSize q words → most_variables q.bodies ≤ 2 + bodies.most_variables p → MayHaveFrames p words
-frame_chain p q words f h = let bound = f.bound in record { few = f.few; bound = omega (arith, bound, h) }
+-- the frames of the control program are of the core program
+pub frame_chain : (p : lang.Source) (q : control.Source) (words : ℕ) → RunsAs p q → IsFrameSize q words → most_variables q.bodies ≤ 2 + bodies.most_variables p → HasFrames p words
+frame_chain p q words runs f h = let bound = f.bound in record { control = q; runs = runs; largest = f.largest; few = f.few; bound = omega (arith, bound, h) }
 
 -- a text that is built, and unfit for its control program
-pub too_large : (text : List ℕ) (p : lang.Source) (q : control.Source) (depth : ℕ) (e : CompileError) → IsBuilt text p → codes_work q.bodies ≤ 7 * core.program_size p
+pub too_large : (text : List ℕ) (p : lang.Source) (q : control.Source) (depth : ℕ) (e : CompileError) → IsBuilt text p → RunsAs p q → codes_work q.bodies ≤ 7 * core.program_size p
     → most_variables q.bodies ≤ 2 + bodies.most_variables p → IsUnfit q depth e → IsErrorOf text depth e
-too_large text p q depth (compile_error.TextTooLarge bytes) built size most unfit = record { program = p; built = built; large = unfit.0; bound = omega (arith, unfit.1, size) }
-too_large text p q depth (compile_error.StackTooLarge words) built size most unfit = record { program = p; built = built; large = unfit.0; frame = frame_chain p q words unfit.1 most }
-too_large text p q depth compile_error.Memory built size most unfit = tt
-too_large text p q depth (compile_error.Read e) built size most unfit = absurd unfit
-too_large text p q depth (compile_error.Core e) built size most unfit = absurd unfit
-too_large text p q depth (compile_error.NotBuilt at) built size most unfit = absurd unfit
+too_large text p q depth (compile_error.TextTooLarge bytes) built runs size most unfit = record { program = p; built = built; large = unfit.0; bound = omega (arith, unfit.1, size) }
+too_large text p q depth (compile_error.StackTooLarge words) built runs size most unfit = record { program = p; built = built; large = unfit.0; frame = frame_chain p q words runs unfit.1 most }
+too_large text p q depth compile_error.Memory built runs size most unfit = tt
+too_large text p q depth (compile_error.Read e) built runs size most unfit = absurd unfit
+too_large text p q depth (compile_error.Core e) built runs size most unfit = absurd unfit
+too_large text p q depth (compile_error.NotBuilt at) built runs size most unfit = absurd unfit

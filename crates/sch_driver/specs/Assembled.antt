@@ -15,6 +15,7 @@ use Rattle.sch_control.specs.Sizes.{most_variables}
 use Rattle.sch_control.specs.Work.{codes_work}
 use Rattle.sch_control.specs.Tree.{Source}
 use Rattle.sch_control.specs.Run.{run}
+use Rattle.sch_frames.specs.Sizes.{most_words}
 use Rattle.sch_frames.specs.Valid.{max_words}
 use Rattle.sch_select.specs.Program.{frames_bytes, max_stack, stack_bytes}
 use Rattle.sch_driver.specs.Causes.{text_base}
@@ -26,8 +27,9 @@ use Rattle.sch_driver.specs.declared.error.CompileError.TheVariants.{TextTooLarg
 abbrev pub assembled_bound : Source → ℕ
 assembled_bound p = text_base + 64 * codes_work p.bodies
 
--- The most words of a frame: a slot for each variable, and for each of the most operands or formals.
+-- The words of the largest frame: a slot for each variable, and for each of the most operands or formals.
 pub record IsFrameSize (p : Source) (words : ℕ) : Type 0 where
+  pub largest : words ≡ most_words p.bodies
   pub few : words ≤ max_words
   pub bound : words ≤ max_operands + most_variables p.bodies
 

@@ -14,7 +14,10 @@ use Rattle.sch_core.specs.Answer as expanding
 use Rattle.sch_core.specs.declared.error.CoreError.{CoreError}
 use Rattle.sch_core.specs.declared.error.CoreError.TheVariants as core
 use Rattle.sch_core.specs.Programs.{IsProgramOf, form_places}
+use Rattle.sch_control.specs.Tree as control
+use Rattle.sch_frames.specs.Sizes.{most_words}
 use Rattle.sch_frames.specs.Valid.{max_words}
+use Rattle.sch_passes.specs.Chain.{RunsAs}
 use Rattle.sch_select.specs.Program.{frames_bytes, max_stack}
 use Rattle.sch_driver.specs.declared.error.CompileError.{CompileError}
 use Rattle.sch_driver.specs.declared.error.CompileError.TheVariants.{Read, Core, NotBuilt, StackTooLarge, TextTooLarge, Memory}
@@ -52,18 +55,22 @@ text_bound p = text_base + 512 * program_size p
 abbrev pub frame_bound : tree.Source → ℕ
 frame_bound p = 2 * most_variables p + 216
 
--- A frame of the core program may have so many words.
-pub record MayHaveFrames (program : tree.Source) (words : ℕ) : Type 0 where
+-- Laid out with a slot for each variable, a control program that runs as the core program has frames of at most so
+-- many words.
+pub record HasFrames (program : tree.Source) (words : ℕ) : Type 0 where
+  pub control : control.Source
+  pub runs : RunsAs program control
+  pub largest : words ≡ most_words control.bodies
   pub few : words ≤ max_words
   pub bound : words ≤ frame_bound program
 
--- A text that is built, and a number of words that its frames may have; at this depth they would take more than the
+-- A text that is built, and the words of its largest frame; at this depth such frames would take more than the
 -- 1,073,741,824 bytes of a stack.
 pub record IsStackTooLarge (text : List ℕ) (depth words : ℕ) : Type 0 where
   pub program : tree.Source
   pub built : IsBuilt text program
   pub large : max_stack < frames_bytes words depth
-  pub frame : MayHaveFrames program words
+  pub frame : HasFrames program words
 
 -- A text that is built, and a number of bytes that is more than the text of an image may have, and no more
 -- than what that of its core program has at most.

@@ -6,7 +6,7 @@ use Rattle.sch_lang.specs.Tree as tree
 use Rattle.sch_control.specs.Tree as control
 use Rattle.sch_orders.specs.Table.{given_table}
 use Rattle.sch_select.specs.Program.{frames_bytes, max_stack, stack_bytes}
-use Rattle.sch_driver.specs.Causes.{IsBuilt, MayHaveFrames, text_bound}
+use Rattle.sch_driver.specs.Causes.{IsBuilt, HasFrames, text_bound}
 use Rattle.sch_passes.specs.Chain.{RunsAs}
 use Rattle.sch_driver.specs.declared.listing.Listing.{Listing}
 use Rattle.sch_driver.specs.Headline.{IsProgram}
@@ -28,5 +28,5 @@ pub record IsCompiled (text : List ℕ) (heap depth : ℕ) (file : List ℕ) (li
   pub counted : listing.instructions ≡ length is_program.does.laid_out.code
   pub bound : length (flat_map spelling is_program.does.laid_out.code) ≤ text_bound program
   pub room : is_program.does.laid_out.zeros ≡ heap + stack_bytes listing.frame_words depth
-  pub frame : MayHaveFrames program listing.frame_words
+  pub frame : HasFrames program listing.frame_words
   pub fits : frames_bytes listing.frame_words depth ≤ max_stack

@@ -43,6 +43,6 @@ returns-clause-compiled c =
       bound = bound_chain p (control.source c.in_ok-control.control) does.laid_out.code does.bound c.in_ok-control.ensures.work;
       counted = does.counted;
       room = does.room;
-      frame = frame_chain p (control.source c.in_ok-control.control) c.in_ok-assembled.assembled.frame_words does.frame c.in_ok-control.ensures.variables;
+      frame = frame_chain p (control.source c.in_ok-control.control) c.in_ok-assembled.assembled.frame_words runs does.frame c.in_ok-control.ensures.variables;
       fits = does.fits;
     }
