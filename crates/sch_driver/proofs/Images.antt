@@ -1,5 +1,5 @@
 -- The image of a program whose items follow the runs of its frames.
-use Rattle.std.proofs.Common.{◌≡◌, ◌≤◌, ℕ, ◌+◌, ◌*◌, List, [], ◌∷◌, ◌++◌, length, Option, Some, sym, ap, ◌∙◌, subst, arith}
+use Rattle.std.proofs.Common.{◌≡◌, ◌≤◌, ℕ, ◌+◌, ◌*◌, List, [], ◌∷◌, ◌++◌, length, map, refl, Option, Some, sym, ap, ◌∙◌, subst, arith}
 use Rattle.std.specs.Prelude.{IsTrue, IfErr, IsErrAnd, Result, Ok, Err, replicate}
 use Rattle.std.specs.List.{flat_map}
 use Rattle.std.proofs.lemmas.Bool.{and_parts, leb-true}
@@ -25,6 +25,8 @@ use Rattle.sch_elf.specs.Layout.{memory}
 use Rattle.sch_elf.specs.Program.{IsProgramImage, text_address}
 use Rattle.sch_control.specs.Sizes.{most_variables}
 use Rattle.sch_control.specs.Work.{codes_work}
+use Rattle.sch_control.specs.declared.body.Body.{Body}
+use Rattle.sch_control.specs.SourceView.{codes_of}
 use Rattle.sch_control.specs.Tree as control
 use Rattle.sch_control.specs.Run as control_run
 use Rattle.sch_frames.specs.declared.program.FrameProgram.{FrameProgram}
@@ -58,6 +60,11 @@ image_follows text words zeros image runs lies f =
 -- a run of the frames, where the control program is not wrong
 not_wrong : (a b : Option Run) (r : Run) → a ≡ Some r → Follows a b → b ≡ Some r
 not_wrong a b r e = subst (λ o. Follows o b → b ≡ Some r) (sym e) (λ f. f)
+
+-- bodies have the names of their codes
+pub names_of_codes : (bs : List Body) → map (λ b. b.name) bs ≡ map (λ c. c.name) (codes_of bs)
+names_of_codes [] = refl
+names_of_codes (b ∷ bs) = ap (λ names. b.name ∷ names) (names_of_codes bs)
 
 -- a frame program has frames of few words
 pub few_words : (q : FrameProgram) → q.words ≤ max_words

@@ -1,7 +1,8 @@
 -- What is compiled of a text.
-use Rattle.std.specs.Prelude.{◌≡◌, ◌≤◌, ◌+◌, ℕ, List, length}
+use Rattle.std.specs.Prelude.{◌≡◌, ◌≤◌, ◌+◌, ℕ, List, length, map}
 use Rattle.std.specs.List.{flat_map}
 use Rattle.sch_insn.specs.Spelling.{spelling}
+use Rattle.sch_lang.specs.Bodies.{bodies_of}
 use Rattle.sch_lang.specs.Tree as tree
 use Rattle.sch_control.specs.Tree as control
 use Rattle.sch_orders.specs.Table.{given_table}
@@ -17,14 +18,15 @@ pub record AreGiven (p : tree.Source) (orders : List (List ℕ)) : Type 0 where
   pub runs : RunsAs p program
   pub given : orders ≡ given_table program
 
--- The file is a program for the core program of a text, under these limits and the orders that are listed, of as many
--- instructions as are listed. Its text is no longer than the size of the core program allows. Behind the words of its
+-- The file is a program for the core program of a text, under these limits and the orders that are listed, with bodies
+-- of the names that are listed and as many instructions. Its text is no longer than the size of the core program allows. Behind the words of its
 -- data it has room for the heap and for the frames of calls, of the words that are listed.
 pub record IsCompiled (text : List ℕ) (heap depth : ℕ) (file : List ℕ) (listing : Listing) : Type 0 where
   pub program : tree.Source
   pub built : IsBuilt text program
   pub is_program : IsProgram file program listing.orders heap depth
   pub listed : AreGiven program listing.orders
+  pub names : listing.bodies ≡ map (λ b. b.name) (bodies_of program)
   pub counted : listing.instructions ≡ length is_program.does.laid_out.code
   pub bound : length (flat_map spelling is_program.does.laid_out.code) ≤ text_bound program
   pub room : is_program.does.laid_out.zeros ≡ heap + stack_bytes listing.frame_words depth

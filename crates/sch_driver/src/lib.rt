@@ -12,6 +12,7 @@ mod listing;
 mod reading;
 
 use crate::assembly::assemble;
+use crate::listing::names_of;
 use crate::reading::read_program;
 pub use error::CompileError;
 pub use laws::a_text_is_built_or_not;
@@ -37,11 +38,13 @@ pub fn compile(alloc: Global, text: &[u8], limits: Limits) -> Result<Compiled, C
     let program = read_program(alloc, text)?;
     let control = control_program(alloc, &program)?;
     let assembled = assemble(alloc, &control, limits)?;
+    let bodies = names_of(alloc, control.bodies.as_slice())?;
     let orders = given_orders(alloc, &control)?;
     let file = write_image(alloc, &assembled.image)?;
     Ok(Compiled {
         image: file,
         listing: Listing {
+            bodies,
             orders,
             frame_words: assembled.frame_words,
             instructions: assembled.instructions,

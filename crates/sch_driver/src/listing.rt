@@ -1,10 +1,19 @@
 //! What a compilation answers: a file, and what is listed of it.
 
-use sch_word::{Bytes, List};
+ghost use Rattle.std.specs.Prelude.{◌≡◌, IfOk, map};
+
+use sch_control::Body;
+use sch_word::{Bytes, List, Mem};
+use std::alloc::Global;
 
 /// What is listed of a program that is compiled.
 #[derive(Drop)]
 pub struct Listing {
+    /// The names of its bodies: those of the library's procedures that are kept, and of the procedures in them; then
+    /// `form` for each top-level form, and behind it the names of its procedures in the order of the text. A
+    /// procedure that is directly the value of a definition or a binding has the name of its variable, unless that
+    /// was added, and any other is a `lambda`.
+    pub bodies: List<Bytes>,
     /// For each site of its core program the order in which the parts of the site are evaluated (R5RS 4.1.3 leaves
     /// it open).
     pub orders: List<List<u32>>,
@@ -19,4 +28,15 @@ pub struct Listing {
 pub struct Compiled {
     pub image: Bytes,
     pub listing: Listing,
+}
+
+/// The names of bodies, in their order.
+pub(crate) fn names_of(alloc: Global, bodies: &[Body]) -> Result<List<Bytes>, Mem>
+    ensures { IfOk result (λ names. names ≡ map (λ b. b.name) bodies.now) }
+{
+    let mut names = List::new(alloc);
+    for b in bodies {
+        names.push(List::from_slice(alloc, b.name.as_slice())?)?;
+    }
+    Ok(names)
 }

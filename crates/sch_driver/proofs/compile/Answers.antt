@@ -1,10 +1,10 @@
-use Rattle.std.proofs.Common.{arith, subst}
+use Rattle.std.proofs.Common.{arith, subst, ◌∙◌}
 use Rattle.std.specs.Prelude.{IsTrue}
 use Rattle.sch_word.specs.runs.Orders.{is_order_table}
 use Rattle.sch_lang.specs.ProgramView.{source}
 use Rattle.sch_lang.specs.Run.{run}
 use Rattle.sch_control.specs.ProgramView as control
-use Rattle.sch_driver.proofs.Images.{bound_chain, frame_chain}
+use Rattle.sch_driver.proofs.Images.{bound_chain, frame_chain, names_of_codes}
 use Rattle.sch_driver.proofs.compile.Goals as goal
 
 pub control_program-requires : goal.control_program-requires
@@ -41,6 +41,7 @@ returns-clause-compiled c =
         given = c.in_ok-orders.ensures.orders;
       };
       bound = bound_chain p (control.source c.in_ok-control.control) does.laid_out.code does.bound c.in_ok-control.ensures.work;
+      names = c.in_ok-bodies.ensures ∙ names_of_codes _ ∙ c.in_ok-control.ensures.names;
       counted = does.counted;
       room = does.room;
       frame = frame_chain p (control.source c.in_ok-control.control) c.in_ok-assembled.assembled.frame_words runs does.frame c.in_ok-control.ensures.variables;

@@ -15,7 +15,7 @@ returns-in-Some-clause-refused c =
     let places = c.as_slice-3.ensures ∙ (c.in_ok-places.ensures ∙ ap (λ l. form_places (data_of l)) c.as_slice-2.ensures) in
     let found = c.first_object.ensures
     ∙ (ap (λ l. first_object l (expressions_of c.as_slice-4.result.now)) places ∙ ap (λ l. first_object (form_places (data_of items)) (expressions_of l)) c.as_slice-4.ensures) in
-    not_built c.args.text.now (data_of items) p c.in-Some.at c.in_ok-items.ensures.found
+    λ depth. not_built c.args.text.now (data_of items) p c.in-Some.at c.in_ok-items.ensures.found
     (subst (λ l. IsProgramOf [] (data_of l) p) c.as_slice.ensures (subst (λ ds. IsProgramOf ds (data_of c.as_slice.result.now) p) c.empty.ensures c.in_ok-program.ensures.found))
     (sym found ∙ c.in-Some.is)
 
