@@ -1,5 +1,5 @@
 use Rattle.std.proofs.Common.{ap, ◌∙◌, reverse}
-use Rattle.sch_core.proofs.DefinitionSteps.{begin_defined, begin_made, next_defined, next_made}
+use Rattle.sch_core.proofs.items.DefinitionSteps.{begin_defined, begin_made, next_defined, next_made}
 use Rattle.sch_core.proofs.definitions.definitions.Goals as goal
 
 pub loop-name-init : goal.loop-name-init

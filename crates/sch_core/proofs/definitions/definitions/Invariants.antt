@@ -1,7 +1,7 @@
 use Rattle.std.proofs.Common.{◌≡◌, ◌++◌, drop, map, reverse}
 use Rattle.sch_names.specs.ScopeView.{given_names}
 use Rattle.sch_sketch.specs.DraftView.{draft_of}
-use Rattle.sch_core.proofs.DefinitionSteps.{defined, procedures}
+use Rattle.sch_core.proofs.items.DefinitionSteps.{defined, procedures}
 use Rattle.sch_core.proofs.definitions.definitions.Given as goal
 
 abbrev pub invariant-loop-name : goal.invariant-loop-name

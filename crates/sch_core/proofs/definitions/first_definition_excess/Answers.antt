@@ -1,5 +1,5 @@
 use Rattle.std.proofs.Common.{sym, ◌∙◌}
-use Rattle.sch_core.proofs.DefinitionSteps.{definition_later, definition_end}
+use Rattle.sch_core.proofs.items.DefinitionSteps.{definition_later, definition_end}
 use Rattle.sch_core.proofs.definitions.first_definition_excess.Goals as goal
 
 pub loop-i-preserved : goal.loop-i-preserved

@@ -1,4 +1,4 @@
-use Rattle.sch_core.proofs.LibraryLaws.{library_or_error, never_both}
+use Rattle.sch_core.proofs.items.LibraryLaws.{library_or_error, never_both}
 use Rattle.sch_core.proofs.library_laws.items_have_a_library_or_an_error.Goals as goal
 
 pub returns-clause-one : goal.returns-clause-one

@@ -1,5 +1,5 @@
 -- The steps of the loops over the definitions of a library, over plain values.
-use Rattle.std.proofs.Common.{◌≡◌, ◌≤◌, ◌⊎◌, inl, inr, ℕ, zero, suc, ◌+◌, ◌<◌, min, List, [], ◌∷◌, ◌++◌, length, drop, get_or, map, reverse, Option, Some, None, refl, sym, ap, ◌∙◌, add-one, arith, append_assoc, append-nil, drop-cons}
+use Rattle.std.proofs.Common.{◌≡◌, ◌≤◌, ◌⊎◌, inl, inr, ℕ, zero, suc, ◌+◌, ◌<◌, min, List, [], ◌∷◌, ◌++◌, length, drop, get_or, map, reverse, Option, Some, None, refl, sym, ap, ◌∙◌, add-one, arith, append_assoc, drop-cons}
 use Rattle.std.proofs.lemmas.List.{drop_all, reverse-append, reverse-reverse}
 use Rattle.std.specs.Borrow.{Bor}
 use Rattle.sch_read.specs.declared.datum.Datum as text
@@ -54,13 +54,6 @@ pub next_made : (left others : List drafts.Draft) (e : drafts.Draft) (all all' :
 next_made left others e all all' d r is h n k =
     let k' = rw (is, reverse-append others (e ∷ []), n) at k in
     rw (h, procedures_more all d) (append_assoc (procedures all) (procedure_of (definition_of d) ∷ []) (map draft_of (reverse others)) ∙ k')
-
--- no name and no draft is left
-pub end_defined : (vs : List (Option (Bor (List ℕ)))) (i : ℕ) (all : List code.Definition) (r : List (Option (List ℕ))) → length vs ≤ i → defined all ++ given_names (drop i vs) ≡ r → r ≡ defined all
-end_defined vs i all r l k = let k' = rw (drop_all i vs l) at k in sym k' ∙ append-nil (defined all)
-
-pub end_made : (left : List drafts.Draft) (all : List code.Definition) (r : List Draft) → left ≡ [] → procedures all ++ map draft_of (reverse left) ≡ r → r ≡ procedures all
-end_made left all r e k = let k' = rw e at k in sym k' ∙ append-nil (procedures all)
 
 -- ## The first definition that has too much
 

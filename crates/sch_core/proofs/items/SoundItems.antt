@@ -20,7 +20,7 @@ use Rattle.sch_toplevel.specs.Forms.{form_sketch}
 use Rattle.sch_toplevel.specs.Items.{behind, with_item, name_in, names_by, item_globals, procedure_in, item_places, ItemsExpand}
 use Rattle.sch_core.specs.Libraries.{AreFew, definition_excess, first_definition_excess}
 use Rattle.sch_core.specs.SoundLibraries.{IsSoundLibrary}
-use Rattle.sch_core.proofs.ItemShapes.{shaped}
+use Rattle.sch_core.proofs.items.ItemShapes.{shaped}
 use Rattle.sch_core.proofs.Nesting.{both, all_quotable}
 use Rattle.sch_core.proofs.TextSizes.{sized}
 use Rattle.sch_core.proofs.ValidTexts.{some_left, either_there, place_none}

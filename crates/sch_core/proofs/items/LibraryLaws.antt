@@ -15,7 +15,7 @@ use Rattle.sch_core.specs.declared.error.CoreError.TheVariants as errors
 use Rattle.sch_core.specs.declared.error.Kind.{Kind}
 use Rattle.sch_core.specs.declared.error.Kind.TheVariants as kinds
 use Rattle.sch_core.proofs.DataLaws.{none_some, some_some, left_is, right_is, excess_counted, place_counted, IsCounted, error_for, named_by}
-use Rattle.sch_core.proofs.ItemLaws.{items_best, items_expand, items_made, items_one, items_clean, reading_one, items_read}
+use Rattle.sch_core.proofs.items.ItemLaws.{items_best, items_expand, items_made, items_one, items_clean, reading_one, items_read}
 
 pub definitions_counted : (places : List ℕ) (ds : List Definition) (k : Kind) (at : ℕ) → first_definition_excess places ds ≡ Some (k, at) → IsCounted k
 definitions_counted [] ds k at e = absurd (none_some e)

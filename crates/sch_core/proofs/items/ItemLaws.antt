@@ -13,7 +13,7 @@ use Rattle.sch_numbers.specs.Programs.{Definition, names_of_each}
 use Rattle.sch_validity.specs.Library.{procedure_of}
 use Rattle.sch_toplevel.specs.Forms.{form_sketch}
 use Rattle.sch_toplevel.specs.Items.{behind, names_by, item_globals, procedure_in, item_names, ItemsExpand, ItemHasFault, ItemsRead}
-use Rattle.sch_core.proofs.ItemShapes.{becomes_procedure, defines, shaped}
+use Rattle.sch_core.proofs.items.ItemShapes.{becomes_procedure, defines, shaped}
 
 head_is : {A : Type 0} {x y : A} {xs ys : List A} → x ∷ xs ≡ y ∷ ys → x ≡ y
 head_is e = cc
