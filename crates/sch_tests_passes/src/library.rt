@@ -51,7 +51,8 @@ fn reads_the_library(rt: HostRuntime) -> Result<(), Fail> {
 // Of three definitions the text needs two, one of them by the other, and has two globals and a form.
 #[test]
 fn keeps_what_is_named(rt: HostRuntime) -> Result<(), Fail> {
-    let definitions = b"(define (twice x) (+ x x))(define (other x) x)(define (four x) (twice (twice x)))";
+    let definitions =
+        b"(define (twice x) (+ x x))(define (other x) x)(define (four x) (twice (twice x)))";
     let program = program_with(rt.alloc(), definitions, b"(display (four 1))")?;
     assert_eq!(rt; program.library.len(), 2);
     assert_eq!(rt; program.globals.len(), 2);
