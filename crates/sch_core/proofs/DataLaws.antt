@@ -17,16 +17,16 @@ use Rattle.sch_core.specs.declared.error.CoreError.TheVariants as errors
 use Rattle.sch_core.specs.declared.error.Kind.{Kind}
 use Rattle.sch_core.specs.declared.error.Kind.TheVariants as kinds
 
-none_some : {A : Type 0} {a : A} → None ≡ Some a → ⊥
+pub none_some : {A : Type 0} {a : A} → None ≡ Some a → ⊥
 none_some e = cc
 
-some_some : {A : Type 0} {a b : A} → Some a ≡ Some b → a ≡ b
+pub some_some : {A : Type 0} {a b : A} → Some a ≡ Some b → a ≡ b
 some_some e = cc
 
-left_is : {p q : Kind × ℕ} → Some p ≡ Some q → p.0 ≡ q.0
+pub left_is : {p q : Kind × ℕ} → Some p ≡ Some q → p.0 ≡ q.0
 left_is e = ap (λ p. p.0) (some_some e)
 
-right_is : {p q : Kind × ℕ} → Some p ≡ Some q → p.1 ≡ q.1
+pub right_is : {p q : Kind × ℕ} → Some p ≡ Some q → p.1 ≡ q.1
 right_is e = ap (λ p. p.1) (some_some e)
 
 -- what is an error has no value
@@ -40,12 +40,12 @@ IsCounted kinds.Variables = Unit {0}
 IsCounted kinds.Free = Unit {0}
 IsCounted _ = ⊥
 
-excess_counted : (a b : Bool) (k : Kind) → cond a (cond b None (Some kinds.Free)) (Some kinds.Variables) ≡ Some k → IsCounted k
+pub excess_counted : (a b : Bool) (k : Kind) → cond a (cond b None (Some kinds.Free)) (Some kinds.Variables) ≡ Some k → IsCounted k
 excess_counted true true k e = absurd (none_some e)
 excess_counted true false k e = subst IsCounted (some_some e) tt
 excess_counted false b k e = subst IsCounted (some_some e) tt
 
-place_counted : (at : ℕ) (o : Option Kind) (others : Option (Kind × ℕ)) (k : Kind) (at' : ℕ) → at_place at o others ≡ Some (k, at') → ((j : Kind) → o ≡ Some j → IsCounted j) →
+pub place_counted : (at : ℕ) (o : Option Kind) (others : Option (Kind × ℕ)) (k : Kind) (at' : ℕ) → at_place at o others ≡ Some (k, at') → ((j : Kind) → o ≡ Some j → IsCounted j) →
     (others ≡ Some (k, at') → IsCounted k) → IsCounted k
 place_counted at (Some j) others k at' e h r = h k (ap Some (left_is e))
 place_counted at None others k at' e h r = r e
@@ -57,14 +57,14 @@ first_counted (p ∷ places) (and_expression x es) k at e =
     place_counted p (excess 0 x) (first_excess places es) k at e (λ j i. excess_counted _ _ j i) (λ i. first_counted places es k at i)
 
 -- the error that names a fault
-error_for : Fault → CoreError
+pub error_for : Fault → CoreError
 error_for (fault.KeywordDefined at) = errors.KeywordDefined at
 error_for (fault.BadForm at) = errors.BadForm at
 error_for (fault.Unbound at x) = errors.Unbound at x
 error_for (fault.Operands at) = errors.Limit kinds.Operands at
 error_for (fault.Core at) = errors.Limit kinds.Core at
 
-named_by : (e : CoreError) (f : Fault) → IsErrorFor e f → e ≡ error_for f
+pub named_by : (e : CoreError) (f : Fault) → IsErrorFor e f → e ≡ error_for f
 unfolding error_for
 named_by errors.Memory f h = absurd h
 named_by (errors.BadForm at) f h = sym (ap error_for h)

@@ -1,9 +1,12 @@
 -- Worked rows of the limits on variables: 1,000 of a body, and the first form that has more.
-use Rattle.std.proofs.Common.{◌≡◌, ℕ, List, [], ◌∷◌, Option, Some, None, false, refl}
+use Rattle.std.proofs.Common.{◌≡◌, ℕ, [], ◌∷◌, Option, Some, None, false, refl}
 use Rattle.sch_word.specs.declared.constant.Const.TheVariants.{Nil}
 use Rattle.sch_lang.specs.Tree.{constant, lambda, no_expressions, and_expression}
 use Rattle.sch_core.specs.declared.error.Kind.{Kind}
 use Rattle.sch_core.specs.declared.error.Kind.TheVariants.{Variables}
+use Rattle.sch_sketch.specs.Draft as draft
+use Rattle.sch_numbers.specs.Programs.{Definition}
+use Rattle.sch_core.specs.Libraries.{first_definition_excess}
 use Rattle.sch_core.specs.Programs.{excess, first_excess}
 
 most_variables : excess 1000 (constant Nil) ≡ None
@@ -18,3 +21,11 @@ second_form : ◌≡◌ {A = Option (Kind × ℕ)}
     (and_expression (lambda [] 1001 false (constant Nil)) (and_expression (lambda [] 1002 false (constant Nil)) no_expressions))))
     (Some (Variables, 7))
 second_form = refl
+
+-- the same of definitions
+constant_of : ℕ → Definition
+constant_of n = record { name = []; formals = n; rest = false; body = draft.constant Nil }
+
+second_definition : ◌≡◌ {A = Option (Kind × ℕ)} (first_definition_excess (3 ∷ 7 ∷ 9 ∷ []) (constant_of 1000 ∷ constant_of 1001 ∷ constant_of 1002 ∷ [])) (Some (Variables, 7))
+unfolding constant_of
+second_definition = refl

@@ -7,4 +7,5 @@ pub mod ValidTexts
 pub mod Answering
 pub mod DatumLaws
 pub mod DataLaws
+pub mod items
 mod Examples

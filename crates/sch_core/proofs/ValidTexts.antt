@@ -41,7 +41,7 @@ use Rattle.sch_core.proofs.Numberless.{same_excess, alike}
 
 -- ## Names
 
-some_left : (a b : Bool) → (a || b) ≡ true → (a ≡ true) ⊎ (b ≡ true)
+pub some_left : (a b : Bool) → (a || b) ≡ true → (a ≡ true) ⊎ (b ≡ true)
 some_left true b h = inl refl
 some_left false b h = inr h
 
@@ -73,7 +73,7 @@ from_table x (y ∷ names) before h = go (is_among y before) (from_table x names
 into_table : (x : List ℕ) (names : List (List ℕ)) → is_among x names ≡ true → is_among x (firsts [] names) ≡ true
 into_table x names h = within (firsts [] names) names x (all_among names []) h
 
-either_there : (c a b : Bool) → cond c true a ≡ true → (a ≡ true → b ≡ true) → cond c true b ≡ true
+pub either_there : (c a b : Bool) → cond c true a ≡ true → (a ≡ true → b ≡ true) → cond c true b ≡ true
 either_there true a b h f = refl
 either_there false a b h f = f h
 
@@ -284,7 +284,7 @@ enough false b h = absurd (none_some (sym h))
 pub few : (formals : ℕ) (e : Expression) → excess formals e ≡ None → IsFew formals e
 few formals e h = enough _ _ h
 
-place_none : (at : ℕ) (o : Option Kind) (others : Option (Kind × ℕ)) → at_place at o others ≡ None → (o ≡ None) × (others ≡ None)
+pub place_none : (at : ℕ) (o : Option Kind) (others : Option (Kind × ℕ)) → at_place at o others ≡ None → (o ≡ None) × (others ≡ None)
 place_none at (Some k) others h = absurd (none_some (sym h))
 place_none at None others h = (refl, h)
 

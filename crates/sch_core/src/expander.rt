@@ -15,7 +15,7 @@ ghost use Rattle.sch_read.specs.Valid.{max_weight, weights};
 ghost use Rattle.sch_sketch.specs.DraftView.{drafts_of};
 
 use crate::error::{CoreError, error_of};
-use crate::library::{Library, seen_names};
+use crate::libraries::{Library, seen_names};
 use crate::limits::first_excess;
 use crate::places::form_places;
 use crate::quotable::are_quotable;

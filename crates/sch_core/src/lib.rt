@@ -1,19 +1,25 @@
 //! The expander: data to a program of the core language.
 #![tactic(auto)]
 
+mod definitions;
 mod error;
 mod expander;
 mod laws;
-mod library;
+mod libraries;
+mod library_laws;
 mod limits;
 mod places;
 mod quotable;
 
+pub use definitions::library;
 pub use error::{CoreError, Kind};
 pub use expander::core;
 pub use laws::{
     data_have_a_program_or_an_error, data_have_one_error, data_have_one_program,
     expansion_is_unique, fault_or_expansion,
 };
-pub use library::Library;
+pub use libraries::Library;
+pub use library_laws::{
+    items_have_a_library_or_an_error, items_have_one_error, items_have_one_library,
+};
 pub use places::form_places;
