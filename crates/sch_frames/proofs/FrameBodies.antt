@@ -1,9 +1,9 @@
 -- One body more, with its frame body.
-use Rattle.std.proofs.Common.{◌≡◌, ℕ, ◌+◌, ◌++◌, ◌*◌, ◌<◌, ◌≤◌, List, [], ◌∷◌, length, take, get_or, Bool, true, false, refl, sym, ap, ◌∙◌, subst, max, ⊎_elim, arith}
+use Rattle.std.proofs.Common.{◌≡◌, ℕ, ◌+◌, ◌++◌, ◌*◌, ◌<◌, ◌≤◌, List, [], ◌∷◌, length, take, get_or, map, Bool, true, false, refl, sym, ap, ◌∙◌, subst, max, ⊎_elim, arith}
 use Rattle.std.specs.List.{list_all}
 use Rattle.std.proofs.lemmas.Bool.{and_from, cases_Bool}
 use Rattle.std.proofs.Math.Nat.{le-max_left, le-max_right, max-le}
-use Rattle.std.proofs.lemmas.List.{take_more}
+use Rattle.std.proofs.lemmas.List.{map-append, take_more}
 use Rattle.std.proofs.lemmas.List.Recursion.{max_push}
 use Rattle.std.proofs.lemmas.List.Folds.{list_all_at, list_all-append}
 use Rattle.sch_word.specs.trees.Shape.{max_operands}
@@ -15,7 +15,7 @@ use Rattle.sch_control.specs.Work as work
 use Rattle.sch_control.specs.Work.{codes_work}
 use Rattle.sch_frames.specs.declared.body.FrameBody.{FrameBody}
 use Rattle.sch_frames.specs.Does.{FrameOf, FramesOf}
-use Rattle.sch_frames.specs.Layout.{slots_words}
+use Rattle.sch_frames.specs.Layout.{slots_code, slots_words}
 use Rattle.sch_control.specs.Sizes.{expression_size, expressions_size, most_variables}
 use Rattle.sch_frames.specs.Sizes.{call_parts, calls_parts, closures_in, code_work, codes_size, entries_size, entry_size, instructions_size, largest_frame, most_words}
 use Rattle.sch_frames.specs.SourceView.{code_of, codes_of}
@@ -111,6 +111,15 @@ module _ (bodies : List Body) (i : ℕ) (b : Body) (lt : i < length bodies) (is 
   module _ (made next : List FrameBody) (f : FrameBody) (e : next ≡ made ++ f ∷ []) where
     grown : codes_of next ≡ codes_of made ++ code_of f ∷ []
     grown = ap codes_of e ∙ frames_push made f
+
+    pub made_next : codes_of made ≡ map slots_code (control.codes_of (take i bodies)) → code_of f ≡ slots_code (control.code_of b)
+        → codes_of next ≡ map slots_code (control.codes_of (take (i + 1) bodies))
+    made_next h g =
+        grown
+        ∙ ap (λ fs. fs ++ code_of f ∷ []) h
+        ∙ ap (λ c. map slots_code (control.codes_of (take i bodies)) ++ c ∷ []) g
+        ∙ sym (map-append slots_code (control.codes_of (take i bodies)) (control.code_of b ∷ []))
+        ∙ sym (ap (map slots_code) taken)
 
     pub frames_next : FramesOf (control.codes_of (take i bodies)) (codes_of made) → FrameOf (control.code_of b) (code_of f)
         → FramesOf (control.codes_of (take (i + 1) bodies)) (codes_of next)

@@ -2,7 +2,7 @@ use Rattle.sch_control.specs.ObjectFree as control_object_free
 use Rattle.sch_control.specs.Straight as control_straight
 use Rattle.sch_frames.specs.ObjectFree.{code_begins, is_object_free_code}
 use Rattle.sch_frames.specs.Straight.{is_straight_code}
-use Rattle.sch_frames.proofs.FrameBodies.{body_passes, frames_next, all_next, size_next, work_next, words_next}
+use Rattle.sch_frames.proofs.FrameBodies.{body_passes, made_next, frames_next, all_next, size_next, work_next, words_next}
 use Rattle.sch_frames.proofs.bodies.frame_bodies.Goals as goal
 
 pub loop-b-preserved : goal.loop-b-preserved
@@ -17,6 +17,7 @@ loop-b-preserved c =
     let here = c.loop-b-test.true in
     let is = c.b-item.is in
     record {
+      made = made_next bodies i b here is made next f more c.loop-b.invariant.made c.in_ok-frame_slots.ensures.made;
       frames = frames_next bodies i b here is made next f more c.loop-b.invariant.frames c.in_ok-frame_slots.ensures.same;
       begin = all_next bodies i b here is made next f more code_begins c.loop-b.invariant.begin c.in_ok-frame_slots.ensures.begins;
       object_free = λ s. all_next bodies i b here is made next f more is_object_free_code (c.loop-b.invariant.object_free s)

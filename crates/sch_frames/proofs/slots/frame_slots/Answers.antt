@@ -1,4 +1,4 @@
-use Rattle.std.proofs.Common.{◌≡◌, ◌≤◌, ◌+◌, arith}
+use Rattle.std.proofs.Common.{refl, ◌≡◌, ◌≤◌, ◌+◌, arith}
 use Rattle.sch_control.specs.SourceView as control
 use Rattle.sch_control.specs.View.{expression}
 use Rattle.sch_frames.specs.Layout.{slots_layout, slots_words}
@@ -22,6 +22,11 @@ invariant_of-result c =
       forward = rw (i, l) (slots_forward (control.code_of b));
       shaped = rw i (slots_shaped (control.code_of b) b.shaped);
     }
+
+pub returns-clause-made : goal.returns-clause-made
+returns-clause-made c =
+    let i : c.in_ok-out.out.instructions ≡ slots_layout (control.code_of c.args.b.now) = layout_written (control.code_of c.args.b.now) _ _ _ c.room_for-room.ensures.base c.room_for-room.ensures.entered c.in_ok-out.ensures.instructions in
+    rw (i, c.in_ok-out.ensures.labels, c.room_for-room.ensures.words) refl
 
 pub returns-clause-same : goal.returns-clause-same
 returns-clause-same c =
