@@ -9,4 +9,5 @@ pub mod ProgramKnown
 pub mod TextSize
 pub mod ProgramFacts
 pub mod MarkKinds
+pub mod InstructionCounts
 pub mod JumpsAhead

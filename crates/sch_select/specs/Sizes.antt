@@ -1,4 +1,4 @@
--- How many steps a program takes at most, and which marks it has.
+-- How many steps a program takes at most, how many instructions its items have, and which marks.
 use Rattle.std.specs.Prelude.{ℕ, suc, ◌+◌, ◌*◌, List, [], ◌∷◌, ◌++◌, length}
 use Rattle.sch_frames.specs.declared.instruction.Instruction.{Instruction}
 use Rattle.sch_frames.specs.declared.instruction.Instruction.TheVariants.{Mark}
@@ -16,6 +16,15 @@ use Rattle.sch_select.specs.Select.{kind_of}
 abbrev pub steps_bound : Source → (entries answers : ℕ) → ℕ
 steps_bound p entries answers = 256 * (program_size p + (closures_in p.bodies + length p.bodies)) * suc entries +
     (10 * answers + 16)
+
+-- ## Instructions
+
+-- how many items become instructions: labels and marks do not
+abbrev pub instructions_in : List Item → ℕ
+instructions_in [] = 0
+instructions_in (item.Label l ∷ is) = instructions_in is
+instructions_in (item.Mark m ∷ is) = instructions_in is
+instructions_in (_ ∷ is) = suc (instructions_in is)
 
 -- ## Marks
 

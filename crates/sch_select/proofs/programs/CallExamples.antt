@@ -37,8 +37,8 @@ use Rattle.sch_frames.specs.ObjectFree.{is_object_free_program}
 use Rattle.sch_select.specs.Marks.{enters_procedure, marks_passed}
 use Rattle.sch_select.specs.Program.{form_code, frames_bytes, program_code, program_words, program_zeros, stack_bytes}
 use Rattle.sch_select.specs.Select.{body_label, kind_of, stop_label}
-use Rattle.sch_frames.specs.Sizes.{closures_in}
-use Rattle.sch_select.specs.Sizes.{kinds_in, kinds_of, steps_bound}
+use Rattle.sch_frames.specs.Sizes.{closures_in, instructions_size}
+use Rattle.sch_select.specs.Sizes.{instructions_in, kinds_in, kinds_of, steps_bound}
 use Rattle.sch_select.proofs.programs.Examples.{text_of, number}
 
 -- how a program ends within 600 steps, with 16 bytes of heap and this depth
@@ -207,6 +207,10 @@ entered : form_code 3 0 1 2000 returning [] ≡
     item.Jump 2000 ∷ item.Label (body_label 1) ∷ item.Plain (CmpNumber (register.Reg 0) (pos 2)) ∷ item.JumpIf NE (stop_label WrongCount) ∷ item.Mark (item_mark.Enter 1) ∷ item.Plain (JumpTo (register.Reg 15)) ∷ item.Label 2000 ∷ []
 entered = refl
 
+-- with the body there are three units for one instruction
+abbrev seven : Code
+seven = record { entry = None; words = 3; labels = 0; instructions = Do (operation.Operand (number (pos 7))) ∷ [] }
+
 -- frames for the form, for each depth, and one more; the bound of steps grows with entries and answers
 bounds :
     (frames_bytes 3 10 ≡ 264)
@@ -214,4 +218,7 @@ bounds :
     × (program_zeros noted 16 10 ≡ 304)
     × (closures_in noted.bodies ≡ 2)
     × (steps_bound noted 2 1 ≡ 256 * 12 * 3 + 26)
-bounds = (refl, refl, refl, refl, refl)
+    × (instructions_in (form_code 3 0 1 2000 returning []) ≡ 4)
+    × (instructions_size seven.instructions ≡ 2)
+    × (instructions_in (form_code 3 0 0 2000 seven []) ≡ 1)
+bounds = (refl, refl, refl, refl, refl, refl, refl, refl)
