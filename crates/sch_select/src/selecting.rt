@@ -288,8 +288,8 @@ pub fn select(alloc: Global, p: &FrameProgram, limits: Limits) -> Result<Asm, Me
     ensures own { IfOk result (λ a. AreOwn a.items) }
     ensures text { IfOk result (λ a. text_size a.items ≤ 512 + 64 * (program_size (source p.now) + closures_in (source p.now).bodies)) }
     // What the bound of steps counts has no more than three units for each instruction.
-    ensures instructions { IfOk result (λ a. program_size (source p.now) + (closures_in (source p.now).bodies + length (source p.now).bodies)
-        ≤ 3 * instructions_in a.items) }
+    ensures instructions { IfOk result (λ a.
+        program_size (source p.now) + (closures_in (source p.now).bodies + length (source p.now).bodies) ≤ 3 * instructions_in a.items) }
     ensures ahead { IfOk result (λ a. IsTrue (jumps_ahead (own_label (source p.now)) a.items)) }
     ensures marks { IfOk result (λ a. kinds_in a.items ≡ kinds_of 0 (source p.now).bodies) }
     ensures words { IfOk result (λ a. length a.words ≤ 101 + length p.now.statics.globals + 2 * length p.now.library) }
