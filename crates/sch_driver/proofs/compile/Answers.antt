@@ -1,4 +1,4 @@
-use Rattle.std.proofs.Common.{arith, subst, ◌∙◌}
+use Rattle.std.proofs.Common.{arith, ap, map, subst, ◌∙◌}
 use Rattle.std.specs.Prelude.{IsTrue}
 use Rattle.sch_word.specs.runs.Orders.{is_order_table}
 use Rattle.sch_lang.specs.ProgramView.{source}
@@ -57,7 +57,7 @@ returns-clause-compiled c =
         given = c.in_ok-orders.ensures.orders;
       };
       bound = bound_chain p (control.source c.in_ok-control.control) does.laid_out.code does.bound c.in_ok-control.ensures.work;
-      names = c.in_ok-bodies.ensures ∙ names_of_codes _ ∙ c.in_ok-control.ensures.names;
+      names = c.in_ok-bodies.ensures ∙ ap (map (λ b. b.name)) c.as_slice.ensures ∙ names_of_codes _ ∙ c.in_ok-control.ensures.names;
       counted = does.counted;
       room = does.room;
       frame = frame_chain p (control.source c.in_ok-control.control) c.in_ok-assembled.assembled.frame_words runs does.frame c.in_ok-control.ensures.variables;
