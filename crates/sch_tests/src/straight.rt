@@ -150,7 +150,7 @@ fn many_products(alloc: Global) -> Result<Bytes, Mem> {
     }
     form.extend_from_slice(b")\n")?;
     let mut source = Bytes::new(alloc);
-    for _ in 0..9_000 {
+    for _ in 0..10_600 {
         source.extend_from_slice(form.as_slice())?;
     }
     Ok(source)
