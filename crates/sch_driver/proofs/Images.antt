@@ -110,6 +110,11 @@ pub refused_for : {A : Type 0} (p : control.Source) (depth : ℕ) (r : Result A 
 refused_for p depth (Ok a) cause h u = tt
 refused_for p depth (Err e) cause h u = subst (IsUnfit p depth) (sym h) u
 
+-- what holds of a cause holds of the error that it is
+pub kept_error : {A : Type 0} (r : Result A CompileError) (cause : CompileError) (P : CompileError → Type 0) → IsErrAnd r (λ e. e ≡ cause) → P cause → IfErr r P
+kept_error (Ok a) cause P h p = tt
+kept_error (Err e) cause P h p = subst P (sym h) p
+
 -- the bound by the control program is one by the core program
 pub bound_chain : (p : lang.Source) (q : control.Source) (code : List Insn) → length (flat_map spelling code) ≤ assembled_bound q → codes_work q.bodies ≤ 7 * core.program_size p
     → length (flat_map spelling code) ≤ text_bound p

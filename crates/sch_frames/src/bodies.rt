@@ -1,6 +1,6 @@
 //! The frame program of a program, with a slot for each variable of each body.
 
-ghost use Rattle.std.specs.Prelude.{◌≡◌, ◌≤◌, ◌+◌, ◌*◌, IfOk, IsTrue};
+ghost use Rattle.std.specs.Prelude.{◌≡◌, ◌≤◌, ◌+◌, ◌*◌, map, IfOk, IsTrue};
 ghost use Rattle.std.specs.List.{list_all};
 ghost use Rattle.sch_word.specs.trees.Shape.{max_operands};
 ghost use Rattle.sch_word.specs.values.StaticsView.{statics};
@@ -12,6 +12,7 @@ ghost use Rattle.sch_control.specs.Straight as control_straight;
 ghost use Rattle.sch_control.specs.Work.{codes_work};
 ghost use Rattle.sch_frames.specs.ObjectFree.{code_begins, each_begins, is_object_free_code, is_object_free_program};
 ghost use Rattle.sch_frames.specs.Does.{FramesOf, SameRuns};
+ghost use Rattle.sch_frames.specs.Layout.{slots_code};
 ghost use Rattle.sch_frames.specs.ProgramView.{source};
 ghost use Rattle.sch_frames.specs.Sizes.{calls_parts, closures_in, codes_size, entries_size, largest_frame, most_words, program_size, program_work};
 ghost use Rattle.sch_frames.specs.SourceView.{codes_of};
@@ -26,6 +27,7 @@ use std::alloc::Global;
 
 /// A frame body for each body, in their order.
 fn frame_bodies(alloc: Global, bodies: &[Body]) -> Result<List<FrameBody>, Mem>
+    ensures made { IfOk result (λ made. codes_of made ≡ map slots_code (control_bodies.codes_of bodies.now)) }
     ensures frames { IfOk result (λ made. FramesOf (control_bodies.codes_of bodies.now) (codes_of made)) }
     ensures begin { IfOk result (λ made. IsTrue (list_all code_begins (codes_of made))) }
     ensures object_free { IfOk result (λ made. IsTrue (list_all control_object_free.is_object_free_code (control_bodies.codes_of bodies.now))
@@ -50,6 +52,8 @@ fn frame_bodies(alloc: Global, bodies: &[Body]) -> Result<List<FrameBody>, Mem>
 /// Time and memory are linear in the program.
 pub fn frame_program(alloc: Global, p: &ControlProgram) -> Result<FrameProgram, Mem>
     ensures same { IfOk result (λ q. SameRuns (control.source p.now) (source q)) }
+    // What laying out is defined to make.
+    ensures made { IfOk result (λ q. codes_of q.bodies ≡ map slots_code (control_bodies.codes_of p.now.bodies)) }
     // One frame body for each body, in their order, which does what the body does.
     ensures frames { IfOk result (λ q. FramesOf (control_bodies.codes_of p.now.bodies) (codes_of q.bodies)) }
     ensures library { IfOk result (λ q. q.library ≡ p.now.library) }

@@ -8,7 +8,7 @@ ghost use Rattle.sch_control.specs.Straight as control_straight;
 ghost use Rattle.sch_control.specs.View.{expression};
 ghost use Rattle.sch_frames.specs.ObjectFree.{code_begins, is_object_free_code};
 ghost use Rattle.sch_frames.specs.Does.{FrameOf};
-ghost use Rattle.sch_frames.specs.Layout.{entering, is_entered, labels, lay, most_operands, own_slots, slots_base, slots_words};
+ghost use Rattle.sch_frames.specs.Layout.{entering, is_entered, labels, lay, most_operands, own_slots, slots_base, slots_code, slots_words};
 ghost use Rattle.sch_control.specs.Sizes.{expression_size};
 ghost use Rattle.sch_control.specs.Work as control_work;
 ghost use Rattle.sch_frames.specs.Sizes.{call_parts, code_work, entry_size, instructions_size, nodes};
@@ -121,6 +121,8 @@ fn laid_out(alloc: Global, slots: Slots, b: &Body) -> Result<Writer, Mem>
 /// operand of a call, and one for each formal. What is past the numbers of 32 bits, for which a body needs 2^31
 /// nodes, is answered as out of memory too.
 pub fn frame_slots(alloc: Global, b: &Body) -> Result<FrameBody, Mem>
+    // What laying out is defined to make.
+    ensures made { IfOk result (λ f. code_of f ≡ slots_code (control.code_of b.now)) }
     ensures same { IfOk result (λ f. FrameOf (control.code_of b.now) (code_of f)) }
     ensures begins { IfOk result (λ f. IsTrue (code_begins (code_of f))) }
     ensures object_free { IfOk result (λ f.

@@ -8,5 +8,6 @@ pub mod ProgramMarks
 pub mod ProgramKnown
 pub mod TextSize
 pub mod ProgramFacts
-pub mod MarkCounts
+pub mod MarkKinds
+pub mod InstructionCounts
 pub mod JumpsAhead

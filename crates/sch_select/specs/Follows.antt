@@ -1,6 +1,6 @@
 -- What a program's items and data owe to it.
 use Rattle.std.specs.Prelude.{◌≡◌, ℕ, ◌≤◌, List, [], ◌∷◌, ◌++◌, length, replicate, Some, IsTrue, false}
-use Rattle.std.specs.List.{flat_map, list_all}
+use Rattle.std.specs.List.{flat_map}
 use Rattle.sch_word.specs.declared.answer.Answer.{Answer}
 use Rattle.sch_word.specs.runs.ProgramLayout.{max_text_size, text_address}
 use Rattle.sch_word.specs.runs.Runs.{Run}

@@ -1,17 +1,14 @@
 -- The marks that the run of a frame program passes, and those that its machine passes.
-use Rattle.std.specs.Prelude.{◌≡◌, ℕ, Bool, true, false, not, nat_eq, slice_get, List, ◌++◌, map, Option, Some, None}
-use Rattle.std.specs.List.{count_by, flat_map, list_all}
+use Rattle.std.specs.Prelude.{◌≡◌, ℕ, Bool, false, nat_eq, slice_get, List, ◌++◌, map, Option, Some, None}
+use Rattle.std.specs.List.{count_by, flat_map}
 use Rattle.sch_word.specs.declared.answer.Answer.{Answer}
 use Rattle.sch_word.specs.values.Memory.{Segment}
 use Rattle.sch_word.specs.runs.Computation.{gives, stops, spent}
 use Rattle.sch_control.specs.declared.mark.MarkKind as control
-use Rattle.sch_control.specs.declared.mark.MarkKind.TheVariants.{Enter}
 use Rattle.sch_control.specs.Meaning.{Result}
 use Rattle.sch_control.specs.declared.body.Entry.{Entry}
 use Rattle.sch_control.specs.Run.{entry_at, outcome_of, starting_world}
-use Rattle.sch_frames.specs.declared.instruction.Instruction.{Instruction}
-use Rattle.sch_frames.specs.declared.instruction.Instruction.TheVariants.{Mark}
-use Rattle.sch_frames.specs.Tree.{Code, Source}
+use Rattle.sch_frames.specs.Tree.{Source}
 use Rattle.sch_frames.specs.Run.{bodies_of, entries_of}
 use Rattle.sch_insn.specs.Behaves.{Given, exit_of, start}
 use Rattle.sch_insn.specs.Path.{traced}

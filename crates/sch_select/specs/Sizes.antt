@@ -1,11 +1,14 @@
--- How many steps and how many marks a program has.
-use Rattle.std.specs.Prelude.{ℕ, suc, ◌+◌, ◌*◌, List, [], ◌∷◌, length}
+-- How many steps a program takes at most, how many instructions its items have, and which marks.
+use Rattle.std.specs.Prelude.{ℕ, suc, ◌+◌, ◌*◌, List, [], ◌∷◌, ◌++◌, length}
 use Rattle.sch_frames.specs.declared.instruction.Instruction.{Instruction}
 use Rattle.sch_frames.specs.declared.instruction.Instruction.TheVariants.{Mark}
 use Rattle.sch_frames.specs.Sizes.{closures_in, program_size}
 use Rattle.sch_frames.specs.Tree.{Code, Source}
 use Rattle.sch_asm.specs.declared.item.Item.{Item}
 use Rattle.sch_asm.specs.declared.item.Item.TheVariants as item
+use Rattle.sch_asm.specs.declared.item.MarkKind.{MarkKind}
+use Rattle.sch_asm.specs.declared.item.MarkKind.TheVariants.{Enter}
+use Rattle.sch_select.specs.Select.{kind_of}
 
 -- ## Steps
 
@@ -14,20 +17,30 @@ abbrev pub steps_bound : Source → (entries answers : ℕ) → ℕ
 steps_bound p entries answers = 256 * (program_size p + (closures_in p.bodies + length p.bodies)) * suc entries +
     (10 * answers + 16)
 
+-- ## Instructions
+
+-- how many items become instructions: labels and marks do not
+abbrev pub instructions_in : List Item → ℕ
+instructions_in [] = 0
+instructions_in (item.Label l ∷ is) = instructions_in is
+instructions_in (item.Mark m ∷ is) = instructions_in is
+instructions_in (_ ∷ is) = suc (instructions_in is)
+
 -- ## Marks
 
--- the marks that stand among items
-abbrev pub marks_in : List Item → ℕ
-marks_in [] = 0
-marks_in (item.Mark m ∷ is) = suc (marks_in is)
-marks_in (_ ∷ is) = marks_in is
+-- the marks that stand among items, in their order
+abbrev pub kinds_in : List Item → List MarkKind
+kinds_in [] = []
+kinds_in (item.Mark m ∷ is) = m ∷ kinds_in is
+kinds_in (_ ∷ is) = kinds_in is
 
-abbrev pub marked : List Instruction → ℕ
-marked [] = 0
-marked (Mark m ∷ instructions) = suc (marked instructions)
-marked (_ ∷ instructions) = marked instructions
+-- the marks that stand among instructions, as items have them
+abbrev pub kinds_among : List Instruction → List MarkKind
+kinds_among [] = []
+kinds_among (Mark m ∷ instructions) = kind_of m ∷ kinds_among instructions
+kinds_among (_ ∷ instructions) = kinds_among instructions
 
--- the marks of bodies, each with its own where it is entered
-abbrev pub bodies_marked : List Code → ℕ
-bodies_marked [] = 0
-bodies_marked (c ∷ codes) = suc (marked c.instructions) + bodies_marked codes
+-- the marks of bodies: for each that of its entry, with its number, and then those among its instructions
+abbrev pub kinds_of : (label : ℕ) → List Code → List MarkKind
+kinds_of label [] = []
+kinds_of label (c ∷ codes) = Enter label ∷ (kinds_among c.instructions ++ kinds_of (suc label) codes)

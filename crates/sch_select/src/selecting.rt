@@ -15,7 +15,7 @@ ghost use Rattle.sch_select.specs.Program.{own_label, closure_words, closures_ad
 ghost use Rattle.sch_select.specs.Program.{global_word, global_words, heap_address, program_zeros, max_data};
 ghost use Rattle.sch_select.specs.Program.{frames_bytes, max_stack, put_value_code, stack_bytes, static_bytes, word_list};
 ghost use Rattle.sch_select.specs.Select.{body_label, put_label};
-ghost use Rattle.sch_select.specs.Sizes.{bodies_marked, marks_in};
+ghost use Rattle.sch_select.specs.Sizes.{instructions_in, kinds_in, kinds_of};
 
 use crate::code::{GLOBALS_ADDRESS, PUT_LABEL, body_label};
 use crate::walk::{Frames, forms};
@@ -287,8 +287,11 @@ pub fn select(alloc: Global, p: &FrameProgram, limits: Limits) -> Result<Asm, Me
     ensures entries { IfOk result (λ a. EntersFrames (source p.now) limits.heap limits.depth a.items a.words a.zeros) }
     ensures own { IfOk result (λ a. AreOwn a.items) }
     ensures text { IfOk result (λ a. text_size a.items ≤ 512 + 64 * (program_size (source p.now) + closures_in (source p.now).bodies)) }
+    // What the bound of steps counts has no more than three units for each instruction.
+    ensures instructions { IfOk result (λ a.
+        program_size (source p.now) + (closures_in (source p.now).bodies + length (source p.now).bodies) ≤ 3 * instructions_in a.items) }
     ensures ahead { IfOk result (λ a. IsTrue (jumps_ahead (own_label (source p.now)) a.items)) }
-    ensures marks { IfOk result (λ a. marks_in a.items ≡ bodies_marked (source p.now).bodies) }
+    ensures marks { IfOk result (λ a. kinds_in a.items ≡ kinds_of 0 (source p.now).bodies) }
     ensures words { IfOk result (λ a. length a.words ≤ 101 + length p.now.statics.globals + 2 * length p.now.library) }
     ensures zeros { IfOk result (λ a. a.zeros ≡ program_zeros (source p.now) limits.heap limits.depth) }
     ensures ends { IfOk result (λ a. 8 * length a.words + a.zeros ≤ max_data) }

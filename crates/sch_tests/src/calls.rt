@@ -1,6 +1,6 @@
 //! Calls of procedures, run over memory: their operands, their results, and how they stop.
 
-use crate::program::perform;
+use crate::program::{call, perform};
 use crate::straight::{check_printed, check_stop};
 use sch_word::{Bytes, Mem};
 use std::alloc::Global;
@@ -25,12 +25,18 @@ fn calls_print(rt: HostRuntime) -> Result<(), Fail> {
             b"(define (adder n) (lambda (m) (+ n m)))(display ((adder 3) 4))",
             b"7",
         ),
-        (b"(let ((if (lambda (a b c) b)))(display (if #f 1 2)))", b"1"),
+        (
+            b"(let ((if (lambda (a b c) b)))(display (if #f 1 2)))",
+            b"1",
+        ),
         (
             b"(define (counter) (let ((n 0)) (lambda () (set! n (+ n 1)) n)))(define c (counter))(c)(display (c))(display ((counter)))",
             b"21",
         ),
-        (b"(lambda (x) (if #f (set! car x)))(define (car x) (+ x 1))(display (car 1))", b"2"),
+        (
+            b"(lambda (x) (if #f (set! car x)))(define (car x) (+ x 1))(display (car 1))",
+            b"2",
+        ),
     ];
     for (source, printed) in rows {
         check_printed(rt.alloc(), source, printed)?;
@@ -54,7 +60,57 @@ fn loops_print(rt: HostRuntime) -> Result<(), Fail> {
             b"(display (letrec ((e? (lambda (n) (if (= n 0) #t (o? (- n 1))))) (o? (lambda (n) (if (= n 0) #f (e? (- n 1)))))) (e? 100)))",
             b"#t",
         ),
-        (b"(display (cond ((- 7 2) => (lambda (n) (* n n))) (else 0)))", b"25"),
+        (
+            b"(display (cond ((- 7 2) => (lambda (n) (* n n))) (else 0)))",
+            b"25",
+        ),
+    ];
+    for (source, printed) in rows {
+        check_printed(rt.alloc(), source, printed)?;
+    }
+    Ok(())
+}
+
+// Where a call may stand: a value that is set, a test, an operand, an init, an operator, a clause.
+#[test]
+fn calls_stand_anywhere(rt: HostRuntime) -> Result<(), Fail> {
+    let source =
+        b"(define (t x) x)(define x 0)(set! x (t 4))(if (t #f) (display 1) (display (+ x (t 1))))(let ((y (t 5)) (z (t 6))) (display (- y z)))(letrec ((a (t 7))) (display a))(display (cond ((t #f) 1) ((t 8)) (else 0)))(display (and (t 1) (t 9)))(display ((t t) 3))";
+    check_printed(rt.alloc(), source, b"5-17893")
+}
+
+// A procedure that is made in a loop has the loop's variable of its turn, and each call of it sees what others set.
+#[test]
+fn closures_keep_their_variables(rt: HostRuntime) -> Result<(), Fail> {
+    let rows: [(&[u8], &[u8]); 2] = [
+        (
+            b"(define p 0)(do ((i 0 (+ i 1))) ((= i 3)) (if (= i 1) (set! p (lambda () i))))(display (p))",
+            b"1",
+        ),
+        (
+            b"(define p 0)(do ((i 0 (+ i 1))) ((= i 3)) (if (= i 1) (set! p (lambda () (set! i (+ i 10)) i))))(display (p))(display (p))",
+            b"1121",
+        ),
+    ];
+    for (source, printed) in rows {
+        check_printed(rt.alloc(), source, printed)?;
+    }
+    Ok(())
+}
+
+// Operands that arrive in slots are read in slots: a tail call that exchanges them, and a call that has as many
+// between two uses.
+#[test]
+fn slots_are_kept_over_calls(rt: HostRuntime) -> Result<(), Fail> {
+    let rows: [(&[u8], &[u8]); 2] = [
+        (
+            b"(define (r a b c d e g h i n) (if (= n 0) (begin (display a)(display h)(display i)) (r b c d e g h i a (- n 1))))(r 1 2 3 4 5 6 7 8 3)",
+            b"423",
+        ),
+        (
+            b"(define (k a b c d e g h i) i)(define (f a b c d e g h i) (begin (k 0 0 0 0 0 0 0 0) (+ h i)))(display (f 1 2 3 4 5 6 7 8))",
+            b"15",
+        ),
     ];
     for (source, printed) in rows {
         check_printed(rt.alloc(), source, printed)?;
@@ -67,10 +123,22 @@ fn calls_stop(rt: HostRuntime) -> Result<(), Fail> {
     let alloc = rt.alloc();
     let no_procedure = b"stop 67: not a procedure\n";
     check_stop(alloc, b"(1 2)", 67, b"", no_procedure)?;
-    check_stop(alloc, b"(define x 5)(display 1)(display (x))", 67, b"1", no_procedure)?;
+    check_stop(
+        alloc,
+        b"(define x 5)(display 1)(display (x))",
+        67,
+        b"1",
+        no_procedure,
+    )?;
     let count = b"stop 68: wrong argument count\n";
     check_stop(alloc, b"((lambda (x) x))", 68, b"", count)?;
-    check_stop(alloc, b"(define (f) 1)(display 1)(f (display 2))", 68, b"12", count)?;
+    check_stop(
+        alloc,
+        b"(define (f) 1)(display 1)(f (display 2))",
+        68,
+        b"12",
+        count,
+    )?;
     let wrong = b"stop 65: wrong type\n";
     check_stop(alloc, b"(define (f x) (+ x 1))(f f)", 65, b"", wrong)?;
     let unset = b"stop 73: unset variable\n";
@@ -98,9 +166,23 @@ fn the_depth_has_its_limit(rt: HostRuntime) -> Result<(), Fail> {
     let (status, printed) = run_at(rt.alloc(), "1", looping)?;
     assert_eq!(rt; status, 0);
     assert_eq!(rt; printed.as_slice(), b"7".as_slice());
-    // the depth is looked at before the count of operands
-    let (status, _) = run_at(rt.alloc(), "1", b"(define (g) 1)(define (f) (+ 1 (g 2)))(f)")?;
-    assert_eq!(rt; status, 72);
+    Ok(())
+}
+
+// The operator is looked at first, then the depth, then the count of operands; operands are no pending calls.
+#[test]
+fn calls_are_checked_in_order(rt: HostRuntime) -> Result<(), Fail> {
+    let rows: [(&[u8], u8); 5] = [
+        (b"(define (g) 1)(define (f) (+ 1 (g 2)))(f)", 72),
+        (b"(define (f) (+ 1 (1)))(f)", 67),
+        (b"(define (f) (1))(f)", 67),
+        (b"(define (g) 1)(define (f) (g 2))(f)", 68),
+        (b"(define (f x) x)(display (f (f 1)))", 0),
+    ];
+    for (source, wanted) in rows {
+        let (status, _) = run_at(rt.alloc(), "1", source)?;
+        assert_eq!(rt; status, wanted);
+    }
     Ok(())
 }
 
@@ -158,11 +240,13 @@ fn calls_take_many_operands(rt: HostRuntime) -> Result<(), Fail> {
 // Frames of 17 variables at a depth of 10,000,000 would take more than 1 GiB.
 #[test]
 fn frames_past_the_limit_are_refused(rt: HostRuntime) -> Result<(), Fail> {
-    let source = b"(define (f a b c d e g h i j k l m n o p q) (begin (f a b c d e g h i j k l m n o p q) (+ a b c d e g h i j k l m n o p q)))";
-    let words: [&str; 4] = ["run", "a", "--depth", "10000000"];
-    let ending = perform(rt.alloc(), &words, source, &[])?;
-    assert_eq!(rt; ending.status, 7);
-    assert_eq!(rt; ending.said.as_slice(), b"a: limit stack\n".as_slice());
+    let source =
+        b"(define (f a b c d e g h i j k l m n o p q) (begin (f a b c d e g h i j k l m n o p q) (+ a b c d e g h i j k l m n o p q)))";
+    let words: [&str; 5] = ["compile", "a", "b", "--depth", "10000000"];
+    let outcome = call(rt.alloc(), &words, source, &[], &[])?;
+    assert_eq!(rt; outcome.status, 7);
+    assert_eq!(rt; outcome.said.as_slice(), b"a: limit stack\n".as_slice());
+    assert!(rt; outcome.target.is_none());
     Ok(())
 }
 
@@ -188,6 +272,10 @@ fn calls_take_cells(rt: HostRuntime) -> Result<(), Fail> {
         source.extend_from_slice(b"(f 0)")?;
     }
     check_printed(alloc, source.as_slice(), b"")?;
+    let mut miscounted = Bytes::from_slice(alloc, source.as_slice())?;
+    miscounted.extend_from_slice(b"(f)")?;
+    let count = b"stop 68: wrong argument count\n";
+    check_stop(alloc, miscounted.as_slice(), 68, b"", count)?;
     source.extend_from_slice(b"(f 0)")?;
     check_stop(alloc, source.as_slice(), 71, b"", b"stop 71: heap limit\n")
 }

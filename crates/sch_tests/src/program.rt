@@ -14,15 +14,15 @@ const ROOM: u64 = 100_000;
 
 // What a call answered, what the file `b` then holds, and what was said.
 #[derive(Drop)]
-struct Outcome {
-    status: u8,
-    target: Option<Bytes>,
-    said: Vec<u8>,
+pub(crate) struct Outcome {
+    pub(crate) status: u8,
+    pub(crate) target: Option<Bytes>,
+    pub(crate) said: Vec<u8>,
 }
 
 // Calls the program on a disk whose only file is `a`, where the calls of the disk with these numbers
 // fail, and the standard error answers by this plan.
-fn call(
+pub(crate) fn call(
     alloc: Global,
     words: &[&str],
     source: &[u8],
@@ -211,9 +211,7 @@ fn words_with_options(rt: HostRuntime) -> Result<(), Fail> {
         (&["compile", "a", "b", "--heap", "1073741824"], 0),
         (&["compile", "a", "b", "--depth", "10000000"], 0),
         (
-            &[
-                "run", "a", "--steps", "0", "--depth", "1", "--heap", "8192",
-            ],
+            &["run", "a", "--steps", "0", "--depth", "1", "--heap", "8192"],
             9,
         ),
     ];
@@ -349,12 +347,14 @@ fn sources_run(rt: HostRuntime) -> Result<(), Fail> {
     let absent = perform(rt.alloc(), &["run", "c"], source, &[])?;
     assert_eq!(rt; absent.status, 2);
     assert_eq!(rt; absent.said.as_slice(), b"c: read failed\n".as_slice());
-    let other = perform(rt.alloc(), &["run", "a"], b"(define (f) 1)(f)", &[])?;
+    let other = perform(
+        rt.alloc(),
+        &["run", "a"],
+        b"(newline)(define (g . l) 1)",
+        &[],
+    )?;
     assert_eq!(rt; other.status, 11);
-    assert_eq!(rt;
-        other.said.as_slice(),
-        b"a: byte 14: not built\n".as_slice()
-    );
+    assert_eq!(rt; other.said.as_slice(), b"a: byte 9: not built\n".as_slice());
     let faulty = perform(rt.alloc(), &["run", "a"], b"(newline) x", &[])?;
     assert_eq!(rt; faulty.status, 6);
     assert_eq!(rt; faulty.printed.as_slice(), [].as_slice());

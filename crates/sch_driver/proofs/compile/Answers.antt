@@ -1,10 +1,11 @@
-use Rattle.std.proofs.Common.{arith, subst, ◌∙◌}
+use Rattle.std.proofs.Common.{arith, ap, map, subst, ◌∙◌}
 use Rattle.std.specs.Prelude.{IsTrue}
 use Rattle.sch_word.specs.runs.Orders.{is_order_table}
 use Rattle.sch_lang.specs.ProgramView.{source}
 use Rattle.sch_lang.specs.Run.{run}
 use Rattle.sch_control.specs.ProgramView as control
-use Rattle.sch_driver.proofs.Images.{bound_chain, frame_chain, names_of_codes}
+use Rattle.sch_driver.specs.Causes.{IsErrorOf}
+use Rattle.sch_driver.proofs.Images.{bound_chain, frame_chain, kept_error, names_of_codes, too_large}
 use Rattle.sch_driver.proofs.compile.Goals as goal
 
 pub control_program-requires : goal.control_program-requires
@@ -12,6 +13,21 @@ control_program-requires c = record { small = omega (arith, c.in_ok-program.ensu
 
 pub assemble-requires : goal.assemble-requires
 assemble-requires c = record { object_free = c.in_ok-control.ensures.object_free c.in_ok-program.ensures.built.object_free }
+
+pub returns-in_err-program-clause-refused : goal.returns-in_err-program-clause-refused
+returns-in_err-program-clause-refused c =
+    kept_error c.from_residual.result c.in_err-program.field-0.0 (IsErrorOf c.args.text.now c.args.limits.depth) c.from_residual.ensures.1
+    (c.in_err-program.ensures.refused c.args.limits.depth)
+
+pub returns-in_err-assembled-clause-refused : goal.returns-in_err-assembled-clause-refused
+returns-in_err-assembled-clause-refused c =
+    let text = c.args.text.now in
+    let depth = c.args.limits.depth in
+    let cause = c.in_err-assembled.field-0.0 in
+    let control_ensures = c.in_ok-control.ensures in
+    kept_error c.from_residual-in_err-assembled.result cause (IsErrorOf text depth) c.from_residual-in_err-assembled.ensures.1
+    (too_large text (source c.in_ok-program.program) (control.source c.in_ok-control.control) depth cause c.in_ok-program.ensures.built
+    control_ensures.runs control_ensures.work control_ensures.variables c.in_err-assembled.ensures.refused)
 
 pub returns-clause-compiled : goal.returns-clause-compiled
 returns-clause-compiled c =
@@ -41,7 +57,7 @@ returns-clause-compiled c =
         given = c.in_ok-orders.ensures.orders;
       };
       bound = bound_chain p (control.source c.in_ok-control.control) does.laid_out.code does.bound c.in_ok-control.ensures.work;
-      names = c.in_ok-bodies.ensures ∙ names_of_codes _ ∙ c.in_ok-control.ensures.names;
+      names = c.in_ok-bodies.ensures ∙ ap (map (λ b. b.name)) c.as_slice.ensures ∙ names_of_codes _ ∙ c.in_ok-control.ensures.names;
       counted = does.counted;
       room = does.room;
       frame = frame_chain p (control.source c.in_ok-control.control) c.in_ok-assembled.assembled.frame_words runs does.frame c.in_ok-control.ensures.variables;

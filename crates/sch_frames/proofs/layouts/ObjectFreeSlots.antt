@@ -22,10 +22,9 @@ use Rattle.sch_control.specs.Tree.{Expression, perform, bind, sequence, branch, 
 use Rattle.sch_frames.specs.declared.instruction.Instruction.{Instruction}
 use Rattle.sch_frames.specs.declared.instruction.Instruction.TheVariants.{Store, Return, End, Jump, Label, Mark}
 use Rattle.sch_frames.specs.ObjectFree.{is_object_free_instruction, begins, code_begins}
-use Rattle.sch_frames.specs.Layout.{Slots, operand_at, source_at, sources_at, members_at, operation_at, prepared, labels, lay, entering, slots_base, slots_for, slots_layout}
+use Rattle.sch_frames.specs.Layout.{Slots, operand_at, source_at, sources_at, members_at, operation_at, prepared, labels, lay, entering, slots_base, slots_for, slots_layout, slots_code}
 use Rattle.sch_frames.proofs.runs.Entering.{entering_passes}
 use Rattle.sch_frames.proofs.layouts.Laid.{Steers, Leads, Passes, Loads, Unplaced, handed_passes, prepared_passes, restored_passes, lay_passes}
-use Rattle.sch_frames.proofs.layouts.SlotsFrame.{slots_of}
 use Rattle.sch_frames.proofs.layouts.StraightSlots.{atom_kept, operand_kept, operands_kept}
 
 object_free_steers : Steers is_object_free_instruction
@@ -112,5 +111,5 @@ entering_begins : (base : ℕ) (entry : Option Entry) (rest : List Instruction) 
 entering_begins base None rest h = h
 entering_begins base (Some e) rest h = refl
 
-pub slots_begin : (c : control.Code) → code_begins (slots_of c) ≡ true
+pub slots_begin : (c : control.Code) → code_begins (slots_code c) ≡ true
 slots_begin c = entering_begins (slots_base c) c.entry _ (lay_begins (slots_for c) c.expression 0 None [])

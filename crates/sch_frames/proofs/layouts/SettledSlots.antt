@@ -1,5 +1,5 @@
 -- In the layout of a valid body each field has a number that a field may have, a form ends only in the body of a form,
--- and each mark has an instruction behind it.
+-- no mark is that of an entry, and each mark has an instruction behind it.
 use Rattle.std.proofs.Common.{◌≡◌, ◌≤◌, ℕ, zero, suc, List, [], ◌∷◌, length, Option, Some, None, Bool, true, false, refl, arith}
 use Rattle.std.specs.Prelude.{◌&&◌, nat_lt, nat_le, nat_eq}
 use Rattle.std.specs.List.{list_all}
@@ -8,7 +8,7 @@ use Rattle.sch_word.specs.declared.place.Place.{Place}
 use Rattle.sch_word.specs.declared.place.Place.TheVariants.{Slot}
 use Rattle.sch_word.specs.trees.Shape.{max_operands, max_free_variables}
 use Rattle.sch_control.specs.declared.body.Entry.{Entry}
-use Rattle.sch_control.specs.declared.mark.MarkKind.{MarkKind}
+use Rattle.sch_control.specs.declared.mark.MarkKind.TheVariants as mark
 use Rattle.sch_control.specs.declared.operation.Application.{Application}
 use Rattle.sch_control.specs.declared.operation.Operand.{Operand}
 use Rattle.sch_control.specs.declared.operation.Member.{Member}
@@ -25,18 +25,18 @@ use Rattle.sch_control.specs.Valid.{Position, value, no_call, ends_form, positio
 use Rattle.sch_frames.specs.declared.instruction.Instruction.{Instruction}
 use Rattle.sch_frames.specs.declared.instruction.Instruction.TheVariants.{Load, Call, Tail, Label, Mark}
 use Rattle.sch_frames.specs.Meaning.{closure_register, argument_register, argument_slot}
-use Rattle.sch_frames.specs.ObjectFree.{is_object_free_code, source_low, member_low, operation_low, instruction_low, marks_settled, may_stand, begins}
-use Rattle.sch_frames.specs.Layout.{Slots, operand_at, source_at, sources_at, members_at, operation_at, set_aside, passed, handed, hand_over, prepared, restored, lay, leave, arrivals, entering, slots_base, slots_for, slots_layout}
+use Rattle.sch_frames.specs.ObjectFree.{is_object_free_code, source_low, member_low, operation_low, instruction_low, marks_settled, may_stand, plain_instruction, begins}
+use Rattle.sch_frames.specs.Layout.{Slots, operand_at, source_at, sources_at, members_at, operation_at, set_aside, passed, handed, hand_over, prepared, restored, lay, leave, arrivals, entering, slots_base, slots_for, slots_layout, slots_code}
 use Rattle.sch_frames.proofs.runs.Entering.{entering_passes}
 use Rattle.sch_frames.proofs.layouts.ObjectFreeSlots.{slots_free, slots_begin}
 use Rattle.sch_frames.proofs.layouts.Laid.{Steers, Leads, Passes, Loads, Unplaced, handed_passes, prepared_passes, restored_passes, lay_passes}
-use Rattle.sch_frames.proofs.layouts.SlotsFrame.{slots_of}
 
 -- a test that a call passes, with all that is done for it
 record Unasked (test : Instruction → Bool) : Type 0 where
   pub loads : (p : Place) (o : Operand Place) → test (Load p o) ≡ true
   pub unplaced : Unplaced test
-  pub marks : (m : MarkKind) → test (Mark m) ≡ true
+  pub call_marks : (site : ℕ) → test (Mark (mark.Call site)) ≡ true
+  pub tail_marks : (site : ℕ) → test (Mark (mark.Tail site)) ≡ true
   pub calls : (spread : Bool) (count : ℕ) → test (Call spread count) ≡ true
   pub tails : (spread : Bool) (count : ℕ) → test (Tail spread count) ≡ true
 
@@ -52,22 +52,22 @@ module _ (slots : Slots) (test : Instruction → Bool) (steers : Steers test) (u
 
   call_passes : (a : Application ℕ) → Passes slots test steers (call a [])
   call_passes a = λ rest i.
-      prepared_pass false a _ (and_from _ _ (unasked.marks _) (and_from _ _ (unasked.calls _ _) (restored_passes test unasked.unplaced slots.home rest i)))
+      prepared_pass false a _ (and_from _ _ (unasked.call_marks _) (and_from _ _ (unasked.calls _ _) (restored_passes test unasked.unplaced slots.home rest i)))
 
   tail_passes : (a : Application ℕ) → Passes slots test steers (tail_call a)
-  tail_passes a = λ rest i. prepared_pass true a _ (and_from _ _ (unasked.marks _) (and_from _ _ (unasked.tails _ _) i))
+  tail_passes a = λ rest i. prepared_pass true a _ (and_from _ _ (unasked.tail_marks _) (and_from _ _ (unasked.tails _ _) i))
 
 low_steers : Steers instruction_low
 low_steers = record { if_false = λ l. refl; jump = λ l. refl; label = λ l. refl; return_mark = refl; return = refl }
 
 low_unasked : Unasked instruction_low
-low_unasked = record { loads = λ p o. refl; unplaced = record { copies = λ to from. refl; passes = λ j p. refl }; marks = λ m. refl; calls = λ spread count. refl; tails = λ spread count. refl }
+low_unasked = record { loads = λ p o. refl; unplaced = record { copies = λ to from. refl; passes = λ j p. refl }; call_marks = λ site. refl; tail_marks = λ site. refl; calls = λ spread count. refl; tails = λ spread count. refl }
 
 stand_steers : (ends : Bool) → Steers (may_stand ends)
 stand_steers ends = record { if_false = λ l. refl; jump = λ l. refl; label = λ l. refl; return_mark = refl; return = refl }
 
 stand_unasked : (ends : Bool) → Unasked (may_stand ends)
-stand_unasked ends = record { loads = λ p o. refl; unplaced = record { copies = λ to from. refl; passes = λ j p. refl }; marks = λ m. refl; calls = λ spread count. refl; tails = λ spread count. refl }
+stand_unasked ends = record { loads = λ p o. refl; unplaced = record { copies = λ to from. refl; passes = λ j p. refl }; call_marks = λ site. refl; tail_marks = λ site. refl; calls = λ spread count. refl; tails = λ spread count. refl }
 
 never : {ends : Bool} → false ≡ true → ends ≡ true
 never h = absurd cc
@@ -158,7 +158,33 @@ slots_stand c h =
     (lay_passes (slots_for c) (may_stand ends) (stand_steers ends) c.expression
     (parts_stand (slots_for c) ends c.expression (last_position c.entry) (last_may c.entry) (and_parts (is_bare c.expression) _ h).1) 0 None [] refl)
 
--- ## Marks
+-- ## Marks of entries
+
+plain_steers : Steers plain_instruction
+plain_steers = record { if_false = λ l. refl; jump = λ l. refl; label = λ l. refl; return_mark = refl; return = refl }
+
+plain_unasked : Unasked plain_instruction
+plain_unasked = record { loads = λ p o. refl; unplaced = record { copies = λ to from. refl; passes = λ j p. refl }; call_marks = λ site. refl; tail_marks = λ site. refl; calls = λ spread count. refl; tails = λ spread count. refl }
+
+module _ (slots : Slots) where
+  parts_plain : (e : Expression) → Passes slots plain_instruction plain_steers e
+  parts_plain (perform o) = refl
+  parts_plain (bind x a b) = (refl, (parts_plain a, parts_plain b))
+  parts_plain (sequence a b) = (parts_plain a, parts_plain b)
+  parts_plain (branch a b c) = (parts_plain a, (parts_plain b, parts_plain c))
+  parts_plain (fix members e) = (refl, parts_plain e)
+  parts_plain (return e) = parts_plain e
+  parts_plain (end e) = (refl, parts_plain e)
+  parts_plain (call a restores) = call_passes slots plain_instruction plain_steers plain_unasked a
+  parts_plain (tail_call a) = tail_passes slots plain_instruction plain_steers plain_unasked a
+  parts_plain (save saves e) = parts_plain e
+
+slots_plain : (c : control.Code) → list_all plain_instruction (slots_layout c) ≡ true
+slots_plain c =
+    entering_passes plain_instruction (λ to from. refl) c.entry (slots_base c) _
+    (lay_passes (slots_for c) plain_instruction plain_steers c.expression (parts_plain (slots_for c) c.expression) 0 None [] refl)
+
+-- ## Marks with an instruction behind
 
 leave_settled : (test : Option ℕ) (rest : List Instruction) → marks_settled false rest ≡ true → marks_settled false (leave test rest) ≡ true
 leave_settled None rest h = h
@@ -214,11 +240,12 @@ may_wait (Label l ∷ is) b h = absurd cc
 may_wait (Mark m ∷ is) b h = absurd cc
 may_wait (_ ∷ is) b h = h
 
-pub slots_object_free : (c : control.Code) → ended c ≡ true → shaped_whole c ≡ true → fields_known c ≡ true → control_object_free.is_object_free_code c ≡ true → is_object_free_code (slots_of c) ≡ true
+pub slots_object_free : (c : control.Code) → ended c ≡ true → shaped_whole c ≡ true → fields_known c ≡ true → control_object_free.is_object_free_code c ≡ true → is_object_free_code (slots_code c) ≡ true
 slots_object_free c bare whole there free =
     let parts = and_parts (takes_no_list c.entry) (is_object_free c.expression) free in
     and_from _ _ parts.0
     (and_from _ _ (slots_free c parts.1)
     (and_from _ _ (slots_low c whole there)
     (and_from _ _ (slots_stand c bare)
-    (may_wait (slots_layout c) (slots_begin c) (entering_settled (slots_base c) c.entry _ (lay_settled (slots_for c) c.expression 0 None [] refl))))))
+    (and_from _ _ (slots_plain c)
+    (may_wait (slots_layout c) (slots_begin c) (entering_settled (slots_base c) c.entry _ (lay_settled (slots_for c) c.expression 0 None [] refl)))))))

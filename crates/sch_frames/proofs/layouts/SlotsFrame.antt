@@ -13,19 +13,14 @@ use Rattle.sch_control.specs.Tree.{Expression, perform, bind, sequence, branch, 
 use Rattle.sch_control.specs.Valid.{shaped as expression_shaped, first_bound, in_scope_whole, numbered, ended, shaped_whole, entry_shaped, without_repeats}
 use Rattle.sch_frames.specs.declared.instruction.Instruction.{Instruction}
 use Rattle.sch_frames.specs.Does.{FrameOf, world}
-use Rattle.sch_frames.specs.Tree.{Code}
 use Rattle.sch_frames.specs.Valid.{is_place, placed, forward, shaped, formals_of, labels_in, jumps_ahead, instruction_placed, instruction_shaped, instruction_known}
-use Rattle.sch_frames.specs.Layout.{labels, lay, restored, own_slot, home_of, is_entered, most_operands, arrivals, entering, slots_base, slots_for, slots_words, slots_layout}
+use Rattle.sch_frames.specs.Layout.{labels, lay, restored, own_slot, home_of, is_entered, most_operands, arrivals, entering, slots_base, slots_for, slots_words, slots_layout, slots_code}
 use Rattle.sch_frames.proofs.runs.Agrees.{Behind, Uses, Within}
 use Rattle.sch_frames.proofs.runs.Entering.{own_apart, enters, entering_placed, entering_passes}
 use Rattle.sch_frames.proofs.layouts.Labels.{Right, right, lay_below}
 use Rattle.sch_frames.proofs.layouts.Laid.{Roomy, lay_passes, placed_steers, uses_placed, shaped_steers, parts_shaped, known_steers, parts_named}
 use Rattle.sch_frames.proofs.runs.Same.{same}
 use Rattle.sch_frames.proofs.layouts.Used.{Numbered, numbered_is, code_uses}
-
--- the frame body of a body
-abbrev pub slots_of : control.Code → Code
-slots_of c = record { entry = c.entry; words = slots_words c; labels = labels c.expression; instructions = slots_layout c }
 
 -- ## Places
 
@@ -106,7 +101,7 @@ module _ (c : control.Code) (scoped : in_scope_whole c ≡ true) (counted : numb
       c.expression (omega arith) uses)
       0 None [] refl)))
 
-  pub slots_does : ended c ≡ true → FrameOf c (slots_of c)
+  pub slots_does : ended c ≡ true → FrameOf c (slots_code c)
   slots_does bare = record {
     entry = refl;
     does = λ callee callee' follow depth self arguments l state marks marks'.

@@ -18,9 +18,8 @@ use Rattle.sch_control.specs.Tree as control
 use Rattle.sch_control.specs.Tree.{Expression, perform, bind, sequence, branch, fix, call, tail_call, return, end, save}
 use Rattle.sch_frames.specs.declared.instruction.Instruction.{Instruction}
 use Rattle.sch_frames.specs.declared.instruction.Instruction.TheVariants.{Store, End, Jump, Label}
-use Rattle.sch_frames.specs.Layout.{Slots, leave, labels, lay, atom_at, atoms_at, operand_at, operands_at, operation_at, entering, slots_base, slots_for}
+use Rattle.sch_frames.specs.Layout.{Slots, leave, labels, lay, atom_at, atoms_at, operand_at, operands_at, operation_at, entering, slots_base, slots_for, slots_code}
 use Rattle.sch_frames.specs.Straight.{begins_with_operation, is_straight_instruction, is_straight_code}
-use Rattle.sch_frames.proofs.layouts.SlotsFrame.{slots_of}
 
 -- ## Operations
 
@@ -105,7 +104,7 @@ form_straight : (base : ℕ) (entry : Option Entry) (rest : List Instruction) �
 form_straight base None rest f h = h
 form_straight base (Some e) rest f h = absurd cc
 
-pub slots_straight : (c : control.Code) → control_straight.is_straight_code c ≡ true → is_straight_code (slots_of c) ≡ true
+pub slots_straight : (c : control.Code) → control_straight.is_straight_code c ≡ true → is_straight_code (slots_code c) ≡ true
 slots_straight c h =
     let parts = and_parts _ _ h in
     form_straight (slots_base c) c.entry _ parts.0

@@ -25,8 +25,8 @@ use Rattle.sch_control.specs.Tree.{Expression, perform, bind, branch, fix, call,
 use Rattle.sch_control.specs.Valid as control_valid
 use Rattle.sch_frames.specs.declared.instruction.Instruction.{Instruction}
 use Rattle.sch_frames.specs.declared.instruction.Instruction.TheVariants.{Do, Store, Copy, Load, Pass, Call, Tail, Return, End, IfFalse, Jump, Label, Mark}
-use Rattle.sch_frames.specs.ObjectFree.{is_object_free_instruction, is_object_free_code, is_object_free_program, each_begins, begins}
-use Rattle.sch_frames.specs.Layout.{slots_layout, slots_words, labels, most_operands}
+use Rattle.sch_frames.specs.ObjectFree.{plain_instruction, is_object_free_instruction, is_object_free_code, is_object_free_program, each_begins, begins}
+use Rattle.sch_frames.specs.Layout.{slots_layout, slots_code, slots_words, most_operands}
 use Rattle.sch_frames.specs.Run.{run}
 use Rattle.sch_frames.specs.Sizes.{call_parts, calls_parts, entries_size, instructions_size, most_words, nodes}
 use Rattle.sch_frames.specs.Tree.{Code, Source}
@@ -58,12 +58,9 @@ program bodies sites bound = record {
   bound = bound;
 }
 
-abbrev pub frame : control.Code → Code
-frame c = record { entry = c.entry; words = slots_words c; labels = labels c.expression; instructions = slots_layout c }
-
 -- the frame program of a program
 abbrev pub framed : control.Source → Source
-framed p = record { statics = p.statics; library = p.library; bodies = map frame p.bodies; words = most_words p.bodies }
+framed p = record { statics = p.statics; library = p.library; bodies = map slots_code p.bodies; words = most_words p.bodies }
 
 abbrev seen : List ℕ → (entries charged : ℕ) → runs_of.End → Option Run
 seen output entries charged how = Some (record { output = output; entries = entries; charged = charged; answers = 0; end = how })
@@ -171,7 +168,7 @@ object_free_rows :
     × (is_object_free_program (framed calling) ≡ true)
     × (is_object_free_program (framed looping) ≡ true)
     × (control_object_free.is_object_free_program (program (twice ∷ []) [] []) ≡ true)
-    × (is_object_free_code (frame twice) ≡ true)
+    × (is_object_free_code (slots_code twice) ≡ true)
 object_free_rows = (refl, refl, refl, refl, refl, refl, refl)
 
 -- a list is spread, an operand is a literal, or a list of operands is taken
@@ -192,7 +189,7 @@ form_with instructions = record { entry = None; words = 2; labels = 1; instructi
 
 with_objects_rows :
     (map control_object_free.is_object_free_code (spreading ∷ with_literal ∷ with_rest ∷ []) ≡ false ∷ false ∷ false ∷ [])
-    × (map is_object_free_code (frame spreading ∷ frame with_literal ∷ frame with_rest ∷ []) ≡ false ∷ false ∷ false ∷ [])
+    × (map is_object_free_code (slots_code spreading ∷ slots_code with_literal ∷ slots_code with_rest ∷ []) ≡ false ∷ false ∷ false ∷ [])
     × (map is_object_free_instruction (Load (Slot 0) (operand.Atom (Literal 0)) ∷ Pass 0 (operand.Atom (Literal 0)) ∷ Call true 1 ∷ Tail true 1 ∷ []) ≡ false ∷ false ∷ false ∷ false ∷ [])
     × (map is_object_free_instruction (Load (Slot 0) (number 0) ∷ Pass 0 (number 0) ∷ Call false 1 ∷ Tail false 1 ∷ []) ≡ true ∷ true ∷ true ∷ true ∷ [])
 with_objects_rows = (refl, refl, refl, refl)
@@ -202,6 +199,12 @@ settled_rows :
     (map is_object_free_code (form_with (Copy (Slot 0) (Slot 1) ∷ End ∷ []) ∷ procedure_with (Copy (Slot 0) (Slot 1) ∷ End ∷ []) ∷ []) ≡ true ∷ false ∷ [])
     × (map is_object_free_code (procedure_with (Copy (Slot 0) (Slot 1) ∷ Mark (mark.Tail 0) ∷ Tail false 0 ∷ []) ∷ procedure_with (Copy (Slot 0) (Slot 1) ∷ Mark (mark.Tail 0) ∷ Label 0 ∷ Tail false 0 ∷ []) ∷ []) ≡ true ∷ false ∷ [])
 settled_rows = (refl, refl)
+
+-- no mark of an entry stands among instructions
+plain_rows :
+    (map plain_instruction (Mark (mark.Enter 0) ∷ Mark (mark.Call 0) ∷ Mark (mark.Tail 0) ∷ Mark mark.Return ∷ Return ∷ []) ≡ false ∷ true ∷ true ∷ true ∷ true ∷ [])
+    × (map is_object_free_code (procedure_with (Copy (Slot 0) (Slot 1) ∷ Mark mark.Return ∷ Return ∷ []) ∷ procedure_with (Copy (Slot 0) (Slot 1) ∷ Mark (mark.Enter 0) ∷ Return ∷ []) ∷ []) ≡ true ∷ false ∷ [])
+plain_rows = (refl, refl)
 
 -- a label or a mark is nothing that is done
 begins_rows :

@@ -5,8 +5,9 @@ use Rattle.sch_word.specs.declared.place.Place.TheVariants.{Slot}
 use Rattle.sch_control.specs.declared.operation.Member.{Member}
 use Rattle.sch_control.specs.Work as control_work
 use Rattle.sch_frames.specs.declared.instruction.Instruction.TheVariants.{Fix, Call, Tail}
+use Rattle.sch_frames.specs.Layout.{slots_code}
 use Rattle.sch_frames.specs.Sizes.{closures_in, code_work, grouped, jumped, program_size, program_work}
-use Rattle.sch_frames.proofs.worked.CallExamples.{object_free, calling, frame, framed, twice}
+use Rattle.sch_frames.proofs.worked.CallExamples.{object_free, calling, framed, twice}
 
 -- the group of one closure has one field, and its procedure is jumped over
 group_rows : (program_size (framed object_free) ∷ closures_in (framed object_free).bodies ∷ program_work (framed object_free) ∷ control_work.codes_work object_free.bodies ∷ []) ≡ 13 ∷ 2 ∷ 15 ∷ 15 ∷ []
@@ -20,7 +21,7 @@ abbrev member : Member Place
 member = record { at = Slot 2; closure = record { label = 1; fields = [] } }
 
 -- an operand that is handed over in a register takes one instruction there, of the two that are counted
-call_rows : (code_work (frame twice) ∷ control_work.code_work twice ∷ []) ≡ 20 ∷ 22 ∷ []
+call_rows : (code_work (slots_code twice) ∷ control_work.code_work twice ∷ []) ≡ 20 ∷ 22 ∷ []
 call_rows = refl
 
 -- a group of two, a call, which is no tail call, and a group of one

@@ -306,7 +306,8 @@ forms_adds words heap_end label n (c ∷ cs) rest =
 
 -- ## Programs
 
-abbrev last_code : List Item
+-- what stands behind the bodies
+abbrev pub last_code : List Item
 last_code = item.Jump (label_of routine.End) ∷ (item.Label put_label ∷ put_value_code)
 
 last_small : text_size last_code ≤ 460

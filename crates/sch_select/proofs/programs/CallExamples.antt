@@ -1,6 +1,6 @@
 -- Small frame programs with calls and their routines, run by the machine.
 use Rattle.std.proofs.Common.{◌≡◌, ℕ, ◌+◌, ◌*◌, List, [], ◌∷◌, ◌++◌, Bool, Option, Some, None, true, false, refl}
-use Rattle.std.specs.List.{flat_map, list_all}
+use Rattle.std.specs.List.{flat_map}
 use Rattle.std.specs.Prelude.{codes, pos, replicate}
 use Rattle.sch_word.specs.declared.constant.Const.TheVariants.{Fixnum}
 use Rattle.sch_word.specs.declared.place.Place.{Place}
@@ -34,11 +34,11 @@ use Rattle.sch_asm.specs.Data.{data_at}
 use Rattle.sch_asm.specs.Views.{text_at}
 use Rattle.sch_runtime.specs.Code.{routine_items}
 use Rattle.sch_frames.specs.ObjectFree.{is_object_free_program}
-use Rattle.sch_select.specs.Marks.{enters_procedure, marks_passed, plain_code}
+use Rattle.sch_select.specs.Marks.{enters_procedure, marks_passed}
 use Rattle.sch_select.specs.Program.{form_code, frames_bytes, program_code, program_words, program_zeros, stack_bytes}
 use Rattle.sch_select.specs.Select.{body_label, kind_of, stop_label}
-use Rattle.sch_frames.specs.Sizes.{closures_in}
-use Rattle.sch_select.specs.Sizes.{steps_bound}
+use Rattle.sch_frames.specs.Sizes.{closures_in, instructions_size}
+use Rattle.sch_select.specs.Sizes.{instructions_in, kinds_in, kinds_of, steps_bound}
 use Rattle.sch_select.proofs.programs.Examples.{text_of, number}
 
 -- how a program ends within 600 steps, with 16 bytes of heap and this depth
@@ -170,7 +170,8 @@ taking rest form body = record {
   words = 3;
 }
 
--- there are no rest lists, no lists that are spread, and no procedures that end as a form does
+-- there are no rest lists, no lists that are spread, no procedures that end as a form does, and no marks of entries
+-- among instructions
 object_free :
     (is_object_free_program (taking false (Call false 1 ∷ Ended ∷ []) (Return ∷ [])) ≡ true)
     × (is_object_free_program (taking false (Call true 1 ∷ Ended ∷ []) (Return ∷ [])) ≡ false)
@@ -178,7 +179,8 @@ object_free :
     × (is_object_free_program (taking true (Call false 1 ∷ Ended ∷ []) (Return ∷ [])) ≡ false)
     × (is_object_free_program (taking true (Ended ∷ []) (Return ∷ [])) ≡ false)
     × (is_object_free_program (taking false (Ended ∷ []) (Tail false 1 ∷ [])) ≡ true)
-object_free = (refl, refl, refl, refl, refl, refl)
+    × (is_object_free_program (taking false (Mark (mark.Enter 0) ∷ Ended ∷ []) (Return ∷ [])) ≡ false)
+object_free = (refl, refl, refl, refl, refl, refl, refl)
 
 -- ## Marks and bounds
 
@@ -192,8 +194,10 @@ marks :
     × (marks_passed noted 16 0 [] 5 ≡ Some (mark.Enter 0 ∷ mark.Call 3 ∷ []))
     × (enters_procedure (entries_of noted.bodies) (kind_of (mark.Enter 1)) ≡ true)
     × (enters_procedure (entries_of noted.bodies) (kind_of (mark.Enter 0)) ≡ false)
-    × (list_all plain_code noted.bodies ≡ true)
-marks = (refl, refl, refl, refl, refl, refl)
+    × (is_object_free_program noted ≡ true)
+    × (kinds_of 0 noted.bodies ≡ item_mark.Enter 0 ∷ item_mark.Call 3 ∷ item_mark.Enter 1 ∷ item_mark.Return ∷ [])
+    × (kinds_in (program_code noted 16 1) ≡ kinds_of 0 noted.bodies)
+marks = (refl, refl, refl, refl, refl, refl, refl, refl)
 
 -- a procedure is jumped over, and its mark stands behind the check of its operands' count
 abbrev returning : Code
@@ -203,6 +207,10 @@ entered : form_code 3 0 1 2000 returning [] ≡
     item.Jump 2000 ∷ item.Label (body_label 1) ∷ item.Plain (CmpNumber (register.Reg 0) (pos 2)) ∷ item.JumpIf NE (stop_label WrongCount) ∷ item.Mark (item_mark.Enter 1) ∷ item.Plain (JumpTo (register.Reg 15)) ∷ item.Label 2000 ∷ []
 entered = refl
 
+-- with the body there are three units for one instruction
+abbrev seven : Code
+seven = record { entry = None; words = 3; labels = 0; instructions = Do (operation.Operand (number (pos 7))) ∷ [] }
+
 -- frames for the form, for each depth, and one more; the bound of steps grows with entries and answers
 bounds :
     (frames_bytes 3 10 ≡ 264)
@@ -210,4 +218,7 @@ bounds :
     × (program_zeros noted 16 10 ≡ 304)
     × (closures_in noted.bodies ≡ 2)
     × (steps_bound noted 2 1 ≡ 256 * 12 * 3 + 26)
-bounds = (refl, refl, refl, refl, refl)
+    × (instructions_in (form_code 3 0 1 2000 returning []) ≡ 4)
+    × (instructions_size seven.instructions ≡ 2)
+    × (instructions_in (form_code 3 0 0 2000 seven []) ≡ 1)
+bounds = (refl, refl, refl, refl, refl, refl, refl, refl)

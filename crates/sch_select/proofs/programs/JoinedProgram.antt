@@ -213,9 +213,9 @@ module _ (p : Source) (limit depth : ℕ) (words_few : p.words ≤ 2048)
             (done routines code marks words effective arrive arrive' r valid small).passes;
       };
       enters = record {
-        enters = λ plain routines code marks words effective arrive arrive' r valid small runs are.
+        enters = λ routines code marks words effective arrive arrive' r valid small runs are.
             let d = done routines code marks words effective arrive arrive' r valid small in
-            counts_entries p limit depth plain 0x400000
+            counts_entries p limit depth object_free 0x400000
             (text_at (flat_map spelling code) ∷ data_at (words ++ replicate (program_zeros p limit depth) 0) ∷ [])
             (marks_at marks) runs d.passes (d.follows runs are) are;
       };

@@ -1,29 +1,47 @@
-use Rattle.sch_control.specs.ObjectFree as control_object_free
-use Rattle.sch_control.specs.Straight as control_straight
+use Rattle.std.proofs.Common.{◌≤◌, ◌+◌, ◌*◌, ◌∙◌, ap, map, sym, subst}
+use Rattle.std.proofs.lemmas.List.{take_all}
+use Rattle.std.specs.List.{list_all}
+use Rattle.sch_control.specs.Sizes.{expressions_size}
+use Rattle.sch_control.specs.SourceView as control
+use Rattle.sch_control.specs.Work.{codes_work}
+use Rattle.sch_frames.specs.Does.{FramesOf}
+use Rattle.sch_frames.specs.Layout.{slots_code}
 use Rattle.sch_frames.specs.ObjectFree.{code_begins, is_object_free_code}
+use Rattle.sch_frames.specs.Sizes.{calls_parts, closures_in, codes_size, entries_size, largest_frame}
 use Rattle.sch_frames.specs.Straight.{is_straight_code}
-use Rattle.sch_frames.proofs.FrameBodies.{body_passes, frames_next, all_next, size_next, work_next, words_next}
+use Rattle.sch_frames.proofs.FrameBodies.{made_next, all_do, all_begin, all_object_free, all_straight, all_size, all_work, all_words}
 use Rattle.sch_frames.proofs.bodies.frame_bodies.Goals as goal
 
 pub loop-b-preserved : goal.loop-b-preserved
-loop-b-preserved c =
-    let bodies = c.args.bodies.now in
-    let i = c.loop-b.b-index in
-    let b = c.b-item.result in
-    let f = c.in_ok-frame_slots.field-0 in
-    let made = c.loop-b.made in
-    let next = c.push.new.self in
-    let more = c.in_ok-push.ensures.ok in
-    let here = c.loop-b-test.true in
-    let is = c.b-item.is in
-    record {
-      frames = frames_next bodies i b here is made next f more c.loop-b.invariant.frames c.in_ok-frame_slots.ensures.same;
-      begin = all_next bodies i b here is made next f more code_begins c.loop-b.invariant.begin c.in_ok-frame_slots.ensures.begins;
-      object_free = λ s. all_next bodies i b here is made next f more is_object_free_code (c.loop-b.invariant.object_free s)
-          (c.in_ok-frame_slots.ensures.object_free (body_passes bodies i b here is control_object_free.is_object_free_code s));
-      straight = λ s. all_next bodies i b here is made next f more is_straight_code (c.loop-b.invariant.straight s)
-          (c.in_ok-frame_slots.ensures.straight (body_passes bodies i b here is control_straight.is_straight_code s));
-      size = size_next bodies i b here is made next f more c.loop-b.invariant.size c.in_ok-frame_slots.ensures.work;
-      work = work_next bodies i b here is made next f more c.loop-b.invariant.work c.in_ok-frame_slots.ensures.all_work;
-      words = words_next bodies i b here is made next f more c.loop-b.invariant.words c.in_ok-frame_slots.ensures.words;
-    }
+loop-b-preserved c = record {
+  made = made_next c.args.bodies.now c.loop-b.b-index c.b-item.result c.loop-b-test.true c.b-item.is c.loop-b.made c.push.new.self c.in_ok-frame_slots.field-0
+      c.in_ok-push.ensures.ok c.loop-b.invariant.made c.in_ok-frame_slots.ensures.made;
+}
+
+pub returns-clause-made : goal.returns-clause-made
+returns-clause-made c = c.loop-b.invariant.made ∙ ap (λ bodies. map slots_code (control.codes_of bodies)) (take_all c.loop-b.b-index c.args.bodies.now c.loop-b-test.false)
+
+pub returns-clause-frames : goal.returns-clause-frames
+returns-clause-frames c = subst (FramesOf (control.codes_of c.args.bodies.now)) (sym (returns-clause-made c)) (all_do c.args.bodies.now)
+
+pub returns-clause-begin : goal.returns-clause-begin
+returns-clause-begin c = ap (list_all code_begins) (returns-clause-made c) ∙ all_begin (control.codes_of c.args.bodies.now)
+
+pub returns-clause-object_free : goal.returns-clause-object_free
+returns-clause-object_free c h = ap (list_all is_object_free_code) (returns-clause-made c) ∙ all_object_free c.args.bodies.now h
+
+pub returns-clause-straight : goal.returns-clause-straight
+returns-clause-straight c h = ap (list_all is_straight_code) (returns-clause-made c) ∙ all_straight (control.codes_of c.args.bodies.now) h
+
+pub returns-clause-size : goal.returns-clause-size
+returns-clause-size c =
+    let cs = control.codes_of c.args.bodies.now in
+    subst (λ fs. codes_size fs ≤ 2 * expressions_size cs + 4 * calls_parts cs + entries_size cs) (sym (returns-clause-made c)) (all_size cs)
+
+pub returns-clause-work : goal.returns-clause-work
+returns-clause-work c =
+    let cs = control.codes_of c.args.bodies.now in
+    subst (λ fs. codes_size fs + closures_in fs ≤ codes_work cs) (sym (returns-clause-made c)) (all_work cs)
+
+pub returns-clause-words : goal.returns-clause-words
+returns-clause-words c = ap largest_frame (returns-clause-made c) ∙ all_words (control.codes_of c.args.bodies.now)

@@ -1,7 +1,12 @@
-use Rattle.std.proofs.Common.{◌≡◌, ◌≤◌, ◌+◌, arith}
+use Rattle.std.proofs.Common.{◌≡◌, ◌≤◌, ◌+◌, ◌∙◌, ap, refl, subst, sym, arith}
 use Rattle.sch_control.specs.SourceView as control
 use Rattle.sch_control.specs.View.{expression}
+use Rattle.sch_control.specs.Work as work
+use Rattle.sch_frames.specs.Does.{FrameOf}
 use Rattle.sch_frames.specs.Layout.{slots_layout, slots_words}
+use Rattle.sch_frames.specs.ObjectFree.{code_begins, is_object_free_code}
+use Rattle.sch_frames.specs.Sizes.{code_work}
+use Rattle.sch_frames.specs.Straight.{is_straight_code}
 use Rattle.sch_frames.proofs.layouts.ObjectFreeSlots.{slots_begin}
 use Rattle.sch_frames.proofs.layouts.LayoutSize.{slots_size, slots_work, labels_size}
 use Rattle.sch_frames.proofs.layouts.LayoutWork.{slots_done}
@@ -23,26 +28,26 @@ invariant_of-result c =
       shaped = rw i (slots_shaped (control.code_of b) b.shaped);
     }
 
+pub returns-clause-made : goal.returns-clause-made
+returns-clause-made c =
+    let i : c.in_ok-out.out.instructions ≡ slots_layout (control.code_of c.args.b.now) = layout_written (control.code_of c.args.b.now) _ _ _ c.room_for-room.ensures.base c.room_for-room.ensures.entered c.in_ok-out.ensures.instructions in
+    rw (i, c.in_ok-out.ensures.labels, c.room_for-room.ensures.words) refl
+
 pub returns-clause-same : goal.returns-clause-same
 returns-clause-same c =
     let b = c.args.b.now in
-    let i : c.in_ok-out.out.instructions ≡ slots_layout (control.code_of c.args.b.now) = layout_written (control.code_of c.args.b.now) _ _ _ c.room_for-room.ensures.base c.room_for-room.ensures.entered c.in_ok-out.ensures.instructions in
-    rw (i, c.in_ok-out.ensures.labels, c.room_for-room.ensures.words) (slots_does (control.code_of b) b.scoped b.numbered b.ended)
+    subst (FrameOf (control.code_of b)) (sym (returns-clause-made c)) (slots_does (control.code_of b) b.scoped b.numbered b.ended)
 
 pub returns-clause-begins : goal.returns-clause-begins
-returns-clause-begins c =
-    let i : c.in_ok-out.out.instructions ≡ slots_layout (control.code_of c.args.b.now) = layout_written (control.code_of c.args.b.now) _ _ _ c.room_for-room.ensures.base c.room_for-room.ensures.entered c.in_ok-out.ensures.instructions in
-    rw i (slots_begin (control.code_of c.args.b.now))
+returns-clause-begins c = ap code_begins (returns-clause-made c) ∙ slots_begin (control.code_of c.args.b.now)
 
 pub returns-clause-object_free : goal.returns-clause-object_free
 returns-clause-object_free c h =
-    let i : c.in_ok-out.out.instructions ≡ slots_layout (control.code_of c.args.b.now) = layout_written (control.code_of c.args.b.now) _ _ _ c.room_for-room.ensures.base c.room_for-room.ensures.entered c.in_ok-out.ensures.instructions in
-    rw i (slots_object_free (control.code_of c.args.b.now) c.args.b.now.ended c.args.b.now.shaped c.args.b.now.fields h)
+    let b = c.args.b.now in
+    ap is_object_free_code (returns-clause-made c) ∙ slots_object_free (control.code_of b) b.ended b.shaped b.fields h
 
 pub returns-clause-straight : goal.returns-clause-straight
-returns-clause-straight c s =
-    let i : c.in_ok-out.out.instructions ≡ slots_layout (control.code_of c.args.b.now) = layout_written (control.code_of c.args.b.now) _ _ _ c.room_for-room.ensures.base c.room_for-room.ensures.entered c.in_ok-out.ensures.instructions in
-    rw i (slots_straight (control.code_of c.args.b.now) s)
+returns-clause-straight c h = ap is_straight_code (returns-clause-made c) ∙ slots_straight (control.code_of c.args.b.now) h
 
 pub returns-clause-frame_words : goal.returns-clause-frame_words
 returns-clause-frame_words c =
@@ -61,9 +66,7 @@ returns-clause-work c =
     rw i (slots_work (control.code_of c.args.b.now))
 
 pub returns-clause-all_work : goal.returns-clause-all_work
-returns-clause-all_work c =
-    let i : c.in_ok-out.out.instructions ≡ slots_layout (control.code_of c.args.b.now) = layout_written (control.code_of c.args.b.now) _ _ _ c.room_for-room.ensures.base c.room_for-room.ensures.entered c.in_ok-out.ensures.instructions in
-    rw i (slots_done (control.code_of c.args.b.now))
+returns-clause-all_work c = subst (λ f. code_work f ≤ work.code_work (control.code_of c.args.b.now)) (sym (returns-clause-made c)) (slots_done (control.code_of c.args.b.now))
 
 pub returns-clause-labels : goal.returns-clause-labels
 returns-clause-labels c = rw c.in_ok-out.ensures.labels (labels_size (expression c.args.b.now.exp))

@@ -7,7 +7,7 @@ use Rattle.sch_asm.specs.Codes.{text_size}
 use Rattle.sch_frames.specs.ProgramView.{source}
 use Rattle.sch_frames.specs.Sizes.{closures_in, program_size}
 use Rattle.sch_select.specs.Program.{max_data, max_stack, program_code, program_words, program_zeros, own_label, stack_bytes}
-use Rattle.sch_select.specs.Sizes.{bodies_marked, marks_in}
+use Rattle.sch_select.specs.Sizes.{instructions_in, kinds_in, kinds_of}
 use Rattle.sch_select.proofs.programs.ObjectFreePrograms.{codes_free, globals_known, labels_known, object_free_selected}
 use Rattle.sch_select.proofs.programs.ObjectFreePrograms.{library_small, procedures_known}
 use Rattle.sch_select.proofs.programs.JoinedProgram.{IsSelected, program_selected}
@@ -17,7 +17,8 @@ use Rattle.sch_select.proofs.items.ProgramKnown.{program_known}
 use Rattle.sch_select.proofs.items.ProgramLabels.{program_once}
 use Rattle.sch_select.proofs.items.ProgramMarks.{program_marked}
 use Rattle.sch_select.proofs.items.ProgramSound.{program_sound}
-use Rattle.sch_select.proofs.items.MarkCounts.{program_marks}
+use Rattle.sch_select.proofs.items.InstructionCounts.{program_instructions}
+use Rattle.sch_select.proofs.items.MarkKinds.{program_kinds}
 use Rattle.sch_select.proofs.items.JumpsAhead.{program_ahead}
 use Rattle.sch_select.specs.Jumps.{jumps_ahead}
 use Rattle.sch_select.proofs.items.TextSize.{text_small}
@@ -126,10 +127,17 @@ returns-clause-ahead c =
     subst (λ is. IsTrue (jumps_ahead (own_label q) is)) (items_made c.before) (program_ahead q c.args.limits.heap
     c.args.limits.depth (all_forward p.bodies) (labels_known p))
 
+pub returns-clause-instructions : goal.returns-clause-instructions
+returns-clause-instructions c =
+    let p = c.args.p.now in
+    let q = source p in
+    subst (λ is. program_size q + (closures_in q.bodies + length q.bodies) ≤ 3 * instructions_in is) (items_made c.before)
+    (program_instructions q c.args.limits.heap c.args.limits.depth (object_free_selected p c.requires.object_free))
+
 pub returns-clause-marks : goal.returns-clause-marks
 returns-clause-marks c =
     let q = source c.args.p.now in
-    subst (λ is. marks_in is ≡ bodies_marked q.bodies) (items_made c.before) (program_marks q c.args.limits.heap
+    subst (λ is. kinds_in is ≡ kinds_of 0 q.bodies) (items_made c.before) (program_kinds q c.args.limits.heap
     c.args.limits.depth)
 
 pub returns-clause-words : goal.returns-clause-words

@@ -1,5 +1,5 @@
--- How many marks the items of a program have: those of its bodies.
-use Rattle.std.proofs.Common.{◌≡◌, ℕ, suc, ◌+◌, List, [], ◌∷◌, Option, Some, None, refl, ◌∙◌, arith}
+-- Which marks the items of a program have: those of its bodies, in their order.
+use Rattle.std.proofs.Common.{◌≡◌, ℕ, suc, ◌+◌, List, [], ◌∷◌, ◌++◌, Option, Some, None, refl, sym, ap, ◌∙◌, append-nil, append_assoc}
 use Rattle.sch_word.specs.declared.place.Place.{Place}
 use Rattle.sch_word.specs.declared.primitive.Primitive.{Primitive}
 use Rattle.sch_word.specs.declared.primitive.Primitive.TheVariants.{IsBoolean, Eq}
@@ -22,13 +22,13 @@ use Rattle.sch_asm.specs.declared.item.Item.TheVariants as item
 use Rattle.sch_asm.specs.declared.item.MarkKind.TheVariants.{Enter}
 use Rattle.sch_select.specs.Select.{atom_code, unary_code, binary_code, read_code, operand_code, second_code}
 use Rattle.sch_select.specs.Select.{source_code, fields_code, closure_bytes, places_code, records_code}
-use Rattle.sch_select.specs.Select.{operation_code, instruction_code, body_code}
+use Rattle.sch_select.specs.Select.{operation_code, instruction_code, body_code, kind_of}
 use Rattle.sch_select.specs.Program.{passed_code, entry_code, forms_code, labels_end, heap_of, own_label, program_code}
-use Rattle.sch_select.specs.Sizes.{marks_in, marked, bodies_marked}
+use Rattle.sch_select.specs.Sizes.{kinds_among, kinds_in, kinds_of}
 
 -- what comes in front of other items has no marks
 abbrev Unmarked : (List Item → List Item) → Type 0
-Unmarked f = (rest : List Item) → marks_in (f rest) ≡ marks_in rest
+Unmarked f = (rest : List Item) → kinds_in (f rest) ≡ kinds_in rest
 
 unary_unmarked : (n : ℕ) (which : Primitive) → Unmarked (unary_code n which)
 unary_unmarked n IsBoolean rest = refl
@@ -93,21 +93,21 @@ operation_unmarked heap_end n (operation.CellGet x) rest = source_unmarked 0 x _
 operation_unmarked heap_end n (operation.CellSet x o) rest = operand_unmarked n o _ ∙ source_unmarked 1 x _
 operation_unmarked heap_end n (operation.MakeClosure c) rest = fields_unmarked 8 c.fields _
 
-body_marked : (base out words heap_end n : ℕ) (is : List Instruction) (rest : List Item)
-    → marks_in (body_code base out words heap_end n is rest) ≡ marked is + marks_in rest
-body_marked base out words heap_end n [] rest = omega arith
-body_marked base out words heap_end n (i ∷ is) rest = by i (body_marked base out words heap_end (n + 12) is rest)
+body_kinds : (base out words heap_end n : ℕ) (is : List Instruction) (rest : List Item)
+    → kinds_in (body_code base out words heap_end n is rest) ≡ kinds_among is ++ kinds_in rest
+body_kinds base out words heap_end n [] rest = refl
+body_kinds base out words heap_end n (i ∷ is) rest = by i (body_kinds base out words heap_end (n + 12) is rest)
   where
     next : List Item
     next = body_code base out words heap_end (n + 12) is rest
 
-    by : (i : Instruction) → marks_in next ≡ marked is + marks_in rest
-        → marks_in (instruction_code base out words heap_end n i next) ≡ marked (i ∷ is) + marks_in rest
+    by : (i : Instruction) → kinds_in next ≡ kinds_among is ++ kinds_in rest
+        → kinds_in (instruction_code base out words heap_end n i next) ≡ kinds_among (i ∷ is) ++ kinds_in rest
     by (instruction.Do o) h = operation_unmarked heap_end n o next ∙ h
     by (instruction.Load p o) h = second_unmarked n o _ ∙ h
     by (instruction.Pass k o) h = second_unmarked n o _ ∙ h
     by (instruction.Fix members) h = places_unmarked 0 members _ ∙ records_unmarked 0 members _ ∙ h
-    by (instruction.Mark m) h = omega (arith, h)
+    by (instruction.Mark m) h = ap (λ kinds. kind_of m ∷ kinds) h
     by (instruction.Store p) h = h
     by _ h = h
 
@@ -119,19 +119,20 @@ entry_unmarked : (o : Option Entry) → Unmarked (entry_code o)
 entry_unmarked None rest = refl
 entry_unmarked (Some e) rest = refl
 
-forms_marked : (words heap_end label n : ℕ) (cs : List Code) (rest : List Item)
-    → marks_in (forms_code words heap_end label n cs rest) ≡ bodies_marked cs + marks_in rest
-forms_marked words heap_end label n [] rest = omega arith
-forms_marked words heap_end label n (c ∷ cs) rest =
+forms_kinds : (words heap_end label n : ℕ) (cs : List Code) (rest : List Item)
+    → kinds_in (forms_code words heap_end label n cs rest) ≡ kinds_of label cs ++ kinds_in rest
+forms_kinds words heap_end label n [] rest = refl
+forms_kinds words heap_end label n (c ∷ cs) rest =
     let others = forms_code words heap_end (suc label) (labels_end n c) cs rest in
     let p = passed_unmarked c.entry (n + c.labels) _ in
-    let h = body_marked n (n + c.labels) words heap_end (n + c.labels + 1) c.instructions
+    let h = body_kinds n (n + c.labels) words heap_end (n + c.labels + 1) c.instructions
     (item.Label (n + c.labels) ∷ others) in
-    let k = forms_marked words heap_end (suc label) (labels_end n c) cs rest in
+    let k = forms_kinds words heap_end (suc label) (labels_end n c) cs rest in
     let e = entry_unmarked c.entry (item.Mark (Enter label) ∷ body_code n (n + c.labels) words heap_end
     (n + c.labels + 1) c.instructions (item.Label (n + c.labels) ∷ others)) in
-    p ∙ e ∙ omega (arith, h, k)
+    let a = append_assoc (kinds_among c.instructions) (kinds_of (suc label) cs) (kinds_in rest) in
+    p ∙ e ∙ ap (λ kinds. Enter label ∷ kinds) (h ∙ ap (λ kinds. kinds_among c.instructions ++ kinds) k ∙ sym a)
 
-pub program_marks : (p : tree.Source) (heap depth : ℕ) → marks_in (program_code p heap depth) ≡ bodies_marked p.bodies
-program_marks p heap depth = let h = forms_marked p.words (heap_of p + heap) 0 (own_label p) p.bodies _ in h
-    ∙ omega arith
+pub program_kinds : (p : tree.Source) (heap depth : ℕ) → kinds_in (program_code p heap depth) ≡ kinds_of 0 p.bodies
+program_kinds p heap depth = forms_kinds p.words (heap_of p + heap) 0 (own_label p) p.bodies _ ∙ append-nil
+    (kinds_of 0 p.bodies)
