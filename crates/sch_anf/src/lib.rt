@@ -1,18 +1,16 @@
 //! From flat closures to control: operands become simple, and a body says where its procedure returns.
 #![tactic(auto)]
 
-ghost use Rattle.std.specs.Prelude.{◌≡◌, ◌≤◌, ◌+◌, ◌*◌, ◌^◌, length, IsTrue, IfOk, OnOk};
+ghost use Rattle.std.specs.Prelude.{◌≡◌, ◌≤◌, ◌+◌, ◌^◌, length, IsTrue, IfOk, OnOk};
 ghost use Rattle.sch_word.specs.values.StaticsView.{statics};
 ghost use Rattle.sch_control.specs.Fits.{table_fits};
 ghost use Rattle.sch_control.specs.ProgramView as control;
-ghost use Rattle.sch_control.specs.Sizes.{expressions_size};
 ghost use Rattle.sch_control.specs.Work.{codes_work};
 ghost use Rattle.sch_flat.specs.Measures as measures;
 ghost use Rattle.sch_flat.specs.ProgramView.{source};
-ghost use Rattle.sch_flat.specs.Straight.{is_straight_program};
 ghost use Rattle.sch_normal.specs.Counted.{BindNoMore};
 ghost use Rattle.sch_normal.specs.Dropped.{dropped_of};
-ghost use Rattle.sch_normal.specs.Kept.{SameCalls, StaysObjectFree, StaysStraight};
+ghost use Rattle.sch_normal.specs.Kept.{SameCalls, StaysObjectFree};
 ghost use Rattle.sch_normal.specs.Normal.{normal_source};
 ghost use Rattle.sch_normal.specs.SameRun.{SameRun};
 ghost use Rattle.sch_orders.specs.Table.{given_table};
@@ -54,8 +52,7 @@ pub fn normalize(alloc: Global, p: &FlatProgram) -> Result<ControlProgram, Mem>
     ensures tests { IfOk result (λ q. tests_of (control.source q).bodies ≡ measures.tests_of (source p.now)) }
     // The nodes with a site are the calls and primitives of `p`.
     ensures calls { IfOk result (λ q. SameCalls (source p.now) (control.source q)) }
-    // Of straight code it makes straight code, and of object-free code object-free code.
-    ensures straight { IfOk result (λ q. StaysStraight (source p.now) (control.source q)) }
+    // Of object-free code it makes object-free code.
     ensures object_free { IfOk result (λ q. StaysObjectFree (source p.now) (control.source q)) }
     // It drops as many atoms.
     ensures dropped { IfOk result (λ q. dropped_of (control.source q).bodies ≡ measures.dropped_of (source p.now)) }
@@ -63,9 +60,6 @@ pub fn normalize(alloc: Global, p: &FlatProgram) -> Result<ControlProgram, Mem>
     ensures variables { IfOk result (λ q. BindNoMore (source p.now) (control.source q)) }
     // There is no more work in what it makes than `p` weighs.
     ensures work { IfOk result (λ q. codes_work (control.source q).bodies ≤ weight (source p.now)) }
-    // Of straight code it makes at most four times as much.
-    ensures size { IfOk result (λ q. IsTrue (is_straight_program (source p.now)) →
-        expressions_size (control.source q).bodies ≤ 4 * measures.program_size (source p.now)) }
 {
     normal_program(alloc, p)
 }

@@ -6,7 +6,6 @@ pub mod NumbersKept
 pub mod ScopesKept
 pub mod ShapesKept
 pub mod SizeKept
-pub mod StraightKept
 pub mod ValidKept
 pub mod WeightKept
 pub mod ObjectFreeKept

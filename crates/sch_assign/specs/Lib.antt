@@ -1,6 +1,5 @@
 pub mod Celled
 pub mod Converted
 pub mod InRange
-pub mod SameTrees
 pub mod Table
 pub mod Weight

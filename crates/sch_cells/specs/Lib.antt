@@ -6,7 +6,6 @@ pub mod Measures
 pub mod Procedures
 pub mod ProgramView
 pub mod SourceView
-pub mod Straight
 pub mod Tree
 pub mod UnboxedMeaning
 pub mod Valid

@@ -3,7 +3,6 @@ pub mod FormedKept
 pub mod LevelsKept
 pub mod ProgramKept
 pub mod ScopedKept
-pub mod StraightKept
 pub mod ValidKept
 pub mod VariablesKept
 pub mod ObjectFreeKept

@@ -3,7 +3,6 @@ pub mod View
 pub mod Measures
 pub mod Valid
 pub mod SourceView
-pub mod Straight
 pub mod ProgramView
 pub mod Meaning
 pub mod Run

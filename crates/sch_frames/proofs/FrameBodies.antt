@@ -9,7 +9,6 @@ use Rattle.sch_control.specs.declared.body.Body.{Body}
 use Rattle.sch_control.specs.ObjectFree as control_object_free
 use Rattle.sch_control.specs.Sizes.{expression_size, expressions_size, most_variables}
 use Rattle.sch_control.specs.SourceView as control
-use Rattle.sch_control.specs.Straight as control_straight
 use Rattle.sch_control.specs.Tree as tree
 use Rattle.sch_control.specs.Work as work
 use Rattle.sch_control.specs.Work.{codes_work}
@@ -19,13 +18,11 @@ use Rattle.sch_frames.specs.Layout.{slots_code, slots_layout, slots_words}
 use Rattle.sch_frames.specs.ObjectFree.{code_begins, is_object_free_code}
 use Rattle.sch_frames.specs.Sizes.{call_parts, calls_parts, closures_in, code_work, codes_size, entries_size, entry_size, instructions_size, largest_frame, most_words}
 use Rattle.sch_frames.specs.SourceView.{code_of, codes_of}
-use Rattle.sch_frames.specs.Straight.{is_straight_code}
 use Rattle.sch_frames.proofs.layouts.LayoutSize.{slots_work}
 use Rattle.sch_frames.proofs.layouts.LayoutWork.{slots_done}
 use Rattle.sch_frames.proofs.layouts.ObjectFreeSlots.{slots_begin}
 use Rattle.sch_frames.proofs.layouts.SettledSlots.{slots_object_free}
 use Rattle.sch_frames.proofs.layouts.SlotsFrame.{slots_does, slots_room}
-use Rattle.sch_frames.proofs.layouts.StraightSlots.{slots_straight}
 
 -- ## One body more, with its frame body
 
@@ -67,10 +64,6 @@ all_object_free [] h = refl
 all_object_free (b ∷ bodies) h =
     let parts = and_parts _ _ h in
     and_from _ _ (slots_object_free (control.code_of b) b.ended b.shaped b.fields parts.0) (all_object_free bodies parts.1)
-
-pub all_straight : (cs : List tree.Code) → list_all control_straight.is_straight_code cs ≡ true → list_all is_straight_code (map slots_code cs) ≡ true
-all_straight [] h = refl
-all_straight (c ∷ cs) h = let parts = and_parts _ _ h in and_from _ _ (slots_straight c parts.0) (all_straight cs parts.1)
 
 pub all_size : (cs : List tree.Code) → codes_size (map slots_code cs) ≤ 2 * expressions_size cs + 4 * calls_parts cs + entries_size cs
 all_size [] = omega arith

@@ -3,7 +3,7 @@ pub mod Labels
 pub mod Laid
 pub mod LayoutSize
 pub mod SlotsFrame
-pub mod StraightSlots
+pub mod OperandsKept
 pub mod Used
 pub mod SettledSlots
 pub mod LayoutWork

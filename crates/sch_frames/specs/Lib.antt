@@ -6,6 +6,5 @@ pub mod ProgramView
 pub mod Run
 pub mod Sizes
 pub mod SourceView
-pub mod Straight
 pub mod Tree
 pub mod Valid

@@ -8,7 +8,6 @@ ghost use Rattle.sch_control.specs.ObjectFree as control_object_free;
 ghost use Rattle.sch_control.specs.ProgramView as control;
 ghost use Rattle.sch_control.specs.Sizes.{expressions_size, most_variables};
 ghost use Rattle.sch_control.specs.SourceView as control_bodies;
-ghost use Rattle.sch_control.specs.Straight as control_straight;
 ghost use Rattle.sch_control.specs.Work.{codes_work};
 ghost use Rattle.sch_frames.specs.ObjectFree.{code_begins, each_begins, is_object_free_code, is_object_free_program};
 ghost use Rattle.sch_frames.specs.Does.{FramesOf, SameRuns};
@@ -16,7 +15,6 @@ ghost use Rattle.sch_frames.specs.Layout.{slots_code};
 ghost use Rattle.sch_frames.specs.ProgramView.{source};
 ghost use Rattle.sch_frames.specs.Sizes.{calls_parts, closures_in, codes_size, entries_size, largest_frame, most_words, program_size, program_work};
 ghost use Rattle.sch_frames.specs.SourceView.{codes_of};
-ghost use Rattle.sch_frames.specs.Straight.{is_straight_code, is_straight_program};
 
 use crate::body::FrameBody;
 use crate::program::FrameProgram;
@@ -32,8 +30,6 @@ fn frame_bodies(alloc: Global, bodies: &[Body]) -> Result<List<FrameBody>, Mem>
     ensures begin { IfOk result (λ made. IsTrue (list_all code_begins (codes_of made))) }
     ensures object_free { IfOk result (λ made. IsTrue (list_all control_object_free.is_object_free_code (control_bodies.codes_of bodies.now))
         → IsTrue (list_all is_object_free_code (codes_of made))) }
-    ensures straight { IfOk result (λ made. IsTrue (list_all control_straight.is_straight_code (control_bodies.codes_of bodies.now))
-        → IsTrue (list_all is_straight_code (codes_of made))) }
     ensures size { IfOk result (λ made. codes_size (codes_of made)
         ≤ 2 * expressions_size (control_bodies.codes_of bodies.now) + 4 * calls_parts (control_bodies.codes_of bodies.now)
         + entries_size (control_bodies.codes_of bodies.now)) }
@@ -61,8 +57,6 @@ pub fn frame_program(alloc: Global, p: &ControlProgram) -> Result<FrameProgram, 
     ensures begin { IfOk result (λ q. IsTrue (each_begins (source q))) }
     ensures object_free { IfOk result (λ q.
         IsTrue (control_object_free.is_object_free_program (control.source p.now)) → IsTrue (is_object_free_program (source q))) }
-    ensures straight { IfOk result (λ q.
-        IsTrue (control_straight.is_straight_program (control.source p.now)) → IsTrue (is_straight_program (source q))) }
     ensures size { IfOk result (λ q. program_size (source q)
         ≤ 2 * expressions_size (control_bodies.codes_of p.now.bodies) + 4 * calls_parts (control_bodies.codes_of p.now.bodies)
         + entries_size (control_bodies.codes_of p.now.bodies)) }

@@ -4,7 +4,6 @@ ghost use Rattle.std.specs.Prelude.{◌≡◌, ◌≤◌, ◌+◌, ◌*◌, ◌-
 ghost use Rattle.sch_word.specs.trees.Shape.{max_operands};
 ghost use Rattle.sch_control.specs.ObjectFree as control_object_free;
 ghost use Rattle.sch_control.specs.SourceView as control;
-ghost use Rattle.sch_control.specs.Straight as control_straight;
 ghost use Rattle.sch_control.specs.View.{expression};
 ghost use Rattle.sch_frames.specs.ObjectFree.{code_begins, is_object_free_code};
 ghost use Rattle.sch_frames.specs.Does.{FrameOf};
@@ -13,7 +12,6 @@ ghost use Rattle.sch_control.specs.Sizes.{expression_size};
 ghost use Rattle.sch_control.specs.Work as control_work;
 ghost use Rattle.sch_frames.specs.Sizes.{call_parts, code_work, entry_size, instructions_size, nodes};
 ghost use Rattle.sch_frames.specs.SourceView.{code_of};
-ghost use Rattle.sch_frames.specs.Straight.{is_straight_code};
 ghost use Rattle.sch_frames.specs.Valid.{formals_of};
 
 use crate::body::FrameBody;
@@ -127,8 +125,6 @@ pub fn frame_slots(alloc: Global, b: &Body) -> Result<FrameBody, Mem>
     ensures begins { IfOk result (λ f. IsTrue (code_begins (code_of f))) }
     ensures object_free { IfOk result (λ f.
         IsTrue (control_object_free.is_object_free_code (control.code_of b.now)) → IsTrue (is_object_free_code (code_of f))) }
-    ensures straight { IfOk result (λ f.
-        IsTrue (control_straight.is_straight_code (control.code_of b.now)) → IsTrue (is_straight_code (code_of f))) }
     ensures words { IfOk result (λ f. f.words ≡ slots_words (control.code_of b.now)) }
     // Beside its variables a frame has at most as many words as a call may have operands.
     ensures frame_words { IfOk result (λ f. f.words ≤ max_operands + b.now.variables) }

@@ -1,9 +1,9 @@
 mod BodyExamples
 mod Examples
+mod ObjectFreeExamples
 mod OrderExamples
 pub mod Rows
 mod SizeExamples
-mod StraightExamples
 mod TailExamples
 mod ValidExamples
 mod VariableExamples

@@ -7,7 +7,6 @@ pub mod Measures
 pub mod ProgramView
 pub mod Run
 pub mod SourceView
-pub mod Straight
 pub mod Tree
 pub mod Valid
 pub mod Variables

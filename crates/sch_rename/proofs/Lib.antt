@@ -5,8 +5,8 @@ pub mod FreeKept
 pub mod LevelsKept
 pub mod Loops
 pub mod Numbers
+pub mod ObjectFreeKept
 pub mod Same
 pub mod Scopes
 pub mod ShapesKept
-pub mod StraightKept
 pub mod ValidKept

@@ -1,5 +1,5 @@
 mod Examples
 pub mod LiteralRows
 mod PrimitiveExamples
-mod StraightRows
+mod ObjectFreeRows
 mod TypeRows

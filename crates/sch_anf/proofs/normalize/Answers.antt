@@ -1,11 +1,9 @@
-use Rattle.std.proofs.Common.{◌∙◌, ◌≤◌, ◌*◌, IsTrue, sym, subst, ap}
+use Rattle.std.proofs.Common.{◌∙◌, ◌≤◌, IsTrue, sym, subst, ap}
 use Rattle.sch_word.proofs.WhenOk.{if_ok}
 use Rattle.sch_flat.specs.ProgramView.{source}
 use Rattle.sch_control.specs.Fits.{table_fits}
-use Rattle.sch_control.specs.Sizes.{expressions_size}
 use Rattle.sch_control.specs.Work.{codes_work}
-use Rattle.sch_flat.specs.Measures.{program_size}
-use Rattle.sch_normal.specs.Kept.{SameCalls, StaysObjectFree, StaysStraight}
+use Rattle.sch_normal.specs.Kept.{SameCalls, StaysObjectFree}
 use Rattle.sch_normal.specs.Normal.{normal_source}
 use Rattle.sch_normal.specs.SameRun.{SameRun}
 use Rattle.sch_orders.specs.Table.{given_table}
@@ -13,13 +11,11 @@ use Rattle.sch_normal.specs.Tests.{tests_of}
 use Rattle.sch_normal.proofs.kept.CallsKept.{program_calls}
 use Rattle.sch_normal.proofs.runs.Program.{normal_runs}
 use Rattle.sch_normal.proofs.kept.ObjectFreeKept.{program_object_free}
-use Rattle.sch_normal.proofs.kept.StraightKept.{program_straight}
 use Rattle.sch_normal.specs.Counted.{BindNoMore}
 use Rattle.sch_normal.specs.Dropped.{dropped_of}
 use Rattle.sch_normal.specs.Weight.{weight}
 use Rattle.sch_normal.proofs.kept.BindNoMore.{program_binds}
 use Rattle.sch_normal.proofs.kept.DroppedKept.{program_dropped}
-use Rattle.sch_normal.proofs.kept.Size.{straight_size}
 use Rattle.sch_normal.proofs.kept.WorkKept.{program_weight}
 use Rattle.sch_orders.proofs.Table.{given_table_fits}
 use Rattle.sch_normal.proofs.kept.TestsKept.{program_tests}
@@ -51,18 +47,9 @@ returns-clause-calls c =
     if_ok c.normal_program.result _ _ c.normal_program.ensures
     (λ q made. subst (λ s. SameCalls (source c.args.p.now) s) (sym made) (program_calls (source c.args.p.now)))
 
-pub returns-clause-straight : goal.returns-clause-straight
-returns-clause-straight c =
-    if_ok c.normal_program.result _ _ c.normal_program.ensures (λ q made. subst (λ s. StaysStraight (source c.args.p.now) s) (sym made) (program_straight (source c.args.p.now)))
-
 pub returns-clause-object_free : goal.returns-clause-object_free
 returns-clause-object_free c =
     if_ok c.normal_program.result _ _ c.normal_program.ensures (λ q made. subst (λ s. StaysObjectFree (source c.args.p.now) s) (sym made) (program_object_free (source c.args.p.now)))
-
-pub returns-clause-size : goal.returns-clause-size
-returns-clause-size c =
-    if_ok c.normal_program.result _ _ c.normal_program.ensures
-    (λ q made h. subst (λ s. expressions_size s.bodies ≤ 4 * program_size (source c.args.p.now)) (sym made) (straight_size (source c.args.p.now) h))
 
 pub returns-clause-dropped : goal.returns-clause-dropped
 returns-clause-dropped c = if_ok c.normal_program.result _ _ c.normal_program.ensures (λ q made. ap (λ s. dropped_of s.bodies) made ∙ program_dropped (source c.args.p.now))

@@ -18,8 +18,6 @@ use Rattle.sch_assign.proofs.kept.MeasuresKept.{calls_kept, tests_kept, dropped_
 use Rattle.sch_assign.proofs.kept.SizeKept.{program_size_kept}
 use Rattle.sch_assign.proofs.kept.WeightKept.{program_weight}
 use Rattle.sch_assign.specs.Weight.{weight}
-use Rattle.sch_assign.specs.SameTrees.{SameTrees}
-use Rattle.sch_assign.proofs.kept.StraightKept.{trees_kept}
 use Rattle.sch_assign.proofs.kept.ValidKept.{sites_kept}
 use Rattle.sch_assign.proofs.convert_assign.Goals as goal
 
@@ -86,13 +84,6 @@ returns-clause-size c =
     let same = λ (y : ℕ). ap (λ bs. table bs y) c.as_slice.ensures.value ∙ c.in_ok-celled.ensures y in
     let r = program_right has_cell (source v) same v.scoped v.formed in
     if_ok c.convert_program.result _ _ c.convert_program.ensures (λ q made. subst (λ s. program_size s ≤ 4 * program_size (source v)) (sym made) (program_size_kept has_cell v.variables (source v) r))
-
-pub returns-clause-straight : goal.returns-clause-straight
-returns-clause-straight c =
-    let v = c.args.p.now in
-    let has_cell = table c.as_slice.result.now in
-    let same = λ (y : ℕ). ap (λ bs. table bs y) c.as_slice.ensures.value ∙ c.in_ok-celled.ensures y in
-    if_ok c.convert_program.result _ _ c.convert_program.ensures (λ q made s. subst (SameTrees (source v)) (sym made) (trees_kept has_cell v.variables (source v) same s))
 
 pub returns-clause-weight : goal.returns-clause-weight
 returns-clause-weight c =

@@ -8,12 +8,10 @@ use Rattle.sch_cells.specs.Measures as from
 use Rattle.sch_flat.specs.ObjectFree.{is_object_free_program}
 use Rattle.sch_flat.specs.Measures.{sites_of, call_sites_of, tests_of, dropped_of, program_size}
 use Rattle.sch_flat.specs.Run as meaning
-use Rattle.sch_flat.specs.Straight.{is_straight_program}
 use Rattle.sch_closure.specs.Kept.{SameItems, flat_forms, procedure_of, weight_after}
 use Rattle.sch_closure.proofs.kept.ObjectFreeKept.{object_free_kept}
 use Rattle.sch_closure.proofs.kept.ValidKept.{Given, same_runs, clears, fresh_library, fresh_forms}
 use Rattle.sch_closure.proofs.kept.ProgramKept.{weight_kept, sites_kept, calls_kept, tests_kept, dropped_kept, bodies_kept, forms_kept, size_kept}
-use Rattle.sch_closure.proofs.kept.StraightKept.{straight_kept}
 use Rattle.sch_closure.proofs.close.Goals as goal
 
 pub returns-clause-runs : goal.returns-clause-runs
@@ -71,11 +69,6 @@ returns-clause-size c =
     let v = c.args.p.now in
     let g : Given p = record { scoped = v.scoped; formed = v.formed; limited = v.limited } in
     if_ok c.close_program.result _ _ c.close_program.ensures (λ q made. ap program_size made ∙ size_kept p (fresh_library p g) (fresh_forms p g))
-
-pub returns-clause-straight : goal.returns-clause-straight
-returns-clause-straight c =
-    let p = source c.args.p.now in
-    if_ok c.close_program.result _ _ c.close_program.ensures (λ q made s. subst (λ t. IsTrue (is_straight_program t)) (sym made) (straight_kept p s))
 
 pub returns-clause-weight : goal.returns-clause-weight
 returns-clause-weight c =

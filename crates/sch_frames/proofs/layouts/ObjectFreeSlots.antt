@@ -25,7 +25,7 @@ use Rattle.sch_frames.specs.ObjectFree.{is_object_free_instruction, begins, code
 use Rattle.sch_frames.specs.Layout.{Slots, operand_at, source_at, sources_at, members_at, operation_at, prepared, labels, lay, entering, slots_base, slots_for, slots_layout, slots_code}
 use Rattle.sch_frames.proofs.runs.Entering.{entering_passes}
 use Rattle.sch_frames.proofs.layouts.Laid.{Steers, Leads, Passes, Loads, Unplaced, handed_passes, prepared_passes, restored_passes, lay_passes}
-use Rattle.sch_frames.proofs.layouts.StraightSlots.{atom_kept, operand_kept, operands_kept}
+use Rattle.sch_frames.proofs.layouts.OperandsKept.{atom_kept, operand_kept, operands_kept}
 
 object_free_steers : Steers is_object_free_instruction
 object_free_steers = record { if_false = λ l. refl; jump = λ l. refl; label = λ l. refl; return_mark = refl; return = refl }

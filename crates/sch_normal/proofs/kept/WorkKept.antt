@@ -22,13 +22,13 @@ use Rattle.sch_control.specs.Work.{codes_work, expression_work, operands_work}
 use Rattle.sch_normal.specs.Normal.{Scope, number_of, source_of, are_atoms, init_numbers, inits_bind, is_simple, simple_operand, atoms_of, binds, operand_binds, operands_bind, operand_at, operands_at, needs_variable, bound_unless, closure_of, members_of, numbers_for, cell_operation, cells_scope, finished, called, normal, normal_parts, with_operands, with_inits, with_new_cells, procedure_code, form_code, normal_bodies, normal_source}
 use Rattle.sch_normal.specs.Weight.{bodies_weight, weight}
 
-abbrev pub size : Tree → ℕ
+abbrev size : Tree → ℕ
 size = over 0 (λ a b. a + b) weight_of
 
-abbrev pub sizes : Trees → ℕ
+abbrev sizes : Trees → ℕ
 sizes = over_each 0 (λ a b. a + b) weight_of
 
-abbrev pub sizes_bodies : List from.Body → ℕ
+abbrev sizes_bodies : List from.Body → ℕ
 sizes_bodies = over_bodies 0 (λ a b. a + b) weight_of
 
 -- ## Simple parts

@@ -1,14 +1,13 @@
--- Straight code: what has no calls, no procedures, no local variables that are assigned, no objects, no
--- literals and no symbols. And object-free code, which may assign local variables, make cells and procedures, and
--- call them. It has no pairs, strings and vectors, no literals and symbols, and so no lists of operands: no procedure
--- takes one, and no call spreads one.
+-- Object-free code: it may define and assign variables, make cells and procedures, and call them. It has no pairs,
+-- strings and vectors, no literals and symbols, and so no lists of operands: no procedure takes one, and no call
+-- spreads one. Its constants and primitives are called straight.
 use Rattle.std.specs.Prelude.{Bool, true, false, not, List, [], ◌∷◌}
 use Rattle.std.specs.List.{list_all}
 use Rattle.sch_word.specs.declared.constant.Const.{Const}
 use Rattle.sch_word.specs.declared.constant.Const.TheVariants.{Symbol}
 use Rattle.sch_word.specs.declared.primitive.Primitive.{Primitive}
 use Rattle.sch_word.specs.declared.primitive.Primitive.TheVariants.{Eq, Eqv, IsBoolean, IsPair, IsNull, IsSymbol, IsInteger, IsChar, IsString, IsVector, IsProcedure, Add, Subtract, Multiply, Quotient, Remainder, Modulo, Equal, Less, Greater, LessEqual, GreaterEqual, CharToInteger, IntegerToChar, Put}
-use Rattle.sch_word.specs.trees.Shape.{Shape, Procedure, constant, literal, variable, global, set_global, define, branch, sequence, bind, fix, lambda, call, operation}
+use Rattle.sch_word.specs.trees.Shape.{Shape, Procedure, constant, literal, fix, lambda, call, operation}
 
 -- a constant that is no symbol
 abbrev pub is_straight_constant : Const → Bool
@@ -43,19 +42,6 @@ is_straight_primitive CharToInteger = true
 is_straight_primitive IntegerToChar = true
 is_straight_primitive Put = true
 is_straight_primitive _ = false
-
--- a node of straight code
-abbrev pub is_straight_node : Shape → Bool
-is_straight_node (constant c) = is_straight_constant c
-is_straight_node variable = true
-is_straight_node (global g) = true
-is_straight_node (set_global g) = true
-is_straight_node (define g) = true
-is_straight_node branch = true
-is_straight_node (sequence parts dropped) = true
-is_straight_node (bind site inits) = true
-is_straight_node (operation site which operands) = is_straight_primitive which
-is_straight_node _ = false
 
 -- a procedure without a rest variable
 abbrev pub takes_no_list : Procedure → Bool

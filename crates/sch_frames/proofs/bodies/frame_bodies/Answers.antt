@@ -8,8 +8,7 @@ use Rattle.sch_frames.specs.Does.{FramesOf}
 use Rattle.sch_frames.specs.Layout.{slots_code}
 use Rattle.sch_frames.specs.ObjectFree.{code_begins, is_object_free_code}
 use Rattle.sch_frames.specs.Sizes.{calls_parts, closures_in, codes_size, entries_size, largest_frame}
-use Rattle.sch_frames.specs.Straight.{is_straight_code}
-use Rattle.sch_frames.proofs.FrameBodies.{made_next, all_do, all_begin, all_object_free, all_straight, all_size, all_work, all_words}
+use Rattle.sch_frames.proofs.FrameBodies.{made_next, all_do, all_begin, all_object_free, all_size, all_work, all_words}
 use Rattle.sch_frames.proofs.bodies.frame_bodies.Goals as goal
 
 pub loop-b-preserved : goal.loop-b-preserved
@@ -29,9 +28,6 @@ returns-clause-begin c = ap (list_all code_begins) (returns-clause-made c) ∙ a
 
 pub returns-clause-object_free : goal.returns-clause-object_free
 returns-clause-object_free c h = ap (list_all is_object_free_code) (returns-clause-made c) ∙ all_object_free c.args.bodies.now h
-
-pub returns-clause-straight : goal.returns-clause-straight
-returns-clause-straight c h = ap (list_all is_straight_code) (returns-clause-made c) ∙ all_straight (control.codes_of c.args.bodies.now) h
 
 pub returns-clause-size : goal.returns-clause-size
 returns-clause-size c =

@@ -6,13 +6,11 @@ use Rattle.sch_frames.specs.Does.{FrameOf}
 use Rattle.sch_frames.specs.Layout.{slots_layout, slots_words}
 use Rattle.sch_frames.specs.ObjectFree.{code_begins, is_object_free_code}
 use Rattle.sch_frames.specs.Sizes.{code_work}
-use Rattle.sch_frames.specs.Straight.{is_straight_code}
 use Rattle.sch_frames.proofs.layouts.ObjectFreeSlots.{slots_begin}
 use Rattle.sch_frames.proofs.layouts.LayoutSize.{slots_size, slots_work, labels_size}
 use Rattle.sch_frames.proofs.layouts.LayoutWork.{slots_done}
 use Rattle.sch_frames.proofs.layouts.SettledSlots.{slots_object_free}
 use Rattle.sch_frames.proofs.layouts.SlotsFrame.{slots_placed, slots_does, slots_forward, slots_room, slots_shaped}
-use Rattle.sch_frames.proofs.layouts.StraightSlots.{slots_straight}
 use Rattle.sch_frames.proofs.Written.{layout_written}
 use Rattle.sch_frames.proofs.slots.frame_slots.Goals as goal
 
@@ -45,9 +43,6 @@ pub returns-clause-object_free : goal.returns-clause-object_free
 returns-clause-object_free c h =
     let b = c.args.b.now in
     ap is_object_free_code (returns-clause-made c) ∙ slots_object_free (control.code_of b) b.ended b.shaped b.fields h
-
-pub returns-clause-straight : goal.returns-clause-straight
-returns-clause-straight c h = ap is_straight_code (returns-clause-made c) ∙ slots_straight (control.code_of c.args.b.now) h
 
 pub returns-clause-frame_words : goal.returns-clause-frame_words
 returns-clause-frame_words c =

@@ -1,9 +1,8 @@
--- Worked rows of straight programs: where the first form stands that is not straight.
+-- Worked rows of object-free programs: where the first form stands that is not object-free.
 use Rattle.std.proofs.Common.{◌≡◌, refl, true, false, [], ◌∷◌, pos, Some, None}
 use Rattle.sch_word.specs.declared.constant.Const.TheVariants.{Fixnum}
-use Rattle.sch_word.specs.declared.primitive.Primitive.TheVariants.{Add, Put}
+use Rattle.sch_word.specs.declared.primitive.Primitive.TheVariants.{Add, Cons, Put}
 use Rattle.sch_lang.specs.Tree.{Expression, constant, local, global, set_local, define, bind, fix, lambda, literal, call, operation, no_expressions, expressions, no_lambdas, and_lambda}
-use Rattle.sch_lang.specs.Straight.{is_straight, first_other}
 use Rattle.sch_lang.specs.ObjectFree.{first_object, is_object_free, is_object_free_library}
 
 abbrev one : Expression
@@ -21,18 +20,22 @@ define_sum = define 0 (bind 1 (expressions (one ∷ [])) (operation 2 Add (expre
 abbrev assigns_local : Expression
 assigns_local = bind 3 (expressions (one ∷ [])) (set_local 0 one)
 
-all_straight_row : first_other (0 ∷ 12 ∷ []) (expressions (display_one ∷ define_sum ∷ [])) ≡ None
-all_straight_row = refl
+-- (cons 1 1)
+abbrev makes_pair : Expression
+makes_pair = operation 5 Cons (expressions (one ∷ one ∷ []))
 
-assigned_row : first_other (0 ∷ 12 ∷ 45 ∷ []) (expressions (display_one ∷ define_sum ∷ assigns_local ∷ [])) ≡ Some 45
-assigned_row = refl
+all_free_row : first_object (0 ∷ 12 ∷ []) (expressions (display_one ∷ define_sum ∷ [])) ≡ None
+all_free_row = refl
 
--- ((lambda () 1)) before a form that is not straight either
-call_row : first_other (7 ∷ 45 ∷ []) (expressions (call 4 (lambda [] 0 false one) no_expressions ∷ assigns_local ∷ [])) ≡ Some 7
-call_row = refl
+pair_row : first_object (0 ∷ 12 ∷ 45 ∷ []) (expressions (display_one ∷ define_sum ∷ makes_pair ∷ [])) ≡ Some 45
+pair_row = refl
 
--- a node that is not straight, deep inside a form
-deep_row : is_straight (define 0 (bind 1 (expressions (one ∷ [])) (operation 2 Add (expressions (local 0 ∷ call 5 (global 0) no_expressions ∷ []))))) ≡ false
+-- a literal before a form that is not object-free either
+literal_row : first_object (7 ∷ 45 ∷ []) (expressions (literal 0 ∷ makes_pair ∷ [])) ≡ Some 7
+literal_row = refl
+
+-- a node that is not object-free, deep inside a form
+deep_row : is_object_free (define 0 (bind 1 (expressions (one ∷ [])) (operation 2 Add (expressions (local 0 ∷ literal 0 ∷ []))))) ≡ false
 deep_row = refl
 
 -- a local variable that is assigned is object-free, and so is a procedure that is made, or called
