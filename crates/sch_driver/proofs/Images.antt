@@ -1,5 +1,5 @@
 -- The image of a program whose items follow the runs of its frames.
-use Rattle.std.proofs.Common.{◌≡◌, ◌≤◌, ℕ, ◌+◌, ◌*◌, List, [], ◌∷◌, ◌++◌, length, map, refl, Option, Some, sym, ap, ◌∙◌, subst, arith}
+use Rattle.std.proofs.Common.{◌≡◌, ◌≤◌, ℕ, suc, ◌+◌, ◌*◌, List, [], ◌∷◌, ◌++◌, length, map, refl, Option, Some, sym, ap, ◌∙◌, subst, arith}
 use Rattle.std.specs.Prelude.{IsTrue, IfErr, IsErrAnd, Result, Ok, Err, replicate}
 use Rattle.std.specs.List.{flat_map}
 use Rattle.std.proofs.lemmas.Bool.{and_parts, leb-true}
@@ -34,9 +34,12 @@ use Rattle.sch_frames.specs.Valid.{max_words}
 use Rattle.sch_frames.specs.Does.{Follows, SameRuns}
 use Rattle.sch_frames.specs.Run as frames_run
 use Rattle.sch_frames.specs.Tree as frames
-use Rattle.sch_select.specs.Follows.{FollowsFrames}
+use Rattle.sch_runtime.specs.Code.{routine_items}
+use Rattle.sch_select.specs.Ends.{EndsWithin}
+use Rattle.sch_select.specs.Follows.{AreRuns, EndsFrames, FollowsFrames}
 use Rattle.sch_frames.specs.Sizes.{closures_in, program_size, program_work}
 use Rattle.sch_select.specs.Program.{frames_bytes, max_stack, program_zeros}
+use Rattle.sch_select.specs.Sizes.{instructions_in, steps_bound}
 use Rattle.sch_passes.specs.Chain.{RunsAs}
 use Rattle.sch_lang.specs.Bodies as bodies
 use Rattle.sch_lang.specs.Measures as core
@@ -44,7 +47,9 @@ use Rattle.sch_lang.specs.Tree as lang
 use Rattle.sch_driver.specs.declared.error.CompileError.{CompileError}
 use Rattle.sch_driver.specs.declared.error.CompileError.TheVariants as compile_error
 use Rattle.sch_driver.specs.Causes.{IsBuilt, IsErrorOf, HasFrames, text_bound}
-use Rattle.sch_driver.specs.Assembled.{IsAssembled, IsFrameSize, IsUnfit, assembled_bound, of_assembly}
+use Rattle.sch_driver.specs.Assembled.{IsAssembled, IsFrameSize, IsUnfit, assembled_bound, of_assembly, steps_of}
+use Rattle.sch_driver.proofs.Resolved.{resolved_many}
+use Rattle.sch_driver.proofs.Steps.{ends_later, steps_fit}
 
 -- the memory of an image is its text and its data
 memory_is : (text words : List ℕ) (zeros : ℕ) (image : Image) → IsProgramImage text words zeros image → memory image.segments ≡ text_at text ∷ data_at (words ++ replicate zeros 0) ∷ []
@@ -57,9 +62,22 @@ image_follows text words zeros image runs lies f =
     subst (λ a. FollowsRuns a (memory image.segments) runs) (sym lies.entry)
     (subst (λ segments. FollowsRuns text_address segments runs) (sym (memory_is text words zeros image lies)) f)
 
+image_ends : (text words : List ℕ) (zeros : ℕ) (image : Image) (runs : List Answer → ℕ → Run) (bound : ℕ → ℕ → ℕ) → IsProgramImage text words zeros image
+    → EndsWithin text_address (text_at text ∷ data_at (words ++ replicate zeros 0) ∷ []) runs bound → EndsWithin image.entry (memory image.segments) runs bound
+image_ends text words zeros image runs bound lies f =
+    subst (λ a. EndsWithin a (memory image.segments) runs bound) (sym lies.entry)
+    (subst (λ segments. EndsWithin text_address segments runs bound) (sym (memory_is text words zeros image lies)) f)
+
 -- a run of the frames, where the control program is not wrong
 not_wrong : (a b : Option Run) (r : Run) → a ≡ Some r → Follows a b → b ≡ Some r
 not_wrong a b r e = subst (λ o. Follows o b → b ≡ Some r) (sym e) (λ f. f)
+
+frames_runs : (p : control.Source) (f : frames.Source) (heap depth : ℕ) → SameRuns p f → (runs : List Answer → ℕ → Run)
+    → ((answers : List Answer) (entries : ℕ) → control_run.run p heap depth answers entries ≡ Some (runs answers entries)) → AreRuns f heap depth runs
+frames_runs p f heap depth same runs are = record {
+  are = λ answers entries.
+      not_wrong (control_run.run p heap depth answers entries) (frames_run.run f heap depth answers entries) (runs answers entries) (are answers entries) (same heap depth answers entries);
+}
 
 -- bodies have the names of their codes
 pub names_of_codes : (bs : List Body) → map (λ b. b.name) bs ≡ map (λ c. c.name) (codes_of bs)
@@ -70,13 +88,16 @@ names_of_codes (b ∷ bs) = ap (λ names. b.name ∷ names) (names_of_codes bs)
 pub few_words : (q : FrameProgram) → q.words ≤ max_words
 few_words q = leb-true q.words max_words (and_parts _ _ q.within).0
 
--- What is selected of the frames, with the routines, follows the runs of the control program.
+-- What is selected of the frames, with the routines, follows the runs of the control program, and exits in time.
 pub assembled : (p : control.Source) (f : frames.Source) (heap depth : ℕ) (a routines : Asm) (code : List Insn) (marks : List Mark) (words text : List ℕ) (zeros : ℕ) (image : Image) (instructions : ℕ)
-    → instructions ≡ length code → SameRuns p f → FollowsFrames f heap depth a.items a.words a.zeros → a.zeros ≡ program_zeros f heap depth → IsFrameSize p f.words → frames_bytes f.words depth ≤ max_stack
+    → instructions ≡ length code → SameRuns p f → FollowsFrames f heap depth a.items a.words a.zeros → EndsFrames f heap depth a.items a.words a.zeros
+    → program_size f + (closures_in f.bodies + length f.bodies) ≤ 3 * instructions_in a.items → routines.items ≡ routine_items → a.zeros ≡ program_zeros f heap depth → IsFrameSize p f.words → frames_bytes f.words depth ≤ max_stack
     → AreEffective routines.items → AreResolved (a.items ++ routines.items) a.words code marks words → AllValid code
     → length (flat_map spelling code) ≤ max_text_size → length (flat_map spelling code) ≤ assembled_bound p
     → text ≡ flat_map spelling code → zeros ≡ a.zeros → IsProgramImage text words zeros image → IsAssembled p heap depth f.words instructions image
-assembled p f heap depth a routines code marks words text zeros image instructions counted same follows room frame stack effective resolved valid short bound text_is zeros_are lies =
+assembled p f heap depth a routines code marks words text zeros image instructions counted same follows ends units items room frame stack effective resolved valid short bound text_is zeros_are lies =
+    let many : suc (instructions_in a.items) ≤ instructions =
+    subst (λ n. suc (instructions_in a.items) ≤ n) (sym counted) (resolved_many a.items routines.items a.words code marks words items resolved) in
     let lies' : IsProgramImage (flat_map spelling code) words a.zeros image =
     subst (λ t. IsProgramImage t words a.zeros image) text_is (subst (λ z. IsProgramImage text words z image) zeros_are lies) in
     record {
@@ -89,10 +110,13 @@ assembled p f heap depth a routines code marks words text zeros image instructio
       follows = λ runs are.
           image_follows (flat_map spelling code) words a.zeros image runs lies'
           (follows.follows routines.items code marks words effective a.marked routines.marked resolved valid short runs
-          (record {
-            are = λ answers entries.
-                not_wrong (control_run.run p heap depth answers entries) (frames_run.run f heap depth answers entries) (runs answers entries) (are answers entries) (same heap depth answers entries);
-          }));
+          (frames_runs p f heap depth same runs are));
+      ends = λ runs are.
+          image_ends (flat_map spelling code) words a.zeros image runs (steps_of instructions) lies'
+          (ends_later text_address (text_at (flat_map spelling code) ∷ data_at (words ++ replicate a.zeros 0) ∷ []) runs (steps_bound f) (steps_of instructions)
+          (λ entries answers. steps_fit (program_size f + (closures_in f.bodies + length f.bodies)) (instructions_in a.items) instructions entries answers units many)
+          (ends.ends routines.items code marks words effective a.marked routines.marked resolved valid short runs
+          (frames_runs p f heap depth same runs are)));
     }
 
 -- ## What is too large

@@ -1,5 +1,5 @@
 -- What an image owes to the control program that it is made of.
-use Rattle.std.specs.Prelude.{◌≡◌, ◌<◌, ◌≤◌, ◌+◌, ◌*◌, ℕ, List, length, Some}
+use Rattle.std.specs.Prelude.{◌≡◌, ◌<◌, ◌≤◌, ◌+◌, ◌*◌, ℕ, suc, List, length, Some}
 use Rattle.std.specs.List.{flat_map}
 use Rattle.sch_word.specs.declared.answer.Answer.{Answer}
 use Rattle.sch_word.specs.runs.Runs.{Run}
@@ -17,6 +17,7 @@ use Rattle.sch_control.specs.Tree.{Source}
 use Rattle.sch_control.specs.Run.{run}
 use Rattle.sch_frames.specs.Sizes.{most_words}
 use Rattle.sch_frames.specs.Valid.{max_words}
+use Rattle.sch_select.specs.Ends.{EndsWithin}
 use Rattle.sch_select.specs.Program.{frames_bytes, max_stack, stack_bytes}
 use Rattle.sch_driver.specs.Causes.{text_base}
 use Rattle.sch_driver.specs.Headline.{HasProgramLayout}
@@ -27,6 +28,11 @@ use Rattle.sch_driver.specs.declared.error.CompileError.TheVariants.{TextTooLarg
 abbrev pub assembled_bound : Source → ℕ
 assembled_bound p = text_base + 64 * codes_work p.bodies
 
+-- The most steps of a machine where a run with so many procedure entries and used answers has ended: 768 for each
+-- instruction of its text, as often as procedures are entered and once more, and 10 for each answer.
+abbrev pub steps_of : (instructions entries answers : ℕ) → ℕ
+steps_of instructions entries answers = 768 * instructions * suc entries + 10 * answers
+
 -- The words of the largest frame: a slot for each variable, and for each of the most operands or formals.
 pub record IsFrameSize (p : Source) (words : ℕ) : Type 0 where
   pub largest : words ≡ most_words p.bodies
@@ -34,7 +40,7 @@ pub record IsFrameSize (p : Source) (words : ℕ) : Type 0 where
   pub bound : words ≤ max_operands + most_variables p.bodies
 
 -- The image is laid out as a program's of so many instructions, with room behind its words for the heap and for frames of so many words at
--- this depth, and where the control program is never wrong, it follows its runs.
+-- this depth. Where the control program is never wrong, it follows its runs, and has exited within a bound of steps where one has ended.
 pub record IsAssembled (p : Source) (heap depth frame_words instructions : ℕ) (image : Image) : Type 0 where
   pub laid_out : HasProgramLayout image
   pub counted : instructions ≡ length laid_out.code
@@ -45,6 +51,9 @@ pub record IsAssembled (p : Source) (heap depth frame_words instructions : ℕ) 
   pub follows : (runs : List Answer → ℕ → Run)
       → ((answers : List Answer) (entries : ℕ) → run p heap depth answers entries ≡ Some (runs answers entries))
       → FollowsRuns image.entry (memory image.segments) runs
+  pub ends : (runs : List Answer → ℕ → Run)
+      → ((answers : List Answer) (entries : ℕ) → run p heap depth answers entries ≡ Some (runs answers entries))
+      → EndsWithin image.entry (memory image.segments) runs (steps_of instructions)
 
 -- Why there is no image of a control program at a depth: the frames of its calls would take too much, its text would
 -- be too large, or there was no memory.

@@ -2,11 +2,15 @@
 use Rattle.std.specs.Prelude.{◌≡◌, ◌≤◌, ◌+◌, ℕ, List, length, map}
 use Rattle.std.specs.List.{flat_map}
 use Rattle.sch_insn.specs.Spelling.{spelling}
+use Rattle.sch_elf.specs.Layout.{memory}
 use Rattle.sch_lang.specs.Bodies.{bodies_of}
+use Rattle.sch_lang.specs.Run.{run}
 use Rattle.sch_lang.specs.Tree as tree
 use Rattle.sch_control.specs.Tree as control
 use Rattle.sch_orders.specs.Table.{given_table}
+use Rattle.sch_select.specs.Ends.{EndsWithin}
 use Rattle.sch_select.specs.Program.{frames_bytes, max_stack, stack_bytes}
+use Rattle.sch_driver.specs.Assembled.{steps_of}
 use Rattle.sch_driver.specs.Causes.{IsBuilt, HasFrames, text_bound}
 use Rattle.sch_passes.specs.Chain.{RunsAs}
 use Rattle.sch_driver.specs.declared.listing.Listing.{Listing}
@@ -20,7 +24,8 @@ pub record AreGiven (p : tree.Source) (orders : List (List ℕ)) : Type 0 where
 
 -- The file is a program for the core program of a text, under these limits and the orders that are listed, with bodies
 -- of the names that are listed and as many instructions. Its text is no longer than the size of the core program allows. Behind the words of its
--- data it has room for the heap and for the frames of calls, of the words that are listed.
+-- data it has room for the heap and for the frames of calls, of the words that are listed. Where a run of the core
+-- program has ended, its machine has exited within a bound of steps by the instructions that are listed.
 pub record IsCompiled (text : List ℕ) (heap depth : ℕ) (file : List ℕ) (listing : Listing) : Type 0 where
   pub program : tree.Source
   pub built : IsBuilt text program
@@ -32,3 +37,5 @@ pub record IsCompiled (text : List ℕ) (heap depth : ℕ) (file : List ℕ) (li
   pub room : is_program.does.laid_out.zeros ≡ heap + stack_bytes listing.frame_words depth
   pub frame : HasFrames program listing.frame_words
   pub fits : frames_bytes listing.frame_words depth ≤ max_stack
+  pub ends : EndsWithin is_program.image.entry (memory is_program.image.segments) (run program listing.orders heap depth)
+      (steps_of listing.instructions)

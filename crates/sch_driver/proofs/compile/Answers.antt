@@ -62,4 +62,5 @@ returns-clause-compiled c =
       room = does.room;
       frame = frame_chain p (control.source c.in_ok-control.control) c.in_ok-assembled.assembled.frame_words runs does.frame c.in_ok-control.ensures.variables;
       fits = does.fits;
+      ends = does.ends (run p orders limits.heap limits.depth) (λ answers entries. runs.same orders c.in_ok-orders.ensures.fits limits.heap limits.depth answers entries);
     }

@@ -26,6 +26,6 @@ returns-clause-does c =
     let n = text_within f c.in_ok-code.code.items c.in_ok-routines.routines.items (codes_work p.bodies) c.in_ok-code.ensures.text c.in_ok-frames.ensures.work c.in_ok-routines.ensures.short in
     assembled (source c.args.p.now) (frames.source c.in_ok-frames.frames) c.args.limits.heap c.args.limits.depth c.in_ok-code.code c.in_ok-routines.routines
     r.resolved.code r.resolved.marks r.resolved.words c.in_ok-text.text r.resolved.zeros c.in_ok-image.image c.len-instructions.result c.len-instructions.ensures
-    c.in_ok-frames.ensures.same c.in_ok-code.ensures.follows c.in_ok-code.ensures.zeros (record { largest = c.in_ok-frames.ensures.words; few = few_words c.in_ok-frames.frames; bound = c.in_ok-frames.ensures.frame_words }) c.in_ok-check_stack.ensures.fits
+    c.in_ok-frames.ensures.same c.in_ok-code.ensures.follows c.in_ok-code.ensures.steps c.in_ok-code.ensures.instructions c.in_ok-routines.ensures.items c.in_ok-code.ensures.zeros (record { largest = c.in_ok-frames.ensures.words; few = few_words c.in_ok-frames.frames; bound = c.in_ok-frames.ensures.frame_words }) c.in_ok-check_stack.ensures.fits
     c.in_ok-routines.ensures.effective r.ensures.stands r.ensures.valid r.ensures.fits (subst (λ k. k ≤ assembled_bound p) (sym r.ensures.size) n)
     (c.in_ok-text.ensures ∙ ap (flat_map spelling) c.as_slice.ensures) r.ensures.zeros c.in_ok-image.ensures.layout
