@@ -39,8 +39,9 @@ pub record IsFrameSize (p : Source) (words : ℕ) : Type 0 where
   pub few : words ≤ max_words
   pub bound : words ≤ max_operands + most_variables p.bodies
 
--- The image is laid out as a program's of so many instructions, with room behind its words for the heap and for frames of so many words at
--- this depth. Where the control program is never wrong, it follows its runs, and has exited within a bound of steps where one has ended.
+-- The image is laid out as a program's of so many instructions, with room behind its words for the heap and for
+-- frames of so many words at this depth. Where the control program is never wrong, it follows its runs, and has
+-- exited within a bound of steps where one has ended.
 pub record IsAssembled (p : Source) (heap depth frame_words instructions : ℕ) (image : Image) : Type 0 where
   pub laid_out : HasProgramLayout image
   pub counted : instructions ≡ length laid_out.code

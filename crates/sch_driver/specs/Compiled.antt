@@ -23,9 +23,10 @@ pub record AreGiven (p : tree.Source) (orders : List (List ℕ)) : Type 0 where
   pub given : orders ≡ given_table program
 
 -- The file is a program for the core program of a text, under these limits and the orders that are listed, with bodies
--- of the names that are listed and as many instructions. Its text is no longer than the size of the core program allows. Behind the words of its
--- data it has room for the heap and for the frames of calls, of the words that are listed. Where a run of the core
--- program has ended, its machine has exited within a bound of steps by the instructions that are listed.
+-- of the names that are listed and as many instructions. Its text is no longer than the size of the core program
+-- allows. Behind the words of its data it has room for the heap and for the frames of calls, of the words that are
+-- listed. Where a run of the core program has ended, its machine has exited within a bound of steps by the
+-- instructions that are listed.
 pub record IsCompiled (text : List ℕ) (heap depth : ℕ) (file : List ℕ) (listing : Listing) : Type 0 where
   pub program : tree.Source
   pub built : IsBuilt text program
