@@ -24,6 +24,7 @@ TEXTS = {
     "19 digits": forms(b"(display 1123456789012345678)"),
     "(define x (+ 1 2))": forms(b"(define x (+ 1 2))"),
     "let and if": forms(b"(let ((y (* 7 6))) (if (< y 40) (display 0) (display (- y 50))))"),
+    "assigned variables": forms(b"(let((n 0))(set! n 1))"),
     "cond": forms(b"(display (cond ((= 1 2) 3) ((eq? 4 5) 6) (else (remainder 7 8))))"),
 }
 
@@ -41,6 +42,23 @@ def variables(size):
     return (front + b"".join(b" " + names[k * 7919 % len(names)] for k in range(uses)) + back).ljust(size)
 
 
+def procedures(size):
+    """A text of procedures, each of which calls itself and the one before."""
+    texts, k = [], 0
+    while (k + 1) * 64 <= size:
+        before = b"f%05d" % max(k - 1, 0)
+        texts.append((b"(define (f%05d x) (if (< x 1) 0 (+ x (%s (- x 1)))))" % (k, before)).ljust(63) + b"\n")
+        k += 1
+    return b"".join(texts).ljust(size)
+
+
+def nests(size):
+    """A text of nests of 400 lambdas, each with the variable of the outermost one free."""
+    front = b"".join(b"(lambda (x%03d) " % k for k in range(400))
+    nest = front + b"x000" + b")" * 400 + b"\n"
+    return (nest * (size // len(nest))).ljust(size)
+
+
 LIMIT_STATUS = 7
 
 
@@ -49,6 +67,7 @@ def main():
         source, target = os.path.join(folder, "source"), os.path.join(folder, "target")
         words = [PROGRAM, "compile", source, target]
         measure.table(TEXTS, source, words, folder)
+        measure.table({"procedures": procedures, "nests of lambdas": nests}, source, words, folder)
         measure.table({"variables": variables}, source, words, folder, LIMIT_STATUS)
 
 
