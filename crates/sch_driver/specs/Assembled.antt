@@ -28,8 +28,8 @@ use Rattle.sch_driver.specs.declared.error.CompileError.TheVariants.{TextTooLarg
 abbrev pub assembled_bound : Source → ℕ
 assembled_bound p = text_base + 64 * codes_work p.bodies
 
--- The most steps of a machine where a run with so many procedure entries and used answers has ended: 768 for each
--- instruction of its text, as often as procedures are entered and once more, and 10 for each answer.
+-- The most steps that a machine takes for a run that has ended: 768 for each instruction of its text, once for each
+-- procedure entry of the run and once more, and 10 for each answer that the run used.
 abbrev pub steps_of : (instructions entries answers : ℕ) → ℕ
 steps_of instructions entries answers = 768 * instructions * suc entries + 10 * answers
 

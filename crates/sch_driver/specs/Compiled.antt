@@ -7,20 +7,26 @@ use Rattle.sch_lang.specs.Bodies.{bodies_of}
 use Rattle.sch_lang.specs.Run.{run}
 use Rattle.sch_lang.specs.Tree as tree
 use Rattle.sch_control.specs.Tree as control
+use Rattle.sch_frames.specs.Layout.{slots_code}
+use Rattle.sch_frames.specs.Sizes.{most_words}
 use Rattle.sch_orders.specs.Table.{given_table}
 use Rattle.sch_select.specs.Ends.{EndsWithin}
 use Rattle.sch_select.specs.Program.{frames_bytes, max_stack, stack_bytes}
+use Rattle.sch_select.specs.Sizes.{kinds_of}
 use Rattle.sch_driver.specs.Assembled.{steps_of}
 use Rattle.sch_driver.specs.Causes.{IsBuilt, HasFrames, text_bound}
 use Rattle.sch_passes.specs.Chain.{RunsAs}
 use Rattle.sch_driver.specs.declared.listing.Listing.{Listing}
 use Rattle.sch_driver.specs.Headline.{IsProgram}
 
--- The orders are those given for a control program that runs as the core program.
-pub record AreGiven (p : tree.Source) (orders : List (List ℕ)) : Type 0 where
+-- What is listed is of one control program, which runs as the core program: the orders are those given for it, and of
+-- its bodies, laid out with a slot for each variable, are the words of the largest frame and the marks, in their order.
+pub record AreListed (p : tree.Source) (listing : Listing) : Type 0 where
   pub program : control.Source
   pub runs : RunsAs p program
-  pub given : orders ≡ given_table program
+  pub given : listing.orders ≡ given_table program
+  pub words : listing.frame_words ≡ most_words program.bodies
+  pub marks : map (λ m. m.kind) listing.marks ≡ kinds_of 0 (map slots_code program.bodies)
 
 -- The file is a program for the core program of a text, under these limits and the orders that are listed, with bodies
 -- of the names that are listed and as many instructions. Its text is no longer than the size of the core program
@@ -31,7 +37,7 @@ pub record IsCompiled (text : List ℕ) (heap depth : ℕ) (file : List ℕ) (li
   pub program : tree.Source
   pub built : IsBuilt text program
   pub is_program : IsProgram file program listing.orders heap depth
-  pub listed : AreGiven program listing.orders
+  pub listed : AreListed program listing
   pub names : listing.bodies ≡ map (λ b. b.name) (bodies_of program)
   pub counted : listing.instructions ≡ length is_program.does.laid_out.code
   pub bound : length (flat_map spelling is_program.does.laid_out.code) ≤ text_bound program

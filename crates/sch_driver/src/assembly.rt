@@ -1,17 +1,19 @@
 //! From a control program to an image.
 
-ghost use Rattle.std.specs.Prelude.{◌≡◌, ◌<◌, ◌≤◌, IfOk, IfErr, IsTrue, OnOk};
+ghost use Rattle.std.specs.Prelude.{◌≡◌, ◌<◌, ◌≤◌, map, IfOk, IfErr, IsTrue, OnOk};
 ghost use Rattle.std.specs.List.{flat_map};
 ghost use Rattle.sch_insn.specs.Spelling.{AllValid, spelling};
 ghost use Rattle.sch_control.specs.ObjectFree.{is_object_free_program};
 ghost use Rattle.sch_control.specs.ProgramView.{source};
+ghost use Rattle.sch_frames.specs.Layout.{slots_code};
 ghost use Rattle.sch_frames.specs.Valid.{max_words};
 ghost use Rattle.sch_select.specs.Program.{frames_bytes, max_stack};
+ghost use Rattle.sch_select.specs.Sizes.{kinds_of};
 ghost use Rattle.sch_driver.specs.Assembled.{IsAssembled, IsUnfit};
 ghost use Rattle.sch_driver.specs.declared.error.CompileError.TheVariants as error;
 
 use crate::error::CompileError;
-use sch_asm::resolve;
+use sch_asm::{Mark, resolve};
 use sch_code::{Code, encode};
 use sch_control::ControlProgram;
 use sch_elf::{Image, program_image};
@@ -19,7 +21,7 @@ use sch_frames::frame_program;
 use sch_insn::Insn;
 use sch_runtime::routines;
 use sch_select::select;
-use sch_word::{Bytes, Limits, Mem};
+use sch_word::{Bytes, Limits, List, Mem};
 use std::alloc::Global;
 
 /// The most bytes that the frames of calls may take.
@@ -39,12 +41,13 @@ fn text_of(alloc: Global, code: &[Insn]) -> Result<Bytes, Mem>
     Ok(text)
 }
 
-/// An image, with how many words its largest frame has and how many instructions its text.
+/// An image, with how many words its largest frame has, and how many instructions and which marks its text.
 #[derive(Drop)]
 pub(crate) struct Assembled {
     pub(crate) image: Image,
     pub(crate) frame_words: u32,
     pub(crate) instructions: u64,
+    pub(crate) marks: List<Mark>,
 }
 
 /// Checks that frames of so many words have room on the stack at a depth.
@@ -68,6 +71,7 @@ pub(crate) fn assemble(
 ) -> Result<Assembled, CompileError>
     requires object_free { IsTrue (is_object_free_program (source p.now)) }
     ensures does { IfOk result (λ a. IsAssembled (source p.now) limits.heap limits.depth a.frame_words a.instructions a.image) }
+    ensures marks { IfOk result (λ a. map (λ m. m.kind) a.marks ≡ kinds_of 0 (map slots_code (source p.now).bodies)) }
     ensures refused { IfErr result (IsUnfit (source p.now) limits.depth) }
 {
     let frames = frame_program(alloc, p)?;
@@ -82,5 +86,6 @@ pub(crate) fn assemble(
         image,
         frame_words: frames.words,
         instructions,
+        marks: resolved.marks,
     })
 }

@@ -48,6 +48,7 @@ pub fn compile(alloc: Global, text: &[u8], limits: Limits) -> Result<Compiled, C
             orders,
             frame_words: assembled.frame_words,
             instructions: assembled.instructions,
+            marks: assembled.marks,
         },
     })
 }

@@ -2,6 +2,7 @@
 
 ghost use Rattle.std.specs.Prelude.{◌≡◌, IfOk, map};
 
+use sch_asm::Mark;
 use sch_control::Body;
 use sch_word::{Bytes, List, Mem};
 use std::alloc::Global;
@@ -21,6 +22,9 @@ pub struct Listing {
     pub frame_words: u32,
     /// How many instructions its text has.
     pub instructions: u64,
+    /// The marks of its text, in their order: at which address the instructions of a body begin, and at which those
+    /// of the call or the tail call of a site, or of a return.
+    pub marks: List<Mark>,
 }
 
 /// The file of a compiled program, and its listing.

@@ -55,6 +55,8 @@ returns-clause-compiled c =
         program = control.source c.in_ok-control.control;
         runs = runs;
         given = c.in_ok-orders.ensures.orders;
+        words = does.frame.largest;
+        marks = c.in_ok-assembled.ensures.marks;
       };
       bound = bound_chain p (control.source c.in_ok-control.control) does.laid_out.code does.bound c.in_ok-control.ensures.work;
       names = c.in_ok-bodies.ensures ∙ ap (map (λ b. b.name)) c.as_slice.ensures ∙ names_of_codes _ ∙ c.in_ok-control.ensures.names;

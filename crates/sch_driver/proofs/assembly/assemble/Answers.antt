@@ -1,15 +1,24 @@
-use Rattle.std.proofs.Common.{◌≤◌, ◌≡◌, ◌∙◌, ℕ, ap, subst, sym, arith}
+use Rattle.std.proofs.Common.{◌≤◌, ◌∙◌, ap, subst, sym}
 use Rattle.std.specs.List.{flat_map}
 use Rattle.sch_insn.specs.Spelling.{spelling}
 use Rattle.sch_control.specs.ProgramView.{source}
 use Rattle.sch_control.specs.Work.{codes_work}
 use Rattle.sch_frames.specs.ProgramView as frames
+use Rattle.sch_select.specs.Sizes.{kinds_of}
 use Rattle.sch_driver.specs.Assembled.{assembled_bound}
 use Rattle.sch_driver.proofs.Images.{assembled, few_words, refused_for, text_within, unfit}
+use Rattle.sch_driver.proofs.Resolved.{resolved_kinds}
 use Rattle.sch_driver.proofs.assembly.assemble.Goals as goal
 
 pub select-requires : goal.select-requires
 select-requires c = record { object_free = c.in_ok-frames.ensures.object_free c.requires.object_free; stack = c.in_ok-check_stack.ensures.fits }
+
+pub returns-clause-marks : goal.returns-clause-marks
+returns-clause-marks c =
+    let r = c.in_ok-resolved in
+    resolved_kinds c.in_ok-code.code.items c.in_ok-routines.routines.items c.in_ok-code.code.words r.resolved.code r.resolved.marks r.resolved.words
+    c.in_ok-routines.ensures.items r.ensures.stands
+    ∙ (c.in_ok-code.ensures.marks ∙ ap (kinds_of 0) c.in_ok-frames.ensures.made)
 
 pub returns-in_err-resolved-clause-refused : goal.returns-in_err-resolved-clause-refused
 returns-in_err-resolved-clause-refused c =
