@@ -12,8 +12,8 @@ use std::alloc::Global;
 pub struct Listing {
     /// The names of its bodies: those of the library's procedures that are kept, and of the procedures in them; then
     /// `form` for each top-level form, and behind it the names of its procedures in the order of the text. A
-    /// procedure that is directly the value of a definition or a binding has the name of its variable, unless that
-    /// was added, and any other is a `lambda`.
+    /// procedure that is directly the value of a definition, or of a variable of a `let` without a name, a `letrec` or
+    /// a body, has the name of its variable, unless that was added, and any other is a `lambda`.
     pub bodies: List<Bytes>,
     /// For each site of its core program the order in which the parts of the site are evaluated (R5RS 4.1.3 leaves
     /// it open).
