@@ -10,8 +10,10 @@ ghost use Rattle.sch_control.specs.Sizes as sizes;
 ghost use Rattle.sch_control.specs.Work.{codes_work};
 ghost use Rattle.sch_lang.specs.Bodies.{bodies_of, most_variables};
 ghost use Rattle.sch_lang.specs.ObjectFree.{is_object_free_program};
+ghost use Rattle.sch_lang.specs.Measures as measures;
 ghost use Rattle.sch_lang.specs.Measures.{nodes_and_bound, program_size};
 ghost use Rattle.sch_lang.specs.ProgramView.{source};
+ghost use Rattle.sch_normal.specs.Tests.{tests_of};
 ghost use Rattle.sch_orders.specs.Table.{given_table};
 ghost use Rattle.sch_passes.specs.Chain.{RunsAs};
 
@@ -48,6 +50,8 @@ pub fn control_program(alloc: Global, p: &Program) -> Result<ControlProgram, Mem
     // inside it, and then each top-level form, whose name is `form`, followed by its procedures in the order of the
     // text.
     ensures names { IfOk result (λ q. map (λ c. c.name) (control_view.source q).bodies ≡ map (λ b. b.name) (bodies_of (source p.now))) }
+    // It has as many tests as `p`.
+    ensures tests { IfOk result (λ q. tests_of (control_view.source q).bodies ≡ measures.tests_of (source p.now)) }
 {
     let renamed = rename(alloc, p)?;
     let converted = convert_assign(alloc, &renamed)?;

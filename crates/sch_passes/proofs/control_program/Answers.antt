@@ -57,3 +57,7 @@ returns-clause-names c =
     let made = c.in_ok-flat.ensures in
     let order = flat_order f (cells.source c.in_ok-converted.converted) made.made made.bodies made.forms ∙ (c.in_ok-converted.ensures.bodies ∙ c.in_ok-renamed.ensures.bodies) in
     names_kept f (control.source c.in_ok-control.control) (bodies_of (source c.args.p.now)) c.in_ok-control.ensures.made order
+
+pub returns-clause-tests : goal.returns-clause-tests
+returns-clause-tests c =
+    c.in_ok-control.ensures.tests ∙ (c.in_ok-flat.ensures.tests ∙ (c.in_ok-converted.ensures.tests ∙ c.in_ok-renamed.ensures.tests))
