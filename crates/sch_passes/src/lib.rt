@@ -13,6 +13,7 @@ ghost use Rattle.sch_lang.specs.ObjectFree.{is_object_free_program};
 ghost use Rattle.sch_lang.specs.Measures as measures;
 ghost use Rattle.sch_lang.specs.Measures.{nodes_and_bound, program_size};
 ghost use Rattle.sch_lang.specs.ProgramView.{source};
+ghost use Rattle.sch_normal.specs.Dropped.{dropped_of};
 ghost use Rattle.sch_normal.specs.Tests.{tests_of};
 ghost use Rattle.sch_orders.specs.Table.{given_table};
 ghost use Rattle.sch_passes.specs.Chain.{RunsAs};
@@ -52,6 +53,8 @@ pub fn control_program(alloc: Global, p: &Program) -> Result<ControlProgram, Mem
     ensures names { IfOk result (λ q. map (λ c. c.name) (control_view.source q).bodies ≡ map (λ b. b.name) (bodies_of (source p.now))) }
     // It has as many tests as `p`.
     ensures tests { IfOk result (λ q. tests_of (control_view.source q).bodies ≡ measures.tests_of (source p.now)) }
+    // It drops no more atoms than `p`.
+    ensures dropped { IfOk result (λ q. dropped_of (control_view.source q).bodies ≤ measures.dropped_of (source p.now)) }
 {
     let renamed = rename(alloc, p)?;
     let converted = convert_assign(alloc, &renamed)?;

@@ -61,3 +61,7 @@ returns-clause-names c =
 pub returns-clause-tests : goal.returns-clause-tests
 returns-clause-tests c =
     c.in_ok-control.ensures.tests ∙ (c.in_ok-flat.ensures.tests ∙ (c.in_ok-converted.ensures.tests ∙ c.in_ok-renamed.ensures.tests))
+
+pub returns-clause-dropped : goal.returns-clause-dropped
+returns-clause-dropped c =
+    omega (arith, c.in_ok-control.ensures.dropped, c.in_ok-flat.ensures.dropped, c.in_ok-converted.ensures.dropped, c.in_ok-renamed.ensures.dropped)
