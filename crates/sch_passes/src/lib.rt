@@ -2,11 +2,13 @@
 //! that way.
 #![tactic(auto)]
 
-ghost use Rattle.std.specs.Prelude.{◌≡◌, ◌≤◌, ◌+◌, ◌*◌, ◌^◌, map, IfOk, IsTrue};
+ghost use Rattle.std.specs.List.{count_by};
+ghost use Rattle.std.specs.Prelude.{◌≡◌, ◌≤◌, ◌+◌, ◌*◌, ◌^◌, ℕ, map, nat_eq, IfOk, IsTrue};
 ghost use Rattle.sch_control.specs.ObjectFree as control;
 ghost use Rattle.sch_control.specs.Fits.{table_fits};
 ghost use Rattle.sch_control.specs.ProgramView as control_view;
 ghost use Rattle.sch_control.specs.Sizes as sizes;
+ghost use Rattle.sch_control.specs.Valid.{sites_of_each};
 ghost use Rattle.sch_control.specs.Work.{codes_work};
 ghost use Rattle.sch_lang.specs.Bodies.{bodies_of, most_variables};
 ghost use Rattle.sch_lang.specs.ObjectFree.{is_object_free_program};
@@ -55,6 +57,8 @@ pub fn control_program(alloc: Global, p: &Program) -> Result<ControlProgram, Mem
     ensures tests { IfOk result (λ q. tests_of (control_view.source q).bodies ≡ measures.tests_of (source p.now)) }
     // It drops no more atoms than `p`.
     ensures dropped { IfOk result (λ q. dropped_of (control_view.source q).bodies ≤ measures.dropped_of (source p.now)) }
+    // Its nodes with a site are the calls and primitives of `p`, each site as often.
+    ensures calls { IfOk result (λ q. (n : ℕ) → count_by (λ at. nat_eq at.0 n) (sites_of_each (control_view.source q).bodies) ≡ count_by (λ x. nat_eq x n) (measures.call_sites_of (source p.now))) }
 {
     let renamed = rename(alloc, p)?;
     let converted = convert_assign(alloc, &renamed)?;

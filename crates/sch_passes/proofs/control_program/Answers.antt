@@ -1,5 +1,6 @@
 use Rattle.std.proofs.Common.{ap, ◌∙◌, arith}
-use Rattle.std.specs.Prelude.{length}
+use Rattle.std.specs.List.{count_by}
+use Rattle.std.specs.Prelude.{length, nat_eq}
 use Rattle.sch_lang.specs.Bodies.{bodies_of}
 use Rattle.sch_lang.specs.ProgramView.{source}
 use Rattle.sch_lang.proofs.BodyCounts.{bodies_within_nodes}
@@ -65,3 +66,8 @@ returns-clause-tests c =
 pub returns-clause-dropped : goal.returns-clause-dropped
 returns-clause-dropped c =
     omega (arith, c.in_ok-control.ensures.dropped, c.in_ok-flat.ensures.dropped, c.in_ok-converted.ensures.dropped, c.in_ok-renamed.ensures.dropped)
+
+pub returns-clause-calls : goal.returns-clause-calls
+returns-clause-calls c n =
+    c.in_ok-control.ensures.calls n
+    ∙ (c.in_ok-flat.ensures.calls (λ x. nat_eq x n) ∙ ap (count_by (λ x. nat_eq x n)) (c.in_ok-converted.ensures.calls ∙ c.in_ok-renamed.ensures.calls))
