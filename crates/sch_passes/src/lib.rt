@@ -15,6 +15,7 @@ ghost use Rattle.sch_lang.specs.ObjectFree.{is_object_free_program};
 ghost use Rattle.sch_lang.specs.Measures as measures;
 ghost use Rattle.sch_lang.specs.Measures.{nodes_and_bound, program_size};
 ghost use Rattle.sch_lang.specs.ProgramView.{source};
+ghost use Rattle.sch_normal.specs.Counted.{bind_within};
 ghost use Rattle.sch_normal.specs.Dropped.{dropped_of};
 ghost use Rattle.sch_normal.specs.Tests.{tests_of};
 ghost use Rattle.sch_orders.specs.Table.{given_table};
@@ -59,6 +60,8 @@ pub fn control_program(alloc: Global, p: &Program) -> Result<ControlProgram, Mem
     ensures dropped { IfOk result (λ q. dropped_of (control_view.source q).bodies ≤ measures.dropped_of (source p.now)) }
     // Its nodes with a site are the calls and primitives of `p`, each site as often.
     ensures calls { IfOk result (λ q. (n : ℕ) → count_by (λ at. nat_eq at.0 n) (sites_of_each (control_view.source q).bodies) ≡ count_by (λ x. nat_eq x n) (measures.call_sites_of (source p.now))) }
+    // Each body has at most two variables more than the body of `p` at its place may need.
+    ensures each_variables { IfOk result (λ q. IsTrue (bind_within (control_view.source q).bodies (map (λ b. b.variables) (bodies_of (source p.now))))) }
 {
     let renamed = rename(alloc, p)?;
     let converted = convert_assign(alloc, &renamed)?;

@@ -10,7 +10,7 @@ use Rattle.sch_cells.specs.BoxedMeaning as boxed
 use Rattle.sch_cells.specs.UnboxedMeaning as unboxed
 use Rattle.sch_flat.specs.ProgramView as flat
 use Rattle.sch_control.specs.ProgramView as control
-use Rattle.sch_passes.proofs.BodiesKept.{flat_order, names_kept, variables_kept}
+use Rattle.sch_passes.proofs.BodiesKept.{each_within, flat_order, names_kept, variables_kept}
 use Rattle.sch_passes.proofs.Chain.{runs_as}
 use Rattle.sch_passes.proofs.control_program.Goals as goal
 
@@ -71,3 +71,10 @@ pub returns-clause-calls : goal.returns-clause-calls
 returns-clause-calls c n =
     c.in_ok-control.ensures.calls n
     ∙ (c.in_ok-flat.ensures.calls (λ x. nat_eq x n) ∙ ap (count_by (λ x. nat_eq x n)) (c.in_ok-converted.ensures.calls ∙ c.in_ok-renamed.ensures.calls))
+
+pub returns-clause-each_variables : goal.returns-clause-each_variables
+returns-clause-each_variables c =
+    let f = flat.source c.in_ok-flat.flat in
+    let made = c.in_ok-flat.ensures in
+    let order = flat_order f (cells.source c.in_ok-converted.converted) made.made made.bodies made.forms ∙ (c.in_ok-converted.ensures.bodies ∙ c.in_ok-renamed.ensures.bodies) in
+    each_within f (control.source c.in_ok-control.control) (bodies_of (source c.args.p.now)) c.in_ok-control.ensures.variables order
