@@ -100,6 +100,8 @@ within_largest (c ∷ cs) (p ∷ ps) h =
     let later = within_largest cs ps (and_right (nat_le c.variables (2 + p.variables)) (bind_within cs (map procedure_variables ps)) h) in
     omega (arith, here, later)
 
+pub each_within : (f : Source) (q : control.Source) (bodies : List Procedure) → BindNoMore f q → in_flat_order f ≡ bodies → bind_within q.bodies (map (λ b. b.variables) bodies) ≡ true
+each_within f q bodies within order = ap (λ l. bind_within q.bodies l) (sym (ap (map procedure_variables) order) ∙ counts_in_order f) ∙ within
+
 pub variables_kept : (f : Source) (q : control.Source) (bodies : List Procedure) → BindNoMore f q → in_flat_order f ≡ bodies → most_variables q.bodies ≤ 2 + largest bodies
-variables_kept f q bodies within order =
-    within_largest q.bodies bodies (ap (λ l. bind_within q.bodies l) (sym (ap (map procedure_variables) order) ∙ counts_in_order f) ∙ within)
+variables_kept f q bodies within order = within_largest q.bodies bodies (each_within f q bodies within order)

@@ -2,16 +2,22 @@
 //! that way.
 #![tactic(auto)]
 
-ghost use Rattle.std.specs.Prelude.{◌≡◌, ◌≤◌, ◌+◌, ◌*◌, ◌^◌, map, IfOk, IsTrue};
+ghost use Rattle.std.specs.List.{count_by};
+ghost use Rattle.std.specs.Prelude.{◌≡◌, ◌≤◌, ◌+◌, ◌*◌, ◌^◌, ℕ, map, nat_eq, IfOk, IsTrue};
 ghost use Rattle.sch_control.specs.ObjectFree as control;
 ghost use Rattle.sch_control.specs.Fits.{table_fits};
 ghost use Rattle.sch_control.specs.ProgramView as control_view;
 ghost use Rattle.sch_control.specs.Sizes as sizes;
+ghost use Rattle.sch_control.specs.Valid.{sites_of_each};
 ghost use Rattle.sch_control.specs.Work.{codes_work};
 ghost use Rattle.sch_lang.specs.Bodies.{bodies_of, most_variables};
 ghost use Rattle.sch_lang.specs.ObjectFree.{is_object_free_program};
+ghost use Rattle.sch_lang.specs.Measures as measures;
 ghost use Rattle.sch_lang.specs.Measures.{nodes_and_bound, program_size};
 ghost use Rattle.sch_lang.specs.ProgramView.{source};
+ghost use Rattle.sch_normal.specs.Counted.{bind_within};
+ghost use Rattle.sch_normal.specs.Dropped.{dropped_of};
+ghost use Rattle.sch_normal.specs.Tests.{tests_of};
 ghost use Rattle.sch_orders.specs.Table.{given_table};
 ghost use Rattle.sch_passes.specs.Chain.{RunsAs};
 
@@ -48,6 +54,14 @@ pub fn control_program(alloc: Global, p: &Program) -> Result<ControlProgram, Mem
     // inside it, and then each top-level form, whose name is `form`, followed by its procedures in the order of the
     // text.
     ensures names { IfOk result (λ q. map (λ c. c.name) (control_view.source q).bodies ≡ map (λ b. b.name) (bodies_of (source p.now))) }
+    // It has as many tests as `p`.
+    ensures tests { IfOk result (λ q. tests_of (control_view.source q).bodies ≡ measures.tests_of (source p.now)) }
+    // It drops no more atoms than `p`.
+    ensures dropped { IfOk result (λ q. dropped_of (control_view.source q).bodies ≤ measures.dropped_of (source p.now)) }
+    // Its nodes with a site are the calls and primitives of `p`, each site as often.
+    ensures calls { IfOk result (λ q. (n : ℕ) → count_by (λ at. nat_eq at.0 n) (sites_of_each (control_view.source q).bodies) ≡ count_by (λ x. nat_eq x n) (measures.call_sites_of (source p.now))) }
+    // Each body has at most two variables more than the body of `p` at its place may need.
+    ensures each_variables { IfOk result (λ q. IsTrue (bind_within (control_view.source q).bodies (map (λ b. b.variables) (bodies_of (source p.now))))) }
 {
     let renamed = rename(alloc, p)?;
     let converted = convert_assign(alloc, &renamed)?;

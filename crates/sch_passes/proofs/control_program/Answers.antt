@@ -1,5 +1,6 @@
 use Rattle.std.proofs.Common.{ap, ◌∙◌, arith}
-use Rattle.std.specs.Prelude.{length}
+use Rattle.std.specs.List.{count_by}
+use Rattle.std.specs.Prelude.{length, nat_eq}
 use Rattle.sch_lang.specs.Bodies.{bodies_of}
 use Rattle.sch_lang.specs.ProgramView.{source}
 use Rattle.sch_lang.proofs.BodyCounts.{bodies_within_nodes}
@@ -9,7 +10,7 @@ use Rattle.sch_cells.specs.BoxedMeaning as boxed
 use Rattle.sch_cells.specs.UnboxedMeaning as unboxed
 use Rattle.sch_flat.specs.ProgramView as flat
 use Rattle.sch_control.specs.ProgramView as control
-use Rattle.sch_passes.proofs.BodiesKept.{flat_order, names_kept, variables_kept}
+use Rattle.sch_passes.proofs.BodiesKept.{each_within, flat_order, names_kept, variables_kept}
 use Rattle.sch_passes.proofs.Chain.{runs_as}
 use Rattle.sch_passes.proofs.control_program.Goals as goal
 
@@ -57,3 +58,23 @@ returns-clause-names c =
     let made = c.in_ok-flat.ensures in
     let order = flat_order f (cells.source c.in_ok-converted.converted) made.made made.bodies made.forms ∙ (c.in_ok-converted.ensures.bodies ∙ c.in_ok-renamed.ensures.bodies) in
     names_kept f (control.source c.in_ok-control.control) (bodies_of (source c.args.p.now)) c.in_ok-control.ensures.made order
+
+pub returns-clause-tests : goal.returns-clause-tests
+returns-clause-tests c =
+    c.in_ok-control.ensures.tests ∙ (c.in_ok-flat.ensures.tests ∙ (c.in_ok-converted.ensures.tests ∙ c.in_ok-renamed.ensures.tests))
+
+pub returns-clause-dropped : goal.returns-clause-dropped
+returns-clause-dropped c =
+    omega (arith, c.in_ok-control.ensures.dropped, c.in_ok-flat.ensures.dropped, c.in_ok-converted.ensures.dropped, c.in_ok-renamed.ensures.dropped)
+
+pub returns-clause-calls : goal.returns-clause-calls
+returns-clause-calls c n =
+    c.in_ok-control.ensures.calls n
+    ∙ (c.in_ok-flat.ensures.calls (λ x. nat_eq x n) ∙ ap (count_by (λ x. nat_eq x n)) (c.in_ok-converted.ensures.calls ∙ c.in_ok-renamed.ensures.calls))
+
+pub returns-clause-each_variables : goal.returns-clause-each_variables
+returns-clause-each_variables c =
+    let f = flat.source c.in_ok-flat.flat in
+    let made = c.in_ok-flat.ensures in
+    let order = flat_order f (cells.source c.in_ok-converted.converted) made.made made.bodies made.forms ∙ (c.in_ok-converted.ensures.bodies ∙ c.in_ok-renamed.ensures.bodies) in
+    each_within f (control.source c.in_ok-control.control) (bodies_of (source c.args.p.now)) c.in_ok-control.ensures.variables order
