@@ -6,3 +6,4 @@ pub mod OneStatus
 pub mod SomeVerdict
 pub mod ProgramRuns
 pub mod Saying
+pub mod OptionWords
