@@ -53,10 +53,19 @@ def procedures(size):
 
 
 def nests(size):
-    """A text of nests of 400 lambdas, each with the variable of the outermost one free."""
-    front = b"".join(b"(lambda (x%03d) " % k for k in range(400))
-    nest = front + b"x000" + b")" * 400 + b"\n"
+    """A text of nests of 990 lambdas, each with the variable of the outermost one free."""
+    front = b"".join(b"(lambda (x%03d) " % k for k in range(990))
+    nest = front + b"x000" + b")" * 990 + b"\n"
     return (nest * (size // len(nest))).ljust(size)
+
+
+def bodies(size):
+    """A text of forms that bind 1,000 variables each, 200 in each `let`, and use the first and the last."""
+    lets = []
+    for k in range(0, 1000, 200):
+        lets.append(b"(let (" + b"".join(b"(v%03d 1)" % j for j in range(k, k + 200)) + b")")
+    form = b"".join(lets) + b"(eq? v000 v999)" + b")" * 5 + b"\n"
+    return (form * (size // len(form))).ljust(size)
 
 
 LIMIT_STATUS = 7
@@ -67,7 +76,7 @@ def main():
         source, target = os.path.join(folder, "source"), os.path.join(folder, "target")
         words = [PROGRAM, "compile", source, target]
         measure.table(TEXTS, source, words, folder)
-        measure.table({"procedures": procedures, "nests of lambdas": nests}, source, words, folder)
+        measure.table({"procedures": procedures, "nests of lambdas": nests, "1,000 variables": bodies}, source, words, folder)
         measure.table({"variables": variables}, source, words, folder, LIMIT_STATUS)
 
 
