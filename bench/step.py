@@ -2,7 +2,7 @@
 """Steps loops of 100,000,000 instructions with `schc step` and with a C interpreter, in turn.
 
 Prints instructions a second of processor time for each, and their ratio; and how long an image with
-256 MiB of zeros takes to load. Run by hand, after the program was built:  bench/step.py [RUNS]
+256 MiB of zeros takes to load and an empty file to run. Run by hand, after the program was built:  bench/step.py [RUNS]
 """
 import os
 import resource
@@ -93,6 +93,18 @@ def seconds(command):
     return after.ru_utime - before.ru_utime + after.ru_stime - before.ru_stime
 
 
+def empty_text(folder, runs):
+    """`run` of an empty file, and `step` of its image, whose time is that of loading the zeros of the default heap."""
+    source, path = os.path.join(folder, "empty"), os.path.join(folder, "image")
+    open(source, "wb").close()
+    subprocess.run([PROGRAM, "compile", source, path], check=True)
+    ran, stepped = [], []
+    for _ in range(runs):
+        ran.append(seconds([PROGRAM, "run", source]))
+        stepped.append(seconds([PROGRAM, "step", path]))
+    print(f"an empty file: run takes {1000 * min(ran):.0f} ms, step of its image {1000 * min(stepped):.0f} ms")
+
+
 def main():
     runs = int(sys.argv[1]) if len(sys.argv) > 1 else 3
     print(f"{os.cpu_count()} processors, least of {runs} runs in turn")
@@ -112,6 +124,7 @@ def main():
             exit_text = b"\x48\xc7\xc0" + i32(60) + b"\x48\xc7\xc7" + i32(0) + b"\x0f\x05"
             file.write(image(exit_text, bytes(16), 256 << 20))
         print(f"256 MiB of zeros: {1000 * min(seconds([PROGRAM, 'step', path]) for _ in range(runs)):.0f} ms to load and exit")
+        empty_text(folder, runs)
 
 
 if __name__ == "__main__":

@@ -10,7 +10,7 @@ ghost use Rattle.sch_flat.specs.Measures as measures;
 ghost use Rattle.sch_flat.specs.ProgramView.{source};
 ghost use Rattle.sch_normal.specs.Counted.{BindNoMore};
 ghost use Rattle.sch_normal.specs.Dropped.{dropped_of};
-ghost use Rattle.sch_normal.specs.Kept.{SameCalls, StaysObjectFree};
+ghost use Rattle.sch_normal.specs.Kept.{SameCalls, StaysCovered};
 ghost use Rattle.sch_normal.specs.Normal.{normal_source};
 ghost use Rattle.sch_normal.specs.SameRun.{SameRun};
 ghost use Rattle.sch_orders.specs.Table.{given_table};
@@ -52,8 +52,8 @@ pub fn normalize(alloc: Global, p: &FlatProgram) -> Result<ControlProgram, Mem>
     ensures tests { IfOk result (λ q. tests_of (control.source q).bodies ≡ measures.tests_of (source p.now)) }
     // The nodes with a site are the calls and primitives of `p`.
     ensures calls { IfOk result (λ q. SameCalls (source p.now) (control.source q)) }
-    // Of object-free code it makes object-free code.
-    ensures object_free { IfOk result (λ q. StaysObjectFree (source p.now) (control.source q)) }
+    // Of covered code it makes covered code.
+    ensures covered { IfOk result (λ q. StaysCovered (source p.now) (control.source q)) }
     // It drops as many atoms.
     ensures dropped { IfOk result (λ q. dropped_of (control.source q).bodies ≡ measures.dropped_of (source p.now)) }
     // No body has more variables than its flat body may need.

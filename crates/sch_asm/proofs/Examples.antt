@@ -14,7 +14,7 @@ use Rattle.sch_asm.specs.declared.item.Item.{Item}
 use Rattle.sch_asm.specs.declared.item.Item.TheVariants.{Label, Plain, Jump, JumpIf, LoadLabel, LoadWord, Mark}
 use Rattle.sch_asm.specs.declared.item.Mark as mark
 use Rattle.sch_asm.specs.declared.item.MarkKind.TheVariants.{Enter, Save}
-use Rattle.sch_asm.specs.declared.routine.Routine.TheVariants.{End, Stop, Put, PutFixnum}
+use Rattle.sch_asm.specs.declared.routine.Routine.TheVariants.{End, Stop, Put, PutFixnum, FillWords, FillBytes}
 use Rattle.sch_asm.specs.Routines.{label_of}
 use Rattle.sch_asm.specs.Items.{IsPlain, is_routine, labels_in, marks_arrive, uses_in, word_uses}
 use Rattle.sch_asm.specs.Stands.{marks_at}
@@ -81,9 +81,11 @@ routine_labels :
     × (label_of (Stop OutputFailed) ≡ 10)
     × (label_of Put ≡ 11)
     × (label_of PutFixnum ≡ 12)
-    × (is_routine 12 ≡ true)
-    × (is_routine 13 ≡ false)
-routine_labels = (refl, refl, refl, refl, refl, refl, refl)
+    × (label_of FillWords ≡ 13)
+    × (label_of FillBytes ≡ 14)
+    × (is_routine 14 ≡ true)
+    × (is_routine 15 ≡ false)
+routine_labels = (refl, refl, refl, refl, refl, refl, refl, refl, refl)
 
 scratch : (is_scratch RAX ≡ true) × (is_scratch R11 ≡ true) × (is_scratch RSI ≡ false) × (is_scratch R12 ≡ false)
 scratch = (refl, refl, refl, refl)

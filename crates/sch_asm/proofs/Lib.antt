@@ -2,6 +2,7 @@ pub mod Tables
 pub mod Emitted
 pub mod Standing
 pub mod Words
+pub mod Beside
 pub mod Bytes
 pub mod EachItem
 pub mod Pieces

@@ -15,7 +15,7 @@ use Rattle.sch_asm.specs.declared.assembly.Word.TheVariants.{Fixed, Address}
 use Rattle.sch_asm.specs.declared.item.Item.{Item}
 use Rattle.sch_asm.specs.declared.item.Item.TheVariants.{Label, Plain, Jump, JumpIf, LoadLabel, LoadWord, StoreWord, Mark}
 use Rattle.sch_asm.specs.declared.routine.Routine.{Routine}
-use Rattle.sch_asm.specs.declared.routine.Routine.TheVariants.{End, Stop, Put, PutFixnum}
+use Rattle.sch_asm.specs.declared.routine.Routine.TheVariants.{End, Stop, Put, PutFixnum, FillWords, FillBytes}
 use Rattle.sch_asm.specs.Routines.{label_of}
 use Rattle.sch_asm.specs.Items.{AreItems, AreKnown, AreOwn, IsEachOnce, is_among, is_routine, labels_in, uses_in, word_uses}
 use Rattle.sch_asm.specs.Codes.{item_size, text_size}
@@ -116,10 +116,13 @@ all_by P Q f [] h = tt
 all_by P Q f (l ∷ ls) h = (f l h.0, all_by P Q f ls h.1)
 
 -- the routine of a label
-routine_at : (l : ℕ) → l < 13 → (k : Routine) × (label_of k ≡ l)
+routine_at : (l : ℕ) → l < 15 → (k : Routine) × (label_of k ≡ l)
 routine_at l lt =
-    ⊎_elim (λ a. by_stop l a) (λ b. ⊎_elim (λ c. (Put, omega arith)) (λ d. (PutFixnum, omega arith)) (cases_lt l 12)) (cases_lt l 11)
+    ⊎_elim (λ a. by_stop l a) (λ b. ⊎_elim (λ c. by_put l b c) (λ d. ⊎_elim (λ e. (FillWords, omega arith)) (λ f. (FillBytes, omega arith)) (cases_lt l 14)) (cases_lt l 13)) (cases_lt l 11)
   where
+    by_put : (l : ℕ) → 11 ≤ l → l < 13 → (k : Routine) × (label_of k ≡ l)
+    by_put l b c = ⊎_elim (λ d. (Put, omega arith)) (λ d. (PutFixnum, omega arith)) (cases_lt l 12)
+
     by_stop : (l : ℕ) → l < 11 → (k : Routine) × (label_of k ≡ l)
     by_stop zero lt = (End, refl)
     by_stop (suc zero) lt = (Stop WrongType, refl)
@@ -134,7 +137,7 @@ routine_at l lt =
     by_stop (suc (suc (suc (suc (suc (suc (suc (suc (suc (suc zero)))))))))) lt = (Stop OutputFailed, refl)
     by_stop (suc (suc (suc (suc (suc (suc (suc (suc (suc (suc (suc l))))))))))) lt = absurd (omega arith)
 
-routine_low : (l : ℕ) → IsTrue (is_routine l) → l < 13
+routine_low : (l : ℕ) → IsTrue (is_routine l) → l < 15
 routine_low l e = grind (arith, nat_tests)
 
 -- ---- two lists of items, the one behind the other

@@ -16,10 +16,14 @@ pub enum Routine {
     Put,
     /// Writes the fixnum whose word is in rax, in decimal.
     PutFixnum,
+    /// Writes the word in rcx at the address in rax and behind it, as many times as rdx says.
+    FillWords,
+    /// Writes the byte in cl at the address in rax and behind it, as many times as rdx says.
+    FillBytes,
 }
 
 impl Routine {
-    /// The label at which the routine is entered, from 0 to 12.
+    /// The label at which the routine is entered, from 0 to 14.
     pub fn label(self) -> u32
         ensures { result ≡ label_of self }
     {
@@ -28,6 +32,8 @@ impl Routine {
             Routine::Stop(stop) => stop.status() as u32 - 64,
             Routine::Put => 11,
             Routine::PutFixnum => 12,
+            Routine::FillWords => 13,
+            Routine::FillBytes => 14,
         }
     }
 }

@@ -8,4 +8,4 @@ pub mod ShapesKept
 pub mod SizeKept
 pub mod ValidKept
 pub mod WeightKept
-pub mod ObjectFreeKept
+pub mod CoveredKept

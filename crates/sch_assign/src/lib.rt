@@ -8,7 +8,7 @@ ghost use Rattle.sch_cells.specs.Bodies.{bodies_of};
 ghost use Rattle.sch_cells.specs.BoxedMeaning as boxed;
 ghost use Rattle.sch_cells.specs.Measures.{call_sites_of, dropped_of, program_size, sites_of, tests_of};
 ghost use Rattle.sch_cells.specs.ProgramView.{source};
-ghost use Rattle.sch_cells.specs.ObjectFree.{is_object_free_program};
+ghost use Rattle.sch_cells.specs.Covered.{is_covered_program};
 ghost use Rattle.sch_cells.specs.UnboxedMeaning as unboxed;
 ghost use Rattle.sch_cells.specs.Valid.{bound_of};
 ghost use Rattle.sch_assign.specs.Celled.{celled_in, celled_of};
@@ -52,7 +52,7 @@ pub fn convert_assign(alloc: Global, p: &CellProgram<Unboxed>) -> Result<CellPro
     ensures size { IfOk result (λ q. program_size (source q) ≤ 4 * program_size (source p.now)) }
     // There is at most seven times as much work in what is made of it in the language Control as the size of `p`.
     ensures weight { IfOk result (λ q. weight (source q) ≤ 7 * program_size (source p.now)) }
-    ensures object_free { IfOk result (λ q. IsTrue (is_object_free_program (source p.now)) → IsTrue (is_object_free_program (source q))) }
+    ensures covered { IfOk result (λ q. IsTrue (is_covered_program (source p.now)) → IsTrue (is_covered_program (source q))) }
 {
     let celled = celled_variables(alloc, p)?;
     convert_program(alloc, p, celled.as_slice())

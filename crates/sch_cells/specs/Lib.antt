@@ -11,5 +11,5 @@ pub mod UnboxedMeaning
 pub mod Valid
 pub mod Variables
 pub mod View
-pub mod ObjectFree
+pub mod Covered
 pub mod Recursive

@@ -6,7 +6,7 @@ use Rattle.sch_read.specs.Grammar.{Datum, Data, atom, list, dotted, vector, none
 use Rattle.sch_read.specs.Parts.{how_many, offset}
 use Rattle.sch_names.specs.declared.keyword.Keyword.TheVariants.{Or}
 use Rattle.sch_names.specs.declared.operation.Operation.{Operation}
-use Rattle.sch_names.specs.declared.operation.Operation.TheVariants.{Exact, Unit, UnitAnd, Nested, Chained, Filled, Newline, Not}
+use Rattle.sch_names.specs.declared.operation.Operation.TheVariants.{Exact, Unit, UnitAnd, Nested, Chained, Filled, Not}
 use Rattle.sch_names.specs.Scope.{Scope}
 use Rattle.sch_sketch.specs.declared.sketch.Position.{Position}
 use Rattle.sch_sketch.specs.declared.sketch.Row.TheVariants.{Form, Chain, Join}
@@ -37,7 +37,6 @@ combination_falls (Nested p) at xs =
     omega (arith, texts_measure xs (one (rest (Join p (but_one (how_many xs)) 0) at none none)), fresh_count xs, one_less (how_many xs))
 combination_falls (Chained p) at xs = omega (arith, texts_measure xs (one (rest (Chain p) at xs none)), fresh_count xs)
 combination_falls (Filled p) at xs = omega (arith, texts_measure xs (one (filler at p)), filler_small at p)
-combination_falls Newline at xs = omega arith
 combination_falls Not at xs = omega (arith, denial_falls at xs)
 
 pub chain_falls : (p : Primitive) (at : ℕ) (xs : Data) → sketch_measure (row_chain p at xs) < 6 * how_many xs + 2

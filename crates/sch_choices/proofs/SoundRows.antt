@@ -6,7 +6,7 @@ use Rattle.sch_word.specs.values.Primitives.{operands_of}
 use Rattle.sch_read.specs.Grammar.{Datum, Data, atom, list, dotted, vector, none, cons}
 use Rattle.sch_read.specs.Parts.{how_many}
 use Rattle.sch_names.specs.declared.operation.Operation.{Operation}
-use Rattle.sch_names.specs.declared.operation.Operation.TheVariants.{Exact, Unit as UnitOf, UnitAnd, Nested, Chained, Filled, Newline, Not}
+use Rattle.sch_names.specs.declared.operation.Operation.TheVariants.{Exact, Unit as UnitOf, UnitAnd, Nested, Chained, Filled, Not}
 use Rattle.sch_names.specs.Scope.{Scope, onto}
 use Rattle.sch_names.proofs.Counts.{Admits}
 use Rattle.sch_sketch.specs.declared.sketch.Position.{Position}
@@ -54,7 +54,6 @@ combination_sound s (Filled p) at xs a = (
   omega (arith, texts_count xs (one (filler at p)), a.0, a.1),
   (tt, texts_sound (operating p) true s xs _ (λ b. (filler_sound s at p, tt))),
 )
-combination_sound s Newline at xs a = (refl, (tt, (refl, tt)))
 combination_sound s Not at xs a = denial_sound s at xs
 
 pub chain_sound : (s : Scope) (p : Primitive) (at : ℕ) (xs : Data) → operands_of p ≡ 2 → how_many xs ≤ length s → IsSound s (row_chain p at xs)

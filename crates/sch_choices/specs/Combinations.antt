@@ -2,11 +2,11 @@
 use Rattle.std.specs.Prelude.{ℕ, zero, suc, ◌+◌, true, false}
 use Rattle.sch_word.specs.declared.constant.Const.TheVariants.{Fixnum, Character}
 use Rattle.sch_word.specs.declared.primitive.Primitive.{Primitive}
-use Rattle.sch_word.specs.declared.primitive.Primitive.TheVariants.{MakeString, Put}
+use Rattle.sch_word.specs.declared.primitive.Primitive.TheVariants.{MakeString}
 use Rattle.sch_read.specs.Grammar.{Data, none, cons}
 use Rattle.sch_read.specs.Parts.{how_many, offset}
 use Rattle.sch_names.specs.declared.operation.Operation.{Operation}
-use Rattle.sch_names.specs.declared.operation.Operation.TheVariants.{Exact, Unit, UnitAnd, Nested, Chained, Filled, Newline, Not}
+use Rattle.sch_names.specs.declared.operation.Operation.TheVariants.{Exact, Unit, UnitAnd, Nested, Chained, Filled, Not}
 use Rattle.sch_names.specs.Operations.{unit_of}
 use Rattle.sch_sketch.specs.declared.fault.Fault.TheVariants.{BadForm}
 use Rattle.sch_sketch.specs.declared.sketch.Row.TheVariants.{Chain, Join}
@@ -35,7 +35,6 @@ combination (UnitAnd p) at xs = node (operating p) at (and_sketch (unit at p) (t
 combination (Nested p) at xs = node (binding (fresh_each xs)) at (texts xs (one (rest (Join p (but_one (how_many xs)) 0) at none none)))
 combination (Chained p) at xs = node (binding (fresh_each xs)) at (texts xs (one (rest (Chain p) at xs none)))
 combination (Filled p) at xs = node (operating p) at (texts xs (one (filler at p)))
-combination Newline at xs = node (operating Put) at (one (leaf at (constant (Character 10))))
 combination Not at xs = denial at xs
 
 -- The first operands, of which there are k more than one, joined from the left. The last of them has j

@@ -14,8 +14,8 @@ ghost use Rattle.sch_sketch.specs.SketchView.{sketch_of};
 use sch_names::{Operation, unit_of};
 use sch_read::Datum;
 use sch_sketch::{
-    Kind, Row, Sketch, alone, and_texts, bad, choice, constant, fresh_each, local, one, text,
-    texts_and, texts_only, truth, two, unspecified,
+    Kind, Row, Sketch, alone, and_texts, bad, choice, constant, fresh_each, local, text, texts_and,
+    texts_only, truth, two, unspecified,
 };
 use sch_word::{Const, Fix, Mem, Primitive};
 use std::alloc::Global;
@@ -102,11 +102,6 @@ pub fn combination<'a>(
         }
         Operation::Filled(p) => {
             let made = texts_and(alloc, Kind::Prim(p), at, items, filler(at, p))?;
-            Ok(made)
-        }
-        Operation::Newline => {
-            let feed = constant(at, Const::Character(b'\n'));
-            let made = one(alloc, Kind::Prim(Primitive::Put), at, feed)?;
             Ok(made)
         }
         Operation::Not => {

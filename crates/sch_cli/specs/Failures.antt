@@ -7,6 +7,8 @@ use Rattle.sch_core.specs.declared.error.CoreError.{CoreError}
 use Rattle.sch_core.specs.declared.error.CoreError.TheVariants as core
 use Rattle.sch_core.specs.declared.error.Kind.{Kind}
 use Rattle.sch_core.specs.declared.error.Kind.TheVariants.{Operands, Core, Variables, Free}
+use Rattle.sch_driver.specs.declared.error.Part.{Part}
+use Rattle.sch_driver.specs.declared.error.Part.TheVariants.{Library, User}
 use Rattle.sch_driver.specs.declared.error.CompileError.{CompileError}
 use Rattle.sch_driver.specs.declared.error.CompileError.TheVariants as compiling
 use Rattle.sch_elf.specs.declared.error.ImageError.{ImageError}
@@ -14,7 +16,7 @@ use Rattle.sch_elf.specs.declared.error.ImageError.TheVariants as image
 use Rattle.sch_cli.specs.declared.failure.Failure.{Failure}
 use Rattle.sch_cli.specs.declared.failure.Failure.TheVariants as failure
 use Rattle.sch_cli.specs.declared.status.Status.{Status}
-use Rattle.sch_cli.specs.declared.status.Status.TheVariants.{ReadFailed, WriteFailed, BadText, BadForm, Unbound, PastLimit, BadImage, OutOfMemory, NotBuilt}
+use Rattle.sch_cli.specs.declared.status.Status.TheVariants.{ReadFailed, WriteFailed, BadText, BadForm, Unbound, PastLimit, BadImage, OutOfMemory}
 use Rattle.sch_cli.specs.Messages.{out_of_memory_line, place_line}
 
 -- ---- the statuses
@@ -33,9 +35,8 @@ core_status (core.Limit kind at) = PastLimit
 core_status core.Memory = OutOfMemory
 
 abbrev pub refusal_status : CompileError → Status
-refusal_status (compiling.Read error) = read_status error
-refusal_status (compiling.Core error) = core_status error
-refusal_status (compiling.NotBuilt at) = NotBuilt
+refusal_status (compiling.Read part error) = read_status error
+refusal_status (compiling.Core part error) = core_status error
 refusal_status (compiling.StackTooLarge words) = PastLimit
 refusal_status (compiling.TextTooLarge bytes) = PastLimit
 refusal_status compiling.Memory = OutOfMemory
@@ -77,10 +78,14 @@ core_line name (core.Unbound at unbound) = place_line name at (codes "unbound ")
 core_line name (core.Limit kind at) = place_line name at (limit_text kind) []
 core_line name core.Memory = out_of_memory_line
 
+-- what a line names of which a part is at fault: the library, or the file
+abbrev pub part_name : List ℕ → Part → List ℕ
+part_name name Library = codes "library"
+part_name name User = name
+
 abbrev pub refusal_line : List ℕ → CompileError → List ℕ
-refusal_line name (compiling.Read error) = read_line name error
-refusal_line name (compiling.Core error) = core_line name error
-refusal_line name (compiling.NotBuilt at) = place_line name at (codes "not built") []
+refusal_line name (compiling.Read part error) = read_line (part_name name part) error
+refusal_line name (compiling.Core part error) = core_line (part_name name part) error
 refusal_line name (compiling.StackTooLarge words) = name ++ codes ": limit stack\n"
 refusal_line name (compiling.TextTooLarge bytes) = name ++ codes ": limit text\n"
 refusal_line name compiling.Memory = out_of_memory_line

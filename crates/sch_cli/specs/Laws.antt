@@ -2,8 +2,9 @@
 use Rattle.std.specs.Prelude.{◌≡◌, ◌≢◌, ◌≤◌, ℕ, List, Result, Ok, Err, ⊤}
 use Rattle.sch_word.specs.runs.ProgramLayout.{max_text_size}
 use Rattle.sch_lang.specs.Tree as tree
+use Rattle.sch_prelude.specs.LibraryText.{library_text}
 use Rattle.sch_select.specs.Program.{frames_bytes, max_stack}
-use Rattle.sch_driver.specs.Causes.{IsBuilt, frame_bound, text_bound}
+use Rattle.sch_driver.specs.Causes.{Means, frame_bound, text_bound}
 use Rattle.sch_driver.specs.declared.error.CompileError.TheVariants.{StackTooLarge, TextTooLarge}
 use Rattle.sch_cli.specs.Failures.{failure_status}
 use Rattle.sch_cli.specs.Refusals.{IsAccepted, IsRefused}
@@ -33,5 +34,5 @@ pub record IsSmall (p : tree.Source) (depth : ℕ) : Type 0 where
 pub record HasOneVerdict (text : List ℕ) (depth : ℕ) : Type 0 where
   pub some : (verdict : Result ⊤ Failure) × IsVerdict text depth verdict
   pub same : (one other : Result ⊤ Failure) → IsVerdict text depth one → IsVerdict text depth other → but_for_size one ≡ but_for_size other
-  pub small : (p : tree.Source) → IsBuilt text p → IsSmall p depth →
+  pub small : (p : tree.Source) → Means library_text text p → IsSmall p depth →
       (one other : Result ⊤ Failure) → IsVerdict text depth one → IsVerdict text depth other → one ≡ other

@@ -5,7 +5,7 @@ use Rattle.sch_word.specs.declared.stop.Stop.{Stop}
 use Rattle.sch_step.specs.declared.ends.RunEnd.{RunEnd}
 use Rattle.sch_step.specs.declared.ends.RunEnd.TheVariants as run_end
 use Rattle.sch_cli.specs.declared.status.Status.{Status}
-use Rattle.sch_cli.specs.declared.status.Status.TheVariants.{Done, Usage, ReadFailed, WriteFailed, BadText, BadForm, Unbound, PastLimit, BadImage, StepsSpent, OutOfMemory, NotBuilt, Stopped}
+use Rattle.sch_cli.specs.declared.status.Status.TheVariants.{Done, Usage, ReadFailed, WriteFailed, BadText, BadForm, Unbound, PastLimit, BadImage, StepsSpent, OutOfMemory, Stopped}
 
 abbrev pub status_number : Status → ℕ
 status_number Done = 0
@@ -19,7 +19,6 @@ status_number PastLimit = 7
 status_number BadImage = 8
 status_number StepsSpent = 9
 status_number OutOfMemory = 10
-status_number NotBuilt = 11
 status_number (Stopped stop) = status_of stop
 
 -- ---- how a run of an image ended

@@ -2,7 +2,7 @@
 
 ghost use Rattle.std.specs.Prelude.{◌≡◌, ◌≢◌, ◌≤◌};
 ghost use Rattle.sch_core.specs.declared.error.Kind.{Kind};
-ghost use Rattle.sch_cli.specs.Failures.{core_line, core_status, failure_line, failure_status, image_line, image_status, limit_text, read_line, read_status, refusal_line, refusal_status};
+ghost use Rattle.sch_cli.specs.Failures.{core_line, core_status, failure_line, failure_status, image_line, image_status, limit_text, part_name, read_line, read_status, refusal_line, refusal_status};
 ghost use Rattle.sch_cli.specs.Messages.{Says};
 ghost use Rattle.sch_cli.specs.Seen.{stream_change};
 ghost use Rattle.sch_cli.specs.declared.failure.Failure.TheVariants as failure;
@@ -10,7 +10,7 @@ ghost use Rattle.sch_cli.specs.declared.failure.Failure.TheVariants as failure;
 use crate::message::{say, say_at, say_numbered, say_out_of_memory};
 use crate::status::Status;
 use sch_core::{CoreError, Kind};
-use sch_driver::CompileError;
+use sch_driver::{CompileError, Part};
 use sch_elf::ImageError;
 use sch_io::Outlet;
 use sch_read::ReadError;
@@ -79,9 +79,8 @@ fn refusal_status(error: &CompileError) -> Status
     ensures no_usage { result ≢ Status.Usage }
 {
     match error {
-        CompileError::Read(error) => read_status(*error),
-        CompileError::Core(error) => core_status(error),
-        CompileError::NotBuilt(_) => Status::NotBuilt,
+        CompileError::Read(_, error) => read_status(*error),
+        CompileError::Core(_, error) => core_status(error),
         CompileError::StackTooLarge(_) | CompileError::TextTooLarge(_) => Status::PastLimit,
         CompileError::Memory => Status::OutOfMemory,
     }
@@ -140,12 +139,21 @@ fn say_refusal<E: Outlet>(err: &mut E, name: &str, error: &CompileError)
     ensures faults { E.faults err.old ≤ E.faults err.new }
 {
     match error {
-        CompileError::Read(error) => say_read_error(err, name, *error),
-        CompileError::Core(error) => say_core_error(err, name, error),
-        CompileError::NotBuilt(at) => say_at(err, name, *at, "not built", b""),
+        CompileError::Read(part, error) => say_read_error(err, part_name(name, *part), *error),
+        CompileError::Core(part, error) => say_core_error(err, part_name(name, *part), error),
         CompileError::StackTooLarge(_) => say(err, name, ": limit stack\n"),
         CompileError::TextTooLarge(_) => say(err, name, ": limit text\n"),
         CompileError::Memory => say_out_of_memory(err),
+    }
+}
+
+/// What the line of an error of a part names: the library, or the file.
+fn part_name<'a>(name: &'a str, part: Part) -> &'a str
+    ensures { result.now ≡ part_name name.now part }
+{
+    match part {
+        Part::Library => "library",
+        Part::User => name,
     }
 }
 

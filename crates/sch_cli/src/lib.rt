@@ -44,9 +44,9 @@ const USAGE: &str =
 /// The other statuses, each with its line on `err`: 1 the words are no command, 2 NAME was not read,
 /// 3 NAME2 was not written, 4 NAME is not accepted by the reader, 5 it has a bad form or defines a
 /// keyword, 6 it has an unbound variable, 7 it passes a limit, as that of 1,048,576 bytes (an image:
-/// 134,217,728), that of the frames at its depth or that of the text of its image, 16,777,216 bytes, 8 NAME stands for no image, or its
-/// image got stuck or exited with a status of no stop, 9 the steps were spent, 10 there was no memory,
-/// 11 a form of NAME is not object-free and cannot be compiled today, 65 to 74 the image ended with this stop.
+/// 134,217,728), that of the frames at its depth or that of the text of its image, 16,777,216 bytes, 8 NAME
+/// stands for no image, or its image got stuck or exited with a status of no stop, 9 the steps were spent,
+/// 10 there was no memory, 65 to 74 the image ended with this stop.
 pub fn schc<D: Disk, O: Outlet, E: Outlet>(
     alloc: Global,
     words: &[String],

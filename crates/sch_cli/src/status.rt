@@ -31,8 +31,6 @@ pub enum Status {
     StepsSpent,
     /// There was no memory.
     OutOfMemory,
-    /// The text has a form that cannot be compiled today.
-    NotBuilt,
     /// The image ended with this stop.
     Stopped(Stop),
 }
@@ -54,7 +52,6 @@ impl Status {
             Status::BadImage => 8,
             Status::StepsSpent => 9,
             Status::OutOfMemory => 10,
-            Status::NotBuilt => 11,
             Status::Stopped(stop) => stop.status(),
         }
     }

@@ -1,10 +1,10 @@
 -- What closing makes of small programs: fields in the order in which variables are free, a group whose first
 -- procedure takes the second, a variable that is free in a procedure inside, and a cell in a body.
 use Rattle.std.proofs.Common.{◌≡◌, refl, Bool, true, false, [], ◌∷◌}
-use Rattle.sch_cells.specs.ObjectFree.{is_object_free_program}
+use Rattle.sch_cells.specs.Covered.{is_covered_program}
 use Rattle.sch_cells.specs.Tree.{variable, fix, lambda, call, no_lambdas, and_lambda, trees, Source}
 use Rattle.sch_cells.specs.Examples.{function, program, nested_lambdas, even_odd, assigned_formal_boxed}
-use Rattle.sch_flat.specs.ObjectFree as to
+use Rattle.sch_flat.specs.Covered as to
 use Rattle.sch_flat.specs.Tree as flat
 use Rattle.sch_flat.specs.Tree.{bound, free, make_closure, fix_closures}
 use Rattle.sch_flat.specs.Examples as made
@@ -47,10 +47,10 @@ nested_weight = refl
 group_weight : (weight_before even_odd ∷ weight_after made.even_odd ∷ []) ≡ 108 ∷ 108 ∷ []
 group_weight = refl
 
--- ## Object-free programs, before and after
+-- ## Covered programs, before and after
 
-group_free : (is_object_free_program even_odd ∷ to.is_object_free_program made.even_odd ∷ []) ≡ true ∷ true ∷ []
-group_free = refl
+group_covered : (is_covered_program even_odd ∷ to.is_covered_program made.even_odd ∷ []) ≡ true ∷ true ∷ []
+group_covered = refl
 
 -- a library of one procedure, which calls its formal with it
 abbrev calling : (rest spread : Bool) → Source
@@ -62,12 +62,12 @@ calling rest spread = record {
   variables = 1;
 }
 
-library_free : (is_object_free_program (calling false false) ∷ to.is_object_free_program (closed_source (calling false false)) ∷ []) ≡ true ∷ true ∷ []
-library_free = refl
+library_covered : (is_covered_program (calling false false) ∷ to.is_covered_program (closed_source (calling false false)) ∷ []) ≡ true ∷ true ∷ []
+library_covered = refl
 
 -- a procedure that takes a list, and a call that spreads one
-rest_row : (is_object_free_program (calling true false) ∷ to.is_object_free_program (closed_source (calling true false)) ∷ []) ≡ false ∷ false ∷ []
+rest_row : (is_covered_program (calling true false) ∷ to.is_covered_program (closed_source (calling true false)) ∷ []) ≡ true ∷ true ∷ []
 rest_row = refl
 
-spread_row : (is_object_free_program (calling false true) ∷ to.is_object_free_program (closed_source (calling false true)) ∷ []) ≡ false ∷ false ∷ []
+spread_row : (is_covered_program (calling false true) ∷ to.is_covered_program (closed_source (calling false true)) ∷ []) ≡ false ∷ false ∷ []
 spread_row = refl

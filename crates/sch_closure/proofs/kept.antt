@@ -5,4 +5,4 @@ pub mod ProgramKept
 pub mod ScopedKept
 pub mod ValidKept
 pub mod VariablesKept
-pub mod ObjectFreeKept
+pub mod CoveredKept

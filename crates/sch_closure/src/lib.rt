@@ -8,12 +8,12 @@ ghost use Rattle.sch_cells.specs.Bodies.{bodies_of};
 ghost use Rattle.sch_cells.specs.BoxedMeaning.{run};
 ghost use Rattle.sch_cells.specs.ProgramView.{source};
 ghost use Rattle.sch_cells.specs.Measures.{call_sites_of, dropped_of, program_size, sites_of, tests_of};
-ghost use Rattle.sch_cells.specs.ObjectFree.{is_object_free_program};
+ghost use Rattle.sch_cells.specs.Covered.{is_covered_program};
 ghost use Rattle.sch_cells.specs.View.{trees_of as trees};
 ghost use Rattle.sch_flat.specs.Measures as measures;
 ghost use Rattle.sch_flat.specs.ProgramView as view;
 ghost use Rattle.sch_flat.specs.Run as meaning;
-ghost use Rattle.sch_flat.specs.ObjectFree as object_free;
+ghost use Rattle.sch_flat.specs.Covered as covered;
 ghost use Rattle.sch_flat.specs.View.{body, made, trees_of};
 ghost use Rattle.sch_closure.specs.Closed.{closed_source};
 ghost use Rattle.sch_closure.specs.Kept.{SameItems, flat_forms, forms_in, procedure_of, procedures_in, weight_after, weight_before};
@@ -54,7 +54,7 @@ pub fn close(alloc: Global, p: &CellProgram<Boxed>) -> Result<FlatProgram, Mem>
     ensures size { IfOk result (λ q. measures.program_size (view.source q) ≡ program_size (source p.now)) }
     // It weighs what `p` does.
     ensures weight { IfOk result (λ q. weight_after (view.source q) ≡ weight_before (source p.now)) }
-    ensures object_free { IfOk result (λ q. IsTrue (is_object_free_program (source p.now)) → IsTrue (object_free.is_object_free_program (view.source q))) }
+    ensures covered { IfOk result (λ q. IsTrue (is_covered_program (source p.now)) → IsTrue (covered.is_covered_program (view.source q))) }
 {
     close_program(alloc, p)
 }

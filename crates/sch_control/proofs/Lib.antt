@@ -1,5 +1,5 @@
 mod Examples
 mod ReadingExamples
 mod ValidExamples
-mod ObjectFreeExamples
+mod CoveredExamples
 mod WorkExamples

@@ -6,10 +6,10 @@ pub mod ProgramView
 pub mod Run
 pub mod Sizes
 pub mod SourceView
-pub mod Straight
+pub mod CoveredOperands
 pub mod Tree
 pub mod Valid
 pub mod View
-pub mod ObjectFree
+pub mod Covered
 pub mod Weights
 pub mod Work

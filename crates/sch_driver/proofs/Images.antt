@@ -46,7 +46,7 @@ use Rattle.sch_lang.specs.Measures as core
 use Rattle.sch_lang.specs.Tree as lang
 use Rattle.sch_driver.specs.declared.error.CompileError.{CompileError}
 use Rattle.sch_driver.specs.declared.error.CompileError.TheVariants as compile_error
-use Rattle.sch_driver.specs.Causes.{IsBuilt, IsErrorOf, HasFrames, text_bound}
+use Rattle.sch_driver.specs.Causes.{IsErrorOf, HasFrames, Means, text_bound}
 use Rattle.sch_driver.specs.Assembled.{IsAssembled, IsFrameSize, IsUnfit, assembled_bound, of_assembly, steps_of}
 use Rattle.sch_driver.proofs.Resolved.{resolved_many}
 use Rattle.sch_driver.proofs.Steps.{ends_later, steps_fit}
@@ -62,7 +62,7 @@ image_follows text words zeros image runs lies f =
     subst (λ a. FollowsRuns a (memory image.segments) runs) (sym lies.entry)
     (subst (λ segments. FollowsRuns text_address segments runs) (sym (memory_is text words zeros image lies)) f)
 
-image_ends : (text words : List ℕ) (zeros : ℕ) (image : Image) (runs : List Answer → ℕ → Run) (bound : ℕ → ℕ → ℕ) → IsProgramImage text words zeros image
+image_ends : (text words : List ℕ) (zeros : ℕ) (image : Image) (runs : List Answer → ℕ → Run) (bound : ℕ → ℕ → ℕ → ℕ) → IsProgramImage text words zeros image
     → EndsWithin text_address (text_at text ∷ data_at (words ++ replicate zeros 0) ∷ []) runs bound → EndsWithin image.entry (memory image.segments) runs bound
 image_ends text words zeros image runs bound lies f =
     subst (λ a. EndsWithin a (memory image.segments) runs bound) (sym lies.entry)
@@ -114,7 +114,7 @@ assembled p f heap depth a routines code marks words text zeros image instructio
       ends = λ runs are.
           image_ends (flat_map spelling code) words a.zeros image runs (steps_of instructions) lies'
           (ends_later text_address (text_at (flat_map spelling code) ∷ data_at (words ++ replicate a.zeros 0) ∷ []) runs (steps_bound f) (steps_of instructions)
-          (λ entries answers. steps_fit (program_size f + (closures_in f.bodies + length f.bodies)) (instructions_in a.items) instructions entries answers units many)
+          (λ entries answers charged. steps_fit (program_size f + (closures_in f.bodies + length f.bodies)) (instructions_in a.items) instructions entries answers charged units many)
           (ends.ends routines.items code marks words effective a.marked routines.marked resolved valid short runs
           (frames_runs p f heap depth same runs are)));
     }
@@ -122,7 +122,7 @@ assembled p f heap depth a routines code marks words text zeros image instructio
 -- ## What is too large
 
 -- the text of a program's items and of the routines, by the work in its bodies
-pub text_within : (f : frames.Source) (a routines : List Item) (work : ℕ) → text_size a ≤ 512 + 64 * (program_size f + closures_in f.bodies) → program_work f ≤ work
+pub text_within : (f : frames.Source) (a routines : List Item) (work : ℕ) → text_size a ≤ 2048 + 64 * (program_size f + closures_in f.bodies) → program_work f ≤ work
     → text_size routines ≤ 1024 → text_size (a ++ routines) ≤ 65536 + 64 * work
 text_within f a routines work text done short = let e = size_append a routines in omega (arith, e, text, done, short)
 
@@ -148,12 +148,11 @@ bound_chain p q code h size = omega (arith, h, size)
 pub frame_chain : (p : lang.Source) (q : control.Source) (words : ℕ) → RunsAs p q → IsFrameSize q words → most_variables q.bodies ≤ 2 + bodies.most_variables p → HasFrames p words
 frame_chain p q words runs f h = let bound = f.bound in record { control = q; runs = runs; largest = f.largest; few = f.few; bound = omega (arith, bound, h) }
 
--- a text that is built, and unfit for its control program
-pub too_large : (text : List ℕ) (p : lang.Source) (q : control.Source) (depth : ℕ) (e : CompileError) → IsBuilt text p → RunsAs p q → codes_work q.bodies ≤ 7 * core.program_size p
-    → most_variables q.bodies ≤ 2 + bodies.most_variables p → IsUnfit q depth e → IsErrorOf text depth e
-too_large text p q depth (compile_error.TextTooLarge bytes) built runs size most unfit = record { program = p; built = built; large = unfit.0; bound = omega (arith, unfit.1, size) }
-too_large text p q depth (compile_error.StackTooLarge words) built runs size most unfit = record { program = p; built = built; large = unfit.0; frame = frame_chain p q words runs unfit.1 most }
-too_large text p q depth compile_error.Memory built runs size most unfit = tt
-too_large text p q depth (compile_error.Read e) built runs size most unfit = absurd unfit
-too_large text p q depth (compile_error.Core e) built runs size most unfit = absurd unfit
-too_large text p q depth (compile_error.NotBuilt at) built runs size most unfit = absurd unfit
+-- a text that means a program, and unfit for its control program
+pub too_large : (library text : List ℕ) (p : lang.Source) (q : control.Source) (depth : ℕ) (e : CompileError) → Means library text p → RunsAs p q → codes_work q.bodies ≤ 7 * core.program_size p
+    → most_variables q.bodies ≤ 2 + bodies.most_variables p → IsUnfit q depth e → IsErrorOf library text depth e
+too_large library text p q depth (compile_error.TextTooLarge bytes) means runs size most unfit = record { program = p; means = means; large = unfit.0; bound = omega (arith, unfit.1, size) }
+too_large library text p q depth (compile_error.StackTooLarge words) means runs size most unfit = record { program = p; means = means; large = unfit.0; frame = frame_chain p q words runs unfit.1 most }
+too_large library text p q depth compile_error.Memory means runs size most unfit = tt
+too_large library text p q depth (compile_error.Read part e) means runs size most unfit = absurd unfit
+too_large library text p q depth (compile_error.Core part e) means runs size most unfit = absurd unfit

@@ -1,5 +1,6 @@
 pub mod Images
+mod PartErrors
 pub mod Spelled
-pub mod BuiltTexts
+pub mod Meanings
 pub mod Resolved
 pub mod Steps

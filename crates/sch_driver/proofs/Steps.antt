@@ -19,13 +19,14 @@ exit_stays m n s r le = by (mach m s) refl
     by (Exited status t) f e = ap exit_of (stays m n s (Exited status t) tt le f) ∙ e
     by (Stuck cause t) f e = absurd cc
 
-pub ends_later : (entry : ℕ) (segments : List Segment) (runs : List Answer → ℕ → Run) (few many : ℕ → ℕ → ℕ)
-    → ((entries answers : ℕ) → few entries answers ≤ many entries answers) → EndsWithin entry segments runs few → EndsWithin entry segments runs many
+pub ends_later : (entry : ℕ) (segments : List Segment) (runs : List Answer → ℕ → Run) (few many : ℕ → ℕ → ℕ → ℕ)
+    → ((entries answers charged : ℕ) → few entries answers charged ≤ many entries answers charged) → EndsWithin entry segments runs few → EndsWithin entry segments runs many
 ends_later entry segments runs few many le e = record {
   within = λ g answers n status is.
       let entries = (runs answers n).entries in
       let used = (runs answers n).answers in
-      exit_stays (few entries used) (many entries used) (start entry segments g answers) (status, (runs answers n).output) (le entries used)
+      let charged = (runs answers n).charged in
+      exit_stays (few entries used charged) (many entries used charged) (start entry segments g answers) (status, (runs answers n).output) (le entries used charged)
       (e.within g answers n status is);
 }
 
@@ -35,7 +36,7 @@ paid : (a b n : ℕ) → a + 16 ≤ b → a * suc n + 16 ≤ b * suc n
 paid a b zero le = omega (arith, le)
 paid a b (suc n) le = let h = paid a b n le in let p = mul-suc a (suc n) in let q = mul-suc b (suc n) in omega (arith, h, p, q, le)
 
-pub steps_fit : (units own instructions entries answers : ℕ) → units ≤ 3 * own → suc own ≤ instructions
-    → 256 * units * suc entries + (10 * answers + 16) ≤ steps_of instructions entries answers
-steps_fit units own instructions entries answers few many =
+pub steps_fit : (units own instructions entries answers charged : ℕ) → units ≤ 3 * own → suc own ≤ instructions
+    → 256 * units * suc entries + (10 * answers + 8 * charged + 16) ≤ steps_of instructions entries answers charged
+steps_fit units own instructions entries answers charged few many =
     let h = paid (256 * units) (768 * instructions) entries (omega (arith, few, many)) in omega (arith, h)

@@ -29,9 +29,9 @@ abbrev pub assembled_bound : Source → ℕ
 assembled_bound p = text_base + 64 * codes_work p.bodies
 
 -- The most steps that a machine takes for a run that has ended: 768 for each instruction of its text, once for each
--- procedure entry of the run and once more, and 10 for each answer that the run used.
-abbrev pub steps_of : (instructions entries answers : ℕ) → ℕ
-steps_of instructions entries answers = 768 * instructions * suc entries + 10 * answers
+-- procedure entry of the run and once more, 10 for each answer that the run used, and 8 for each byte that it charged.
+abbrev pub steps_of : (instructions entries answers charged : ℕ) → ℕ
+steps_of instructions entries answers charged = 768 * instructions * suc entries + 10 * answers + 8 * charged
 
 -- The words of the largest frame: a slot for each variable, and for each of the most operands or formals.
 pub record IsFrameSize (p : Source) (words : ℕ) : Type 0 where

@@ -1,10 +1,9 @@
--- What a text means, and why one is not compiled.
-use Rattle.std.specs.Prelude.{◌≡◌, ◌<◌, ◌≤◌, ℕ, ◌+◌, ◌*◌, ◌^◌, List, [], IsTrue, Some}
+-- What a text means with a library's, and why one is not compiled.
+use Rattle.std.specs.Prelude.{◌≡◌, ◌≢◌, ◌<◌, ◌≤◌, ℕ, ◌+◌, ◌*◌, ◌^◌, List}
 use Rattle.sch_word.specs.runs.ProgramLayout.{max_text_size}
 use Rattle.sch_lang.specs.Tree as tree
 use Rattle.sch_lang.specs.Bodies.{most_variables}
 use Rattle.sch_lang.specs.Measures.{program_size}
-use Rattle.sch_lang.specs.ObjectFree.{is_object_free_program, first_object}
 use Rattle.sch_read.specs.Answer as reading
 use Rattle.sch_read.specs.declared.error.ReadError.{ReadError}
 use Rattle.sch_read.specs.declared.error.ReadError.TheVariants as read
@@ -13,35 +12,37 @@ use Rattle.sch_read.specs.Text.{Spells}
 use Rattle.sch_core.specs.Answer as expanding
 use Rattle.sch_core.specs.declared.error.CoreError.{CoreError}
 use Rattle.sch_core.specs.declared.error.CoreError.TheVariants as core
-use Rattle.sch_core.specs.Programs.{IsProgramOf, form_places}
+use Rattle.sch_core.specs.Libraries.{IsLibraryOf, IsLibraryError}
+use Rattle.sch_core.specs.Programs.{IsProgramOf}
+use Rattle.sch_numbers.specs.Programs.{Definition}
 use Rattle.sch_control.specs.Tree as control
 use Rattle.sch_frames.specs.Sizes.{most_words}
 use Rattle.sch_frames.specs.Valid.{max_words}
 use Rattle.sch_passes.specs.Chain.{RunsAs}
 use Rattle.sch_select.specs.Program.{frames_bytes, max_stack}
+use Rattle.sch_driver.specs.declared.error.Part.{Part}
+use Rattle.sch_driver.specs.declared.error.Part.TheVariants.{Library, User}
 use Rattle.sch_driver.specs.declared.error.CompileError.{CompileError}
-use Rattle.sch_driver.specs.declared.error.CompileError.TheVariants.{Read, Core, NotBuilt, StackTooLarge, TextTooLarge, Memory}
+use Rattle.sch_driver.specs.declared.error.CompileError.TheVariants.{Read, Core, TextTooLarge, StackTooLarge, Memory}
 
 -- the most bytes of a source: 1 MiB (the project's own)
 abbrev pub max_source_size : ℕ
 max_source_size = 2 ^ 20
 
--- The text is read and expanded: it spells data, and they have this core program, without a library.
-pub record Means (text : List ℕ) (p : tree.Source) : Type 0 where
+-- The text of a library is read and expanded: it spells items, and they stand for these definitions.
+pub record IsLibraryText (library : List ℕ) (ds : List Definition) : Type 0 where
+  pub items : Data
+  pub spells : Spells library items
+  pub stands : IsLibraryOf items ds
+
+-- The text is read and expanded with the text of a library: it spells data, and with the definitions of the library
+-- they have this core program.
+pub record Means (library text : List ℕ) (p : tree.Source) : Type 0 where
+  pub definitions : List Definition
+  pub defined : IsLibraryText library definitions
   pub items : Data
   pub spells : Spells text items
-  pub program : IsProgramOf [] items p
-
--- a text without a fault, all of whose forms are object-free
-pub record IsBuilt (text : List ℕ) (p : tree.Source) : Type 0 where
-  pub means : Means text p
-  pub object_free : IsTrue (is_object_free_program p)
-
--- a text without a fault, whose form at this place is the first that is not object-free
-pub record IsNotBuilt (text : List ℕ) (at : ℕ) : Type 0 where
-  pub program : tree.Source
-  pub means : Means text program
-  pub object : first_object (form_places means.items) program.forms ≡ Some at
+  pub program : IsProgramOf definitions items p
 
 -- the most bytes of the text of an image, by the size of its core program: a part for the routines and the
 -- starts of forms, and a part for each unit of the size
@@ -64,38 +65,59 @@ pub record HasFrames (program : tree.Source) (words : ℕ) : Type 0 where
   pub few : words ≤ max_words
   pub bound : words ≤ frame_bound program
 
--- A text that is built, and the words of its largest frame; at this depth such frames would take more than the
+-- A text that means a program, and the words of its largest frame; at this depth such frames would take more than the
 -- 1,073,741,824 bytes of a stack.
-pub record IsStackTooLarge (text : List ℕ) (depth words : ℕ) : Type 0 where
+pub record IsStackTooLarge (library text : List ℕ) (depth words : ℕ) : Type 0 where
   pub program : tree.Source
-  pub built : IsBuilt text program
+  pub means : Means library text program
   pub large : max_stack < frames_bytes words depth
   pub frame : HasFrames program words
 
--- A text that is built, and a number of bytes that is more than the text of an image may have, and no more
+-- A text that means a program, and a number of bytes that is more than the text of an image may have, and no more
 -- than what that of its core program has at most.
-pub record IsTextTooLarge (text : List ℕ) (bytes : ℕ) : Type 0 where
+pub record IsTextTooLarge (library text : List ℕ) (bytes : ℕ) : Type 0 where
   pub program : tree.Source
-  pub built : IsBuilt text program
+  pub means : Means library text program
   pub large : max_text_size < bytes
   pub bound : bytes ≤ text_bound program
 
--- The error is one of the text, compiled for a depth. Out of memory may come in place of any other, and is named so alone.
-abbrev pub IsErrorOf : List ℕ → (depth : ℕ) → CompileError → Type 0
-IsErrorOf text depth (Read read.Memory) = ⊥
-IsErrorOf text depth (Read error) = reading.IsErrorIn text error
-IsErrorOf text depth (Core core.Memory) = ⊥
-IsErrorOf text depth (Core error) = (items : Data) × Spells text items × expanding.IsErrorIn [] items error
-IsErrorOf text depth (NotBuilt at) = IsNotBuilt text at
-IsErrorOf text depth (StackTooLarge words) = IsStackTooLarge text depth words
-IsErrorOf text depth (TextTooLarge bytes) = IsTextTooLarge text bytes
-IsErrorOf text depth Memory = Unit {0}
+-- an error of a text that is not read
+abbrev pub IsReadErrorOf : List ℕ → ReadError → Type 0
+IsReadErrorOf text error = (error ≢ read.Memory) × reading.IsErrorIn text error
+
+-- The text of a library is read: it spells items, and they stand for no definitions, by this error.
+pub record IsLibraryErrorOf (library : List ℕ) (error : CoreError) : Type 0 where
+  pub known : error ≢ core.Memory
+  pub items : Data
+  pub spells : Spells library items
+  pub wrong : IsLibraryError items error
+
+-- The text of a library is read and expanded, and the text is read: it spells data, and with the definitions of the
+-- library they have no core program, by this error.
+pub record IsCoreErrorOf (library text : List ℕ) (error : CoreError) : Type 0 where
+  pub known : error ≢ core.Memory
+  pub definitions : List Definition
+  pub defined : IsLibraryText library definitions
+  pub items : Data
+  pub spells : Spells text items
+  pub wrong : expanding.IsErrorIn definitions items error
+
+-- The error is one of the text of a library, or else one of the text, compiled for a depth. Out of memory may come in
+-- place of any other, and is named so alone.
+abbrev pub IsErrorOf : (library text : List ℕ) → (depth : ℕ) → CompileError → Type 0
+IsErrorOf library text depth (Read Library error) = IsReadErrorOf library error
+IsErrorOf library text depth (Core Library error) = IsLibraryErrorOf library error
+IsErrorOf library text depth (Read User error) = ((ds : List Definition) × IsLibraryText library ds) × IsReadErrorOf text error
+IsErrorOf library text depth (Core User error) = IsCoreErrorOf library text error
+IsErrorOf library text depth (TextTooLarge bytes) = IsTextTooLarge library text bytes
+IsErrorOf library text depth (StackTooLarge words) = IsStackTooLarge library text depth words
+IsErrorOf library text depth Memory = Unit {0}
 
 -- the error of a text that is not read, and of data that are not expanded
-abbrev pub of_reading : ReadError → CompileError
-of_reading read.Memory = Memory
-of_reading error = Read error
+abbrev pub of_reading : Part → ReadError → CompileError
+of_reading part read.Memory = Memory
+of_reading part error = Read part error
 
-abbrev pub of_expanding : CoreError → CompileError
-of_expanding core.Memory = Memory
-of_expanding error = Core error
+abbrev pub of_expanding : Part → CoreError → CompileError
+of_expanding part core.Memory = Memory
+of_expanding part error = Core part error

@@ -3,7 +3,7 @@
 ghost use Rattle.std.specs.Prelude.{◌≡◌, ◌<◌, ◌≤◌, map, IfOk, IfErr, IsTrue, OnOk};
 ghost use Rattle.std.specs.List.{flat_map};
 ghost use Rattle.sch_insn.specs.Spelling.{AllValid, spelling};
-ghost use Rattle.sch_control.specs.ObjectFree.{is_object_free_program};
+ghost use Rattle.sch_control.specs.Covered.{is_covered_program};
 ghost use Rattle.sch_control.specs.ProgramView.{source};
 ghost use Rattle.sch_frames.specs.Layout.{slots_code};
 ghost use Rattle.sch_frames.specs.Valid.{max_words};
@@ -63,13 +63,14 @@ fn check_stack(words: u32, depth: u64) -> Result<(), CompileError>
     Ok(())
 }
 
-/// The image of an object-free program, under limits of heap and depth. The stack is looked at before the text.
+/// The image of a control program none of whose calls spreads a list, under limits of heap and depth. The
+/// stack is looked at before the text.
 pub(crate) fn assemble(
     alloc: Global,
     p: &ControlProgram,
     limits: Limits,
 ) -> Result<Assembled, CompileError>
-    requires object_free { IsTrue (is_object_free_program (source p.now)) }
+    requires covered { IsTrue (is_covered_program (source p.now)) }
     ensures does { IfOk result (λ a. IsAssembled (source p.now) limits.heap limits.depth a.frame_words a.instructions a.image) }
     ensures marks { IfOk result (λ a. map (λ m. m.kind) a.marks ≡ kinds_of 0 (map slots_code (source p.now).bodies)) }
     ensures refused { IfErr result (IsUnfit (source p.now) limits.depth) }

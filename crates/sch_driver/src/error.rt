@@ -11,49 +11,53 @@ use sch_read::ReadError;
 use sch_word::Mem;
 use thiserror::Error;
 
+/// Which text an error is of.
+#[derive(Clone, Copy, Debug)]
+pub enum Part {
+    /// The library's text.
+    Library,
+    /// The text that is compiled.
+    User,
+}
+
 /// Why a text is not compiled.
 #[derive(Debug, Drop, Error)]
 pub enum CompileError {
     /// The reader does not accept the text, for another cause than a lack of memory.
     #[error("not read")]
-    Read(ReadError),
-    /// The data have no core program, for another cause than a lack of memory.
+    Read(Part, ReadError),
+    /// The data have no core program, or the library's no definitions, for another cause than a lack of memory.
     #[error("not expanded")]
-    Core(CoreError),
-    /// The top-level form at this place is the first that is not object-free.
-    #[error("byte {0}: not built")]
-    NotBuilt(u32),
+    Core(Part, CoreError),
+    /// The text of the image would have this number of bytes, more than 16,777,216.
+    #[error("text of {0} bytes")]
+    TextTooLarge(u64),
     /// Frames of this number of words would take more than 1,073,741,824 bytes of stack at the depth that is
     /// asked for.
     #[error("frames of {0} words")]
     StackTooLarge(u64),
-    /// The text of the image would have this number of bytes, more than 16,777,216.
-    #[error("text of {0} bytes")]
-    TextTooLarge(u64),
     /// Out of memory, wherever it came up.
     #[error("out of memory")]
     Memory,
 }
 
-impl From<ReadError> for CompileError {
-    ghost from_gives = { λ cause e. e ≡ of_reading cause };
-
-    fn from(cause: ReadError) -> CompileError {
-        match cause {
-            ReadError::Memory => CompileError::Memory,
-            _ => CompileError::Read(cause),
-        }
+/// The error of a part that is not read.
+pub(crate) fn of_reading(part: Part, cause: ReadError) -> CompileError
+    ensures { result ≡ of_reading part cause }
+{
+    match cause {
+        ReadError::Memory => CompileError::Memory,
+        _ => CompileError::Read(part, cause),
     }
 }
 
-impl From<CoreError> for CompileError {
-    ghost from_gives = { λ cause e. e ≡ of_expanding cause };
-
-    fn from(cause: CoreError) -> CompileError {
-        match cause {
-            CoreError::Memory => CompileError::Memory,
-            _ => CompileError::Core(cause),
-        }
+/// The error of a part that is not expanded.
+pub(crate) fn of_expanding(part: Part, cause: CoreError) -> CompileError
+    ensures { result ≡ of_expanding part cause }
+{
+    match cause {
+        CoreError::Memory => CompileError::Memory,
+        _ => CompileError::Core(part, cause),
     }
 }
 

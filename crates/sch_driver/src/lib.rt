@@ -2,6 +2,7 @@
 #![tactic(auto)]
 
 ghost use Rattle.std.specs.Prelude.{◌≤◌, length, IfOk, IfErr};
+ghost use Rattle.sch_prelude.specs.LibraryText.{library_text};
 ghost use Rattle.sch_driver.specs.Causes.{IsErrorOf, max_source_size};
 ghost use Rattle.sch_driver.specs.Compiled.{IsCompiled};
 
@@ -14,28 +15,29 @@ mod reading;
 use crate::assembly::assemble;
 use crate::listing::names_of;
 use crate::reading::read_program;
-pub use error::CompileError;
-pub use laws::a_text_is_built_or_not;
+pub use error::{CompileError, Part};
+pub use laws::a_text_has_one_meaning;
 pub use listing::{Compiled, Listing};
 use sch_elf::write_image;
 use sch_orders::given_orders;
 use sch_passes::control_program;
+use sch_prelude::library_text;
 use sch_word::Limits;
 use std::alloc::Global;
 
 /// The most bytes of a source: 1 MiB.
 pub const MAX_SOURCE_SIZE: u64 = 1 << 20;
 
-/// Compiles a text: the file, an executable for x86-64, does what the text means, under limits of heap and
-/// depth and with the orders that are listed.
+/// Compiles a text: the file, an executable for x86-64, does what the text means with the library, under limits of heap
+/// and depth and with the orders that are listed.
 ///
-/// An error has its cause in the text, or is out of memory. No pass is quadratic in the text.
+/// An error has its cause in the text, or in that of the library, or is out of memory. No pass is quadratic in the text.
 pub fn compile(alloc: Global, text: &[u8], limits: Limits) -> Result<Compiled, CompileError>
     requires short { length text.now ≤ max_source_size }
-    ensures compiled { IfOk result (λ c. IsCompiled text.now limits.heap limits.depth c.image c.listing) }
-    ensures refused { IfErr result (IsErrorOf text.now limits.depth) }
+    ensures compiled { IfOk result (λ c. IsCompiled library_text text.now limits.heap limits.depth c.image c.listing) }
+    ensures refused { IfErr result (IsErrorOf library_text text.now limits.depth) }
 {
-    let program = read_program(alloc, text)?;
+    let program = read_program(alloc, library_text(), text)?;
     let control = control_program(alloc, &program)?;
     let assembled = assemble(alloc, &control, limits)?;
     let bodies = names_of(alloc, control.bodies.as_slice())?;

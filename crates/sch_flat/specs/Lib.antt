@@ -7,4 +7,4 @@ pub mod ProgramView
 pub mod Meaning
 pub mod Run
 pub mod Examples
-pub mod ObjectFree
+pub mod Covered

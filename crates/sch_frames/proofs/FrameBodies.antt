@@ -6,7 +6,7 @@ use Rattle.std.proofs.Math.Nat.{le-max_left, le-max_right, max-le}
 use Rattle.std.proofs.lemmas.List.{map-append, take_more}
 use Rattle.sch_word.specs.trees.Shape.{max_operands}
 use Rattle.sch_control.specs.declared.body.Body.{Body}
-use Rattle.sch_control.specs.ObjectFree as control_object_free
+use Rattle.sch_control.specs.Covered as control_covered
 use Rattle.sch_control.specs.Sizes.{expression_size, expressions_size, most_variables}
 use Rattle.sch_control.specs.SourceView as control
 use Rattle.sch_control.specs.Tree as tree
@@ -15,13 +15,13 @@ use Rattle.sch_control.specs.Work.{codes_work}
 use Rattle.sch_frames.specs.declared.body.FrameBody.{FrameBody}
 use Rattle.sch_frames.specs.Does.{FramesOf}
 use Rattle.sch_frames.specs.Layout.{slots_code, slots_layout, slots_words}
-use Rattle.sch_frames.specs.ObjectFree.{code_begins, is_object_free_code}
+use Rattle.sch_frames.specs.Covered.{code_begins, is_covered_code}
 use Rattle.sch_frames.specs.Sizes.{call_parts, calls_parts, closures_in, code_work, codes_size, entries_size, entry_size, instructions_size, largest_frame, most_words}
 use Rattle.sch_frames.specs.SourceView.{code_of, codes_of}
 use Rattle.sch_frames.proofs.layouts.LayoutSize.{slots_work}
 use Rattle.sch_frames.proofs.layouts.LayoutWork.{slots_done}
-use Rattle.sch_frames.proofs.layouts.ObjectFreeSlots.{slots_begin}
-use Rattle.sch_frames.proofs.layouts.SettledSlots.{slots_object_free}
+use Rattle.sch_frames.proofs.layouts.CoveredSlots.{slots_begin}
+use Rattle.sch_frames.proofs.layouts.SettledSlots.{slots_covered}
 use Rattle.sch_frames.proofs.layouts.SlotsFrame.{slots_does, slots_room}
 
 -- ## One body more, with its frame body
@@ -58,12 +58,12 @@ pub all_begin : (cs : List tree.Code) → list_all code_begins (map slots_code c
 all_begin [] = refl
 all_begin (c ∷ cs) = and_from _ _ (slots_begin c) (all_begin cs)
 
-pub all_object_free : (bodies : List Body) → list_all control_object_free.is_object_free_code (control.codes_of bodies) ≡ true
-    → list_all is_object_free_code (map slots_code (control.codes_of bodies)) ≡ true
-all_object_free [] h = refl
-all_object_free (b ∷ bodies) h =
+pub all_covered : (bodies : List Body) → list_all control_covered.is_covered_code (control.codes_of bodies) ≡ true
+    → list_all is_covered_code (map slots_code (control.codes_of bodies)) ≡ true
+all_covered [] h = refl
+all_covered (b ∷ bodies) h =
     let parts = and_parts _ _ h in
-    and_from _ _ (slots_object_free (control.code_of b) b.ended b.shaped b.fields parts.0) (all_object_free bodies parts.1)
+    and_from _ _ (slots_covered (control.code_of b) b.ended b.shaped b.fields parts.0) (all_covered bodies parts.1)
 
 pub all_size : (cs : List tree.Code) → codes_size (map slots_code cs) ≤ 2 * expressions_size cs + 4 * calls_parts cs + entries_size cs
 all_size [] = omega arith

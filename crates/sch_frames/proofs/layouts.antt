@@ -1,4 +1,4 @@
-pub mod ObjectFreeSlots
+pub mod CoveredSlots
 pub mod Labels
 pub mod Laid
 pub mod LayoutSize

@@ -1,4 +1,4 @@
-pub mod ObjectFree
+pub mod Covered
 pub mod Does
 pub mod Layout
 pub mod Meaning

@@ -4,12 +4,12 @@ ghost use Rattle.std.specs.Prelude.{◌≡◌, ◌≤◌, ◌+◌, ◌*◌, map,
 ghost use Rattle.std.specs.List.{list_all};
 ghost use Rattle.sch_word.specs.trees.Shape.{max_operands};
 ghost use Rattle.sch_word.specs.values.StaticsView.{statics};
-ghost use Rattle.sch_control.specs.ObjectFree as control_object_free;
+ghost use Rattle.sch_control.specs.Covered as control_covered;
 ghost use Rattle.sch_control.specs.ProgramView as control;
 ghost use Rattle.sch_control.specs.Sizes.{expressions_size, most_variables};
 ghost use Rattle.sch_control.specs.SourceView as control_bodies;
 ghost use Rattle.sch_control.specs.Work.{codes_work};
-ghost use Rattle.sch_frames.specs.ObjectFree.{code_begins, each_begins, is_object_free_code, is_object_free_program};
+ghost use Rattle.sch_frames.specs.Covered.{code_begins, each_begins, is_covered_code, is_covered_program};
 ghost use Rattle.sch_frames.specs.Does.{FramesOf, SameRuns};
 ghost use Rattle.sch_frames.specs.Layout.{slots_code};
 ghost use Rattle.sch_frames.specs.ProgramView.{source};
@@ -28,8 +28,8 @@ fn frame_bodies(alloc: Global, bodies: &[Body]) -> Result<List<FrameBody>, Mem>
     ensures made { IfOk result (λ made. codes_of made ≡ map slots_code (control_bodies.codes_of bodies.now)) }
     ensures frames { IfOk result (λ made. FramesOf (control_bodies.codes_of bodies.now) (codes_of made)) }
     ensures begin { IfOk result (λ made. IsTrue (list_all code_begins (codes_of made))) }
-    ensures object_free { IfOk result (λ made. IsTrue (list_all control_object_free.is_object_free_code (control_bodies.codes_of bodies.now))
-        → IsTrue (list_all is_object_free_code (codes_of made))) }
+    ensures covered { IfOk result (λ made. IsTrue (list_all control_covered.is_covered_code (control_bodies.codes_of bodies.now))
+        → IsTrue (list_all is_covered_code (codes_of made))) }
     ensures size { IfOk result (λ made. codes_size (codes_of made)
         ≤ 2 * expressions_size (control_bodies.codes_of bodies.now) + 4 * calls_parts (control_bodies.codes_of bodies.now)
         + entries_size (control_bodies.codes_of bodies.now)) }
@@ -55,8 +55,8 @@ pub fn frame_program(alloc: Global, p: &ControlProgram) -> Result<FrameProgram, 
     ensures library { IfOk result (λ q. q.library ≡ p.now.library) }
     ensures statics { IfOk result (λ q. statics q.statics ≡ statics p.now.statics) }
     ensures begin { IfOk result (λ q. IsTrue (each_begins (source q))) }
-    ensures object_free { IfOk result (λ q.
-        IsTrue (control_object_free.is_object_free_program (control.source p.now)) → IsTrue (is_object_free_program (source q))) }
+    ensures covered { IfOk result (λ q.
+        IsTrue (control_covered.is_covered_program (control.source p.now)) → IsTrue (is_covered_program (source q))) }
     ensures size { IfOk result (λ q. program_size (source q)
         ≤ 2 * expressions_size (control_bodies.codes_of p.now.bodies) + 4 * calls_parts (control_bodies.codes_of p.now.bodies)
         + entries_size (control_bodies.codes_of p.now.bodies)) }

@@ -2,10 +2,10 @@
 
 ghost use Rattle.std.specs.Prelude.{◌≡◌, ◌≤◌, ◌+◌, ◌*◌, ◌-◌, [], length, max, None, IfOk, IsTrue};
 ghost use Rattle.sch_word.specs.trees.Shape.{max_operands};
-ghost use Rattle.sch_control.specs.ObjectFree as control_object_free;
+ghost use Rattle.sch_control.specs.Covered as control_covered;
 ghost use Rattle.sch_control.specs.SourceView as control;
 ghost use Rattle.sch_control.specs.View.{expression};
-ghost use Rattle.sch_frames.specs.ObjectFree.{code_begins, is_object_free_code};
+ghost use Rattle.sch_frames.specs.Covered.{code_begins, is_covered_code};
 ghost use Rattle.sch_frames.specs.Does.{FrameOf};
 ghost use Rattle.sch_frames.specs.Layout.{entering, is_entered, labels, lay, most_operands, own_slots, slots_base, slots_code, slots_words};
 ghost use Rattle.sch_control.specs.Sizes.{expression_size};
@@ -123,8 +123,8 @@ pub fn frame_slots(alloc: Global, b: &Body) -> Result<FrameBody, Mem>
     ensures made { IfOk result (λ f. code_of f ≡ slots_code (control.code_of b.now)) }
     ensures same { IfOk result (λ f. FrameOf (control.code_of b.now) (code_of f)) }
     ensures begins { IfOk result (λ f. IsTrue (code_begins (code_of f))) }
-    ensures object_free { IfOk result (λ f.
-        IsTrue (control_object_free.is_object_free_code (control.code_of b.now)) → IsTrue (is_object_free_code (code_of f))) }
+    ensures covered { IfOk result (λ f.
+        IsTrue (control_covered.is_covered_code (control.code_of b.now)) → IsTrue (is_covered_code (code_of f))) }
     ensures words { IfOk result (λ f. f.words ≡ slots_words (control.code_of b.now)) }
     // Beside its variables a frame has at most as many words as a call may have operands.
     ensures frame_words { IfOk result (λ f. f.words ≤ max_operands + b.now.variables) }

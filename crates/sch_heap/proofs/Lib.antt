@@ -5,4 +5,7 @@ pub mod Products
 pub mod Quotients
 pub mod Spots
 pub mod Encodings
+pub mod Ranges
 pub mod Contents
+pub mod Objects
+pub mod Elements

@@ -1,19 +1,43 @@
 -- Parts keep their places, have no word in common, and a new one lies behind the others.
-use Rattle.std.proofs.Common.{◌≡◌, ℕ, suc, ◌+◌, ◌≤◌, List, [], ◌∷◌, ◌++◌, Bool, true, false, cond, Some, None, refl, sym, ap, ◌∙◌, subst, arith, ◌⊎◌, inl, inr, eq-eqb}
+use Rattle.std.proofs.Common.{◌≡◌, ℕ, suc, ◌+◌, ◌≤◌, List, [], ◌∷◌, ◌++◌, Bool, true, false, cond, Some, None, refl, sym, ap, ◌∙◌, subst, arith, ◌⊎◌, inl, inr, ⊎_elim, eq-eqb, ◌||◌}
 use Rattle.std.proofs.lemmas.Bool.{eqb-true}
-use Rattle.sch_heap.specs.Parts.{Owner, a_procedure, a_cell, same_owner, Part, Parts, units, end_of, Spot, spot_from, spot, grown}
+use Rattle.sch_heap.specs.Parts.{Owner, a_procedure, a_cell, a_pair, a_vector, a_string, same_owner, Part, Parts, units, end_of, Spot, spot_from, spot, grown}
 
 -- ---- owners
 
 pub owner_same : (o : Owner) → same_owner o o ≡ true
 owner_same (a_procedure n) = eq-eqb n n refl
 owner_same (a_cell n) = eq-eqb n n refl
+owner_same (a_pair n) = eq-eqb n n refl
+owner_same (a_vector n) = eq-eqb n n refl
+owner_same (a_string n) = eq-eqb n n refl
 
 pub same_says : (a b : Owner) → same_owner a b ≡ true → a ≡ b
 same_says (a_procedure m) (a_procedure n) e = ap a_procedure (eqb-true m n e)
 same_says (a_cell m) (a_cell n) e = ap a_cell (eqb-true m n e)
+same_says (a_pair m) (a_pair n) e = ap a_pair (eqb-true m n e)
+same_says (a_vector m) (a_vector n) e = ap a_vector (eqb-true m n e)
+same_says (a_string m) (a_string n) e = ap a_string (eqb-true m n e)
 same_says (a_procedure m) (a_cell n) e = absurd (let bad : false ≡ true = e in cc)
+same_says (a_procedure m) (a_pair n) e = absurd (let bad : false ≡ true = e in cc)
+same_says (a_procedure m) (a_vector n) e = absurd (let bad : false ≡ true = e in cc)
+same_says (a_procedure m) (a_string n) e = absurd (let bad : false ≡ true = e in cc)
 same_says (a_cell m) (a_procedure n) e = absurd (let bad : false ≡ true = e in cc)
+same_says (a_cell m) (a_pair n) e = absurd (let bad : false ≡ true = e in cc)
+same_says (a_cell m) (a_vector n) e = absurd (let bad : false ≡ true = e in cc)
+same_says (a_cell m) (a_string n) e = absurd (let bad : false ≡ true = e in cc)
+same_says (a_pair m) (a_procedure n) e = absurd (let bad : false ≡ true = e in cc)
+same_says (a_pair m) (a_cell n) e = absurd (let bad : false ≡ true = e in cc)
+same_says (a_pair m) (a_vector n) e = absurd (let bad : false ≡ true = e in cc)
+same_says (a_pair m) (a_string n) e = absurd (let bad : false ≡ true = e in cc)
+same_says (a_vector m) (a_procedure n) e = absurd (let bad : false ≡ true = e in cc)
+same_says (a_vector m) (a_cell n) e = absurd (let bad : false ≡ true = e in cc)
+same_says (a_vector m) (a_pair n) e = absurd (let bad : false ≡ true = e in cc)
+same_says (a_vector m) (a_string n) e = absurd (let bad : false ≡ true = e in cc)
+same_says (a_string m) (a_procedure n) e = absurd (let bad : false ≡ true = e in cc)
+same_says (a_string m) (a_cell n) e = absurd (let bad : false ≡ true = e in cc)
+same_says (a_string m) (a_pair n) e = absurd (let bad : false ≡ true = e in cc)
+same_says (a_string m) (a_vector n) e = absurd (let bad : false ≡ true = e in cc)
 
 -- ---- one part, by a case on its owner
 
@@ -110,6 +134,30 @@ units_append (x ∷ xs) ys = let h = units_append xs ys in omega (arith, h)
 
 pub end_grown : (parts : Parts) (others : List Part) → end_of (grown parts others) ≡ end_of parts + units others
 end_grown parts others = let h = units_append parts.list others in omega (arith, h)
+
+-- ---- among more parts
+
+abbrev pub among : List Part → Owner → Bool
+among [] o = false
+among (p ∷ parts) o = same_owner p.owner o || among parts o
+
+found_among : (unit : ℕ) (parts : List Part) (o : Owner) (at : Spot) → spot_from unit parts o ≡ Some at → among parts o ≡ true
+found_among unit [] o at e = absurd (let bad : None ≡ Some at = e in cc)
+found_among unit (p ∷ parts) o at e =
+    by_first unit p parts o at (among (p ∷ parts) o ≡ true) e
+    (λ s f. ap (λ b. b || among parts o) s)
+    (λ s f. ap (λ b. b || among parts o) s ∙ found_among (unit + suc p.more) parts o at f)
+
+split_from : (unit : ℕ) (parts others : List Part) (o : Owner) (at : Spot) → spot_from unit (parts ++ others) o ≡ Some at → (spot_from unit parts o ≡ Some at) ⊎ (among others o ≡ true)
+split_from unit [] others o at e = inr (found_among unit others o at e)
+split_from unit (p ∷ parts) others o at e =
+    by_first unit p (parts ++ others) o at ((spot_from unit (p ∷ parts) o ≡ Some at) ⊎ (among others o ≡ true)) e
+    (λ s f. inl (found_first unit p parts o s ∙ ap Some f))
+    (λ s f. ⊎_elim (λ h. inl (found_behind unit p parts o s ∙ h)) (λ h. inr h) (split_from (unit + suc p.more) parts others o at f))
+
+-- a part is one of the old, or its owner is among those of the new
+pub spot_split : (parts : Parts) (others : List Part) (o : Owner) (at : Spot) → spot (grown parts others) o ≡ Some at → (spot parts o ≡ Some at) ⊎ (among others o ≡ true)
+spot_split parts others o at e = split_from parts.first parts.list others o at e
 
 -- ---- an owner for each place
 

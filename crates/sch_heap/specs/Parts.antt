@@ -1,14 +1,20 @@
 -- The parts of a heap, each with its owner, in the order of their making.
 use Rattle.std.specs.Prelude.{ℕ, suc, ◌+◌, Bool, false, cond, nat_eq, List, [], ◌∷◌, ◌++◌, Option, Some, None}
 
--- whose a part is: a procedure's record, or the cell of a variable, by its number
+-- whose a part is: a procedure's record, the cell of a variable, or an object of a kind, by its number
 pub data Owner : Type 0 where
   a_procedure : ℕ → Owner
   a_cell : ℕ → Owner
+  a_pair : ℕ → Owner
+  a_vector : ℕ → Owner
+  a_string : ℕ → Owner
 
 abbrev pub same_owner : Owner → Owner → Bool
 same_owner (a_procedure m) (a_procedure n) = nat_eq m n
 same_owner (a_cell m) (a_cell n) = nat_eq m n
+same_owner (a_pair m) (a_pair n) = nat_eq m n
+same_owner (a_vector m) (a_vector n) = nat_eq m n
+same_owner (a_string m) (a_string n) = nat_eq m n
 same_owner _ _ = false
 
 -- a part takes a unit of 16 bytes, and perhaps more
@@ -16,10 +22,11 @@ pub record Part : Type 0 where
   pub owner : Owner
   pub more : ℕ
 
--- the units before the first part, and the parts one behind the other
+-- the units before the first part, and the parts one behind the other; how many symbols there are, which have no parts
 pub record Parts : Type 0 where
   pub first : ℕ
   pub list : List Part
+  pub symbols : ℕ
 
 -- how many units some parts take
 abbrev pub units : List Part → ℕ

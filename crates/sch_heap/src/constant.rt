@@ -30,11 +30,23 @@ pub mod word {
 
     /// The low three bits of a cell's word.
     pub const CELL: i32 = 7;
+
+    /// The low three bits of a pair's word.
+    pub const PAIR: i32 = 1;
+
+    /// The low three bits of a vector's word.
+    pub const VECTOR: i32 = 2;
+
+    /// The low three bits of a string's word.
+    pub const STRING: i32 = 3;
+
+    /// The low three bits of a symbol's word.
+    pub const SYMBOL: i32 = 5;
 }
 
-use word::{CHARACTER, FALSE, NIL, TRUE, UNSPECIFIED};
+use word::{CHARACTER, FALSE, NIL, SYMBOL, TRUE, UNSPECIFIED};
 
-/// The word of a constant, as a number with a sign. Symbols have none yet.
+/// The word of a constant, as a number with a sign.
 pub fn constant_number(c: Const) -> i64
     ensures { result ≡ constant_number c }
 {
@@ -45,6 +57,6 @@ pub fn constant_number(c: Const) -> i64
         Const::Boolean(false) => FALSE as i64,
         Const::Nil => NIL as i64,
         Const::Unspecified => UNSPECIFIED as i64,
-        Const::Symbol(_) => 0,
+        Const::Symbol(n) => 8 * n as i64 + SYMBOL as i64,
     }
 }

@@ -1,4 +1,5 @@
 pub mod BodyCounts
+pub mod CoveredPrograms
 pub mod Environments
 mod Loop
 pub mod Measured

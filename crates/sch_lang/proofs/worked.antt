@@ -1,6 +1,6 @@
 mod BodyExamples
 mod Examples
-mod ObjectFreeExamples
+mod CoveredExamples
 mod OrderExamples
 pub mod Rows
 mod SizeExamples

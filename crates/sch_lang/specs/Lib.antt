@@ -11,4 +11,4 @@ pub mod Tree
 pub mod Valid
 pub mod Variables
 pub mod View
-pub mod ObjectFree
+pub mod Covered

@@ -4,13 +4,13 @@ use Rattle.std.specs.Prelude.{nat_eq}
 use Rattle.std.specs.Str.{bytes_eq}
 use Rattle.std.proofs.lemmas.Bool.{eqb-true}
 use Rattle.sch_word.specs.declared.primitive.Primitive.{Primitive}
-use Rattle.sch_word.specs.declared.primitive.Primitive.TheVariants.{Add, Subtract, Multiply, Equal, Less, Greater, LessEqual, GreaterEqual, MakeString, MakeVector, Put}
+use Rattle.sch_word.specs.declared.primitive.Primitive.TheVariants.{Add, Subtract, Multiply, Equal, Less, Greater, LessEqual, GreaterEqual, MakeString, MakeVector}
 use Rattle.sch_word.specs.values.Primitives.{operands_of}
 use Rattle.sch_names.specs.declared.keyword.Keyword.{Keyword}
 use Rattle.sch_names.specs.declared.operation.Operation.{Operation}
-use Rattle.sch_names.specs.declared.operation.Operation.TheVariants.{Exact, Unit, UnitAnd, Nested, Chained, Filled, Newline, Not}
+use Rattle.sch_names.specs.declared.operation.Operation.TheVariants.{Exact, Unit, UnitAnd, Nested, Chained, Filled, Not}
 use Rattle.sch_names.specs.Operations.{exactly, arithmetic, comparison, filling, admitted, other_operation, by_primitive, primitive_of, operation_of}
-use Rattle.sch_names.specs.Scope.{Scope, Globals, find, is_procedure_name, operating, head, head_of}
+use Rattle.sch_names.specs.Scope.{Scope, Globals, find, is_among, operating, head, head_of}
 use Rattle.sch_names.specs.Words.{keyword_of}
 
 abbrev pub Admits : Operation → ℕ → Type 0
@@ -20,7 +20,6 @@ Admits (UnitAnd p) n = (n ≡ 1) × (operands_of p ≡ 2)
 Admits (Nested p) n = (2 < n) × (operands_of p ≡ 2)
 Admits (Chained p) n = (2 < n) × (operands_of p ≡ 2)
 Admits (Filled p) n = (n ≡ 1) × (operands_of p ≡ 2)
-Admits Newline n = n ≡ 0
 Admits Not n = n ≡ 1
 
 abbrev AdmitsIfAny : Option Operation → ℕ → Type 0
@@ -50,10 +49,6 @@ either : (n : ℕ) (b : Bool) (o p : Option Operation) → AdmitsIfAny o n → A
 either n true o p h k = h
 either n false o p h k = k
 
-only_none : (n : ℕ) (b : Bool) → nat_eq n 0 ≡ b → AdmitsIfAny (cond b (Some Newline) None) n
-only_none n true e = eqb-true n 0 e
-only_none n false e = refl
-
 only_one : (n : ℕ) (b : Bool) → nat_eq n 1 ≡ b → AdmitsIfAny (cond b (Some Not) None) n
 only_one n true e = eqb-true n 1 e
 only_one n false e = refl
@@ -82,9 +77,7 @@ primitive_admits p n = exactly_admits p n
 
 other_admits : (x : List ℕ) (n : ℕ) → AdmitsIfAny (other_operation x n) n
 other_admits x n =
-    either n (bytes_eq x (codes "not")) _ _ (only_one n (nat_eq n 1) refl)
-    (either n (bytes_eq x (codes "display")) _ _ (exactly_admits Put n)
-    (either n (bytes_eq x (codes "newline")) _ _ (only_none n (nat_eq n 0) refl) refl))
+    either n (bytes_eq x (codes "not")) _ _ (only_one n (nat_eq n 1) refl) refl
 
 by_primitive_admits : (p : Option Primitive) (x : List ℕ) (n : ℕ) → AdmitsIfAny (by_primitive p x n) n
 by_primitive_admits (Some p) x n = primitive_admits p n
@@ -103,5 +96,5 @@ of_head None false None (Some o) p e = cc
 
 pub operation_admits : (globals : Globals) (s : Scope) (x : List ℕ) (n : ℕ) (o : Operation) → head_of globals s x n ≡ operating o → Admits o n
 operation_admits globals s x n o e =
-    let f : operation_of globals.internal x n ≡ Some o = of_head (find s x) (is_procedure_name globals x) (keyword_of x) (operation_of globals.internal x n) o e in
+    let f : operation_of globals.internal x n ≡ Some o = of_head (find s x) (is_among x globals.own) (keyword_of x) (operation_of globals.internal x n) o e in
     subst (λ p. AdmitsIfAny p n) f (name_admits globals.internal x n)

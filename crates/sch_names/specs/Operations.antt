@@ -1,12 +1,12 @@
 -- Which combinations are operations: the primitives' names, each with the counts of operands that it
 -- admits (R5RS 6.1 to 6.4), and `not` (R5RS 6.3.1).
-use Rattle.std.specs.Prelude.{ℕ, zero, suc, ℤ, pos, Bool, ◌||◌, cond, nat_eq, List, [], ◌∷◌, Option, Some, None, if◌then◌else◌, codes}
+use Rattle.std.specs.Prelude.{ℕ, zero, suc, ℤ, pos, Bool, cond, nat_eq, List, [], ◌∷◌, Option, Some, None, if◌then◌else◌, codes}
 use Rattle.std.specs.Str.{bytes_eq}
 use Rattle.sch_word.specs.declared.primitive.Primitive.{Primitive}
 use Rattle.sch_word.specs.declared.primitive.Primitive.TheVariants.{Eq, Eqv, IsBoolean, IsPair, IsNull, IsSymbol, IsInteger, IsChar, IsString, IsVector, IsProcedure, Cons, Car, Cdr, SetCar, SetCdr, Add, Subtract, Multiply, Quotient, Remainder, Modulo, Equal, Less, Greater, LessEqual, GreaterEqual, CharToInteger, IntegerToChar, MakeString, StringLength, StringRef, StringSet, MakeVector, VectorLength, VectorRef, VectorSet, Put, SymbolLength, SymbolRef}
 use Rattle.sch_word.specs.values.Primitives.{name_of, operands_of}
 use Rattle.sch_names.specs.declared.operation.Operation.{Operation}
-use Rattle.sch_names.specs.declared.operation.Operation.TheVariants.{Exact, Unit, UnitAnd, Nested, Chained, Filled, Newline, Not}
+use Rattle.sch_names.specs.declared.operation.Operation.TheVariants.{Exact, Unit, UnitAnd, Nested, Chained, Filled, Not}
 
 -- ## Primitives by their names
 
@@ -80,17 +80,9 @@ admitted p n = exactly p n
 
 -- ## Operations
 
--- `display` and `newline` of R5RS 6.6.3, which are a put as long as they are not bound
-abbrev pub is_temporary : List ℕ → Bool
-is_temporary x = bytes_eq x (codes "display") || bytes_eq x (codes "newline")
-
-abbrev pub temporary : List ℕ → ℕ → Option Operation
-temporary x n =
-    if bytes_eq x (codes "display") then exactly Put n else
-    if bytes_eq x (codes "newline") then cond (nat_eq n 0) (Some Newline) None else None
-
+-- `not` of one operand, whose name is that of no primitive
 abbrev pub other_operation : List ℕ → ℕ → Option Operation
-other_operation x n = if bytes_eq x (codes "not") then cond (nat_eq n 1) (Some Not) None else temporary x n
+other_operation x n = if bytes_eq x (codes "not") then cond (nat_eq n 1) (Some Not) None else None
 
 abbrev pub by_primitive : Option Primitive → List ℕ → ℕ → Option Operation
 by_primitive (Some p) x n = admitted p n

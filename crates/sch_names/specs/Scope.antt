@@ -1,10 +1,10 @@
 -- What a name means where it stands.
-use Rattle.std.specs.Prelude.{ℕ, zero, suc, Bool, true, false, ◌&&◌, ◌||◌, cond, List, [], ◌∷◌, Option, Some, None}
+use Rattle.std.specs.Prelude.{ℕ, zero, suc, Bool, true, false, cond, List, [], ◌∷◌, Option, Some, None}
 use Rattle.std.specs.Str.{bytes_eq}
 use Rattle.sch_names.specs.declared.keyword.Keyword.{Keyword}
 use Rattle.sch_names.specs.declared.operation.Operation.{Operation}
 use Rattle.sch_names.specs.Words.{keyword_of}
-use Rattle.sch_names.specs.Operations.{is_temporary, operation_of}
+use Rattle.sch_names.specs.Operations.{operation_of}
 
 -- The variables that are bound, the nearest first: a list of bindings. One that a rewriting adds has
 -- no name, so no name of the text means it.
@@ -57,11 +57,7 @@ pub record Globals : Type 0 where
   pub own : List (List ℕ)
   pub internal : Bool
 
--- A name means no operation where the text defines or assigns it anywhere as a global one. `display` and
--- `newline` mean none either where they are bound, as they are by a library that has them.
-abbrev pub is_procedure_name : Globals → List ℕ → Bool
-is_procedure_name globals x = is_among x globals.own || (is_temporary x && is_among x globals.bound)
-
--- A local variable shadows a keyword and an operation.
+-- A name means no operation where the text defines or assigns it anywhere as a global one. A local variable shadows
+-- a keyword and an operation.
 abbrev pub head_of : Globals → Scope → List ℕ → ℕ → Head
-head_of globals s x n = head (find s x) (is_procedure_name globals x) (keyword_of x) (operation_of globals.internal x n)
+head_of globals s x n = head (find s x) (is_among x globals.own) (keyword_of x) (operation_of globals.internal x n)

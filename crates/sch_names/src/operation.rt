@@ -3,7 +3,7 @@
 ghost use Rattle.std.specs.Prelude.{◌≡◌};
 ghost use Rattle.std.specs.Str.{bytes_eq};
 ghost use Rattle.sch_word.specs.values.Primitives.{name_of};
-ghost use Rattle.sch_names.specs.Operations.{named_in, primitive_of, unit_of, exactly, arithmetic, comparison, filling, admitted, is_temporary, temporary, other_operation, operation_of, of_objects, of_numbers, of_sequences, of_libraries};
+ghost use Rattle.sch_names.specs.Operations.{named_in, primitive_of, unit_of, exactly, arithmetic, comparison, filling, admitted, other_operation, operation_of, of_objects, of_numbers, of_sequences, of_libraries};
 
 use sch_word::Primitive;
 
@@ -22,8 +22,6 @@ pub enum Operation {
     Chained(Primitive),
     /// `(make-string n)` or `(make-vector n)`, without what it is filled with.
     Filled(Primitive),
-    /// `(newline)`.
-    Newline,
     /// `(not a)`.
     Not,
 }
@@ -203,38 +201,14 @@ fn admitted(p: Primitive, count: usize) -> Option<Operation>
     }
 }
 
-/// Whether a name is `display` or `newline`.
-pub(crate) fn is_temporary(x: &[u8]) -> bool
-    ensures { result ≡ is_temporary x.now }
-{
-    x == b"display".as_slice() || x == b"newline".as_slice()
-}
-
-/// `display` and `newline`, as long as they are not bound.
-fn temporary(x: &[u8], count: usize) -> Option<Operation>
-    ensures { result ≡ temporary x.now count }
-{
-    if x == b"display".as_slice() {
-        exactly(Primitive::Put, count)
-    } else if x == b"newline".as_slice() && count == 0 {
-        Some(Operation::Newline)
-    } else {
-        None
-    }
-}
-
-/// Operations whose name is that of no primitive.
+/// The operation whose name is that of no primitive: `not`.
 fn other_operation(x: &[u8], count: usize) -> Option<Operation>
     ensures { result ≡ other_operation x.now count }
 {
-    if x == b"not".as_slice() {
-        if count == 1 {
-            Some(Operation::Not)
-        } else {
-            None
-        }
+    if x == b"not".as_slice() && count == 1 {
+        Some(Operation::Not)
     } else {
-        temporary(x, count)
+        None
     }
 }
 

@@ -1,14 +1,14 @@
 //! What names mean.
 
 ghost use Rattle.std.specs.Prelude.{◌≡◌, [], ◌∷◌, ◌-◌, Some, None, length, drop, OnOk};
-ghost use Rattle.sch_names.specs.Scope.{find, head_of, is_procedure_name, onto};
+ghost use Rattle.sch_names.specs.Scope.{find, head_of, onto};
 ghost use Rattle.sch_names.specs.ScopeView.{one_name, given_names};
 ghost use Rattle.sch_names.specs.HeadView.{head_view};
 ghost use Rattle.sch_names.specs.NamesView.{globals_of};
 
 use crate::keyword::{Keyword, keyword_of};
 use crate::names::Names;
-use crate::operation::{Operation, is_temporary, operation_of};
+use crate::operation::{Operation, operation_of};
 use indexmap::IndexMap;
 use sch_word::Mem;
 use std::alloc::Global;
@@ -160,13 +160,6 @@ pub enum Head {
     Calling,
 }
 
-/// Whether a name is that of a procedure where it is global, and of no operation.
-fn is_procedure_name(globals: &Globals, x: &[u8]) -> bool
-    ensures { result ≡ is_procedure_name (globals_of globals.now) x.now }
-{
-    globals.own.contains(x) || (is_temporary(x) && globals.bound.contains(x))
-}
-
 /// What a name and the number of operands make of a combination.
 pub fn head_of(globals: &Globals, scope: &Scope, x: &[u8], operands: usize) -> Head
     ensures { head_view result ≡ head_of (globals_of globals.now) scope.now x.now operands }
@@ -177,7 +170,7 @@ pub fn head_of(globals: &Globals, scope: &Scope, x: &[u8], operands: usize) -> H
     if let Some(k) = keyword_of(x) {
         return Head::Form(k);
     }
-    if is_procedure_name(globals, x) {
+    if globals.own.contains(x) {
         return Head::Calling;
     }
     match operation_of(globals.internal, x, operands) {

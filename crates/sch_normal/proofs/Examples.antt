@@ -7,14 +7,14 @@ use Rattle.sch_word.specs.declared.constant.Const.TheVariants.{Fixnum}
 use Rattle.sch_word.specs.declared.primitive.Primitive.TheVariants.{Add, Car, Cons, IsPair, Put}
 use Rattle.sch_word.specs.values.Literals.{no_literals}
 use Rattle.sch_word.specs.runs.Runs.{ended}
-use Rattle.sch_flat.specs.ObjectFree as from
+use Rattle.sch_flat.specs.Covered as from
 use Rattle.sch_flat.specs.Tree as flat
 use Rattle.sch_flat.specs.Tree.{Tree, Trees, constant, global, set_global, branch, sequence, bind, call, operation, make_closure, variable, cell_set, trees}
 use Rattle.sch_control.specs.declared.operation.Atom.TheVariants as atom
 use Rattle.sch_control.specs.declared.operation.Operand.{Operand}
 use Rattle.sch_control.specs.declared.operation.Operand.TheVariants as operand
 use Rattle.sch_control.specs.declared.operation.Operation.TheVariants as does
-use Rattle.sch_control.specs.ObjectFree.{is_object_free_program}
+use Rattle.sch_control.specs.Covered.{is_covered_program}
 use Rattle.sch_control.specs.Tree as to
 use Rattle.sch_control.specs.Tree.{Expression}
 use Rattle.sch_control.specs.Run as control
@@ -135,12 +135,12 @@ calling rest spread = record {
   sites = 2 ∷ 2 ∷ 1 ∷ [];
 }
 
-called_row : (from.is_object_free_program (calling false false) ∷ is_object_free_program (normal_source (calling false false)) ∷ []) ≡ true ∷ true ∷ []
+called_row : (from.is_covered_program (calling false false) ∷ is_covered_program (normal_source (calling false false)) ∷ []) ≡ true ∷ true ∷ []
 called_row = refl
 
 -- a procedure that takes a list, and a call that spreads one
-rest_row : (from.is_object_free_program (calling true false) ∷ is_object_free_program (normal_source (calling true false)) ∷ []) ≡ false ∷ false ∷ []
+rest_row : (from.is_covered_program (calling true false) ∷ is_covered_program (normal_source (calling true false)) ∷ []) ≡ true ∷ true ∷ []
 rest_row = refl
 
-spread_row : (from.is_object_free_program (calling false true) ∷ is_object_free_program (normal_source (calling false true)) ∷ []) ≡ false ∷ false ∷ []
+spread_row : (from.is_covered_program (calling false true) ∷ is_covered_program (normal_source (calling false true)) ∷ []) ≡ false ∷ false ∷ []
 spread_row = refl

@@ -2,5 +2,5 @@ pub mod CallsKept
 pub mod TestsKept
 pub mod DroppedKept
 pub mod BindNoMore
-pub mod ObjectFreeKept
+pub mod CoveredKept
 pub mod WorkKept

@@ -5,7 +5,7 @@ use Rattle.sch_word.specs.declared.primitive.Primitive.{Primitive}
 use Rattle.sch_word.specs.declared.primitive.Primitive.TheVariants.{Eq, Eqv, IsBoolean, IsPair, IsNull, IsSymbol, IsInteger, IsChar, IsString, IsVector, IsProcedure}
 use Rattle.sch_word.specs.trees.Bindings.{Bindings, bound_to, numbers, with_variables}
 use Rattle.sch_word.specs.runs.Orders.{order_or_none}
-use Rattle.sch_word.specs.trees.Straight.{is_empty}
+use Rattle.sch_word.specs.trees.Covered.{is_empty}
 use Rattle.sch_flat.specs.Measures.{is_atom as is_leaf}
 use Rattle.sch_flat.specs.Tree as from
 use Rattle.sch_flat.specs.Tree.{Tree, Trees, Variable, bound, free, Made, NewCell, constant, literal, variable, global, set_global, define, branch, sequence, make_closure, fix_closures, call, operation, new_cells, cell_get, cell_set, no_trees, and_tree}

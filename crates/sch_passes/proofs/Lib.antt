@@ -2,4 +2,3 @@ mod BodiesKept
 mod BodyOrder
 mod Chain
 mod Examples
-mod ObjectFreeTrees

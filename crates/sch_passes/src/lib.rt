@@ -1,17 +1,16 @@
-//! From a core program to a control program: the passes between them one after the other, and which programs take
-//! that way.
+//! From a core program to a control program: the passes between them one after the other, and which programs have
+//! stack for them.
 #![tactic(auto)]
 
 ghost use Rattle.std.specs.List.{count_by};
 ghost use Rattle.std.specs.Prelude.{◌≡◌, ◌≤◌, ◌+◌, ◌*◌, ◌^◌, ℕ, map, nat_eq, IfOk, IsTrue};
-ghost use Rattle.sch_control.specs.ObjectFree as control;
+ghost use Rattle.sch_control.specs.Covered.{is_covered_program};
 ghost use Rattle.sch_control.specs.Fits.{table_fits};
 ghost use Rattle.sch_control.specs.ProgramView as control_view;
 ghost use Rattle.sch_control.specs.Sizes as sizes;
 ghost use Rattle.sch_control.specs.Valid.{sites_of_each};
 ghost use Rattle.sch_control.specs.Work.{codes_work};
 ghost use Rattle.sch_lang.specs.Bodies.{bodies_of, most_variables};
-ghost use Rattle.sch_lang.specs.ObjectFree.{is_object_free_program};
 ghost use Rattle.sch_lang.specs.Measures as measures;
 ghost use Rattle.sch_lang.specs.Measures.{nodes_and_bound, program_size};
 ghost use Rattle.sch_lang.specs.ProgramView.{source};
@@ -21,10 +20,8 @@ ghost use Rattle.sch_normal.specs.Tests.{tests_of};
 ghost use Rattle.sch_orders.specs.Table.{given_table};
 ghost use Rattle.sch_passes.specs.Chain.{RunsAs};
 
-mod object_free;
 mod walkable;
 
-pub use object_free::first_object;
 use sch_anf::normalize;
 use sch_assign::convert_assign;
 use sch_closure::close;
@@ -33,18 +30,22 @@ use sch_lang::Program;
 use sch_rename::rename;
 use sch_word::Mem;
 use std::alloc::Global;
-pub use walkable::are_walkable;
+pub use walkable::is_walkable;
+
+/// The most procedures of a library.
+const MAX_LIBRARY: usize = 1_048_576;
 
 /// The control program of a core program: variables have numbers, assigned ones cells, procedures are records of
 /// their free variables, and operands are simple.
 ///
-/// It takes stack in proportion to the levels of `p`.
+/// It takes stack in proportion to the levels of `p`. More than 1,048,576 procedures of the library are out of memory.
 pub fn control_program(alloc: Global, p: &Program) -> Result<ControlProgram, Mem>
     requires small { nodes_and_bound (source p.now) ≤ 2 ^ 30 }
     ensures runs { IfOk result (λ q. RunsAs (source p.now) (control_view.source q)) }
     // The table that lists, at each site, what is bound and then the other parts by number fits it.
     ensures fits { IfOk result (λ q. IsTrue (table_fits (control_view.source q) (given_table (control_view.source q)))) }
-    ensures object_free { IfOk result (λ q. IsTrue (is_object_free_program (source p.now)) → IsTrue (control.is_object_free_program (control_view.source q))) }
+    // No call spreads its last operand, and there are no more procedures of the library than there may be.
+    ensures covered { IfOk result (λ q. IsTrue (is_covered_program (control_view.source q))) }
     // There is at most seven times as much work in it as the size of `p`.
     ensures work { IfOk result (λ q. codes_work (control_view.source q).bodies ≤ 7 * program_size (source p.now)) }
     // No body has more variables, its return address and its closure among them, than two more than the largest body
@@ -63,6 +64,9 @@ pub fn control_program(alloc: Global, p: &Program) -> Result<ControlProgram, Mem
     // Each body has at most two variables more than the body of `p` at its place may need.
     ensures each_variables { IfOk result (λ q. IsTrue (bind_within (control_view.source q).bodies (map (λ b. b.variables) (bodies_of (source p.now))))) }
 {
+    if p.library.len() > MAX_LIBRARY {
+        return Err(Mem);
+    }
     let renamed = rename(alloc, p)?;
     let converted = convert_assign(alloc, &renamed)?;
     let flat = close(alloc, &converted)?;

@@ -1,16 +1,29 @@
-//! Which forms the walks have stack for.
+//! Which programs the walks have stack for.
 
-use sch_lang::{Exp, Lambda};
+use sch_lang::{Exp, Lambda, Program};
 use sch_word::List;
 
-/// The most parts that the sequences of a form have together, since each is a level of the trees that are made
-/// of the form.
+/// The most parts that the sequences of a form, or of a procedure of the library, have together, since each is a level
+/// of the trees that are made of it.
 const MAX_PARTS: usize = 10_000;
 
-/// Whether the stack has room for the walks over what is made of these forms.
-pub fn are_walkable(forms: &[Exp]) -> bool {
+/// Whether the stack has room for the walks over what is made of a program.
+pub fn is_walkable(p: &Program) -> bool {
+    are_walkable(p.forms.as_slice()) && is_walkable_library(p.library.as_slice())
+}
+
+fn are_walkable(forms: &[Exp]) -> bool {
     for e in forms {
         if after_parts(e, MAX_PARTS).is_none() {
+            return false;
+        }
+    }
+    true
+}
+
+fn is_walkable_library(library: &[Lambda]) -> bool {
+    for l in library {
+        if after_parts(&l.body, MAX_PARTS).is_none() {
             return false;
         }
     }

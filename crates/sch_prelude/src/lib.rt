@@ -1,6 +1,9 @@
 //! The library: the procedures of R5RS chapter 6, as Scheme text.
 #![tactic(auto)]
 
+ghost use Rattle.std.specs.Prelude.{◌≡◌, ◌≤◌, ◌^◌, length};
+ghost use Rattle.sch_prelude.specs.LibraryText.{library_text};
+
 /// The library's text. Each of its items defines a procedure, which names itself and earlier ones alone.
 ///
 /// In it the head of a list is a primitive where the name is one and this number of operands is admitted, also where the
@@ -257,3 +260,13 @@ pub const LIBRARY: &[u8] = br##"
     ((eqv? a #\newline) (%put "newline")) (else (%put a))))
   (else (%put a))))
 "##;
+
+/// The text of the library that programs are compiled with.
+#[tactic(auto, unfolding(crate::specs::LibraryText::library_text))]
+pub fn library_text() -> &'static [u8]
+    ensures is { result.now ≡ library_text }
+    // It is no longer than a source may be.
+    ensures short { length library_text ≤ 2 ^ 20 }
+{
+    LIBRARY
+}

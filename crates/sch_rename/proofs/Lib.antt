@@ -5,7 +5,7 @@ pub mod FreeKept
 pub mod LevelsKept
 pub mod Loops
 pub mod Numbers
-pub mod ObjectFreeKept
+pub mod CoveredKept
 pub mod Same
 pub mod Scopes
 pub mod ShapesKept

@@ -8,12 +8,12 @@ ghost use Rattle.sch_lang.specs.Bodies.{bodies_of};
 ghost use Rattle.sch_lang.specs.Measures.{call_sites_of, dropped_of, over_source, program_size, shape, sites_of, tests_of, variables_bound};
 ghost use Rattle.sch_lang.specs.ProgramView.{source};
 ghost use Rattle.sch_lang.specs.Run.{run};
-ghost use Rattle.sch_lang.specs.ObjectFree.{is_object_free_program};
+ghost use Rattle.sch_lang.specs.Covered.{is_covered_program};
 ghost use Rattle.sch_cells.specs.Bodies as bodies;
 ghost use Rattle.sch_cells.specs.Measures as measures;
 ghost use Rattle.sch_cells.specs.ProgramView as view;
 ghost use Rattle.sch_cells.specs.Recursive.{recursive_in, recursive_of};
-ghost use Rattle.sch_cells.specs.ObjectFree as object_free;
+ghost use Rattle.sch_cells.specs.Covered as covered;
 ghost use Rattle.sch_cells.specs.UnboxedMeaning as meaning;
 ghost use Rattle.sch_rename.specs.Made.{renamed_source};
 
@@ -51,7 +51,7 @@ pub fn rename(alloc: Global, p: &Program) -> Result<CellProgram<Unboxed>, Mem>
     ensures size { IfOk result (λ q. measures.program_size (view.source q) ≡ program_size (source p.now)) }
     // As many variables belong to a Rec.
     ensures recursive { IfOk result (λ q. recursive_of (view.source q) ≡ over_source 0 (λ a b. a + b) (λ e. recursive_in (shape e)) (source p.now)) }
-    ensures object_free { IfOk result (λ q. object_free.is_object_free_program (view.source q) ≡ is_object_free_program (source p.now)) }
+    ensures covered { IfOk result (λ q. covered.is_covered_program (view.source q) ≡ is_covered_program (source p.now)) }
 {
     rename_program(alloc, p)
 }

@@ -13,10 +13,11 @@ use Rattle.sch_asm.specs.Stands.{Setting, Stands}
 use Rattle.sch_asm.specs.Views.{View}
 use Rattle.sch_asm.specs.Effects.{AreEffective, Effect, Stops}
 use Rattle.sch_asm.proofs.Standing.{stands_back, stands_part}
-use Rattle.sch_runtime.specs.Code.{digit_code, digit_label, done_code, done_label, exit_code, exits, fixnum_code, fixnum_label, loop_code, loop_label, positive_code, positive_label, put_code, put_items, put_label, ready_code, ready_label, routine_items, statuses, write_code, write_label}
+use Rattle.sch_runtime.specs.Code.{digit_code, digit_label, done_code, done_label, exit_code, exits, fixnum_code, fixnum_items, fixnum_label, fill_items, bytes_code, bytes_items, bytes_label, words_code, words_label, loop_code, loop_label, positive_code, positive_label, put_code, put_items, put_label, ready_code, ready_label, routine_items, statuses, write_code, write_label}
 use Rattle.sch_runtime.proofs.Exits.{exits_here}
 use Rattle.sch_runtime.proofs.Putting as putting
 use Rattle.sch_runtime.proofs.PutFixnum.{puts_fixnum}
+use Rattle.sch_runtime.proofs.FillLoop.{fills_bytes, fills_words}
 
 module _ (setting : Setting) where
   open setting use {place_of}
@@ -44,25 +45,31 @@ module _ (setting : Setting) where
     positive : Stands setting [] (place_of positive_label) positive_code
     digit : Stands setting [] (place_of digit_label) digit_code
     ready : Stands setting [] (place_of ready_label) ready_code
+    words : Stands setting [] (place_of words_label) words_code
+    bytes : Stands setting [] (place_of bytes_label) bytes_code
 
   parts : (a : ℕ) → Stands setting [] a put_items → Parts
   parts a h =
-      let p = stands_part setting put_label put_code (Label done_label ∷ (done_code ++ Label fixnum_label ∷ (fixnum_code ++ []))) [] a h in
-      let b = stands_back setting (Label put_label ∷ put_code) (Label done_label ∷ (done_code ++ Label fixnum_label ∷ (fixnum_code ++ []))) [] a refl h in
-      let c = stands_back setting (Label done_label ∷ done_code) (Label fixnum_label ∷ (fixnum_code ++ [])) [] b.0 refl b.1 in
+      let p = stands_part setting put_label put_code (Label done_label ∷ (done_code ++ fixnum_items)) [] a h in
+      let b = stands_back setting (Label put_label ∷ put_code) (Label done_label ∷ (done_code ++ fixnum_items)) [] a refl h in
+      let c = stands_back setting (Label done_label ∷ done_code) fixnum_items [] b.0 refl b.1 in
       let w = at_label write_label write_code _ p.4.4.2 in
-      let f = stands_part setting fixnum_label fixnum_code [] [] c.0 c.1 in
+      let f = stands_part setting fixnum_label fixnum_code fill_items [] c.0 c.1 in
+      let g = stands_back setting (Label fixnum_label ∷ fixnum_code) fill_items [] c.0 refl c.1 in
+      let k = stands_back setting (Label words_label ∷ words_code) bytes_items [] g.0 refl g.1 in
       let q = at_label positive_label positive_code _ f.4.4.2.2.2.4.2 in
       let d = at_label digit_label digit_code _ q.2.2 in
       record {
         put = p;
         write = w;
         loop = at_label loop_label loop_code _ w.4;
-        done = stands_part setting done_label done_code (Label fixnum_label ∷ (fixnum_code ++ [])) [] b.0 b.1;
+        done = stands_part setting done_label done_code fixnum_items [] b.0 b.1;
         fixnum = f;
         positive = q;
         digit = d;
         ready = at_label ready_label ready_code _ d.2.2.2.2.2.2.4.2.4.2.2.2;
+        words = stands_part setting words_label words_code bytes_items [] g.0 g.1;
+        bytes = stands_part setting bytes_label bytes_code [] [] k.0 k.1;
       }
 
   stop_here : (s : Stop) → Stands setting [] (place_of (label_of (routine.Stop s))) (exit_code (status_of s)) → (x : View) → x.place ≡ place_of (label_of (routine.Stop s)) → Stops setting x 3 (status_of s) x.output x.answers
@@ -106,6 +113,8 @@ module _ (setting : Setting) where
       by (routine.Stop OutputFailed) at = stop_here OutputFailed e.1.1.1.1.1.1.1.1.1.1.0 x at
       by routine.Put at = λ piece ready low size here. putting.puts setting p.write p.loop e.1.1.1.1.1.1.1.1.1.1.0 p.done p.put x piece at ready low size here
       by routine.PutFixnum at = λ n ready word. puts_fixnum setting p.write p.loop e.1.1.1.1.1.1.1.1.1.1.0 p.done p.fixnum p.positive p.digit p.ready x n at ready word
+      by routine.FillWords at = λ a n w ready room is fits. fills_words setting p.words x a n w at ready room is fits
+      by routine.FillBytes at = λ a n b ready room is. fills_bytes setting p.bytes x a n b at ready room is
 
 pub routines_are_effective : AreEffective routine_items
 routines_are_effective = record { does = λ setting a h k x at. does setting a h k x at }

@@ -8,7 +8,7 @@ use Rattle.sch_word.specs.declared.answer.Answer.TheVariants.{Took, Failed}
 use Rattle.sch_word.specs.declared.stop.Stop.TheVariants.{DivideByZero}
 use Rattle.sch_insn.specs.declared.insn.Arg.TheVariants.{Reg}
 use Rattle.sch_insn.specs.declared.insn.Insn.TheVariants.{MovNumber, MovWord}
-use Rattle.sch_insn.specs.declared.register.TheConstants.{RAX, RDX, R11}
+use Rattle.sch_insn.specs.declared.register.TheConstants.{RAX, RCX, RDX, R11}
 use Rattle.sch_insn.specs.Decode.{escaped_of, narrow_of, operand_of, rexed_of, wide_of}
 use Rattle.sch_insn.specs.Machine.{test_of}
 use Rattle.sch_insn.specs.Behaves.{exit_of, start, zeros}
@@ -16,7 +16,8 @@ use Rattle.sch_insn.specs.Spelling.{spelling}
 use Rattle.sch_insn.specs.Step.{mach}
 use Rattle.sch_asm.specs.declared.item.Item.{Item}
 use Rattle.sch_asm.specs.declared.item.Item.TheVariants.{Label, Plain, Jump, LoadLabel}
-use Rattle.sch_asm.specs.declared.routine.Routine.TheVariants.{End, Stop, Put, PutFixnum}
+use Rattle.sch_asm.specs.declared.routine.Routine.{Routine}
+use Rattle.sch_asm.specs.declared.routine.Routine.TheVariants.{End, Stop, Put, PutFixnum, FillWords, FillBytes}
 use Rattle.sch_asm.specs.Routines.{label_of}
 use Rattle.sch_asm.specs.Codes.{item_size, text_size}
 use Rattle.sch_asm.specs.Data.{data_at}
@@ -25,7 +26,7 @@ use Rattle.sch_asm.specs.Views.{text_at}
 use Rattle.sch_runtime.specs.Code.{routine_items}
 
 -- the routines take this many bytes
-routine_bytes : text_size routine_items ≡ 413
+routine_bytes : text_size routine_items ≡ 489
 routine_bytes = refl
 
 -- a program's text
@@ -62,6 +63,42 @@ pieces :
     × (ends piece_program (codes "abc") (Took 0 ∷ []) ≡ Some (74, []))
 unfolding escaped_of narrow_of operand_of rexed_of wide_of test_of
 pieces = (refl, refl, refl, refl)
+
+-- An element is filled in behind eight of forty bytes, which are then put.
+abbrev fill_program : Routine → ℕ → ℕ → List Item
+fill_program routine n element =
+    Plain (MovNumber (Reg RAX) (pos 0x10000208))
+    ∷ Plain (MovNumber (Reg RDX) (pos n))
+    ∷ Plain (MovWord RCX (pos element))
+    ∷ LoadLabel R11 1024
+    ∷ Jump (label_of routine)
+    ∷ Label 1024
+    ∷ Plain (MovNumber (Reg RAX) (pos 0x10000200))
+    ∷ Plain (MovNumber (Reg RDX) (pos 40))
+    ∷ LoadLabel R11 1025
+    ∷ Jump (label_of Put)
+    ∷ Label 1025
+    ∷ Jump (label_of End)
+    ∷ []
+
+abbrev after_fill : Routine → ℕ → ℕ → Option (ℕ × List ℕ)
+after_fill routine n element = ends (fill_program routine n element) (codes "abcdefgh........................01234567") []
+
+-- the word of "ABCDEFGH"
+filled_words :
+    (after_fill FillWords 0 0x4847464544434241 ≡ Some (0, codes "abcdefgh........................01234567"))
+    × (after_fill FillWords 1 0x4847464544434241 ≡ Some (0, codes "abcdefghABCDEFGH................01234567"))
+    × (after_fill FillWords 3 0x4847464544434241 ≡ Some (0, codes "abcdefghABCDEFGHABCDEFGHABCDEFGH01234567"))
+unfolding escaped_of narrow_of operand_of rexed_of wide_of test_of
+filled_words = (refl, refl, refl)
+
+-- only the low byte of rcx counts
+filled_bytes :
+    (after_fill FillBytes 0 0x4142 ≡ Some (0, codes "abcdefgh........................01234567"))
+    × (after_fill FillBytes 1 0x4142 ≡ Some (0, codes "abcdefghB.......................01234567"))
+    × (after_fill FillBytes 3 0x4142 ≡ Some (0, codes "abcdefghBBB.....................01234567"))
+unfolding escaped_of narrow_of operand_of rexed_of wide_of test_of
+filled_bytes = (refl, refl, refl)
 
 stops : ends (Jump (label_of (Stop DivideByZero)) ∷ []) [] [] ≡ Some (69, [])
 unfolding escaped_of narrow_of operand_of rexed_of wide_of test_of

@@ -5,14 +5,15 @@ use Rattle.std.proofs.lemmas.List.Elements.{All-from_recursion}
 use Rattle.std.specs.Int.{w32}
 use Rattle.std.specs.Prelude.{FitsSigned, IsTrue, nat_le, nat_lt, ℤ, pos, ◌||◌, ◌&&◌}
 use Rattle.sch_word.specs.declared.stop.Stop.TheVariants.{WrongType, OutOfRange, NotProcedure, WrongCount, DivideByZero, Overflow, HeapLimit, DepthLimit, Unset, OutputFailed}
+use Rattle.sch_insn.specs.declared.insn.Insn.{Insn}
 use Rattle.sch_asm.specs.declared.item.Item.{Item}
-use Rattle.sch_asm.specs.declared.item.Item.TheVariants.{Label}
+use Rattle.sch_asm.specs.declared.item.Item.TheVariants.{Label, Plain}
 use Rattle.sch_asm.specs.declared.routine.Routine.{Routine}
-use Rattle.sch_asm.specs.declared.routine.Routine.TheVariants.{End, Stop, Put, PutFixnum}
+use Rattle.sch_asm.specs.declared.routine.Routine.TheVariants.{End, Stop, Put, PutFixnum, FillWords, FillBytes}
 use Rattle.sch_asm.specs.Routines.{label_of}
-use Rattle.sch_asm.specs.Items.{AreItems, AreKnown, AreRoutines, IsEachOnce, is_among, is_routine, labels_in, uses_in, word_uses}
+use Rattle.sch_asm.specs.Items.{AreItems, AreKnown, AreRoutines, IsEachOnce, IsItem, is_among, is_routine, labels_in, uses_in, word_uses}
 use Rattle.sch_asm.proofs.Tables.{each_once}
-use Rattle.sch_runtime.specs.Code.{exit_code, exits, put_items, routine_items}
+use Rattle.sch_runtime.specs.Code.{byte_store, bytes_label, bytes_test, bytes_turn, bytes_items, exit_code, exits, fill_code, fill_items, put_items, routine_items, word_store, words_label, words_test, words_turn}
 
 fits_by : (z : ℤ) (n : ℕ) → z ≡ pos n → n < 2147483648 → FitsSigned w32 z
 fits_by z n e lt = record { sfits = omega (arith, ints, e, lt) }
@@ -20,6 +21,33 @@ fits_by z n e lt = record { sfits = omega (arith, ints, e, lt) }
 -- an exit before other items
 exit_sound : (l s : ℕ) (rest : List Item) → s < 128 → AreItems rest → AreItems (Label l ∷ (exit_code s ++ rest))
 exit_sound l s rest low h = (tt, (((omega arith, fits_by (pos s) s refl (omega (arith, low))), tt), (((omega arith, fits_by (pos 60) 60 refl (omega arith)), tt), ((tt, tt), h))))
+
+-- a fill before other items
+fill_sound : (l size turn test : ℕ) (store : Insn) (rest : List Item) → size < 128 → IsItem (Plain store) → AreItems rest → AreItems (Label l ∷ (fill_code store size turn test ++ rest))
+fill_sound l size turn test store rest low s h = (
+  tt,
+  (
+    tt,
+    (
+      tt,
+      (
+        s,
+        (
+          ((omega arith, fits_by (pos size) size refl (omega (arith, low))), tt),
+          (
+            ((omega arith, fits_by (pos 1) 1 refl (omega arith)), tt),
+            (tt, (((omega arith, fits_by (pos 0) 0 refl (omega arith)), tt), ((omega arith, λ e. omega (arith, e), λ e. omega (arith, e)), ((omega arith, tt), h)))),
+          ),
+        ),
+      ),
+    ),
+  ),
+)
+
+fills_sound : AreItems fill_items
+fills_sound =
+    fill_sound words_label 8 words_turn words_test word_store bytes_items (omega arith) (((omega arith, λ e. omega (arith, e)), omega arith), tt)
+    (fill_sound bytes_label 1 bytes_turn bytes_test byte_store [] (omega arith) (((omega arith, λ e. omega (arith, e)), omega arith, refl), tt) tt)
 
 put_sound : AreItems put_items
 put_sound = (
@@ -122,7 +150,7 @@ put_sound = (
                                                                                                   ((omega arith, omega arith), tt),
                                                                                                   (
                                                                                                     tt,
-                                                                                                    tt,
+                                                                                                    fills_sound,
                                                                                                   ),
                                                                                                 ),
                                                                                               ),
@@ -182,12 +210,12 @@ pub routines_once : IsEachOnce (labels_in routine_items)
 routines_once = each_once (labels_in routine_items) refl
 
 pub routines_known : AreKnown routine_items []
-routines_known = All-from_recursion (λ l. IsTrue (is_routine l || is_among (labels_in routine_items) l)) (uses_in routine_items ++ word_uses []) (refl, (refl, (refl, (refl, (refl, (refl, (refl, tt)))))))
+routines_known = All-from_recursion (λ l. IsTrue (is_routine l || is_among (labels_in routine_items) l)) (uses_in routine_items ++ word_uses []) (refl, (refl, (refl, (refl, (refl, (refl, (refl, (refl, (refl, (refl, (refl, tt)))))))))))
 
 pub routines_joined : AreRoutines routine_items [] 0
 routines_joined = record {
   complete = complete;
-  others = All-from_recursion (λ l. IsTrue (is_routine l || (nat_le 64 l && nat_lt l 1024))) (labels_in routine_items) (refl, (refl, (refl, (refl, (refl, (refl, (refl, (refl, (refl, (refl, (refl, (refl, (refl, (refl, (refl, (refl, (refl, (refl, (refl, tt)))))))))))))))))));
+  others = All-from_recursion (λ l. IsTrue (is_routine l || (nat_le 64 l && nat_lt l 1024))) (labels_in routine_items) (refl, (refl, (refl, (refl, (refl, (refl, (refl, (refl, (refl, (refl, (refl, (refl, (refl, (refl, (refl, (refl, (refl, (refl, (refl, (refl, (refl, (refl, (refl, (refl, (refl, tt)))))))))))))))))))))))));
   no_words = refl;
   no_zeros = refl;
 }
@@ -206,3 +234,5 @@ routines_joined = record {
     complete (Stop OutputFailed) = refl
     complete Put = refl
     complete PutFixnum = refl
+    complete FillWords = refl
+    complete FillBytes = refl

@@ -4,6 +4,8 @@ pub mod WriteLoop
 pub mod Putting
 pub mod Digits
 pub mod PutFixnum
+pub mod PutBytes
+pub mod FillLoop
 pub mod Effective
 pub mod Joining
 mod Examples

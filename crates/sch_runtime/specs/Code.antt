@@ -2,6 +2,7 @@
 -- r11, so it is kept in a word of the data meanwhile.
 use Rattle.std.specs.Prelude.{ℕ, ◌+◌, ◌%◌, List, [], ◌∷◌, ◌++◌, pos}
 use Rattle.sch_insn.specs.declared.insn.Arg.TheVariants.{Reg, Base}
+use Rattle.sch_insn.specs.declared.insn.Insn.{Insn}
 use Rattle.sch_insn.specs.declared.insn.Insn.TheVariants.{MovTo, MovNumber, StoreByte, AddTo, SubTo, AddNumber, SubNumber, CmpNumber, Neg, Idiv, Sar, JumpTo, Syscall}
 use Rattle.sch_insn.specs.declared.condition.TheConstants.{E, NE, GE, LE}
 use Rattle.sch_insn.specs.declared.register.TheConstants.{RAX, RCX, RDX, RSI, RDI, R11}
@@ -9,7 +10,7 @@ use Rattle.sch_word.specs.runs.ProgramLayout.{data_address}
 use Rattle.sch_word.specs.declared.stop.Stop.TheVariants.{OutputFailed}
 use Rattle.sch_asm.specs.declared.item.Item.{Item}
 use Rattle.sch_asm.specs.declared.item.Item.TheVariants.{Label, Plain, Jump, JumpIf, LoadWord, StoreWord}
-use Rattle.sch_asm.specs.declared.routine.Routine.TheVariants.{Stop, Put, PutFixnum}
+use Rattle.sch_asm.specs.declared.routine.Routine.TheVariants.{Stop, Put, PutFixnum, FillWords, FillBytes}
 use Rattle.sch_asm.specs.Routines.{label_of}
 
 -- ---- labels
@@ -22,6 +23,12 @@ put_label = label_of Put
 
 abbrev pub fixnum_label : ℕ
 fixnum_label = label_of PutFixnum
+
+abbrev pub words_label : ℕ
+words_label = label_of FillWords
+
+abbrev pub bytes_label : ℕ
+bytes_label = label_of FillBytes
 
 -- Inside the routines:
 
@@ -42,6 +49,18 @@ digit_label = 68
 
 abbrev pub ready_label : ℕ
 ready_label = 69
+
+abbrev pub words_turn : ℕ
+words_turn = 70
+
+abbrev pub words_test : ℕ
+words_test = 71
+
+abbrev pub bytes_turn : ℕ
+bytes_turn = 72
+
+abbrev pub bytes_test : ℕ
+bytes_test = 73
 
 -- ---- exits
 
@@ -123,10 +142,44 @@ absolute_code = Plain (CmpNumber (Reg RAX) (pos 0)) ∷ JumpIf GE positive_label
 abbrev pub fixnum_code : List Item
 fixnum_code = StoreWord kept_rsi RSI ∷ StoreWord kept_rdi RDI ∷ Plain (Sar (Reg RAX) 3) ∷ Plain (MovTo (Reg RDI) RAX) ∷ absolute_code
 
+-- ---- fills: rax has the address of what is left, and rdx how many elements that is
+
+-- the fill ends where none is left
+abbrev pub test_code : ℕ → List Item
+test_code turn = Plain (CmpNumber (Reg RDX) (pos 0)) ∷ JumpIf NE turn ∷ Plain (JumpTo (Reg R11)) ∷ []
+
+-- An element of this size is written by a store of rcx.
+abbrev pub turn_code : Insn → ℕ → ℕ → ℕ → List Item
+turn_code store size turn test = Plain store ∷ Plain (AddNumber (Reg RAX) (pos size)) ∷ Plain (SubNumber (Reg RDX) (pos 1)) ∷ Label test ∷ test_code turn
+
+abbrev pub fill_code : Insn → ℕ → ℕ → ℕ → List Item
+fill_code store size turn test = Jump test ∷ Label turn ∷ turn_code store size turn test
+
+abbrev pub word_store : Insn
+word_store = MovTo (Base RAX) RCX
+
+abbrev pub byte_store : Insn
+byte_store = StoreByte (Base RAX) RCX
+
+abbrev pub words_code : List Item
+words_code = fill_code word_store 8 words_turn words_test
+
+abbrev pub bytes_code : List Item
+bytes_code = fill_code byte_store 1 bytes_turn bytes_test
+
 -- ---- all of them
 
+abbrev pub bytes_items : List Item
+bytes_items = Label bytes_label ∷ (bytes_code ++ [])
+
+abbrev pub fill_items : List Item
+fill_items = Label words_label ∷ (words_code ++ bytes_items)
+
+abbrev pub fixnum_items : List Item
+fixnum_items = Label fixnum_label ∷ (fixnum_code ++ fill_items)
+
 abbrev pub put_items : List Item
-put_items = Label put_label ∷ (put_code ++ Label done_label ∷ (done_code ++ Label fixnum_label ∷ (fixnum_code ++ [])))
+put_items = Label put_label ∷ (put_code ++ Label done_label ∷ (done_code ++ fixnum_items))
 
 abbrev pub routine_items : List Item
 routine_items = exits statuses put_items

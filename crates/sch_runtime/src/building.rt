@@ -6,7 +6,7 @@ ghost use Rattle.sch_asm.specs.Items.{AreRoutines};
 ghost use Rattle.sch_asm.specs.Routines.{label_of};
 ghost use Rattle.sch_asm.specs.Codes.{text_size};
 ghost use Rattle.sch_asm.specs.Effects.{AreEffective};
-ghost use Rattle.sch_runtime.specs.Code.{digit_code, digit_label, done_code, done_label, exit_code, fixnum_code, put_code, routine_items};
+ghost use Rattle.sch_runtime.specs.Code.{digit_code, digit_label, done_code, done_label, exit_code, fixnum_code, put_code, fill_code, routine_items};
 
 use sch_asm::{Asm, Item, Routine};
 use sch_insn::condition::{E, GE, LE, NE};
@@ -30,6 +30,19 @@ const POSITIVE: u32 = 67;
 const DIGIT: u32 = 68;
 
 const READY: u32 = 69;
+
+const WORDS_TURN: u32 = 70;
+
+const WORDS_TEST: u32 = 71;
+
+const BYTES_TURN: u32 = 72;
+
+const BYTES_TEST: u32 = 73;
+
+// What the fills store, at the address in rax.
+const WORD_STORE: Insn = Insn::MovTo(Arg::Base(RAX), RCX);
+
+const BYTE_STORE: Insn = Insn::StoreByte(Arg::Base(RAX), RCX);
 
 // The words of the data that keep registers.
 const KEPT_R11: u64 = DATA_ADDRESS;
@@ -68,6 +81,20 @@ fn items_of(alloc: Global) -> Result<List<Item>, Mem>
     items.extend_from_slice(&done_items())?;
     items.extend_from_slice(&fixnum_items())?;
     items.extend_from_slice(&digit_items())?;
+    items.extend_from_slice(&fill_items(
+        Routine::FillWords,
+        WORD_STORE,
+        8,
+        WORDS_TURN,
+        WORDS_TEST,
+    ))?;
+    items.extend_from_slice(&fill_items(
+        Routine::FillBytes,
+        BYTE_STORE,
+        1,
+        BYTES_TURN,
+        BYTES_TEST,
+    ))?;
     Ok(items)
 }
 
@@ -162,5 +189,25 @@ fn digit_items() -> [Item; 17]
         Item::Plain(Insn::MovNumber(Arg::Reg(RDX), DIGITS_END)),
         Item::Plain(Insn::SubTo(Arg::Reg(RDX), RSI)),
         Item::Jump(WRITE),
+    ]
+}
+
+// A fill by stores of elements of a size. Each turn writes one element at the address, until none is left.
+fn fill_items(routine: Routine, store: Insn, size: u8, turn: u32, test: u32) -> [Item; 10]
+    ensures { result ≡ item.Label (label_of routine) ∷ fill_code store size turn test }
+{
+    let address = Arg::Reg(RAX);
+    let left = Arg::Reg(RDX);
+    [
+        Item::Label(routine.label()),
+        Item::Jump(test),
+        Item::Label(turn),
+        Item::Plain(store),
+        Item::Plain(Insn::AddNumber(address, size as i32)),
+        Item::Plain(Insn::SubNumber(left, 1)),
+        Item::Label(test),
+        Item::Plain(Insn::CmpNumber(left, 0)),
+        Item::JumpIf(NE, turn),
+        Item::Plain(Insn::JumpTo(Arg::Reg(R11))),
     ]
 }

@@ -1,6 +1,7 @@
 -- The items of a program: their labels, marks, sizes and shapes.
 pub mod Appending
 pub mod Labels
+pub mod RestItems
 pub mod ProgramLabels
 pub mod Sound
 pub mod ProgramSound

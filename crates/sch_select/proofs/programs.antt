@@ -10,6 +10,6 @@ pub mod Whole
 pub mod Starting
 pub mod JoinedProgram
 pub mod FreeCodes
-pub mod ObjectFreePrograms
+pub mod CoveredPrograms
 pub mod Examples
 pub mod CallExamples

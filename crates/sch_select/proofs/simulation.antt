@@ -5,15 +5,9 @@ pub mod Places
 pub mod Operands
 pub mod PutValue
 pub mod Outcomes
-pub mod Entering
 pub mod Changes
 pub mod HeapWrites
 pub mod Sources
 pub mod Operations
-pub mod Cells
-pub mod Records
-pub mod Closures
-pub mod Calls
+pub mod PrimitiveOperations
 pub mod EachOperation
-pub mod Bodies
-pub mod Procedures

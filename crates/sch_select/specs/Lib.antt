@@ -1,4 +1,8 @@
+pub mod Names
+pub mod NameWords
 pub mod Select
+pub mod Data
+pub mod RestCode
 pub mod Program
 pub mod Sizes
 pub mod Jumps

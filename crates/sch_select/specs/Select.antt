@@ -1,6 +1,6 @@
 -- The items of each instruction of a body. What follows is an argument, so nothing is appended. RAX is the
 -- accumulator, RCX has a second operand, RDX and R11 are free, and RBP has the address of the frame. Of code that is
--- not object-free nothing is claimed, whatever its items are here.
+-- not covered nothing is claimed, whatever its items are here.
 use Rattle.std.specs.Prelude.{ℕ, ◌+◌, ◌*◌, List, [], ◌∷◌, length, pos, negsuc}
 use Rattle.sch_word.specs.declared.place.Place.{Place}
 use Rattle.sch_word.specs.declared.place.Place.TheVariants as place
@@ -10,7 +10,10 @@ use Rattle.sch_word.specs.declared.primitive.Primitive.TheVariants.{IsInteger, I
 use Rattle.sch_word.specs.declared.primitive.Primitive.TheVariants.{IsProcedure}
 use Rattle.sch_word.specs.declared.primitive.Primitive.TheVariants.{Add, Subtract, Multiply, Quotient, Remainder}
 use Rattle.sch_word.specs.declared.primitive.Primitive.TheVariants.{Modulo, Equal, Less, Greater, LessEqual}
-use Rattle.sch_word.specs.declared.primitive.Primitive.TheVariants.{GreaterEqual, CharToInteger, IntegerToChar, Put}
+use Rattle.sch_word.specs.declared.primitive.Primitive.TheVariants.{GreaterEqual, CharToInteger, IntegerToChar, Put, Cons, Car, Cdr, SetCar, SetCdr}
+use Rattle.sch_word.specs.declared.primitive.Primitive.TheVariants.{MakeString, StringLength, StringRef, StringSet}
+use Rattle.sch_word.specs.declared.primitive.Primitive.TheVariants.{MakeVector, VectorLength, VectorRef, VectorSet}
+use Rattle.sch_word.specs.declared.primitive.Primitive.TheVariants.{SymbolLength, SymbolRef}
 use Rattle.sch_word.specs.declared.stop.Stop.{Stop}
 use Rattle.sch_word.specs.declared.stop.Stop.TheVariants.{WrongType, OutOfRange, NotProcedure, WrongCount}
 use Rattle.sch_word.specs.declared.stop.Stop.TheVariants.{DivideByZero, Overflow, HeapLimit, DepthLimit, Unset}
@@ -29,12 +32,12 @@ use Rattle.sch_control.specs.declared.operation.Operation.{Operation}
 use Rattle.sch_control.specs.declared.operation.Operation.TheVariants as operation
 use Rattle.sch_frames.specs.declared.instruction.Instruction.{Instruction}
 use Rattle.sch_frames.specs.declared.instruction.Instruction.TheVariants as instruction
-use Rattle.sch_insn.specs.declared.condition.TheConstants.{O, E, NE, A, L, GE, LE, G}
+use Rattle.sch_insn.specs.declared.condition.TheConstants.{O, AE, E, NE, A, L, GE, LE, G}
 use Rattle.sch_insn.specs.declared.insn.Arg.{Arg}
 use Rattle.sch_insn.specs.declared.insn.Arg.TheVariants.{Reg, Base32}
-use Rattle.sch_insn.specs.declared.insn.Insn.TheVariants.{MovTo, MovFrom, MovNumber, MovWord}
+use Rattle.sch_insn.specs.declared.insn.Insn.TheVariants.{MovTo, MovFrom, MovNumber, MovWord, StoreByte, LoadByte}
 use Rattle.sch_insn.specs.declared.insn.Insn.TheVariants.{AddTo, SubTo, CmpTo, AddNumber, SubNumber, AndNumber}
-use Rattle.sch_insn.specs.declared.insn.Insn.TheVariants.{CmpNumber, Imul, Idiv, Cqo, Shl, Shr, Sar, JumpTo}
+use Rattle.sch_insn.specs.declared.insn.Insn.TheVariants.{CmpNumber, CmpFrom, Imul, Idiv, Cqo, Shl, Shr, Sar, JumpTo}
 use Rattle.sch_insn.specs.declared.register.TheConstants.{RAX, RCX, RDX, RBP, R11, R12, R13, R14, R15}
 use Rattle.sch_asm.specs.declared.item.Item.{Item}
 use Rattle.sch_asm.specs.declared.item.Item.TheVariants.{Label, Plain, Jump, JumpIf, LoadLabel, LoadWord, StoreWord, Mark}
@@ -43,12 +46,12 @@ use Rattle.sch_asm.specs.declared.item.MarkKind.TheVariants as asm_mark
 use Rattle.sch_asm.specs.declared.routine.Routine.TheVariants as routine
 use Rattle.sch_asm.specs.Routines.{label_of}
 use Rattle.sch_heap.specs.Encoded.{true_word, false_word, nil_word, unspecified_word, unset_word, constant_number}
-use Rattle.sch_heap.specs.Encoded.{character_tag, procedure_tag, cell_tag}
+use Rattle.sch_heap.specs.Encoded.{character_tag, procedure_tag, cell_tag, pair_tag, vector_tag, string_tag, symbol_tag}
 
 abbrev pub stop_label : Stop → ℕ
 stop_label why = label_of (routine.Stop why)
 
--- ## Data: the routines' words, all bytes in their order, the texts of constants, and the globals
+-- ## Data: the routines' words, all bytes in their order, the texts of constants, the words of literals, and the globals
 
 abbrev pub bytes_address : ℕ
 bytes_address = 0x10000200
@@ -56,11 +59,26 @@ bytes_address = 0x10000200
 abbrev pub texts_address : ℕ
 texts_address = 0x10000300
 
-abbrev pub globals_address : ℕ
-globals_address = 0x10000320
+-- the address of the names of symbols stands behind the texts
+abbrev pub table_address : ℕ
+table_address = 0x10000320
 
-abbrev pub global_address : ℕ → ℕ
-global_address g = globals_address + 8 * g
+-- the words of literals follow, and then those of globals
+abbrev pub literals_address : ℕ
+literals_address = 0x10000328
+
+abbrev pub literal_address : ℕ → ℕ
+literal_address n = literals_address + 8 * n
+
+abbrev pub globals_address : (literals : ℕ) → ℕ
+globals_address literals = literals_address + 8 * literals
+
+abbrev pub global_address : (literals g : ℕ) → ℕ
+global_address literals g = globals_address literals + 8 * g
+
+-- the names of symbols stand behind the globals
+abbrev pub names_address : (literals globals : ℕ) → ℕ
+names_address literals globals = globals_address literals + 8 * globals
 
 -- ## Labels
 
@@ -68,9 +86,16 @@ global_address g = globals_address + 8 * g
 abbrev pub put_label : ℕ
 put_label = 1024
 
--- the labels of the program's own routine are below this one, and the bodies' are from it on
+-- and so are new vectors, new strings and the lists of operands that are left over
+abbrev pub vector_label : ℕ
+vector_label = 1040
+
+abbrev pub string_label : ℕ
+string_label = 1041
+
+-- the labels of the program's own routines are below this one, and the bodies' are from it on
 abbrev pub first_label : ℕ
-first_label = 1032
+first_label = 1088
 
 -- where the code of a body begins
 abbrev pub body_label : ℕ → ℕ
@@ -86,7 +111,7 @@ place_operand (place.Slot j) = Base32 RBP (pos (8 * j))
 abbrev pub atom_code : (r : ℕ) → Atom Place → List Item → List Item
 atom_code r (Constant c) rest = Plain (MovWord r (constant_number c)) ∷ rest
 atom_code r (Variable p) rest = Plain (MovFrom r (place_operand p)) ∷ rest
-atom_code r (Literal n) rest = rest
+atom_code r (Literal n) rest = LoadWord r (literal_address n) ∷ rest
 
 -- ## Checks and tests; RDX is overwritten
 
@@ -143,6 +168,135 @@ abbrev pub put_code : (n : ℕ) → List Item → List Item
 put_code n rest = LoadLabel R11 n ∷ (Jump put_label ∷
     (Label n ∷ (Plain (MovNumber (Reg RAX) (pos unspecified_word)) ∷ rest)))
 
+-- ## The heap: R12 has the address of the next part
+
+-- The heap has this number of bytes left, or stop 71. R12 has the address of the next part, and RDX is overwritten.
+abbrev pub check_heap : (heap_end bytes : ℕ) → List Item → List Item
+check_heap heap_end bytes rest =
+    Plain (MovTo (Reg RDX) R12) ∷ (Plain (AddNumber (Reg RDX) (pos bytes))
+    ∷ (Plain (CmpNumber (Reg RDX) (pos heap_end)) ∷ (JumpIf A (stop_label HeapLimit) ∷ rest)))
+
+-- R12 has the address of a part with this number of bytes: its word with a tag into RAX, and the next part
+abbrev pub part_code : (tag bytes : ℕ) → List Item → List Item
+part_code tag bytes rest =
+    Plain (MovTo (Reg RAX) R12) ∷ (Plain (AddNumber (Reg RAX) (pos tag)) ∷
+    (Plain (AddNumber (Reg R12) (pos bytes)) ∷ rest))
+
+-- the operand at an offset from the address of the next part
+abbrev pub part_operand : (offset : ℕ) → Arg
+part_operand offset = Base32 R12 (pos offset)
+
+-- ## Objects (R5RS 6.3): the word of an object is its address and the tag of its kind
+
+-- a register has a word with a tag, or stop 65
+abbrev pub check_tag : (r tag : ℕ) → List Item → List Item
+check_tag r tag rest = low_bits r 7 (Plain (CmpNumber (Reg RDX) (pos tag)) ∷ (JumpIf NE (stop_label WrongType) ∷ rest))
+
+-- RAX has a pair: one of its words, at an offset from its word
+abbrev pub part_of_pair : Arg → List Item → List Item
+part_of_pair from rest = check_tag RAX pair_tag (Plain (MovFrom RAX from) ∷ rest)
+
+-- RAX has a pair, one of whose words becomes RCX
+abbrev pub set_part_of_pair : Arg → List Item → List Item
+set_part_of_pair to rest =
+    check_tag RAX pair_tag (Plain (MovTo to RCX) ∷ (Plain (MovNumber (Reg RAX) (pos unspecified_word)) ∷ rest))
+
+abbrev pub first_of_pair : Arg
+first_of_pair = Base32 RAX (negsuc 0)
+
+abbrev pub rest_of_pair : Arg
+rest_of_pair = Base32 RAX (pos 7)
+
+-- a new pair of RAX and RCX
+abbrev pub pair_code : (heap_end : ℕ) → List Item → List Item
+pair_code heap_end rest =
+    check_heap heap_end 16 (Plain (MovTo (part_operand 0) RAX) ∷ (Plain (MovTo (part_operand 8) RCX) ∷ part_code
+    pair_tag 16 rest))
+
+-- RAX has an object of a kind: the word of its length, at an address
+abbrev pub length_code : (tag : ℕ) → Arg → List Item → List Item
+length_code tag from rest = check_tag RAX tag (Plain (MovFrom RAX from) ∷ rest)
+
+abbrev pub vector_length : Arg
+vector_length = Base32 RAX (negsuc 1)
+
+abbrev pub string_length : Arg
+string_length = Base32 RAX (negsuc 2)
+
+-- RCX has the word of a number below a length whose word is at an address, or stop 66. Of numbers without a sign a
+-- negative one is none.
+abbrev pub check_index : (length : Arg) → List Item → List Item
+check_index length rest = Plain (CmpFrom RCX length) ∷ (JumpIf AE (stop_label OutOfRange) ∷ rest)
+
+-- an element of the vector in RAX, and a byte of the string in RAX, at the index in RCX
+abbrev pub vector_element : Arg
+vector_element = Base32 RAX (pos 6)
+
+abbrev pub string_byte : Arg
+string_byte = Base32 RAX (pos 5)
+
+abbrev pub vector_ref_code : List Item → List Item
+vector_ref_code rest =
+    check_tag RAX vector_tag (check_fixnum RCX (check_index vector_length
+    (Plain (AddTo (Reg RAX) RCX) ∷ (Plain (MovFrom RAX vector_element) ∷ rest))))
+
+-- a byte in RAX becomes a character
+abbrev pub character_code : List Item → List Item
+character_code rest = Plain (Shl (Reg RAX) 8) ∷ (Plain (AddNumber (Reg RAX) (pos character_tag)) ∷ rest)
+
+abbrev pub string_ref_code : List Item → List Item
+string_ref_code rest =
+    check_tag RAX string_tag (check_fixnum RCX (check_index string_length
+    (Plain (Shr (Reg RCX) 3) ∷ (Plain (AddTo (Reg RAX) RCX) ∷ (Plain (LoadByte RAX string_byte) ∷ character_code rest)))))
+
+-- R11 has what is stored, which is any value in a vector and a character in a string
+abbrev pub vector_set_code : List Item → List Item
+vector_set_code rest =
+    check_tag RAX vector_tag (check_fixnum RCX (check_index vector_length
+    (Plain (AddTo (Reg RAX) RCX) ∷ (Plain (MovTo vector_element R11) ∷
+    (Plain (MovNumber (Reg RAX) (pos unspecified_word)) ∷ rest)))))
+
+abbrev pub string_set_code : List Item → List Item
+string_set_code rest =
+    check_tag RAX string_tag (check_fixnum RCX (low_bits R11 255 (Plain (CmpNumber (Reg RDX) (pos character_tag)) ∷
+    (JumpIf NE (stop_label WrongType) ∷ check_index string_length
+    (Plain (Shr (Reg RCX) 3) ∷ (Plain (AddTo (Reg RAX) RCX) ∷ (Plain (Shr (Reg R11) 8) ∷
+    (Plain (StoreByte string_byte R11) ∷ (Plain (MovNumber (Reg RAX) (pos unspecified_word)) ∷ rest)))))))))
+
+-- The name of a symbol in RAX: its address there, with the word of its length first. The address of the names of all
+-- symbols is a word of the data.
+abbrev pub name_code : List Item → List Item
+name_code rest =
+    check_tag RAX symbol_tag (LoadWord RDX table_address ∷ (Plain (AddTo (Reg RAX) RDX)
+    ∷ (Plain (MovFrom RAX (Base32 RAX (negsuc 4))) ∷ rest)))
+
+abbrev pub symbol_length_code : List Item → List Item
+symbol_length_code rest = name_code (Plain (MovFrom RAX (Base32 RAX (pos 0))) ∷ rest)
+
+abbrev pub symbol_ref_code : List Item → List Item
+symbol_ref_code rest =
+    name_code (check_fixnum RCX (check_index (Base32 RAX (pos 0))
+    (Plain (Shr (Reg RCX) 3) ∷ (Plain (AddTo (Reg RAX) RCX) ∷ (Plain (LoadByte RAX (Base32 RAX (pos 8))) ∷
+    character_code rest)))))
+
+-- A new vector or string, whose length is in RAX and whose elements are RCX: an own routine checks these, and fills it.
+-- It stands where the next part begins, with a tag. Its bytes are what `size_code` computes of its length.
+abbrev pub round_code : List Item → List Item
+round_code rest = Plain (AddNumber (Reg RDX) (pos 23)) ∷ (Plain (Shr (Reg RDX) 4) ∷ (Plain (Shl (Reg RDX) 4) ∷ rest))
+
+abbrev pub filled_code : (n label tag : ℕ) → (size_code : List Item → List Item) → List Item → List Item
+filled_code n label tag size_code rest =
+    LoadLabel R11 n ∷ (Jump label ∷ (Label n ∷ (Plain (MovFrom RDX (part_operand 0)) ∷ size_code (round_code
+    (Plain (MovTo (Reg RAX) R12) ∷ (Plain (AddNumber (Reg RAX) (pos tag)) ∷ (Plain (AddTo (Reg R12) RDX) ∷ rest)))))))
+
+abbrev pub vector_code : (n : ℕ) → List Item → List Item
+vector_code n rest = filled_code n vector_label vector_tag (λ code. code) rest
+
+abbrev pub string_code : (n : ℕ) → List Item → List Item
+string_code n rest = filled_code n string_label string_tag (λ code. Plain (Shr (Reg RDX) 3) ∷ code) rest
+
+-- ## One operand, and two
+
 abbrev pub unary_code : (n : ℕ) → Primitive → List Item → List Item
 unary_code n IsBoolean rest = test_code n 127 6 rest
 unary_code n IsPair rest = test_code n 7 1 rest
@@ -158,6 +312,11 @@ unary_code n IntegerToChar rest =
     check_fixnum RAX (Plain (CmpNumber (Reg RAX) (pos 2040)) ∷ (JumpIf A (stop_label OutOfRange)
     ∷ (Plain (Shl (Reg RAX) 5) ∷ (Plain (AddNumber (Reg RAX) (pos character_tag)) ∷ rest))))
 unary_code n Put rest = put_code n rest
+unary_code n Car rest = part_of_pair first_of_pair rest
+unary_code n Cdr rest = part_of_pair rest_of_pair rest
+unary_code n StringLength rest = length_code string_tag string_length rest
+unary_code n VectorLength rest = length_code vector_tag vector_length rest
+unary_code n SymbolLength rest = symbol_length_code rest
 unary_code n _ rest = rest
 
 abbrev pub binary_code : (n : ℕ) → Primitive → List Item → List Item
@@ -176,6 +335,13 @@ binary_code n Less rest = comparison_code n L rest
 binary_code n Greater rest = comparison_code n G rest
 binary_code n LessEqual rest = comparison_code n LE rest
 binary_code n GreaterEqual rest = comparison_code n GE rest
+binary_code n SetCar rest = set_part_of_pair first_of_pair rest
+binary_code n SetCdr rest = set_part_of_pair rest_of_pair rest
+binary_code n StringRef rest = string_ref_code rest
+binary_code n VectorRef rest = vector_ref_code rest
+binary_code n SymbolRef rest = symbol_ref_code rest
+binary_code n MakeString rest = string_code n rest
+binary_code n MakeVector rest = vector_code n rest
 binary_code n _ rest = rest
 
 -- ## Operands
@@ -214,18 +380,6 @@ check_cell r rest = low_bits r 7 (Plain (CmpNumber (Reg RDX) (pos cell_tag)) ∷
 abbrev pub cell_operand : (r : ℕ) → Arg
 cell_operand r = Base32 r (negsuc 6)
 
--- The heap has this number of bytes left, or stop 71. R12 has the address of the next part, and RDX is overwritten.
-abbrev pub check_heap : (heap_end bytes : ℕ) → List Item → List Item
-check_heap heap_end bytes rest =
-    Plain (MovTo (Reg RDX) R12) ∷ (Plain (AddNumber (Reg RDX) (pos bytes))
-    ∷ (Plain (CmpNumber (Reg RDX) (pos heap_end)) ∷ (JumpIf A (stop_label HeapLimit) ∷ rest)))
-
--- R12 has the address of a part with this number of bytes: its word with a tag into RAX, and the next part
-abbrev pub part_code : (tag bytes : ℕ) → List Item → List Item
-part_code tag bytes rest =
-    Plain (MovTo (Reg RAX) R12) ∷ (Plain (AddNumber (Reg RAX) (pos tag)) ∷
-    (Plain (AddNumber (Reg R12) (pos bytes)) ∷ rest))
-
 -- RAX has the word of a cell, whose contents are read into it, or stop 73
 abbrev pub read_cell_code : List Item → List Item
 read_cell_code rest =
@@ -236,10 +390,6 @@ read_cell_code rest =
 abbrev pub write_cell_code : List Item → List Item
 write_cell_code rest =
     check_cell RCX (Plain (MovTo (cell_operand RCX) RAX) ∷ (Plain (MovNumber (Reg RAX) (pos unspecified_word)) ∷ rest))
-
--- the operand at an offset from the address of the next part
-abbrev pub part_operand : (offset : ℕ) → Arg
-part_operand offset = Base32 R12 (pos offset)
 
 -- a new cell with what RAX has, and one that is unset
 abbrev pub new_cell_code : (heap_end : ℕ) → List Item → List Item
@@ -273,20 +423,44 @@ closure_code heap_end c rest =
 
 -- ## Operations; the labels from n to n + 11 are theirs
 
-abbrev pub primitive_code : (n : ℕ) → Primitive → List (Operand Place) → List Item → List Item
-primitive_code n which (a ∷ []) rest = operand_code n a (unary_code (n + 8) which rest)
-primitive_code n which (a ∷ (b ∷ [])) rest = operand_code n a (second_code (n + 4) b (binary_code (n + 8) which rest))
-primitive_code n which _ rest = rest
+-- what is stored at an index
+abbrev pub ternary_code : Primitive → List Item → List Item
+ternary_code StringSet rest = string_set_code rest
+ternary_code VectorSet rest = vector_set_code rest
+ternary_code _ rest = rest
 
-module _ (heap_end : ℕ) where
+-- an index into RCX; one that a primitive reads is a boolean, and so stop 65
+abbrev pub index_operand : Operand Place → List Item → List Item
+index_operand (operand.Atom a) rest = atom_code RCX a rest
+index_operand (operand.Read site which atoms) rest = Jump (stop_label WrongType) ∷ rest
+
+-- three operands into R11, RAX and RCX, the last one first
+abbrev pub three_code : (n : ℕ) → (a b c : Operand Place) → List Item → List Item
+three_code n a b c rest =
+    operand_code n c (Plain (MovTo (Reg R11) RAX) ∷ operand_code (n + 4) a (index_operand b rest))
+
+-- `cons` alone needs to know where the heap ends
+abbrev pub pair_or_binary : (heap_end n : ℕ) → Primitive → List Item → List Item
+pair_or_binary heap_end n Cons rest = pair_code heap_end rest
+pair_or_binary heap_end n which rest = binary_code n which rest
+
+abbrev pub primitive_code : (heap_end n : ℕ) → Primitive → List (Operand Place) → List Item → List Item
+primitive_code heap_end n which (a ∷ []) rest = operand_code n a (unary_code (n + 8) which rest)
+primitive_code heap_end n which (a ∷ (b ∷ [])) rest =
+    operand_code n a (second_code (n + 4) b (pair_or_binary heap_end (n + 8) which rest))
+primitive_code heap_end n which (a ∷ (b ∷ (c ∷ []))) rest = three_code n a b c (ternary_code which rest)
+primitive_code heap_end n which _ rest = rest
+
+-- where the heap ends, and how many literals stand in front of the globals
+module _ (heap_end literals : ℕ) where
   abbrev pub operation_code : (n : ℕ) → Operation Place → List Item → List Item
   operation_code n (operation.Operand o) rest = operand_code n o rest
-  operation_code n (operation.Prim site which operands) rest = primitive_code n which operands rest
+  operation_code n (operation.Prim site which operands) rest = primitive_code heap_end n which operands rest
   operation_code n (operation.Global g) rest =
-      LoadWord RAX (global_address g) ∷ (Plain (CmpNumber (Reg RAX) (pos unset_word)) ∷
+      LoadWord RAX (global_address literals g) ∷ (Plain (CmpNumber (Reg RAX) (pos unset_word)) ∷
       (JumpIf E (stop_label Unset) ∷ rest))
   operation_code n (operation.SetGlobal g o) rest =
-      operand_code n o (StoreWord (global_address g) RAX ∷ (Plain (MovNumber (Reg RAX) (pos unspecified_word)) ∷ rest))
+      operand_code n o (StoreWord (global_address literals g) RAX ∷ (Plain (MovNumber (Reg RAX) (pos unspecified_word)) ∷ rest))
   operation_code n (operation.Field p k) rest = source_code RAX (source.Field p k) rest
   operation_code n (operation.NewCell x) rest = source_code RAX x (new_cell_code heap_end rest)
   operation_code n operation.UnsetCell rest = unset_cell_code heap_end rest
@@ -366,10 +540,11 @@ kind_of (mark.Call site) = asm_mark.Call site
 kind_of mark.Return = asm_mark.Return
 kind_of (mark.Tail site) = asm_mark.Tail site
 
--- The labels of a body are numbered from `base` on, and `out` stands behind it. A frame has this number of words.
-module _ (base out words heap_end : ℕ) where
+-- The labels of a body are numbered from `base` on, and `out` stands behind it. A frame has this number of words, the
+-- heap ends there, and the program has this number of literals.
+module _ (base out words heap_end literals : ℕ) where
   abbrev pub instruction_code : (n : ℕ) → Instruction → List Item → List Item
-  instruction_code n (instruction.Do o) rest = operation_code heap_end n o rest
+  instruction_code n (instruction.Do o) rest = operation_code heap_end literals n o rest
   instruction_code n (instruction.Store p) rest = Plain (MovTo (place_operand p) RAX) ∷ rest
   instruction_code n (instruction.Copy to from) rest =
       Plain (MovFrom RCX (place_operand from)) ∷ (Plain (MovTo (place_operand to) RCX) ∷ rest)

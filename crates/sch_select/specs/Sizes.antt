@@ -12,10 +12,11 @@ use Rattle.sch_select.specs.Select.{kind_of}
 
 -- ## Steps
 
--- how many steps a machine takes at most for a run with a number of procedure entries and of used answers
-abbrev pub steps_bound : Source → (entries answers : ℕ) → ℕ
-steps_bound p entries answers = 256 * (program_size p + (closures_in p.bodies + length p.bodies)) * suc entries +
-    (10 * answers + 16)
+-- how many steps a machine takes at most for a run with a number of procedure entries, of used answers and of charged
+-- bytes
+abbrev pub steps_bound : Source → (entries answers charged : ℕ) → ℕ
+steps_bound p entries answers charged = 256 * (program_size p + (closures_in p.bodies + length p.bodies)) * suc entries +
+    (10 * answers + 8 * charged + 16)
 
 -- ## Instructions
 

@@ -5,8 +5,7 @@ ghost use Rattle.sch_asm.specs.declared.item.Item.{Item};
 ghost use Rattle.sch_select.specs.Select.{call_code, check_count, check_depth, check_operator, close_code};
 ghost use Rattle.sch_select.specs.Select.{enter_code, open_code, tail_code};
 
-use crate::code::stop;
-use crate::heap::immediate;
+use crate::addresses::{immediate, stop};
 use sch_asm::Item;
 use sch_heap::word::PROCEDURE;
 use sch_insn::condition::{E, NE};

@@ -1,76 +1,28 @@
 //! The items of atoms, operands and primitives.
 
-ghost use Rattle.std.specs.Prelude.{◌≡◌, ◌+◌, ◌++◌, IfOk, IsTrue, OnOk, List, int_le, nat_abs, pos};
-ghost use Rattle.sch_word.specs.declared.primitive.Primitive.TheVariants.{CharToInteger, IntegerToChar};
+ghost use Rattle.std.specs.Prelude.{◌≡◌, ◌+◌, ◌++◌, IsTrue, OnOk, List, int_le, nat_abs, pos};
+ghost use Rattle.sch_word.specs.declared.primitive.Primitive.TheVariants.{CharToInteger, IntegerToChar, Multiply, Quotient};
+ghost use Rattle.sch_word.specs.declared.primitive.Primitive.TheVariants.{Remainder};
 ghost use Rattle.sch_asm.specs.declared.item.Item.{Item};
-ghost use Rattle.sch_select.specs.Select.{atom_code, binary_code, body_label, boolean_code, check_character};
-ghost use Rattle.sch_select.specs.Select.{check_fixnum, compare_code, comparison_code, division_code, global_address};
-ghost use Rattle.sch_select.specs.Select.{modulo_code, operand_code, overflow_code, place_operand, primitive_code};
-ghost use Rattle.sch_select.specs.Select.{put_code, read_code, second_code, stop_label, test_code, unary_code};
+ghost use Rattle.sch_select.specs.Select.{atom_code, binary_code, boolean_code, check_fixnum, compare_code};
+ghost use Rattle.sch_select.specs.Select.{comparison_code, division_code, index_operand, modulo_code, operand_code};
+ghost use Rattle.sch_select.specs.Select.{overflow_code, pair_or_binary, primitive_code, put_code, read_code};
+ghost use Rattle.sch_select.specs.Select.{second_code, ternary_code, test_code, three_code, unary_code};
 
-use sch_asm::{Item, Routine};
+use crate::addresses::{PUT_LABEL, above, literal_address, place_operand, stop};
+use crate::pairs::{CAR, CDR, pair, part_of_pair, set_part_of_pair};
+use crate::strings::{
+    make_string, set_string, string_length, string_ref, symbol_length, symbol_ref,
+};
+use crate::vectors::{make_vector, set_vector, vector_length, vector_ref};
+use sch_asm::Item;
 use sch_control::{Atom, Operand};
 use sch_heap::constant_number;
 use sch_heap::word::{CHARACTER, FALSE, NIL, TRUE, UNSPECIFIED};
 use sch_insn::condition::{A, E, G, GE, L, LE, NE, O};
-use sch_insn::register::{R11, RAX, RBP, RCX, RDX};
+use sch_insn::register::{R11, RAX, RCX, RDX};
 use sch_insn::{Arg, Insn};
 use sch_word::{List, Mem, Place, Prim, Stop};
-
-/// Where the globals stand in the data.
-pub(crate) const GLOBALS_ADDRESS: u64 = 0x1000_0320;
-
-/// The label of the routine that puts any value.
-pub(crate) const PUT_LABEL: u32 = 1024;
-
-/// The labels of bodies are numbered from here on.
-const FIRST_LABEL: u32 = 1032;
-
-/// A label behind another one. One past the numbers of 32 bits is out of memory.
-pub(crate) fn above(n: u32, k: u32) -> Result<u32, Mem>
-    ensures { IfOk result (λ m. m ≡ n + k) }
-{
-    match n.checked_add(k) {
-        Some(m) => Ok(m),
-        None => Err(Mem),
-    }
-}
-
-/// Where the code of a body begins.
-pub(crate) fn body_label(label: u32) -> Result<u32, Mem>
-    ensures { IfOk result (λ m. m ≡ body_label label) }
-{
-    above(FIRST_LABEL, label)
-}
-
-pub(crate) fn stop(why: Stop) -> u32
-    ensures { result ≡ stop_label why }
-{
-    Routine::Stop(why).label()
-}
-
-/// A place as an operand. A slot past the displacements of 32 bits is out of memory.
-pub(crate) fn place_operand(p: Place) -> Result<Arg, Mem>
-    ensures { IfOk result (λ m. m ≡ place_operand p) }
-{
-    match p {
-        Place::Reg(r) => Ok(Arg::Reg(r)),
-        Place::Slot(j) => {
-            if j < 268_435_456 {
-                Ok(Arg::Base32(RBP, 8 * j as i32))
-            } else {
-                Err(Mem)
-            }
-        }
-    }
-}
-
-/// The address of a global's word.
-pub(crate) fn global_address(g: u32) -> u64
-    ensures { result ≡ global_address g }
-{
-    GLOBALS_ADDRESS + 8 * g as u64
-}
 
 /// An atom into a register.
 pub(crate) fn atom(out: &mut List<Item>, register: u8, a: &Atom<Place>) -> Result<(), Mem>
@@ -82,7 +34,7 @@ pub(crate) fn atom(out: &mut List<Item>, register: u8, a: &Atom<Place>) -> Resul
             let place = place_operand(*p)?;
             out.push(Item::Plain(Insn::MovFrom(register, place)))
         }
-        Atom::Literal(_) => Ok(()),
+        Atom::Literal(n) => out.push(Item::LoadWord(register, literal_address(*n))),
     }
 }
 
@@ -256,8 +208,46 @@ fn unary(out: &mut List<Item>, n: u32, which: Prim) -> Result<(), Mem>
         Prim::CharToInteger => character_number(out),
         Prim::IntegerToChar => number_character(out),
         Prim::Put => put(out, n),
+        Prim::Car => part_of_pair(out, CAR),
+        Prim::Cdr => part_of_pair(out, CDR),
+        Prim::StringLength => string_length(out),
+        Prim::VectorLength => vector_length(out),
+        Prim::SymbolLength => symbol_length(out),
         _ => Ok(()),
     }
+}
+
+/// A quotient, or stop 69 or 70.
+fn quotient(out: &mut List<Item>) -> Result<(), Mem>
+    ensures { OnOk result ((rest : List Item) → out.new ++ rest ≡ out.old ++ binary_code 0 Quotient rest) }
+{
+    division(out)?;
+    out.extend_from_slice(&[
+        Item::Plain(Insn::MovNumber(Arg::Reg(RCX), 8)),
+        Item::Plain(Insn::Imul(RAX, Arg::Reg(RCX))),
+        Item::JumpIf(O, stop(Stop::Overflow)),
+    ])
+}
+
+/// A remainder, or stop 69.
+fn remainder(out: &mut List<Item>) -> Result<(), Mem>
+    ensures { OnOk result ((rest : List Item) → out.new ++ rest ≡ out.old ++ binary_code 0 Remainder rest) }
+{
+    division(out)?;
+    out.push(Item::Plain(Insn::MovTo(Arg::Reg(RAX), RDX)))
+}
+
+/// A product, or stop 70.
+fn product(out: &mut List<Item>) -> Result<(), Mem>
+    ensures { OnOk result ((rest : List Item) → out.new ++ rest ≡ out.old ++ binary_code 0 Multiply rest) }
+{
+    arithmetic(
+        out,
+        &[
+            Item::Plain(Insn::Sar(Arg::Reg(RAX), 3)),
+            Item::Plain(Insn::Imul(RAX, Arg::Reg(RCX))),
+        ],
+    )
 }
 
 /// A primitive of two operands, in RAX and RCX.
@@ -268,28 +258,11 @@ fn binary(out: &mut List<Item>, n: u32, which: Prim) -> Result<(), Mem>
         Prim::Eq | Prim::Eqv => compare(out, n, E),
         Prim::Add => arithmetic(out, &[Item::Plain(Insn::AddTo(Arg::Reg(RAX), RCX))]),
         Prim::Subtract => arithmetic(out, &[Item::Plain(Insn::SubTo(Arg::Reg(RAX), RCX))]),
-        Prim::Multiply => arithmetic(
-            out,
-            &[
-                Item::Plain(Insn::Sar(Arg::Reg(RAX), 3)),
-                Item::Plain(Insn::Imul(RAX, Arg::Reg(RCX))),
-            ],
-        ),
-        Prim::Quotient => {
-            division(out)?;
-            out.extend_from_slice(&[
-                Item::Plain(Insn::MovNumber(Arg::Reg(RCX), 8)),
-                Item::Plain(Insn::Imul(RAX, Arg::Reg(RCX))),
-                Item::JumpIf(O, stop(Stop::Overflow)),
-            ])
-        }
-        Prim::Remainder => {
-            division(out)?;
-            out.push(Item::Plain(Insn::MovTo(Arg::Reg(RAX), RDX)))
-        }
+        Prim::Multiply => product(out),
+        Prim::Quotient => quotient(out),
+        Prim::Remainder => remainder(out),
         Prim::Modulo => {
-            division(out)?;
-            out.push(Item::Plain(Insn::MovTo(Arg::Reg(RAX), RDX)))?;
+            remainder(out)?;
             modulo(out, n)
         }
         Prim::Equal => comparison(out, n, E),
@@ -297,6 +270,13 @@ fn binary(out: &mut List<Item>, n: u32, which: Prim) -> Result<(), Mem>
         Prim::Greater => comparison(out, n, G),
         Prim::LessEqual => comparison(out, n, LE),
         Prim::GreaterEqual => comparison(out, n, GE),
+        Prim::SetCar => set_part_of_pair(out, CAR),
+        Prim::SetCdr => set_part_of_pair(out, CDR),
+        Prim::StringRef => string_ref(out),
+        Prim::VectorRef => vector_ref(out),
+        Prim::SymbolRef => symbol_ref(out),
+        Prim::MakeString => make_string(out, n),
+        Prim::MakeVector => make_vector(out, n),
         _ => Ok(()),
     }
 }
@@ -346,14 +326,63 @@ pub(crate) fn second(out: &mut List<Item>, n: u32, o: &Operand<Place>) -> Result
     }
 }
 
+/// An index into RCX. What a primitive reads is no number: stop 65.
+fn index(out: &mut List<Item>, o: &Operand<Place>) -> Result<(), Mem>
+    ensures { OnOk result ((rest : List Item) → out.new ++ rest ≡ out.old ++ index_operand o.now rest) }
+{
+    match o {
+        Operand::Atom(a) => atom(out, RCX, a),
+        Operand::Read(_, _, _) => out.push(Item::Jump(stop(Stop::WrongType))),
+    }
+}
+
+/// Three operands into R11, RAX and RCX, the last one first.
+fn three(
+    out: &mut List<Item>,
+    n: u32,
+    a: &Operand<Place>,
+    b: &Operand<Place>,
+    c: &Operand<Place>,
+) -> Result<(), Mem>
+    ensures { OnOk result ((rest : List Item) → out.new ++ rest ≡ out.old ++ three_code n a.now b.now c.now rest) }
+{
+    operand(out, n, c)?;
+    out.push(Item::Plain(Insn::MovTo(Arg::Reg(R11), RAX)))?;
+    operand(out, above(n, 4)?, a)?;
+    index(out, b)
+}
+
+/// What R11 has is stored at the index in RCX.
+fn ternary(out: &mut List<Item>, which: Prim) -> Result<(), Mem>
+    ensures { OnOk result ((rest : List Item) → out.new ++ rest ≡ out.old ++ ternary_code which rest) }
+{
+    match which {
+        Prim::StringSet => set_string(out),
+        Prim::VectorSet => set_vector(out),
+        _ => Ok(()),
+    }
+}
+
+/// A primitive of two operands, or a new pair.
+fn pair_or_binary(out: &mut List<Item>, heap_end: u32, n: u32, which: Prim) -> Result<(), Mem>
+    ensures { OnOk result ((rest : List Item) → out.new ++ rest ≡ out.old ++ pair_or_binary heap_end n which rest) }
+{
+    match which {
+        Prim::Cons => pair(out, heap_end),
+        _ => binary(out, n, which),
+    }
+}
+
 /// A primitive.
 pub(crate) fn primitive(
     out: &mut List<Item>,
+    heap_end: u32,
     n: u32,
     which: Prim,
     operands: &[Operand<Place>],
 ) -> Result<(), Mem>
-    ensures { OnOk result ((rest : List Item) → out.new ++ rest ≡ out.old ++ primitive_code n which operands.now rest) }
+    ensures { OnOk result ((rest : List Item) → out.new ++ rest
+        ≡ out.old ++ primitive_code heap_end n which operands.now rest) }
 {
     match operands {
         [o] => {
@@ -363,7 +392,11 @@ pub(crate) fn primitive(
         [o, q] => {
             operand(out, n, o)?;
             second(out, above(n, 4)?, q)?;
-            binary(out, above(n, 8)?, which)
+            pair_or_binary(out, heap_end, above(n, 8)?, which)
+        }
+        [o, q, r] => {
+            three(out, n, o, q, r)?;
+            ternary(out, which)
         }
         _ => Ok(()),
     }

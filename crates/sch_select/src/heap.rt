@@ -3,16 +3,17 @@
 ghost use Rattle.std.specs.Prelude.{◌≡◌, ◌+◌, ◌*◌, ◌++◌, IfOk, OnOk, List, pos};
 ghost use Rattle.sch_asm.specs.declared.item.Item.{Item};
 ghost use Rattle.sch_insn.specs.declared.insn.Arg.TheVariants.{Base32};
-ghost use Rattle.sch_select.specs.Select.{cell_operand, check_cell, check_heap, closure_bytes, closure_code};
-ghost use Rattle.sch_select.specs.Select.{fields_code, group_bytes, group_code, new_cell_code, part_code};
-ghost use Rattle.sch_select.specs.Select.{part_operand, places_code, read_cell_code, record_code, records_code};
-ghost use Rattle.sch_select.specs.Select.{source_code, unset_cell_code, write_cell_code};
+ghost use Rattle.sch_select.specs.Select.{cell_operand, check_cell, closure_bytes, closure_code, fields_code};
+ghost use Rattle.sch_select.specs.Select.{group_bytes, group_code, new_cell_code, places_code, read_cell_code};
+ghost use Rattle.sch_select.specs.Select.{record_code, records_code, source_code, unset_cell_code, write_cell_code};
 
-use crate::code::{above, atom, body_label, place_operand, stop};
+use crate::addresses::{above, body_label, immediate, part_operand, place_operand, stop};
+use crate::code::atom;
+use crate::pairs::{check_heap, part};
 use sch_asm::Item;
 use sch_control::{Closure, Member, Source};
 use sch_heap::word::{CELL, UNSET, UNSPECIFIED};
-use sch_insn::condition::{A, E, NE};
+use sch_insn::condition::{E, NE};
 use sch_insn::register::{R12, RAX, RCX, RDX};
 use sch_insn::{Arg, Insn};
 use sch_word::{List, Mem, Place, Stop};
@@ -25,17 +26,6 @@ const CELL_TAG: u32 = 7;
 /// The bytes of a cell.
 const CELL_BYTES: u32 = 16;
 
-/// A number as an immediate. One past the immediates of 32 bits is out of memory.
-pub(crate) fn immediate(n: u32) -> Result<i32, Mem>
-    ensures { IfOk result (λ m. m ≡ pos n) }
-{
-    if n < 2_147_483_648 {
-        Ok(n as i32)
-    } else {
-        Err(Mem)
-    }
-}
-
 /// The operand of a field, by the word of its closure in a register.
 fn field_operand(register: u8, k: u32) -> Result<Arg, Mem>
     ensures { IfOk result (λ m. m ≡ Base32 register (pos (4 + 8 * k))) }
@@ -45,14 +35,6 @@ fn field_operand(register: u8, k: u32) -> Result<Arg, Mem>
     } else {
         Err(Mem)
     }
-}
-
-/// The operand at an offset from the address of the next part.
-fn part_operand(offset: u32) -> Result<Arg, Mem>
-    ensures { IfOk result (λ m. m ≡ part_operand offset) }
-{
-    let offset = immediate(offset)?;
-    Ok(Arg::Base32(R12, offset))
 }
 
 /// What a closure captures, or a cell that is read or set, into a register.
@@ -111,33 +93,6 @@ pub(crate) fn write_cell(out: &mut List<Item>) -> Result<(), Mem>
     out.extend_from_slice(&[
         Item::Plain(Insn::MovTo(cell_operand(RCX), RAX)),
         Item::Plain(Insn::MovNumber(Arg::Reg(RAX), UNSPECIFIED)),
-    ])
-}
-
-/// The heap has this number of bytes left, or stop 71.
-fn check_heap(out: &mut List<Item>, heap_end: u32, bytes: u32) -> Result<(), Mem>
-    ensures { OnOk result ((rest : List Item) → out.new ++ rest ≡ out.old ++ check_heap heap_end bytes rest) }
-{
-    let bytes = immediate(bytes)?;
-    let end = immediate(heap_end)?;
-    out.extend_from_slice(&[
-        Item::Plain(Insn::MovTo(Arg::Reg(RDX), R12)),
-        Item::Plain(Insn::AddNumber(Arg::Reg(RDX), bytes)),
-        Item::Plain(Insn::CmpNumber(Arg::Reg(RDX), end)),
-        Item::JumpIf(A, stop(Stop::HeapLimit)),
-    ])
-}
-
-/// The word of a part with a tag into RAX, and the address of the next part into R12.
-fn part(out: &mut List<Item>, tag: u32, bytes: u32) -> Result<(), Mem>
-    ensures { OnOk result ((rest : List Item) → out.new ++ rest ≡ out.old ++ part_code tag bytes rest) }
-{
-    let tag = immediate(tag)?;
-    let bytes = immediate(bytes)?;
-    out.extend_from_slice(&[
-        Item::Plain(Insn::MovTo(Arg::Reg(RAX), R12)),
-        Item::Plain(Insn::AddNumber(Arg::Reg(RAX), tag)),
-        Item::Plain(Insn::AddNumber(Arg::Reg(R12), bytes)),
     ])
 }
 

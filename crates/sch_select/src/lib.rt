@@ -1,16 +1,23 @@
 //! From frame programs to labelled code: each operation as instructions of the machine, and the data that a
 //! program starts with.
 //!
-//! What is selected is object-free: procedures, calls and tail calls, cells, the procedures of the library, and the
-//! primitives that neither make an object nor take one apart. Programs with literals or symbols, and those in which a
-//! procedure takes a rest list or a call spreads a list, have no code yet.
+//! What is selected is covered: all that the passes make, but calls that spread their last operand. The data have a
+//! program's literals and the names of its symbols. Values are put, vectors and strings are made, and the lists of
+//! operands that are left over too, by routines of the program's own.
 #![tactic(auto)]
 
+mod addresses;
 mod calls;
 mod code;
 mod heap;
 mod operation;
+mod pairs;
+mod rests;
+mod routines;
 mod selecting;
+mod statics;
+mod strings;
+mod vectors;
 mod walk;
 
 pub use selecting::select;

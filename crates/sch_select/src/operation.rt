@@ -4,7 +4,8 @@ ghost use Rattle.std.specs.Prelude.{◌≡◌, ◌++◌, OnOk, List};
 ghost use Rattle.sch_asm.specs.declared.item.Item.{Item};
 ghost use Rattle.sch_select.specs.Select.{operation_code};
 
-use crate::code::{global_address, operand, primitive, stop};
+use crate::addresses::{global_address, stop};
+use crate::code::{operand, primitive};
 use crate::heap::{closure, new_cell, read_cell, source, unset_cell, write_cell};
 use sch_asm::Item;
 use sch_control::{Operation, Source};
@@ -18,23 +19,30 @@ use sch_word::{List, Mem, Place, Stop};
 pub(crate) fn operation(
     out: &mut List<Item>,
     heap_end: u32,
+    literals: u32,
     n: u32,
     o: &Operation<Place>,
 ) -> Result<(), Mem>
-    ensures { OnOk result ((rest : List Item) → out.new ++ rest ≡ out.old ++ operation_code heap_end n o.now rest) }
+    ensures { OnOk result ((rest : List Item) → out.new ++ rest ≡ out.old ++ operation_code heap_end literals n o.now rest) }
 {
     match o {
         Operation::Operand(o) => operand(out, n, o),
-        Operation::Prim(_, which, operands) => primitive(out, n, *which, operands.as_slice()),
+        Operation::Prim(_, which, operands) => primitive(
+            out,
+            heap_end,
+            n,
+            *which,
+            operands.as_slice(),
+        ),
         Operation::Global(g) => out.extend_from_slice(&[
-            Item::LoadWord(RAX, global_address(*g)),
+            Item::LoadWord(RAX, global_address(literals, *g)),
             Item::Plain(Insn::CmpNumber(Arg::Reg(RAX), UNSET)),
             Item::JumpIf(E, stop(Stop::Unset)),
         ]),
         Operation::SetGlobal(g, o) => {
             operand(out, n, o)?;
             out.extend_from_slice(&[
-                Item::StoreWord(global_address(*g), RAX),
+                Item::StoreWord(global_address(literals, *g), RAX),
                 Item::Plain(Insn::MovNumber(Arg::Reg(RAX), UNSPECIFIED)),
             ])
         }

@@ -5,12 +5,14 @@ ghost use Rattle.sch_asm.specs.declared.item.Item.{Item};
 ghost use Rattle.sch_frames.specs.declared.instruction.Instruction.TheVariants.{Copy, Load};
 ghost use Rattle.sch_frames.specs.SourceView.{codes_of, code_of};
 ghost use Rattle.sch_select.specs.Select.{body_code, instruction_code, kind_of};
-ghost use Rattle.sch_select.specs.Program.{entry_code, form_code, forms_code, labels_end, passed_code};
+ghost use Rattle.sch_select.specs.Program.{count_code, entry_code, form_code, forms_code, labels_end, passed_code};
 
+use crate::addresses::{above, body_label, place_operand};
 use crate::calls::{call, check_count, tail_call};
-use crate::code::{above, body_label, place_operand, second};
+use crate::code::second;
 use crate::heap::group;
 use crate::operation::operation;
+use crate::rests::enter_rest;
 use sch_asm::{Item, MarkKind};
 use sch_control::{Entry, MarkKind as ControlMark, Operand};
 use sch_frames::{FrameBody, Instruction};
@@ -36,19 +38,20 @@ fn kind_of(mark: ControlMark) -> MarkKind
     }
 }
 
-/// Where the labels of a body are, its own from `base` on, and `end` behind it; how many words a frame has; and
-/// where the heap ends.
+/// Where the labels of a body are, its own from `base` on, and `end` behind it; how many words a frame has; where
+/// the heap ends; and how many literals there are.
 #[derive(Clone, Copy)]
 struct Labels {
     base: u32,
     end: u32,
     words: u32,
     heap_end: u32,
+    literals: u32,
 }
 
 /// What a place has into another one.
 fn copy(out: &mut List<Item>, to: Place, from: Place) -> Result<(), Mem>
-    ensures { OnOk result ((rest : List Item) → out.new ++ rest ≡ out.old ++ instruction_code 0 0 0 0 0 (Copy to from) rest) }
+    ensures { OnOk result ((rest : List Item) → out.new ++ rest ≡ out.old ++ instruction_code 0 0 0 0 0 0 (Copy to from) rest) }
 {
     let to = place_operand(to)?;
     let from = place_operand(from)?;
@@ -58,7 +61,7 @@ fn copy(out: &mut List<Item>, to: Place, from: Place) -> Result<(), Mem>
 
 /// An operand into a place.
 fn load(out: &mut List<Item>, n: u32, p: Place, o: &Operand<Place>) -> Result<(), Mem>
-    ensures { OnOk result ((rest : List Item) → out.new ++ rest ≡ out.old ++ instruction_code 0 0 0 0 n (Load p o.now) rest) }
+    ensures { OnOk result ((rest : List Item) → out.new ++ rest ≡ out.old ++ instruction_code 0 0 0 0 0 n (Load p o.now) rest) }
 {
     let place = place_operand(p)?;
     second(out, n, o)?;
@@ -68,10 +71,10 @@ fn load(out: &mut List<Item>, n: u32, p: Place, o: &Operand<Place>) -> Result<()
 /// One instruction, whose own labels are from n on.
 fn instruction(out: &mut List<Item>, labels: Labels, n: u32, i: &Instruction) -> Result<(), Mem>
     ensures { OnOk result ((rest : List Item) → out.new ++ rest
-        ≡ out.old ++ instruction_code labels.base labels.end labels.words labels.heap_end n i.now rest) }
+        ≡ out.old ++ instruction_code labels.base labels.end labels.words labels.heap_end labels.literals n i.now rest) }
 {
     match i {
-        Instruction::Do(o) => operation(out, labels.heap_end, n, o),
+        Instruction::Do(o) => operation(out, labels.heap_end, labels.literals, n, o),
         Instruction::Store(p) => {
             let place = place_operand(*p)?;
             out.push(Item::Plain(Insn::MovTo(place, RAX)))
@@ -109,7 +112,7 @@ fn body(
     instructions: &[Instruction],
 ) -> Result<u32, Mem>
     ensures items { OnOk result ((rest : List Item) → out.new ++ rest
-        ≡ out.old ++ body_code labels.base labels.end labels.words labels.heap_end n instructions.now rest) }
+        ≡ out.old ++ body_code labels.base labels.end labels.words labels.heap_end labels.literals n instructions.now rest) }
     ensures next { IfOk result (λ m. m ≡ n + 12 * length instructions.now) }
 {
     let mut next = n;
@@ -130,41 +133,55 @@ fn passed(out: &mut List<Item>, entry: &Option<Entry>, end: u32) -> Result<(), M
     }
 }
 
-/// How many words a frame has, and where the heap ends.
+/// How many words a frame has, where the heap ends, and how many literals there are.
 #[derive(Clone, Copy)]
 pub(crate) struct Frames {
     pub(crate) words: u32,
     pub(crate) heap_end: u32,
+    pub(crate) literals: u32,
+}
+
+/// The operands are as many as the formals; or those that are left over become a list, for which the label is.
+fn check_operands(out: &mut List<Item>, rest: bool, formals: u32, n: u32) -> Result<(), Mem>
+    ensures { OnOk result ((behind : List Item) → out.new ++ behind ≡ out.old ++ count_code rest formals n behind) }
+{
+    if rest {
+        enter_rest(out, formals.saturating_sub(1), n)
+    } else {
+        check_count(out, formals)
+    }
 }
 
 /// A procedure's body begins with a check of its operands' count.
-fn check_entry(out: &mut List<Item>, entry: &Option<Entry>) -> Result<(), Mem>
-    ensures { OnOk result ((rest : List Item) → out.new ++ rest ≡ out.old ++ entry_code entry.now rest) }
+fn check_entry(out: &mut List<Item>, entry: &Option<Entry>, n: u32) -> Result<(), Mem>
+    ensures { OnOk result ((rest : List Item) → out.new ++ rest ≡ out.old ++ entry_code entry.now n rest) }
 {
     match entry {
         None => Ok(()),
-        Some(e) => check_count(out, e.formals),
+        Some(e) => check_operands(out, e.rest, e.formals, n),
     }
 }
 
 /// The body of a label, with labels of its own from n on, and the number behind these.
 fn form(out: &mut List<Item>, frames: Frames, label: u32, n: u32, b: &FrameBody) -> Result<u32, Mem>
     ensures items { OnOk result ((rest : List Item) → out.new ++ rest
-        ≡ out.old ++ form_code frames.words frames.heap_end label n (code_of b.now) rest) }
+        ≡ out.old ++ form_code frames.words frames.heap_end frames.literals label n (code_of b.now) rest) }
     ensures next { IfOk result (λ m. m ≡ labels_end n (code_of b.now)) }
 {
     let end = above(n, b.labels)?;
-    let first = above(end, 1)?;
+    let list = above(end, 1)?;
+    let first = above(end, 2)?;
     let labels = Labels {
         base: n,
         end,
         words: frames.words,
         heap_end: frames.heap_end,
+        literals: frames.literals,
     };
     passed(out, &b.entry, end)?;
     let own = body_label(label)?;
     out.push(Item::Label(own))?;
-    check_entry(out, &b.entry)?;
+    check_entry(out, &b.entry, list)?;
     out.push(Item::Mark(MarkKind::Enter(label)))?;
     let next = body(out, labels, first, b.instructions.as_slice())?;
     out.push(Item::Label(end))?;
@@ -179,7 +196,7 @@ pub(crate) fn forms(
     bodies: &[FrameBody],
 ) -> Result<(), Mem>
     ensures { OnOk result ((rest : List Item) → out.new ++ rest
-        ≡ out.old ++ forms_code frames.words frames.heap_end 0 n (codes_of bodies.now) rest) }
+        ≡ out.old ++ forms_code frames.words frames.heap_end frames.literals 0 n (codes_of bodies.now) rest) }
 {
     let mut next = n;
     let mut label = 0;

@@ -75,18 +75,10 @@ negative_row : outline_datum plain [] (named 1 (codes "-") (cons (number 5) none
 unfolding plain named number keyword_of operation_of
 negative_row = refl
 
--- `(display 5)` puts, and is a call where a library has `display`
-display_row : outline_datum plain [] (named 1 (codes "display") (cons (number 5) none)) ≡ node (operating Put) 1 (one (text (number 5)))
-unfolding plain named number car keyword_of operation_of
+-- `(display 5)` is a call: the name is that of no operation
+display_row : outline_datum plain [] (named 1 (codes "display") (cons (number 5) none)) ≡ node calling 1 (two (text (operator 2 (codes "display"))) (text (number 5)))
+unfolding plain named number operator car keyword_of operation_of
 display_row = refl
-
-with_display : Globals
-with_display = record { bound = codes "display" ∷ []; own = []; internal = false }
-
-library_display_row : outline_datum with_display [] (named 1 (codes "display") (cons (number 5) none)) ≡
-    node calling 1 (two (text (operator 2 (codes "display"))) (text (number 5)))
-unfolding with_display named number operator keyword_of
-library_display_row = refl
 
 -- `(%put 5)` is an operation in a library, and a call in another text
 put_row : outline_datum library [] (named 1 (codes "%put") (cons (number 5) none)) ≡ node (operating Put) 1 (one (text (number 5)))

@@ -8,7 +8,7 @@ use Rattle.sch_names.specs.declared.keyword.Keyword.TheVariants.{Lambda}
 use Rattle.sch_names.specs.declared.operation.Operation.{Operation}
 use Rattle.sch_names.specs.Operations.{operation_of}
 use Rattle.sch_names.specs.Words.{keyword_of}
-use Rattle.sch_names.specs.Scope.{Scope, Globals, find, is_procedure_name, head, onto}
+use Rattle.sch_names.specs.Scope.{Scope, Globals, find, is_among, head, onto}
 use Rattle.sch_sketch.specs.declared.sketch.Position.{Position}
 use Rattle.sch_sketch.specs.declared.sketch.Row.{Row}
 use Rattle.sch_sketch.specs.declared.sketch.Row.TheVariants.{Form, Body, Method, Nest, Clauses, Cases, Tests, Chain, Join}
@@ -33,7 +33,7 @@ either s false k k' h h' = h'
 module _ (globals : Globals) where
   pub datum_procedure : (s : Scope) (d : Datum) → is_lambda s d ≡ true → is_procedure s (outline_datum globals s d) ≡ true
   datum_procedure s (list at (cons (atom q (symbol x)) xs)) e =
-      head_procedure (find s x) (is_procedure_name globals x) (keyword_of x) (operation_of globals.internal x (how_many xs)) s at q x xs e
+      head_procedure (find s x) (is_among x globals.own) (keyword_of x) (operation_of globals.internal x (how_many xs)) s at q x xs e
   datum_procedure s (list at (cons (atom q (boolean b)) xs)) e = cc
   datum_procedure s (list at (cons (atom q (integer z)) xs)) e = cc
   datum_procedure s (list at (cons (atom q (character c)) xs)) e = cc

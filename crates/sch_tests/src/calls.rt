@@ -146,7 +146,7 @@ fn calls_stop(rt: HostRuntime) -> Result<(), Fail> {
 }
 
 // Runs a source at a depth.
-fn run_at(alloc: Global, depth: &str, source: &[u8]) -> Result<(u8, Vec<u8>), Fail> {
+pub(crate) fn run_at(alloc: Global, depth: &str, source: &[u8]) -> Result<(u8, Vec<u8>), Fail> {
     let words: [&str; 6] = ["run", "a", "--heap", "4096", "--depth", depth];
     let ending = perform(alloc, &words, source, &[])?;
     Ok((ending.status, ending.printed))

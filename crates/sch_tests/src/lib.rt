@@ -4,7 +4,7 @@
 #[cfg(test)]
 mod calls;
 #[cfg(test)]
-mod object_free;
+mod cells;
 #[cfg(test)]
 mod program;
 #[cfg(test)]

@@ -4,6 +4,8 @@
 #[cfg(test)]
 mod executables;
 #[cfg(test)]
+mod fills;
+#[cfg(test)]
 mod lists;
 #[cfg(test)]
 mod machine;

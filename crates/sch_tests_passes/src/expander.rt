@@ -31,9 +31,9 @@ fn program_of(alloc: Global, text: &[u8]) -> Result<Program, CoreError> {
 fn expands_each_form(rt: HostRuntime) -> Result<(), Fail> {
     let rows: [(&[u8], usize, usize); 12] = [
         (b"", 0, 0),
-        (b"(display 1)(newline)(display #\\a)", 0, 3),
+        (b"(char? 1)(null? '())(char? #\\a)", 0, 3),
         (
-            b"(define x 7)(let ((y (* x 6))) (if (< y 40) (display '()) (display (- y 50))))",
+            b"(define x 7)(let ((y (* x 6))) (if (< y 40) (null? '()) (null? (- y 50))))",
             1,
             6,
         ),
@@ -111,6 +111,8 @@ fn names_that_are_not_bound(rt: HostRuntime) -> Result<(), Fail> {
     assert!(rt; matches!(assigned, Err(CoreError::Unbound(6, _))));
     let called = program_of(alloc, b"(lambda (x) (if #f (set! car x)))(car 1)");
     assert!(rt; matches!(called, Err(CoreError::Unbound(25, _))));
+    let no_library = program_of(alloc, b"(display 1)");
+    assert!(rt; matches!(no_library, Err(CoreError::Unbound(1, _))));
     let keyword = program_of(alloc, b"(define (if) 1)");
     assert!(rt; matches!(keyword, Err(CoreError::KeywordDefined(0))));
     Ok(())

@@ -7,7 +7,7 @@ ghost use Rattle.sch_control.specs.declared.operation.Atom.TheVariants.{Constant
 ghost use Rattle.sch_control.specs.declared.operation.Operand.TheVariants as operands;
 ghost use Rattle.sch_control.specs.declared.operation.Operation.TheVariants as operations;
 ghost use Rattle.sch_frames.specs.declared.instruction.Instruction.TheVariants as instructions;
-ghost use Rattle.sch_frames.specs.ObjectFree.{is_object_free_program};
+ghost use Rattle.sch_frames.specs.Covered.{is_covered_program};
 ghost use Rattle.sch_frames.specs.ProgramView.{source};
 
 use sch_control::{Atom, Operand, Operation};
@@ -40,7 +40,7 @@ fn shown(alloc: Global) -> Result<FrameBody, Mem>
 
 // A program of one form.
 fn program(alloc: Global) -> Result<FrameProgram, Mem>
-    ensures object_free { IfOk result (λ p. IsTrue (is_object_free_program (source p))) }
+    ensures covered { IfOk result (λ p. IsTrue (is_covered_program (source p))) }
     ensures words { IfOk result (λ p. p.words ≡ 0) }
 {
     let mut bodies = List::new(alloc);

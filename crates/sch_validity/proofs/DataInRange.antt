@@ -52,7 +52,6 @@ in_range_kept globals = record {
   nothing = refl;
   unit = unit_in_range;
   space = refl;
-  newline = refl;
   bound = λ x h. tt;
 }
 

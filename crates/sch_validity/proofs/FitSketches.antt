@@ -5,7 +5,7 @@ use Rattle.sch_word.specs.declared.primitive.Primitive.TheVariants.{MakeString}
 use Rattle.sch_read.specs.Grammar.{Datum, Data, atom, list, dotted, vector, none, cons, boolean, integer, character, symbol as symbol_atom}
 use Rattle.sch_read.specs.Grammar as grammar
 use Rattle.sch_names.specs.declared.operation.Operation.{Operation}
-use Rattle.sch_names.specs.declared.operation.Operation.TheVariants.{Exact, Unit as UnitOf, UnitAnd, Nested, Chained, Filled, Newline, Not}
+use Rattle.sch_names.specs.declared.operation.Operation.TheVariants.{Exact, Unit as UnitOf, UnitAnd, Nested, Chained, Filled, Not}
 use Rattle.sch_names.specs.Scope.{Scope}
 use Rattle.sch_names.specs.Scope.{Globals}
 use Rattle.sch_sketch.specs.declared.sketch.Position.{Position}
@@ -68,7 +68,6 @@ module _ (globals : Globals) (n : Notion) (c : IsKept globals n) where
   combination_fits (Nested p) at xs g = texts_fits xs _ g ((tt, tt), tt)
   combination_fits (Chained p) at xs g = texts_fits xs _ g ((g, tt), tt)
   combination_fits (Filled p) at xs g = texts_fits xs _ g (filler_fits at p, tt)
-  combination_fits Newline at xs g = (c.newline, tt)
   combination_fits Not at xs g = denial_fits at xs g
 
   pub chain_fits : (p : Primitive) (at : ℕ) (xs : Data) → AllGood n xs → IsFit n (row_chain p at xs)

@@ -33,7 +33,6 @@ module _ (own all : List (List ℕ)) where
     nothing = tt;
     unit = λ p. tt;
     space = tt;
-    newline = tt;
     bound = h;
   }
 

@@ -31,7 +31,6 @@ pub record IsKept (globals : Globals) (n : Notion) : Type 0 where
   pub nothing : n.Constant Unspecified
   pub unit : (p : Primitive) → n.Constant (Fixnum (unit_of p))
   pub space : n.Constant (Character 32)
-  pub newline : n.Constant (Character 10)
   pub bound : (x : List ℕ) → is_among x globals.bound ≡ true → n.Global x
 
 -- ## Sketches

@@ -8,7 +8,7 @@ use Rattle.sch_read.specs.Grammar as grammar
 use Rattle.sch_read.specs.Parts.{how_many}
 use Rattle.sch_read.specs.Valid.{weight, weights}
 use Rattle.sch_names.specs.declared.operation.Operation.{Operation}
-use Rattle.sch_names.specs.declared.operation.Operation.TheVariants.{Exact, Unit as UnitOf, UnitAnd, Nested, Chained, Filled, Newline, Not}
+use Rattle.sch_names.specs.declared.operation.Operation.TheVariants.{Exact, Unit as UnitOf, UnitAnd, Nested, Chained, Filled, Not}
 use Rattle.sch_names.specs.Scope.{Scope}
 use Rattle.sch_sketch.specs.declared.sketch.Position.{Position}
 use Rattle.sch_sketch.specs.declared.sketch.Position.TheVariants.{Value, Test}
@@ -105,7 +105,6 @@ combination_statics (UnitAnd p) at xs = omega (arith, texts_statics xs no_sketch
 combination_statics (Nested p) at xs = omega (arith, texts_statics xs (one (rest (Join p (but_one (how_many xs)) 0) at none none)))
 combination_statics (Chained p) at xs = omega (arith, texts_statics xs (one (rest (Chain p) at xs none)))
 combination_statics (Filled p) at xs = omega (arith, texts_statics xs (and_sketch (filler at p) no_sketch), filler_statics at p)
-combination_statics Newline at xs = omega arith
 combination_statics Not at xs = denial_statics at xs
 
 pub chain_statics : (p : Primitive) (at : ℕ) (xs : Data) → sketch_statics (row_chain p at xs) ≤ 0

@@ -1,5 +1,5 @@
 mod Examples
 pub mod LiteralRows
 mod PrimitiveExamples
-mod ObjectFreeRows
+mod CoveredRows
 mod TypeRows

@@ -3,5 +3,5 @@ pub mod BoundVariables
 pub mod Growth
 pub mod NumberSets
 pub mod Shape
-pub mod Straight
+pub mod Covered
 pub mod Walk

@@ -3,14 +3,14 @@ use Rattle.sch_word.proofs.WhenOk.{if_ok}
 use Rattle.sch_flat.specs.ProgramView.{source}
 use Rattle.sch_control.specs.Fits.{table_fits}
 use Rattle.sch_control.specs.Work.{codes_work}
-use Rattle.sch_normal.specs.Kept.{SameCalls, StaysObjectFree}
+use Rattle.sch_normal.specs.Kept.{SameCalls, StaysCovered}
 use Rattle.sch_normal.specs.Normal.{normal_source}
 use Rattle.sch_normal.specs.SameRun.{SameRun}
 use Rattle.sch_orders.specs.Table.{given_table}
 use Rattle.sch_normal.specs.Tests.{tests_of}
 use Rattle.sch_normal.proofs.kept.CallsKept.{program_calls}
 use Rattle.sch_normal.proofs.runs.Program.{normal_runs}
-use Rattle.sch_normal.proofs.kept.ObjectFreeKept.{program_object_free}
+use Rattle.sch_normal.proofs.kept.CoveredKept.{program_covered}
 use Rattle.sch_normal.specs.Counted.{BindNoMore}
 use Rattle.sch_normal.specs.Dropped.{dropped_of}
 use Rattle.sch_normal.specs.Weight.{weight}
@@ -47,9 +47,9 @@ returns-clause-calls c =
     if_ok c.normal_program.result _ _ c.normal_program.ensures
     (λ q made. subst (λ s. SameCalls (source c.args.p.now) s) (sym made) (program_calls (source c.args.p.now)))
 
-pub returns-clause-object_free : goal.returns-clause-object_free
-returns-clause-object_free c =
-    if_ok c.normal_program.result _ _ c.normal_program.ensures (λ q made. subst (λ s. StaysObjectFree (source c.args.p.now) s) (sym made) (program_object_free (source c.args.p.now)))
+pub returns-clause-covered : goal.returns-clause-covered
+returns-clause-covered c =
+    if_ok c.normal_program.result _ _ c.normal_program.ensures (λ q made. subst (λ s. StaysCovered (source c.args.p.now) s) (sym made) (program_covered (source c.args.p.now)))
 
 pub returns-clause-dropped : goal.returns-clause-dropped
 returns-clause-dropped c = if_ok c.normal_program.result _ _ c.normal_program.ensures (λ q made. ap (λ s. dropped_of s.bodies) made ∙ program_dropped (source c.args.p.now))

@@ -1,7 +1,7 @@
 use Rattle.std.proofs.Common.{◌∙◌, ℕ, ◌*◌, ◌≤◌, IsTrue, length, sym, subst, ap}
 use Rattle.sch_word.proofs.WhenOk.{if_ok}
 use Rattle.sch_word.specs.runs.Runs.{SameRuns}
-use Rattle.sch_cells.specs.ObjectFree.{is_object_free_program}
+use Rattle.sch_cells.specs.Covered.{is_covered_program}
 use Rattle.sch_cells.specs.Bodies.{bodies_of}
 use Rattle.sch_cells.specs.BoxedMeaning as boxed
 use Rattle.sch_cells.specs.Measures.{call_sites_of, dropped_of, program_size, sites_of, tests_of}
@@ -9,7 +9,7 @@ use Rattle.sch_cells.specs.ProgramView.{source}
 use Rattle.sch_cells.specs.UnboxedMeaning as unboxed
 use Rattle.sch_cells.specs.Valid.{bound_of}
 use Rattle.sch_assign.specs.Table.{table}
-use Rattle.sch_assign.proofs.kept.ObjectFreeKept.{object_free_kept}
+use Rattle.sch_assign.proofs.kept.CoveredKept.{covered_kept}
 use Rattle.sch_assign.proofs.kept.BodiesKept.{program_bodies}
 use Rattle.sch_assign.proofs.BoundCount.{program_bound}
 use Rattle.sch_assign.proofs.ConversionIsRight.{program_right}
@@ -94,10 +94,10 @@ returns-clause-weight c =
     if_ok c.convert_program.result _ _ c.convert_program.ensures
     (λ q made. subst (λ s. weight s ≤ 7 * program_size (source v)) (sym made) (program_weight has_cell v.variables (source v) r))
 
-pub returns-clause-object_free : goal.returns-clause-object_free
-returns-clause-object_free c =
+pub returns-clause-covered : goal.returns-clause-covered
+returns-clause-covered c =
     let v = c.args.p.now in
     let has_cell = table c.as_slice.result.now in
     let same = λ (y : ℕ). ap (λ bs. table bs y) c.as_slice.ensures.value ∙ c.in_ok-celled.ensures y in
     let r = program_right has_cell (source v) same v.scoped v.formed in
-    if_ok c.convert_program.result _ _ c.convert_program.ensures (λ q made s. subst (λ t. IsTrue (is_object_free_program t)) (sym made) (object_free_kept has_cell v.variables (source v) r s))
+    if_ok c.convert_program.result _ _ c.convert_program.ensures (λ q made s. subst (λ t. IsTrue (is_covered_program t)) (sym made) (covered_kept has_cell v.variables (source v) r s))

@@ -5,11 +5,11 @@ use Rattle.sch_word.specs.runs.Runs.{SameRuns}
 use Rattle.sch_cells.specs.BoxedMeaning.{run}
 use Rattle.sch_cells.specs.ProgramView.{source}
 use Rattle.sch_cells.specs.Measures as from
-use Rattle.sch_flat.specs.ObjectFree.{is_object_free_program}
+use Rattle.sch_flat.specs.Covered.{is_covered_program}
 use Rattle.sch_flat.specs.Measures.{sites_of, call_sites_of, tests_of, dropped_of, program_size}
 use Rattle.sch_flat.specs.Run as meaning
 use Rattle.sch_closure.specs.Kept.{SameItems, flat_forms, procedure_of, weight_after}
-use Rattle.sch_closure.proofs.kept.ObjectFreeKept.{object_free_kept}
+use Rattle.sch_closure.proofs.kept.CoveredKept.{covered_kept}
 use Rattle.sch_closure.proofs.kept.ValidKept.{Given, same_runs, clears, fresh_library, fresh_forms}
 use Rattle.sch_closure.proofs.kept.ProgramKept.{weight_kept, sites_kept, calls_kept, tests_kept, dropped_kept, bodies_kept, forms_kept, size_kept}
 use Rattle.sch_closure.proofs.close.Goals as goal
@@ -77,9 +77,9 @@ returns-clause-weight c =
     let g : Given p = record { scoped = v.scoped; formed = v.formed; limited = v.limited } in
     if_ok c.close_program.result _ _ c.close_program.ensures (λ q made. ap weight_after made ∙ weight_kept p (fresh_library p g) (fresh_forms p g))
 
-pub returns-clause-object_free : goal.returns-clause-object_free
-returns-clause-object_free c =
+pub returns-clause-covered : goal.returns-clause-covered
+returns-clause-covered c =
     let p = source c.args.p.now in
     let v = c.args.p.now in
     let g : Given p = record { scoped = v.scoped; formed = v.formed; limited = v.limited } in
-    if_ok c.close_program.result _ _ c.close_program.ensures (λ q made s. subst (λ t. IsTrue (is_object_free_program t)) (sym made) (object_free_kept p (fresh_library p g) (fresh_forms p g) s))
+    if_ok c.close_program.result _ _ c.close_program.ensures (λ q made s. subst (λ t. IsTrue (is_covered_program t)) (sym made) (covered_kept p (fresh_library p g) (fresh_forms p g) s))

@@ -1,23 +1,30 @@
-use Rattle.std.proofs.Common.{arith, ap, map, subst, ◌∙◌}
+use Rattle.std.proofs.Common.{◌≤◌, length, arith, ap, map, sym, subst, ◌∙◌}
 use Rattle.std.specs.Prelude.{IsTrue}
 use Rattle.sch_word.specs.runs.Orders.{is_order_table}
 use Rattle.sch_lang.specs.ProgramView.{source}
 use Rattle.sch_lang.specs.Run.{run}
 use Rattle.sch_control.specs.ProgramView as control
-use Rattle.sch_driver.specs.Causes.{IsErrorOf}
+use Rattle.sch_prelude.specs.LibraryText.{library_text}
+use Rattle.sch_driver.specs.Causes.{IsErrorOf, Means, max_source_size}
 use Rattle.sch_driver.proofs.Images.{bound_chain, frame_chain, kept_error, names_of_codes, too_large}
 use Rattle.sch_driver.proofs.compile.Goals as goal
+
+pub read_program-requires : goal.read_program-requires
+read_program-requires c = record {
+  small = subst (λ l. length l ≤ max_source_size) (sym c.library_text.ensures.is) c.library_text.ensures.short;
+  short = c.requires.short;
+}
 
 pub control_program-requires : goal.control_program-requires
 control_program-requires c = record { small = omega (arith, c.in_ok-program.ensures.size) }
 
 pub assemble-requires : goal.assemble-requires
-assemble-requires c = record { object_free = c.in_ok-control.ensures.object_free c.in_ok-program.ensures.built.object_free }
+assemble-requires c = record { covered = c.in_ok-control.ensures.covered }
 
 pub returns-in_err-program-clause-refused : goal.returns-in_err-program-clause-refused
 returns-in_err-program-clause-refused c =
-    kept_error c.from_residual.result c.in_err-program.field-0.0 (IsErrorOf c.args.text.now c.args.limits.depth) c.from_residual.ensures.1
-    (c.in_err-program.ensures.refused c.args.limits.depth)
+    kept_error c.from_residual.result c.in_err-program.field-0.0 (IsErrorOf library_text c.args.text.now c.args.limits.depth) c.from_residual.ensures.1
+    (subst (λ l. IsErrorOf l c.args.text.now c.args.limits.depth c.in_err-program.field-0.0) c.library_text.ensures.is (c.in_err-program.ensures.refused c.args.limits.depth))
 
 pub returns-in_err-assembled-clause-refused : goal.returns-in_err-assembled-clause-refused
 returns-in_err-assembled-clause-refused c =
@@ -25,8 +32,9 @@ returns-in_err-assembled-clause-refused c =
     let depth = c.args.limits.depth in
     let cause = c.in_err-assembled.field-0.0 in
     let control_ensures = c.in_ok-control.ensures in
-    kept_error c.from_residual-in_err-assembled.result cause (IsErrorOf text depth) c.from_residual-in_err-assembled.ensures.1
-    (too_large text (source c.in_ok-program.program) (control.source c.in_ok-control.control) depth cause c.in_ok-program.ensures.built
+    let means = subst (λ l. Means l text (source c.in_ok-program.program)) c.library_text.ensures.is c.in_ok-program.ensures.means in
+    kept_error c.from_residual-in_err-assembled.result cause (IsErrorOf library_text text depth) c.from_residual-in_err-assembled.ensures.1
+    (too_large library_text text (source c.in_ok-program.program) (control.source c.in_ok-control.control) depth cause means
     control_ensures.runs control_ensures.work control_ensures.variables c.in_err-assembled.ensures.refused)
 
 pub returns-clause-compiled : goal.returns-clause-compiled
@@ -38,7 +46,7 @@ returns-clause-compiled c =
     let limits = c.args.limits in
     record {
       program = p;
-      built = c.in_ok-program.ensures.built;
+      means = subst (λ l. Means l c.args.text.now p) c.library_text.ensures.is c.in_ok-program.ensures.means;
       is_program = record {
         image = c.in_ok-assembled.assembled.image;
         does = record {
@@ -55,6 +63,7 @@ returns-clause-compiled c =
         program = control.source c.in_ok-control.control;
         runs = runs;
         given = c.in_ok-orders.ensures.orders;
+        fits = c.in_ok-orders.ensures.fits;
         words = does.frame.largest;
         marks = c.in_ok-assembled.ensures.marks;
       };

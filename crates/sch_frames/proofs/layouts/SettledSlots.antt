@@ -16,19 +16,19 @@ use Rattle.sch_control.specs.declared.operation.Operation.{Operation}
 use Rattle.sch_control.specs.declared.operation.Operation.TheVariants as operation
 use Rattle.sch_control.specs.declared.operation.Source.{Source}
 use Rattle.sch_control.specs.declared.operation.Source.TheVariants as source
-use Rattle.sch_control.specs.ObjectFree as control_object_free
-use Rattle.sch_control.specs.ObjectFree.{is_object_free, takes_no_list}
-use Rattle.sch_control.specs.Straight.{is_form}
+use Rattle.sch_control.specs.Covered as control_covered
+use Rattle.sch_control.specs.Covered.{is_covered, has_covered_formals}
+use Rattle.sch_control.specs.CoveredOperands.{is_form}
 use Rattle.sch_control.specs.Tree as control
 use Rattle.sch_control.specs.Tree.{Expression, perform, bind, sequence, branch, fix, call, tail_call, return, end, save}
 use Rattle.sch_control.specs.Valid.{Position, value, no_call, ends_form, positioned, last_position, is_bare, source_field, operation_field, group_fields, fields_of, fields_there, entry_shaped, ended, fields_known, shaped_whole, shaped}
 use Rattle.sch_frames.specs.declared.instruction.Instruction.{Instruction}
 use Rattle.sch_frames.specs.declared.instruction.Instruction.TheVariants.{Load, Call, Tail, Label, Mark}
 use Rattle.sch_frames.specs.Meaning.{closure_register, argument_register, argument_slot}
-use Rattle.sch_frames.specs.ObjectFree.{is_object_free_code, source_low, member_low, operation_low, instruction_low, marks_settled, may_stand, plain_instruction, begins}
+use Rattle.sch_frames.specs.Covered.{is_covered_code, source_low, member_low, operation_low, instruction_low, marks_settled, may_stand, plain_instruction, begins}
 use Rattle.sch_frames.specs.Layout.{Slots, operand_at, source_at, sources_at, members_at, operation_at, set_aside, passed, handed, hand_over, prepared, restored, lay, leave, arrivals, entering, slots_base, slots_for, slots_layout, slots_code}
 use Rattle.sch_frames.proofs.runs.Entering.{entering_passes}
-use Rattle.sch_frames.proofs.layouts.ObjectFreeSlots.{slots_free, slots_begin}
+use Rattle.sch_frames.proofs.layouts.CoveredSlots.{layout_covered, slots_begin}
 use Rattle.sch_frames.proofs.layouts.Laid.{Steers, Leads, Passes, Loads, Unplaced, handed_passes, prepared_passes, restored_passes, lay_passes}
 
 -- a test that a call passes, with all that is done for it
@@ -240,11 +240,11 @@ may_wait (Label l ∷ is) b h = absurd cc
 may_wait (Mark m ∷ is) b h = absurd cc
 may_wait (_ ∷ is) b h = h
 
-pub slots_object_free : (c : control.Code) → ended c ≡ true → shaped_whole c ≡ true → fields_known c ≡ true → control_object_free.is_object_free_code c ≡ true → is_object_free_code (slots_code c) ≡ true
-slots_object_free c bare whole there free =
-    let parts = and_parts (takes_no_list c.entry) (is_object_free c.expression) free in
+pub slots_covered : (c : control.Code) → ended c ≡ true → shaped_whole c ≡ true → fields_known c ≡ true → control_covered.is_covered_code c ≡ true → is_covered_code (slots_code c) ≡ true
+slots_covered c bare whole there covered =
+    let parts = and_parts (has_covered_formals c.entry) (is_covered c.expression) covered in
     and_from _ _ parts.0
-    (and_from _ _ (slots_free c parts.1)
+    (and_from _ _ (layout_covered c parts.1)
     (and_from _ _ (slots_low c whole there)
     (and_from _ _ (slots_stand c bare)
     (and_from _ _ (slots_plain c)

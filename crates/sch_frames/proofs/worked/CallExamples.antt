@@ -7,6 +7,7 @@ use Rattle.sch_word.specs.declared.constant.Const.TheVariants.{Fixnum, Boolean}
 use Rattle.sch_word.specs.declared.place.Place.{Place}
 use Rattle.sch_word.specs.declared.place.Place.TheVariants.{Reg, Slot}
 use Rattle.sch_word.specs.declared.primitive.Primitive.TheVariants.{Subtract, Equal, Eq, Put}
+use Rattle.sch_word.specs.trees.Covered.{are_literals_covered, are_lists_covered}
 use Rattle.sch_word.specs.values.Literals.{no_literals}
 use Rattle.sch_word.specs.runs.Runs as runs_of
 use Rattle.sch_word.specs.runs.Runs.{Run, ended, going}
@@ -17,7 +18,7 @@ use Rattle.sch_control.specs.declared.operation.Operand.{Operand}
 use Rattle.sch_control.specs.declared.operation.Operand.TheVariants as operand
 use Rattle.sch_control.specs.declared.operation.Source.TheVariants as source
 use Rattle.sch_control.specs.declared.operation.Operation.TheVariants as operation
-use Rattle.sch_control.specs.ObjectFree as control_object_free
+use Rattle.sch_control.specs.Covered as control_covered
 use Rattle.sch_control.specs.Run as control_run
 use Rattle.sch_control.specs.Sizes.{expression_size, most_variables}
 use Rattle.sch_control.specs.Tree as control
@@ -25,7 +26,7 @@ use Rattle.sch_control.specs.Tree.{Expression, perform, bind, branch, fix, call,
 use Rattle.sch_control.specs.Valid as control_valid
 use Rattle.sch_frames.specs.declared.instruction.Instruction.{Instruction}
 use Rattle.sch_frames.specs.declared.instruction.Instruction.TheVariants.{Do, Store, Copy, Load, Pass, Call, Tail, Return, End, IfFalse, Jump, Label, Mark}
-use Rattle.sch_frames.specs.ObjectFree.{plain_instruction, is_object_free_instruction, is_object_free_code, is_object_free_program, each_begins, begins}
+use Rattle.sch_frames.specs.Covered.{plain_instruction, is_covered_instruction, is_covered_code, is_covered_program, each_begins, begins}
 use Rattle.sch_frames.specs.Layout.{slots_layout, slots_code, slots_words, most_operands}
 use Rattle.sch_frames.specs.Run.{run}
 use Rattle.sch_frames.specs.Sizes.{call_parts, calls_parts, entries_size, instructions_size, most_words, nodes}
@@ -148,28 +149,28 @@ looping_valid : both_valid looping ≡ true
 looping_valid = refl
 
 -- a procedure is made, and is the same object as itself; none is entered
-abbrev pub object_free : control.Source
-object_free = program
+abbrev pub covered : control.Source
+covered = program
     (form 3 (fix (record { at = 2; closure = record { label = 1; fields = source.Atom (Variable 2) ∷ [] } } ∷ [])
     (end (perform (operation.Prim 0 Put (operand.Read 1 Eq (Variable 2 ∷ Variable 2 ∷ []) ∷ [])))))
     ∷ lambda 1 1 3 (return (perform (operation.Field 1 0)))
     ∷ []) (1 ∷ 2 ∷ []) ([] ∷ [] ∷ [])
 
-object_free_runs : Both object_free 1 1 (seen (codes "#t") 0 16 (ended 0))
-object_free_runs = (refl, refl)
+covered_runs : Both covered 1 1 (seen (codes "#t") 0 16 (ended 0))
+covered_runs = (refl, refl)
 
-object_free_valid : both_valid object_free ≡ true
-object_free_valid = refl
+covered_valid : both_valid covered ≡ true
+covered_valid = refl
 
-object_free_rows :
-    (control_object_free.is_object_free_program object_free ≡ true)
-    × (is_object_free_program (framed object_free) ≡ true)
-    × (control_object_free.is_object_free_program calling ≡ true)
-    × (is_object_free_program (framed calling) ≡ true)
-    × (is_object_free_program (framed looping) ≡ true)
-    × (control_object_free.is_object_free_program (program (twice ∷ []) [] []) ≡ true)
-    × (is_object_free_code (slots_code twice) ≡ true)
-object_free_rows = (refl, refl, refl, refl, refl, refl, refl)
+covered_rows :
+    (control_covered.is_covered_program covered ≡ true)
+    × (is_covered_program (framed covered) ≡ true)
+    × (control_covered.is_covered_program calling ≡ true)
+    × (is_covered_program (framed calling) ≡ true)
+    × (is_covered_program (framed looping) ≡ true)
+    × (control_covered.is_covered_program (program (twice ∷ []) [] []) ≡ true)
+    × (is_covered_code (slots_code twice) ≡ true)
+covered_rows = (refl, refl, refl, refl, refl, refl, refl)
 
 -- a list is spread, an operand is a literal, or a list of operands is taken
 abbrev spreading : control.Code
@@ -188,22 +189,22 @@ abbrev form_with : List Instruction → Code
 form_with instructions = record { entry = None; words = 2; labels = 1; instructions = instructions }
 
 with_objects_rows :
-    (map control_object_free.is_object_free_code (spreading ∷ with_literal ∷ with_rest ∷ []) ≡ false ∷ false ∷ false ∷ [])
-    × (map is_object_free_code (slots_code spreading ∷ slots_code with_literal ∷ slots_code with_rest ∷ []) ≡ false ∷ false ∷ false ∷ [])
-    × (map is_object_free_instruction (Load (Slot 0) (operand.Atom (Literal 0)) ∷ Pass 0 (operand.Atom (Literal 0)) ∷ Call true 1 ∷ Tail true 1 ∷ []) ≡ false ∷ false ∷ false ∷ false ∷ [])
-    × (map is_object_free_instruction (Load (Slot 0) (number 0) ∷ Pass 0 (number 0) ∷ Call false 1 ∷ Tail false 1 ∷ []) ≡ true ∷ true ∷ true ∷ true ∷ [])
+    (map control_covered.is_covered_code (spreading ∷ with_literal ∷ with_rest ∷ []) ≡ false ∷ are_literals_covered ∷ are_lists_covered ∷ [])
+    × (map is_covered_code (slots_code spreading ∷ slots_code with_literal ∷ slots_code with_rest ∷ []) ≡ false ∷ are_literals_covered ∷ are_lists_covered ∷ [])
+    × (map is_covered_instruction (Load (Slot 0) (operand.Atom (Literal 0)) ∷ Pass 0 (operand.Atom (Literal 0)) ∷ Call true 1 ∷ Tail true 1 ∷ []) ≡ are_literals_covered ∷ are_literals_covered ∷ false ∷ false ∷ [])
+    × (map is_covered_instruction (Load (Slot 0) (number 0) ∷ Pass 0 (number 0) ∷ Call false 1 ∷ Tail false 1 ∷ []) ≡ true ∷ true ∷ true ∷ true ∷ [])
 with_objects_rows = (refl, refl, refl, refl)
 
 -- a form ends only in its own body, and the mark of a call has the call behind it, with no label between
 settled_rows :
-    (map is_object_free_code (form_with (Copy (Slot 0) (Slot 1) ∷ End ∷ []) ∷ procedure_with (Copy (Slot 0) (Slot 1) ∷ End ∷ []) ∷ []) ≡ true ∷ false ∷ [])
-    × (map is_object_free_code (procedure_with (Copy (Slot 0) (Slot 1) ∷ Mark (mark.Tail 0) ∷ Tail false 0 ∷ []) ∷ procedure_with (Copy (Slot 0) (Slot 1) ∷ Mark (mark.Tail 0) ∷ Label 0 ∷ Tail false 0 ∷ []) ∷ []) ≡ true ∷ false ∷ [])
+    (map is_covered_code (form_with (Copy (Slot 0) (Slot 1) ∷ End ∷ []) ∷ procedure_with (Copy (Slot 0) (Slot 1) ∷ End ∷ []) ∷ []) ≡ true ∷ false ∷ [])
+    × (map is_covered_code (procedure_with (Copy (Slot 0) (Slot 1) ∷ Mark (mark.Tail 0) ∷ Tail false 0 ∷ []) ∷ procedure_with (Copy (Slot 0) (Slot 1) ∷ Mark (mark.Tail 0) ∷ Label 0 ∷ Tail false 0 ∷ []) ∷ []) ≡ true ∷ false ∷ [])
 settled_rows = (refl, refl)
 
 -- no mark of an entry stands among instructions
 plain_rows :
     (map plain_instruction (Mark (mark.Enter 0) ∷ Mark (mark.Call 0) ∷ Mark (mark.Tail 0) ∷ Mark mark.Return ∷ Return ∷ []) ≡ false ∷ true ∷ true ∷ true ∷ true ∷ [])
-    × (map is_object_free_code (procedure_with (Copy (Slot 0) (Slot 1) ∷ Mark mark.Return ∷ Return ∷ []) ∷ procedure_with (Copy (Slot 0) (Slot 1) ∷ Mark (mark.Enter 0) ∷ Return ∷ []) ∷ []) ≡ true ∷ false ∷ [])
+    × (map is_covered_code (procedure_with (Copy (Slot 0) (Slot 1) ∷ Mark mark.Return ∷ Return ∷ []) ∷ procedure_with (Copy (Slot 0) (Slot 1) ∷ Mark (mark.Enter 0) ∷ Return ∷ []) ∷ []) ≡ true ∷ false ∷ [])
 plain_rows = (refl, refl)
 
 -- a label or a mark is nothing that is done

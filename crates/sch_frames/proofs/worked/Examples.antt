@@ -24,7 +24,7 @@ use Rattle.sch_frames.specs.Layout.{slots_layout}
 use Rattle.sch_frames.specs.Run.{run}
 use Rattle.sch_control.specs.Sizes.{expression_size}
 use Rattle.sch_frames.specs.Sizes.{entry_size, instructions_size, largest_frame, most_words, program_size}
-use Rattle.sch_frames.specs.ObjectFree.{is_object_free_code, is_object_free_program}
+use Rattle.sch_frames.specs.Covered.{is_covered_code, is_covered_program}
 use Rattle.sch_frames.specs.Tree.{Code, Source}
 use Rattle.sch_frames.specs.Valid.{code_valid, is_valid, placed, forward}
 
@@ -200,18 +200,18 @@ jump_back = refl
 label_twice : forward 1 (Jump 0 ∷ Label 0 ∷ Label 0 ∷ []) ≡ false
 label_twice = refl
 
--- ## Object-free code: no body is that begins with a label, has nothing or is a procedure's with the end of a form
+-- ## Covered code: no body is that begins with a label, has nothing or is a procedure's with the end of a form
 
 abbrev shows : List Instruction
 shows = Do (operation.Prim 0 Put (number 7 ∷ [])) ∷ End ∷ []
 
-object_free_rows :
-    (is_object_free_code (form 2 0 shows) ≡ true)
-    × (is_object_free_code (form 2 1 (Label 0 ∷ shows)) ≡ false)
-    × (is_object_free_code (form 2 0 []) ≡ false)
-    × (is_object_free_code (lambda 0 0 2 0 shows) ≡ false)
-    × (is_object_free_program (program (None ∷ []) (form 2 0 shows ∷ []) 2) ≡ true)
-object_free_rows = (refl, refl, refl, refl, refl)
+covered_rows :
+    (is_covered_code (form 2 0 shows) ≡ true)
+    × (is_covered_code (form 2 1 (Label 0 ∷ shows)) ≡ false)
+    × (is_covered_code (form 2 0 []) ≡ false)
+    × (is_covered_code (lambda 0 0 2 0 shows) ≡ false)
+    × (is_covered_program (program (None ∷ []) (form 2 0 shows ∷ []) 2) ≡ true)
+covered_rows = (refl, refl, refl, refl, refl)
 
 -- ## Sizes: of (display (if (eq? x 7) x 7)) with its atoms and the test that is an operand, and of its layout
 

@@ -7,10 +7,10 @@ use Rattle.sch_control.specs.Work as control_work
 use Rattle.sch_frames.specs.declared.instruction.Instruction.TheVariants.{Fix, Call, Tail}
 use Rattle.sch_frames.specs.Layout.{slots_code}
 use Rattle.sch_frames.specs.Sizes.{closures_in, code_work, grouped, jumped, program_size, program_work}
-use Rattle.sch_frames.proofs.worked.CallExamples.{object_free, calling, framed, twice}
+use Rattle.sch_frames.proofs.worked.CallExamples.{covered, calling, framed, twice}
 
 -- the group of one closure has one field, and its procedure is jumped over
-group_rows : (program_size (framed object_free) ∷ closures_in (framed object_free).bodies ∷ program_work (framed object_free) ∷ control_work.codes_work object_free.bodies ∷ []) ≡ 13 ∷ 2 ∷ 15 ∷ 15 ∷ []
+group_rows : (program_size (framed covered) ∷ closures_in (framed covered).bodies ∷ program_work (framed covered) ∷ control_work.codes_work covered.bodies ∷ []) ≡ 13 ∷ 2 ∷ 15 ∷ 15 ∷ []
 group_rows = refl
 
 -- two procedures, whose closures are made one by one, and two calls

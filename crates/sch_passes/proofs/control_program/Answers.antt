@@ -1,15 +1,19 @@
 use Rattle.std.proofs.Common.{ap, ◌∙◌, arith}
 use Rattle.std.specs.List.{count_by}
-use Rattle.std.specs.Prelude.{length, nat_eq}
+use Rattle.std.specs.Prelude.{◌≤◌, length, nat_eq}
+use Rattle.sch_word.specs.trees.Shape.{max_library}
 use Rattle.sch_lang.specs.Bodies.{bodies_of}
 use Rattle.sch_lang.specs.ProgramView.{source}
+use Rattle.sch_lang.specs.Tree.{count_lambdas}
 use Rattle.sch_lang.proofs.BodyCounts.{bodies_within_nodes}
+use Rattle.sch_lang.proofs.CoveredPrograms.{program_covered}
 use Rattle.sch_lang.proofs.Measured.{bound_within_nodes}
 use Rattle.sch_cells.specs.ProgramView as cells
 use Rattle.sch_cells.specs.BoxedMeaning as boxed
 use Rattle.sch_cells.specs.UnboxedMeaning as unboxed
 use Rattle.sch_flat.specs.ProgramView as flat
 use Rattle.sch_control.specs.ProgramView as control
+use Rattle.sch_rename.proofs.Loops.{count_lambdas_is}
 use Rattle.sch_passes.proofs.BodiesKept.{each_within, flat_order, names_kept, variables_kept}
 use Rattle.sch_passes.proofs.Chain.{runs_as}
 use Rattle.sch_passes.proofs.control_program.Goals as goal
@@ -37,9 +41,11 @@ returns-clause-runs c =
     c.in_ok-renamed.ensures.runs c.in_ok-converted.ensures.runs c.in_ok-flat.ensures.runs c.in_ok-control.ensures.runs
     sites
 
-pub returns-clause-object_free : goal.returns-clause-object_free
-returns-clause-object_free c h =
-    c.in_ok-control.ensures.object_free (c.in_ok-flat.ensures.object_free (c.in_ok-converted.ensures.object_free (c.in_ok-renamed.ensures.object_free ∙ h)))
+pub returns-clause-covered : goal.returns-clause-covered
+returns-clause-covered c =
+    let p = source c.args.p.now in
+    let few : count_lambdas p.library ≤ max_library = omega (arith, count_lambdas_is c.args.p.now.library, c.if-len-gt-MAX_LIBRARY.false, c.len.ensures) in
+    c.in_ok-control.ensures.covered (c.in_ok-flat.ensures.covered (c.in_ok-converted.ensures.covered (c.in_ok-renamed.ensures.covered ∙ program_covered p few)))
 
 pub returns-clause-work : goal.returns-clause-work
 returns-clause-work c =

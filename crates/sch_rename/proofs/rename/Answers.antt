@@ -7,13 +7,13 @@ use Rattle.sch_lang.specs.Run.{run}
 use Rattle.sch_lang.proofs.Scopes.{program_is_closed}
 use Rattle.sch_cells.specs.Bodies.{bodies_of}
 use Rattle.sch_cells.specs.Measures.{sites_of, call_sites_of, tests_of, dropped_of, program_size}
-use Rattle.sch_cells.specs.ObjectFree.{is_object_free_program}
+use Rattle.sch_cells.specs.Covered.{is_covered_program}
 use Rattle.sch_cells.specs.UnboxedMeaning as meaning
 use Rattle.sch_rename.proofs.BodiesKept.{program_bodies}
 use Rattle.sch_rename.proofs.BoundVariables.{program_binds}
 use Rattle.sch_rename.proofs.Same.{runs_alike}
 use Rattle.sch_rename.proofs.ShapesKept.{measure_kept, size_kept}
-use Rattle.sch_rename.proofs.ObjectFreeKept.{object_free_kept}
+use Rattle.sch_rename.proofs.CoveredKept.{covered_kept}
 use Rattle.sch_cells.specs.Recursive.{recursive_in, recursive_of}
 use Rattle.sch_rename.proofs.rename.Goals as goal
 
@@ -74,11 +74,11 @@ returns-clause-size c =
     let closed = program_is_closed p c.args.p.now.numbered in
     if_ok c.rename_program.result _ _ c.rename_program.ensures (λ q made. ap program_size made ∙ size_kept p closed)
 
-pub returns-clause-object_free : goal.returns-clause-object_free
-returns-clause-object_free c =
+pub returns-clause-covered : goal.returns-clause-covered
+returns-clause-covered c =
     let p = source c.args.p.now in
     let closed = program_is_closed p c.args.p.now.numbered in
-    if_ok c.rename_program.result _ _ c.rename_program.ensures (λ q made. ap is_object_free_program made ∙ object_free_kept p closed)
+    if_ok c.rename_program.result _ _ c.rename_program.ensures (λ q made. ap is_covered_program made ∙ covered_kept p closed)
 
 pub returns-clause-recursive : goal.returns-clause-recursive
 returns-clause-recursive c =

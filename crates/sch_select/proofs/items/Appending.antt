@@ -3,7 +3,7 @@ use Rattle.std.proofs.Common.{◌≡◌, ℕ, ◌+◌, List, [], ◌∷◌, ◌+
 use Rattle.sch_word.specs.declared.place.Place.{Place}
 use Rattle.sch_word.specs.declared.place.Place.TheVariants.{Slot}
 use Rattle.sch_word.specs.declared.primitive.Primitive.{Primitive}
-use Rattle.sch_word.specs.declared.primitive.Primitive.TheVariants.{IsBoolean, Eq}
+use Rattle.sch_word.specs.declared.primitive.Primitive.TheVariants.{IsBoolean, Eq, Cons, StringSet}
 use Rattle.sch_control.specs.declared.operation.Atom.{Atom}
 use Rattle.sch_control.specs.declared.operation.Atom.TheVariants.{Constant, Literal, Variable}
 use Rattle.sch_control.specs.declared.operation.Operand.{Operand}
@@ -28,6 +28,7 @@ use Rattle.sch_select.specs.Select.{stop_label, body_label, place_operand, sourc
 use Rattle.sch_select.specs.Select.{check_heap, part_code, part_operand, fields_code, record_code, closure_bytes}
 use Rattle.sch_select.specs.Select.{group_bytes, places_code, records_code, group_code, atom_code, unary_code}
 use Rattle.sch_select.specs.Select.{binary_code, read_code, operand_code, second_code, primitive_code}
+use Rattle.sch_select.specs.Select.{pair_or_binary, index_operand, three_code, ternary_code}
 use Rattle.sch_select.specs.Select.{operation_code, global_address, instruction_code, body_code}
 use Rattle.sch_heap.specs.Encoded.{unspecified_word, unset_word}
 use Rattle.std.specs.Prelude.{pos}
@@ -73,16 +74,36 @@ second_appends n (operand.Read site which atoms) rest =
     (λ rest. item.Plain (MovTo (Reg 1) 0) ∷ (item.Plain (MovTo (Reg 0) 11) ∷ rest)) (read_appends n which atoms)
     (λ rest. refl) rest)
 
-primitive_appends : (n : ℕ) (which : Primitive) (operands : List (Operand Place))
-    → Appends (primitive_code n which operands)
-primitive_appends n which [] rest = refl
-primitive_appends n which (a ∷ []) rest = then_appends (operand_code n a) (unary_code (n + 8) which)
+pair_appends : (heap_end n : ℕ) (which : Primitive) → Appends (pair_or_binary heap_end n which)
+pair_appends heap_end n Cons rest = refl
+pair_appends heap_end n which rest = binary_appends n which rest
+
+index_appends : (o : Operand Place) → Appends (index_operand o)
+index_appends (operand.Atom a) rest = atom_appends 1 a rest
+index_appends (operand.Read site which atoms) rest = refl
+
+ternary_appends : (which : Primitive) → Appends (ternary_code which)
+ternary_appends StringSet rest = refl
+ternary_appends _ rest = refl
+
+three_appends : (n : ℕ) (a b c : Operand Place) → Appends (three_code n a b c)
+three_appends n a b c rest = then_appends (operand_code n c)
+    (λ rest. item.Plain (MovTo (Reg 11) 0) ∷ operand_code (n + 4) a (index_operand b rest)) (operand_appends n c)
+    (λ rest. ap (λ l. item.Plain (MovTo (Reg 11) 0) ∷ l) (then_appends (operand_code (n + 4) a) (index_operand b)
+    (operand_appends (n + 4) a) (index_appends b) rest)) rest
+
+primitive_appends : (heap_end n : ℕ) (which : Primitive) (operands : List (Operand Place))
+    → Appends (primitive_code heap_end n which operands)
+primitive_appends heap_end n which [] rest = refl
+primitive_appends heap_end n which (a ∷ []) rest = then_appends (operand_code n a) (unary_code (n + 8) which)
     (operand_appends n a) (unary_appends (n + 8) which) rest
-primitive_appends n which (a ∷ (b ∷ [])) rest = then_appends (operand_code n a)
-    (λ rest. second_code (n + 4) b (binary_code (n + 8) which rest)) (operand_appends n a)
-    (then_appends (second_code (n + 4) b) (binary_code (n + 8) which) (second_appends (n + 4) b)
-    (binary_appends (n + 8) which)) rest
-primitive_appends n which (a ∷ (b ∷ (c ∷ operands))) rest = refl
+primitive_appends heap_end n which (a ∷ (b ∷ [])) rest = then_appends (operand_code n a)
+    (λ rest. second_code (n + 4) b (pair_or_binary heap_end (n + 8) which rest)) (operand_appends n a)
+    (then_appends (second_code (n + 4) b) (pair_or_binary heap_end (n + 8) which) (second_appends (n + 4) b)
+    (pair_appends heap_end (n + 8) which)) rest
+primitive_appends heap_end n which (a ∷ (b ∷ (c ∷ []))) rest = then_appends (three_code n a b c) (ternary_code which)
+    (three_appends n a b c) (ternary_appends which) rest
+primitive_appends heap_end n which (a ∷ (b ∷ (c ∷ (d ∷ operands)))) rest = refl
 
 source_appends : (r : ℕ) (x : Source Place) → Appends (source_code r x)
 source_appends r (source.Atom a) rest = atom_appends r a rest
@@ -112,7 +133,7 @@ records_appends offset (m ∷ members) rest =
     then_appends (record_code offset m.closure) (records_code (offset + closure_bytes m.closure) members)
     (record_appends offset m.closure) (records_appends (offset + closure_bytes m.closure) members) rest
 
-module _ (heap_end : ℕ) where
+module _ (heap_end literals : ℕ) where
   group_appends : (members : List (Member Place)) → Appends (group_code heap_end members)
   group_appends members rest =
       let last : List Item → List Item = λ rest. item.Plain (AddNumber (Reg 12) (pos (group_bytes members))) ∷ rest in
@@ -121,12 +142,13 @@ module _ (heap_end : ℕ) where
       (then_appends (places_code 0 members) (λ rest. records_code 0 members (last rest)) (places_appends 0 members)
       (then_appends (records_code 0 members) last (records_appends 0 members) (λ rest. refl))) rest
 
-  operation_appends : (n : ℕ) (o : Operation Place) → Appends (operation_code heap_end n o)
+  operation_appends : (n : ℕ) (o : Operation Place) → Appends (operation_code heap_end literals n o)
   operation_appends n (operation.Operand o) rest = operand_appends n o rest
-  operation_appends n (operation.Prim site which operands) rest = primitive_appends n which operands rest
+  operation_appends n (operation.Prim site which operands) rest = primitive_appends heap_end n which operands
+      rest
   operation_appends n (operation.Global g) rest = refl
   operation_appends n (operation.SetGlobal g o) rest = then_appends (operand_code n o)
-      (λ rest. item.StoreWord (global_address g) 0 ∷ (item.Plain (MovNumber (Reg 0) (pos unspecified_word)) ∷ rest))
+      (λ rest. item.StoreWord (global_address literals g) 0 ∷ (item.Plain (MovNumber (Reg 0) (pos unspecified_word)) ∷ rest))
       (operand_appends n o) (λ rest. refl) rest
   operation_appends n (operation.Field p k) rest = refl
   operation_appends n (operation.NewCell x) rest = then_appends (source_code 0 x)
@@ -148,21 +170,21 @@ module _ (heap_end : ℕ) where
       ap (check_heap heap_end (closure_bytes c)) (then_appends (record_code 0 c) (part_code 4 (closure_bytes c))
       (record_appends 0 c) (λ rest. refl) rest)
 
-module _ (base out words heap_end : ℕ) where
-  pub instruction_appends : (n : ℕ) (i : Instruction) → Appends (instruction_code base out words heap_end n i)
-  instruction_appends n (Do o) rest = operation_appends heap_end n o rest
+module _ (base out words heap_end literals : ℕ) where
+  pub instruction_appends : (n : ℕ) (i : Instruction) → Appends (instruction_code base out words heap_end literals n i)
+  instruction_appends n (Do o) rest = operation_appends heap_end literals n o rest
   instruction_appends n (Load p o) rest = then_appends (second_code n o)
       (λ rest. item.Plain (MovTo (place_operand p) 1) ∷ rest) (second_appends n o) (λ rest. refl) rest
   instruction_appends n (Pass k o) rest = then_appends (second_code n o)
       (λ rest. item.Plain (MovTo (place_operand (Slot (words + k))) 1) ∷ rest) (second_appends n o) (λ rest. refl) rest
-  instruction_appends n (Fix members) rest = group_appends heap_end members rest
+  instruction_appends n (Fix members) rest = group_appends heap_end literals members rest
   instruction_appends n _ rest = refl
 
   pub body_appends : (n : ℕ) (instructions : List Instruction)
-      → Appends (body_code base out words heap_end n instructions)
+      → Appends (body_code base out words heap_end literals n instructions)
   body_appends n [] rest = refl
-  body_appends n (i ∷ instructions) rest = then_appends (instruction_code base out words heap_end n i)
-      (body_code base out words heap_end (n + 12) instructions) (instruction_appends n i)
+  body_appends n (i ∷ instructions) rest = then_appends (instruction_code base out words heap_end literals n i)
+      (body_code base out words heap_end literals (n + 12) instructions) (instruction_appends n i)
       (body_appends (n + 12) instructions) rest
 
 -- items behind others, whatever waits for them

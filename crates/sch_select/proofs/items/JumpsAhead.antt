@@ -11,7 +11,11 @@ use Rattle.sch_word.specs.declared.primitive.Primitive.TheVariants.{IsInteger, I
 use Rattle.sch_word.specs.declared.primitive.Primitive.TheVariants.{IsProcedure, Add, Subtract, Multiply, Quotient}
 use Rattle.sch_word.specs.declared.primitive.Primitive.TheVariants.{Remainder, Modulo, Equal, Less, Greater}
 use Rattle.sch_word.specs.declared.primitive.Primitive.TheVariants.{LessEqual, GreaterEqual, CharToInteger}
-use Rattle.sch_word.specs.declared.primitive.Primitive.TheVariants.{IntegerToChar, Put}
+use Rattle.sch_word.specs.declared.primitive.Primitive.TheVariants.{IntegerToChar, Put, Cons, Car, Cdr, SetCar}
+use Rattle.sch_word.specs.declared.primitive.Primitive.TheVariants.{SetCdr, StringLength, StringRef, StringSet}
+use Rattle.sch_word.specs.declared.primitive.Primitive.TheVariants.{VectorLength, VectorRef, VectorSet, SymbolLength}
+use Rattle.sch_word.specs.declared.primitive.Primitive.TheVariants.{SymbolRef, MakeString, MakeVector}
+use Rattle.sch_word.specs.values.Literals.{count_literals}
 use Rattle.sch_word.specs.trees.NumberSets.{has}
 use Rattle.sch_control.specs.Valid.{without_repeats}
 use Rattle.sch_control.specs.declared.body.Entry.{Entry}
@@ -35,10 +39,13 @@ use Rattle.sch_asm.specs.declared.item.Item.{Item}
 use Rattle.sch_asm.specs.declared.item.Item.TheVariants as item
 use Rattle.sch_asm.specs.declared.item.MarkKind.TheVariants.{Enter}
 use Rattle.sch_asm.specs.Items.{is_among, labels_in}
+use Rattle.sch_select.proofs.items.RestItems.{count_behind, count_ahead}
 use Rattle.sch_select.specs.Select.{first_label, body_label, atom_code, unary_code, binary_code, read_code}
 use Rattle.sch_select.specs.Select.{operand_code, second_code, source_code, fields_code, closure_bytes, places_code}
+use Rattle.sch_select.specs.Select.{pair_or_binary, ternary_code, index_operand, string_label, vector_label}
 use Rattle.sch_select.specs.Select.{record_code, records_code, operation_code, body_code}
-use Rattle.sch_select.specs.Program.{passed_code, entry_code, forms_code, labels_end, heap_of, own_label, program_code, put_value_code}
+use Rattle.sch_select.specs.Program.{passed_code, entry_code, forms_code, labels_end, own_label, program_code, own_code}
+use Rattle.sch_select.specs.Data.{heap_of}
 use Rattle.sch_select.specs.Jumps.{goes_ahead, jumps_ahead}
 use Rattle.sch_select.proofs.programs.Selected.{members_few, operation_few, labels_few}
 use Rattle.sch_select.proofs.items.ProgramSound.{in_front}
@@ -54,7 +61,7 @@ module _ (count : ℕ) where
   Ahead f = (rest : List Item) → jumps_ahead own (f rest) ≡ jumps_ahead own rest
 
   -- a label that is no body's own
-  away : (l : ℕ) → l < 1030 → (t b : Bool) → ((nat_lt l first_label || t) && b) ≡ b
+  away : (l : ℕ) → l < 1042 → (t b : Bool) → ((nat_lt l first_label || t) && b) ≡ b
   away l lt t b = ap (λ a. (a || t) && b) (lt-ltb l first_label (omega (arith, lt)))
 
   -- a label that stands behind
@@ -69,7 +76,7 @@ module _ (count : ℕ) where
   begins l e t b = let lt = ltb-true l count e in ap (λ a. (a || t) && b)
       (lt-ltb (body_label l) own (omega (arith, lt)))
 
-  stop : (l : ℕ) → l < 1030 → (is : List Item) → (goes_ahead first_label l is && jumps_ahead own is) ≡ jumps_ahead own
+  stop : (l : ℕ) → l < 1042 → (is : List Item) → (goes_ahead first_label l is && jumps_ahead own is) ≡ jumps_ahead own
       is
   stop l lt is = away l lt (is_among (labels_in is) l) (jumps_ahead own is)
 
@@ -92,6 +99,11 @@ module _ (count : ℕ) where
   unary_ahead n Put rest =
       near_to own n (is_among (n ∷ labels_in rest) n) _ (first_in n (labels_in rest))
       ∙ away 1024 (omega arith) (is_among (n ∷ labels_in rest) 1024) (jumps_ahead own rest)
+  unary_ahead n Car rest = stop 1 (omega arith) rest
+  unary_ahead n Cdr rest = stop 1 (omega arith) rest
+  unary_ahead n StringLength rest = stop 1 (omega arith) rest
+  unary_ahead n VectorLength rest = stop 1 (omega arith) rest
+  unary_ahead n SymbolLength rest = stop 1 (omega arith) rest
   unary_ahead n _ rest = refl
 
   -- a comparison of two fixnums
@@ -100,9 +112,21 @@ module _ (count : ℕ) where
   two n ls b = away 1 (omega arith) (is_among (n ∷ ls) 1) _ ∙ away 1 (omega arith) (is_among (n ∷ ls) 1) _ ∙ here n ls b
 
   -- what computes a fixnum
-  three : (a t u v b : Bool) (l : ℕ) → l < 1030 → ((nat_lt 1 first_label || t) &&
+  three : (a t u v b : Bool) (l : ℕ) → l < 1042 → ((nat_lt 1 first_label || t) &&
       ((nat_lt 1 first_label || u) && ((nat_lt l first_label || v) && b))) ≡ b
   three a t u v b l lt = away 1 (omega arith) t _ ∙ away 1 (omega arith) u _ ∙ away l lt v b
+
+  -- an element at an index
+  indexed : (is : List Item) → (goes_ahead first_label 1 is && (goes_ahead first_label 1 is &&
+      (goes_ahead first_label 2 is && jumps_ahead own is))) ≡ jumps_ahead own is
+  indexed is = let ls = labels_in is in three true (is_among ls 1) (is_among ls 1) (is_among ls 2)
+      (jumps_ahead own is) 2 (omega arith)
+
+  -- what an own routine makes
+  filled : (n l : ℕ) → l < 1042 → (is : List Item) → ((nat_lt n own || is_among (n ∷ labels_in is) n) &&
+      ((nat_lt l first_label || is_among (n ∷ labels_in is) l) && jumps_ahead own is)) ≡ jumps_ahead own is
+  filled n l lt is = near_to own n (is_among (n ∷ labels_in is) n) _ (first_in n (labels_in is))
+      ∙ away l lt (is_among (n ∷ labels_in is) l) (jumps_ahead own is)
 
   binary_ahead : (n : ℕ) (which : Primitive) → Ahead (binary_code n which)
   binary_ahead n Eq rest = here n (labels_in rest) (jumps_ahead own rest)
@@ -132,7 +156,23 @@ module _ (count : ℕ) where
   binary_ahead n Greater rest = two n (labels_in rest) (jumps_ahead own rest)
   binary_ahead n LessEqual rest = two n (labels_in rest) (jumps_ahead own rest)
   binary_ahead n GreaterEqual rest = two n (labels_in rest) (jumps_ahead own rest)
+  binary_ahead n SetCar rest = stop 1 (omega arith) rest
+  binary_ahead n SetCdr rest = stop 1 (omega arith) rest
+  binary_ahead n StringRef rest = indexed rest
+  binary_ahead n VectorRef rest = indexed rest
+  binary_ahead n SymbolRef rest = indexed rest
+  binary_ahead n MakeString rest = filled n string_label (omega arith) rest
+  binary_ahead n MakeVector rest = filled n vector_label (omega arith) rest
   binary_ahead n _ rest = refl
+
+  pair_ahead : (heap_end n : ℕ) (which : Primitive) → Ahead (pair_or_binary heap_end n which)
+  pair_ahead heap_end n Cons rest = stop 7 (omega arith) rest
+  pair_ahead heap_end n which rest = binary_ahead n which rest
+
+  ternary_ahead : (which : Primitive) → Ahead (ternary_code which)
+  ternary_ahead StringSet rest = away 1 (omega arith) (is_among (labels_in rest) 1) _ ∙ indexed rest
+  ternary_ahead VectorSet rest = indexed rest
+  ternary_ahead _ rest = refl
 
   atom_ahead : (r : ℕ) (a : Atom Place) → Ahead (atom_code r a)
   atom_ahead r (Constant c) rest = refl
@@ -153,6 +193,10 @@ module _ (count : ℕ) where
   second_ahead : (n : ℕ) (o : Operand Place) → Ahead (second_code n o)
   second_ahead n (operand.Atom a) rest = atom_ahead 1 a rest
   second_ahead n (operand.Read site which atoms) rest = read_ahead n which atoms _
+
+  index_ahead : (o : Operand Place) → Ahead (index_operand o)
+  index_ahead (operand.Atom a) rest = atom_ahead 1 a rest
+  index_ahead (operand.Read site which atoms) rest = stop 1 (omega arith) rest
 
   source_ahead : (r : ℕ) (x : Source Place) → Ahead (source_code r x)
   source_ahead r (source.Atom a) rest = atom_ahead r a rest
@@ -176,83 +220,84 @@ module _ (count : ℕ) where
       let p = and_parts (nat_lt m.closure.label count) (members_few count members) e in
       record_ahead offset m.closure p.0 _ ∙ records_ahead (offset + closure_bytes m.closure) members p.1 rest
 
-  operation_ahead : (heap_end n : ℕ) (o : Operation Place) → operation_few count o ≡ true
-      → Ahead (operation_code heap_end n o)
-  operation_ahead heap_end n (operation.Operand o) e rest = operand_ahead n o rest
-  operation_ahead heap_end n (operation.Prim site which []) e rest = refl
-  operation_ahead heap_end n (operation.Prim site which (o ∷ [])) e rest = operand_ahead n o
+  operation_ahead : (heap_end literals n : ℕ) (o : Operation Place) → operation_few count o ≡ true
+      → Ahead (operation_code heap_end literals n o)
+  operation_ahead heap_end literals n (operation.Operand o) e rest = operand_ahead n o rest
+  operation_ahead heap_end literals n (operation.Prim site which []) e rest = refl
+  operation_ahead heap_end literals n (operation.Prim site which (o ∷ [])) e rest = operand_ahead n o
       (unary_code (n + 8) which rest) ∙ unary_ahead (n + 8) which rest
-  operation_ahead heap_end n (operation.Prim site which (o ∷ (q ∷ []))) e rest =
-      operand_ahead n o (second_code (n + 4) q (binary_code (n + 8) which rest))
-      ∙ second_ahead (n + 4) q (binary_code (n + 8) which rest) ∙ binary_ahead (n + 8) which rest
-  operation_ahead heap_end n (operation.Prim site which (o ∷ (q ∷ (r ∷ operands)))) e rest = refl
-  operation_ahead heap_end n (operation.Global g) e rest = stop 9 (omega arith) rest
-  operation_ahead heap_end n (operation.SetGlobal g o) e rest = operand_ahead n o _
-  operation_ahead heap_end n (operation.Field p k) e rest = refl
-  operation_ahead heap_end n (operation.NewCell x) e rest = source_ahead 0 x _ ∙ stop 7 (omega arith) rest
-  operation_ahead heap_end n operation.UnsetCell e rest = stop 7 (omega arith) rest
-  operation_ahead heap_end n (operation.CellGet x) e rest = source_ahead 0 x _ ∙ away 9 (omega arith) true _
+  operation_ahead heap_end literals n (operation.Prim site which (o ∷ (q ∷ []))) e rest =
+      operand_ahead n o _ ∙ second_ahead (n + 4) q _ ∙ pair_ahead heap_end (n + 8) which rest
+  operation_ahead heap_end literals n (operation.Prim site which (o ∷ (q ∷ (r ∷ [])))) e rest =
+      operand_ahead n r _ ∙ operand_ahead (n + 4) o _ ∙ index_ahead q _ ∙ ternary_ahead which rest
+  operation_ahead heap_end literals n (operation.Prim site which (o ∷ (q ∷ (r ∷ (s ∷ operands))))) e rest = refl
+  operation_ahead heap_end literals n (operation.Global g) e rest = stop 9 (omega arith) rest
+  operation_ahead heap_end literals n (operation.SetGlobal g o) e rest = operand_ahead n o _
+  operation_ahead heap_end literals n (operation.Field p k) e rest = refl
+  operation_ahead heap_end literals n (operation.NewCell x) e rest = source_ahead 0 x _ ∙ stop 7 (omega arith) rest
+  operation_ahead heap_end literals n operation.UnsetCell e rest = stop 7 (omega arith) rest
+  operation_ahead heap_end literals n (operation.CellGet x) e rest = source_ahead 0 x _ ∙ away 9 (omega arith) true _
       ∙ stop 9 (omega arith) rest
-  operation_ahead heap_end n (operation.CellSet x o) e rest = operand_ahead n o _ ∙ source_ahead 1 x _
+  operation_ahead heap_end literals n (operation.CellSet x o) e rest = operand_ahead n o _ ∙ source_ahead 1 x _
       ∙ stop 9 (omega arith) rest
-  operation_ahead heap_end n (operation.MakeClosure c) e rest = away 7 (omega arith) true _ ∙ record_ahead 0 c e _
+  operation_ahead heap_end literals n (operation.MakeClosure c) e rest = away 7 (omega arith) true _ ∙ record_ahead 0 c e _
 
   -- ---- bodies
 
   -- a label behind a body
-  behind_body : (base out words heap_end n l : ℕ) (is : List Instruction) (rest : List Item)
-      → is_among (labels_in rest) l ≡ true → is_among (labels_in (body_code base out words heap_end n is rest)) l ≡ true
-  behind_body base out words heap_end n l is rest e = ap (λ ls. is_among ls l)
-      (body_labelled base out words heap_end n is rest) ∙ right_in (body_labels base n is) (labels_in rest) l e
+  behind_body : (base out words heap_end literals n l : ℕ) (is : List Instruction) (rest : List Item)
+      → is_among (labels_in rest) l ≡ true → is_among (labels_in (body_code base out words heap_end literals n is rest)) l ≡ true
+  behind_body base out words heap_end literals n l is rest e = ap (λ ls. is_among ls l)
+      (body_labelled base out words heap_end literals n is rest) ∙ right_in (body_labels base n is) (labels_in rest) l e
 
-  within_body : (base out words heap_end n l : ℕ) (is : List Instruction) (rest : List Item)
-      → has l (frames.labels_in is) ≡ true → is_among (labels_in (body_code base out words heap_end n is rest))
+  within_body : (base out words heap_end literals n l : ℕ) (is : List Instruction) (rest : List Item)
+      → has l (frames.labels_in is) ≡ true → is_among (labels_in (body_code base out words heap_end literals n is rest))
       (base + l) ≡ true
-  within_body base out words heap_end n l is rest e = ap (λ ls. is_among ls (base + l))
-      (body_labelled base out words heap_end n is rest) ∙ left_in (body_labels base n is) (labels_in rest) (base + l)
+  within_body base out words heap_end literals n l is rest e = ap (λ ls. is_among ls (base + l))
+      (body_labelled base out words heap_end literals n is rest) ∙ left_in (body_labels base n is) (labels_in rest) (base + l)
       (label_in base n l is e)
 
-  body_ahead : (base out words heap_end n : ℕ) (is : List Instruction) (rest : List Item)
+  body_ahead : (base out words heap_end literals n : ℕ) (is : List Instruction) (rest : List Item)
       → frames.jumps_ahead is ≡ true → list_all (labels_few count) is ≡ true → is_among (labels_in rest) out ≡ true
-      → jumps_ahead own (body_code base out words heap_end n is rest) ≡ jumps_ahead own rest
-  body_ahead base out words heap_end n [] rest e f o = refl
-  body_ahead base out words heap_end n (instruction.IfFalse l ∷ is) rest e f o =
+      → jumps_ahead own (body_code base out words heap_end literals n is rest) ≡ jumps_ahead own rest
+  body_ahead base out words heap_end literals n [] rest e f o = refl
+  body_ahead base out words heap_end literals n (instruction.IfFalse l ∷ is) rest e f o =
       let p = and_parts (has l (frames.labels_in is)) (frames.jumps_ahead is) e in
-      near (base + l) _ _ (within_body base out words heap_end (n + 12) l is rest p.0)
-      ∙ body_ahead base out words heap_end (n + 12) is rest p.1 f o
-  body_ahead base out words heap_end n (instruction.Jump l ∷ is) rest e f o =
+      near (base + l) _ _ (within_body base out words heap_end literals (n + 12) l is rest p.0)
+      ∙ body_ahead base out words heap_end literals (n + 12) is rest p.1 f o
+  body_ahead base out words heap_end literals n (instruction.Jump l ∷ is) rest e f o =
       let p = and_parts (has l (frames.labels_in is)) (frames.jumps_ahead is) e in
-      near (base + l) _ _ (within_body base out words heap_end (n + 12) l is rest p.0)
-      ∙ body_ahead base out words heap_end (n + 12) is rest p.1 f o
-  body_ahead base out words heap_end n (instruction.End ∷ is) rest e f o = near out _ _
-      (behind_body base out words heap_end (n + 12) out is rest o)
-      ∙ body_ahead base out words heap_end (n + 12) is rest e f o
-  body_ahead base out words heap_end n (instruction.Do q ∷ is) rest e f o =
+      near (base + l) _ _ (within_body base out words heap_end literals (n + 12) l is rest p.0)
+      ∙ body_ahead base out words heap_end literals (n + 12) is rest p.1 f o
+  body_ahead base out words heap_end literals n (instruction.End ∷ is) rest e f o = near out _ _
+      (behind_body base out words heap_end literals (n + 12) out is rest o)
+      ∙ body_ahead base out words heap_end literals (n + 12) is rest e f o
+  body_ahead base out words heap_end literals n (instruction.Do q ∷ is) rest e f o =
       let g = and_parts (operation_few count q) (list_all (labels_few count) is) f in
-      operation_ahead heap_end n q g.0 (body_code base out words heap_end (n + 12) is rest)
-      ∙ body_ahead base out words heap_end (n + 12) is rest e g.1 o
-  body_ahead base out words heap_end n (instruction.Load p q ∷ is) rest e f o = second_ahead n q _
-      ∙ body_ahead base out words heap_end (n + 12) is rest e f o
-  body_ahead base out words heap_end n (instruction.Fix members ∷ is) rest e f o =
+      operation_ahead heap_end literals n q g.0 (body_code base out words heap_end literals (n + 12) is rest)
+      ∙ body_ahead base out words heap_end literals (n + 12) is rest e g.1 o
+  body_ahead base out words heap_end literals n (instruction.Load p q ∷ is) rest e f o = second_ahead n q _
+      ∙ body_ahead base out words heap_end literals (n + 12) is rest e f o
+  body_ahead base out words heap_end literals n (instruction.Fix members ∷ is) rest e f o =
       let g = and_parts (members_few count members) (list_all (labels_few count) is) f in
       away 7 (omega arith) true _ ∙ places_ahead 0 members _ ∙ records_ahead 0 members g.0 _
-      ∙ body_ahead base out words heap_end (n + 12) is rest e g.1 o
-  body_ahead base out words heap_end n (instruction.Store p ∷ is) rest e f o = body_ahead base out words heap_end
+      ∙ body_ahead base out words heap_end literals (n + 12) is rest e g.1 o
+  body_ahead base out words heap_end literals n (instruction.Store p ∷ is) rest e f o = body_ahead base out words heap_end literals
       (n + 12) is rest e f o
-  body_ahead base out words heap_end n (instruction.Copy p q ∷ is) rest e f o = body_ahead base out words heap_end
+  body_ahead base out words heap_end literals n (instruction.Copy p q ∷ is) rest e f o = body_ahead base out words heap_end literals
       (n + 12) is rest e f o
-  body_ahead base out words heap_end n (instruction.Pass j q ∷ is) rest e f o = second_ahead n q _
-      ∙ body_ahead base out words heap_end (n + 12) is rest e f o
-  body_ahead base out words heap_end n (instruction.Call spread count ∷ is) rest e f o =
-      near_to own n _ _ (first_in n (labels_in (body_code base out words heap_end (n + 12) is rest)))
-      ∙ body_ahead base out words heap_end (n + 12) is rest e f o
-  body_ahead base out words heap_end n (instruction.Tail spread count ∷ is) rest e f o = body_ahead base out words
-      heap_end (n + 12) is rest e f o
-  body_ahead base out words heap_end n (instruction.Return ∷ is) rest e f o = body_ahead base out words heap_end
+  body_ahead base out words heap_end literals n (instruction.Pass j q ∷ is) rest e f o = second_ahead n q _
+      ∙ body_ahead base out words heap_end literals (n + 12) is rest e f o
+  body_ahead base out words heap_end literals n (instruction.Call spread count ∷ is) rest e f o =
+      near_to own n _ _ (first_in n (labels_in (body_code base out words heap_end literals (n + 12) is rest)))
+      ∙ body_ahead base out words heap_end literals (n + 12) is rest e f o
+  body_ahead base out words heap_end literals n (instruction.Tail spread count ∷ is) rest e f o = body_ahead base out words
+      heap_end literals (n + 12) is rest e f o
+  body_ahead base out words heap_end literals n (instruction.Return ∷ is) rest e f o = body_ahead base out words heap_end literals
       (n + 12) is rest e f o
-  body_ahead base out words heap_end n (instruction.Label l ∷ is) rest e f o = body_ahead base out words heap_end
+  body_ahead base out words heap_end literals n (instruction.Label l ∷ is) rest e f o = body_ahead base out words heap_end literals
       (n + 12) is rest e f o
-  body_ahead base out words heap_end n (instruction.Mark m ∷ is) rest e f o = body_ahead base out words heap_end
+  body_ahead base out words heap_end literals n (instruction.Mark m ∷ is) rest e f o = body_ahead base out words heap_end literals
       (n + 12) is rest e f o
 
   passed_ahead : (q : Option Entry) (out : ℕ) (rest : List Item) → is_among (labels_in rest) out ≡ true
@@ -260,21 +305,21 @@ module _ (count : ℕ) where
   passed_ahead None out rest e = refl
   passed_ahead (Some q) out rest e = near out (is_among (labels_in rest) out) (jumps_ahead own rest) e
 
-  entry_behind : (q : Option Entry) (rest : List Item) (l : ℕ) → is_among (labels_in rest) l ≡ true
-      → is_among (labels_in (entry_code q rest)) l ≡ true
-  entry_behind None rest l e = e
-  entry_behind (Some q) rest l e = e
+  entry_behind : (q : Option Entry) (n : ℕ) (rest : List Item) (l : ℕ) → is_among (labels_in rest) l ≡ true
+      → is_among (labels_in (entry_code q n rest)) l ≡ true
+  entry_behind None n rest l e = e
+  entry_behind (Some q) n rest l e = count_behind q.rest q.formals n rest l e
 
-  entry_ahead : (q : Option Entry) → Ahead (entry_code q)
-  entry_ahead None rest = refl
-  entry_ahead (Some e) rest = refl
+  entry_ahead : (q : Option Entry) (n : ℕ) → Ahead (entry_code q n)
+  entry_ahead None n rest = refl
+  entry_ahead (Some e) n rest = count_ahead own e.rest e.formals n rest
 
-  forms_ahead : (words heap_end label n : ℕ) (cs : List Code) (rest : List Item)
+  forms_ahead : (words heap_end literals label n : ℕ) (cs : List Code) (rest : List Item)
       → list_all (λ c. forward c.labels c.instructions) cs ≡ true
       → list_all (λ c. list_all (labels_few count) c.instructions) cs ≡ true
-      → jumps_ahead own (forms_code words heap_end label n cs rest) ≡ jumps_ahead own rest
-  forms_ahead words heap_end label n [] rest e f = refl
-  forms_ahead words heap_end label n (c ∷ cs) rest e f =
+      → jumps_ahead own (forms_code words heap_end literals label n cs rest) ≡ jumps_ahead own rest
+  forms_ahead words heap_end literals label n [] rest e f = refl
+  forms_ahead words heap_end literals label n (c ∷ cs) rest e f =
       let g = and_parts (list_all (labels_few count) c.instructions)
       (list_all (λ c. list_all (labels_few count) c.instructions) cs) f in
       let p = and_parts (forward c.labels c.instructions) (list_all (λ c. forward c.labels c.instructions) cs) e in
@@ -282,23 +327,24 @@ module _ (count : ℕ) where
       (without_repeats (frames.labels_in c.instructions) && frames.jumps_ahead c.instructions) p.0 in
       let r = and_parts (without_repeats (frames.labels_in c.instructions)) (frames.jumps_ahead c.instructions) q.1 in
       let out = n + c.labels in
-      let others = forms_code words heap_end (suc label) (labels_end n c) cs rest in
+      let others = forms_code words heap_end literals (suc label) (labels_end n c) cs rest in
       let last = item.Label out ∷ others in
       let there : is_among (labels_in last) out ≡ true = first_in out (labels_in others) in
-      let body = item.Mark (Enter label) ∷ body_code n out words heap_end (n + c.labels + 1) c.instructions last in
-      let in_body : is_among (labels_in body) out ≡ true = behind_body n out words heap_end (n + c.labels + 1) out
+      let body = item.Mark (Enter label) ∷ body_code n out words heap_end literals (n + c.labels + 2) c.instructions last in
+      let in_body : is_among (labels_in body) out ≡ true = behind_body n out words heap_end literals (n + c.labels + 2) out
       c.instructions last there in
-      passed_ahead c.entry out _ (later_in (body_label label) out (labels_in (entry_code c.entry body))
-      (entry_behind c.entry body out in_body))
-      ∙ entry_ahead c.entry body ∙ body_ahead n out words heap_end (n + c.labels + 1) c.instructions last r.1 g.0
-      there ∙ forms_ahead words heap_end (suc label) (labels_end n c) cs rest p.1 g.1
+      passed_ahead c.entry out _ (later_in (body_label label) out (labels_in (entry_code c.entry (n + c.labels + 1) body))
+      (entry_behind c.entry (n + c.labels + 1) body out in_body))
+      ∙ entry_ahead c.entry (n + c.labels + 1) body ∙ body_ahead n out words heap_end literals (n + c.labels + 2) c.instructions last r.1 g.0
+      there ∙ forms_ahead words heap_end literals (suc label) (labels_end n c) cs rest p.1 g.1
 
--- the jumps of the program's own routine are to labels below those of bodies
-last_ahead : (own : ℕ) → jumps_ahead own (item.Jump 0 ∷ (item.Label 1024 ∷ put_value_code)) ≡ true
-last_ahead _ = refl
+-- the jumps of the program's own routines are to labels below those of bodies
+last_ahead : (own heap_end : ℕ) → jumps_ahead own (item.Jump 0 ∷ own_code heap_end) ≡ true
+last_ahead _ _ = refl
 
 pub program_ahead : (p : tree.Source) (heap depth : ℕ) → list_all (λ c. forward c.labels c.instructions) p.bodies ≡ true
     → list_all (λ c. list_all (labels_few (length p.bodies)) c.instructions) p.bodies ≡ true
     → jumps_ahead (own_label p) (program_code p heap depth) ≡ true
 program_ahead p heap depth e f =
-    forms_ahead (length p.bodies) p.words (heap_of p + heap) 0 (own_label p) p.bodies _ e f ∙ last_ahead (own_label p)
+    forms_ahead (length p.bodies) p.words (heap_of p + heap) (count_literals p.statics.literals) 0 (own_label p) p.bodies _ e f
+    ∙ last_ahead (own_label p) (heap_of p + heap)

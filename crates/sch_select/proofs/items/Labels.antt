@@ -8,7 +8,8 @@ use Rattle.sch_word.specs.declared.primitive.Primitive.{Primitive}
 use Rattle.sch_word.specs.declared.primitive.Primitive.TheVariants.{Eq, Eqv, IsBoolean, IsPair, IsNull, IsSymbol}
 use Rattle.sch_word.specs.declared.primitive.Primitive.TheVariants.{IsInteger, IsChar, IsString, IsVector}
 use Rattle.sch_word.specs.declared.primitive.Primitive.TheVariants.{IsProcedure, Modulo, Equal, Less, Greater}
-use Rattle.sch_word.specs.declared.primitive.Primitive.TheVariants.{LessEqual, GreaterEqual, Put}
+use Rattle.sch_word.specs.declared.primitive.Primitive.TheVariants.{LessEqual, GreaterEqual, Put, Cons}
+use Rattle.sch_word.specs.declared.primitive.Primitive.TheVariants.{MakeString, MakeVector, StringSet}
 use Rattle.sch_control.specs.declared.operation.Atom.{Atom}
 use Rattle.sch_control.specs.declared.operation.Atom.TheVariants.{Constant, Literal, Variable}
 use Rattle.sch_control.specs.declared.operation.Operand.{Operand}
@@ -23,7 +24,7 @@ use Rattle.sch_asm.specs.Items.{is_among, labels_in}
 use Rattle.sch_asm.proofs.Tables.{repeats}
 use Rattle.sch_select.specs.Select.{atom_code, unary_code, binary_code, read_code, operand_code, second_code}
 use Rattle.sch_select.specs.Select.{source_code, fields_code, closure_bytes, places_code, records_code, group_code}
-use Rattle.sch_select.specs.Select.{operation_code}
+use Rattle.sch_select.specs.Select.{operation_code, pair_or_binary, ternary_code, index_operand, three_code}
 
 -- ---- lists whose elements are all different, in a range
 
@@ -106,8 +107,8 @@ one_label n = record {
   above = λ y h. either_false (n == y) false (ne_eqb n y (λ e. omega (arith, e, h))) refl;
 }
 
-three_labels : (n : ℕ) → Block n (n + 4) ((n + 1) ∷ ((n + 2) ∷ (n ∷ [])))
-three_labels n = record {
+modulo_block : (n : ℕ) → Block n (n + 4) ((n + 1) ∷ ((n + 2) ∷ (n ∷ [])))
+modulo_block n = record {
   distinct = either_false _ _ (either_false (n + 2 == n + 1) _ (ne_eqb (n + 2) (n + 1) (λ e. omega (arith, e)))
       (either_false (n == n + 1) false (ne_eqb n (n + 1) (λ e. omega (arith, e))) refl))
       (either_false _ _ (either_false (n == n + 2) false (ne_eqb n (n + 2) (λ e. omega (arith, e))) refl) refl);
@@ -134,15 +135,17 @@ has_test IsProcedure = true
 has_test Put = true
 has_test _ = false
 
-abbrev pub has_comparison : Primitive → Bool
-has_comparison Eq = true
-has_comparison Eqv = true
-has_comparison Equal = true
-has_comparison Less = true
-has_comparison Greater = true
-has_comparison LessEqual = true
-has_comparison GreaterEqual = true
-has_comparison _ = false
+abbrev pub has_one_label : Primitive → Bool
+has_one_label Eq = true
+has_one_label Eqv = true
+has_one_label Equal = true
+has_one_label Less = true
+has_one_label Greater = true
+has_one_label LessEqual = true
+has_one_label GreaterEqual = true
+has_one_label MakeString = true
+has_one_label MakeVector = true
+has_one_label _ = false
 
 abbrev pub is_modulo : Primitive → Bool
 is_modulo Modulo = true
@@ -152,7 +155,7 @@ abbrev pub unary_labels : ℕ → Primitive → List ℕ
 unary_labels n which = cond (has_test which) (n ∷ []) []
 
 abbrev pub binary_labels : ℕ → Primitive → List ℕ
-binary_labels n which = cond (has_comparison which) (n ∷ [])
+binary_labels n which = cond (has_one_label which) (n ∷ [])
     (cond (is_modulo which) ((n + 1) ∷ ((n + 2) ∷ (n ∷ []))) [])
 
 either_block : (a b : ℕ) (t : Bool) (xs ys : List ℕ) → Block a b xs → Block a b ys → Block a b (cond t xs ys)
@@ -163,8 +166,8 @@ unary_block : (n : ℕ) (which : Primitive) → Block n (n + 4) (unary_labels n 
 unary_block n which = either_block n (n + 4) (has_test which) (n ∷ []) [] (one_label n) (no_labels n (n + 4))
 
 binary_block : (n : ℕ) (which : Primitive) → Block n (n + 4) (binary_labels n which)
-binary_block n which = either_block n (n + 4) (has_comparison which) (n ∷ []) _ (one_label n)
-    (either_block n (n + 4) (is_modulo which) ((n + 1) ∷ ((n + 2) ∷ (n ∷ []))) [] (three_labels n)
+binary_block n which = either_block n (n + 4) (has_one_label which) (n ∷ []) _ (one_label n)
+    (either_block n (n + 4) (is_modulo which) ((n + 1) ∷ ((n + 2) ∷ (n ∷ []))) [] (modulo_block n)
     (no_labels n (n + 4)))
 
 abbrev pub Labelled : (List Item → List Item) → List ℕ → Type 0
@@ -177,6 +180,14 @@ unary_labelled n _ rest = refl
 binary_labelled : (n : ℕ) (which : Primitive) → Labelled (binary_code n which) (binary_labels n which)
 binary_labelled n Eq rest = refl
 binary_labelled n _ rest = refl
+
+pair_labelled : (heap_end n : ℕ) (which : Primitive) → Labelled (pair_or_binary heap_end n which) (binary_labels n which)
+pair_labelled heap_end n Cons rest = refl
+pair_labelled heap_end n which rest = binary_labelled n which rest
+
+ternary_labelled : (which : Primitive) → Labelled (ternary_code which) []
+ternary_labelled StringSet rest = refl
+ternary_labelled _ rest = refl
 
 atom_labelled : (r : ℕ) (a : Atom Place) → Labelled (atom_code r a) []
 atom_labelled r (Constant c) rest = refl
@@ -218,6 +229,25 @@ pub operand_block : (n : ℕ) (o : Operand Place) → Block n (n + 4) (operand_l
 operand_block n (operand.Atom a) = no_labels n (n + 4)
 operand_block n (operand.Read site which atoms) = read_block n which atoms
 
+index_labelled : (o : Operand Place) → Labelled (index_operand o) []
+index_labelled (operand.Atom a) rest = atom_labelled 1 a rest
+index_labelled (operand.Read site which atoms) rest = refl
+
+-- the first and the last of three operands
+abbrev pub three_labels : ℕ → (a c : Operand Place) → List ℕ
+three_labels n a c = operand_labels n c ++ operand_labels (n + 4) a
+
+three_labelled : (n : ℕ) (a b c : Operand Place) → Labelled (three_code n a b c) (three_labels n a c)
+three_labelled n a b c rest =
+    operand_labelled n c _
+    ∙ ap (λ l. operand_labels n c ++ l) (operand_labelled (n + 4) a (index_operand b rest) ∙ ap
+    (λ l. operand_labels (n + 4) a ++ l) (index_labelled b rest))
+    ∙ sym (append_assoc (operand_labels n c) (operand_labels (n + 4) a) (labels_in rest))
+
+three_block : (n : ℕ) (a c : Operand Place) → Block n (n + 4 + 4) (three_labels n a c)
+three_block n a c = blocks n (n + 4) (n + 4) (n + 4 + 4) _ _ (omega arith) (omega arith) (omega arith)
+    (operand_block n c) (operand_block (n + 4) a)
+
 source_labelled : (r : ℕ) (x : Source Place) → Labelled (source_code r x) []
 source_labelled r (source.Atom a) rest = atom_labelled r a rest
 source_labelled r (source.Field p k) rest = refl
@@ -243,33 +273,36 @@ operation_labels n (operation.Operand o) = operand_labels n o
 operation_labels n (operation.Prim site which (o ∷ [])) = operand_labels n o ++ unary_labels (n + 8) which
 operation_labels n (operation.Prim site which (o ∷ (q ∷ []))) = operand_labels n o ++
     (operand_labels (n + 4) q ++ binary_labels (n + 8) which)
+operation_labels n (operation.Prim site which (o ∷ (q ∷ (r ∷ [])))) = three_labels n o r
 operation_labels n (operation.SetGlobal g o) = operand_labels n o
 operation_labels n (operation.CellSet x o) = operand_labels n o
 operation_labels n _ = []
 
-pub operation_labelled : (heap_end n : ℕ) (o : Operation Place)
-    → Labelled (operation_code heap_end n o) (operation_labels n o)
-operation_labelled heap_end n (operation.Operand o) rest = operand_labelled n o rest
-operation_labelled heap_end n (operation.Prim site which []) rest = refl
-operation_labelled heap_end n (operation.Prim site which (o ∷ [])) rest = operand_labelled n o
+pub operation_labelled : (heap_end literals n : ℕ) (o : Operation Place)
+    → Labelled (operation_code heap_end literals n o) (operation_labels n o)
+operation_labelled heap_end literals n (operation.Operand o) rest = operand_labelled n o rest
+operation_labelled heap_end literals n (operation.Prim site which []) rest = refl
+operation_labelled heap_end literals n (operation.Prim site which (o ∷ [])) rest = operand_labelled n o
     (unary_code (n + 8) which rest) ∙ ap (λ l. operand_labels n o ++ l) (unary_labelled (n + 8) which rest)
     ∙ sym (append_assoc (operand_labels n o) (unary_labels (n + 8) which) (labels_in rest))
-operation_labelled heap_end n (operation.Prim site which (o ∷ (q ∷ []))) rest =
-    operand_labelled n o (second_code (n + 4) q (binary_code (n + 8) which rest))
-    ∙ ap (λ l. operand_labels n o ++ l) (second_labelled (n + 4) q (binary_code (n + 8) which rest) ∙ ap
-    (λ l. operand_labels (n + 4) q ++ l) (binary_labelled (n + 8) which rest)
+operation_labelled heap_end literals n (operation.Prim site which (o ∷ (q ∷ []))) rest =
+    operand_labelled n o (second_code (n + 4) q (pair_or_binary heap_end (n + 8) which rest))
+    ∙ ap (λ l. operand_labels n o ++ l) (second_labelled (n + 4) q (pair_or_binary heap_end (n + 8) which rest) ∙ ap
+    (λ l. operand_labels (n + 4) q ++ l) (pair_labelled heap_end (n + 8) which rest)
     ∙ sym (append_assoc (operand_labels (n + 4) q) (binary_labels (n + 8) which) (labels_in rest)))
     ∙ sym (append_assoc (operand_labels n o) (operand_labels (n + 4) q ++ binary_labels (n + 8) which) (labels_in rest))
-operation_labelled heap_end n (operation.Prim site which (o ∷ (q ∷ (r ∷ operands)))) rest = refl
-operation_labelled heap_end n (operation.Global g) rest = refl
-operation_labelled heap_end n (operation.SetGlobal g o) rest = operand_labelled n o _
-operation_labelled heap_end n (operation.Field p k) rest = refl
-operation_labelled heap_end n (operation.NewCell x) rest = source_labelled 0 x _
-operation_labelled heap_end n operation.UnsetCell rest = refl
-operation_labelled heap_end n (operation.CellGet x) rest = source_labelled 0 x _
-operation_labelled heap_end n (operation.CellSet x o) rest = operand_labelled n o _
+operation_labelled heap_end literals n (operation.Prim site which (o ∷ (q ∷ (r ∷ [])))) rest = three_labelled n o q r
+    (ternary_code which rest) ∙ ap (λ l. three_labels n o r ++ l) (ternary_labelled which rest)
+operation_labelled heap_end literals n (operation.Prim site which (o ∷ (q ∷ (r ∷ (s ∷ operands))))) rest = refl
+operation_labelled heap_end literals n (operation.Global g) rest = refl
+operation_labelled heap_end literals n (operation.SetGlobal g o) rest = operand_labelled n o _
+operation_labelled heap_end literals n (operation.Field p k) rest = refl
+operation_labelled heap_end literals n (operation.NewCell x) rest = source_labelled 0 x _
+operation_labelled heap_end literals n operation.UnsetCell rest = refl
+operation_labelled heap_end literals n (operation.CellGet x) rest = source_labelled 0 x _
+operation_labelled heap_end literals n (operation.CellSet x o) rest = operand_labelled n o _
     ∙ ap (λ l. operand_labels n o ++ l) (source_labelled 1 x _)
-operation_labelled heap_end n (operation.MakeClosure c) rest = fields_labelled 8 c.fields _
+operation_labelled heap_end literals n (operation.MakeClosure c) rest = fields_labelled 8 c.fields _
 
 pub operation_block : (n : ℕ) (o : Operation Place) → Block n (n + 12) (operation_labels n o)
 operation_block n (operation.Operand o) = wider n (n + 12) n (n + 4) _ (omega arith) (omega arith) (operand_block n o)
@@ -282,7 +315,9 @@ operation_block n (operation.Prim site which (o ∷ (q ∷ []))) =
     (blocks n (n + 4) (n + 4) (n + 8 + 4) _ _ (omega arith) (omega arith) (omega arith) (operand_block n o)
     (blocks (n + 4) (n + 4 + 4) (n + 8) (n + 8 + 4) _ _ (omega arith) (omega arith) (omega arith)
     (operand_block (n + 4) q) (binary_block (n + 8) which)))
-operation_block n (operation.Prim site which (o ∷ (q ∷ (r ∷ operands)))) = no_labels n (n + 12)
+operation_block n (operation.Prim site which (o ∷ (q ∷ (r ∷ [])))) = wider n (n + 12) n (n + 4 + 4) _ (omega arith)
+    (omega arith) (three_block n o r)
+operation_block n (operation.Prim site which (o ∷ (q ∷ (r ∷ (s ∷ operands))))) = no_labels n (n + 12)
 operation_block n (operation.CellSet x o) = wider n (n + 12) n (n + 4) _ (omega arith) (omega arith) (operand_block n o)
 operation_block n (operation.SetGlobal g o) = wider n (n + 12) n (n + 4) _ (omega arith) (omega arith)
     (operand_block n o)

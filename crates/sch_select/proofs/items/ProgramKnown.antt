@@ -1,17 +1,19 @@
 -- Each label that a selected program uses is a routine's or stands in its items.
-use Rattle.std.proofs.Common.{◌≡◌, ℕ, zero, suc, ◌+◌, ◌%◌, ◌<◌, List, [], ◌∷◌, ◌++◌, length, replicate, Option, Some}
+use Rattle.std.proofs.Common.{◌≡◌, ℕ, zero, suc, ◌+◌, ◌-◌, ◌%◌, ◌<◌, List, [], ◌∷◌, ◌++◌, length, map, replicate, Option, Some}
 use Rattle.std.proofs.Common.{None, Bool, true, false, refl, sym, ap, ◌∙◌, arith, ◌==◌, ◌&&◌, ◌||◌, eq-eqb}
 use Rattle.std.specs.Prelude.{nat_eq, nat_lt, IsTrue}
 use Rattle.std.specs.List.{list_all, AllByRecursion}
 use Rattle.std.proofs.lemmas.Bool.{and_parts, and_from, eqb-true, ltb-true}
 use Rattle.std.proofs.lemmas.List.Elements.{All-from_recursion}
+use Rattle.sch_word.specs.values.Literals.{count_literals}
 use Rattle.sch_word.specs.trees.NumberSets.{has}
 use Rattle.sch_word.specs.declared.place.Place.{Place}
 use Rattle.sch_word.specs.declared.primitive.Primitive.{Primitive}
 use Rattle.sch_word.specs.declared.primitive.Primitive.TheVariants.{Eq, Eqv, IsBoolean, IsPair, IsNull, IsSymbol}
 use Rattle.sch_word.specs.declared.primitive.Primitive.TheVariants.{IsInteger, IsChar, IsString, IsVector}
 use Rattle.sch_word.specs.declared.primitive.Primitive.TheVariants.{IsProcedure, Modulo, Equal, Less, Greater}
-use Rattle.sch_word.specs.declared.primitive.Primitive.TheVariants.{LessEqual, GreaterEqual, Put}
+use Rattle.sch_word.specs.declared.primitive.Primitive.TheVariants.{LessEqual, GreaterEqual, Put, Cons}
+use Rattle.sch_word.specs.declared.primitive.Primitive.TheVariants.{MakeString, MakeVector, StringSet}
 use Rattle.sch_control.specs.declared.operation.Atom.{Atom}
 use Rattle.sch_control.specs.declared.operation.Atom.TheVariants.{Constant, Literal, Variable}
 use Rattle.sch_control.specs.declared.operation.Operand.{Operand}
@@ -36,19 +38,25 @@ use Rattle.sch_asm.specs.declared.assembly.Word.{Word}
 use Rattle.sch_asm.specs.declared.assembly.Word.TheVariants.{Fixed, Address}
 use Rattle.sch_asm.specs.declared.item.Item.{Item}
 use Rattle.sch_asm.specs.declared.item.Item.TheVariants as item
-use Rattle.sch_asm.specs.declared.routine.Routine.TheVariants as routine
-use Rattle.sch_asm.specs.Routines.{label_of}
 use Rattle.sch_asm.specs.Items.{AreKnown, is_among, is_routine, labels_in, uses_in, word_uses}
+use Rattle.sch_select.specs.Program.{count_code}
+use Rattle.sch_select.specs.RestCode.{list_code, list_label}
+use Rattle.sch_select.proofs.items.RestItems.{count_labels}
+use Rattle.sch_select.specs.Select.{pair_or_binary, ternary_code, index_operand, vector_label, string_label}
 use Rattle.sch_select.specs.Select.{put_label, body_label, source_code, fields_code, record_code, closure_bytes}
 use Rattle.sch_select.specs.Select.{places_code, records_code, atom_code, unary_code, binary_code, read_code}
 use Rattle.sch_select.specs.Select.{operand_code, second_code, operation_code, body_code}
-use Rattle.sch_select.specs.Program.{passed_code, entry_code, form_code, forms_code, labels_end, heap_of, own_label}
-use Rattle.sch_select.specs.Program.{put_value_code, program_code, program_words, word_list, static_bytes}
-use Rattle.sch_select.specs.Program.{global_words, padding, closure_words, closures_address}
+use Rattle.sch_select.specs.Program.{passed_code, entry_code, form_code, forms_code, labels_end, own_label}
+use Rattle.sch_select.specs.Program.{program_code}
+use Rattle.sch_select.specs.Data.{heap_of, names_of, closures_of, objects_unit, static_count, program_words, word_list}
+use Rattle.sch_select.specs.Data.{static_bytes, global_words, padding, closure_words}
+use Rattle.sch_select.specs.NameWords.{symbol_words}
+use Rattle.sch_literals.specs.PlacedWords.{placed_values, placed_each}
 use Rattle.sch_select.proofs.programs.Selected.{members_few, operation_few, labels_few}
 use Rattle.sch_select.proofs.items.ProgramSound.{in_front}
 use Rattle.sch_select.proofs.items.Labels.{unary_labels, binary_labels, read_labels, operand_labels, operation_labels}
-use Rattle.sch_select.proofs.items.ProgramLabels.{body_labels, own_labels, form_labels, forms_labels, forms_labelled}
+use Rattle.sch_select.proofs.items.ProgramLabels.{inner_labels, entry_labels, body_labels, own_labels, form_labels, forms_labels, forms_labelled}
+use Rattle.sch_select.proofs.items.ProgramLabels.{last_code}
 
 pub or_true : (b : Bool) → (b || true) ≡ true
 or_true true = refl
@@ -127,8 +135,10 @@ module _ (all : List ℕ) where
   one : (n : ℕ) (us : List ℕ) → is_among all n ≡ true → list_all known (n ∷ us) ≡ list_all known us
   one n us e = in_front (known n) (list_all known us) (is_known n e)
 
-  module _ (put_in : is_among all 1024 ≡ true) (count : ℕ)
-      (bodies_in : (l : ℕ) → l < count → is_among all (body_label l) ≡ true) (words heap_end : ℕ) where
+  module _ (put_in : is_among all put_label ≡ true) (vector_in : is_among all vector_label ≡ true)
+      (string_in : is_among all string_label ≡ true) (lists_in : (m : ℕ) → m < 7 → is_among all (list_label m) ≡ true)
+      (count : ℕ)
+      (bodies_in : (l : ℕ) → l < count → is_among all (body_label l) ≡ true) (words heap_end literals : ℕ) where
     unary_uses : (n : ℕ) (which : Primitive) → Among (unary_labels n which) → Uses (unary_code n which)
     unary_uses n IsBoolean h rest = one n (uses_in rest) (h n (first_in n []))
     unary_uses n IsPair h rest = one n (uses_in rest) (h n (first_in n []))
@@ -157,7 +167,19 @@ module _ (all : List ℕ) where
         let second = h (n + 2) (later_in (n + 1) (n + 2) ((n + 2) ∷ (n ∷ [])) (first_in (n + 2) (n ∷ []))) in
         one n ((n + 1) ∷ (n ∷ ((n + 2) ∷ (n ∷ us)))) zeroth ∙ one (n + 1) (n ∷ ((n + 2) ∷ (n ∷ us))) first
         ∙ one n ((n + 2) ∷ (n ∷ us)) zeroth ∙ one (n + 2) (n ∷ us) second ∙ one n us zeroth
+    binary_uses n MakeString h rest = one n (string_label ∷ uses_in rest) (h n (first_in n []))
+        ∙ one string_label (uses_in rest) string_in
+    binary_uses n MakeVector h rest = one n (vector_label ∷ uses_in rest) (h n (first_in n []))
+        ∙ one vector_label (uses_in rest) vector_in
     binary_uses n _ h rest = refl
+
+    pair_uses : (n : ℕ) (which : Primitive) → Among (binary_labels n which) → Uses (pair_or_binary heap_end n which)
+    pair_uses n Cons h rest = refl
+    pair_uses n which h rest = binary_uses n which h rest
+
+    ternary_uses : (which : Primitive) → Uses (ternary_code which)
+    ternary_uses StringSet rest = refl
+    ternary_uses _ rest = refl
 
     atom_uses : (r : ℕ) (a : Atom Place) → Uses (atom_code r a)
     atom_uses r (Constant c) rest = refl
@@ -179,6 +201,10 @@ module _ (all : List ℕ) where
     second_uses : (n : ℕ) (o : Operand Place) → Among (operand_labels n o) → Uses (second_code n o)
     second_uses n (operand.Atom a) h rest = atom_uses 1 a rest
     second_uses n (operand.Read site which atoms) h rest = read_uses n which atoms h _
+
+    index_uses : (o : Operand Place) → Uses (index_operand o)
+    index_uses (operand.Atom a) rest = atom_uses 1 a rest
+    index_uses (operand.Read site which atoms) rest = refl
 
     source_uses : (r : ℕ) (x : Source Place) → Uses (source_code r x)
     source_uses r (source.Atom a) rest = atom_uses r a rest
@@ -204,7 +230,7 @@ module _ (all : List ℕ) where
         record_uses offset m.closure p.0 _ ∙ records_uses (offset + closure_bytes m.closure) members p.1 rest
 
     operation_uses : (n : ℕ) (o : Operation Place) → operation_few count o ≡ true → Among (operation_labels n o)
-        → Uses (operation_code heap_end n o)
+        → Uses (operation_code heap_end literals n o)
     operation_uses n (operation.Operand o) f h rest = operand_uses n o h rest
     operation_uses n (operation.Prim site which []) f h rest = refl
     operation_uses n (operation.Prim site which (o ∷ [])) f h rest =
@@ -214,11 +240,13 @@ module _ (all : List ℕ) where
     operation_uses n (operation.Prim site which (o ∷ (q ∷ []))) f h rest =
         let behind = among_right (operand_labels n o) (operand_labels (n + 4) q ++ binary_labels (n + 8) which) h in
         operand_uses n o (among_left (operand_labels n o) (operand_labels (n + 4) q ++ binary_labels (n + 8) which) h)
-        (second_code (n + 4) q (binary_code (n + 8) which rest))
-        ∙ second_uses (n + 4) q (among_left (operand_labels (n + 4) q) (binary_labels (n + 8) which) behind)
-        (binary_code (n + 8) which rest)
-        ∙ binary_uses (n + 8) which (among_right (operand_labels (n + 4) q) (binary_labels (n + 8) which) behind) rest
-    operation_uses n (operation.Prim site which (o ∷ (q ∷ (r ∷ operands)))) f h rest = refl
+        _ ∙ second_uses (n + 4) q (among_left (operand_labels (n + 4) q) (binary_labels (n + 8) which) behind) _
+        ∙ pair_uses (n + 8) which (among_right (operand_labels (n + 4) q) (binary_labels (n + 8) which) behind) rest
+    operation_uses n (operation.Prim site which (o ∷ (q ∷ (r ∷ [])))) f h rest =
+        operand_uses n r (among_left (operand_labels n r) (operand_labels (n + 4) o) h) _
+        ∙ operand_uses (n + 4) o (among_right (operand_labels n r) (operand_labels (n + 4) o) h) _
+        ∙ index_uses q _ ∙ ternary_uses which rest
+    operation_uses n (operation.Prim site which (o ∷ (q ∷ (r ∷ (s ∷ operands))))) f h rest = refl
     operation_uses n (operation.Global g) f h rest = refl
     operation_uses n (operation.SetGlobal g o) f h rest = operand_uses n o h _
     operation_uses n (operation.Field p k) f h rest = refl
@@ -231,25 +259,25 @@ module _ (all : List ℕ) where
     module _ (base out : ℕ) (out_in : is_among all out ≡ true) where
       body_uses : (n : ℕ) (instructions : List Instruction) → jumps_ahead instructions ≡ true
           → list_all (labels_few count) instructions ≡ true → Among (body_labels base n instructions)
-          → Uses (body_code base out words heap_end n instructions)
+          → Uses (body_code base out words heap_end literals n instructions)
       body_uses n [] e f h rest = refl
       body_uses n (IfFalse l ∷ instructions) e f h rest =
           let p = and_parts (has l (frames.labels_in instructions)) (jumps_ahead instructions) e in
-          one (base + l) (uses_in (body_code base out words heap_end (n + 12) instructions rest))
+          one (base + l) (uses_in (body_code base out words heap_end literals (n + 12) instructions rest))
           (h (base + l) (label_in base (n + 12) l instructions p.0)) ∙ body_uses (n + 12) instructions p.1 f h rest
       body_uses n (Jump l ∷ instructions) e f h rest =
           let p = and_parts (has l (frames.labels_in instructions)) (jumps_ahead instructions) e in
-          one (base + l) (uses_in (body_code base out words heap_end (n + 12) instructions rest))
+          one (base + l) (uses_in (body_code base out words heap_end literals (n + 12) instructions rest))
           (h (base + l) (label_in base (n + 12) l instructions p.0)) ∙ body_uses (n + 12) instructions p.1 f h rest
       body_uses n (End ∷ instructions) e f h rest = one out
-          (uses_in (body_code base out words heap_end (n + 12) instructions rest)) out_in
+          (uses_in (body_code base out words heap_end literals (n + 12) instructions rest)) out_in
           ∙ body_uses (n + 12) instructions e f h rest
       body_uses n (Label l ∷ instructions) e f h rest = body_uses (n + 12) instructions e f
           (among_right ((base + l) ∷ []) (body_labels base (n + 12) instructions) h) rest
       body_uses n (Do o ∷ instructions) e f h rest =
           operation_uses n o (and_parts (operation_few count o) (list_all (labels_few count) instructions) f).0
           (among_left (operation_labels n o) (body_labels base (n + 12) instructions) h)
-          (body_code base out words heap_end (n + 12) instructions rest)
+          (body_code base out words heap_end literals (n + 12) instructions rest)
           ∙ body_uses (n + 12) instructions e (and_parts (operation_few count o)
           (list_all (labels_few count) instructions) f).1 (among_right (operation_labels n o)
           (body_labels base (n + 12) instructions) h) rest
@@ -267,7 +295,7 @@ module _ (all : List ℕ) where
           let p = and_parts (members_few count members) (list_all (labels_few count) instructions) f in
           places_uses 0 members _ ∙ records_uses 0 members p.0 _ ∙ body_uses (n + 12) instructions e p.1 h rest
       body_uses n (Call spread count ∷ instructions) e f h rest =
-          one n (uses_in (body_code base out words heap_end (n + 12) instructions rest))
+          one n (uses_in (body_code base out words heap_end literals (n + 12) instructions rest))
           (h n (first_in n (body_labels base (n + 12) instructions)))
           ∙ body_uses (n + 12) instructions e f (among_right (n ∷ []) (body_labels base (n + 12) instructions) h) rest
       body_uses n (Tail spread count ∷ instructions) e f h rest = body_uses (n + 12) instructions e f h rest
@@ -278,35 +306,51 @@ module _ (all : List ℕ) where
     passed_uses None out e rest = refl
     passed_uses (Some q) out e rest = one out (uses_in rest) e
 
-    entry_uses : (o : Option Entry) → Uses (entry_code o)
-    entry_uses None rest = refl
-    entry_uses (Some e) rest = refl
+    -- the list of a rest variable
+    list_uses : (b : Bool) (required n : ℕ) → nat_lt required 6 ≡ b → is_among all n ≡ true
+        → Uses (list_code b required n)
+    list_uses true required n e h rest = one n (list_label required ∷ uses_in rest) h
+        ∙ one (list_label required) (uses_in rest)
+        (lists_in required (let lt = ltb-true required 6 e in omega (arith, lt)))
+    list_uses false required n e h rest = one n (list_label 6 ∷ uses_in rest) h
+        ∙ one (list_label 6) (uses_in rest) (lists_in 6 (omega arith))
+
+    count_uses : (b : Bool) (formals n : ℕ) → Among (count_labels b n) → Uses (count_code b formals n)
+    count_uses false formals n h rest = refl
+    count_uses true formals n h rest = list_uses (nat_lt (formals - 1) 6) (formals - 1) n refl (h n (first_in n [])) rest
+
+    entry_uses : (o : Option Entry) (n : ℕ) → Among (entry_labels o n) → Uses (entry_code o n)
+    entry_uses None n h rest = refl
+    entry_uses (Some e) n h rest = count_uses e.rest e.formals n h rest
 
     form_uses : (label n : ℕ) (c : Code) → forward c.labels c.instructions ≡ true
         → list_all (labels_few count) c.instructions ≡ true → Among (form_labels label n c)
-        → Uses (form_code words heap_end label n c)
+        → Uses (form_code words heap_end literals label n c)
     form_uses label n c e f h rest =
-        let body = body_labels n (n + c.labels + 1) c.instructions in
-        let own : Among (own_labels n c) = among_right (body_label label ∷ []) (own_labels n c) h in
+        let body = body_labels n (n + c.labels + 2) c.instructions in
+        let whole : Among (own_labels n c) = among_right (body_label label ∷ []) (own_labels n c) h in
+        let list = n + c.labels + 1 in
+        let own : Among (inner_labels n c) = among_right (entry_labels c.entry list) (inner_labels n c) whole in
         let out_in = own (n + c.labels) (right_in body ((n + c.labels) ∷ []) (n + c.labels)
         (first_in (n + c.labels) [])) in
         let p = and_parts (list_all (λ l. nat_lt l c.labels) (frames.labels_in c.instructions))
         (without_repeats (frames.labels_in c.instructions) && jumps_ahead c.instructions) e in
         let q = and_parts (without_repeats (frames.labels_in c.instructions)) (jumps_ahead c.instructions) p.1 in
-        passed_uses c.entry (n + c.labels) out_in _ ∙ entry_uses c.entry _
-        ∙ body_uses n (n + c.labels) out_in (n + c.labels + 1) c.instructions q.1 f
+        passed_uses c.entry (n + c.labels) out_in _ ∙ entry_uses c.entry list
+        (among_left (entry_labels c.entry list) (inner_labels n c) whole) _
+        ∙ body_uses n (n + c.labels) out_in (n + c.labels + 2) c.instructions q.1 f
         (among_left body ((n + c.labels) ∷ []) own) (item.Label (n + c.labels) ∷ rest)
 
     forms_uses : (label n : ℕ) (cs : List Code) → list_all (λ c. forward c.labels c.instructions) cs ≡ true
         → list_all (λ c. list_all (labels_few count) c.instructions) cs ≡ true → Among (forms_labels label n cs)
-        → Uses (forms_code words heap_end label n cs)
+        → Uses (forms_code words heap_end literals label n cs)
     forms_uses label n [] e f h rest = refl
     forms_uses label n (c ∷ cs) e f h rest =
         let p = and_parts (forward c.labels c.instructions) (list_all (λ c. forward c.labels c.instructions) cs) e in
         let q = and_parts (list_all (labels_few count) c.instructions)
         (list_all (λ c. list_all (labels_few count) c.instructions) cs) f in
         form_uses label n c p.0 q.0 (among_left (form_labels label n c) (forms_labels (suc label) (labels_end n c) cs)
-        h) (forms_code words heap_end (suc label) (labels_end n c) cs rest)
+        h) (forms_code words heap_end literals (suc label) (labels_end n c) cs rest)
         ∙ forms_uses (suc label) (labels_end n c) cs p.1 q.1
         (among_right (form_labels label n c) (forms_labels (suc label) (labels_end n c) cs) h) rest
 
@@ -328,16 +372,22 @@ module _ (all : List ℕ) where
   says_all [] e = tt
   says_all (l ∷ ls) e = let p = and_parts (known l) (list_all known ls) e in (p.0, says_all ls p.1)
 
--- the labels that the program's own routine uses
-last_known : (all : List ℕ) → is_among all 1029 ≡ true → is_among all 1025 ≡ true → is_among all 1026 ≡ true
-    → is_among all 1027 ≡ true → is_among all 1028 ≡ true
-    → list_all (known all) (uses_in (item.Jump (label_of routine.End) ∷ (item.Label put_label ∷ put_value_code))) ≡ true
-last_known all a b c d e =
-    one all 1029 (1 ∷ (1025 ∷ (11 ∷ (1026 ∷ (11 ∷ (1027 ∷ (11 ∷ (1028 ∷ (11 ∷ (11 ∷ (11 ∷ []))))))))))) a
-    ∙ one all 1025 (11 ∷ (1026 ∷ (11 ∷ (1027 ∷ (11 ∷ (1028 ∷ (11 ∷ (11 ∷ (11 ∷ []))))))))) b
-    ∙ one all 1026 (11 ∷ (1027 ∷ (11 ∷ (1028 ∷ (11 ∷ (11 ∷ (11 ∷ []))))))) c
-    ∙ one all 1027 (11 ∷ (1028 ∷ (11 ∷ (11 ∷ (11 ∷ []))))) d
-    ∙ one all 1028 (11 ∷ (11 ∷ (11 ∷ []))) e
+-- what is known among some labels is known among more
+known_within : (own all : List ℕ) → ((y : ℕ) → is_among own y ≡ true → is_among all y ≡ true) → (ls : List ℕ)
+    → list_all (known own) ls ≡ true → list_all (known all) ls ≡ true
+known_within own all h [] e = refl
+known_within own all h (l ∷ ls) e =
+    let p = and_parts (known own l) (list_all (known own) ls) e in
+    and_from (known all l) (list_all (known all) ls) (either (is_routine l) (is_among own l) p.0 (h l))
+    (known_within own all h ls p.1)
+  where
+    either : (a b : Bool) {c : Bool} → (a || b) ≡ true → (b ≡ true → c ≡ true) → (a || c) ≡ true
+    either true b e h = refl
+    either false b e h = h e
+
+-- the program's own routines use labels of routines and of their own
+last_known : (heap_end : ℕ) → list_all (known (labels_in (last_code heap_end))) (uses_in (last_code heap_end)) ≡ true
+last_known heap_end = refl
 
 -- ---- of the data, only the records of procedures have labels
 
@@ -355,15 +405,32 @@ globals_use_none closures [] = refl
 globals_use_none closures (None ∷ globals) = globals_use_none closures globals
 globals_use_none closures (Some n ∷ globals) = globals_use_none closures globals
 
+fixed_use_none : (ns : List ℕ) → word_uses (map Fixed ns) ≡ []
+fixed_use_none [] = refl
+fixed_use_none (n ∷ ns) = fixed_use_none ns
+
+-- what has no labels stands behind the records
+library_last : (library ns : List ℕ) → word_uses (closure_words library ++ map Fixed ns) ≡ word_uses
+    (closure_words library)
+library_last [] ns = fixed_use_none ns
+library_last (l ∷ library) ns = ap (λ ls. body_label l ∷ ls) (library_last library ns)
+
 words_use : (p : tree.Source) → word_uses (program_words p) ≡ word_uses (closure_words p.library)
 words_use p =
-    let closures = closures_address (length p.statics.globals) in
-    let last = closure_words p.library in
-    uses_append (word_list static_bytes) (global_words closures p.statics.globals ++
-    (padding (length p.statics.globals) ++ last)) refl
-    ∙ uses_append (global_words closures p.statics.globals) (padding (length p.statics.globals) ++ last)
-    (globals_use_none closures p.statics.globals)
-    ∙ uses_append (padding (length p.statics.globals)) last (no_uses (length p.statics.globals % 2) 0)
+    let s = p.statics in
+    let unit = objects_unit (static_count s) (length p.library) in
+    let closures = closures_of p in
+    let last = closure_words p.library ++ map Fixed (placed_each s.literals unit) in
+    let named = map Fixed (symbol_words (names_of p) s.symbols) ++ (padding (static_count s) ++ last) in
+    uses_append (word_list static_bytes) (Fixed (names_of p) ∷ (map Fixed (placed_values s.literals unit) ++
+    (global_words closures s.globals ++ named))) refl
+    ∙ uses_append (map Fixed (placed_values s.literals unit)) (global_words closures s.globals ++ named)
+    (fixed_use_none (placed_values s.literals unit))
+    ∙ uses_append (global_words closures s.globals) named (globals_use_none closures s.globals)
+    ∙ uses_append (map Fixed (symbol_words (names_of p) s.symbols)) (padding (static_count s) ++ last)
+    (fixed_use_none (symbol_words (names_of p) s.symbols))
+    ∙ uses_append (padding (static_count s)) last (no_uses (suc (static_count s) % 2) 0)
+    ∙ library_last p.library (placed_each s.literals unit)
 
 -- a body's label stands in front of it
 body_in : (label n : ℕ) (cs : List Code) (j : ℕ) → j < length cs
@@ -378,32 +445,48 @@ body_in label n (c ∷ cs) (suc j) lt =
     (ap (λ l. is_among (forms_labels (suc label) (labels_end n c) cs) (body_label l)) (sym z)
     ∙ body_in (suc label) (labels_end n c) cs j (omega (arith, lt)))
 
+-- each way into the routine of lists has its label
+list_stands : (heap_end m : ℕ) → m < 7 → is_among (labels_in (last_code heap_end)) (list_label m) ≡ true
+list_stands heap_end zero lt = refl
+list_stands heap_end (suc zero) lt = refl
+list_stands heap_end (suc (suc zero)) lt = refl
+list_stands heap_end (suc (suc (suc zero))) lt = refl
+list_stands heap_end (suc (suc (suc (suc zero)))) lt = refl
+list_stands heap_end (suc (suc (suc (suc (suc zero))))) lt = refl
+list_stands heap_end (suc (suc (suc (suc (suc (suc zero)))))) lt = refl
+list_stands heap_end (suc (suc (suc (suc (suc (suc (suc k))))))) lt = absurd (omega (arith, lt))
+
 pub program_known : (p : tree.Source) (limit depth : ℕ)
     → list_all (λ c. forward c.labels c.instructions) p.bodies ≡ true
     → list_all (λ c. list_all (labels_few (length p.bodies)) c.instructions) p.bodies ≡ true
     → list_all (λ l. nat_lt l (length p.bodies)) p.library ≡ true
     → AreKnown (program_code p limit depth) (program_words p)
 program_known p limit depth e f g =
-    let rest = item.Jump (label_of routine.End) ∷ (item.Label put_label ∷ put_value_code) in
     let heap_end = heap_of p + limit in
+    let literals = count_literals p.statics.literals in
+    let rest = last_code heap_end in
     let forms = forms_labels 0 (own_label p) p.bodies in
     let own = labels_in rest in
     let all : List ℕ = labels_in (program_code p limit depth) in
-    let is : all ≡ forms ++ own = forms_labelled p.words heap_end 0 (own_label p) p.bodies rest in
+    let is : all ≡ forms ++ own = forms_labelled p.words heap_end literals 0 (own_label p) p.bodies rest in
     let at : (y : ℕ) → is_among (forms ++ own) y ≡ true → is_among all y ≡ true = λ y h. ap (λ l. is_among l y) is
     ∙ h in
-    let put_in : is_among all 1024 ≡ true = at 1024 (right_in forms own 1024 refl) in
+    let own_in : (y : ℕ) → is_among own y ≡ true → is_among all y ≡ true = λ y h. at y (right_in forms own y h) in
     let bodies_in : (l : ℕ) → l < length p.bodies → is_among all (body_label l) ≡ true = λ l lt. at (body_label l)
     (left_in forms own (body_label l) (let z : 0 + l ≡ l = omega arith in ap (λ l. is_among forms (body_label l))
     (sym z) ∙ body_in 0 (own_label p) p.bodies l lt)) in
+    let put_in = own_in put_label refl in
+    let vector_in = own_in vector_label refl in
+    let string_in = own_in string_label refl in
+    let lists_in : (m : ℕ) → m < 7 → is_among all (list_label m) ≡ true = λ m lt. own_in (list_label m)
+    (list_stands heap_end m lt) in
     let uses : list_all (known all) (uses_in (program_code p limit depth)) ≡ list_all (known all) (uses_in rest) =
-    forms_uses all put_in (length p.bodies) bodies_in p.words heap_end 0 (own_label p) p.bodies e f
-    (λ y h. at y (left_in forms own y h)) rest in
-    let end : list_all (known all) (uses_in rest) ≡ true = last_known all (at 1029 (right_in forms own 1029 refl))
-    (at 1025 (right_in forms own 1025 refl)) (at 1026 (right_in forms own 1026 refl))
-    (at 1027 (right_in forms own 1027 refl)) (at 1028 (right_in forms own 1028 refl)) in
+    forms_uses all put_in vector_in string_in lists_in (length p.bodies) bodies_in p.words heap_end literals 0 (own_label p)
+    p.bodies e f (λ y h. at y (left_in forms own y h)) rest in
+    let end : list_all (known all) (uses_in rest) ≡ true = known_within own all own_in (uses_in rest)
+    (last_known heap_end) in
     let words : list_all (known all) (word_uses (program_words p)) ≡ true = ap (list_all (known all)) (words_use p)
-    ∙ library_uses all put_in (length p.bodies) bodies_in p.words heap_end p.library g in
+    ∙ library_uses all put_in vector_in string_in lists_in (length p.bodies) bodies_in p.words heap_end literals p.library g in
     All-from_recursion (λ l. IsTrue (is_routine l || is_among all l))
     (uses_in (program_code p limit depth) ++ word_uses (program_words p))
     (says_all all (uses_in (program_code p limit depth) ++ word_uses (program_words p))

@@ -5,6 +5,7 @@ use Rattle.std.proofs.Common.{eq-eqb}
 use Rattle.std.specs.Prelude.{not, nat_eq, nat_lt}
 use Rattle.std.specs.List.{list_all}
 use Rattle.std.proofs.lemmas.Bool.{and_parts, ne_eqb, ltb-true, ltb-false, eqb-true}
+use Rattle.sch_word.specs.values.Literals.{count_literals}
 use Rattle.sch_word.specs.trees.NumberSets.{has}
 use Rattle.sch_control.specs.Valid.{without_repeats}
 use Rattle.sch_frames.specs.declared.instruction.Instruction.{Instruction}
@@ -15,14 +16,17 @@ use Rattle.sch_control.specs.declared.body.Entry.{Entry}
 use Rattle.sch_frames.specs.Tree.{Code, Source}
 use Rattle.sch_frames.specs.Valid as frames
 use Rattle.sch_frames.specs.Valid.{forward, jumps_ahead}
+use Rattle.sch_asm.specs.declared.item.Item.{Item}
 use Rattle.sch_asm.specs.declared.item.Item.TheVariants as item
 use Rattle.sch_asm.specs.declared.routine.Routine.TheVariants as routine
 use Rattle.sch_asm.specs.Routines.{label_of}
 use Rattle.sch_asm.specs.Items.{IsEachOnce, is_among, labels_in}
 use Rattle.sch_asm.proofs.Tables.{each_once, repeats}
-use Rattle.sch_select.specs.Select.{put_label, body_label, instruction_code, body_code}
-use Rattle.sch_select.specs.Program.{passed_code, entry_code, form_code, forms_code, labels_end, heap_of, own_label}
-use Rattle.sch_select.specs.Program.{put_value_code, program_code}
+use Rattle.sch_select.proofs.items.RestItems.{count_labels, count_labelled}
+use Rattle.sch_select.specs.Select.{body_label, instruction_code, body_code}
+use Rattle.sch_select.specs.Program.{passed_code, entry_code, form_code, forms_code, labels_end, own_label}
+use Rattle.sch_select.specs.Program.{own_code, program_code}
+use Rattle.sch_select.specs.Data.{heap_of}
 use Rattle.sch_select.proofs.items.Labels.{one_label, Block, Apart, Labelled, among_append, either_false}
 use Rattle.sch_select.proofs.items.Labels.{distinct_append, operand_labels, second_labelled, operand_block}
 use Rattle.sch_select.proofs.items.Labels.{group_labelled, operation_labels, operation_labelled, operation_block}
@@ -68,20 +72,20 @@ module _ (base : ℕ) where
   body_labels n [] = []
   body_labels n (i ∷ instructions) = instruction_labels n i ++ body_labels (n + 12) instructions
 
-  module _ (out words heap_end : ℕ) where
-    instruction_labelled : (n : ℕ) (i : Instruction) → Labelled (instruction_code base out words heap_end n i)
+  module _ (out words heap_end literals : ℕ) where
+    instruction_labelled : (n : ℕ) (i : Instruction) → Labelled (instruction_code base out words heap_end literals n i)
         (instruction_labels n i)
-    instruction_labelled n (Do o) rest = operation_labelled heap_end n o rest
+    instruction_labelled n (Do o) rest = operation_labelled heap_end literals n o rest
     instruction_labelled n (Load p o) rest = second_labelled n o _
     instruction_labelled n (Pass k o) rest = second_labelled n o _
     instruction_labelled n (Fix members) rest = group_labelled heap_end members rest
     instruction_labelled n _ rest = refl
 
     pub body_labelled : (n : ℕ) (instructions : List Instruction)
-        → Labelled (body_code base out words heap_end n instructions) (body_labels n instructions)
+        → Labelled (body_code base out words heap_end literals n instructions) (body_labels n instructions)
     body_labelled n [] rest = refl
     body_labelled n (i ∷ instructions) rest =
-        instruction_labelled n i (body_code base out words heap_end (n + 12) instructions rest)
+        instruction_labelled n i (body_code base out words heap_end literals (n + 12) instructions rest)
         ∙ ap (λ l. instruction_labels n i ++ l) (body_labelled (n + 12) instructions rest)
         ∙ sym (append_assoc (instruction_labels n i) (body_labels (n + 12) instructions) (labels_in rest))
 
@@ -248,8 +252,15 @@ module _ (base : ℕ) where
 
 -- ---- bodies
 
+abbrev pub inner_labels : ℕ → Code → List ℕ
+inner_labels n c = body_labels n (n + c.labels + 2) c.instructions ++ (n + c.labels) ∷ []
+
+abbrev pub entry_labels : Option Entry → (n : ℕ) → List ℕ
+entry_labels None n = []
+entry_labels (Some e) n = count_labels e.rest n
+
 abbrev pub own_labels : ℕ → Code → List ℕ
-own_labels n c = body_labels n (n + c.labels + 1) c.instructions ++ (n + c.labels) ∷ []
+own_labels n c = entry_labels c.entry (n + c.labels + 1) ++ inner_labels n c
 
 abbrev pub form_labels : (label n : ℕ) → Code → List ℕ
 form_labels label n c = body_label label ∷ own_labels n c
@@ -258,23 +269,26 @@ passed_labelled : (o : Option Entry) (out : ℕ) → Labelled (passed_code o out
 passed_labelled None out rest = refl
 passed_labelled (Some e) out rest = refl
 
-entry_labelled : (o : Option Entry) → Labelled (entry_code o) []
-entry_labelled None rest = refl
-entry_labelled (Some e) rest = refl
+entry_labelled : (o : Option Entry) (n : ℕ) → Labelled (entry_code o n) (entry_labels o n)
+entry_labelled None n rest = refl
+entry_labelled (Some e) n rest = count_labelled e.rest e.formals n rest
 
-form_labelled : (words heap_end label n : ℕ) (c : Code)
-    → Labelled (form_code words heap_end label n c) (form_labels label n c)
-form_labelled words heap_end label n c rest =
+form_labelled : (words heap_end literals label n : ℕ) (c : Code)
+    → Labelled (form_code words heap_end literals label n c) (form_labels label n c)
+form_labelled words heap_end literals label n c rest =
     passed_labelled c.entry (n + c.labels) _
     ∙ ap (λ l. body_label label ∷ l)
-    (entry_labelled c.entry _ ∙ body_labelled n (n + c.labels) words heap_end (n + c.labels + 1) c.instructions
+    (entry_labelled c.entry (n + c.labels + 1) _
+    ∙ ap (λ l. entry_labels c.entry (n + c.labels + 1) ++ l)
+    (body_labelled n (n + c.labels) words heap_end literals (n + c.labels + 2) c.instructions
     (item.Label (n + c.labels) ∷ rest)
-    ∙ sym (append_assoc (body_labels n (n + c.labels + 1) c.instructions) ((n + c.labels) ∷ []) (labels_in rest)))
+    ∙ sym (append_assoc (body_labels n (n + c.labels + 2) c.instructions) ((n + c.labels) ∷ []) (labels_in rest)))
+    ∙ sym (append_assoc (entry_labels c.entry (n + c.labels + 1)) (inner_labels n c) (labels_in rest)))
 
-own_block : (n : ℕ) (c : Code) → forward c.labels c.instructions ≡ true → Block n (labels_end n c) (own_labels n c)
-own_block n c e =
-    let b = body_block n c.labels (n + c.labels + 1) c.instructions e (omega arith) in
-    let body = body_labels n (n + c.labels + 1) c.instructions in
+inner_block : (n : ℕ) (c : Code) → forward c.labels c.instructions ≡ true → Block n (labels_end n c) (inner_labels n c)
+inner_block n c e =
+    let b = body_block n c.labels (n + c.labels + 2) c.instructions e (omega arith) in
+    let body = body_labels n (n + c.labels + 2) c.instructions in
     record {
       distinct = distinct_append body ((n + c.labels) ∷ []) b.distinct refl
           (apart_by body ((n + c.labels) ∷ []) (λ x h. either_false (n + c.labels == x) false
@@ -285,10 +299,31 @@ own_block n c e =
           (either_false (n + c.labels == y) false (ne_eqb (n + c.labels) y (λ s. omega (arith, s, far))) refl);
     }
   where
-    other : (x : ℕ) → is_among (body_labels n (n + c.labels + 1) c.instructions) x ≡ true → x ≢ n + c.labels
+    other : (x : ℕ) → is_among (body_labels n (n + c.labels + 2) c.instructions) x ≡ true → x ≢ n + c.labels
     other x h s =
-        let g = absent_end n c.labels (n + c.labels) (n + c.labels + 1) c.instructions e (omega arith) (omega arith) in
-        let bad : true ≡ false = sym h ∙ ap (is_among (body_labels n (n + c.labels + 1) c.instructions)) s ∙ g in cc
+        let g = absent_end n c.labels (n + c.labels) (n + c.labels + 2) c.instructions e (omega arith) (omega arith) in
+        let bad : true ≡ false = sym h ∙ ap (is_among (body_labels n (n + c.labels + 2) c.instructions)) s ∙ g in cc
+
+-- the label of a list beside these
+with_entry : (o : Option Entry) (k low high : ℕ) (ls : List ℕ) → low ≤ k → k < high → is_among ls k ≡ false
+    → Block low high ls → Block low high (entry_labels o k ++ ls)
+with_entry None k low high ls le lt absent b = b
+with_entry (Some e) k low high ls le lt absent b = by e.rest
+  where
+    by : (t : Bool) → Block low high (count_labels t k ++ ls)
+    by false = b
+    by true = record {
+      distinct = either_false (is_among ls k) (repeats ls) absent b.distinct;
+      below = λ y less. either_false (k == y) (is_among ls y) (ne_eqb k y (λ s. omega (arith, s, less, le))) (b.below y less);
+      above = λ y far. either_false (k == y) (is_among ls y) (ne_eqb k y (λ s. omega (arith, s, far, lt))) (b.above y far);
+    }
+
+own_block : (n : ℕ) (c : Code) → forward c.labels c.instructions ≡ true → Block n (labels_end n c) (own_labels n c)
+own_block n c e = with_entry c.entry (n + c.labels + 1) n (labels_end n c) (inner_labels n c) (omega arith) (omega arith)
+    (among_append (body_labels n (n + c.labels + 2) c.instructions) ((n + c.labels) ∷ []) (n + c.labels + 1)
+    (absent_end n c.labels (n + c.labels + 1) (n + c.labels + 2) c.instructions e (omega arith) (omega arith))
+    (either_false (n + c.labels == n + c.labels + 1) false (ne_eqb (n + c.labels) (n + c.labels + 1) (λ s. omega (arith, s)))
+    refl)) (inner_block n c e)
 
 abbrev pub forms_labels : (label n : ℕ) → List Code → List ℕ
 forms_labels label n [] = []
@@ -298,12 +333,12 @@ abbrev pub forms_end : ℕ → List Code → ℕ
 forms_end n [] = n
 forms_end n (c ∷ cs) = forms_end (labels_end n c) cs
 
-pub forms_labelled : (words heap_end label n : ℕ) (cs : List Code)
-    → Labelled (forms_code words heap_end label n cs) (forms_labels label n cs)
-forms_labelled words heap_end label n [] rest = refl
-forms_labelled words heap_end label n (c ∷ cs) rest =
-    form_labelled words heap_end label n c (forms_code words heap_end (suc label) (labels_end n c) cs rest)
-    ∙ ap (λ l. form_labels label n c ++ l) (forms_labelled words heap_end (suc label) (labels_end n c) cs rest)
+pub forms_labelled : (words heap_end literals label n : ℕ) (cs : List Code)
+    → Labelled (forms_code words heap_end literals label n cs) (forms_labels label n cs)
+forms_labelled words heap_end literals label n [] rest = refl
+forms_labelled words heap_end literals label n (c ∷ cs) rest =
+    form_labelled words heap_end literals label n c (forms_code words heap_end literals (suc label) (labels_end n c) cs rest)
+    ∙ ap (λ l. form_labels label n c ++ l) (forms_labelled words heap_end literals (suc label) (labels_end n c) cs rest)
     ∙ sym (append_assoc (form_labels label n c) (forms_labels (suc label) (labels_end n c) cs) (labels_in rest))
 
 end_above : (n : ℕ) (cs : List Code) → n ≤ forms_end n cs
@@ -343,30 +378,34 @@ forms_block label n (c ∷ cs) le e =
 -- ---- the program
 
 pub labels_low : (p : Source) → list_all (λ c. forward c.labels c.instructions) p.bodies ≡ true → (y : ℕ)
-    → is_among (forms_labels 0 (own_label p) p.bodies) y ≡ true → 1032 ≤ y
-labels_low p e y h = by (nat_lt y 1032) refl
+    → is_among (forms_labels 0 (own_label p) p.bodies) y ≡ true → 1088 ≤ y
+labels_low p e y h = by (nat_lt y 1088) refl
   where
-    by : (t : Bool) → nat_lt y 1032 ≡ t → 1032 ≤ y
-    by false f = ltb-false y 1032 f
+    by : (t : Bool) → nat_lt y 1088 ≡ t → 1088 ≤ y
+    by false f = ltb-false y 1088 f
     by true f = absurd (let bad : true ≡ false = sym h ∙ (forms_block 0 (own_label p) p.bodies (omega arith) e).below
-        y (ltb-true y 1032 f) in cc)
+        y (ltb-true y 1088 f) in cc)
+
+-- what stands behind the bodies
+abbrev pub last_code : (heap_end : ℕ) → List Item
+last_code heap_end = item.Jump (label_of routine.End) ∷ own_code heap_end
+
+-- the labels of the program's own routines are below those of the bodies
+none_of_own : (ls : List ℕ) → list_all (λ l. nat_lt l 1088) ls ≡ true → (x : ℕ) → 1088 ≤ x → is_among ls x ≡ false
+none_of_own [] e x le = refl
+none_of_own (l ∷ ls) e x le =
+    let p = and_parts (nat_lt l 1088) (list_all (λ l. nat_lt l 1088) ls) e in
+    let lt = ltb-true l 1088 p.0 in
+    either_false (l == x) (is_among ls x) (ne_eqb l x (λ s. omega (arith, s, le, lt))) (none_of_own ls p.1 x le)
 
 pub program_once : (p : Source) (limit depth : ℕ) → list_all (λ c. forward c.labels c.instructions) p.bodies ≡ true
     → IsEachOnce (labels_in (program_code p limit depth))
 program_once p limit depth e =
-    let rest = item.Jump (label_of routine.End) ∷ (item.Label put_label ∷ put_value_code) in
+    let rest = last_code (heap_of p + limit) in
     let forms = forms_labels 0 (own_label p) p.bodies in
     let b = forms_block 0 (own_label p) p.bodies (omega arith) e in
     let all : labels_in (program_code p limit depth) ≡ forms ++ labels_in rest = forms_labelled p.words
-    (heap_of p + limit) 0 (own_label p) p.bodies rest in
+    (heap_of p + limit) (count_literals p.statics.literals) 0 (own_label p) p.bodies rest in
     subst IsEachOnce (sym all) (each_once (forms ++ labels_in rest)
     (distinct_append forms (labels_in rest) b.distinct refl
-    (apart_by forms (labels_in rest) (λ x h. own x (labels_low p e x h)))))
-  where
-    own : (x : ℕ) → 1032 ≤ x → is_among (1024 ∷ (1025 ∷ (1026 ∷ (1027 ∷ (1028 ∷ (1029 ∷ [])))))) x ≡ false
-    own x le = either_false (1024 == x) _ (ne_eqb 1024 x (λ s. omega (arith, s, le)))
-        (either_false (1025 == x) _ (ne_eqb 1025 x (λ s. omega (arith, s, le)))
-        (either_false (1026 == x) _ (ne_eqb 1026 x (λ s. omega (arith, s, le)))
-        (either_false (1027 == x) _ (ne_eqb 1027 x (λ s. omega (arith, s, le)))
-        (either_false (1028 == x) _ (ne_eqb 1028 x (λ s. omega (arith, s, le)))
-        (either_false (1029 == x) false (ne_eqb 1029 x (λ s. omega (arith, s, le))) refl)))))
+    (apart_by forms (labels_in rest) (λ x h. none_of_own (labels_in rest) refl x (labels_low p e x h)))))

@@ -7,7 +7,7 @@ use Rattle.sch_insn.specs.declared.insn.Arg.{Arg}
 use Rattle.sch_insn.specs.declared.insn.Arg.TheVariants.{Reg, Base, Base32, Rip}
 use Rattle.sch_insn.specs.declared.insn.Insn.{Insn}
 use Rattle.sch_insn.specs.declared.insn.Insn.TheVariants as insn
-use Rattle.sch_insn.specs.Spelling.{IsArg, IsValid}
+use Rattle.sch_insn.specs.Spelling.{IsArg, IsValid, in_memory}
 use Rattle.sch_asm.specs.declared.item.Item.{Item}
 use Rattle.sch_asm.specs.declared.item.Item.TheVariants as item
 use Rattle.sch_asm.specs.Items.{AreItems, IsItem, IsFree, IsPlain}
@@ -30,9 +30,12 @@ insn_valid (insn.MovTo m r) = arg_valid m && nat_lt r 16
 insn_valid (insn.MovFrom r m) = arg_valid m && nat_lt r 16
 insn_valid (insn.MovNumber m n) = arg_valid m && fits_32 n
 insn_valid (insn.MovWord r n) = nat_lt r 16 && fits_64 n
+insn_valid (insn.StoreByte m r) = (arg_valid m && nat_lt r 16) && in_memory m
+insn_valid (insn.LoadByte r m) = (arg_valid m && nat_lt r 16) && in_memory m
 insn_valid (insn.AddTo m r) = arg_valid m && nat_lt r 16
 insn_valid (insn.SubTo m r) = arg_valid m && nat_lt r 16
 insn_valid (insn.CmpTo m r) = arg_valid m && nat_lt r 16
+insn_valid (insn.CmpFrom r m) = arg_valid m && nat_lt r 16
 insn_valid (insn.AddNumber m n) = arg_valid m && fits_32 n
 insn_valid (insn.AndNumber m n) = arg_valid m && fits_32 n
 insn_valid (insn.SubNumber m n) = arg_valid m && fits_32 n
@@ -83,6 +86,13 @@ with_register : (m : Arg) (r : ℕ) → (arg_valid m && nat_lt r 16) ≡ true �
 with_register m r e = let p = and_parts (arg_valid m) (nat_lt r 16) e in let a = arg_says m p.0 in
     ((a.0, ltb-true r 16 p.1), a.1)
 
+with_byte : (m : Arg) (r : ℕ) → ((arg_valid m && nat_lt r 16) && in_memory m) ≡ true
+    → (IsArg m × (r < 16) × (in_memory m ≡ true)) × IsFree m
+with_byte m r e =
+    let p = and_parts (arg_valid m && nat_lt r 16) (in_memory m) e in
+    let w = with_register m r p.0 in
+    ((w.0.0, w.0.1, p.1), w.1)
+
 with_number : (m : Arg) (n : ℤ) → (arg_valid m && fits_32 n) ≡ true → (IsArg m × FitsSigned w32 n) × IsFree m
 with_number m n e = let p = and_parts (arg_valid m) (fits_32 n) e in let a = arg_says m p.0 in
     ((a.0, fits_says n p.1), a.1)
@@ -97,9 +107,12 @@ insn_says (insn.MovFrom r m) e = with_register m r e
 insn_says (insn.MovNumber m n) e = with_number m n e
 insn_says (insn.MovWord r n) e = let p = and_parts (nat_lt r 16) (fits_64 n) e in
     ((ltb-true r 16 p.0, fits_says_64 n p.1), tt)
+insn_says (insn.StoreByte m r) e = with_byte m r e
+insn_says (insn.LoadByte r m) e = with_byte m r e
 insn_says (insn.AddTo m r) e = with_register m r e
 insn_says (insn.SubTo m r) e = with_register m r e
 insn_says (insn.CmpTo m r) e = with_register m r e
+insn_says (insn.CmpFrom r m) e = with_register m r e
 insn_says (insn.AddNumber m n) e = with_number m n e
 insn_says (insn.AndNumber m n) e = with_number m n e
 insn_says (insn.SubNumber m n) e = with_number m n e

@@ -3,10 +3,11 @@
 use Rattle.std.proofs.Common.{ℕ, suc, ◌+◌, ◌*◌, ◌≤◌, ◌≡◌, List, [], ◌∷◌, length, length-append, Option, Some, None, refl, ap, arith}
 use Rattle.std.specs.Prelude.{negsuc, pos}
 use Rattle.std.proofs.lemmas.Bool.{leb-true}
+use Rattle.sch_word.specs.values.Literals.{count_literals}
 use Rattle.sch_word.specs.declared.place.Place.{Place}
 use Rattle.sch_word.specs.declared.place.Place.TheVariants.{Slot}
 use Rattle.sch_word.specs.declared.primitive.Primitive.{Primitive}
-use Rattle.sch_word.specs.declared.primitive.Primitive.TheVariants.{IsBoolean, Eq}
+use Rattle.sch_word.specs.declared.primitive.Primitive.TheVariants.{IsBoolean, Eq, Cons, StringSet}
 use Rattle.sch_control.specs.declared.operation.Atom.{Atom}
 use Rattle.sch_control.specs.declared.operation.Atom.TheVariants.{Constant, Literal, Variable}
 use Rattle.sch_control.specs.declared.operation.Operand.{Operand}
@@ -33,17 +34,19 @@ use Rattle.sch_insn.specs.Spelling.{spelling}
 use Rattle.sch_insn.proofs.PrefixCode.{spelling_short}
 use Rattle.sch_asm.specs.declared.item.Item.{Item}
 use Rattle.sch_asm.specs.declared.item.Item.TheVariants as item
-use Rattle.sch_asm.specs.declared.routine.Routine.TheVariants as routine
 use Rattle.sch_asm.specs.Codes.{text_size}
-use Rattle.sch_asm.specs.Routines.{label_of}
 use Rattle.sch_heap.specs.Encoded.{constant_number}
+use Rattle.sch_select.proofs.items.RestItems.{count_adds}
 use Rattle.sch_select.specs.Select.{place_operand, atom_code, unary_code, binary_code, read_code, operand_code}
 use Rattle.sch_select.specs.Select.{second_code, primitive_code, operation_code, instruction_code, body_code}
-use Rattle.sch_select.specs.Select.{global_address, put_label, stop_label, body_label, source_code, check_cell}
+use Rattle.sch_select.specs.Select.{global_address, stop_label, body_label, source_code, check_cell}
 use Rattle.sch_select.specs.Select.{cell_operand, check_heap, part_code, part_operand, fields_code, record_code}
 use Rattle.sch_select.specs.Select.{closure_bytes, group_bytes, places_code, records_code, group_code, check_depth}
+use Rattle.sch_select.specs.Select.{pair_or_binary, ternary_code, index_operand}
 use Rattle.sch_select.specs.Select.{check_operator, enter_code, call_code, tail_code}
-use Rattle.sch_select.specs.Program.{passed_code, entry_code, forms_code, labels_end, own_label, heap_of, program_code, put_value_code}
+use Rattle.sch_select.specs.Program.{passed_code, entry_code, forms_code, labels_end, own_label, program_code}
+use Rattle.sch_select.specs.Data.{heap_of}
+use Rattle.sch_select.proofs.items.ProgramLabels.{last_code}
 use Rattle.sch_word.specs.declared.stop.Stop.TheVariants.{Unset}
 
 -- ## Atoms
@@ -57,9 +60,13 @@ operand_counts : (o : Operand Place) → operand_size o ≤ suc (length (operand
 operand_counts (operand.Atom a) = omega arith
 operand_counts (operand.Read site which atoms) = omega arith
 
+operand_at_least : (o : Operand Place) → 1 ≤ operand_size o
+operand_at_least (operand.Atom a) = omega arith
+operand_at_least (operand.Read site which atoms) = omega arith
+
 -- ## Operations
 
-unary_adds : (n : ℕ) (which : Primitive) (rest : List Item) → text_size (unary_code n which rest) ≤ 40 + text_size rest
+unary_adds : (n : ℕ) (which : Primitive) (rest : List Item) → text_size (unary_code n which rest) ≤ 48 + text_size rest
 unary_adds n IsBoolean rest = omega arith
 unary_adds n _ rest = omega arith
 
@@ -67,6 +74,15 @@ binary_adds : (n : ℕ) (which : Primitive) (rest : List Item)
     → text_size (binary_code n which rest) ≤ 106 + text_size rest
 binary_adds n Eq rest = omega arith
 binary_adds n _ rest = omega arith
+
+pair_adds : (heap_end n : ℕ) (which : Primitive) (rest : List Item)
+    → text_size (pair_or_binary heap_end n which rest) ≤ 106 + text_size rest
+pair_adds heap_end n Cons rest = omega arith
+pair_adds heap_end n which rest = binary_adds n which rest
+
+ternary_adds : (which : Primitive) (rest : List Item) → text_size (ternary_code which rest) ≤ 106 + text_size rest
+ternary_adds StringSet rest = omega arith
+ternary_adds _ rest = omega arith
 
 atom_adds : (r : ℕ) (a : Atom Place) (rest : List Item) → text_size (atom_code r a rest) ≤ 15 + text_size rest
 atom_adds r (Constant c) rest = let s = spelling_short (MovWord r (constant_number c)) in omega (arith, s)
@@ -91,6 +107,10 @@ operand_adds : (n : ℕ) (o : Operand Place) (rest : List Item)
 operand_adds n (operand.Atom a) rest = let h = atom_adds 0 a rest in omega (arith, h)
 operand_adds n (operand.Read site which atoms) rest = let h = read_adds n which atoms rest in omega (arith, h)
 
+index_adds : (o : Operand Place) (rest : List Item) → text_size (index_operand o rest) ≤ 15 + text_size rest
+index_adds (operand.Atom a) rest = atom_adds 1 a rest
+index_adds (operand.Read site which atoms) rest = omega arith
+
 second_adds : (n : ℕ) (o : Operand Place) (rest : List Item)
     → text_size (second_code n o rest) + 21 ≤ 64 * operand_size o + text_size rest
 second_adds n (operand.Atom a) rest = let h = atom_adds 1 a rest in omega (arith, h)
@@ -98,17 +118,26 @@ second_adds n (operand.Read site which atoms) rest =
     let h = read_adds n which atoms (item.Plain (MovTo (Reg 1) 0) ∷ (item.Plain (MovTo (Reg 0) 11) ∷ rest)) in
     omega (arith, h)
 
-primitive_adds : (n : ℕ) (which : Primitive) (operands : List (Operand Place)) (rest : List Item)
-    → text_size (primitive_code n which operands rest) ≤ 64 * suc (operands_size operands) + text_size rest
-primitive_adds n which [] rest = omega arith
-primitive_adds n which (o ∷ []) rest = let h = operand_adds n o (unary_code (n + 8) which rest) in let k = unary_adds
-    (n + 8) which rest in omega (arith, h, k)
-primitive_adds n which (o ∷ (q ∷ [])) rest =
-    let h = operand_adds n o (second_code (n + 4) q (binary_code (n + 8) which rest)) in
-    let k = second_adds (n + 4) q (binary_code (n + 8) which rest) in
-    let l = binary_adds (n + 8) which rest in
+-- Each operand has a unit of its own, and the primitive has one more.
+primitive_adds : (heap_end n : ℕ) (which : Primitive) (operands : List (Operand Place)) (rest : List Item)
+    → text_size (primitive_code heap_end n which operands rest) ≤ 64 * suc (operands_size operands) + text_size rest
+primitive_adds heap_end n which [] rest = omega arith
+primitive_adds heap_end n which (o ∷ []) rest = let h = operand_adds n o (unary_code (n + 8) which rest) in
+    let k = unary_adds (n + 8) which rest in omega (arith, h, k)
+primitive_adds heap_end n which (o ∷ (q ∷ [])) rest =
+    let h = operand_adds n o (second_code (n + 4) q (pair_or_binary heap_end (n + 8) which rest)) in
+    let k = second_adds (n + 4) q (pair_or_binary heap_end (n + 8) which rest) in
+    let l = pair_adds heap_end (n + 8) which rest in
     omega (arith, h, k, l)
-primitive_adds n which (o ∷ (q ∷ (r ∷ operands))) rest = omega arith
+primitive_adds heap_end n which (o ∷ (q ∷ (r ∷ []))) rest =
+    let last = ternary_code which rest in
+    let h = operand_adds n r (item.Plain (MovTo (Reg 11) 0) ∷ operand_code (n + 4) o (index_operand q last)) in
+    let k = operand_adds (n + 4) o (index_operand q last) in
+    let l = index_adds q last in
+    let m = ternary_adds which rest in
+    let s = operand_at_least q in
+    omega (arith, h, k, l, m, s)
+primitive_adds heap_end n which (o ∷ (q ∷ (r ∷ (s ∷ operands)))) rest = omega arith
 
 source_adds : (r : ℕ) (x : Source Place) (rest : List Item) → text_size (source_code r x rest) ≤ 30 + text_size rest
 source_adds r (source.Atom a) rest = let h = atom_adds r a rest in omega (arith, h)
@@ -137,37 +166,38 @@ record_adds : (offset : ℕ) (c : Closure Place) (rest : List Item)
     → text_size (record_code offset c rest) ≤ 15 + (45 * length c.fields + text_size rest)
 record_adds offset c rest = let h = fields_add (offset + 8) c.fields rest in omega (arith, h)
 
-operation_adds : (heap_end n : ℕ) (o : Operation Place) (rest : List Item)
-    → text_size (operation_code heap_end n o rest) ≤ 64 * suc (operation_size o) + text_size rest
-operation_adds heap_end n (operation.Operand o) rest = let h = operand_adds n o rest in omega (arith, h)
-operation_adds heap_end n (operation.Prim site which operands) rest = primitive_adds n which operands rest
-operation_adds heap_end n (operation.Global g) rest = omega arith
-operation_adds heap_end n (operation.SetGlobal g o) rest =
-    let h = operand_adds n o (item.StoreWord (global_address g) 0 ∷ (item.Plain (MovNumber (Reg 0) (pos 30)) ∷ rest)) in
+operation_adds : (heap_end literals n : ℕ) (o : Operation Place) (rest : List Item)
+    → text_size (operation_code heap_end literals n o rest) ≤ 64 * suc (operation_size o) + text_size rest
+operation_adds heap_end literals n (operation.Operand o) rest = let h = operand_adds n o rest in omega (arith, h)
+operation_adds heap_end literals n (operation.Prim site which operands) rest = primitive_adds heap_end n which
+    operands rest
+operation_adds heap_end literals n (operation.Global g) rest = omega arith
+operation_adds heap_end literals n (operation.SetGlobal g o) rest =
+    let h = operand_adds n o (item.StoreWord (global_address literals g) 0 ∷ (item.Plain (MovNumber (Reg 0) (pos 30)) ∷ rest)) in
     omega (arith, h)
-operation_adds heap_end n (operation.Field p k) rest = let h = source_adds 0 (source.Field p k) rest in omega (arith, h)
-operation_adds heap_end n (operation.NewCell x) rest =
+operation_adds heap_end literals n (operation.Field p k) rest = let h = source_adds 0 (source.Field p k) rest in omega (arith, h)
+operation_adds heap_end literals n (operation.NewCell x) rest =
     let stored = item.Plain (MovTo (part_operand 0) 0) ∷ part_code 7 16 rest in
     let h = source_adds 0 x (check_heap heap_end 16 stored) in
     let k = heap_adds heap_end 16 stored in
     let l = part_adds 7 16 rest in
     omega (arith, h, k, l)
-operation_adds heap_end n operation.UnsetCell rest =
+operation_adds heap_end literals n operation.UnsetCell rest =
     let k = heap_adds heap_end 16 (item.Plain (MovNumber (part_operand 0) (pos 38)) ∷ part_code 7 16 rest) in
     let l = part_adds 7 16 rest in
     omega (arith, k, l)
-operation_adds heap_end n (operation.CellGet x) rest =
+operation_adds heap_end literals n (operation.CellGet x) rest =
     let h = source_adds 0 x (check_cell 0 (item.Plain (MovFrom 0 (cell_operand 0)) ∷
     (item.Plain (CmpNumber (Reg 0) (pos 38)) ∷ (item.JumpIf E (stop_label Unset) ∷ rest)))) in
     omega (arith, h)
-operation_adds heap_end n (operation.CellSet x o) rest =
+operation_adds heap_end literals n (operation.CellSet x o) rest =
     let written = check_cell 1 (item.Plain (MovTo (cell_operand 1) 0) ∷
     (item.Plain (MovNumber (Reg 0) (pos 30)) ∷ rest)) in
     let h = operand_adds n o (source_code 1 x written) in
     let k = source_adds 1 x written in
     let c = operand_counts o in
     omega (arith, h, k, c)
-operation_adds heap_end n (operation.MakeClosure c) rest =
+operation_adds heap_end literals n (operation.MakeClosure c) rest =
     let last = part_code 4 (closure_bytes c) rest in
     let h = heap_adds heap_end (closure_bytes c) (record_code 0 c last) in
     let k = record_adds 0 c last in
@@ -233,36 +263,36 @@ tail_adds : (count : ℕ) (rest : List Item) → text_size (tail_code count rest
 tail_adds count rest = let a = enter_adds count rest in let b = operator_adds (enter_code count rest) in omega
     (arith, a, b)
 
-instruction_adds : (base out words heap_end n : ℕ) (i : Instruction) (rest : List Item)
-    → text_size (instruction_code base out words heap_end n i rest) ≤ 64 * (instruction_size i + grouped (i ∷ [])) +
+instruction_adds : (base out words heap_end literals n : ℕ) (i : Instruction) (rest : List Item)
+    → text_size (instruction_code base out words heap_end literals n i rest) ≤ 64 * (instruction_size i + grouped (i ∷ [])) +
     text_size rest
-instruction_adds base out words heap_end n (instruction.Do o) rest = let h = operation_adds heap_end n o rest in omega
+instruction_adds base out words heap_end literals n (instruction.Do o) rest = let h = operation_adds heap_end literals n o rest in omega
     (arith, h)
-instruction_adds base out words heap_end n (instruction.Store p) rest = let s = spelling_short
+instruction_adds base out words heap_end literals n (instruction.Store p) rest = let s = spelling_short
     (MovTo (place_operand p) 0) in omega (arith, s)
-instruction_adds base out words heap_end n (instruction.Copy to from) rest =
+instruction_adds base out words heap_end literals n (instruction.Copy to from) rest =
     let s = spelling_short (MovFrom 1 (place_operand from)) in
     let t = spelling_short (MovTo (place_operand to) 1) in
     omega (arith, s, t)
-instruction_adds base out words heap_end n (instruction.Load p o) rest =
+instruction_adds base out words heap_end literals n (instruction.Load p o) rest =
     let h = second_adds n o (item.Plain (MovTo (place_operand p) 1) ∷ rest) in
     let s = spelling_short (MovTo (place_operand p) 1) in
     omega (arith, h, s)
-instruction_adds base out words heap_end n (instruction.Pass k o) rest =
+instruction_adds base out words heap_end literals n (instruction.Pass k o) rest =
     let h = second_adds n o (item.Plain (MovTo (place_operand (Slot (words + k))) 1) ∷ rest) in
     let s = spelling_short (MovTo (place_operand (Slot (words + k))) 1) in
     omega (arith, h, s)
-instruction_adds base out words heap_end n (instruction.Call spread count) rest = call_adds words n count rest
-instruction_adds base out words heap_end n (instruction.Tail spread count) rest = tail_adds count rest
-instruction_adds base out words heap_end n (instruction.Fix members) rest = let h = group_adds heap_end members
+instruction_adds base out words heap_end literals n (instruction.Call spread count) rest = call_adds words n count rest
+instruction_adds base out words heap_end literals n (instruction.Tail spread count) rest = tail_adds count rest
+instruction_adds base out words heap_end literals n (instruction.Fix members) rest = let h = group_adds heap_end members
     rest in omega (arith, h)
-instruction_adds base out words heap_end n instruction.Return rest = let s = spelling_short (JumpTo (Reg 15)) in omega
+instruction_adds base out words heap_end literals n instruction.Return rest = let s = spelling_short (JumpTo (Reg 15)) in omega
     (arith, s)
-instruction_adds base out words heap_end n instruction.End rest = omega arith
-instruction_adds base out words heap_end n (instruction.IfFalse l) rest = omega arith
-instruction_adds base out words heap_end n (instruction.Jump l) rest = omega arith
-instruction_adds base out words heap_end n (instruction.Label l) rest = omega arith
-instruction_adds base out words heap_end n (instruction.Mark m) rest = omega arith
+instruction_adds base out words heap_end literals n instruction.End rest = omega arith
+instruction_adds base out words heap_end literals n (instruction.IfFalse l) rest = omega arith
+instruction_adds base out words heap_end literals n (instruction.Jump l) rest = omega arith
+instruction_adds base out words heap_end literals n (instruction.Label l) rest = omega arith
+instruction_adds base out words heap_end literals n (instruction.Mark m) rest = omega arith
 
 pub grouped_first : (i : Instruction) (is : List Instruction) → grouped (i ∷ is) ≡ grouped (i ∷ []) + grouped is
 grouped_first (instruction.Fix members) is = omega arith
@@ -270,13 +300,13 @@ grouped_first (instruction.Do o) is = omega arith
 grouped_first (instruction.Call spread count) is = omega arith
 grouped_first _ is = omega arith
 
-body_adds : (base out words heap_end n : ℕ) (is : List Instruction) (rest : List Item)
-    → text_size (body_code base out words heap_end n is rest) ≤ 64 * (instructions_size is + grouped is) + text_size
+body_adds : (base out words heap_end literals n : ℕ) (is : List Instruction) (rest : List Item)
+    → text_size (body_code base out words heap_end literals n is rest) ≤ 64 * (instructions_size is + grouped is) + text_size
     rest
-body_adds base out words heap_end n [] rest = omega arith
-body_adds base out words heap_end n (i ∷ is) rest =
-    let h = instruction_adds base out words heap_end n i (body_code base out words heap_end (n + 12) is rest) in
-    let k = body_adds base out words heap_end (n + 12) is rest in
+body_adds base out words heap_end literals n [] rest = omega arith
+body_adds base out words heap_end literals n (i ∷ is) rest =
+    let h = instruction_adds base out words heap_end literals n i (body_code base out words heap_end literals (n + 12) is rest) in
+    let k = body_adds base out words heap_end literals (n + 12) is rest in
     let g = grouped_first i is in
     omega (arith, h, k, g)
 
@@ -285,40 +315,39 @@ passed_adds : (o : Option Entry) (out : ℕ) (rest : List Item)
 passed_adds None out rest = omega arith
 passed_adds (Some e) out rest = omega arith
 
-entry_adds : (o : Option Entry) (rest : List Item) → text_size (entry_code o rest) ≤ 16 * jumped o + text_size rest
-entry_adds None rest = omega arith
-entry_adds (Some e) rest = let s = spelling_short (CmpNumber (Reg 0) (pos e.formals)) in omega (arith, s)
+entry_adds : (o : Option Entry) (n : ℕ) (rest : List Item)
+    → text_size (entry_code o n rest) ≤ 58 * jumped o + text_size rest
+entry_adds None n rest = omega arith
+entry_adds (Some e) n rest = let h = count_adds e.rest e.formals n rest in omega (arith, h)
 
-forms_adds : (words heap_end label n : ℕ) (cs : List Code) (rest : List Item)
-    → text_size (forms_code words heap_end label n cs rest) ≤ 64 * (codes_size cs + closures_in cs) + text_size rest
-forms_adds words heap_end label n [] rest = omega arith
-forms_adds words heap_end label n (c ∷ cs) rest =
-    let others = forms_code words heap_end (suc label) (labels_end n c) cs rest in
-    let body = body_code n (n + c.labels) words heap_end (n + c.labels + 1) c.instructions
+forms_adds : (words heap_end literals label n : ℕ) (cs : List Code) (rest : List Item)
+    → text_size (forms_code words heap_end literals label n cs rest) ≤ 64 * (codes_size cs + closures_in cs) + text_size rest
+forms_adds words heap_end literals label n [] rest = omega arith
+forms_adds words heap_end literals label n (c ∷ cs) rest =
+    let others = forms_code words heap_end literals (suc label) (labels_end n c) cs rest in
+    let body = body_code n (n + c.labels) words heap_end literals (n + c.labels + 2) c.instructions
     (item.Label (n + c.labels) ∷ others) in
-    let g = passed_adds c.entry (n + c.labels) (item.Label (body_label label) ∷ entry_code c.entry
+    let g = passed_adds c.entry (n + c.labels) (item.Label (body_label label) ∷ entry_code c.entry (n + c.labels + 1)
     (item.Mark (Enter label) ∷ body)) in
-    let f = entry_adds c.entry (item.Mark (Enter label) ∷ body) in
-    let h = body_adds n (n + c.labels) words heap_end (n + c.labels + 1) c.instructions
+    let f = entry_adds c.entry (n + c.labels + 1) (item.Mark (Enter label) ∷ body) in
+    let h = body_adds n (n + c.labels) words heap_end literals (n + c.labels + 2) c.instructions
     (item.Label (n + c.labels) ∷ others) in
-    let k = forms_adds words heap_end (suc label) (labels_end n c) cs rest in
+    let k = forms_adds words heap_end literals (suc label) (labels_end n c) cs rest in
     omega (arith, f, g, h, k)
 
 -- ## Programs
 
--- what stands behind the bodies
-abbrev pub last_code : List Item
-last_code = item.Jump (label_of routine.End) ∷ (item.Label put_label ∷ put_value_code)
-
-last_small : text_size last_code ≤ 460
-last_small = leb-true (text_size last_code) 460 refl
+-- how long that is does not depend on a number
+last_small : (heap_end : ℕ) → text_size (last_code heap_end) ≤ 2003
+last_small heap_end = leb-true (text_size (last_code heap_end)) 2003 refl
 
 pub text_small : (p : tree.Source) (heap depth : ℕ)
-    → text_size (program_code p heap depth) ≤ 512 + 64 * (program_size p + closures_in p.bodies)
+    → text_size (program_code p heap depth) ≤ 2048 + 64 * (program_size p + closures_in p.bodies)
 text_small p heap depth =
     let a = spelling_short (MovWord 5 (pos (heap_of p + heap))) in
     let b = spelling_short (MovWord 12 (pos (heap_of p))) in
     let c = spelling_short (MovWord 13 (pos depth)) in
-    let h = forms_adds p.words (heap_of p + heap) 0 (own_label p) p.bodies last_code in
-    let k = last_small in
+    let h = forms_adds p.words (heap_of p + heap) (count_literals p.statics.literals) 0 (own_label p) p.bodies
+    (last_code (heap_of p + heap)) in
+    let k = last_small (heap_of p + heap) in
     omega (arith, a, b, c, h, k)

@@ -33,9 +33,10 @@ use Rattle.sch_asm.specs.Codes.{bytes_of}
 use Rattle.sch_asm.specs.Data.{data_at}
 use Rattle.sch_asm.specs.Views.{text_at}
 use Rattle.sch_runtime.specs.Code.{routine_items}
-use Rattle.sch_frames.specs.ObjectFree.{is_object_free_program}
+use Rattle.sch_frames.specs.Covered.{is_covered_program}
 use Rattle.sch_select.specs.Marks.{enters_procedure, marks_passed}
-use Rattle.sch_select.specs.Program.{form_code, frames_bytes, program_code, program_words, program_zeros, stack_bytes}
+use Rattle.sch_select.specs.Data.{program_words}
+use Rattle.sch_select.specs.Program.{form_code, frames_bytes, program_code, program_zeros, stack_bytes}
 use Rattle.sch_select.specs.Select.{body_label, kind_of, stop_label}
 use Rattle.sch_frames.specs.Sizes.{closures_in, instructions_size}
 use Rattle.sch_select.specs.Sizes.{instructions_in, kinds_in, kinds_of, steps_bound}
@@ -96,7 +97,7 @@ abbrev given : Place → List Instruction
 given p = Load (Slot 2) (number (pos 0)) ∷ Do (operation.Operand (at p)) ∷ Return ∷ []
 
 operands :
-    (is_object_free_program (eight 8 (given (Slot 1))) ≡ true)
+    (is_covered_program (eight 8 (given (Slot 1))) ≡ true)
     × (ends_at 1 (eight 8 (given (Reg 3))) ≡ Some (0, codes "19"))
     × (ends_at 1 (eight 8 (given (Reg 8))) ≡ Some (0, codes "29"))
     × (ends_at 1 (eight 8 (given (Reg 7))) ≡ Some (0, codes "69"))
@@ -144,7 +145,7 @@ abbrev endless : Source
 endless = inside (Tail false 0 ∷ [])
 
 depths :
-    (is_object_free_program deeper ≡ true)
+    (is_covered_program deeper ≡ true)
     × (ends_at 3 deeper ≡ Some (0, codes "7"))
     × (ends_at 2 deeper ≡ Some (72, []))
     × (ends_at 1 looping ≡ Some (0, codes "7"))
@@ -159,7 +160,7 @@ runs :
     × (run endless 16 1 [] 4 ≡ Some (record { output = []; entries = 4; charged = 16; answers = 0; end = going }))
 runs = (refl, refl, refl)
 
--- ## Which programs with calls are object-free
+-- ## Which programs with calls are covered
 
 -- a procedure of one formal, which may take a list
 abbrev taking : (rest : Bool) → (form body : List Instruction) → Source
@@ -170,17 +171,17 @@ taking rest form body = record {
   words = 3;
 }
 
--- there are no rest lists, no lists that are spread, no procedures that end as a form does, and no marks of entries
+-- there may be rest lists; there are no lists that are spread, no procedures that end as a form does, and no marks of entries
 -- among instructions
-object_free :
-    (is_object_free_program (taking false (Call false 1 ∷ Ended ∷ []) (Return ∷ [])) ≡ true)
-    × (is_object_free_program (taking false (Call true 1 ∷ Ended ∷ []) (Return ∷ [])) ≡ false)
-    × (is_object_free_program (taking false (Call false 1 ∷ Ended ∷ []) (Ended ∷ [])) ≡ false)
-    × (is_object_free_program (taking true (Call false 1 ∷ Ended ∷ []) (Return ∷ [])) ≡ false)
-    × (is_object_free_program (taking true (Ended ∷ []) (Return ∷ [])) ≡ false)
-    × (is_object_free_program (taking false (Ended ∷ []) (Tail false 1 ∷ [])) ≡ true)
-    × (is_object_free_program (taking false (Mark (mark.Enter 0) ∷ Ended ∷ []) (Return ∷ [])) ≡ false)
-object_free = (refl, refl, refl, refl, refl, refl, refl)
+covered :
+    (is_covered_program (taking false (Call false 1 ∷ Ended ∷ []) (Return ∷ [])) ≡ true)
+    × (is_covered_program (taking false (Call true 1 ∷ Ended ∷ []) (Return ∷ [])) ≡ false)
+    × (is_covered_program (taking false (Call false 1 ∷ Ended ∷ []) (Ended ∷ [])) ≡ false)
+    × (is_covered_program (taking true (Call false 1 ∷ Ended ∷ []) (Return ∷ [])) ≡ true)
+    × (is_covered_program (taking true (Ended ∷ []) (Return ∷ [])) ≡ true)
+    × (is_covered_program (taking false (Ended ∷ []) (Tail false 1 ∷ [])) ≡ true)
+    × (is_covered_program (taking false (Mark (mark.Enter 0) ∷ Ended ∷ []) (Return ∷ [])) ≡ false)
+covered = (refl, refl, refl, refl, refl, refl, refl)
 
 -- ## Marks and bounds
 
@@ -194,7 +195,7 @@ marks :
     × (marks_passed noted 16 0 [] 5 ≡ Some (mark.Enter 0 ∷ mark.Call 3 ∷ []))
     × (enters_procedure (entries_of noted.bodies) (kind_of (mark.Enter 1)) ≡ true)
     × (enters_procedure (entries_of noted.bodies) (kind_of (mark.Enter 0)) ≡ false)
-    × (is_object_free_program noted ≡ true)
+    × (is_covered_program noted ≡ true)
     × (kinds_of 0 noted.bodies ≡ item_mark.Enter 0 ∷ item_mark.Call 3 ∷ item_mark.Enter 1 ∷ item_mark.Return ∷ [])
     × (kinds_in (program_code noted 16 1) ≡ kinds_of 0 noted.bodies)
 marks = (refl, refl, refl, refl, refl, refl, refl, refl)
@@ -203,7 +204,7 @@ marks = (refl, refl, refl, refl, refl, refl, refl, refl)
 abbrev returning : Code
 returning = record { entry = Some (record { formals = 2; rest = false; fields = 0 }); words = 3; labels = 0; instructions = Return ∷ [] }
 
-entered : form_code 3 0 1 2000 returning [] ≡
+entered : form_code 3 0 0 1 2000 returning [] ≡
     item.Jump 2000 ∷ item.Label (body_label 1) ∷ item.Plain (CmpNumber (register.Reg 0) (pos 2)) ∷ item.JumpIf NE (stop_label WrongCount) ∷ item.Mark (item_mark.Enter 1) ∷ item.Plain (JumpTo (register.Reg 15)) ∷ item.Label 2000 ∷ []
 entered = refl
 
@@ -217,8 +218,8 @@ bounds :
     × (stack_bytes 3 10 ≡ 288)
     × (program_zeros noted 16 10 ≡ 304)
     × (closures_in noted.bodies ≡ 2)
-    × (steps_bound noted 2 1 ≡ 256 * 12 * 3 + 26)
-    × (instructions_in (form_code 3 0 1 2000 returning []) ≡ 4)
+    × (steps_bound noted 2 1 48 ≡ 256 * 12 * 3 + 26 + 8 * 48)
+    × (instructions_in (form_code 3 0 0 1 2000 returning []) ≡ 4)
     × (instructions_size seven.instructions ≡ 2)
-    × (instructions_in (form_code 3 0 0 2000 seven []) ≡ 1)
+    × (instructions_in (form_code 3 0 0 0 2000 seven []) ≡ 1)
 bounds = (refl, refl, refl, refl, refl, refl, refl, refl)

@@ -18,7 +18,7 @@ use Rattle.sch_control.specs.declared.mark.MarkKind.TheVariants as mark
 use Rattle.sch_control.specs.Meaning.{World, Result, marked, on_return}
 use Rattle.sch_control.specs.Run.{do_forms, entry_at, known_entry, outcome_of, seen_of, starting_world}
 use Rattle.sch_frames.specs.Layout.{is_entered}
-use Rattle.sch_frames.specs.ObjectFree.{is_enter, is_object_free_code}
+use Rattle.sch_frames.specs.Covered.{is_enter, is_covered_code}
 use Rattle.sch_frames.specs.Run.{bodies_of, entries_of}
 use Rattle.sch_frames.specs.Tree.{Code, Source}
 use Rattle.sch_insn.specs.Behaves.{FollowsRuns, exit_of, start}
@@ -29,7 +29,7 @@ use Rattle.sch_select.specs.Follows.{AreRuns}
 use Rattle.sch_select.specs.Marks.{CountsEntries, PassesMarks, enters_body, enters_procedure, marks_of, marks_passed}
 use Rattle.sch_select.specs.Select.{kind_of}
 use Rattle.sch_select.proofs.programs.EnterMarks.{Kept, Stays, callee_of, form_kept}
-use Rattle.sch_select.proofs.simulation.Bodies.{map_one}
+use Rattle.sch_select.proofs.procedures.Bodies.{map_one}
 
 -- ---- counts of marks
 
@@ -55,7 +55,7 @@ no_body label _ e = refl
 
 -- ---- the forms
 
-module _ (codes : List Code) (object_free : list_all is_object_free_code codes ≡ true) (Q : ℕ → World → Type 0) (stays : (k : ℕ) → Stays (entries_of codes) (Q k))
+module _ (codes : List Code) (covered : list_all is_covered_code codes ≡ true) (Q : ℕ → World → Type 0) (stays : (k : ℕ) → Stays (entries_of codes) (Q k))
     (form : (label : ℕ) (w : World) → slice_get (entries_of codes) label ≡ Some None → Q label w → Q (suc label) (marked (mark.Enter label) w))
     (other : (label : ℕ) (w : World) (e : Entry) → slice_get (entries_of codes) label ≡ Some (Some e) → Q label w → Q (suc label) w) where
   abbrev pub Done : ℕ → Result → Type 0
@@ -74,12 +74,12 @@ module _ (codes : List Code) (object_free : list_all is_object_free_code codes �
       (forms_done n depth es (suc label) w (λ j o i. let s : label + suc j ≡ suc label + j = omega arith in ap (slice_get (entries_of codes)) (sym s) ∙ at (suc j) o i) (other label w e (ap (slice_get (entries_of codes)) (sym z) ∙ at 0 (Some e) refl) q))
   forms_done n depth (None ∷ es) label w at q =
       let z : label + 0 ≡ label = omega arith in
-      by _ (form_kept codes object_free (Q (suc label)) (stays (suc label)) n label depth (marked (mark.Enter label) w) (form label w (ap (slice_get (entries_of codes)) (sym z) ∙ at 0 None refl) q))
+      by _ (form_kept codes covered (Q (suc label)) (stays (suc label)) n label depth (marked (mark.Enter label) w) (form label w (ap (slice_get (entries_of codes)) (sym z) ∙ at 0 None refl) q))
       (λ u r. let end : suc label + length es ≡ label + suc (length es) = omega arith in
       subst (λ k. Done k (do_forms es (suc label) (bodies_of codes) (callee_of codes n) depth u)) end
       (forms_done n depth es (suc label) u (λ j o i. let s : label + suc j ≡ suc label + j = omega arith in ap (slice_get (entries_of codes)) (sym s) ∙ at (suc j) o i) r))
     where
-      by : (r : Result) → Kept codes object_free (Q (suc label)) (stays (suc label)) r → ((u : World) → Q (suc label) u → Done (label + suc (length es)) (do_forms es (suc label) (bodies_of codes) (callee_of codes n) depth u))
+      by : (r : Result) → Kept codes covered (Q (suc label)) (stays (suc label)) r → ((u : World) → Q (suc label) u → Done (label + suc (length es)) (do_forms es (suc label) (bodies_of codes) (callee_of codes n) depth u))
           → Done (label + suc (length es)) (on_return r (λ v u. do_forms es (suc label) (bodies_of codes) (callee_of codes n) depth u))
       by None h k = tt
       by (Some (gives v u)) h k = k u h
@@ -88,7 +88,7 @@ module _ (codes : List Code) (object_free : list_all is_object_free_code codes �
 
 -- ---- entries of procedures
 
-module _ (codes : List Code) (object_free : list_all is_object_free_code codes ≡ true) where
+module _ (codes : List Code) (covered : list_all is_covered_code codes ≡ true) where
   abbrev pub entries : List (Option Entry)
   entries = entries_of codes
 
@@ -110,9 +110,9 @@ module _ (codes : List Code) (object_free : list_all is_object_free_code codes �
   pub paid_form : (n label : ℕ) (w : World) → slice_get entries label ≡ Some None → Paid n w → Paid n (marked (mark.Enter label) w)
   paid_form n label w e p = let c = counted_as (enters_procedure entries) (mark.Enter label) w false (ap is_entered (form_free label e)) in omega (arith, c, p)
 
-  pub procedures_paid : (n m depth : ℕ) (w : World) → Paid n w → Done codes object_free (λ k. Paid n) (λ k. paid_stays n) (λ label w e p. paid_form n label w e p) (λ label w e i p. p) (0 + length entries) (do_forms entries 0 (bodies_of codes) (callee_of codes m) depth w)
+  pub procedures_paid : (n m depth : ℕ) (w : World) → Paid n w → Done codes covered (λ k. Paid n) (λ k. paid_stays n) (λ label w e p. paid_form n label w e p) (λ label w e i p. p) (0 + length entries) (do_forms entries 0 (bodies_of codes) (callee_of codes m) depth w)
   procedures_paid n m depth w p =
-      forms_done codes object_free (λ k. Paid n) (λ k. paid_stays n) (λ label w e p. paid_form n label w e p) (λ label w e i p. p) m depth entries 0 w (λ j o i. let z : 0 + j ≡ j = omega arith in ap (slice_get entries) z ∙ i) p
+      forms_done codes covered (λ k. Paid n) (λ k. paid_stays n) (λ label w e p. paid_form n label w e p) (λ label w e i p. p) m depth entries 0 w (λ j o i. let z : 0 + j ≡ j = omega arith in ap (slice_get entries) z ∙ i) p
 
   -- ---- the entry of one form
 
@@ -164,9 +164,9 @@ module _ (codes : List Code) (object_free : list_all is_object_free_code codes �
     once_other label w e i p =
         p ∙ sym (ap (λ b. cond b 1 0) (passed_by label (λ same. let bad : Some (Some e) ≡ Some None = sym i ∙ ap (slice_get entries) same ∙ is in cc)))
 
-    pub form_once : (m depth : ℕ) (w : World) → counted (enters_body l) w ≡ 0 → Done codes object_free Once once_stays once_form once_other (0 + length entries) (do_forms entries 0 (bodies_of codes) (callee_of codes m) depth w)
+    pub form_once : (m depth : ℕ) (w : World) → counted (enters_body l) w ≡ 0 → Done codes covered Once once_stays once_form once_other (0 + length entries) (do_forms entries 0 (bodies_of codes) (callee_of codes m) depth w)
     form_once m depth w p =
-        forms_done codes object_free Once once_stays once_form once_other m depth entries 0 w (λ j o i. let z : 0 + j ≡ j = omega arith in ap (slice_get entries) z ∙ i) (p ∙ sym (ap (λ b. cond b 1 0) (none_below (nat_lt l 0) refl)))
+        forms_done codes covered Once once_stays once_form once_other m depth entries 0 w (λ j o i. let z : 0 + j ≡ j = omega arith in ap (slice_get entries) z ∙ i) (p ∙ sym (ap (λ b. cond b 1 0) (none_below (nat_lt l 0) refl)))
       where
         none_below : (b : Bool) → nat_lt l 0 ≡ b → nat_lt l 0 ≡ false
         none_below false e = e
@@ -189,13 +189,13 @@ no_stop why e = by why e
     by Unset e = omega (arith, e)
     by OutputFailed e = omega (arith, e)
 
-module _ (p : Source) (heap depth : ℕ) (object_free : list_all is_object_free_code p.bodies ≡ true) (entry : ℕ) (segments : List Segment) (marks_at : ℕ → List MarkKind) (runs : List Answer → ℕ → Run)
+module _ (p : Source) (heap depth : ℕ) (covered : list_all is_covered_code p.bodies ≡ true) (entry : ℕ) (segments : List Segment) (marks_at : ℕ → List MarkKind) (runs : List Answer → ℕ → Run)
     (passes : PassesMarks entry segments marks_at (marks_passed p heap depth)) (follows : FollowsRuns entry segments runs) (are : AreRuns p heap depth runs) where
   abbrev outcome : List Answer → ℕ → Result
   outcome answers m = outcome_of (entries_of p.bodies) (bodies_of p.bodies) depth m (starting_world p.statics p.library heap answers m)
 
   procedures_by : (answers : List Answer) (m : ℕ) (events : List MarkKind) (result : Result) (r : Run)
-      → Done p.bodies object_free (λ k. Paid p.bodies object_free m) (λ k. paid_stays p.bodies object_free m) (λ label w e q. paid_form p.bodies object_free m label w e q) (λ label w e i q. q) (0 + length (entries_of p.bodies)) result
+      → Done p.bodies covered (λ k. Paid p.bodies covered m) (λ k. paid_stays p.bodies covered m) (λ label w e q. paid_form p.bodies covered m label w e q) (λ label w e i q. q) (0 + length (entries_of p.bodies)) result
       → seen_of answers m result ≡ Some r → ((marks : List control.MarkKind) → marks_of result ≡ Some marks → events ≡ map kind_of marks) → count_by (enters_procedure (entries_of p.bodies)) events ≡ r.entries
   procedures_by answers m events None r paid e h = absurd (let bad : None ≡ Some r = e in cc)
   procedures_by answers m events (Some (gives v w)) r paid e h =
@@ -215,7 +215,7 @@ module _ (p : Source) (heap depth : ℕ) (object_free : list_all is_object_free_
 
   module _ (l : ℕ) (is : slice_get (entries_of p.bodies) l ≡ Some None) where
     forms_by : (answers : List Answer) (m : ℕ) (events : List MarkKind) (result : Result) (r : Run)
-        → Done p.bodies object_free (Once p.bodies object_free l is) (once_stays p.bodies object_free l is) (once_form p.bodies object_free l is) (once_other p.bodies object_free l is) (0 + length (entries_of p.bodies)) result
+        → Done p.bodies covered (Once p.bodies covered l is) (once_stays p.bodies covered l is) (once_form p.bodies covered l is) (once_other p.bodies covered l is) (0 + length (entries_of p.bodies)) result
         → seen_of answers m result ≡ Some r → r.end ≡ ended 0 → ((marks : List control.MarkKind) → marks_of result ≡ Some marks → events ≡ map kind_of marks) → count_by (enters_body l) events ≡ 1
     forms_by answers m events None r once e i h = absurd (let bad : None ≡ Some r = e in cc)
     forms_by answers m events (Some (gives v w)) r once e i h =
@@ -236,10 +236,10 @@ module _ (p : Source) (heap depth : ℕ) (object_free : list_all is_object_free_
   counts_entries = record {
     procedures = λ g answers m status output x.
         procedures_by answers m (flat_map marks_at (traced m (start entry segments g answers)).trace) (outcome answers m) (runs answers m)
-        (procedures_paid p.bodies object_free m m depth (starting_world p.statics p.library heap answers m) (let none : 0 + m ≡ m = omega arith in none)) (are.are answers m) (λ marks e. passes.all g answers m marks e status output x);
+        (procedures_paid p.bodies covered m m depth (starting_world p.statics p.library heap answers m) (let none : 0 + m ≡ m = omega arith in none)) (are.are answers m) (λ marks e. passes.all g answers m marks e status output x);
     forms = λ g answers m output x label is.
         let at = follows.covered g answers m in
         let exits = ap exit_of (sym (traced_progress m (start entry segments g answers))) ∙ x in
         forms_by label is answers m (flat_map marks_at (traced m (start entry segments g answers)).trace) (outcome answers m) (runs answers m)
-        (form_once p.bodies object_free label is m depth (starting_world p.statics p.library heap answers m) refl) (are.are answers m) ((at.end 0 output exits).0) (λ marks e. passes.all g answers m marks e 0 output x);
+        (form_once p.bodies covered label is m depth (starting_world p.statics p.library heap answers m) refl) (are.are answers m) ((at.end 0 output exits).0) (λ marks e. passes.all g answers m marks e 0 output x);
   }

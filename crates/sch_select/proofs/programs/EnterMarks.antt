@@ -25,9 +25,9 @@ use Rattle.sch_frames.specs.declared.instruction.Instruction.TheVariants.{Do, St
 use Rattle.sch_frames.specs.Meaning.{Cell, Is, Link, Junk, Frame, More, beginning, execute, execute_each, held, if_link, link_register, parts, sought, value_in, with_members}
 use Rattle.sch_frames.specs.Run.{bodies_of, do_known, entries_of}
 use Rattle.sch_frames.specs.Tree.{Code}
-use Rattle.sch_frames.specs.ObjectFree.{is_enter, is_object_free_code, plain_instruction}
+use Rattle.sch_frames.specs.Covered.{is_enter, is_covered_code, plain_instruction}
 use Rattle.sch_select.proofs.programs.FreeCodes.{code_parts}
-use Rattle.sch_select.proofs.simulation.Procedures.{each_at}
+use Rattle.sch_select.proofs.procedures.Procedures.{each_at}
 
 -- ---- no operation takes an entry
 
@@ -113,7 +113,7 @@ pub record Stays (entries : List (Option Entry)) (P : World → Type 0) : Type 0
 abbrev pub callee_of : List Code → (n : ℕ) → Callee
 callee_of codes n = enter (entry_at (entries_of codes)) (bodies_of codes) n
 
-module _ (codes : List Code) (object_free : list_all is_object_free_code codes ≡ true) (P : World → Type 0) (stays : Stays (entries_of codes) P) where
+module _ (codes : List Code) (covered : list_all is_covered_code codes ≡ true) (P : World → Type 0) (stays : Stays (entries_of codes) P) where
   abbrev pub Kept : Result → Type 0
   Kept None = Unit {0}
   Kept (Some (gives v w)) = P w
@@ -203,7 +203,7 @@ module _ (codes : List Code) (object_free : list_all is_object_free_code codes �
     where
       by : (o : Option Code) → slice_get codes label ≡ o → Kept (do_known o callee depth self vs w)
       by None e = tt
-      by (Some c) e = body_kept callee keeps depth c.instructions (code_parts c (each_at is_object_free_code codes label c object_free e)).plain None (beginning c.entry self vs) w p
+      by (Some c) e = body_kept callee keeps depth c.instructions (code_parts c (each_at is_covered_code codes label c covered e)).plain None (beginning c.entry self vs) w p
 
   module _ (n : ℕ) (keeps : CalleeKeeps (callee_of codes n)) where
     into_kept : (label depth : ℕ) (self : Value) (e : Entry) → entry_at (entries_of codes) label ≡ Some e → (arguments : List Value) (u : World) → P u → (k : ℕ) → u.state.store.entries ≡ k

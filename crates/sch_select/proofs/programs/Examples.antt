@@ -5,13 +5,13 @@ use Rattle.std.specs.Prelude.{codes, map, pos, negsuc, replicate, slice_index, �
 use Rattle.sch_word.specs.declared.answer.Answer.{Answer}
 use Rattle.sch_word.specs.declared.answer.Answer.TheVariants.{Took, Failed}
 use Rattle.sch_word.specs.declared.constant.Const.{Const}
-use Rattle.sch_word.specs.declared.constant.Const.TheVariants.{Fixnum, Character, Boolean, Nil, Unspecified}
+use Rattle.sch_word.specs.declared.constant.Const.TheVariants.{Fixnum, Character, Boolean, Nil, Unspecified, Symbol}
 use Rattle.sch_word.specs.declared.place.Place.{Place}
 use Rattle.sch_word.specs.declared.place.Place.TheVariants.{Reg, Slot}
 use Rattle.sch_word.specs.declared.primitive.Primitive.{Primitive}
 use Rattle.sch_word.specs.declared.primitive.Primitive.TheVariants as prim
-use Rattle.sch_word.specs.values.Literals.{no_literals}
-use Rattle.sch_control.specs.declared.operation.Atom.TheVariants.{Constant, Variable}
+use Rattle.sch_word.specs.values.Literals.{no_literals, literals, constant, text, list}
+use Rattle.sch_control.specs.declared.operation.Atom.TheVariants.{Constant, Literal, Variable}
 use Rattle.sch_control.specs.declared.operation.Operand.{Operand}
 use Rattle.sch_control.specs.declared.operation.Operand.TheVariants as operand
 use Rattle.sch_control.specs.declared.operation.Operation.TheVariants as operation
@@ -19,7 +19,7 @@ use Rattle.sch_frames.specs.declared.instruction.Instruction.{Instruction}
 use Rattle.sch_frames.specs.declared.instruction.Instruction.TheVariants.{Do, Store, Fix, Return, End, IfFalse, Jump, Label}
 use Rattle.sch_control.specs.declared.operation.Source as closure
 use Rattle.sch_control.specs.declared.operation.Source.TheVariants as source
-use Rattle.sch_frames.specs.ObjectFree.{is_object_free_program}
+use Rattle.sch_frames.specs.Covered.{is_covered_program}
 use Rattle.sch_frames.specs.Tree.{Source}
 use Rattle.sch_insn.specs.Decode.{escaped_of, long_of, narrow_of, operand_of, rexed_of, wide_of}
 use Rattle.sch_insn.specs.Machine.{test_of}
@@ -32,7 +32,8 @@ use Rattle.sch_asm.specs.Data.{data_at}
 use Rattle.sch_asm.specs.Layout.{addresses_from, emitted, numbered, placed_by}
 use Rattle.sch_asm.specs.Views.{text_at}
 use Rattle.sch_runtime.specs.Code.{routine_items}
-use Rattle.sch_select.specs.Program.{program_code, program_words, program_zeros}
+use Rattle.sch_select.specs.Data.{program_words}
+use Rattle.sch_select.specs.Program.{program_code, program_zeros}
 
 -- a program of one form, with one global
 abbrev one_form : (labels : ℕ) → List Instruction → Source
@@ -74,7 +75,7 @@ shows which a b = one_form 0 (Do (operation.Prim 1 which (number a ∷ number b 
     (operand.Atom (Variable (Slot 1))))
 
 products :
-    (is_object_free_program (shows prim.Multiply (pos 6) (negsuc 6)) ≡ true)
+    (is_covered_program (shows prim.Multiply (pos 6) (negsuc 6)) ≡ true)
     × (ends (shows prim.Multiply (pos 6) (negsuc 6)) [] ≡ Some (0, codes "-42"))
     × (ends (shows prim.Multiply (pos 1073741824) (pos 1073741824)) [] ≡ Some (70, []))
     × (ends (shows prim.Add (pos 1152921504606846975) (pos 1)) [] ≡ Some (70, []))
@@ -157,7 +158,7 @@ no_cell = one_form 0 (Do (operation.CellGet (fixed (pos 1))) ∷ End ∷ [])
 
 -- the limit of the heap is met before anything is written
 cells :
-    (is_object_free_program (two_cells 0) ≡ true)
+    (is_covered_program (two_cells 0) ≡ true)
     × (ends_in 32 (two_cells 0) [] ≡ Some (0, codes "3"))
     × (ends_in 32 (two_cells 1) [] ≡ Some (0, codes "2"))
     × (ends_in 16 (two_cells 1) [] ≡ Some (71, []))
@@ -201,7 +202,7 @@ abbrev library : Source
 library = with_procedure (Do (operation.Global 0) ∷ Store (Slot 1) ∷ shown 1)
 
 closures :
-    (is_object_free_program group ≡ true)
+    (is_covered_program group ≡ true)
     × (ends_in 32 (captures 0) [] ≡ Some (0, codes "5"))
     × (ends_in 32 (captures 1) [] ≡ Some (0, codes "6"))
     × (ends_in 16 (captures 0) [] ≡ Some (71, []))
@@ -210,3 +211,39 @@ closures :
     × (ends library [] ≡ Some (0, codes "#<procedure>"))
 unfolding escaped_of narrow_of operand_of rexed_of wide_of long_of test_of
 closures = (refl, refl, refl, refl, refl, refl, refl)
+
+-- ---- literals and symbols
+
+-- a string, a pair and a symbol, of which one is put
+abbrev with_statics : Operand Place → Source
+with_statics o = record (one_form 0 (puts o)) {
+  statics = record {
+    symbols = codes "a" ∷ codes "long-name" ∷ [];
+    literals = literals (text (codes "nine byte") ∷ list (literals (constant (Fixnum (pos 1)) ∷ [])) (constant Nil) ∷ text [] ∷ constant (Fixnum (pos 7)) ∷ []);
+    globals = None ∷ [];
+  };
+}
+
+abbrev literal : ℕ → Operand Place
+literal n = operand.Atom (Literal n)
+
+puts_of_statics :
+    (ends (with_statics (literal 0)) [] ≡ Some (0, codes "nine byte"))
+    × (ends (with_statics (literal 1)) [] ≡ Some (65, []))
+    × (ends (with_statics (literal 2)) [] ≡ Some (0, []))
+    × (ends (with_statics (literal 3)) [] ≡ Some (0, codes "7"))
+    × (ends (with_statics (operand.Atom (Constant (Symbol 0)))) [] ≡ Some (0, codes "a"))
+    × (ends (with_statics (operand.Atom (Constant (Symbol 1)))) [] ≡ Some (0, codes "long-name"))
+unfolding escaped_of narrow_of operand_of rexed_of wide_of long_of test_of
+puts_of_statics = (refl, refl, refl, refl, refl, refl)
+
+-- a literal list, a string and a symbol are taken apart
+takes_parts :
+    (ends (with_statics (operand.Read 0 prim.Car (Literal 1 ∷ []))) [] ≡ Some (0, codes "1"))
+    × (ends (with_statics (operand.Read 0 prim.Cdr (Literal 1 ∷ []))) [] ≡ Some (0, codes "()"))
+    × (ends (with_statics (operand.Read 0 prim.StringLength (Literal 0 ∷ []))) [] ≡ Some (0, codes "9"))
+    × (ends (with_statics (operand.Read 0 prim.StringRef (Literal 0 ∷ (Constant (Fixnum (pos 8)) ∷ [])))) [] ≡ Some (0, codes "e"))
+    × (ends (with_statics (operand.Read 0 prim.SymbolLength (Constant (Symbol 1) ∷ []))) [] ≡ Some (0, codes "9"))
+    × (ends (with_statics (operand.Read 0 prim.VectorLength (Literal 1 ∷ []))) [] ≡ Some (65, []))
+unfolding escaped_of narrow_of operand_of rexed_of wide_of long_of test_of
+takes_parts = (refl, refl, refl, refl, refl, refl)

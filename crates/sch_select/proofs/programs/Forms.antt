@@ -1,5 +1,5 @@
 -- The machine does the forms of a program, one after the other, and ends as they do.
-use Rattle.std.proofs.Common.{◌≡◌, ℕ, suc, ◌+◌, ◌≤◌, List, [], ◌∷◌, ◌++◌, map, true, false, Option, Some, None}
+use Rattle.std.proofs.Common.{◌≡◌, ℕ, suc, ◌+◌, ◌≤◌, List, [], ◌∷◌, ◌++◌, length, map, true, false, Option, Some, None}
 use Rattle.std.proofs.Common.{refl, sym, ap, ◌∙◌, subst, arith, append-nil, append_assoc}
 use Rattle.std.specs.Prelude.{nat_le, slice_get}
 use Rattle.std.specs.List.{list_all}
@@ -28,16 +28,16 @@ use Rattle.sch_asm.specs.Stands.{Stands}
 use Rattle.sch_asm.specs.Views.{View, Leads}
 use Rattle.sch_asm.proofs.EachItem.{jumps}
 use Rattle.sch_heap.specs.Parts.{Parts}
-use Rattle.sch_control.specs.Straight.{is_form}
-use Rattle.sch_frames.specs.ObjectFree.{is_object_free_code, may_stand}
+use Rattle.sch_control.specs.CoveredOperands.{is_form}
+use Rattle.sch_frames.specs.Covered.{is_covered_code, may_stand}
 use Rattle.sch_select.proofs.programs.FreeCodes.{code_parts}
-use Rattle.sch_select.specs.Select.{kind_of, body_label, check_count}
-use Rattle.sch_select.specs.Program.{passed_code, entry_code, form_code, forms_code, labels_end}
+use Rattle.sch_select.specs.Select.{kind_of, body_label}
+use Rattle.sch_select.specs.Program.{passed_code, count_code, entry_code, form_code, forms_code, labels_end}
 use Rattle.sch_select.proofs.simulation.Places.{Plan, Room, Activation, StoreAt, PlacesAt}
-use Rattle.sch_select.proofs.simulation.Entering.{Enters}
-use Rattle.sch_select.proofs.programs.Standing.{after_body, entered_code}
+use Rattle.sch_select.proofs.procedures.Entering.{Enters}
+use Rattle.sch_select.proofs.programs.Standing.{count_past, after_body, entered_code}
 use Rattle.sch_select.proofs.simulation.Outcomes.{Ends, Goes_on, Sim, Laid, ends_after, paid}
-use Rattle.sch_select.proofs.simulation.Bodies.{body_cost, body_sim, map_one}
+use Rattle.sch_select.proofs.procedures.Bodies.{body_cost, body_sim, map_one}
 use Rattle.sch_select.proofs.programs.Selected.{form_selected, instruction_selected}
 
 -- how many steps forms take at most
@@ -46,13 +46,13 @@ forms_cost [] = 4
 forms_cost (c ∷ cs) = suc (body_cost c.instructions) + forms_cost cs
 
 -- a form ends as forms do
-form_stands : (c : Code) → c.entry ≡ None → is_object_free_code c ≡ true
+form_stands : (c : Code) → c.entry ≡ None → is_covered_code c ≡ true
     → list_all (may_stand true) c.instructions ≡ true
 form_stands c i e = subst (λ o. list_all (may_stand (is_form o)) c.instructions ≡ true) i (code_parts c e).stands
 
 module _ (plan : Plan) (body_steps : ℕ) (laid : Laid plan body_steps) (depth : ℕ) (room : Room plan plan.stack depth)
     (nested : ℕ) (all : List Code) (callee : Callee) (enters : Enters plan body_steps callee nested) where
-  open plan use {setting, words, globals, heap, stack, labels}
+  open plan use {setting, words, literals, globals, symbols, heap, stack, labels}
 
   -- between two forms, with some parts of the heap
   pub record Ready (w : World) (x : View) : Type 0 where
@@ -105,10 +105,10 @@ module _ (plan : Plan) (body_steps : ℕ) (laid : Laid plan body_steps) (depth :
       → map kind_of w.marks ≡ before → Owed before w.state.store x (forms_cost cs)
       (do_forms (entries_of cs) label (bodies_of all) callee depth w)
 
-  one_form : (c : Code) (cs : List Code) (label n : ℕ) (following : List Item) → form_selected words globals c ≡ true
-      → is_object_free_code c ≡ true → slice_get all label ≡ Some c → Rest cs (suc label) following
+  one_form : (c : Code) (cs : List Code) (label n : ℕ) (following : List Item) → form_selected words globals (length symbols) literals c ≡ true
+      → is_covered_code c ≡ true → slice_get all label ≡ Some c → Rest cs (suc label) following
       → (before : List MarkKind) (w : World) (x : View) → Stands setting [] x.place
-      (form_code words stack label n c following) → Ready w x → map kind_of w.marks ≡ before
+      (form_code words stack literals label n c following) → Ready w x → map kind_of w.marks ≡ before
       → Owed before w.state.store x (suc (body_cost c.instructions) + forms_cost cs)
       (do_forms (c.entry ∷ entries_of cs) label (bodies_of all) callee depth w)
   one_form c cs label n following e e' at rec before w x h r m = by c.entry refl h
@@ -145,9 +145,9 @@ module _ (plan : Plan) (body_steps : ℕ) (laid : Laid plan body_steps) (depth :
       done : c.entry ≡ None → Stands setting [] x.place (entered_code plan label n c following)
           → Sim plan body_steps act r.parts before w.state.store x (body_cost c.instructions)
           (execute_each callee depth c.instructions None (beginning None unspecified []) entered)
-      done i h = body_sim plan body_steps laid act n out (λ z. refl) callee enters (n + c.labels + 1)
+      done i h = body_sim plan body_steps laid act n out (λ z. refl) callee enters (n + c.labels + 2)
           c.instructions (item.Label out ∷ following) (and_parts (nat_le (formals_of c.entry) max_operands)
-          (list_all (instruction_selected words globals) c.instructions) e).1 (form_stands c i e')
+          (list_all (instruction_selected words globals (length symbols) literals) c.instructions) e).1 (form_stands c i e')
           None r.parts before (Enter label ∷ []) (beginning None unspecified []) entered x h here r.world tt
           (map_one w.marks (control.Enter label) ∙ ap (λ l. l ++ Enter label ∷ []) m)
 
@@ -187,15 +187,16 @@ module _ (plan : Plan) (body_steps : ℕ) (laid : Laid plan body_steps) (depth :
 
       -- a procedure's body is jumped over
       passed : (q : Entry) → Stands setting [] x.place (item.Jump out ∷
-          (item.Label (body_label label) ∷ check_count q.formals (entered_code plan label n c following)))
+          (item.Label (body_label label) ∷ count_code q.rest q.formals (n + c.labels + 1) (entered_code plan label n c following)))
           → Owed before w.state.store x (suc (body_cost c.instructions) + forms_cost cs)
           (do_forms (entries_of cs) (suc label) (bodies_of all) callee depth w)
       passed q h =
           let y : View = record x { place = setting.place_of out } in
-          let next = after_body plan label n _ c following h.4.2.2.4 in
+          let b = count_past setting q.rest q.formals (n + c.labels + 1) _ (entered_code plan label n c following) h.4.2 in
+          let next = after_body plan label n b.0 c following b.1 in
           owed_after before [] w.state.store w.state.store x y 1 1 (forms_cost cs)
           (suc (body_cost c.instructions) + forms_cost cs) _ (jumps setting x out
-          (item.Label (body_label label) ∷ check_count q.formals (entered_code plan label n c following)) [] h)
+          (item.Label (body_label label) ∷ count_code q.rest q.formals (n + c.labels + 1) (entered_code plan label n c following)) [] h)
           (omega arith) (omega arith)
           (subst (λ l. Owed l w.state.store y (forms_cost cs)
           (do_forms (entries_of cs) (suc label) (bodies_of all) callee depth w)) (sym (append-nil before))
@@ -210,7 +211,7 @@ module _ (plan : Plan) (body_steps : ℕ) (laid : Laid plan body_steps) (depth :
           }) m))
 
       by : (o : Option Entry) → c.entry ≡ o → Stands setting [] x.place
-          (passed_code o out (item.Label (body_label label) ∷ entry_code o (entered_code plan label n c following)))
+          (passed_code o out (item.Label (body_label label) ∷ entry_code o (n + c.labels + 1) (entered_code plan label n c following)))
           → Owed before w.state.store x (suc (body_cost c.instructions) + forms_cost cs)
           (do_forms (o ∷ entries_of cs) label (bodies_of all) callee depth w)
       by (Some q) i h = passed q h
@@ -224,9 +225,9 @@ module _ (plan : Plan) (body_steps : ℕ) (laid : Laid plan body_steps) (depth :
           (goes_on (after_body plan label n x.place c following h.2) _ (done i h.2)))
 
   pub forms_sim : (cs : List Code) (label n : ℕ) (behind_all : List Item)
-      → list_all (form_selected words globals) cs ≡ true → list_all is_object_free_code cs ≡ true → Are label cs
+      → list_all (form_selected words globals (length symbols) literals) cs ≡ true → list_all is_covered_code cs ≡ true → Are label cs
       → (before : List MarkKind) (w : World) (x : View) → Stands setting [] x.place
-      (forms_code words stack label n cs (rest_code behind_all)) → Ready w x → map kind_of w.marks ≡ before
+      (forms_code words stack literals label n cs (rest_code behind_all)) → Ready w x → map kind_of w.marks ≡ before
       → Owed before w.state.store x (forms_cost cs) (do_forms (entries_of cs) label (bodies_of all) callee depth w)
   forms_sim [] label n behind_all e e' at before w x h r m =
       let y : View = record x { place = setting.place_of (label_of routine.End) } in
@@ -245,10 +246,10 @@ module _ (plan : Plan) (body_steps : ℕ) (laid : Laid plan body_steps) (depth :
         silent = s.silent;
       }
   forms_sim (c ∷ cs) label n behind_all e e' at before w x h r m =
-      let parts' = and_parts (is_object_free_code c) (list_all is_object_free_code cs) e' in
-      let parts = and_parts (form_selected words globals c) (list_all (form_selected words globals) cs) e in
+      let parts' = and_parts (is_covered_code c) (list_all is_covered_code cs) e' in
+      let parts = and_parts (form_selected words globals (length symbols) literals c) (list_all (form_selected words globals (length symbols) literals) cs) e in
       let sum : label + 0 ≡ label = omega arith in
-      one_form c cs label n (forms_code words stack (suc label) (labels_end n c) cs (rest_code behind_all)) parts.0
+      one_form c cs label n (forms_code words stack literals (suc label) (labels_end n c) cs (rest_code behind_all)) parts.0
       parts'.0 (ap (slice_get all) (sym sum) ∙ at 0 c refl)
       (λ before w x h r m. forms_sim cs (suc label) (labels_end n c) behind_all parts.1 parts'.1
       (λ j k i. let sum : label + suc j ≡ suc label + j = omega arith in ap (slice_get all) (sym sum)

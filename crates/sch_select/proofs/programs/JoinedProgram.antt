@@ -1,6 +1,6 @@
 -- A program joined with its routines and resolved follows its runs.
 use Rattle.std.proofs.Common.{◌≡◌, ℕ, suc, ◌+◌, ◌-◌, ◌*◌, ◌^◌, ◌<◌, ◌≤◌, List, [], ◌∷◌, ◌++◌, length, replicate}
-use Rattle.std.proofs.Common.{Option, Some, None, true, false, refl, sym, ap, subst, arith}
+use Rattle.std.proofs.Common.{Option, Some, None, true, false, refl, sym, ap, ◌∙◌, subst, arith}
 use Rattle.std.specs.Prelude.{IsTrue}
 use Rattle.std.specs.List.{list_all, flat_map}
 use Rattle.std.proofs.lemmas.Bool.{and_parts}
@@ -17,8 +17,6 @@ use Rattle.sch_asm.specs.declared.item.Item.{Item}
 use Rattle.sch_asm.specs.declared.item.Item.TheVariants as item
 use Rattle.sch_asm.specs.declared.item.Mark as mark
 use Rattle.sch_asm.specs.declared.item.MarkKind.TheVariants.{Enter}
-use Rattle.sch_asm.specs.declared.routine.Routine.TheVariants as routine
-use Rattle.sch_asm.specs.Routines.{label_of}
 use Rattle.sch_asm.specs.Codes.{AreResolved, bytes_of}
 use Rattle.sch_asm.specs.Data.{data_at}
 use Rattle.sch_asm.specs.Effects.{AreEffective}
@@ -26,11 +24,18 @@ use Rattle.sch_asm.specs.Items.{marks_arrive}
 use Rattle.sch_asm.specs.Stands.{Setting, Stands}
 use Rattle.sch_asm.specs.Views.{text_at}
 use Rattle.sch_asm.proofs.Joined.{joined}
-use Rattle.sch_asm.proofs.Standing.{setting_of}
-use Rattle.sch_select.specs.Select.{put_label, globals_address, body_label, body_code}
-use Rattle.sch_select.specs.Program.{own_label, passed_code, entry_code, forms_code, form_code, labels_end}
-use Rattle.sch_select.specs.Program.{put_value_code, program_code, program_words, program_zeros, static_bytes}
-use Rattle.sch_select.specs.Program.{closures_address, heap_of, max_stack, stack_bytes}
+use Rattle.sch_asm.proofs.Standing.{setting_of, stands_front}
+use Rattle.sch_select.proofs.items.RestItems.{count_appends}
+use Rattle.sch_select.specs.RestCode.{rest_routine}
+use Rattle.sch_select.specs.Select.{put_label, vector_label, string_label, body_label, body_code}
+use Rattle.sch_select.specs.NameWords.{symbol_words, symbols_count}
+use Rattle.sch_select.specs.Data.{program_words, static_bytes, names_of, closures_of, heap_of, max_heap_address}
+use Rattle.sch_select.specs.Program.{own_label, passed_code, entry_code, forms_code, form_code, labels_end, own_code}
+use Rattle.sch_select.specs.Program.{put_value_code, make_vector_code, make_string_code, program_code, program_zeros}
+use Rattle.sch_select.specs.Program.{max_stack, stack_bytes}
+use Rattle.sch_word.specs.values.Values.{are_bytes}
+use Rattle.sch_word.specs.values.Literals.{count_literals, literals_known, literals_in_range}
+use Rattle.sch_literals.proofs.WordBytes.{word_bytes, word_bytes_length}
 use Rattle.sch_word.specs.runs.ProgramLayout.{max_text_size}
 use Rattle.sch_asm.specs.Stands.{marks_at}
 use Rattle.sch_select.specs.Ends.{EndsWithin}
@@ -40,13 +45,15 @@ use Rattle.sch_select.specs.Follows.{AreRuns, EndsFrames, EntersFrames, FollowsF
 use Rattle.sch_select.proofs.simulation.Places.{Plan, Room}
 use Rattle.sch_select.proofs.items.Appending.{Appends, then_appends, body_appends, behind}
 use Rattle.sch_select.proofs.simulation.Outcomes.{Laid}
-use Rattle.sch_select.proofs.simulation.Procedures.{bodies_cost}
-use Rattle.sch_select.proofs.programs.Starting.{parts_at_start, bytes_count, texts_there, values_there, first_is}
-use Rattle.sch_select.proofs.programs.Starting.{ends_at, contents_there, new_there}
+use Rattle.sch_select.proofs.procedures.Procedures.{bodies_cost}
+use Rattle.sch_select.proofs.items.ProgramLabels.{last_code}
+use Rattle.sch_select.proofs.layout.SymbolNames.{are_named, symbol_words_count}
+use Rattle.sch_select.proofs.programs.Starting.{parts_at_start, bytes_count, texts_there, table_there, literals_there}
+use Rattle.sch_select.proofs.programs.Starting.{globals_there, names_there, ends_at, contents_there, new_there}
 use Rattle.sch_select.proofs.programs.EnterCounts.{counts_entries}
 use Rattle.sch_select.proofs.programs.Whole.{Starts, program_ends, program_follows, program_passes}
-use Rattle.sch_select.proofs.programs.Selected.{form_selected, selects}
-use Rattle.sch_frames.specs.ObjectFree.{is_object_free_code, marks_settled}
+use Rattle.sch_select.proofs.programs.Selected.{form_selected, entry_selected, selects}
+use Rattle.sch_frames.specs.Covered.{is_covered_code, marks_settled}
 
 -- what items, with the words and the zeros of data, do of a program
 pub record IsSelected (p : Source) (heap depth : ℕ) (items : List Item) (data_words : List Word) (zeros : ℕ) : Type
@@ -62,52 +69,95 @@ passed_appends : (o : Option Entry) (out : ℕ) → Appends (passed_code o out)
 passed_appends None out rest = refl
 passed_appends (Some e) out rest = refl
 
-entry_appends : (o : Option Entry) → Appends (entry_code o)
-entry_appends None rest = refl
-entry_appends (Some e) rest = refl
+entry_appends : (o : Option Entry) (n : ℕ) → Appends (entry_code o n)
+entry_appends None n rest = refl
+entry_appends (Some e) n rest = count_appends e.rest e.formals n rest
 
-form_appends : (words heap_end label n : ℕ) (c : Code) → Appends (form_code words heap_end label n c)
-form_appends words heap_end label n c rest =
-    then_appends (passed_code c.entry (n + c.labels)) (λ rest. item.Label (body_label label) ∷ entry_code c.entry
-    (item.Mark (Enter label) ∷ body_code n (n + c.labels) words heap_end (n + c.labels + 1) c.instructions
-    (item.Label (n + c.labels) ∷ rest))) (passed_appends c.entry (n + c.labels))
-    (λ rest. ap (λ l. item.Label (body_label label) ∷ l)
-    (then_appends (entry_code c.entry) (λ rest. item.Mark (Enter label) ∷ body_code n (n + c.labels) words
-    heap_end (n + c.labels + 1) c.instructions (item.Label (n + c.labels) ∷ rest)) (entry_appends c.entry)
-    (λ rest. ap (λ l. item.Mark (Enter label) ∷ l) (then_appends
-    (body_code n (n + c.labels) words heap_end (n + c.labels + 1) c.instructions)
-    (λ rest. item.Label (n + c.labels) ∷ rest) (body_appends n (n + c.labels) words heap_end (n + c.labels + 1)
-    c.instructions) (λ rest. refl) rest)) rest)) rest
+-- what stands behind the routine that puts any value
+abbrev string_tail : (heap_end : ℕ) → List Item
+string_tail heap_end = make_string_code heap_end (rest_routine heap_end [])
 
-forms_appends : (words heap_end label n : ℕ) (cs : List Code) → Appends (forms_code words heap_end label n cs)
-forms_appends words heap_end label n [] rest = refl
-forms_appends words heap_end label n (c ∷ cs) rest = then_appends (form_code words heap_end label n c)
-    (forms_code words heap_end (suc label) (labels_end n c) cs) (form_appends words heap_end label n c)
-    (forms_appends words heap_end (suc label) (labels_end n c) cs) rest
+abbrev making_tail : (heap_end : ℕ) → List Item
+making_tail heap_end = make_vector_code heap_end (item.Label string_label ∷ string_tail heap_end)
 
-abbrev last_code : List Item
-last_code = item.Jump (label_of routine.End) ∷ (item.Label put_label ∷ put_value_code)
+abbrev making_code : (heap_end : ℕ) → List Item
+making_code heap_end = item.Label vector_label ∷ making_tail heap_end
 
--- the program's own routine stands where its label does
-put_there : (setting : Setting) (words heap_end label n : ℕ) (cs : List Code) (a : ℕ)
-    → Stands setting [] a (forms_code words heap_end label n cs last_code)
-    → Stands setting [] (setting.place_of put_label) put_value_code
-put_there setting words heap_end label n cs a h =
-    let b = behind setting (forms_code words heap_end label n cs []) last_code [] a
-    (subst (Stands setting [] a) (forms_appends words heap_end label n cs last_code) h) in
-    subst (λ a. Stands setting [] a put_value_code) (sym b.stands.4.1) b.stands.4.2
+module _ (words heap_end literals : ℕ) where
+  form_appends : (label n : ℕ) (c : Code) → Appends (form_code words heap_end literals label n c)
+  form_appends label n c rest =
+      then_appends (passed_code c.entry (n + c.labels)) (λ rest. item.Label (body_label label) ∷ entry_code c.entry (n + c.labels + 1)
+      (item.Mark (Enter label) ∷ body_code n (n + c.labels) words heap_end literals (n + c.labels + 2) c.instructions
+      (item.Label (n + c.labels) ∷ rest))) (passed_appends c.entry (n + c.labels))
+      (λ rest. ap (λ l. item.Label (body_label label) ∷ l)
+      (then_appends (entry_code c.entry (n + c.labels + 1)) (λ rest. item.Mark (Enter label) ∷ body_code n (n + c.labels) words
+      heap_end literals (n + c.labels + 2) c.instructions (item.Label (n + c.labels) ∷ rest)) (entry_appends c.entry (n + c.labels + 1))
+      (λ rest. ap (λ l. item.Mark (Enter label) ∷ l) (then_appends
+      (body_code n (n + c.labels) words heap_end literals (n + c.labels + 2) c.instructions)
+      (λ rest. item.Label (n + c.labels) ∷ rest) (body_appends n (n + c.labels) words heap_end literals
+      (n + c.labels + 2) c.instructions) (λ rest. refl) rest)) rest)) rest
+
+  forms_appends : (label n : ℕ) (cs : List Code) → Appends (forms_code words heap_end literals label n cs)
+  forms_appends label n [] rest = refl
+  forms_appends label n (c ∷ cs) rest = then_appends (form_code words heap_end literals label n c)
+      (forms_code words heap_end literals (suc label) (labels_end n c) cs) (form_appends label n c)
+      (forms_appends (suc label) (labels_end n c) cs) rest
+
+  -- the program's own routine stands where its label does
+  put_there : (setting : Setting) (label n : ℕ) (cs : List Code) (a : ℕ)
+      → Stands setting [] a (forms_code words heap_end literals label n cs (last_code heap_end))
+      → Stands setting [] (setting.place_of put_label) put_value_code
+  put_there setting label n cs a h =
+      let b = behind setting (forms_code words heap_end literals label n cs []) (last_code heap_end) [] a
+      (subst (Stands setting [] a) (forms_appends label n cs (last_code heap_end)) h) in
+      subst (λ a. Stands setting [] a put_value_code) (sym b.stands.4.1)
+      (stands_front setting put_value_code (making_code heap_end) [] _ b.stands.4.2)
+
+  -- what stands behind the put of a value
+  making_there : (setting : Setting) (label n : ℕ) (cs : List Code) (a : ℕ)
+      → Stands setting [] a (forms_code words heap_end literals label n cs (last_code heap_end))
+      → Stands setting [] (setting.place_of vector_label) (making_tail heap_end)
+  making_there setting label n cs a h =
+      let b = behind setting (forms_code words heap_end literals label n cs []) (last_code heap_end) [] a
+      (subst (Stands setting [] a) (forms_appends label n cs (last_code heap_end)) h) in
+      let m = behind setting put_value_code (making_code heap_end) [] _ b.stands.4.2 in
+      subst (λ a. Stands setting [] a (making_tail heap_end)) (sym m.stands.1) m.stands.2
+
+  -- new vectors and new strings are made where their labels are
+  vector_there : (setting : Setting) → Stands setting [] (setting.place_of vector_label) (making_tail heap_end)
+      → Stands setting [] (setting.place_of vector_label) (make_vector_code heap_end [])
+  vector_there setting h = stands_front setting (make_vector_code heap_end [])
+      (item.Label string_label ∷ string_tail heap_end) [] _ h
+
+  string_there : (setting : Setting) → Stands setting [] (setting.place_of vector_label) (making_tail heap_end)
+      → Stands setting [] (setting.place_of string_label) (make_string_code heap_end [])
+  string_there setting h =
+      let s = behind setting (make_vector_code heap_end []) (item.Label string_label ∷ string_tail heap_end) [] _ h in
+      subst (λ a. Stands setting [] a (make_string_code heap_end [])) (sym s.stands.1)
+      (stands_front setting (make_string_code heap_end []) (rest_routine heap_end []) [] _ s.stands.2)
+
+  -- and the routine of lists behind these
+  pub lists_there : (setting : Setting) → Stands setting [] (setting.place_of vector_label) (making_tail heap_end)
+      → (a : ℕ) × Stands setting [] a (rest_routine heap_end [])
+  lists_there setting h =
+      let s = behind setting (make_vector_code heap_end []) (item.Label string_label ∷ string_tail heap_end) [] _ h in
+      let l = behind setting (make_string_code heap_end []) (rest_routine heap_end []) [] _ s.stands.2 in
+      (l.place, subst (λ waiting. Stands setting waiting l.place (rest_routine heap_end [])) l.stands.0 l.stands)
 
 -- ---- where things lie
 
-module _ (p : Source) (limit depth : ℕ) (words_few : p.words ≤ 2048)
-    (globals_few : length p.statics.globals ≤ 29360128) (library_few : length p.library ≤ 1048576)
+size_by : (n heap zeros : ℕ) → n + 0x10000000 ≡ heap + zeros → n ≡ heap + zeros - 0x10000000
+size_by n heap zeros e = omega (arith, e)
+
+module _ (p : Source) (limit depth : ℕ) (words_few : p.words ≤ 2048) (low : heap_of p ≤ max_heap_address)
     (limit_few : limit ≤ 1073741824) (depth_few : depth ≤ 10000000)
-    (stack_few : stack_bytes p.words depth ≤ max_stack + 16384) where
+    (stack_few : stack_bytes p.words depth ≤ max_stack + 16384)
+    (texts : list_all are_bytes p.statics.symbols ≡ true) where
   abbrev globals : ℕ
   globals = length p.statics.globals
 
-  heap_close : heap_of p ≤ globals_address + 8 * globals + 15 + 16 * length p.library
-  heap_close = omega arith
+  abbrev literals : ℕ
+  literals = count_literals p.statics.literals
 
   abbrev stack_size : ℕ
   stack_size = stack_bytes p.words depth
@@ -115,22 +165,37 @@ module _ (p : Source) (limit depth : ℕ) (words_few : p.words ≤ 2048)
   abbrev bytes_at : (ℕ → ℕ) → List ℕ
   bytes_at place_of = flat_map (bytes_of place_of) (program_words p) ++ replicate (program_zeros p limit depth) 0
 
+  -- the names are in front of the closures
+  names_end : names_of p + 8 * symbols_count p.statics.symbols ≤ closures_of p
+  names_end = omega arith
+
+  closures_before : closures_of p ≤ heap_of p
+  closures_before = omega arith
+
+  names_length : length (word_bytes (symbol_words (names_of p) p.statics.symbols)) ≡ 8 * symbols_count p.statics.symbols
+  names_length = word_bytes_length (symbol_words (names_of p) p.statics.symbols)
+      ∙ ap (λ n. 8 * n) (symbol_words_count (names_of p) p.statics.symbols)
+
   plan_of : (setting : Setting) → ((l : ℕ) → setting.place_of l < 2 ^ 31) → Plan
   plan_of setting labels = record {
     setting = setting;
     size = heap_of p + program_zeros p limit depth - 0x10000000;
     words = p.words;
+    literals = literals;
     globals = globals;
-    closures = closures_address globals;
+    symbols = p.statics.symbols;
+    names = word_bytes (symbol_words (names_of p) p.statics.symbols);
+    closures = closures_of p;
     heap = heap_of p;
     stack = heap_of p + limit;
     static = static_bytes;
-    closures_low = omega arith;
-    heap_low = omega arith;
-    closures_high = omega arith;
+    named = are_named (names_of p) p.statics.symbols texts
+        (let a = names_end in let b = closures_before in let c = low in omega (arith, a, b, c));
+    closures_low = (let a = names_end in let b = names_length in omega (arith, a, b));
+    heap_low = closures_before;
     stack_low = omega arith;
-    near = let c = heap_close in omega (arith, c, globals_few, limit_few, library_few);
-    small = let c = heap_close in omega (arith, c, globals_few, limit_few, stack_few, library_few);
+    near = omega (arith, low, limit_few);
+    small = omega (arith, low, limit_few, stack_few);
     narrow = words_few;
     labels = λ l. let k = labels l in omega (arith, k);
   }
@@ -146,10 +211,13 @@ module _ (p : Source) (limit depth : ℕ) (words_few : p.words ≤ 2048)
     passes : PassesMarks 0x400000 (text_at (flat_map spelling code) ∷ data_at
         (bytes ++ replicate (program_zeros p limit depth) 0) ∷ []) (marks_at marks) (marks_passed p limit depth)
 
-  module _ (selected : selects p ≡ true) (object_free : list_all is_object_free_code p.bodies ≡ true)
-      (known : library_known (length p.library) p.statics.globals ≡ true) where
-    forms : list_all (form_selected p.words globals) p.bodies ≡ true
-    forms = (and_parts (list_all (form_selected p.words globals) p.bodies)
+  module _ (selected : selects p ≡ true) (covered : list_all is_covered_code p.bodies ≡ true)
+      (entered_so : list_all (λ c. entry_selected p.words c.entry) p.bodies ≡ true)
+      (known : library_known (length p.library) p.statics.globals ≡ true)
+      (range : literals_in_range p.statics.literals ≡ true)
+      (among : literals_known (length p.statics.symbols) p.statics.literals ≡ true) where
+    forms : list_all (form_selected p.words globals (length p.statics.symbols) literals) p.bodies ≡ true
+    forms = (and_parts (list_all (form_selected p.words globals (length p.statics.symbols) literals) p.bodies)
         (list_all (λ c. marks_settled true c.instructions) p.bodies) selected).0
 
     done : (routines : List Item) (code : List Insn) (marks : List mark.Mark) (words : List ℕ) → AreEffective routines
@@ -163,9 +231,14 @@ module _ (p : Source) (limit depth : ℕ) (words_few : p.words ≤ 2048)
         let setting = setting_of (text_at (flat_map spelling code)) r.place_of marks j.apart in
         let plan = plan_of setting r.small in
         let zeros = program_zeros p limit depth in
+        let making = making_there p.words (heap_of p + limit) literals setting 0 (own_label p) p.bodies _
+        j.first.2.2.2 in
         let laid : Laid plan (bodies_cost p.bodies) = record {
           routine = effective.does setting j.second.0 j.second.1;
-          put_stands = put_there setting p.words (heap_of p + limit) 0 (own_label p) p.bodies _ j.first.2.2.2;
+          put_stands = put_there p.words (heap_of p + limit) literals setting 0 (own_label p) p.bodies _ j.first.2.2.2;
+          make_vector_stands = vector_there p.words (heap_of p + limit) literals setting making;
+          lists = lists_there p.words (heap_of p + limit) literals setting making;
+          make_string_stands = string_there p.words (heap_of p + limit) literals setting making;
           static_is = refl;
         } in
         let room : Room plan plan.stack depth = record {
@@ -174,28 +247,35 @@ module _ (p : Source) (limit depth : ℕ) (words_few : p.words ≤ 2048)
           few = omega
               (arith, depth_few);
         } in
-        let parts = parts_at_start r.place_of r.small p.statics.globals p.library zeros globals_few library_few in
-        let count = bytes_count r.place_of r.small p.statics.globals p.library zeros globals_few library_few in
+        let s = p.statics in
+        let parts = parts_at_start r.place_of r.small s p.library zeros low in
+        let count = bytes_count r.place_of r.small s p.library zeros low in
         let starts : Starts plan (bodies_cost p.bodies) laid depth room parts p limit (bytes_at r.place_of) =
         record {
-          size_is = omega (arith, count);
-          texts = texts_there r.place_of r.small p.statics.globals p.library zeros globals_few library_few;
+          size_is = size_by _ (heap_of p) zeros count;
+          texts = texts_there r.place_of r.small s p.library zeros low;
+          table = table_there r.place_of r.small s p.library zeros low;
+          literal_count = refl;
+          literal = literals_there r.place_of r.small s p.library zeros low range among;
           count = refl;
-          values = values_there r.place_of r.small p.statics.globals p.library zeros globals_few library_few known;
-          first = first_is r.place_of r.small p.statics.globals p.library zeros globals_few library_few;
-          next = ends_at r.place_of r.small p.statics.globals p.library zeros globals_few library_few;
+          values = globals_there r.place_of r.small s p.library zeros low known;
+          symbols_are = refl;
+          known = refl;
+          names_are = names_there r.place_of r.small s p.library zeros low;
+          first = refl;
+          next = ends_at r.place_of r.small s p.library zeros low;
           limited = refl;
-          contents = contents_there r.place_of r.small p.statics.globals p.library zeros globals_few library_few;
-          new = new_there r.place_of r.small p.statics.globals p.library zeros globals_few library_few;
+          contents = contents_there r.place_of r.small s p.library zeros low range among;
+          new = new_there r.place_of r.small s p.library zeros low;
         } in
         subst (λ w. Done w code marks) (sym r.bytes)
         (record {
           follows = program_follows plan (bodies_cost p.bodies) laid depth room p limit parts
-              (bytes_at r.place_of) (item.Label put_label ∷ put_value_code) forms object_free (omega arith) j.first starts;
+              (bytes_at r.place_of) (own_code (heap_of p + limit)) forms covered entered_so (omega arith) j.first starts;
           ends = program_ends plan (bodies_cost p.bodies) laid depth room p limit parts (bytes_at r.place_of)
-              (item.Label put_label ∷ put_value_code) forms object_free (omega arith) j.first starts refl;
+              (own_code (heap_of p + limit)) forms covered entered_so (omega arith) j.first starts refl;
           passes = program_passes plan (bodies_cost p.bodies) laid depth room p limit parts
-              (bytes_at r.place_of) (item.Label put_label ∷ put_value_code) forms object_free (omega arith) j.first starts;
+              (bytes_at r.place_of) (own_code (heap_of p + limit)) forms covered entered_so (omega arith) j.first starts;
         })
 
     pub program_selected : IsSelected p limit depth (program_code p limit depth) (program_words p) (program_zeros p limit depth)
@@ -215,7 +295,7 @@ module _ (p : Source) (limit depth : ℕ) (words_few : p.words ≤ 2048)
       enters = record {
         enters = λ routines code marks words effective arrive arrive' r valid small runs are.
             let d = done routines code marks words effective arrive arrive' r valid small in
-            counts_entries p limit depth object_free 0x400000
+            counts_entries p limit depth covered 0x400000
             (text_at (flat_map spelling code) ∷ data_at (words ++ replicate (program_zeros p limit depth) 0) ∷ [])
             (marks_at marks) runs d.passes (d.follows runs are) are;
       };

@@ -1,13 +1,21 @@
--- Which frame programs have their items, by tests of each part: bodies without objects and symbols, whose
--- places, constants, globals, fields and operands are in range.
-use Rattle.std.specs.Prelude.{ℕ, Bool, true, false, ◌&&◌, not, nat_eq, nat_lt, nat_le, List, [], ◌∷◌, length}
+-- Which frame programs have their items, by tests of each part: their places, constants, literals, globals, fields
+-- and operands are in range, and what is done has its items.
+use Rattle.std.specs.Prelude.{◌≡◌, ℕ, Bool, true, false, ◌&&◌, not, nat_eq, nat_lt, nat_le, List, [], ◌∷◌, length, ◌+◌, ◌||◌, Option, Some, None}
+use Rattle.std.proofs.lemmas.Bool.{and_parts}
 use Rattle.std.specs.List.{list_all}
 use Rattle.sch_word.specs.declared.place.Place.{Place}
 use Rattle.sch_word.specs.declared.primitive.Primitive.{Primitive}
 use Rattle.sch_word.specs.values.Primitives.{operands_of}
-use Rattle.sch_word.specs.trees.Straight.{is_straight_constant, is_straight_primitive}
+use Rattle.sch_word.specs.declared.primitive.Primitive.TheVariants.{Eq, Eqv, IsBoolean, IsPair, IsNull, IsSymbol}
+use Rattle.sch_word.specs.declared.primitive.Primitive.TheVariants.{IsInteger, IsChar, IsString, IsVector}
+use Rattle.sch_word.specs.declared.primitive.Primitive.TheVariants.{IsProcedure, Add, Subtract, Multiply, Quotient}
+use Rattle.sch_word.specs.declared.primitive.Primitive.TheVariants.{Remainder, Modulo, Equal, Less, Greater}
+use Rattle.sch_word.specs.declared.primitive.Primitive.TheVariants.{LessEqual, GreaterEqual, CharToInteger}
+use Rattle.sch_word.specs.declared.primitive.Primitive.TheVariants.{IntegerToChar}
+use Rattle.sch_word.specs.values.Literals.{count_literals, constant_known}
 use Rattle.sch_word.specs.values.Values.{is_constant}
 use Rattle.sch_word.specs.trees.Shape.{max_operands, max_free_variables}
+use Rattle.sch_control.specs.declared.body.Entry.{Entry}
 use Rattle.sch_control.specs.declared.operation.Atom.{Atom}
 use Rattle.sch_control.specs.declared.operation.Atom.TheVariants.{Constant, Literal, Variable}
 use Rattle.sch_control.specs.declared.operation.Operand.{Operand}
@@ -26,21 +34,50 @@ use Rattle.sch_frames.specs.declared.instruction.Instruction.TheVariants.{Mark}
 use Rattle.sch_frames.specs.Tree.{Code}
 use Rattle.sch_frames.specs.Tree as tree
 use Rattle.sch_frames.specs.Valid.{formals_of, handed_over, is_place}
-use Rattle.sch_frames.specs.ObjectFree.{marks_settled}
+use Rattle.sch_frames.specs.Covered.{marks_settled}
 
--- a straight primitive of n operands
+-- the primitives that are computed of words alone
+abbrev pub is_computed : Primitive → Bool
+is_computed Eq = true
+is_computed Eqv = true
+is_computed IsBoolean = true
+is_computed IsPair = true
+is_computed IsNull = true
+is_computed IsSymbol = true
+is_computed IsInteger = true
+is_computed IsChar = true
+is_computed IsString = true
+is_computed IsVector = true
+is_computed IsProcedure = true
+is_computed Add = true
+is_computed Subtract = true
+is_computed Multiply = true
+is_computed Quotient = true
+is_computed Remainder = true
+is_computed Modulo = true
+is_computed Equal = true
+is_computed Less = true
+is_computed Greater = true
+is_computed LessEqual = true
+is_computed GreaterEqual = true
+is_computed CharToInteger = true
+is_computed IntegerToChar = true
+is_computed _ = false
+
+-- a primitive of so many operands
 abbrev pub takes : ℕ → Primitive → Bool
-takes count which = is_straight_primitive which && nat_eq (operands_of which) count
+takes count which = nat_eq (operands_of which) count
 
-module _ (words globals : ℕ) where
+-- there are this many words of a frame, globals, symbols and literals
+module _ (words globals symbols literals : ℕ) where
   abbrev pub atom_selected : Atom Place → Bool
-  atom_selected (Constant c) = is_constant c && is_straight_constant c
+  atom_selected (Constant c) = constant_known symbols c && is_constant c
   atom_selected (Variable p) = is_place words p
-  atom_selected (Literal n) = false
+  atom_selected (Literal n) = nat_lt n literals
 
   abbrev pub read_selected : Primitive → List (Atom Place) → Bool
   read_selected which (a ∷ []) = (only_reads which && takes 1 which) && atom_selected a
-  read_selected which (a ∷ (b ∷ [])) = takes 2 which && (atom_selected a && atom_selected b)
+  read_selected which (a ∷ (b ∷ [])) = (only_reads which && takes 2 which) && (atom_selected a && atom_selected b)
   read_selected which _ = false
 
   abbrev pub operand_selected : Operand Place → Bool
@@ -50,7 +87,17 @@ module _ (words globals : ℕ) where
   abbrev pub primitive_selected : Primitive → List (Operand Place) → Bool
   primitive_selected which (a ∷ []) = takes 1 which && operand_selected a
   primitive_selected which (a ∷ (b ∷ [])) = takes 2 which && (operand_selected a && operand_selected b)
+  primitive_selected which (a ∷ (b ∷ (c ∷ []))) =
+      takes 3 which && (operand_selected a && (operand_selected b && operand_selected c))
   primitive_selected which _ = false
+
+  -- the operands of a primitive of three
+  pub three_selected : (which : Primitive) (a b c : Operand Place) → primitive_selected which (a ∷ (b ∷ (c ∷ []))) ≡ true
+      → (operand_selected a ≡ true) × ((operand_selected b ≡ true) × (operand_selected c ≡ true))
+  three_selected which a b c e =
+      let s = (and_parts (takes 3 which) (operand_selected a && (operand_selected b && operand_selected c)) e).1 in
+      let t = and_parts (operand_selected a) (operand_selected b && operand_selected c) s in
+      (t.0, and_parts (operand_selected b) (operand_selected c) t.1)
 
   abbrev pub source_selected : Source Place → Bool
   source_selected (source.Atom a) = atom_selected a
@@ -94,6 +141,11 @@ module _ (words globals : ℕ) where
   abbrev pub form_selected : Code → Bool
   form_selected c = nat_le (formals_of c.entry) max_operands && list_all instruction_selected c.instructions
 
+-- a rest variable is a formal, and the formals are in registers or in slots of a frame
+abbrev pub entry_selected : (words : ℕ) → Option Entry → Bool
+entry_selected words None = true
+entry_selected words (Some e) = (nat_le 1 e.formals || not e.rest) && nat_le e.formals (6 + words)
+
 -- the bodies that an instruction names are among those that there are
 abbrev pub members_few : ℕ → List (Member Place) → Bool
 members_few count [] = true
@@ -109,5 +161,5 @@ labels_few count (Fix members) = members_few count members
 labels_few count _ = true
 
 abbrev pub selects : tree.Source → Bool
-selects p = list_all (form_selected p.words (length p.statics.globals)) p.bodies && list_all
-    (λ c. marks_settled true c.instructions) p.bodies
+selects p = list_all (form_selected p.words (length p.statics.globals) (length p.statics.symbols)
+    (count_literals p.statics.literals)) p.bodies && list_all (λ c. marks_settled true c.instructions) p.bodies

@@ -12,10 +12,10 @@ use Rattle.sch_frames.specs.declared.instruction.Instruction.TheVariants as inst
 use Rattle.sch_frames.specs.Sizes.{closures_in, codes_size, grouped, instruction_size, instructions_size}
 use Rattle.sch_frames.specs.Tree.{Code, Source}
 use Rattle.sch_select.specs.Sizes.{steps_bound}
-use Rattle.sch_select.proofs.simulation.Bodies.{body_cost, instruction_cost}
+use Rattle.sch_select.proofs.procedures.Bodies.{body_cost, instruction_cost}
 use Rattle.sch_select.proofs.simulation.EachOperation.{operation_cost}
-use Rattle.sch_select.proofs.simulation.Procedures.{bodies_cost}
-use Rattle.sch_select.proofs.simulation.Records.{records_cost}
+use Rattle.sch_select.proofs.procedures.Procedures.{bodies_cost}
+use Rattle.sch_select.proofs.procedures.Records.{records_cost}
 use Rattle.sch_select.proofs.programs.Forms.{forms_cost}
 use Rattle.sch_select.proofs.items.TextSize.{grouped_first, sources_counts}
 
@@ -79,10 +79,11 @@ grows a b (suc n) le = let h = grows a b n le in let p = mul-suc a n in let q = 
     (arith, h, p, q, le)
 
 -- what a run pays for is within the bound
-pub steps_within : (p : Source) (steps n w answers left : ℕ)
+pub steps_within : (p : Source) (steps n w answers left charged : ℕ)
     → steps + 1 + (bodies_cost p.bodies * w + 10 * left) ≤ forms_cost p.bodies +
-    (bodies_cost p.bodies * n + 10 * answers) → 3 + steps + 1 ≤ steps_bound p (n - w) (answers - left)
-steps_within p steps n w answers left paid =
+    (bodies_cost p.bodies * n + 10 * answers + 8 * charged)
+    → 3 + steps + 1 ≤ steps_bound p (n - w) (answers - left) charged
+steps_within p steps n w answers left charged paid =
     let b = bodies_cost p.bodies in
     let m : ℕ = 256 * (codes_size p.bodies + (closures_in p.bodies + length p.bodies)) in
     let c = bodies_within p.bodies in let f = forms_within p.bodies in

@@ -6,7 +6,9 @@ use Rattle.std.specs.List.{flat_map, list_all}
 use Rattle.sch_word.specs.declared.answer.Answer.{Answer}
 use Rattle.sch_word.specs.runs.Stops.{status_of}
 use Rattle.sch_word.specs.runs.Store.{Store}
+use Rattle.sch_word.specs.values.Literals.{count_literals, literal_values, objects_of_each}
 use Rattle.sch_word.specs.values.Values.{Value}
+use Rattle.sch_word.proofs.values.LiteralObjects.{literal_values_length}
 use Rattle.sch_word.specs.runs.Computation.{gives, stops, spent}
 use Rattle.sch_word.specs.runs.Runs.{Run, ended, going, run_with, starting_store, starting_value, starting_values}
 use Rattle.sch_control.specs.Meaning.{World, Result, Callee}
@@ -14,7 +16,7 @@ use Rattle.sch_control.specs.Run.{seen_of, do_forms, enter, entry_at, starting_w
 use Rattle.sch_control.specs.declared.body.Entry.{Entry}
 use Rattle.sch_frames.specs.Tree.{Code, Source}
 use Rattle.sch_frames.specs.Run.{bodies_of, entries_of}
-use Rattle.sch_frames.specs.ObjectFree.{is_object_free_code}
+use Rattle.sch_frames.specs.Covered.{is_covered_code}
 use Rattle.sch_insn.specs.declared.insn.Insn.TheVariants.{MovWord}
 use Rattle.sch_insn.specs.Behaves.{Given, exit_of, FollowsRuns}
 use Rattle.sch_insn.specs.Step.{go_on, mach}
@@ -31,9 +33,9 @@ use Rattle.sch_asm.specs.Data.{data_at, word_in}
 use Rattle.sch_asm.specs.Views.{View, Leads, full}
 use Rattle.sch_asm.proofs.EachItem.{goes}
 use Rattle.sch_heap.specs.Parts.{Parts, end_of}
-use Rattle.sch_heap.specs.Encoded.{IsHeld}
+use Rattle.sch_heap.specs.Encoded.{IsWord, IsHeld}
 use Rattle.sch_heap.specs.Heap.{HeapAt, AreNew}
-use Rattle.sch_select.specs.Select.{global_address}
+use Rattle.sch_select.specs.Select.{table_address, literal_address, global_address, names_address}
 use Rattle.sch_select.specs.Program.{own_label, forms_code}
 use Rattle.sch_control.specs.declared.mark.MarkKind as control
 use Rattle.sch_select.specs.Select.{kind_of}
@@ -45,11 +47,11 @@ use Rattle.sch_select.specs.Follows.{AreRuns}
 use Rattle.sch_select.proofs.programs.Passing.{Passes, traces}
 use Rattle.sch_select.proofs.simulation.Places.{Plan, code_of, Room, StoreAt}
 use Rattle.sch_select.proofs.simulation.Outcomes.{Ends, Laid}
-use Rattle.sch_select.proofs.simulation.Entering.{Enters}
-use Rattle.sch_select.proofs.simulation.Procedures.{BodyAt, bodies_cost, enter_sim}
+use Rattle.sch_select.proofs.procedures.Entering.{Enters}
+use Rattle.sch_select.proofs.procedures.Procedures.{BodyAt, bodies_cost, enter_sim}
 use Rattle.sch_select.proofs.programs.Standing.{bodies_stand}
 use Rattle.sch_select.proofs.programs.Forms.{Owed, forms_sim, forms_cost}
-use Rattle.sch_select.proofs.programs.Selected.{form_selected}
+use Rattle.sch_select.proofs.programs.Selected.{form_selected, entry_selected}
 
 -- ---- globals, when a program starts
 
@@ -71,7 +73,7 @@ values_count [] = refl
 values_count (g ∷ gs) = ap suc (values_count gs)
 
 module _ (plan : Plan) (body_steps : ℕ) (laid : Laid plan body_steps) (depth : ℕ) (room : Room plan plan.stack depth) where
-  open plan use {setting, size, words, globals, closures, heap, stack, static, labels}
+  open plan use {setting, size, words, literals, globals, symbols, names, closures, heap, stack, static, labels}
 
   -- RBP, R12 and R13 are set, and the forms follow
   abbrev pub started : List Item → List Item
@@ -123,37 +125,38 @@ module _ (plan : Plan) (body_steps : ℕ) (laid : Laid plan body_steps) (depth :
 
   ended_does : (p : Source) (n : ℕ) → bodies_cost p.bodies ≡ body_steps
       → (t : Store) (x z : View) (answers : List Answer) (k : ℕ) (w : World) (r : Run) → t.entries ≡ n
-      → t.answers ≡ answers → Leads setting 3 3 [] x z → Ends plan body_steps [] t z (forms_cost p.bodies) k w
+      → t.answers ≡ answers → t.charged ≡ 0 → Leads setting 3 3 [] x z
+      → Ends plan body_steps [] t z (forms_cost p.bodies) k w
       → Some (run_with (ended k) answers n w.state.store) ≡ Some r
-      → (status : ℕ) → r.end ≡ ended status → exit_of (mach (steps_bound p r.entries r.answers) (full setting x)) ≡
+      → (status : ℕ) → r.end ≡ ended status → exit_of (mach (steps_bound p r.entries r.answers r.charged) (full setting x)) ≡
       Some (status, r.output)
-  ended_does p n all t x z answers k w r e i l s h status q =
+  ended_does p n all t x z answers k w r e i o l s h status q =
       let same : run_with (ended k) answers n w.state.store ≡ r = cc in
-      let left = length w.state.store.answers in
+      let left = length w.state.store.answers in let charged = w.state.store.charged in
       let cost = s.cost in let a = ap length i in
       let b1 = ap (λ b. b * t.entries) all in let b2 = ap (λ b. b * w.state.store.entries) all in let b3 = ap
       (λ k. bodies_cost p.bodies * k) e in
-      let le : 3 + s.steps + 1 ≤ steps_bound p (n - w.state.store.entries) (length answers - left) = steps_within p
-      s.steps n w.state.store.entries (length answers) left (omega (arith, cost, a, b1, b2, b3)) in
-      let m = steps_bound p (n - w.state.store.entries) (length answers - left) in
+      let m = steps_bound p (n - w.state.store.entries) (length answers - left) charged in
+      let le : 3 + s.steps + 1 ≤ m = steps_within p s.steps n w.state.store.entries (length answers) left charged
+      (omega (arith, cost, a, b1, b2, b3, o)) in
       subst (λ r. (status : ℕ) → r.end ≡ ended status → exit_of
-      (mach (steps_bound p r.entries r.answers) (full setting x)) ≡ Some (status, r.output)) same
+      (mach (steps_bound p r.entries r.answers r.charged) (full setting x)) ≡ Some (status, r.output)) same
       (λ status q. let is : k ≡ status = cc in subst (λ j. exit_of (mach m (full setting x)) ≡ Some
       (j, w.state.store.output)) is (exits_by t x z (forms_cost p.bodies) k m w l s le)) status q
 
   ends_does : (p : Source) (n : ℕ) (callee : Callee) (enters : Enters plan body_steps callee n)
       → bodies_cost p.bodies ≡ body_steps → (t : Store) (x z : View) (answers : List Answer) (result : Result)
-      (r : Run) → t.entries ≡ n → t.answers ≡ answers → Leads setting 3 3 [] x z
+      (r : Run) → t.entries ≡ n → t.answers ≡ answers → t.charged ≡ 0 → Leads setting 3 3 [] x z
       → Owed plan body_steps laid depth room n p.bodies callee enters [] t z (forms_cost p.bodies) result
       → seen_of answers n result ≡ Some r
-      → (status : ℕ) → r.end ≡ ended status → exit_of (mach (steps_bound p r.entries r.answers) (full setting x)) ≡
+      → (status : ℕ) → r.end ≡ ended status → exit_of (mach (steps_bound p r.entries r.answers r.charged) (full setting x)) ≡
       Some (status, r.output)
-  ends_does p n callee enters all t x z answers None r e i l s h status q = absurd (let bad : None ≡ Some r = h in cc)
-  ends_does p n callee enters all t x z answers (Some (gives v w)) r e i l s h status q = ended_does p n all t x z
-      answers 0 w r e i l s h status q
-  ends_does p n callee enters all t x z answers (Some (stops why w)) r e i l s h status q = ended_does p n all t x z
-      answers (status_of why) w r e i l s h status q
-  ends_does p n callee enters all t x z answers (Some (spent w)) r e i l s h status q =
+  ends_does p n callee enters all t x z answers None r e i o l s h status q = absurd (let bad : None ≡ Some r = h in cc)
+  ends_does p n callee enters all t x z answers (Some (gives v w)) r e i o l s h status q = ended_does p n all t x
+      z answers 0 w r e i o l s h status q
+  ends_does p n callee enters all t x z answers (Some (stops why w)) r e i o l s h status q = ended_does p n all t
+      x z answers (status_of why) w r e i o l s h status q
+  ends_does p n callee enters all t x z answers (Some (spent w)) r e i o l s h status q =
       let f : Some (run_with going answers n w.state.store) ≡ Some r = h in
       let same : run_with going answers n w.state.store ≡ r = cc in
       absurd (let bad : going ≡ ended status = ap (λ r. r.end) same ∙ q in cc)
@@ -204,20 +207,29 @@ module _ (plan : Plan) (body_steps : ℕ) (laid : Laid plan body_steps) (depth :
   pub record Starts (parts : Parts) (p : Source) (limit : ℕ) (bytes : List ℕ) : Type 0 where
     pub size_is : length bytes ≡ size
     pub texts : take 288 (drop 512 bytes) ≡ static
+    pub table : word_in bytes table_address ≡ names_address literals globals
+    pub literal_count : count_literals p.statics.literals ≡ literals
+    pub literal : (n : ℕ) (v : Value) → slice_get (literal_values p.statics.literals 0) n ≡ Some v
+        → IsWord parts v (word_in bytes (literal_address n))
     pub count : length p.statics.globals ≡ globals
     pub values : (g : ℕ) (o : Option ℕ) → slice_get p.statics.globals g ≡ Some o
-        → IsHeld parts (starting_value o) (word_in bytes (global_address g))
+        → IsHeld parts (starting_value o) (word_in bytes (global_address literals g))
+    pub symbols_are : p.statics.symbols ≡ symbols
+    pub known : parts.symbols ≡ length symbols
+    pub names_are : take (length names) (drop (names_address literals globals - 0x10000000) bytes) ≡ names
     pub first : 16 * parts.first ≡ closures
     pub next : 16 * end_of parts ≡ heap
     pub limited : heap + limit ≡ stack
-    pub contents : HeapAt (code_of plan) parts [] (library_procedures p.library) bytes
+    pub contents : HeapAt (code_of plan) parts [] (library_procedures p.library) (objects_of_each p.statics.literals 0) bytes
     pub new : AreNew parts 0 (length (library_procedures p.library))
 
   module _ (p : Source) (limit : ℕ) (parts : Parts) (bytes : List ℕ) (rest : List Item)
-      (selected : list_all (form_selected words globals) p.bodies ≡ true)
-      (object_free : list_all is_object_free_code p.bodies ≡ true) (short : bodies_cost p.bodies ≤ body_steps)
+      (selected : list_all (form_selected words globals (length symbols) literals) p.bodies ≡ true)
+      (covered : list_all is_covered_code p.bodies ≡ true)
+      (entered_so : list_all (λ c. entry_selected words c.entry) p.bodies ≡ true)
+      (short : bodies_cost p.bodies ≤ body_steps)
       (h : Stands setting [] 0x400000
-      (started (forms_code words stack 0 (own_label p) p.bodies (item.Jump (label_of routine.End) ∷ rest))))
+      (started (forms_code words stack literals 0 (own_label p) p.bodies (item.Jump (label_of routine.End) ∷ rest))))
       (s : Starts parts p limit bytes) where
     stood : (label : ℕ) (c : Code) (e : Entry) → slice_get p.bodies label ≡ Some c → c.entry ≡ Some e
         → BodyAt plan label c e
@@ -230,7 +242,7 @@ module _ (plan : Plan) (body_steps : ℕ) (laid : Laid plan body_steps) (depth :
     callee n = enter (entry_at (entries_of p.bodies)) (bodies_of p.bodies) n
 
     enters : (n : ℕ) → Enters plan body_steps (callee n) n
-    enters n = enter_sim plan body_steps laid p.bodies selected object_free short stood n
+    enters n = enter_sim plan body_steps laid p.bodies selected covered short stood entered_so n
 
     -- the machine at its start, and where the forms begin
     abbrev first : Given → List Answer → View
@@ -278,15 +290,21 @@ module _ (plan : Plan) (body_steps : ℕ) (laid : Laid plan body_steps) (depth :
           within = (let a = plan.stack_low in omega (arith, a));
           begins = s.first;
           ends = s.next ∙ free;
+          texts = s.texts;
+          table = s.table;
+          literal_count = literal_values_length p.statics.literals 0 ∙ s.literal_count;
+          literal = s.literal;
           count = values_count p.statics.globals ∙ s.count;
           global = λ i o e. let b = begins p.statics.globals i o e in subst
-              (λ o. IsHeld parts o (word_in bytes (global_address i))) (sym b.is) (s.values i b.held b.there);
-          texts = s.texts;
+              (λ o. IsHeld parts o (word_in bytes (global_address literals i))) (sym b.is) (s.values i b.held b.there);
+          symbols_are = s.symbols_are;
+          known = s.known;
+          names_are = s.names_are;
           contents = s.contents;
           new = s.new;
         } in
         forms_sim plan body_steps laid depth room n p.bodies (callee n) (enters n) p.bodies 0 (own_label p) rest
-        selected object_free (λ j c e. let sum : 0 + j ≡ j = omega arith in ap (slice_get p.bodies) sum ∙ e) [] w
+        selected covered (λ j c e. let sum : 0 + j ≡ j = omega arith in ap (slice_get p.bodies) sum ∙ e) [] w
         (ready g answers) h.2.2.2
         (record { parts = parts; frame = refl; deep = refl; few = omega arith; free = free; world = world }) refl
 
@@ -302,7 +320,7 @@ module _ (plan : Plan) (body_steps : ℕ) (laid : Laid plan body_steps) (depth :
     program_ends all runs r = record {
       within = λ g answers n status e.
           ends_does p n (callee n) (enters n) all (starting_store p.statics limit answers n) (first g answers)
-          (ready g answers) answers (outcome answers n) (runs answers n) refl refl (gets_ready g answers)
+          (ready g answers) answers (outcome answers n) (runs answers n) refl refl refl (gets_ready g answers)
           (forms_done g answers n) (r.are answers n) status e;
     }
 

@@ -1,10 +1,9 @@
--- Words of the heap that are free are written, and become parts.
-use Rattle.std.proofs.Common.{◌≡◌, ℕ, ◌+◌, ◌*◌, ◌<◌, ◌≤◌, List, ◌++◌, length, take, drop, false, Option, Some, refl}
+-- Bytes of the heap that are free are written, and become parts.
+use Rattle.std.proofs.Common.{◌≡◌, ℕ, ◌+◌, ◌*◌, ◌<◌, ◌≤◌, List, [], ◌∷◌, ◌++◌, length, false, Option, Some, refl}
 use Rattle.std.proofs.Common.{sym, ◌∙◌, subst, arith, ◌⊎◌, inl, inr, ◌==◌, length-append}
 use Rattle.std.specs.Prelude.{slice_get, slice_set, nat_le}
 use Rattle.std.proofs.lemmas.Bool.Decides.{nat_tests}
 use Rattle.std.proofs.lemmas.List.{length-set}
-use Rattle.std.proofs.lemmas.Option.{slice_get_within}
 use Rattle.sch_word.specs.declared.answer.Answer.{Answer}
 use Rattle.sch_word.specs.declared.place.Place.{Place}
 use Rattle.sch_word.specs.declared.place.Place.TheVariants.{Reg, Slot}
@@ -13,65 +12,75 @@ use Rattle.sch_word.specs.runs.Computation.{State}
 use Rattle.sch_control.specs.Operations.{Procedure}
 use Rattle.sch_frames.specs.Meaning.{Cell}
 use Rattle.sch_asm.specs.Data.{Inside, word_in, with_word}
-use Rattle.sch_asm.proofs.Words.{word_other, size_kept, before_word}
-use Rattle.sch_select.specs.Select.{global_address}
-use Rattle.sch_heap.specs.Parts.{a_cell, Part, Parts, units, Spot, spot, grown}
-use Rattle.sch_heap.specs.Encoded.{IsWord, IsHeld, Words}
+use Rattle.sch_asm.proofs.Words.{size_kept}
+use Rattle.sch_heap.specs.Parts.{a_cell, a_procedure, Part, Parts, units, Spot, spot, grown}
+use Rattle.sch_heap.specs.Encoded.{IsWord, Words}
 use Rattle.sch_heap.specs.Heap.{CellAt, RecordAt, AreNew}
 use Rattle.sch_heap.proofs.Spots.{spot_within, end_grown}
-use Rattle.sch_heap.proofs.Contents.{heap_kept, heap_grows, words_stay, held_words, cells_added, procedures_added, cell_set}
-use Rattle.sch_select.proofs.simulation.Places.{Plan, code_of, Activation, StoreAt, PlacesAt, Holds, holds_words, not_register}
+use Rattle.sch_heap.proofs.Ranges.{piece_in, word_stays, piece_beside}
+use Rattle.sch_heap.proofs.Contents.{NoObjects, heap_kept, heap_grows, words_stay, cells_added, procedures_added, cell_set}
+use Rattle.sch_select.proofs.simulation.Places.{Plan, code_of, heap_above, Activation, StoreAt, store_changed, PlacesAt}
+use Rattle.sch_select.proofs.simulation.Places.{Holds, holds_words, not_register}
 
--- Words from an address to another may have changed, and none else.
+-- Bytes from an address to another may have changed, and none else.
 pub record Wrote (from to : ℕ) (before after : List ℕ) : Type 0 where
   pub size : length after ≡ length before
-  pub other : (a : ℕ) → 0x10000000 ≤ a → (a + 8 ≤ from) ⊎ (to ≤ a) → word_in after a ≡ word_in before a
-  pub texts : take 288 (drop 512 after) ≡ take 288 (drop 512 before)
+  pub pieces : (a n : ℕ) → 0x10000000 ≤ a → (a + n ≤ from) ⊎ (to ≤ a) → piece_in after a n ≡ piece_in before a n
+
+pub other_word : (from to : ℕ) (before after : List ℕ) → Wrote from to before after → (a : ℕ) → 0x10000000 ≤ a
+    → (a + 8 ≤ from) ⊎ (to ≤ a) → word_in after a ≡ word_in before a
+other_word from to before after p a low far = word_stays before after a (p.pieces a 8 low far)
 
 pub wrote_none : (from to : ℕ) (bytes : List ℕ) → Wrote from to bytes bytes
-wrote_none from to bytes = record { size = refl; other = λ a low far. refl; texts = refl }
+wrote_none from to bytes = record { size = refl; pieces = λ a n low far. refl }
 
-pub wrote_one : (from to a v : ℕ) (bytes : List ℕ) → Inside (length bytes) a → 0x10000320 ≤ a → from ≤ a → a + 8 ≤ to
+pub wrote_one : (from to a v : ℕ) (bytes : List ℕ) → Inside (length bytes) a → from ≤ a → a + 8 ≤ to
     → Wrote from to bytes (with_word bytes a v)
-wrote_one from to a v bytes within low lo hi = record {
+wrote_one from to a v bytes within lo hi = record {
   size = size_kept bytes a v within;
-  other = λ b l far. word_other bytes a v b within l (by b far);
-  texts = before_word bytes a v 512 288 within (omega (arith, low));
+  pieces = λ b n l far. piece_beside bytes a v b n within l (by b n far);
 }
   where
-    by : (b : ℕ) → (b + 8 ≤ from) ⊎ (to ≤ b) → (b + 8 ≤ a) ⊎ (a + 8 ≤ b)
-    by b (inl le) = inl (omega (arith, le, lo))
-    by b (inr le) = inr (omega (arith, le, hi))
+    by : (b n : ℕ) → (b + n ≤ from) ⊎ (to ≤ b) → (b + n ≤ a) ⊎ (a + 8 ≤ b)
+    by b n (inl le) = inl (omega (arith, le, lo))
+    by b n (inr le) = inr (omega (arith, le, hi))
 
 pub wrote_then : (from to : ℕ) (a b c : List ℕ) → Wrote from to a b → Wrote from to b c → Wrote from to a c
 wrote_then from to a b c p q = record {
   size = q.size ∙ p.size;
-  other = λ k low far. q.other k low far ∙ p.other k low
-      far;
-  texts = q.texts ∙ p.texts;
+  pieces = λ k n low far. q.pieces k n low far ∙ p.pieces k n low far;
 }
 
 pub wrote_within : (from to from' to' : ℕ) (before after : List ℕ) → from ≤ from' → to' ≤ to
     → Wrote from' to' before after → Wrote from to before after
 wrote_within from to from' to' before after lo hi p = record
-    { size = p.size; other = λ k low far. p.other k low (by k far); texts = p.texts }
+    { size = p.size; pieces = λ k n low far. p.pieces k n low (by k n far) }
   where
-    by : (b : ℕ) → (b + 8 ≤ from) ⊎ (to ≤ b) → (b + 8 ≤ from') ⊎ (to' ≤ b)
-    by b (inl le) = inl (omega (arith, le, lo))
-    by b (inr le) = inr (omega (arith, le, hi))
+    by : (b n : ℕ) → (b + n ≤ from) ⊎ (to ≤ b) → (b + n ≤ from') ⊎ (to' ≤ b)
+    by b n (inl le) = inl (omega (arith, le, lo))
+    by b n (inr le) = inr (omega (arith, le, hi))
+
+-- the part of a cell, or of a procedure
+pub one_cell : (n more : ℕ) → NoObjects (record { owner = a_cell n; more = more } ∷ [])
+one_cell n more = record { pairs = λ k. refl; vectors = λ k. refl; strings = λ k. refl }
+
+pub one_procedure : (n more : ℕ) → NoObjects (record { owner = a_procedure n; more = more } ∷ [])
+one_procedure n more = record { pairs = λ k. refl; vectors = λ k. refl; strings = λ k. refl }
 
 module _ (plan : Plan) where
   open plan use {
     setting,
     size,
     words,
+    literals,
     globals,
+    symbols,
+    names,
     closures,
     heap,
     stack,
     closures_low,
     heap_low,
-    closures_high,
     stack_low,
     small,
     near,
@@ -84,23 +93,11 @@ module _ (plan : Plan) where
       → StoreAt plan parts s bytes output answers → StoreAt plan parts s bytes' output answers
   store_wrote parts s bytes bytes' output answers from to lo hi p g =
       let b = g.begins in let e = g.ends in let cl = closures_low in let hl = heap_low in
-      record {
-        size_is = p.size ∙ g.size_is;
-        printed = g.printed;
-        left = g.left;
-        limit = g.limit;
-        within = g.within;
-        begins = g.begins;
-        ends = g.ends;
-        count = g.count;
-        global = λ k o i. let lt = slice_get_within s.store.globals k o i in let c = g.count in
-            subst (IsHeld parts o) (sym (p.other (global_address k) (omega arith)
-            (inl (omega (arith, lt, c, lo, hl))))) (g.global k o i);
-        texts = p.texts ∙ g.texts;
-        contents = heap_kept (code_of plan) parts s.cells s.procedures bytes bytes'
-            (λ a l h. p.other a (omega (arith, l, b, cl)) (inl (omega (arith, h, e, lo)))) g.contents;
-        new = g.new;
-      }
+      store_changed plan parts parts s s.cells s.procedures s.store.objects s.store.charged bytes bytes' output answers
+      (λ v x h. h) g.begins g.known p.size
+      (λ a n l h. p.pieces a n (omega (arith, l)) (inl (omega (arith, h, lo, hl)))) g.within g.ends
+      (heap_kept (code_of plan) parts s.cells s.procedures s.store.objects bytes bytes'
+      (λ a n l h. p.pieces a n (omega (arith, l, b, cl)) (inl (omega (arith, h, e, lo)))) g.contents) g.new g
 
   module _ (act : Activation plan) where
     pub heap_inside : (a : ℕ) (bytes : List ℕ) → length bytes ≡ size → closures ≤ a → a + 8 ≤ stack
@@ -113,17 +110,17 @@ module _ (plan : Plan) where
         → PlacesAt plan act parts charged places outgoing registers bytes
         → PlacesAt plan act parts charged places outgoing registers bytes'
     places_wrote parts charged places outgoing registers bytes bytes' from to hi p f =
-        let low = act.room.low in let hl = heap_low in let sl = stack_low in
+        let low = act.room.low in let hl = heap_above plan in let sl = stack_low in
         record {
           frame = f.frame;
           depth = f.depth;
           free = f.free;
           register = f.register;
           slot = λ j lj. subst (Holds act.back parts (places (Slot j)))
-              (sym (p.other (act.frame + 8 * j) (omega (arith, low, hl, sl)) (inr (omega (arith, hi, low)))))
-              (f.slot j lj);
+              (sym (other_word from to bytes bytes' p (act.frame + 8 * j) (omega (arith, low, hl, sl))
+              (inr (omega (arith, hi, low))))) (f.slot j lj);
           next = λ j lj. subst (Holds act.back parts (outgoing j))
-              (sym (p.other (act.frame + 8 * (words + j)) (omega (arith, low, hl, sl))
+              (sym (other_word from to bytes bytes' p (act.frame + 8 * (words + j)) (omega (arith, low, hl, sl))
               (inr (omega (arith, hi, low))))) (f.next j lj);
         }
 
@@ -147,7 +144,8 @@ module _ (plan : Plan) where
 
   module _ (parts : Parts) (others : List Part) (s : State Procedure) (bytes : List ℕ) (output : List ℕ)
       (answers : List Answer) (total : ℕ) (taken : 16 * units others ≡ total)
-      (room : heap + (s.store.charged + total) ≤ stack) (g : StoreAt plan parts s bytes output answers) where
+      (room : heap + (s.store.charged + total) ≤ stack) (none : NoObjects others)
+      (g : StoreAt plan parts s bytes output answers) where
     -- the same with cells and procedures that have the new parts
     pub store_grown : (cells : List (Option Value)) (made : List Procedure)
         → ((i : ℕ) (c : Option Value) → slice_get cells i ≡ Some c
@@ -163,24 +161,15 @@ module _ (plan : Plan) where
         }) bytes output answers
     store_grown cells made c p new =
         let e = g.ends in let n = end_grown parts others in
-        record {
-          size_is = g.size_is;
-          printed = g.printed;
-          left = g.left;
-          limit = g.limit;
-          within = room;
-          begins = g.begins;
-          ends = omega (arith, e, n, taken);
-          count = g.count;
-          global = λ k o i. held_words parts (grown parts others) (words_stay parts others) o _ (g.global k o i);
-          texts = g.texts;
-          contents = procedures_added (code_of plan) (grown parts others) (s.cells ++ cells) s.procedures made bytes p
-              (cells_added (code_of plan) (grown parts others) s.cells cells s.procedures bytes c
-              (heap_grows (code_of plan) parts others s.cells s.procedures bytes g.contents));
-          new = subst (λ n. AreNew (grown parts others) n (length (s.procedures ++ made)))
-              (sym (length-append s.cells cells)) (subst (AreNew (grown parts others) (length s.cells + length cells))
-              (sym (length-append s.procedures made)) new);
-        }
+        store_changed plan parts (grown parts others) s (s.cells ++ cells) (s.procedures ++ made) s.store.objects
+        (s.store.charged + total) bytes bytes output answers (words_stay parts others) g.begins g.known refl
+        (λ a n lo hi. refl) room (omega (arith, e, n, taken))
+        (procedures_added (code_of plan) (grown parts others) (s.cells ++ cells) s.procedures made s.store.objects
+        bytes p (cells_added (code_of plan) (grown parts others) s.cells cells s.procedures s.store.objects bytes c
+        (heap_grows (code_of plan) parts others s.cells s.procedures s.store.objects bytes none g.contents)))
+        (subst (λ n. AreNew (grown parts others) n (length (s.procedures ++ made)))
+        (sym (length-append s.cells cells)) (subst (AreNew (grown parts others) (length s.cells + length cells))
+        (sym (length-append s.procedures made)) new)) g
 
   -- ---- a cell is set
 
@@ -195,23 +184,14 @@ module _ (plan : Plan) where
       let b = g.begins in let e = g.ends in let i = g.within in let cl = closures_low in let z = g.size_is in
       let within : Inside (length bytes) (16 * at.unit) = record
       { low = omega (arith, lo, b, cl); high = omega (arith, hi, e, i, top, z) } in
-      record {
-        size_is = size_kept bytes (16 * at.unit) x within ∙ g.size_is;
-        printed = g.printed;
-        left = g.left;
-        limit = g.limit;
-        within = g.within;
-        begins = g.begins;
-        ends = g.ends;
-        count = g.count;
-        global = λ k o q. let l = slice_get_within s.store.globals k o q in let c = g.count in
-            subst (IsHeld parts o) (sym (word_other bytes (16 * at.unit) x (global_address k) within (omega arith)
-            (inl (omega (arith, l, c, lo, b, cl))))) (g.global k o q);
-        texts = before_word bytes (16 * at.unit) x 512 288 within (omega (arith, lo, b, cl)) ∙ g.texts;
-        contents = cell_set (code_of plan) parts s.cells s.procedures bytes n (Some v) at x lt there h within
-            (omega (arith, b, cl)) g.contents;
-        new = subst (λ n. AreNew parts n (length s.procedures)) (sym (length-set s.cells n (Some v))) g.new;
-      }
+      store_changed plan parts parts s (slice_set s.cells n (Some v)) s.procedures s.store.objects s.store.charged
+      bytes (with_word bytes (16 * at.unit) x) output answers (λ v x h. h) g.begins g.known
+      (size_kept bytes (16 * at.unit) x within)
+      (λ a n l h. piece_beside bytes (16 * at.unit) x a n within (omega (arith, l)) (inl (omega (arith, h, lo, b))))
+      g.within g.ends
+      (cell_set (code_of plan) parts s.cells s.procedures s.store.objects bytes n (Some v) at x lt there h within
+      (omega (arith, b, cl)) g.contents)
+      (subst (λ n. AreNew parts n (length s.procedures)) (sym (length-set s.cells n (Some v))) g.new) g
 
   -- ---- whether the heap has room
 

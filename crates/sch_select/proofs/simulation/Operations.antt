@@ -1,21 +1,21 @@
--- The machine does what an operation does, with the rest of the body as any continuation.
-use Rattle.std.proofs.Common.{◌≡◌, ℕ, zero, suc, ◌+◌, ◌^◌, ◌<◌, ◌≤◌, List, [], ◌∷◌, ◌++◌, length, map, Bool, true}
+-- The machine does what an operation of an operand or of a global does, and what a put does, with the rest of the
+-- body as any continuation.
+use Rattle.std.proofs.Common.{◌≡◌, ℕ, ◌+◌, ◌^◌, ◌<◌, ◌≤◌, List, [], ◌∷◌, ◌++◌, length, map, Bool, true}
 use Rattle.std.proofs.Common.{false, Option, Some, None, refl, sym, ap, ◌∙◌, subst, arith, append-nil, eq-eqb}
 use Rattle.std.specs.Prelude.{pos, slice_get, slice_set}
 use Rattle.sch_word.specs.declared.answer.Answer.{Answer}
 use Rattle.sch_word.specs.declared.place.Place.{Place}
-use Rattle.sch_word.specs.declared.primitive.Primitive.{Primitive}
 use Rattle.sch_word.specs.declared.primitive.Primitive.TheVariants as prim
 use Rattle.sch_word.specs.declared.stop.Stop.TheVariants.{WrongType, Unset, OutputFailed}
 use Rattle.sch_word.specs.runs.Stops.{status_of}
 use Rattle.sch_word.specs.values.Values.{Value, unspecified}
 use Rattle.sch_word.specs.runs.Store.{Store}
 use Rattle.sch_word.specs.values.Put.{put}
-use Rattle.sch_word.specs.runs.Computation.{Outcome, gives, stops, spent, read_global, set_or_stop, with_rest, in_store, require}
+use Rattle.sch_word.specs.runs.Computation.{Outcome, gives, stops, spent, read_global, set_or_stop, with_rest, require}
 use Rattle.sch_word.specs.values.PrimitiveRows.{piece, primitive, put_piece}
 use Rattle.sch_control.specs.declared.operation.Operand.{Operand}
 use Rattle.sch_control.specs.declared.operation.Operation.TheVariants as operation
-use Rattle.sch_control.specs.Operations.{operate, operand_value, and_value, with_some}
+use Rattle.sch_control.specs.Operations.{operate, operand_value, with_some}
 use Rattle.sch_control.specs.Meaning.{World, Result, on_ending, on_outcome}
 use Rattle.sch_frames.specs.Meaning.{Frame, Is, held}
 use Rattle.sch_insn.specs.declared.condition.TheConstants.{E}
@@ -34,18 +34,18 @@ use Rattle.sch_asm.specs.Views.{View, Leads}
 use Rattle.sch_asm.proofs.EachItem.{goes, branches, jumps, loads_label, loads_data, stores_data}
 use Rattle.sch_heap.specs.Parts.{Parts}
 use Rattle.sch_heap.specs.Encoded.{IsWord}
-use Rattle.sch_select.specs.Select.{global_address, put_label, kind_of, operand_code, second_code, unary_code}
-use Rattle.sch_select.specs.Select.{binary_code, put_code, operation_code, stop_label}
+use Rattle.sch_select.specs.Select.{global_address, put_label, kind_of, operand_code}
+use Rattle.sch_select.specs.Select.{put_code, operation_code, stop_label}
 use Rattle.sch_heap.proofs.Encodings.{fits, unset_tested}
-use Rattle.sch_select.proofs.simulation.Straight.{halts_after, is_free, kept_set, kept_then, moved_to, Yields, Comes, comes_after}
-use Rattle.sch_select.proofs.simulation.Primitives.{unary_here, binary_here}
-use Rattle.sch_select.proofs.simulation.Places.{Plan, Activation, StoreAt, PlacesAt, places_kept, Holds}
-use Rattle.sch_select.proofs.simulation.Operands.{Reads, ReadsSecond, operand_here, second_here, free_scratch}
+use Rattle.sch_select.proofs.simulation.Straight.{halts_after, is_free, kept_set, kept_then, moved_to, Yields, Comes}
+use Rattle.sch_select.proofs.simulation.Places.{Plan, element_there, heap_above, Activation, StoreAt, PlacesAt}
+use Rattle.sch_select.proofs.simulation.Places.{places_kept, Holds}
+use Rattle.sch_select.proofs.simulation.Operands.{Reads, operand_here, free_scratch}
 use Rattle.sch_select.proofs.simulation.PutValue.{PutsPiece, puts_value}
 use Rattle.sch_select.proofs.simulation.Changes.{global_inside, global_written, store_behind, places_written}
 use Rattle.sch_select.proofs.simulation.Changes.{below_written, places_behind, word_behind}
 use Rattle.sch_select.proofs.simulation.Outcomes.{Ends, Sim, after, Laid, stops_here}
-use Rattle.sch_select.proofs.programs.Selected.{operand_selected, takes}
+use Rattle.sch_select.proofs.programs.Selected.{operand_selected}
 
 pub none_waits : (l before waiting : List MarkKind) → l ≡ before ++ waiting → l ≡ (before ++ waiting) ++ []
 none_waits l before waiting e = e ∙ sym (append-nil (before ++ waiting))
@@ -53,13 +53,8 @@ none_waits l before waiting e = e ∙ sym (append-nil (before ++ waiting))
 not_past : (o : Option (Option Value)) → o ≡ None → ((x : Option Value) × (o ≡ Some x)) → ⊥
 not_past o e s = let bad : None ≡ Some s.0 = sym e ∙ s.1 in absurd cc
 
-within_some : (xs : List (Option Value)) (i : ℕ) → i < length xs → (x : Option Value) × (slice_get xs i ≡ Some x)
-within_some [] i lt = absurd (omega (arith, lt))
-within_some (x ∷ xs) zero lt = (x, refl)
-within_some (x ∷ xs) (suc i) lt = within_some xs i (omega (arith, lt))
-
 module _ (plan : Plan) (body_steps : ℕ) (laid : Laid plan body_steps) (act : Activation plan) where
-  open plan use {setting, size, words, globals, heap, stack}
+  open plan use {setting, size, words, literals, globals, symbols, heap, stack}
 
   abbrev pub Std : List MarkKind → ℕ → List Item → Type 0
   Std waiting a is = Stands setting waiting a is
@@ -153,11 +148,11 @@ module _ (plan : Plan) (body_steps : ℕ) (laid : Laid plan body_steps) (act : A
     comes_sim m (spent u) le s = absurd s
 
     -- an operand's value
-    pub operand_sim : (n : ℕ) (o : Operand Place) → operand_selected words globals o ≡ true
+    pub operand_sim : (n : ℕ) (o : Operand Place) → operand_selected words globals (length symbols) literals o ≡ true
         → Std waiting x.place (operand_code n o rest) → SimOf parts before w x (250 + c)
         (on_ending w.marks (operate (held f) (operation.Operand o) w.state) (next_of k f))
     operand_sim n o e h = by (operand_value (held f) w.state.store o)
-        (operand_here plan act parts n o w.state.store.charged f w.state.store x waiting rest e p g.size_is h)
+        (operand_here plan act parts n o w.state.store.charged f w.state x waiting rest e p g h)
       where
         by : (v : Option Value) → Reads plan act parts x waiting 32 rest v
             → SimOf parts before w x (250 + c) (on_ending w.marks (with_some v (λ v. Some (gives v w.state)))
@@ -168,12 +163,12 @@ module _ (plan : Plan) (body_steps : ℕ) (laid : Laid plan body_steps) (act : A
 
     -- ---- globals
 
-    pub global_here : (i : ℕ) → i < globals → Std waiting x.place (operation_code stack 0 (operation.Global i) rest)
+    pub global_here : (i : ℕ) → i < globals → Std waiting x.place (operation_code stack literals 0 (operation.Global i) rest)
         → Comes setting parts is_free x waiting 3 w.state.store rest (read_global i w.state.store)
     global_here i lt h = by (slice_get w.state.store.globals i) refl
       where
         n : ℕ
-        n = word_in x.bytes (global_address i)
+        n = word_in x.bytes (global_address literals i)
 
         y : View
         y = moved_to x (set_register x.registers 0 n) x.flags (x.place + h.0)
@@ -182,7 +177,7 @@ module _ (plan : Plan) (body_steps : ℕ) (laid : Laid plan body_steps) (act : A
         z = moved_to x y.registers (difference_of n 38).flags (y.place + h.4.0)
 
         first : Leads setting 2 2 waiting x z
-        first = leads_on setting.marks (loads_data setting x 0 (global_address i)
+        first = leads_on setting.marks (loads_data setting x 0 (global_address literals i)
             (item.Plain (CmpNumber (Reg 0) (pos 38)) ∷ (item.JumpIf E (stop_label Unset) ∷ rest)) waiting h
             (global_inside plan i x.bytes lt heap_within g.size_is))
             (goes setting y z (CmpNumber (Reg 0) (pos 38)) h.4.0 [] h.4.1 refl)
@@ -190,7 +185,7 @@ module _ (plan : Plan) (body_steps : ℕ) (laid : Laid plan body_steps) (act : A
         by : (o : Option (Option Value)) → slice_get w.state.store.globals i ≡ o
             → Comes setting parts is_free x waiting 3 w.state.store rest (set_or_stop o w.state.store)
         by None e = absurd (let m = g.count in not_past (slice_get w.state.store.globals i) e
-            (within_some w.state.store.globals i (omega (arith, m, lt))))
+            (element_there w.state.store.globals i (omega (arith, m, lt))))
         by (Some None) e =
             let is : n ≡ 38 = g.global i None e in (
               refl,
@@ -223,15 +218,15 @@ module _ (plan : Plan) (body_steps : ℕ) (laid : Laid plan body_steps) (act : A
             )
 
     -- a value into a global
-    pub set_sim : (n i : ℕ) (o : Operand Place) → i < globals → operand_selected words globals o ≡ true
-        → Std waiting x.place (operation_code stack n (operation.SetGlobal i o) rest)
+    pub set_sim : (n i : ℕ) (o : Operand Place) → i < globals → operand_selected words globals (length symbols) literals o ≡ true
+        → Std waiting x.place (operation_code stack literals n (operation.SetGlobal i o) rest)
         → SimOf parts before w x (250 + c) (on_ending w.marks (operate (held f) (operation.SetGlobal i o) w.state)
         (next_of k f))
     set_sim n i o lt e h = by (operand_value (held f) w.state.store o)
-        (operand_here plan act parts n o w.state.store.charged f w.state.store x waiting behind e p g.size_is h)
+        (operand_here plan act parts n o w.state.store.charged f w.state x waiting behind e p g h)
       where
         behind : List Item
-        behind = item.StoreWord (global_address i) 0 ∷ (item.Plain (MovNumber (Reg 0) (pos 30)) ∷ rest)
+        behind = item.StoreWord (global_address literals i) 0 ∷ (item.Plain (MovNumber (Reg 0) (pos 30)) ∷ rest)
 
         by : (v : Option Value) → Reads plan act parts x waiting 32 behind v
             → SimOf parts before w x (250 + c) (on_ending w.marks
@@ -242,7 +237,7 @@ module _ (plan : Plan) (body_steps : ℕ) (laid : Laid plan body_steps) (act : A
             let y = moved_to x s.registers s.flags s.place in
             let a = s.ahead in
             let z : View = record y {
-              bytes = with_word x.bytes (global_address i) (s.registers 0);
+              bytes = with_word x.bytes (global_address literals i) (s.registers 0);
               place = y.place +
                   a.0;
             } in
@@ -258,7 +253,7 @@ module _ (plan : Plan) (body_steps : ℕ) (laid : Laid plan body_steps) (act : A
             after plan body_steps act parts parts (λ v n h. h) before waiting w.state.store w'.state.store x u
             (s.least + 1 + 1) (s.steps + 1 + 1) c (250 + c) _
             (leads_on setting.marks (leads_on setting.marks s.leads
-            (stores_data setting y 0 (global_address i) (item.Plain (MovNumber (Reg 0) (pos 30)) ∷ rest) [] a
+            (stores_data setting y 0 (global_address literals i) (item.Plain (MovNumber (Reg 0) (pos 30)) ∷ rest) [] a
             (global_inside plan i x.bytes lt heap_within g.size_is)))
             (goes setting z u (MovNumber (Reg 0) (pos 30)) a.4.0 [] a.4.1 refl))
             (λ q lo hi. below_written plan act x.bytes i (s.registers 0) lt heap_within g.size_is q lo)
@@ -272,7 +267,7 @@ module _ (plan : Plan) (body_steps : ℕ) (laid : Laid plan body_steps) (act : A
 
     -- ---- a put, whose value is in RAX
 
-    put_sim : (n : ℕ) (v : Value) → IsWord parts v (x.registers 0) → Std waiting x.place (put_code n rest)
+    pub put_sim : (n : ℕ) (v : Value) → IsWord parts v (x.registers 0) → Std waiting x.place (put_code n rest)
         → SimOf parts before w x (216 + c) (on_outcome w.marks
         (with_rest w.state.cells w.state.procedures (primitive prim.Put (v ∷ []) w.state.store)) (next_of k f))
     put_sim n v hv h = by_piece (piece v t) q
@@ -292,11 +287,14 @@ module _ (plan : Plan) (body_steps : ℕ) (laid : Laid plan body_steps) (act : A
             (jumps setting y1 put_label (item.Label n ∷ (item.Plain (MovNumber (Reg 0) (pos 30)) ∷ rest)) [] h.4)
 
         ready : IsReady y2
-        ready = let a = plan.heap_low in let b = heap_within in let e = g.size_is in let s = plan.small in record
+        ready = let a = heap_above plan in let b = heap_within in let e = g.size_is in let s = plan.small in record
             { own_words = omega (arith, a, b, e); within = omega (arith, e, s); back = plan.labels n }
 
-        q : PutsPiece setting laid.routine parts y2 ready (g.texts ∙ laid.static_is) (piece v t)
-        q = puts_value setting laid.routine parts y2 ready (g.texts ∙ laid.static_is) v t hv laid.put_stands
+        top : stack ≤ 0x10000000 + size
+        top = let a = act.room.low in let b = act.room.high in omega (arith, a, b)
+
+        q : PutsPiece plan laid.routine y2 (piece v t)
+        q = puts_value plan laid.routine parts w.state y2 ready (g.texts ∙ laid.static_is) top g v hv laid.put_stands
 
         far : heap + t.charged < 2 ^ 64
         far = let a = g.within in let b = act.room.low in let e = act.room.high in let s = plan.small in omega
@@ -330,7 +328,7 @@ module _ (plan : Plan) (body_steps : ℕ) (laid : Laid plan body_steps) (act : A
             (2 + s.most + 1) c (216 + c) _
             (leads_on setting.marks (leads_on setting.marks called s.leads)
             (goes setting z u (MovNumber (Reg 0) (pos 30)) hz.0 [] hz.1 refl))
-            (λ a lo hi. let hl = plan.heap_low in let sl = plan.stack_low in word_behind x.bytes z.bytes a s.others
+            (λ a lo hi. let hl = heap_above plan in let sl = plan.stack_low in word_behind x.bytes z.bytes a s.others
             (omega (arith, lo, hl, sl)))
             (omega arith) (omega arith) (omega (arith, few, many))
             (K parts (before ++ waiting) [] (record f { accumulator = Is unspecified }) w' u hz.2
@@ -356,7 +354,7 @@ module _ (plan : Plan) (body_steps : ℕ) (laid : Laid plan body_steps) (act : A
               silent = s.silent;
             }
 
-        by_piece : (o : Option (List ℕ)) → PutsPiece setting laid.routine parts y2 ready (g.texts ∙ laid.static_is) o
+        by_piece : (o : Option (List ℕ)) → PutsPiece plan laid.routine y2 o
             → SimOf parts before w x (216 + c) (on_outcome w.marks
             (with_rest w.state.cells w.state.procedures (put_piece o t)) (next_of k f))
         by_piece None s = stops_here plan body_steps laid before waiting x 202 (216 + c) WrongType w
@@ -366,107 +364,3 @@ module _ (plan : Plan) (body_steps : ℕ) (laid : Laid plan body_steps) (act : A
             by_whole (put bytes t.answers).whole (put bytes t.answers).taken (put bytes t.answers).left
             (subst (λ l. PutEnds setting (put bytes l).whole y2 200 (x.output ++ (put bytes l).taken)
             (put bytes l).left) g.left s)
-
-  -- ---- primitives
-
-  module _ (k : Frame → World → Result) (c : ℕ) (rest : List Item) (K : Rest k c rest) (parts : Parts)
-      (before waiting : List MarkKind) (f : Frame) (w : World) (x : View) (p : FrameOf parts f w x)
-      (g : StoreOf parts w x) (marked : map kind_of w.marks ≡ before ++ waiting) where
-    -- of one operand, which has its value
-    abbrev Applied : (n : ℕ) → Value → (place : ℕ) → Primitive → Type 0
-    Applied n v place which =
-        Std [] place (unary_code (n + 8) which rest) → SimOf parts before w x (250 + c)
-        (on_outcome w.marks (with_rest w.state.cells w.state.procedures (primitive which (v ∷ []) w.state.store))
-        (next_of k f))
-
-    pub unary_sim : (n : ℕ) (which : Primitive) (o : Operand Place) → takes 1 which ≡ true
-        → operand_selected words globals o ≡ true → Std waiting x.place
-        (operand_code n o (unary_code (n + 8) which rest)) → SimOf parts before w x (250 + c)
-        (on_ending w.marks (with_some (and_value (operand_value (held f) w.state.store o) (Some []))
-        (λ vs. Some (in_store (primitive which vs) w.state))) (next_of k f))
-    unary_sim n which o allowed e h = by (operand_value (held f) w.state.store o)
-        (operand_here plan act parts n o w.state.store.charged f w.state.store x waiting
-        (unary_code (n + 8) which rest) e p g.size_is h)
-      where
-        by : (v : Option Value) → Reads plan act parts x waiting 32 (unary_code (n + 8) which rest) v
-            → SimOf parts before w x (250 + c) (on_ending w.marks
-            (with_some (and_value v (Some [])) (λ vs. Some (in_store (primitive which vs) w.state))) (next_of k f))
-        by None s = tt
-        by (Some v) s = of which allowed s.ahead
-          where
-            y : View
-            y = moved_to x s.registers s.flags s.place
-
-            pure : (other : Primitive) → takes 1 other ≡ true → (other ≡ prim.Put → ⊥) → Applied n v s.place other
-            pure other is no_put st =
-                comes_sim k c rest K parts before waiting f w x p g marked 52 (primitive other (v ∷ []) w.state.store)
-                (omega arith)
-                (comes_scratch parts x waiting 52 w.state.store rest _
-                (comes_after setting parts is_free x s.registers s.flags s.place waiting s.least s.steps 20 52
-                w.state.store rest _ s.leads s.kept (let q = s.few in omega (arith, q))
-                (unary_here setting parts (n + 8) other v y [] w.state.store rest is no_put s.value st)))
-
-            put : Applied n v s.place prim.Put
-            put st =
-                onward parts before waiting w x y s.least s.steps (216 + c) (250 + c) _ s.leads (λ a lo hi. refl)
-                (let q = s.few in omega (arith, q))
-                (put_sim k c rest K parts (before ++ waiting) [] f w y
-                (places_kept plan act parts w.state.store.charged f.places f.outgoing x.registers s.registers
-                x.bytes (free_scratch x.registers s.registers s.kept) p) g
-                (none_waits (map kind_of w.marks) before waiting marked) (n + 8) v s.value st)
-
-            of : (other : Primitive) → takes 1 other ≡ true → Applied n v s.place other
-            of prim.Put is = put
-            of other is = pure other is (λ e. absurd cc)
-
-    -- of two operands
-    pub binary_sim : (n : ℕ) (which : Primitive) (o q : Operand Place) → takes 2 which ≡ true
-        → operand_selected words globals o ≡ true → operand_selected words globals q ≡ true
-        → Std waiting x.place (operand_code n o (second_code (n + 4) q (binary_code (n + 8) which rest)))
-        → SimOf parts before w x (250 + c) (on_ending w.marks
-        (with_some (and_value (operand_value (held f) w.state.store o)
-        (and_value (operand_value (held f) w.state.store q) (Some [])))
-        (λ vs. Some (in_store (primitive which vs) w.state))) (next_of k f))
-    binary_sim n which o q allowed e e' h = by (operand_value (held f) w.state.store o)
-        (operand_here plan act parts n o w.state.store.charged f w.state.store x waiting
-        (second_code (n + 4) q (binary_code (n + 8) which rest)) e p g.size_is h)
-      where
-        t : Store
-        t = w.state.store
-
-        by : (v : Option Value) → Reads plan act parts x waiting 32
-            (second_code (n + 4) q (binary_code (n + 8) which rest)) v
-            → SimOf parts before w x (250 + c) (on_ending w.marks
-            (with_some (and_value v (and_value (operand_value (held f) t q) (Some [])))
-            (λ vs. Some (in_store (primitive which vs) w.state))) (next_of k f))
-        by None s = none (operand_value (held f) t q)
-          where
-            none : (u : Option Value) → SimOf parts before w x (250 + c)
-                (on_ending w.marks (with_some (and_value None (and_value u (Some [])))
-                (λ vs. Some (in_store (primitive which vs) w.state))) (next_of k f))
-            none None = tt
-            none (Some u) = tt
-        by (Some v) s = second (operand_value (held f) t q)
-            (second_here plan act parts (n + 4) q t.charged f t y [] (binary_code (n + 8) which rest) e'
-            (places_kept plan act parts t.charged f.places f.outgoing x.registers s.registers x.bytes
-            (free_scratch x.registers s.registers s.kept) p) g.size_is s.ahead)
-          where
-            y : View
-            y = moved_to x s.registers s.flags s.place
-
-            second : (u : Option Value) → ReadsSecond plan act parts y [] 35 (binary_code (n + 8) which rest) u
-                → SimOf parts before w x (250 + c) (on_ending w.marks
-                (with_some (and_value (Some v) (and_value u (Some [])))
-                (λ vs. Some (in_store (primitive which vs) w.state))) (next_of k f))
-            second None r = tt
-            second (Some u) r =
-                let z = moved_to x r.registers r.flags r.place in
-                comes_sim k c rest K parts before waiting f w x p g marked 97 (primitive which (v ∷ (u ∷ [])) t)
-                (omega arith)
-                (comes_after setting parts is_scratch x z.registers z.flags z.place waiting (s.least + r.least)
-                (s.steps + r.steps) 30 97 t rest _ (leads_on setting.marks s.leads r.leads)
-                (kept_then is_scratch x.registers s.registers r.registers
-                (free_scratch x.registers s.registers s.kept) r.kept)
-                (let a = s.few in let b = r.few in omega (arith, a, b))
-                (comes_scratch parts z [] 30 t rest _ (binary_here setting parts (n + 8) which v u z [] t rest allowed
-                (subst (IsWord parts v) (sym r.first) s.value) r.second r.ahead)))

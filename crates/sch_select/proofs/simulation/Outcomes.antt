@@ -1,5 +1,5 @@
 -- What a machine owes to a result: it comes back, exits, or goes on, and its steps are paid for.
-use Rattle.std.proofs.Common.{◌≡◌, ℕ, ◌+◌, ◌*◌, ◌≤◌, List, [], ◌++◌, length, map, true, Some, None, refl, sym, ap, ◌∙◌, arith, append_assoc}
+use Rattle.std.proofs.Common.{◌≡◌, ℕ, ◌+◌, ◌-◌, ◌*◌, ◌≤◌, List, [], ◌++◌, length, map, true, Some, None, refl, sym, ap, ◌∙◌, arith, append_assoc}
 use Rattle.sch_word.specs.declared.stop.Stop.{Stop}
 use Rattle.sch_word.specs.runs.Stops.{status_of}
 use Rattle.sch_word.specs.runs.Store.{Store}
@@ -18,17 +18,20 @@ use Rattle.sch_asm.specs.Stands.{Stands}
 use Rattle.sch_asm.specs.Data.{word_in}
 use Rattle.sch_asm.specs.Effects.{Effect}
 use Rattle.sch_asm.specs.Views.{View, full, Leads}
-use Rattle.sch_select.specs.Select.{stop_label, put_label, kind_of}
-use Rattle.sch_select.specs.Program.{put_value_code, static_bytes}
+use Rattle.sch_select.specs.Select.{stop_label, put_label, vector_label, string_label, kind_of}
+use Rattle.sch_select.specs.Program.{put_value_code, make_vector_code, make_string_code}
+use Rattle.sch_select.specs.RestCode.{rest_routine}
+use Rattle.sch_select.specs.Data.{static_bytes}
 use Rattle.sch_select.proofs.simulation.Straight.{moved_to, Halts}
 use Rattle.sch_select.proofs.simulation.Places.{Plan, Activation, StoreAt}
 
--- A procedure entry pays for as many steps as a body has at most, and an answer of the kernel for ten.
+-- A procedure entry pays for as many steps as a body has at most, an answer of the kernel for ten, and a byte that is
+-- charged for eight.
 module _ (plan : Plan) (body_steps : ℕ) where
   open plan use {setting, heap, stack}
 
   abbrev pub paid : Store → ℕ
-  paid t = body_steps * t.entries + 10 * length t.answers
+  paid t = body_steps * t.entries + 10 * length t.answers + 8 * (stack - (heap + t.charged))
 
   -- Before the state of x these marks are passed, and the store is t; c pays for what is ahead.
 
@@ -153,11 +156,14 @@ module _ (plan : Plan) (body_steps : ℕ) where
   after act parts parts' words before events t t' x y a b c most (Some (spent w)) p low l1 l2 le s = λ few.
       goes_on_after before events t t' x y a b w p l1 (s (omega (arith, few, l2)))
 
-  -- ---- the routines, and that of the program itself
+  -- ---- the routines, and those of the program itself
 
   pub record Laid : Type 0 where
     pub routine : (k : Routine) (x : View) → x.place ≡ setting.place_of (label_of k) → Effect setting k x
     pub put_stands : Stands setting [] (setting.place_of put_label) put_value_code
+    pub make_vector_stands : Stands setting [] (setting.place_of vector_label) (make_vector_code stack [])
+    pub make_string_stands : Stands setting [] (setting.place_of string_label) (make_string_code stack [])
+    pub lists : (a : ℕ) × Stands setting [] a (rest_routine stack [])
     pub static_is : plan.static ≡ static_bytes
 
   -- the routine of a stop

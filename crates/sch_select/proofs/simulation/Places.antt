@@ -1,5 +1,5 @@
 -- Where the values of an activation and of a store are in the machine, and what loads and stores of them do.
-use Rattle.std.proofs.Common.{◌≡◌, ℕ, ◌+◌, ◌*◌, ◌^◌, ◌<◌, ◌≤◌, List, [], ◌∷◌, length, take, drop, Bool, true, false}
+use Rattle.std.proofs.Common.{◌≡◌, ℕ, zero, suc, ◌+◌, ◌-◌, ◌*◌, ◌^◌, ◌<◌, ◌≤◌, List, [], ◌∷◌, length, take, drop, Bool, true, false}
 use Rattle.std.proofs.Common.{cond, Option, Some, refl, sym, ap, ◌∙◌, subst, arith, ◌==◌, ⊎_elim, inl, inr, ◌⊎◌}
 use Rattle.std.specs.Prelude.{pos, nat_eq, slice_get}
 use Rattle.std.proofs.lemmas.Bool.{ne_eqb, ltb-true, eqb-true, eqb-false, cases_lt}
@@ -7,7 +7,7 @@ use Rattle.std.proofs.lemmas.Option.{slice_get_within}
 use Rattle.sch_word.specs.declared.answer.Answer.{Answer}
 use Rattle.sch_word.specs.declared.place.Place.{Place}
 use Rattle.sch_word.specs.declared.place.Place.TheVariants.{Reg, Slot}
-use Rattle.sch_word.specs.values.Values.{Value}
+use Rattle.sch_word.specs.values.Values.{Value, Object}
 use Rattle.sch_word.specs.runs.Computation.{State}
 use Rattle.sch_control.specs.Operations.{Procedure}
 use Rattle.sch_frames.specs.Meaning.{Cell, Is, Link, Junk, value_in, set}
@@ -23,34 +23,62 @@ use Rattle.sch_asm.specs.Data.{Inside, word_in, with_word}
 use Rattle.sch_asm.specs.Effects.{is_scratch}
 use Rattle.sch_asm.specs.Views.{View, Leads}
 use Rattle.sch_asm.proofs.EachItem.{goes, loads_word, stores_word}
-use Rattle.sch_asm.proofs.Words.{word_same, word_other, size_kept, before_word}
+use Rattle.sch_asm.proofs.Words.{word_same, word_other, size_kept}
 use Rattle.sch_heap.specs.Parts.{Parts, end_of}
 use Rattle.sch_heap.specs.Encoded.{IsWord, IsHeld, Words}
 use Rattle.sch_heap.specs.Heap.{HeapAt, AreNew}
-use Rattle.sch_heap.proofs.Contents.{heap_kept}
-use Rattle.sch_select.specs.Select.{place_operand, globals_address, global_address, body_label}
+use Rattle.sch_heap.proofs.Ranges.{BytesStay, word_stays, piece_beside}
+use Rattle.sch_heap.proofs.Contents.{heap_kept, held_words}
+use Rattle.sch_select.specs.Select.{place_operand, table_address, literal_address, global_address, names_address}
+use Rattle.sch_select.specs.Select.{body_label}
+use Rattle.sch_select.specs.Names.{AreNamed}
 use Rattle.sch_heap.proofs.Encodings.{fits}
 use Rattle.sch_select.proofs.simulation.Straight.{Kept, moved_to}
 
--- Where a program lies: its text, the size of its data and of its frames, how many globals there are, and
--- where its closures, its heap and its stack begin. The static bytes of puts stand before the globals.
+-- an element of a list below its length
+pub element_there : {A : Type 0} (xs : List A) (n : ℕ) → n < length xs → (x : A) × (slice_get xs n ≡ Some x)
+element_there [] n lt = absurd (omega (arith, lt))
+element_there (x ∷ xs) zero lt = (x, refl)
+element_there (x ∷ xs) (suc n) lt = element_there xs n (omega (arith, lt))
+
+-- Where a program lies: its text, the size of its data and of its frames; where its globals begin and how many there
+-- are; the names of its symbols, with the bytes that stand behind the globals for them; and where its closures, its
+-- heap and its stack begin. The static bytes of puts, the address of the names and the words of literals stand before
+-- the globals.
 pub record Plan : Type 0 where
   pub setting : Setting
   pub size : ℕ
   pub words : ℕ
+  pub literals : ℕ
   pub globals : ℕ
+  pub symbols : List (List ℕ)
+  pub names : List ℕ
   pub closures : ℕ
   pub heap : ℕ
   pub stack : ℕ
   pub static : List ℕ
-  pub closures_low : globals_address + 8 * globals ≤ closures
-  pub heap_low : globals_address + 8 * globals ≤ heap
-  pub closures_high : closures ≤ heap
+  pub named : AreNamed symbols names (names_address literals globals)
+  pub closures_low : names_address literals globals + length names ≤ closures
+  pub heap_low : closures ≤ heap
   pub stack_low : heap ≤ stack
   pub near : stack < 2 ^ 31
   pub small : 0x10000000 + size < 2 ^ 63
   pub narrow : words ≤ 2048
   pub labels : (l : ℕ) → setting.place_of l < 2 ^ 64
+
+-- the heap is behind the names of symbols, and those are few
+pub heap_above : (plan : Plan) → names_address plan.literals plan.globals + length plan.names ≤ plan.heap
+heap_above plan = let a = plan.closures_low in let b = plan.heap_low in omega (arith, a, b)
+
+pub few_symbols : (plan : Plan) → length plan.symbols ≤ 4294967296
+few_symbols plan = ⊎_elim (λ lt. absurd (many lt)) (λ le. le) (cases_lt 4294967296 (length plan.symbols))
+  where
+    many : 4294967296 < length plan.symbols → ⊥
+    many lt =
+        let s = element_there plan.symbols 4294967296 lt in
+        let p = (plan.named.each 4294967296 s.0 s.1).pointed in
+        let a = plan.closures_low in let b = plan.heap_low in let c = plan.stack_low in let d = plan.near in
+        omega (arith, a, b, c, d, p)
 
 -- where the code of a body is
 abbrev pub code_of : Plan → ℕ → ℕ
@@ -117,14 +145,16 @@ module _ (plan : Plan) where
     setting,
     size,
     words,
+    literals,
     globals,
+    symbols,
+    names,
     closures,
     heap,
     stack,
     static,
     closures_low,
     heap_low,
-    closures_high,
     stack_low,
     small,
     narrow,
@@ -141,12 +171,65 @@ module _ (plan : Plan) where
     pub within : heap + s.store.charged ≤ stack
     pub begins : 16 * parts.first ≡ closures
     pub ends : 16 * end_of parts ≡ heap + s.store.charged
+    pub texts : take 288 (drop 512 bytes) ≡ static
+    pub table : word_in bytes table_address ≡ names_address literals globals
+    pub literal_count : length s.store.constants.literals ≡ literals
+    pub literal : (n : ℕ) (v : Value) → slice_get s.store.constants.literals n ≡ Some v
+        → IsWord parts v (word_in bytes (literal_address n))
     pub count : length s.store.globals ≡ globals
     pub global : (g : ℕ) (o : Option Value) → slice_get s.store.globals g ≡ Some o
-        → IsHeld parts o (word_in bytes (global_address g))
-    pub texts : take 288 (drop 512 bytes) ≡ static
-    pub contents : HeapAt (code_of plan) parts s.cells s.procedures bytes
+        → IsHeld parts o (word_in bytes (global_address literals g))
+    pub symbols_are : s.store.constants.symbols ≡ symbols
+    pub known : parts.symbols ≡ length symbols
+    pub names_are : take (length names) (drop (names_address literals globals - 0x10000000) bytes) ≡ names
+    pub contents : HeapAt (code_of plan) parts s.cells s.procedures s.store.objects bytes
     pub new : AreNew parts (length s.cells) (length s.procedures)
+
+  -- ---- the store with another heap
+
+  -- The data below the closures stay, and the heap may have other cells, procedures, objects and parts.
+  pub store_changed : (parts parts' : Parts) (s : State Procedure) (cells : List (Option Value))
+      (procedures : List Procedure) (objects : List Object) (charged : ℕ) (bytes bytes' : List ℕ) (output : List ℕ)
+      (answers : List Answer) → Words parts parts' → 16 * parts'.first ≡ closures → parts'.symbols ≡ length symbols
+      → length bytes' ≡ length bytes
+      → BytesStay 0x10000200 closures bytes bytes' → heap + charged ≤ stack → 16 * end_of parts' ≡ heap + charged
+      → HeapAt (code_of plan) parts' cells procedures objects bytes' → AreNew parts' (length cells) (length procedures)
+      → StoreAt parts s bytes output answers → StoreAt parts'
+      (record {
+        cells = cells;
+        store = record s.store { objects = objects; charged = charged };
+        procedures = procedures;
+      }) bytes' output answers
+  store_changed parts parts' s cells procedures objects charged bytes bytes' output answers moved first known long stay
+      room ends contents new g =
+      let cl = closures_low in
+      record {
+        size_is = long ∙ g.size_is;
+        printed = g.printed;
+        left = g.left;
+        limit = g.limit;
+        within = room;
+        begins = first;
+        ends = ends;
+        texts = stay 0x10000200 288 (omega arith) (omega (arith, cl)) ∙ g.texts;
+        table = word_stays bytes bytes' table_address (stay table_address 8 (omega arith) (omega (arith, cl)))
+            ∙ g.table;
+        literal_count = g.literal_count;
+        literal = λ k v i. let lt = slice_get_within s.store.constants.literals k v i in let c = g.literal_count in
+            subst (IsWord parts' v) (sym (word_stays bytes bytes' (literal_address k)
+            (stay (literal_address k) 8 (omega arith) (omega (arith, lt, c, cl))))) (moved v _ (g.literal k v i));
+        count = g.count;
+        global = λ k o i. let lt = slice_get_within s.store.globals k o i in let c = g.count in
+            subst (IsHeld parts' o) (sym (word_stays bytes bytes' (global_address literals k)
+            (stay (global_address literals k) 8 (omega arith) (omega (arith, lt, c, cl)))))
+            (held_words parts parts' moved o _ (g.global k o i));
+        symbols_are = g.symbols_are;
+        known = known;
+        names_are = stay (names_address literals globals) (length names) (omega arith) (omega (arith, cl))
+            ∙ g.names_are;
+        contents = contents;
+        new = new;
+      }
 
   module _ (act : Activation plan) where
     -- The frame of the next call is behind the own one.
@@ -175,8 +258,8 @@ module _ (plan : Plan) where
 
     pub slot_inside : (j : ℕ) (bytes : List ℕ) → length bytes ≡ size → j < words + words
         → Inside (length bytes) (act.frame + 8 * j)
-    slot_inside j bytes e lt = let a = act.room.low in let b = act.room.high in let c = heap_low in let f =
-        stack_low in record { low = omega (arith, a, c, f); high = omega (arith, b, e, lt) }
+    slot_inside j bytes e lt = let a = act.room.low in let b = act.room.high in let c = heap_above plan in
+        let f = stack_low in record { low = omega (arith, a, c, f); high = omega (arith, b, e, lt) }
 
     pub slot_named : (j : ℕ) (x : View) → length x.bytes ≡ size → j < words + words → x.registers 5 ≡ act.frame
         → add64 (x.registers 5) (word (pos (8 * j))) ≡ act.frame + 8 * j
@@ -223,24 +306,13 @@ module _ (plan : Plan) where
     store_kept parts s bytes output answers a v within above g =
         let hl = heap_low in let sl = stack_low in let cl = closures_low in
         let w = g.within in let b = g.begins in let e = g.ends in
-        record {
-          size_is = size_kept bytes a v within ∙ g.size_is;
-          printed = g.printed;
-          left = g.left;
-          limit = g.limit;
-          within = g.within;
-          begins = g.begins;
-          ends = g.ends;
-          count = g.count;
-          global = λ k o i. let lt = slice_get_within s.store.globals k o i in let c = g.count in
-              subst (IsHeld parts o) (sym (word_other bytes a v (global_address k) within (omega arith)
-              (inl (omega (arith, lt, c, above, hl, sl))))) (g.global k o i);
-          texts = before_word bytes a v 512 288 within (omega (arith, above, hl, sl)) ∙ g.texts;
-          contents = heap_kept (code_of plan) parts s.cells s.procedures bytes (with_word bytes a v)
-              (λ p lo hi. word_other bytes a v p within (omega (arith, lo, b, cl))
-              (inl (omega (arith, hi, e, w, above)))) g.contents;
-          new = g.new;
-        }
+        let stay : BytesStay 0x10000000 (heap + s.store.charged) bytes (with_word bytes a v) = λ p n lo hi.
+        piece_beside bytes a v p n within lo (inl (omega (arith, hi, w, above))) in
+        store_changed parts parts s s.cells s.procedures s.store.objects s.store.charged bytes (with_word bytes a v)
+        output answers (λ v x h. h) g.begins g.known (size_kept bytes a v within)
+        (λ p n lo hi. stay p n (omega (arith, lo)) (omega (arith, hi, hl))) g.within g.ends
+        (heap_kept (code_of plan) parts s.cells s.procedures s.store.objects bytes (with_word bytes a v)
+        (λ p n lo hi. stay p n (omega (arith, lo, b, cl)) (omega (arith, hi, e))) g.contents) g.new g
 
     -- ---- a register into a place
 
@@ -297,7 +369,7 @@ module _ (plan : Plan) where
           place = x.place +
               st.0;
         } in
-        let low = act.room.low in let hl = heap_low in let sl = stack_low in
+        let low = act.room.low in let hl = heap_above plan in let sl = stack_low in
         record {
           y = y;
           leads = stores_word setting x r st.0 (act.frame + 8 * j) (arg.Base32 5 (pos (8 * j))) waiting st.1

@@ -1,6 +1,6 @@
 -- The machine does what a primitive does, whose operands are in RAX and RCX.
 use Rattle.std.proofs.Common.{◌≡◌, ℕ, zero, suc, ◌+◌, ◌*◌, ◌^◌, ◌<◌, ◌≤◌, ◌%◌, ◌/◌, List, [], ◌∷◌, Bool, true, false}
-use Rattle.std.proofs.Common.{cond, Some, None, refl, sym, ap, ◌∙◌, subst, arith, ◌==◌, ◌||◌, eq-eqb}
+use Rattle.std.proofs.Common.{cond, Some, refl, sym, ap, ◌∙◌, subst, arith, ◌==◌, ◌||◌, eq-eqb}
 use Rattle.std.specs.Prelude.{ℤ, pos, negsuc, nat_abs, ◌+ℤ◌, ◌-ℤ◌, ◌*ℤ◌, ◌≤ℤ◌, not, bit_and, nat_le, nat_lt, int_lt}
 use Rattle.std.specs.Prelude.{int_le, int_div, int_rem, ◌&&◌, Ok}
 use Rattle.std.proofs.lemmas.Bool.{ne_eqb, and_parts, ltb-true, eqb-false}
@@ -12,15 +12,14 @@ use Rattle.sch_word.specs.declared.primitive.Primitive.TheVariants.{IsInteger, I
 use Rattle.sch_word.specs.declared.primitive.Primitive.TheVariants.{IsProcedure, Add, Subtract, Multiply, Quotient}
 use Rattle.sch_word.specs.declared.primitive.Primitive.TheVariants.{Remainder, Modulo, Equal, Less, Greater}
 use Rattle.sch_word.specs.declared.primitive.Primitive.TheVariants.{LessEqual, GreaterEqual, CharToInteger}
-use Rattle.sch_word.specs.declared.primitive.Primitive.TheVariants.{IntegerToChar, Put}
+use Rattle.sch_word.specs.declared.primitive.Primitive.TheVariants.{IntegerToChar}
 use Rattle.sch_word.specs.declared.stop.Stop.TheVariants.{OutOfRange, DivideByZero, Overflow}
 use Rattle.sch_word.specs.values.Fixnum.{IsFixnum}
-use Rattle.sch_word.specs.values.Values.{Value, fixnum, character, boolean, nil, unspecified, symbol, object, procedure, cell, same_value}
+use Rattle.sch_word.specs.values.Values.{Value, Object, fixnum, character, boolean, same_value}
 use Rattle.sch_word.specs.runs.Store.{Store}
 use Rattle.sch_word.specs.runs.Computation.{Outcome, gives, stops, spent, Action, require}
 use Rattle.sch_word.specs.values.PrimitiveRows.{primitive, as_fixnum, fixnum_or_stop, is_zero, is_index, in_range}
-use Rattle.sch_word.specs.values.PrimitiveRows.{signs_differ, int_modulo, object_at, is_pair, is_vector, is_string}
-use Rattle.sch_word.specs.values.PrimitiveRows.{is_symbol}
+use Rattle.sch_word.specs.values.PrimitiveRows.{signs_differ, int_modulo}
 use Rattle.sch_word.proofs.values.Fixnums.{is_fixnum_holds}
 use Rattle.sch_insn.specs.declared.condition.TheConstants.{A, E, L, GE, G, LE}
 use Rattle.sch_insn.specs.declared.insn.Arg.TheVariants.{Reg}
@@ -37,7 +36,7 @@ use Rattle.sch_insn.proofs.Paths.{leads_on, leads_here}
 use Rattle.sch_asm.specs.declared.item.Item.{Item}
 use Rattle.sch_asm.specs.declared.item.Item.TheVariants.{Label, Plain, Jump, JumpIf}
 use Rattle.sch_asm.specs.declared.item.MarkKind.{MarkKind}
-use Rattle.sch_asm.specs.Stands.{Setting, Stands}
+use Rattle.sch_asm.specs.Stands.{Stands}
 use Rattle.sch_asm.specs.Data.{FixnumWord}
 use Rattle.sch_asm.specs.Views.{View, Leads, full}
 use Rattle.sch_asm.proofs.EachItem.{goes, branches, jumps}
@@ -51,59 +50,17 @@ use Rattle.sch_heap.proofs.Quotients.{Divides, divides, quotient_computes, posit
 use Rattle.sch_heap.proofs.Comparisons.{is_less, is_not_less, at_most_is, tests_equal, tests_less, tests_greater}
 use Rattle.sch_heap.proofs.Comparisons.{tests_less_equal, tests_greater_equal}
 use Rattle.sch_heap.specs.Parts.{Parts}
-use Rattle.sch_heap.proofs.Encodings.{fits, tag_of, tag_tested, integer_tested, character_tested, boolean_tested}
-use Rattle.sch_heap.proofs.Encodings.{null_tested, procedure_tested, same_tested}
+use Rattle.sch_heap.proofs.Encodings.{fits, integer_tested, character_tested, boolean_tested, null_tested}
+use Rattle.sch_heap.proofs.Encodings.{symbol_tested, procedure_tested, same_tested}
+use Rattle.sch_heap.proofs.Objects.{pair_tested, vector_tested, string_tested}
+use Rattle.sch_heap.specs.Heap.{AreKinds}
+use Rattle.sch_word.specs.runs.Computation.{State}
+use Rattle.sch_control.specs.Operations.{Procedure}
+use Rattle.sch_select.proofs.simulation.Places.{Plan, StoreAt}
 use Rattle.sch_select.proofs.simulation.Straight.{is_free, kept_set, kept_then, moved_to, tagged, Comes, comes_after}
 use Rattle.sch_select.proofs.simulation.Straight.{yields_after, fixnum_checked, character_checked, booleans, tests}
 use Rattle.sch_select.proofs.simulation.Straight.{ends_fixnum, by_7, by_127, by_255}
-use Rattle.sch_select.proofs.programs.Selected.{takes}
-
--- ---- types that no word has yet
-
--- an object's tag, which no word has yet
-no_tag : (parts : Parts) (v : Value) (x k : ℕ) → IsWord parts v x → 0 < k → k < 4 → (tag_of v == k) ≡ false
-no_tag parts (fixnum n) x k h some low = ne_eqb 0 k (λ e. omega (arith, e, some, low))
-no_tag parts (character n) x k h some low = ne_eqb 6 k (λ e. omega (arith, e, some, low))
-no_tag parts (boolean b) x k h some low = ne_eqb 6 k (λ e. omega (arith, e, some, low))
-no_tag parts nil x k h some low = ne_eqb 6 k (λ e. omega (arith, e, some, low))
-no_tag parts unspecified x k h some low = ne_eqb 6 k (λ e. omega (arith, e, some, low))
-no_tag parts (symbol n) x k h some low = absurd h
-no_tag parts (object n) x k h some low = absurd h
-no_tag parts (procedure n) x k h some low = ne_eqb 4 k (λ e. omega (arith, e, some, low))
-no_tag parts (cell n) x k h some low = ne_eqb 7 k (λ e. omega (arith, e, some, low))
-
-no_object : (parts : Parts) (v : Value) (x : ℕ) (t : Store) → IsWord parts v x → object_at v t ≡ None
-no_object parts (fixnum n) x t h = refl
-no_object parts (character n) x t h = refl
-no_object parts (boolean b) x t h = refl
-no_object parts nil x t h = refl
-no_object parts unspecified x t h = refl
-no_object parts (symbol n) x t h = absurd h
-no_object parts (object n) x t h = absurd h
-no_object parts (procedure n) x t h = refl
-no_object parts (cell n) x t h = refl
-
-no_symbol : (parts : Parts) (v : Value) (x : ℕ) → IsWord parts v x → is_symbol v ≡ false
-no_symbol parts (fixnum n) x h = refl
-no_symbol parts (character n) x h = refl
-no_symbol parts (boolean b) x h = refl
-no_symbol parts nil x h = refl
-no_symbol parts unspecified x h = refl
-no_symbol parts (symbol n) x h = absurd h
-no_symbol parts (object n) x h = absurd h
-no_symbol parts (procedure n) x h = refl
-no_symbol parts (cell n) x h = refl
-
-no_symbol_tag : (parts : Parts) (v : Value) (x : ℕ) → IsWord parts v x → (tag_of v == 5) ≡ false
-no_symbol_tag parts (fixnum n) x h = refl
-no_symbol_tag parts (character n) x h = refl
-no_symbol_tag parts (boolean b) x h = refl
-no_symbol_tag parts nil x h = refl
-no_symbol_tag parts unspecified x h = refl
-no_symbol_tag parts (symbol n) x h = absurd h
-no_symbol_tag parts (object n) x h = absurd h
-no_symbol_tag parts (procedure n) x h = refl
-no_symbol_tag parts (cell n) x h = refl
+use Rattle.sch_select.proofs.programs.Selected.{takes, is_computed}
 
 -- ---- fixnums' words
 
@@ -148,7 +105,8 @@ other_sign (pos zero) e f = absurd cc
 other_sign (pos (suc m)) e f = is_less (pos 0) (pos (suc m)) (omega (arith, ints))
 other_sign (negsuc m) e f = absurd (omega (arith, ints, f))
 
-module _ (setting : Setting) (parts : Parts) where
+module _ (plan : Plan) (parts : Parts) where
+  open plan use {setting}
   open setting use {place_of}
 
   abbrev Std : List MarkKind → ℕ → List Item → Type 0
@@ -265,17 +223,17 @@ module _ (setting : Setting) (parts : Parts) where
             (booleans setting parts z n c (f k l) [] rest (is k l (registers 0) (registers 1) hk hl) st.2),
       )))
 
-  same : (a b : Value) (n : ℕ) (x : View) (waiting : List MarkKind) (t : Store) (rest : List Item)
+  same : (objects : List Object) → AreKinds parts objects → (a b : Value) (n : ℕ) (x : View) (waiting : List MarkKind) (t : Store) (rest : List Item)
       → IsWord parts a (x.registers 0) → IsWord parts b (x.registers 1) → Std waiting x.place (compare_code n E rest)
       → Owes x waiting 30 t rest (gives (boolean (same_value a b)) t)
-  same a b n x waiting t rest ha hb h =
+  same objects kinds a b n x waiting t rest ha hb h =
       let z = moved_to x x.registers (difference_of (x.registers 0) (x.registers 1)).flags (x.place + h.0) in (
         refl,
         yields_after setting parts is_free x z.registers z.flags z.place waiting 1 1 3 30 (boolean (same_value a b))
             rest (goes setting x z (CmpTo (Reg 0) 1) h.0 waiting h.1 refl) (λ r f. refl) (omega arith)
             (booleans setting parts z n E (same_value a b) [] rest
             (compared_e (x.registers 0) (x.registers 1) (fits parts a _ ha) (fits parts b _ hb)
-            ∙ ap Some (same_tested parts a b _ _ ha hb)) h.2),
+            ∙ ap Some (same_tested parts objects kinds a b _ _ ha hb)) h.2),
       )
 
   -- ---- division
@@ -589,33 +547,31 @@ module _ (setting : Setting) (parts : Parts) where
 
   -- ---- one operand
 
-  pub unary_here : (n : ℕ) (which : Primitive) (a : Value) (x : View) (waiting : List MarkKind) (t : Store)
-      (rest : List Item) → takes 1 which ≡ true → (which ≡ Put → ⊥) → IsWord parts a (x.registers 0)
-      → Std waiting x.place (unary_code n which rest) → Owes x waiting 20 t rest (primitive which (a ∷ []) t)
-  unary_here n IsBoolean a x waiting t rest p other ha h = tested x n 127 128 6 _ _ waiting t rest by_127
+  pub unary_here : (n : ℕ) (which : Primitive) (a : Value) (x : View) (waiting : List MarkKind) (s : State Procedure)
+      (rest : List Item) → takes 1 which ≡ true → is_computed which ≡ true → StoreAt plan parts s x.bytes x.output x.answers
+      → IsWord parts a (x.registers 0) → Std waiting x.place (unary_code n which rest)
+      → Owes x waiting 20 s.store rest (primitive which (a ∷ []) s.store)
+  unary_here n IsBoolean a x waiting s rest p plain g ha h = tested x n 127 128 6 _ _ waiting s.store rest by_127
       (omega arith) (omega arith) (omega arith) (boolean_tested parts a _ ha) refl h
-  unary_here n IsPair a x waiting t rest p other ha h = tested x n 7 8 1 false _ waiting t rest by_7 (omega arith)
-      (omega arith) (omega arith) (tag_tested parts a _ 1 ha ∙ no_tag parts a _ 1 ha (omega arith) (omega arith))
-      (ap is_pair (no_object parts a _ t ha)) h
-  unary_here n IsNull a x waiting t rest p other ha h = tested x n 255 256 22 _ _ waiting t rest by_255 (omega arith)
+  unary_here n IsPair a x waiting s rest p plain g ha h = tested x n 7 8 1 _ _ waiting s.store rest by_7
+      (omega arith) (omega arith) (omega arith) (pair_tested parts s.store g.contents.kinds a _ ha) refl h
+  unary_here n IsNull a x waiting s rest p plain g ha h = tested x n 255 256 22 _ _ waiting s.store rest by_255 (omega arith)
       (omega arith) (omega arith) (null_tested parts a _ ha) refl h
-  unary_here n IsSymbol a x waiting t rest p other ha h = tested x n 7 8 5 false _ waiting t rest by_7 (omega arith)
-      (omega arith) (omega arith) (tag_tested parts a _ 5 ha ∙ no_symbol_tag parts a _ ha) (no_symbol parts a _ ha) h
-  unary_here n IsInteger a x waiting t rest p other ha h = tested x n 7 8 0 _ _ waiting t rest by_7 (omega arith)
+  unary_here n IsSymbol a x waiting s rest p plain g ha h = tested x n 7 8 5 _ _ waiting s.store rest by_7 (omega arith)
+      (omega arith) (omega arith) (symbol_tested parts a _ ha) refl h
+  unary_here n IsInteger a x waiting s rest p plain g ha h = tested x n 7 8 0 _ _ waiting s.store rest by_7 (omega arith)
       (omega arith) (omega arith) (integer_tested parts a _ ha) refl h
-  unary_here n IsChar a x waiting t rest p other ha h = tested x n 255 256 46 _ _ waiting t rest by_255 (omega arith)
+  unary_here n IsChar a x waiting s rest p plain g ha h = tested x n 255 256 46 _ _ waiting s.store rest by_255 (omega arith)
       (omega arith) (omega arith) (character_tested parts a _ ha) refl h
-  unary_here n IsString a x waiting t rest p other ha h = tested x n 7 8 3 false _ waiting t rest by_7 (omega arith)
-      (omega arith) (omega arith) (tag_tested parts a _ 3 ha ∙ no_tag parts a _ 3 ha (omega arith) (omega arith))
-      (ap is_string (no_object parts a _ t ha)) h
-  unary_here n IsVector a x waiting t rest p other ha h = tested x n 7 8 2 false _ waiting t rest by_7 (omega arith)
-      (omega arith) (omega arith) (tag_tested parts a _ 2 ha ∙ no_tag parts a _ 2 ha (omega arith) (omega arith))
-      (ap is_vector (no_object parts a _ t ha)) h
-  unary_here n IsProcedure a x waiting t rest p other ha h = tested x n 7 8 4 _ _ waiting t rest by_7 (omega arith)
+  unary_here n IsString a x waiting s rest p plain g ha h = tested x n 7 8 3 _ _ waiting s.store rest by_7
+      (omega arith) (omega arith) (omega arith) (string_tested parts s.store g.contents.kinds a _ ha) refl h
+  unary_here n IsVector a x waiting s rest p plain g ha h = tested x n 7 8 2 _ _ waiting s.store rest by_7
+      (omega arith) (omega arith) (omega arith) (vector_tested parts s.store g.contents.kinds a _ ha) refl h
+  unary_here n IsProcedure a x waiting s rest p plain g ha h = tested x n 7 8 4 _ _ waiting s.store rest by_7 (omega arith)
       (omega arith) (omega arith) (procedure_tested parts a _ ha) refl h
-  unary_here n CharToInteger a x waiting t rest p other ha h =
-      comes_within is_free x waiting 6 20 t rest _ (omega arith)
-      (character_checked setting parts a (λ byte. gives (fixnum (pos byte))) x waiting 2 t
+  unary_here n CharToInteger a x waiting s rest p plain g ha h =
+      comes_within is_free x waiting 6 20 s.store rest _ (omega arith)
+      (character_checked setting parts a (λ byte. gives (fixnum (pos byte))) x waiting 2 s.store
       (Plain (Shr (Reg 0) 8) ∷ (Plain (Shl (Reg 0) 3) ∷ rest)) rest ha h (λ byte tag flags place hb st.
       let y = tagged setting x 0 tag flags place in
       let b = x.registers 0 / 2 ^ 8 in
@@ -639,37 +595,37 @@ module _ (setting : Setting) (parts : Parts) where
           ahead = st.2.2;
         },
       )))
-  unary_here n IntegerToChar a x waiting t rest p other ha h =
-      comes_within is_free x waiting 7 20 t rest _ (omega arith)
-      (fixnum_checked setting parts 0 a (λ k. in_range k 256 (λ byte. gives (character byte))) x waiting 4 t
+  unary_here n IntegerToChar a x waiting s rest p plain g ha h =
+      comes_within is_free x waiting 7 20 s.store rest _ (omega arith)
+      (fixnum_checked setting parts 0 a (λ k. in_range k 256 (λ byte. gives (character byte))) x waiting 4 s.store
       (Plain (CmpNumber (Reg 0) (pos 2040)) ∷ (JumpIf A (stop_label OutOfRange) ∷
       (Plain (Shl (Reg 0) 5) ∷ (Plain (AddNumber (Reg 0) (pos 46)) ∷ rest)))) rest ha h
-      (λ k tag flags place hk st. ranged k (tagged setting x 0 tag flags place) t rest hk st))
-  unary_here n Put a x waiting t rest p other ha h = absurd (other refl)
-  unary_here n _ a x waiting t rest p other ha h = absurd cc
+      (λ k tag flags place hk st. ranged k (tagged setting x 0 tag flags place) s.store rest hk st))
+  unary_here n _ a x waiting s rest p plain g ha h = absurd cc
 
   -- ---- two operands
 
-  pub binary_here : (n : ℕ) (which : Primitive) (a b : Value) (x : View) (waiting : List MarkKind) (t : Store)
-      (rest : List Item) → takes 2 which ≡ true → IsWord parts a (x.registers 0) → IsWord parts b (x.registers 1)
-      → Std waiting x.place (binary_code n which rest) → Owes x waiting 30 t rest (primitive which (a ∷ (b ∷ [])) t)
-  binary_here n Eq a b x waiting t rest p ha hb h = same a b n x waiting t rest ha hb h
-  binary_here n Eqv a b x waiting t rest p ha hb h = same a b n x waiting t rest ha hb h
-  binary_here n Add a b x waiting t rest p ha hb h =
-      comes_within is_free x waiting 8 30 t rest _ (omega arith)
-      (both_checked a b (λ k l. fixnum_or_stop (k +ℤ l)) x waiting 2 t (Plain (AddTo (Reg 0) 1) ∷ overflow_code rest)
+  pub binary_here : (n : ℕ) (which : Primitive) (a b : Value) (x : View) (waiting : List MarkKind)
+      (s : State Procedure) (rest : List Item) → takes 2 which ≡ true → is_computed which ≡ true
+      → StoreAt plan parts s x.bytes x.output x.answers → IsWord parts a (x.registers 0) → IsWord parts b (x.registers 1) → Std waiting x.place (binary_code n which rest)
+      → Owes x waiting 30 s.store rest (primitive which (a ∷ (b ∷ [])) s.store)
+  binary_here n Eq a b x waiting s rest p plain g ha hb h = same s.store.objects g.contents.kinds a b n x waiting s.store rest ha hb h
+  binary_here n Eqv a b x waiting s rest p plain g ha hb h = same s.store.objects g.contents.kinds a b n x waiting s.store rest ha hb h
+  binary_here n Add a b x waiting s rest p plain g ha hb h =
+      comes_within is_free x waiting 8 30 s.store rest _ (omega arith)
+      (both_checked a b (λ k l. fixnum_or_stop (k +ℤ l)) x waiting 2 s.store (Plain (AddTo (Reg 0) 1) ∷ overflow_code rest)
       rest ha hb h (λ k l registers flags place hk hl st.
-      result (k +ℤ l) (sum_of (registers 0) (registers 1)) (AddTo (Reg 0) 1) (moved_to x registers flags place) [] t
+      result (k +ℤ l) (sum_of (registers 0) (registers 1)) (AddTo (Reg 0) 1) (moved_to x registers flags place) [] s.store
       rest (sum_computes k l _ _ hk hl) st refl))
-  binary_here n Subtract a b x waiting t rest p ha hb h =
-      comes_within is_free x waiting 8 30 t rest _ (omega arith)
-      (both_checked a b (λ k l. fixnum_or_stop (k -ℤ l)) x waiting 2 t (Plain (SubTo (Reg 0) 1) ∷ overflow_code rest)
+  binary_here n Subtract a b x waiting s rest p plain g ha hb h =
+      comes_within is_free x waiting 8 30 s.store rest _ (omega arith)
+      (both_checked a b (λ k l. fixnum_or_stop (k -ℤ l)) x waiting 2 s.store (Plain (SubTo (Reg 0) 1) ∷ overflow_code rest)
       rest ha hb h (λ k l registers flags place hk hl st.
       result (k -ℤ l) (difference_of (registers 0) (registers 1)) (SubTo (Reg 0) 1) (moved_to x registers flags place)
-      [] t rest (difference_computes k l _ _ hk hl) st refl))
-  binary_here n Multiply a b x waiting t rest p ha hb h =
-      comes_within is_free x waiting 9 30 t rest _ (omega arith)
-      (both_checked a b (λ k l. fixnum_or_stop (k *ℤ l)) x waiting 3 t
+      [] s.store rest (difference_computes k l _ _ hk hl) st refl))
+  binary_here n Multiply a b x waiting s rest p plain g ha hb h =
+      comes_within is_free x waiting 9 30 s.store rest _ (omega arith)
+      (both_checked a b (λ k l. fixnum_or_stop (k *ℤ l)) x waiting 3 s.store
       (Plain (Sar (Reg 0) 3) ∷ (Plain (Imul 0 (Reg 1)) ∷ overflow_code rest)) rest ha hb h
       (λ k l registers flags place hk hl st.
       let y = moved_to x registers flags place in
@@ -680,49 +636,49 @@ module _ (setting : Setting) (parts : Parts) where
         high =
             (let m : k ≤ℤ pos 1152921504606846975 = hk.range.high in omega (arith, ints, m));
       } in
-      comes_after setting parts is_free y z.registers z.flags z.place [] 1 1 2 3 t rest _
+      comes_after setting parts is_free y z.registers z.flags z.place [] 1 1 2 3 s.store rest _
       (goes setting y z (Sar (Reg 0) 3) st.0 [] st.1 refl) (kept_set is_free registers 0 w refl) (omega arith)
-      (result (k *ℤ l) (product_of w (registers 1)) (Imul 0 (Reg 1)) z [] t rest
+      (result (k *ℤ l) (product_of w (registers 1)) (Imul 0 (Reg 1)) z [] s.store rest
       (product_computes k l w (registers 1) near (untagged k (registers 0) hk) hl) st.2 refl)))
-  binary_here n Quotient a b x waiting t rest p ha hb h =
-      comes_within is_free x waiting 13 30 t rest _ (omega arith)
-      (divided int_div a b x waiting 3 t (Plain (MovNumber (Reg 1) (pos 8)) ∷
+  binary_here n Quotient a b x waiting s rest p plain g ha hb h =
+      comes_within is_free x waiting 13 30 s.store rest _ (omega arith)
+      (divided int_div a b x waiting 3 s.store (Plain (MovNumber (Reg 1) (pos 8)) ∷
       (Plain (Imul 0 (Reg 1)) ∷ overflow_code rest)) rest ha hb h (λ k l u v d registers place q r w hv nz st.
       let y = moved_to x registers unknown_flags place in
       let z = moved_to x (set_register registers 1 8) unknown_flags (place + st.0) in
-      comes_after setting parts is_free y z.registers z.flags z.place [] 1 1 2 3 t rest _
+      comes_after setting parts is_free y z.registers z.flags z.place [] 1 1 2 3 s.store rest _
       (goes setting y z (MovNumber (Reg 1) (pos 8)) st.0 [] st.1 refl) (kept_set is_free registers 1 8 refl)
       (omega arith)
-      (result (int_div k l) (product_of (registers 0) 8) (Imul 0 (Reg 1)) z [] t rest
+      (result (int_div k l) (product_of (registers 0) 8) (Imul 0 (Reg 1)) z [] s.store rest
       (subst (λ q. Computes (int_div k l) (product_of q 8)) (sym q) (quotient_computes k l u v d)) st.2 refl)))
-  binary_here n Remainder a b x waiting t rest p ha hb h =
-      comes_within is_free x waiting 11 30 t rest _ (omega arith)
-      (divided int_rem a b x waiting 1 t (Plain (MovTo (Reg 0) 2) ∷ rest) rest ha hb h
+  binary_here n Remainder a b x waiting s rest p plain g ha hb h =
+      comes_within is_free x waiting 11 30 s.store rest _ (omega arith)
+      (divided int_rem a b x waiting 1 s.store (Plain (MovTo (Reg 0) 2) ∷ rest) rest ha hb h
       (λ k l u v d registers place q r w hv nz st.
       let y = moved_to x registers unknown_flags place in
       let z = moved_to x (set_register registers 0 (registers 2)) unknown_flags (place + st.0) in
-      comes_after setting parts is_free y z.registers z.flags z.place [] 1 1 0 1 t rest _
+      comes_after setting parts is_free y z.registers z.flags z.place [] 1 1 0 1 s.store rest _
       (goes setting y z (MovTo (Reg 0) 2) st.0 [] st.1 refl) (kept_set is_free registers 0 (registers 2) refl)
       (omega arith)
-      (there (int_rem k l) z t rest (subst (FixnumWord (int_rem k l)) (sym r) d.word) st.2)))
-  binary_here n Modulo a b x waiting t rest p ha hb h =
-      comes_within is_free x waiting 20 30 t rest _ (omega arith)
-      (divided int_modulo a b x waiting 10 t (Plain (MovTo (Reg 0) 2) ∷ modulo_code n rest) rest ha hb h
+      (there (int_rem k l) z s.store rest (subst (FixnumWord (int_rem k l)) (sym r) d.word) st.2)))
+  binary_here n Modulo a b x waiting s rest p plain g ha hb h =
+      comes_within is_free x waiting 20 30 s.store rest _ (omega arith)
+      (divided int_modulo a b x waiting 10 s.store (Plain (MovTo (Reg 0) 2) ∷ modulo_code n rest) rest ha hb h
       (λ k l u v d registers place q r w hv nz st.
       let y = moved_to x registers unknown_flags place in
       let z = moved_to x (set_register registers 0 (registers 2)) unknown_flags (place + st.0) in
-      comes_after setting parts is_free y z.registers z.flags z.place [] 1 1 9 10 t rest _
+      comes_after setting parts is_free y z.registers z.flags z.place [] 1 1 9 10 s.store rest _
       (goes setting y z (MovTo (Reg 0) 2) st.0 [] st.1 refl) (kept_set is_free registers 0 (registers 2) refl)
       (omega arith)
-      (signed_like (int_rem k l) l n z t rest (subst (FixnumWord (int_rem k l)) (sym r) d.word)
+      (signed_like (int_rem k l) l n z s.store rest (subst (FixnumWord (int_rem k l)) (sym r) d.word)
       (subst (FixnumWord l) (sym w) hv) nz st.2)))
-  binary_here n Equal a b x waiting t rest p ha hb h = compared (λ k l. int_le k l && int_le l k) a b n E x waiting t
+  binary_here n Equal a b x waiting s rest p plain g ha hb h = compared (λ k l. int_le k l && int_le l k) a b n E x waiting s.store
       rest tests_equal ha hb h
-  binary_here n Less a b x waiting t rest p ha hb h = compared int_lt a b n L x waiting t rest tests_less ha hb h
-  binary_here n Greater a b x waiting t rest p ha hb h = compared (λ k l. int_lt l k) a b n G x waiting t rest
+  binary_here n Less a b x waiting s rest p plain g ha hb h = compared int_lt a b n L x waiting s.store rest tests_less ha hb h
+  binary_here n Greater a b x waiting s rest p plain g ha hb h = compared (λ k l. int_lt l k) a b n G x waiting s.store rest
       tests_greater ha hb h
-  binary_here n LessEqual a b x waiting t rest p ha hb h = compared int_le a b n LE x waiting t rest tests_less_equal
+  binary_here n LessEqual a b x waiting s rest p plain g ha hb h = compared int_le a b n LE x waiting s.store rest tests_less_equal
       ha hb h
-  binary_here n GreaterEqual a b x waiting t rest p ha hb h = compared (λ k l. int_le l k) a b n GE x waiting t rest
+  binary_here n GreaterEqual a b x waiting s rest p plain g ha hb h = compared (λ k l. int_le l k) a b n GE x waiting s.store rest
       tests_greater_equal ha hb h
-  binary_here n _ a b x waiting t rest p ha hb h = absurd cc
+  binary_here n _ a b x waiting s rest p plain g ha hb h = absurd cc

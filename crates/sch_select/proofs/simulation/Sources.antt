@@ -1,5 +1,5 @@
 -- What a closure captures is read, and the heap is tested for room.
-use Rattle.std.proofs.Common.{◌≡◌, ℕ, ◌+◌, ◌*◌, ◌%◌, ◌^◌, ◌<◌, ◌≤◌, List, [], ◌∷◌, Bool, true, false, cond, Option}
+use Rattle.std.proofs.Common.{◌≡◌, ℕ, ◌+◌, ◌*◌, ◌%◌, ◌^◌, ◌<◌, ◌≤◌, List, [], ◌∷◌, length, Bool, true, false, cond, Option}
 use Rattle.std.proofs.Common.{Some, None, refl, sym, ap, ◌∙◌, subst, arith, ◌==◌, eq-eqb}
 use Rattle.std.specs.Prelude.{pos, not, nat_le, nat_lt, slice_get}
 use Rattle.std.proofs.lemmas.Bool.{and_parts}
@@ -74,7 +74,7 @@ field_reads (Some (cell m)) k procedures v e = absurd (let bad : None ≡ Some v
 
 -- The places may hold words of parts that the state has not yet.
 module _ (plan : Plan) (act : Activation plan) (old parts : Parts) (stay : Stay old parts) where
-  open plan use {setting, size, words, globals, closures, heap, stack, near}
+  open plan use {setting, size, words, literals, globals, symbols, closures, heap, stack, near}
 
   abbrev Std : List MarkKind → ℕ → List Item → Type 0
   Std waiting a is = Stands setting waiting a is
@@ -97,11 +97,11 @@ module _ (plan : Plan) (act : Activation plan) (old parts : Parts) (stay : Stay 
 
   -- a field of the record that a word names
   field_word : (s : State Procedure) (x : View) (n k : ℕ) (p : Procedure) (v : Value) (w : ℕ)
-      → StoreAt plan old s x.bytes x.output x.answers → slice_get s.procedures n ≡ Some p
-      → slice_get p.fields k ≡ Some v → Names parts (a_procedure n) 4 w
+      → old.symbols ≤ parts.symbols → StoreAt plan old s x.bytes x.output x.answers
+      → slice_get s.procedures n ≡ Some p → slice_get p.fields k ≡ Some v → Names parts (a_procedure n) 4 w
       → (unit : ℕ) × (w ≡ 16 * unit + 4) × (closures ≤ field_address unit k) × (field_address unit k + 8 ≤ stack)
       × IsWord parts v (word_in x.bytes (field_address unit k))
-  field_word s x n k p v w g e f name =
+  field_word s x n k p v w more g e f name =
       let r = g.contents.procedure n p e in
       let inside = spot_within old (a_procedure n) r.at r.there in
       let low = inside.0 in let high = inside.1 in let room = r.room in
@@ -113,18 +113,19 @@ module _ (plan : Plan) (act : Activation plan) (old parts : Parts) (stay : Stay 
         name.is ∙ ap (λ s. 16 * s.unit + 4) at,
         omega (arith, low, b),
         omega (arith, high, room, lt, z, i),
-        words_by old parts stay v _ (r.field k v f),
+        words_by old parts stay more v _ (r.field k v f),
       )
 
   pub source_here : (r : ℕ) (q : Source Place) (charged : ℕ) (f : Frame) (s : State Procedure) (x : View)
-      (waiting : List MarkKind) (rest : List Item) → source_selected words globals q ≡ true
+      (waiting : List MarkKind) (rest : List Item) → old.symbols ≤ parts.symbols
+      → source_selected words globals (length symbols) literals q ≡ true
       → PlacesAt plan act parts charged f.places f.outgoing x.registers x.bytes
       → StoreAt plan old s x.bytes x.output x.answers → Std waiting x.place (source_code r q rest)
       → Sources r x waiting rest (source_value (held f) s q)
-  source_here r (source.Atom a) charged f s x waiting rest e p g h = by (atom_value (held f) s.store a) refl
+  source_here r (source.Atom a) charged f s x waiting rest more e p g h = by (atom_value (held f) s.store a) refl
     where
       l : Atomic plan act parts r x waiting rest (atom_value (held f) s.store a)
-      l = atomic plan act parts r a charged f s.store x waiting rest e p g.size_is h
+      l = atomic plan act parts old stay more r a charged f s x waiting rest e p g h
 
       by : (o : Option Value) → atom_value (held f) s.store a ≡ o → Sources r x waiting rest o
       by None i = tt
@@ -139,7 +140,7 @@ module _ (plan : Plan) (act : Activation plan) (old parts : Parts) (stay : Stay 
         value = subst (IsWord parts v) (sym (set_one x.registers r l.value)) (l.word v i);
         ahead = l.ahead;
       }
-  source_here r (source.Field q k) charged f s x waiting rest e p g h = by (field (held f q) k s.procedures) refl
+  source_here r (source.Field q k) charged f s x waiting rest more e p g h = by (field (held f q) k s.procedures) refl
     where
       behind : List Item
       behind = item.Plain (MovFrom r (Base32 r (pos (4 + 8 * k)))) ∷ rest
@@ -151,7 +152,7 @@ module _ (plan : Plan) (act : Activation plan) (old parts : Parts) (stay : Stay 
           (and_parts (is_place words q) (nat_lt k 1000) e).0 p g.size_is h in
           let reads = field_reads (held f q) k s.procedures v i in
           let hv = by_cell (f.places q) l.value (procedure reads.n) l.holds reads.is in
-          let w = field_word s x reads.n k reads.p v l.value g reads.there reads.value hv in
+          let w = field_word s x reads.n k reads.p v l.value more g reads.there reads.value hv in
           let y = moved_to x (set_register x.registers r l.value) x.flags l.place in
           let a = field_address w.0 k in
           let v0 : set_register x.registers r l.value r ≡ 16 * w.0 + 4 = set_one x.registers r l.value ∙ w.1 in

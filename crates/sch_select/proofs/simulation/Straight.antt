@@ -208,8 +208,8 @@ module _ (setting : Setting) where
         by (boolean n) hv = (refl, wrong (integer_tested parts (boolean n) _ hv))
         by nil hv = (refl, wrong (integer_tested parts nil _ hv))
         by unspecified hv = (refl, wrong (integer_tested parts unspecified _ hv))
-        by (symbol n) hv = absurd hv
-        by (object n) hv = absurd hv
+        by (symbol n) hv = (refl, wrong (integer_tested parts (symbol n) _ hv))
+        by (object n) hv = (refl, wrong (integer_tested parts (object n) _ hv))
         by (procedure n) hv = (refl, wrong (integer_tested parts (procedure n) _ hv))
         by (cell n) hv = (refl, wrong (integer_tested parts (cell n) _ hv))
 
@@ -264,8 +264,8 @@ module _ (setting : Setting) where
         by (boolean n) hv = (refl, wrong (character_tested parts (boolean n) _ hv))
         by nil hv = (refl, wrong (character_tested parts nil _ hv))
         by unspecified hv = (refl, wrong (character_tested parts unspecified _ hv))
-        by (symbol n) hv = absurd hv
-        by (object n) hv = absurd hv
+        by (symbol n) hv = (refl, wrong (character_tested parts (symbol n) _ hv))
+        by (object n) hv = (refl, wrong (character_tested parts (object n) _ hv))
         by (procedure n) hv = (refl, wrong (character_tested parts (procedure n) _ hv))
         by (cell n) hv = (refl, wrong (character_tested parts (cell n) _ hv))
 

@@ -11,7 +11,7 @@ use Rattle.sch_driver.proofs.Resolved.{resolved_kinds}
 use Rattle.sch_driver.proofs.assembly.assemble.Goals as goal
 
 pub select-requires : goal.select-requires
-select-requires c = record { object_free = c.in_ok-frames.ensures.object_free c.requires.object_free; stack = c.in_ok-check_stack.ensures.fits }
+select-requires c = record { covered = c.in_ok-frames.ensures.covered c.requires.covered; stack = c.in_ok-check_stack.ensures.fits }
 
 pub returns-clause-marks : goal.returns-clause-marks
 returns-clause-marks c =

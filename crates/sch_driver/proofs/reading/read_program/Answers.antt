@@ -1,32 +1,65 @@
-use Rattle.std.proofs.Common.{◌≡◌, [], length, ap, sym, subst, ◌∙◌}
+use Rattle.std.proofs.Common.{ℕ, sym, subst}
+use Rattle.sch_read.specs.Text.{Spells}
 use Rattle.sch_read.specs.Views.{data_of}
-use Rattle.sch_core.specs.Programs.{IsProgramOf, form_places}
+use Rattle.sch_numbering.specs.Definitions.{definitions_of}
+use Rattle.sch_core.specs.Programs.{IsProgramOf}
 use Rattle.sch_lang.specs.ProgramView.{source}
-use Rattle.sch_lang.specs.ObjectFree.{first_object}
-use Rattle.sch_lang.specs.Tree.{count}
-use Rattle.sch_lang.specs.View.{expressions_of}
-use Rattle.sch_driver.proofs.BuiltTexts.{built, not_built}
+use Rattle.sch_driver.specs.Causes.{IsErrorOf, IsLibraryText}
+use Rattle.sch_driver.proofs.Images.{kept_error}
+use Rattle.sch_driver.proofs.PartErrors.{unread_library, undefined_library, unread_text, unexpanded_text}
 use Rattle.sch_driver.proofs.reading.read_program.Goals as goal
 
-pub returns-in-Some-clause-refused : goal.returns-in-Some-clause-refused
-returns-in-Some-clause-refused c =
-    let items = c.in_ok-items.items in
-    let p = source c.in_ok-program.program in
-    let places = c.as_slice-3.ensures ∙ (c.in_ok-places.ensures ∙ ap (λ l. form_places (data_of l)) c.as_slice-2.ensures) in
-    let found = c.first_object.ensures
-    ∙ (ap (λ l. first_object l (expressions_of c.as_slice-4.result.now)) places ∙ ap (λ l. first_object (form_places (data_of items)) (expressions_of l)) c.as_slice-4.ensures) in
-    λ depth. not_built c.args.text.now (data_of items) p c.in-Some.at c.in_ok-items.ensures.found
-    (subst (λ l. IsProgramOf [] (data_of l) p) c.as_slice.ensures (subst (λ ds. IsProgramOf ds (data_of c.as_slice.result.now) p) c.empty.ensures c.in_ok-program.ensures.found))
-    (sym found ∙ c.in-Some.is)
+pub returns-in_err-definitions-clause-refused : goal.returns-in_err-definitions-clause-refused
+returns-in_err-definitions-clause-refused c =
+    let library = c.args.library.now in
+    let text = c.args.text.now in
+    let e = c.in_err-definitions.field-0.0 in
+    kept_error c.from_residual.result e (λ e. (depth : ℕ) → IsErrorOf library text depth e) c.from_residual.ensures.1
+    (λ depth. unread_library library text depth e c.in_err-definitions.ensures.refused)
 
-pub returns-in-None-clause-built : goal.returns-in-None-clause-built
-returns-in-None-clause-built c =
-    let items = c.in_ok-items.items in
+pub returns-in_err-known-clause-refused : goal.returns-in_err-known-clause-refused
+returns-in_err-known-clause-refused c =
+    let library = c.args.library.now in
+    let text = c.args.text.now in
+    let spelled = subst (λ l. Spells library (data_of l)) (sym c.as_slice.ensures) c.in_ok-definitions.ensures.found in
+    let e = c.in_err-known.field-0.0 in
+    kept_error c.from_residual-in_err-known.result e (λ e. (depth : ℕ) → IsErrorOf library text depth e) c.from_residual-in_err-known.ensures.1
+    (λ depth. undefined_library library text depth e (data_of c.as_slice.result.now) spelled c.in_err-known.ensures.refused)
+
+pub returns-in_err-items-clause-refused : goal.returns-in_err-items-clause-refused
+returns-in_err-items-clause-refused c =
+    let library = c.args.library.now in
+    let text = c.args.text.now in
+    let spelled = subst (λ l. Spells library (data_of l)) (sym c.as_slice.ensures) c.in_ok-definitions.ensures.found in
+    let ds = definitions_of c.in_ok-known.known.definitions in
+    let defined : IsLibraryText library ds = record { items = data_of c.as_slice.result.now; spells = spelled; stands = c.in_ok-known.ensures.found } in
+    let e = c.in_err-items.field-0.0 in
+    kept_error c.from_residual-in_err-items.result e (λ e. (depth : ℕ) → IsErrorOf library text depth e) c.from_residual-in_err-items.ensures.1
+    (λ depth. unread_text library text depth e ds defined c.in_err-items.ensures.refused)
+
+pub returns-in_err-program-clause-refused : goal.returns-in_err-program-clause-refused
+returns-in_err-program-clause-refused c =
+    let library = c.args.library.now in
+    let text = c.args.text.now in
+    let spelled = subst (λ l. Spells library (data_of l)) (sym c.as_slice.ensures) c.in_ok-definitions.ensures.found in
+    let ds = definitions_of c.in_ok-known.known.definitions in
+    let defined : IsLibraryText library ds = record { items = data_of c.as_slice.result.now; spells = spelled; stands = c.in_ok-known.ensures.found } in
+    let e = c.in_err-program.field-0.0 in
+    kept_error c.from_residual-in_err-program.result e (λ e. (depth : ℕ) → IsErrorOf library text depth e) c.from_residual-in_err-program.ensures.1
+    (λ depth. unexpanded_text library text depth e ds defined (data_of c.as_slice-2.result.now) (subst (λ l. Spells text (data_of l)) (sym c.as_slice-2.ensures) c.in_ok-items.ensures.found) c.in_err-program.ensures.refused)
+
+pub returns-clause-means : goal.returns-clause-means
+returns-clause-means c =
+    let library = c.args.library.now in
+    let text = c.args.text.now in
+    let spelled = subst (λ l. Spells library (data_of l)) (sym c.as_slice.ensures) c.in_ok-definitions.ensures.found in
+    let ds = definitions_of c.in_ok-known.known.definitions in
+    let defined : IsLibraryText library ds = record { items = data_of c.as_slice.result.now; spells = spelled; stands = c.in_ok-known.ensures.found } in
     let p = source c.in_ok-program.program in
-    let places = c.as_slice-3.ensures ∙ (c.in_ok-places.ensures ∙ ap (λ l. form_places (data_of l)) c.as_slice-2.ensures) in
-    let found = c.first_object.ensures
-    ∙ (ap (λ l. first_object l (expressions_of c.as_slice-4.result.now)) places ∙ ap (λ l. first_object (form_places (data_of items)) (expressions_of l)) c.as_slice-4.ensures) in
-    built c.args.text.now (data_of items) p c.in_ok-items.ensures.found
-    (subst (λ l. IsProgramOf [] (data_of l) p) c.as_slice.ensures (subst (λ ds. IsProgramOf ds (data_of c.as_slice.result.now) p) c.empty.ensures c.in_ok-program.ensures.found))
-    (subst (λ l. length (form_places (data_of l)) ≡ count p.forms) c.as_slice.ensures c.in_ok-program.ensures.places)
-    (sym found ∙ c.in-None.is)
+    record {
+      definitions = ds;
+      defined = defined;
+      items = data_of c.in_ok-items.items;
+      spells = c.in_ok-items.ensures.found;
+      program = subst (λ l. IsProgramOf ds (data_of l) p) c.as_slice-2.ensures c.in_ok-program.ensures.found;
+    }

@@ -6,9 +6,9 @@ use Rattle.sch_control.specs.SourceView as control
 use Rattle.sch_control.specs.Work.{codes_work}
 use Rattle.sch_frames.specs.Does.{FramesOf}
 use Rattle.sch_frames.specs.Layout.{slots_code}
-use Rattle.sch_frames.specs.ObjectFree.{code_begins, is_object_free_code}
+use Rattle.sch_frames.specs.Covered.{code_begins, is_covered_code}
 use Rattle.sch_frames.specs.Sizes.{calls_parts, closures_in, codes_size, entries_size, largest_frame}
-use Rattle.sch_frames.proofs.FrameBodies.{made_next, all_do, all_begin, all_object_free, all_size, all_work, all_words}
+use Rattle.sch_frames.proofs.FrameBodies.{made_next, all_do, all_begin, all_covered, all_size, all_work, all_words}
 use Rattle.sch_frames.proofs.bodies.frame_bodies.Goals as goal
 
 pub loop-b-preserved : goal.loop-b-preserved
@@ -26,8 +26,8 @@ returns-clause-frames c = subst (FramesOf (control.codes_of c.args.bodies.now)) 
 pub returns-clause-begin : goal.returns-clause-begin
 returns-clause-begin c = ap (list_all code_begins) (returns-clause-made c) ∙ all_begin (control.codes_of c.args.bodies.now)
 
-pub returns-clause-object_free : goal.returns-clause-object_free
-returns-clause-object_free c h = ap (list_all is_object_free_code) (returns-clause-made c) ∙ all_object_free c.args.bodies.now h
+pub returns-clause-covered : goal.returns-clause-covered
+returns-clause-covered c h = ap (list_all is_covered_code) (returns-clause-made c) ∙ all_covered c.args.bodies.now h
 
 pub returns-clause-size : goal.returns-clause-size
 returns-clause-size c =

@@ -4,12 +4,12 @@ use Rattle.sch_control.specs.View.{expression}
 use Rattle.sch_control.specs.Work as work
 use Rattle.sch_frames.specs.Does.{FrameOf}
 use Rattle.sch_frames.specs.Layout.{slots_layout, slots_words}
-use Rattle.sch_frames.specs.ObjectFree.{code_begins, is_object_free_code}
+use Rattle.sch_frames.specs.Covered.{code_begins, is_covered_code}
 use Rattle.sch_frames.specs.Sizes.{code_work}
-use Rattle.sch_frames.proofs.layouts.ObjectFreeSlots.{slots_begin}
+use Rattle.sch_frames.proofs.layouts.CoveredSlots.{slots_begin}
 use Rattle.sch_frames.proofs.layouts.LayoutSize.{slots_size, slots_work, labels_size}
 use Rattle.sch_frames.proofs.layouts.LayoutWork.{slots_done}
-use Rattle.sch_frames.proofs.layouts.SettledSlots.{slots_object_free}
+use Rattle.sch_frames.proofs.layouts.SettledSlots.{slots_covered}
 use Rattle.sch_frames.proofs.layouts.SlotsFrame.{slots_placed, slots_does, slots_forward, slots_room, slots_shaped}
 use Rattle.sch_frames.proofs.Written.{layout_written}
 use Rattle.sch_frames.proofs.slots.frame_slots.Goals as goal
@@ -39,10 +39,10 @@ returns-clause-same c =
 pub returns-clause-begins : goal.returns-clause-begins
 returns-clause-begins c = ap code_begins (returns-clause-made c) ∙ slots_begin (control.code_of c.args.b.now)
 
-pub returns-clause-object_free : goal.returns-clause-object_free
-returns-clause-object_free c h =
+pub returns-clause-covered : goal.returns-clause-covered
+returns-clause-covered c h =
     let b = c.args.b.now in
-    ap is_object_free_code (returns-clause-made c) ∙ slots_object_free (control.code_of b) b.ended b.shaped b.fields h
+    ap is_covered_code (returns-clause-made c) ∙ slots_covered (control.code_of b) b.ended b.shaped b.fields h
 
 pub returns-clause-frame_words : goal.returns-clause-frame_words
 returns-clause-frame_words c =

@@ -1,18 +1,27 @@
-use Rattle.std.proofs.Common.{◌≡◌, ℕ, List, ap, ◌∙◌, ◌+◌, ◌*◌, ◌≤◌, length, sym, subst, arith}
+use Rattle.std.proofs.Common.{◌≡◌, ℕ, List, ap, ◌∙◌, ◌+◌, ◌*◌, ◌≤◌, ◌<◌, length, map, sym, subst, arith}
 use Rattle.std.specs.Prelude.{IsTrue, false}
+use Rattle.sch_word.specs.values.LiteralView.{literals_of}
+use Rattle.sch_word.specs.values.StaticsView.{statics}
 use Rattle.sch_asm.specs.declared.assembly.Word.{Word}
+use Rattle.sch_asm.specs.declared.assembly.Word.TheVariants.{Fixed}
 use Rattle.sch_asm.specs.declared.item.Item.{Item}
 use Rattle.sch_asm.specs.Items.{AreItems, AreKnown, AreOwn, IsEachOnce, labels_in, marks_arrive}
 use Rattle.sch_asm.specs.Codes.{text_size}
 use Rattle.sch_frames.specs.ProgramView.{source}
 use Rattle.sch_frames.specs.Sizes.{closures_in, program_size}
-use Rattle.sch_select.specs.Program.{max_data, max_stack, program_code, program_words, program_zeros, own_label, stack_bytes}
+use Rattle.sch_literals.proofs.Placed.{placed_objects, placed_literals}
+use Rattle.sch_literals.proofs.Rows.{count_rows}
+use Rattle.sch_select.specs.Data.{static_count, objects_unit, names_of, closures_of, heap_of, max_heap_address, data_words, program_words}
+use Rattle.sch_select.specs.Program.{max_data, max_stack, program_code, program_zeros, own_label, stack_bytes}
+use Rattle.sch_select.specs.Select.{names_address}
 use Rattle.sch_select.specs.Sizes.{instructions_in, kinds_in, kinds_of}
-use Rattle.sch_select.proofs.programs.ObjectFreePrograms.{codes_free, globals_known, labels_known, object_free_selected}
-use Rattle.sch_select.proofs.programs.ObjectFreePrograms.{library_small, procedures_known}
+use Rattle.sch_select.proofs.programs.CoveredPrograms.{codes_free, entries_selected, globals_known, labels_known, covered_selected}
+use Rattle.sch_select.proofs.programs.CoveredPrograms.{texts_are, literals_are, literals_named, procedures_known}
 use Rattle.sch_select.proofs.programs.JoinedProgram.{IsSelected, program_selected}
-use Rattle.sch_select.proofs.items.ProgramFacts.{all_forward, bodies_count, data_end, globals_few, program_own}
-use Rattle.sch_select.proofs.items.ProgramFacts.{whole_items, whole_words, words_are, words_few}
+use Rattle.sch_select.proofs.programs.Starting.{words_end}
+use Rattle.sch_select.proofs.layout.StaticSizes.{made_few, made_heap, names_below}
+use Rattle.sch_select.proofs.items.ProgramFacts.{all_forward, bodies_count, data_end, program_own, statics_few}
+use Rattle.sch_select.proofs.items.ProgramFacts.{statics_small, symbols_few, whole_items, words_few}
 use Rattle.sch_select.proofs.items.ProgramKnown.{program_known}
 use Rattle.sch_select.proofs.items.ProgramLabels.{program_once}
 use Rattle.sch_select.proofs.items.ProgramMarks.{program_marked}
@@ -24,13 +33,21 @@ use Rattle.sch_select.specs.Jumps.{jumps_ahead}
 use Rattle.sch_select.proofs.items.TextSize.{text_small}
 use Rattle.sch_select.proofs.selecting.select.Goals as goal
 
-pub lay_out-layout-requires-clause-few : goal.lay_out-layout-requires-clause-few
-lay_out-layout-requires-clause-few c = let e = c.len-globals.ensures in let f = globals_few c.args.p.now in omega
-    (arith, e, f)
+pub heap_behind-requires-clause-few : goal.heap_behind-requires-clause-few
+heap_behind-requires-clause-few c =
+    let s = statics_small c.args.p.now in
+    made_few (statics c.args.p.now.statics) s c.lay_out-places.result.unit _ c.in_ok-literals.ensures.objects _ c.len-2.ensures
 
-pub lay_out-layout-requires-clause-library : goal.lay_out-layout-requires-clause-library
-lay_out-layout-requires-clause-library c = let e = c.len-library.ensures in let f = library_small c.args.p.now
-    c.requires.object_free in omega (arith, e, f)
+pub words_of-requires-clause-names : goal.words_of-requires-clause-names
+words_of-requires-clause-names c = names_below c.args.p.now.statics _ _ c.lay_out-places.ensures.names c.lay_out-places.ensures.closures
+
+pub words_of-requires-clause-values : goal.words_of-requires-clause-values
+words_of-requires-clause-values c = c.in_ok-literals.ensures.values
+    ∙ ap (map Fixed) (placed_literals c.lay_out-places.result.unit (literals_of c.args.p.now.statics.literals))
+
+pub words_of-requires-clause-objects : goal.words_of-requires-clause-objects
+words_of-requires-clause-objects c = c.in_ok-literals.ensures.objects
+    ∙ ap (map Fixed) (placed_objects c.lay_out-places.result.unit (literals_of c.args.p.now.statics.literals))
 
 -- ---- what is made
 
@@ -38,30 +55,50 @@ few_bytes : (n m : ℕ) → n ≡ m → n ≤ max_stack + 16384 → m ≤ max_st
 few_bytes n m e le = omega (arith, e, le)
 
 stack_few : (c : goal.In_ok-words) → stack_bytes c.args.p.now.words c.args.limits.depth ≤ max_stack + 16384
-stack_few c = few_bytes _ _ c.stack_of-stack_size.ensures.bytes c.stack_of-stack_size.ensures.few
+stack_few c = few_bytes _ _ c.stack_of.ensures.bytes c.stack_of.ensures.few
+
+heap_made : (c : goal.In_ok-words) → c.in_ok-heap.heap ≡ heap_of (source c.args.p.now)
+heap_made c =
+    made_heap (statics c.args.p.now.statics) (length c.args.p.now.library) _ _ _ c.in_ok-literals.ensures.objects c.in_ok-heap.heap
+    c.len-2.ensures
+    (c.lay_out-places.ensures.unit ∙ ap (objects_unit (static_count (statics c.args.p.now.statics))) c.len.ensures)
+    c.in_ok-heap.ensures.start
+
+low : (c : goal.In_ok-words) → heap_of (source c.args.p.now) ≤ max_heap_address
+low c = subst (λ h. h ≤ max_heap_address) (heap_made c) c.in_ok-heap.ensures.low
 
 items_made : (c : goal.In_ok-words) → program_code (source c.args.p.now) c.args.limits.heap c.args.limits.depth ≡
     c.in_ok-items.items
 items_made c =
     let p = c.args.p.now in
-    sym (whole_items (source p) c.args.limits.heap c.args.limits.depth _ _ _ _ _ _ c.lay_out-layout.ensures.stack
-    c.lay_out-layout.ensures.heap c.len-globals.ensures c.len-library.ensures (sym (bodies_count p.bodies))
-    c.in_ok-items.ensures)
+    sym (whole_items (source p) c.args.limits.heap c.args.limits.depth _ _ _ _ c.in_ok-items.items
+    (ap (λ h. h + c.args.limits.heap) (heap_made c)) (sym (count_rows p.statics.literals)) (heap_made c)
+    (sym (bodies_count p.bodies)) c.in_ok-items.ensures)
 
 words_made : (c : goal.In_ok-words) → program_words (source c.args.p.now) ≡ c.in_ok-words.words
-words_made c = sym (whole_words (source c.args.p.now) _ _ c.lay_out-layout.ensures.closures c.len-globals.ensures
-    c.in_ok-words.ensures)
+words_made c =
+    let s = c.args.p.now.statics in
+    let l = c.args.p.now.library in
+    let places = c.lay_out-places in
+    sym (c.in_ok-words.ensures
+    ∙ ap (λ n. data_words n places.result.closures places.result.unit (statics s) l) (places.ensures.names
+    ∙ ap (λ n. names_address n (length s.globals)) (sym (count_rows s.literals)))
+    ∙ ap (λ k. data_words (names_of (source c.args.p.now)) k places.result.unit (statics s) l) places.ensures.closures
+    ∙ ap (λ u. data_words (names_of (source c.args.p.now)) (closures_of (source c.args.p.now)) u (statics s) l) (places.ensures.unit
+    ∙ ap (objects_unit (static_count (statics s))) c.len.ensures))
 
 zeros_made : (c : goal.In_ok-words) → program_zeros (source c.args.p.now) c.args.limits.heap c.args.limits.depth ≡
-    c.lay_out-layout.result.zeros
-zeros_made c = sym (c.lay_out-layout.ensures.zeros ∙ ap (λ n. c.args.limits.heap + n)
-    c.stack_of-stack_size.ensures.bytes)
+    c.args.limits.heap + c.stack_of.result
+zeros_made c = sym (ap (λ n. c.args.limits.heap + n) c.stack_of.ensures.bytes)
+
+ends_there : (c : goal.In_ok-words) → 0x10000000 + 8 * length (program_words (source c.args.p.now)) ≡ heap_of (source c.args.p.now)
+ends_there c = words_end (λ l. 0) (λ l. omega arith) (statics c.args.p.now.statics) c.args.p.now.library 0 (low c)
 
 -- what is so of the program's items, words and zeros is so of those that are made
 made : (c : goal.In_ok-words) (P : List Item → List Word → ℕ → Type 0)
     → P (program_code (source c.args.p.now) c.args.limits.heap c.args.limits.depth) (program_words (source c.args.p.now))
     (program_zeros (source c.args.p.now) c.args.limits.heap c.args.limits.depth)
-    → P c.in_ok-items.items c.in_ok-words.words c.lay_out-layout.result.zeros
+    → P c.in_ok-items.items c.in_ok-words.words (c.args.limits.heap + c.stack_of.result)
 made c P h =
     let zeros = program_zeros (source c.args.p.now) c.args.limits.heap c.args.limits.depth in
     subst (P c.in_ok-items.items c.in_ok-words.words) (zeros_made c)
@@ -69,14 +106,17 @@ made c P h =
     (subst (λ is. P is (program_words (source c.args.p.now)) zeros) (items_made c) h))
 
 selected : (c : goal.In_ok-words) → IsSelected (source c.args.p.now) c.args.limits.heap c.args.limits.depth
-    c.in_ok-items.items c.in_ok-words.words c.lay_out-layout.result.zeros
+    c.in_ok-items.items c.in_ok-words.words (c.args.limits.heap + c.stack_of.result)
 selected c =
     let p = c.args.p.now in
     let l = c.args.limits in
-    let free = c.requires.object_free in
-    made c (IsSelected (source p) l.heap l.depth) (program_selected (source p) l.heap l.depth (words_few p)
-    (globals_few p) (library_small p free) l.admitted.heap_high l.admitted.depth_high (stack_few c)
-    (object_free_selected p free) (codes_free p free) (globals_known p))
+    let free = c.requires.covered in
+    made c (IsSelected (source p) l.heap l.depth) (program_selected (source p) l.heap l.depth (words_few p) (low c)
+    l.admitted.heap_high l.admitted.depth_high (stack_few c) (texts_are p) (covered_selected p free) (codes_free p free) (entries_selected p)
+    (globals_known p) (literals_are p) (literals_named p))
+
+near_by : (heap limit : ℕ) → heap ≤ max_heap_address → limit ≤ 1073741824 → heap + limit < 2147483648
+near_by heap limit h l = omega (arith, h, l)
 
 -- ---- the invariant of the answer, and its clauses
 
@@ -85,11 +125,11 @@ invariant_of-result c =
     let p = c.args.p.now in
     let q = source p in
     let l = c.args.limits in
-    let free = c.requires.object_free in
-    let s = object_free_selected p free in
+    let free = c.requires.covered in
+    let s = covered_selected p free in
     record {
-      sound = subst AreItems (items_made c) (program_sound q l.heap l.depth (words_few p) (globals_few p)
-          (library_small p free) l.admitted.heap_high l.admitted.depth_high s);
+      sound = subst AreItems (items_made c) (program_sound q l.heap l.depth (words_few p) (statics_few p) (symbols_few p)
+          (near_by _ _ (low c) l.admitted.heap_high) l.admitted.depth_high s);
       once = subst (λ is. IsEachOnce (labels_in is)) (items_made c) (program_once q l.heap l.depth
           (all_forward p.bodies));
       known = made c (λ is ws z. AreKnown is ws) (program_known q l.heap l.depth (all_forward p.bodies)
@@ -117,7 +157,7 @@ returns-clause-own c =
 pub returns-clause-text : goal.returns-clause-text
 returns-clause-text c =
     let q = source c.args.p.now in
-    subst (λ is. text_size is ≤ 512 + 64 * (program_size q + closures_in q.bodies)) (items_made c.before)
+    subst (λ is. text_size is ≤ 2048 + 64 * (program_size q + closures_in q.bodies)) (items_made c.before)
     (text_small q c.args.limits.heap c.args.limits.depth)
 
 pub returns-clause-ahead : goal.returns-clause-ahead
@@ -132,7 +172,7 @@ returns-clause-instructions c =
     let p = c.args.p.now in
     let q = source p in
     subst (λ is. program_size q + (closures_in q.bodies + length q.bodies) ≤ 3 * instructions_in is) (items_made c.before)
-    (program_instructions q c.args.limits.heap c.args.limits.depth (object_free_selected p c.requires.object_free))
+    (program_instructions q c.args.limits.heap c.args.limits.depth (covered_selected p c.requires.covered))
 
 pub returns-clause-marks : goal.returns-clause-marks
 returns-clause-marks c =
@@ -141,17 +181,17 @@ returns-clause-marks c =
     c.args.limits.depth)
 
 pub returns-clause-words : goal.returns-clause-words
-returns-clause-words c =
-    let q = source c.args.p.now in
-    let n = words_are q in
-    subst (λ ws. length ws ≤ 101 + length q.statics.globals + 2 * length q.library) (words_made c.before) (omega (arith, n))
+returns-clause-words c = subst (λ ws. 0x10000000 + 8 * length ws ≡ heap_of (source c.args.p.now)) (words_made c.before) (ends_there c.before)
+
+pub returns-clause-low : goal.returns-clause-low
+returns-clause-low c = low c.before
 
 pub returns-clause-ends : goal.returns-clause-ends
 returns-clause-ends c =
     let p = c.args.p.now in
     let l = c.args.limits in
-    made c.before (λ is ws z. 8 * length ws + z ≤ max_data) (data_end (source p) l.heap l.depth (stack_few c.before) (globals_few p)
-    (library_small p c.requires.object_free) l.admitted.heap_high)
+    made c.before (λ is ws z. 8 * length ws + z ≤ max_data) (data_end (source p) l.heap l.depth
+    (length (program_words (source p))) (stack_few c.before) (ends_there c.before) (low c.before) l.admitted.heap_high)
 
 pub returns-clause-zeros : goal.returns-clause-zeros
 returns-clause-zeros c = sym (zeros_made c.before)

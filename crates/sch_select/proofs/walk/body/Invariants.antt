@@ -5,8 +5,8 @@ use Rattle.sch_select.proofs.walk.body.Given as goal
 
 abbrev pub invariant-loop-i : goal.invariant-loop-i
 invariant-loop-i l = record {
-  items : (rest : List Item) → l.out ++ body_code l.labels.base l.labels.end l.labels.words l.labels.heap_end l.next
+  items : (rest : List Item) → l.out ++ body_code l.labels.base l.labels.end l.labels.words l.labels.heap_end l.labels.literals l.next
       (drop l.i-index l.instructions) rest ≡ l.initial.out ++ body_code l.labels.base l.labels.end l.labels.words
-      l.labels.heap_end l.n l.instructions rest;
+      l.labels.heap_end l.labels.literals l.n l.instructions rest;
   next : l.next ≡ l.n + 12 * l.i-index;
 }

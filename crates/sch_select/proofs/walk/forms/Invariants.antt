@@ -6,7 +6,7 @@ use Rattle.sch_select.proofs.walk.forms.Given as goal
 
 abbrev pub invariant-loop-b : goal.invariant-loop-b
 invariant-loop-b l = record {
-  items : (rest : List Item) → l.out ++ forms_code l.frames.words l.frames.heap_end l.label l.next
-      (codes_of (drop l.b-index l.bodies)) rest ≡ l.initial.out ++ forms_code l.frames.words l.frames.heap_end 0 l.n
+  items : (rest : List Item) → l.out ++ forms_code l.frames.words l.frames.heap_end l.frames.literals l.label l.next
+      (codes_of (drop l.b-index l.bodies)) rest ≡ l.initial.out ++ forms_code l.frames.words l.frames.heap_end l.frames.literals 0 l.n
       (codes_of l.bodies) rest;
 }

@@ -11,7 +11,7 @@ use Rattle.sch_control.specs.declared.operation.Operation.TheVariants as operati
 use Rattle.sch_frames.specs.declared.body.FrameBody.{FrameBody}
 use Rattle.sch_frames.specs.declared.instruction.Instruction.{Instruction}
 use Rattle.sch_frames.specs.declared.instruction.Instruction.TheVariants as instructions
-use Rattle.sch_frames.specs.ObjectFree.{is_object_free_program}
+use Rattle.sch_frames.specs.Covered.{is_covered_program}
 use Rattle.sch_frames.specs.SourceView.{codes_of}
 use Rattle.sch_frames.specs.Tree.{Code, Source}
 use Rattle.sch_frames.specs.Valid.{all_known, all_within, library_known, statics_known}
@@ -48,5 +48,5 @@ invariant_of-result c = record {
   ready = ap statics_known (the_source _ _ _ _ _ c.new.ensures (ap literals_of c.new-2.ensures ∙ literals_of_list []) c.new-3.ensures c.new-4.ensures (the_codes _ _ _ c.new-bodies.ensures c.in_ok-push.ensures.ok c.in_ok-shown.ensures.entry c.in_ok-shown.ensures.words c.in_ok-shown.ensures.labels c.in_ok-shown.ensures.instructions));
 }
 
-pub returns-clause-object_free : goal.returns-clause-object_free
-returns-clause-object_free c = ap is_object_free_program (the_source _ _ _ _ _ c.new.ensures (ap literals_of c.new-2.ensures ∙ literals_of_list []) c.new-3.ensures c.new-4.ensures (the_codes _ _ _ c.new-bodies.ensures c.in_ok-push.ensures.ok c.in_ok-shown.ensures.entry c.in_ok-shown.ensures.words c.in_ok-shown.ensures.labels c.in_ok-shown.ensures.instructions))
+pub returns-clause-covered : goal.returns-clause-covered
+returns-clause-covered c = ap is_covered_program (the_source _ _ _ _ _ c.new.ensures (ap literals_of c.new-2.ensures ∙ literals_of_list []) c.new-3.ensures c.new-4.ensures (the_codes _ _ _ c.new-bodies.ensures c.in_ok-push.ensures.ok c.in_ok-shown.ensures.entry c.in_ok-shown.ensures.words c.in_ok-shown.ensures.labels c.in_ok-shown.ensures.instructions))

@@ -1,0 +1,3 @@
+pub mod ObjectParts
+pub mod ObjectWords
+pub mod PlacedWords

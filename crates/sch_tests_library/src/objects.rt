@@ -1,0 +1,110 @@
+//! Pairs, vectors, strings, symbols and literals, run over memory (R5RS 6.3).
+
+use crate::program::{RUN, check_printed, check_stop, perform};
+use std::test::Fail;
+
+#[test]
+fn objects_print(rt: HostRuntime) -> Result<(), Fail> {
+    let rows: [(&[u8], &[u8]); 9] = [
+        (
+            b"(define v (vector-ref '#(1 (2 . 3)) 1))(display (cdr v))",
+            b"3",
+        ),
+        (b"(display 'Abc)(display \"\")(display \"a b\")", b"abca b"),
+        (
+            b"(define p (cons 1 2))(set-car! p 5)(set-cdr! p #f)(display (car p))(display (cdr p))",
+            b"5#f",
+        ),
+        (
+            b"(define s (make-string 3 #\\x))(string-set! s 1 #\\y)(display s)(display (string-length s))(display (string-ref s 2))",
+            b"xyx3x",
+        ),
+        (
+            b"(define v (make-vector 3 7))(vector-set! v 2 'q)(display (vector-ref v 1))(display (vector-ref v 2))(display (vector-length v))",
+            b"7q3",
+        ),
+        (
+            b"(display (eq? '() '()))(display (eq? \"\" \"\"))(display (eq? 'a 'A))(display (pair? '(1)))(display (vector? '#()))(display (string? \"\"))(display (symbol? 'b))(display (procedure? car))",
+            b"#t#f#t#t#t#t#t#t",
+        ),
+        // A literal is one object, and may be written.
+        (
+            b"(define (f) '(1 2))(set-car! (f) 3)(display (car (f)))",
+            b"3",
+        ),
+        (
+            b"(define (f a . l) (cons a l))(write (f 1))(write (f 1 2 3 4 5 6 7 8))(define (g . l) l)(write (g))",
+            b"(1)(1 2 3 4 5 6 7 8)()",
+        ),
+        (
+            b"(display 'ABC)(write #\\space)(write '(1 . (2 . ())))(write '#(a \"b\\\\\"))",
+            b"abc#\\space(1 2)#(a \"b\\\\\")",
+        ),
+    ];
+    for (source, printed) in rows {
+        check_printed(rt.alloc(), source, printed)?;
+    }
+    Ok(())
+}
+
+#[test]
+fn objects_stop(rt: HostRuntime) -> Result<(), Fail> {
+    let wrong = b"stop 65: wrong type\n".as_slice();
+    let range = b"stop 66: out of range\n".as_slice();
+    let rows: [(&[u8], u8, &[u8]); 16] = [
+        (b"(car 1)", 65, wrong),
+        (b"(cdr '())", 65, wrong),
+        (b"(set-car! \"a\" 1)", 65, wrong),
+        (b"(vector-ref (make-vector 2 0) 2)", 66, range),
+        (b"(vector-ref (make-vector 2 0) -1)", 66, range),
+        (b"(vector-ref '(1) 0)", 65, wrong),
+        (b"(vector-set! '#(1) #f 0)", 65, wrong),
+        (b"(vector-set! '#(1) 1 0)", 66, range),
+        (b"(make-vector -1 0)", 66, range),
+        (b"(make-vector #t 0)", 65, wrong),
+        (b"(make-string 2 0)", 65, wrong),
+        (b"(string-set! \"ab\" 2 #\\c)", 66, range),
+        (b"(string-set! \"ab\" 2 3)", 65, wrong),
+        (b"(string-ref \"ab\" 'a)", 65, wrong),
+        (b"(string-length 'ab)", 65, wrong),
+        (b"(symbol->string \"ab\")", 65, wrong),
+    ];
+    for (source, status, said) in rows {
+        check_stop(rt.alloc(), source, status, b"", said)?;
+    }
+    Ok(())
+}
+
+// Both orders are allowed, and none mixes parts of two operands (R5RS 4.1.3).
+#[test]
+fn operands_are_evaluated_whole(rt: HostRuntime) -> Result<(), Fail> {
+    let source =
+        b"(define p (cons 1 2))(define x 10)(define (f a b) a)(display (f (+ x (car p)) (begin (set! x 20) (set-car! p 5) 0)))";
+    let ending = perform(rt.alloc(), &RUN, source, &[])?;
+    let printed = ending.printed.as_slice();
+    assert!(rt; printed == b"11".as_slice() || printed == b"25".as_slice());
+    Ok(())
+}
+
+// 4,096 bytes are 256 pairs, and a list of operands is charged as a whole.
+#[test]
+fn objects_fill_the_heap(rt: HostRuntime) -> Result<(), Fail> {
+    let words = ["run", "a", "--heap", "4096"];
+    let rows: [(&[u8], &[u8], u64, u8); 6] = [
+        (b"", b"(cons 1 2)", 256, 0),
+        (b"", b"(cons 1 2)", 257, 71),
+        (b"(define (f . l) 1)", b"(f 1 2 3)", 85, 0),
+        (b"(define (f . l) 1)", b"(f 1 2 3)", 86, 71),
+        (b"", b"(make-vector 31 0)(make-string 248 #\\a)", 8, 0),
+        (b"", b"(make-vector 31 0)(make-string 249 #\\a)", 8, 71),
+    ];
+    for (first, form, count, status) in rows {
+        let mut source = Vec::from_slice(rt.alloc(), first)?;
+        for _ in 0..count {
+            source.extend_from_slice(form)?;
+        }
+        let ending = perform(rt.alloc(), &words, source.as_slice(), &[])?;
+        assert_eq!(rt; ending.status, status);
+    }
+    Ok(())
+}
