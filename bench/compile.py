@@ -52,6 +52,39 @@ def procedures(size):
     return b"".join(texts).ljust(size)
 
 
+def short_procedures(size):
+    """A text of procedures in lines of 52 bytes, 20,164 of them in 1 MiB, each of which calls the next."""
+    count = size // 52
+    lines = (b"(define (f%05d x) (if x (f%05d (- x 1)) 0))" % (k, (k + 1) % count) for k in range(count))
+    return b"".join(line.ljust(51) + b"\n" for line in lines).ljust(size)
+
+
+def let_stars(size):
+    """A text of nests of `let*`, each as deep as the limit of levels allows but for ten: 995 of them, two levels each."""
+    nest = b"(let* ((a 1)) 1 " * 995 + b"a" + b")" * 995 + b"\n"
+    return (nest * (size // len(nest))).ljust(size)
+
+
+def clause(depth):
+    """A clause of this many choices, one in the other."""
+    return b"((eq? 1 2) " + b"(if (eq? 3 4) 5 " * depth + b"6" + b")" * depth + b")\n"
+
+
+def long_cond(size):
+    """A text of one `cond` of 1,950 clauses, each of as many choices as fit. A clause is one level deeper than the one
+    before it."""
+    room, depth = size // 1950 - 1, 0
+    while len(clause(depth + 1)) <= room:
+        depth += 1
+    return (b"(cond " + clause(depth) * 1950 + b"(else 7))").ljust(size)
+
+
+def longer_cond(size):
+    """A text of one `cond` of as many clauses as fit. It is refused, since there are at most 2,000 levels."""
+    one = clause(0)
+    return (b"(cond " + one * ((size - 20) // len(one)) + b"(else 7))").ljust(size)
+
+
 def nests(size):
     """A text of nests of 990 lambdas, each with the variable of the outermost one free."""
     front = b"".join(b"(lambda (x%03d) " % k for k in range(990))
@@ -68,6 +101,15 @@ def bodies(size):
     return (form * (size // len(form))).ljust(size)
 
 
+LARGE_TEXTS = {
+    "procedures": procedures,
+    "short procedures": short_procedures,
+    "nests of lambdas": nests,
+    "nests of let*": let_stars,
+    "1,000 variables": bodies,
+    "cond of 1,950": long_cond,
+}
+
 LIMIT_STATUS = 7
 
 
@@ -76,8 +118,8 @@ def main():
         source, target = os.path.join(folder, "source"), os.path.join(folder, "target")
         words = [PROGRAM, "compile", source, target]
         measure.table(TEXTS, source, words, folder)
-        measure.table({"procedures": procedures, "nests of lambdas": nests, "1,000 variables": bodies}, source, words, folder)
-        measure.table({"variables": variables}, source, words, folder, LIMIT_STATUS)
+        measure.table(LARGE_TEXTS, source, words, folder)
+        measure.table({"variables": variables, "longer cond": longer_cond}, source, words, folder, LIMIT_STATUS)
 
 
 if __name__ == "__main__":

@@ -2,7 +2,7 @@
 use Rattle.std.proofs.Common.{◌≡◌, ◌≢◌, ℕ, zero, suc, ◌+◌, ◌*◌, ◌<◌, ◌≤◌, List, [], ◌∷◌, ◌++◌, length, map, Bool, true, false, refl, sym, ap, ◌∙◌, subst, arith, ⊎_elim, ◌==◌, ◌||◌, ◌&&◌}
 use Rattle.std.specs.Prelude.{nat_le, nat_lt, slice_set, slice_index, replicate, IsTrue, All, AllPairs}
 use Rattle.std.specs.List.{AllByRecursion}
-use Rattle.std.proofs.lemmas.Bool.{eqb-true, eqb-false, cases_Bool, cases_lt}
+use Rattle.std.proofs.lemmas.Bool.{eqb-true, eqb-false, cases_Bool, cases_lt, or_parts}
 use Rattle.std.proofs.lemmas.Bool.Decides.{nat_tests}
 use Rattle.std.proofs.lemmas.Grind.{common_steps}
 use Rattle.std.proofs.lemmas.List.{get_or-set_same, get_or-set_other}
@@ -350,18 +350,14 @@ abbrev pub repeats : List ℕ → Bool
 repeats [] = false
 repeats (l ∷ ls) = is_among ls l || repeats ls
 
-parts_false : (a b : Bool) → (a || b) ≡ false → (a ≡ false) × (b ≡ false)
-parts_false true b e = absurd cc
-parts_false false b e = (refl, e)
-
 among_none : (ls : List ℕ) (l : ℕ) → is_among ls l ≡ false → All (λ m. l ≢ m) ls
 among_none [] l e k d lt same = absurd (omega arith)
-among_none (m ∷ ms) l e zero d lt same = let p = parts_false (m == l) (is_among ms l) e in eqb-false m l p.0 (sym same)
-among_none (m ∷ ms) l e (suc k) d lt same = let p = parts_false (m == l) (is_among ms l) e in among_none ms l p.1 k d (omega arith) same
+among_none (m ∷ ms) l e zero d lt same = let p = or_parts (m == l) (is_among ms l) e in eqb-false m l p.0 (sym same)
+among_none (m ∷ ms) l e (suc k) d lt same = let p = or_parts (m == l) (is_among ms l) e in among_none ms l p.1 k d (omega arith) same
 
 pub each_once : (ls : List ℕ) → repeats ls ≡ false → IsEachOnce ls
 each_once [] e i j d lt within = absurd (omega arith)
 each_once (l ∷ ls) e zero zero d lt within = absurd (omega arith)
-each_once (l ∷ ls) e zero (suc j) d lt within = let p = parts_false (is_among ls l) (repeats ls) e in among_none ls l p.0 j d (omega arith)
+each_once (l ∷ ls) e zero (suc j) d lt within = let p = or_parts (is_among ls l) (repeats ls) e in among_none ls l p.0 j d (omega arith)
 each_once (l ∷ ls) e (suc i) zero d lt within = absurd (omega arith)
-each_once (l ∷ ls) e (suc i) (suc j) d lt within = let p = parts_false (is_among ls l) (repeats ls) e in each_once ls p.1 i j d (omega arith) (omega arith)
+each_once (l ∷ ls) e (suc i) (suc j) d lt within = let p = or_parts (is_among ls l) (repeats ls) e in each_once ls p.1 i j d (omega arith) (omega arith)

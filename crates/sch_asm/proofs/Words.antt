@@ -1,8 +1,8 @@
 -- Words of a program's data: what loads and stores of them do.
-use Rattle.std.proofs.Common.{◌≡◌, ℕ, ◌+◌, ◌-◌, ◌^◌, ◌<◌, ◌≤◌, List, [], ◌∷◌, ◌++◌, length, take, drop, length-append, length-drop, true, false, cond, Option, Some, None, refl, sym, ap, ◌∙◌, arith, ⊎_elim, ◌⊎◌, nat_le, ◌&&◌}
+use Rattle.std.proofs.Common.{◌≡◌, ℕ, ◌+◌, ◌-◌, ◌*◌, ◌^◌, ◌<◌, ◌≤◌, List, [], ◌∷◌, ◌++◌, length, take, drop, length-append, length-drop, true, false, cond, Option, Some, None, refl, sym, ap, ◌∙◌, arith, ⊎_elim, ◌⊎◌, nat_le, ◌&&◌}
 use Rattle.std.specs.Prelude.{slice_index, Result, Ok}
 use Rattle.std.specs.Int.{w64, to_le_bytes, from_le_bytes}
-use Rattle.std.specs.List.{between}
+use Rattle.std.specs.List.{between, flat_map}
 use Rattle.std.proofs.lemmas.Bool.Decides.{nat_tests}
 use Rattle.std.proofs.lemmas.List.{get_or-take, drop-drop, length-take-le}
 use Rattle.std.proofs.lemmas.Nat.{from_le_bytes-to_le_bytes_8}
@@ -13,6 +13,15 @@ use Rattle.sch_insn.specs.declared.machine.StuckCause.{StuckCause}
 use Rattle.sch_insn.specs.Machine.{holds, bytes_from, put_bytes, with_bytes, behind_segment, stored, or_access, when_ok, word_at}
 use Rattle.sch_asm.specs.Stands.{Setting}
 use Rattle.sch_asm.specs.Data.{data_at, word_in, with_word, Inside}
+use Rattle.sch_asm.specs.declared.assembly.Word.{Word}
+use Rattle.sch_asm.specs.Codes.{bytes_of}
+
+-- ---- the bytes of words
+
+-- eight for each
+pub data_length : (place : ℕ → ℕ) (ws : List Word) → length (flat_map (bytes_of place) ws) ≡ 8 * length ws
+data_length place [] = refl
+data_length place (w ∷ ws) = let h = data_length place ws in omega (arith, h)
 
 -- ---- words of a list of bytes, by their offsets
 

@@ -3,7 +3,7 @@ use Rattle.std.specs.Prelude.{ℕ, ◌+◌}
 use Rattle.sch_cells.specs.Bodies.{procedures}
 use Rattle.sch_cells.specs.Tree.{Source, count}
 use Rattle.sch_cells.specs.Measures.{over_source, shape}
-use Rattle.sch_control.specs.Weights.{procedures_weight, weight_of}
+use Rattle.sch_control.specs.NodeWeights.{procedures_weight, weight_of}
 
 -- what its library's procedures and its nodes weigh, and one for the end of each form
 abbrev pub weight : Source → ℕ

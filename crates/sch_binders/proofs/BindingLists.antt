@@ -1,25 +1,19 @@
--- Lists of bindings and of symbols, step by step.
-use Rattle.std.proofs.Common.{◌≡◌, ◌<◌, ◌+◌, ℕ, suc, Bool, false, List, [], ◌∷◌, ◌++◌, length, drop, get_or, Option, Some, refl, sym, ap, ◌∙◌, add-one, drop-cons}
+-- Lists of bindings, step by step.
+use Rattle.std.proofs.Common.{◌≡◌, ◌<◌, ◌+◌, ℕ, suc, Bool, false, List, [], ◌∷◌, ◌++◌, length, drop, get_or, Option, Some, refl, sym, ap, ◌∙◌, add-one}
 use Rattle.std.proofs.lemmas.List.{map-append, append_assoc}
 use Rattle.std.specs.Borrow.{Bor}
 use Rattle.sch_read.specs.declared.datum.Datum.{Datum}
-use Rattle.sch_read.specs.Grammar.{Data, none, cons, list, atom, dotted, vector, symbol, boolean, integer, character, text}
+use Rattle.sch_read.specs.Grammar.{Data, none, cons, list, atom, symbol}
 use Rattle.sch_read.specs.Grammar as grammar
 use Rattle.sch_read.specs.Views.{tree_of, data_of}
 use Rattle.sch_sketch.specs.declared.sketch.Sketch as code
-use Rattle.sch_binders.specs.Shapes.{IsNoBinding}
 use Rattle.sch_sketch.specs.Draft.{Names}
-use Rattle.sch_sketch.specs.Sketch.{Sketches, and_sketch, no_sketch}
+use Rattle.sch_sketch.specs.Sketch.{Sketches}
 use Rattle.sch_sketch.specs.Sketch as words
 use Rattle.sch_sketch.specs.SketchView.{sketch_of, ahead}
 use Rattle.sch_names.specs.ScopeView.{given_names}
-use Rattle.sch_binders.specs.Bindings.{inits, bound, are_bindings}
-use Rattle.sch_binders.specs.Formals.{are_symbols, symbols}
-use Rattle.sch_read.specs.Parts.{IsNoSymbol}
-use Rattle.sch_sketch.proofs.PartLists.{ahead_more}
-
-next_is : (items : List Datum) (i : ℕ) (d : Datum) → i < length items → d ≡ get_or items i d → drop i items ≡ d ∷ drop (suc i) items
-next_is items i d l e = drop-cons items i d l ∙ ap (λ a. a ∷ drop (suc i) items) (sym e)
+use Rattle.sch_binders.specs.Bindings.{IsNoBinding, inits, bound, are_bindings}
+use Rattle.sch_sketch.proofs.PartLists.{next_is, ahead_more}
 
 abbrev IsBinding : grammar.Datum → List ℕ → grammar.Datum → ℕ → ℕ → Type 0
 IsBinding d x i p q = d ≡ list p (cons (atom q (symbol x)) (cons i none))
@@ -54,21 +48,3 @@ bindings_next items i d r l e b k = let k' = rw (next_is items i d l e, b) at k 
 
 pub bindings_stop : (items : List Datum) (i : ℕ) (d : Datum) (r : Bool) → i < length items → d ≡ get_or items i d → IsNoBinding (tree_of d) → are_bindings (data_of (drop i items)) ≡ r → r ≡ false
 bindings_stop items i d r l e b k = sym k ∙ rw (next_is items i d l e) (no_bindings (tree_of d) (data_of (drop (suc i) items)) b)
-
--- ## Symbols
-
-no_symbols : (d : grammar.Datum) (rest : Data) → IsNoSymbol d → are_symbols (cons d rest) ≡ false
-no_symbols (atom q (symbol b)) rest h = absurd h
-no_symbols _ rest h = refl
-
-pub symbols_next : (items : List Datum) (i : ℕ) (d : Datum) (vs vs' : List (Option (Bor (List ℕ)))) (x : Bor (List ℕ)) (r : Names) {p : ℕ} → i < length items → d ≡ get_or items i d →
-    tree_of d ≡ atom p (symbol x.now) → vs' ≡ vs ++ Some x ∷ [] → given_names vs ++ symbols (data_of (drop i items)) ≡ r → given_names vs' ++ symbols (data_of (drop (i + 1) items)) ≡ r
-symbols_next items i d vs vs' x r l e b p k =
-    let k' = rw (next_is items i d l e, b) at k in rw (add-one, p, map-append, append_assoc) k'
-
-pub are_symbols_next : (items : List Datum) (i : ℕ) (d : Datum) (r : Bool) {x : List ℕ} {p : ℕ} → i < length items → d ≡ get_or items i d →
-    tree_of d ≡ atom p (symbol x) → are_symbols (data_of (drop i items)) ≡ r → are_symbols (data_of (drop (i + 1) items)) ≡ r
-are_symbols_next items i d r l e b k = let k' = rw (next_is items i d l e, b) at k in rw add-one k'
-
-pub symbols_stop : (items : List Datum) (i : ℕ) (d : Datum) (r : Bool) → i < length items → d ≡ get_or items i d → IsNoSymbol (tree_of d) → are_symbols (data_of (drop i items)) ≡ r → r ≡ false
-symbols_stop items i d r l e b k = sym k ∙ rw (next_is items i d l e) (no_symbols (tree_of d) (data_of (drop (suc i) items)) b)

@@ -1,8 +1,5 @@
 pub mod BindingLists
-pub mod DefinitionSteps
-pub mod GroupSteps
-pub mod LoopSteps
-pub mod PartJoins
+pub mod NamedLets
 pub mod RowsFall
 pub mod SoundRows
 mod Examples

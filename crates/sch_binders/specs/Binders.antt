@@ -8,8 +8,9 @@ use Rattle.sch_sketch.specs.declared.sketch.Row.TheVariants.{Body, Nest}
 use Rattle.sch_sketch.specs.Draft.{Names, local}
 use Rattle.sch_sketch.specs.Sketch.{Sketch, text, rest, wrong, leaf, node, limited, no_sketch, and_sketch, binding, recurring, abstracting, calling}
 use Rattle.sch_sketch.specs.Small.{two}
-use Rattle.sch_binders.specs.Bindings.{bound, inits, are_bindings, are_distinct}
-use Rattle.sch_binders.specs.Bodies.{is_body, body, group}
+use Rattle.sch_definitions.specs.Distinct.{are_distinct}
+use Rattle.sch_bodies.specs.Bodies.{is_body, body, group}
+use Rattle.sch_binders.specs.Bindings.{bound, inits, are_bindings}
 
 -- the variables are distinct, and the body is one
 abbrev pub is_binding_form : Scope → Data → Data → Bool

@@ -1,9 +1,13 @@
--- Lists of bindings, and names that are distinct (R5RS 4.2.2).
-use Rattle.std.specs.Prelude.{ℕ, Bool, true, false, cond, List, [], ◌∷◌, ◌++◌, Some, None}
-use Rattle.sch_read.specs.Grammar.{Data, atom, list, none, cons, symbol}
-use Rattle.sch_names.specs.Scope.{is_among}
+-- Lists of bindings (R5RS 4.2.2).
+use Rattle.std.specs.Prelude.{Bool, true, false, [], ◌∷◌, Some}
+use Rattle.sch_read.specs.Grammar.{Datum, Data, atom, list, none, cons, symbol}
 use Rattle.sch_sketch.specs.Draft.{Names}
 use Rattle.sch_sketch.specs.Sketch.{Sketches, text, and_sketch}
+
+-- not of the shape `(v i)`
+abbrev pub IsNoBinding : Datum → Type 0
+IsNoBinding (list at (cons (atom q (symbol x)) (cons i none))) = ⊥
+IsNoBinding _ = Unit {0}
 
 -- the variables of `((v i)..)`, and its inits and then others
 abbrev pub bound : Data → Names
@@ -18,17 +22,3 @@ abbrev pub are_bindings : Data → Bool
 are_bindings none = true
 are_bindings (cons (list at (cons (atom q (symbol x)) (cons i none))) bs) = are_bindings bs
 are_bindings _ = false
-
--- the names that there are
-abbrev pub named : Names → List (List ℕ)
-named [] = []
-named (None ∷ vs) = named vs
-named (Some x ∷ vs) = x ∷ named vs
-
-abbrev pub are_new : (seen : List (List ℕ)) → List (List ℕ) → Bool
-are_new seen [] = true
-are_new seen (x ∷ xs) = cond (is_among x seen) false (are_new (seen ++ x ∷ []) xs)
-
--- no name stands twice
-abbrev pub are_distinct : Names → Bool
-are_distinct vs = are_new [] (named vs)

@@ -7,12 +7,13 @@ ghost use Rattle.sch_names.specs.ScopeView.{given_names};
 ghost use Rattle.sch_sketch.specs.Sketch as words;
 ghost use Rattle.sch_sketch.specs.SketchView.{sketch_of, kind_of};
 ghost use Rattle.sch_sketch.specs.Small as small;
+ghost use Rattle.sch_definitions.specs.Optional.{AreGiven};
 ghost use Rattle.sch_binders.specs.Bindings.{bound, inits};
 ghost use Rattle.sch_binders.specs.Binders as table;
-ghost use Rattle.sch_binders.specs.Shapes.{AreGiven};
 
-use crate::bodies::{group, is_body};
-use crate::shape::{add_inits, are_distinct, binding_of, bound_names};
+use crate::shape::{add_inits, binding_of, bound_names};
+use sch_bodies::{group, is_body};
+use sch_definitions::are_distinct;
 use sch_names::{Name, Scope};
 use sch_read::Datum;
 use sch_sketch::{Kind, Row, Sketch, alone, bad, limited, local, node, one, rest, text, two};

@@ -1,16 +1,18 @@
-//! The shapes of bindings, and names that are distinct.
+//! The shapes of bindings.
 
-ghost use Rattle.std.specs.Prelude.{◌≡◌, ◌++◌, true, false, MatchOption, IfOk, OnOk};
+ghost use Rattle.std.specs.Prelude.{◌≡◌, ◌++◌, MatchOption, IfOk, OnOk};
 ghost use Rattle.sch_read.specs.Grammar.{none, cons, list, atom, symbol};
 ghost use Rattle.sch_read.specs.Parts.{offset};
 ghost use Rattle.sch_read.specs.Views.{tree_of, data_of};
 ghost use Rattle.sch_names.specs.ScopeView.{given_names};
 ghost use Rattle.sch_sketch.specs.Sketch as words;
 ghost use Rattle.sch_sketch.specs.SketchView.{ahead};
+ghost use Rattle.sch_definitions.specs.Optional.{AreGiven};
+ghost use Rattle.sch_definitions.specs.Shapes.{first};
 ghost use Rattle.sch_binders.specs.Bindings as table;
-ghost use Rattle.sch_binders.specs.Shapes.{IsNoBinding, AreGiven, first};
+ghost use Rattle.sch_binders.specs.Bindings.{IsNoBinding};
 
-use sch_names::{Name, Names};
+use sch_names::Name;
 use sch_read::Datum;
 use sch_sketch::{Sketch, text};
 use sch_word::{List, Mem};
@@ -59,20 +61,4 @@ pub(crate) fn add_inits<'a>(parts: &mut List<Sketch<'a>>, items: &'a [Datum]) ->
         parts.push(text(init))?;
     }
     Ok(())
-}
-
-/// Whether no name stands twice.
-pub(crate) fn are_distinct(alloc: Global, names: &[Name<'_>]) -> Result<bool, Mem>
-    ensures { IfOk result (λ b. b ≡ table.are_distinct (given_names names.now)) }
-{
-    let mut seen = Names::new(alloc);
-    for v in names {
-        if let Some(x) = v {
-            if seen.contains(x) {
-                return Ok(false);
-            }
-            seen.insert(alloc, x)?;
-        }
-    }
-    Ok(true)
 }

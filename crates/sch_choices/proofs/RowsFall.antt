@@ -13,7 +13,8 @@ use Rattle.sch_sketch.specs.declared.sketch.Row.TheVariants.{Form, Chain, Join}
 use Rattle.sch_sketch.specs.Measure.{datum_measure, data_measure, sketch_measure}
 use Rattle.sch_sketch.specs.Sketch.{text as datum, rest, no_sketch, but_one}
 use Rattle.sch_sketch.specs.Small.{one}
-use Rattle.sch_sketch.proofs.SmallMeasures.{choice, some_measure, quoted_below, texts_measure, fresh_count, one_less, either_falls}
+use Rattle.sch_sketch.proofs.SmallMeasures.{choice, some_measure, quoted_below, texts_measure, one_less, either_falls}
+use Rattle.sch_sketch.proofs.SmallSound.{fresh_count}
 use Rattle.sch_choices.specs.Choices.{row_quote, row_begin, row_if, row_and, row_or, row_cond, row_clauses, are_clauses, clause, other_clause, receiver, remaining, is_else, is_arrow, is_some_data}
 use Rattle.sch_choices.specs.Cases.{row_case, row_cases, row_tests, are_cases}
 use Rattle.sch_choices.specs.Combinations.{combination, denial, filler, row_chain, row_join}

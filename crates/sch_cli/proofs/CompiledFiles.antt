@@ -1,16 +1,19 @@
--- What the driver compiles is a file of its text.
-use Rattle.std.proofs.Common.{◌≤◌, ℕ, List, length}
+-- What the driver compiles is a file of its text, and the image of such a file does what the text means.
+use Rattle.std.proofs.Common.{◌≤◌, ℕ, List, length, subst}
+use Rattle.sch_elf.specs.declared.image.Image.{Image}
+use Rattle.sch_elf.proofs.OneRefusal.{one_image}
 use Rattle.sch_prelude.specs.LibraryText.{library_text}
 use Rattle.sch_driver.specs.Causes.{max_source_size}
 use Rattle.sch_driver.specs.Compiled.{IsCompiled}
+use Rattle.sch_driver.specs.Headline.{IsImageOf}
 use Rattle.sch_driver.specs.declared.listing.Listing.{Listing}
-use Rattle.sch_cli.specs.Builds.{IsFileOf}
+use Rattle.sch_cli.specs.Builds.{HasFile, IsFileOf}
 
 pub file_of : (text file : List ℕ) (listing : Listing) (heap depth : ℕ) → length text ≤ max_source_size → IsCompiled library_text text heap depth file listing → IsFileOf text heap depth file
-file_of text file listing heap depth short made = record {
-  program = made.program;
-  accepted = record { short = short; means = made.means };
-  orders = listing.orders;
-  is_program = made.is_program;
-  bound = made.bound;
-}
+file_of text file listing heap depth short compiled = record { short = short; listing = listing; compiled = compiled }
+
+-- a file stands for one image, which is that of its program
+pub does_text : (text : List ℕ) (heap depth : ℕ) (image : Image) (built : HasFile text heap depth image) → IsImageOf image built.made.compiled.program built.made.listing.orders heap depth
+does_text text heap depth image built =
+    let program = built.made.compiled.is_program in
+    subst (λ i. IsImageOf i built.made.compiled.program built.made.listing.orders heap depth) (one_image built.file program.image image program.stands built.stands) program.does

@@ -159,8 +159,8 @@ same text depth one two h k = one_in_texts library_text text (but_for_size one) 
 beyond : (low middle high : ℕ) → low < middle → middle ≤ high → high ≤ low → ⊥
 beyond low middle high a b c = omega (arith, a, b, c)
 
-not_too_large : (text : List ℕ) (p : Source) (bytes : ℕ) → Means library_text text p → text_bound p ≤ max_text_size → IsTextTooLarge library_text text bytes → ⊥
-not_too_large text p bytes is low large =
+not_too_large : (text : List ℕ) (p : Source) (depth bytes : ℕ) → Means library_text text p → text_bound p ≤ max_text_size → IsTextTooLarge library_text text depth bytes → ⊥
+not_too_large text p depth bytes is low large =
     beyond max_text_size bytes (text_bound large.program) large.large large.bound
     (subst (λ q. text_bound q ≤ max_text_size) (same_program library_text text p large.program is large.means) low)
 
@@ -179,7 +179,7 @@ whole text depth p is low (Err e) (refused failure.TooLong h v) = refl
 whole text depth p is low (Err e) (refused (failure.Compile (compiling.Read part error)) h v) = refl
 whole text depth p is low (Err e) (refused (failure.Compile (compiling.Core part error)) h v) = refl
 whole text depth p is low (Err e) (refused (failure.Compile (compiling.StackTooLarge words)) h v) = absurd (stack_not_too_large text depth p words is low.stack h.1)
-whole text depth p is low (Err e) (refused (failure.Compile (compiling.TextTooLarge bytes)) h v) = absurd (not_too_large text p bytes is low.text h.1)
+whole text depth p is low (Err e) (refused (failure.Compile (compiling.TextTooLarge bytes)) h v) = absurd (not_too_large text p depth bytes is low.text h.1)
 whole text depth p is low (Err e) (refused (failure.Compile compiling.Memory) h v) = refl
 whole text depth p is low (Err e) (refused failure.Memory h v) = refl
 whole text depth p is low (Err e) (refused failure.ReadFailed h v) = refl

@@ -92,14 +92,12 @@ end_number : (runs : List Answer → ℕ → Run) (steps : ℕ) (answers : List 
 end_number runs steps answers status output is h = (subst (λ s. EndsAs runs steps answers s output) is h).0
 
 pub runs_program : (p : tree.Source) (table : List (List ℕ)) (heap depth : ℕ) (image : Image) (steps : ℕ) (end : RunEnd) (out : StreamChange) → IsImageOf image p table heap depth → Executes image steps end out →
-    RunsProgram p table heap depth steps end out
+    RunsProgram p table heap depth image steps end out
 runs_program p table heap depth image steps end out does executed =
     let runs = run p table heap depth in
     let end_is = ends_as image p table heap depth does.follows.runs steps in
     let given = end_is executed.given end executed.output executed.under_given in
     record {
-      image = image;
-      does = does;
       executed = executed;
       under_given = given;
       under_left = related out.before.left out.after.left (λ before after. EndsUnder image steps before end executed.output) (λ before after. EndsAs runs steps before (end_status end) executed.output)

@@ -1,25 +1,21 @@
 -- What is built of a source, under limits of heap, in bytes, and of depth.
 use Rattle.std.specs.Prelude.{◌≤◌, ℕ, List, length}
-use Rattle.std.specs.List.{flat_map}
-use Rattle.sch_insn.specs.Spelling.{spelling}
 use Rattle.sch_elf.specs.declared.image.Image.{Image}
-use Rattle.sch_lang.specs.Tree as tree
-use Rattle.sch_driver.specs.Causes.{text_bound}
-use Rattle.sch_driver.specs.Headline.{IsImageOf, IsProgram}
-use Rattle.sch_cli.specs.Refusals.{IsAccepted}
+use Rattle.sch_elf.specs.Stands.{StandsFor}
+use Rattle.sch_prelude.specs.LibraryText.{library_text}
+use Rattle.sch_driver.specs.Causes.{max_source_size}
+use Rattle.sch_driver.specs.Compiled.{IsCompiled}
+use Rattle.sch_driver.specs.declared.listing.Listing.{Listing}
 
--- The file is a program for the core program of the text, with some orders of its sites, and no longer than the
--- size of the core program allows.
+-- The file is compiled of the text, which is no longer than a source may be, with the library's text and beside some
+-- listing: it is all that the driver promises of the two.
 pub record IsFileOf (text : List ℕ) (heap depth : ℕ) (file : List ℕ) : Type 0 where
-  pub program : tree.Source
-  pub accepted : IsAccepted text program
-  pub orders : List (List ℕ)
-  pub is_program : IsProgram file program orders heap depth
-  pub bound : length (flat_map spelling is_program.does.laid_out.code) ≤ text_bound program
+  pub short : length text ≤ max_source_size
+  pub listing : Listing
+  pub compiled : IsCompiled library_text text heap depth file listing
 
--- The image does what the core program of the text means, with some orders of its sites.
-pub record DoesText (text : List ℕ) (heap depth : ℕ) (image : Image) : Type 0 where
-  pub program : tree.Source
-  pub accepted : IsAccepted text program
-  pub orders : List (List ℕ)
-  pub does : IsImageOf image program orders heap depth
+-- The image is the one that such a file stands for.
+pub record HasFile (text : List ℕ) (heap depth : ℕ) (image : Image) : Type 0 where
+  pub file : List ℕ
+  pub made : IsFileOf text heap depth file
+  pub stands : StandsFor file image

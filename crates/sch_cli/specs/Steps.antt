@@ -11,16 +11,16 @@ use Rattle.sch_elf.specs.Stands.{StandsFor}
 use Rattle.sch_insn.specs.Behaves.{IsPrefix}
 use Rattle.sch_lang.specs.Run.{run}
 use Rattle.sch_lang.specs.Tree as tree
-use Rattle.sch_driver.specs.Headline.{IsImageOf}
 use Rattle.sch_step.specs.declared.ends.RunEnd.{RunEnd}
 use Rattle.sch_cli.specs.declared.failure.Failure.{Failure}
 use Rattle.sch_cli.specs.declared.failure.Failure.TheVariants.{ReadFailed, TooLong, Image as NoImage, Memory}
 use Rattle.sch_cli.specs.declared.status.Status.{Status}
 use Rattle.sch_cli.specs.declared.status.Status.TheVariants.{StepsSpent, Stopped}
+use Rattle.sch_cli.specs.Builds.{IsFileOf}
 use Rattle.sch_cli.specs.Executes.{Executes}
 use Rattle.sch_cli.specs.Failures.{failure_line, failure_status}
 use Rattle.sch_cli.specs.Messages.{Says, end_line}
-use Rattle.sch_cli.specs.Refusals.{IsAccepted, IsRefused}
+use Rattle.sch_cli.specs.Refusals.{IsRefused}
 use Rattle.sch_cli.specs.Seen.{DiskChange, StreamChange, SameFiles, FileIs, HadCalls, DiskFailed, TookNothing, StreamFailed}
 use Rattle.sch_cli.specs.Statuses.{end_status, status_number}
 
@@ -51,25 +51,32 @@ EndsAs runs steps answers StepsSpent output = IsPrefix output (runs answers step
 EndsAs runs steps answers status output =
     ((runs answers steps).end ≡ ended (status_number status)) × ((runs answers steps).output ≡ output)
 
--- A core program was run: an image that does what it means was executed, and ended as it means.
-pub record RunsProgram (p : tree.Source) (table : List (List ℕ)) (heap depth steps : ℕ) (end : RunEnd) (out : StreamChange) : Type 0 where
-  pub image : Image
-  pub does : IsImageOf image p table heap depth
+-- An image was executed, and ended as a core program means.
+pub record RunsProgram (p : tree.Source) (table : List (List ℕ)) (heap depth : ℕ)
+    (image : Image) (steps : ℕ) (end : RunEnd) (out : StreamChange) : Type 0 where
   pub executed : Executes image steps end out
   pub under_given : EndsAs (run p table heap depth) steps executed.given (end_status end) executed.output
   pub under_left : Tells out.before.left out.after.left
       (λ before after. EndsAs (run p table heap depth) steps before (end_status end) executed.output)
   pub output_failed : end_status end ≡ Stopped OutputFailed → StreamFailed out
 
--- `run NAME`: the source was not read; or it is refused; or it is neither, and its program was run, under
--- these limits and with some orders of its sites.
+-- A text was run, under these limits: the image of a file that is compiled of it was executed, and ended as its core
+-- program means under the orders that are listed of this file.
+pub record RunsText (text : List ℕ) (heap depth steps : ℕ) (end : RunEnd) (out : StreamChange) : Type 0 where
+  pub file : List ℕ
+  pub made : IsFileOf text heap depth file
+  pub image : Image
+  pub stands : StandsFor file image
+  pub runs : RunsProgram made.compiled.program made.listing.orders heap depth image steps end out
+
+-- `run NAME`: the source was not read; or it is refused; or it is neither, and was run.
 pub data RunsSource (name : List ℕ) (heap depth steps : ℕ) (disk : DiskChange) (out : StreamChange) : Result RunEnd Failure → Type 0 where
   not_read : DiskFailed disk → TookNothing out → RunsSource name heap depth steps disk out (Err ReadFailed)
   no_memory : TookNothing out → RunsSource name heap depth steps disk out (Err Memory)
   refused : (failure : Failure) → FileIs disk name (λ text. IsRefused text depth failure) → TookNothing out →
       RunsSource name heap depth steps disk out (Err failure)
-  ran : (p : tree.Source) (orders : List (List ℕ)) (end : RunEnd) → FileIs disk name (λ text. IsAccepted text p) →
-      RunsProgram p orders heap depth steps end out → RunsSource name heap depth steps disk out (Ok end)
+  ran : (text : List ℕ) (end : RunEnd) → FileIs disk name (λ found. found ≡ text) → RunsText text heap depth steps end out →
+      RunsSource name heap depth steps disk out (Ok end)
 
 -- ---- the verbs
 

@@ -9,7 +9,7 @@ use Rattle.sch_flat.specs.Tree as to
 use Rattle.sch_flat.specs.Measures as to_measures
 use Rattle.sch_flat.specs.Measures.{variables, body_variables}
 use Rattle.sch_cells.specs.Measures as from_measures
-use Rattle.sch_control.specs.Weights.{all_entered, procedures_weight, weight_of}
+use Rattle.sch_control.specs.NodeWeights.{all_entered, procedures_weight, weight_of}
 
 -- the same items, each as often
 abbrev pub SameItems : {A : Type 0} → List A → List A → Type 0

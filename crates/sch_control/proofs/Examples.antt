@@ -24,14 +24,14 @@ use Rattle.sch_control.specs.Fits.{table_fits}
 
 -- ## Words for the rows
 
-abbrev pub number : ℕ → Operand ℕ
+abbrev pub number : {V : Type 0} → ℕ → Operand V
 number n = operand.Atom (Constant (Fixnum (pos n)))
 
 abbrev pub truth : Bool → Operand ℕ
 truth b = operand.Atom (Constant (Boolean b))
 
-abbrev pub held_in : ℕ → Operand ℕ
-held_in x = operand.Atom (Variable x)
+abbrev pub held_in : {V : Type 0} → V → Operand V
+held_in v = operand.Atom (Variable v)
 
 abbrev pub shown : (site : ℕ) → Operand ℕ → Expression
 shown site o = perform (operation.Prim site Put (o ∷ []))

@@ -1,4 +1,4 @@
-mod Examples
+pub mod Examples
 mod ReadingExamples
 mod ValidExamples
 mod CoveredExamples

@@ -4,7 +4,7 @@ use Rattle.sch_word.specs.declared.constant.Const.TheVariants.{Nil}
 use Rattle.sch_word.specs.declared.primitive.Primitive.TheVariants.{Add}
 use Rattle.sch_word.specs.trees.Shape.{Made, Procedure, constant, literal, variable, global, set_variable, set_global, define, branch, sequence, bind, fix, letrec, lambda, call, operation, new_cells, cell_get, cell_set, field, make_closure, fix_closures}
 use Rattle.sch_control.specs.Sizes.{most_variables}
-use Rattle.sch_control.specs.Weights.{weight_of}
+use Rattle.sch_control.specs.NodeWeights.{weight_of}
 use Rattle.sch_control.specs.Work.{code_work, codes_work, expression_work}
 use Rattle.sch_control.proofs.Examples.{around, looping, taking}
 

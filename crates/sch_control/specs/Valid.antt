@@ -21,7 +21,7 @@ use Rattle.sch_control.specs.declared.operation.Member.{Member}
 use Rattle.sch_control.specs.declared.operation.Operation.{Operation}
 use Rattle.sch_control.specs.declared.operation.Operation.TheVariants as operation
 use Rattle.sch_control.specs.declared.operation.Application.{Application}
-use Rattle.sch_control.specs.Parts.{operation_atoms, application_atoms, member_atoms, operation_sites, application_sites}
+use Rattle.sch_control.specs.AtomsAndSites.{operation_atoms, application_atoms, member_atoms, operation_sites, application_sites}
 use Rattle.sch_control.specs.Tree as tree
 use Rattle.sch_control.specs.Tree.{Expression, perform, bind, sequence, branch, fix, call, tail_call, return, end, save, Code}
 

@@ -13,14 +13,14 @@ use Rattle.sch_sketch.specs.Draft as draft
 use Rattle.sch_sketch.specs.Sketch.{sketches, text, sequencing, how_many_parts}
 use Rattle.sch_read.specs.Parts.{offset}
 use Rattle.sch_sketch.specs.Soundness.{IsSound, AreSound}
-use Rattle.sch_binders.specs.Definitions.{is_define_word}
-use Rattle.sch_binders.specs.Assignments.{row_define}
-use Rattle.sch_binders.proofs.SoundRows.{define_sound}
+use Rattle.sch_definitions.specs.Definitions.{is_define_word}
+use Rattle.sch_definitions.specs.Assignments.{row_define}
+use Rattle.sch_definitions.proofs.SoundRows.{define_sound}
 use Rattle.sch_numbers.specs.Numbered.{numbered_each}
 use Rattle.sch_numbers.specs.Programs.{Definition, seen, program_of}
-use Rattle.sch_numbering.specs.Ranged.{IsValidOnceRanged}
-use Rattle.sch_numbering.specs.Size.{size_of_definitions}
-use Rattle.sch_numbering.proofs.ProgramSize.{program_size}
+use Rattle.sch_linking.specs.Ranged.{IsValidOnceRanged}
+use Rattle.sch_linking.specs.Size.{size_of_definitions}
+use Rattle.sch_linking.proofs.ProgramSize.{program_size}
 use Rattle.sch_validity.specs.Library.{AreDefinitions, AreOrdered, procedures_of_each}
 use Rattle.sch_validity.specs.Sizes.{AllQuotable, statics_in_each}
 use Rattle.sch_validity.proofs.Sites.{count_numbered}

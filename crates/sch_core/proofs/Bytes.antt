@@ -7,8 +7,8 @@ use Rattle.sch_word.specs.values.Values.{are_bytes}
 use Rattle.sch_numbers.specs.Programs.{is_hidden, seen}
 use Rattle.sch_toplevel.specs.Views.{given}
 use Rattle.sch_toplevel.proofs.FormLists.{next}
-use Rattle.sch_numbering.specs.Definitions.{definitions_of}
-use Rattle.sch_numbering.specs.declared.definition.Definition.{Definition}
+use Rattle.sch_keeping.specs.Definitions.{definitions_of}
+use Rattle.sch_keeping.specs.declared.definition.Definition.{Definition}
 
 pub bytes_known : (xs : List ℕ) → ((i : ℕ) → get_or xs i 0 < 256) → are_bytes xs ≡ true
 bytes_known [] h = refl

@@ -12,13 +12,13 @@ use Rattle.sch_sketch.specs.Measure.{datum_measure, leaf_measure, sketch_measure
 use Rattle.sch_sketch.specs.Sketch.{Kind, choosing, sequencing, binding, recurring, abstracting, calling, operating, setting, setting_global, defining, Sketch, Sketches, sketches, front, last, first, but_first, assemble, bound_by, how_many_parts}
 use Rattle.sch_sketch.specs.Soundness.{IsAtom, HasParts, IsSound, AreSound}
 use Rattle.sch_sketch.proofs.SmallMeasures.{datum_weighs, leaf_some}
-use Rattle.sch_binders.specs.Definitions.{is_define_word}
-use Rattle.sch_binders.proofs.RowsFall.{define_falls}
+use Rattle.sch_definitions.specs.Definitions.{is_define_word}
+use Rattle.sch_definitions.proofs.RowsFall.{define_falls}
 use Rattle.sch_table.proofs.Falls.{datum_falls, rest_falls}
 use Rattle.sch_table.proofs.SoundRows.{datum_sound, rest_sound}
 use Rattle.sch_expansion.specs.Expands.{Expands, PartsExpand}
 use Rattle.sch_expansion.specs.Expands as ex
-use Rattle.sch_numbering.specs.Size.{size, size_each}
+use Rattle.sch_linking.specs.Size.{size, size_each}
 use Rattle.sch_toplevel.specs.Forms.{is_begin_word, forms_of, forms_in, form_sketch}
 
 pub counted : {globals : Globals} {k : Kind} {first : Bool} {n : ℕ} {s : Scope} {t : Position} {ks : Sketches} {es : Drafts} → PartsExpand globals k first n s t ks es → how_many_parts ks ≡ count es

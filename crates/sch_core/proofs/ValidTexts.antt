@@ -14,9 +14,9 @@ use Rattle.sch_names.specs.Words.{keyword_of}
 use Rattle.sch_sketch.specs.declared.sketch.Position.TheVariants.{Value}
 use Rattle.sch_sketch.specs.Draft.{Draft, Drafts, and_draft}
 use Rattle.sch_sketch.specs.Sketch.{Sketch, Sketches, sketches, text, no_sketch, and_sketch, sequencing}
-use Rattle.sch_binders.specs.Definitions.{is_define_word, defined_name}
-use Rattle.sch_binders.specs.Assignments as table
-use Rattle.sch_binders.specs.Assignments.{row_define, keyword_at, aimed_name}
+use Rattle.sch_definitions.specs.Definitions.{is_define_word, defined_name}
+use Rattle.sch_definitions.specs.Assignments as table
+use Rattle.sch_definitions.specs.Assignments.{row_define, keyword_at, aimed_name}
 use Rattle.sch_expansion.specs.Expands.{Expands, PartsExpand}
 use Rattle.sch_expansion.specs.Expands as ex
 use Rattle.sch_numbers.specs.Named.{firsts, globals_in_each, symbols_in_each}

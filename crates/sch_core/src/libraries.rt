@@ -1,12 +1,12 @@
 //! Libraries.
 
 ghost use Rattle.std.specs.Prelude.{◌≡◌, [], IfOk};
-ghost use Rattle.sch_numbering.specs.Definitions.{definitions_of};
+ghost use Rattle.sch_keeping.specs.Definitions.{definitions_of};
 ghost use Rattle.sch_numbers.specs.Programs.{is_hidden, seen};
 ghost use Rattle.sch_core.specs.SoundLibraries.{IsSoundLibrary};
 ghost use Rattle.sch_toplevel.specs.Views.{given};
 
-use sch_numbering::Definition;
+use sch_keeping::Definition;
 use sch_word::{List, Mem};
 use std::alloc::Global;
 

@@ -1,12 +1,13 @@
 -- The image of a program whose items follow the runs of its frames.
 use Rattle.std.proofs.Common.{◌≡◌, ◌≤◌, ℕ, suc, ◌+◌, ◌*◌, List, [], ◌∷◌, ◌++◌, length, map, refl, Option, Some, sym, ap, ◌∙◌, subst, arith}
-use Rattle.std.specs.Prelude.{IfErr, IsErrAnd, Result, Ok, Err, replicate}
+use Rattle.std.specs.Prelude.{IfErr, IsErrAnd, IsTrue, Result, Ok, Err, replicate}
 use Rattle.std.specs.List.{flat_map}
 use Rattle.std.proofs.lemmas.Bool.{and_parts, leb-true}
 use Rattle.std.proofs.lemmas.List.{append-nil}
 use Rattle.sch_word.specs.declared.answer.Answer.{Answer}
-use Rattle.sch_word.specs.runs.ProgramLayout.{max_text_size}
-use Rattle.sch_word.specs.runs.Runs.{Run}
+use Rattle.sch_word.specs.runs.ProgramLayout.{data_address, max_text_size}
+use Rattle.sch_word.specs.runs.Runs.{Run, Statics}
+use Rattle.sch_word.specs.values.Memory.{Segment}
 use Rattle.sch_insn.specs.declared.insn.Insn.{Insn}
 use Rattle.sch_insn.specs.Behaves.{FollowsRuns}
 use Rattle.sch_insn.specs.Spelling.{AllValid, spelling}
@@ -15,9 +16,10 @@ use Rattle.sch_asm.specs.declared.error.AsmError.{AsmError}
 use Rattle.sch_asm.specs.declared.error.AsmError.TheVariants.{TextTooLarge, Memory}
 use Rattle.sch_asm.specs.declared.item.Item.{Item}
 use Rattle.sch_asm.specs.declared.item.Mark.{Mark}
-use Rattle.sch_asm.specs.Codes.{AreResolved, text_size, IsTooLarge}
+use Rattle.sch_asm.specs.Codes.{AreResolved, Codes, text_size, IsTooLarge}
 use Rattle.sch_asm.specs.Data.{data_at}
 use Rattle.sch_asm.specs.Effects.{AreEffective}
+use Rattle.sch_asm.specs.Stands.{marks_at}
 use Rattle.sch_asm.specs.Views.{text_at}
 use Rattle.sch_asm.proofs.Tables.{size_append}
 use Rattle.sch_elf.specs.declared.image.Image.{Image}
@@ -29,25 +31,33 @@ use Rattle.sch_control.specs.declared.body.Body.{Body}
 use Rattle.sch_control.specs.SourceView.{codes_of}
 use Rattle.sch_control.specs.Tree as control
 use Rattle.sch_control.specs.Run as control_run
-use Rattle.sch_frames.specs.declared.program.FrameProgram.{FrameProgram}
+use Rattle.sch_frames.specs.declared.frame_program.FrameProgram.{FrameProgram}
+use Rattle.sch_frames.specs.Standing.{all_marks_stand}
 use Rattle.sch_frames.specs.Valid.{max_words}
 use Rattle.sch_frames.specs.Does.{Follows, SameRuns}
 use Rattle.sch_frames.specs.Run as frames_run
 use Rattle.sch_frames.specs.Tree as frames
 use Rattle.sch_runtime.specs.Code.{routine_items}
+use Rattle.sch_statics.specs.Data.{heap_of}
 use Rattle.sch_select.specs.Ends.{EndsWithin}
-use Rattle.sch_select.specs.Follows.{AreRuns, EndsFrames, FollowsFrames}
+use Rattle.sch_layout.specs.OwnSlots.{slots_code}
+use Rattle.sch_frames.specs.Run.{entries_of}
 use Rattle.sch_frames.specs.Sizes.{closures_in, program_size, program_work}
-use Rattle.sch_select.specs.Program.{frames_bytes, max_stack, program_zeros}
+use Rattle.sch_layout.specs.LayoutSizes.{most_words}
+use Rattle.sch_select.specs.Follows.{AreRuns, EndsFrames, EntersFrames, FollowsFrames, PassesFrames, TakesFrames}
+use Rattle.sch_select.specs.Marks.{CountsEntries, PassesMarks, TakesWays, marks_passed}
+use Rattle.sch_select.specs.Program.{frames_bytes, max_stack, program_code, program_zeros}
 use Rattle.sch_select.specs.Sizes.{instructions_in, steps_bound}
-use Rattle.sch_passes.specs.Chain.{RunsAs}
 use Rattle.sch_lang.specs.Bodies as bodies
 use Rattle.sch_lang.specs.Measures as core
 use Rattle.sch_lang.specs.Tree as lang
 use Rattle.sch_driver.specs.declared.error.CompileError.{CompileError}
 use Rattle.sch_driver.specs.declared.error.CompileError.TheVariants as compile_error
 use Rattle.sch_driver.specs.Causes.{IsErrorOf, HasFrames, Means, text_bound}
+use Rattle.sch_driver.specs.FitsProgram.{FitsProgram}
+use Rattle.sch_driver.specs.Framed.{IsMarked, framed, framed_size}
 use Rattle.sch_driver.specs.Assembled.{IsAssembled, IsFrameSize, IsUnfit, assembled_bound, of_assembly, steps_of}
+use Rattle.sch_select.proofs.items.SameSize.{same_size}
 use Rattle.sch_driver.proofs.Resolved.{resolved_many}
 use Rattle.sch_driver.proofs.Steps.{ends_later, steps_fit}
 
@@ -56,17 +66,11 @@ memory_is : (text words : List ℕ) (zeros : ℕ) (image : Image) → IsProgramI
 memory_is text words zeros image lies =
     ap memory lies.segments ∙ ap (λ bytes. text_at bytes ∷ data_at (words ++ replicate zeros 0) ∷ []) (append-nil text)
 
-image_follows : (text words : List ℕ) (zeros : ℕ) (image : Image) (runs : List Answer → ℕ → Run) → IsProgramImage text words zeros image
-    → FollowsRuns text_address (text_at text ∷ data_at (words ++ replicate zeros 0) ∷ []) runs → FollowsRuns image.entry (memory image.segments) runs
-image_follows text words zeros image runs lies f =
-    subst (λ a. FollowsRuns a (memory image.segments) runs) (sym lies.entry)
-    (subst (λ segments. FollowsRuns text_address segments runs) (sym (memory_is text words zeros image lies)) f)
-
-image_ends : (text words : List ℕ) (zeros : ℕ) (image : Image) (runs : List Answer → ℕ → Run) (bound : ℕ → ℕ → ℕ → ℕ) → IsProgramImage text words zeros image
-    → EndsWithin text_address (text_at text ∷ data_at (words ++ replicate zeros 0) ∷ []) runs bound → EndsWithin image.entry (memory image.segments) runs bound
-image_ends text words zeros image runs bound lies f =
-    subst (λ a. EndsWithin a (memory image.segments) runs bound) (sym lies.entry)
-    (subst (λ segments. EndsWithin text_address segments runs bound) (sym (memory_is text words zeros image lies)) f)
+-- what is so of its text and its data is so of the memory of an image
+in_image : (P : ℕ → List Segment → Type 0) (text words : List ℕ) (zeros : ℕ) (image : Image) → IsProgramImage text words zeros image
+    → P text_address (text_at text ∷ data_at (words ++ replicate zeros 0) ∷ []) → P image.entry (memory image.segments)
+in_image P text words zeros image lies h =
+    subst (λ a. P a (memory image.segments)) (sym lies.entry) (subst (P text_address) (sym (memory_is text words zeros image lies)) h)
 
 -- a run of the frames, where the control program is not wrong
 not_wrong : (a b : Option Run) (r : Run) → a ≡ Some r → Follows a b → b ≡ Some r
@@ -88,35 +92,88 @@ names_of_codes (b ∷ bs) = ap (λ names. b.name ∷ names) (names_of_codes bs)
 pub few_words : (q : FrameProgram) → q.words ≤ max_words
 few_words q = leb-true q.words max_words (and_parts _ _ q.within).0
 
--- What is selected of the frames, with the routines, follows the runs of the control program, and exits in time.
+-- the frame program of a program, by its parts
+pub framed_parts : (p : control.Source) (f : frames.Source) → f.statics ≡ p.statics → f.library ≡ p.library → f.bodies ≡ map slots_code p.bodies → f.words ≡ most_words p.bodies → f ≡ framed p
+framed_parts p f statics library bodies words =
+    ap (λ s. framed_of s f.library f.bodies f.words) statics
+    ∙ ap (λ l. framed_of p.statics l f.bodies f.words) library
+    ∙ ap (λ bs. framed_of p.statics p.library bs f.words) bodies
+    ∙ ap (framed_of p.statics p.library (map slots_code p.bodies)) words
+  where
+    framed_of : Statics → List ℕ → List frames.Code → ℕ → frames.Source
+    framed_of s l bs n = record { statics = s; library = l; bodies = bs; words = n }
+
+-- the items of its frame program and the routines are as long as its text
+pub size_of_frames : (p : control.Source) (f : frames.Source) (heap depth : ℕ) (items routines : List Item) → items ≡ program_code f heap depth → routines ≡ routine_items → f ≡ framed p
+    → text_size (items ++ routines) ≡ framed_size p
+size_of_frames p f heap depth items routines made are is_framed =
+    ap (λ is. text_size (is ++ routines)) made
+    ∙ ap (λ rs. text_size (program_code f heap depth ++ rs)) are
+    ∙ size_append (program_code f heap depth) routine_items
+    ∙ ap (λ n. n + text_size routine_items) (same_size f heap depth)
+    ∙ sym (size_append (program_code f 0 0) routine_items)
+    ∙ ap (λ g. text_size (program_code g 0 0 ++ routine_items)) is_framed
+
+-- what `select` says of the items and the data of a frame program
+pub record AreSelected (f : frames.Source) (heap depth : ℕ) (a : Asm) : Type 0 where
+  pub follows : FollowsFrames f heap depth a.items a.words a.zeros
+  pub ends : EndsFrames f heap depth a.items a.words a.zeros
+  pub passes : PassesFrames f heap depth a.items a.words a.zeros
+  pub enters : EntersFrames f heap depth a.items a.words a.zeros
+  pub takes : TakesFrames f heap depth a.items a.words a.zeros
+  pub stand : IsTrue (all_marks_stand f.bodies)
+  pub units : program_size f + (closures_in f.bodies + length f.bodies) ≤ 3 * instructions_in a.items
+  pub zeros : a.zeros ≡ program_zeros f heap depth
+  pub items : a.items ≡ program_code f heap depth
+  pub words_end : data_address + 8 * length a.words ≡ heap_of f
+
+-- What is selected of the frames, with the routines, follows the runs of the control program, exits in time and passes
+-- the marks.
 pub assembled : (p : control.Source) (f : frames.Source) (heap depth : ℕ) (a routines : Asm) (code : List Insn) (marks : List Mark) (words text : List ℕ) (zeros : ℕ) (image : Image) (instructions : ℕ)
-    → instructions ≡ length code → SameRuns p f → FollowsFrames f heap depth a.items a.words a.zeros → EndsFrames f heap depth a.items a.words a.zeros
-    → program_size f + (closures_in f.bodies + length f.bodies) ≤ 3 * instructions_in a.items → routines.items ≡ routine_items → a.zeros ≡ program_zeros f heap depth → IsFrameSize p f.words → frames_bytes f.words depth ≤ max_stack
+    → instructions ≡ length code → SameRuns p f → f ≡ framed p → AreSelected f heap depth a → routines.items ≡ routine_items → IsFrameSize p f.words → frames_bytes f.words depth ≤ max_stack → length words ≡ 8 * length a.words
     → AreEffective routines.items → AreResolved (a.items ++ routines.items) a.words code marks words → AllValid code
-    → length (flat_map spelling code) ≤ max_text_size → length (flat_map spelling code) ≤ assembled_bound p
-    → text ≡ flat_map spelling code → zeros ≡ a.zeros → IsProgramImage text words zeros image → IsAssembled p heap depth f.words instructions image
-assembled p f heap depth a routines code marks words text zeros image instructions counted same follows ends units items room frame stack effective resolved valid short bound text_is zeros_are lies =
+    → length (flat_map spelling code) ≤ max_text_size → length (flat_map spelling code) ≡ text_size (a.items ++ routines.items)
+    → length (flat_map spelling code) ≤ assembled_bound p → text ≡ flat_map spelling code → zeros ≡ a.zeros → IsProgramImage text words zeros image → IsAssembled p heap depth f.words instructions marks image
+assembled p f heap depth a routines code marks words text zeros image instructions counted same is_framed selected items frame stack long effective resolved valid short size bound text_is zeros_are lies =
     let many : suc (instructions_in a.items) ≤ instructions =
     subst (λ n. suc (instructions_in a.items) ≤ n) (sym counted) (resolved_many a.items routines.items a.words code marks words items resolved) in
     let lies' : IsProgramImage (flat_map spelling code) words a.zeros image =
     subst (λ t. IsProgramImage t words a.zeros image) text_is (subst (λ z. IsProgramImage text words z image) zeros_are lies) in
+    let run : (runs : List Answer → ℕ → Run) → ((answers : List Answer) (entries : ℕ) → control_run.run p heap depth answers entries ≡ Some (runs answers entries)) → AreRuns f heap depth runs =
+    frames_runs p f heap depth same in
     record {
       laid_out = record { code = code; valid = valid; short = short; words = words; zeros = a.zeros; lies = lies' };
       counted = counted;
+      size = size ∙ size_of_frames p f heap depth a.items routines.items selected.items items is_framed;
       bound = bound;
-      room = room;
+      words_end = ap (λ n. data_address + n) long ∙ selected.words_end ∙ ap heap_of is_framed;
+      room = selected.zeros;
       frame = frame;
       fits = stack;
       follows = λ runs are.
-          image_follows (flat_map spelling code) words a.zeros image runs lies'
-          (follows.follows routines.items code marks words effective a.marked routines.marked resolved valid short runs
-          (frames_runs p f heap depth same runs are));
+          in_image (λ entry segments. FollowsRuns entry segments runs) (flat_map spelling code) words a.zeros image lies'
+          (selected.follows.follows routines.items code marks words effective a.marked routines.marked resolved valid short runs (run runs are));
       ends = λ runs are.
-          image_ends (flat_map spelling code) words a.zeros image runs (steps_of instructions) lies'
+          in_image (λ entry segments. EndsWithin entry segments runs (steps_of instructions)) (flat_map spelling code) words a.zeros image lies'
           (ends_later text_address (text_at (flat_map spelling code) ∷ data_at (words ++ replicate a.zeros 0) ∷ []) runs (steps_bound f) (steps_of instructions)
-          (λ entries answers charged. steps_fit (program_size f + (closures_in f.bodies + length f.bodies)) (instructions_in a.items) instructions entries answers charged units many)
-          (ends.ends routines.items code marks words effective a.marked routines.marked resolved valid short runs
-          (frames_runs p f heap depth same runs are)));
+          (λ entries answers charged. steps_fit (program_size f + (closures_in f.bodies + length f.bodies)) (instructions_in a.items) instructions entries answers charged selected.units many)
+          (selected.ends.ends routines.items code marks words effective a.marked routines.marked resolved valid short runs (run runs are)));
+      marked = λ runs are.
+          subst (λ g. IsMarked image code marks g heap depth runs) is_framed
+          (record {
+            coded = (
+              resolved.place_of,
+              subst (λ is. Codes resolved.place_of text_address is code marks)
+                  (ap (λ is. is ++ routines.items) selected.items ∙ ap (λ rs. program_code f heap depth ++ rs) items) resolved.codes,
+            );
+            frames_run = run runs are;
+            passes = in_image (λ entry segments. PassesMarks entry segments (marks_at marks) (marks_passed f heap depth)) (flat_map spelling code) words a.zeros image lies'
+                (selected.passes.passes routines.items code marks words effective a.marked routines.marked resolved valid short);
+            enters = in_image (λ entry segments. CountsEntries entry segments (marks_at marks) (entries_of f.bodies) runs) (flat_map spelling code) words a.zeros image lies'
+                (selected.enters.enters routines.items code marks words effective a.marked routines.marked resolved valid short runs (run runs are));
+            takes = in_image (λ entry segments. TakesWays entry segments (marks_at marks) f.bodies) (flat_map spelling code) words a.zeros image lies'
+                (selected.takes.takes routines.items code marks words effective a.marked routines.marked resolved valid short runs (run runs are) selected.stand);
+          });
     }
 
 -- ## What is too large
@@ -126,9 +183,11 @@ pub text_within : (f : frames.Source) (a routines : List Item) (work : ℕ) → 
     → text_size routines ≤ 1024 → text_size (a ++ routines) ≤ 65536 + 64 * work
 text_within f a routines work text done short = let e = size_append a routines in omega (arith, e, text, done, short)
 
-pub unfit : (p : control.Source) (depth n : ℕ) (error : AsmError) → n ≤ 65536 + 64 * codes_work p.bodies → IsTooLarge n error → IsUnfit p depth (of_assembly error)
-unfit p depth n (TextTooLarge bytes) h t = (t.1, subst (λ k. k ≤ 65536 + 64 * codes_work p.bodies) (sym t.0) h)
-unfit p depth n Memory h t = tt
+pub unfit : (p : control.Source) (words depth n : ℕ) (error : AsmError) → IsFrameSize p words → frames_bytes words depth ≤ max_stack → n ≡ framed_size p → n ≤ assembled_bound p → IsTooLarge n error
+    → IsUnfit p depth (of_assembly error)
+unfit p words depth n (TextTooLarge bytes) frame stack size bound t =
+    record { words = words; frame = frame; fits = stack; large = t.1; size = t.0 ∙ size; bound = subst (λ k. k ≤ assembled_bound p) (sym t.0) bound }
+unfit p words depth n Memory frame stack size bound t = tt
 
 pub refused_for : {A : Type 0} (p : control.Source) (depth : ℕ) (r : Result A CompileError) (cause : AsmError) → IsErrAnd r (λ e. e ≡ of_assembly cause) → IsUnfit p depth (of_assembly cause) → IfErr r (IsUnfit p depth)
 refused_for p depth (Ok a) cause h u = tt
@@ -145,14 +204,26 @@ pub bound_chain : (p : lang.Source) (q : control.Source) (code : List Insn) → 
 bound_chain p q code h size = omega (arith, h, size)
 
 -- the frames of the control program are of the core program
-pub frame_chain : (p : lang.Source) (q : control.Source) (words : ℕ) → RunsAs p q → IsFrameSize q words → most_variables q.bodies ≤ 2 + bodies.most_variables p → HasFrames p words
-frame_chain p q words runs f h = let bound = f.bound in record { control = q; runs = runs; largest = f.largest; few = f.few; bound = omega (arith, bound, h) }
+pub frame_chain : (p : lang.Source) (q : control.Source) (words : ℕ) → FitsProgram p q → IsFrameSize q words → most_variables q.bodies ≤ 2 + bodies.most_variables p → HasFrames p words
+frame_chain p q words fits f h = let bound = f.bound in record { control = q; fits_program = fits; largest = f.largest; few = f.few; bound = omega (arith, bound, h) }
 
 -- a text that means a program, and unfit for its control program
-pub too_large : (library text : List ℕ) (p : lang.Source) (q : control.Source) (depth : ℕ) (e : CompileError) → Means library text p → RunsAs p q → codes_work q.bodies ≤ 7 * core.program_size p
+pub too_large : (library text : List ℕ) (p : lang.Source) (q : control.Source) (depth : ℕ) (e : CompileError) → Means library text p → FitsProgram p q → codes_work q.bodies ≤ 7 * core.program_size p
     → most_variables q.bodies ≤ 2 + bodies.most_variables p → IsUnfit q depth e → IsErrorOf library text depth e
-too_large library text p q depth (compile_error.TextTooLarge bytes) means runs size most unfit = record { program = p; means = means; large = unfit.0; bound = omega (arith, unfit.1, size) }
-too_large library text p q depth (compile_error.StackTooLarge words) means runs size most unfit = record { program = p; means = means; large = unfit.0; frame = frame_chain p q words runs unfit.1 most }
-too_large library text p q depth compile_error.Memory means runs size most unfit = tt
-too_large library text p q depth (compile_error.Read part e) means runs size most unfit = absurd unfit
-too_large library text p q depth (compile_error.Core part e) means runs size most unfit = absurd unfit
+unfolding frame_chain
+too_large library text p q depth (compile_error.TextTooLarge bytes) means fits size most unfit =
+    let bound = unfit.bound in
+    record {
+      program = p;
+      means = means;
+      words = unfit.words;
+      frame = frame_chain p q unfit.words fits unfit.frame most;
+      fits = unfit.fits;
+      large = unfit.large;
+      size = unfit.size;
+      bound = omega (arith, bound, size);
+    }
+too_large library text p q depth (compile_error.StackTooLarge words) means fits size most unfit = record { program = p; means = means; large = unfit.0; frame = frame_chain p q words fits unfit.1 most }
+too_large library text p q depth compile_error.Memory means fits size most unfit = tt
+too_large library text p q depth (compile_error.Read part e) means fits size most unfit = absurd unfit
+too_large library text p q depth (compile_error.Core part e) means fits size most unfit = absurd unfit

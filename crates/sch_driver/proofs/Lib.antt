@@ -1,3 +1,4 @@
+mod ProgramFits
 pub mod Images
 mod PartErrors
 pub mod Spelled

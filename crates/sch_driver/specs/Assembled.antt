@@ -4,22 +4,25 @@ use Rattle.std.specs.List.{flat_map}
 use Rattle.sch_word.specs.declared.answer.Answer.{Answer}
 use Rattle.sch_word.specs.runs.Runs.{Run}
 use Rattle.sch_word.specs.trees.Shape.{max_operands}
-use Rattle.sch_word.specs.runs.ProgramLayout.{max_text_size}
+use Rattle.sch_word.specs.runs.ProgramLayout.{data_address, max_text_size}
 use Rattle.sch_insn.specs.Behaves.{FollowsRuns}
 use Rattle.sch_insn.specs.Spelling.{spelling}
 use Rattle.sch_asm.specs.declared.error.AsmError.{AsmError}
 use Rattle.sch_asm.specs.declared.error.AsmError.TheVariants as asm
+use Rattle.sch_asm.specs.declared.item.Mark.{Mark}
 use Rattle.sch_elf.specs.declared.image.Image.{Image}
 use Rattle.sch_elf.specs.Layout.{memory}
 use Rattle.sch_control.specs.Sizes.{most_variables}
 use Rattle.sch_control.specs.Work.{codes_work}
 use Rattle.sch_control.specs.Tree.{Source}
 use Rattle.sch_control.specs.Run.{run}
-use Rattle.sch_frames.specs.Sizes.{most_words}
+use Rattle.sch_layout.specs.LayoutSizes.{most_words}
 use Rattle.sch_frames.specs.Valid.{max_words}
+use Rattle.sch_statics.specs.Data.{heap_of}
 use Rattle.sch_select.specs.Ends.{EndsWithin}
 use Rattle.sch_select.specs.Program.{frames_bytes, max_stack, stack_bytes}
 use Rattle.sch_driver.specs.Causes.{text_base}
+use Rattle.sch_driver.specs.Framed.{IsMarked, framed, framed_size}
 use Rattle.sch_driver.specs.Headline.{HasProgramLayout}
 use Rattle.sch_driver.specs.declared.error.CompileError.{CompileError}
 use Rattle.sch_driver.specs.declared.error.CompileError.TheVariants.{TextTooLarge, StackTooLarge, Memory}
@@ -39,13 +42,15 @@ pub record IsFrameSize (p : Source) (words : ℕ) : Type 0 where
   pub few : words ≤ max_words
   pub bound : words ≤ max_operands + most_variables p.bodies
 
--- The image is laid out as a program's of so many instructions, with room behind its words for the heap and for
--- frames of so many words at this depth. Where the control program is never wrong, it follows its runs, and has
--- exited within a bound of steps where one has ended.
-pub record IsAssembled (p : Source) (heap depth frame_words instructions : ℕ) (image : Image) : Type 0 where
+-- The image is laid out as a program's of so many instructions, whose words end where the heap begins, with room behind
+-- them for the heap and for frames of so many words at this depth. Where the control program is never wrong, it follows its runs, has exited
+-- within a bound of steps where one has ended, and its marks are these.
+pub record IsAssembled (p : Source) (heap depth frame_words instructions : ℕ) (marks : List Mark) (image : Image) : Type 0 where
   pub laid_out : HasProgramLayout image
   pub counted : instructions ≡ length laid_out.code
+  pub size : length (flat_map spelling laid_out.code) ≡ framed_size p
   pub bound : length (flat_map spelling laid_out.code) ≤ assembled_bound p
+  pub words_end : data_address + length laid_out.words ≡ heap_of (framed p)
   pub room : laid_out.zeros ≡ heap + stack_bytes frame_words depth
   pub frame : IsFrameSize p frame_words
   pub fits : frames_bytes frame_words depth ≤ max_stack
@@ -55,12 +60,25 @@ pub record IsAssembled (p : Source) (heap depth frame_words instructions : ℕ) 
   pub ends : (runs : List Answer → ℕ → Run)
       → ((answers : List Answer) (entries : ℕ) → run p heap depth answers entries ≡ Some (runs answers entries))
       → EndsWithin image.entry (memory image.segments) runs (steps_of instructions)
+  pub marked : (runs : List Answer → ℕ → Run)
+      → ((answers : List Answer) (entries : ℕ) → run p heap depth answers entries ≡ Some (runs answers entries))
+      → IsMarked image laid_out.code marks (framed p) heap depth runs
 
--- Why there is no image of a control program at a depth: the frames of its calls would take too much, its text would
--- be too large, or there was no memory.
+-- The text of a control program has this number of bytes, which is more than it may have; its frames fit the stack at
+-- a depth.
+pub record HasLargeText (p : Source) (depth bytes : ℕ) : Type 0 where
+  pub words : ℕ
+  pub frame : IsFrameSize p words
+  pub fits : frames_bytes words depth ≤ max_stack
+  pub large : max_text_size < bytes
+  pub size : bytes ≡ framed_size p
+  pub bound : bytes ≤ assembled_bound p
+
+-- Why there is no image of a control program at a depth: the frames of its calls would take too much; or else its text
+-- would be too large; or there was no memory.
 abbrev pub IsUnfit : Source → (depth : ℕ) → CompileError → Type 0
 IsUnfit p depth (StackTooLarge words) = (max_stack < frames_bytes words depth) × IsFrameSize p words
-IsUnfit p depth (TextTooLarge bytes) = (max_text_size < bytes) × (bytes ≤ assembled_bound p)
+IsUnfit p depth (TextTooLarge bytes) = HasLargeText p depth bytes
 IsUnfit p depth Memory = Unit {0}
 IsUnfit p depth _ = ⊥
 

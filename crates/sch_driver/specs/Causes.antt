@@ -16,14 +16,15 @@ use Rattle.sch_core.specs.Libraries.{IsLibraryOf, IsLibraryError}
 use Rattle.sch_core.specs.Programs.{IsProgramOf}
 use Rattle.sch_numbers.specs.Programs.{Definition}
 use Rattle.sch_control.specs.Tree as control
-use Rattle.sch_frames.specs.Sizes.{most_words}
+use Rattle.sch_layout.specs.LayoutSizes.{most_words}
 use Rattle.sch_frames.specs.Valid.{max_words}
-use Rattle.sch_passes.specs.Chain.{RunsAs}
 use Rattle.sch_select.specs.Program.{frames_bytes, max_stack}
 use Rattle.sch_driver.specs.declared.error.Part.{Part}
 use Rattle.sch_driver.specs.declared.error.Part.TheVariants.{Library, User}
 use Rattle.sch_driver.specs.declared.error.CompileError.{CompileError}
 use Rattle.sch_driver.specs.declared.error.CompileError.TheVariants.{Read, Core, TextTooLarge, StackTooLarge, Memory}
+use Rattle.sch_driver.specs.FitsProgram.{FitsProgram}
+use Rattle.sch_driver.specs.Framed.{framed_size}
 
 -- the most bytes of a source: 1 MiB (the project's own)
 abbrev pub max_source_size : ℕ
@@ -56,11 +57,11 @@ text_bound p = text_base + 512 * program_size p
 abbrev pub frame_bound : tree.Source → ℕ
 frame_bound p = 2 * most_variables p + 216
 
--- Laid out with a slot for each variable, a control program that runs as the core program has frames of at most so
--- many words.
+-- Laid out with a slot for each variable, a control program that fits the core program has frames of at most so many
+-- words.
 pub record HasFrames (program : tree.Source) (words : ℕ) : Type 0 where
   pub control : control.Source
-  pub runs : RunsAs program control
+  pub fits_program : FitsProgram program control
   pub largest : words ≡ most_words control.bodies
   pub few : words ≤ max_words
   pub bound : words ≤ frame_bound program
@@ -73,12 +74,16 @@ pub record IsStackTooLarge (library text : List ℕ) (depth words : ℕ) : Type 
   pub large : max_stack < frames_bytes words depth
   pub frame : HasFrames program words
 
--- A text that means a program, and a number of bytes that is more than the text of an image may have, and no more
--- than what that of its core program has at most.
-pub record IsTextTooLarge (library text : List ℕ) (bytes : ℕ) : Type 0 where
+-- A text that means a program, and the bytes of the text that its control program has: they are more than the text of
+-- an image may have, and no more than what that of its core program has at most. The frames fit the stack at this depth.
+pub record IsTextTooLarge (library text : List ℕ) (depth bytes : ℕ) : Type 0 where
   pub program : tree.Source
   pub means : Means library text program
+  pub words : ℕ
+  pub frame : HasFrames program words
+  pub fits : frames_bytes words depth ≤ max_stack
   pub large : max_text_size < bytes
+  pub size : bytes ≡ framed_size frame.control
   pub bound : bytes ≤ text_bound program
 
 -- an error of a text that is not read
@@ -109,7 +114,7 @@ IsErrorOf library text depth (Read Library error) = IsReadErrorOf library error
 IsErrorOf library text depth (Core Library error) = IsLibraryErrorOf library error
 IsErrorOf library text depth (Read User error) = ((ds : List Definition) × IsLibraryText library ds) × IsReadErrorOf text error
 IsErrorOf library text depth (Core User error) = IsCoreErrorOf library text error
-IsErrorOf library text depth (TextTooLarge bytes) = IsTextTooLarge library text bytes
+IsErrorOf library text depth (TextTooLarge bytes) = IsTextTooLarge library text depth bytes
 IsErrorOf library text depth (StackTooLarge words) = IsStackTooLarge library text depth words
 IsErrorOf library text depth Memory = Unit {0}
 

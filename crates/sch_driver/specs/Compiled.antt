@@ -1,41 +1,43 @@
 -- What is compiled of a text.
-use Rattle.std.specs.Prelude.{◌≡◌, ◌≤◌, ◌+◌, IsTrue, ℕ, List, length, map}
+use Rattle.std.specs.Prelude.{◌≡◌, ◌≤◌, ◌+◌, ℕ, List, length, map}
 use Rattle.std.specs.List.{flat_map}
+use Rattle.sch_word.specs.runs.ProgramLayout.{data_address}
 use Rattle.sch_insn.specs.Spelling.{spelling}
 use Rattle.sch_elf.specs.Layout.{memory}
 use Rattle.sch_lang.specs.Bodies.{bodies_of}
 use Rattle.sch_lang.specs.Run.{run}
 use Rattle.sch_lang.specs.Tree as tree
-use Rattle.sch_control.specs.Fits.{table_fits}
 use Rattle.sch_control.specs.Tree as control
-use Rattle.sch_frames.specs.Layout.{slots_code}
-use Rattle.sch_frames.specs.Sizes.{most_words}
+use Rattle.sch_frames.specs.Valid.{max_words}
+use Rattle.sch_layout.specs.OwnSlots.{slots_code}
+use Rattle.sch_layout.specs.LayoutSizes.{most_words}
 use Rattle.sch_orders.specs.Table.{given_table}
+use Rattle.sch_statics.specs.Data.{heap_of}
 use Rattle.sch_select.specs.Ends.{EndsWithin}
 use Rattle.sch_select.specs.Program.{frames_bytes, max_stack, stack_bytes}
 use Rattle.sch_select.specs.Sizes.{kinds_of}
 use Rattle.sch_driver.specs.Assembled.{steps_of}
-use Rattle.sch_driver.specs.Causes.{Means, HasFrames, text_bound}
-use Rattle.sch_passes.specs.Chain.{RunsAs}
+use Rattle.sch_driver.specs.Causes.{Means, frame_bound, text_bound}
+use Rattle.sch_driver.specs.FitsProgram.{FitsProgram}
+use Rattle.sch_driver.specs.Framed.{IsMarked, framed, framed_size}
 use Rattle.sch_driver.specs.declared.listing.Listing.{Listing}
 use Rattle.sch_driver.specs.Headline.{IsProgram}
 
--- What is listed is of one control program, which runs as the core program under each table that fits it: the orders
--- are those given for it, which do fit it, and of its bodies, laid out with a slot for each variable, are the words of
--- the largest frame and the marks, in their order.
+-- What is listed is of one control program that fits the core program: the orders are those given for it, and of its
+-- bodies, laid out with a slot for each variable, are the words of the largest frame and the marks, in their order.
 pub record AreListed (p : tree.Source) (listing : Listing) : Type 0 where
   pub program : control.Source
-  pub runs : RunsAs p program
+  pub fits_program : FitsProgram p program
   pub given : listing.orders ≡ given_table program
-  pub fits : IsTrue (table_fits program listing.orders)
   pub words : listing.frame_words ≡ most_words program.bodies
   pub marks : map (λ m. m.kind) listing.marks ≡ kinds_of 0 (map slots_code program.bodies)
 
 -- The file is a program for the core program of a text with a library's, under these limits and the orders that are
--- listed, with bodies of the names that are listed and as many instructions. Its text is no longer than the size of
--- the core program allows. Behind the words of its data it has room for the heap and for the frames of calls, of the
--- words that are listed. Where a run of the core program has ended, its machine has exited within a bound of steps by
--- the instructions that are listed.
+-- listed, with bodies of the names that are listed and as many instructions. Its text is as long as that of the control
+-- program, and no longer than the size of the core program allows. The words of its data end where the heap begins, and
+-- behind them it has room for the heap and for the frames of calls, of the words that are listed. Where a run of the core
+-- program has ended, its machine has exited within a bound of steps by the instructions that are listed. The marks that
+-- are listed are those of its text and of its runs.
 pub record IsCompiled (library text : List ℕ) (heap depth : ℕ) (file : List ℕ) (listing : Listing) : Type 0 where
   pub program : tree.Source
   pub means : Means library text program
@@ -43,9 +45,14 @@ pub record IsCompiled (library text : List ℕ) (heap depth : ℕ) (file : List 
   pub listed : AreListed program listing
   pub names : listing.bodies ≡ map (λ b. b.name) (bodies_of program)
   pub counted : listing.instructions ≡ length is_program.does.laid_out.code
+  pub size : length (flat_map spelling is_program.does.laid_out.code) ≡ framed_size listed.program
   pub bound : length (flat_map spelling is_program.does.laid_out.code) ≤ text_bound program
+  pub words_end : data_address + length is_program.does.laid_out.words ≡ heap_of (framed listed.program)
   pub room : is_program.does.laid_out.zeros ≡ heap + stack_bytes listing.frame_words depth
-  pub frame : HasFrames program listing.frame_words
+  pub few_words : listing.frame_words ≤ max_words
+  pub words_bound : listing.frame_words ≤ frame_bound program
   pub fits : frames_bytes listing.frame_words depth ≤ max_stack
   pub ends : EndsWithin is_program.image.entry (memory is_program.image.segments) (run program listing.orders heap depth)
       (steps_of listing.instructions)
+  pub marked : IsMarked is_program.image is_program.does.laid_out.code listing.marks (framed listed.program) heap depth
+      (run program listing.orders heap depth)

@@ -1,3 +1,5 @@
+pub mod FitsProgram
+pub mod Framed
 pub mod Assembled
 pub mod Causes
 pub mod Compiled

@@ -5,7 +5,7 @@ ghost use Rattle.std.specs.List.{flat_map};
 ghost use Rattle.sch_insn.specs.Spelling.{AllValid, spelling};
 ghost use Rattle.sch_control.specs.Covered.{is_covered_program};
 ghost use Rattle.sch_control.specs.ProgramView.{source};
-ghost use Rattle.sch_frames.specs.Layout.{slots_code};
+ghost use Rattle.sch_layout.specs.OwnSlots.{slots_code};
 ghost use Rattle.sch_frames.specs.Valid.{max_words};
 ghost use Rattle.sch_select.specs.Program.{frames_bytes, max_stack};
 ghost use Rattle.sch_select.specs.Sizes.{kinds_of};
@@ -17,10 +17,10 @@ use sch_asm::{Mark, resolve};
 use sch_code::{Code, encode};
 use sch_control::ControlProgram;
 use sch_elf::{Image, program_image};
-use sch_frames::frame_program;
 use sch_insn::Insn;
 use sch_runtime::routines;
 use sch_select::select;
+use sch_slots::frame_program;
 use sch_word::{Bytes, Limits, List, Mem};
 use std::alloc::Global;
 
@@ -67,25 +67,29 @@ fn check_stack(words: u32, depth: u64) -> Result<(), CompileError>
 /// stack is looked at before the text.
 pub(crate) fn assemble(
     alloc: Global,
-    p: &ControlProgram,
+    p: ControlProgram,
     limits: Limits,
 ) -> Result<Assembled, CompileError>
-    requires covered { IsTrue (is_covered_program (source p.now)) }
-    ensures does { IfOk result (λ a. IsAssembled (source p.now) limits.heap limits.depth a.frame_words a.instructions a.image) }
-    ensures marks { IfOk result (λ a. map (λ m. m.kind) a.marks ≡ kinds_of 0 (map slots_code (source p.now).bodies)) }
-    ensures refused { IfErr result (IsUnfit (source p.now) limits.depth) }
+    requires covered { IsTrue (is_covered_program (source p)) }
+    ensures does { IfOk result (λ a. IsAssembled (source p) limits.heap limits.depth a.frame_words a.instructions a.marks a.image) }
+    ensures marks { IfOk result (λ a. map (λ m. m.kind) a.marks ≡ kinds_of 0 (map slots_code (source p).bodies)) }
+    ensures refused { IfErr result (IsUnfit (source p) limits.depth) }
 {
-    let frames = frame_program(alloc, p)?;
+    let frames = frame_program(alloc, &p)?;
+    drop(p);
     check_stack(frames.words, limits.depth)?;
     let code = select(alloc, &frames, limits)?;
+    let frame_words = frames.words;
+    drop(frames);
     let routines = routines(alloc, limits)?;
     let resolved = resolve(alloc, &code, &routines)?;
+    drop(code);
     let instructions = resolved.code.len() as u64;
     let text = text_of(alloc, resolved.code.as_slice())?;
     let image = program_image(alloc, text, resolved.words, resolved.zeros)?;
     Ok(Assembled {
         image,
-        frame_words: frames.words,
+        frame_words,
         instructions,
         marks: resolved.marks,
     })

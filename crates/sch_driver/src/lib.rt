@@ -39,9 +39,10 @@ pub fn compile(alloc: Global, text: &[u8], limits: Limits) -> Result<Compiled, C
 {
     let program = read_program(alloc, library_text(), text)?;
     let control = control_program(alloc, &program)?;
-    let assembled = assemble(alloc, &control, limits)?;
+    drop(program);
     let bodies = names_of(alloc, control.bodies.as_slice())?;
     let orders = given_orders(alloc, &control)?;
+    let assembled = assemble(alloc, control, limits)?;
     let file = write_image(alloc, &assembled.image)?;
     Ok(Compiled {
         image: file,

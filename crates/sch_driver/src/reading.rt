@@ -6,8 +6,8 @@ ghost use Rattle.sch_lang.specs.ProgramView.{source};
 ghost use Rattle.sch_read.specs.Text.{Spells};
 ghost use Rattle.sch_read.specs.Valid.{max_weight, weights};
 ghost use Rattle.sch_read.specs.Views.{data_of};
-ghost use Rattle.sch_numbering.specs.Definitions.{definitions_of};
-ghost use Rattle.sch_numbering.specs.Size.{size_of_definitions};
+ghost use Rattle.sch_keeping.specs.Definitions.{definitions_of};
+ghost use Rattle.sch_linking.specs.Size.{size_of_definitions};
 ghost use Rattle.sch_core.specs.Libraries.{IsLibraryOf};
 ghost use Rattle.sch_core.specs.Programs.{IsProgramOf};
 ghost use Rattle.sch_driver.specs.Causes.{IsErrorOf, Means, max_source_size};
@@ -62,7 +62,7 @@ fn expand(alloc: Global, library: Library<'_>, items: &[Datum]) -> Result<Progra
 }
 
 /// The core program of a text with a library's text.
-/// A form, or a procedure of the library, whose sequences have more than 10,000 parts together is out of memory.
+/// A body in which 10,000 parts of sequences or more stand before one place is out of memory.
 pub(crate) fn read_program(
     alloc: Global,
     library: &[u8],

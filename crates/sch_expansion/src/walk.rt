@@ -14,10 +14,8 @@ ghost use Rattle.sch_expansion.specs.WalkStack.{Task, Holds, Goes, Ready, open_l
 
 use crate::reports::{deeper, report_deep, report_level, report_operands, report_wrong};
 use sch_names::{Globals, Scope};
-use sch_sketch::{
-    Draft, Fault, Kind, Position, Sketch, assemble, draft_of_leaf, enter, nothing, position_in,
-    width,
-};
+use sch_nodes::{assemble, draft_of_leaf, enter, nothing, position_in, width};
+use sch_sketch::{Draft, Fault, Kind, Position, Sketch};
 use sch_table::{outline, outline_datum};
 use sch_word::{List, Mem};
 use std::alloc::Global;

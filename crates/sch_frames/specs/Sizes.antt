@@ -1,54 +1,36 @@
--- Sizes of instructions and of frames, and how many nodes an expression has.
-use Rattle.std.specs.Prelude.{ℕ, suc, ◌+◌, max, List, [], ◌∷◌, length, Option, Some, None}
+-- Sizes of instructions and of frames, and how much there is to do in them.
+use Rattle.std.specs.Prelude.{ℕ, suc, ◌+◌, max, Bool, false, cond, List, [], ◌∷◌, length, Option, Some, None}
+use Rattle.std.specs.List.{list_any}
 use Rattle.sch_control.specs.declared.body.Entry.{Entry}
-use Rattle.sch_control.specs.Parts.{member_atoms}
+use Rattle.sch_control.specs.AtomsAndSites.{member_atoms}
 use Rattle.sch_control.specs.Sizes.{operand_size, operation_size}
-use Rattle.sch_control.specs.Tree as control
-use Rattle.sch_control.specs.Tree.{Expression, perform, bind, sequence, branch, fix, call, tail_call, return, end, save}
 use Rattle.sch_frames.specs.declared.instruction.Instruction.{Instruction}
-use Rattle.sch_frames.specs.declared.instruction.Instruction.TheVariants.{Do, Load, Pass, Fix, Call, Label, Mark}
-use Rattle.sch_frames.specs.Layout.{slots_words}
+use Rattle.sch_frames.specs.declared.instruction.Instruction.TheVariants.{Do, Load, Pass, Fix, Call, Tail, Label, Mark}
 use Rattle.sch_frames.specs.Tree.{Code, Source}
 
--- how many nodes an expression has
-abbrev pub nodes : Expression → ℕ
-nodes (perform o) = 1
-nodes (bind x a b) = 1 + (nodes a + nodes b)
-nodes (sequence a b) = 1 + (nodes a + nodes b)
-nodes (branch a b c) = 1 + (nodes a + (nodes b + nodes c))
-nodes (fix members e) = 1 + nodes e
-nodes (call a restores) = 1
-nodes (tail_call a) = 1
-nodes (return e) = 1 + nodes e
-nodes (end e) = 1 + nodes e
-nodes (save saves e) = 1 + nodes e
-
--- what calls hand over, the operators among it
-abbrev pub call_parts : Expression → ℕ
-call_parts (perform o) = 0
-call_parts (bind x a b) = call_parts a + call_parts b
-call_parts (sequence a b) = call_parts a + call_parts b
-call_parts (branch a b c) = call_parts a + (call_parts b + call_parts c)
-call_parts (fix members e) = call_parts e
-call_parts (call a restores) = suc (length a.operands)
-call_parts (tail_call a) = suc (length a.operands)
-call_parts (return e) = call_parts e
-call_parts (end e) = call_parts e
-call_parts (save saves e) = call_parts e
-
-abbrev pub calls_parts : List control.Code → ℕ
-calls_parts [] = 0
-calls_parts (c ∷ codes) = call_parts c.expression + calls_parts codes
+-- ## Frames
 
 -- the size of the largest frame of some bodies, and 0 where there are none
 abbrev pub largest_frame : List Code → ℕ
 largest_frame [] = 0
 largest_frame (c ∷ codes) = max c.words (largest_frame codes)
 
--- the size of the largest frame that bodies need with a slot for each variable, and 0 where there are none
-abbrev pub most_words : List control.Code → ℕ
-most_words [] = 0
-most_words (c ∷ codes) = max (slots_words c) (most_words codes)
+-- whether an instruction is a call that spreads its last operand
+abbrev pub spreads : Instruction → Bool
+spreads (Call spread count) = spread
+spreads (Tail spread count) = spread
+spreads _ = false
+
+abbrev pub code_spreads : Code → Bool
+code_spreads c = list_any spreads c.instructions
+
+-- the fewest words that the largest frame counts with where a call spreads its last operand
+abbrev pub spread_words : ℕ
+spread_words = 216
+
+-- The words that the largest frame of some bodies counts with: a list that is spread needs more than its frame may have.
+abbrev pub frame_words : List Code → ℕ
+frame_words codes = cond (list_any code_spreads codes) (max (largest_frame codes) spread_words) (largest_frame codes)
 
 -- ## Instructions
 
@@ -73,16 +55,6 @@ codes_size (c ∷ codes) = instructions_size c.instructions + codes_size codes
 -- the size of a program's instructions
 abbrev pub program_size : Source → ℕ
 program_size p = codes_size p.bodies
-
--- a procedure stores its return address, its closure and its arguments
-abbrev pub entry_size : Option Entry → ℕ
-entry_size None = 0
-entry_size (Some e) = suc (suc e.formals)
-
--- what the procedures among some bodies store as they are entered
-abbrev pub entries_size : List control.Code → ℕ
-entries_size [] = 0
-entries_size (c ∷ codes) = entry_size c.entry + entries_size codes
 
 -- ## Closures, calls and procedures
 

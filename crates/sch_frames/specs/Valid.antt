@@ -1,5 +1,5 @@
 -- Which programs are valid.
-use Rattle.std.specs.Prelude.{ℕ, ◌+◌, Bool, true, ◌&&◌, ◌||◌, not, nat_lt, nat_le, List, [], ◌∷◌, length, Option, Some, None}
+use Rattle.std.specs.Prelude.{ℕ, ◌+◌, Bool, true, false, ◌&&◌, ◌||◌, not, nat_lt, nat_le, List, [], ◌∷◌, length, Option, Some, None}
 use Rattle.std.specs.List.{list_all}
 use Rattle.sch_word.specs.declared.place.Place.{Place}
 use Rattle.sch_word.specs.declared.place.Place.TheVariants.{Reg, Slot}
@@ -11,7 +11,7 @@ use Rattle.sch_control.specs.declared.body.Entry.{Entry}
 use Rattle.sch_control.specs.declared.operation.Atom.{Atom}
 use Rattle.sch_control.specs.declared.operation.Atom.TheVariants.{Variable}
 use Rattle.sch_control.specs.declared.operation.Member.{Member}
-use Rattle.sch_control.specs.Parts.{operand_atoms, operation_atoms, member_atoms}
+use Rattle.sch_control.specs.AtomsAndSites.{operand_atoms, operation_atoms, member_atoms}
 use Rattle.sch_control.specs.Valid.{without_repeats, operand_shaped, operation_shaped, group_shaped, entry_shaped, atoms_known, operation_known, group_known, Names, without_fields}
 use Rattle.sch_frames.specs.declared.instruction.Instruction.{Instruction}
 use Rattle.sch_frames.specs.declared.instruction.Instruction.TheVariants.{Do, Store, Copy, Load, Pass, Fix, Call, Tail, IfFalse, Jump, Label}
@@ -62,6 +62,11 @@ module _ (words : ℕ) where
 abbrev pub formals_of : Option Entry → ℕ
 formals_of None = 0
 formals_of (Some e) = e.formals
+
+-- whether a body is a procedure's, which is entered
+abbrev pub is_entered : Option Entry → Bool
+is_entered None = false
+is_entered (Some e) = true
 
 abbrev pub placed : Option Entry → (words : ℕ) → List Instruction → Bool
 placed entry words instructions =

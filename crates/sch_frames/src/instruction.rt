@@ -1,3 +1,6 @@
+ghost use Rattle.std.specs.Prelude.{◌≡◌};
+ghost use Rattle.sch_frames.specs.Sizes.{spreads};
+
 use sch_control::{MarkKind, Member, Operand, Operation};
 use sch_word::{List, Place};
 
@@ -37,4 +40,17 @@ pub enum Instruction {
     Label(u32),
     /// A mark of the instruction behind it.
     Mark(MarkKind),
+}
+
+impl Instruction {
+    /// Whether it is a call that spreads its last operand.
+    pub(crate) fn spreads(&self) -> bool
+        ensures { result ≡ spreads self.now }
+    {
+        match self {
+            Instruction::Call(spread, _) => *spread,
+            Instruction::Tail(spread, _) => *spread,
+            _ => false,
+        }
+    }
 }

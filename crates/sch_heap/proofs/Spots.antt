@@ -53,10 +53,10 @@ by_first unit p parts o at A e here there = by (same_owner p.owner o) refl
         here s cc
     by false s = there s (sym (ap (λ b. cond b (Some (record { unit = unit; more = p.more })) (spot_from (unit + suc p.more) parts o)) s) ∙ e)
 
-found_first : (unit : ℕ) (p : Part) (parts : List Part) (o : Owner) → same_owner p.owner o ≡ true → spot_from unit (p ∷ parts) o ≡ Some (record { unit = unit; more = p.more })
+pub found_first : (unit : ℕ) (p : Part) (parts : List Part) (o : Owner) → same_owner p.owner o ≡ true → spot_from unit (p ∷ parts) o ≡ Some (record { unit = unit; more = p.more })
 found_first unit p parts o s = ap (λ b. cond b (Some (record { unit = unit; more = p.more })) (spot_from (unit + suc p.more) parts o)) s
 
-found_behind : (unit : ℕ) (p : Part) (parts : List Part) (o : Owner) → same_owner p.owner o ≡ false → spot_from unit (p ∷ parts) o ≡ spot_from (unit + suc p.more) parts o
+pub found_behind : (unit : ℕ) (p : Part) (parts : List Part) (o : Owner) → same_owner p.owner o ≡ false → spot_from unit (p ∷ parts) o ≡ spot_from (unit + suc p.more) parts o
 found_behind unit p parts o s = ap (λ b. cond b (Some (record { unit = unit; more = p.more })) (spot_from (unit + suc p.more) parts o)) s
 
 -- ---- where a part is
@@ -128,7 +128,7 @@ other_from unit (p ∷ parts) o n more e s =
 pub spot_other : (parts : Parts) (o n : Owner) (more : ℕ) → spot parts o ≡ None → same_owner n o ≡ false → spot (grown parts (record { owner = n; more = more } ∷ [])) o ≡ None
 spot_other parts o n more e s = other_from parts.first parts.list o n more e s
 
-units_append : (xs ys : List Part) → units (xs ++ ys) ≡ units xs + units ys
+pub units_append : (xs ys : List Part) → units (xs ++ ys) ≡ units xs + units ys
 units_append [] ys = omega arith
 units_append (x ∷ xs) ys = let h = units_append xs ys in omega (arith, h)
 

@@ -1,21 +1,16 @@
 -- Where the parts of objects are.
 use Rattle.std.proofs.Common.{◌≡◌, ℕ, zero, suc, ◌+◌, ◌≤◌, Bool, true, false, cond, List, [], ◌∷◌, ◌++◌, take, Some, None, refl, sym, ap, ◌∙◌, subst, arith, ◌&&◌, eq-eqb}
 use Rattle.std.specs.Prelude.{slice_get}
-use Rattle.std.proofs.lemmas.Bool.{eqb-true, ne_eqb}
+use Rattle.std.proofs.lemmas.Bool.{eqb-true, ne_eqb, and_parts}
 use Rattle.std.proofs.lemmas.Option.{same_Some}
 use Rattle.sch_word.specs.values.Values.{Object, pair, vector, string}
 use Rattle.sch_word.specs.values.PrimitiveRows.{is_pair, is_vector, is_string}
 use Rattle.sch_heap.specs.Parts.{Owner, a_procedure, a_cell, a_pair, a_vector, a_string, same_owner, Part, Parts, units, Spot, spot_from}
 use Rattle.sch_heap.specs.Heap.{AreKinds}
+use Rattle.sch_heap.proofs.Spots.{found_first, found_behind}
 use Rattle.sch_literals.specs.ObjectParts.{object_owner, object_more, object_part, object_parts, parts_at, AreSpotted, is_no_object, have_no_object}
 
 -- ---- the first part, and those behind it
-
-first_found : (unit : ℕ) (p : Part) (parts : List Part) (o : Owner) → same_owner p.owner o ≡ true → spot_from unit (p ∷ parts) o ≡ Some (record { unit = unit; more = p.more })
-first_found unit p parts o s = ap (λ b. cond b (Some (record { unit = unit; more = p.more })) (spot_from (unit + suc p.more) parts o)) s
-
-first_passed : (unit : ℕ) (p : Part) (parts : List Part) (o : Owner) → same_owner p.owner o ≡ false → spot_from unit (p ∷ parts) o ≡ spot_from (unit + suc p.more) parts o
-first_passed unit p parts o s = ap (λ b. cond b (Some (record { unit = unit; more = p.more })) (spot_from (unit + suc p.more) parts o)) s
 
 -- ---- each object has its part
 
@@ -44,14 +39,14 @@ object_spot unit m (x ∷ xs) zero o e =
     let u : unit ≡ unit + 0 = omega arith in
     ap (λ n. spot_from unit (object_parts m (x ∷ xs)) (object_owner n o)) n
     ∙ ap (λ y. spot_from unit (object_parts m (x ∷ xs)) (object_owner m y)) (sym same)
-    ∙ first_found unit (object_part m x) (object_parts (suc m) xs) (object_owner m x) (same_itself m x)
+    ∙ found_first unit (object_part m x) (object_parts (suc m) xs) (object_owner m x) (same_itself m x)
     ∙ ap (λ y. Some (record { unit = unit; more = object_more y })) same
     ∙ ap (λ u. Some (record { unit = u; more = object_more o })) u
 object_spot unit m (x ∷ xs) (suc k) o e =
     let other = other_number m (m + suc k) x o (λ s. omega (arith, s)) in
     let n : m + suc k ≡ suc m + k = omega arith in
     let u : unit + suc (object_more x) + units (object_parts (suc m) (take k xs)) ≡ unit + units (object_parts m (x ∷ take k xs)) = omega arith in
-    first_passed unit (object_part m x) (object_parts (suc m) xs) (object_owner (m + suc k) o) other
+    found_behind unit (object_part m x) (object_parts (suc m) xs) (object_owner (m + suc k) o) other
     ∙ ap (λ n. spot_from (unit + suc (object_more x)) (object_parts (suc m) xs) (object_owner n o)) n
     ∙ object_spot (unit + suc (object_more x)) (suc m) xs k o e
     ∙ ap (λ u. Some (record { unit = u; more = object_more o })) u
@@ -75,7 +70,7 @@ part_owner unit m (x ∷ xs) w at e = by (same_owner (object_owner m x) w) refl 
         → (k : ℕ) × (o : Object) × (slice_get (x ∷ xs) k ≡ Some o) × (same_owner (object_owner (m + k) o) w ≡ true)
     by true s behind = let n : m ≡ m + 0 = omega arith in (zero, x, refl, subst (λ n. same_owner (object_owner n x) w ≡ true) n s)
     by false s behind =
-        let r = behind (sym (first_passed unit (object_part m x) (object_parts (suc m) xs) w s) ∙ e) in
+        let r = behind (sym (found_behind unit (object_part m x) (object_parts (suc m) xs) w s) ∙ e) in
         let n : suc m + r.0 ≡ m + suc r.0 = omega arith in
         (suc r.0, r.1, r.2, subst (λ n. same_owner (object_owner n r.1) w ≡ true) n r.3)
 
@@ -116,15 +111,11 @@ module _ (first : ℕ) (objects : List Object) where
       → spot_from unit (front ++ object_parts 0 objects) o ≡ spot_from (unit + units front) (object_parts 0 objects) o
   passes unit [] o other h = let u : unit ≡ unit + 0 = omega arith in ap (λ u. spot_from u (object_parts 0 objects) o) u
   passes unit (p ∷ front) o other h =
-      let hs = both (is_no_object p.owner) (have_no_object front) h in
+      let hs = and_parts (is_no_object p.owner) (have_no_object front) h in
       let u : unit + suc p.more + units front ≡ unit + units (p ∷ front) = omega arith in
-      first_passed unit p (front ++ object_parts 0 objects) o (other p hs.0)
+      found_behind unit p (front ++ object_parts 0 objects) o (other p hs.0)
       ∙ passes (unit + suc p.more) front o other hs.1
       ∙ ap (λ u. spot_from u (object_parts 0 objects) o) u
-    where
-      both : (a b : Bool) → (a && b) ≡ true → (a ≡ true) × (b ≡ true)
-      both true b h = (refl, h)
-      both false b h = absurd cc
 
   no_pair : (n : ℕ) (p : Part) → is_no_object p.owner ≡ true → same_owner p.owner (a_pair n) ≡ false
   no_pair n p h = by p.owner h
@@ -184,7 +175,7 @@ no_object_here n x (a_string k) h = absurd (let bad : false ≡ true = h in cc)
 pub no_object_spot : (unit m : ℕ) (objects : List Object) (o : Owner) → is_no_object o ≡ true → spot_from unit (object_parts m objects) o ≡ None
 no_object_spot unit m [] o h = refl
 no_object_spot unit m (x ∷ xs) o h =
-    first_passed unit (object_part m x) (object_parts (suc m) xs) o (no_object_here m x o h) ∙ no_object_spot (unit + suc (object_more x)) (suc m) xs o h
+    found_behind unit (object_part m x) (object_parts (suc m) xs) o (no_object_here m x o h) ∙ no_object_spot (unit + suc (object_more x)) (suc m) xs o h
 
 -- and are where they are in the parts in front
 pub front_spot : (unit m : ℕ) (front : List Part) (objects : List Object) (o : Owner) → is_no_object o ≡ true → spot_from unit (front ++ object_parts m objects) o ≡ spot_from unit front o

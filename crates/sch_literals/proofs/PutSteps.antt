@@ -11,7 +11,7 @@ use Rattle.sch_literals.specs.PlacedWords.{units_in, units_in_each, placed_value
 use Rattle.sch_literals.proofs.Rows.{left, next_left}
 use Rattle.sch_literals.proofs.Sizes.{vector_contents_length, string_contents_length}
 
-placed_values_length : (ls : Literals) (unit : ℕ) → length (placed_values ls unit) ≡ count_literals ls
+pub placed_values_length : (ls : Literals) (unit : ℕ) → length (placed_values ls unit) ≡ count_literals ls
 placed_values_length no_literals unit = refl
 placed_values_length (and_literal l ls) unit = ap suc (placed_values_length ls (unit + units_in l))
 

@@ -24,7 +24,7 @@ in_units_length [] = refl
 in_units_length (a ∷ []) = refl
 in_units_length (a ∷ (b ∷ ws)) = let h = in_units_length ws in omega (arith, h)
 
-text_words_length : (n : ℕ) (bytes : List ℕ) → length (text_words n bytes) ≡ n
+pub text_words_length : (n : ℕ) (bytes : List ℕ) → length (text_words n bytes) ≡ n
 text_words_length zero bytes = refl
 text_words_length (suc n) bytes = ap suc (text_words_length n (drop 8 bytes))
 

@@ -1,7 +1,7 @@
 -- The values of literals and what their objects hold: constants in range, and objects among theirs.
 use Rattle.std.proofs.Common.{◌≡◌, ℕ, zero, suc, ◌+◌, ◌<◌, ◌≤◌, Bool, true, false, List, [], ◌∷◌, ◌++◌, length, Some, None, refl, subst, arith, ◌&&◌}
 use Rattle.std.specs.Prelude.{slice_get}
-use Rattle.std.proofs.lemmas.Bool.{ltb-true}
+use Rattle.std.proofs.lemmas.Bool.{ltb-true, and_parts}
 use Rattle.std.proofs.lemmas.Option.{same_Some}
 use Rattle.sch_word.specs.declared.constant.Const.{Const}
 use Rattle.sch_word.specs.declared.constant.Const.TheVariants.{Fixnum, Character, Boolean, Nil, Unspecified, Symbol}
@@ -11,10 +11,6 @@ use Rattle.sch_word.specs.values.Literals.{Literal, Literals, constant, text, li
 use Rattle.sch_word.specs.runs.Charges.{linked}
 use Rattle.sch_word.proofs.values.Fixnums.{is_fixnum_says}
 use Rattle.sch_word.proofs.values.LiteralObjects.{literal_values_length}
-
-both : (a b : Bool) → (a && b) ≡ true → (a ≡ true) × (b ≡ true)
-both true b h = (refl, h)
-both false b h = absurd cc
 
 module _ (symbols limit : ℕ) where
   -- A constant in range, or an object below the limit.
@@ -80,8 +76,8 @@ module _ (symbols limit : ℕ) where
   pub values_stand : (ls : Literals) (n : ℕ) → literals_in_range ls ≡ true → literals_known symbols ls ≡ true → n + objects_in_each ls ≤ limit → AreStanding (literal_values ls n)
   values_stand no_literals n r k le = tt
   values_stand (and_literal l ls) n r k le =
-      let rs = both (literal_in_range l) (literals_in_range ls) r in
-      let ks = both (literal_known symbols l) (literals_known symbols ls) k in
+      let rs = and_parts (literal_in_range l) (literals_in_range ls) r in
+      let ks = and_parts (literal_known symbols l) (literals_known symbols ls) k in
       (value_stands l n rs.0 ks.0 (omega (arith, le)), values_stand ls (n + objects_in l) rs.1 ks.1 (omega (arith, le)))
 
   mutual
@@ -91,8 +87,8 @@ module _ (symbols limit : ℕ) where
     objects_hold (list ls tail) n r k le =
         let inner : ℕ = n + count_literals ls in
         let behind : ℕ = inner + objects_in_each ls in
-        let rs = both (literals_in_range ls) (literal_in_range tail) r in
-        let ks = both (literals_known symbols ls) (literal_known symbols tail) k in
+        let rs = and_parts (literals_in_range ls) (literal_in_range tail) r in
+        let ks = and_parts (literals_known symbols ls) (literal_known symbols tail) k in
         let size = literal_values_length ls inner in
         append_holds (linked n (literal_values ls inner) (literal_value tail behind)) (objects_of_each ls inner ++ literal_objects tail behind)
         (linked_holds n (literal_values ls inner) (literal_value tail behind) (values_stand ls inner rs.0 ks.0 (omega (arith, le))) (value_stands tail behind rs.1 ks.1 (omega (arith, le))) (omega (arith, size, le)))
@@ -104,6 +100,6 @@ module _ (symbols limit : ℕ) where
     pub each_holds : (ls : Literals) (n : ℕ) → literals_in_range ls ≡ true → literals_known symbols ls ≡ true → n + objects_in_each ls ≤ limit → EachHolds (objects_of_each ls n)
     each_holds no_literals n r k le = tt
     each_holds (and_literal l ls) n r k le =
-        let rs = both (literal_in_range l) (literals_in_range ls) r in
-        let ks = both (literal_known symbols l) (literals_known symbols ls) k in
+        let rs = and_parts (literal_in_range l) (literals_in_range ls) r in
+        let ks = and_parts (literal_known symbols l) (literals_known symbols ls) k in
         append_holds (literal_objects l n) (objects_of_each ls (n + objects_in l)) (objects_hold l n rs.0 ks.0 (omega (arith, le))) (each_holds ls (n + objects_in l) rs.1 ks.1 (omega (arith, le)))

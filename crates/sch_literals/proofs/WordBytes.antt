@@ -4,7 +4,7 @@ use Rattle.std.proofs.lemmas.Option.{same_Some}
 use Rattle.std.specs.Prelude.{slice_get, slice_index}
 use Rattle.std.specs.Int.{w64, to_le_bytes, from_le_bytes}
 use Rattle.std.specs.List.{flat_map}
-use Rattle.std.proofs.lemmas.Bool.{cases_lt, ltb-true}
+use Rattle.std.proofs.lemmas.Bool.{cases_lt, ltb-true, and_parts}
 use Rattle.std.proofs.lemmas.Grind.{flat_map-append}
 use Rattle.std.proofs.lemmas.List.{drop_at, take-append-drop, take-append-le, get_or-take, get_or_past, length-take-le, take-take}
 use Rattle.std.proofs.lemmas.List.Folds.{flat_map-map}
@@ -16,7 +16,7 @@ use Rattle.sch_asm.specs.declared.assembly.Word.{Word}
 use Rattle.sch_asm.specs.declared.assembly.Word.TheVariants.{Fixed}
 use Rattle.sch_asm.specs.Codes.{bytes_of}
 use Rattle.sch_asm.specs.Data.{word_in, PieceAt}
-use Rattle.sch_asm.proofs.Words.{eight_count}
+use Rattle.sch_asm.proofs.Words.{eight_count, data_length}
 use Rattle.sch_asm.proofs.Pieces.{piece_later}
 use Rattle.sch_literals.specs.ObjectWords.{text_words}
 
@@ -54,10 +54,6 @@ word_there bytes a (v ∷ ws) at (suc k) w e fits =
 pub word_data : (place : ℕ → ℕ) (ws : List ℕ) → flat_map (bytes_of place) (map Fixed ws) ≡ word_bytes ws
 word_data place ws = flat_map-map (bytes_of place) Fixed ws
 
-pub data_length : (place : ℕ → ℕ) (ws : List Word) → length (flat_map (bytes_of place) ws) ≡ 8 * length ws
-data_length place [] = refl
-data_length place (w ∷ ws) = let h = data_length place ws in omega (arith, h)
-
 -- words that stand among others lie behind those before them
 pub words_inside : (place : ℕ → ℕ) (front words behind : List Word) (rest bytes : List ℕ) (a : ℕ)
     → bytes ≡ flat_map (bytes_of place) (front ++ (words ++ behind)) ++ rest → a ≡ data_address + 8 * length front → PieceAt bytes a (flat_map (bytes_of place) words)
@@ -87,19 +83,15 @@ take_behind [] ys k m e = let z : k ≡ m = omega (arith, e) in ap (λ k. take k
 take_behind (x ∷ xs) ys zero m e = absurd (omega (arith, e))
 take_behind (x ∷ xs) ys (suc k) m e = ap (λ l. x ∷ l) (take_behind xs ys k m (omega (arith, e)))
 
-both : (a b : Bool) → (a && b) ≡ true → (a ≡ true) × (b ≡ true)
-both true b h = (refl, h)
-both false b h = absurd cc
-
 bytes_below : (xs : List ℕ) → are_bytes xs ≡ true → (i : ℕ) → get_or xs i 0 < 256
 bytes_below [] h i = omega arith
-bytes_below (x ∷ xs) h zero = ltb-true x 256 (both (is_byte x) (are_bytes xs) h).0
-bytes_below (x ∷ xs) h (suc i) = bytes_below xs (both (is_byte x) (are_bytes xs) h).1 i
+bytes_below (x ∷ xs) h zero = ltb-true x 256 (and_parts (is_byte x) (are_bytes xs) h).0
+bytes_below (x ∷ xs) h (suc i) = bytes_below xs (and_parts (is_byte x) (are_bytes xs) h).1 i
 
 pub bytes_behind : (k : ℕ) (xs : List ℕ) → are_bytes xs ≡ true → are_bytes (drop k xs) ≡ true
 bytes_behind zero xs h = h
 bytes_behind (suc k) [] h = refl
-bytes_behind (suc k) (x ∷ xs) h = bytes_behind k xs (both (is_byte x) (are_bytes xs) h).1
+bytes_behind (suc k) (x ∷ xs) h = bytes_behind k xs (and_parts (is_byte x) (are_bytes xs) h).1
 
 zero_at : (i : ℕ) → slice_index (0 ∷ 0 ∷ 0 ∷ 0 ∷ 0 ∷ 0 ∷ 0 ∷ 0 ∷ []) i ≡ 0
 zero_at zero = refl

@@ -1,15 +1,17 @@
 -- With how many operands a name is an operation.
-use Rattle.std.proofs.Common.{◌≡◌, ◌<◌, ℕ, zero, suc, Bool, true, false, cond, List, Option, Some, None, if◌then◌else◌, codes, refl, subst, arith}
-use Rattle.std.specs.Prelude.{nat_eq}
+use Rattle.std.proofs.Common.{◌≡◌, ◌<◌, ℕ, zero, suc, Bool, true, false, cond, List, [], ◌∷◌, Option, Some, None, if◌then◌else◌, codes, refl, subst, arith}
+use Rattle.std.specs.Prelude.{◌&&◌, ◌||◌, not, nat_eq}
+use Rattle.std.specs.List.{list_all}
 use Rattle.std.specs.Str.{bytes_eq}
-use Rattle.std.proofs.lemmas.Bool.{eqb-true}
+use Rattle.std.proofs.lemmas.Bool.{and_parts, eqb-true}
 use Rattle.sch_word.specs.declared.primitive.Primitive.{Primitive}
-use Rattle.sch_word.specs.declared.primitive.Primitive.TheVariants.{Add, Subtract, Multiply, Equal, Less, Greater, LessEqual, GreaterEqual, MakeString, MakeVector}
-use Rattle.sch_word.specs.values.Primitives.{operands_of}
+use Rattle.sch_word.specs.values.Primitives.{name_of, operands_of}
 use Rattle.sch_names.specs.declared.keyword.Keyword.{Keyword}
+use Rattle.sch_names.specs.declared.operation.Arity.{Arity}
+use Rattle.sch_names.specs.declared.operation.Arity.TheVariants.{Fixed, AnyNumber, OneOrMore, TwoOrMore, FillOptional}
 use Rattle.sch_names.specs.declared.operation.Operation.{Operation}
 use Rattle.sch_names.specs.declared.operation.Operation.TheVariants.{Exact, Unit, UnitAnd, Nested, Chained, Filled, Not}
-use Rattle.sch_names.specs.Operations.{exactly, arithmetic, comparison, filling, admitted, other_operation, by_primitive, primitive_of, operation_of}
+use Rattle.sch_names.specs.Operations.{exactly, arithmetic, comparison, filling, admitted, by_row, look_up, other_operation, operation_of, Row, row, rows}
 use Rattle.sch_names.specs.Scope.{Scope, Globals, find, is_among, operating, head, head_of}
 use Rattle.sch_names.specs.Words.{keyword_of}
 
@@ -62,30 +64,46 @@ filling_admits p zero e = exactly_admits p zero
 filling_admits p (suc zero) e = (refl, e)
 filling_admits p (suc (suc n)) e = exactly_admits p (suc (suc n))
 
-primitive_admits : (p : Primitive) (n : ℕ) → AdmitsIfAny (admitted p n) n
-primitive_admits Add n = arithmetic_admits Add n refl
-primitive_admits Subtract n = not_none n (nat_eq n 0) _ (arithmetic_admits Subtract n refl)
-primitive_admits Multiply n = arithmetic_admits Multiply n refl
-primitive_admits Equal n = comparison_admits Equal n refl
-primitive_admits Less n = comparison_admits Less n refl
-primitive_admits Greater n = comparison_admits Greater n refl
-primitive_admits LessEqual n = comparison_admits LessEqual n refl
-primitive_admits GreaterEqual n = comparison_admits GreaterEqual n refl
-primitive_admits MakeString n = filling_admits MakeString n refl
-primitive_admits MakeVector n = filling_admits MakeVector n refl
-primitive_admits p n = exactly_admits p n
+-- where operands may be more or less than the primitive takes, it takes two
+abbrev takes_two : Row → Bool
+takes_two r = by r.arity
+  where
+    by : Arity → Bool
+    by Fixed = true
+    by _ = nat_eq (operands_of r.primitive) 2
+
+rows_take_two : list_all takes_two rows ≡ true
+rows_take_two = refl
+
+found_takes_two : (internal : Bool) (x : List ℕ) (rs : List Row) (r : Primitive × Arity) → list_all takes_two rs ≡ true → look_up internal x rs ≡ Some r → takes_two (row r.1 r.0) ≡ true
+found_takes_two internal x [] r h e = absurd cc
+found_takes_two internal x (s ∷ rs) r h e =
+    let p = and_parts (takes_two s) (list_all takes_two rs) h in
+    by (bytes_eq x (name_of s.primitive) && (internal || not s.internal)) p.0 (found_takes_two internal x rs r p.1) e
+  where
+    by : (b : Bool) → takes_two s ≡ true → (look_up internal x rs ≡ Some r → takes_two (row r.1 r.0) ≡ true) → cond b (Some (s.primitive, s.arity)) (look_up internal x rs) ≡ Some r
+        → takes_two (row r.1 r.0) ≡ true
+    by true p later e = let same : (s.primitive, s.arity) ≡ r = cc in subst (λ r. takes_two (row r.1 r.0) ≡ true) same p
+    by false p later e = later e
+
+arity_admits : (a : Arity) (p : Primitive) (n : ℕ) → takes_two (row a p) ≡ true → AdmitsIfAny (admitted a p n) n
+arity_admits Fixed p n e = exactly_admits p n
+arity_admits AnyNumber p n e = arithmetic_admits p n (eqb-true (operands_of p) 2 e)
+arity_admits OneOrMore p n e = not_none n (nat_eq n 0) _ (arithmetic_admits p n (eqb-true (operands_of p) 2 e))
+arity_admits TwoOrMore p n e = comparison_admits p n (eqb-true (operands_of p) 2 e)
+arity_admits FillOptional p n e = filling_admits p n (eqb-true (operands_of p) 2 e)
 
 other_admits : (x : List ℕ) (n : ℕ) → AdmitsIfAny (other_operation x n) n
 other_admits x n =
     either n (bytes_eq x (codes "not")) _ _ (only_one n (nat_eq n 1) refl) refl
 
-by_primitive_admits : (p : Option Primitive) (x : List ℕ) (n : ℕ) → AdmitsIfAny (by_primitive p x n) n
-by_primitive_admits (Some p) x n = primitive_admits p n
-by_primitive_admits None x n = other_admits x n
+row_admits : (o : Option (Primitive × Arity)) (x : List ℕ) (n : ℕ) → ((r : Primitive × Arity) → o ≡ Some r → takes_two (row r.1 r.0) ≡ true) → AdmitsIfAny (by_row o x n) n
+row_admits (Some r) x n h = arity_admits r.1 r.0 n (h r refl)
+row_admits None x n h = other_admits x n
 
 name_admits : (internal : Bool) (x : List ℕ) (n : ℕ) → AdmitsIfAny (operation_of internal x n) n
 unfolding operation_of
-name_admits internal x n = by_primitive_admits (primitive_of internal x) x n
+name_admits internal x n = row_admits (look_up internal x rows) x n (λ r e. found_takes_two internal x rows r rows_take_two e)
 
 of_head : (v : Option ℕ) (g : Bool) (w : Option Keyword) (o : Option Operation) (p : Operation) → head v g w o ≡ operating p → o ≡ Some p
 of_head (Some k) g w o p e = cc

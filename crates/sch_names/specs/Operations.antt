@@ -1,45 +1,51 @@
 -- Which combinations are operations: the primitives' names, each with the counts of operands that it
 -- admits (R5RS 6.1 to 6.4), and `not` (R5RS 6.3.1).
-use Rattle.std.specs.Prelude.{ℕ, zero, suc, ℤ, pos, Bool, cond, nat_eq, List, [], ◌∷◌, Option, Some, None, if◌then◌else◌, codes}
+use Rattle.std.specs.Prelude.{ℕ, zero, suc, ℤ, pos, Bool, true, false, ◌&&◌, ◌||◌, not, cond, nat_eq, List, [], ◌∷◌, Option, Some, None, if◌then◌else◌, codes}
 use Rattle.std.specs.Str.{bytes_eq}
 use Rattle.sch_word.specs.declared.primitive.Primitive.{Primitive}
 use Rattle.sch_word.specs.declared.primitive.Primitive.TheVariants.{Eq, Eqv, IsBoolean, IsPair, IsNull, IsSymbol, IsInteger, IsChar, IsString, IsVector, IsProcedure, Cons, Car, Cdr, SetCar, SetCdr, Add, Subtract, Multiply, Quotient, Remainder, Modulo, Equal, Less, Greater, LessEqual, GreaterEqual, CharToInteger, IntegerToChar, MakeString, StringLength, StringRef, StringSet, MakeVector, VectorLength, VectorRef, VectorSet, Put, SymbolLength, SymbolRef}
 use Rattle.sch_word.specs.values.Primitives.{name_of, operands_of}
+use Rattle.sch_names.specs.declared.operation.Arity.{Arity}
+use Rattle.sch_names.specs.declared.operation.Arity.TheVariants.{Fixed, AnyNumber, OneOrMore, TwoOrMore, FillOptional}
 use Rattle.sch_names.specs.declared.operation.Operation.{Operation}
 use Rattle.sch_names.specs.declared.operation.Operation.TheVariants.{Exact, Unit, UnitAnd, Nested, Chained, Filled, Not}
 
 -- ## Primitives by their names
 
--- those of every text, and those of a library's text alone
-abbrev pub of_numbers : List Primitive
-of_numbers =
-    Add ∷ Subtract ∷ Multiply ∷ Quotient ∷ Remainder ∷ Modulo ∷ Equal ∷ Less ∷ Greater ∷ LessEqual ∷ GreaterEqual ∷ []
+-- a primitive with how many operands its name admits, and whether only the text of a library names it
+pub record Row : Type 0 where
+  pub primitive : Primitive
+  pub arity : Arity
+  pub internal : Bool
 
-abbrev pub of_objects : List Primitive
-of_objects =
-    Eq ∷ Eqv ∷ IsBoolean ∷ IsPair ∷ IsNull ∷ IsSymbol ∷ IsInteger ∷ IsChar ∷ IsString ∷ IsVector ∷ IsProcedure ∷ Cons ∷ Car ∷ Cdr ∷ SetCar ∷ SetCdr ∷ []
+-- one of the code's
+abbrev pub row_of : Primitive × Arity × Bool → Row
+row_of r = record { primitive = r.0; arity = r.1; internal = r.2 }
 
-abbrev pub of_sequences : List Primitive
-of_sequences =
-    CharToInteger ∷ IntegerToChar ∷ MakeString ∷ StringLength ∷ StringRef ∷ StringSet ∷ MakeVector ∷ VectorLength ∷ VectorRef ∷ VectorSet ∷ []
+abbrev pub row : Arity → Primitive → Row
+row arity p = record { primitive = p; arity = arity; internal = false }
 
-abbrev pub of_libraries : List Primitive
-of_libraries = Put ∷ SymbolLength ∷ SymbolRef ∷ []
+-- one that the text of a library alone names
+abbrev pub internal_row : Primitive → Row
+internal_row p = record { primitive = p; arity = Fixed; internal = true }
 
--- the primitive of this name among some
-abbrev pub named_in : List Primitive → List ℕ → Option Primitive
-named_in [] x = None
-named_in (p ∷ ps) x = cond (bytes_eq x (name_of p)) (Some p) (named_in ps x)
+abbrev pub rows : List Row
+rows =
+    row Fixed Eqv ∷ (row Fixed Eq ∷ (row AnyNumber Add ∷ (row OneOrMore Subtract ∷ (row AnyNumber Multiply
+    ∷ (row TwoOrMore Equal ∷ (row TwoOrMore Less ∷ (row TwoOrMore Greater ∷ (row TwoOrMore LessEqual
+    ∷ (row TwoOrMore GreaterEqual ∷ (row Fixed Quotient ∷ (row Fixed Remainder ∷ (row Fixed Modulo ∷ (row Fixed IsInteger
+    ∷ (row Fixed IsBoolean ∷ (row Fixed IsPair ∷ (row Fixed Cons ∷ (row Fixed Car ∷ (row Fixed Cdr ∷ (row Fixed SetCar
+    ∷ (row Fixed SetCdr ∷ (row Fixed IsNull ∷ (row Fixed IsSymbol ∷ (row Fixed IsChar ∷ (row Fixed CharToInteger
+    ∷ (row Fixed IntegerToChar ∷ (row Fixed IsString ∷ (row FillOptional MakeString ∷ (row Fixed StringLength
+    ∷ (row Fixed StringRef ∷ (row Fixed StringSet ∷ (row Fixed IsVector ∷ (row FillOptional MakeVector
+    ∷ (row Fixed VectorLength ∷ (row Fixed VectorRef ∷ (row Fixed VectorSet ∷ (row Fixed IsProcedure
+    ∷ (internal_row Put ∷ (internal_row SymbolLength ∷ (internal_row SymbolRef ∷ [])))))))))))))))))))))))))))))))))))))))
 
-abbrev pub otherwise : Option Primitive → Option Primitive → Option Primitive
-otherwise (Some p) q = Some p
-otherwise None q = q
-
--- the primitive of this name; those that begin with `%` are meant by the text of a library alone
-abbrev pub primitive_of : (internal : Bool) → List ℕ → Option Primitive
-primitive_of internal x =
-    otherwise (named_in of_objects x) (otherwise (named_in of_numbers x) (otherwise (named_in of_sequences x)
-    (cond internal (named_in of_libraries x) None)))
+-- the primitive of a name, among some, with how many operands it admits
+abbrev pub look_up : (internal : Bool) → List ℕ → List Row → Option (Primitive × Arity)
+look_up internal x [] = None
+look_up internal x (r ∷ rs) =
+    cond (bytes_eq x (name_of r.primitive) && (internal || not r.internal)) (Some (r.primitive, r.arity)) (look_up internal x rs)
 
 -- ## Counts of operands
 
@@ -65,18 +71,12 @@ filling p (suc zero) = Some (Filled p)
 filling p n = exactly p n
 
 -- the operation of a primitive with n operands
-abbrev pub admitted : Primitive → ℕ → Option Operation
-admitted Add n = arithmetic Add n
-admitted Subtract n = cond (nat_eq n 0) None (arithmetic Subtract n)
-admitted Multiply n = arithmetic Multiply n
-admitted Equal n = comparison Equal n
-admitted Less n = comparison Less n
-admitted Greater n = comparison Greater n
-admitted LessEqual n = comparison LessEqual n
-admitted GreaterEqual n = comparison GreaterEqual n
-admitted MakeString n = filling MakeString n
-admitted MakeVector n = filling MakeVector n
-admitted p n = exactly p n
+abbrev pub admitted : Arity → Primitive → ℕ → Option Operation
+admitted Fixed p n = exactly p n
+admitted AnyNumber p n = arithmetic p n
+admitted OneOrMore p n = cond (nat_eq n 0) None (arithmetic p n)
+admitted TwoOrMore p n = comparison p n
+admitted FillOptional p n = filling p n
 
 -- ## Operations
 
@@ -84,13 +84,13 @@ admitted p n = exactly p n
 abbrev pub other_operation : List ℕ → ℕ → Option Operation
 other_operation x n = if bytes_eq x (codes "not") then cond (nat_eq n 1) (Some Not) None else None
 
-abbrev pub by_primitive : Option Primitive → List ℕ → ℕ → Option Operation
-by_primitive (Some p) x n = admitted p n
-by_primitive None x n = other_operation x n
+abbrev pub by_row : Option (Primitive × Arity) → List ℕ → ℕ → Option Operation
+by_row (Some r) x n = admitted r.1 r.0 n
+by_row None x n = other_operation x n
 
 -- the operation of a name with n operands
 unfoldable pub operation_of : (internal : Bool) → List ℕ → ℕ → Option Operation
-operation_of internal x n = by_primitive (primitive_of internal x) x n
+operation_of internal x n = by_row (look_up internal x rows) x n
 
 -- what the results of `+`, `-` and `*` begin with
 abbrev pub unit_of : Primitive → ℤ

@@ -1,7 +1,7 @@
 //! The words that have a meaning of their own.
 
-ghost use Rattle.std.specs.Prelude.{◌≡◌};
-ghost use Rattle.sch_names.specs.Words.{is_left_out, plain_keyword, choice_keyword, keyword_of};
+ghost use Rattle.std.specs.Prelude.{◌≡◌, map};
+ghost use Rattle.sch_names.specs.Words.{keyword_of, look_up, word_of};
 
 /// A keyword of R5RS.
 #[derive(Clone, Copy, Drop)]
@@ -26,63 +26,44 @@ pub enum Keyword {
     LeftOut,
 }
 
-fn is_left_out(x: &[u8]) -> bool
-    ensures { result ≡ is_left_out x.now }
-{
-    x == b"quasiquote".as_slice()
-        || x == b"unquote".as_slice()
-        || x == b"unquote-splicing".as_slice()
-        || x == b"delay".as_slice()
-        || x == b"define-syntax".as_slice()
-        || x == b"let-syntax".as_slice()
-        || x == b"letrec-syntax".as_slice()
-        || x == b"syntax-rules".as_slice()
-}
+/// The words, with those of R5RS that this language leaves out.
+const KEYWORDS: [(&str, Keyword); 24] = [
+    ("quote", Keyword::Quote),
+    ("lambda", Keyword::Lambda),
+    ("if", Keyword::If),
+    ("set!", Keyword::Set),
+    ("cond", Keyword::Cond),
+    ("case", Keyword::Case),
+    ("and", Keyword::And),
+    ("or", Keyword::Or),
+    ("let", Keyword::Let),
+    ("let*", Keyword::LetStar),
+    ("letrec", Keyword::Letrec),
+    ("begin", Keyword::Begin),
+    ("do", Keyword::Do),
+    ("define", Keyword::Define),
+    ("else", Keyword::Else),
+    ("=>", Keyword::Arrow),
+    ("quasiquote", Keyword::LeftOut),
+    ("unquote", Keyword::LeftOut),
+    ("unquote-splicing", Keyword::LeftOut),
+    ("delay", Keyword::LeftOut),
+    ("define-syntax", Keyword::LeftOut),
+    ("let-syntax", Keyword::LeftOut),
+    ("letrec-syntax", Keyword::LeftOut),
+    ("syntax-rules", Keyword::LeftOut),
+];
 
-/// The words of quotations, procedures, assignments and definitions.
-fn plain_keyword(x: &[u8]) -> Option<Keyword>
-    ensures { result ≡ plain_keyword x.now }
+/// What a word of this name is, in a list of words.
+fn look_up(x: &[u8], words: &[(&'static str, Keyword)]) -> Option<Keyword>
+    ensures { result ≡ look_up x.now (map word_of words.now) }
 {
-    if x == b"quote".as_slice() {
-        Some(Keyword::Quote)
-    } else if x == b"lambda".as_slice() {
-        Some(Keyword::Lambda)
-    } else if x == b"set!".as_slice() {
-        Some(Keyword::Set)
-    } else if x == b"define".as_slice() {
-        Some(Keyword::Define)
-    } else if x == b"begin".as_slice() {
-        Some(Keyword::Begin)
-    } else if x == b"do".as_slice() {
-        Some(Keyword::Do)
-    } else if is_left_out(x) {
-        Some(Keyword::LeftOut)
-    } else {
-        None
+    for (name, keyword) in words {
+        if x == name.as_bytes() {
+            return Some(*keyword);
+        }
     }
-}
-
-/// The words of choices.
-fn choice_keyword(x: &[u8]) -> Option<Keyword>
-    ensures { result ≡ choice_keyword x.now }
-{
-    if x == b"if".as_slice() {
-        Some(Keyword::If)
-    } else if x == b"cond".as_slice() {
-        Some(Keyword::Cond)
-    } else if x == b"case".as_slice() {
-        Some(Keyword::Case)
-    } else if x == b"and".as_slice() {
-        Some(Keyword::And)
-    } else if x == b"or".as_slice() {
-        Some(Keyword::Or)
-    } else if x == b"else".as_slice() {
-        Some(Keyword::Else)
-    } else if x == b"=>".as_slice() {
-        Some(Keyword::Arrow)
-    } else {
-        plain_keyword(x)
-    }
+    None
 }
 
 /// The keyword that a name is.
@@ -90,13 +71,5 @@ fn choice_keyword(x: &[u8]) -> Option<Keyword>
 pub fn keyword_of(x: &[u8]) -> Option<Keyword>
     ensures { result ≡ keyword_of x.now }
 {
-    if x == b"let".as_slice() {
-        Some(Keyword::Let)
-    } else if x == b"let*".as_slice() {
-        Some(Keyword::LetStar)
-    } else if x == b"letrec".as_slice() {
-        Some(Keyword::Letrec)
-    } else {
-        choice_keyword(x)
-    }
+    look_up(x, &KEYWORDS)
 }

@@ -1,9 +1,9 @@
 //! Combinations that are operations of the language and no calls.
 
-ghost use Rattle.std.specs.Prelude.{◌≡◌};
+ghost use Rattle.std.specs.Prelude.{◌≡◌, map};
 ghost use Rattle.std.specs.Str.{bytes_eq};
 ghost use Rattle.sch_word.specs.values.Primitives.{name_of};
-ghost use Rattle.sch_names.specs.Operations.{named_in, primitive_of, unit_of, exactly, arithmetic, comparison, filling, admitted, other_operation, operation_of, of_objects, of_numbers, of_sequences, of_libraries};
+ghost use Rattle.sch_names.specs.Operations.{unit_of, exactly, arithmetic, comparison, filling, admitted, look_up, other_operation, operation_of, row_of};
 
 use sch_word::Primitive;
 
@@ -26,107 +26,77 @@ pub enum Operation {
     Not,
 }
 
-/// The primitive of this name among some.
-fn named_in(primitives: &[Primitive], x: &[u8]) -> Option<Primitive>
-    ensures { result ≡ named_in primitives.now x.now }
+/// How many operands the name of a primitive admits.
+#[derive(Clone, Copy)]
+enum Arity {
+    /// As many as the primitive takes.
+    Fixed,
+    AnyNumber,
+    OneOrMore,
+    TwoOrMore,
+    /// As many as the primitive takes, or one less: what a new object is filled with may be left out.
+    FillOptional,
+}
+
+/// The primitives, in the order in which R5RS 6 has them, with the operands that their names admit, and whether only the
+/// text of a library names them.
+const ROWS: [(Primitive, Arity, bool); 40] = [
+    (Primitive::Eqv, Arity::Fixed, false),
+    (Primitive::Eq, Arity::Fixed, false),
+    (Primitive::Add, Arity::AnyNumber, false),
+    (Primitive::Subtract, Arity::OneOrMore, false),
+    (Primitive::Multiply, Arity::AnyNumber, false),
+    (Primitive::Equal, Arity::TwoOrMore, false),
+    (Primitive::Less, Arity::TwoOrMore, false),
+    (Primitive::Greater, Arity::TwoOrMore, false),
+    (Primitive::LessEqual, Arity::TwoOrMore, false),
+    (Primitive::GreaterEqual, Arity::TwoOrMore, false),
+    (Primitive::Quotient, Arity::Fixed, false),
+    (Primitive::Remainder, Arity::Fixed, false),
+    (Primitive::Modulo, Arity::Fixed, false),
+    (Primitive::IsInteger, Arity::Fixed, false),
+    (Primitive::IsBoolean, Arity::Fixed, false),
+    (Primitive::IsPair, Arity::Fixed, false),
+    (Primitive::Cons, Arity::Fixed, false),
+    (Primitive::Car, Arity::Fixed, false),
+    (Primitive::Cdr, Arity::Fixed, false),
+    (Primitive::SetCar, Arity::Fixed, false),
+    (Primitive::SetCdr, Arity::Fixed, false),
+    (Primitive::IsNull, Arity::Fixed, false),
+    (Primitive::IsSymbol, Arity::Fixed, false),
+    (Primitive::IsChar, Arity::Fixed, false),
+    (Primitive::CharToInteger, Arity::Fixed, false),
+    (Primitive::IntegerToChar, Arity::Fixed, false),
+    (Primitive::IsString, Arity::Fixed, false),
+    (Primitive::MakeString, Arity::FillOptional, false),
+    (Primitive::StringLength, Arity::Fixed, false),
+    (Primitive::StringRef, Arity::Fixed, false),
+    (Primitive::StringSet, Arity::Fixed, false),
+    (Primitive::IsVector, Arity::Fixed, false),
+    (Primitive::MakeVector, Arity::FillOptional, false),
+    (Primitive::VectorLength, Arity::Fixed, false),
+    (Primitive::VectorRef, Arity::Fixed, false),
+    (Primitive::VectorSet, Arity::Fixed, false),
+    (Primitive::IsProcedure, Arity::Fixed, false),
+    (Primitive::Put, Arity::Fixed, true),
+    (Primitive::SymbolLength, Arity::Fixed, true),
+    (Primitive::SymbolRef, Arity::Fixed, true),
+];
+
+/// The primitive of this name, among some, with the operands that it admits.
+fn look_up(
+    internal: bool,
+    x: &[u8],
+    rows: &[(Primitive, Arity, bool)],
+) -> Option<(Primitive, Arity)>
+    ensures { result ≡ look_up internal x.now (map row_of rows.now) }
 {
-    for p in primitives {
-        if x == p.name().as_bytes() {
-            return Some(*p);
+    for (primitive, arity, hidden) in rows {
+        if x == primitive.name().as_bytes() && (internal || !*hidden) {
+            return Some((*primitive, *arity));
         }
     }
     None
-}
-
-/// The primitives on every kind of object.
-fn of_objects(x: &[u8]) -> Option<Primitive>
-    ensures { result ≡ named_in of_objects x.now }
-{
-    let primitives = [
-        Primitive::Eq,
-        Primitive::Eqv,
-        Primitive::IsBoolean,
-        Primitive::IsPair,
-        Primitive::IsNull,
-        Primitive::IsSymbol,
-        Primitive::IsInteger,
-        Primitive::IsChar,
-        Primitive::IsString,
-        Primitive::IsVector,
-        Primitive::IsProcedure,
-        Primitive::Cons,
-        Primitive::Car,
-        Primitive::Cdr,
-        Primitive::SetCar,
-        Primitive::SetCdr,
-    ];
-    named_in(&primitives, x)
-}
-
-fn of_numbers(x: &[u8]) -> Option<Primitive>
-    ensures { result ≡ named_in of_numbers x.now }
-{
-    let primitives = [
-        Primitive::Add,
-        Primitive::Subtract,
-        Primitive::Multiply,
-        Primitive::Quotient,
-        Primitive::Remainder,
-        Primitive::Modulo,
-        Primitive::Equal,
-        Primitive::Less,
-        Primitive::Greater,
-        Primitive::LessEqual,
-        Primitive::GreaterEqual,
-    ];
-    named_in(&primitives, x)
-}
-
-/// The primitives on characters, strings and vectors.
-fn of_sequences(x: &[u8]) -> Option<Primitive>
-    ensures { result ≡ named_in of_sequences x.now }
-{
-    let primitives = [
-        Primitive::CharToInteger,
-        Primitive::IntegerToChar,
-        Primitive::MakeString,
-        Primitive::StringLength,
-        Primitive::StringRef,
-        Primitive::StringSet,
-        Primitive::MakeVector,
-        Primitive::VectorLength,
-        Primitive::VectorRef,
-        Primitive::VectorSet,
-    ];
-    named_in(&primitives, x)
-}
-
-/// The primitives that only the text of a library names.
-fn of_libraries(x: &[u8]) -> Option<Primitive>
-    ensures { result ≡ named_in of_libraries x.now }
-{
-    let primitives = [
-        Primitive::Put,
-        Primitive::SymbolLength,
-        Primitive::SymbolRef,
-    ];
-    named_in(&primitives, x)
-}
-
-/// The primitive of this name.
-fn primitive_of(internal: bool, x: &[u8]) -> Option<Primitive>
-    ensures { result ≡ primitive_of internal x.now }
-{
-    if let Some(p) = of_objects(x) {
-        return Some(p);
-    }
-    if let Some(p) = of_numbers(x) {
-        return Some(p);
-    }
-    if let Some(p) = of_sequences(x) {
-        return Some(p);
-    }
-    if internal { of_libraries(x) } else { None }
 }
 
 fn exactly(p: Primitive, count: usize) -> Option<Operation>
@@ -177,27 +147,21 @@ fn filling(p: Primitive, count: usize) -> Option<Operation>
 }
 
 /// The operation of a primitive with `count` operands.
-fn admitted(p: Primitive, count: usize) -> Option<Operation>
-    ensures { result ≡ admitted p count }
+fn admitted(arity: Arity, p: Primitive, count: usize) -> Option<Operation>
+    ensures { result ≡ admitted arity p count }
 {
-    match p {
-        Primitive::Add => arithmetic(p, count),
-        Primitive::Subtract => {
+    match arity {
+        Arity::Fixed => exactly(p, count),
+        Arity::AnyNumber => arithmetic(p, count),
+        Arity::OneOrMore => {
             if count == 0 {
                 None
             } else {
                 arithmetic(p, count)
             }
         }
-        Primitive::Multiply => arithmetic(p, count),
-        Primitive::Equal => comparison(p, count),
-        Primitive::Less => comparison(p, count),
-        Primitive::Greater => comparison(p, count),
-        Primitive::LessEqual => comparison(p, count),
-        Primitive::GreaterEqual => comparison(p, count),
-        Primitive::MakeString => filling(p, count),
-        Primitive::MakeVector => filling(p, count),
-        _ => exactly(p, count),
+        Arity::TwoOrMore => comparison(p, count),
+        Arity::FillOptional => filling(p, count),
     }
 }
 
@@ -218,8 +182,8 @@ fn other_operation(x: &[u8], count: usize) -> Option<Operation>
 pub fn operation_of(internal: bool, x: &[u8], count: usize) -> Option<Operation>
     ensures { result ≡ operation_of internal x.now count }
 {
-    match primitive_of(internal, x) {
-        Some(p) => admitted(p, count),
+    match look_up(internal, x, &ROWS) {
+        Some((p, arity)) => admitted(arity, p, count),
         None => other_operation(x, count),
     }
 }

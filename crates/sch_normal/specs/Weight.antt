@@ -2,7 +2,7 @@
 use Rattle.std.specs.Prelude.{ℕ, ◌+◌, List, map}
 use Rattle.sch_flat.specs.Tree.{Body, Source, count}
 use Rattle.sch_flat.specs.Measures.{over_source}
-use Rattle.sch_control.specs.Weights.{all_entered, weight_of}
+use Rattle.sch_control.specs.NodeWeights.{all_entered, weight_of}
 
 abbrev pub bodies_weight : List Body → ℕ
 bodies_weight bs = all_entered (map (λ b. b.formals) bs)

@@ -1,13 +1,6 @@
-//! From drafts to programs: the walk that numbers a draft, and the program of a library's definitions and a
-//! text's forms.
+//! From drafts to expressions: the walk that numbers a draft.
 #![tactic(auto)]
 
-mod definition;
-mod keeping;
-mod numbering;
-mod program;
-mod starting;
+mod expressions;
 
-pub use definition::Definition;
-pub use numbering::{Numbers, number, number_each};
-pub use program::{Own, assemble, program_with};
+pub use expressions::{Numbers, number, number_each};

@@ -8,7 +8,7 @@ use Rattle.sch_sketch.specs.declared.draft.Draft as code
 use Rattle.sch_sketch.specs.Draft.{count, and_draft, no_drafts}
 use Rattle.sch_sketch.specs.DraftView.{draft_of, drafts_of}
 
-next : {A : Type 0} (xs : List A) (i : ℕ) (x : A) → i < length xs → x ≡ get_or xs i x → drop i xs ≡ x ∷ drop (suc i) xs
+pub next : {A : Type 0} (xs : List A) (i : ℕ) (x : A) → i < length xs → x ≡ get_or xs i x → drop i xs ≡ x ∷ drop (suc i) xs
 next xs i x l e = drop-cons xs i x l ∙ ap (λ a. a ∷ drop (suc i) xs) (sym e)
 
 pub next_draft : (es : List code.Draft) (i : ℕ) (e : code.Draft) → i < length es → e ≡ get_or es i e → drafts_of (drop i es) ≡ and_draft (draft_of e) (drafts_of (drop (suc i) es))

@@ -44,6 +44,7 @@ pub fn control_program(alloc: Global, p: &Program) -> Result<ControlProgram, Mem
     ensures runs { IfOk result (λ q. RunsAs (source p.now) (control_view.source q)) }
     // The table that lists, at each site, what is bound and then the other parts by number fits it.
     ensures fits { IfOk result (λ q. IsTrue (table_fits (control_view.source q) (given_table (control_view.source q)))) }
+    ensures statics { IfOk result (λ q. (control_view.source q).statics ≡ (source p.now).statics) }
     // No call spreads its last operand, and there are no more procedures of the library than there may be.
     ensures covered { IfOk result (λ q. IsTrue (is_covered_program (control_view.source q))) }
     // There is at most seven times as much work in it as the size of `p`.
@@ -69,7 +70,9 @@ pub fn control_program(alloc: Global, p: &Program) -> Result<ControlProgram, Mem
     }
     let renamed = rename(alloc, p)?;
     let converted = convert_assign(alloc, &renamed)?;
+    drop(renamed);
     let flat = close(alloc, &converted)?;
+    drop(converted);
     let control = normalize(alloc, &flat)?;
     Ok(control)
 }

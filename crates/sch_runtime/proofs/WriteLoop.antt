@@ -3,7 +3,7 @@
 use Rattle.std.proofs.Common.{◌≡◌, ℕ, zero, suc, ◌+◌, ◌-◌, ◌*◌, ◌^◌, ◌<◌, ◌≤◌, min, List, [], ◌∷◌, ◌++◌, length, take, drop, Some, Bool, true, false, refl, sym, ap, ◌∙◌, subst, arith, ⊎_elim, append_assoc, append-nil, length-drop, ◌==◌, ◌&&◌, eq-eqb}
 use Rattle.std.specs.Prelude.{pos, not}
 use Rattle.std.proofs.lemmas.Bool.{cases_lt, ne_eqb}
-use Rattle.std.proofs.lemmas.List.{take_all, drop_all}
+use Rattle.std.proofs.lemmas.List.{take_all, drop_all, take_min, drop_min}
 use Rattle.std.proofs.Math.Seq.{take-append_seam, take-length}
 use Rattle.sch_word.specs.values.Put.{put}
 use Rattle.sch_word.specs.declared.answer.Answer.{Answer}
@@ -42,13 +42,6 @@ other_of r e = by (r == RAX) (r == RCX) (r == RDX) (r == RSI) (r == RDI) (r == R
     by false false false false false false e = (refl, refl, refl, refl, refl, refl)
 
 -- ---- pieces, as far as the kernel takes them
-
--- the least of two numbers serves as well
-take_least : (n : ℕ) (l : List ℕ) → take (min n (length l)) l ≡ take n l
-take_least n l = ⊎_elim (λ lt. let e : min n (length l) ≡ n = omega arith in ap (λ k. take k l) e) (λ le. let e : min n (length l) ≡ length l = omega arith in ap (λ k. take k l) e ∙ take-length l ∙ sym (take_all n l le)) (cases_lt n (length l))
-
-drop_least : (n : ℕ) (l : List ℕ) → drop (min n (length l)) l ≡ drop n l
-drop_least n l = ⊎_elim (λ lt. let e : min n (length l) ≡ n = omega arith in ap (λ k. drop k l) e) (λ le. let e : min n (length l) ≡ length l = omega arith in ap (λ k. drop k l) e ∙ drop_all (length l) l (omega arith) ∙ sym (drop_all n l le)) (cases_lt n (length l))
 
 module _ (setting : Setting) where
   open setting use {place_of}
@@ -264,6 +257,6 @@ module _ (setting : Setting) where
         let at' : PieceAt t.y.bytes (t.y.registers RSI) (drop m whole) = subst (λ a. PieceAt t.y.bytes a (drop m whole)) (sym t.address) (subst (λ l. PieceAt l (x.registers RSI + m) (drop m whole)) (sym t.bytes) (piece_later x.bytes (x.registers RSI) whole m within piece)) in
         let r = writes answers t.y (drop m whole) t.left_is t.at (omega arith) at' (subst (λ l. 0x10000000 + length l < 2 ^ 63) (sym t.bytes) top) in
         let p = put (drop (suc k) whole) answers in
-        let r' = subst (λ l. Ends (put l answers).whole t.y (t.y.output ++ (put l answers).taken) (put l answers).left) (drop_least (suc k) whole) r in
-        let out : t.y.output ++ p.taken ≡ x.output ++ (take (suc k) whole ++ p.taken) = ap (λ l. l ++ p.taken) (t.output_is ∙ ap (λ l. x.output ++ l) (take_least (suc k) whole)) ∙ append_assoc x.output (take (suc k) whole) p.taken in
+        let r' = subst (λ l. Ends (put l answers).whole t.y (t.y.output ++ (put l answers).taken) (put l answers).left) (drop_min (suc k) whole) r in
+        let out : t.y.output ++ p.taken ≡ x.output ++ (take (suc k) whole ++ p.taken) = ap (λ l. l ++ p.taken) (t.output_is ∙ ap (λ l. x.output ++ l) (take_min (suc k) whole)) ∙ append_assoc x.output (take (suc k) whole) p.taken in
         follows p.whole x m (take m whole) (x.output ++ (take (suc k) whole ++ p.taken)) p.left answers t (omega (arith, ap length e)) (subst (λ o. Ends p.whole t.y o p.left) out r')

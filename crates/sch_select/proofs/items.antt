@@ -8,6 +8,7 @@ pub mod ProgramSound
 pub mod ProgramMarks
 pub mod ProgramKnown
 pub mod TextSize
+pub mod SameSize
 pub mod ProgramFacts
 pub mod MarkKinds
 pub mod InstructionCounts

@@ -4,6 +4,7 @@ use Rattle.std.specs.List.{flat_map}
 use Rattle.sch_word.specs.declared.answer.Answer.{Answer}
 use Rattle.sch_word.specs.runs.ProgramLayout.{max_text_size, text_address}
 use Rattle.sch_word.specs.runs.Runs.{Run}
+use Rattle.sch_frames.specs.Standing.{all_marks_stand}
 use Rattle.sch_frames.specs.Tree.{Source}
 use Rattle.sch_frames.specs.Run.{entries_of, run}
 use Rattle.sch_insn.specs.declared.insn.Insn.{Insn}
@@ -19,7 +20,7 @@ use Rattle.sch_asm.specs.Items.{marks_arrive}
 use Rattle.sch_asm.specs.Stands.{marks_at}
 use Rattle.sch_asm.specs.Views.{text_at}
 use Rattle.sch_select.specs.Ends.{EndsWithin}
-use Rattle.sch_select.specs.Marks.{CountsEntries, PassesMarks, marks_passed}
+use Rattle.sch_select.specs.Marks.{CountsEntries, PassesMarks, TakesWays, marks_passed}
 use Rattle.sch_select.specs.Sizes.{steps_bound}
 
 -- The runs of a frame program that is never wrong, under limits of heap and depth.
@@ -66,3 +67,12 @@ pub record EntersFrames (p : Source) (heap depth : ℕ) (items : List Item) (dat
       → AllValid code → length (flat_map spelling code) ≤ max_text_size
       → (runs : List Answer → ℕ → Run) → AreRuns p heap depth runs
       → CountsEntries text_address (text_at (flat_map spelling code) ∷ data_at (words ++ replicate zeros 0) ∷ []) (marks_at marks) (entries_of p.bodies) runs
+
+-- Resolved so, and where each call, return and tail call stands behind its mark, the text takes ways through the bodies.
+pub record TakesFrames (p : Source) (heap depth : ℕ) (items : List Item) (data_words : List Word) (zeros : ℕ) : Type 0 where
+  pub takes : (routines : List Item) (code : List Insn) (marks : List mark.Mark) (words : List ℕ)
+      → AreEffective routines → IsTrue (marks_arrive false items) → IsTrue (marks_arrive false routines)
+      → AreResolved (items ++ routines) data_words code marks words
+      → AllValid code → length (flat_map spelling code) ≤ max_text_size
+      → (runs : List Answer → ℕ → Run) → AreRuns p heap depth runs → IsTrue (all_marks_stand p.bodies)
+      → TakesWays text_address (text_at (flat_map spelling code) ∷ data_at (words ++ replicate zeros 0) ∷ []) (marks_at marks) p.bodies

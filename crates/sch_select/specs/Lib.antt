@@ -1,8 +1,4 @@
-pub mod Names
-pub mod NameWords
 pub mod Select
-pub mod Data
-pub mod RestCode
 pub mod Program
 pub mod Sizes
 pub mod Jumps

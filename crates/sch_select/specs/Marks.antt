@@ -8,15 +8,17 @@ use Rattle.sch_control.specs.declared.mark.MarkKind as control
 use Rattle.sch_control.specs.Meaning.{Result}
 use Rattle.sch_control.specs.declared.body.Entry.{Entry}
 use Rattle.sch_control.specs.Run.{entry_at, outcome_of, starting_world}
-use Rattle.sch_frames.specs.Tree.{Source}
+use Rattle.sch_frames.specs.Tree.{Code, Source}
 use Rattle.sch_frames.specs.Run.{bodies_of, entries_of}
 use Rattle.sch_insn.specs.Behaves.{Given, exit_of, start}
 use Rattle.sch_insn.specs.Path.{traced}
 use Rattle.sch_asm.specs.declared.item.MarkKind.{MarkKind}
 use Rattle.sch_asm.specs.declared.item.MarkKind.TheVariants as item_mark
-use Rattle.sch_frames.specs.Layout.{is_entered}
+use Rattle.sch_frames.specs.Valid.{is_entered}
 use Rattle.sch_word.specs.runs.Runs.{Run}
-use Rattle.sch_select.specs.Select.{kind_of}
+use Rattle.sch_activations.specs.Activations.{activations}
+use Rattle.sch_activations.specs.Ways.{AreWays}
+use Rattle.sch_own_routines.specs.ItemMarks.{kind_of}
 
 -- what a result has passed
 abbrev pub marks_of : Result → Option (List control.MarkKind)
@@ -70,3 +72,11 @@ pub record CountsEntries (entry : ℕ) (segments : List Segment) (marks_at : ℕ
   pub forms : (g : Given) (answers : List Answer) (m : ℕ) (output : List ℕ) → exit_of (traced m (start entry segments g answers)).progress ≡ Some (0, output)
       → (label : ℕ) → slice_get entries label ≡ Some None
       → count_by (enters_body label) (flat_map marks_at (traced m (start entry segments g answers)).trace) ≡ 1
+
+-- ## Ways
+
+-- Whatever a machine has passed in m steps, the own marks of each activation that has ended by a return or a tail call
+-- are, in order, those on one way through its body.
+pub record TakesWays (entry : ℕ) (segments : List Segment) (marks_at : ℕ → List MarkKind) (bodies : List Code) : Type 0 where
+  pub ways : (g : Given) (answers : List Answer) (m : ℕ) → (passed : List control.MarkKind)
+      × ((flat_map marks_at (traced m (start entry segments g answers)).trace ≡ map kind_of passed) × AreWays bodies (activations passed).ended)

@@ -1,6 +1,7 @@
 //! A frame program's items and data: `select`.
 
 ghost use Rattle.std.specs.Prelude.{◌≡◌, ◌+◌, ◌*◌, ◌^◌, ◌<◌, ◌≤◌, ◌++◌, [], ◌∷◌, IfOk, IsTrue, OnOk, length, pos, replicate};
+ghost use Rattle.sch_word.specs.declared.limits.TheConstants.{MAX_DEPTH};
 ghost use Rattle.sch_asm.specs.Codes.{text_size};
 ghost use Rattle.sch_asm.specs.Items.{AreOwn};
 ghost use Rattle.sch_asm.specs.Routines.{label_of};
@@ -10,22 +11,23 @@ ghost use Rattle.sch_frames.specs.Covered.{is_covered_program};
 ghost use Rattle.sch_frames.specs.ProgramView.{source};
 ghost use Rattle.sch_frames.specs.Sizes.{closures_in, program_size};
 ghost use Rattle.sch_frames.specs.SourceView.{codes_of};
-ghost use Rattle.sch_select.specs.Follows.{EndsFrames, EntersFrames, FollowsFrames, PassesFrames};
+ghost use Rattle.sch_select.specs.Follows.{EndsFrames, EntersFrames, FollowsFrames, PassesFrames, TakesFrames};
 ghost use Rattle.sch_select.specs.Jumps.{jumps_ahead};
-ghost use Rattle.sch_select.specs.Data.{heap_of, max_heap_address};
-ghost use Rattle.sch_select.specs.Program.{frames_bytes, laid_code, max_data, max_stack, own_label, program_zeros};
-ghost use Rattle.sch_select.specs.Program.{forms_code, own_code, stack_bytes};
+ghost use Rattle.sch_statics.specs.Data.{heap_of, max_heap_address};
+ghost use Rattle.sch_select.specs.Program.{frames_bytes, laid_code, max_data, max_stack, own_label, program_code, program_zeros, forms_code};
+ghost use Rattle.sch_select.specs.Program.{stack_bytes};
+ghost use Rattle.sch_own_routines.specs.OwnCode.{own_code};
 ghost use Rattle.sch_select.specs.Sizes.{instructions_in, kinds_in, kinds_of};
 
-use crate::addresses::body_label;
-use crate::routines::own_routines;
-use crate::statics::{lay_out, words_of};
 use crate::walk::{Frames, forms};
 use sch_asm::{Asm, Item, Routine};
 use sch_frames::{FrameBody, FrameProgram};
 use sch_insn::Insn;
 use sch_insn::register::{R12, R13, RBP};
 use sch_literals::literal_words;
+use sch_own_routines::addresses::body_label;
+use sch_own_routines::own_routines;
+use sch_statics::{lay_out, words_of};
 use sch_word::{Limits, List, Mem};
 use std::alloc::Global;
 
@@ -46,8 +48,8 @@ fn stack_of(words: u32, depth: u64) -> u64
 /// Where the heap begins, behind objects from a unit on that take this many words. Where addresses below the stack
 /// could be numbers of more than 31 bits, there is no memory for it.
 fn heap_behind(unit: u64, words: usize) -> Result<u64, Mem>
-    requires low { 16 * unit ≤ 2147483648 }
-    requires few { words ≤ 2147483648 }
+    requires low { 16 * unit ≤ 2 ^ 31 }
+    requires few { words ≤ 2 ^ 31 }
     ensures start { IfOk result (λ heap. heap ≡ 16 * unit + 8 * words) }
     ensures low { IfOk result (λ heap. heap ≤ max_heap_address) }
 {
@@ -84,8 +86,8 @@ fn put_bodies(
 
 /// The items of a program whose heap and stack begin so.
 fn items_of(alloc: Global, p: &FrameProgram, ends: Ends) -> Result<List<Item>, Mem>
-    requires heap { ends.heap ≤ 2147483647 }
-    requires depth { ends.depth ≤ 10000000 }
+    requires heap { ends.heap < 2 ^ 31 }
+    requires depth { ends.depth ≤ MAX_DEPTH }
     ensures { IfOk result (λ items. items ≡ laid_code p.now.words ends.stack (length p.now.statics.literals) ends.heap
         ends.depth (length p.now.bodies) (codes_of p.now.bodies)) }
 {
@@ -127,6 +129,9 @@ pub fn select(alloc: Global, p: &FrameProgram, limits: Limits) -> Result<Asm, Me
     ensures steps { IfOk result (λ a. EndsFrames (source p.now) limits.heap limits.depth a.items a.words a.zeros) }
     ensures passes { IfOk result (λ a. PassesFrames (source p.now) limits.heap limits.depth a.items a.words a.zeros) }
     ensures entries { IfOk result (λ a. EntersFrames (source p.now) limits.heap limits.depth a.items a.words a.zeros) }
+    // The items are those that the program is defined to have.
+    ensures items { IfOk result (λ a. a.items ≡ program_code (source p.now) limits.heap limits.depth) }
+    ensures takes { IfOk result (λ a. TakesFrames (source p.now) limits.heap limits.depth a.items a.words a.zeros) }
     ensures own { IfOk result (λ a. AreOwn a.items) }
     ensures text { IfOk result (λ a. text_size a.items ≤ 2048 + 64 * (program_size (source p.now) + closures_in (source p.now).bodies)) }
     // What the bound of steps counts has no more than three units for each instruction.

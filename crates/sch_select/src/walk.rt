@@ -4,21 +4,20 @@ ghost use Rattle.std.specs.Prelude.{◌≡◌, ◌+◌, ◌++◌, ◌*◌, IfOk,
 ghost use Rattle.sch_asm.specs.declared.item.Item.{Item};
 ghost use Rattle.sch_frames.specs.declared.instruction.Instruction.TheVariants.{Copy, Load};
 ghost use Rattle.sch_frames.specs.SourceView.{codes_of, code_of};
-ghost use Rattle.sch_select.specs.Select.{body_code, instruction_code, kind_of};
+ghost use Rattle.sch_select.specs.Select.{body_code, instruction_code};
+ghost use Rattle.sch_own_routines.specs.ItemMarks.{kind_of};
 ghost use Rattle.sch_select.specs.Program.{count_code, entry_code, form_code, forms_code, labels_end, passed_code};
 
-use crate::addresses::{above, body_label, place_operand};
-use crate::calls::{call, check_count, tail_call};
-use crate::code::second;
-use crate::heap::group;
-use crate::operation::operation;
-use crate::rests::enter_rest;
 use sch_asm::{Item, MarkKind};
 use sch_control::{Entry, MarkKind as ControlMark, Operand};
 use sch_frames::{FrameBody, Instruction};
 use sch_insn::condition::E;
 use sch_insn::register::{R15, RAX, RCX};
 use sch_insn::{Arg, Insn};
+use sch_operations::{call, check_count, group, operation, tail_call};
+use sch_own_routines::addresses::{above, body_label, place_operand};
+use sch_own_routines::enter_rest;
+use sch_primitives::second;
 use sch_word::{List, Mem, Place};
 
 /// A mark of a body as a mark of an item.

@@ -1,5 +1,4 @@
 pub mod PartLists
-pub mod LastDraft
 pub mod Sketches
 pub mod SmallMeasures
 pub mod SmallSound

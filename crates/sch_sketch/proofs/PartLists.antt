@@ -6,7 +6,7 @@ use Rattle.sch_sketch.specs.declared.sketch.Sketch as code
 use Rattle.sch_sketch.specs.Sketch.{Sketches, and_sketch, no_sketch}
 use Rattle.sch_sketch.specs.Sketch as words
 use Rattle.sch_sketch.specs.SketchView.{sketch_of, sketches_of, ahead}
-use Rattle.sch_sketch.specs.Small.{texts}
+use Rattle.sch_sketch.specs.Small.{texts, two, three}
 
 pub ahead_more : (ks : List code.Sketch) (k : code.Sketch) (more : Sketches) → ahead (ks ++ k ∷ []) more ≡ ahead ks (and_sketch (sketch_of k) more)
 ahead_more [] k more = refl
@@ -16,11 +16,13 @@ pub ahead_none : (ks : List code.Sketch) → ahead ks no_sketch ≡ sketches_of 
 ahead_none [] = refl
 ahead_none (k ∷ ks) = ap (and_sketch (sketch_of k)) (ahead_none ks)
 
+-- what is left begins with the item at hand
+pub next_is : {A : Type 0} (items : List A) (i : ℕ) (a : A) → i < length items → a ≡ get_or items i a → drop i items ≡ a ∷ drop (suc i) items
+next_is items i a l e = drop-cons items i a l ∙ ap (λ b. b ∷ drop (suc i) items) (sym e)
+
 pub texts_next : (items : List Datum) (i : ℕ) (d : Datum) (ks ks' : List code.Sketch) (k : code.Sketch) → i < length items → d ≡ get_or items i d → ks' ≡ ks ++ k ∷ [] → sketch_of k ≡ words.text (tree_of d) →
     (more : Sketches) → ahead ks' (texts (data_of (drop (i + 1) items)) more) ≡ ahead ks (texts (data_of (drop i items)) more)
-texts_next items i d ks ks' k l e p v more =
-    let n = drop-cons items i d l ∙ ap (λ a. a ∷ drop (suc i) items) (sym e) in
-    rw (n, add-one, p, ahead_more, v) refl
+texts_next items i d ks ks' k l e p v more = rw (next_is items i d l e, add-one, p, ahead_more, v) refl
 
 pub made_all : (ks ks0 : List code.Sketch) (F : Sketches → Sketches) → ks0 ≡ [] → ((more : Sketches) → ahead ks more ≡ ahead ks0 (F more)) → sketches_of ks ≡ F no_sketch
 made_all ks ks0 F z h = sym (ahead_none ks) ∙ h no_sketch ∙ ap (λ l. ahead l (F no_sketch)) z
@@ -36,3 +38,10 @@ made_after ks ks' ks0 k F z e h = sym (ahead_none ks') ∙ (h no_sketch ∙ ap (
 
 pub pushed : (ks ks' : List code.Sketch) (k : code.Sketch) {p : words.Sketch} → ks' ≡ ks ++ k ∷ [] → sketch_of k ≡ p → (more : Sketches) → ahead ks' more ≡ ahead ks (and_sketch p more)
 pushed ks ks' k e v more = rw (e, ahead_more, v) refl
+
+pub made_two : (ks ks' ks0 : List code.Sketch) (a b : code.Sketch) → ks0 ≡ [] → ks ≡ ks0 ++ a ∷ [] → ks' ≡ ks ++ b ∷ [] → sketches_of ks' ≡ two (sketch_of a) (sketch_of b)
+made_two ks ks' ks0 a b z e f = rw (f, e, z) refl
+
+pub made_three : (ks ks' ks'' ks0 : List code.Sketch) (a b c : code.Sketch) → ks0 ≡ [] → ks ≡ ks0 ++ a ∷ [] → ks' ≡ ks ++ b ∷ [] → ks'' ≡ ks' ++ c ∷ [] →
+    sketches_of ks'' ≡ three (sketch_of a) (sketch_of b) (sketch_of c)
+made_three ks ks' ks'' ks0 a b c z e f g = rw (g, f, e, z) refl

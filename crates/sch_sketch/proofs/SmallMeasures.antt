@@ -1,5 +1,5 @@
 -- How much of a text is in small sketches.
-use Rattle.std.proofs.Common.{◌≡◌, ◌≤◌, ◌<◌, ◌+◌, ◌*◌, ℕ, zero, suc, Bool, true, false, cond, length, refl, arith}
+use Rattle.std.proofs.Common.{◌≡◌, ◌≤◌, ◌<◌, ◌+◌, ◌*◌, ℕ, zero, suc, Bool, true, false, cond, arith}
 use Rattle.sch_read.specs.Grammar.{Atom, Datum, Data, atom, list, dotted, vector, none, cons, boolean, integer, character, symbol as symbol_atom}
 use Rattle.sch_read.specs.Grammar as grammar
 use Rattle.sch_read.specs.Parts.{how_many}
@@ -9,7 +9,7 @@ use Rattle.sch_sketch.specs.declared.sketch.Position.TheVariants.{Value, Test}
 use Rattle.sch_sketch.specs.Draft.{Draft, constant, symbol, literal, local, global, set_local, set_global, define, branch, sequence, bind, letrec, lambda, call, operation}
 use Rattle.sch_sketch.specs.Measure.{datum_measure, data_measure, literal_size, literal_sizes, leaf_measure, sketch_measure, sketches_measure}
 use Rattle.sch_sketch.specs.Sketch.{Sketch, Sketches, but_one}
-use Rattle.sch_sketch.specs.Small.{texts, fresh_each, quoted, either_of}
+use Rattle.sch_sketch.specs.Small.{texts, quoted, either_of}
 
 pub choice : (b : Bool) (k k' : Sketch) (r : ℕ) → sketch_measure k < r → sketch_measure k' < r → sketch_measure (cond b k k') < r
 choice true k k' r h h' = h
@@ -57,10 +57,6 @@ quoted_below at (vector q xs) = literal_below (vector q xs)
 pub texts_measure : (xs : Data) (ks : Sketches) → sketches_measure (texts xs ks) + 8 * how_many xs ≡ data_measure xs + sketches_measure ks
 texts_measure none ks = omega arith
 texts_measure (cons d ds) ks = omega (arith, texts_measure ds ks)
-
-pub fresh_count : (xs : Data) → length (fresh_each xs) ≡ how_many xs
-fresh_count none = refl
-fresh_count (cons d ds) = omega (arith, fresh_count ds)
 
 pub one_less : (n : ℕ) → but_one n ≤ n
 one_less zero = omega arith

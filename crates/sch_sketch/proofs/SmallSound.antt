@@ -1,13 +1,13 @@
 -- Small sketches are sound where their parts are.
-use Rattle.std.proofs.Common.{◌≡◌, ◌<◌, ◌+◌, ℕ, suc, Bool, true, false, cond, List, [], ◌∷◌, length, Option, None, refl, ap, ◌∙◌, arith}
+use Rattle.std.proofs.Common.{◌≡◌, ◌<◌, ◌+◌, ℕ, zero, suc, Bool, true, false, cond, List, [], ◌∷◌, length, Option, Some, None, refl, ap, ◌∙◌, arith}
 use Rattle.sch_read.specs.Grammar.{Atom, Datum, Data, atom, list, dotted, vector, none, cons, boolean, integer, character, symbol as symbol_atom}
 use Rattle.sch_read.specs.Grammar as grammar
 use Rattle.sch_read.specs.Parts.{how_many}
-use Rattle.sch_names.specs.Scope.{Scope, onto}
+use Rattle.sch_names.specs.Scope.{Scope, onto, find, farther, is_named}
 use Rattle.sch_sketch.specs.declared.sketch.Position.{Position}
 use Rattle.sch_sketch.specs.declared.sketch.Position.TheVariants.{Value, Test}
 use Rattle.sch_sketch.specs.Draft.{Names}
-use Rattle.sch_sketch.specs.Sketch.{Kind, Sketch, Sketches, how_many_parts}
+use Rattle.sch_sketch.specs.Sketch.{Kind, Sketch, Sketches, node, and_sketch, calling, how_many_parts}
 use Rattle.sch_sketch.specs.Small.{texts, fresh_each, quoted, either_of}
 use Rattle.sch_sketch.specs.Soundness.{IsSound, AreSound}
 
@@ -15,12 +15,28 @@ pub onto_length : (vs : Names) (s : Scope) → length (onto vs s) ≡ length vs 
 onto_length [] s = omega arith
 onto_length (v ∷ vs) s = onto_length vs (v ∷ s) ∙ omega arith
 
+found_at : (b : Bool) (o : Option ℕ) (k m : ℕ) → cond b (Some zero) (farther o) ≡ Some k → ((j : ℕ) → o ≡ Some j → j < m) → k < suc m
+found_at true o k m e h = let f : zero ≡ k = cc in omega (arith, f)
+found_at false None k m e h = cc
+found_at false (Some j) k m e h = let f : suc j ≡ k = cc in omega (arith, f, h j refl)
+
+pub found : (s : Scope) (x : List ℕ) (k : ℕ) → find s x ≡ Some k → k < length s
+found [] x k e = cc
+found (v ∷ s) x k e = found_at (is_named x v) (find s x) k (length s) e (found s x)
+
 pub choice : (s : Scope) (b : Bool) (k k' : Sketch) → IsSound s k → IsSound s k' → IsSound s (cond b k k')
 choice s true k k' h h' = h
 choice s false k k' h h' = h'
 
+pub choice_by : (s : Scope) (b : Bool) (k k' : Sketch) → (b ≡ true → IsSound s k) → IsSound s k' → IsSound s (cond b k k')
+choice_by s true k k' h h' = h refl
+choice_by s false k k' h h' = h'
+
 pub near : (v : Option (List ℕ)) (s : Scope) → 0 < length (v ∷ s)
 near v s = omega arith
+
+pub call_sound : (s : Scope) (at : ℕ) (k : Sketch) (ks : Sketches) → IsSound s k → AreSound calling false s ks → IsSound s (node calling at (and_sketch k ks))
+call_sound s at k ks h g = (omega arith, (tt, (h, g)))
 
 pub quoted_sound : (s : Scope) (at : ℕ) (d : Datum) → IsSound s (quoted at d)
 quoted_sound s at (atom q (boolean b)) = refl

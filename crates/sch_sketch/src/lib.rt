@@ -5,7 +5,6 @@
 mod build;
 mod draft;
 mod fault;
-mod nodes;
 mod procedures;
 mod sketch;
 mod words;
@@ -16,7 +15,6 @@ pub use build::{
 };
 pub use draft::Draft;
 pub use fault::Fault;
-pub use nodes::{assemble, draft_of_leaf, enter, nothing, position_in, width};
 pub use procedures::are_procedures;
 pub use sketch::{Kind, Leaf, Position, Row, Sketch, Wrong};
 pub use words::{is_lambda, word};

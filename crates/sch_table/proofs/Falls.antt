@@ -14,7 +14,10 @@ use Rattle.sch_sketch.specs.Measure.{datum_measure, data_measure, row_measure, s
 use Rattle.sch_sketch.specs.Sketch.{no_sketch}
 use Rattle.sch_sketch.proofs.SmallMeasures.{texts_measure, quoted_atom_below}
 use Rattle.sch_choices.proofs.RowsFall.{combination_falls, chain_falls, join_falls, quote_falls, if_falls, begin_falls, and_falls, or_falls, cond_falls, clauses_fall, case_falls, cases_fall, tests_fall}
-use Rattle.sch_binders.proofs.RowsFall.{body_falls, lambda_falls, method_falls, let_falls, letrec_falls, let_star_falls, nest_falls, do_falls, set_falls}
+use Rattle.sch_definitions.proofs.RowsFall.{set_falls}
+use Rattle.sch_bodies.proofs.RowsFall.{body_falls, lambda_falls, method_falls}
+use Rattle.sch_binders.proofs.RowsFall.{let_falls, letrec_falls, let_star_falls, nest_falls}
+use Rattle.sch_loops.proofs.RowsFall.{do_falls}
 use Rattle.sch_table.specs.Outline.{row_form, outline, outline_name, call_of, outline_head, outline_datum}
 
 -- ## Data

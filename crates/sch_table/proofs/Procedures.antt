@@ -15,8 +15,8 @@ use Rattle.sch_sketch.specs.declared.sketch.Row.TheVariants.{Form, Body, Method,
 use Rattle.sch_sketch.specs.FreeWords.{unless_bound, is_lambda_word, is_lambda}
 use Rattle.sch_sketch.specs.Sketch.{Sketch}
 use Rattle.sch_sketch.specs.Soundness.{is_procedure_row, is_procedure}
-use Rattle.sch_binders.specs.Bodies.{is_body, procedure, row_lambda, method, row_method}
-use Rattle.sch_binders.specs.Formals.{formals, are_formals, listed, tail_of}
+use Rattle.sch_bodies.specs.Bodies.{is_body, procedure, row_lambda, method, row_method}
+use Rattle.sch_definitions.specs.Formals.{formals, are_formals, listed, tail_of}
 use Rattle.sch_table.specs.Outline.{outline, outline_head, outline_datum}
 
 head_procedure : (v : Option ℕ) (own : Bool) (w : Option Keyword) (o : Option Operation) (s : Scope) (at q : ℕ) (x : List ℕ) (xs : Data) →

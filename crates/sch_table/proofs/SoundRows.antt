@@ -13,9 +13,12 @@ use Rattle.sch_sketch.specs.declared.sketch.Row.{Row}
 use Rattle.sch_sketch.specs.declared.sketch.Row.TheVariants.{Form, Body, Method, Nest, Clauses, Cases, Tests, Chain, Join}
 use Rattle.sch_sketch.specs.Sketch.{no_sketch, calling}
 use Rattle.sch_sketch.specs.Soundness.{IsSound, IsSoundRest}
-use Rattle.sch_sketch.proofs.SmallSound.{quoted_sound, texts_sound}
+use Rattle.sch_sketch.proofs.SmallSound.{found, quoted_sound, texts_sound}
 use Rattle.sch_choices.proofs.SoundRows.{combination_sound, chain_sound, join_sound, quote_sound, if_sound, begin_sound, and_sound, or_sound, cond_sound, clauses_sound, case_sound, cases_sound, tests_sound}
-use Rattle.sch_binders.proofs.SoundRows.{found, body_sound, lambda_sound, method_sound, let_sound, letrec_sound, let_star_sound, nest_sound, do_sound, set_sound}
+use Rattle.sch_definitions.proofs.SoundRows.{set_sound}
+use Rattle.sch_bodies.proofs.SoundRows.{body_sound, lambda_sound, method_sound}
+use Rattle.sch_binders.proofs.SoundRows.{let_sound, letrec_sound, let_star_sound, nest_sound}
+use Rattle.sch_loops.proofs.SoundRows.{do_sound}
 use Rattle.sch_table.specs.Outline.{row_form, outline, outline_name, call_of, outline_head, outline_datum}
 
 -- ## Data

@@ -16,10 +16,10 @@ use Rattle.sch_sketch.specs.Small.{texts, quoted}
 use Rattle.sch_choices.specs.Choices.{row_quote, row_begin, row_if, row_and, row_or, row_cond, row_clauses}
 use Rattle.sch_choices.specs.Cases.{row_case, row_cases, row_tests}
 use Rattle.sch_choices.specs.Combinations.{combination, row_chain, row_join}
-use Rattle.sch_binders.specs.Bodies.{row_body, row_lambda, row_method}
+use Rattle.sch_bodies.specs.Bodies.{row_body, row_lambda, row_method}
 use Rattle.sch_binders.specs.Binders.{row_let, row_let_star, row_letrec, row_nest}
-use Rattle.sch_binders.specs.Loops.{row_do}
-use Rattle.sch_binders.specs.Assignments.{row_set}
+use Rattle.sch_loops.specs.Loops.{row_do}
+use Rattle.sch_definitions.specs.Assignments.{row_set}
 
 module _ (globals : Globals) where
   -- The other keywords have no form here: a definition stands at the head of a body or at top level, and

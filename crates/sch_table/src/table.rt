@@ -13,13 +13,14 @@ ghost use Rattle.sch_names.specs.Words.{keyword_of};
 ghost use Rattle.sch_table.specs.Outline as table;
 ghost use Rattle.sch_sketch.specs.SketchView.{sketch_of};
 
-use sch_binders::{
-    row_body, row_do, row_lambda, row_let, row_let_star, row_letrec, row_method, row_nest, row_set,
-};
+use sch_binders::{row_let, row_let_star, row_letrec, row_nest};
+use sch_bodies::{row_body, row_lambda, row_method};
 use sch_choices::{
     combination, row_and, row_begin, row_case, row_cases, row_chain, row_clauses, row_cond, row_if,
     row_join, row_or, row_quote, row_tests,
 };
+use sch_definitions::row_set;
+use sch_loops::row_do;
 use sch_names::{Globals, Head, Keyword, Scope, head_of, keyword_of};
 use sch_read::Datum;
 use sch_sketch::{

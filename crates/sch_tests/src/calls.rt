@@ -162,10 +162,29 @@ fn the_depth_has_its_limit(rt: HostRuntime) -> Result<(), Fail> {
     let (status, printed) = run_at(rt.alloc(), "9", source)?;
     assert_eq!(rt; status, 72);
     assert_eq!(rt; printed.as_slice(), [].as_slice());
-    let looping = b"(define (loop i) (if (= i 0) (display 7) (loop (- i 1))))(loop 100)";
+    let looping = b"(define (loop i) (if (= i 0) (display 7) (loop (- i 1))))(loop 1000000)";
     let (status, printed) = run_at(rt.alloc(), "1", looping)?;
     assert_eq!(rt; status, 0);
     assert_eq!(rt; printed.as_slice(), b"7".as_slice());
+    Ok(())
+}
+
+// Without the option 100,000 calls are pending at the most.
+#[test]
+fn the_depth_has_its_default(rt: HostRuntime) -> Result<(), Fail> {
+    let rows: [(&[u8], u8, &[u8], &[u8]); 2] = [
+        (b"(display (d 99999))", 0, b"99999", b""),
+        (b"(display (d 100000))", 72, b"", b"stop 72: depth limit\n"),
+    ];
+    for (form, status, printed, said) in rows {
+        let mut source = Bytes::new(rt.alloc());
+        source.extend_from_slice(b"(define (d n) (if (= n 0) 0 (+ 1 (d (- n 1)))))")?;
+        source.extend_from_slice(form)?;
+        let ending = perform(rt.alloc(), &["run", "a"], source.as_slice(), &[])?;
+        assert_eq!(rt; ending.status, status);
+        assert_eq!(rt; ending.printed.as_slice(), printed);
+        assert_eq!(rt; ending.said.as_slice(), said);
+    }
     Ok(())
 }
 

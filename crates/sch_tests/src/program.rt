@@ -56,7 +56,7 @@ fn compile(alloc: Global, source: &[u8]) -> Result<Outcome, Fail> {
 
 #[test]
 fn texts_that_compile(rt: HostRuntime) -> Result<(), Fail> {
-    let texts: [&[u8]; 15] = [
+    let texts: [&[u8]; 17] = [
         b"",
         b" \t\n\r\x0c",
         b"; a comment",
@@ -66,6 +66,8 @@ fn texts_that_compile(rt: HostRuntime) -> Result<(), Fail> {
         b"(display -1152921504606846976)(display #\\space)",
         b"(display #t)(display #f)",
         b"(begin (newline))",
+        b"(begin)",
+        b"(lambda (if) if)",
         b"(define x 1)",
         b"(display 1)(display (+))1",
         b"(display '1)2 3",
@@ -84,7 +86,7 @@ fn texts_that_compile(rt: HostRuntime) -> Result<(), Fail> {
 
 #[test]
 fn texts_that_are_refused(rt: HostRuntime) -> Result<(), Fail> {
-    let rows: [(&[u8], u8, &[u8]); 11] = [
+    let rows: [(&[u8], u8, &[u8]); 19] = [
         (b"(display (list 1 2", 4, b"a: byte 9: unclosed\n"),
         (b"(display 1", 4, b"a: byte 0: unclosed\n"),
         (b")", 4, b"a: byte 0: stray close\n"),
@@ -93,6 +95,12 @@ fn texts_that_are_refused(rt: HostRuntime) -> Result<(), Fail> {
         (b"\"a\\q\"", 4, b"a: byte 2: bad string\n"),
         (b"(define if 1)", 5, b"a: byte 0: keyword defined\n"),
         (b"(if)", 5, b"a: byte 0: bad form\n"),
+        (b"()", 5, b"a: byte 0: bad form\n"),
+        (b"#(1)", 5, b"a: byte 0: bad form\n"),
+        (b"(quasiquote x)", 5, b"a: byte 0: bad form\n"),
+        (b"(+ 1 (begin))", 5, b"a: byte 5: bad form\n"),
+        (b"(lambda (x x) x)", 5, b"a: byte 0: bad form\n"),
+        (b"(let ((x 1) (x 2)) x)", 5, b"a: byte 0: bad form\n"),
         (b"(display 1) x", 6, b"a: byte 12: unbound x\n"),
         (
             b"(display 1152921504606846976)",
@@ -100,6 +108,8 @@ fn texts_that_are_refused(rt: HostRuntime) -> Result<(), Fail> {
             b"a: byte 9: limit literal\n",
         ),
         (b"(newlin)", 6, b"a: byte 1: unbound newlin\n"),
+        (b"(foo)", 6, b"a: byte 1: unbound foo\n"),
+        (b"(set! y 1)", 6, b"a: byte 6: unbound y\n"),
     ];
     for (source, status, said) in rows {
         let outcome = compile(rt.alloc(), source)?;
@@ -110,9 +120,9 @@ fn texts_that_are_refused(rt: HostRuntime) -> Result<(), Fail> {
     Ok(())
 }
 
-// A thousand levels of parentheses are the most, and 200 operands.
+// A thousand levels of parentheses are the most.
 #[test]
-fn texts_past_a_limit(rt: HostRuntime) -> Result<(), Fail> {
+fn texts_that_nest_too_deep(rt: HostRuntime) -> Result<(), Fail> {
     let mut deep = Vec::new(rt.alloc());
     for _ in 0..1001 {
         deep.push(b'(')?;
@@ -123,19 +133,36 @@ fn texts_past_a_limit(rt: HostRuntime) -> Result<(), Fail> {
         outcome.said.as_slice(),
         b"a: byte 1000: limit nesting\n".as_slice()
     );
-    let mut wide = Vec::new(rt.alloc());
-    wide.extend_from_slice(b"(+")?;
-    for _ in 0..201 {
-        wide.extend_from_slice(b" 1")?;
-    }
-    wide.push(b')')?;
-    let outcome = compile(rt.alloc(), wide.as_slice())?;
-    assert_eq!(rt; outcome.status, 7);
-    assert_eq!(rt;
-        outcome.said.as_slice(),
-        b"a: byte 0: limit operands\n".as_slice()
-    );
     Ok(())
+}
+
+// 200 operands are the most, of operations and of calls.
+#[test]
+fn forms_of_too_many_operands(rt: HostRuntime) -> Result<(), Fail> {
+    for name in ["+", "list"] {
+        let wide = of_ones(rt.alloc(), name, 200)?;
+        let outcome = compile(rt.alloc(), wide.as_slice())?;
+        assert_eq!(rt; outcome.status, 0);
+        let wider = of_ones(rt.alloc(), name, 201)?;
+        let outcome = compile(rt.alloc(), wider.as_slice())?;
+        assert_eq!(rt; outcome.status, 7);
+        assert_eq!(rt;
+            outcome.said.as_slice(),
+            b"a: byte 0: limit operands\n".as_slice()
+        );
+    }
+    Ok(())
+}
+
+// `(NAME 1 1 ..)`.
+fn of_ones(alloc: Global, name: &str, count: usize) -> Result<Vec<u8>, Fail> {
+    let mut form = Vec::from_slice(alloc, b"(")?;
+    form.extend_from_slice(name.as_bytes())?;
+    for _ in 0..count {
+        form.extend_from_slice(b" 1")?;
+    }
+    form.push(b')')?;
+    Ok(form)
 }
 
 // The places of the numbers are those of the ELF-64 header and program headers.

@@ -116,7 +116,7 @@ fn call_of(alloc: Global, operands: usize, tail: bool) -> Result<(Vec<u8>, Vec<u
 // 200 operands are the most that a call may have.
 #[test]
 fn in_calls_of_many_operands(rt: HostRuntime) -> Result<(), Fail> {
-    for operands in [7, 8, 199, 200] {
+    for operands in [6, 7, 8, 199, 200] {
         for tail in [false, true] {
             let (source, printed) = call_of(rt.alloc(), operands, tail)?;
             check_printed(rt.alloc(), source.as_slice(), printed.as_slice())?;

@@ -44,7 +44,7 @@ fn library_procedures_are_values(rt: HostRuntime) -> Result<(), Fail> {
 // library keeps its own.
 #[test]
 fn texts_have_names_of_the_library(rt: HostRuntime) -> Result<(), Fail> {
-    let rows: [(&[u8], &[u8]); 8] = [
+    let rows: [(&[u8], &[u8]); 9] = [
         (b"(define (display a) 1)(display 2)", b""),
         (b"(set! not (lambda (a) 7))(display (not 1))", b"7"),
         (
@@ -65,6 +65,10 @@ fn texts_have_names_of_the_library(rt: HostRuntime) -> Result<(), Fail> {
             b"\n",
         ),
         (b"(define car 5)(display car)", b"5"),
+        (
+            b"(lambda (x) (if #f (set! car x)))(display (car '(1)))(set! car (lambda (a) 7))(display (car '(1)))",
+            b"17",
+        ),
     ];
     for (source, printed) in rows {
         check_printed(rt.alloc(), source, printed)?;
@@ -92,6 +96,23 @@ fn run_at(alloc: Global, depth: &str, source: &[u8]) -> Result<(u8, Vec<u8>), Fa
     let words: [&str; 6] = ["run", "a", "--heap", "4096", "--depth", depth];
     let ending = perform(alloc, &words, source, &[])?;
     Ok((ending.status, ending.printed))
+}
+
+// An operation takes no depth. Where its name is assigned anywhere it is a global of the text, which is called.
+#[test]
+fn operations_are_no_calls(rt: HostRuntime) -> Result<(), Fail> {
+    let rows: [(&[u8], u8); 2] = [
+        (b"(define (f) (begin (car '(1)) 2))(f)", 0),
+        (
+            b"(lambda (x) (if #f (set! car x)))(define (f) (begin (car '(1)) 2))(f)",
+            72,
+        ),
+    ];
+    for (source, wanted) in rows {
+        let (status, _) = run_at(rt.alloc(), "1", source)?;
+        assert_eq!(rt; status, wanted);
+    }
+    Ok(())
 }
 
 // A call of a procedure of the library takes depth as any other, and the procedures take no heap: 4,096 bytes have

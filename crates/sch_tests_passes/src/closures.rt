@@ -10,9 +10,11 @@ ghost use Rattle.sch_lang.specs.View.{expression, expressions_of, lambdas_of};
 ghost use Rattle.sch_cells.specs.Bodies as bodies;
 ghost use Rattle.sch_cells.specs.ProgramView as view;
 
+use sch_anf::normalize;
 use sch_assign::convert_assign;
 use sch_cells::{Boxed, CellProgram, Exp as Cell, Unboxed};
 use sch_closure::close;
+use sch_control::ControlProgram;
 use sch_flat::{Body, Exp as Flat, FlatProgram, Variable};
 use sch_lang::{Exp, Lambda, Program};
 use sch_rename::rename;
@@ -126,6 +128,16 @@ fn closed_form(alloc: Global, form: Exp, sites: &[u32]) -> Result<FlatProgram, M
 {
     let p = converted_form(alloc, form, sites)?;
     close(alloc, &p)
+}
+
+// The same with simple operands.
+fn normalized_form(alloc: Global, form: Exp, sites: &[u32]) -> Result<ControlProgram, Mem>
+    requires valid { IsTrue (is_valid (program 0 sites.now (expression form ∷ []))) }
+    requires few { variables_bound (program 0 sites.now (expression form ∷ [])) < 2 ^ 30 }
+    requires bodies { length (bodies_of (program 0 sites.now (expression form ∷ []))) < 2 ^ 32 - 2 ^ 10 }
+{
+    let p = closed_form(alloc, form, sites)?;
+    normalize(alloc, &p)
 }
 
 // How many new cells an expression makes at its top.
@@ -260,5 +272,59 @@ fn a_free_variable_of_a_free_variable(rt: HostRuntime) -> Result<(), Fail> {
         _ => false,
     };
     assert!(rt; made);
+    Ok(())
+}
+
+// (lambda (x . y) (lambda () (lambda () x))): each procedure has its return address, its closure and its formals
+#[test]
+fn normalizes_procedures_in_procedures(rt: HostRuntime) -> Result<(), Fail> {
+    let alloc = rt.alloc();
+    let inner = lambda(alloc, 0, false, Exp::Local(1))?;
+    let middle = lambda(alloc, 0, false, inner)?;
+    let form = lambda(alloc, 2, true, middle)?;
+    let q = normalized_form(alloc, form, &[])?;
+    let has = match q.bodies.as_slice() {
+        [_, outer, middle, inner] => {
+            outer.variables == 4 && middle.variables == 2 && inner.variables == 2
+        }
+        _ => false,
+    };
+    assert!(rt; has);
+    Ok(())
+}
+
+// (lambda (x . y) (set! y x)): its cell is one variable more
+#[test]
+fn normalizes_a_rest_list_that_is_assigned(rt: HostRuntime) -> Result<(), Fail> {
+    let alloc = rt.alloc();
+    let body = set_local(alloc, 0, Exp::Local(1))?;
+    let form = lambda(alloc, 2, true, body)?;
+    let q = normalized_form(alloc, form, &[])?;
+    let variables = match q.bodies.as_slice() {
+        [_, procedure] => procedure.variables,
+        _ => 0,
+    };
+    assert_eq!(rt; variables, 5);
+    Ok(())
+}
+
+// (letrec ((x x)) x): a cell that holds nothing yet, its value, and what is read of it
+#[test]
+fn normalizes_an_init_that_reads_itself(rt: HostRuntime) -> Result<(), Fail> {
+    let alloc = rt.alloc();
+    let form = letrec(alloc, 0, Exp::Local(0), Exp::Local(0))?;
+    let q = normalized_form(alloc, form, &[1])?;
+    assert_eq!(rt; q.bodies.len(), 1usize);
+    Ok(())
+}
+
+// (letrec ((f (lambda () (letrec ((g (lambda () g))) f)))) f)
+#[test]
+fn normalizes_groups(rt: HostRuntime) -> Result<(), Fail> {
+    let alloc = rt.alloc();
+    let inner = fix(alloc, Exp::Local(0), Exp::Local(1))?;
+    let form = fix(alloc, inner, Exp::Local(0))?;
+    let q = normalized_form(alloc, form, &[])?;
+    assert_eq!(rt; q.bodies.len(), 3usize);
     Ok(())
 }

@@ -3,7 +3,8 @@
 ghost use Rattle.std.specs.Prelude.{◌≡◌, IfOk};
 
 use sch_control::{Atom, Body, ControlProgram, Exp, Operand, Operation};
-use sch_frames::{FrameProgram, frame_slots};
+use sch_frames::FrameProgram;
+use sch_slots::frame_slots;
 use sch_word::{Const, List, Mem, Prim, Statics};
 use std::alloc::Global;
 use std::test::Fail;

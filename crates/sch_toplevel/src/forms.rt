@@ -5,12 +5,12 @@ ghost use Rattle.sch_read.specs.Views.{tree_of, data_of};
 ghost use Rattle.sch_names.specs.Words.{keyword_of};
 ghost use Rattle.sch_names.specs.NamesView.{names_of};
 ghost use Rattle.sch_sketch.specs.SketchView.{sketch_of};
-ghost use Rattle.sch_binders.specs.Definitions.{is_define_word};
+ghost use Rattle.sch_definitions.specs.Definitions.{is_define_word};
 ghost use Rattle.sch_numbers.specs.Named.{firsts};
 ghost use Rattle.sch_toplevel.specs.Forms.{is_begin_word, forms_of, forms_in, form_sketch, defined_by, defined_by_each};
 ghost use Rattle.sch_toplevel.specs.Views.{trees_of};
 
-use sch_binders::row_define;
+use sch_definitions::row_define;
 use sch_names::{Keyword, Names, keyword_of};
 use sch_read::Datum;
 use sch_sketch::{Kind, Sketch, text};

@@ -11,13 +11,13 @@ use Rattle.sch_sketch.specs.declared.sketch.Position.{Position}
 use Rattle.sch_sketch.specs.declared.sketch.Row.{Row}
 use Rattle.sch_sketch.specs.declared.sketch.Row.TheVariants.{Form, Body, Method, Nest, Clauses, Cases, Tests, Chain, Join}
 use Rattle.sch_sketch.specs.Sketch.{Sketches, no_sketch}
-use Rattle.sch_binders.specs.Assignments.{assignment, row_set, definition, keyword_at, aimed_name, row_define}
+use Rattle.sch_definitions.specs.Assignments.{assignment, row_set, definition, keyword_at, aimed_name, row_define}
 use Rattle.sch_binders.specs.Bindings.{bound, inits, are_bindings}
-use Rattle.sch_binders.specs.Formals.{formals, are_formals, listed, tail_of}
-use Rattle.sch_binders.specs.Definitions.{is_definition, is_define_word, defined_name, defined_sketch, inits_in, inits_of_each}
-use Rattle.sch_binders.specs.Bodies.{body_inits, expressions, is_body, body, row_body, procedure, row_lambda, method, row_method}
+use Rattle.sch_definitions.specs.Formals.{formals, are_formals, listed, tail_of}
+use Rattle.sch_definitions.specs.Definitions.{is_definition, is_define_word, defined_name, defined_sketch, inits_in, inits_of_each}
+use Rattle.sch_bodies.specs.Bodies.{body_inits, expressions, is_body, body, row_body, procedure, row_lambda, method, row_method}
 use Rattle.sch_binders.specs.Binders.{is_binding_form, row_named, row_let, row_letrec, row_let_star, row_nest, starred}
-use Rattle.sch_binders.specs.Loops.{starts, steps, step, again, next_round, result, round, are_rounds, do_form, row_do}
+use Rattle.sch_loops.specs.Loops.{starts, steps, step, again, next_round, result, round, are_rounds, do_form, row_do}
 use Rattle.sch_table.specs.Outline.{row_form, outline, outline_name, call_of, outline_head, outline_datum}
 use Rattle.sch_validity.proofs.Notions.{Notion, AllGood, IsKept, IsFit, AreFit}
 use Rattle.sch_validity.proofs.FitSketches.{choice, texts_fits, quoted_fits, combination_fits, chain_fits, join_fits, quote_fits, if_fits, begin_fits, and_fits, or_fits, cond_fits, clauses_fits, case_fits, cases_fits, tests_fits}

@@ -8,7 +8,7 @@ use Rattle.sch_sketch.specs.Draft.{Drafts}
 use Rattle.sch_sketch.specs.Measure.{sketches_measure}
 use Rattle.sch_sketch.specs.Sketch.{sketches, sequencing}
 use Rattle.sch_sketch.specs.Soundness as soundness
-use Rattle.sch_binders.proofs.SoundRows.{define_sound}
+use Rattle.sch_definitions.proofs.SoundRows.{define_sound}
 use Rattle.sch_numbers.specs.Constants.{HaveConstants}
 use Rattle.sch_numbers.specs.Named.{own_global, library_global, global_of, globals_in_each}
 use Rattle.sch_numbers.specs.Programs.{Definition, names_of_each, program_of}

@@ -5,20 +5,15 @@ use Rattle.sch_word.specs.trees.BoundVariables.{formals_in}
 use Rattle.sch_lang.specs.Tree as tree
 use Rattle.sch_lang.specs.Tree.{Expression, Expressions, no_expressions, and_expression, count_lambdas}
 use Rattle.sch_lang.specs.Measures.{over, over_each, over_lambdas, node_and_bound, procedures}
-use Rattle.sch_read.specs.Grammar.{Datum, Data, atom, list, dotted, vector, none, cons, boolean, integer, character, symbol as symbol_atom}
-use Rattle.sch_read.specs.Grammar as grammar
 use Rattle.sch_names.specs.Scope.{Scope, Globals}
-use Rattle.sch_names.specs.declared.keyword.Keyword.{Keyword}
 use Rattle.sch_sketch.specs.declared.sketch.Position.{Position}
 use Rattle.sch_sketch.specs.Draft.{Names, Draft, Drafts, constant, symbol, literal, local, global, set_local, set_global, define, branch, sequence, bind, letrec, lambda, call, operation, no_drafts, and_draft, count}
-use Rattle.sch_sketch.specs.Measure.{data_measure, sketch_measure, sketches_measure}
+use Rattle.sch_sketch.specs.Measure.{sketch_measure, sketches_measure}
 use Rattle.sch_sketch.specs.Sketch.{Kind, choosing, sequencing, binding, recurring, abstracting, calling, operating, setting, setting_global, defining, Sketch, Sketches, front, last, first, but_first, assemble, bound_by}
 use Rattle.sch_sketch.specs.Soundness.{HasParts}
 use Rattle.sch_sketch.specs.Soundness as sketches
 use Rattle.sch_sketch.proofs.SmallMeasures.{leaf_some, datum_weighs, data_weigh}
-use Rattle.sch_binders.specs.Assignments as row
-use Rattle.sch_binders.specs.Assignments.{keyword_at, aimed_name}
-use Rattle.sch_binders.specs.Definitions.{defined_name, defined_sketch}
+use Rattle.sch_definitions.proofs.RowsFall.{define_falls}
 use Rattle.sch_table.proofs.SoundRows.{datum_sound, rest_sound}
 use Rattle.sch_table.proofs.Falls.{datum_falls, rest_falls}
 use Rattle.sch_expansion.specs.Expands.{Expands, PartsExpand}
@@ -141,24 +136,6 @@ module _ (globals : Globals) where
 
 -- ## Forms
 
-defined_measure : (at : ℕ) (xs : Data) → sketch_measure (defined_sketch at xs) ≤ data_measure xs + 4
-defined_measure at none = omega arith
-defined_measure at (cons (atom p (symbol_atom v)) none) = omega arith
-defined_measure at (cons (atom p (symbol_atom v)) (cons e none)) = omega arith
-defined_measure at (cons (atom p (symbol_atom v)) (cons e (cons d ds))) = omega arith
-defined_measure at (cons (atom p (boolean b)) es) = omega arith
-defined_measure at (cons (atom p (integer z)) es) = omega arith
-defined_measure at (cons (atom p (character c)) es) = omega arith
-defined_measure at (cons (atom p (grammar.text bs)) es) = omega arith
-defined_measure at (cons (list q fs) es) = omega arith
-defined_measure at (cons (dotted q fs f) es) = omega arith
-defined_measure at (cons (vector q fs) es) = omega arith
-
-definition_measure : (w : Option Keyword) (v : Option (List ℕ)) (at : ℕ) (xs : Data) → sketch_measure (row.definition w v at xs) ≤ data_measure xs + 5
-definition_measure (Some k) v at xs = omega arith
-definition_measure None (Some v) at xs = omega (arith, defined_measure at xs)
-definition_measure None None at xs = omega arith
-
 pub form_measure : (f : Form) → sketch_measure (sketch_of f) ≤ 16 * form_weight f
 form_measure (expression d) = omega (arith, datum_weighs d)
-form_measure (definition at xs) = omega (arith, definition_measure (keyword_at (aimed_name xs)) (defined_name xs) at xs, data_weigh xs)
+form_measure (definition at xs) = omega (arith, define_falls at xs, data_weigh xs)

@@ -8,8 +8,8 @@ use Rattle.sch_sketch.specs.declared.sketch.Position.TheVariants.{Value}
 use Rattle.sch_sketch.specs.declared.sketch.Row.TheVariants.{Method}
 use Rattle.sch_sketch.specs.Draft.{Drafts}
 use Rattle.sch_sketch.specs.Sketch.{Sketch, sketches, text, rest, sequencing}
-use Rattle.sch_binders.specs.Assignments.{row_define}
-use Rattle.sch_binders.specs.Definitions.{defined_name}
+use Rattle.sch_definitions.specs.Assignments.{row_define}
+use Rattle.sch_definitions.specs.Definitions.{defined_name}
 use Rattle.sch_expansion.specs.Expands.{Expands, PartsExpand}
 use Rattle.sch_numbers.specs.Programs.{Definition, names_of_each}
 use Rattle.sch_validity.specs.Library.{procedure_of, procedures_of_each}

@@ -11,8 +11,8 @@ use Rattle.sch_cells.specs.Clear.{ClearEach}
 use Rattle.sch_cells.specs.Measures as from
 use Rattle.sch_cells.specs.Measures.{shape}
 use Rattle.sch_cells.specs.Variables.{free}
-use Rattle.sch_control.specs.Weights as weights
-use Rattle.sch_control.specs.Weights.{all_entered, entered, free_of, procedures_weight, weight_of}
+use Rattle.sch_control.specs.NodeWeights as weights
+use Rattle.sch_control.specs.NodeWeights.{all_entered, entered, free_of, procedures_weight, weight_of}
 use Rattle.sch_flat.specs.Tree as flat
 use Rattle.sch_flat.specs.Measures as to
 use Rattle.sch_closure.specs.Closed as closing

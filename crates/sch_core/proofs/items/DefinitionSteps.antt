@@ -10,8 +10,8 @@ use Rattle.sch_sketch.specs.declared.draft.Draft as drafts
 use Rattle.sch_sketch.specs.Draft.{Draft}
 use Rattle.sch_sketch.specs.DraftView.{draft_of}
 use Rattle.sch_numbers.specs.Programs.{names_of_each}
-use Rattle.sch_numbering.specs.declared.definition.Definition as code
-use Rattle.sch_numbering.specs.Definitions.{definition_of, definitions_of}
+use Rattle.sch_keeping.specs.declared.definition.Definition as code
+use Rattle.sch_keeping.specs.Definitions.{definition_of, definitions_of}
 use Rattle.sch_validity.specs.Library.{procedure_of}
 use Rattle.sch_toplevel.specs.Items.{item_places}
 use Rattle.sch_toplevel.proofs.FormLists.{next}

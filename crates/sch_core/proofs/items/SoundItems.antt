@@ -10,7 +10,7 @@ use Rattle.sch_sketch.specs.declared.sketch.Position.TheVariants.{Value}
 use Rattle.sch_sketch.proofs.SmallMeasures.{data_weigh}
 use Rattle.sch_expansion.specs.Expands.{Expands}
 use Rattle.sch_numbers.specs.Programs.{Definition}
-use Rattle.sch_numbering.specs.Size.{size, size_of_definitions}
+use Rattle.sch_linking.specs.Size.{size, size_of_definitions}
 use Rattle.sch_validity.specs.Forms.{ItemExpands}
 use Rattle.sch_validity.specs.Library.{procedure_of, procedures_of_each, IsDefinition, AreDefinitions, AreOrdered}
 use Rattle.sch_validity.specs.Sizes.{AllQuotable, IsQuotable, statics_in, statics_in_each}

@@ -6,6 +6,8 @@ use Rattle.sch_lang.specs.Run.{run}
 use Rattle.sch_control.specs.ProgramView as control
 use Rattle.sch_prelude.specs.LibraryText.{library_text}
 use Rattle.sch_driver.specs.Causes.{IsErrorOf, Means, max_source_size}
+use Rattle.sch_driver.specs.FitsProgram.{FitsProgram}
+use Rattle.sch_driver.proofs.ProgramFits.{program_fits}
 use Rattle.sch_driver.proofs.Images.{bound_chain, frame_chain, kept_error, names_of_codes, too_large}
 use Rattle.sch_driver.proofs.compile.Goals as goal
 
@@ -31,19 +33,23 @@ returns-in_err-assembled-clause-refused c =
     let text = c.args.text.now in
     let depth = c.args.limits.depth in
     let cause = c.in_err-assembled.field-0.0 in
-    let control_ensures = c.in_ok-control.ensures in
+    let made = c.in_ok-control.ensures in
+    let fits : FitsProgram (source c.in_ok-program.program) (control.source c.in_ok-control.control) = program_fits (source c.in_ok-program.program) c.in_ok-control.control made.runs made.fits made.covered made.statics made.names made.each_variables made.calls made.tests made.dropped in
     let means = subst (λ l. Means l text (source c.in_ok-program.program)) c.library_text.ensures.is c.in_ok-program.ensures.means in
     kept_error c.from_residual-in_err-assembled.result cause (IsErrorOf library_text text depth) c.from_residual-in_err-assembled.ensures.1
     (too_large library_text text (source c.in_ok-program.program) (control.source c.in_ok-control.control) depth cause means
-    control_ensures.runs control_ensures.work control_ensures.variables c.in_err-assembled.ensures.refused)
+    fits made.work made.variables c.in_err-assembled.ensures.refused)
 
 pub returns-clause-compiled : goal.returns-clause-compiled
 returns-clause-compiled c =
     let p = source c.in_ok-program.program in
     let orders = c.in_ok-orders.orders in
     let runs = c.in_ok-control.ensures.runs in
+    let made = c.in_ok-control.ensures in
+    let fits : FitsProgram (source c.in_ok-program.program) (control.source c.in_ok-control.control) = program_fits (source c.in_ok-program.program) c.in_ok-control.control made.runs made.fits made.covered made.statics made.names made.each_variables made.calls made.tests made.dropped in
     let does = c.in_ok-assembled.ensures.does in
     let limits = c.args.limits in
+    let same = runs.same orders c.in_ok-orders.ensures.fits limits.heap limits.depth in
     record {
       program = p;
       means = subst (λ l. Means l c.args.text.now p) c.library_text.ensures.is c.in_ok-program.ensures.means;
@@ -52,7 +58,7 @@ returns-clause-compiled c =
         does = record {
           laid_out = does.laid_out;
           follows = record {
-            runs = does.follows (run p orders limits.heap limits.depth) (λ answers entries. runs.same orders c.in_ok-orders.ensures.fits limits.heap limits.depth answers entries);
+            runs = does.follows (run p orders limits.heap limits.depth) same;
             orders = subst (λ sites. IsTrue (is_order_table sites orders)) runs.sites c.in_ok-orders.ensures.permutations;
           };
         };
@@ -61,17 +67,20 @@ returns-clause-compiled c =
       };
       listed = record {
         program = control.source c.in_ok-control.control;
-        runs = runs;
+        fits_program = fits;
         given = c.in_ok-orders.ensures.orders;
-        fits = c.in_ok-orders.ensures.fits;
         words = does.frame.largest;
         marks = c.in_ok-assembled.ensures.marks;
       };
+      size = does.size;
       bound = bound_chain p (control.source c.in_ok-control.control) does.laid_out.code does.bound c.in_ok-control.ensures.work;
       names = c.in_ok-bodies.ensures ∙ ap (map (λ b. b.name)) c.as_slice.ensures ∙ names_of_codes _ ∙ c.in_ok-control.ensures.names;
       counted = does.counted;
+      words_end = does.words_end;
       room = does.room;
-      frame = frame_chain p (control.source c.in_ok-control.control) c.in_ok-assembled.assembled.frame_words runs does.frame c.in_ok-control.ensures.variables;
+      few_words = does.frame.few;
+      words_bound = (frame_chain p (control.source c.in_ok-control.control) c.in_ok-assembled.assembled.frame_words fits does.frame c.in_ok-control.ensures.variables).bound;
       fits = does.fits;
-      ends = does.ends (run p orders limits.heap limits.depth) (λ answers entries. runs.same orders c.in_ok-orders.ensures.fits limits.heap limits.depth answers entries);
+      ends = does.ends (run p orders limits.heap limits.depth) same;
+      marked = does.marked (run p orders limits.heap limits.depth) same;
     }

@@ -13,11 +13,11 @@ use Rattle.sch_control.specs.declared.operation.Operand.TheVariants as operand
 use Rattle.sch_control.specs.declared.operation.Operation.{Operation}
 use Rattle.sch_control.specs.declared.operation.Operation.TheVariants as does
 use Rattle.sch_control.specs.declared.operation.Application.{Application}
-use Rattle.sch_control.specs.Parts.{operand_atoms, source_atoms, member_atoms}
+use Rattle.sch_control.specs.AtomsAndSites.{operand_atoms, source_atoms, member_atoms}
 use Rattle.sch_control.specs.Sizes.{operand_size, operands_size, operation_size}
 use Rattle.sch_control.specs.Tree as to
 use Rattle.sch_control.specs.Tree.{Expression, Code}
-use Rattle.sch_control.specs.Weights.{weight_of, fields_of}
+use Rattle.sch_control.specs.NodeWeights.{weight_of, fields_of}
 use Rattle.sch_control.specs.Work.{codes_work, expression_work, operands_work}
 use Rattle.sch_normal.specs.Normal.{Scope, number_of, source_of, are_atoms, init_numbers, inits_bind, is_simple, simple_operand, atoms_of, binds, operand_binds, operands_bind, operand_at, operands_at, needs_variable, bound_unless, closure_of, members_of, numbers_for, cell_operation, cells_scope, finished, called, normal, normal_parts, with_operands, with_inits, with_new_cells, procedure_code, form_code, normal_bodies, normal_source}
 use Rattle.sch_normal.specs.Weight.{bodies_weight, weight}

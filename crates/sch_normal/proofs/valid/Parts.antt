@@ -26,7 +26,7 @@ use Rattle.sch_control.specs.declared.operation.Member.{Member}
 use Rattle.sch_control.specs.declared.operation.Operation.{Operation}
 use Rattle.sch_control.specs.declared.operation.Operation.TheVariants as does
 use Rattle.sch_control.specs.declared.operation.Application.{Application}
-use Rattle.sch_control.specs.Parts.{operand_atoms, operands_atoms, source_atom, source_atoms, member_atoms}
+use Rattle.sch_control.specs.AtomsAndSites.{operand_atoms, operands_atoms, source_atom, source_atoms, member_atoms}
 use Rattle.sch_control.specs.Tree as tree
 use Rattle.sch_control.specs.Tree.{Expression}
 use Rattle.sch_control.specs.Valid.{Tests, each_part, only_reads, operand_shaped, operands_shaped, closure_shaped, members_shaped, operation_shaped, application_shaped, group_shaped, source_field, closure_fields, operation_field, group_fields, Names, atom_known, enters, closure_known, members_known, atoms_known, operation_known, application_known, group_known}

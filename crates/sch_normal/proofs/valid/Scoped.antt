@@ -15,7 +15,7 @@ use Rattle.sch_control.specs.declared.operation.Operand.{Operand}
 use Rattle.sch_control.specs.declared.operation.Operand.TheVariants as op
 use Rattle.sch_control.specs.declared.operation.Operation.TheVariants as does
 use Rattle.sch_control.specs.declared.operation.Application.{Application}
-use Rattle.sch_control.specs.Parts.{operand_atoms, operands_atoms, source_atom, source_atoms, operation_atoms, application_atoms, member_atoms}
+use Rattle.sch_control.specs.AtomsAndSites.{operand_atoms, operands_atoms, source_atom, source_atoms, operation_atoms, application_atoms, member_atoms}
 use Rattle.sch_control.specs.Tree as tree
 use Rattle.sch_control.specs.Tree.{Expression}
 use Rattle.sch_control.specs.Valid.{with_variable, with_members, in_scope_atom, in_scope_atoms, in_scope}

@@ -10,7 +10,7 @@ use Rattle.sch_control.specs.declared.operation.Operand.TheVariants as op
 use Rattle.sch_control.specs.declared.operation.Operation.{Operation}
 use Rattle.sch_control.specs.declared.operation.Operation.TheVariants as does
 use Rattle.sch_control.specs.declared.operation.Application.{Application}
-use Rattle.sch_control.specs.Parts.{operand_sites, operands_sites, operation_sites, application_sites}
+use Rattle.sch_control.specs.AtomsAndSites.{operand_sites, operands_sites, operation_sites, application_sites}
 use Rattle.sch_control.specs.Tree as tree
 use Rattle.sch_control.specs.Tree.{Expression}
 use Rattle.sch_control.specs.Valid as to

@@ -84,3 +84,7 @@ returns-clause-each_variables c =
     let made = c.in_ok-flat.ensures in
     let order = flat_order f (cells.source c.in_ok-converted.converted) made.made made.bodies made.forms ∙ (c.in_ok-converted.ensures.bodies ∙ c.in_ok-renamed.ensures.bodies) in
     each_within f (control.source c.in_ok-control.control) (bodies_of (source c.args.p.now)) c.in_ok-control.ensures.variables order
+
+pub returns-clause-statics : goal.returns-clause-statics
+returns-clause-statics c =
+    c.in_ok-control.ensures.statics ∙ (c.in_ok-flat.ensures.statics ∙ (c.in_ok-converted.ensures.statics ∙ c.in_ok-renamed.ensures.statics))

@@ -24,12 +24,16 @@ use Rattle.sch_asm.specs.declared.item.Item.{Item}
 use Rattle.sch_asm.specs.declared.item.Item.TheVariants as item
 use Rattle.sch_asm.specs.declared.item.MarkKind.{MarkKind}
 use Rattle.sch_asm.specs.Stands.{Setting, Stands}
-use Rattle.sch_select.specs.Select.{stop_label, body_label, place_operand, source_code, check_cell, cell_operand}
-use Rattle.sch_select.specs.Select.{check_heap, part_code, part_operand, fields_code, record_code, closure_bytes}
-use Rattle.sch_select.specs.Select.{group_bytes, places_code, records_code, group_code, atom_code, unary_code}
-use Rattle.sch_select.specs.Select.{binary_code, read_code, operand_code, second_code, primitive_code}
-use Rattle.sch_select.specs.Select.{pair_or_binary, index_operand, three_code, ternary_code}
-use Rattle.sch_select.specs.Select.{operation_code, global_address, instruction_code, body_code}
+use Rattle.sch_own_routines.specs.Addresses.{stop_label, body_label, place_operand, part_operand, global_address}
+use Rattle.sch_operations.specs.CellCode.{source_code, check_cell, cell_operand}
+use Rattle.sch_primitives.specs.ObjectCode.{check_heap, part_code}
+use Rattle.sch_operations.specs.ClosureCode.{fields_code, record_code, closure_bytes, group_bytes, places_code}
+use Rattle.sch_operations.specs.ClosureCode.{records_code, group_code}
+use Rattle.sch_primitives.specs.OperandCode.{atom_code, unary_code, binary_code, read_code, operand_code, second_code}
+use Rattle.sch_primitives.specs.PrimitiveCode.{primitive_code, pair_or_binary, index_operand, three_code}
+use Rattle.sch_primitives.specs.PrimitiveCode.{ternary_code}
+use Rattle.sch_operations.specs.OperationCode.{operation_code}
+use Rattle.sch_select.specs.Select.{instruction_code, body_code}
 use Rattle.sch_heap.specs.Encoded.{unspecified_word, unset_word}
 use Rattle.std.specs.Prelude.{pos}
 
@@ -63,11 +67,11 @@ read_appends n which (a ∷ (b ∷ [])) rest = then_appends (atom_code 0 a)
     (then_appends (atom_code 1 b) (binary_code n which) (atom_appends 1 b) (binary_appends n which)) rest
 read_appends n which (a ∷ (b ∷ (c ∷ atoms))) rest = refl
 
-operand_appends : (n : ℕ) (o : Operand Place) → Appends (operand_code n o)
+pub operand_appends : (n : ℕ) (o : Operand Place) → Appends (operand_code n o)
 operand_appends n (operand.Atom a) rest = atom_appends 0 a rest
 operand_appends n (operand.Read site which atoms) rest = read_appends n which atoms rest
 
-second_appends : (n : ℕ) (o : Operand Place) → Appends (second_code n o)
+pub second_appends : (n : ℕ) (o : Operand Place) → Appends (second_code n o)
 second_appends n (operand.Atom a) rest = atom_appends 1 a rest
 second_appends n (operand.Read site which atoms) rest =
     ap (λ l. item.Plain (MovTo (Reg 11) 0) ∷ l) (then_appends (read_code n which atoms)
@@ -105,7 +109,7 @@ primitive_appends heap_end n which (a ∷ (b ∷ (c ∷ []))) rest = then_append
     (three_appends n a b c) (ternary_appends which) rest
 primitive_appends heap_end n which (a ∷ (b ∷ (c ∷ (d ∷ operands)))) rest = refl
 
-source_appends : (r : ℕ) (x : Source Place) → Appends (source_code r x)
+pub source_appends : (r : ℕ) (x : Source Place) → Appends (source_code r x)
 source_appends r (source.Atom a) rest = atom_appends r a rest
 source_appends r (source.Field p k) rest = refl
 

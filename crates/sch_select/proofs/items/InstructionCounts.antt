@@ -24,7 +24,7 @@ use Rattle.sch_control.specs.declared.operation.Source.TheVariants as source
 use Rattle.sch_control.specs.declared.operation.Member.{Member}
 use Rattle.sch_control.specs.declared.operation.Operation.{Operation}
 use Rattle.sch_control.specs.declared.operation.Operation.TheVariants as operation
-use Rattle.sch_control.specs.Parts.{operand_atoms, source_atoms, member_atoms}
+use Rattle.sch_control.specs.AtomsAndSites.{operand_atoms, source_atoms, member_atoms}
 use Rattle.sch_control.specs.Sizes.{operand_size, operands_size, operation_size}
 use Rattle.sch_control.specs.Valid.{only_reads}
 use Rattle.sch_frames.specs.declared.instruction.Instruction.{Instruction}
@@ -41,23 +41,25 @@ use Rattle.sch_asm.specs.declared.item.Item.{Item}
 use Rattle.sch_asm.specs.declared.item.Item.TheVariants as item
 use Rattle.sch_asm.specs.declared.item.MarkKind.TheVariants.{Enter}
 use Rattle.sch_select.proofs.items.RestItems.{count_keeps}
-use Rattle.sch_select.specs.Select.{place_operand, atom_code, unary_code, binary_code, read_code, operand_code}
-use Rattle.sch_select.specs.Select.{pair_or_binary, ternary_code, index_operand}
-use Rattle.sch_select.specs.Select.{second_code, primitive_code, operation_code, instruction_code, body_code}
-use Rattle.sch_select.specs.Select.{global_address, stop_label, body_label, source_code, check_cell, cell_operand}
-use Rattle.sch_select.specs.Select.{check_heap, part_code, part_operand, fields_code, closure_bytes, group_bytes}
-use Rattle.sch_select.specs.Select.{places_code, records_code, group_code}
+use Rattle.sch_own_routines.specs.Addresses.{place_operand, global_address, stop_label, body_label, part_operand}
+use Rattle.sch_primitives.specs.OperandCode.{atom_code, unary_code, binary_code, read_code, operand_code, second_code}
+use Rattle.sch_primitives.specs.PrimitiveCode.{pair_or_binary, ternary_code, index_operand, primitive_code}
+use Rattle.sch_operations.specs.OperationCode.{operation_code}
+use Rattle.sch_select.specs.Select.{instruction_code, body_code}
+use Rattle.sch_operations.specs.CellCode.{source_code, check_cell, cell_operand}
+use Rattle.sch_primitives.specs.ObjectCode.{check_heap, part_code}
+use Rattle.sch_operations.specs.ClosureCode.{fields_code, closure_bytes, group_bytes, places_code, records_code}
+use Rattle.sch_operations.specs.ClosureCode.{group_code}
 use Rattle.sch_select.specs.Program.{passed_code, entry_code, forms_code, labels_end, own_label, program_code}
-use Rattle.sch_select.specs.Data.{heap_of}
+use Rattle.sch_statics.specs.Data.{heap_of}
 use Rattle.sch_select.specs.Sizes.{instructions_in}
 use Rattle.sch_select.proofs.items.ProgramLabels.{last_code}
 use Rattle.sch_select.proofs.items.TextSize.{sources_counts}
-use Rattle.sch_select.proofs.programs.Selected.{atom_selected, read_selected, operand_selected, primitive_selected}
-use Rattle.sch_select.proofs.programs.Selected.{operation_selected, source_selected, instruction_selected}
-use Rattle.sch_select.proofs.programs.Selected.{three_selected, form_selected, selects, takes}
-
-impossible : {A : Type 0} → false ≡ true → A
-impossible e = absurd cc
+use Rattle.sch_select.proofs.items.Sound.{impossible}
+use Rattle.sch_primitives.proofs.simulation.Selected.{atom_selected, read_selected, operand_selected}
+use Rattle.sch_primitives.proofs.simulation.Selected.{primitive_selected, operation_selected, source_selected}
+use Rattle.sch_primitives.proofs.simulation.Selected.{instruction_selected, three_selected, form_selected, selects}
+use Rattle.sch_primitives.proofs.simulation.Selected.{takes}
 
 -- ## Atoms and primitives
 

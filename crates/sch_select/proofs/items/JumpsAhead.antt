@@ -4,6 +4,7 @@ use Rattle.std.proofs.Common.{◌∙◌, arith, ◌&&◌, ◌||◌}
 use Rattle.std.specs.Prelude.{nat_lt}
 use Rattle.std.specs.List.{list_all}
 use Rattle.std.proofs.lemmas.Bool.{and_parts, lt-ltb, ltb-true}
+use Rattle.std.proofs.Math.Bool.{or-true}
 use Rattle.sch_word.specs.declared.place.Place.{Place}
 use Rattle.sch_word.specs.declared.primitive.Primitive.{Primitive}
 use Rattle.sch_word.specs.declared.primitive.Primitive.TheVariants.{Eq, Eqv, IsBoolean, IsPair, IsNull, IsSymbol}
@@ -40,17 +41,21 @@ use Rattle.sch_asm.specs.declared.item.Item.TheVariants as item
 use Rattle.sch_asm.specs.declared.item.MarkKind.TheVariants.{Enter}
 use Rattle.sch_asm.specs.Items.{is_among, labels_in}
 use Rattle.sch_select.proofs.items.RestItems.{count_behind, count_ahead}
-use Rattle.sch_select.specs.Select.{first_label, body_label, atom_code, unary_code, binary_code, read_code}
-use Rattle.sch_select.specs.Select.{operand_code, second_code, source_code, fields_code, closure_bytes, places_code}
-use Rattle.sch_select.specs.Select.{pair_or_binary, ternary_code, index_operand, string_label, vector_label}
-use Rattle.sch_select.specs.Select.{record_code, records_code, operation_code, body_code}
-use Rattle.sch_select.specs.Program.{passed_code, entry_code, forms_code, labels_end, own_label, program_code, own_code}
-use Rattle.sch_select.specs.Data.{heap_of}
+use Rattle.sch_own_routines.specs.Addresses.{first_label, body_label, string_label, vector_label}
+use Rattle.sch_primitives.specs.OperandCode.{atom_code, unary_code, binary_code, read_code, operand_code, second_code}
+use Rattle.sch_operations.specs.CellCode.{source_code}
+use Rattle.sch_operations.specs.ClosureCode.{fields_code, closure_bytes, places_code, record_code, records_code}
+use Rattle.sch_primitives.specs.PrimitiveCode.{pair_or_binary, ternary_code, index_operand}
+use Rattle.sch_operations.specs.OperationCode.{operation_code}
+use Rattle.sch_select.specs.Select.{body_code}
+use Rattle.sch_select.specs.Program.{passed_code, entry_code, forms_code, labels_end, own_label, program_code}
+use Rattle.sch_own_routines.specs.OwnCode.{own_code}
+use Rattle.sch_statics.specs.Data.{heap_of}
 use Rattle.sch_select.specs.Jumps.{goes_ahead, jumps_ahead}
-use Rattle.sch_select.proofs.programs.Selected.{members_few, operation_few, labels_few}
-use Rattle.sch_select.proofs.items.ProgramSound.{in_front}
+use Rattle.sch_primitives.proofs.simulation.Selected.{members_few, operation_few, labels_few}
 use Rattle.sch_select.proofs.items.ProgramLabels.{body_labels, body_labelled}
-use Rattle.sch_select.proofs.items.ProgramKnown.{or_true, first_in, later_in, left_in, right_in, label_in}
+use Rattle.sch_select.proofs.items.ProgramKnown.{first_in, later_in, left_in, right_in, label_in}
+use Rattle.sch_select.proofs.items.Sound.{in_front}
 
 module _ (count : ℕ) where
   -- the own labels of bodies are behind those at which they begin
@@ -66,7 +71,7 @@ module _ (count : ℕ) where
 
   -- a label that stands behind
   near_to : (first l : ℕ) (t b : Bool) → t ≡ true → ((nat_lt l first || t) && b) ≡ b
-  near_to first l t b e = in_front (nat_lt l first || t) b (ap (λ t. nat_lt l first || t) e ∙ or_true (nat_lt l first))
+  near_to first l t b e = in_front (nat_lt l first || t) b (ap (λ t. nat_lt l first || t) e ∙ or-true (nat_lt l first))
 
   near : (l : ℕ) (t b : Bool) → t ≡ true → ((nat_lt l first_label || t) && b) ≡ b
   near = near_to first_label

@@ -2,7 +2,8 @@
 use Rattle.std.proofs.Common.{◌≡◌, ℕ, ◌+◌, ◌<◌, ◌≤◌, List, [], ◌∷◌, ◌++◌, Bool, true, false, cond, refl, sym, ap}
 use Rattle.std.proofs.Common.{◌∙◌, arith, append_assoc, ◌==◌, ◌||◌, eq-eqb}
 use Rattle.std.specs.Prelude.{nat_lt}
-use Rattle.std.proofs.lemmas.Bool.{ne_eqb, ltb-true, ltb-false}
+use Rattle.std.proofs.lemmas.Bool.{ne_eqb, ltb-true, ltb-false, or_parts}
+use Rattle.std.proofs.Math.Bool.{or-true}
 use Rattle.sch_word.specs.declared.place.Place.{Place}
 use Rattle.sch_word.specs.declared.primitive.Primitive.{Primitive}
 use Rattle.sch_word.specs.declared.primitive.Primitive.TheVariants.{Eq, Eqv, IsBoolean, IsPair, IsNull, IsSymbol}
@@ -22,9 +23,11 @@ use Rattle.sch_control.specs.declared.operation.Operation.TheVariants as operati
 use Rattle.sch_asm.specs.declared.item.Item.{Item}
 use Rattle.sch_asm.specs.Items.{is_among, labels_in}
 use Rattle.sch_asm.proofs.Tables.{repeats}
-use Rattle.sch_select.specs.Select.{atom_code, unary_code, binary_code, read_code, operand_code, second_code}
-use Rattle.sch_select.specs.Select.{source_code, fields_code, closure_bytes, places_code, records_code, group_code}
-use Rattle.sch_select.specs.Select.{operation_code, pair_or_binary, ternary_code, index_operand, three_code}
+use Rattle.sch_primitives.specs.OperandCode.{atom_code, unary_code, binary_code, read_code, operand_code, second_code}
+use Rattle.sch_operations.specs.CellCode.{source_code}
+use Rattle.sch_operations.specs.ClosureCode.{fields_code, closure_bytes, places_code, records_code, group_code}
+use Rattle.sch_operations.specs.OperationCode.{operation_code}
+use Rattle.sch_primitives.specs.PrimitiveCode.{pair_or_binary, ternary_code, index_operand, three_code}
 
 -- ---- lists whose elements are all different, in a range
 
@@ -36,14 +39,10 @@ pub record Block (low high : ℕ) (ls : List ℕ) : Type 0 where
 pub either_false : (a b : Bool) → a ≡ false → b ≡ false → (a || b) ≡ false
 either_false a b e f = ap (λ a. a || b) e ∙ f
 
-false_parts : (a b : Bool) → (a || b) ≡ false → (a ≡ false) × (b ≡ false)
-false_parts true b e = absurd (let bad : true ≡ false = e in cc)
-false_parts false b e = (refl, e)
-
 pub among_append : (xs ys : List ℕ) (y : ℕ) → is_among xs y ≡ false → is_among ys y ≡ false
     → is_among (xs ++ ys) y ≡ false
 among_append [] ys y e f = f
-among_append (x ∷ xs) ys y e f = let p = false_parts (x == y) (is_among xs y) e in either_false (x == y)
+among_append (x ∷ xs) ys y e f = let p = or_parts (x == y) (is_among xs y) e in either_false (x == y)
     (is_among (xs ++ ys) y) p.0 (among_append xs ys y p.1 f)
 
 -- elements of the first are in none of the second
@@ -54,7 +53,7 @@ Apart (x ∷ xs) ys = (is_among ys x ≡ false) × Apart xs ys
 pub distinct_append : (xs ys : List ℕ) → repeats xs ≡ false → repeats ys ≡ false → Apart xs ys
     → repeats (xs ++ ys) ≡ false
 distinct_append [] ys e f a = f
-distinct_append (x ∷ xs) ys e f a = let p = false_parts (is_among xs x) (repeats xs) e in either_false
+distinct_append (x ∷ xs) ys e f a = let p = or_parts (is_among xs x) (repeats xs) e in either_false
     (is_among (xs ++ ys) x) (repeats (xs ++ ys)) (among_append xs ys x p.0 a.0) (distinct_append xs ys p.1 f a.1)
 
 -- an element of a block is below its end
@@ -72,15 +71,11 @@ apart_blocks [] all ys middle sub above below = tt
 apart_blocks (x ∷ xs) all ys middle sub above below = (
   below x (inside 0 middle all above x (sub x (ap (λ b. b || is_among xs x) (same x)))),
   apart_blocks xs all ys
-      middle (λ y e. sub y (ap (λ b. (x == y) || b) e ∙ or_true (x == y))) above below,
+      middle (λ y e. sub y (ap (λ b. (x == y) || b) e ∙ or-true (x == y))) above below,
 )
   where
     same : (x : ℕ) → (x == x) ≡ true
     same x = eq-eqb x x refl
-
-    or_true : (b : Bool) → (b || true) ≡ true
-    or_true true = refl
-    or_true false = refl
 
 pub blocks : (a b c d : ℕ) (xs ys : List ℕ) → b ≤ c → a ≤ c → b ≤ d → Block a b xs → Block c d ys → Block a d (xs ++ ys)
 blocks a b c d xs ys le le' le'' p q = record {

@@ -22,12 +22,15 @@ use Rattle.sch_asm.specs.declared.item.Item.{Item}
 use Rattle.sch_asm.specs.declared.item.Item.TheVariants as item
 use Rattle.sch_asm.specs.declared.item.MarkKind.TheVariants.{Enter}
 use Rattle.sch_select.proofs.items.RestItems.{count_unmarked}
-use Rattle.sch_select.specs.Select.{atom_code, unary_code, binary_code, read_code, operand_code, second_code}
-use Rattle.sch_select.specs.Select.{source_code, fields_code, closure_bytes, places_code, records_code}
-use Rattle.sch_select.specs.Select.{pair_or_binary, ternary_code, index_operand}
-use Rattle.sch_select.specs.Select.{operation_code, instruction_code, body_code, kind_of}
+use Rattle.sch_primitives.specs.OperandCode.{atom_code, unary_code, binary_code, read_code, operand_code, second_code}
+use Rattle.sch_operations.specs.CellCode.{source_code}
+use Rattle.sch_operations.specs.ClosureCode.{fields_code, closure_bytes, places_code, records_code}
+use Rattle.sch_primitives.specs.PrimitiveCode.{pair_or_binary, ternary_code, index_operand}
+use Rattle.sch_operations.specs.OperationCode.{operation_code}
+use Rattle.sch_select.specs.Select.{instruction_code, body_code}
+use Rattle.sch_own_routines.specs.ItemMarks.{kind_of}
 use Rattle.sch_select.specs.Program.{passed_code, entry_code, forms_code, labels_end, own_label, program_code}
-use Rattle.sch_select.specs.Data.{heap_of}
+use Rattle.sch_statics.specs.Data.{heap_of}
 use Rattle.sch_select.specs.Sizes.{kinds_among, kinds_in, kinds_of}
 
 -- what comes in front of other items has no marks

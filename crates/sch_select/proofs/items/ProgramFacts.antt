@@ -5,38 +5,27 @@ use Rattle.std.specs.Prelude.{nat_le}
 use Rattle.std.specs.List.{list_all, AllByRecursion}
 use Rattle.std.proofs.lemmas.Bool.{and_parts, and_from, leb-true}
 use Rattle.std.proofs.lemmas.List.Elements.{All-from_recursion}
+use Rattle.std.proofs.Math.Bool.{or-true}
 use Rattle.sch_word.specs.values.Literals.{Literal, Literals, constant, text, list, elements, no_literals, and_literal}
 use Rattle.sch_word.specs.values.Literals.{count_literals, literal_size, literals_size, literals_known}
 use Rattle.sch_word.specs.runs.Runs.{max_statics, names_size, statics_size, statics_valid, statics_in_range, library_known}
-use Rattle.sch_frames.specs.declared.body.FrameBody.{FrameBody}
-use Rattle.sch_frames.specs.declared.program.FrameProgram.{FrameProgram}
+use Rattle.sch_frames.specs.declared.frame_body.FrameBody.{FrameBody}
+use Rattle.sch_frames.specs.declared.frame_program.FrameProgram.{FrameProgram}
 use Rattle.sch_frames.specs.ProgramView.{source}
 use Rattle.sch_frames.specs.SourceView.{codes_of}
 use Rattle.sch_frames.specs.Tree.{Source}
 use Rattle.sch_frames.specs.Valid.{forward, max_words}
 use Rattle.sch_asm.specs.declared.item.Item.{Item}
 use Rattle.sch_asm.specs.Items.{AreOwn, is_among, labels_in}
-use Rattle.sch_select.specs.Data.{heap_of, max_heap_address}
-use Rattle.sch_select.specs.Program.{laid_code, program_code, program_zeros, max_data, max_stack, own_label, stack_bytes}
+use Rattle.sch_statics.specs.Data.{heap_of, max_heap_address}
+use Rattle.sch_statics.proofs.StaticSizes.{literals_few, names_few}
+use Rattle.sch_select.specs.Program.{laid_code, program_code, program_zeros, max_data, max_stack, own_label}
+use Rattle.sch_select.specs.Program.{stack_bytes}
 use Rattle.sch_select.proofs.items.ProgramLabels.{labels_low, forms_labels, forms_labelled, last_code}
 
 pub words_few : (p : FrameProgram) → p.words ≤ 2048
 words_few p = leb-true p.words max_words (and_parts (nat_le p.words max_words)
     (list_all (λ c. nat_le c.words p.words) (codes_of p.bodies)) p.within).0
-
-literals_at_least : (ls : Literals) → count_literals ls ≤ literals_size ls
-literals_at_least no_literals = omega arith
-literals_at_least (and_literal l ls) = let h = literals_at_least ls in let k = literal_at_least l in omega (arith, h, k)
-  where
-    literal_at_least : (l : Literal) → 1 ≤ literal_size l
-    literal_at_least (constant c) = omega arith
-    literal_at_least (text bytes) = omega arith
-    literal_at_least (list ls tail) = omega arith
-    literal_at_least (elements ls) = omega arith
-
-names_at_least : (symbols : List (List ℕ)) → length symbols ≤ names_size symbols
-names_at_least [] = omega arith
-names_at_least (name ∷ names) = let h = names_at_least names in omega (arith, h)
 
 pub statics_small : (p : FrameProgram) → statics_size (source p).statics ≤ max_statics
 statics_small p =
@@ -50,13 +39,13 @@ pub statics_few : (p : FrameProgram)
 statics_few p =
     let s = (source p).statics in
     let small = statics_small p in
-    let l = literals_at_least s.literals in
+    let l = literals_few s.literals in
     omega (arith, small, l)
 
 pub symbols_few : (p : FrameProgram) → length (source p).statics.symbols ≤ 29360128
 symbols_few p =
     let small = statics_small p in
-    let n = names_at_least (source p).statics.symbols in
+    let n = names_few (source p).statics.symbols in
     omega (arith, small, n)
 
 pub all_forward : (bodies : List FrameBody) → list_all (λ c. forward c.labels c.instructions) (codes_of bodies) ≡ true
@@ -66,16 +55,12 @@ all_forward (b ∷ bodies) = and_from (forward b.labels b.instructions)
 
 -- ---- labels from 1,024 on
 
-or_true : (b : Bool) → (b || true) ≡ true
-or_true true = refl
-or_true false = refl
-
 each : (ls : List ℕ) (low : ℕ) → ((y : ℕ) → is_among ls y ≡ true → low ≤ y) → AllByRecursion (λ l. low ≤ l) ls
 each [] low h = tt
 each (l ∷ ls) low h = (
   h l (ap (λ b. b || is_among ls l) (eq-eqb l l refl)),
   each ls low
-      (λ y e. h y (ap (λ b. (l == y) || b) e ∙ or_true (l == y))),
+      (λ y e. h y (ap (λ b. (l == y) || b) e ∙ or-true (l == y))),
 )
 
 each_append : (xs ys : List ℕ) (low : ℕ) → AllByRecursion (λ l. low ≤ l) xs → AllByRecursion (λ l. low ≤ l) ys

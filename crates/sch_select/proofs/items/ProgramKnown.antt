@@ -5,6 +5,7 @@ use Rattle.std.specs.Prelude.{nat_eq, nat_lt, IsTrue}
 use Rattle.std.specs.List.{list_all, AllByRecursion}
 use Rattle.std.proofs.lemmas.Bool.{and_parts, and_from, eqb-true, ltb-true}
 use Rattle.std.proofs.lemmas.List.Elements.{All-from_recursion}
+use Rattle.std.proofs.Math.Bool.{or-true}
 use Rattle.sch_word.specs.values.Literals.{count_literals}
 use Rattle.sch_word.specs.trees.NumberSets.{has}
 use Rattle.sch_word.specs.declared.place.Place.{Place}
@@ -39,34 +40,33 @@ use Rattle.sch_asm.specs.declared.assembly.Word.TheVariants.{Fixed, Address}
 use Rattle.sch_asm.specs.declared.item.Item.{Item}
 use Rattle.sch_asm.specs.declared.item.Item.TheVariants as item
 use Rattle.sch_asm.specs.Items.{AreKnown, is_among, is_routine, labels_in, uses_in, word_uses}
-use Rattle.sch_select.specs.Program.{count_code}
-use Rattle.sch_select.specs.RestCode.{list_code, list_label}
+use Rattle.sch_select.specs.Program.{count_code, passed_code, entry_code, form_code, forms_code, labels_end}
+use Rattle.sch_select.specs.Program.{own_label, program_code}
+use Rattle.sch_own_routines.specs.RestCode.{list_code, list_label}
 use Rattle.sch_select.proofs.items.RestItems.{count_labels}
-use Rattle.sch_select.specs.Select.{pair_or_binary, ternary_code, index_operand, vector_label, string_label}
-use Rattle.sch_select.specs.Select.{put_label, body_label, source_code, fields_code, record_code, closure_bytes}
-use Rattle.sch_select.specs.Select.{places_code, records_code, atom_code, unary_code, binary_code, read_code}
-use Rattle.sch_select.specs.Select.{operand_code, second_code, operation_code, body_code}
-use Rattle.sch_select.specs.Program.{passed_code, entry_code, form_code, forms_code, labels_end, own_label}
-use Rattle.sch_select.specs.Program.{program_code}
-use Rattle.sch_select.specs.Data.{heap_of, names_of, closures_of, objects_unit, static_count, program_words, word_list}
-use Rattle.sch_select.specs.Data.{static_bytes, global_words, padding, closure_words}
-use Rattle.sch_select.specs.NameWords.{symbol_words}
+use Rattle.sch_primitives.specs.PrimitiveCode.{pair_or_binary, ternary_code, index_operand}
+use Rattle.sch_own_routines.specs.Addresses.{vector_label, string_label, put_label, body_label}
+use Rattle.sch_operations.specs.CellCode.{source_code}
+use Rattle.sch_operations.specs.ClosureCode.{fields_code, record_code, closure_bytes, places_code, records_code}
+use Rattle.sch_primitives.specs.OperandCode.{atom_code, unary_code, binary_code, read_code, operand_code, second_code}
+use Rattle.sch_operations.specs.OperationCode.{operation_code}
+use Rattle.sch_select.specs.Select.{body_code}
+use Rattle.sch_statics.specs.Data.{heap_of, names_of, closures_of, objects_unit, static_count, program_words}
+use Rattle.sch_statics.specs.Data.{word_list, global_words, padding, closure_words}
+use Rattle.sch_own_routines.specs.StaticBytes.{static_bytes}
+use Rattle.sch_statics.specs.NameWords.{symbol_words}
 use Rattle.sch_literals.specs.PlacedWords.{placed_values, placed_each}
-use Rattle.sch_select.proofs.programs.Selected.{members_few, operation_few, labels_few}
-use Rattle.sch_select.proofs.items.ProgramSound.{in_front}
+use Rattle.sch_primitives.proofs.simulation.Selected.{members_few, operation_few, labels_few}
 use Rattle.sch_select.proofs.items.Labels.{unary_labels, binary_labels, read_labels, operand_labels, operation_labels}
-use Rattle.sch_select.proofs.items.ProgramLabels.{inner_labels, entry_labels, body_labels, own_labels, form_labels, forms_labels, forms_labelled}
-use Rattle.sch_select.proofs.items.ProgramLabels.{last_code}
-
-pub or_true : (b : Bool) → (b || true) ≡ true
-or_true true = refl
-or_true false = refl
+use Rattle.sch_select.proofs.items.ProgramLabels.{inner_labels, entry_labels, body_labels, own_labels, form_labels}
+use Rattle.sch_select.proofs.items.ProgramLabels.{forms_labels, forms_labelled, last_code}
+use Rattle.sch_select.proofs.items.Sound.{in_front}
 
 pub first_in : (n : ℕ) (ls : List ℕ) → is_among (n ∷ ls) n ≡ true
 first_in n ls = ap (λ b. b || is_among ls n) (eq-eqb n n refl)
 
 pub later_in : (m n : ℕ) (ls : List ℕ) → is_among ls n ≡ true → is_among (m ∷ ls) n ≡ true
-later_in m n ls e = ap (λ b. (m == n) || b) e ∙ or_true (m == n)
+later_in m n ls e = ap (λ b. (m == n) || b) e ∙ or-true (m == n)
 
 pub left_in : (xs ys : List ℕ) (y : ℕ) → is_among xs y ≡ true → is_among (xs ++ ys) y ≡ true
 left_in [] ys y e = absurd (let bad : false ≡ true = e in cc)
@@ -79,7 +79,7 @@ left_in (x ∷ xs) ys y e = by (x == y) e (left_in xs ys y)
 
 pub right_in : (xs ys : List ℕ) (y : ℕ) → is_among ys y ≡ true → is_among (xs ++ ys) y ≡ true
 right_in [] ys y e = e
-right_in (x ∷ xs) ys y e = ap (λ b. (x == y) || b) (right_in xs ys y e) ∙ or_true (x == y)
+right_in (x ∷ xs) ys y e = ap (λ b. (x == y) || b) (right_in xs ys y e) ∙ or-true (x == y)
 
 -- a label that stands in a body
 pub label_in : (base n l : ℕ) (instructions : List Instruction) → has l (frames.labels_in instructions) ≡ true
@@ -127,7 +127,7 @@ module _ (all : List ℕ) where
   among_right xs ys h y e = h y (right_in xs ys y e)
 
   is_known : (l : ℕ) → is_among all l ≡ true → known l ≡ true
-  is_known l e = ap (λ b. is_routine l || b) e ∙ or_true (is_routine l)
+  is_known l e = ap (λ b. is_routine l || b) e ∙ or-true (is_routine l)
 
   abbrev Uses : (List Item → List Item) → Type 0
   Uses f = (rest : List Item) → list_all known (uses_in (f rest)) ≡ list_all known (uses_in rest)

@@ -5,6 +5,7 @@ use Rattle.std.proofs.Common.{eq-eqb}
 use Rattle.std.specs.Prelude.{not, nat_eq, nat_lt}
 use Rattle.std.specs.List.{list_all}
 use Rattle.std.proofs.lemmas.Bool.{and_parts, ne_eqb, ltb-true, ltb-false, eqb-true}
+use Rattle.std.proofs.Math.Bool.{or-true}
 use Rattle.sch_word.specs.values.Literals.{count_literals}
 use Rattle.sch_word.specs.trees.NumberSets.{has}
 use Rattle.sch_control.specs.Valid.{without_repeats}
@@ -23,10 +24,12 @@ use Rattle.sch_asm.specs.Routines.{label_of}
 use Rattle.sch_asm.specs.Items.{IsEachOnce, is_among, labels_in}
 use Rattle.sch_asm.proofs.Tables.{each_once, repeats}
 use Rattle.sch_select.proofs.items.RestItems.{count_labels, count_labelled}
-use Rattle.sch_select.specs.Select.{body_label, instruction_code, body_code}
+use Rattle.sch_own_routines.specs.Addresses.{body_label}
+use Rattle.sch_select.specs.Select.{instruction_code, body_code}
 use Rattle.sch_select.specs.Program.{passed_code, entry_code, form_code, forms_code, labels_end, own_label}
-use Rattle.sch_select.specs.Program.{own_code, program_code}
-use Rattle.sch_select.specs.Data.{heap_of}
+use Rattle.sch_select.specs.Program.{program_code}
+use Rattle.sch_own_routines.specs.OwnCode.{own_code}
+use Rattle.sch_statics.specs.Data.{heap_of}
 use Rattle.sch_select.proofs.items.Labels.{one_label, Block, Apart, Labelled, among_append, either_false}
 use Rattle.sch_select.proofs.items.Labels.{distinct_append, operand_labels, second_labelled, operand_block}
 use Rattle.sch_select.proofs.items.Labels.{group_labelled, operation_labels, operation_labelled, operation_block}
@@ -37,12 +40,8 @@ apart_by [] ys h = tt
 apart_by (x ∷ xs) ys h = (
   h x (ap (λ b. b || is_among xs x) (eq-eqb x x refl)),
   apart_by xs ys
-      (λ y e. h y (ap (λ b. (x == y) || b) e ∙ or_true (x == y))),
+      (λ y e. h y (ap (λ b. (x == y) || b) e ∙ or-true (x == y))),
 )
-  where
-    or_true : (b : Bool) → (b || true) ≡ true
-    or_true true = refl
-    or_true false = refl
 
 -- an element of a block is in its range
 pub low_end : {a b : ℕ} {ls : List ℕ} → Block a b ls → (y : ℕ) → is_among ls y ≡ true → a ≤ y
@@ -97,11 +96,7 @@ module _ (base : ℕ) where
       (is_among (body_labels (n + 12) instructions) y) (ne_eqb (base + l) y
       (λ e. h l (ap (λ b. b || has l (frames.labels_in instructions)) (eq-eqb l l refl)) (sym e)))
       (absent y (n + 12) instructions (omega (arith, lt))
-      (λ k e. h k (ap (λ b. nat_eq k l || b) e ∙ or_true (nat_eq k l))))
-    where
-      or_true : (b : Bool) → (b || true) ≡ true
-      or_true true = refl
-      or_true false = refl
+      (λ k e. h k (ap (λ b. nat_eq k l || b) e ∙ or-true (nat_eq k l))))
   absent y n (Do o ∷ instructions) lt h = among_append (operation_labels n o) (body_labels (n + 12) instructions) y
       ((operation_block n o).below y lt) (absent y (n + 12) instructions (omega (arith, lt)) h)
   absent y n (Store q ∷ instructions) lt h = absent y (n + 12) instructions (omega (arith, lt)) h

@@ -32,22 +32,23 @@ use Rattle.sch_asm.specs.declared.item.Item.{Item}
 use Rattle.sch_asm.specs.declared.item.Item.TheVariants as item
 use Rattle.sch_asm.specs.Items.{marks_arrive}
 use Rattle.sch_select.proofs.items.RestItems.{count_quiet}
-use Rattle.sch_select.specs.Select.{pair_or_binary, ternary_code, index_operand}
-use Rattle.sch_select.specs.Select.{place_operand, atom_code, unary_code, binary_code, read_code}
-use Rattle.sch_select.specs.Select.{operand_code, second_code, source_code, fields_code, record_code, closure_bytes}
-use Rattle.sch_select.specs.Select.{places_code, records_code, operation_code, instruction_code, body_code}
+use Rattle.sch_primitives.specs.PrimitiveCode.{pair_or_binary, ternary_code, index_operand}
+use Rattle.sch_own_routines.specs.Addresses.{place_operand}
+use Rattle.sch_primitives.specs.OperandCode.{atom_code, unary_code, binary_code, read_code, operand_code, second_code}
+use Rattle.sch_operations.specs.CellCode.{source_code}
+use Rattle.sch_operations.specs.ClosureCode.{fields_code, record_code, closure_bytes, places_code, records_code}
+use Rattle.sch_operations.specs.OperationCode.{operation_code}
+use Rattle.sch_select.specs.Select.{instruction_code, body_code}
 use Rattle.sch_select.specs.Program.{passed_code, entry_code, forms_code, labels_end, program_code, own_label}
-use Rattle.sch_select.specs.Data.{heap_of}
+use Rattle.sch_statics.specs.Data.{heap_of}
 use Rattle.sch_select.proofs.items.ProgramLabels.{last_code}
-use Rattle.sch_select.proofs.items.ProgramSound.{in_front}
-use Rattle.sch_select.proofs.programs.Selected.{atom_selected, read_selected, operand_selected, source_selected}
-use Rattle.sch_select.proofs.programs.Selected.{closure_selected, members_selected, operation_selected}
-use Rattle.sch_select.proofs.programs.Selected.{three_selected, instruction_selected, form_selected, selects, takes}
+use Rattle.sch_select.proofs.items.Sound.{in_front, impossible}
+use Rattle.sch_primitives.proofs.simulation.Selected.{atom_selected, read_selected, operand_selected, source_selected}
+use Rattle.sch_primitives.proofs.simulation.Selected.{closure_selected, members_selected, operation_selected}
+use Rattle.sch_primitives.proofs.simulation.Selected.{three_selected, instruction_selected, form_selected, selects}
+use Rattle.sch_primitives.proofs.simulation.Selected.{takes}
 use Rattle.sch_frames.specs.Covered.{marks_settled}
 use Rattle.sch_control.specs.Valid.{only_reads}
-
-impossible : {A : Type 0} → false ≡ true → A
-impossible e = absurd cc
 
 module _ (words globals symbols literals heap_end : ℕ) where
   -- where nothing waits, nothing waits behind

@@ -40,25 +40,25 @@ use Rattle.sch_asm.specs.declared.item.Item.TheVariants as item
 use Rattle.sch_asm.specs.Items.{AreItems}
 use Rattle.sch_heap.specs.Encoded.{constant_number}
 use Rattle.sch_select.proofs.items.RestItems.{count_valid}
-use Rattle.sch_select.specs.Select.{atom_code, unary_code, binary_code, read_code, operand_code, second_code}
-use Rattle.sch_select.specs.Select.{source_code, check_heap, part_code, part_operand, fields_code, record_code}
-use Rattle.sch_select.specs.Select.{closure_bytes, group_bytes, places_code, records_code, group_code}
-use Rattle.sch_select.specs.Select.{operation_code, global_address, place_operand, instruction_code, body_code}
-use Rattle.sch_select.specs.Select.{pair_or_binary, ternary_code, index_operand, literal_address}
+use Rattle.sch_primitives.specs.OperandCode.{atom_code, unary_code, binary_code, read_code, operand_code, second_code}
+use Rattle.sch_operations.specs.CellCode.{source_code}
+use Rattle.sch_primitives.specs.ObjectCode.{check_heap, part_code}
+use Rattle.sch_own_routines.specs.Addresses.{part_operand, global_address, place_operand, literal_address}
+use Rattle.sch_operations.specs.ClosureCode.{fields_code, record_code, closure_bytes, group_bytes, places_code}
+use Rattle.sch_operations.specs.ClosureCode.{records_code, group_code}
+use Rattle.sch_operations.specs.OperationCode.{operation_code}
+use Rattle.sch_select.specs.Select.{instruction_code, body_code}
+use Rattle.sch_primitives.specs.PrimitiveCode.{pair_or_binary, ternary_code, index_operand}
 use Rattle.sch_select.specs.Program.{passed_code, entry_code, forms_code, labels_end, program_code, own_label}
-use Rattle.sch_select.specs.Data.{heap_of}
+use Rattle.sch_statics.specs.Data.{heap_of}
 use Rattle.sch_select.proofs.items.ProgramLabels.{last_code}
-use Rattle.sch_select.proofs.items.Sound.{items_valid, arg_valid, fits_32, fits_64, items_say}
-use Rattle.sch_select.proofs.programs.Selected.{atom_selected, read_selected, operand_selected, source_selected}
-use Rattle.sch_select.proofs.programs.Selected.{closure_selected, members_selected, operation_selected}
-use Rattle.sch_select.proofs.programs.Selected.{three_selected, instruction_selected, form_selected, selects, takes}
+use Rattle.sch_select.proofs.items.Sound.{items_valid, arg_valid, fits_32, fits_64, items_say, in_front, fits_short}
+use Rattle.sch_primitives.proofs.simulation.Selected.{atom_selected, read_selected, operand_selected, source_selected}
+use Rattle.sch_primitives.proofs.simulation.Selected.{closure_selected, members_selected, operation_selected}
+use Rattle.sch_primitives.proofs.simulation.Selected.{three_selected, instruction_selected, form_selected, selects}
+use Rattle.sch_primitives.proofs.simulation.Selected.{takes}
 use Rattle.sch_frames.specs.Covered.{marks_settled}
 use Rattle.sch_control.specs.Valid.{only_reads}
-
--- what is valid in front of what is
-pub in_front : (a b : Bool) → a ≡ true → (a && b) ≡ b
-in_front true b e = refl
-in_front false b e = absurd (let bad : false ≡ true = e in cc)
 
 fits_word : (n : ℤ) → negsuc 9223372036854775807 ≤ℤ n → n ≤ℤ pos 9223372036854775807 → fits_64 n ≡ true
 fits_word n a b = and_from (int_le (negsuc 9223372036854775807) n) (int_le n (pos 9223372036854775807))
@@ -70,9 +70,6 @@ fits_word n a b = and_from (int_le (negsuc 9223372036854775807) n) (int_le n (po
         by : (t : Bool) → int_le a b ≡ t → t ≡ true
         by true e = refl
         by false e = absurd (omega (arith, ints))
-
-fits_short : (n : ℕ) → n < 2147483648 → fits_32 (pos n) ≡ true
-fits_short n lt = le-leb n 2147483647 (omega (arith, lt))
 
 constant_fits : (symbols : ℕ) (c : Const) → symbols ≤ 29360128 → constant_known symbols c ≡ true → is_constant c ≡ true
     → fits_64 (constant_number c) ≡ true

@@ -3,6 +3,7 @@ use Rattle.std.proofs.Common.{◌≡◌, ℕ, ◌+◌, ◌-◌, ◌*◌, ◌<◌
 use Rattle.std.proofs.Common.{refl, ap, ◌∙◌, arith, ◌==◌, ◌&&◌, ◌||◌, eq-eqb}
 use Rattle.std.specs.Prelude.{pos, nat_lt}
 use Rattle.std.proofs.lemmas.Bool.{ltb-true, lt-ltb, le-leb}
+use Rattle.std.proofs.Math.Bool.{or-true}
 use Rattle.sch_insn.proofs.PrefixCode.{spelling_short}
 use Rattle.sch_insn.specs.declared.insn.Arg.TheVariants.{Reg}
 use Rattle.sch_insn.specs.declared.insn.Insn.TheVariants.{MovTo, AddNumber, SubNumber, CmpNumber}
@@ -12,10 +13,10 @@ use Rattle.sch_asm.specs.Codes.{text_size}
 use Rattle.sch_asm.specs.Items.{is_among, labels_in, marks_arrive}
 use Rattle.sch_select.specs.Jumps.{jumps_ahead, goes_ahead}
 use Rattle.sch_select.specs.Program.{count_code}
-use Rattle.sch_select.specs.RestCode.{list_code, list_label, check_enough}
-use Rattle.sch_select.specs.Select.{first_label}
+use Rattle.sch_own_routines.specs.RestCode.{list_code, list_label, check_enough}
+use Rattle.sch_own_routines.specs.Addresses.{first_label}
 use Rattle.sch_select.specs.Sizes.{instructions_in, kinds_in}
-use Rattle.sch_select.proofs.items.Sound.{items_valid, fits_32}
+use Rattle.sch_select.proofs.items.Sound.{items_valid, fits_32, in_front, fits_short}
 
 -- ---- marks: there are none
 
@@ -96,21 +97,14 @@ pub count_labelled : (b : Bool) (formals n : ℕ) (rest : List Item)
 count_labelled false formals n rest = refl
 count_labelled true formals n rest = list_labelled (nat_lt (formals - 1) 6) (formals - 1) n rest
 
-or_true : (b : Bool) → (b || true) ≡ true
-or_true true = refl
-or_true false = refl
-
 pub count_behind : (b : Bool) (formals n : ℕ) (rest : List Item) (l : ℕ) → is_among (labels_in rest) l ≡ true
     → is_among (labels_in (count_code b formals n rest)) l ≡ true
 count_behind false formals n rest l e = e
 count_behind true formals n rest l e =
     ap (λ ls. is_among ls l) (list_labelled (nat_lt (formals - 1) 6) (formals - 1) n rest)
-    ∙ ap (λ b. (n == l) || b) e ∙ or_true (n == l)
+    ∙ ap (λ b. (n == l) || b) e ∙ or-true (n == l)
 
 -- ---- jumps
-
-passes : (a b : Bool) → a ≡ true → (a && b) ≡ b
-passes a b e = ap (λ a. a && b) e
 
 -- the label of a list stands behind, and the routine's are below those of bodies
 list_ahead : (own : ℕ) (b : Bool) (required n : ℕ) → nat_lt required 6 ≡ b → (rest : List Item)
@@ -118,18 +112,18 @@ list_ahead : (own : ℕ) (b : Bool) (required n : ℕ) → nat_lt required 6 ≡
 list_ahead own b required n e rest = by b e
   where
     here : (first : ℕ) → (nat_lt n first || ((n == n) || is_among (labels_in rest) n)) ≡ true
-    here first = ap (λ t. nat_lt n first || (t || is_among (labels_in rest) n)) (eq-eqb n n refl) ∙ or_true (nat_lt n first)
+    here first = ap (λ t. nat_lt n first || (t || is_among (labels_in rest) n)) (eq-eqb n n refl) ∙ or-true (nat_lt n first)
 
     low : (m : ℕ) → m < 7 → goes_ahead first_label (list_label m) (item.Label n ∷ rest) ≡ true
     low m lt = ap (λ a. a || is_among (n ∷ labels_in rest) (list_label m))
         (lt-ltb (list_label m) first_label (omega (arith, lt)))
 
     by : (b : Bool) → nat_lt required 6 ≡ b → jumps_ahead own (list_code b required n rest) ≡ jumps_ahead own rest
-    by true e = let lt = ltb-true required 6 e in passes (goes_ahead own n (item.Label n ∷ rest)) _ (here own)
-        ∙ passes (goes_ahead first_label (list_label required) (item.Label n ∷ rest)) (jumps_ahead own rest)
+    by true e = let lt = ltb-true required 6 e in in_front (goes_ahead own n (item.Label n ∷ rest)) _ (here own)
+        ∙ in_front (goes_ahead first_label (list_label required) (item.Label n ∷ rest)) (jumps_ahead own rest)
         (low required (omega (arith, lt)))
-    by false e = passes (goes_ahead own n (item.Label n ∷ rest)) _ (here own)
-        ∙ passes (goes_ahead first_label (list_label 6) (item.Label n ∷ rest)) (jumps_ahead own rest)
+    by false e = in_front (goes_ahead own n (item.Label n ∷ rest)) _ (here own)
+        ∙ in_front (goes_ahead first_label (list_label 6) (item.Label n ∷ rest)) (jumps_ahead own rest)
         (low 6 (omega arith))
 
 pub count_ahead : (own : ℕ) (b : Bool) (formals n : ℕ) (rest : List Item)
@@ -139,20 +133,17 @@ count_ahead own true formals n rest = list_ahead own (nat_lt (formals - 1) 6) (f
 
 -- ---- immediates
 
-fits_short : (n : ℕ) → n < 2147483648 → fits_32 (pos n) ≡ true
-fits_short n lt = le-leb n 2147483647 (omega (arith, lt))
-
 list_valid : (b : Bool) (required n : ℕ) → required ≤ 200 → (rest : List Item)
     → items_valid (list_code b required n rest) ≡ items_valid rest
 list_valid true required n le rest = refl
-list_valid false required n le rest = passes (fits_32 (pos (8 * (required - 6)))) (items_valid rest)
+list_valid false required n le rest = in_front (fits_32 (pos (8 * (required - 6)))) (items_valid rest)
     (fits_short (8 * (required - 6)) (omega (arith, le)))
 
 pub count_valid : (b : Bool) (formals n : ℕ) → formals ≤ 200 → (rest : List Item)
     → items_valid (count_code b formals n rest) ≡ items_valid rest
-count_valid false formals n le rest = passes (fits_32 (pos formals)) (items_valid rest)
+count_valid false formals n le rest = in_front (fits_32 (pos formals)) (items_valid rest)
     (fits_short formals (omega (arith, le)))
 count_valid true formals n le rest =
     let ok = fits_short (formals - 1) (omega (arith, le)) in
-    passes (fits_32 (pos (formals - 1))) _ ok ∙ passes (fits_32 (pos (formals - 1))) _ ok
+    in_front (fits_32 (pos (formals - 1))) _ ok ∙ in_front (fits_32 (pos (formals - 1))) _ ok
     ∙ list_valid (nat_lt (formals - 1) 6) (formals - 1) n (omega (arith, le)) rest

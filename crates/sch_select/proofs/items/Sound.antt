@@ -2,7 +2,7 @@
 use Rattle.std.proofs.Common.{◌≡◌, ◌≢◌, ℕ, ◌<◌, ◌≤◌, List, [], ◌∷◌, Bool, true, false, refl, arith, ◌==◌, ◌&&◌}
 use Rattle.std.specs.Int.{w32, w64}
 use Rattle.std.specs.Prelude.{ℤ, pos, negsuc, int_le, not, nat_lt, nat_le, FitsSigned}
-use Rattle.std.proofs.lemmas.Bool.{and_parts, ltb-true, leb-true, eqb-false}
+use Rattle.std.proofs.lemmas.Bool.{and_parts, ltb-true, leb-true, eqb-false, le-leb}
 use Rattle.sch_insn.specs.declared.insn.Arg.{Arg}
 use Rattle.sch_insn.specs.declared.insn.Arg.TheVariants.{Reg, Base, Base32, Rip}
 use Rattle.sch_insn.specs.declared.insn.Insn.{Insn}
@@ -12,10 +12,24 @@ use Rattle.sch_asm.specs.declared.item.Item.{Item}
 use Rattle.sch_asm.specs.declared.item.Item.TheVariants as item
 use Rattle.sch_asm.specs.Items.{AreItems, IsItem, IsFree, IsPlain}
 
+-- ---- booleans
+
+-- a test that holds may stand in front
+pub in_front : (a b : Bool) → a ≡ true → (a && b) ≡ b
+in_front true b e = refl
+in_front false b e = absurd (let bad : false ≡ true = e in cc)
+
+-- whatever follows from what cannot be
+pub impossible : {A : Type 0} → false ≡ true → A
+impossible e = absurd cc
+
 -- ---- a test of items that do not depend on where they stand
 
 abbrev pub fits_32 : ℤ → Bool
 fits_32 n = int_le (negsuc 2147483647) n && int_le n (pos 2147483647)
+
+pub fits_short : (n : ℕ) → n < 2147483648 → fits_32 (pos n) ≡ true
+fits_short n lt = le-leb n 2147483647 (omega (arith, lt))
 
 abbrev pub fits_64 : ℤ → Bool
 fits_64 n = int_le (negsuc 9223372036854775807) n && int_le n (pos 9223372036854775807)

@@ -17,7 +17,7 @@ use Rattle.sch_control.specs.declared.operation.Source.{Source}
 use Rattle.sch_control.specs.declared.operation.Source.TheVariants as source
 use Rattle.sch_control.specs.declared.operation.Closure.{Closure}
 use Rattle.sch_control.specs.declared.operation.Member.{Member}
-use Rattle.sch_control.specs.Parts.{operand_atoms, source_atoms, member_atoms}
+use Rattle.sch_control.specs.AtomsAndSites.{operand_atoms, source_atoms, member_atoms}
 use Rattle.sch_control.specs.declared.operation.Operation.{Operation}
 use Rattle.sch_control.specs.declared.operation.Operation.TheVariants as operation
 use Rattle.sch_frames.specs.declared.instruction.Instruction.{Instruction}
@@ -37,15 +37,18 @@ use Rattle.sch_asm.specs.declared.item.Item.TheVariants as item
 use Rattle.sch_asm.specs.Codes.{text_size}
 use Rattle.sch_heap.specs.Encoded.{constant_number}
 use Rattle.sch_select.proofs.items.RestItems.{count_adds}
-use Rattle.sch_select.specs.Select.{place_operand, atom_code, unary_code, binary_code, read_code, operand_code}
-use Rattle.sch_select.specs.Select.{second_code, primitive_code, operation_code, instruction_code, body_code}
-use Rattle.sch_select.specs.Select.{global_address, stop_label, body_label, source_code, check_cell}
-use Rattle.sch_select.specs.Select.{cell_operand, check_heap, part_code, part_operand, fields_code, record_code}
-use Rattle.sch_select.specs.Select.{closure_bytes, group_bytes, places_code, records_code, group_code, check_depth}
-use Rattle.sch_select.specs.Select.{pair_or_binary, ternary_code, index_operand}
-use Rattle.sch_select.specs.Select.{check_operator, enter_code, call_code, tail_code}
+use Rattle.sch_own_routines.specs.Addresses.{place_operand, global_address, stop_label, body_label, part_operand}
+use Rattle.sch_primitives.specs.OperandCode.{atom_code, unary_code, binary_code, read_code, operand_code, second_code}
+use Rattle.sch_primitives.specs.PrimitiveCode.{primitive_code, pair_or_binary, ternary_code, index_operand}
+use Rattle.sch_operations.specs.OperationCode.{operation_code}
+use Rattle.sch_select.specs.Select.{instruction_code, body_code}
+use Rattle.sch_operations.specs.CellCode.{source_code, check_cell, cell_operand}
+use Rattle.sch_primitives.specs.ObjectCode.{check_heap, part_code}
+use Rattle.sch_operations.specs.ClosureCode.{fields_code, record_code, closure_bytes, group_bytes, places_code}
+use Rattle.sch_operations.specs.ClosureCode.{records_code, group_code}
+use Rattle.sch_operations.specs.CallCode.{check_depth, check_operator, enter_code, call_code, tail_code}
 use Rattle.sch_select.specs.Program.{passed_code, entry_code, forms_code, labels_end, own_label, program_code}
-use Rattle.sch_select.specs.Data.{heap_of}
+use Rattle.sch_statics.specs.Data.{heap_of}
 use Rattle.sch_select.proofs.items.ProgramLabels.{last_code}
 use Rattle.sch_word.specs.declared.stop.Stop.TheVariants.{Unset}
 

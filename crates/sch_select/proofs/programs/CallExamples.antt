@@ -35,9 +35,10 @@ use Rattle.sch_asm.specs.Views.{text_at}
 use Rattle.sch_runtime.specs.Code.{routine_items}
 use Rattle.sch_frames.specs.Covered.{is_covered_program}
 use Rattle.sch_select.specs.Marks.{enters_procedure, marks_passed}
-use Rattle.sch_select.specs.Data.{program_words}
+use Rattle.sch_statics.specs.Data.{program_words}
 use Rattle.sch_select.specs.Program.{form_code, frames_bytes, program_code, program_zeros, stack_bytes}
-use Rattle.sch_select.specs.Select.{body_label, kind_of, stop_label}
+use Rattle.sch_own_routines.specs.Addresses.{body_label, stop_label}
+use Rattle.sch_own_routines.specs.ItemMarks.{kind_of}
 use Rattle.sch_frames.specs.Sizes.{closures_in, instructions_size}
 use Rattle.sch_select.specs.Sizes.{instructions_in, kinds_in, kinds_of, steps_bound}
 use Rattle.sch_select.proofs.programs.Examples.{text_of, number}

@@ -26,27 +26,28 @@ use Rattle.sch_control.specs.declared.operation.Member.{Member}
 use Rattle.sch_control.specs.declared.operation.Operation.{Operation}
 use Rattle.sch_frames.specs.Tree.{Code}
 use Rattle.sch_frames.specs.Run.{entries_of}
-use Rattle.sch_select.proofs.programs.Selected.{takes, atom_selected, read_selected, operand_selected}
-use Rattle.sch_select.proofs.programs.Selected.{source_selected, closure_selected, members_selected}
-use Rattle.sch_select.proofs.programs.Selected.{primitive_selected, operation_selected, instruction_selected}
-use Rattle.sch_select.proofs.programs.Selected.{form_selected, entry_selected, members_few, operation_few, labels_few, selects}
+use Rattle.sch_primitives.proofs.simulation.Selected.{takes, atom_selected, read_selected, operand_selected}
+use Rattle.sch_primitives.proofs.simulation.Selected.{source_selected, closure_selected, members_selected}
+use Rattle.sch_primitives.proofs.simulation.Selected.{primitive_selected, operation_selected, instruction_selected}
+use Rattle.sch_primitives.proofs.simulation.Selected.{form_selected, entry_selected, members_few, operation_few}
+use Rattle.sch_primitives.proofs.simulation.Selected.{labels_few, selects}
 use Rattle.sch_control.specs.Covered.{is_covered_source, is_covered_closure, is_covered_member, is_covered_operation}
 use Rattle.sch_frames.specs.Covered.{is_covered_code, is_covered_instruction, is_covered_program, marks_settled}
 use Rattle.sch_frames.specs.Covered.{closure_low, instruction_low, member_low, operation_low, source_low}
 use Rattle.sch_select.proofs.programs.FreeCodes.{code_parts}
 use Rattle.sch_control.specs.declared.operation.Operation.TheVariants as operation
-use Rattle.sch_control.specs.Parts.{operand_atoms, operands_atoms, operation_atoms, source_atom, source_atoms, member_atoms}
+use Rattle.sch_control.specs.AtomsAndSites.{operand_atoms, operands_atoms, operation_atoms, source_atom, source_atoms, member_atoms}
 use Rattle.sch_control.specs.CoveredOperands.{is_covered_atom, is_covered_operand}
 use Rattle.sch_control.specs.Valid.{Names, only_reads, operand_shaped, operands_shaped, operation_shaped}
 use Rattle.sch_control.specs.Valid.{closure_shaped, members_shaped, atom_known, atoms_known, global_known}
 use Rattle.sch_control.specs.Valid.{closure_known, members_known, label_known, operation_known, enters, entry_shaped}
 use Rattle.sch_control.specs.Valid.{without_fields}
-use Rattle.sch_frames.specs.declared.body.FrameBody.{FrameBody}
+use Rattle.sch_frames.specs.declared.frame_body.FrameBody.{FrameBody}
 use Rattle.sch_frames.specs.declared.instruction.Instruction.{Instruction}
 use Rattle.sch_frames.specs.declared.instruction.Instruction.TheVariants.{Do, Store, Copy, Load, Pass, Fix, Call}
 use Rattle.sch_frames.specs.declared.instruction.Instruction.TheVariants.{Tail, Return, End, IfFalse, Jump, Label}
 use Rattle.sch_frames.specs.declared.instruction.Instruction.TheVariants.{Mark}
-use Rattle.sch_frames.specs.declared.program.FrameProgram.{FrameProgram}
+use Rattle.sch_frames.specs.declared.frame_program.FrameProgram.{FrameProgram}
 use Rattle.sch_frames.specs.ProgramView as view
 use Rattle.sch_frames.specs.SourceView.{code_of, codes_of}
 use Rattle.sch_frames.specs.Valid.{is_place, is_atom, are_members, call_shaped, formals_of, handed_over}

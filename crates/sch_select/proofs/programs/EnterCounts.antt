@@ -17,7 +17,7 @@ use Rattle.sch_control.specs.declared.mark.MarkKind as control
 use Rattle.sch_control.specs.declared.mark.MarkKind.TheVariants as mark
 use Rattle.sch_control.specs.Meaning.{World, Result, marked, on_return}
 use Rattle.sch_control.specs.Run.{do_forms, entry_at, known_entry, outcome_of, seen_of, starting_world}
-use Rattle.sch_frames.specs.Layout.{is_entered}
+use Rattle.sch_frames.specs.Valid.{is_entered}
 use Rattle.sch_frames.specs.Covered.{is_enter, is_covered_code}
 use Rattle.sch_frames.specs.Run.{bodies_of, entries_of}
 use Rattle.sch_frames.specs.Tree.{Code, Source}
@@ -27,9 +27,9 @@ use Rattle.sch_insn.proofs.Paths.{traced_progress}
 use Rattle.sch_asm.specs.declared.item.MarkKind.{MarkKind}
 use Rattle.sch_select.specs.Follows.{AreRuns}
 use Rattle.sch_select.specs.Marks.{CountsEntries, PassesMarks, enters_body, enters_procedure, marks_of, marks_passed}
-use Rattle.sch_select.specs.Select.{kind_of}
+use Rattle.sch_own_routines.specs.ItemMarks.{kind_of}
 use Rattle.sch_select.proofs.programs.EnterMarks.{Kept, Stays, callee_of, form_kept}
-use Rattle.sch_select.proofs.procedures.Bodies.{map_one}
+use Rattle.sch_select.proofs.programs.Bodies.{map_one}
 
 -- ---- counts of marks
 

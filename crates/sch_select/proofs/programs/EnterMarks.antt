@@ -27,7 +27,7 @@ use Rattle.sch_frames.specs.Run.{bodies_of, do_known, entries_of}
 use Rattle.sch_frames.specs.Tree.{Code}
 use Rattle.sch_frames.specs.Covered.{is_enter, is_covered_code, plain_instruction}
 use Rattle.sch_select.proofs.programs.FreeCodes.{code_parts}
-use Rattle.sch_select.proofs.procedures.Procedures.{each_at}
+use Rattle.sch_select.proofs.programs.Procedures.{each_at}
 
 -- ---- no operation takes an entry
 

@@ -32,7 +32,7 @@ use Rattle.sch_asm.specs.Data.{data_at}
 use Rattle.sch_asm.specs.Layout.{addresses_from, emitted, numbered, placed_by}
 use Rattle.sch_asm.specs.Views.{text_at}
 use Rattle.sch_runtime.specs.Code.{routine_items}
-use Rattle.sch_select.specs.Data.{program_words}
+use Rattle.sch_statics.specs.Data.{program_words}
 use Rattle.sch_select.specs.Program.{program_code, program_zeros}
 
 -- a program of one form, with one global
@@ -43,6 +43,10 @@ one_form labels instructions = record {
   bodies = record { entry = None; words = 2; labels = labels; instructions = instructions } ∷ [];
   words = 2;
 }
+
+-- its zeros: a heap of 64 bytes, the frame of the one call that may be pending, and two more
+form_zeros : program_zeros (one_form 0 []) 64 1 ≡ 112
+form_zeros = refl
 
 -- the items, with a limit of the heap
 abbrev items_of : (heap : ℕ) → Source → List Item

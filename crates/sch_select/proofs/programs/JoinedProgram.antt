@@ -26,13 +26,17 @@ use Rattle.sch_asm.specs.Views.{text_at}
 use Rattle.sch_asm.proofs.Joined.{joined}
 use Rattle.sch_asm.proofs.Standing.{setting_of, stands_front}
 use Rattle.sch_select.proofs.items.RestItems.{count_appends}
-use Rattle.sch_select.specs.RestCode.{rest_routine}
-use Rattle.sch_select.specs.Select.{put_label, vector_label, string_label, body_label, body_code}
-use Rattle.sch_select.specs.NameWords.{symbol_words, symbols_count}
-use Rattle.sch_select.specs.Data.{program_words, static_bytes, names_of, closures_of, heap_of, max_heap_address}
-use Rattle.sch_select.specs.Program.{own_label, passed_code, entry_code, forms_code, form_code, labels_end, own_code}
-use Rattle.sch_select.specs.Program.{put_value_code, make_vector_code, make_string_code, program_code, program_zeros}
-use Rattle.sch_select.specs.Program.{max_stack, stack_bytes}
+use Rattle.sch_own_routines.specs.RestCode.{rest_routine}
+use Rattle.sch_own_routines.specs.Addresses.{put_label, vector_label, string_label, body_label}
+use Rattle.sch_select.specs.Select.{body_code}
+use Rattle.sch_statics.specs.NameWords.{symbol_words, symbols_count}
+use Rattle.sch_statics.specs.Data.{program_words, names_of, closures_of, heap_of, max_heap_address}
+use Rattle.sch_own_routines.specs.StaticBytes.{static_bytes}
+use Rattle.sch_select.specs.Program.{own_label, passed_code, entry_code, forms_code, form_code, labels_end}
+use Rattle.sch_select.specs.Program.{program_code, program_zeros, max_stack, stack_bytes}
+use Rattle.sch_own_routines.specs.OwnCode.{own_code}
+use Rattle.sch_own_routines.specs.PutCode.{put_value_code}
+use Rattle.sch_own_routines.specs.MakeCode.{make_vector_code, make_string_code}
 use Rattle.sch_word.specs.values.Values.{are_bytes}
 use Rattle.sch_word.specs.values.Literals.{count_literals, literals_known, literals_in_range}
 use Rattle.sch_literals.proofs.WordBytes.{word_bytes, word_bytes_length}
@@ -42,17 +46,17 @@ use Rattle.sch_select.specs.Ends.{EndsWithin}
 use Rattle.sch_select.specs.Sizes.{steps_bound}
 use Rattle.sch_select.specs.Marks.{PassesMarks, marks_passed}
 use Rattle.sch_select.specs.Follows.{AreRuns, EndsFrames, EntersFrames, FollowsFrames, PassesFrames}
-use Rattle.sch_select.proofs.simulation.Places.{Plan, Room}
+use Rattle.sch_own_routines.proofs.simulation.Places.{Plan, Room}
 use Rattle.sch_select.proofs.items.Appending.{Appends, then_appends, body_appends, behind}
-use Rattle.sch_select.proofs.simulation.Outcomes.{Laid}
-use Rattle.sch_select.proofs.procedures.Procedures.{bodies_cost}
+use Rattle.sch_own_routines.proofs.simulation.Outcomes.{Laid}
+use Rattle.sch_select.proofs.programs.Procedures.{bodies_cost}
 use Rattle.sch_select.proofs.items.ProgramLabels.{last_code}
-use Rattle.sch_select.proofs.layout.SymbolNames.{are_named, symbol_words_count}
-use Rattle.sch_select.proofs.programs.Starting.{parts_at_start, bytes_count, texts_there, table_there, literals_there}
-use Rattle.sch_select.proofs.programs.Starting.{globals_there, names_there, ends_at, contents_there, new_there}
+use Rattle.sch_statics.proofs.SymbolNames.{are_named, symbol_words_count}
+use Rattle.sch_statics.proofs.Starting.{parts_at_start, bytes_count, texts_there, table_there, literals_there}
+use Rattle.sch_statics.proofs.Starting.{globals_there, names_there, ends_at, contents_there, new_there}
 use Rattle.sch_select.proofs.programs.EnterCounts.{counts_entries}
 use Rattle.sch_select.proofs.programs.Whole.{Starts, program_ends, program_follows, program_passes}
-use Rattle.sch_select.proofs.programs.Selected.{form_selected, entry_selected, selects}
+use Rattle.sch_primitives.proofs.simulation.Selected.{form_selected, entry_selected, selects}
 use Rattle.sch_frames.specs.Covered.{is_covered_code, marks_settled}
 
 -- what items, with the words and the zeros of data, do of a program

@@ -5,17 +5,17 @@ use Rattle.sch_word.specs.declared.place.Place.{Place}
 use Rattle.sch_control.specs.declared.operation.Member.{Member}
 use Rattle.sch_control.specs.declared.operation.Operation.{Operation}
 use Rattle.sch_control.specs.declared.operation.Operation.TheVariants as operation
-use Rattle.sch_control.specs.Parts.{member_atoms, source_atoms}
+use Rattle.sch_control.specs.AtomsAndSites.{member_atoms, source_atoms}
 use Rattle.sch_control.specs.Sizes.{operation_size}
 use Rattle.sch_frames.specs.declared.instruction.Instruction.{Instruction}
 use Rattle.sch_frames.specs.declared.instruction.Instruction.TheVariants as instruction
 use Rattle.sch_frames.specs.Sizes.{closures_in, codes_size, grouped, instruction_size, instructions_size}
 use Rattle.sch_frames.specs.Tree.{Code, Source}
 use Rattle.sch_select.specs.Sizes.{steps_bound}
-use Rattle.sch_select.proofs.procedures.Bodies.{body_cost, instruction_cost}
-use Rattle.sch_select.proofs.simulation.EachOperation.{operation_cost}
-use Rattle.sch_select.proofs.procedures.Procedures.{bodies_cost}
-use Rattle.sch_select.proofs.procedures.Records.{records_cost}
+use Rattle.sch_select.proofs.programs.Bodies.{body_cost, instruction_cost}
+use Rattle.sch_operations.proofs.simulation.EachOperation.{operation_cost}
+use Rattle.sch_select.proofs.programs.Procedures.{bodies_cost}
+use Rattle.sch_operations.proofs.simulation.Records.{records_cost}
 use Rattle.sch_select.proofs.programs.Forms.{forms_cost}
 use Rattle.sch_select.proofs.items.TextSize.{grouped_first, sources_counts}
 

@@ -35,23 +35,23 @@ use Rattle.sch_asm.proofs.EachItem.{goes}
 use Rattle.sch_heap.specs.Parts.{Parts, end_of}
 use Rattle.sch_heap.specs.Encoded.{IsWord, IsHeld}
 use Rattle.sch_heap.specs.Heap.{HeapAt, AreNew}
-use Rattle.sch_select.specs.Select.{table_address, literal_address, global_address, names_address}
+use Rattle.sch_own_routines.specs.Addresses.{table_address, literal_address, global_address, names_address}
 use Rattle.sch_select.specs.Program.{own_label, forms_code}
 use Rattle.sch_control.specs.declared.mark.MarkKind as control
-use Rattle.sch_select.specs.Select.{kind_of}
+use Rattle.sch_own_routines.specs.ItemMarks.{kind_of}
 use Rattle.sch_select.specs.Ends.{EndsWithin}
 use Rattle.sch_select.specs.Sizes.{steps_bound}
 use Rattle.sch_select.proofs.programs.Steps.{steps_within}
 use Rattle.sch_select.specs.Marks.{PassesMarks, marks_of, marks_passed}
 use Rattle.sch_select.specs.Follows.{AreRuns}
 use Rattle.sch_select.proofs.programs.Passing.{Passes, traces}
-use Rattle.sch_select.proofs.simulation.Places.{Plan, code_of, Room, StoreAt}
-use Rattle.sch_select.proofs.simulation.Outcomes.{Ends, Laid}
-use Rattle.sch_select.proofs.procedures.Entering.{Enters}
-use Rattle.sch_select.proofs.procedures.Procedures.{BodyAt, bodies_cost, enter_sim}
+use Rattle.sch_own_routines.proofs.simulation.Places.{Plan, code_of, Room, StoreAt}
+use Rattle.sch_own_routines.proofs.simulation.Outcomes.{Ends, Laid}
+use Rattle.sch_own_routines.proofs.simulation.Entering.{Enters}
+use Rattle.sch_select.proofs.programs.Procedures.{BodyAt, bodies_cost, enter_sim}
 use Rattle.sch_select.proofs.programs.Standing.{bodies_stand}
 use Rattle.sch_select.proofs.programs.Forms.{Owed, forms_sim, forms_cost}
-use Rattle.sch_select.proofs.programs.Selected.{form_selected, entry_selected}
+use Rattle.sch_primitives.proofs.simulation.Selected.{form_selected, entry_selected}
 
 -- ---- globals, when a program starts
 

@@ -16,6 +16,7 @@ use Rattle.sch_asm.specs.Layout.{IsLaidOut, UseBelow, emitted, marked, placed_by
 use Rattle.sch_asm.proofs.Tables.{Below, addresses_length, sound_append, total_sizes, use_back, use_front}
 use Rattle.sch_asm.proofs.Emitted.{codes, emitted_append, emitted_size, emitted_valid, marked_append, own_by, rows}
 use Rattle.sch_asm.proofs.resolving.resolve.Goals as goal
+use Rattle.sch_asm.proofs.Words.{data_length}
 
 -- ---- sizes
 
@@ -24,15 +25,6 @@ sizes_are xs ys first second sizes e f g = g ∙ ap (λ l. map item_size (l ++ s
 
 size_is : (is : List Item) (bytes : ℕ) (sizes lent : List ℕ) → bytes ≡ total lent → lent ≡ sizes → sizes ≡ map item_size is → bytes ≡ text_size is
 size_is is bytes sizes lent e f g = e ∙ ap total (f ∙ g) ∙ total_sizes is
-
--- eight bytes for each word
-eight_each : (place : ℕ → ℕ) (ws : List Word) → length (flat_map (bytes_of place) ws) ≡ 8 * length ws
-eight_each place [] = refl
-eight_each place (w ∷ ws) =
-    let a = length-append (bytes_of place w) (flat_map (bytes_of place) ws) in
-    let b : length (bytes_of place w) ≡ 8 = refl in
-    let e = eight_each place ws in
-    omega (arith, a, b, e)
 
 -- ---- tables
 
@@ -133,4 +125,4 @@ returns c =
     } in
     let r = resolved (c.args.a.now.items ++ c.args.routines.now.items) c.args.a.now.words c.emit-2.new.code c.emit-2.new.marks c.in_ok-words.words c.in_ok-layout.layout.numbers.items c.in_ok-layout.layout.addresses w in
     let e = r.2 in
-    record { stands = r.0; valid = r.1; words = ap length w.words_are ∙ eight_each place c.args.a.now.words; zeros = refl; size = r.2; fits = omega (arith, e, w.fits); too_large = tt }
+    record { stands = r.0; valid = r.1; words = ap length w.words_are ∙ data_length place c.args.a.now.words; zeros = refl; size = r.2; fits = omega (arith, e, w.fits); too_large = tt }

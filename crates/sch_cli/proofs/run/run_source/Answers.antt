@@ -1,9 +1,10 @@
 use Rattle.std.proofs.Common.{subst, sym}
-use Rattle.sch_cli.specs.Builds.{DoesText}
-use Rattle.sch_cli.specs.Refusals.{IsAccepted, IsRefused}
+use Rattle.sch_cli.specs.Builds.{HasFile}
+use Rattle.sch_cli.specs.Refusals.{IsRefused}
 use Rattle.sch_cli.specs.Seen.{TookNothing, disk_change, stream_change}
 use Rattle.sch_cli.specs.Steps.{RunsSource, no_memory, ran, refused}
 use Rattle.sch_cli.specs.declared.failure.Failure.TheVariants.{Memory}
+use Rattle.sch_cli.proofs.CompiledFiles.{does_text}
 use Rattle.sch_cli.proofs.DiskSteps.{failed_with, file_is, took_nothing, unread_runs}
 use Rattle.sch_cli.proofs.ProgramRuns.{runs_program}
 use Rattle.sch_cli.proofs.run.run_source.Goals as goal
@@ -43,6 +44,14 @@ returns-clause-ran g c =
     let out = stream_change g.O.Outlet.bytes g.O.Outlet.left g.O.Outlet.faults c.args.out.now c.execute.new.out in
     let text = c.in_ok-text.text in
     let image = c.in_ok-image.image in
-    let made = subst (λ lent. DoesText lent c.args.wanted.limits.heap c.args.wanted.limits.depth image) c.as_slice.ensures c.in_ok-image.ensures.made in
-    ran made.program made.orders c.in_ok-end.end (file_is disk name text (λ file. IsAccepted file made.program) c.in_ok-text.ensures.read.found made.accepted)
-    (runs_program made.program made.orders c.args.wanted.limits.heap c.args.wanted.limits.depth image c.args.wanted.steps c.in_ok-end.end out made.does c.in_ok-end.ensures.ok)
+    let heap = c.args.wanted.limits.heap in
+    let depth = c.args.wanted.limits.depth in
+    let built = subst (λ lent. HasFile lent heap depth image) c.as_slice.ensures c.in_ok-image.ensures.made in
+    let made = built.made in
+    ran text c.in_ok-end.end c.in_ok-text.ensures.read.found (record {
+      file = built.file;
+      made = made;
+      image = image;
+      stands = built.stands;
+      runs = runs_program made.compiled.program made.listing.orders heap depth image c.args.wanted.steps c.in_ok-end.end out (does_text text heap depth image built) c.in_ok-end.ensures.ok;
+    })

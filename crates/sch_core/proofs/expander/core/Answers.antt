@@ -8,8 +8,8 @@ use Rattle.sch_names.specs.NamesView.{names_of}
 use Rattle.sch_sketch.specs.DraftView.{drafts_of}
 use Rattle.sch_numbers.specs.Numbered.{numbered_each}
 use Rattle.sch_numbers.specs.Programs.{seen, program_of}
-use Rattle.sch_numbering.specs.Definitions.{definitions_of}
-use Rattle.sch_numbering.specs.Ranged.{IsValidOnceRanged}
+use Rattle.sch_keeping.specs.Definitions.{definitions_of}
+use Rattle.sch_linking.specs.Ranged.{IsValidOnceRanged}
 use Rattle.sch_toplevel.specs.Views.{given}
 use Rattle.sch_core.specs.Programs.{form_places, first_excess}
 use Rattle.sch_core.proofs.Answering.{faulty, exceeding, found, valid_once, small, places_are}

@@ -5,8 +5,8 @@ use Rattle.sch_control.specs.ProgramView.{source}
 use Rattle.sch_control.specs.Work.{codes_work}
 use Rattle.sch_frames.specs.ProgramView as frames
 use Rattle.sch_select.specs.Sizes.{kinds_of}
-use Rattle.sch_driver.specs.Assembled.{assembled_bound}
-use Rattle.sch_driver.proofs.Images.{assembled, few_words, refused_for, text_within, unfit}
+use Rattle.sch_driver.specs.Assembled.{IsFrameSize, IsUnfit, assembled_bound}
+use Rattle.sch_driver.proofs.Images.{assembled, few_words, framed_parts, kept_error, refused_for, size_of_frames, text_within, unfit}
 use Rattle.sch_driver.proofs.Resolved.{resolved_kinds}
 use Rattle.sch_driver.proofs.assembly.assemble.Goals as goal
 
@@ -22,19 +22,42 @@ returns-clause-marks c =
 
 pub returns-in_err-resolved-clause-refused : goal.returns-in_err-resolved-clause-refused
 returns-in_err-resolved-clause-refused c =
-    let p = source c.args.p.now in
+    let p = source c.args.p in
     let f = frames.source c.in_ok-frames.frames in
-    let n = text_within f c.in_ok-code.code.items c.in_ok-routines.routines.items (codes_work p.bodies) c.in_ok-code.ensures.text c.in_ok-frames.ensures.work c.in_ok-routines.ensures.short in
-    refused_for p c.args.limits.depth c.from_residual-in_err-resolved.result c.in_err-resolved.field-0.0 c.from_residual-in_err-resolved.ensures.1 (unfit p c.args.limits.depth _ c.in_err-resolved.field-0.0 n c.in_err-resolved.ensures.too_large)
+    let depth = c.args.limits.depth in
+    let made = c.in_ok-frames.ensures in
+    let cause = c.in_err-resolved.field-0.0 in
+    let items = c.in_ok-code.code.items in
+    let routines = c.in_ok-routines.routines.items in
+    let n = text_within f items routines (codes_work p.bodies) c.in_ok-code.ensures.text made.work c.in_ok-routines.ensures.short in
+    let size = size_of_frames p f c.args.limits.heap depth items routines c.in_ok-code.ensures.items c.in_ok-routines.ensures.items
+    (framed_parts p f made.statics made.library made.made made.words) in
+    refused_for p depth c.from_residual-in_err-resolved.result cause c.from_residual-in_err-resolved.ensures.1
+    (unfit p f.words depth _ cause (record { largest = made.words; few = few_words c.in_ok-frames.frames; bound = made.covered_words c.requires.covered })
+    c.in_ok-check_stack.ensures.fits size n c.in_err-resolved.ensures.too_large)
+
+pub returns-in_err-check_stack-clause-refused : goal.returns-in_err-check_stack-clause-refused
+returns-in_err-check_stack-clause-refused c =
+    let p = source c.args.p in
+    let depth = c.args.limits.depth in
+    let made = c.in_ok-frames.ensures in
+    let frame : IsFrameSize p c.in_ok-frames.frames.words = record { largest = made.words; few = few_words c.in_ok-frames.frames; bound = made.covered_words c.requires.covered } in
+    let large = c.in_err-check_stack.ensures.refused in
+    kept_error c.from_residual-in_err-check_stack.result c.in_err-check_stack.field-0.0 (IsUnfit p depth) c.from_residual-in_err-check_stack.ensures.1
+    (subst (IsUnfit p depth) (sym large.0) (large.1, frame))
 
 pub returns-clause-does : goal.returns-clause-does
 returns-clause-does c =
     let r = c.in_ok-resolved in
-    let p = source c.args.p.now in
+    let p = source c.args.p in
     let f = frames.source c.in_ok-frames.frames in
-    let n = text_within f c.in_ok-code.code.items c.in_ok-routines.routines.items (codes_work p.bodies) c.in_ok-code.ensures.text c.in_ok-frames.ensures.work c.in_ok-routines.ensures.short in
-    assembled (source c.args.p.now) (frames.source c.in_ok-frames.frames) c.args.limits.heap c.args.limits.depth c.in_ok-code.code c.in_ok-routines.routines
+    let made = c.in_ok-frames.ensures in
+    let code = c.in_ok-code.ensures in
+    let n = text_within f c.in_ok-code.code.items c.in_ok-routines.routines.items (codes_work p.bodies) code.text made.work c.in_ok-routines.ensures.short in
+    assembled p f c.args.limits.heap c.args.limits.depth c.in_ok-code.code c.in_ok-routines.routines
     r.resolved.code r.resolved.marks r.resolved.words c.in_ok-text.text r.resolved.zeros c.in_ok-image.image c.len-instructions.result c.len-instructions.ensures
-    c.in_ok-frames.ensures.same c.in_ok-code.ensures.follows c.in_ok-code.ensures.steps c.in_ok-code.ensures.instructions c.in_ok-routines.ensures.items c.in_ok-code.ensures.zeros (record { largest = c.in_ok-frames.ensures.words; few = few_words c.in_ok-frames.frames; bound = c.in_ok-frames.ensures.frame_words }) c.in_ok-check_stack.ensures.fits
-    c.in_ok-routines.ensures.effective r.ensures.stands r.ensures.valid r.ensures.fits (subst (λ k. k ≤ assembled_bound p) (sym r.ensures.size) n)
+    made.same (framed_parts p f made.statics made.library made.made made.words)
+    (record { follows = code.follows; ends = code.steps; passes = code.passes; enters = code.entries; takes = code.takes; stand = made.stand; units = code.instructions; zeros = code.zeros; items = code.items; words_end = code.words })
+    c.in_ok-routines.ensures.items (record { largest = made.words; few = few_words c.in_ok-frames.frames; bound = made.covered_words c.requires.covered }) c.in_ok-check_stack.ensures.fits r.ensures.words
+    c.in_ok-routines.ensures.effective r.ensures.stands r.ensures.valid r.ensures.fits r.ensures.size (subst (λ k. k ≤ assembled_bound p) (sym r.ensures.size) n)
     (c.in_ok-text.ensures ∙ ap (flat_map spelling) c.as_slice.ensures) r.ensures.zeros c.in_ok-image.ensures.layout

@@ -11,15 +11,18 @@ use Rattle.sch_frames.specs.ProgramView.{source}
 use Rattle.sch_frames.specs.Sizes.{closures_in, program_size}
 use Rattle.sch_literals.proofs.Placed.{placed_objects, placed_literals}
 use Rattle.sch_literals.proofs.Rows.{count_rows}
-use Rattle.sch_select.specs.Data.{static_count, objects_unit, names_of, closures_of, heap_of, max_heap_address, data_words, program_words}
+use Rattle.sch_statics.specs.Data.{static_count, objects_unit, names_of, closures_of, heap_of, max_heap_address}
+use Rattle.sch_statics.specs.Data.{data_words, program_words}
 use Rattle.sch_select.specs.Program.{max_data, max_stack, program_code, program_zeros, own_label, stack_bytes}
-use Rattle.sch_select.specs.Select.{names_address}
+use Rattle.sch_own_routines.specs.Addresses.{names_address}
 use Rattle.sch_select.specs.Sizes.{instructions_in, kinds_in, kinds_of}
-use Rattle.sch_select.proofs.programs.CoveredPrograms.{codes_free, entries_selected, globals_known, labels_known, covered_selected}
-use Rattle.sch_select.proofs.programs.CoveredPrograms.{texts_are, literals_are, literals_named, procedures_known}
+use Rattle.sch_select.proofs.programs.CoveredPrograms.{codes_free, entries_selected, globals_known, labels_known}
+use Rattle.sch_select.proofs.programs.CoveredPrograms.{covered_selected, texts_are, literals_are, literals_named}
+use Rattle.sch_select.proofs.programs.CoveredPrograms.{procedures_known}
+use Rattle.sch_select.proofs.programs.OwnWays.{takes_frames}
 use Rattle.sch_select.proofs.programs.JoinedProgram.{IsSelected, program_selected}
-use Rattle.sch_select.proofs.programs.Starting.{words_end}
-use Rattle.sch_select.proofs.layout.StaticSizes.{made_few, made_heap, names_below}
+use Rattle.sch_statics.proofs.Starting.{words_end}
+use Rattle.sch_statics.proofs.StaticSizes.{made_few, made_heap, names_below}
 use Rattle.sch_select.proofs.items.ProgramFacts.{all_forward, bodies_count, data_end, program_own, statics_few}
 use Rattle.sch_select.proofs.items.ProgramFacts.{statics_small, symbols_few, whole_items, words_few}
 use Rattle.sch_select.proofs.items.ProgramKnown.{program_known}
@@ -148,6 +151,14 @@ returns-clause-passes c = (selected c.before).passes
 
 pub returns-clause-entries : goal.returns-clause-entries
 returns-clause-entries c = (selected c.before).enters
+
+pub returns-clause-takes : goal.returns-clause-takes
+returns-clause-takes c =
+    let p = c.before.args.p.now in
+    takes_frames (source p) c.before.args.limits.heap c.before.args.limits.depth (codes_free p c.before.requires.covered) _ _ _ (selected c.before).passes
+
+pub returns-clause-items : goal.returns-clause-items
+returns-clause-items c = sym (items_made c.before)
 
 pub returns-clause-own : goal.returns-clause-own
 returns-clause-own c =

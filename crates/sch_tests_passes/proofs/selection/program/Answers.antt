@@ -8,7 +8,7 @@ use Rattle.sch_control.specs.declared.body.Entry.{Entry}
 use Rattle.sch_control.specs.declared.operation.Atom.TheVariants.{Constant}
 use Rattle.sch_control.specs.declared.operation.Operand.TheVariants as operands
 use Rattle.sch_control.specs.declared.operation.Operation.TheVariants as operations
-use Rattle.sch_frames.specs.declared.body.FrameBody.{FrameBody}
+use Rattle.sch_frames.specs.declared.frame_body.FrameBody.{FrameBody}
 use Rattle.sch_frames.specs.declared.instruction.Instruction.{Instruction}
 use Rattle.sch_frames.specs.declared.instruction.Instruction.TheVariants as instructions
 use Rattle.sch_frames.specs.Covered.{is_covered_program}

@@ -1,5 +1,5 @@
 use Rattle.std.proofs.Common.{arith}
-use Rattle.sch_binders.proofs.DefinitionSteps.{lighter}
+use Rattle.sch_definitions.proofs.DefinitionSteps.{lighter}
 use Rattle.sch_toplevel.proofs.FormLists.{next_forms}
 use Rattle.sch_toplevel.proofs.forms.+adding.Goals as goal
 

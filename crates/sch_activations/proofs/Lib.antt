@@ -1,0 +1,4 @@
+pub mod Keeping
+pub mod Turns
+pub mod OwnWays
+mod Examples

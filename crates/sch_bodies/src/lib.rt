@@ -1,0 +1,6 @@
+//! The rows of bodies and of procedures.
+#![tactic(auto)]
+
+mod bodies;
+
+pub use bodies::{group, is_body, row_body, row_lambda, row_method};

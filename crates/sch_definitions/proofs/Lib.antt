@@ -1,0 +1,5 @@
+pub mod SymbolLists
+pub mod DefinitionSteps
+pub mod RowsFall
+pub mod SoundRows
+mod Examples

@@ -1,0 +1,6 @@
+pub mod Optional
+pub mod Shapes
+pub mod Distinct
+pub mod Formals
+pub mod Definitions
+pub mod Assignments

@@ -1,9 +1,0 @@
-pub mod CoveredSlots
-pub mod Labels
-pub mod Laid
-pub mod LayoutSize
-pub mod SlotsFrame
-pub mod OperandsKept
-pub mod Used
-pub mod SettledSlots
-pub mod LayoutWork

@@ -1,6 +1,0 @@
-use Rattle.std.proofs.Common.{◌≡◌, take}
-use Rattle.sch_frames.specs.Layout.{operands_at, own_slot}
-use Rattle.sch_frames.proofs.places.operands_at.Given as goal
-
-abbrev pub invariant-loop-o : goal.invariant-loop-o
-invariant-loop-o l = l.made ≡ operands_at (own_slot l.base) (take l.o-index l.operands)

@@ -1,3 +1,0 @@
-pub mod CallExamples
-pub mod Examples
-pub mod WorkExamples

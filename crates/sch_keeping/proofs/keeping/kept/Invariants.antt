@@ -1,0 +1,19 @@
+use Rattle.std.proofs.Common.{◌≡◌, ◌++◌, ◌||◌, ℕ, List, drop, length, map, reverse}
+use Rattle.sch_names.specs.Scope.{is_among}
+use Rattle.sch_names.specs.NamesView.{names_of}
+use Rattle.sch_numbers.specs.Named.{library_global}
+use Rattle.sch_numbers.specs.Programs.{kept, globals_of_each}
+use Rattle.sch_keeping.specs.Definitions.{definitions_of}
+use Rattle.sch_keeping.proofs.keeping.kept.Given as goal
+
+abbrev pub invariant-loop-d : goal.invariant-loop-d
+invariant-loop-d l = record {
+  whole : l.left ++ drop (length l.left) l.fn.definitions ≡ l.fn.definitions;
+  names :
+      (x : List ℕ) → is_among x (names_of l.named.globals.names)
+      ≡ (is_among x (names_of l.initial.named.globals.names) || is_among x (globals_of_each (kept (definitions_of (drop (length l.left) l.fn.definitions)) (names_of l.initial.named.globals.names ++ map library_global (names_of l.held)))));
+  list : definitions_of (reverse l.all) ≡ kept (definitions_of (drop (length l.left) l.fn.definitions)) (names_of l.initial.named.globals.names ++ map library_global (names_of l.held));
+}
+
+abbrev pub decreases-loop-d : goal.decreases-loop-d
+decreases-loop-d l = length l.left

@@ -1,0 +1,5 @@
+pub mod does
+pub mod layouts
+mod LayoutExamples
+mod LayoutWorkExamples
+pub mod LoopTurns

@@ -1,0 +1,10 @@
+pub mod CoveredSlots
+pub mod InstructionTests
+pub mod LabelsOnce
+pub mod LayoutSize
+pub mod LayoutWork
+pub mod MarksStand
+pub mod OperandsKept
+pub mod SettledSlots
+pub mod SlotsFrame
+pub mod VariablesUsed

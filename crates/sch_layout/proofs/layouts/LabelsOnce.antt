@@ -1,0 +1,250 @@
+-- The labels of a layout: each stands once, behind the jumps to it.
+use Rattle.std.proofs.Common.{◌≡◌, ℕ, zero, suc, ◌+◌, ◌<◌, ◌≤◌, List, [], ◌∷◌, length, Option, Some, None, Bool, true, false, refl, ap, ◌∙◌, ◌⊎◌, inl, inr, arith}
+use Rattle.std.specs.Prelude.{nat_eq, nat_lt, ◌||◌}
+use Rattle.std.specs.List.{list_all}
+use Rattle.std.proofs.lemmas.Bool.{and_from, ne_eqb, eq-eqb, or_left, or_right, or_from, not_from_false, lt-ltb}
+use Rattle.sch_word.specs.declared.place.Place.{Place}
+use Rattle.sch_word.specs.declared.place.Place.TheVariants.{Slot}
+use Rattle.sch_word.specs.trees.NumberSets.{has}
+use Rattle.sch_control.specs.declared.mark.MarkKind.TheVariants as mark
+use Rattle.sch_control.specs.declared.operation.Application.{Application}
+use Rattle.sch_control.specs.declared.operation.Operand.{Operand}
+use Rattle.sch_control.specs.Valid.{without_repeats}
+use Rattle.sch_control.specs.Tree.{Expression, perform, bind, sequence, branch, fix, call, tail_call, return, end, save}
+use Rattle.sch_frames.specs.declared.instruction.Instruction.{Instruction}
+use Rattle.sch_frames.specs.declared.instruction.Instruction.TheVariants.{Call, Tail, Label, Jump, Mark}
+use Rattle.sch_frames.specs.Meaning.{argument_register, argument_slot}
+use Rattle.sch_frames.specs.Valid.{labels_in, jumps_ahead}
+use Rattle.sch_layout.specs.BodyLayout.{Slots, set_aside, passed, hand_over, prepared, restored, leave, labels, lay}
+
+module _ (slots : Slots) where
+  abbrev there : ℕ → List Instruction → Bool
+  there l rest = has l (labels_in rest)
+
+  other : (l m : ℕ) → (l < m) ⊎ (m < l) → nat_eq l m ≡ false
+  other l m (inl h) = ne_eqb l m (λ e. omega (arith, h, e))
+  other l m (inr h) = ne_eqb l m (λ e. omega (arith, h, e))
+
+  leave_labels : (test : Option ℕ) (rest : List Instruction) → labels_in (leave test rest) ≡ labels_in rest
+  leave_labels None rest = refl
+  leave_labels (Some l) rest = refl
+
+  -- ## Calls have no labels
+
+  aside_labels : (operands : List (Operand ℕ)) (slot : ℕ) (rest : List Instruction) → labels_in (set_aside slots.place slot operands rest) ≡ labels_in rest
+  aside_labels [] slot rest = refl
+  aside_labels (o ∷ operands) slot rest = aside_labels operands (suc slot) rest
+
+  passed_labels : (o : Option ℕ) (j : ℕ) (p : Place) (rest : List Instruction) → labels_in (passed o j p ∷ rest) ≡ labels_in rest
+  passed_labels (Some r) j p rest = refl
+  passed_labels None j p rest = refl
+
+  over_labels : (tail : Bool) (left from : ℕ) (rest : List Instruction) → labels_in (hand_over tail from left rest) ≡ labels_in rest
+  over_labels tail zero from rest = refl
+  over_labels true (suc left) from rest = over_labels true left (suc from) rest
+  over_labels false (suc left) from rest =
+      passed_labels (argument_register from) (argument_slot from) (Slot from) (hand_over false (suc from) left rest) ∙ over_labels false left (suc from) rest
+
+  prepared_labels : (tail : Bool) (a : Application ℕ) (rest : List Instruction) → labels_in (prepared slots tail a rest) ≡ labels_in rest
+  prepared_labels tail a rest = aside_labels a.operands 0 _ ∙ over_labels tail (length a.operands) 0 rest
+
+  restored_labels : (home : Option Place) (rest : List Instruction) → labels_in (restored home rest) ≡ labels_in rest
+  restored_labels None rest = refl
+  restored_labels (Some p) rest = refl
+
+  call_labels : (a : Application ℕ) (restores : List ℕ) (n : ℕ) (test : Option ℕ) (rest : List Instruction) → labels_in (lay slots (call a restores) n test rest) ≡ labels_in rest
+  call_labels a restores n test rest =
+      prepared_labels false a (Mark (mark.Call a.site) ∷ (Call a.spread (length a.operands) ∷ restored slots.home (leave test rest)))
+      ∙ (restored_labels slots.home (leave test rest) ∙ leave_labels test rest)
+
+  aside_ahead : (operands : List (Operand ℕ)) (slot : ℕ) (rest : List Instruction) → jumps_ahead (set_aside slots.place slot operands rest) ≡ jumps_ahead rest
+  aside_ahead [] slot rest = refl
+  aside_ahead (o ∷ operands) slot rest = aside_ahead operands (suc slot) rest
+
+  passed_ahead : (o : Option ℕ) (j : ℕ) (p : Place) (rest : List Instruction) → jumps_ahead (passed o j p ∷ rest) ≡ jumps_ahead rest
+  passed_ahead (Some r) j p rest = refl
+  passed_ahead None j p rest = refl
+
+  over_ahead : (tail : Bool) (left from : ℕ) (rest : List Instruction) → jumps_ahead (hand_over tail from left rest) ≡ jumps_ahead rest
+  over_ahead tail zero from rest = refl
+  over_ahead true (suc left) from rest = over_ahead true left (suc from) rest
+  over_ahead false (suc left) from rest =
+      passed_ahead (argument_register from) (argument_slot from) (Slot from) (hand_over false (suc from) left rest) ∙ over_ahead false left (suc from) rest
+
+  prepared_ahead : (tail : Bool) (a : Application ℕ) (rest : List Instruction) → jumps_ahead (prepared slots tail a rest) ≡ jumps_ahead rest
+  prepared_ahead tail a rest = aside_ahead a.operands 0 _ ∙ over_ahead tail (length a.operands) 0 rest
+
+  restored_ahead : (home : Option Place) (rest : List Instruction) → jumps_ahead (restored home rest) ≡ jumps_ahead rest
+  restored_ahead None rest = refl
+  restored_ahead (Some p) rest = refl
+
+  call_ahead : (a : Application ℕ) (restores : List ℕ) (n : ℕ) (test : Option ℕ) (rest : List Instruction) → jumps_ahead (lay slots (call a restores) n test rest) ≡ jumps_ahead (leave test rest)
+  call_ahead a restores n test rest =
+      prepared_ahead false a (Mark (mark.Call a.site) ∷ (Call a.spread (length a.operands) ∷ restored slots.home (leave test rest))) ∙ restored_ahead slots.home (leave test rest)
+
+  tail_labels : (a : Application ℕ) (n : ℕ) (test : Option ℕ) (rest : List Instruction) → labels_in (lay slots (tail_call a) n test rest) ≡ labels_in rest
+  tail_labels a n test rest = prepared_labels true a (Mark (mark.Tail a.site) ∷ (Tail a.spread (length a.operands) ∷ rest))
+
+  tail_ahead : (a : Application ℕ) (n : ℕ) (test : Option ℕ) (rest : List Instruction) → jumps_ahead (lay slots (tail_call a) n test rest) ≡ jumps_ahead rest
+  tail_ahead a n test rest = prepared_ahead true a (Mark (mark.Tail a.site) ∷ (Tail a.spread (length a.operands) ∷ rest))
+
+  -- ## Labels of an expression
+
+  first_of_two : (l n a b : ℕ) → (l < n) ⊎ (n + (a + b) ≤ l) → (l < n) ⊎ (n + a ≤ l)
+  first_of_two l n a b (inl h) = inl h
+  first_of_two l n a b (inr h) = inr (omega (arith, h))
+
+  second_of_two : (l n a b : ℕ) → (l < n) ⊎ (n + (a + b) ≤ l) → (l < n + a) ⊎ (n + a + b ≤ l)
+  second_of_two l n a b (inl h) = inl (omega (arith, h))
+  second_of_two l n a b (inr h) = inr (omega (arith, h))
+
+  first_of_three : (l n a b c : ℕ) → (l < n) ⊎ (n + suc (suc (a + (b + c))) ≤ l) → (l < suc (suc n)) ⊎ (suc (suc n) + a ≤ l)
+  first_of_three l n a b c (inl h) = inl (omega (arith, h))
+  first_of_three l n a b c (inr h) = inr (omega (arith, h))
+
+  second_of_three : (l n a b c : ℕ) → (l < n) ⊎ (n + suc (suc (a + (b + c))) ≤ l) → (l < suc (suc (n + a))) ⊎ (suc (suc (n + a)) + b ≤ l)
+  second_of_three l n a b c (inl h) = inl (omega (arith, h))
+  second_of_three l n a b c (inr h) = inr (omega (arith, h))
+
+  third_of_three : (l n a b c : ℕ) → (l < n) ⊎ (n + suc (suc (a + (b + c))) ≤ l) → (l < suc (suc (n + a + b))) ⊎ (suc (suc (n + a + b)) + c ≤ l)
+  third_of_three l n a b c (inl h) = inl (omega (arith, h))
+  third_of_three l n a b c (inr h) = inr (omega (arith, h))
+
+  not_one : (l n a b c : ℕ) → (l < n) ⊎ (n + suc (suc (a + (b + c))) ≤ l) → nat_eq l n ≡ false
+  not_one l n a b c (inl h) = other l n (inl h)
+  not_one l n a b c (inr h) = other l n (inr (omega (arith, h)))
+
+  not_two : (l n a b c : ℕ) → (l < n) ⊎ (n + suc (suc (a + (b + c))) ≤ l) → nat_eq l (suc n) ≡ false
+  not_two l n a b c (inl h) = other l (suc n) (inl (omega (arith, h)))
+  not_two l n a b c (inr h) = other l (suc n) (inr (omega (arith, h)))
+
+  -- a label outside those of an expression stands in what follows or nowhere
+  outside : (e : Expression) (n : ℕ) (test : Option ℕ) (rest : List Instruction) (l : ℕ) → (l < n) ⊎ (n + labels e ≤ l)
+      → there l (lay slots e n test rest) ≡ there l rest
+  outside (perform o) n test rest l h = ap (has l) (leave_labels test rest)
+  outside (bind x a b) n test rest l h =
+      outside a n None _ l (first_of_two l n (labels a) (labels b) h)
+      ∙ outside b (n + labels a) test rest l (second_of_two l n (labels a) (labels b) h)
+  outside (sequence a b) n test rest l h =
+      outside a n None _ l (first_of_two l n (labels a) (labels b) h)
+      ∙ outside b (n + labels a) test rest l (second_of_two l n (labels a) (labels b) h)
+  outside (branch a b c) n test rest l h =
+      outside a (suc (suc n)) (Some n) _ l (first_of_three l n (labels a) (labels b) (labels c) h)
+      ∙ (outside b (suc (suc (n + labels a))) test _ l (second_of_three l n (labels a) (labels b) (labels c) h)
+      ∙ (ap (λ t. t || there l (lay slots c (suc (suc (n + labels a + labels b))) test (Label (suc n) ∷ rest))) (not_one l n (labels a) (labels b) (labels c) h)
+      ∙ (outside c (suc (suc (n + labels a + labels b))) test (Label (suc n) ∷ rest) l (third_of_three l n (labels a) (labels b) (labels c) h)
+      ∙ ap (λ t. t || there l rest) (not_two l n (labels a) (labels b) (labels c) h))))
+  outside (return e) n test rest l h = outside e n None _ l h
+  outside (end e) n test rest l h = outside e n None _ l h
+  outside (fix members e) n test rest l h = outside e n test rest l h
+  outside (call a restores) n test rest l h = ap (has l) (call_labels a restores n test rest)
+  outside (tail_call a) n test rest l h = ap (has l) (tail_labels a n test rest)
+  outside (save saves e) n test rest l h = outside e n test rest l h
+
+  -- none of these labels stands there
+  abbrev Free : (from to : ℕ) → List Instruction → Type 0
+  Free from to rest = (l : ℕ) → from ≤ l → l < to → there l rest ≡ false
+
+  -- the label of a test that fails is before those of the expression, and stands in what follows
+  abbrev Ahead : Option ℕ → ℕ → List Instruction → Type 0
+  Ahead None n rest = Unit {0}
+  Ahead (Some l) n rest = (l < n) × (there l rest ≡ true)
+
+  -- the labels stand once and are ahead
+  pub record Right (rest : List Instruction) : Type 0 where
+    pub once : without_repeats (labels_in rest) ≡ true
+    pub ahead : jumps_ahead rest ≡ true
+
+  leave_right : (test : Option ℕ) (n : ℕ) (rest : List Instruction) → Ahead test n rest → Right rest → Right (leave test rest)
+  leave_right None n rest a r = r
+  leave_right (Some l) n rest a r = record { once = r.once; ahead = and_from _ _ a.1 r.ahead }
+
+  raised : (test : Option ℕ) (n m : ℕ) (rest : List Instruction) → n ≤ m → Ahead test n rest → Ahead test m rest
+  raised None n m rest le a = tt
+  raised (Some l) n m rest le a = (omega (arith, le, a.0), a.1)
+
+  -- a label more in front
+  labelled : (l : ℕ) (rest : List Instruction) → there l rest ≡ false → Right rest → Right (Label l ∷ rest)
+  labelled l rest f r = record { once = and_from _ _ (not_from_false _ f) r.once; ahead = r.ahead }
+
+  ahead_label : (test : Option ℕ) (n m : ℕ) (rest : List Instruction) → Ahead test n rest → Ahead test n (Label m ∷ rest)
+  ahead_label None n m rest a = tt
+  ahead_label (Some l) n m rest a = (a.0, or_right (nat_eq l m) _ a.1)
+
+  ahead_jump : (test : Option ℕ) (n m : ℕ) (rest : List Instruction) → Ahead test n rest → Ahead test n (Jump m ∷ rest)
+  ahead_jump None n m rest a = tt
+  ahead_jump (Some l) n m rest a = a
+
+  ahead_lay : (test : Option ℕ) (e : Expression) (n m : ℕ) (to : Option ℕ) (rest : List Instruction) → n ≤ m → Ahead test n rest → Ahead test n (lay slots e m to rest)
+  ahead_lay None e n m to rest le a = tt
+  ahead_lay (Some l) e n m to rest le a = (a.0, outside e m to rest l (inl (omega (arith, le, a.0))) ∙ a.1)
+
+  pub right : (e : Expression) (n : ℕ) (test : Option ℕ) (rest : List Instruction) → Free n (n + labels e) rest → Ahead test n rest → Right rest
+      → Right (lay slots e n test rest)
+  right (perform o) n test rest f a r =
+      let q = leave_right test n rest a r in
+      record { once = q.once; ahead = q.ahead }
+  right (bind x e b) n test rest f a r =
+      let inner = right b (n + labels e) test rest (λ l h h'. f l (omega (arith, h)) (omega (arith, h'))) (raised test n _ rest (omega arith) a) r in
+      right e n None _ (λ l h h'. outside b (n + labels e) test rest l (inl h') ∙ f l h (omega (arith, h'))) tt
+      (record { once = inner.once; ahead = inner.ahead })
+  right (sequence e b) n test rest f a r =
+      right e n None _ (λ l h h'. outside b (n + labels e) test rest l (inl h') ∙ f l h (omega (arith, h'))) tt
+      (right b (n + labels e) test rest (λ l h h'. f l (omega (arith, h)) (omega (arith, h'))) (raised test n _ rest (omega arith) a) r)
+  right (branch e b c) n test rest f a r =
+      let la = labels e in
+      let lb = labels b in
+      let lc = labels c in
+      let last : Right (Label (suc n) ∷ rest) = labelled (suc n) rest (f (suc n) (omega arith) (omega arith)) r in
+      let third : Right (lay slots c (suc (suc (n + la + lb))) test (Label (suc n) ∷ rest)) =
+      right c (suc (suc (n + la + lb))) test (Label (suc n) ∷ rest)
+      (λ l h h'. or_from _ _ (other l (suc n) (inr (omega (arith, h)))) (f l (omega (arith, h)) (omega (arith, h'))))
+      (ahead_label test _ (suc n) rest (raised test n _ rest (omega arith) a)) last in
+      let no_n : there n (lay slots c (suc (suc (n + la + lb))) test (Label (suc n) ∷ rest)) ≡ false =
+      outside c (suc (suc (n + la + lb))) test (Label (suc n) ∷ rest) n (inl (omega arith))
+      ∙ or_from _ _ (other n (suc n) (inl (omega arith))) (f n (omega arith) (omega arith)) in
+      let middle : Right (Label n ∷ lay slots c (suc (suc (n + la + lb))) test (Label (suc n) ∷ rest)) = labelled n _ no_n third in
+      let to_end : there (suc n) (Label n ∷ lay slots c (suc (suc (n + la + lb))) test (Label (suc n) ∷ rest)) ≡ true =
+      or_right (nat_eq (suc n) n) _ (outside c (suc (suc (n + la + lb))) test (Label (suc n) ∷ rest) (suc n) (inl (omega arith)) ∙ or_left _ _ (eq-eqb (suc n) (suc n) refl)) in
+      let away : (l : ℕ) → suc (suc n) ≤ l → l < suc (suc (n + la + lb)) → there l (Label n ∷ lay slots c (suc (suc (n + la + lb))) test (Label (suc n) ∷ rest)) ≡ false =
+      λ l h h'. or_from _ _ (other l n (inr (omega (arith, h))))
+      (outside c (suc (suc (n + la + lb))) test (Label (suc n) ∷ rest) l (inl h')
+      ∙ or_from _ _ (other l (suc n) (inr (omega (arith, h)))) (f l (omega (arith, h)) (omega (arith, h')))) in
+      let second : Right (lay slots b (suc (suc (n + la))) test (Jump (suc n) ∷ (Label n ∷ lay slots c (suc (suc (n + la + lb))) test (Label (suc n) ∷ rest)))) =
+      right b (suc (suc (n + la))) test _ (λ l h h'. away l (omega (arith, h)) (omega (arith, h')))
+      (raised test n _ _ (omega arith) (ahead_jump test n (suc n) _ (ahead_label test n n _ (ahead_lay test c n (suc (suc (n + la + lb))) test _ (omega arith) (ahead_label test n (suc n) rest a)))))
+      (record { once = middle.once; ahead = and_from _ _ to_end middle.ahead }) in
+      right e (suc (suc n)) (Some n) _
+      (λ l h h'. outside b (suc (suc (n + la))) test _ l (inl (omega (arith, h'))) ∙ away l h (omega (arith, h')))
+      (omega arith, outside b (suc (suc (n + la))) test _ n (inl (omega arith)) ∙ or_left _ _ (eq-eqb n n refl))
+      second
+  right (return e) n test rest f a r = right e n None _ f tt (record { once = r.once; ahead = r.ahead })
+  right (end e) n test rest f a r = right e n None _ f tt (record { once = r.once; ahead = r.ahead })
+  right (fix members e) n test rest f a r = let inner = right e n test rest f a r in record { once = inner.once; ahead = inner.ahead }
+  right (call x restores) n test rest f a r =
+      let q = leave_right test n rest a r in
+      record { once = ap without_repeats (call_labels x restores n test rest) ∙ r.once; ahead = call_ahead x restores n test rest ∙ q.ahead }
+  right (tail_call x) n test rest f a r = record { once = ap without_repeats (tail_labels x n test rest) ∙ r.once; ahead = tail_ahead x n test rest ∙ r.ahead }
+  right (save saves e) n test rest f a r = right e n test rest f a r
+
+  -- each label is below a number
+  abbrev below : ℕ → List Instruction → Bool
+  below most rest = list_all (λ l. nat_lt l most) (labels_in rest)
+
+  pub lay_below : (e : Expression) (n : ℕ) (test : Option ℕ) (rest : List Instruction) (most : ℕ) → n + labels e ≤ most → below most rest ≡ true
+      → below most (lay slots e n test rest) ≡ true
+  lay_below (perform o) n test rest most le h = ap (list_all (λ l. nat_lt l most)) (leave_labels test rest) ∙ h
+  lay_below (bind x a b) n test rest most le h = lay_below a n None _ most (omega (arith, le)) (lay_below b (n + labels a) test rest most (omega (arith, le)) h)
+  lay_below (sequence a b) n test rest most le h = lay_below a n None _ most (omega (arith, le)) (lay_below b (n + labels a) test rest most (omega (arith, le)) h)
+  lay_below (branch a b c) n test rest most le h =
+      lay_below a (suc (suc n)) (Some n) _ most (omega (arith, le))
+      (lay_below b (suc (suc (n + labels a))) test _ most (omega (arith, le))
+      (and_from _ _ (lt-ltb n most (omega (arith, le)))
+      (lay_below c (suc (suc (n + labels a + labels b))) test _ most (omega (arith, le))
+      (and_from _ _ (lt-ltb (suc n) most (omega (arith, le))) h))))
+  lay_below (return e) n test rest most le h = lay_below e n None _ most le h
+  lay_below (end e) n test rest most le h = lay_below e n None _ most le h
+  lay_below (fix members e) n test rest most le h = lay_below e n test rest most le h
+  lay_below (call a restores) n test rest most le h = ap (list_all (λ l. nat_lt l most)) (call_labels a restores n test rest) ∙ h
+  lay_below (tail_call a) n test rest most le h = ap (list_all (λ l. nat_lt l most)) (tail_labels a n test rest) ∙ h
+  lay_below (save saves e) n test rest most le h = lay_below e n test rest most le h

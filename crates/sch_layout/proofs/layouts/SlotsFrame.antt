@@ -1,0 +1,152 @@
+-- The layout with a slot for each variable is a valid frame body of its body.
+use Rattle.std.proofs.Common.{◌≡◌, ℕ, zero, suc, ◌+◌, ◌-◌, ◌≤◌, List, [], Option, Some, None, Bool, true, false, refl, ap, ◌∙◌, arith}
+use Rattle.std.specs.Prelude.{nat_lt}
+use Rattle.std.specs.List.{list_all}
+use Rattle.std.proofs.Math.Nat.{le-max_left, le-max_right, max-le}
+use Rattle.std.proofs.lemmas.Bool.{and_parts, and_from, le-leb, leb-true, lt-ltb}
+use Rattle.sch_word.specs.trees.Shape.{max_operands}
+use Rattle.sch_control.specs.declared.body.Entry.{Entry}
+use Rattle.sch_control.specs.Meaning.{nothing, falls_off}
+use Rattle.sch_control.specs.Run as control_run
+use Rattle.sch_control.specs.Tree as control
+use Rattle.sch_control.specs.Tree.{Expression, perform, bind, sequence, branch, fix, call, tail_call, return, end, save}
+use Rattle.sch_control.specs.Valid.{shaped as expression_shaped, first_bound, in_scope_whole, numbered, ended, shaped_whole, entry_shaped, without_repeats}
+use Rattle.sch_frames.specs.declared.instruction.Instruction.{Instruction}
+use Rattle.sch_frames.specs.Does.{FrameOf, world}
+use Rattle.sch_frames.specs.Valid.{is_place, placed, forward, shaped, formals_of, labels_in, jumps_ahead, instruction_placed, instruction_shaped, instruction_known, is_entered}
+use Rattle.sch_layout.specs.BodyLayout.{labels, lay, restored}
+use Rattle.sch_layout.specs.OwnSlots.{own_slot, home_of, most_operands, arrivals, entering, slots_base, slots_for, slots_words, slots_layout, slots_code}
+use Rattle.sch_layout.proofs.does.PlacesAgree.{Behind, Uses, Within}
+use Rattle.sch_layout.proofs.does.EntryStores.{own_apart, enters, entering_placed, entering_passes}
+use Rattle.sch_layout.proofs.layouts.LabelsOnce.{Right, right, lay_below}
+use Rattle.sch_layout.proofs.layouts.InstructionTests.{Roomy, lay_passes, placed_steers, uses_placed, shaped_steers, parts_shaped, known_steers, parts_named}
+use Rattle.sch_layout.proofs.does.LayoutDoes.{same}
+use Rattle.sch_layout.proofs.layouts.VariablesUsed.{Numbered, numbered_is, code_uses}
+
+-- ## Places
+
+own_placed : (base n words x : ℕ) → base + n ≤ words → Within n x → is_place words (own_slot base x) ≡ true
+own_placed base n words zero le h = absurd h.0
+own_placed base n words (suc x) le h = lt-ltb (base + suc x) words (omega (arith, le, h.1))
+
+formals_most : (entry : Option Entry) → entry_shaped entry ≡ true → formals_of entry ≤ 200
+formals_most None h = omega arith
+formals_most (Some e) h = leb-true _ _ (and_parts _ _ h).0
+
+-- no call has more than 200 operands
+pub operands_most : (e : Expression) → expression_shaped e ≡ true → most_operands e ≤ 200
+operands_most (perform o) h = omega arith
+operands_most (bind x a b) h = let parts = and_parts _ _ h in max-le (operands_most a parts.0) (operands_most b parts.1)
+operands_most (sequence a b) h = let parts = and_parts _ _ h in max-le (operands_most a parts.0) (operands_most b parts.1)
+operands_most (branch a b c) h =
+    let parts = and_parts _ _ h in
+    let arms = and_parts _ _ parts.1 in
+    max-le (operands_most a parts.0) (max-le (operands_most b arms.0) (operands_most c arms.1))
+operands_most (fix members e) h = operands_most e (and_parts _ _ h).1
+operands_most (call a restores) h = leb-true _ _ (and_parts _ _ h).0
+operands_most (tail_call a) h = leb-true _ _ (and_parts _ _ h).0
+operands_most (return e) h = operands_most e h
+operands_most (end e) h = operands_most e h
+operands_most (save saves e) h = operands_most e h
+
+-- before the variables there are at most as many slots as a call may have operands
+base_most : (c : control.Code) → shaped_whole c ≡ true → slots_base c ≤ max_operands
+base_most c h =
+    let shape = and_parts _ _ h in
+    let few = formals_most c.entry shape.0 in
+    let most = operands_most c.expression shape.1 in
+    max-le (omega (arith, few)) most
+
+pub slots_room : (c : control.Code) → shaped_whole c ≡ true → slots_words c ≤ max_operands + c.variables
+slots_room c h = let few = base_most c h in omega (arith, few)
+
+module _ (c : control.Code) (scoped : in_scope_whole c ≡ true) (counted : numbered c ≡ true) where
+  numbers : Numbered c
+  numbers = numbered_is c counted
+
+  uses : Uses (Within c.variables) c.expression
+  uses = code_uses (Within c.variables) c (λ x w. w) scoped numbers
+
+  uses_behind : Uses Behind c.expression
+  uses_behind = code_uses Behind c (λ x w. w.0) scoped numbers
+
+  first_two : 2 + formals_of c.entry ≤ c.variables
+  first_two = by c.entry numbers.first where
+    by : (o : Option Entry) → first_bound o ≤ c.variables → 2 + formals_of o ≤ c.variables
+    by None h = omega (arith, h)
+    by (Some e) h = omega (arith, h)
+
+  formals_fit : formals_of c.entry - 6 ≤ slots_base c
+  formals_fit = le-max_left (formals_of c.entry - 6) (most_operands c.expression)
+
+  operands_fit : most_operands c.expression ≤ slots_base c
+  operands_fit = le-max_right (formals_of c.entry - 6) (most_operands c.expression)
+
+  roomy : Roomy (slots_for c) (slots_words c) (most_operands c.expression)
+  roomy = record { aside = let h = operands_fit in omega (arith, h); back = by (is_entered c.entry) } where
+    by : (entered : Bool) (rest : List Instruction) → list_all (instruction_placed (slots_words c)) rest ≡ true → list_all (instruction_placed (slots_words c)) (restored (home_of entered (slots_base c)) rest) ≡ true
+    by true rest h = let two = first_two in and_from _ _ (lt-ltb (slots_base c) (slots_words c) (omega (arith, two))) h
+    by false rest h = h
+
+  pub slots_placed : shaped_whole c ≡ true → placed c.entry (slots_words c) (slots_layout c) ≡ true
+  slots_placed h =
+      let both = base_most c h in
+      let fit = formals_fit in
+      let two = first_two in
+      let variables = numbers.most in
+      and_from _ _ (le-leb (slots_words c) 2048 (omega (arith, both, variables)))
+      (and_from _ _ (le-leb (formals_of c.entry) (6 + slots_words c) (omega (arith, fit)))
+      (entering_placed c.entry (slots_base c) (slots_words c) _ fit (omega (arith, two))
+      (lay_passes (slots_for c) (instruction_placed (slots_words c)) (placed_steers _) c.expression
+      (uses_placed (slots_for c) (slots_words c) (most_operands c.expression) (Within c.variables) (λ x w. own_placed (slots_base c) c.variables (slots_words c) x (omega arith) w) roomy
+      c.expression (omega arith) uses)
+      0 None [] refl)))
+
+  pub slots_does : ended c ≡ true → FrameOf c (slots_code c)
+  slots_does bare = record {
+    entry = refl;
+    does = λ callee callee' follow depth self arguments l state marks marks'.
+        enters c.entry (slots_base c) formals_fit self arguments l callee' depth _ (world state marks') _
+        (λ f a. same (slots_for c) (slots_base c) (own_apart (slots_base c) (is_entered c.entry)) callee callee' follow depth
+        c.expression (and_parts _ _ bare).0 uses_behind operands_fit 0 None [] tt
+        (control_run.beginning c.entry self arguments) nothing f state marks marks' falls_off a (λ v environment saved f s marks marks' r e. tt));
+    names = λ names h.
+        entering_passes (instruction_known names) (λ to from. refl) c.entry (slots_base c) _
+        (lay_passes (slots_for c) (instruction_known names) (known_steers names) c.expression (parts_named (slots_for c) names c.expression h) 0 None [] refl);
+  }
+
+-- ## Labels
+
+arrivals_labels : (base count from : ℕ) (rest : List Instruction) → labels_in (arrivals base from count rest) ≡ labels_in rest
+arrivals_labels base zero from rest = refl
+arrivals_labels base (suc count) from rest = arrivals_labels base count (suc from) rest
+
+entering_labels : (base : ℕ) (entry : Option Entry) (rest : List Instruction) → labels_in (entering base entry rest) ≡ labels_in rest
+entering_labels base None rest = refl
+entering_labels base (Some e) rest = arrivals_labels base e.formals 0 rest
+
+arrivals_ahead : (base count from : ℕ) (rest : List Instruction) → jumps_ahead (arrivals base from count rest) ≡ jumps_ahead rest
+arrivals_ahead base zero from rest = refl
+arrivals_ahead base (suc count) from rest = arrivals_ahead base count (suc from) rest
+
+entering_ahead : (base : ℕ) (entry : Option Entry) (rest : List Instruction) → jumps_ahead (entering base entry rest) ≡ jumps_ahead rest
+entering_ahead base None rest = refl
+entering_ahead base (Some e) rest = arrivals_ahead base e.formals 0 rest
+
+pub slots_forward : (c : control.Code) → forward (labels c.expression) (slots_layout c) ≡ true
+slots_forward c =
+    let laid = lay (slots_for c) c.expression 0 None [] in
+    let r : Right (slots_for c) laid = right (slots_for c) c.expression 0 None [] (λ l h h'. refl) tt (record { once = refl; ahead = refl }) in
+    let e = entering_labels (slots_base c) c.entry laid in
+    and_from _ _
+    (ap (list_all (λ l. nat_lt l (labels c.expression))) e ∙ lay_below (slots_for c) c.expression 0 None [] (labels c.expression) (omega arith) refl)
+    (and_from _ _ (ap without_repeats e ∙ r.once) (entering_ahead (slots_base c) c.entry laid ∙ r.ahead))
+
+-- ## Shape
+
+pub slots_shaped : (c : control.Code) → shaped_whole c ≡ true → shaped c.entry (slots_layout c) ≡ true
+slots_shaped c h =
+    let parts = and_parts _ _ h in
+    and_from _ _ parts.0
+    (entering_passes instruction_shaped (λ to from. refl) c.entry (slots_base c) _
+    (lay_passes (slots_for c) instruction_shaped shaped_steers c.expression (parts_shaped (slots_for c) c.expression parts.1) 0 None [] refl))

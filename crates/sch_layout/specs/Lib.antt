@@ -1,0 +1,3 @@
+pub mod BodyLayout
+pub mod LayoutSizes
+pub mod OwnSlots

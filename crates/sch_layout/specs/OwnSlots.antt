@@ -1,0 +1,69 @@
+-- The layout of a body with a slot for each variable.
+use Rattle.std.specs.Prelude.{ℕ, zero, suc, ◌+◌, ◌-◌, max, Bool, true, false, List, [], ◌∷◌, length, Option, Some, None}
+use Rattle.sch_word.specs.declared.place.Place.{Place}
+use Rattle.sch_word.specs.declared.place.Place.TheVariants.{Slot}
+use Rattle.sch_control.specs.declared.body.Entry.{Entry}
+use Rattle.sch_control.specs.Tree as control
+use Rattle.sch_control.specs.Tree.{Expression, perform, bind, sequence, branch, fix, call, tail_call, return, end, save}
+use Rattle.sch_frames.specs.declared.instruction.Instruction.{Instruction}
+use Rattle.sch_frames.specs.declared.instruction.Instruction.TheVariants.{Copy}
+use Rattle.sch_frames.specs.Meaning.{closure_register, link_register}
+use Rattle.sch_frames.specs.Tree.{Code}
+use Rattle.sch_frames.specs.Valid.{formals_of, is_entered}
+use Rattle.sch_layout.specs.BodyLayout.{Slots, arrival, labels, lay}
+
+-- R15 for the return address, and for each other variable a slot of its own from a base on
+abbrev pub own_slot : (base : ℕ) → ℕ → Place
+own_slot base zero = link_register
+own_slot base (suc x) = Slot (base + suc x)
+
+-- the return address of a procedure has the slot at the base
+abbrev pub home_of : (entered : Bool) → (base : ℕ) → Option Place
+home_of true base = Some (Slot base)
+home_of false base = None
+
+abbrev pub own_slots : (base : ℕ) → (entered : Bool) → Slots
+own_slots base entered = record { place = own_slot base; home = home_of entered base }
+
+-- each formal from one on is stored in its slot
+abbrev pub arrivals : (base from count : ℕ) → List Instruction → List Instruction
+arrivals base from zero rest = rest
+arrivals base from (suc count) rest = Copy (own_slot base (suc (suc from))) (arrival from) ∷ arrivals base (suc from) count rest
+
+-- a procedure stores what it has in registers and in the slots below the base
+abbrev pub entering : (base : ℕ) → Option Entry → List Instruction → List Instruction
+entering base None rest = rest
+entering base (Some e) rest =
+    Copy (Slot base) link_register ∷ (Copy (own_slot base 1) closure_register ∷ arrivals base 0 e.formals rest)
+
+-- the most operands of one call
+abbrev pub most_operands : Expression → ℕ
+most_operands (perform o) = 0
+most_operands (bind x a b) = max (most_operands a) (most_operands b)
+most_operands (sequence a b) = max (most_operands a) (most_operands b)
+most_operands (branch a b c) = max (most_operands a) (max (most_operands b) (most_operands c))
+most_operands (fix members e) = most_operands e
+most_operands (call a restores) = length a.operands
+most_operands (tail_call a) = length a.operands
+most_operands (return e) = most_operands e
+most_operands (end e) = most_operands e
+most_operands (save saves e) = most_operands e
+
+-- The slots in which arguments arrive, operands are set aside and tail calls hand them over, which are those before
+-- the base: an argument has been stored elsewhere before an operand is set aside.
+abbrev pub slots_base : control.Code → ℕ
+slots_base c = max (formals_of c.entry - 6) (most_operands c.expression)
+
+abbrev pub slots_for : control.Code → Slots
+slots_for c = own_slots (slots_base c) (is_entered c.entry)
+
+-- the size of the frame, which has a slot for each variable behind these
+abbrev pub slots_words : control.Code → ℕ
+slots_words c = slots_base c + c.variables
+
+-- how a body is laid out, with a slot for each variable
+abbrev pub slots_layout : control.Code → List Instruction
+slots_layout c = entering (slots_base c) c.entry (lay (slots_for c) c.expression 0 None [])
+
+abbrev pub slots_code : control.Code → Code
+slots_code c = record { entry = c.entry; words = slots_words c; labels = labels c.expression; instructions = slots_layout c }

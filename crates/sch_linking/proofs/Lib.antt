@@ -1,0 +1,5 @@
+pub mod ProgramSize
+pub mod ProgramConstants
+pub mod ProgramMade
+pub mod DefinitionSteps
+mod Examples

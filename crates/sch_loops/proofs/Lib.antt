@@ -1,0 +1,4 @@
+pub mod LoopSteps
+pub mod RowsFall
+pub mod SoundRows
+mod Examples

@@ -1,0 +1,6 @@
+//! The row of `do`.
+#![tactic(auto)]
+
+mod loops;
+
+pub use loops::row_do;

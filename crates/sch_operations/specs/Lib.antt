@@ -1,0 +1,4 @@
+pub mod CellCode
+pub mod ClosureCode
+pub mod OperationCode
+pub mod CallCode

@@ -1,0 +1,73 @@
+-- Where a program's data lie, the labels of its code, and places as operands.
+use Rattle.std.specs.Prelude.{ℕ, ◌+◌, ◌*◌, pos}
+use Rattle.sch_word.specs.declared.place.Place.{Place}
+use Rattle.sch_word.specs.declared.place.Place.TheVariants as place
+use Rattle.sch_word.specs.declared.stop.Stop.{Stop}
+use Rattle.sch_insn.specs.declared.insn.Arg.{Arg}
+use Rattle.sch_insn.specs.declared.insn.Arg.TheVariants.{Reg, Base32}
+use Rattle.sch_insn.specs.declared.register.TheConstants.{RBP, R12}
+use Rattle.sch_asm.specs.declared.routine.Routine.TheVariants as routine
+use Rattle.sch_asm.specs.Routines.{label_of}
+
+abbrev pub stop_label : Stop → ℕ
+stop_label why = label_of (routine.Stop why)
+
+-- ## Data: the routines' words, all bytes in their order, the texts of constants, the words of literals, and the globals
+
+abbrev pub bytes_address : ℕ
+bytes_address = 0x10000200
+
+abbrev pub texts_address : ℕ
+texts_address = 0x10000300
+
+-- the address of the names of symbols stands behind the texts
+abbrev pub table_address : ℕ
+table_address = 0x10000320
+
+-- the words of literals follow, and then those of globals
+abbrev pub literals_address : ℕ
+literals_address = 0x10000328
+
+abbrev pub literal_address : ℕ → ℕ
+literal_address n = literals_address + 8 * n
+
+abbrev pub globals_address : (literals : ℕ) → ℕ
+globals_address literals = literals_address + 8 * literals
+
+abbrev pub global_address : (literals g : ℕ) → ℕ
+global_address literals g = globals_address literals + 8 * g
+
+-- the names of symbols stand behind the globals
+abbrev pub names_address : (literals globals : ℕ) → ℕ
+names_address literals globals = globals_address literals + 8 * globals
+
+-- ## Labels
+
+-- puts of values are by a routine of the program's own
+abbrev pub put_label : ℕ
+put_label = 1024
+
+-- and so are new vectors, new strings and the lists of operands that are left over
+abbrev pub vector_label : ℕ
+vector_label = 1040
+
+abbrev pub string_label : ℕ
+string_label = 1041
+
+-- the labels of the program's own routines are below this one, and the bodies' are from it on
+abbrev pub first_label : ℕ
+first_label = 1088
+
+-- where the code of a body begins
+abbrev pub body_label : ℕ → ℕ
+body_label label = first_label + label
+
+-- ## Places
+
+abbrev pub place_operand : Place → Arg
+place_operand (place.Reg r) = Reg r
+place_operand (place.Slot j) = Base32 RBP (pos (8 * j))
+
+-- the operand at an offset from the address of the next part
+abbrev pub part_operand : (offset : ℕ) → Arg
+part_operand offset = Base32 R12 (pos offset)

@@ -1,0 +1,2 @@
+pub mod simulation
+pub mod objects

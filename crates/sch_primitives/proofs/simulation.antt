@@ -1,0 +1,6 @@
+-- The machine does what operands and primitives do.
+pub mod Selected
+pub mod Primitives
+pub mod Operands
+pub mod Operations
+pub mod PrimitiveOperations

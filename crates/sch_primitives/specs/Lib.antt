@@ -1,0 +1,4 @@
+pub mod ArithmeticCode
+pub mod ObjectCode
+pub mod OperandCode
+pub mod PrimitiveCode

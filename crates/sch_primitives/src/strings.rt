@@ -1,0 +1,137 @@
+//! The items of strings and of the names of symbols.
+
+ghost use Rattle.std.specs.Prelude.{◌≡◌, ◌++◌, OnOk, List};
+ghost use Rattle.sch_asm.specs.declared.item.Item.{Item};
+ghost use Rattle.sch_heap.specs.Encoded.{string_tag};
+ghost use Rattle.sch_primitives.specs.ObjectCode.{length_code, string_code, string_ref_code, string_set_code, symbol_length_code};
+ghost use Rattle.sch_primitives.specs.ObjectCode.{symbol_ref_code};
+ghost use Rattle.sch_own_routines.specs.Checks.{string_length};
+
+use sch_asm::Item;
+use sch_heap::word::{CHARACTER, STRING, SYMBOL, UNSPECIFIED};
+use sch_insn::condition::{AE, NE};
+use sch_insn::register::{R11, R12, RAX, RCX, RDX};
+use sch_insn::{Arg, Insn};
+use sch_own_routines::addresses::{STRING_LABEL, TABLE_ADDRESS, stop};
+use sch_word::{List, Mem, Stop};
+
+/// The length of the string in RAX.
+pub(crate) fn string_length(out: &mut List<Item>) -> Result<(), Mem>
+    ensures { OnOk result ((rest : List Item) → out.new ++ rest ≡ out.old ++ length_code string_tag string_length rest) }
+{
+    out.extend_from_slice(&[
+        Item::Plain(Insn::MovTo(Arg::Reg(RDX), RAX)),
+        Item::Plain(Insn::AndNumber(Arg::Reg(RDX), 7)),
+        Item::Plain(Insn::CmpNumber(Arg::Reg(RDX), STRING)),
+        Item::JumpIf(NE, stop(Stop::WrongType)),
+        Item::Plain(Insn::MovFrom(RAX, Arg::Base32(RAX, -3))),
+    ])
+}
+
+/// The character of the string in RAX at the index in RCX.
+pub(crate) fn string_ref(out: &mut List<Item>) -> Result<(), Mem>
+    ensures { OnOk result ((rest : List Item) → out.new ++ rest ≡ out.old ++ string_ref_code rest) }
+{
+    out.extend_from_slice(&[
+        Item::Plain(Insn::MovTo(Arg::Reg(RDX), RAX)),
+        Item::Plain(Insn::AndNumber(Arg::Reg(RDX), 7)),
+        Item::Plain(Insn::CmpNumber(Arg::Reg(RDX), STRING)),
+        Item::JumpIf(NE, stop(Stop::WrongType)),
+        Item::Plain(Insn::MovTo(Arg::Reg(RDX), RCX)),
+        Item::Plain(Insn::AndNumber(Arg::Reg(RDX), 7)),
+        Item::JumpIf(NE, stop(Stop::WrongType)),
+        Item::Plain(Insn::CmpFrom(RCX, Arg::Base32(RAX, -3))),
+        Item::JumpIf(AE, stop(Stop::OutOfRange)),
+        Item::Plain(Insn::Shr(Arg::Reg(RCX), 3)),
+        Item::Plain(Insn::AddTo(Arg::Reg(RAX), RCX)),
+        Item::Plain(Insn::LoadByte(RAX, Arg::Base32(RAX, 5))),
+        Item::Plain(Insn::Shl(Arg::Reg(RAX), 8)),
+        Item::Plain(Insn::AddNumber(Arg::Reg(RAX), CHARACTER)),
+    ])
+}
+
+/// The character of the string in RAX at the index in RCX becomes R11.
+pub(crate) fn set_string(out: &mut List<Item>) -> Result<(), Mem>
+    ensures { OnOk result ((rest : List Item) → out.new ++ rest ≡ out.old ++ string_set_code rest) }
+{
+    out.extend_from_slice(&[
+        Item::Plain(Insn::MovTo(Arg::Reg(RDX), RAX)),
+        Item::Plain(Insn::AndNumber(Arg::Reg(RDX), 7)),
+        Item::Plain(Insn::CmpNumber(Arg::Reg(RDX), STRING)),
+        Item::JumpIf(NE, stop(Stop::WrongType)),
+        Item::Plain(Insn::MovTo(Arg::Reg(RDX), RCX)),
+        Item::Plain(Insn::AndNumber(Arg::Reg(RDX), 7)),
+        Item::JumpIf(NE, stop(Stop::WrongType)),
+        Item::Plain(Insn::MovTo(Arg::Reg(RDX), R11)),
+        Item::Plain(Insn::AndNumber(Arg::Reg(RDX), 255)),
+        Item::Plain(Insn::CmpNumber(Arg::Reg(RDX), CHARACTER)),
+        Item::JumpIf(NE, stop(Stop::WrongType)),
+        Item::Plain(Insn::CmpFrom(RCX, Arg::Base32(RAX, -3))),
+        Item::JumpIf(AE, stop(Stop::OutOfRange)),
+        Item::Plain(Insn::Shr(Arg::Reg(RCX), 3)),
+        Item::Plain(Insn::AddTo(Arg::Reg(RAX), RCX)),
+        Item::Plain(Insn::Shr(Arg::Reg(R11), 8)),
+        Item::Plain(Insn::StoreByte(Arg::Base32(RAX, 5), R11)),
+        Item::Plain(Insn::MovNumber(Arg::Reg(RAX), UNSPECIFIED)),
+    ])
+}
+
+/// The length of the name of the symbol in RAX.
+pub(crate) fn symbol_length(out: &mut List<Item>) -> Result<(), Mem>
+    ensures { OnOk result ((rest : List Item) → out.new ++ rest ≡ out.old ++ symbol_length_code rest) }
+{
+    out.extend_from_slice(&[
+        Item::Plain(Insn::MovTo(Arg::Reg(RDX), RAX)),
+        Item::Plain(Insn::AndNumber(Arg::Reg(RDX), 7)),
+        Item::Plain(Insn::CmpNumber(Arg::Reg(RDX), SYMBOL)),
+        Item::JumpIf(NE, stop(Stop::WrongType)),
+        Item::LoadWord(RDX, TABLE_ADDRESS),
+        Item::Plain(Insn::AddTo(Arg::Reg(RAX), RDX)),
+        Item::Plain(Insn::MovFrom(RAX, Arg::Base32(RAX, -5))),
+        Item::Plain(Insn::MovFrom(RAX, Arg::Base32(RAX, 0))),
+    ])
+}
+
+/// The character of the name of the symbol in RAX at the index in RCX.
+pub(crate) fn symbol_ref(out: &mut List<Item>) -> Result<(), Mem>
+    ensures { OnOk result ((rest : List Item) → out.new ++ rest ≡ out.old ++ symbol_ref_code rest) }
+{
+    out.extend_from_slice(&[
+        Item::Plain(Insn::MovTo(Arg::Reg(RDX), RAX)),
+        Item::Plain(Insn::AndNumber(Arg::Reg(RDX), 7)),
+        Item::Plain(Insn::CmpNumber(Arg::Reg(RDX), SYMBOL)),
+        Item::JumpIf(NE, stop(Stop::WrongType)),
+        Item::LoadWord(RDX, TABLE_ADDRESS),
+        Item::Plain(Insn::AddTo(Arg::Reg(RAX), RDX)),
+        Item::Plain(Insn::MovFrom(RAX, Arg::Base32(RAX, -5))),
+        Item::Plain(Insn::MovTo(Arg::Reg(RDX), RCX)),
+        Item::Plain(Insn::AndNumber(Arg::Reg(RDX), 7)),
+        Item::JumpIf(NE, stop(Stop::WrongType)),
+        Item::Plain(Insn::CmpFrom(RCX, Arg::Base32(RAX, 0))),
+        Item::JumpIf(AE, stop(Stop::OutOfRange)),
+        Item::Plain(Insn::Shr(Arg::Reg(RCX), 3)),
+        Item::Plain(Insn::AddTo(Arg::Reg(RAX), RCX)),
+        Item::Plain(Insn::LoadByte(RAX, Arg::Base32(RAX, 8))),
+        Item::Plain(Insn::Shl(Arg::Reg(RAX), 8)),
+        Item::Plain(Insn::AddNumber(Arg::Reg(RAX), CHARACTER)),
+    ])
+}
+
+/// A new string, with its length in RAX and its characters in RCX. The label is its own.
+pub(crate) fn make_string(out: &mut List<Item>, n: u32) -> Result<(), Mem>
+    ensures { OnOk result ((rest : List Item) → out.new ++ rest ≡ out.old ++ string_code n rest) }
+{
+    out.extend_from_slice(&[
+        Item::LoadLabel(R11, n),
+        Item::Jump(STRING_LABEL),
+        Item::Label(n),
+        Item::Plain(Insn::MovFrom(RDX, Arg::Base32(R12, 0))),
+        Item::Plain(Insn::Shr(Arg::Reg(RDX), 3)),
+        Item::Plain(Insn::AddNumber(Arg::Reg(RDX), 23)),
+        Item::Plain(Insn::Shr(Arg::Reg(RDX), 4)),
+        Item::Plain(Insn::Shl(Arg::Reg(RDX), 4)),
+        Item::Plain(Insn::MovTo(Arg::Reg(RAX), R12)),
+        Item::Plain(Insn::AddNumber(Arg::Reg(RAX), STRING)),
+        Item::Plain(Insn::AddTo(Arg::Reg(R12), RDX)),
+    ])
+}

@@ -1,0 +1,123 @@
+-- How long the text of a program is depends neither on where its heap ends nor on the depth.
+use Rattle.std.proofs.Common.{◌≡◌, ℕ, suc, ◌+◌, ◌-◌, List, [], ◌∷◌, Bool, true, false, Option, Some, None, refl, sym, ap, ◌∙◌, arith}
+use Rattle.std.specs.Prelude.{nat_lt}
+use Rattle.sch_word.specs.declared.place.Place.{Place}
+use Rattle.sch_word.specs.declared.primitive.Primitive.{Primitive}
+use Rattle.sch_word.specs.declared.primitive.Primitive.TheVariants.{Cons}
+use Rattle.sch_word.specs.values.Literals.{count_literals}
+use Rattle.sch_control.specs.declared.body.Entry.{Entry}
+use Rattle.sch_control.specs.declared.operation.Operand.{Operand}
+use Rattle.sch_control.specs.declared.operation.Operation.{Operation}
+use Rattle.sch_control.specs.declared.operation.Operation.TheVariants.{Prim, NewCell}
+use Rattle.sch_frames.specs.declared.instruction.Instruction.{Instruction}
+use Rattle.sch_frames.specs.declared.instruction.Instruction.TheVariants.{Do}
+use Rattle.sch_frames.specs.Tree.{Code}
+use Rattle.sch_frames.specs.Tree as tree
+use Rattle.sch_asm.specs.declared.item.Item.{Item}
+use Rattle.sch_asm.specs.declared.item.Item.TheVariants as item
+use Rattle.sch_asm.specs.declared.item.MarkKind.TheVariants.{Enter}
+use Rattle.sch_asm.specs.declared.routine.Routine.TheVariants as routine
+use Rattle.sch_asm.specs.Codes.{text_size}
+use Rattle.sch_asm.specs.Routines.{label_of}
+use Rattle.sch_asm.proofs.Tables.{size_append}
+use Rattle.sch_own_routines.specs.Addresses.{body_label}
+use Rattle.sch_own_routines.specs.OwnCode.{own_code}
+use Rattle.sch_own_routines.specs.RestCode.{check_enough, list_code}
+use Rattle.sch_primitives.specs.OperandCode.{operand_code, second_code}
+use Rattle.sch_primitives.specs.PrimitiveCode.{pair_or_binary, primitive_code}
+use Rattle.sch_operations.specs.CellCode.{source_code}
+use Rattle.sch_operations.specs.OperationCode.{operation_code}
+use Rattle.sch_statics.specs.Data.{heap_of}
+use Rattle.sch_select.specs.Program.{count_code, entry_code, forms_code, labels_end, own_label, passed_code, program_code}
+use Rattle.sch_select.specs.Select.{body_code, instruction_code}
+use Rattle.sch_select.proofs.items.Appending.{Appends, instruction_appends, operand_appends, second_appends, source_appends, then_appends}
+
+-- what is appended is as long as it is
+size_behind : (f : List Item → List Item) → Appends f → (rest : List Item) → text_size (f rest) ≡ text_size (f []) + text_size rest
+size_behind f a rest = ap text_size (a rest) ∙ size_append (f []) rest
+
+list_appends : (b : Bool) (required n : ℕ) → Appends (list_code b required n)
+list_appends true required n rest = refl
+list_appends false required n rest = refl
+
+count_appends : (b : Bool) (formals n : ℕ) → Appends (count_code b formals n)
+count_appends true formals n rest = ap (check_enough (formals - 1)) (list_appends (nat_lt (formals - 1) 6) (formals - 1) n rest)
+count_appends false formals n rest = refl
+
+entry_appends : (entry : Option Entry) (n : ℕ) → Appends (entry_code entry n)
+entry_appends None n rest = refl
+entry_appends (Some e) n rest = count_appends e.rest e.formals n rest
+
+passed_appends : (entry : Option Entry) (out : ℕ) → Appends (passed_code entry out)
+passed_appends None out rest = refl
+passed_appends (Some e) out rest = refl
+
+-- two ends of the heap
+module _ (heap_end other literals : ℕ) where
+  pair_same : (n : ℕ) (which : Primitive) → text_size (pair_or_binary heap_end n which []) ≡ text_size (pair_or_binary other n which [])
+  pair_same n Cons = refl
+  pair_same n _ = refl
+
+  primitive_same : (n : ℕ) (which : Primitive) (operands : List (Operand Place))
+      → text_size (primitive_code heap_end n which operands []) ≡ text_size (primitive_code other n which operands [])
+  primitive_same n which [] = refl
+  primitive_same n which (a ∷ []) = refl
+  primitive_same n which (a ∷ (b ∷ [])) =
+      let f : List Item → List Item = λ rest. operand_code n a (second_code (n + 4) b rest) in
+      let appends = then_appends (operand_code n a) (second_code (n + 4) b) (operand_appends n a) (second_appends (n + 4) b) in
+      size_behind f appends (pair_or_binary heap_end (n + 8) which [])
+      ∙ ap (λ size. text_size (f []) + size) (pair_same (n + 8) which)
+      ∙ sym (size_behind f appends (pair_or_binary other (n + 8) which []))
+  primitive_same n which (a ∷ (b ∷ (c ∷ []))) = refl
+  primitive_same n which (a ∷ (b ∷ (c ∷ (d ∷ operands)))) = refl
+
+  operation_same : (n : ℕ) (o : Operation Place) → text_size (operation_code heap_end literals n o []) ≡ text_size (operation_code other literals n o [])
+  operation_same n (Prim site which operands) = primitive_same n which operands
+  operation_same n (NewCell x) = size_behind (source_code 0 x) (source_appends 0 x) _ ∙ sym (size_behind (source_code 0 x) (source_appends 0 x) _)
+  operation_same n _ = refl
+
+  module _ (base out words : ℕ) where
+    instruction_same : (n : ℕ) (i : Instruction)
+        → text_size (instruction_code base out words heap_end literals n i []) ≡ text_size (instruction_code base out words other literals n i [])
+    instruction_same n (Do o) = operation_same n o
+    instruction_same n _ = refl
+
+    body_same : (n : ℕ) (is : List Instruction) (rest more : List Item) → text_size rest ≡ text_size more
+        → text_size (body_code base out words heap_end literals n is rest) ≡ text_size (body_code base out words other literals n is more)
+    body_same n [] rest more e = e
+    body_same n (i ∷ is) rest more e =
+        let a = size_behind (instruction_code base out words heap_end literals n i) (instruction_appends base out words heap_end literals n i)
+        (body_code base out words heap_end literals (n + 12) is rest) in
+        let b = size_behind (instruction_code base out words other literals n i) (instruction_appends base out words other literals n i)
+        (body_code base out words other literals (n + 12) is more) in
+        let c = instruction_same n i in
+        let d = body_same (n + 12) is rest more e in
+        omega (arith, a, b, c, d)
+
+  forms_same : (words label n : ℕ) (cs : List Code) (rest more : List Item) → text_size rest ≡ text_size more
+      → text_size (forms_code words heap_end literals label n cs rest) ≡ text_size (forms_code words other literals label n cs more)
+  forms_same words label n [] rest more e = e
+  forms_same words label n (c ∷ cs) rest more e =
+      let out = n + c.labels in
+      let here = forms_code words heap_end literals (suc label) (labels_end n c) cs rest in
+      let there = forms_code words other literals (suc label) (labels_end n c) cs more in
+      let own = item.Mark (Enter label) ∷ body_code n out words heap_end literals (out + 2) c.instructions (item.Label out ∷ here) in
+      let others = item.Mark (Enter label) ∷ body_code n out words other literals (out + 2) c.instructions (item.Label out ∷ there) in
+      let a = size_behind (entry_code c.entry (out + 1)) (entry_appends c.entry (out + 1)) own in
+      let b = size_behind (entry_code c.entry (out + 1)) (entry_appends c.entry (out + 1)) others in
+      let p = size_behind (passed_code c.entry out) (passed_appends c.entry out) (item.Label (body_label label) ∷ entry_code c.entry (out + 1) own) in
+      let q = size_behind (passed_code c.entry out) (passed_appends c.entry out) (item.Label (body_label label) ∷ entry_code c.entry (out + 1) others) in
+      let h = body_same n out words (out + 2) c.instructions (item.Label out ∷ here) (item.Label out ∷ there)
+      (ap (λ size. 0 + size) (forms_same words (suc label) (labels_end n c) cs rest more e)) in
+      omega (arith, a, b, p, q, h)
+
+-- what stands behind the bodies
+last_same : (heap_end other : ℕ) → text_size (item.Jump (label_of routine.End) ∷ own_code heap_end) ≡ text_size (item.Jump (label_of routine.End) ∷ own_code other)
+last_same heap_end other = refl
+
+pub same_size : (p : tree.Source) (heap depth : ℕ) → text_size (program_code p heap depth) ≡ text_size (program_code p 0 0)
+same_size p heap depth =
+    let h = forms_same (heap_of p + heap) (heap_of p + 0) (count_literals p.statics.literals) p.words 0 (own_label p) p.bodies
+    (item.Jump (label_of routine.End) ∷ own_code (heap_of p + heap)) (item.Jump (label_of routine.End) ∷ own_code (heap_of p + 0))
+    (last_same (heap_of p + heap) (heap_of p + 0)) in
+    omega (arith, h)

@@ -1,0 +1,2 @@
+mod FrameBodies
+mod WholeLayout

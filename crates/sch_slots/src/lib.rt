@@ -1,0 +1,9 @@
+//! From control to frames: the layout of bodies, with a slot for each variable.
+#![tactic(auto)]
+
+mod body_layout;
+mod frame_bodies;
+mod slots;
+
+pub use frame_bodies::frame_program;
+pub use slots::frame_slots;

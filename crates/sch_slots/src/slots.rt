@@ -1,0 +1,151 @@
+//! Bodies with a slot for each variable.
+
+ghost use Rattle.std.specs.Prelude.{◌≡◌, ◌≤◌, ◌+◌, ◌*◌, ◌-◌, [], length, max, None, IfOk, IsTrue};
+ghost use Rattle.sch_word.specs.trees.Shape.{max_operands};
+ghost use Rattle.sch_control.specs.Covered as control_covered;
+ghost use Rattle.sch_control.specs.SourceView as control;
+ghost use Rattle.sch_control.specs.View.{expression};
+ghost use Rattle.sch_control.specs.Sizes.{expression_size};
+ghost use Rattle.sch_control.specs.Work as control_work;
+ghost use Rattle.sch_frames.specs.Covered.{code_begins, is_covered_code};
+ghost use Rattle.sch_frames.specs.Does.{FrameOf};
+ghost use Rattle.sch_frames.specs.Valid.{is_entered, formals_of};
+ghost use Rattle.sch_frames.specs.Sizes.{code_work, instructions_size};
+ghost use Rattle.sch_frames.specs.SourceView.{code_of};
+ghost use Rattle.sch_frames.specs.Standing.{code_marks_stand};
+ghost use Rattle.sch_layout.specs.OwnSlots.{entering, most_operands, own_slots, slots_base, slots_code, slots_words};
+ghost use Rattle.sch_layout.specs.BodyLayout.{labels, lay};
+ghost use Rattle.sch_layout.specs.LayoutSizes.{call_parts, entry_size, nodes};
+
+use crate::body_layout::{enter, lay};
+use sch_control::{Body, Entry, Exp};
+use sch_frames::FrameBody;
+use sch_word::{List, Mem};
+use sch_writer::{Slots, Writer};
+use std::alloc::Global;
+
+/// The larger of two numbers.
+fn larger(a: usize, b: usize) -> usize
+    ensures { result ≡ max a b }
+{
+    if a < b { b } else { a }
+}
+
+/// The most operands of one call.
+fn most_operands(e: &Exp<()>) -> usize
+    ensures { result ≡ most_operands (expression e.now) }
+{
+    match e {
+        Exp::Do(_) => 0,
+        Exp::Bind(_, a, b) => larger(most_operands(a), most_operands(b)),
+        Exp::Seq(a, b) => larger(most_operands(a), most_operands(b)),
+        Exp::If(a, b, c) => {
+            let arms = larger(most_operands(b), most_operands(c));
+            larger(most_operands(a), arms)
+        }
+        Exp::Fix(_, e) => most_operands(e),
+        Exp::Call(a, _) => a.operands.len(),
+        Exp::TailCall(a) => a.operands.len(),
+        Exp::Return(e) => most_operands(e),
+        Exp::End(e) => most_operands(e),
+    }
+}
+
+fn formals_of(entry: Option<Entry>) -> u32
+    ensures { result ≡ formals_of entry }
+{
+    match entry {
+        None => 0,
+        Some(e) => e.formals,
+    }
+}
+
+/// Where a body keeps what it has, and the size of its frame.
+#[derive(Clone, Copy)]
+struct Room {
+    slots: Slots,
+    words: u32,
+}
+
+/// The room for variables, where a call has at most this many operands.
+fn room_with(entry: Option<Entry>, variables: u32, most: u32) -> Room
+    requires formals { formals_of entry ≤ 200 }
+    requires variables { variables ≤ 1002 }
+    requires most { most ≤ 200 }
+    ensures base { result.slots.base ≡ max (formals_of entry - 6) most }
+    ensures entered { result.slots.entered ≡ is_entered entry }
+    ensures words { result.words ≡ max (formals_of entry - 6) most + variables }
+{
+    let arriving = formals_of(entry).saturating_sub(6);
+    let base = larger(arriving as usize, most as usize) as u32;
+    let slots = Slots {
+        base,
+        entered: entry.is_some(),
+    };
+    Room {
+        slots,
+        words: base + variables,
+    }
+}
+
+/// The room that a body needs.
+fn room_for(b: &Body) -> Room
+    ensures base { result.slots.base ≡ slots_base (control.code_of b.now) }
+    ensures entered { result.slots.entered ≡ is_entered b.now.entry }
+    ensures words { result.words ≡ slots_words (control.code_of b.now) }
+{
+    room_with(b.entry, b.variables, most_operands(&b.exp) as u32)
+}
+
+/// The instructions of a body.
+fn laid_out(alloc: Global, slots: Slots, b: &Body) -> Result<Writer, Mem>
+    requires formals { formals_of b.now.entry ≤ 200 }
+    ensures instructions { IfOk result (λ out. out.instructions
+        ≡ entering slots.base b.now.entry (lay (own_slots slots.base slots.entered) (expression b.now.exp) 0 None [])) }
+    ensures labels { IfOk result (λ out. out.labels ≡ labels (expression b.now.exp)) }
+{
+    let mut out = Writer {
+        instructions: List::new(alloc),
+        labels: 0,
+    };
+    enter(slots.base, b.entry, &mut out)?;
+    lay(alloc, slots, &b.exp, None, &mut out)?;
+    Ok(out)
+}
+
+/// The frame body of a body, with a slot for each variable.
+///
+/// A procedure stores its arguments in the slots of its formals and keeps its return address in a slot. The slots
+/// in which arguments arrive are free then: there a call sets its operands aside, before it hands them over.
+///
+/// Memory is used as the answer's instructions need it: at most three for each node of the body, two for each
+/// operand of a call, and one for each formal. What is past the numbers of 32 bits, for which a body needs 2^31
+/// nodes, is answered as out of memory too.
+pub fn frame_slots(alloc: Global, b: &Body) -> Result<FrameBody, Mem>
+    // What laying out is defined to make.
+    ensures made { IfOk result (λ f. code_of f ≡ slots_code (control.code_of b.now)) }
+    ensures same { IfOk result (λ f. FrameOf (control.code_of b.now) (code_of f)) }
+    ensures begins { IfOk result (λ f. IsTrue (code_begins (code_of f))) }
+    ensures stand { IfOk result (λ f. IsTrue (code_marks_stand (code_of f))) }
+    ensures covered { IfOk result (λ f.
+        IsTrue (control_covered.is_covered_code (control.code_of b.now)) → IsTrue (is_covered_code (code_of f))) }
+    ensures words { IfOk result (λ f. f.words ≡ slots_words (control.code_of b.now)) }
+    // Beside its variables a frame has at most as many words as a call may have operands.
+    ensures frame_words { IfOk result (λ f. f.words ≤ max_operands + b.now.variables) }
+    ensures size { IfOk result (λ f. length f.instructions
+        ≤ 3 * nodes (expression b.now.exp) + 2 * call_parts (expression b.now.exp) + (formals_of b.now.entry + 2)) }
+    ensures work { IfOk result (λ f. instructions_size f.instructions
+        ≤ 2 * expression_size (expression b.now.exp) + 4 * call_parts (expression b.now.exp) + entry_size b.now.entry) }
+    // With its closures, its calls and the jump over it, there is no more to do than is counted of the body.
+    ensures all_work { IfOk result (λ f. code_work (code_of f) ≤ control_work.code_work (control.code_of b.now)) }
+    ensures labels { IfOk result (λ f. f.labels ≤ 2 * nodes (expression b.now.exp)) }
+{
+    let room = room_for(b);
+    let out = laid_out(alloc, room.slots, b)?;
+    Ok(FrameBody {
+        entry: b.entry,
+        words: room.words,
+        labels: out.labels,
+        instructions: out.instructions,
+    })
+}

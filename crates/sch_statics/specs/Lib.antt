@@ -1,0 +1,2 @@
+pub mod NameWords
+pub mod Data

@@ -1,0 +1,195 @@
+//! Calls: operands are set aside, each in a slot of its own before those of variables, and then handed over.
+
+ghost use Rattle.std.specs.Prelude.{◌≡◌, ◌+◌, ◌∷◌, false, length, true, IfOk, OnOk};
+ghost use Rattle.sch_control.specs.declared.mark.MarkKind.TheVariants as mark;
+ghost use Rattle.sch_frames.specs.Meaning.{argument_register, argument_slot, closure_register, link_register};
+ghost use Rattle.sch_frames.specs.declared.instruction.Instruction.TheVariants.{Call, Mark, Tail};
+ghost use Rattle.sch_layout.specs.BodyLayout.{arrival, hand_over, handed, leave, prepared, restored, set_aside, Writes};
+ghost use Rattle.sch_layout.specs.OwnSlots.{home_of, own_slot, own_slots};
+
+use crate::instructions::{Slots, Writer, leave, put};
+use crate::slot_places::operand_at;
+use sch_control::{Application, Atom, MarkKind, Operand};
+use sch_frames::Instruction;
+use sch_word::{Mem, Place};
+use std::alloc::Global;
+
+/// Where the return address of an activation is: R15.
+pub const LINK: Place = Place::Reg(15);
+
+/// Where the closure of an activation is as it is entered: R14.
+pub const CLOSURE: Place = Place::Reg(14);
+
+/// The register of an operand by the number of those before it: RBX, R8, R9, R10, RSI or RDI.
+fn argument_register(k: u32) -> Option<u8>
+    ensures { result ≡ argument_register k }
+{
+    match k {
+        0 => Some(3),
+        1 => Some(8),
+        2 => Some(9),
+        3 => Some(10),
+        4 => Some(6),
+        5 => Some(7),
+        _ => None,
+    }
+}
+
+/// The slot of an operand that has no register.
+fn argument_slot(k: u32) -> u32
+    ensures { result ≡ argument_slot k }
+{
+    k.saturating_sub(6)
+}
+
+/// Where an argument arrives.
+pub fn arrival(k: u32) -> Place
+    ensures { result ≡ arrival k }
+{
+    match argument_register(k) {
+        Some(r) => Place::Reg(r),
+        None => Place::Slot(argument_slot(k)),
+    }
+}
+
+/// What a place holds is handed over as an operand: of a tail call in the own frame, of another call in the
+/// frame that it opens.
+fn handed(tail: bool, k: u32, from: Place) -> Instruction
+    ensures { result ≡ handed tail k from }
+{
+    if tail {
+        return Instruction::Copy(arrival(k), from);
+    }
+    match argument_register(k) {
+        Some(r) => Instruction::Copy(Place::Reg(r), from),
+        None => Instruction::Pass(argument_slot(k), Operand::Atom(Atom::Variable(from))),
+    }
+}
+
+/// A number of 32 bits; one past them is out of memory.
+fn short(n: usize) -> Result<u32, Mem>
+    ensures { IfOk result (λ m. m ≡ n) }
+{
+    match u32::try_from(n) {
+        Ok(m) => Ok(m),
+        Err(_) => Err(Mem),
+    }
+}
+
+/// The next slot.
+fn following(slot: u32) -> Result<u32, Mem>
+    ensures { IfOk result (λ n. n ≡ slot + 1) }
+{
+    match slot.checked_add(1) {
+        Some(n) => Ok(n),
+        None => Err(Mem),
+    }
+}
+
+/// Each operand is loaded into a slot of its own.
+fn set_aside(
+    alloc: Global,
+    slots: Slots,
+    operands: &[Operand<u32>],
+    out: &mut Writer,
+) -> Result<(), Mem>
+    ensures instructions { OnOk result (Writes out.old.instructions out.new.instructions
+        (set_aside (own_slot slots.base) 0 operands.now)) }
+    ensures labels { OnOk result (out.new.labels ≡ out.old.labels) }
+{
+    let mut next = 0;
+    for o in operands {
+        put(
+            out,
+            Instruction::Load(Place::Slot(next), operand_at(alloc, slots.base, o)?),
+        )?;
+        next = following(next)?;
+    }
+    Ok(())
+}
+
+/// The operands that are set aside are handed over, the first before the others.
+fn hand_over(tail: bool, count: u32, out: &mut Writer) -> Result<(), Mem>
+    ensures instructions { OnOk result (Writes out.old.instructions out.new.instructions (hand_over tail 0 count)) }
+    ensures labels { OnOk result (out.new.labels ≡ out.old.labels) }
+{
+    for k in 0..count {
+        put(out, handed(tail, k, Place::Slot(k)))?;
+    }
+    Ok(())
+}
+
+/// The operator's closure and the operands stand where a call takes them.
+fn prepare(
+    alloc: Global,
+    slots: Slots,
+    tail: bool,
+    a: &Application<u32>,
+    out: &mut Writer,
+) -> Result<u32, Mem>
+    ensures instructions { OnOk result (Writes out.old.instructions out.new.instructions
+        (prepared (own_slots slots.base slots.entered) tail a.now)) }
+    ensures labels { OnOk result (out.new.labels ≡ out.old.labels) }
+    ensures count { IfOk result (λ n. n ≡ length a.now.operands) }
+{
+    let operands = a.operands.as_slice();
+    let count = short(operands.len())?;
+    let operator = operand_at(alloc, slots.base, &a.operator)?;
+    put(out, Instruction::Load(CLOSURE, operator))?;
+    set_aside(alloc, slots, operands, out)?;
+    hand_over(tail, count, out)?;
+    Ok(count)
+}
+
+/// The return address is back in its register, where there is one.
+fn restore(slots: Slots, out: &mut Writer) -> Result<(), Mem>
+    ensures instructions { OnOk result (Writes out.old.instructions out.new.instructions (restored (home_of slots.entered slots.base))) }
+    ensures labels { OnOk result (out.new.labels ≡ out.old.labels) }
+{
+    if slots.entered {
+        put(out, Instruction::Copy(LINK, Place::Slot(slots.base)))?;
+    }
+    Ok(())
+}
+
+/// A call, whose value is left in the accumulator, or tested, and goes on behind the label where it is `#f`. The operator
+/// is loaded into R14; each operand is loaded into a slot of its own and handed over from there. More than 2^32 operands
+/// are out of memory.
+pub fn write_call(
+    alloc: Global,
+    slots: Slots,
+    a: &Application<u32>,
+    test: Option<u32>,
+    out: &mut Writer,
+) -> Result<(), Mem>
+    ensures instructions { OnOk result (Writes out.old.instructions out.new.instructions
+        (λ rest. prepared (own_slots slots.base slots.entered) false a.now
+        (Mark (mark.Call a.now.site) ∷ (Call a.now.spread (length a.now.operands)
+        ∷ restored (home_of slots.entered slots.base) (leave test rest))))) }
+    ensures labels { OnOk result (out.new.labels ≡ out.old.labels) }
+{
+    let count = prepare(alloc, slots, false, a, out)?;
+    put(out, Instruction::Mark(MarkKind::Call(a.site)))?;
+    put(out, Instruction::Call(a.spread, count))?;
+    restore(slots, out)?;
+    leave(out, test)?;
+    Ok(())
+}
+
+/// A tail call, prepared as a call is, whose operands go where those of the body itself arrive.
+pub fn write_tail_call(
+    alloc: Global,
+    slots: Slots,
+    a: &Application<u32>,
+    out: &mut Writer,
+) -> Result<(), Mem>
+    ensures instructions { OnOk result (Writes out.old.instructions out.new.instructions
+        (λ rest. prepared (own_slots slots.base slots.entered) true a.now
+        (Mark (mark.Tail a.now.site) ∷ (Tail a.now.spread (length a.now.operands) ∷ rest)))) }
+    ensures labels { OnOk result (out.new.labels ≡ out.old.labels) }
+{
+    let count = prepare(alloc, slots, true, a, out)?;
+    put(out, Instruction::Mark(MarkKind::Tail(a.site)))?;
+    put(out, Instruction::Tail(a.spread, count))?;
+    Ok(())
+}
