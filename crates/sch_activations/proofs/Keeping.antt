@@ -4,11 +4,9 @@ use Rattle.std.specs.Prelude.{◌&&◌}
 use Rattle.std.specs.List.{list_all}
 use Rattle.std.proofs.lemmas.Bool.{and_from, and_parts}
 use Rattle.sch_control.specs.declared.mark.MarkKind.{MarkKind}
-use Rattle.sch_control.specs.declared.mark.MarkKind.TheVariants as mark
 use Rattle.sch_control.specs.Covered.{has_covered_formals}
 use Rattle.sch_control.specs.CoveredOperands.{is_form}
 use Rattle.sch_frames.specs.declared.instruction.Instruction.{Instruction}
-use Rattle.sch_frames.specs.declared.instruction.Instruction.TheVariants.{Call, Tail, Return, End, Mark}
 use Rattle.sch_frames.specs.Covered.{instruction_low, is_covered_code, is_covered_instruction, marks_settled, may_stand, plain_instruction}
 use Rattle.sch_frames.specs.Standing as standing
 use Rattle.sch_frames.specs.Standing.{belongs, code_marks_stand, waiting}
@@ -16,12 +14,7 @@ use Rattle.sch_frames.specs.Tree.{Code}
 
 -- none is a mark of an entry, and a form ends in the body of a form alone
 abbrev pub stands_alone : (form : Bool) → Instruction → Bool
-stands_alone form (Call spread count) = false
-stands_alone form (Tail spread count) = false
-stands_alone form Return = false
-stands_alone form End = form
-stands_alone form (Mark (mark.Enter label)) = false
-stands_alone form _ = true
+stands_alone form i = standing.stands_alone i && (plain_instruction i && may_stand form i)
 
 abbrev pub marks_stand : (form : Bool) → Option MarkKind → List Instruction → Bool
 marks_stand form None [] = true
@@ -32,20 +25,12 @@ marks_stand form (Some m) (i ∷ instructions) = belongs m i && marks_stand form
 abbrev pub marks_stand_in : Code → Bool
 marks_stand_in c = marks_stand (is_form c.entry) None c.instructions
 
-alone : (form : Bool) (i : Instruction) → standing.stands_alone i ≡ true → may_stand form i ≡ true → plain_instruction i ≡ true → stands_alone form i ≡ true
-alone form (Call spread count) a b c = a
-alone form (Tail spread count) a b c = a
-alone form Return a b c = a
-alone form End a b c = b
-alone form (Mark (mark.Enter label)) a b c = c
-alone form _ a b c = refl
-
 stands : (form : Bool) (waits : Option MarkKind) (is : List Instruction) → standing.marks_stand waits is ≡ true → list_all (may_stand form) is ≡ true → list_all plain_instruction is ≡ true → marks_stand form waits is ≡ true
 stands form None [] a b c = refl
 stands form (Some m) [] a b c = a
 stands form None (i ∷ is) a b c =
     let p = and_parts (standing.stands_alone i) _ a in let q = and_parts (may_stand form i) _ b in let r = and_parts (plain_instruction i) _ c in
-    and_from _ _ (alone form i p.0 q.0 r.0) (stands form (waiting i) is p.1 q.1 r.1)
+    and_from _ _ (and_from _ _ p.0 (and_from _ _ r.0 q.0)) (stands form (waiting i) is p.1 q.1 r.1)
 stands form (Some m) (i ∷ is) a b c =
     let p = and_parts (belongs m i) _ a in let q = and_parts (may_stand form i) _ b in let r = and_parts (plain_instruction i) _ c in
     and_from _ _ p.0 (stands form None is p.1 q.1 r.1)

@@ -8,7 +8,7 @@ use Rattle.sch_word.specs.declared.place.Place.TheVariants.{Slot}
 use Rattle.sch_word.specs.values.Checked.{Checked, passes, refused, exhausted, unreachable}
 use Rattle.sch_word.specs.values.Values.{Value, is_true, unspecified}
 use Rattle.sch_word.specs.runs.Charges.{charge_each, fit}
-use Rattle.sch_word.specs.runs.Computation.{Outcome, State, checked_call, gives, in_store, procedures_from, spent, stops, take_entry, with_rest}
+use Rattle.sch_word.specs.runs.Computation.{Entry as Entered, Outcome, State, checked_call, gives, in_store, procedures_from, spent, stops, take_entry, with_rest}
 use Rattle.sch_word.specs.runs.Store.{Store}
 use Rattle.sch_word.proofs.SameStore.{Gives, fit_length}
 use Rattle.sch_control.specs.declared.body.Entry.{Entry}
@@ -67,8 +67,8 @@ module _ (codes : List Code) where
   valued P None next h = tt
   valued P (Some a) next h = h a refl
 
-  linked : (P : List MarkKind → Type 0) (c : Cell) (r : Result) → Ends P r → Ends P (if_link c r)
-  linked P Link r h = h
+  linked : (P : List MarkKind → Type 0) (c : Cell) (r : Result) → (c ≡ Link → Ends P r) → Ends P (if_link c r)
+  linked P Link r h = h refl
   linked P (Is v) r h = tt
   linked P Junk r h = tt
 
@@ -106,6 +106,20 @@ module _ (codes : List Code) where
         by (refused why) vs = level_sound level
         by exhausted vs = level_sound level
         by unreachable vs = level_sound level
+
+    -- behind a call that goes through, the caller goes on
+    call_goes : (spread : Bool) (suspended : List (List MarkKind)) (vs : List Value) (w : World) → Level codes suspended w.marks → (P : List MarkKind → Type 0) (next : Value → World → Result)
+        → ((e : Entered Procedure) → checked_call w.state.procedures w.state.store spread false depth vs ≡ passes e → (v : Value) (u : World) → Back codes suspended u.marks → Ends P (next v u))
+        → Ends P (on_return (call_in callee spread false depth vs w) next)
+    call_goes spread suspended vs w level P next go = by (checked_call w.state.procedures w.state.store spread false depth vs) refl vs
+      where
+        by : (c : Checked (Entered Procedure)) → checked_call w.state.procedures w.state.store spread false depth vs ≡ c → (us : List Value) → Ends P (on_return (on_checked c w (into callee us w)) next)
+        by (passes e) i [] = tt
+        by (passes e) i (v ∷ us) =
+            came_back (Back codes suspended) P (callee v e.procedure e.arguments e.depth w) next (returns suspended v e.procedure e.arguments e.depth w level) (go e i)
+        by (refused why) i us = level_sound level
+        by exhausted i us = level_sound level
+        by unreachable i us = level_sound level
 
     -- ---- one body
 
@@ -193,16 +207,15 @@ module _ (codes : List Code) where
         left (mark.Call site) (Call spread count) b h f w before prior e leads mine =
             let level = called codes site mine in
             valued P (parts f.places f.outgoing count) _
-            (λ vs q. came_back (Back codes ((mark.Enter label ∷ (before ++ mark.Call site ∷ [])) ∷ suspended)) P (call_in callee spread false depth vs w) _
-            (call_comes spread false ((mark.Enter label ∷ (before ++ mark.Call site ∷ [])) ∷ suspended) vs w (subst (Level codes ((mark.Enter label ∷ (before ++ mark.Call site ∷ [])) ∷ suspended)) (sym e) level))
-            (λ v u on. goes None h None (after_call f v) u (before ++ mark.Call site ∷ []) (λ marks y. one_before before (mark.Call site) marks (leads marks (v, (u.state, y)))) on))
+            (λ vs q. call_goes spread ((mark.Enter label ∷ (before ++ mark.Call site ∷ [])) ∷ suspended) vs w (subst (Level codes ((mark.Enter label ∷ (before ++ mark.Call site ∷ [])) ∷ suspended)) (sym e) level) P _
+            (λ p i v u on. goes None h None (after_call f v) u (before ++ mark.Call site ∷ []) (λ marks y. one_before before (mark.Call site) marks (leads marks (vs, (q, ((depth, (p, i)), (v, (u.state, y))))))) on))
         left (mark.Tail site) (Tail spread count) b h f w before prior e leads mine =
-            let level = tail_called codes site mine (a_way (before ++ mark.Tail site ∷ []) (leads [] refl)) in
-            linked P (f.places link_register) _ (valued P (parts f.places (λ j. f.places (Slot j)) count) (λ vs. call_in callee spread true depth vs w)
-            (λ vs q. as_given (Back codes suspended) P back (call_in callee spread true depth vs w) (call_comes spread true suspended vs w (subst (Level codes suspended) (sym e) level))))
+            linked P (f.places link_register) _ (λ i. valued P (parts f.places (λ j. f.places (Slot j)) count) (λ vs. call_in callee spread true depth vs w)
+            (λ vs q. let level = tail_called codes site mine (a_way (before ++ mark.Tail site ∷ []) (leads [] (i, (vs, (q, refl))))) in
+            as_given (Back codes suspended) P back (call_in callee spread true depth vs w) (call_comes spread true suspended vs w (subst (Level codes suspended) (sym e) level))))
         left mark.Return Return b h f w before prior e leads mine =
-            linked P (f.places link_register) _ (valued P (value_in f.accumulator) (λ v. Some (gives v w))
-            (λ v q. back w.marks (subst (Back codes suspended) (sym e) (returned codes suspended mine (a_way (before ++ mark.Return ∷ []) (leads [] refl))))))
+            linked P (f.places link_register) _ (λ i. valued P (value_in f.accumulator) (λ v. Some (gives v w))
+            (λ v q. back w.marks (subst (Back codes suspended) (sym e) (returned codes suspended mine (a_way (before ++ mark.Return ∷ []) (leads [] (i, (v, (q, refl)))))))))
         left _ _ b h f w before prior e leads mine = absurd cc
 
       pub body_goes : (rest : List Instruction) → Goes rest

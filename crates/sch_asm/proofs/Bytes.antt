@@ -7,7 +7,7 @@ use Rattle.std.proofs.lemmas.List.{drop-drop, length-take-le}
 use Rattle.std.proofs.lemmas.Slice.{between_is, take-put_mid_below, drop-put_mid}
 use borrow.Rule.Slice.PartMut.{put_mid}
 use Rattle.sch_word.specs.values.Memory.{Segment}
-use Rattle.sch_insn.specs.declared.machine.StuckCause.{StuckCause}
+use Rattle.sch_insn.specs.declared.state.StuckCause.{StuckCause}
 use Rattle.sch_insn.specs.Machine.{bytes_from, put_bytes, with_bytes, behind_segment, stored, or_access, when_ok, byte_at, head_or_0}
 use Rattle.sch_asm.specs.Stands.{Setting}
 use Rattle.sch_asm.specs.Data.{data_at, word_in}

@@ -7,7 +7,7 @@ use Rattle.sch_insn.specs.declared.insn.Arg.{Arg}
 use Rattle.sch_insn.specs.declared.insn.Arg.TheVariants.{Reg, Base, Base32, Rip}
 use Rattle.sch_insn.specs.declared.insn.Insn.{Insn}
 use Rattle.sch_insn.specs.declared.insn.Insn.TheVariants as insn
-use Rattle.sch_insn.specs.declared.machine.StuckCause.{StuckCause}
+use Rattle.sch_insn.specs.declared.state.StuckCause.{StuckCause}
 use Rattle.sch_insn.specs.Decode.{decode, when_some}
 use Rattle.sch_insn.specs.Machine.{holds, bytes_from, add64, word, condition, set_register, word_at, byte_at, stored, when_ok, or_access, with_segments, with_register, with_place, head_or_0}
 use Rattle.sch_insn.specs.Step.{Progress, Runs, fetch, fetched, perform, moved, step, jump_if}

@@ -12,7 +12,7 @@ use Rattle.sch_asm.specs.declared.item.Item.{Item}
 use Rattle.sch_asm.specs.declared.item.Item.TheVariants.{Label, Plain, Jump, JumpIf, LoadLabel, LoadWord, StoreWord, Mark}
 use Rattle.sch_asm.specs.Items.{IsItem, AreItems}
 use Rattle.sch_asm.specs.Codes.{Codes, item_size, text_size}
-use Rattle.sch_asm.specs.Layout.{StandsAt, StandAt, addresses_from, displacement, insns_of, marks_of, emitted, marked, placed_by}
+use Rattle.sch_asm.specs.Layout.{StandsAt, StandAt, addresses_from, displacement, insns_of, marks_of, emitted, marked}
 
 -- ---- displacements
 
@@ -151,16 +151,16 @@ marked_append at (x ∷ xs) ys k =
 
 -- ---- labels by the tables
 
-owns_by : (numbers addresses : List ℕ) (k : ℕ) (i : Item) (small : (l : ℕ) → placed_by numbers addresses l < 2147483648) → StandsAt numbers k i → Owns (placed_by numbers addresses) (slice_index addresses) small k i
-owns_by numbers addresses k (Label l) small h = ap (slice_index addresses) h
-owns_by numbers addresses k (Plain i) small h = tt
-owns_by numbers addresses k (Jump l) small h = tt
-owns_by numbers addresses k (JumpIf c l) small h = tt
-owns_by numbers addresses k (LoadLabel r l) small h = tt
-owns_by numbers addresses k (LoadWord r a) small h = tt
-owns_by numbers addresses k (StoreWord a r) small h = tt
-owns_by numbers addresses k (Mark m) small h = tt
+owns_by : (places addresses : List ℕ) (k : ℕ) (i : Item) (small : (l : ℕ) → slice_index places l < 2147483648) → StandsAt (slice_index addresses) places k i → Owns (slice_index places) (slice_index addresses) small k i
+owns_by places addresses k (Label l) small h = h
+owns_by places addresses k (Plain i) small h = tt
+owns_by places addresses k (Jump l) small h = tt
+owns_by places addresses k (JumpIf c l) small h = tt
+owns_by places addresses k (LoadLabel r l) small h = tt
+owns_by places addresses k (LoadWord r a) small h = tt
+owns_by places addresses k (StoreWord a r) small h = tt
+owns_by places addresses k (Mark m) small h = tt
 
-pub own_by : (numbers addresses : List ℕ) (is : List Item) (k : ℕ) (small : (l : ℕ) → placed_by numbers addresses l < 2147483648) → StandAt numbers k is → Own (placed_by numbers addresses) (slice_index addresses) small k is
-own_by numbers addresses [] k small h = tt
-own_by numbers addresses (i ∷ is) k small h = (owns_by numbers addresses k i small h.0, own_by numbers addresses is (k + 1) small h.1)
+pub own_by : (places addresses : List ℕ) (is : List Item) (k : ℕ) (small : (l : ℕ) → slice_index places l < 2147483648) → StandAt (slice_index addresses) places k is → Own (slice_index places) (slice_index addresses) small k is
+own_by places addresses [] k small h = tt
+own_by places addresses (i ∷ is) k small h = (owns_by places addresses k i small h.0, own_by places addresses is (k + 1) small h.1)

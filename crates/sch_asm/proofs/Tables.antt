@@ -7,7 +7,7 @@ use Rattle.std.proofs.lemmas.Bool.Decides.{nat_tests}
 use Rattle.std.proofs.lemmas.Grind.{common_steps}
 use Rattle.std.proofs.lemmas.List.{get_or-set_same, get_or-set_other}
 use Rattle.std.proofs.lemmas.List.Elements.{recursion_from_All}
-use Rattle.std.proofs.Math.ListN.{length-set}
+use Rattle.std.proofs.Math.ListN.{length-set, get_or-eq_default}
 use Rattle.sch_insn.proofs.PrefixCode.{spelling_short}
 use Rattle.sch_word.specs.declared.stop.Stop.TheVariants.{WrongType, OutOfRange, NotProcedure, WrongCount, DivideByZero, Overflow, HeapLimit, DepthLimit, Unset, OutputFailed}
 use Rattle.sch_asm.specs.declared.assembly.Word.{Word}
@@ -19,7 +19,7 @@ use Rattle.sch_asm.specs.declared.routine.Routine.TheVariants.{End, Stop, Put, P
 use Rattle.sch_asm.specs.Routines.{label_of}
 use Rattle.sch_asm.specs.Items.{AreItems, AreKnown, AreOwn, IsEachOnce, is_among, is_routine, labels_in, uses_in, word_uses}
 use Rattle.sch_asm.specs.Codes.{item_size, text_size}
-use Rattle.sch_asm.specs.Layout.{raised, label_bound, entered, numbered, StandsAt, StandAt, StandsBelow, StandBelow, UseBelow, WordsBelow, total, addresses_from}
+use Rattle.sch_asm.specs.Layout.{raised, label_bound, entered, placed, StandsAt, StandAt, StandsBelow, StandBelow, UseBelow, WordsBelow, total, addresses_from}
 
 -- ---- sizes
 
@@ -162,13 +162,13 @@ pub stand_append : (xs ys : List Item) (n : ℕ) → StandBelow n xs → StandBe
 stand_append [] ys n h k = k
 stand_append (x ∷ xs) ys n h k = (h.0, stand_append xs ys n h.1 k)
 
-pub numbered_append : (xs ys : List Item) (k : ℕ) (t : List ℕ) → numbered (xs ++ ys) k t ≡ numbered ys (k + length xs) (numbered xs k t)
-numbered_append [] ys k t = let e : k + 0 ≡ k = omega arith in ap (λ j. numbered ys j t) (sym e)
-numbered_append (x ∷ xs) ys k t =
+pub placed_append : (at : ℕ → ℕ) (xs ys : List Item) (k : ℕ) (t : List ℕ) → placed at (xs ++ ys) k t ≡ placed at ys (k + length xs) (placed at xs k t)
+placed_append at [] ys k t = let e : k + 0 ≡ k = omega arith in ap (λ j. placed at ys j t) (sym e)
+placed_append at (x ∷ xs) ys k t =
     let e : k + 1 + length xs ≡ k + length (x ∷ xs) = omega arith in
-    numbered_append xs ys (k + 1) (entered x k t) ∙ ap (λ j. numbered ys j (numbered xs (k + 1) (entered x k t))) e
+    placed_append at xs ys (k + 1) (entered x (at k) t) ∙ ap (λ j. placed at ys j (placed at xs (k + 1) (entered x (at k) t))) e
 
--- ---- the numbers of labels
+-- ---- the places of labels
 
 abbrev IsNot : ℕ → Item → Type 0
 IsNot l (Label m) = l ≢ m
@@ -259,27 +259,27 @@ entered_length : (i : Item) (k : ℕ) (t : List ℕ) → length (entered i k t) 
 entered_length (Label l) k t = length-set t l k
 entered_length _ k t = refl
 
-pub numbered_length : (is : List Item) (k : ℕ) (t : List ℕ) → length (numbered is k t) ≡ length t
-numbered_length [] k t = refl
-numbered_length (i ∷ is) k t = numbered_length is (k + 1) (entered i k t) ∙ entered_length i k t
+pub placed_length : (at : ℕ → ℕ) (is : List Item) (k : ℕ) (t : List ℕ) → length (placed at is k t) ≡ length t
+placed_length at [] k t = refl
+placed_length at (i ∷ is) k t = placed_length at is (k + 1) (entered i (at k) t) ∙ entered_length i (at k) t
 
 entered_kept : (l : ℕ) (i : Item) (k : ℕ) (t : List ℕ) → IsNot l i → slice_index (entered i k t) l ≡ slice_index t l
 entered_kept l (Label m) k t u = get_or-set_other t m l k 0 u
 entered_kept l _ k t u = refl
 
-kept : (is : List Item) (k : ℕ) (t : List ℕ) (l : ℕ) → Absent l is → slice_index (numbered is k t) l ≡ slice_index t l
-kept [] k t l u = refl
-kept (i ∷ is) k t l u = kept is (k + 1) (entered i k t) l u.1 ∙ entered_kept l i k t u.0
+kept : (at : ℕ → ℕ) (is : List Item) (k : ℕ) (t : List ℕ) (l : ℕ) → Absent l is → slice_index (placed at is k t) l ≡ slice_index t l
+kept at [] k t l u = refl
+kept at (i ∷ is) k t l u = kept at is (k + 1) (entered i (at k) t) l u.1 ∙ entered_kept l i (at k) t u.0
 
-own : (i : Item) (is : List Item) (k j : ℕ) (t : List ℕ) → Once i is → StandsBelow (length t) i → StandsAt (numbered is j (entered i k t)) k i
-own (Label l) is k j t u v = kept is j (slice_set t l k) l u ∙ get_or-set_same t l k 0 v
-own _ is k j t u v = tt
+own : (at : ℕ → ℕ) (i : Item) (is : List Item) (k j : ℕ) (t : List ℕ) → Once i is → StandsBelow (length t) i → StandsAt at (placed at is j (entered i (at k) t)) k i
+own at (Label l) is k j t u v = kept at is j (slice_set t l (at k)) l u ∙ get_or-set_same t l (at k) 0 v
+own at _ is k j t u v = tt
 
-pub stand_at : (is : List Item) (k : ℕ) (t : List ℕ) → Apart is → StandBelow (length t) is → StandAt (numbered is k t) k is
-stand_at [] k t u v = tt
-stand_at (i ∷ is) k t u v = (
-  own i is k (k + 1) t u.0 v.0,
-  stand_at is (k + 1) (entered i k t) u.1 (subst (λ n. StandBelow n is) (sym (entered_length i k t)) v.1),
+pub stand_at : (at : ℕ → ℕ) (is : List Item) (k : ℕ) (t : List ℕ) → Apart is → StandBelow (length t) is → StandAt at (placed at is k t) k is
+stand_at at [] k t u v = tt
+stand_at at (i ∷ is) k t u v = (
+  own at i is k (k + 1) t u.0 v.0,
+  stand_at at is (k + 1) (entered i (at k) t) u.1 (subst (λ n. StandBelow n is) (sym (entered_length i (at k) t)) v.1),
 )
 
 -- each number is below a bound
@@ -298,9 +298,14 @@ below_entered : (i : Item) (k n : ℕ) (t : List ℕ) → k < n → Below n t �
 below_entered (Label l) k n t lt h = below_set t l k n lt h
 below_entered _ k n t lt h = h
 
-pub below_numbered : (is : List Item) (k n : ℕ) (t : List ℕ) → k + length is < n → Below n t → Below n (numbered is k t)
-below_numbered [] k n t lt h = h
-below_numbered (i ∷ is) k n t lt h = below_numbered is (k + 1) n (entered i k t) (omega arith) (below_entered i k n t (omega arith) h)
+pub below_placed : (at : ℕ → ℕ) (is : List Item) (k n : ℕ) (t : List ℕ) → ((j : ℕ) → at j < n) → Below n t → Below n (placed at is k t)
+below_placed at [] k n t lt h = h
+below_placed at (i ∷ is) k n t lt h = below_placed at is (k + 1) n (entered i (at k) t) lt (below_entered i (at k) n t (lt k) h)
+
+-- also behind the table
+pub below_anywhere : (t : List ℕ) (n : ℕ) → 0 < n → Below n t → (k : ℕ) → slice_index t k < n
+below_anywhere t n some h k =
+    ⊎_elim (λ lt. h k lt) (λ le. subst (λ x. x < n) (sym (get_or-eq_default t 0 le)) some) (cases_lt k (length t))
 
 pub below_zeros : (c n : ℕ) → 0 < n → Below n (replicate c 0)
 below_zeros c n some k h = grind (arith, common_steps)

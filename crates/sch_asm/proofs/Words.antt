@@ -9,8 +9,9 @@ use Rattle.std.proofs.lemmas.Nat.{from_le_bytes-to_le_bytes_8}
 use Rattle.std.proofs.lemmas.Slice.{between-put_mid, between_is, take-put_mid_below, drop-put_mid}
 use borrow.Rule.Slice.PartMut.{put_mid}
 use Rattle.sch_word.specs.values.Memory.{Segment}
-use Rattle.sch_insn.specs.declared.machine.StuckCause.{StuckCause}
+use Rattle.sch_insn.specs.declared.state.StuckCause.{StuckCause}
 use Rattle.sch_insn.specs.Machine.{holds, bytes_from, put_bytes, with_bytes, behind_segment, stored, or_access, when_ok, word_at}
+use Rattle.sch_insn.proofs.PutSize.{size_put}
 use Rattle.sch_asm.specs.Stands.{Setting}
 use Rattle.sch_asm.specs.Data.{data_at, word_in, with_word, Inside}
 use Rattle.sch_asm.specs.declared.assembly.Word.{Word}
@@ -45,9 +46,7 @@ as_written : (bs : List ℕ) (k v : ℕ) → word_put bs k v ≡ put_mid k 8 bs 
 as_written bs k v = ap (λ l. take k bs ++ (to_le_bytes w64 v ++ l)) (sym (drop-drop 8 k bs))
 
 length_put : (bs : List ℕ) (k v : ℕ) → k + 8 ≤ length bs → length (word_put bs k v) ≡ length bs
-length_put bs k v within =
-    let parts = length-append (take k bs) (to_le_bytes w64 v ++ drop (k + 8) bs) in
-    omega (arith, length-take-le k bs (omega arith), length-drop (k + 8) bs, parts)
+length_put bs k v within = size_put bs k (to_le_bytes w64 v) within
 
 from_same : (bs : List ℕ) (k v : ℕ) → k ≤ length bs → v < 2 ^ 64 → word_from (word_put bs k v) k ≡ v
 from_same bs k v within fits =

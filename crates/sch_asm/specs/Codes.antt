@@ -26,7 +26,8 @@ module _ (place_of : ℕ → ℕ) where
   Codes a (Mark m ∷ is) code marks = (rest : List mark.Mark) × (marks ≡ record { address = a; kind = m } ∷ rest) × Codes a is code rest
   Codes a (Plain i ∷ is) code marks = (rest : List Insn) × (code ≡ i ∷ rest) × Codes (a + length (spelling i)) is rest marks
   Codes a (Jump l ∷ is) code marks = (i : Insn) × (rest : List Insn) × (code ≡ i ∷ rest) × GoesTo i (a + length (spelling i)) (place_of l) × Codes (a + length (spelling i)) is rest marks
-  Codes a (JumpIf c l ∷ is) code marks = (i : Insn) × (rest : List Insn) × (code ≡ i ∷ rest) × BranchesTo c i (a + length (spelling i)) (place_of l) × Codes (a + length (spelling i)) is rest marks
+  Codes a (JumpIf c l ∷ is) code marks =
+      (i : Insn) × (rest : List Insn) × (code ≡ i ∷ rest) × BranchesTo c i (a + length (spelling i)) (place_of l) × Codes (a + length (spelling i)) is rest marks
   Codes a (LoadLabel r l ∷ is) code marks = (d : ℤ) × (rest : List Insn) × (code ≡ insn.Lea r (Rip d) ∷ rest) × (add64 (a + 7) (word d) ≡ place_of l) × Codes (a + 7) is rest marks
   Codes a (LoadWord r at ∷ is) code marks = (d : ℤ) × (rest : List Insn) × (code ≡ insn.MovFrom r (Rip d) ∷ rest) × (add64 (a + 7) (word d) ≡ at) × Codes (a + 7) is rest marks
   Codes a (StoreWord at r ∷ is) code marks = (d : ℤ) × (rest : List Insn) × (code ≡ insn.MovTo (Rip d) r ∷ rest) × (add64 (a + 7) (word d) ≡ at) × Codes (a + 7) is rest marks

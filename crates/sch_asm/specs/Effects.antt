@@ -30,7 +30,7 @@ pub record IsReady (x : View) : Type 0 where
   pub within : data_address + length x.bytes < 2 ^ 63
   pub back : x.registers R11 < 2 ^ 64
 
--- What a fill needs besides: rax has the address a and rdx the count n, and what is filled, so many bytes from
+-- What a fill needs besides: rax has the address a and rdx the count n, and what is filled, `size` bytes from
 -- a on, lies in the data behind the routines' own words.
 pub record HasRoom (x : View) (a n size : ℕ) : Type 0 where
   pub address_is : x.registers RAX ≡ a
@@ -75,7 +75,7 @@ module _ (setting : Setting) where
     pub output_is : y.output ≡ output
     pub left_is : y.answers ≡ left
 
-  -- The machine comes back to its caller, past no mark, with so many bytes from the address a on filled.
+  -- The machine comes back to its caller, past no mark, with `size` bytes from the address a on filled.
   -- Registers that are no scratch registers keep their words, and the data keep what lies before and behind.
   -- It takes at least one step and no more than the bound.
   pub record Fills (x : View) (a size bound : ℕ) (AreFilled : List ℕ → Type 0) : Type 0 where

@@ -1,5 +1,4 @@
--- Tables of a text: the number of the item at which each label stands, and the address of each item. Items
--- are numbered from 0.
+-- Tables of a text: the address of each item and of each label. Items are numbered from 0.
 use Rattle.std.specs.Prelude.{◌≡◌, ℕ, ◌+◌, ◌<◌, List, [], ◌∷◌, ◌++◌, length, max, slice_set, slice_index, map, Option, Some, None, ℤ, pos, ◌-ℤ◌}
 use Rattle.sch_word.specs.runs.ProgramLayout.{text_address}
 use Rattle.sch_insn.specs.declared.insn.Arg.TheVariants.{Rip}
@@ -24,23 +23,24 @@ abbrev pub label_bound : ℕ → List Item → ℕ
 label_bound bound [] = bound
 label_bound bound (i ∷ is) = label_bound (raised bound i) is
 
--- A table of labels with the number of an item, if that is a label.
+-- A table of labels with the address of an item, if that is a label.
 abbrev pub entered : Item → ℕ → List ℕ → List ℕ
-entered (Label l) k numbers = slice_set numbers l k
-entered _ k numbers = numbers
+entered (Label l) a places = slice_set places l a
+entered _ a places = places
 
-abbrev pub numbered : List Item → ℕ → List ℕ → List ℕ
-numbered [] k numbers = numbers
-numbered (i ∷ is) k numbers = numbered is (k + 1) (entered i k numbers)
+-- The same with items from number k on, where `at` has the address of each item.
+abbrev pub placed : (ℕ → ℕ) → List Item → ℕ → List ℕ → List ℕ
+placed at [] k places = places
+placed at (i ∷ is) k places = placed at is (k + 1) (entered i (at k) places)
 
--- Each label that stands has the number of its item in a table.
-abbrev pub StandsAt : List ℕ → ℕ → Item → Type 0
-StandsAt numbers k (Label l) = slice_index numbers l ≡ k
-StandsAt numbers k _ = Unit {0}
+-- Each label that stands has the address of its item in a table.
+abbrev pub StandsAt : (ℕ → ℕ) → List ℕ → ℕ → Item → Type 0
+StandsAt at places k (Label l) = slice_index places l ≡ at k
+StandsAt at places k _ = Unit {0}
 
-abbrev pub StandAt : List ℕ → ℕ → List Item → Type 0
-StandAt numbers k [] = Unit {0}
-StandAt numbers k (i ∷ is) = StandsAt numbers k i × StandAt numbers (k + 1) is
+abbrev pub StandAt : (ℕ → ℕ) → List ℕ → ℕ → List Item → Type 0
+StandAt at places k [] = Unit {0}
+StandAt at places k (i ∷ is) = StandsAt at places k i × StandAt at places (k + 1) is
 
 -- The labels that stand are below n.
 abbrev pub StandsBelow : ℕ → Item → Type 0
@@ -118,21 +118,17 @@ abbrev pub marked : (ℕ → ℕ) → ℕ → List Item → List mark.Mark
 marked at k [] = []
 marked at k (i ∷ is) = marks_of (at k) i ++ marked at (k + 1) is
 
--- Where tables place a label.
-abbrev pub placed_by : List ℕ → List ℕ → ℕ → ℕ
-placed_by numbers addresses l = slice_index addresses (slice_index numbers l)
-
 -- What tables put out for items from number k on.
 abbrev pub emitted_by : List ℕ → List ℕ → ℕ → List Item → List Insn
-emitted_by numbers addresses k is = emitted (placed_by numbers addresses) (slice_index addresses) k is
+emitted_by places addresses k is = emitted (slice_index places) (slice_index addresses) k is
 
 abbrev pub marked_by : List ℕ → ℕ → List Item → List mark.Mark
 marked_by addresses k is = marked (slice_index addresses) k is
 
--- The tables are those of items and words: each label that stands has the number of its item, each item the
--- address where those before it end, and each label that is used has a place in the tables.
-pub record IsLaidOut (items : List Item) (words : List Word) (numbers addresses : List ℕ) : Type 0 where
-  pub standing : StandAt numbers 0 items
+-- The tables are those of items and words: each label that stands has the address of its item, each item the
+-- address where those before it end, and each label that is used has a place in the table.
+pub record IsLaidOut (items : List Item) (words : List Word) (places addresses : List ℕ) : Type 0 where
+  pub standing : StandAt (slice_index addresses) places 0 items
   pub ends : addresses ≡ addresses_from text_address (map item_size items)
-  pub uses : UseBelow (length numbers) items
-  pub words_use : WordsBelow (length numbers) words
+  pub uses : UseBelow (length places) items
+  pub words_use : WordsBelow (length places) words

@@ -3,7 +3,7 @@ use Rattle.std.specs.Prelude.{ℕ, List, [], ◌∷◌, true, false}
 use Rattle.sch_word.specs.values.Memory.{Segment}
 use Rattle.sch_word.specs.runs.ProgramLayout.{text_address}
 use Rattle.sch_word.specs.declared.answer.Answer.{Answer}
-use Rattle.sch_insn.specs.declared.machine.Flags.{Flags}
+use Rattle.sch_insn.specs.declared.state.Flags.{Flags}
 use Rattle.sch_insn.specs.Machine.{State}
 use Rattle.sch_insn.specs.Path as path
 use Rattle.sch_asm.specs.declared.item.MarkKind.{MarkKind}

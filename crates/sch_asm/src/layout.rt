@@ -1,32 +1,32 @@
-//! Where items stand: label to item to address.
+//! Where items and labels stand.
 
 ghost use Rattle.std.specs.Prelude.{◌≡◌, ◌+◌, ◌*◌, ◌^◌, ◌<◌, ◌≤◌, ◌++◌, EachIndex, IfOk, OnOk, length, map, replicate, slice_index};
 ghost use Rattle.sch_word.specs.runs.ProgramLayout.{max_text_size, text_address};
 ghost use Rattle.sch_asm.specs.Items.{AreItems};
 ghost use Rattle.sch_asm.specs.Codes.{item_size};
-ghost use Rattle.sch_asm.specs.Layout.{IsSized, StandBelow, addresses_from, entered, label_bound, numbered, placed_by, raised, total};
+ghost use Rattle.sch_asm.specs.Layout.{IsSized, StandBelow, addresses_from, label_bound, placed, raised, total};
 
 use crate::item::Item;
 use sch_word::{List, Mem, TEXT_ADDRESS};
 use std::alloc::Global;
 
-/// The number of each label's item, and the address of each item and of the end.
+/// The address of each label, and that of each item and of the end.
 #[derive(Drop)]
 pub struct Layout {
-    pub numbers: Vec<usize>,
+    pub places: Vec<u32>,
     pub addresses: List<u32>,
-    ghost known: { EachIndex numbers.items (λ l. slice_index numbers.items l < length addresses) },
+    ghost low: { EachIndex places.items (λ l. slice_index places.items l < 2 ^ 30) },
     ghost small: { EachIndex addresses (λ k. slice_index addresses k < 2 ^ 30) },
 }
 
 impl Layout {
     /// Where a label stands.
     pub fn place(&self, label: u32) -> u32
-        requires known { label < length self.now.numbers.items }
-        ensures place { result ≡ placed_by self.now.numbers.items self.now.addresses label }
+        requires known { label < length self.now.places.items }
+        ensures place { result ≡ slice_index self.now.places.items label }
         ensures small { result < 2 ^ 30 }
     {
-        self.addresses.as_slice()[self.numbers[label as usize]]
+        self.places[label as usize]
     }
 }
 
@@ -50,17 +50,17 @@ fn raise(bound: usize, item: &Item) -> usize
     }
 }
 
-/// Enters the labels of items that have the numbers from `first` on.
-pub fn number_labels(items: &[Item], first: usize, numbers: &mut Vec<usize>)
-    requires below { StandBelow (length numbers.old.items) items.now }
-    requires small { first + length items.now < 2 ^ 63 }
-    ensures numbers { numbers.new.items ≡ numbered items.now first numbers.old.items }
-    ensures size { length numbers.new.items ≡ length numbers.old.items }
+/// Enters the labels of items that have the numbers from `first` on, by the address of each item.
+pub fn place_labels(items: &[Item], first: usize, addresses: &[u32], places: &mut Vec<u32>)
+    requires below { StandBelow (length places.old.items) items.now }
+    requires within { first + length items.now < length addresses.now }
+    ensures places { places.new.items ≡ placed (slice_index addresses.now) items.now first places.old.items }
+    ensures size { length places.new.items ≡ length places.old.items }
 {
     let mut number = first;
     for item in items {
         if let Item::Label(label) = item {
-            numbers[*label as usize] = number;
+            places[*label as usize] = addresses[number];
         }
         number += 1;
     }
@@ -108,7 +108,7 @@ pub fn addresses_of(alloc: Global, sizes: &[u8]) -> Result<List<u32>, Mem>
     requires { total sizes.now ≤ max_text_size }
     ensures { IfOk result (λ addresses. addresses ≡ addresses_from text_address sizes.now) }
 {
-    let mut addresses = List::new(alloc);
+    let mut addresses = List::from_vec(Vec::with_capacity(alloc, sizes.len())?);
     let mut at = TEXT_ADDRESS as u32;
     for size in sizes {
         addresses.push(at)?;
@@ -119,10 +119,10 @@ pub fn addresses_of(alloc: Global, sizes: &[u8]) -> Result<List<u32>, Mem>
 }
 
 /// A table of `count` zeros.
-pub fn zeros(alloc: Global, count: usize) -> Result<Vec<usize>, Mem>
-    ensures { IfOk result (λ numbers. numbers.items ≡ replicate count 0) }
+pub fn zeros(alloc: Global, count: usize) -> Result<Vec<u32>, Mem>
+    ensures { IfOk result (λ places. places.items ≡ replicate count 0) }
 {
-    Ok(vec![in alloc; 0usize; count]?)
+    Ok(vec![in alloc; 0u32; count]?)
 }
 
 /// How many items two lists have. An item takes at least 16 bytes of memory, so there are fewer than 2^60.

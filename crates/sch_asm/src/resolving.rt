@@ -6,13 +6,13 @@ ghost use Rattle.sch_word.specs.runs.ProgramLayout.{max_text_size};
 ghost use Rattle.sch_insn.specs.Spelling.{AllValid, IsCondition, IsValid, spelling};
 ghost use Rattle.sch_asm.specs.Items.{AreItems, AreOwn, AreRoutines, IsItem};
 ghost use Rattle.sch_asm.specs.Codes.{AreResolved, IsTooLarge, bytes_of, item_size, text_size, value_of as word_value};
-ghost use Rattle.sch_asm.specs.Layout.{IsLaidOut, UseBelow, UsesBelow, WordBelow, WordsBelow, displacement, emitted_by, insns_of, marked_by, marks_of, option_list, placed_by, total};
+ghost use Rattle.sch_asm.specs.Layout.{IsLaidOut, UseBelow, UsesBelow, WordBelow, WordsBelow, displacement, emitted_by, insns_of, marked_by, marks_of, option_list, total};
 
 use crate::assembly::{Asm, Word};
 use crate::error::AsmError;
 use crate::item::{Item, Mark};
 use crate::layout::{
-    Layout, addresses_of, item_count, labels_of, number_labels, push_sizes, total_size, zeros,
+    Layout, addresses_of, item_count, labels_of, place_labels, push_sizes, total_size, zeros,
 };
 use sch_insn::{Arg, Insn};
 use sch_word::{Bytes, List, MAX_TEXT_SIZE, Mem};
@@ -88,14 +88,19 @@ fn lay_out(alloc: Global, a: &Asm, routines: &Asm, sizes: &[u8]) -> Result<Layou
     requires routines { AreRoutines routines.now.items routines.now.words routines.now.zeros }
     requires sizes { sizes.now ≡ map item_size (a.now.items ++ routines.now.items) }
     requires small { total sizes.now ≤ max_text_size }
-    ensures { IfOk result (λ layout. IsLaidOut (a.now.items ++ routines.now.items) a.now.words layout.numbers.items layout.addresses) }
+    ensures { IfOk result (λ layout. IsLaidOut (a.now.items ++ routines.now.items) a.now.words layout.places.items layout.addresses) }
 {
     let labels = labels_of(a.items.as_slice()).max(labels_of(routines.items.as_slice()));
-    let mut numbers = zeros(alloc, labels)?;
-    number_labels(a.items.as_slice(), 0, &mut numbers);
-    number_labels(routines.items.as_slice(), a.items.len(), &mut numbers);
     let addresses = addresses_of(alloc, sizes)?;
-    Ok(Layout { numbers, addresses })
+    let mut places = zeros(alloc, labels)?;
+    place_labels(a.items.as_slice(), 0, addresses.as_slice(), &mut places);
+    place_labels(
+        routines.items.as_slice(),
+        a.items.len(),
+        addresses.as_slice(),
+        &mut places,
+    );
+    Ok(Layout { places, addresses })
 }
 
 // From the address behind an instruction to another address.
@@ -111,8 +116,8 @@ fn displacement_to(next: u32, to: u32) -> i32
 fn insn_of(item: &Item, next: u32, layout: &Layout) -> Option<Insn>
     requires sound { IsItem item.now }
     requires next { next < 2 ^ 30 }
-    requires uses { UsesBelow (length layout.now.numbers.items) item.now }
-    ensures { option_list result ≡ insns_of (placed_by layout.now.numbers.items layout.now.addresses) next item.now }
+    requires uses { UsesBelow (length layout.now.places.items) item.now }
+    ensures { option_list result ≡ insns_of (slice_index layout.now.places.items) next item.now }
 {
     match item {
         Item::Label(_) | Item::Mark(_) => None,
@@ -160,9 +165,9 @@ fn emit(
     marks: &mut List<Mark>,
 ) -> Result<usize, Mem>
     requires sound { AreItems items.now }
-    requires uses { UseBelow (length layout.now.numbers.items) items.now }
+    requires uses { UseBelow (length layout.now.places.items) items.now }
     requires within { first + length items.now < length layout.now.addresses }
-    ensures code { OnOk result (code.new ≡ code.old ++ emitted_by layout.now.numbers.items layout.now.addresses first items.now) }
+    ensures code { OnOk result (code.new ≡ code.old ++ emitted_by layout.now.places.items layout.now.addresses first items.now) }
     ensures marks { OnOk result (marks.new ≡ marks.old ++ marked_by layout.now.addresses first items.now) }
     ensures end { IfOk result (λ end. end ≡ first + length items.now) }
 {
@@ -181,8 +186,8 @@ fn emit(
 
 // A word's value.
 fn value_of(word: &Word, layout: &Layout) -> u64
-    requires uses { WordBelow (length layout.now.numbers.items) word.now }
-    ensures { result ≡ word_value (placed_by layout.now.numbers.items layout.now.addresses) word.now }
+    requires uses { WordBelow (length layout.now.places.items) word.now }
+    ensures { result ≡ word_value (slice_index layout.now.places.items) word.now }
 {
     match word {
         Word::Fixed(value) => *value,
@@ -192,8 +197,8 @@ fn value_of(word: &Word, layout: &Layout) -> u64
 
 // The bytes of words, the lowest byte of each first.
 fn word_bytes(alloc: Global, words: &[Word], layout: &Layout) -> Result<Bytes, Mem>
-    requires uses { WordsBelow (length layout.now.numbers.items) words.now }
-    ensures { IfOk result (λ bytes. bytes ≡ flat_map (bytes_of (placed_by layout.now.numbers.items layout.now.addresses)) words.now) }
+    requires uses { WordsBelow (length layout.now.places.items) words.now }
+    ensures { IfOk result (λ bytes. bytes ≡ flat_map (bytes_of (slice_index layout.now.places.items)) words.now) }
 {
     let mut bytes = List::new(alloc);
     for word in words {

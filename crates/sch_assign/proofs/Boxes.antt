@@ -10,6 +10,7 @@ use Rattle.sch_word.specs.runs.Runs.{seen, starting_state}
 use Rattle.sch_word.proofs.Similar.{Correspondence, Similar, SimilarOutcome, Same, similar_checked, similar_after}
 use Rattle.sch_word.proofs.SameStore.{Gives, Pairs, no_pairs, and_pair, pairs_length, pairs_append, SameEntry, checked_call_same}
 use Rattle.sch_assign.proofs.Worlds.{World, Cells, Grows, stays, on, Holds, holds_none, holds_plain, holds_boxed, boxes, rank, get_plain, get_boxed, set_holds, set_boxes, holds_append, boxes_append, get_grow, rank_grow}
+use Rattle.sch_word.proofs.Lengths.{procedures_length}
 
 -- one after another, where both give the same value, with a promise on it
 pub similar_keeping : {S S' : Type 0} (L : Correspondence S S') {V U U' : Type 0} (Keep : V → Type 0) {Promise' : L.World → U → U' → Type 0} {w : L.World} {c : S → Outcome S V} {d : S' → Outcome S' V} {next : V → S → Outcome S U} {next' : V → S' → Outcome S' U'} →
@@ -161,10 +162,6 @@ module _ {P Q : Type 0} (Becomes : World → P → Q → Type 0) (grow : (w w' :
   no_boxes : (vs : List Value) → boxes (some_each vs) (some_each vs) ≡ []
   no_boxes [] = refl
   no_boxes (v ∷ vs) = no_boxes vs
-
-  procedures_length : (k m : ℕ) → length (procedures_from k m) ≡ m
-  procedures_length k zero = refl
-  procedures_length k (suc m) = ap suc (procedures_length (suc k) m)
 
   pub same_new_fix : {w : World} (m : ℕ) {make : List ℕ → List P} {make' : List Value → List Q} → ((k i : ℕ) (vs : List Value) → i < length vs → slice_get (numbers_from k vs) i ≡ Some (k + i)) → ((k : ℕ) (vs : List Value) → length (numbers_from k vs) ≡ length vs) →
       ((w1 : World) → Grows w w1 → (cs : List ℕ) (vs : List Value) → Fixed m w1 cs vs → Pairs (Becomes w1) (make cs) (make' vs)) →

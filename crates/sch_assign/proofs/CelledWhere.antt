@@ -3,19 +3,21 @@
 use Rattle.std.proofs.Common.{◌≡◌, ℕ, Bool, true, false, List, ◌++◌, refl, sym, ◌∙◌}
 use Rattle.std.specs.Prelude.{IsTrue, ◌||◌, ◌&&◌, nat_eq}
 use Rattle.std.proofs.lemmas.Bool.{eqb-true}
+use Rattle.sch_word.proofs.facts.Booleans.{neither, not_left, not_right}
+use Rattle.sch_word.proofs.facts.NumberSets.{has_append}
 use Rattle.sch_word.specs.trees.NumberSets.{has}
 use Rattle.sch_word.specs.trees.Bindings.{numbers, scope_with}
 use Rattle.sch_word.proofs.Shaped.{parts}
 use Rattle.sch_cells.specs.Tree.{Tree, Trees, Lambdas, constant, literal, variable, global, set_variable, set_global, define, branch, sequence, bind, fix, letrec, lambda, call, operation, new_cells, cell_get, cell_set, no_trees, and_tree, no_lambdas, and_lambda, count, count_lambdas}
 use Rattle.sch_cells.specs.Variables.{scope_of, cells_bound, cells_used, all_in, assigns, assigns_each, assigns_lambdas, bound, bound_each, bound_lambdas, closed, closed_each, closed_lambdas}
-use Rattle.sch_cells.proofs.Clearing.{has_append, neither, first_false, second_false, scope_has, list_has}
+use Rattle.sch_cells.proofs.Clearing.{scope_has, list_has}
 use Rattle.sch_assign.specs.Celled.{celled, celled_each, celled_lambdas}
 
 pub not_first : (y : ℕ) (xs ys : List ℕ) → has y (xs ++ ys) ≡ false → has y xs ≡ false
-not_first y xs ys h = first_false (has y xs) (has y ys) (sym (has_append y xs ys) ∙ h)
+not_first y xs ys h = not_left (has y xs) (has y ys) (sym (has_append y xs ys) ∙ h)
 
 pub not_second : (y : ℕ) (xs ys : List ℕ) → has y (xs ++ ys) ≡ false → has y ys ≡ false
-not_second y xs ys h = second_false (has y xs) (has y ys) (sym (has_append y xs ys) ∙ h)
+not_second y xs ys h = not_right (has y xs) (has y ys) (sym (has_append y xs ys) ∙ h)
 
 pub not_used : (x y : ℕ) (S : List ℕ) → has x S ≡ true → has y S ≡ false → nat_eq x y ≡ false
 not_used x y S i h = go (nat_eq x y) refl

@@ -2,6 +2,8 @@
 use Rattle.std.proofs.Common.{◌≡◌, ℕ, zero, suc, ◌+◌, ◌<◌, Bool, true, false, List, [], ◌∷◌, ◌++◌, length, refl, ◌∙◌, arith}
 use Rattle.std.specs.Prelude.{IsTrue, ◌||◌, ◌&&◌, not, nat_eq, nat_lt}
 use Rattle.std.proofs.lemmas.Bool.{eqb-true, ltb-true}
+use Rattle.sch_word.proofs.facts.Booleans.{not_true, or_left, or_right, neither, not_left}
+use Rattle.sch_word.proofs.facts.NumberSets.{has_append}
 use Rattle.sch_word.specs.trees.NumberSets.{has}
 use Rattle.sch_word.specs.trees.Bindings.{numbers, scope_with}
 use Rattle.sch_word.specs.values.Literals.{count_literals}
@@ -12,12 +14,13 @@ use Rattle.sch_cells.specs.Variables.{assigns, assigns_lambdas, bound, bound_eac
 use Rattle.sch_cells.specs.Measures.{over, over_each, over_lambdas, shape, every}
 use Rattle.sch_cells.specs.Valid.{has_form, none_assigned, fix_unassigned, scoped, formed, bound_of}
 use Rattle.sch_cells.specs.Clear.{In, Apart}
-use Rattle.sch_cells.proofs.Clearing.{Parts, distinct_parts, has_append, not_has, or_left, or_right, neither, first_false, left_apart, right_apart, apart_back, apart_scope}
+use Rattle.sch_cells.proofs.Clearing.{Parts, distinct_parts, left_apart, right_apart, apart_back, apart_scope}
 use Rattle.sch_assign.specs.Celled.{celled, celled_each, celled_lambdas, celled_in}
 use Rattle.sch_assign.specs.Converted.{Low, Right, RightEach, RightLambdas}
-use Rattle.sch_assign.proofs.Lookups.{self, in_deeper}
+use Rattle.sch_assign.proofs.Lookups.{in_deeper}
 use Rattle.sch_assign.proofs.kept.FreeMoved.{group_has}
 use Rattle.sch_assign.proofs.CelledWhere.{not_celled, none_celled, no_lambda_celled, only_assigned, lambdas_only_assigned, not_used, not_first, not_second}
+use Rattle.sch_word.proofs.facts.NumberTests.{same as self}
 
 -- nodes of a tree without cells, in which no variable of a Fix is assigned
 abbrev plain : Tree → Bool
@@ -60,7 +63,7 @@ not_in_scope x m y S h = go (has y S) refl
 group_not : (x m y : ℕ) (S : List ℕ) → has y (scope_with x m S) ≡ false → has y (numbers x m) ≡ false
 group_not x zero y S h = refl
 group_not x (suc m) y S h =
-    neither (nat_eq y x) (has y (numbers (suc x) m)) (first_false (nat_eq y x) (has y S) (not_in_scope (suc x) m y (x ∷ S) h)) (group_not (suc x) m y (x ∷ S) h)
+    neither (nat_eq y x) (has y (numbers (suc x) m)) (not_left (nat_eq y x) (has y S) (not_in_scope (suc x) m y (x ∷ S) h)) (group_not (suc x) m y (x ∷ S) h)
 
 outside_deeper : (x m : ℕ) (S bs : List ℕ) (f : ℕ → Bool) → Outside S bs f → Outside (scope_with x m S) bs f
 outside_deeper x m S bs f h y s b = h y (not_in_scope x m y S s) b
@@ -69,7 +72,7 @@ unassigned_at : (x m i : ℕ) (ls : Lambdas) (e : Tree) → IsTrue (none_assigne
 unassigned_at x zero i ls e h l = absurd (omega (arith, l))
 unassigned_at x (suc m) zero ls e h l =
     let q : x + 0 ≡ x = omega arith in
-    rw q (not_has (assigns_lambdas ls x || assigns e x) (parts (not (assigns_lambdas ls x || assigns e x)) (none_assigned (suc x) m ls e) h).0)
+    rw q (not_true (assigns_lambdas ls x || assigns e x) (parts (not (assigns_lambdas ls x || assigns e x)) (none_assigned (suc x) m ls e) h).0)
 unassigned_at x (suc m) (suc i) ls e h l =
     let q : x + suc i ≡ suc x + i = omega arith in
     rw q (unassigned_at (suc x) m i ls e (parts (not (assigns_lambdas ls x || assigns e x)) (none_assigned (suc x) m ls e) h).1 (omega (arith, l)))

@@ -11,16 +11,7 @@ use Rattle.sch_cells.specs.Variables.{assigns, cells_of}
 use Rattle.sch_cells.specs.Tree.{Tree}
 use Rattle.sch_cells.specs.BoxedMeaning.{with_cells, contents}
 use Rattle.sch_assign.specs.Converted.{and_cell, cells_for, Agree, AllAre, Low}
-
-pub self : (x : ℕ) → nat_eq x x ≡ true
-self x = eq-eqb x x refl
-
-pub apart : (a b : ℕ) → (a ≡ b → ⊥) → nat_eq a b ≡ false
-apart a b h = go (nat_eq a b) refl
-  where
-    go : (b' : Bool) → nat_eq a b ≡ b' → b' ≡ false
-    go true e = absurd (h (eqb-true a b e))
-    go false e = refl
+use Rattle.sch_word.proofs.facts.NumberTests.{differ, same as self}
 
 -- y is none of the m from x on
 pub record Apart (x m y : ℕ) : Type 0 where
@@ -30,7 +21,7 @@ pub apart_next : (x m y : ℕ) → Apart x (suc m) y → Apart (suc x) m y
 apart_next x m y h = record { at = λ i l e. h.at (suc i) (omega (arith, l)) (omega (arith, e)) }
 
 pub apart_first : (x m y : ℕ) → Apart x (suc m) y → nat_eq y x ≡ false
-apart_first x m y h = apart y x (λ e. h.at 0 (omega arith) (omega (arith, e)))
+apart_first x m y h = differ y x (λ e. h.at 0 (omega arith) (omega (arith, e)))
 
 pub data Where (x m y : ℕ) : Type 0 where
   inside : (i : ℕ) → i < m → y ≡ x + i → Where x m y
@@ -93,10 +84,6 @@ pub numbers_get : {V : Type 0} (k i : ℕ) (vs : List V) → i < length vs → s
 numbers_get k i [] l = absurd (omega (arith, l))
 numbers_get k zero (v ∷ vs) l = ap Some (omega arith)
 numbers_get k (suc i) (v ∷ vs) l = numbers_get (suc k) i vs (omega (arith, l)) ∙ ap Some (omega arith)
-
-pub numbers_length : {V : Type 0} (k : ℕ) (vs : List V) → length (numbers_from k vs) ≡ length vs
-numbers_length k [] = refl
-numbers_length k (v ∷ vs) = ap suc (numbers_length (suc k) vs)
 
 module _ (has_cell : ℕ → Bool) (n : ℕ) where
   -- how many of the variables from x on become cells

@@ -6,7 +6,8 @@ use Rattle.sch_cells.specs.Tree.{Tree}
 use Rattle.sch_word.specs.trees.Bindings.{remove, without}
 use Rattle.sch_cells.specs.Variables.{without_each, cells_bound, cells_used, free}
 use Rattle.sch_assign.specs.Converted.{and_cell, cells_for, wrapped, Low}
-use Rattle.sch_assign.proofs.Lookups.{self, Apart, apart_next, apart_first, Where, inside, outside, where_is}
+use Rattle.sch_assign.proofs.Lookups.{Apart, apart_next, apart_first, Where, inside, outside, where_is}
+use Rattle.sch_word.proofs.facts.NumberTests.{same}
 
 abbrev pub Under : List ℕ → ℕ → Type 0
 Under [] n = Unit {0}
@@ -20,7 +21,7 @@ without_in : (x m i : ℕ) (zs : List ℕ) → i < m → without x m ((x + i) �
 without_in x zero i zs l = absurd (omega (arith, l))
 without_in x (suc m) zero zs l =
     let q : x + 0 ≡ x = omega arith in
-    rw q (ap (remove x) (without_out (suc x) m x zs (record { at = λ i k e. omega (arith, k, e) })) ∙ rw (self x) refl)
+    rw q (ap (remove x) (without_out (suc x) m x zs (record { at = λ i k e. omega (arith, k, e) })) ∙ rw (same x) refl)
 without_in x (suc m) (suc i) zs l = let q : x + suc i ≡ suc x + i = omega arith in rw q (ap (remove x) (without_in (suc x) m i zs (omega (arith, l))))
 
 without_nil : (x m : ℕ) → without x m [] ≡ []
@@ -85,7 +86,7 @@ module _ (has_cell : ℕ → Bool) (n : ℕ) where
   key_in x (suc m) zero zs l a =
       let q : x + 0 ≡ x = omega arith in
       let a' : has_cell x ≡ true = rw q at a in
-      rw (q, a') (ap (remove (x + n)) (key_out (suc x) m (x + n) zs (record { at = λ i k e. omega (arith, k, e) })) ∙ rw (self (x + n)) refl)
+      rw (q, a') (ap (remove (x + n)) (key_out (suc x) m (x + n) zs (record { at = λ i k e. omega (arith, k, e) })) ∙ rw (same (x + n)) refl)
   key_in x (suc m) (suc i) zs l a =
       let q : x + suc i ≡ suc x + i = omega arith in
       let a' : has_cell (suc x + i) ≡ true = rw q at a in

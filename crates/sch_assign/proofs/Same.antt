@@ -25,9 +25,10 @@ use Rattle.sch_word.specs.runs.Orders.{Orders, order_at}
 use Rattle.sch_assign.specs.Converted.{cells_for, empty_cells, wrapped, reading, filling, converted, converted_each, converted_lambdas, converted_source, Agree, AllAre, Low, Right, RightEach, RightLambdas}
 use Rattle.sch_assign.proofs.kept.FreeMoved.{AllLow, low_with, count_lambdas_same, lambda_free}
 use Rattle.sch_assign.proofs.Worlds.{World, Grows, stays, on, Holds, holds_none, holds_plain, holds_boxed, boxes, rank, get_grow, rank_grow}
-use Rattle.sch_assign.proofs.Lookups.{Apart, Where, inside, outside, where_is, in_outside, in_group, outside_variables, inside_variables, numbers_get, numbers_length, one_more_if, count_before, charges_same, outside_cells, inside_cells, and_content, chosen, contents_are, chosen_length, all_next, all_first}
+use Rattle.sch_assign.proofs.Lookups.{Apart, Where, inside, outside, where_is, in_outside, in_group, outside_variables, inside_variables, numbers_get, one_more_if, count_before, charges_same, outside_cells, inside_cells, and_content, chosen, contents_are, chosen_length, all_next, all_first}
 use Rattle.sch_assign.proofs.Boxes as boxes_lib
 use Rattle.sch_assign.proofs.Boxes.{similar_keeping, boxed_count, get_behind, rank_behind, Made, Fixed}
+use Rattle.sch_word.proofs.Lengths.{some_length, unset_length, numbers_length}
 
 -- one variable on both sides: it keeps its value for ever, or its cell is in the other variable
 data Look (w : World) : Bool → Option ℕ → Value → Value → Type 0 where
@@ -54,18 +55,10 @@ got [] i l = absurd (omega (arith, l))
 got (v ∷ vs) zero l = record { v = v; is = refl }
 got (v ∷ vs) (suc i) l = let g = got vs i (omega (arith, l)) in record { v = g.v; is = g.is }
 
-some_length : (vs : List Value) → length (some_each vs) ≡ length vs
-some_length [] = refl
-some_length (v ∷ vs) = ap suc (some_length vs)
-
 some_get : (vs : List Value) (i : ℕ) (v : Value) → slice_get vs i ≡ Some v → slice_get (some_each vs) i ≡ Some (Some v)
 some_get [] i v e = absurd (cc)
 some_get (u ∷ vs) zero v e = ap (λ o. Some o) e
 some_get (u ∷ vs) (suc i) v e = some_get vs i v e
-
-unset_length : (m : ℕ) → length (unset_each m) ≡ m
-unset_length zero = refl
-unset_length (suc m) = ap suc (unset_length m)
 
 unset_get : (m i : ℕ) → i < m → slice_get (unset_each m) i ≡ Some None
 unset_get zero i l = absurd (omega (arith, l))

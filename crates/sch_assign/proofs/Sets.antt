@@ -6,6 +6,7 @@ use Rattle.sch_word.specs.trees.NumberSets.{has, unless, insert, union}
 use Rattle.sch_word.specs.trees.Bindings.{numbers, remove, without}
 use Rattle.sch_word.proofs.Shaped.{both_true}
 use Rattle.sch_cells.specs.Variables.{without_each, distinct}
+use Rattle.sch_word.proofs.facts.Booleans.{or_swap}
 
 -- a set without those of which something holds
 abbrev pub drop : (ℕ → Bool) → List ℕ → List ℕ
@@ -28,12 +29,6 @@ pub drop_same : (p q : ℕ → Bool) (xs : List ℕ) → ((x : ℕ) → p x ≡ 
 drop_same p q [] h = refl
 drop_same p q (x ∷ xs) h = rw (h x, drop_same p q xs h) refl
 
-either_way : (a b : Bool) → (a || b) ≡ (b || a)
-either_way true true = refl
-either_way true false = refl
-either_way false true = refl
-either_way false false = refl
-
 pub without_is : (x m : ℕ) (xs : List ℕ) → without x m xs ≡ drop (λ z. has z (numbers x m)) xs
 without_is x zero xs = sym (nothing xs)
   where
@@ -43,7 +38,7 @@ without_is x zero xs = sym (nothing xs)
 without_is x (suc m) xs =
     ap (remove x) (without_is (suc x) m xs) ∙ remove_is x (drop (λ z. has z (numbers (suc x) m)) xs)
     ∙ drop_twice (λ z. nat_eq z x) (λ z. has z (numbers (suc x) m)) xs
-    ∙ drop_same (λ z. has z (numbers (suc x) m) || nat_eq z x) (λ z. nat_eq z x || has z (numbers (suc x) m)) xs (λ z. either_way (has z (numbers (suc x) m)) (nat_eq z x))
+    ∙ drop_same (λ z. has z (numbers (suc x) m) || nat_eq z x) (λ z. nat_eq z x || has z (numbers (suc x) m)) xs (λ z. or_swap (has z (numbers (suc x) m)) (nat_eq z x))
 
 pub each_is : (ys xs : List ℕ) → without_each ys xs ≡ drop (λ z. has z ys) xs
 each_is [] xs = sym (nothing xs)
@@ -53,7 +48,7 @@ each_is [] xs = sym (nothing xs)
     nothing (x ∷ xs) = ap (λ l. x ∷ l) (nothing xs)
 each_is (y ∷ ys) xs =
     ap (remove y) (each_is ys xs) ∙ remove_is y (drop (λ z. has z ys) xs) ∙ drop_twice (λ z. nat_eq z y) (λ z. has z ys) xs
-    ∙ drop_same (λ z. has z ys || nat_eq z y) (λ z. nat_eq z y || has z ys) xs (λ z. either_way (has z ys) (nat_eq z y))
+    ∙ drop_same (λ z. has z ys || nat_eq z y) (λ z. nat_eq z y || has z ys) xs (λ z. or_swap (has z ys) (nat_eq z y))
 
 -- what is kept is there as before
 has_drop : (p : ℕ → Bool) (y : ℕ) (xs : List ℕ) → p y ≡ false → has y (drop p xs) ≡ has y xs

@@ -8,19 +8,11 @@ use Rattle.sch_assign.specs.Celled.{celled, celled_each, celled_lambdas}
 use Rattle.sch_assign.specs.Converted.{Low, Right, RightEach, RightLambdas}
 use Rattle.sch_assign.specs.InRange.{InRange, EachInRange, LambdasInRange}
 use Rattle.sch_assign.specs.Table.{table, group_marked, marked, each_marked, lambdas_marked}
-use Rattle.sch_assign.proofs.Lookups.{apart, low_first, low_next}
+use Rattle.sch_assign.proofs.Lookups.{low_first, low_next}
 use Rattle.sch_assign.proofs.Loops.{marked_size}
-use Rattle.sch_assign.proofs.kept.FreeMoved.{AllLow, low_with, same_test}
-
-or_assoc : (a b c : Bool) → ((a || b) || c) ≡ (a || (b || c))
-or_assoc true b c = refl
-or_assoc false b c = refl
-
-or_swap : (a b : Bool) → (a || b) ≡ (b || a)
-or_swap true true = refl
-or_swap true false = refl
-or_swap false true = refl
-or_swap false false = refl
+use Rattle.sch_assign.proofs.kept.FreeMoved.{AllLow, low_with}
+use Rattle.sch_word.proofs.facts.NumberTests.{differ, same_test}
+use Rattle.sch_word.proofs.facts.Booleans.{or_swap, or_or}
 
 or_none : (a : Bool) → a ≡ (a || false)
 or_none true = refl
@@ -32,8 +24,8 @@ same_either_way x y = same_test x y y x (λ e. sym e) (λ e. sym e)
 set_table : (bs : List Bool) (x y : ℕ) → x < length bs → table (slice_set bs x true) y ≡ (table bs y || nat_eq x y)
 set_table [] x y l = absurd (omega (arith, l))
 set_table (b ∷ bs) zero zero l = or_swap true b
-set_table (b ∷ bs) zero (suc y) l = let t : nat_eq 0 (suc y) ≡ false = apart 0 (suc y) (λ e. omega (arith, e)) in rw t (or_none (table bs y))
-set_table (b ∷ bs) (suc x) zero l = let t : nat_eq (suc x) 0 ≡ false = apart (suc x) 0 (λ e. omega (arith, e)) in rw t (or_none b)
+set_table (b ∷ bs) zero (suc y) l = let t : nat_eq 0 (suc y) ≡ false = differ 0 (suc y) (λ e. omega (arith, e)) in rw t (or_none (table bs y))
+set_table (b ∷ bs) (suc x) zero l = let t : nat_eq (suc x) 0 ≡ false = differ (suc x) 0 (λ e. omega (arith, e)) in rw t (or_none b)
 set_table (b ∷ bs) (suc x) (suc y) l =
     let t : nat_eq (suc x) (suc y) ≡ nat_eq x y = same_test (suc x) (suc y) x y (λ e. omega (arith, e)) (λ e. omega (arith, e)) in
     rw t (set_table bs x y (omega (arith, l)))
@@ -49,7 +41,7 @@ module _ (has_cell : ℕ → Bool) (n : ℕ) where
       let f : x < n = low_first has_cell n x m low in
       group_table (suc x) m (slice_set bs x true) y (low_next has_cell n x m low) (marked_size bs x ∙ e)
       ∙ ap (λ b. b || has y (numbers (suc x) m)) (set_table bs x y (omega (arith, f, e)) ∙ ap (λ b. table bs y || b) (same_either_way x y))
-      ∙ or_assoc (table bs y) (nat_eq y x) (has y (numbers (suc x) m))
+      ∙ or_or (table bs y) (nat_eq y x) (has y (numbers (suc x) m))
 
   -- one walk after another
   pub record Walked (bs bs' : List Bool) (f : ℕ → Bool) : Type 0 where
@@ -60,7 +52,7 @@ module _ (has_cell : ℕ → Bool) (n : ℕ) where
   stayed bs e = record { size = e; at = λ y. or_none (table bs y) }
 
   then_walked : (bs bs' bs'' : List Bool) (f g : ℕ → Bool) → Walked bs bs' f → Walked bs' bs'' g → Walked bs bs'' (λ y. f y || g y)
-  then_walked bs bs' bs'' f g h k = record { size = k.size; at = λ y. k.at y ∙ ap (λ b. b || g y) (h.at y) ∙ or_assoc (table bs y) (f y) (g y) }
+  then_walked bs bs' bs'' f g h k = record { size = k.size; at = λ y. k.at y ∙ ap (λ b. b || g y) (h.at y) ∙ or_or (table bs y) (f y) (g y) }
 
   mutual
     walked : (e : Tree) (bs : List Bool) → InRange n e → length bs ≡ n → Walked bs (marked e bs) (celled e)

@@ -17,7 +17,7 @@ fn gets_cell(celled: &[bool], x: u32) -> bool
     ensures { result ≡ table celled.now x }
 {
     match celled.get(x as usize) {
-        Some(noted) => *noted,
+        Some(gets) => *gets,
         None => false,
     }
 }
@@ -140,7 +140,7 @@ fn recursive(
     Ok(Exp::NewCells(cs, Box::new(alloc, inner)?))
 }
 
-/// The expression with cells for the variables that the table notes.
+/// The expression with cells for the variables of the table.
 #[cycle(converting)]
 fn convert(alloc: Global, celled: &[bool], n: u32, e: &Exp) -> Result<Exp, Mem>
     requires within { InRange n (tree e.now) }
@@ -288,7 +288,8 @@ fn convert_lambda(alloc: Global, celled: &[bool], n: u32, l: &Lambda) -> Result<
     requires low { Low n l.now.first l.now.formals }
     requires within { InRange n (tree l.now.body) }
     requires few { n + n < 2 ^ 32 }
-    ensures { IfOk result (λ q. plain.lambda q.name q.first q.formals q.rest (tree q.body) ≡ converted (table celled.now) n (plain.lambda l.now.name l.now.first l.now.formals l.now.rest (tree l.now.body))) }
+    ensures { IfOk result (λ q. plain.lambda q.name q.first q.formals q.rest (tree q.body) ≡
+        converted (table celled.now) n (plain.lambda l.now.name l.now.first l.now.formals l.now.rest (tree l.now.body))) }
 {
     let cs = cells(alloc, celled, n, l.first, l.formals as usize)?;
     let body = convert_boxed(alloc, celled, n, &l.body)?;

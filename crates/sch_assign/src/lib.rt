@@ -9,6 +9,7 @@ ghost use Rattle.sch_cells.specs.BoxedMeaning as boxed;
 ghost use Rattle.sch_cells.specs.Measures.{call_sites_of, dropped_of, program_size, sites_of, tests_of};
 ghost use Rattle.sch_cells.specs.ProgramView.{source};
 ghost use Rattle.sch_cells.specs.Covered.{is_covered_program};
+ghost use Rattle.sch_cells.specs.Tree.{count_lambdas};
 ghost use Rattle.sch_cells.specs.UnboxedMeaning as unboxed;
 ghost use Rattle.sch_cells.specs.Valid.{bound_of};
 ghost use Rattle.sch_assign.specs.Celled.{celled_in, celled_of};
@@ -34,8 +35,12 @@ use std::marker::PhantomData;
 /// It takes time in proportion to the size of `p` and stack in proportion to its levels.
 pub fn convert_assign(alloc: Global, p: &CellProgram<Unboxed>) -> Result<CellProgram<Boxed>, Mem>
     requires few { p.now.variables + p.now.variables < 2 ^ 32 - 2 ^ 10 }
+    // What converting is defined to make, with a cell for each variable that is assigned or belongs to a Rec.
+    ensures made { IfOk result (λ q. source q ≡ converted_source (celled_in (source p.now)) p.now.variables (source p.now)) }
     // Under every order table, limits, answers of a kernel and number of entries it runs as `p` does.
     ensures runs { IfOk result (λ q. SameRuns (unboxed.run (source p.now)) (boxed.run (source q))) }
+    // As many procedures of the library, in the same order.
+    ensures library { IfOk result (λ q. count_lambdas (source q).library ≡ count_lambdas (source p.now).library) }
     ensures statics { IfOk result (λ q. statics q.statics ≡ statics p.now.statics) }
     // The cell of a variable has its number, with as many added as the numbers of `p` are below.
     ensures variables { IfOk result (λ q. q.variables ≡ p.now.variables + p.now.variables) }

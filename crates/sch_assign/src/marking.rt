@@ -1,4 +1,4 @@
-//! Which variables get a cell: one walk over the text notes them in a table.
+//! Which variables get a cell: one walk over the text records them in a table.
 
 ghost use Rattle.std.specs.Prelude.{◌≡◌, ◌+◌, ◌<◌, ◌^◌, length};
 ghost use Rattle.sch_cells.specs.Tree as plain;
@@ -39,7 +39,7 @@ fn mark_group(first: u32, count: usize, celled: &mut Vec<bool>)
     }
 }
 
-/// Notes which variables of an expression get a cell.
+/// Records which variables of an expression get a cell.
 #[cycle(marking)]
 fn mark(e: &Exp, celled: &mut Vec<bool>)
     requires within { InRange (length celled.old.items) (tree e.now) }
@@ -60,28 +60,19 @@ fn mark(e: &Exp, celled: &mut Vec<bool>)
             mark(no, celled);
         }
         Exp::Seq(parts) => mark_each(parts, celled),
-        Exp::Let {
-            site: _,
-            first: _,
-            inits,
-            body,
-        } => {
+        Exp::Let { inits, body, .. } => {
             mark_each(inits, celled);
             mark(body, celled);
         }
-        Exp::Fix {
-            first: _,
-            lambdas,
-            body,
-        } => {
+        Exp::Fix { lambdas, body, .. } => {
             mark_lambdas(lambdas, celled);
             mark(body, celled);
         }
         Exp::Rec {
-            site: _,
             first,
             inits,
             body,
+            ..
         } => {
             mark_group(*first, count(inits), celled);
             mark_each(inits, celled);
@@ -89,10 +80,9 @@ fn mark(e: &Exp, celled: &mut Vec<bool>)
         }
         Exp::Lambda(l) => mark(&l.body, celled),
         Exp::Call {
-            site: _,
-            spread: _,
             operator,
             operands,
+            ..
         } => {
             mark(operator, celled);
             mark_each(operands, celled);

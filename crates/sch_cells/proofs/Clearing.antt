@@ -9,38 +9,8 @@ use Rattle.sch_word.specs.trees.Bindings.{numbers, scope_with}
 use Rattle.sch_cells.specs.Variables.{scope_of, cells_bound, cells_used, all_in, bound, bound_each, bound_lambdas, closed, closed_each, closed_lambdas, distinct, below}
 use Rattle.sch_cells.specs.Valid.{scoped, bound_of}
 use Rattle.sch_cells.specs.Clear.{In, Apart, Clear, ClearEach, ClearLambdas}
-
-pub not_has : (b : Bool) → IsTrue (not b) → b ≡ false
-not_has true h = absurd (cc)
-not_has false h = refl
-
-pub has_append : (y : ℕ) (xs ys : List ℕ) → has y (xs ++ ys) ≡ (has y xs || has y ys)
-has_append y [] ys = refl
-has_append y (x ∷ xs) ys = go (nat_eq y x) (has_append y xs ys)
-  where
-    go : (b : Bool) → has y (xs ++ ys) ≡ (has y xs || has y ys) → (b || has y (xs ++ ys)) ≡ ((b || has y xs) || has y ys)
-    go true h = refl
-    go false h = h
-
-pub or_left : (a b : Bool) → a ≡ true → (a || b) ≡ true
-or_left true b h = refl
-or_left false b h = absurd (cc)
-
-pub or_right : (a b : Bool) → b ≡ true → (a || b) ≡ true
-or_right true b h = refl
-or_right false b h = h
-
-pub neither : (a b : Bool) → a ≡ false → b ≡ false → (a || b) ≡ false
-neither true b p q = absurd (cc)
-neither false b p q = q
-
-pub first_false : (a b : Bool) → (a || b) ≡ false → a ≡ false
-first_false true b h = absurd (cc)
-first_false false b h = refl
-
-pub second_false : (a b : Bool) → (a || b) ≡ false → b ≡ false
-second_false true b h = absurd (cc)
-second_false false b h = h
+use Rattle.sch_word.proofs.facts.NumberSets.{has_append}
+use Rattle.sch_word.proofs.facts.Booleans.{not_true, or_left, or_right, neither, not_left, not_right}
 
 -- ## Lists that are apart
 
@@ -51,10 +21,10 @@ pub right_apart : (xs ys S : List ℕ) → Apart (xs ++ ys) S → Apart ys S
 right_apart xs ys S h = record { at = λ y i. h.at y (has_append y xs ys ∙ or_right (has y xs) (has y ys) i) }
 
 pub apart_left : (xs ys zs : List ℕ) → Apart xs (ys ++ zs) → Apart xs ys
-apart_left xs ys zs h = record { at = λ y i. first_false (has y ys) (has y zs) (sym (has_append y ys zs) ∙ h.at y i) }
+apart_left xs ys zs h = record { at = λ y i. not_left (has y ys) (has y zs) (sym (has_append y ys zs) ∙ h.at y i) }
 
 pub apart_right : (xs ys zs : List ℕ) → Apart xs (ys ++ zs) → Apart xs zs
-apart_right xs ys zs h = record { at = λ y i. second_false (has y ys) (has y zs) (sym (has_append y ys zs) ∙ h.at y i) }
+apart_right xs ys zs h = record { at = λ y i. not_right (has y ys) (has y zs) (sym (has_append y ys zs) ∙ h.at y i) }
 
 pub apart_back : (xs ys : List ℕ) → Apart xs ys → Apart ys xs
 apart_back xs ys h = record { at = λ y i. go y i (has y xs) refl }
@@ -66,14 +36,14 @@ apart_back xs ys h = record { at = λ y i. go y i (has y xs) refl }
 -- what is apart from a group and from a scope is apart from the scope with the group
 pub scope_has : (y : ℕ) (x m : ℕ) (S : List ℕ) → has y (numbers x m) ≡ false → has y S ≡ false → has y (scope_with x m S) ≡ false
 scope_has y x zero S p q = q
-scope_has y x (suc m) S p q = scope_has y (suc x) m (x ∷ S) (second_false (nat_eq y x) _ p) (neither (nat_eq y x) (has y S) (first_false (nat_eq y x) _ p) q)
+scope_has y x (suc m) S p q = scope_has y (suc x) m (x ∷ S) (not_right (nat_eq y x) _ p) (neither (nat_eq y x) (has y S) (not_left (nat_eq y x) _ p) q)
 
 pub apart_scope : (xs : List ℕ) (x m : ℕ) (S : List ℕ) → Apart xs (numbers x m) → Apart xs S → Apart xs (scope_with x m S)
 apart_scope xs x m S p q = record { at = λ y i. scope_has y x m S (p.at y i) (q.at y i) }
 
 pub list_has : (y : ℕ) (zs S : List ℕ) → has y zs ≡ false → has y S ≡ false → has y (scope_of zs S) ≡ false
 list_has y [] S p q = q
-list_has y (z ∷ zs) S p q = list_has y zs (z ∷ S) (second_false (nat_eq y z) _ p) (neither (nat_eq y z) (has y S) (first_false (nat_eq y z) _ p) q)
+list_has y (z ∷ zs) S p q = list_has y zs (z ∷ S) (not_right (nat_eq y z) _ p) (neither (nat_eq y z) (has y S) (not_left (nat_eq y z) _ p) q)
 
 -- ## Lists without repeats
 
@@ -87,9 +57,9 @@ distinct_parts [] ys h = record { left = refl; right = h; apart = record { at = 
 distinct_parts (x ∷ xs) ys h =
     let p = parts (not (has x (xs ++ ys))) (distinct (xs ++ ys)) h in
     let d = distinct_parts xs ys p.1 in
-    let f : (has x xs || has x ys) ≡ false = sym (has_append x xs ys) ∙ not_has (has x (xs ++ ys)) p.0 in
-    let n : IsTrue (not (has x xs)) = ap not (first_false (has x xs) (has x ys) f) in
-    record { left = both n d.left; right = d.right; apart = record { at = λ y i. go y (nat_eq y x) refl i (second_false (has x xs) (has x ys) f) (d.apart.at y) } }
+    let f : (has x xs || has x ys) ≡ false = sym (has_append x xs ys) ∙ not_true (has x (xs ++ ys)) p.0 in
+    let n : IsTrue (not (has x xs)) = ap not (not_left (has x xs) (has x ys) f) in
+    record { left = both n d.left; right = d.right; apart = record { at = λ y i. go y (nat_eq y x) refl i (not_right (has x xs) (has x ys) f) (d.apart.at y) } }
   where
     both : {a b : Bool} → IsTrue a → IsTrue b → IsTrue (a && b)
     both {a = true} p q = q

@@ -1,6 +1,7 @@
 -- Lists of clauses, step by step.
 use Rattle.std.proofs.Common.{◌≡◌, ◌<◌, ◌+◌, ℕ, zero, suc, nat_eq, arith, Bool, true, false, ◌&&◌, not, List, [], ◌∷◌, length, drop, get_or, refl, ap, sym, ◌∙◌, drop-cons, add-one}
 use Rattle.std.proofs.lemmas.Bool.Decides.{nat_tests}
+use Rattle.sch_word.proofs.facts.NumberTests.{same_test}
 use Rattle.sch_read.specs.declared.datum.Datum as code
 use Rattle.sch_read.specs.Views.{tree_of, data_of}
 use Rattle.sch_names.specs.Scope.{Scope}
@@ -9,9 +10,6 @@ use Rattle.sch_choices.specs.Cases.{is_case, are_cases}
 
 false_true : false ≡ true → ⊥
 false_true e = cc
-
-pub same_test : (a b c d : ℕ) → (a ≡ b → c ≡ d) → (c ≡ d → a ≡ b) → nat_eq a b ≡ nat_eq c d
-same_test a b c d f g = grind (arith, nat_tests, f, g)
 
 no_more : (items : List code.Datum) → not (is_some_data (data_of items)) ≡ nat_eq (length items) 0
 no_more [] = refl

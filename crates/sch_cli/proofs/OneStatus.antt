@@ -1,6 +1,7 @@
 -- The causes of the statuses exclude one another.
-use Rattle.std.proofs.Common.{◌≡◌, ◌≢◌, ◌≤◌, ◌<◌, ℕ, suc, List, [], length, refl, sym, ap, ◌∙◌, subst, arith, ◌*◌, mul-le-mul, le_refl, Result, Ok, Err}
-use Rattle.std.specs.Prelude.{⊤}
+use Rattle.std.proofs.Common.{◌≡◌, ◌≢◌, ◌≤◌, ◌<◌, ℕ, Bool, true, false, List, [], length, refl, sym, ap, ◌∙◌, subst, arith, Result, Ok, Err}
+use Rattle.std.specs.Prelude.{⊤, nat_lt}
+use Rattle.std.proofs.lemmas.Bool.{lt-ltb, ltb-true}
 use Rattle.sch_word.specs.runs.ProgramLayout.{max_text_size}
 use Rattle.sch_lang.specs.Tree.{Source}
 use Rattle.sch_prelude.specs.LibraryText.{library_text}
@@ -16,18 +17,20 @@ use Rattle.sch_core.specs.declared.error.CoreError.{CoreError}
 use Rattle.sch_core.specs.declared.error.CoreError.TheVariants as core
 use Rattle.sch_core.specs.Libraries.{IsLibraryError}
 use Rattle.sch_core.specs.Programs.{IsProgramOf}
-use Rattle.sch_core.proofs.DataLaws.{never_both, one_error}
+use Rattle.sch_core.proofs.DataLaws.{never_both, one_error, one_program}
 use Rattle.sch_core.proofs.items.LibraryLaws as definitions
 use Rattle.sch_numbers.specs.Programs.{Definition}
 use Rattle.sch_select.specs.Program.{frames_bytes, max_stack}
-use Rattle.sch_driver.specs.Causes.{IsCoreErrorOf, IsErrorOf, IsLibraryText, IsLibraryErrorOf, IsReadErrorOf, IsStackTooLarge, IsTextTooLarge, Means, frame_bound, max_source_size, text_bound}
+use Rattle.sch_driver.specs.Causes.{IsLibraryText, IsLibraryErrorOf, IsReadErrorOf, IsStackTooLarge, IsTextTooLarge, Means, frame_words_of, max_source_size, text_bytes_of}
+use Rattle.sch_driver.specs.Compiled.{IsCompiled}
 use Rattle.sch_driver.specs.declared.error.CompileError.TheVariants as compiling
 use Rattle.sch_driver.specs.declared.error.Part.TheVariants.{Library, User}
-use Rattle.sch_driver.proofs.Meanings.{same_library, same_program}
+use Rattle.sch_driver.specs.declared.listing.Listing.{Listing}
+use Rattle.sch_driver.proofs.Meanings.{same_library}
+use Rattle.sch_driver.proofs.Sizes.{bytes_of, frame_is, stack_fits, text_fits}
 use Rattle.sch_cli.specs.declared.failure.Failure.{Failure}
 use Rattle.sch_cli.specs.declared.failure.Failure.TheVariants as failure
-use Rattle.sch_cli.specs.declared.status.Status.TheVariants.{OutOfMemory}
-use Rattle.sch_cli.specs.Laws.{IsSmall, IsVerdict, accepted, refused, but_for_size}
+use Rattle.sch_cli.specs.Laws.{IsVerdict, built, by_size, refused}
 
 -- ---- errors
 
@@ -85,11 +88,11 @@ no_library library ds _ l (undefined e h) =
 
 -- ---- what is found in a text
 
--- with the definitions of a library
-data InUser (ds : List Definition) (text : List ℕ) : Result ⊤ Failure → Type 0 where
-  faulty : (e : ReadError) → IsReadErrorOf text e → InUser ds text (Err (failure.Compile (compiling.Read User e)))
-  wrong : (e : CoreError) → e ≢ core.Memory → (items : Data) → Spells text items → expanding.IsErrorIn ds items e → InUser ds text (Err (failure.Compile (compiling.Core User e)))
-  right : (items : Data) → Spells text items → (p : Source) → IsProgramOf ds items p → InUser ds text (Ok tt)
+-- with the definitions of a library, compiled for a depth
+data InUser (ds : List Definition) (text : List ℕ) (depth : ℕ) : Result ⊤ Failure → Type 0 where
+  faulty : (e : ReadError) → IsReadErrorOf text e → InUser ds text depth (Err (failure.Compile (compiling.Read User e)))
+  wrong : (e : CoreError) → e ≢ core.Memory → (items : Data) → Spells text items → expanding.IsErrorIn ds items e → InUser ds text depth (Err (failure.Compile (compiling.Core User e)))
+  right : (verdict : Result ⊤ Failure) (items : Data) → Spells text items → (p : Source) → IsProgramOf ds items p → verdict ≡ by_size p depth → InUser ds text depth verdict
 
 -- data with a program have no error
 expandable : (ds : List Definition) (items xs : Data) (text : List ℕ) (e : CoreError) (p : Source)
@@ -97,95 +100,109 @@ expandable : (ds : List Definition) (items xs : Data) (text : List ℕ) (e : Cor
 expandable ds items xs text e p known a h b is =
     known (never_both ds xs p e is (subst (λ zs. expanding.IsErrorIn ds zs e) (spells_one text items xs a b) h))
 
-one_in_user : (ds : List Definition) (text : List ℕ) (one two : Result ⊤ Failure) → InUser ds text one → InUser ds text two → one ≡ two
-one_in_user ds text _ _ (faulty e h) (faulty e' k) = ap (λ x. Err (failure.Compile (compiling.Read User x))) (one_read text e e' h k)
-one_in_user ds text _ _ (faulty e h) (wrong e' n items a k) = absurd (readable text items e a h)
-one_in_user ds text _ _ (faulty e h) (right items a p is) = absurd (readable text items e a h)
-one_in_user ds text _ _ (wrong e n items a h) (faulty e' k) = absurd (readable text items e' a k)
-one_in_user ds text _ _ (wrong e n items a h) (wrong e' n' xs b k) =
+one_in_user : (ds : List Definition) (text : List ℕ) (depth : ℕ) (one two : Result ⊤ Failure) → InUser ds text depth one → InUser ds text depth two → one ≡ two
+one_in_user ds text depth _ _ (faulty e h) (faulty e' k) = ap (λ x. Err (failure.Compile (compiling.Read User x))) (one_read text e e' h k)
+one_in_user ds text depth _ _ (faulty e h) (wrong e' n items a k) = absurd (readable text items e a h)
+one_in_user ds text depth _ _ (faulty e h) (right v items a p is q) = absurd (readable text items e a h)
+one_in_user ds text depth _ _ (wrong e n items a h) (faulty e' k) = absurd (readable text items e' a k)
+one_in_user ds text depth _ _ (wrong e n items a h) (wrong e' n' xs b k) =
     ap (λ x. Err (failure.Compile (compiling.Core User x)))
     (one_error ds items e e' n n' h (subst (λ zs. expanding.IsErrorIn ds zs e') (sym (spells_one text items xs a b)) k))
-one_in_user ds text _ _ (wrong e n items a h) (right xs b p is) = absurd (expandable ds items xs text e p n a h b is)
-one_in_user ds text _ _ (right xs b p is) (faulty e h) = absurd (readable text xs e b h)
-one_in_user ds text _ _ (right xs b p is) (wrong e n items a h) = absurd (expandable ds items xs text e p n a h b is)
-one_in_user ds text _ _ (right xs b p is) (right ys c q are) = refl
+one_in_user ds text depth _ _ (wrong e n items a h) (right v xs b p is q) = absurd (expandable ds items xs text e p n a h b is)
+one_in_user ds text depth _ _ (right v xs b p is q) (faulty e h) = absurd (readable text xs e b h)
+one_in_user ds text depth _ _ (right v xs b p is q) (wrong e n items a h) = absurd (expandable ds items xs text e p n a h b is)
+one_in_user ds text depth _ _ (right v xs b p is q) (right w ys c r are s) =
+    let same : p ≡ r = one_program ds xs p r is (subst (λ zs. IsProgramOf ds zs r) (sym (spells_one text xs ys b c)) are) in
+    q ∙ (ap (λ t. by_size t depth) same ∙ sym s)
 
 -- ---- what is found of both
 
-data InTexts (library text : List ℕ) : Result ⊤ Failure → Type 0 where
-  long : max_source_size < length text → InTexts library text (Err failure.TooLong)
-  first : (verdict : Result ⊤ Failure) → length text ≤ max_source_size → InLibrary library verdict → InTexts library text verdict
-  second : (verdict : Result ⊤ Failure) → length text ≤ max_source_size → (ds : List Definition) → IsLibraryText library ds → InUser ds text verdict → InTexts library text verdict
+data InTexts (library text : List ℕ) (depth : ℕ) : Result ⊤ Failure → Type 0 where
+  long : max_source_size < length text → InTexts library text depth (Err failure.TooLong)
+  first : (verdict : Result ⊤ Failure) → length text ≤ max_source_size → InLibrary library verdict → InTexts library text depth verdict
+  second : (verdict : Result ⊤ Failure) → length text ≤ max_source_size → (ds : List Definition) → IsLibraryText library ds → InUser ds text depth verdict → InTexts library text depth verdict
 
 both_lengths : (text : List ℕ) → max_source_size < length text → length text ≤ max_source_size → ⊥
 both_lengths text g h = omega (arith, g, h)
 
-one_in_texts : (library text : List ℕ) (one two : Result ⊤ Failure) → InTexts library text one → InTexts library text two → one ≡ two
-one_in_texts library text _ _ (long g) (long g') = refl
-one_in_texts library text _ _ (long g) (first r h i) = absurd (both_lengths text g h)
-one_in_texts library text _ _ (long g) (second r h ds l i) = absurd (both_lengths text g h)
-one_in_texts library text _ _ (first r h i) (long g) = absurd (both_lengths text g h)
-one_in_texts library text _ _ (first r h i) (first r' h' i') = one_in_library library r r' i i'
-one_in_texts library text _ _ (first r h i) (second r' h' ds l i') = absurd (no_library library ds r l i)
-one_in_texts library text _ _ (second r h ds l i) (long g) = absurd (both_lengths text g h)
-one_in_texts library text _ _ (second r h ds l i) (first r' h' i') = absurd (no_library library ds r' l i')
-one_in_texts library text _ _ (second r h ds l i) (second r' h' es m j) = one_in_user ds text r r' i (subst (λ fs. InUser fs text r') (sym (same_library library ds es l m)) j)
+one_in_texts : (library text : List ℕ) (depth : ℕ) (one two : Result ⊤ Failure) → InTexts library text depth one → InTexts library text depth two → one ≡ two
+one_in_texts library text depth _ _ (long g) (long g') = refl
+one_in_texts library text depth _ _ (long g) (first r h i) = absurd (both_lengths text g h)
+one_in_texts library text depth _ _ (long g) (second r h ds l i) = absurd (both_lengths text g h)
+one_in_texts library text depth _ _ (first r h i) (long g) = absurd (both_lengths text g h)
+one_in_texts library text depth _ _ (first r h i) (first r' h' i') = one_in_library library r r' i i'
+one_in_texts library text depth _ _ (first r h i) (second r' h' ds l i') = absurd (no_library library ds r l i)
+one_in_texts library text depth _ _ (second r h ds l i) (long g) = absurd (both_lengths text g h)
+one_in_texts library text depth _ _ (second r h ds l i) (first r' h' i') = absurd (no_library library ds r' l i')
+one_in_texts library text depth _ _ (second r h ds l i) (second r' h' es m j) =
+    one_in_user ds text depth r r' i (subst (λ fs. InUser fs text depth r') (sym (same_library library ds es l m)) j)
 
-found_meaning : (text : List ℕ) (p : Source) → length text ≤ max_source_size → Means library_text text p → InTexts library_text text (Ok tt)
-found_meaning text p short m = second (Ok tt) short m.definitions m.defined (right m.items m.spells p m.program)
+-- ---- sizes
 
-found : (text : List ℕ) (depth : ℕ) (verdict : Result ⊤ Failure) → IsVerdict text depth verdict → InTexts library_text text (but_for_size verdict)
-found text depth (Ok done) (accepted p is) = found_meaning text p is.short is.means
-found text depth (Err e) (refused failure.TooLong h v) = long h
-found text depth (Err e) (refused (failure.Compile (compiling.Read Library error)) h v) = first (Err (failure.Compile (compiling.Read Library error))) h.0 (unread error h.1)
-found text depth (Err e) (refused (failure.Compile (compiling.Core Library error)) h v) = first (Err (failure.Compile (compiling.Core Library error))) h.0 (undefined error h.1)
-found text depth (Err e) (refused (failure.Compile (compiling.Read User error)) h v) = second (Err (failure.Compile (compiling.Read User error))) h.0 h.1.0.0 h.1.0.1 (faulty error h.1.1)
-found text depth (Err e) (refused (failure.Compile (compiling.Core User error)) h v) =
+above : (a b : ℕ) → a < b → nat_lt a b ≡ true
+above a b l = lt-ltb a b l
+
+within : (a b : ℕ) → b ≤ a → nat_lt a b ≡ false
+within a b l = go (nat_lt a b) refl
+  where
+    go : (t : Bool) → nat_lt a b ≡ t → t ≡ false
+    go true e = absurd (omega (arith, ltb-true a b e, l))
+    go false e = refl
+
+by_stack : (p : Source) (depth : ℕ) → max_stack < frames_bytes (frame_words_of p) depth → by_size p depth ≡ Err (failure.Compile (compiling.StackTooLarge (frame_words_of p)))
+unfolding by_size
+by_stack p depth l = rw (above max_stack (frames_bytes (frame_words_of p) depth) l) refl
+
+by_text : (p : Source) (depth : ℕ) → frames_bytes (frame_words_of p) depth ≤ max_stack → max_text_size < text_bytes_of p → by_size p depth ≡ Err (failure.Compile (compiling.TextTooLarge (text_bytes_of p)))
+unfolding by_size
+by_text p depth f l = rw (within max_stack (frames_bytes (frame_words_of p) depth) f, above max_text_size (text_bytes_of p) l) refl
+
+by_none : (p : Source) (depth : ℕ) → frames_bytes (frame_words_of p) depth ≤ max_stack → text_bytes_of p ≤ max_text_size → by_size p depth ≡ Ok tt
+unfolding by_size
+by_none p depth f l = rw (within max_stack (frames_bytes (frame_words_of p) depth) f, within max_text_size (text_bytes_of p) l) refl
+
+stack_is : (text : List ℕ) (depth words : ℕ) (is : IsStackTooLarge library_text text depth words) → Err (failure.Compile (compiling.StackTooLarge words)) ≡ by_size is.program depth
+stack_is text depth words is =
+    let w : words ≡ frame_words_of is.program = frame_is is.program words is.frame in
+    ap (λ n. Err (failure.Compile (compiling.StackTooLarge n))) w
+    ∙ sym (by_stack is.program depth (subst (λ n. max_stack < frames_bytes n depth) w is.large))
+
+text_is : (text : List ℕ) (depth bytes : ℕ) (is : IsTextTooLarge library_text text depth bytes) → Err (failure.Compile (compiling.TextTooLarge bytes)) ≡ by_size is.program depth
+text_is text depth bytes is =
+    let w : is.words ≡ frame_words_of is.program = frame_is is.program is.words is.frame in
+    let b : bytes ≡ text_bytes_of is.program = is.size ∙ bytes_of is.program is.frame.control is.frame.fits_program in
+    ap (λ n. Err (failure.Compile (compiling.TextTooLarge n))) b
+    ∙ sym (by_text is.program depth (subst (λ n. frames_bytes n depth ≤ max_stack) w is.fits) (subst (λ n. max_text_size < n) b is.large))
+
+-- ---- verdicts
+
+found_meaning : (text : List ℕ) (depth : ℕ) (p : Source) (verdict : Result ⊤ Failure) → length text ≤ max_source_size → Means library_text text p → verdict ≡ by_size p depth → InTexts library_text text depth verdict
+found_meaning text depth p verdict short m e = second verdict short m.definitions m.defined (right verdict m.items m.spells p m.program e)
+
+found : (text : List ℕ) (depth : ℕ) (verdict : Result ⊤ Failure) → IsVerdict text depth verdict → InTexts library_text text depth verdict
+found text depth _ (built verdict p is e) = found_meaning text depth p verdict is.short is.means e
+found text depth _ (refused failure.TooLong h v) = long h
+found text depth _ (refused (failure.Compile (compiling.Read Library error)) h v) = first (Err (failure.Compile (compiling.Read Library error))) h.0 (unread error h.1)
+found text depth _ (refused (failure.Compile (compiling.Core Library error)) h v) = first (Err (failure.Compile (compiling.Core Library error))) h.0 (undefined error h.1)
+found text depth _ (refused (failure.Compile (compiling.Read User error)) h v) = second (Err (failure.Compile (compiling.Read User error))) h.0 h.1.0.0 h.1.0.1 (faulty error h.1.1)
+found text depth _ (refused (failure.Compile (compiling.Core User error)) h v) =
     let is = h.1 in
     second (Err (failure.Compile (compiling.Core User error))) h.0 is.definitions is.defined (wrong error is.known is.items is.spells is.wrong)
-found text depth (Err e) (refused (failure.Compile (compiling.StackTooLarge words)) h v) = found_meaning text h.1.program h.0 h.1.means
-found text depth (Err e) (refused (failure.Compile (compiling.TextTooLarge bytes)) h v) = found_meaning text h.1.program h.0 h.1.means
-found text depth (Err e) (refused (failure.Compile compiling.Memory) h v) = absurd (v refl)
-found text depth (Err e) (refused failure.Memory h v) = absurd (v refl)
-found text depth (Err e) (refused failure.ReadFailed h v) = absurd h
-found text depth (Err e) (refused failure.WriteFailed h v) = absurd h
-found text depth (Err e) (refused (failure.Image error) h v) = absurd h
+found text depth _ (refused (failure.Compile (compiling.StackTooLarge words)) h v) =
+    found_meaning text depth h.1.program (Err (failure.Compile (compiling.StackTooLarge words))) h.0 h.1.means (stack_is text depth words h.1)
+found text depth _ (refused (failure.Compile (compiling.TextTooLarge bytes)) h v) =
+    found_meaning text depth h.1.program (Err (failure.Compile (compiling.TextTooLarge bytes))) h.0 h.1.means (text_is text depth bytes h.1)
+found text depth _ (refused (failure.Compile compiling.Memory) h v) = absurd (v refl)
+found text depth _ (refused failure.Memory h v) = absurd (v refl)
+found text depth _ (refused failure.ReadFailed h v) = absurd h
+found text depth _ (refused failure.WriteFailed h v) = absurd h
+found text depth _ (refused (failure.Image error) h v) = absurd h
 
-pub same : (text : List ℕ) (depth : ℕ) (one two : Result ⊤ Failure) → IsVerdict text depth one → IsVerdict text depth two → but_for_size one ≡ but_for_size two
-same text depth one two h k = one_in_texts library_text text (but_for_size one) (but_for_size two) (found text depth one h) (found text depth two k)
+pub same : (text : List ℕ) (depth : ℕ) (one two : Result ⊤ Failure) → IsVerdict text depth one → IsVerdict text depth two → one ≡ two
+same text depth one two h k = one_in_texts library_text text depth one two (found text depth one h) (found text depth two k)
 
--- ---- a text of a small program
-
-beyond : (low middle high : ℕ) → low < middle → middle ≤ high → high ≤ low → ⊥
-beyond low middle high a b c = omega (arith, a, b, c)
-
-not_too_large : (text : List ℕ) (p : Source) (depth bytes : ℕ) → Means library_text text p → text_bound p ≤ max_text_size → IsTextTooLarge library_text text depth bytes → ⊥
-not_too_large text p depth bytes is low large =
-    beyond max_text_size bytes (text_bound large.program) large.large large.bound
-    (subst (λ q. text_bound q ≤ max_text_size) (same_program library_text text p large.program is large.means) low)
-
-more_words : (words most depth : ℕ) → words ≤ most → frames_bytes words depth ≤ frames_bytes most depth
-more_words words most depth h = let m : words * suc depth ≤ most * suc depth = mul-le-mul h (le_refl (suc depth)) in omega (arith, m)
-
-stack_not_too_large : (text : List ℕ) (depth : ℕ) (p : Source) (words : ℕ) → Means library_text text p → frames_bytes (frame_bound p) depth ≤ max_stack → IsStackTooLarge library_text text depth words → ⊥
-stack_not_too_large text depth p words is low large =
-    beyond max_stack (frames_bytes words depth) (frames_bytes (frame_bound large.program) depth) large.large
-    (more_words words (frame_bound large.program) depth large.frame.bound)
-    (subst (λ q. frames_bytes (frame_bound q) depth ≤ max_stack) (same_program library_text text p large.program is large.means) low)
-
-whole : (text : List ℕ) (depth : ℕ) (p : Source) → Means library_text text p → IsSmall p depth → (verdict : Result ⊤ Failure) → IsVerdict text depth verdict → but_for_size verdict ≡ verdict
-whole text depth p is low (Ok done) (accepted q a) = refl
-whole text depth p is low (Err e) (refused failure.TooLong h v) = refl
-whole text depth p is low (Err e) (refused (failure.Compile (compiling.Read part error)) h v) = refl
-whole text depth p is low (Err e) (refused (failure.Compile (compiling.Core part error)) h v) = refl
-whole text depth p is low (Err e) (refused (failure.Compile (compiling.StackTooLarge words)) h v) = absurd (stack_not_too_large text depth p words is low.stack h.1)
-whole text depth p is low (Err e) (refused (failure.Compile (compiling.TextTooLarge bytes)) h v) = absurd (not_too_large text p depth bytes is low.text h.1)
-whole text depth p is low (Err e) (refused (failure.Compile compiling.Memory) h v) = refl
-whole text depth p is low (Err e) (refused failure.Memory h v) = refl
-whole text depth p is low (Err e) (refused failure.ReadFailed h v) = refl
-whole text depth p is low (Err e) (refused failure.WriteFailed h v) = refl
-whole text depth p is low (Err e) (refused (failure.Image error) h v) = refl
-
-pub small : (text : List ℕ) (depth : ℕ) (p : Source) → Means library_text text p → IsSmall p depth →
-    (one two : Result ⊤ Failure) → IsVerdict text depth one → IsVerdict text depth two → one ≡ two
-small text depth p is low one two h k = sym (whole text depth p is low one h) ∙ same text depth one two h k ∙ whole text depth p is low two k
+-- a text that is compiled is accepted
+pub compiled : (text : List ℕ) (depth heap : ℕ) (file : List ℕ) (listing : Listing) → length text ≤ max_source_size → IsCompiled library_text text heap depth file listing → IsVerdict text depth (Ok tt)
+compiled text depth heap file listing short c =
+    built (Ok tt) c.program (record { short = short; means = c.means })
+    (sym (by_none c.program depth (stack_fits library_text text heap depth file listing c) (text_fits library_text text heap depth file listing c)))

@@ -1,5 +1,5 @@
 -- A text has a verdict.
-use Rattle.std.proofs.Common.{◌≢◌, ◌≤◌, ◌<◌, ◌⊎◌, inl, inr, ℕ, List, [], length, refl, Result, Ok, Err}
+use Rattle.std.proofs.Common.{◌≢◌, ◌≤◌, ◌<◌, ◌⊎◌, inl, inr, ℕ, List, [], length, refl, Result, Err}
 use Rattle.std.specs.Prelude.{⊤}
 use Rattle.std.proofs.lemmas.Bool.{cases_lt}
 use Rattle.sch_lang.specs.Tree.{Source}
@@ -24,7 +24,7 @@ use Rattle.sch_cli.specs.declared.failure.Failure.{Failure}
 use Rattle.sch_cli.specs.declared.failure.Failure.TheVariants as failure
 use Rattle.sch_cli.specs.declared.status.Status.TheVariants.{OutOfMemory}
 use Rattle.sch_cli.specs.Failures.{core_status, failure_status}
-use Rattle.sch_cli.specs.Laws.{IsVerdict, accepted, refused}
+use Rattle.sch_cli.specs.Laws.{IsVerdict, built, by_size, refused}
 use Rattle.sch_cli.proofs.OneStatus.{error_of}
 
 abbrev Verdict : List ℕ → (depth : ℕ) → Type 0
@@ -68,7 +68,7 @@ unexpanded text depth part e short known h = (Err (failure.Compile (compiling.Co
 of_data : (text : List ℕ) (depth : ℕ) (ds : List Definition) → IsLibraryText library_text ds → (items : Data) → length text ≤ max_source_size → Spells text items →
     ((p : Source) × IsProgramOf ds items p) ⊎ ((e : CoreError) × (e ≢ core.Memory) × expanding.IsErrorIn ds items e) → Verdict text depth
 of_data text depth ds defined items short spells (inl found) =
-    (Ok tt, accepted found.0 (record { short = short; means = record { definitions = ds; defined = defined; items = items; spells = spells; program = found.1 } }))
+    (by_size found.0 depth, built (by_size found.0 depth) found.0 (record { short = short; means = record { definitions = ds; defined = defined; items = items; spells = spells; program = found.1 } }) refl)
 of_data text depth ds defined items short spells (inr wrong) =
     unexpanded text depth User wrong.0 short wrong.1
     (record { known = wrong.1; definitions = ds; defined = defined; items = items; spells = spells; wrong = wrong.2 })

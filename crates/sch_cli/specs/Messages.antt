@@ -6,8 +6,8 @@ use Rattle.std.specs.Int.{w32, w64, to_be_bytes}
 use Rattle.hex.specs.Hex.{encode_lower}
 use Rattle.sch_word.specs.declared.stop.Stop.{Stop}
 use Rattle.sch_word.specs.runs.Stops.{status_of, stop_of, text_of}
-use Rattle.sch_insn.specs.declared.machine.StuckCause.{StuckCause}
-use Rattle.sch_insn.specs.declared.machine.StuckCause.TheVariants.{Fetch, Access, Flag, Divide, Kernel}
+use Rattle.sch_insn.specs.declared.state.StuckCause.{StuckCause}
+use Rattle.sch_insn.specs.declared.state.StuckCause.TheVariants.{Fetch, Access, Flag, Divide, Kernel}
 use Rattle.sch_step.specs.declared.ends.RunEnd.{RunEnd}
 use Rattle.sch_step.specs.declared.ends.RunEnd.TheVariants as run_end
 use Rattle.sch_cli.specs.Seen.{StreamChange, BytesChange, StreamFailed}

@@ -16,6 +16,8 @@ use Rattle.sch_cells.specs.View.{tree, trees_of, function, lambdas_of}
 use Rattle.sch_cells.proofs.Rows.{trees_of_list, lambdas_of_list}
 use Rattle.sch_cells.specs.Variables.{and_some, without_each}
 use Rattle.sch_closure.specs.Walked.{found, found_cells, found_each, found_lambdas, fields_found, fields_of_each, fields_of_lambdas}
+use Rattle.sch_word.proofs.facts.NumberTests.{differ}
+use Rattle.sch_word.proofs.facts.Lists.{reverse_cons, turn_back}
 
 -- trees of the items of a list
 abbrev pub left : List Exp → Trees
@@ -26,23 +28,12 @@ left_lambdas ls = lambdas (map function ls)
 
 -- ## Numbers
 
-pub differs : (x y : ℕ) → (x ≡ y → ⊥) → nat_eq x y ≡ false
-differs x y n = go (nat_eq x y) refl
-  where
-    go : (b : Bool) → nat_eq x y ≡ b → b ≡ false
-    go true e = absurd (n (eqb-true x y e))
-    go false e = refl
-
-pub below_group : (x f c : ℕ) → x < f → has x (numbers f c) ≡ false
-below_group x f zero l = refl
-below_group x f (suc c) l = rw (differs x f (λ e. omega (arith, e, l)), below_group x (suc f) c (omega (arith, l))) refl
-
 in_group : (f c k : ℕ) → has (f + k) (numbers f c) ≡ nat_lt k c
 in_group f zero k = sym (leb-suc-zero k)
 in_group f (suc c) zero = rw (eq-eqb (f + 0) f (omega arith), lt-ltb 0 (suc c) (omega arith)) refl
 in_group f (suc c) (suc k) =
     let p : f + suc k ≡ suc f + k = omega arith in
-    ap (λ b. b || has (f + suc k) (numbers (suc f) c)) (differs (f + suc k) f (λ e. omega (arith, e)))
+    ap (λ b. b || has (f + suc k) (numbers (suc f) c)) (differ (f + suc k) f (λ e. omega (arith, e)))
     ∙ ap (λ y. has y (numbers (suc f) c)) p ∙ in_group (suc f) c k ∙ sym (leb-suc-suc (suc k) c)
 
 pub from_group : (x f c : ℕ) → f ≤ x → nat_lt (x - f) c ≡ has x (numbers f c)
@@ -56,47 +47,6 @@ compared f x l = go (nat_le f x) refl
     go : (b : Bool) → nat_le f x ≡ b → b ≡ false
     go true e = absurd (omega (arith, leb-true f x e, l))
     go false e = refl
-
--- ## What is found
-
-reverse_cons : (x : ℕ) (xs : List ℕ) → reverse (x ∷ xs) ≡ reverse xs ++ x ∷ []
-reverse_cons x xs = reverse-append (x ∷ []) xs
-
-has_append : (x : ℕ) (ps qs : List ℕ) → has x (ps ++ qs) ≡ (has x ps || has x qs)
-has_append x [] qs = refl
-has_append x (p ∷ ps) qs = go (nat_eq x p) (has_append x ps qs)
-  where
-    go : (b : Bool) → has x (ps ++ qs) ≡ (has x ps || has x qs) → (b || has x (ps ++ qs)) ≡ ((b || has x ps) || has x qs)
-    go true h = refl
-    go false h = h
-
-either_way : (a b : Bool) → (a || (b || false)) ≡ (b || a)
-either_way true true = refl
-either_way true false = refl
-either_way false true = refl
-either_way false false = refl
-
-has_reverse : (x : ℕ) (xs : List ℕ) → has x (reverse xs) ≡ has x xs
-has_reverse x [] = refl
-has_reverse x (y ∷ xs) = ap (has x) (reverse_cons y xs) ∙ has_append x (reverse xs) (y ∷ []) ∙ either_way (has x (reverse xs)) (nat_eq x y) ∙ ap (λ b. nat_eq x y || b) (has_reverse x xs)
-
-pub inserted : (x : ℕ) (xs : List ℕ) → has x xs ≡ false → reverse (xs ++ x ∷ []) ≡ insert x (reverse xs)
-inserted x xs e = rw (reverse-append xs (x ∷ []), has_reverse x xs, e) refl
-
-pub not_inserted : (x : ℕ) (xs : List ℕ) → has x xs ≡ true → reverse xs ≡ insert x (reverse xs)
-not_inserted x xs e = rw (has_reverse x xs, e) refl
-
--- ## Unions
-
-union_last : (ps qs : List ℕ) (x : ℕ) → union (ps ++ x ∷ []) qs ≡ union ps (insert x qs)
-union_last [] qs x = refl
-union_last (a ∷ ps) qs x = ap (insert a) (union_last ps qs x)
-
-pub union_next : (xs : List ℕ) (i : ℕ) (ys ys' whole : List ℕ) → i < length xs → reverse ys' ≡ insert (get_or xs i 0) (reverse ys) → union (reverse (drop i xs)) (reverse ys) ≡ whole → union (reverse (drop (i + 1) xs)) (reverse ys') ≡ whole
-union_next xs i ys ys' whole l h k =
-    let x = get_or xs i 0 in
-    let n = next_left xs i (λ r. union (reverse r) (reverse ys) ≡ whole) x l (get_or_default xs i 0 x l) k in
-    rw (add-one, h) (sym (union_last (reverse (drop (suc i) xs)) (reverse ys) x) ∙ ap (λ r. union r (reverse ys)) (sym (reverse_cons x (drop (suc i) xs))) ∙ n)
 
 -- ## Variables that are left out
 
@@ -169,9 +119,6 @@ without_each_none (y ∷ ys) = rw (without_each_none ys) refl
 
 -- ## From the last to the first
 
-taken : {A : Type 0} (xs : List A) (i : ℕ) (x : A) → i < length xs → x ≡ get_or xs i x → take (suc i) xs ≡ take i xs ++ x ∷ []
-taken xs i x l e = take-suc xs i x l ∙ ap (λ y. take i xs ++ y ∷ []) (sym e)
-
 cells_last : (ps : List NewCell) (c : NewCell) (xs : List ℕ) → found_cells (ps ++ c ∷ []) xs ≡ found_cells ps (and_some c.content xs)
 cells_last [] c xs = refl
 cells_last (a ∷ ps) c xs = ap (and_some a.content) (cells_last ps c xs)
@@ -198,14 +145,6 @@ lambdas_last (a ∷ ps) e xs = ap (found_lambda a) (lambdas_last ps e xs)
 lambdas_fields_last : (ps : List Lambda) (e : Lambda) (all : List (List ℕ)) → fields_of_lambdas (left_lambdas (ps ++ e ∷ [])) all ≡ fields_of_lambdas (left_lambdas ps) (fields_of_lambda e all)
 lambdas_fields_last [] e all = refl
 lambdas_fields_last (a ∷ ps) e all = ap (fields_of_lambda a) (lambdas_fields_last ps e all)
-
--- a turn, for anything that is found of a list with its last item before what was found
-module _ {A R : Type 0} (F : List A → R → R) (one : A → R → R) (last : (ps : List A) (a : A) (r : R) → F (ps ++ a ∷ []) r ≡ F ps (one a r)) where
-  pub turn_back : (items : List A) (n : ℕ) (a : A) (r r' whole : R) → 0 < n → n ≤ length items → a ≡ get_or items (n - 1) a → r' ≡ one a r → F (take n items) r ≡ whole → F (take (n - 1) items) r' ≡ whole
-  turn_back items n a r r' whole l b e h k =
-      let p : n ≡ suc (n - 1) = omega (arith, l) in
-      let k' : F (take (suc (n - 1)) items) r ≡ whole = subst (λ m. F (take m items) r ≡ whole) p k in
-      rw h (sym (last (take (n - 1) items) a r) ∙ ap (λ t. F t r) (sym (taken items (n - 1) a (omega (arith, l, b)) e)) ∙ k')
 
 pub cells_turn : (items : List NewCell) (n : ℕ) (a : NewCell) (r r' whole : List ℕ) → 0 < n → n ≤ length items → a ≡ get_or items (n - 1) a → r' ≡ and_some a.content r → found_cells (take n items) r ≡ whole → found_cells (take (n - 1) items) r' ≡ whole
 cells_turn = turn_back found_cells (λ a r. and_some a.content r) cells_last

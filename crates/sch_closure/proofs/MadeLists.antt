@@ -23,8 +23,10 @@ use Rattle.sch_closure.specs.Closed as closing
 use Rattle.sch_closure.specs.Closed.{place_from, place, fields_of, procedures, procedures_each, procedures_lambdas, captured, closed, closed_each, made, made_each, starts}
 use Rattle.sch_closure.specs.Fresh.{EachStands, LambdasStand}
 use Rattle.sch_closure.specs.Walked.{with_bodies, with_bodies_each, with_bodies_lambdas}
-use Rattle.sch_closure.proofs.Loops.{left, left_lambdas, differs}
+use Rattle.sch_closure.proofs.Loops.{left, left_lambdas}
 use Rattle.sch_closure.proofs.Walks.{body_set}
+use Rattle.sch_word.proofs.facts.NumberTests.{differ}
+use Rattle.sch_word.proofs.facts.Lists.{map_length}
 
 -- ## Places
 
@@ -36,7 +38,7 @@ module _ (fields : List ℕ) (k x : ℕ) (whole : flat.Variable) (l : k < length
   place_here e h = let t = rw (eq-eqb x (get_or fields k 0) e) at (place_turn h) in t
 
   pub place_next : (x ≡ get_or fields k 0 → ⊥) → place_from k (drop k fields) x ≡ whole → place_from (k + 1) (drop (k + 1) fields) x ≡ whole
-  place_next e h = let t = rw (differs x (get_or fields k 0) e) at (place_turn h) in rw add-one t
+  place_next e h = let t = rw (differ x (get_or fields k 0) e) at (place_turn h) in rw add-one t
 
 pub place_none : (fields : List ℕ) (k x : ℕ) (whole : flat.Variable) → length fields ≤ k → place_from k (drop k fields) x ≡ whole → flat.bound x ≡ whole
 place_none fields k x whole l h = let t = rw (drop_all k fields l) at h in t
@@ -136,10 +138,6 @@ map_set : {A B : Type 0} (f : A → B) (xs : List A) (i : ℕ) (v : A) → map f
 map_set f [] i v = refl
 map_set f (x ∷ xs) zero v = refl
 map_set f (x ∷ xs) (suc i) v = ap (λ l. f x ∷ l) (map_set f xs i v)
-
-pub map_length : {A B : Type 0} (f : A → B) (xs : List A) → length (map f xs) ≡ length xs
-map_length f [] = refl
-map_length f (x ∷ xs) = ap suc (map_length f xs)
 
 abbrev some_or : {A : Type 0} → Option A → A → A
 some_or (Some x) other = x

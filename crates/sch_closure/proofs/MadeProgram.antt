@@ -12,8 +12,9 @@ use Rattle.sch_flat.specs.View as view
 use Rattle.sch_closure.specs.Closed.{procedures, procedures_each, procedures_lambdas, captured, body_of, all_of_each, all_of_lambdas, closed_source, labels, starts, made_each, closed_each}
 use Rattle.sch_closure.specs.Walked.{fields_of_each, fields_of_lambdas, with_bodies_each, with_bodies_lambdas}
 use Rattle.sch_closure.proofs.Walks.{each_fields, lambdas_fields, each_bodies, lambdas_bodies}
-use Rattle.sch_closure.proofs.MadeLists.{labels_made, map_length}
+use Rattle.sch_closure.proofs.MadeLists.{labels_made}
 use Rattle.sch_closure.proofs.Standing.{size_lambdas}
+use Rattle.sch_word.proofs.facts.Lists.{map_length}
 
 -- the fields of all procedures by their labels
 abbrev pub all_fields : Source → List (List ℕ)

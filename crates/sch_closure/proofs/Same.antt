@@ -26,9 +26,11 @@ use Rattle.sch_flat.specs.Run as runs
 use Rattle.sch_closure.specs.Closed as closing
 use Rattle.sch_closure.specs.Closed.{place_from, place, place_or_none, placed, procedures, procedures_each, procedures_lambdas, fields_of, made, closed, closed_each, made_each, body_of, labels, closed_source}
 use Rattle.sch_closure.specs.Fresh.{Fresh, FreshEach, FreshLambdas, Stand, StandEach, StandLambdas}
-use Rattle.sch_closure.proofs.Sets.{in_here, in_more, union_left, union_right, remove_other, without_scope}
+use Rattle.sch_closure.proofs.Sets.{remove_other, without_scope}
 use Rattle.sch_closure.proofs.Scopes.{Within, free_within, BoxedEach, BoxedLambdas, fresh_each, fresh_lambdas}
 use Rattle.sch_closure.proofs.Standing.{stands_library, stands_forms}
+use Rattle.sch_word.proofs.facts.NumberSets.{in_more, in_here, union_left, union_right}
+use Rattle.sch_word.proofs.facts.Lists.{map_length}
 
 -- ## Variables
 
@@ -144,13 +146,9 @@ contents_length (c ∷ cs) environment = ap suc (contents_length cs environment)
 
 -- ## Charges
 
-pub places_length : {A B : Type 0} (f : A → B) (xs : List A) → length (map f xs) ≡ length xs
-places_length f [] = refl
-places_length f (x ∷ xs) = ap suc (places_length f xs)
-
 bytes_same : (ls : Lambdas) (fs : List ℕ) (n : ℕ) → to.closures_bytes (made_each ls fs n) ≡ lambdas_bytes ls
 bytes_same no_lambdas fs n = refl
-bytes_same (and_lambda name x m rest e ls) fs n = rw (places_length (place fs) (fields_of x m e), bytes_same ls fs (suc n + procedures e)) refl
+bytes_same (and_lambda name x m rest e ls) fs n = rw (map_length (place fs) (fields_of x m e), bytes_same ls fs (suc n + procedures e)) refl
 
 pub made_length : (ls : Lambdas) (fs : List ℕ) (n : ℕ) → length (made_each ls fs n) ≡ count_lambdas ls
 made_length no_lambdas fs n = refl
@@ -227,7 +225,7 @@ module _ (all : List flat.Body) where
           (keeps_new_group Becomes (count_lambdas ls) (λ vs l. groups ls fs n (seen_left (free_lambdas ls) (free e) (seen_with x (count_lambdas ls) vs l f.0 s)) f.1 t.0))
           (λ vs l. evaluate_same e fs (n + procedures_lambdas ls) depth tail (seen_right (free_lambdas ls) (free e) (seen_with x (count_lambdas ls) vs l f.0 s)) f.2 t.1)))
       evaluate_same (lambda name x m rest e) fs n depth tail s f t =
-          rw (places_length (place fs) (fields_of x m e)) (similar_then (same_store Becomes) (same_in_store Becomes (charge (procedure_bytes (length (fields_of x m e)))))
+          rw (map_length (place fs) (fields_of x m e)) (similar_then (same_store Becomes) (same_in_store Becomes (charge (procedure_bytes (length (fields_of x m e)))))
           (λ _ _ _. same_new_procedure Becomes (record { name = name; fields = captured fs (fields_of x m e) s; body = t.0; stand = t.1; apart = f.0; fresh = f.1 })))
       evaluate_same (call site spread g es) fs n {environment} depth tail s f t =
           same_keeping Becomes {Promise = λ vs. length vs ≡ suc (length (from.each orders enter es environment depth))}
@@ -240,7 +238,7 @@ module _ (all : List flat.Body) where
           (λ vs _. same_in_store Becomes (primitive which vs))
       evaluate_same (new_cells cs e) fs n {environment} {h} depth tail s f t =
           let used = seen_left (cells_used cs) (without_each (cells_bound cs) (free e)) s in
-          rw (places_length (placed fs) cs, contents_same fs cs used) (similar_then (same_store Becomes) (same_in_store Becomes (charge_each (cells_bytes (length cs))))
+          rw (map_length (placed fs) cs, contents_same fs cs used) (similar_then (same_store Becomes) (same_in_store Becomes (charge_each (cells_bytes (length cs))))
           (λ _ _ _. same_keeping Becomes (keeps_new_cells Becomes (length cs) (from.contents cs environment) (contents_length cs environment))
           (λ ns l. evaluate_same e fs n depth tail (seen_cells fs cs ns l f.0 (seen_right (cells_used cs) (without_each (cells_bound cs) (free e)) s)) f.1 t)))
       evaluate_same (cell_get x) fs n depth tail s f t = same_cell (s.at x (in_here x [])) (λ c. same_read_cell Becomes c)

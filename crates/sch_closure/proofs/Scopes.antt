@@ -13,6 +13,7 @@ use Rattle.sch_cells.specs.Clear.{In, Apart, Clear, ClearEach, ClearLambdas}
 use Rattle.sch_closure.specs.Closed.{fields_of}
 use Rattle.sch_closure.specs.Fresh.{Fresh, FreshEach, FreshLambdas}
 use Rattle.sch_closure.proofs.Sets.{union_within, without_scope, scope_more, without_each_scope, scope_of_more}
+use Rattle.sch_word.proofs.facts.Booleans.{and_parts}
 
 abbrev pub Within : List ℕ → List ℕ → Type 0
 Within xs ys = (x : ℕ) → In x xs → In x ys
@@ -24,14 +25,10 @@ alone x S h y i = go (nat_eq y x) refl i
     go true e k = subst (λ z. In z S) (sym (eqb-true y x e)) h
     go false e k = absurd (cc)
 
-both : (a b : Bool) → (a && b) ≡ true → (a ≡ true) × (b ≡ true)
-both true b h = (refl, h)
-both false b h = absurd (cc)
-
 all_within : (xs S : List ℕ) → all_in xs S ≡ true → Within xs S
 all_within [] S h y i = absurd (cc)
 all_within (x ∷ xs) S h y i =
-    let p = both (has x S) (all_in xs S) h in
+    let p = and_parts (has x S) (all_in xs S) h in
     go p.0 (all_within xs S p.1) (nat_eq y x) refl i
   where
     go : In x S → Within xs S → (b : Bool) → nat_eq y x ≡ b → (b || has y xs) ≡ true → In y S

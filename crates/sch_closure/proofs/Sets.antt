@@ -7,45 +7,8 @@ use Rattle.sch_word.specs.trees.NumberSets.{has, unless, insert, union}
 use Rattle.sch_word.specs.trees.Bindings.{remove, without, scope_with}
 use Rattle.sch_cells.specs.Clear.{In}
 use Rattle.sch_cells.specs.Variables.{scope_of, without_each}
-
-pub self : (x : ℕ) → nat_eq x x ≡ true
-self x = eq-eqb x x refl
-
-pub in_more : (x y : ℕ) (xs : List ℕ) → In x xs → In x (y ∷ xs)
-in_more x y xs h = go (nat_eq x y) h
-  where
-    go : (b : Bool) → has x xs ≡ true → (b || has x xs) ≡ true
-    go true e = refl
-    go false e = e
-
-pub in_here : (x : ℕ) (xs : List ℕ) → In x (x ∷ xs)
-in_here x xs = rw (self x) refl
-
-insert_here : (x : ℕ) (xs : List ℕ) → In x (insert x xs)
-insert_here x xs = go (has x xs) refl
-  where
-    go : (b : Bool) → has x xs ≡ b → In x (unless b x xs)
-    go true e = e
-    go false e = in_here x xs
-
-insert_more : (x y : ℕ) (xs : List ℕ) → In x xs → In x (insert y xs)
-insert_more x y xs h = go (has y xs)
-  where
-    go : (b : Bool) → In x (unless b y xs)
-    go true = h
-    go false = in_more x y xs h
-
-pub union_right : (x : ℕ) (xs ys : List ℕ) → In x ys → In x (union xs ys)
-union_right x [] ys h = h
-union_right x (y ∷ xs) ys h = insert_more x y (union xs ys) (union_right x xs ys h)
-
-pub union_left : (x : ℕ) (xs ys : List ℕ) → In x xs → In x (union xs ys)
-union_left x [] ys h = absurd (cc)
-union_left x (y ∷ xs) ys h = go (union_left x xs ys) (nat_eq x y) refl h
-  where
-    go : (In x xs → In x (union xs ys)) → (b : Bool) → nat_eq x y ≡ b → (b || has x xs) ≡ true → In x (insert y (union xs ys))
-    go deeper true e k = subst (λ z. In x (insert z (union xs ys))) (eqb-true x y e) (insert_here x (union xs ys))
-    go deeper false e k = insert_more x y (union xs ys) (deeper k)
+use Rattle.sch_word.proofs.facts.NumberTests.{same as self}
+use Rattle.sch_word.proofs.facts.NumberSets.{in_more, in_here}
 
 -- another number stays
 pub remove_other : (x y : ℕ) (xs : List ℕ) → nat_eq x y ≡ false → In x xs → In x (remove y xs)

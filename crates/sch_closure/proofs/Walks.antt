@@ -11,21 +11,10 @@ use Rattle.sch_cells.specs.Variables.{free, free_each, free_lambdas, cells_bound
 use Rattle.sch_flat.specs.Tree.{Body}
 use Rattle.sch_closure.specs.Closed.{procedures, procedures_each, procedures_lambdas, captured, body_of, all_procedures, all_of_each, all_of_lambdas}
 use Rattle.sch_closure.specs.Walked.{found, found_each, found_lambdas, found_cells, fields_found, fields_of_each, fields_of_lambdas, with_bodies, with_bodies_each, with_bodies_lambdas}
-use Rattle.sch_closure.proofs.Sets.{union_left}
 use Rattle.sch_closure.proofs.Standing.{size, size_each, size_lambdas}
+use Rattle.sch_word.proofs.facts.NumberSets.{union_left, union_insert, union_assoc, Once, once_union}
 
 -- ## Unions
-
-union_insert : (x : ℕ) (ps qs : List ℕ) → union (insert x ps) qs ≡ insert x (union ps qs)
-union_insert x ps qs = go (has x ps) refl
-  where
-    go : (b : Bool) → has x ps ≡ b → union (unless b x ps) qs ≡ insert x (union ps qs)
-    go true e = rw (union_left x ps qs e) refl
-    go false e = refl
-
-union_assoc : (ps qs rs : List ℕ) → union (union ps qs) rs ≡ union ps (union qs rs)
-union_assoc [] qs rs = refl
-union_assoc (p ∷ ps) qs rs = union_insert p (union ps qs) rs ∙ ap (insert p) (union_assoc ps qs rs)
 
 has_remove : (x y : ℕ) (xs : List ℕ) → nat_eq x y ≡ false → has x (remove y xs) ≡ has x xs
 has_remove x y [] d = refl
@@ -61,12 +50,6 @@ remove_union y (p ∷ ps) qs = go (nat_eq p y) refl (remove_union y ps qs)
     go false e h = remove_insert y p (union ps qs) e ∙ ap (insert p) h
 
 -- ## Each variable once
-
-abbrev Once : List ℕ → Type 0
-Once xs = union xs [] ≡ xs
-
-once_union : (ps qs : List ℕ) → Once qs → Once (union ps qs)
-once_union ps qs h = union_assoc ps qs [] ∙ ap (union ps) h
 
 once_remove : (y : ℕ) (xs : List ℕ) → Once xs → Once (remove y xs)
 once_remove y xs h = sym (remove_union y xs []) ∙ ap (remove y) h

@@ -9,6 +9,7 @@ ghost use Rattle.sch_cells.specs.BoxedMeaning.{run};
 ghost use Rattle.sch_cells.specs.ProgramView.{source};
 ghost use Rattle.sch_cells.specs.Measures.{call_sites_of, dropped_of, program_size, sites_of, tests_of};
 ghost use Rattle.sch_cells.specs.Covered.{is_covered_program};
+ghost use Rattle.sch_cells.specs.Tree.{count_lambdas};
 ghost use Rattle.sch_cells.specs.View.{trees_of as trees};
 ghost use Rattle.sch_flat.specs.Measures as measures;
 ghost use Rattle.sch_flat.specs.ProgramView as view;
@@ -41,6 +42,8 @@ pub fn close(alloc: Global, p: &CellProgram<Boxed>) -> Result<FlatProgram, Mem>
     ensures made { IfOk result (λ q. view.source q ≡ closed_source (source p.now)) }
     // Under every order table, limits, answers of a kernel and number of entries it runs as `p` does.
     ensures runs { IfOk result (λ q. SameRuns (run (source p.now)) (meaning.run (view.source q))) }
+    // As many procedures of the library, in the same order.
+    ensures library { IfOk result (λ q. length q.library ≡ count_lambdas (source p.now).library) }
     ensures statics { IfOk result (λ q. statics q.statics ≡ statics p.now.statics) }
     // The sites that are listed, and those of the nodes, which stand in another order.
     ensures listed { IfOk result (λ q. q.sites ≡ p.now.sites) }

@@ -1,3 +1,5 @@
+//! A buffer for the bytes of one instruction.
+
 ghost use Rattle.std.specs.Prelude.{◌≡◌, ℕ, ◌+◌, ◌<◌, ◌≤◌, List, [], ◌∷◌, ◌++◌, length, take};
 ghost use Rattle.sch_insn.specs.Spelling.{four_bytes, eight_bytes};
 

@@ -1,7 +1,10 @@
+//! From bytes to an instruction: `decode`.
+
 ghost use Rattle.std.specs.Prelude.{◌≡◌, ◌≢◌, ◌+◌, ◌++◌, ◌<◌, ◌≤◌, ℕ, List, length, take, drop, IfSome, Some, None};
 ghost use Rattle.sch_insn.specs.declared.insn.Insn.{Insn};
 ghost use Rattle.sch_insn.specs.Spelling.{in_memory as in_memory_of, spelling, IsValid};
-ghost use Rattle.sch_insn.specs.Decode.{number_of_4, number_of_8, count_of, sib_size, arg_of, operand_of, wide_of, narrow_of, long_of, whole_word_of, rexed_of, escaped_of, is_jump_if as is_jump_if_of, decode as decode_of};
+ghost use Rattle.sch_insn.specs.Decode.{number_of_4, number_of_8, count_of, sib_size, arg_of, operand_of, wide_of, narrow_of, long_of, whole_word_of, rexed_of};
+ghost use Rattle.sch_insn.specs.Decode.{escaped_of, is_jump_if as is_jump_if_of, decode as decode_of};
 
 use sch_insn::{Arg, Insn};
 

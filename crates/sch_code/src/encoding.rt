@@ -1,3 +1,5 @@
+//! From an instruction to bytes: `encode`.
+
 ghost use Rattle.std.specs.Prelude.{◌≡◌, ℕ, ◌+◌, ◌<◌, ◌≤◌, List, [], ◌∷◌, ◌++◌, length};
 ghost use Rattle.sch_insn.specs.Spelling.{rex, operand, wide, sib, spelling, IsArg, IsValid};
 

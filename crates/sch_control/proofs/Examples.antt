@@ -146,7 +146,7 @@ around restores =
 
 -- a call keeps no variable where it is
 abbrev restored : Reading
-restored = record { keeps = λ x. false; spills = λ x. false; notes = λ x. true; moves = λ site. [] }
+restored = record { keeps = λ x. false; spills = λ x. false; is_marked = λ x. true; moves = λ site. [] }
 
 abbrev pub at_start : World
 at_start = record {

@@ -29,7 +29,7 @@ abbrev spilling : ℕ → Bool
 spilling x = nat_eq x 3 || nat_eq x 5
 
 abbrev reading : Reading
-reading = record { keeps = λ x. false; spills = spilling; notes = λ x. not (nat_eq x 2); moves = moving }
+reading = record { keeps = λ x. false; spills = spilling; is_marked = λ x. not (nat_eq x 2); moves = moving }
 
 -- Of what the two regions save, variables 3 and 4 are bound inside: one by itself, one in a group. After
 -- the call, each is what was saved of it as it was bound.

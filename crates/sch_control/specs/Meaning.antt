@@ -39,12 +39,12 @@ Callee = Value → Procedure → List Value → ℕ → World → Result
 pub record Reading : Type 0 where
   pub keeps : ℕ → Bool
   pub spills : ℕ → Bool
-  pub notes : ℕ → Bool
+  pub is_marked : ℕ → Bool
   pub moves : ℕ → List MarkKind
 
 -- a call keeps every variable, and there are no marks but of calls and returns
 abbrev pub plain : Reading
-plain = record { keeps = λ x. true; spills = λ x. false; notes = λ x. false; moves = λ site. [] }
+plain = record { keeps = λ x. true; spills = λ x. false; is_marked = λ x. false; moves = λ site. [] }
 
 -- ## Marks
 
@@ -158,17 +158,17 @@ call_in callee spread tail depth vs w =
 -- ## The evaluator
 
 module _ (reading : Reading) where
-  abbrev pub note_each : (ℕ → MarkKind) → List ℕ → World → World
-  note_each kind [] w = w
-  note_each kind (x ∷ xs) w = note_each kind xs (marked_if (reading.notes x) (kind x) w)
+  abbrev pub mark_each : (ℕ → MarkKind) → List ℕ → World → World
+  mark_each kind [] w = w
+  mark_each kind (x ∷ xs) w = mark_each kind xs (marked_if (reading.is_marked x) (kind x) w)
 
   -- a variable is bound
-  abbrev pub note_bound : (inside : ℕ → Bool) → ℕ → World → World
-  note_bound inside x w = marked_if (cond (inside x) (reading.notes x) false) (Save x) (marked_if (reading.spills x) (Spill x) w)
+  abbrev pub mark_bound : (inside : ℕ → Bool) → ℕ → World → World
+  mark_bound inside x w = marked_if (cond (inside x) (reading.is_marked x) false) (Save x) (marked_if (reading.spills x) (Spill x) w)
 
-  abbrev pub note_members : (inside : ℕ → Bool) → List (Member ℕ) → World → World
-  note_members inside [] w = w
-  note_members inside (m ∷ members) w = note_members inside members (note_bound inside m.at w)
+  abbrev pub mark_members : (inside : ℕ → Bool) → List (Member ℕ) → World → World
+  mark_members inside [] w = w
+  mark_members inside (m ∷ members) w = mark_members inside members (mark_bound inside m.at w)
 
   module _ (callee : Callee) (depth : ℕ) where
     -- `inside` has the variables of the regions round the expression
@@ -177,7 +177,7 @@ module _ (reading : Reading) where
         on_ending w.marks (operate environment o w.state) (λ v w. next v environment saved w)
     evaluate (bind x a b) inside environment saved w next =
         evaluate a inside environment saved w
-        (λ v environment saved w. evaluate b inside (put environment x v) (put_if (inside x) saved x v) (note_bound inside x w) next)
+        (λ v environment saved w. evaluate b inside (put environment x v) (put_if (inside x) saved x v) (mark_bound inside x w) next)
     evaluate (sequence a b) inside environment saved w next =
         evaluate a inside environment saved w (λ v environment saved w. evaluate b inside environment saved w next)
     evaluate (branch a b c) inside environment saved w next =
@@ -190,11 +190,11 @@ module _ (reading : Reading) where
         let inner = put_each environment members vs in
         with_value (with_procedures w.state (members_made inner w.state members))
         (λ s. evaluate e inside inner (put_inside inside saved members vs)
-        (note_members inside members (record { state = s; marks = w.marks })) next))
+        (mark_members inside members (record { state = s; marks = w.marks })) next))
     evaluate (call a restores) inside environment saved w next =
         with_value (part_values environment w.state.store a)
         (λ vs. on_return (call_in callee a.spread false depth vs (marked (Call a.site) (marked_each (reading.moves a.site) w)))
-        (λ v w. next v (after_call reading.keeps restores environment saved) saved (note_each Restore restores w)))
+        (λ v w. next v (after_call reading.keeps restores environment saved) saved (mark_each Restore restores w)))
     evaluate (tail_call a) inside environment saved w next =
         with_value (environment 0)
         (λ link. with_value (part_values environment w.state.store a)
@@ -206,7 +206,7 @@ module _ (reading : Reading) where
         evaluate e inside environment saved w (λ v environment saved w. Some (gives unspecified w))
     evaluate (save saves e) inside environment saved w next =
         evaluate e (with_region saves inside) environment (save_each (heads e saves) environment saved)
-        (note_each Save (heads e saves) w) next
+        (mark_each Save (heads e saves) w) next
 
 -- ## Bodies
 

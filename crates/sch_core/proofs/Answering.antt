@@ -23,13 +23,13 @@ use Rattle.sch_linking.specs.Size.{size_of_definitions}
 use Rattle.sch_linking.proofs.ProgramSize.{program_size}
 use Rattle.sch_validity.specs.Library.{AreDefinitions, AreOrdered, procedures_of_each}
 use Rattle.sch_validity.specs.Sizes.{AllQuotable, statics_in_each}
-use Rattle.sch_validity.proofs.Sites.{count_numbered}
-use Rattle.sch_toplevel.specs.Forms.{forms_in, form_sketch, own_names, text_globals}
+use Rattle.sch_validity.proofs.numbered.Sites.{count_numbered}
+use Rattle.sch_toplevel.specs.Forms.{forms_in, form_sketch, own_names, text_globals, form_places}
 use Rattle.sch_toplevel.specs.Texts.{FormsExpand, IsFaultOf, IsRead, TextExpands}
 use Rattle.sch_toplevel.proofs.TextLaws.{text_made, text_fault}
 use Rattle.sch_core.specs.declared.error.Kind.{Kind}
 use Rattle.sch_core.specs.Libraries.{AreFew}
-use Rattle.sch_core.specs.Programs.{IsProgramOf, ExceedsAt, form_places, first_excess}
+use Rattle.sch_core.specs.Programs.{IsProgramOf, ExceedsAt, first_excess}
 use Rattle.sch_core.proofs.Numberless.{alike_each, first_alike}
 use Rattle.sch_core.proofs.TextSizes.{counted, sized_each, forms_weigh}
 use Rattle.sch_core.proofs.ValidTexts.{valid_program}

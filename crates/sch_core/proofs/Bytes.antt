@@ -6,7 +6,7 @@ use Rattle.std.specs.Borrow.{Bor}
 use Rattle.sch_word.specs.values.Values.{are_bytes}
 use Rattle.sch_numbers.specs.Programs.{is_hidden, seen}
 use Rattle.sch_toplevel.specs.Views.{given}
-use Rattle.sch_toplevel.proofs.FormLists.{next}
+use Rattle.sch_word.proofs.facts.Lists.{next_left}
 use Rattle.sch_keeping.specs.Definitions.{definitions_of}
 use Rattle.sch_keeping.specs.declared.definition.Definition.{Definition}
 
@@ -18,11 +18,11 @@ module _ (ds : List Definition) (i : ℕ) (d : Definition) (l : i < length ds) (
   pub hidden_next : (names : List (Bor (List ℕ))) (r : List (List ℕ)) → b ≡ true → given names ++ seen (definitions_of (drop i ds)) ≡ r →
       given names ++ seen (definitions_of (drop (i + 1) ds)) ≡ r
   hidden_next names r t k =
-      let k' = rw (next ds i d l e, sym h ∙ t) at k in
+      let k' = rw (next_left ds i d l e, sym h ∙ t) at k in
       rw add-one k'
 
   pub seen_next : (names names' : List (Bor (List ℕ))) (r : List (List ℕ)) → b ≡ false → names' ≡ names ++ d.name ∷ [] → given names ++ seen (definitions_of (drop i ds)) ≡ r →
       given names' ++ seen (definitions_of (drop (i + 1) ds)) ≡ r
   seen_next names names' r f p k =
-      let k' = rw (next ds i d l e, sym h ∙ f) at k in
+      let k' = rw (next_left ds i d l e, sym h ∙ f) at k in
       rw (add-one, p, map-append, append_assoc) k'

@@ -1,5 +1,5 @@
 -- How large the drafts of a text are, by the weight of its data.
-use Rattle.std.proofs.Common.{◌≡◌, ◌≤◌, ℕ, suc, ◌+◌, ◌*◌, Bool, true, false, cond, List, [], ◌∷◌, ◌++◌, length, map, refl, subst, arith}
+use Rattle.std.proofs.Common.{◌≡◌, ◌≤◌, ℕ, ◌+◌, ◌*◌, Bool, true, false, cond, List, [], ◌∷◌, ◌++◌, length, map, refl, subst, arith}
 use Rattle.sch_read.specs.Grammar.{Datum, Data, atom, list, dotted, vector, none, cons, boolean, integer, character, symbol}
 use Rattle.sch_read.specs.Grammar as grammar
 use Rattle.sch_read.specs.Valid.{weight, weights}
@@ -19,6 +19,7 @@ use Rattle.sch_table.proofs.SoundRows.{datum_sound, rest_sound}
 use Rattle.sch_expansion.specs.Expands.{Expands, PartsExpand}
 use Rattle.sch_expansion.specs.Expands as ex
 use Rattle.sch_linking.specs.Size.{size, size_each}
+use Rattle.sch_validity.proofs.drafts.Parts.{front_count}
 use Rattle.sch_toplevel.specs.Forms.{is_begin_word, forms_of, forms_in, form_sketch}
 
 pub counted : {globals : Globals} {k : Kind} {first : Bool} {n : ℕ} {s : Scope} {t : Position} {ks : Sketches} {es : Drafts} → PartsExpand globals k first n s t ks es → how_many_parts ks ≡ count es
@@ -26,11 +27,6 @@ counted (ex.no_part k first n s t) = refl
 counted (ex.and_part k first n s t p ps e es x y) = omega (arith, counted y)
 
 -- ## Nodes
-
-front_count : (es : Drafts) (n : ℕ) → count es ≡ suc n → count (front es) ≡ n
-front_count no_drafts n h = absurd (omega (arith, h))
-front_count (and_draft e no_drafts) n h = omega (arith, h)
-front_count (and_draft e (and_draft f fs)) n h = omega (arith, h, front_count (and_draft f fs) (count fs) refl)
 
 parts_size : (es : Drafts) → 1 ≤ count es → size_each (front es) + size (last es) ≡ size_each es
 parts_size no_drafts h = absurd (omega (arith, h))

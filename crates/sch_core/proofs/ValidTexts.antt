@@ -1,7 +1,7 @@
 -- The program of a library and of a text without a fault is valid.
 use Rattle.std.proofs.Common.{◌≡◌, ◌⊎◌, inl, inr, ◌≤◌, ℕ, ◌+◌, ◌*◌, Bool, true, false, cond, ◌||◌, List, [], ◌∷◌, ◌++◌, length, map, Option, Some, None, refl, sym, ap, ◌∙◌, subst, arith, append_assoc}
 use Rattle.std.specs.Str.{bytes_eq}
-use Rattle.std.proofs.lemmas.Slice.Eq.{bytes_eq-Decides}
+use Rattle.sch_word.proofs.facts.Booleans.{and_parts}
 use Rattle.sch_lang.specs.Tree.{Expression, Expressions, no_expressions, and_expression, count}
 use Rattle.sch_lang.specs.Valid.{is_valid}
 use Rattle.sch_read.specs.Grammar.{Datum, Data, atom, list, dotted, vector, none, cons, boolean, integer, character, symbol}
@@ -21,22 +21,23 @@ use Rattle.sch_expansion.specs.Expands.{Expands, PartsExpand}
 use Rattle.sch_expansion.specs.Expands as ex
 use Rattle.sch_numbers.specs.Named.{firsts, globals_in_each, symbols_in_each}
 use Rattle.sch_numbers.specs.Numbered.{numbered}
-use Rattle.sch_numbers.specs.Programs.{Definition, is_hidden, seen, names_of_each, globals_of_each, symbols_of_each, with_definition, kept, named, procedures, program_of}
+use Rattle.sch_numbers.specs.Programs.{Definition, seen, names_of_each, globals_of_each, symbols_of_each, with_definition, kept, named, procedures, program_of}
 use Rattle.sch_validity.specs.Few.{IsFew, LambdasAreFew, FormsAreFew}
 use Rattle.sch_validity.specs.Forms.{Form, expression, definition, sketch_of, IsBound, AreDefined, HasNames, AreOfData, form_weight, forms_weight}
 use Rattle.sch_validity.specs.Forms as valid
 use Rattle.sch_validity.specs.Library.{AreDefinitions, AreAmong, AreOrdered, procedures_of_each}
 use Rattle.sch_validity.specs.Sizes.{AllQuotable, IsQuotable, statics_in_each}
-use Rattle.sch_validity.proofs.Names.{left, right, all_among}
-use Rattle.sch_validity.proofs.Starts.{among_append, among_left, among_right, among_cons}
-use Rattle.sch_validity.proofs.Forms.{forms_constants, valid_text}
-use Rattle.sch_toplevel.specs.Forms.{is_begin_word, forms_of, forms_in, form_sketch, defined_by, defined_by_each, defined, own_names, text_globals}
+use Rattle.sch_validity.proofs.numbered.Names.{left, right, all_among}
+use Rattle.sch_validity.proofs.programs.Starts.{equal, among_append, among_left, among_right, among_cons, seen_named}
+use Rattle.sch_validity.proofs.programs.Forms.{forms_constants, valid_text}
+use Rattle.sch_toplevel.specs.Forms.{is_begin_word, forms_of, forms_in, form_sketch, defined_by, defined_by_each, defined, own_names, text_globals, form_places}
 use Rattle.sch_toplevel.specs.Texts.{FormsExpand}
 use Rattle.sch_core.specs.declared.error.Kind.{Kind}
 use Rattle.sch_core.specs.declared.error.Kind.TheVariants.{Variables, Free}
-use Rattle.sch_core.specs.Programs.{form_places, excess, at_place, first_excess}
+use Rattle.sch_core.specs.Programs.{excess, at_place, first_excess}
 use Rattle.sch_core.specs.Libraries.{definition_excess, AreFew}
-use Rattle.sch_core.proofs.Nesting.{both, all_quotable}
+use Rattle.sch_core.proofs.Nesting.{all_quotable}
+use Rattle.sch_core.proofs.DataLaws.{none_some}
 use Rattle.sch_core.proofs.Numberless.{same_excess, alike}
 
 -- ## Names
@@ -44,9 +45,6 @@ use Rattle.sch_core.proofs.Numberless.{same_excess, alike}
 pub some_left : (a b : Bool) → (a || b) ≡ true → (a ≡ true) ⊎ (b ≡ true)
 some_left true b h = inl refl
 some_left false b h = inr h
-
-equal : (x y : List ℕ) → bytes_eq x y ≡ true → x ≡ y
-equal x y h = grind (arith, bytes_eq-Decides)
 
 -- what is in a list of names that are all among others is among those
 within : (all xs : List (List ℕ)) (x : List ℕ) → AreAmong all xs → is_among x xs ≡ true → is_among x all ≡ true
@@ -77,18 +75,10 @@ pub either_there : (c a b : Bool) → cond c true a ≡ true → (a ≡ true →
 either_there true a b h f = refl
 either_there false a b h f = f h
 
-hidden_there : (hidden : Bool) (x v : List ℕ) (a b : List (List ℕ)) → is_among x (cond hidden a (v ∷ a)) ≡ true → (is_among x a ≡ true → is_among x b ≡ true) → is_among x (v ∷ b) ≡ true
-hidden_there true x v a b h f = among_cons x v b (f h)
-hidden_there false x v a b h f = either_there (bytes_eq x v) (is_among x a) (is_among x b) h f
-
-seen_there : (x : List ℕ) (ds : List Definition) → is_among x (seen ds) ≡ true → is_among x (names_of_each ds) ≡ true
-seen_there x [] h = h
-seen_there x (d ∷ ds) h = hidden_there (is_hidden d.name) x d.name (seen ds) (names_of_each ds) h (λ k. seen_there x ds k)
-
 names_there : (ds : List Definition) (items : Data) (assigned : List (List ℕ)) → HasNames ds (own_names items assigned) (text_globals (seen ds) items assigned)
 names_there ds items assigned x h =
     elim (some_left _ _ (sym (among_append x (seen ds) (defined items)) ∙ from_table x (seen ds ++ defined items) [] h)) [
-      | inl m ↦ among_right x (own_names items assigned) (names_of_each ds) (seen_there x ds m)
+      | inl m ↦ among_right x (own_names items assigned) (names_of_each ds) (seen_named x ds m)
       | inr m ↦ among_left x (own_names items assigned) (names_of_each ds) (into_table x (defined items ++ assigned) (among_left x (defined items) assigned m))
     ]
 
@@ -242,7 +232,7 @@ quotable_append [] b h k = k
 quotable_append (d ∷ a) b h k = one_quotable (form_of d) (map form_of a) (map form_of (a ++ b)) h (λ i. quotable_append a b i k)
 
 inner_quotable : (at q : ℕ) (x : List ℕ) (xs : Data) → IsQuotable (list at (cons (atom q (symbol x)) xs)) → AllQuotable xs
-inner_quotable at q x xs h = all_quotable xs (omega (arith, h.1)) (both _ _ h.0).1
+inner_quotable at q x xs h = all_quotable xs (omega (arith, h.1)) (and_parts _ _ h.0).1
 
 chosen_quotable : (b : Bool) (at q : ℕ) (x : List ℕ) (xs : Data) → IsQuotable (list at (cons (atom q (symbol x)) xs)) →
     AreOfData (chosen_form b at xs (list at (cons (atom q (symbol x)) xs)) ∷ [])
@@ -271,9 +261,6 @@ mutual
   data_quotable (cons d ds) h = quotable_append (forms_of d) (forms_in ds) (datum_quotable d h.0) (data_quotable ds h.1)
 
 -- ## Limits
-
-none_some : {A : Type 0} {a : A} → None ≡ Some a → ⊥
-none_some e = cc
 
 enough : (a b : Bool) → cond a (cond b None (Some Free)) (Some Variables) ≡ None → (a ≡ true) × (b ≡ true)
 enough true true h = (refl, refl)

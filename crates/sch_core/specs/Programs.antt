@@ -5,15 +5,10 @@ use Rattle.sch_limits.specs.Within.{few_variables, few_free}
 use Rattle.sch_read.specs.Grammar.{Data}
 use Rattle.sch_sketch.specs.Draft.{Drafts}
 use Rattle.sch_numbers.specs.Programs.{Definition, seen, program_of}
-use Rattle.sch_toplevel.specs.Forms as forms
-use Rattle.sch_toplevel.specs.Forms.{own_names}
+use Rattle.sch_toplevel.specs.Forms.{form_places, own_names}
 use Rattle.sch_toplevel.specs.Texts.{TextExpands}
 use Rattle.sch_core.specs.declared.error.Kind.{Kind}
 use Rattle.sch_core.specs.declared.error.Kind.TheVariants.{Variables, Free}
-
--- the places of the top-level forms of a text; the parts of a `begin` are forms
-abbrev pub form_places : Data → List ℕ
-form_places items = forms.form_places items
 
 -- What an expression has too much of, as a procedure with these formals: more than 1,000 variables in its body or
 -- in that of a procedure in it, or as many free ones.

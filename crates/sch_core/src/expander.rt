@@ -3,7 +3,8 @@
 ghost use Rattle.std.specs.Prelude.{◌≡◌, ◌≤◌, ◌+◌, ◌*◌, [], length, IfOk, IfErr, MatchResult};
 ghost use Rattle.sch_read.specs.Views.{data_of};
 ghost use Rattle.sch_core.specs.Answer.{IsErrorIn};
-ghost use Rattle.sch_core.specs.Programs.{IsProgramOf, form_places};
+ghost use Rattle.sch_core.specs.Programs.{IsProgramOf};
+ghost use Rattle.sch_toplevel.specs.Forms.{form_places};
 ghost use Rattle.sch_lang.specs.Measures.{nodes_and_bound};
 ghost use Rattle.sch_lang.specs.ProgramView.{source};
 ghost use Rattle.sch_lang.specs.Tree.{Source, count};
@@ -17,7 +18,6 @@ ghost use Rattle.sch_sketch.specs.DraftView.{drafts_of};
 use crate::error::{CoreError, error_of};
 use crate::libraries::{Library, seen_names};
 use crate::limits::first_excess;
-use crate::places::form_places;
 use crate::quotable::are_quotable;
 use sch_lang::{Exp, Program};
 use sch_linking::assemble;
@@ -26,7 +26,7 @@ use sch_numbering::{Numbers, number_each};
 use sch_numbers::Output;
 use sch_read::Datum;
 use sch_sketch::Draft;
-use sch_toplevel::{Text, read_text};
+use sch_toplevel::{Text, form_places, read_text};
 use sch_word::{List, Mem};
 use std::alloc::Global;
 

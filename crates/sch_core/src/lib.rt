@@ -8,7 +8,6 @@ mod laws;
 mod libraries;
 mod library_laws;
 mod limits;
-mod places;
 mod quotable;
 
 pub use definitions::library;
@@ -22,4 +21,3 @@ pub use libraries::Library;
 pub use library_laws::{
     items_have_a_library_or_an_error, items_have_one_error, items_have_one_library,
 };
-pub use places::form_places;

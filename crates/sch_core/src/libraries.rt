@@ -2,11 +2,11 @@
 
 ghost use Rattle.std.specs.Prelude.{◌≡◌, [], IfOk};
 ghost use Rattle.sch_keeping.specs.Definitions.{definitions_of};
-ghost use Rattle.sch_numbers.specs.Programs.{is_hidden, seen};
+ghost use Rattle.sch_numbers.specs.Programs.{seen};
 ghost use Rattle.sch_core.specs.SoundLibraries.{IsSoundLibrary};
 ghost use Rattle.sch_toplevel.specs.Views.{given};
 
-use sch_keeping::Definition;
+use sch_keeping::{Definition, is_hidden};
 use sch_word::{List, Mem};
 use std::alloc::Global;
 
@@ -26,16 +26,6 @@ impl<'a> Library<'a> {
         Library {
             definitions: List::new(alloc),
         }
-    }
-}
-
-/// Whether a name is the library's own: it begins with `%`.
-fn is_hidden(x: &[u8]) -> bool
-    ensures { result ≡ is_hidden x.now }
-{
-    match x.first() {
-        Some(b) => *b == b'%',
-        None => false,
     }
 }
 

@@ -8,11 +8,8 @@ ghost use Rattle.sch_read.specs.Levels.{depth, depths};
 ghost use Rattle.sch_read.specs.Views.{tree_of, data_of, atom_of};
 ghost use Rattle.sch_validity.specs.Sizes.{atom_in_range, datum_in_range, data_in_range, AllQuotable};
 
-use sch_read::{Atom, Datum, Node};
+use sch_read::{Atom, Datum, MAX_NESTING, Node};
 use sch_word::Fix;
-
-/// The most levels of lists that are walked, as many as data have that are read: each takes a part of the stack.
-const MAX_NESTING: u32 = 1_000;
 
 /// A list of bytes has bytes, by its type.
 fn know_bytes(x: &[u8])
@@ -91,7 +88,7 @@ fn nest_within(items: &[Datum], levels: u32) -> bool
     true
 }
 
-/// Whether data nest no deeper than those that are read.
+/// Whether data nest no deeper than those that are read: each level that is walked takes a part of the stack.
 pub(crate) fn are_quotable(items: &[Datum]) -> bool
     ensures { result ≡ true → AllQuotable (data_of items.now) }
 {

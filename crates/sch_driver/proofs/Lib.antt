@@ -5,3 +5,4 @@ pub mod Spelled
 pub mod Meanings
 pub mod Resolved
 pub mod Steps
+pub mod Sizes

@@ -14,7 +14,7 @@ use Rattle.sch_driver.specs.declared.error.CompileError.TheVariants as compiling
 use Rattle.sch_driver.specs.Causes.{IsErrorOf, IsLibraryText, of_reading, of_expanding}
 use Rattle.sch_driver.specs.PartErrors.{FailsToRead, FailsToDefine, FailsToExpand}
 
--- what holds of want of memory, and of an error that is another, named as one of a part
+-- what holds of being out of memory, and of any other error, named as one of a part
 named_read : (part : Part) (cause : ReadError) (P : CompileError → Type 0) → P compiling.Memory → (cause ≢ read.Memory → P (compiling.Read part cause)) → P (of_reading part cause)
 named_read part read.Memory P m h = m
 named_read part (read.Unclosed at) P m h = h (λ e. cc)

@@ -42,9 +42,9 @@ pub record IsFrameSize (p : Source) (words : ℕ) : Type 0 where
   pub few : words ≤ max_words
   pub bound : words ≤ max_operands + most_variables p.bodies
 
--- The image is laid out as a program's of so many instructions, whose words end where the heap begins, with room behind
--- them for the heap and for frames of so many words at this depth. Where the control program is never wrong, it follows its runs, has exited
--- within a bound of steps where one has ended, and its marks are these.
+-- The image is laid out as a program's, with this number of instructions. Its words end where the heap begins, and behind
+-- them it has room for the heap and for frames of this number of words at this depth. Where the control program is never
+-- wrong, it follows its runs, has exited within a bound of steps where one has ended, and its marks are these.
 pub record IsAssembled (p : Source) (heap depth frame_words instructions : ℕ) (marks : List Mark) (image : Image) : Type 0 where
   pub laid_out : HasProgramLayout image
   pub counted : instructions ≡ length laid_out.code

@@ -19,6 +19,7 @@ use Rattle.sch_control.specs.Tree as control
 use Rattle.sch_layout.specs.LayoutSizes.{most_words}
 use Rattle.sch_frames.specs.Valid.{max_words}
 use Rattle.sch_select.specs.Program.{frames_bytes, max_stack}
+use Rattle.sch_passes.specs.Chain.{control_of}
 use Rattle.sch_driver.specs.declared.error.Part.{Part}
 use Rattle.sch_driver.specs.declared.error.Part.TheVariants.{Library, User}
 use Rattle.sch_driver.specs.declared.error.CompileError.{CompileError}
@@ -57,8 +58,15 @@ text_bound p = text_base + 512 * program_size p
 abbrev pub frame_bound : tree.Source → ℕ
 frame_bound p = 2 * most_variables p + 216
 
--- Laid out with a slot for each variable, a control program that fits the core program has frames of at most so many
--- words.
+-- how many words the largest frame has of what is compiled of a program, and how many bytes the text
+unfoldable pub frame_words_of : tree.Source → ℕ
+frame_words_of p = most_words (control_of p).bodies
+
+unfoldable pub text_bytes_of : tree.Source → ℕ
+text_bytes_of p = framed_size (control_of p)
+
+-- Laid out with a slot for each variable, a control program that fits the core program has a largest frame of this
+-- number of words.
 pub record HasFrames (program : tree.Source) (words : ℕ) : Type 0 where
   pub control : control.Source
   pub fits_program : FitsProgram program control

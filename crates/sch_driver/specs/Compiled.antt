@@ -1,5 +1,5 @@
 -- What is compiled of a text.
-use Rattle.std.specs.Prelude.{◌≡◌, ◌≤◌, ◌+◌, ℕ, List, length, map}
+use Rattle.std.specs.Prelude.{◌≡◌, ◌≤◌, ◌+◌, ℕ, List, [], length, map}
 use Rattle.std.specs.List.{flat_map}
 use Rattle.sch_word.specs.runs.ProgramLayout.{data_address}
 use Rattle.sch_insn.specs.Spelling.{spelling}
@@ -24,11 +24,13 @@ use Rattle.sch_driver.specs.declared.listing.Listing.{Listing}
 use Rattle.sch_driver.specs.Headline.{IsProgram}
 
 -- What is listed is of one control program that fits the core program: the orders are those given for it, and of its
--- bodies, laid out with a slot for each variable, are the words of the largest frame and the marks, in their order.
+-- bodies, laid out with a slot for each variable, are the words of the largest frame and the marks, in their order. No
+-- values go round as operands are moved, since each operand is first put into a slot of its own.
 pub record AreListed (p : tree.Source) (listing : Listing) : Type 0 where
   pub program : control.Source
   pub fits_program : FitsProgram p program
   pub given : listing.orders ≡ given_table program
+  pub cycles : listing.cycles ≡ []
   pub words : listing.frame_words ≡ most_words program.bodies
   pub marks : map (λ m. m.kind) listing.marks ≡ kinds_of 0 (map slots_code program.bodies)
 

@@ -1,5 +1,5 @@
 -- Which control programs a core program may be compiled through.
-use Rattle.std.specs.Prelude.{◌≡◌, ◌≤◌, IsTrue, ℕ, map, nat_eq}
+use Rattle.std.specs.Prelude.{◌≡◌, ◌≤◌, IsTrue, ℕ, length, map, nat_eq}
 use Rattle.std.specs.List.{count_by, list_all}
 use Rattle.sch_lang.specs.Bodies.{bodies_of}
 use Rattle.sch_lang.specs.Measures as measures
@@ -12,18 +12,21 @@ use Rattle.sch_normal.specs.Counted.{bind_within}
 use Rattle.sch_normal.specs.Dropped.{dropped_of}
 use Rattle.sch_normal.specs.Tests.{tests_of}
 use Rattle.sch_orders.specs.Table.{given_table}
-use Rattle.sch_passes.specs.Chain.{RunsAs}
+use Rattle.sch_passes.specs.Chain.{RunsAs, control_of}
 
--- A control program fits a core program. It is valid, and none of its calls spreads a list. It runs as that under each
--- order table that fits it, of which the one that is given for it is one. It has the same symbols, literals and globals,
--- and the same bodies by their names; none of them has more variables than are counted for the body of the core program
--- at its place, but its return address and its closure. Its calls and primitives are those of the core program, each
--- site once. It has as many tests, and drops no more atoms.
+-- A control program fits a core program. It is the one that the passes are defined to make of it, one after the other;
+-- so there is one alone. What follows is said of it without them. It is valid, and none of its calls spreads a list. It
+-- runs as the core program under each order table that fits it, of which the one that is given for it is one. It has the
+-- same symbols, literals and globals, as many procedures of the library, and the same bodies by their names; none of them has more variables than are
+-- counted for the body of the core program at its place, but its return address and its closure. Its calls and primitives
+-- are those of the core program, each site once. It has as many tests, and drops no more atoms.
 pub record FitsProgram (p : tree.Source) (q : control.Source) : Type 0 where
+  pub made : q ≡ control_of p
   pub valid : IsTrue (is_valid q)
   pub bodies : IsTrue (list_all code_valid q.bodies)
   pub covered : IsTrue (is_covered_program q)
   pub statics : q.statics ≡ p.statics
+  pub library : length q.library ≡ tree.count_lambdas p.library
   pub runs : RunsAs p q
   pub fits : IsTrue (table_fits q (given_table q))
   pub names : map (λ c. c.name) q.bodies ≡ map (λ b. b.name) (bodies_of p)

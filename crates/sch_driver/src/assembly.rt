@@ -2,6 +2,7 @@
 
 ghost use Rattle.std.specs.Prelude.{◌≡◌, ◌<◌, ◌≤◌, map, IfOk, IfErr, IsTrue, OnOk};
 ghost use Rattle.std.specs.List.{flat_map};
+ghost use Rattle.sch_word.specs.declared.limits.TheConstants.{MAX_DEPTH};
 ghost use Rattle.sch_insn.specs.Spelling.{AllValid, spelling};
 ghost use Rattle.sch_control.specs.Covered.{is_covered_program};
 ghost use Rattle.sch_control.specs.ProgramView.{source};
@@ -50,10 +51,10 @@ pub(crate) struct Assembled {
     pub(crate) marks: List<Mark>,
 }
 
-/// Checks that frames of so many words have room on the stack at a depth.
+/// Checks that frames of `words` words have room on the stack at a depth.
 fn check_stack(words: u32, depth: u64) -> Result<(), CompileError>
     requires few { words ≤ max_words }
-    requires depth { depth ≤ 10000000 }
+    requires depth { depth ≤ MAX_DEPTH }
     ensures fits { OnOk result (frames_bytes words depth ≤ max_stack) }
     ensures refused { IfErr result (λ e. (e ≡ error.StackTooLarge words) × (max_stack < frames_bytes words depth)) }
 {

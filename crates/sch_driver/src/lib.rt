@@ -17,12 +17,12 @@ use crate::listing::names_of;
 use crate::reading::read_program;
 pub use error::{CompileError, Part};
 pub use laws::a_text_has_one_meaning;
-pub use listing::{Compiled, Listing};
+pub use listing::{Compiled, Cycle, Listing};
 use sch_elf::write_image;
 use sch_orders::given_orders;
 use sch_passes::control_program;
 use sch_prelude::library_text;
-use sch_word::Limits;
+use sch_word::{Limits, List};
 use std::alloc::Global;
 
 /// The most bytes of a source: 1 MiB.
@@ -49,6 +49,7 @@ pub fn compile(alloc: Global, text: &[u8], limits: Limits) -> Result<Compiled, C
         listing: Listing {
             bodies,
             orders,
+            cycles: List::new(alloc),
             frame_words: assembled.frame_words,
             instructions: assembled.instructions,
             marks: assembled.marks,

@@ -4,8 +4,17 @@ ghost use Rattle.std.specs.Prelude.{◌≡◌, IfOk, map};
 
 use sch_asm::Mark;
 use sch_control::Body;
-use sch_word::{Bytes, List, Mem};
+use sch_word::{Bytes, List, Mem, Place};
 use std::alloc::Global;
+
+/// Places whose values go round as the operands of a call are moved to where they are passed: that of each goes to the
+/// next, and that of the last to the first.
+#[derive(Drop)]
+pub struct Cycle {
+    /// The site of the call.
+    pub site: u32,
+    pub places: List<Place>,
+}
 
 /// What is listed of a program that is compiled.
 #[derive(Drop)]
@@ -18,6 +27,8 @@ pub struct Listing {
     /// For each site of its core program the order in which the parts of the site are evaluated (R5RS 4.1.3 leaves
     /// it open).
     pub orders: List<List<u32>>,
+    /// The cycles among the moves of its calls. There are none, since each operand is first put into a slot of its own.
+    pub cycles: List<Cycle>,
     /// How many words of 8 bytes its largest frame has.
     pub frame_words: u32,
     /// How many instructions its text has.

@@ -1,6 +1,7 @@
 -- Which image the bytes of a file stand for.
 use Rattle.std.specs.Prelude.{◌≡◌, ◌≢◌, ◌≤◌, ◌<◌, ℕ, ◌+◌, ◌-◌, ◌/◌, ◌%◌, ◌^◌, ◌==◌, Bool, List, length, take, drop, map, filter, sum_by, All}
-use Rattle.sch_elf.specs.Constants.{EM_X86_64, ET_EXEC, EV_CURRENT, PF_R, PF_W, PF_X, PT_DYNAMIC, PT_INTERP, PT_LOAD, file_header_size, identification, max_image_size, max_program_headers, max_segments, program_header_size}
+use Rattle.sch_elf.specs.Constants.{EM_X86_64, ET_EXEC, EV_CURRENT, PF_R, PF_W, PF_X, PT_DYNAMIC, PT_INTERP, PT_LOAD, file_header_size, identification}
+use Rattle.sch_elf.specs.Constants.{max_image_size, max_program_headers, max_segments, program_header_size}
 use Rattle.sch_elf.specs.Elf.{file_header, program_header, header_place, first_headers, is_load}
 use Rattle.sch_elf.specs.declared.header.ProgramHeader.{ProgramHeader}
 use Rattle.sch_elf.specs.declared.header.FileHeader.{FileHeader}

@@ -6,7 +6,7 @@ mod error;
 mod header;
 mod image;
 mod laws;
-mod program;
+mod program_segments;
 mod read;
 mod sound;
 mod write;
@@ -18,7 +18,7 @@ pub use laws::{
     a_file_is_refused_for_one_reason, a_file_stands_for_one_image,
     a_refused_file_stands_for_no_image, an_offset_is_the_least, write_and_read,
 };
-pub use program::program_image;
+pub use program_segments::program_image;
 pub use read::read_image;
 pub use sch_word::{DATA_ADDRESS, TEXT_ADDRESS};
 pub use write::write_image;

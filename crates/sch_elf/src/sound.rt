@@ -34,7 +34,8 @@ pub fn sound_header(
 
 // The place of a program header in a table, if all of it is in the file.
 fn place_of(file: &[u8], table: u64, index: u16) -> Option<usize>
-    ensures { MatchOption result (length file.now < table + program_header_size * index + program_header_size) (λ place. (place ≡ table + program_header_size * index) × (place + program_header_size ≤ length file.now)) }
+    ensures { MatchOption result (length file.now < table + program_header_size * index + program_header_size)
+        (λ place. (place ≡ table + program_header_size * index) × (place + program_header_size ≤ length file.now)) }
 {
     let size = file.len() as u64;
     let before = PROGRAM_HEADER_SIZE as u64 * index as u64;
@@ -69,7 +70,8 @@ fn has_contents(header: &ProgramHeader, size: u64) -> bool
 
 // Whether its alignment is kept, and it ends in the lower half of the address space.
 fn is_placed(header: &ProgramHeader) -> bool
-    ensures { IsTrue result ↔ ((1 < header.now.p_align → header.now.p_vaddr % header.now.p_align ≡ header.now.p_offset % header.now.p_align) × (header.now.p_vaddr + header.now.p_memsz ≤ 2 ^ 47)) }
+    ensures { IsTrue result ↔ ((1 < header.now.p_align → header.now.p_vaddr % header.now.p_align ≡ header.now.p_offset % header.now.p_align)
+        × (header.now.p_vaddr + header.now.p_memsz ≤ 2 ^ 47)) }
 {
     is_aligned(header) && ends_by(header.p_vaddr, header.p_memsz, 1 << 47)
 }

@@ -36,8 +36,8 @@ best_by to back p = record {
   kept = p.kept;
 }
 
-pub some_is : {f g : Fault} → Some f ≡ Some g → f ≡ g
-some_is {f} {g} e = cc
+pub some_is : {A : Type 0} {a b : A} → Some a ≡ Some b → a ≡ b
+some_is e = cc
 
 pub none_some : {f : Fault} → None ≡ Some f → ⊥
 none_some e = cc

@@ -1,6 +1,7 @@
 -- The walk over a sketch finds its draft where it has no fault, and a least fault otherwise.
 use Rattle.std.proofs.Common.{◌≡◌, ◌⊎◌, inl, inr, ◌≤◌, ◌+◌, ℕ, suc, zero, Bool, true, false, cond, [], ◌∷◌, Option, None, nat_le, refl, sym, ap, subst, arith}
 use Rattle.sch_word.specs.trees.Shape.{max_levels, max_operands}
+use Rattle.sch_word.proofs.facts.Booleans.{false_true}
 use Rattle.sch_names.specs.Scope.{Scope, Globals}
 use Rattle.sch_sketch.specs.declared.fault.Fault.{Fault}
 use Rattle.sch_sketch.specs.declared.fault.Fault.TheVariants.{Operands, Core}
@@ -18,9 +19,6 @@ use Rattle.sch_expansion.specs.Faults as no
 use Rattle.sch_expansion.specs.Reads.{Reads, PartsRead, operand_faults}
 use Rattle.sch_expansion.specs.Reads as re
 use Rattle.sch_expansion.proofs.Best.{Best, none_new, and_then, best_by, one_new, none_before, none_reported}
-
-true_false : {b : Bool} → b ≡ true → b ≡ false → ⊥
-true_false e f = cc
 
 and_eq : {a a' : Draft} {b b' : Drafts} → a ≡ a' → b ≡ b' → and_draft a b ≡ and_draft a' b'
 and_eq e f = cc
@@ -45,11 +43,11 @@ module _ (globals : Globals) where
     pub clean : {n : ℕ} {s : Scope} {t : Position} {k : Sketch} {e : Draft} {f : Fault} → Expands globals n s t k e → HasFault globals n s t k f → ⊥
     clean (ex.a_datum n s t d e p) (no.in_datum _ _ _ _ f q) = clean p q
     clean (ex.a_rest n s t r at xs ys e p) (no.in_rest _ _ _ _ _ _ _ f q) = clean p q
-    clean (ex.a_leaf n s t at e l) (no.leaf_deep _ _ _ _ _ m) = true_false l m
-    clean (ex.a_node n s t k at ks es l w p) (no.node_deep _ _ _ _ _ _ m) = true_false l m
-    clean (ex.a_node n s t k at ks es l w p) (no.node_wide _ _ _ _ _ _ v) = true_false w v
+    clean (ex.a_leaf n s t at e l) (no.leaf_deep _ _ _ _ _ m) = false_true l m
+    clean (ex.a_node n s t k at ks es l w p) (no.node_deep _ _ _ _ _ _ m) = false_true l m
+    clean (ex.a_node n s t k at ks es l w p) (no.node_wide _ _ _ _ _ _ v) = false_true w v
     clean (ex.a_node n s t k at ks es l w p) (no.in_node _ _ _ _ _ _ f m q) = clean_each p q
-    clean (ex.within n s t at m k e w p) (no.too_many _ _ _ _ _ _ v) = true_false w v
+    clean (ex.within n s t at m k e w p) (no.too_many _ _ _ _ _ _ v) = false_true w v
     clean (ex.within n s t at m k e w p) (no.in_limited _ _ _ _ _ _ f q) = clean p q
 
     clean_each : {k : Kind} {first : Bool} {n : ℕ} {s : Scope} {t : Position} {ks : Sketches} {es : Drafts} {f : Fault} →
@@ -68,8 +66,8 @@ module _ (globals : Globals) where
     one_fault (re.reads_leaf n s t at e a) (re.reads_leaf _ _ _ _ _ _) = refl
     one_fault (re.reads_limited n s t at count k a b e p) (re.reads_limited _ _ _ _ _ _ _ b' e' q) = one_fault p q
     one_fault (re.reads_deep n s t k at ks a l) (re.reads_deep _ _ _ _ _ _ _ m) = refl
-    one_fault (re.reads_deep n s t k at ks a l) (re.reads_node _ _ _ _ _ _ _ b es m q) = absurd (true_false m l)
-    one_fault (re.reads_node n s t k at ks a b es l p) (re.reads_deep _ _ _ _ _ _ _ m) = absurd (true_false l m)
+    one_fault (re.reads_deep n s t k at ks a l) (re.reads_node _ _ _ _ _ _ _ b es m q) = absurd (false_true m l)
+    one_fault (re.reads_node n s t k at ks a b es l p) (re.reads_deep _ _ _ _ _ _ _ m) = absurd (false_true l m)
     one_fault (re.reads_node n s t k at ks a b es l p) (re.reads_node _ _ _ _ _ _ _ b' es' m q) = one_fault_each p q
 
     one_fault_each : {k : Kind} {first : Bool} {n : ℕ} {s : Scope} {t : Position} {ks : Sketches} {a b b' : Option Fault} {es es' : Drafts} →
@@ -86,8 +84,8 @@ module _ (globals : Globals) where
     one_draft (re.reads_leaf n s t at e a) (re.reads_leaf _ _ _ _ _ _) = refl
     one_draft (re.reads_limited n s t at count k a b e p) (re.reads_limited _ _ _ _ _ _ _ b' e' q) = one_draft p q
     one_draft (re.reads_deep n s t k at ks a l) (re.reads_deep _ _ _ _ _ _ _ m) = refl
-    one_draft (re.reads_deep n s t k at ks a l) (re.reads_node _ _ _ _ _ _ _ b es m q) = absurd (true_false m l)
-    one_draft (re.reads_node n s t k at ks a b es l p) (re.reads_deep _ _ _ _ _ _ _ m) = absurd (true_false l m)
+    one_draft (re.reads_deep n s t k at ks a l) (re.reads_node _ _ _ _ _ _ _ b es m q) = absurd (false_true m l)
+    one_draft (re.reads_node n s t k at ks a b es l p) (re.reads_deep _ _ _ _ _ _ _ m) = absurd (false_true l m)
     one_draft (re.reads_node n s t k at ks a b es l p) (re.reads_node _ _ _ _ _ _ _ b' es' m q) = ap (assemble k) (one_draft_each p q)
 
     one_draft_each : {k : Kind} {first : Bool} {n : ℕ} {s : Scope} {t : Position} {ks : Sketches} {a b b' : Option Fault} {es es' : Drafts} →
@@ -121,14 +119,14 @@ module _ (globals : Globals) {n : ℕ} {s : Scope} {t : Position} where
 
 module _ (globals : Globals) (n : ℕ) (s : Scope) (t : Position) where
   leaf_best : (at : ℕ) (e : Draft) (a : Option Fault) (c : Bool) → nat_le n max_levels ≡ c → Best (HasFault globals n s t (leaf at e)) a (all_reported (cond c [] (Core at ∷ [])) a)
-  leaf_best at e a true l = best_by (λ g h. absurd h) (λ g h. absurd (true_false l (leaf_is globals h).0)) (none_new a)
+  leaf_best at e a true l = best_by (λ g h. absurd h) (λ g h. absurd (false_true l (leaf_is globals h).0)) (none_new a)
   leaf_best at e a false l =
       best_by (λ g h. subst (λ u. HasFault globals n s t (leaf at e) u) (sym h) (no.leaf_deep n s t at e l)) (λ g h. (leaf_is globals h).1) (one_new (Core at) a)
 
   limited_best : (at count : ℕ) (k : Sketch) (a b : Option Fault) (c : Bool) → nat_le count max_operands ≡ c →
       Best (HasFault globals n s t k) (all_reported (cond c [] (Operands at ∷ [])) a) b → Best (HasFault globals n s t (limited at count k)) a b
   limited_best at count k a b true l p =
-      best_by (λ g h. no.in_limited n s t at count k g h) (λ g h. elim (limited_is globals h) [ inl m ↦ absurd (true_false l m.0) | inr q ↦ q ]) p
+      best_by (λ g h. no.in_limited n s t at count k g h) (λ g h. elim (limited_is globals h) [ inl m ↦ absurd (false_true l m.0) | inr q ↦ q ]) p
   limited_best at count k a b false l p =
       best_by (λ g h. elim h [ inl i ↦ subst (λ u. HasFault globals n s t (limited at count k) u) (sym i) (no.too_many n s t at count k l) | inr q ↦ no.in_limited n s t at count k g q ])
       (λ g h. elim (limited_is globals h) [ inl m ↦ inl m.1 | inr q ↦ inr q ]) (and_then (one_new (Operands at) a) p)
@@ -137,20 +135,20 @@ module _ (globals : Globals) (n : ℕ) (s : Scope) (t : Position) where
       Best (HasFault globals n s t (node k at ks)) a (reported (Core at) (all_reported (cond c [] (Operands at ∷ [])) a))
   deep_best k at ks a true w l =
       best_by (λ g h. subst (λ u. HasFault globals n s t (node k at ks) u) (sym h) (no.node_deep n s t k at ks l))
-      (λ g h. elim (node_is globals h) [ inl m ↦ m.1 | inr m ↦ elim m [ inl m ↦ absurd (true_false w m.0) | inr m ↦ absurd (true_false m.0 l) ] ]) (one_new (Core at) a)
+      (λ g h. elim (node_is globals h) [ inl m ↦ m.1 | inr m ↦ elim m [ inl m ↦ absurd (false_true w m.0) | inr m ↦ absurd (false_true m.0 l) ] ]) (one_new (Core at) a)
   deep_best k at ks a false w l =
       best_by (λ g h. elim h [ inl i ↦ subst (λ u. HasFault globals n s t (node k at ks) u) (sym i) (no.node_wide n s t k at ks w) | inr i ↦ subst (λ u. HasFault globals n s t (node k at ks) u) (sym i) (no.node_deep n s t k at ks l) ])
-      (λ g h. elim (node_is globals h) [ inl m ↦ inr m.1 | inr m ↦ elim m [ inl m ↦ inl m.1 | inr m ↦ absurd (true_false m.0 l) ] ])
+      (λ g h. elim (node_is globals h) [ inl m ↦ inr m.1 | inr m ↦ elim m [ inl m ↦ inl m.1 | inr m ↦ absurd (false_true m.0 l) ] ])
       (and_then (one_new (Operands at) a) (one_new (Core at) _))
 
   node_best : (k : Kind) (at : ℕ) (ks : Sketches) (a b : Option Fault) (c : Bool) → nat_le (width k (how_many_parts ks)) max_operands ≡ c → nat_le n max_levels ≡ true →
       Best (PartHasFault globals k true (n + 1) s t ks) (all_reported (cond c [] (Operands at ∷ [])) a) b → Best (HasFault globals n s t (node k at ks)) a b
   node_best k at ks a b true w l r =
       best_by (λ g h. no.in_node n s t k at ks g l h)
-      (λ g h. elim (node_is globals h) [ inl m ↦ absurd (true_false l m.0) | inr m ↦ elim m [ inl m ↦ absurd (true_false w m.0) | inr m ↦ m.1 ] ]) r
+      (λ g h. elim (node_is globals h) [ inl m ↦ absurd (false_true l m.0) | inr m ↦ elim m [ inl m ↦ absurd (false_true w m.0) | inr m ↦ m.1 ] ]) r
   node_best k at ks a b false w l r =
       best_by (λ g h. elim h [ inl i ↦ subst (λ u. HasFault globals n s t (node k at ks) u) (sym i) (no.node_wide n s t k at ks w) | inr q ↦ no.in_node n s t k at ks g l q ])
-      (λ g h. elim (node_is globals h) [ inl m ↦ absurd (true_false l m.0) | inr m ↦ elim m [ inl m ↦ inl m.1 | inr m ↦ inr m.1 ] ])
+      (λ g h. elim (node_is globals h) [ inl m ↦ absurd (false_true l m.0) | inr m ↦ elim m [ inl m ↦ inl m.1 | inr m ↦ inr m.1 ] ])
       (and_then (one_new (Operands at) a) r)
 
 module _ (globals : Globals) where

@@ -24,9 +24,9 @@ use Rattle.sch_expansion.specs.FaultOrder.{reported, all_reported}
 use Rattle.sch_expansion.specs.Following.{and_then}
 use Rattle.sch_expansion.specs.Reads.{Reads, PartsRead, level_faults, operand_faults}
 use Rattle.sch_expansion.specs.Reads as re
-use Rattle.sch_expansion.specs.WalkStack.{Task, Holds, Goes, around, open_left}
+use Rattle.sch_expansion.specs.WalkStack.{Task, Holds, Goes, PartsWanted, around, open_left}
 
-and_then_none : (es : List Draft) → and_then es no_drafts ≡ drafts es
+pub and_then_none : (es : List Draft) → and_then es no_drafts ≡ drafts es
 and_then_none [] = refl
 and_then_none (e ∷ es) = ap (and_draft e) (and_then_none es)
 
@@ -43,7 +43,7 @@ is_end_of : (ks : List code_sketch.Sketch) → is_end (sketches_of ks) ≡ nat_e
 is_end_of [] = refl
 is_end_of (k ∷ ks) = grind (arith, nat_tests)
 
-more_made : (es : List code_draft.Draft) (e : code_draft.Draft) (fs : Drafts) → and_then (map draft_of (es ++ e ∷ [])) fs ≡ and_then (map draft_of es) (and_draft (draft_of e) fs)
+pub more_made : (es : List code_draft.Draft) (e : code_draft.Draft) (fs : Drafts) → and_then (map draft_of (es ++ e ∷ [])) fs ≡ and_then (map draft_of es) (and_draft (draft_of e) fs)
 more_made es e fs = ap (λ l. and_then l fs) (map-append draft_of es (e ∷ [])) ∙ and_then_more (map draft_of es) (draft_of e) fs
 
 -- ## One sketch, by the words of the code
@@ -109,20 +109,19 @@ part_made w o o' os s s' b e hk hl hp left hm u d h =
           rw (hk, hm, u, more_made) (h.1 c es q');
     }
 
-pub node_opened : (w : Task) (o : Open) (os : List Open) (at n wide : ℕ) (s : Scope) (t : Position) (ks : List code_sketch.Sketch) (sketch : Sketch) (a m : Option Fault) →
-    sketch ≡ node (kind_of o.kind) at (sketches_of ks) → wide ≡ width (kind_of o.kind) (how_many_parts (sketches_of ks)) → m ≡ all_reported (operand_faults at wide) a → nat_le n max_levels ≡ true → o.level ≡ n + 1 →
-    o.position ≡ t → o.depth ≡ length s → o.left ≡ reverse ks → o.drafts ≡ [] →
-    ((b : Option Fault) (e : Draft) → Reads w.globals n s t sketch a b e → Holds w os s b e) → Goes w o os s m
-node_opened w o os at n wide s t ks sketch a m h hw i l hl hp hd left hm f =
-    let i' = rw hw at i in
+pub parts_opened : (w : Task) (o : Open) (os : List Open) (s : Scope) (ks : List code_sketch.Sketch) (b : Option Fault) → o.depth ≡ length s → o.left ≡ reverse ks → o.drafts ≡ [] →
+    PartsWanted w (kind_of o.kind) o.level o.position (sketches_of ks) os s b → Goes w o os s b
+parts_opened w o os s ks b hd left hm f =
     let x : reverse o.left ≡ ks = ap reverse left ∙ reverse-reverse ks in
-    record {
-      depth = hd;
-      rest = λ c es q.
-          let q' = rw (hm, hl, hp, x, i') at q in
-          let g : Reads w.globals n s t sketch a c (assemble (kind_of o.kind) es) = rw h (re.reads_node n s t (kind_of o.kind) at (sketches_of ks) a c es l q') in
-          rw hm (f c (assemble (kind_of o.kind) es) g);
-    }
+    record { depth = hd; rest = λ c es q. let q' = rw (hm, x) at q in rw hm (f c es q') }
+
+pub node_wanted : (w : Task) (os : List Open) (kind : Kind) (at n l wide : ℕ) (s : Scope) (t : Position) (ks : Sketches) (sketch : Sketch) (a m : Option Fault) →
+    sketch ≡ node kind at ks → wide ≡ width kind (how_many_parts ks) → m ≡ all_reported (operand_faults at wide) a → nat_le n max_levels ≡ true → l ≡ n + 1 →
+    ((b : Option Fault) (e : Draft) → Reads w.globals n s t sketch a b e → Holds w os s b e) → PartsWanted w kind l t ks os s m
+node_wanted w os kind at n l wide s t ks sketch a m h hw i le hl f = λ c es q.
+    let i' = rw hw at i in
+    let q' = rw (hl, i') at q in
+    f c (assemble kind es) (rw h (re.reads_node n s t kind at ks a c es le q'))
 
 -- ## What is left
 
@@ -151,8 +150,11 @@ smaller_limited m h i = rw (h, i) (omega arith)
 pub smaller_deep : {k : Sketch} {kind : Kind} {at : ℕ} {ks : Sketches} (m : ℕ) → k ≡ node kind at ks → 1 + m < 2 * sketch_measure k + m
 smaller_deep m h = rw h (omega arith)
 
-pub smaller_node : {kind : Kind} {at : ℕ} (ks left : List code_sketch.Sketch) (sketch : Sketch) (x m : ℕ) → sketch ≡ node kind at (sketches_of ks) → left ≡ reverse ks →
-    x < 1 + (1 + 2 * sketches_measure (sketches_of (reverse left))) + m → x < 2 * sketch_measure sketch + m
-smaller_node ks left sketch x m h e l =
+pub smaller_open : (ks left : List code_sketch.Sketch) (x m : ℕ) → left ≡ reverse ks → x < 1 + (1 + 2 * sketches_measure (sketches_of (reverse left))) + m →
+    x < 2 + 2 * sketches_measure (sketches_of ks) + m
+smaller_open ks left x m e l =
     let y : sketches_measure (sketches_of (reverse left)) ≡ sketches_measure (sketches_of ks) = ap (λ d. sketches_measure (sketches_of d)) (ap reverse e ∙ reverse-reverse ks) in
-    rw h (omega (arith, l, y))
+    omega (arith, l, y)
+
+pub smaller_node : {kind : Kind} {at : ℕ} (ks : Sketches) (sketch : Sketch) (x m : ℕ) → sketch ≡ node kind at ks → x < 2 + 2 * sketches_measure ks + m → x < 2 * sketch_measure sketch + m
+smaller_node ks sketch x m h l = rw h (omega (arith, l))

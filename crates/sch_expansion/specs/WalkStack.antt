@@ -1,11 +1,11 @@
 -- The walk with a stack of its own.
-use Rattle.std.specs.Prelude.{◌≡◌, ◌-◌, ◌+◌, ◌*◌, ◌≤◌, ℕ, zero, List, [], ◌∷◌, Option, map, length, drop, reverse, nat_eq, false}
+use Rattle.std.specs.Prelude.{◌≡◌, ◌-◌, ◌+◌, ◌*◌, ◌≤◌, ℕ, zero, true, List, [], ◌∷◌, Option, map, length, drop, reverse, nat_eq, false}
 use Rattle.sch_names.specs.Scope.{Scope, Globals}
 use Rattle.sch_sketch.specs.declared.fault.Fault.{Fault}
 use Rattle.sch_sketch.specs.declared.sketch.Position.{Position}
 use Rattle.sch_sketch.specs.Draft.{Draft, Drafts, and_draft}
 use Rattle.sch_sketch.specs.Measure.{sketch_measure, sketches_measure}
-use Rattle.sch_sketch.specs.Sketch.{Sketch, assemble}
+use Rattle.sch_sketch.specs.Sketch.{Kind, Sketch, Sketches, assemble}
 use Rattle.sch_sketch.specs.SketchView.{kind_of, sketch_of, sketches_of}
 use Rattle.sch_expansion.specs.declared.walk.Open.{Open}
 use Rattle.sch_expansion.specs.declared.walk.Next.{Next}
@@ -41,9 +41,13 @@ pub record Goes (w : Task) (o : Open) (os : List Open) (s : Scope) (b : Option F
       PartsRead w.globals (kind_of o.kind) (nat_eq (length o.drafts) 0) o.level s o.position (sketches_of (reverse o.left)) b c es →
       Holds w os s c (assemble (kind_of o.kind) (and_then (map draft_of o.drafts) es))
 
+-- the same before the first part of a node
+abbrev pub PartsWanted : Task → Kind → (level : ℕ) → Position → Sketches → List Open → Scope → Option Fault → Type 0
+PartsWanted w k n t ks os s b = (c : Option Fault) (es : Drafts) → PartsRead w.globals k true n s t ks b c es → Holds w os s c (assemble k es)
+
 abbrev pub Ready : Task → Next → List Open → Scope → Option Fault → Type 0
 Ready w (Up e) os s b = Holds w os s b (draft_of e)
-Ready w (Down k n t) os s b = (m : Option Fault) (e : Draft) → Reads w.globals n s t (sketch_of k) b m e → Holds w os s m e
+Ready w (Down k at) os s b = (m : Option Fault) (e : Draft) → Reads w.globals at.level s at.position (sketch_of k) b m e → Holds w os s m e
 
 -- ## What is left to do
 
@@ -56,4 +60,4 @@ stack_left (o ∷ os) = open_left o + stack_left os
 
 abbrev pub next_left : Next → List Open → ℕ
 next_left (Up e) os = 1 + stack_left os
-next_left (Down k n t) os = 2 * sketch_measure (sketch_of k) + stack_left os
+next_left (Down k at) os = 2 * sketch_measure (sketch_of k) + stack_left os

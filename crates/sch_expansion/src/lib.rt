@@ -1,9 +1,9 @@
 //! From data to drafts: expressions of the core language before their globals and sites have numbers.
 #![tactic(auto)]
 
-mod fault;
+mod fault_order;
 mod reports;
 mod walk;
 
-pub use fault::report;
+pub use fault_order::report;
 pub use walk::read;

@@ -7,7 +7,7 @@ ghost use Rattle.sch_sketch.specs.SketchView.{fault_of};
 ghost use Rattle.sch_expansion.specs.FaultOrder.{reported, all_reported};
 ghost use Rattle.sch_expansion.specs.Reads.{level_faults, operand_faults};
 
-use crate::fault::report;
+use crate::fault_order::report;
 use sch_sketch::{Fault, Wrong};
 use sch_word::{List, Mem};
 use std::alloc::Global;

@@ -5,18 +5,18 @@ ghost use Rattle.sch_read.specs.Views.{tree_of};
 ghost use Rattle.sch_names.specs.NamesView.{globals_of};
 ghost use Rattle.sch_sketch.specs.declared.fault.Fault as faults;
 ghost use Rattle.sch_sketch.specs.declared.sketch.Position.TheVariants.{Value};
-ghost use Rattle.sch_sketch.specs.Measure.{sketch_measure};
+ghost use Rattle.sch_sketch.specs.Measure.{sketch_measure, sketches_measure};
 ghost use Rattle.sch_sketch.specs.Sketch.{text};
-ghost use Rattle.sch_sketch.specs.SketchView.{sketch_of};
+ghost use Rattle.sch_sketch.specs.SketchView.{kind_of, sketch_of, sketches_of};
 ghost use Rattle.sch_sketch.specs.DraftView.{draft_of};
 ghost use Rattle.sch_expansion.specs.Reads.{Reads};
-ghost use Rattle.sch_expansion.specs.WalkStack.{Task, Holds, Goes, Ready, open_left, stack_left, next_left};
+ghost use Rattle.sch_expansion.specs.WalkStack.{Task, Holds, Goes, PartsWanted, Ready, open_left, stack_left, next_left};
 
 use crate::reports::{deeper, report_deep, report_level, report_operands, report_wrong};
 use sch_names::{Globals, Scope};
 use sch_nodes::{assemble, draft_of_leaf, enter, nothing, position_in, width};
 use sch_sketch::{Draft, Fault, Kind, Position, Sketch};
-use sch_table::{outline, outline_datum};
+use sch_table::{Rest, outline, outline_datum};
 use sch_word::{List, Mem};
 use std::alloc::Global;
 
@@ -34,11 +34,26 @@ struct Open<'a> {
     drafts: List<Draft<'a>>,
 }
 
+/// Where a sketch stands: at which level, and whether its value is asked for.
+#[derive(Clone, Copy, Drop)]
+struct Standing {
+    level: u32,
+    position: Position,
+}
+
 /// What comes next: a sketch to be read, or the draft of one that was.
 #[derive(Drop)]
 enum Next<'a> {
-    Down(Sketch<'a>, u32, Position),
+    Down(Sketch<'a>, Standing),
     Up(Draft<'a>),
+}
+
+/// The nodes whose parts are being read, the innermost last, and the variables that are bound there.
+#[derive(Drop)]
+struct Walk<'a> {
+    alloc: Global,
+    stack: List<Open<'a>>,
+    scope: Scope,
 }
 
 fn reversed<'a>(parts: List<Sketch<'a>>) -> List<Sketch<'a>>
@@ -49,117 +64,130 @@ fn reversed<'a>(parts: List<Sketch<'a>>) -> List<Sketch<'a>>
     List::from_vec(items)
 }
 
-/// Goes on with a node: with its next part, or with its draft.
-fn resume<'a>(
-    alloc: Global,
-    node: Open<'a>,
-    stack: &mut List<Open<'a>>,
-    scope: &mut Scope,
-) -> Result<Next<'a>, Mem>
-    ensures ready { (w : Task) (b : Option faults.Fault) → Goes w node.entry (reverse stack.old) scope.old b →
-        IfOk result (λ next. Ready w next (reverse stack.new) scope.new b) }
-    ensures smaller { IfOk result (λ next. next_left next (reverse stack.new)
-        < 1 + open_left node.entry + stack_left (reverse stack.old)) }
-{
-    let mut node = node;
-    let Some(part) = node.left.pop() else {
-        let Open {
-            kind,
-            level: _,
-            position: _,
-            depth: _,
-            left: _,
-            drafts,
-        } = node;
-        let e = assemble(alloc, kind, drafts)?;
-        return Ok(Next::Up(e));
-    };
-    let first = node.drafts.len() == 0;
-    let last = node.left.len() == 0;
-    enter(alloc, &node.kind, first, last, scope)?;
-    let here = position_in(&node.kind, first, last, node.position);
-    let level = node.level;
-    stack.push(node)?;
-    Ok(Next::Down(part, level, here))
-}
-
-/// One step into a sketch.
-fn down<'a>(
-    alloc: Global,
-    globals: &Globals,
-    sketch: Sketch<'a>,
-    level: u32,
-    position: Position,
-    stack: &mut List<Open<'a>>,
-    scope: &mut Scope,
-    fault: &mut Option<Fault>,
-) -> Result<Next<'a>, Mem>
-    ensures ready { (w : Task) → w.globals ≡ globals_of globals.now →
-        ((m : Option faults.Fault) (e : _) → Reads w.globals level scope.old position (sketch_of sketch.entry) fault.old m e →
-        Holds w (reverse stack.old) scope.old m e) →
-        IfOk result (λ next. Ready w next (reverse stack.new) scope.new fault.new) }
-    ensures smaller { IfOk result (λ next. next_left next (reverse stack.new)
-        < 2 * sketch_measure (sketch_of sketch.entry) + stack_left (reverse stack.old)) }
-{
-    match sketch {
-        Sketch::Text(d) => {
-            let k = outline_datum(alloc, globals, scope, d)?;
-            Ok(Next::Down(k, level, position))
-        }
-        Sketch::Rest(row, at, first, second) => {
-            let k = outline(alloc, globals, scope, position, row, at, first, second)?;
-            Ok(Next::Down(k, level, position))
-        }
-        Sketch::Wrong(wrong) => {
-            report_wrong(alloc, wrong, fault)?;
-            Ok(Next::Up(nothing()))
-        }
-        Sketch::Leaf(at, leaf) => {
-            report_level(level, at, fault);
-            let e = draft_of_leaf(&leaf);
-            Ok(Next::Up(e))
-        }
-        Sketch::Limited(at, count, inner) => {
-            report_operands(at, count, fault);
-            let inside = Box::into_inner(inner);
-            Ok(Next::Down(inside, level, position))
-        }
-        Sketch::Node(kind, at, parts) => {
-            report_operands(at, width(&kind, parts.len()), fault);
-            let Some(next) = deeper(level) else {
-                report_deep(at, fault);
-                return Ok(Next::Up(nothing()));
-            };
-            let node = Open {
+impl<'a> Walk<'a> {
+    /// Goes on with a node: with its next part, or with its draft.
+    fn resume(&mut self, node: Open<'a>) -> Result<Next<'a>, Mem>
+        ensures ready { (w : Task) (b : Option faults.Fault) → Goes w node.entry (reverse self.old.stack) self.old.scope b →
+            IfOk result (λ next. Ready w next (reverse self.new.stack) self.new.scope b) }
+        ensures smaller { IfOk result (λ next. next_left next (reverse self.new.stack)
+            < 1 + open_left node.entry + stack_left (reverse self.old.stack)) }
+    {
+        let mut node = node;
+        let Some(part) = node.left.pop() else {
+            let Open {
                 kind,
-                level: next,
-                position,
-                depth: scope.depth(),
-                left: reversed(parts),
-                drafts: List::new(alloc),
-            };
-            resume(alloc, node, stack, scope)
+                level: _,
+                position: _,
+                depth: _,
+                left: _,
+                drafts,
+            } = node;
+            let e = assemble(self.alloc, kind, drafts)?;
+            return Ok(Next::Up(e));
+        };
+        let first = node.drafts.len() == 0;
+        let last = node.left.len() == 0;
+        enter(self.alloc, &node.kind, first, last, &mut self.scope)?;
+        let at = Standing {
+            level: node.level,
+            position: position_in(&node.kind, first, last, node.position),
+        };
+        self.stack.push(node)?;
+        Ok(Next::Down(part, at))
+    }
+
+    /// Begins with the parts of a node, which lie at this level.
+    fn begin_node(
+        &mut self,
+        kind: Kind<'a>,
+        level: u32,
+        position: Position,
+        parts: List<Sketch<'a>>,
+    ) -> Result<Next<'a>, Mem>
+        ensures ready { (w : Task) (b : Option faults.Fault) →
+            PartsWanted w (kind_of kind.entry) level position (sketches_of parts.entry) (reverse self.old.stack) self.old.scope b →
+            IfOk result (λ next. Ready w next (reverse self.new.stack) self.new.scope b) }
+        ensures smaller { IfOk result (λ next. next_left next (reverse self.new.stack)
+            < 2 + 2 * sketches_measure (sketches_of parts.entry) + stack_left (reverse self.old.stack)) }
+    {
+        let node = Open {
+            kind,
+            level,
+            position,
+            depth: self.scope.depth(),
+            left: reversed(parts),
+            drafts: List::new(self.alloc),
+        };
+        self.resume(node)
+    }
+
+    /// One step into a sketch.
+    fn down(
+        &mut self,
+        globals: &Globals,
+        sketch: Sketch<'a>,
+        at: Standing,
+        fault: &mut Option<Fault>,
+    ) -> Result<Next<'a>, Mem>
+        ensures ready { (w : Task) → w.globals ≡ globals_of globals.now →
+            ((m : Option faults.Fault) (e : _) → Reads w.globals at.level self.old.scope at.position (sketch_of sketch.entry) fault.old m e →
+            Holds w (reverse self.old.stack) self.old.scope m e) →
+            IfOk result (λ next. Ready w next (reverse self.new.stack) self.new.scope fault.new) }
+        ensures smaller { IfOk result (λ next. next_left next (reverse self.new.stack)
+            < 2 * sketch_measure (sketch_of sketch.entry) + stack_left (reverse self.old.stack)) }
+    {
+        match sketch {
+            Sketch::Text(d) => {
+                let k = outline_datum(self.alloc, globals, &self.scope, d)?;
+                Ok(Next::Down(k, at))
+            }
+            Sketch::Rest(row, place, first, second) => {
+                let rest = Rest {
+                    row,
+                    at: place,
+                    first,
+                    second,
+                };
+                let k = outline(self.alloc, globals, &mut self.scope, at.position, rest)?;
+                Ok(Next::Down(k, at))
+            }
+            Sketch::Wrong(wrong) => {
+                report_wrong(self.alloc, wrong, fault)?;
+                Ok(Next::Up(nothing()))
+            }
+            Sketch::Leaf(place, leaf) => {
+                report_level(at.level, place, fault);
+                let e = draft_of_leaf(&leaf);
+                Ok(Next::Up(e))
+            }
+            Sketch::Limited(place, count, inner) => {
+                report_operands(place, count, fault);
+                let inside = Box::into_inner(inner);
+                Ok(Next::Down(inside, at))
+            }
+            Sketch::Node(kind, place, parts) => {
+                report_operands(place, width(&kind, parts.len()), fault);
+                let Some(next) = deeper(at.level) else {
+                    report_deep(place, fault);
+                    return Ok(Next::Up(nothing()));
+                };
+                self.begin_node(kind, next, at.position, parts)
+            }
         }
     }
-}
 
-/// One step out of a part of a node.
-fn up<'a>(
-    alloc: Global,
-    e: Draft<'a>,
-    node: Open<'a>,
-    stack: &mut List<Open<'a>>,
-    scope: &mut Scope,
-) -> Result<Next<'a>, Mem>
-    ensures ready { (w : Task) (b : Option faults.Fault) → Holds w (node.entry ∷ reverse stack.old) scope.old b (draft_of e.entry) →
-        IfOk result (λ next. Ready w next (reverse stack.new) scope.new b) }
-    ensures smaller { IfOk result (λ next. next_left next (reverse stack.new)
-        < 1 + open_left node.entry + stack_left (reverse stack.old)) }
-{
-    let mut node = node;
-    scope.leave(node.depth);
-    node.drafts.push(e)?;
-    resume(alloc, node, stack, scope)
+    /// One step out of a part of a node.
+    fn up(&mut self, e: Draft<'a>, node: Open<'a>) -> Result<Next<'a>, Mem>
+        ensures ready { (w : Task) (b : Option faults.Fault) → Holds w (node.entry ∷ reverse self.old.stack) self.old.scope b (draft_of e.entry) →
+            IfOk result (λ next. Ready w next (reverse self.new.stack) self.new.scope b) }
+        ensures smaller { IfOk result (λ next. next_left next (reverse self.new.stack)
+            < 1 + open_left node.entry + stack_left (reverse self.old.stack)) }
+    {
+        let mut node = node;
+        self.scope.leave(node.depth);
+        node.drafts.push(e)?;
+        self.resume(node)
+    }
 }
 
 /// The draft of a sketch outside all variables and for its value, and the least fault so far.
@@ -171,15 +199,22 @@ pub fn read<'a>(
 ) -> Result<Draft<'a>, Mem>
     ensures { IfOk result (λ e. Reads (globals_of globals.now) 1 [] Value (sketch_of sketch.entry) fault.old fault.new (draft_of e)) }
 {
-    let mut scope = Scope::new(alloc);
-    let mut stack = List::new(alloc);
-    let mut next = Next::Down(sketch, 1, Position::Value);
+    let mut walk = Walk {
+        alloc,
+        stack: List::new(alloc),
+        scope: Scope::new(alloc),
+    };
+    let top = Standing {
+        level: 1,
+        position: Position::Value,
+    };
+    let mut next = Next::Down(sketch, top);
     loop {
         next = match next {
-            Next::Down(k, n, t) => { down(alloc, globals, k, n, t, &mut stack, &mut scope, fault)? }
-            Next::Up(e) => match stack.pop() {
+            Next::Down(k, at) => walk.down(globals, k, at, fault)?,
+            Next::Up(e) => match walk.stack.pop() {
                 None => return Ok(e),
-                Some(node) => up(alloc, e, node, &mut stack, &mut scope)?,
+                Some(node) => walk.up(e, node)?,
             },
         };
     }

@@ -5,6 +5,7 @@ use Rattle.std.proofs.lemmas.Bool.{eqb-true, eqb-false, cases_lt, ne_eqb}
 use Rattle.std.proofs.lemmas.Option.{slice_get_within}
 use Rattle.sch_word.specs.values.Values.{Value, fixnum, character, boolean, nil, unspecified, symbol, object, procedure, cell, Object, pair, vector, string}
 use Rattle.sch_word.specs.values.PrimitiveRows.{is_pair, is_vector, is_string}
+use Rattle.sch_word.proofs.facts.Lists.{set_here, set_elsewhere}
 use Rattle.sch_control.specs.Operations.{Procedure}
 use Rattle.sch_asm.specs.Data.{Inside, word_in, with_word}
 use Rattle.sch_asm.proofs.Words.{word_same}
@@ -55,18 +56,6 @@ get_front (x ∷ xs) ys (suc k) lt = get_front xs ys k (omega (arith, lt))
 pub get_behind : {A : Type 0} (xs ys : List A) (k : ℕ) → slice_get (xs ++ ys) (length xs + k) ≡ slice_get ys k
 get_behind [] ys k = let e : 0 + k ≡ k = omega arith in ap (slice_get ys) e
 get_behind (x ∷ xs) ys k = let e : length (x ∷ xs) + k ≡ suc (length xs + k) = omega arith in ap (slice_get (x ∷ (xs ++ ys))) e ∙ get_behind xs ys k
-
-pub set_same : {A : Type 0} (xs : List A) (n : ℕ) (v : A) → n < length xs → slice_get (slice_set xs n v) n ≡ Some v
-set_same [] n v lt = absurd (omega (arith, lt))
-set_same (x ∷ xs) zero v lt = refl
-set_same (x ∷ xs) (suc n) v lt = set_same xs n v (omega (arith, lt))
-
-pub set_other : {A : Type 0} (xs : List A) (n k : ℕ) (v : A) → (k ≡ n → ⊥) → slice_get (slice_set xs n v) k ≡ slice_get xs k
-set_other [] n k v ne = refl
-set_other (x ∷ xs) zero zero v ne = absurd (ne refl)
-set_other (x ∷ xs) zero (suc k) v ne = refl
-set_other (x ∷ xs) (suc n) zero v ne = refl
-set_other (x ∷ xs) (suc n) (suc k) v ne = set_other xs n k v (λ e. ne (ap suc e))
 
 -- ---- the words of a heap
 
@@ -334,14 +323,14 @@ cell_set code_of parts cells procedures objects bytes n contents at x lt there h
     by : (k : ℕ) (c : Option Value) → slice_get (slice_set cells n contents) k ≡ Some c → (b : Bool) → (k == n) ≡ b → CellAt parts after k c
     by k c e true b =
         let same : k ≡ n = eqb-true k n b in
-        let f : Some contents ≡ Some c = sym (set_same cells n contents lt) ∙ ap (slice_get (slice_set cells n contents)) (sym same) ∙ e in
+        let f : Some contents ≡ Some c = sym (set_here cells n contents lt) ∙ ap (slice_get (slice_set cells n contents)) (sym same) ∙ e in
         let is : contents ≡ c = cc in
         record {
           at = at;
           there = ap (λ k. spot parts (a_cell k)) same ∙ there;
           holds = subst (λ c. IsHeld parts c (word_in after (16 * at.unit))) is (subst (IsHeld parts contents) (sym (word_same bytes (16 * at.unit) x within (held_fits parts contents x held))) held);
         }
-    by k c e false b = rest.cell k c b (h.cell k c (sym (set_other cells n k contents (eqb-false k n b)) ∙ e))
+    by k c e false b = rest.cell k c b (h.cell k c (sym (set_elsewhere cells n k contents (eqb-false k n b)) ∙ e))
 
 -- ---- who has no part
 

@@ -13,7 +13,8 @@ use Rattle.sch_heap.specs.Encoded.{IsWord, Names}
 use Rattle.sch_heap.specs.Heap.{ObjectAt, AreKinds, HeapAt, owner_of}
 use Rattle.sch_heap.proofs.Encodings.{tag_tested, pair_no_vector, pair_no_string, vector_no_string}
 use Rattle.sch_heap.proofs.Ranges.{BytesStay}
-use Rattle.sch_heap.proofs.Contents.{OthersStay, others_stay, set_same, set_other}
+use Rattle.sch_heap.proofs.Contents.{OthersStay, others_stay}
+use Rattle.sch_word.proofs.facts.Lists.{set_here, set_elsewhere}
 
 -- ---- an object that is of one kind is of no other
 
@@ -190,8 +191,8 @@ kind_kept : (test : Option Object → Bool) (objects : List Object) (n k : ℕ) 
 kind_kept test objects n k o p e lt same h = by (k == n) refl
   where
     by : (b : Bool) → (k == n) ≡ b → test (slice_get (slice_set objects n p) k) ≡ true
-    by true i = let z : k ≡ n = eqb-true k n i in ap (λ k. test (slice_get (slice_set objects n p) k)) z ∙ ap test (set_same objects n p lt) ∙ sym same ∙ ap test (sym e) ∙ ap (λ k. test (slice_get objects k)) (sym z) ∙ h
-    by false i = ap test (set_other objects n k p (eqb-false k n i)) ∙ h
+    by true i = let z : k ≡ n = eqb-true k n i in ap (λ k. test (slice_get (slice_set objects n p) k)) z ∙ ap test (set_here objects n p lt) ∙ sym same ∙ ap test (sym e) ∙ ap (λ k. test (slice_get objects k)) (sym z) ∙ h
+    by false i = ap test (set_elsewhere objects n k p (eqb-false k n i)) ∙ h
 
 same_pairs : (o p : Object) → same_kind o p ≡ true → is_pair (Some o) ≡ is_pair (Some p)
 same_pairs (pair a d) (pair b e) s = refl
@@ -269,7 +270,7 @@ object_set code_of parts cells procedures objects before after n o p lt there ki
     by : (k : ℕ) (q : Object) → slice_get (slice_set objects n p) k ≡ Some q → (b : Bool) → (k == n) ≡ b → ObjectAt parts after k q
     by k q e true i =
         let z : k ≡ n = eqb-true k n i in
-        let f : Some p ≡ Some q = sym (set_same objects n p lt) ∙ ap (slice_get (slice_set objects n p)) (sym z) ∙ e in
+        let f : Some p ≡ Some q = sym (set_here objects n p lt) ∙ ap (slice_get (slice_set objects n p)) (sym z) ∙ e in
         let is : p ≡ q = cc in
         subst (λ q. ObjectAt parts after k q) is (subst (λ k. ObjectAt parts after k p) (sym z) at)
-    by k q e false i = rest.object k q (other_owner k n q p i) (h.object k q (sym (set_other objects n k p (eqb-false k n i)) ∙ e))
+    by k q e false i = rest.object k q (other_owner k n q p i) (h.object k q (sym (set_elsewhere objects n k p (eqb-false k n i)) ∙ e))

@@ -1,6 +1,6 @@
 //! The words of values, and the heap: which part is whose, and what it holds.
 #![tactic(auto)]
 
-mod constant;
+mod value_words;
 
-pub use constant::{constant_number, word};
+pub use value_words::{constant_number, word};

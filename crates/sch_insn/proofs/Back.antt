@@ -9,6 +9,7 @@ use Rattle.std.proofs.lemmas.Int.{of_z-to_z}
 use Rattle.std.proofs.Math.Facts.{sfits_to_z}
 use Rattle.std.proofs.lemmas.Bool.{eqb-true, eqb-false}
 use Rattle.std.proofs.lemmas.Bool.Decides.{nat_tests}
+use Rattle.sch_word.proofs.facts.Booleans.{and_parts}
 use Rattle.sch_insn.specs.declared.insn.Arg.{Arg}
 use Rattle.sch_insn.specs.declared.insn.Arg.TheVariants.{Reg, Base, Base32, Rip}
 use Rattle.sch_insn.specs.declared.insn.Insn.{Insn}
@@ -240,11 +241,6 @@ counted form o d op r k m (x ∷ bs) e v t = count (nat_lt (length (x ∷ bs)) 1
       is = v x (not_over x s);
     })
 
-both_true : (s t : Bool) → (s && t) ≡ true → (s ≡ true) × (t ≡ true)
-both_true true true e = (refl, refl)
-both_true true false e = absurd cc
-both_true false t e = absurd cc
-
 -- One line for each row.
 wide_back : (op r : ℕ) (m : Arg) (k : ℕ) (bs : List ℕ) → IsArg m → r < 16 → Bytes bs → OnAnswer (Form op r m k bs) (wide_of op r m k bs)
 unfolding wide_of
@@ -261,22 +257,22 @@ wide_back op r m k bs hm hr h =
     branch (op == 51) (λ e. plain (XorFrom r m) 51 op r k m bs refl (hm, hr) e) (λ _.
     branch (op == 57) (λ e. plain (CmpTo m r) 57 op r k m bs refl (hm, hr) e) (λ _.
     branch (op == 59) (λ e. plain (CmpFrom r m) 59 op r k m bs refl (hm, hr) e) (λ _.
-    branch ((op == 129) && (r == 0)) (λ e. numbered (AddNumber m) 129 0 op r k m bs (λ n. refl) (λ n fits. (hm, fits)) h (both_true (op == 129) (r == 0) e)) (λ _.
-    branch ((op == 129) && (r == 1)) (λ e. numbered (OrNumber m) 129 1 op r k m bs (λ n. refl) (λ n fits. (hm, fits)) h (both_true (op == 129) (r == 1) e)) (λ _.
-    branch ((op == 129) && (r == 4)) (λ e. numbered (AndNumber m) 129 4 op r k m bs (λ n. refl) (λ n fits. (hm, fits)) h (both_true (op == 129) (r == 4) e)) (λ _.
-    branch ((op == 129) && (r == 5)) (λ e. numbered (SubNumber m) 129 5 op r k m bs (λ n. refl) (λ n fits. (hm, fits)) h (both_true (op == 129) (r == 5) e)) (λ _.
-    branch ((op == 129) && (r == 6)) (λ e. numbered (XorNumber m) 129 6 op r k m bs (λ n. refl) (λ n fits. (hm, fits)) h (both_true (op == 129) (r == 6) e)) (λ _.
-    branch ((op == 129) && (r == 7)) (λ e. numbered (CmpNumber m) 129 7 op r k m bs (λ n. refl) (λ n fits. (hm, fits)) h (both_true (op == 129) (r == 7) e)) (λ _.
+    branch ((op == 129) && (r == 0)) (λ e. numbered (AddNumber m) 129 0 op r k m bs (λ n. refl) (λ n fits. (hm, fits)) h (and_parts (op == 129) (r == 0) e)) (λ _.
+    branch ((op == 129) && (r == 1)) (λ e. numbered (OrNumber m) 129 1 op r k m bs (λ n. refl) (λ n fits. (hm, fits)) h (and_parts (op == 129) (r == 1) e)) (λ _.
+    branch ((op == 129) && (r == 4)) (λ e. numbered (AndNumber m) 129 4 op r k m bs (λ n. refl) (λ n fits. (hm, fits)) h (and_parts (op == 129) (r == 4) e)) (λ _.
+    branch ((op == 129) && (r == 5)) (λ e. numbered (SubNumber m) 129 5 op r k m bs (λ n. refl) (λ n fits. (hm, fits)) h (and_parts (op == 129) (r == 5) e)) (λ _.
+    branch ((op == 129) && (r == 6)) (λ e. numbered (XorNumber m) 129 6 op r k m bs (λ n. refl) (λ n fits. (hm, fits)) h (and_parts (op == 129) (r == 6) e)) (λ _.
+    branch ((op == 129) && (r == 7)) (λ e. numbered (CmpNumber m) 129 7 op r k m bs (λ n. refl) (λ n fits. (hm, fits)) h (and_parts (op == 129) (r == 7) e)) (λ _.
     branch (op == 133) (λ e. plain (TestTo m r) 133 op r k m bs refl (hm, hr) e) (λ _.
     branch (op == 137) (λ e. plain (MovTo m r) 137 op r k m bs refl (hm, hr) e) (λ _.
     branch (op == 139) (λ e. plain (MovFrom r m) 139 op r k m bs refl (hm, hr) e) (λ _.
-    branch ((op == 141) && in_memory m) (λ e. let t = both_true (op == 141) (in_memory m) e in plain (Lea r m) 141 op r k m bs refl (hm, hr, t.1) t.0) (λ _.
-    branch ((op == 193) && (r == 4)) (λ e. counted (Shl m) 193 4 op r k m bs (λ n. refl) (λ n small. (hm, small)) (both_true (op == 193) (r == 4) e)) (λ _.
-    branch ((op == 193) && (r == 5)) (λ e. counted (Shr m) 193 5 op r k m bs (λ n. refl) (λ n small. (hm, small)) (both_true (op == 193) (r == 5) e)) (λ _.
-    branch ((op == 193) && (r == 7)) (λ e. counted (Sar m) 193 7 op r k m bs (λ n. refl) (λ n small. (hm, small)) (both_true (op == 193) (r == 7) e)) (λ _.
-    branch ((op == 199) && (r == 0)) (λ e. numbered (MovNumber m) 199 0 op r k m bs (λ n. refl) (λ n fits. (hm, fits)) h (both_true (op == 199) (r == 0) e)) (λ _.
-    branch ((op == 247) && (r == 3)) (λ e. digit (Neg m) 247 3 op r k m bs refl hm (both_true (op == 247) (r == 3) e)) (λ _.
-    branch ((op == 247) && (r == 7)) (λ e. digit (Idiv m) 247 7 op r k m bs refl hm (both_true (op == 247) (r == 7) e)) (λ _.
+    branch ((op == 141) && in_memory m) (λ e. let t = and_parts (op == 141) (in_memory m) e in plain (Lea r m) 141 op r k m bs refl (hm, hr, t.1) t.0) (λ _.
+    branch ((op == 193) && (r == 4)) (λ e. counted (Shl m) 193 4 op r k m bs (λ n. refl) (λ n small. (hm, small)) (and_parts (op == 193) (r == 4) e)) (λ _.
+    branch ((op == 193) && (r == 5)) (λ e. counted (Shr m) 193 5 op r k m bs (λ n. refl) (λ n small. (hm, small)) (and_parts (op == 193) (r == 5) e)) (λ _.
+    branch ((op == 193) && (r == 7)) (λ e. counted (Sar m) 193 7 op r k m bs (λ n. refl) (λ n small. (hm, small)) (and_parts (op == 193) (r == 7) e)) (λ _.
+    branch ((op == 199) && (r == 0)) (λ e. numbered (MovNumber m) 199 0 op r k m bs (λ n. refl) (λ n fits. (hm, fits)) h (and_parts (op == 199) (r == 0) e)) (λ _.
+    branch ((op == 247) && (r == 3)) (λ e. digit (Neg m) 247 3 op r k m bs refl hm (and_parts (op == 247) (r == 3) e)) (λ _.
+    branch ((op == 247) && (r == 7)) (λ e. digit (Idiv m) 247 7 op r k m bs refl hm (and_parts (op == 247) (r == 7) e)) (λ _.
     nothing))))))))))))))))))))))))))))
 
 -- ---- whole instructions
@@ -297,14 +293,14 @@ narrow_back op r b bs hr hb h = sequence (operand_of r b bs) (λ p ep.
     let in1 = q.within in
     let first = rex_was 0 r b p.0 p.1 q.reg q.high in
     branch ((op == 136) && in_memory p.1)
-    (λ e. let t = both_true (op == 136) (in_memory p.1) e in
+    (λ e. let t = and_parts (op == 136) (in_memory p.1) e in
     gives (StoreByte p.1 p.0, p.2 + 2) (record {
       within = omega arith;
       same = take_2 p.2 (64 + 8 * 0 + 4 * r + b) op bs ∙ ap (λ z. z ∷ op ∷ take p.2 bs) first ∙ ap (λ z. rex 0 p.0 p.1 ∷ z ∷ take p.2 bs) (eqb-true op 136 t.0) ∙ ap (λ l. rex 0 p.0 p.1 ∷ 136 ∷ l) q.same;
       is = (q.is, q.low, t.1);
     }))
     (λ _. branch ((op == 255) && (p.0 == 4))
-    (λ e. let t = both_true (op == 255) (p.0 == 4) e in
+    (λ e. let t = and_parts (op == 255) (p.0 == 4) e in
     gives (JumpTo p.1, p.2 + 2) (record {
       within = omega arith;
       same = take_2 p.2 (64 + 8 * 0 + 4 * r + b) op bs ∙ ap (λ z. z ∷ op ∷ take p.2 bs) first ∙ ap (λ z. rex 0 p.0 p.1 ∷ z ∷ take p.2 bs) (eqb-true op 255 t.0) ∙ ap (λ l. rex 0 p.0 p.1 ∷ 255 ∷ l) q.same ∙ ap (λ z. rex 0 z p.1 ∷ 255 ∷ operand z p.1) (eqb-true p.0 4 t.1);
@@ -320,7 +316,7 @@ long_back r b (x ∷ bs) hr hb h = branch (nat_lt (length (x ∷ bs)) 1) (λ _. 
     let in1 = q.within in
     let first = rex_was 1 r b p.0 p.1 q.reg q.high in
     branch ((x == 182) && in_memory p.1)
-    (λ e. let t = both_true (x == 182) (in_memory p.1) e in
+    (λ e. let t = and_parts (x == 182) (in_memory p.1) e in
     gives (LoadByte p.0 p.1, p.2 + 3) (record {
       within = omega arith;
       same = take_3 p.2 (64 + 8 * 1 + 4 * r + b) 15 x bs ∙ ap (λ z. z ∷ 15 ∷ x ∷ take p.2 bs) first ∙ ap (λ z. rex 1 p.0 p.1 ∷ 15 ∷ z ∷ take p.2 bs) (eqb-true x 182 t.0) ∙ ap (λ l. rex 1 p.0 p.1 ∷ 15 ∷ 182 ∷ l) q.same;
@@ -359,7 +355,7 @@ rexed_back w r b (op ∷ bs) hw hr hb h =
     (λ _. nothing))
     (λ _. branch (op == 153)
     (λ e. branch ((r == 0) && (b == 0))
-    (λ z. let t = both_true (r == 0) (b == 0) z in
+    (λ z. let t = and_parts (r == 0) (b == 0) z in
     let r0 = eqb-true r 0 t.0 in let b0 = eqb-true b 0 t.1 in
     let x0 : 64 + 8 * 1 + 4 * r + b ≡ 72 = omega arith in
     gives (Cqo, 2) (record { within = omega arith; same = ap (λ z. z ∷ op ∷ []) x0 ∙ ap (λ z. 72 ∷ z ∷ []) (eqb-true op 153 e); is = tt }))
@@ -402,8 +398,8 @@ escaped_back (x ∷ bs) h =
     (λ e. sequence (number_of_4 bs) (λ d ed.
     let num = (number_of_4_back bs all).by d ed in
     let in1 = num.long in
-    let t = both_true ((x / 16 == 8) && not (x == 138)) (not (x == 139)) e in
-    let s = both_true (x / 16 == 8) (not (x == 138)) t.0 in
+    let t = and_parts ((x / 16 == 8) && not (x == 138)) (not (x == 139)) e in
+    let s = and_parts (x / 16 == 8) (not (x == 138)) t.0 in
     let o = eqb-true (x / 16) 8 s.0 in
     let n1 = not_was (x == 138) s.1 in
     let n2 = not_was (x == 139) t.1 in
@@ -427,7 +423,7 @@ decode_back (x ∷ bs) h =
     let all = behind x bs h in
     let small = h 0 in
     branch (nat_lt (length (x ∷ bs)) 1) (λ _. nothing) (λ _. branch ((x / 16 == 4) && (x / 2 % 2 == 0))
-    (λ e. let t = both_true (x / 16 == 4) (x / 2 % 2 == 0) e in
+    (λ e. let t = and_parts (x / 16 == 4) (x / 2 % 2 == 0) e in
     let a = eqb-true (x / 16) 4 t.0 in
     let b = eqb-true (x / 2 % 2) 0 t.1 in
     let first : 64 + 8 * (x / 8 % 2) + 4 * (x / 4 % 2) + x % 2 ≡ x = omega arith in

@@ -4,7 +4,7 @@ use Rattle.std.specs.Prelude.{not, nat_lt, nat_le}
 use Rattle.std.proofs.lemmas.Bool.{cases_lt}
 use Rattle.std.proofs.lemmas.Bool.Decides.{nat_tests}
 use Rattle.sch_insn.specs.declared.condition.TheConstants.{O, NO, B, AE, E, NE, BE, A, S, NS, L, GE, LE, G}
-use Rattle.sch_insn.specs.declared.machine.Flags.{Flags}
+use Rattle.sch_insn.specs.declared.state.Flags.{Flags}
 use Rattle.sch_insn.specs.Machine.{sub64, differ, difference_of, both, negated, test_of, condition}
 
 -- ---- which flags

@@ -7,8 +7,8 @@ use Rattle.std.specs.Int.{w64, to_le_bytes}
 use Rattle.sch_insn.specs.declared.insn.Arg.TheVariants.{Reg, Base, Base32}
 use Rattle.sch_insn.specs.declared.insn.Insn.{Insn}
 use Rattle.sch_insn.specs.declared.insn.Insn.TheVariants.{MovTo, MovFrom, MovNumber, MovWord, StoreByte, LoadByte, Lea, AddTo, OrTo, AndTo, SubTo, XorTo, CmpTo, AddFrom, OrFrom, AndFrom, SubFrom, XorFrom, CmpFrom, AddNumber, OrNumber, AndNumber, SubNumber, XorNumber, CmpNumber, TestTo, Imul, Neg, Idiv, Cqo, Shl, Shr, Sar, Jump, JumpTo, JumpIf}
-use Rattle.sch_insn.specs.declared.machine.Flags.{Flags}
-use Rattle.sch_insn.specs.declared.machine.StuckCause.{StuckCause}
+use Rattle.sch_insn.specs.declared.state.Flags.{Flags}
+use Rattle.sch_insn.specs.declared.state.StuckCause.{StuckCause}
 use Rattle.sch_insn.specs.declared.register.TheConstants.{RAX, RCX, RDX, RBX}
 use Rattle.sch_insn.specs.declared.condition.TheConstants.{E, NE, B, AE}
 use Rattle.sch_insn.specs.Machine.{State, unknown_flags, word_at, test_of}

@@ -1,4 +1,5 @@
 pub mod Lists
+pub mod PutSize
 pub mod OnAnswer
 pub mod Reading
 pub mod Back

@@ -6,8 +6,8 @@ use Rattle.sch_word.specs.declared.answer.Answer.TheVariants.{Took, Failed}
 use Rattle.sch_insn.specs.declared.insn.Arg.TheVariants.{Reg}
 use Rattle.sch_insn.specs.declared.insn.Insn.{Insn}
 use Rattle.sch_insn.specs.declared.insn.Insn.TheVariants.{Shl, Shr, Sar}
-use Rattle.sch_insn.specs.declared.machine.StuckCause.{StuckCause}
-use Rattle.sch_insn.specs.declared.machine.StuckCause.TheVariants.{Fetch, Access, Flag, Divide, Kernel}
+use Rattle.sch_insn.specs.declared.state.StuckCause.{StuckCause}
+use Rattle.sch_insn.specs.declared.state.StuckCause.TheVariants.{Fetch, Access, Flag, Divide, Kernel}
 use Rattle.sch_insn.specs.declared.register.TheConstants.{RAX, RDX}
 use Rattle.sch_insn.specs.declared.condition.TheConstants.{O, NO, B, AE, E, NE, BE, A, S, NS, L, GE, LE, G}
 use Rattle.sch_insn.specs.Decode.{operand_of, wide_of, narrow_of, long_of, rexed_of, escaped_of}

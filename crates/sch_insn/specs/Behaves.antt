@@ -4,8 +4,8 @@ use Rattle.std.proofs.Common.{arith, lit<}
 use Rattle.sch_word.specs.values.Memory.{Segment}
 use Rattle.sch_word.specs.declared.answer.Answer.{Answer}
 use Rattle.sch_word.specs.runs.Runs.{Run, ended}
-use Rattle.sch_insn.specs.declared.machine.Flags.{Flags}
-use Rattle.sch_insn.specs.declared.machine.StuckCause.{StuckCause}
+use Rattle.sch_insn.specs.declared.state.Flags.{Flags}
+use Rattle.sch_insn.specs.declared.state.StuckCause.{StuckCause}
 use Rattle.sch_insn.specs.Machine.{State, unknown_flags}
 use Rattle.sch_insn.specs.Step.{Progress, Runs, Exited, Stuck, mach}
 

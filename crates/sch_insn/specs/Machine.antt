@@ -1,16 +1,17 @@
 -- The state of a machine: registers, flags, the address of the next instruction and memory, and the
 -- outside: what it wrote, and what the kernel still has for it.
 -- Source: Intel SDM, volume 1, section 3.4 (basic program execution registers).
-use Rattle.std.specs.Prelude.{slice_index, ℕ, ◌+◌, ◌-◌, ◌*◌, ◌/◌, ◌%◌, ◌^◌, List, [], ◌∷◌, ◌++◌, length, take, drop, Bool, true, false, cond, ◌&&◌, ◌||◌, not, nat_lt, nat_le, ◌==◌, Option, Some, None, ℤ, Result, Ok, Err, if◌then◌else◌}
+use Rattle.std.specs.Prelude.{slice_index, ℕ, ◌+◌, ◌-◌, ◌*◌, ◌/◌, ◌%◌, ◌^◌, List, [], ◌∷◌, ◌++◌, length, take, drop, Bool, true, false, cond, ◌&&◌, ◌||◌, not}
+use Rattle.std.specs.Prelude.{nat_lt, nat_le, ◌==◌, Option, Some, None, ℤ, Result, Ok, Err, if◌then◌else◌}
 use Rattle.std.specs.Int.{w64, cast_unsigned, to_le_bytes, from_le_bytes}
 use Rattle.sch_word.specs.values.Memory.{Segment}
 use Rattle.sch_word.specs.declared.answer.Answer.{Answer}
 use Rattle.sch_insn.specs.declared.insn.Arg.{Arg}
 use Rattle.sch_insn.specs.declared.insn.Arg.TheVariants.{Reg, Base, Base32, Rip}
-use Rattle.sch_insn.specs.declared.machine.Flags.{Flags}
-use Rattle.sch_insn.specs.declared.machine.Regs.{Regs}
-use Rattle.sch_insn.specs.declared.machine.StuckCause.{StuckCause}
-use Rattle.sch_insn.specs.declared.machine.StuckCause.TheVariants.{Access}
+use Rattle.sch_insn.specs.declared.state.Flags.{Flags}
+use Rattle.sch_insn.specs.declared.state.Regs.{Regs}
+use Rattle.sch_insn.specs.declared.state.StuckCause.{StuckCause}
+use Rattle.sch_insn.specs.declared.state.StuckCause.TheVariants.{Access}
 use Rattle.sch_insn.specs.declared.condition.TheConstants.{O, B, E, BE, S, L, LE}
 
 -- The words of the sixteen registers, by their numbers; the flags; the address of the instruction that

@@ -1,3 +1,5 @@
+//! Instructions and their operands, and how long each is.
+
 ghost use Rattle.std.specs.Prelude.{◌≡◌, ◌≤◌, ℕ, length};
 ghost use Rattle.sch_insn.specs.Spelling.{spelling, operand, sib, IsValid};
 

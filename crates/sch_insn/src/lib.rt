@@ -5,9 +5,9 @@
 pub mod condition;
 mod insn;
 mod laws;
-mod machine;
 pub mod register;
+mod state;
 
 pub use insn::{Arg, Insn};
 pub use laws::{reading_inverts_spelling, spellings_are_a_prefix_code, traces_are_of_runs};
-pub use machine::{Flags, Regs, StuckCause};
+pub use state::{Flags, Regs, StuckCause};

@@ -1,6 +1,7 @@
 //! A disk in memory.
 
-ghost use Rattle.std.specs.Prelude.{◌≡◌, ◌≤◌, ◌<◌, ◌+◌, ◌++◌, ◌↔◌, ◌⊎◌, [], ◌∷◌, ℕ, List, Some, None, map, length, vec_len, vec_capacity, All, IfOk, IfSome, IsSomeAnd, IsErr, IsErrOf, IsNone, IsOk, IsTrue, OnOk, OnErr};
+ghost use Rattle.std.specs.Prelude.{◌≡◌, ◌≤◌, ◌<◌, ◌+◌, ◌++◌, ◌↔◌, ◌⊎◌, [], ◌∷◌, ℕ, List, Some, None, map, length, vec_len, vec_capacity, All, IfOk, IfSome};
+ghost use Rattle.std.specs.Prelude.{IsSomeAnd, IsErr, IsErrOf, IsNone, IsOk, IsTrue, OnOk, OnErr};
 ghost use Rattle.std.specs.Option.{option_map};
 ghost use Rattle.std.specs.FinMap.{get, empty};
 ghost use Rattle.sch_io.specs.Counters.{Rose, raised};

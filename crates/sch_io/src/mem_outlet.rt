@@ -108,7 +108,8 @@ impl Outlet for MemOutlet {
         // It tells on as long as there is room.
         ensures room { room_left self.new + length (taken result piece.now) ≡ room_left self.old }
         ensures tells_on { IfSome (told_left self.old) (λ left. next_count left (length piece.now) ≤ room_left self.old → IsSome (told_left self.new) × IsSome (told_bytes self.new)) }
-        ensures full { IfSome (told_left self.old) (λ left. room_left self.old < next_count left (length piece.now) → (result ≡ Answer.Failed) × (told_left self.new ≡ None) × (told_bytes self.new ≡ None)) }
+        ensures full { IfSome (told_left self.old) (λ left. room_left self.old < next_count left (length piece.now)
+            → (result ≡ Answer.Failed) × (told_left self.new ≡ None) × (told_bytes self.new ≡ None)) }
     {
         match self.next_answer(piece.len()) {
             Answer::Took(count) => {

@@ -7,7 +7,7 @@ use Rattle.std.specs.Str.{bytes_eq}
 use Rattle.sch_names.specs.Scope.{is_among}
 use Rattle.sch_names.specs.NamesView.{with_name, number_of}
 use Rattle.sch_numbers.specs.Named.{firsts, library_global, globals_in}
-use Rattle.sch_numbers.proofs.DraftLists.{next}
+use Rattle.sch_word.proofs.facts.Lists.{next_left}
 use Rattle.sch_numbers.specs.Programs.{Definition, kept, with_definition, globals_of_each, seen, is_hidden, held, names_of_each, starts, starts_with}
 use Rattle.sch_sketch.specs.DraftView.{draft_of}
 use Rattle.sch_keeping.specs.declared.definition.Definition as code
@@ -40,7 +40,7 @@ module _ (own names names' : List (List ℕ)) (ds : List code.Definition) (i : �
       ((x : List ℕ) → (is_among x names || (is_among x own && is_among x (seen (definitions_of (drop i ds))))) ≡ (is_among x own && is_among x (seen (definitions_of ds)))) →
       (x : List ℕ) → (is_among x names' || (is_among x own && is_among x (seen (definitions_of (drop (i + 1) ds))))) ≡ (is_among x own && is_among x (seen (definitions_of ds)))
   next_hold d l h e k x =
-      let n : definitions_of (drop i ds) ≡ definition_of d ∷ definitions_of (drop (suc i) ds) = ap definitions_of (next ds i d l h) in
+      let n : definitions_of (drop i ds) ≡ definition_of d ∷ definitions_of (drop (suc i) ds) = ap definitions_of (next_left ds i d l h) in
       rw add-one (next_held own names names' (definition_of d) (definitions_of (drop (suc i) ds)) e x ∙ ap (λ a. is_among x names || (is_among x own && is_among x (seen a))) (sym n) ∙ k x)
 
   pub end_hold : length ds ≤ i → ((x : List ℕ) → (is_among x names || (is_among x own && is_among x (seen (definitions_of (drop i ds))))) ≡ (is_among x own && is_among x (seen (definitions_of ds)))) →
@@ -145,7 +145,7 @@ all_looked first hs ds left all result z k h = ap definitions_of h ∙ k ∙ rw 
 pub next_number : (x : List ℕ) (ds : List code.Definition) (i : ℕ) (d : code.Definition) → i < length ds → d ≡ get_or ds i d →
     number_of x (names_of_each (definitions_of (drop i ds))) ≡ cond (bytes_eq x d.name.now) zero (suc (number_of x (names_of_each (definitions_of (drop (suc i) ds)))))
 next_number x ds i d l h =
-    ap (λ a. number_of x (names_of_each (definitions_of a))) (next ds i d l h)
+    ap (λ a. number_of x (names_of_each (definitions_of a))) (next_left ds i d l h)
 
 module _ (x : List ℕ) (ds : List code.Definition) (i n r : ℕ) (before : n + number_of x (names_of_each (definitions_of (drop i ds))) ≡ r) where
   module _ (d : code.Definition) (here : i < length ds) (is : d ≡ get_or ds i d) where
@@ -166,7 +166,7 @@ module _ (x : List ℕ) (ds : List code.Definition) (i n r : ℕ) (before : n + 
 module _ (ds : List Definition) (hs : List (List ℕ)) (gs : List (List ℕ)) (i : ℕ) (all r : List (Option ℕ)) (before : all ++ starts ds hs (drop i gs) ≡ r) where
   pub next_start : (g : List ℕ) (o : Option ℕ) → i < length gs → g ≡ get_or gs i g → o ≡ starts_with ds hs g → (all ++ o ∷ []) ++ starts ds hs (drop (i + 1) gs) ≡ r
   next_start g o here is h =
-      let n : drop i gs ≡ g ∷ drop (suc i) gs = next gs i g here is in
+      let n : drop i gs ≡ g ∷ drop (suc i) gs = next_left gs i g here is in
       let k = rw n at before in
       rw (add-one, h) (append_assoc all (starts_with ds hs g ∷ []) (starts ds hs (drop (suc i) gs)) ∙ k)
 

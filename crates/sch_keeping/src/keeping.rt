@@ -14,8 +14,8 @@ use sch_numbers::{Tables, global_key, name_draft};
 use sch_word::{List, Mem};
 use std::alloc::Global;
 
-/// Whether a name is the library's own.
-fn is_hidden(x: &[u8]) -> bool
+/// Whether a name is the library's own: it begins with `%`.
+pub fn is_hidden(x: &[u8]) -> bool
     ensures { result ≡ words.is_hidden x.now }
 {
     match x.first() {

@@ -1,14 +1,18 @@
 -- Worked rows: the layouts of bodies, and what programs do that are laid out.
-use Rattle.std.proofs.Common.{◌≡◌, refl, ℕ, Bool, true, false, List, [], ◌∷◌, Option, Some, map, pos, negsuc}
-use Rattle.std.specs.Prelude.{codes, ◌&&◌}
+use Rattle.std.proofs.Common.{◌≡◌, ◌≢◌, refl, sym, ap, ◌∙◌, arith, ℕ, zero, suc, ◌+◌, ◌-◌, ◌<◌, ◌≤◌, Bool, true, false, List, [], ◌∷◌, Option, Some, None, map, pos, negsuc}
+use Rattle.std.specs.Prelude.{codes, cond, nat_eq, ◌&&◌}
 use Rattle.std.specs.Fmt.{signed_decimal}
 use Rattle.std.specs.List.{list_all}
+use Rattle.std.proofs.lemmas.Bool.{ne_eqb}
 use Rattle.sch_word.specs.declared.constant.Const.TheVariants.{Fixnum, Boolean}
 use Rattle.sch_word.specs.declared.place.Place.{Place}
 use Rattle.sch_word.specs.declared.place.Place.TheVariants.{Reg, Slot}
 use Rattle.sch_word.specs.declared.primitive.Primitive.TheVariants.{Eq, Equal, Less, Multiply, Put, Subtract}
 use Rattle.sch_word.specs.trees.Covered.{are_literals_covered, are_lists_covered}
+use Rattle.sch_word.specs.runs.Computation.{gives}
 use Rattle.sch_word.specs.runs.Runs.{Run, ended, going}
+use Rattle.sch_word.specs.values.Values.{Value, procedure, unspecified}
+use Rattle.sch_control.specs.declared.mark.MarkKind.{MarkKind}
 use Rattle.sch_control.specs.declared.mark.MarkKind.TheVariants as mark
 use Rattle.sch_control.specs.declared.operation.Atom.TheVariants.{Constant, Literal, Variable}
 use Rattle.sch_control.specs.declared.operation.Operand.{Operand}
@@ -19,18 +23,22 @@ use Rattle.sch_control.specs.Covered as control_covered
 use Rattle.sch_control.specs.Run as control_run
 use Rattle.sch_control.specs.Sizes.{expression_size, most_variables}
 use Rattle.sch_control.specs.Tree as control
-use Rattle.sch_control.specs.Tree.{Expression, perform, bind, branch, fix, call, tail_call, return, end}
+use Rattle.sch_control.specs.Meaning.{Callee, Environment, Result, World, do_body, no_region}
+use Rattle.sch_control.specs.Tree.{Expression, perform, bind, sequence, branch, fix, call, tail_call, return, end, save}
 use Rattle.sch_control.specs.Valid as control_valid
 use Rattle.sch_control.proofs.Examples.{applied, form, held_in, lambda, number, program, seen, straight_program}
 use Rattle.sch_frames.specs.declared.instruction.Instruction.{Instruction}
 use Rattle.sch_frames.specs.declared.instruction.Instruction.TheVariants.{Do, Store, Copy, Load, Pass, Fix, Call, Tail, Return, End, IfFalse, Jump, Label, Mark}
 use Rattle.sch_frames.specs.Covered.{is_covered_code, is_covered_program, each_begins}
+use Rattle.sch_frames.specs.Meaning.{Cell, Frame, Is, Junk, Link, same_place, execute_each}
 use Rattle.sch_frames.specs.Run.{run}
 use Rattle.sch_frames.specs.Sizes.{instructions_size}
 use Rattle.sch_frames.specs.Tree.{Source}
 use Rattle.sch_frames.specs.Valid.{code_valid, is_valid}
 use Rattle.sch_layout.specs.LayoutSizes.{call_parts, calls_parts, entries_size, entry_size, most_words, nodes}
-use Rattle.sch_layout.specs.OwnSlots.{most_operands, slots_code, slots_layout, slots_words}
+use Rattle.sch_layout.specs.BodyLayout.{Plan, is_slot, lay, placed_reading}
+use Rattle.sch_layout.specs.OwnSlots.{most_operands, saved_tree, slots_code, slots_layout, slots_words}
+use Rattle.sch_layout.proofs.does.PlacesAgree.{Clear, HomeApart, Apart}
 
 -- ## Words for the rows
 
@@ -73,8 +81,8 @@ straight_lays = refl
 
 -- a procedure has its return address, its closure and its formals in slots, of which the seventh arrives in one
 entering_layout : slots_layout (lambda 7 0 9 (return (perform (operation.Operand (held_in 8))))) ≡
-    Copy (Slot 1) (Reg 15) ∷ Copy (Slot 2) (Reg 14) ∷ Copy (Slot 3) (Reg 3) ∷ Copy (Slot 4) (Reg 8) ∷ Copy (Slot 5) (Reg 9) ∷ Copy (Slot 6) (Reg 10) ∷ Copy (Slot 7) (Reg 6) ∷ Copy (Slot 8) (Reg 7) ∷ Copy (Slot 9) (Slot 0)
-    ∷ Do (operation.Operand (held_in (Slot 9))) ∷ Mark mark.Return ∷ Return ∷ []
+    Copy (Slot 2) (Reg 14) ∷ Copy (Slot 3) (Reg 3) ∷ Copy (Slot 4) (Reg 8) ∷ Copy (Slot 5) (Reg 9) ∷ Copy (Slot 6) (Reg 10) ∷ Copy (Slot 7) (Reg 6) ∷ Copy (Slot 8) (Reg 7) ∷ Copy (Slot 9) (Slot 0)
+    ∷ Copy (Slot 1) (Reg 15) ∷ Do (operation.Operand (held_in (Slot 9))) ∷ Mark mark.Return ∷ Return ∷ []
 entering_layout = refl
 
 -- the members of a group are bound where they are put, and what follows reads them there
@@ -91,33 +99,264 @@ abbrev pub twice : control.Code
 twice = lambda 2 0 5 (bind 4 (call (applied 0 (held_in 2) (held_in 3 ∷ [])) []) (tail_call (applied 1 (held_in 2) (held_in 4 ∷ []))))
 
 twice_layout : slots_layout twice ≡
-    Copy (Slot 1) (Reg 15) ∷ Copy (Slot 2) (Reg 14) ∷ Copy (Slot 3) (Reg 3) ∷ Copy (Slot 4) (Reg 8)
-    ∷ Load (Reg 14) (held_in (Slot 3)) ∷ Load (Slot 0) (held_in (Slot 4)) ∷ Copy (Reg 3) (Slot 0) ∷ Mark (mark.Call 0) ∷ Call false 1
+    Copy (Slot 2) (Reg 14) ∷ Copy (Slot 3) (Reg 3) ∷ Copy (Slot 4) (Reg 8) ∷ Copy (Slot 1) (Reg 15)
+    ∷ Load (Slot 0) (held_in (Slot 4)) ∷ Load (Reg 14) (held_in (Slot 3)) ∷ Copy (Reg 3) (Slot 0) ∷ Mark (mark.Call 0) ∷ Call false 1
     ∷ Copy (Reg 15) (Slot 1) ∷ Store (Slot 5)
-    ∷ Load (Reg 14) (held_in (Slot 3)) ∷ Load (Slot 0) (held_in (Slot 5)) ∷ Copy (Reg 3) (Slot 0) ∷ Mark (mark.Tail 1) ∷ Tail false 1 ∷ []
+    ∷ Load (Slot 0) (held_in (Slot 5)) ∷ Load (Reg 14) (held_in (Slot 3)) ∷ Copy (Reg 3) (Slot 0) ∷ Mark (mark.Tail 1) ∷ Tail false 1 ∷ []
 twice_layout = refl
 
 abbrev eight : List (Operand ℕ)
 eight = number 0 ∷ number 1 ∷ number 2 ∷ number 3 ∷ number 4 ∷ number 5 ∷ number 6 ∷ held_in 2 ∷ []
 
-abbrev eight_aside : Operand Place → List Instruction → List Instruction
-eight_aside last rest =
+abbrev eight_aside : (last operator : Operand Place) → List Instruction → List Instruction
+eight_aside last operator rest =
     Load (Slot 0) (number 0) ∷ Load (Slot 1) (number 1) ∷ Load (Slot 2) (number 2) ∷ Load (Slot 3) (number 3) ∷ Load (Slot 4) (number 4) ∷ Load (Slot 5) (number 5)
-    ∷ Load (Slot 6) (number 6) ∷ Load (Slot 7) last
+    ∷ Load (Slot 6) (number 6) ∷ Load (Slot 7) last ∷ Load (Reg 14) operator
     ∷ Copy (Reg 3) (Slot 0) ∷ Copy (Reg 8) (Slot 1) ∷ Copy (Reg 9) (Slot 2) ∷ Copy (Reg 10) (Slot 3) ∷ Copy (Reg 6) (Slot 4) ∷ Copy (Reg 7) (Slot 5) ∷ rest
 
 -- the seventh operand and the eighth of a call go into the frame that it opens; a form keeps no return address
 call_layout : slots_layout (form 4 (bind 2 (perform (operation.MakeClosure (record { label = 1; fields = [] }))) (end (branch (call (applied 0 (held_in 2) eight) []) (perform (operation.Operand (number 0))) (perform (operation.Operand (number 1))))))) ≡
-    Do (operation.MakeClosure (record { label = 1; fields = [] })) ∷ Store (Slot 10) ∷ Load (Reg 14) (held_in (Slot 10))
-    ∷ eight_aside (held_in (Slot 10)) (Pass 0 (held_in (Slot 6)) ∷ Pass 1 (held_in (Slot 7)) ∷ Mark (mark.Call 0) ∷ Call false 8 ∷ IfFalse 0
+    Do (operation.MakeClosure (record { label = 1; fields = [] })) ∷ Store (Slot 10)
+    ∷ eight_aside (held_in (Slot 10)) (held_in (Slot 10)) (Pass 0 (held_in (Slot 6)) ∷ Pass 1 (held_in (Slot 7)) ∷ Mark (mark.Call 0) ∷ Call false 8 ∷ IfFalse 0
     ∷ Do (operation.Operand (number 0)) ∷ Jump 1 ∷ Label 0 ∷ Do (operation.Operand (number 1)) ∷ Label 1 ∷ End ∷ [])
 call_layout = refl
 
 -- those of a tail call go where the own arguments arrive, from which the first two have been handed over
 tail_layout : slots_layout (lambda 1 0 4 (tail_call (applied 0 (held_in 2) eight))) ≡
-    Copy (Slot 8) (Reg 15) ∷ Copy (Slot 9) (Reg 14) ∷ Copy (Slot 10) (Reg 3) ∷ Load (Reg 14) (held_in (Slot 10))
-    ∷ eight_aside (held_in (Slot 10)) (Copy (Slot 0) (Slot 6) ∷ Copy (Slot 1) (Slot 7) ∷ Mark (mark.Tail 0) ∷ Tail false 8 ∷ [])
+    Copy (Slot 9) (Reg 14) ∷ Copy (Slot 10) (Reg 3) ∷ Copy (Slot 8) (Reg 15)
+    ∷ eight_aside (held_in (Slot 10)) (held_in (Slot 10)) (Copy (Slot 0) (Slot 6) ∷ Copy (Slot 1) (Slot 7) ∷ Mark (mark.Tail 0) ∷ Tail false 8 ∷ [])
 tail_layout = refl
+
+-- ## Regions and restores
+
+-- Variables 2 and 3 live in registers that calls use, RBX and R14, beside the return address; each is saved in a slot of
+-- its own. Variable 4 is left in slot 0, where the seventh argument arrives, and operands are set aside behind it.
+abbrev in_registers : ℕ → Place
+in_registers zero = Reg 15
+in_registers (suc zero) = Slot 21
+in_registers (suc (suc zero)) = Reg 3
+in_registers (suc (suc (suc zero))) = Reg 14
+in_registers (suc (suc (suc (suc zero)))) = Slot 0
+in_registers x = Slot (20 + x)
+
+abbrev placed : (is_marked : Bool) → Plan
+placed is_marked = record { place = in_registers; home = λ x. Slot (10 + x); is_marked = λ x. is_marked; aside = 1 }
+
+-- it is a plan as the proof asks for, with operands in the slots 1 to 9
+abbrev lives_there : Place → ℕ
+lives_there (Reg r) = cond (nat_eq r 15) 0 (cond (nat_eq r 3) 2 3)
+lives_there (Slot j) = cond (nat_eq j 0) 4 (j - 20)
+
+lives : (x : ℕ) → lives_there (in_registers x) ≡ x
+lives zero = refl
+lives (suc zero) = refl
+lives (suc (suc zero)) = refl
+lives (suc (suc (suc zero))) = refl
+lives (suc (suc (suc (suc zero)))) = refl
+lives (suc (suc (suc (suc (suc x))))) =
+    ap (λ t. cond t 4 (20 + suc (suc (suc (suc (suc x)))) - 20)) (ne_eqb (20 + suc (suc (suc (suc (suc x))))) 0 (λ e. omega (arith, e))) ∙ omega arith
+
+other_place : (p q : Place) → lives_there p ≢ lives_there q → same_place p q ≡ false
+other_place (Reg a) (Reg b) n = ne_eqb a b (λ e. n (ap (λ r. lives_there (Reg r)) e))
+other_place (Slot a) (Slot b) n = ne_eqb a b (λ e. n (ap (λ j. lives_there (Slot j)) e))
+other_place (Reg a) (Slot b) n = refl
+other_place (Slot a) (Reg b) n = refl
+
+none_lives : (j : ℕ) → 1 ≤ j → j < 20 → (y : ℕ) → same_place (Slot j) (in_registers y) ≡ false
+none_lives j low lt zero = refl
+none_lives j low lt (suc zero) = ne_eqb j 21 (λ e. omega (arith, e, lt))
+none_lives j low lt (suc (suc zero)) = refl
+none_lives j low lt (suc (suc (suc zero))) = refl
+none_lives j low lt (suc (suc (suc (suc zero)))) = ne_eqb j 0 (λ e. omega (arith, e, low))
+none_lives j low lt (suc (suc (suc (suc (suc y))))) = ne_eqb j (20 + suc (suc (suc (suc (suc y))))) (λ e. omega (arith, e, lt))
+
+placed_apart : (is_marked : Bool) → Apart (placed is_marked) 10
+placed_apart is_marked = record { apart = λ x y n. other_place (in_registers x) (in_registers y) (λ e. n (sym (lives x) ∙ (e ∙ lives y))); link = refl; clear = clear; home = home } where
+  clear : (x : ℕ) → Clear 1 10 (in_registers x)
+  clear zero = tt
+  clear (suc zero) = λ k low lt e. omega (arith, lt, e)
+  clear (suc (suc zero)) = tt
+  clear (suc (suc (suc zero))) = tt
+  clear (suc (suc (suc (suc zero)))) = λ k low lt e. omega (arith, low, e)
+  clear (suc (suc (suc (suc (suc x))))) = λ k low lt e. omega (arith, lt, e)
+
+  home_apart : (x : ℕ) → x < 10 → HomeApart (placed is_marked) 10 x
+  home_apart x few = record {
+    in_slot = refl;
+    clear = λ k low lt e. omega (arith, lt, e);
+    places = none_lives (10 + x) (omega arith) (omega (arith, few));
+    homes = λ y s n. ne_eqb (10 + x) (10 + y) (λ e. n (omega (arith, e)));
+  }
+
+  home : (x : ℕ) → is_slot (in_registers x) ≡ false → HomeApart (placed is_marked) 10 x
+  home zero s = home_apart 0 (omega arith)
+  home (suc zero) s = absurd (cc)
+  home (suc (suc zero)) s = home_apart 2 (omega arith)
+  home (suc (suc (suc zero))) s = home_apart 3 (omega arith)
+  home (suc (suc (suc (suc zero)))) s = absurd (cc)
+  home (suc (suc (suc (suc (suc x))))) s = absurd (cc)
+
+-- what lives in registers is stored at the head, and what is restored is loaded behind the call; variable 4 lives in a slot
+abbrev saving : Expression
+saving = save (0 ∷ 2 ∷ 4 ∷ 3 ∷ []) (sequence (call (applied 0 (held_in 4) []) (2 ∷ 4 ∷ 0 ∷ [])) (return (perform (operation.Operand (held_in 2)))))
+
+saving_layout : lay (placed true) saving no_region 0 None [] ≡
+    Mark (mark.Save 0) ∷ Copy (Slot 10) (Reg 15) ∷ Mark (mark.Save 2) ∷ Copy (Slot 12) (Reg 3) ∷ Mark (mark.Save 3) ∷ Copy (Slot 13) (Reg 14)
+    ∷ Load (Reg 14) (held_in (Slot 0)) ∷ Mark (mark.Call 0) ∷ Call false 0
+    ∷ Mark (mark.Restore 2) ∷ Copy (Reg 3) (Slot 12) ∷ Mark (mark.Restore 0) ∷ Copy (Reg 15) (Slot 10)
+    ∷ Do (operation.Operand (held_in (Reg 3))) ∷ Mark mark.Return ∷ Return ∷ []
+saving_layout = refl
+
+-- the same where none is marked
+unmarked_layout : lay (placed false) saving no_region 0 None [] ≡
+    Copy (Slot 10) (Reg 15) ∷ Copy (Slot 12) (Reg 3) ∷ Copy (Slot 13) (Reg 14)
+    ∷ Load (Reg 14) (held_in (Slot 0)) ∷ Mark (mark.Call 0) ∷ Call false 0 ∷ Copy (Reg 3) (Slot 12) ∷ Copy (Reg 15) (Slot 10)
+    ∷ Do (operation.Operand (held_in (Reg 3))) ∷ Mark mark.Return ∷ Return ∷ []
+unmarked_layout = refl
+
+-- variable 3 is bound inside the region, and stored there and not at the head; 4 lives in a slot, and 5 is in no region
+bound_layout : lay (placed true) (save (3 ∷ 2 ∷ 4 ∷ []) (bind 3 (perform (operation.Operand (number 1))) (bind 4 (perform (operation.Operand (number 2))) (bind 5 (perform (operation.Operand (number 3))) (perform (operation.Operand (held_in 3))))))) no_region 0 None [] ≡
+    Mark (mark.Save 2) ∷ Copy (Slot 12) (Reg 3)
+    ∷ Do (operation.Operand (number 1)) ∷ Store (Reg 14) ∷ Mark (mark.Save 3) ∷ Copy (Slot 13) (Reg 14)
+    ∷ Do (operation.Operand (number 2)) ∷ Store (Slot 0) ∷ Do (operation.Operand (number 3)) ∷ Store (Slot 25) ∷ Do (operation.Operand (held_in (Reg 14))) ∷ []
+bound_layout = refl
+
+-- behind the region nothing is stored where it is bound
+behind_layout : lay (placed true) (sequence (save (3 ∷ []) (perform (operation.Operand (held_in 3)))) (bind 3 (perform (operation.Operand (number 1))) (perform (operation.Operand (held_in 3))))) no_region 0 None [] ≡
+    Mark (mark.Save 3) ∷ Copy (Slot 13) (Reg 14) ∷ Do (operation.Operand (held_in (Reg 14)))
+    ∷ Do (operation.Operand (number 1)) ∷ Store (Reg 14) ∷ Do (operation.Operand (held_in (Reg 14))) ∷ []
+behind_layout = refl
+
+-- the members of a group that are in a region of their own or round it are stored behind the group
+abbrev grouped : Expression → Expression
+grouped = fix (record { at = 2; closure = record { label = 1; fields = [] } } ∷ record { at = 5; closure = record { label = 2; fields = [] } } ∷ record { at = 3; closure = record { label = 3; fields = [] } } ∷ [])
+
+abbrev group_made : Instruction
+group_made = Fix (record { at = Reg 3; closure = record { label = 1; fields = [] } } ∷ record { at = Slot 25; closure = record { label = 2; fields = [] } } ∷ record { at = Reg 14; closure = record { label = 3; fields = [] } } ∷ [])
+
+abbrev members_saved : Expression
+members_saved = save (3 ∷ []) (save (2 ∷ []) (grouped (perform (operation.Operand (held_in 2)))))
+
+member_layout : lay (placed false) members_saved no_region 0 None [] ≡
+    group_made ∷ Copy (Slot 12) (Reg 3) ∷ Copy (Slot 13) (Reg 14) ∷ Do (operation.Operand (held_in (Reg 3))) ∷ []
+member_layout = refl
+
+marked_member_layout : lay (placed true) members_saved no_region 0 None [] ≡
+    group_made ∷ Mark (mark.Save 2) ∷ Copy (Slot 12) (Reg 3) ∷ Mark (mark.Save 3) ∷ Copy (Slot 13) (Reg 14) ∷ Do (operation.Operand (held_in (Reg 3))) ∷ []
+marked_member_layout = refl
+
+-- an arm may have a region of its own
+abbrev in_arm : Expression
+in_arm = branch (perform (operation.Operand (held_in 4)))
+    (save (0 ∷ 2 ∷ []) (sequence (call (applied 0 (held_in 4) []) (2 ∷ 0 ∷ [])) (return (perform (operation.Operand (held_in 2))))))
+    (return (perform (operation.Operand (number 1))))
+
+arm_layout : lay (placed true) in_arm no_region 0 None [] ≡
+    Do (operation.Operand (held_in (Slot 0))) ∷ IfFalse 0
+    ∷ Mark (mark.Save 0) ∷ Copy (Slot 10) (Reg 15) ∷ Mark (mark.Save 2) ∷ Copy (Slot 12) (Reg 3)
+    ∷ Load (Reg 14) (held_in (Slot 0)) ∷ Mark (mark.Call 0) ∷ Call false 0
+    ∷ Mark (mark.Restore 2) ∷ Copy (Reg 3) (Slot 12) ∷ Mark (mark.Restore 0) ∷ Copy (Reg 15) (Slot 10)
+    ∷ Do (operation.Operand (held_in (Reg 3))) ∷ Mark mark.Return ∷ Return
+    ∷ Jump 1 ∷ Label 0 ∷ Do (operation.Operand (number 1)) ∷ Mark mark.Return ∷ Return ∷ Label 1 ∷ []
+arm_layout = refl
+
+-- operands are read before the operator is loaded and before any is handed over
+abbrev seven : Expression
+seven = tail_call (applied 0 (held_in 4) (held_in 3 ∷ number 1 ∷ number 2 ∷ number 3 ∷ number 4 ∷ number 5 ∷ held_in 4 ∷ []))
+
+seven_layout : lay (placed true) seven no_region 0 None [] ≡
+    Load (Slot 1) (held_in (Reg 14)) ∷ Load (Slot 2) (number 1) ∷ Load (Slot 3) (number 2) ∷ Load (Slot 4) (number 3) ∷ Load (Slot 5) (number 4) ∷ Load (Slot 6) (number 5)
+    ∷ Load (Slot 7) (held_in (Slot 0)) ∷ Load (Reg 14) (held_in (Slot 0))
+    ∷ Copy (Reg 3) (Slot 1) ∷ Copy (Reg 8) (Slot 2) ∷ Copy (Reg 9) (Slot 3) ∷ Copy (Reg 10) (Slot 4) ∷ Copy (Reg 6) (Slot 5) ∷ Copy (Reg 7) (Slot 6) ∷ Copy (Slot 0) (Slot 7)
+    ∷ Mark (mark.Tail 0) ∷ Tail false 7 ∷ []
+seven_layout = refl
+
+-- a call's value is tested behind what is restored
+tested_layout : lay (placed false) (branch (call (applied 0 (held_in 4) []) (3 ∷ [])) (perform (operation.Operand (held_in 3))) (perform (operation.Operand (number 1)))) no_region 0 None [] ≡
+    Load (Reg 14) (held_in (Slot 0)) ∷ Mark (mark.Call 0) ∷ Call false 0 ∷ Copy (Reg 14) (Slot 13) ∷ IfFalse 0
+    ∷ Do (operation.Operand (held_in (Reg 14))) ∷ Jump 1 ∷ Label 0 ∷ Do (operation.Operand (number 1)) ∷ Label 1 ∷ []
+tested_layout = refl
+
+-- Where variables 2 and 4 have a procedure and each call gives an unspecified value, the region ends with what variable 2
+-- has, and so does its layout, with the same marks.
+abbrev gives_nothing : Callee
+gives_nothing self p arguments depth w = Some (gives unspecified w)
+
+abbrev gives_first : Callee
+gives_first self p [] depth w = None
+gives_first self p (v ∷ vs) depth w = Some (gives v w)
+
+abbrev begun : World
+begun = control_run.starting_world straight_program.statics (1 ∷ []) 4096 [] 1
+
+abbrev variables : Environment
+variables zero = Some unspecified
+variables (suc (suc zero)) = Some (procedure 0)
+variables (suc (suc (suc zero))) = Some unspecified
+variables (suc (suc (suc (suc zero)))) = Some (procedure 0)
+variables x = None
+
+abbrev places : Place → Cell
+places (Reg r) = cond (nat_eq r 15) Link (cond (nat_eq r 3) (Is (procedure 0)) (cond (nat_eq r 14) (Is unspecified) Junk))
+places (Slot j) = cond (nat_eq j 0) (Is (procedure 0)) Junk
+
+abbrev holding : Frame
+holding = record { accumulator = Junk; places = places; outgoing = λ k. Junk }
+
+abbrev body_does : Callee → Expression → Result
+body_does callee e = do_body (placed_reading (placed true)) callee 1 e variables begun
+
+abbrev layout_does : Callee → Expression → Result
+layout_does callee e = execute_each callee 1 (lay (placed true) e no_region 0 None []) None holding begun
+
+abbrev done_both : Expression → Result → Type 0
+done_both e r = (body_does gives_nothing e ≡ r) × (layout_does gives_nothing e ≡ r)
+
+-- the value that a body gives, and the marks
+abbrev given : Result → Option (Value × List MarkKind)
+given (Some (gives v w)) = Some (v, w.marks)
+given r = None
+
+abbrev given_both : Callee → Expression → Value → List MarkKind → Type 0
+given_both callee e v marks = (given (body_does callee e) ≡ Some (v, marks)) × (given (layout_does callee e) ≡ Some (v, marks))
+
+saving_does : done_both saving
+    (Some (gives (procedure 0) (record { state = begun.state; marks = mark.Save 0 ∷ mark.Save 2 ∷ mark.Save 3 ∷ mark.Call 0 ∷ mark.Restore 2 ∷ mark.Restore 0 ∷ mark.Return ∷ [] })))
+saving_does = (refl, refl)
+
+-- a call loses what lives in registers, and this restores it
+abbrev behind_call : (restores : List ℕ) → Expression
+behind_call restores = sequence (call (applied 0 (held_in 4) []) restores) (return (perform (operation.Operand (held_in 3))))
+
+-- what is bound inside a region is saved there under a mark, and so are the members of a group; none is spilled
+bound_does : given_both gives_nothing (save (3 ∷ 0 ∷ []) (bind 3 (perform (operation.Operand (held_in 2))) (behind_call (0 ∷ 3 ∷ []))))
+    (procedure 0) (mark.Save 0 ∷ mark.Save 3 ∷ mark.Call 0 ∷ mark.Restore 0 ∷ mark.Restore 3 ∷ mark.Return ∷ [])
+bound_does = (refl, refl)
+
+group_does : given_both gives_nothing (save (3 ∷ 0 ∷ []) (save (2 ∷ []) (grouped (behind_call (3 ∷ 0 ∷ 2 ∷ [])))))
+    (procedure 3) (mark.Save 0 ∷ mark.Save 2 ∷ mark.Save 3 ∷ mark.Call 0 ∷ mark.Restore 3 ∷ mark.Restore 0 ∷ mark.Restore 2 ∷ mark.Return ∷ [])
+group_does = (refl, refl)
+
+arm_does : given_both gives_nothing in_arm (procedure 0) (mark.Save 0 ∷ mark.Save 2 ∷ mark.Call 0 ∷ mark.Restore 2 ∷ mark.Restore 0 ∷ mark.Return ∷ [])
+arm_does = (refl, refl)
+
+-- the first operand is what R14 has before the operator is there
+first_does :
+    given_both gives_first seven unspecified (mark.Tail 0 ∷ [])
+    × given_both gives_first (save (0 ∷ []) (bind 5 (call (applied 0 (held_in 4) (held_in 3 ∷ held_in 2 ∷ [])) (0 ∷ [])) (return (perform (operation.Operand (held_in 5))))))
+    unspecified (mark.Save 0 ∷ mark.Call 0 ∷ mark.Restore 0 ∷ mark.Return ∷ [])
+first_does = ((refl, refl), (refl, refl))
+
+-- what is not restored is not there behind the call
+lost_rows :
+    done_both (save (0 ∷ 2 ∷ []) (sequence (call (applied 0 (held_in 4) []) (0 ∷ [])) (return (perform (operation.Operand (held_in 2)))))) None
+    × done_both (save (0 ∷ 2 ∷ []) (sequence (call (applied 0 (held_in 4) []) (2 ∷ [])) (return (perform (operation.Operand (held_in 2)))))) None
+lost_rows = ((refl, refl), (refl, refl))
+
+-- the tree that is laid out with a slot for each variable
+twice_tree : saved_tree true twice.expression ≡
+    save (0 ∷ []) (bind 4 (call (applied 0 (held_in 2) (held_in 3 ∷ [])) (0 ∷ [])) (tail_call (applied 1 (held_in 2) (held_in 4 ∷ []))))
+twice_tree = refl
 
 -- ## Programs
 

@@ -27,15 +27,15 @@ next_stored base k formals before after first rest to from lt e et ef h =
 -- with one operand more handed over, the others are left
 pub next_handed : (tail : Bool) (k number : ℕ) (before after first rest : List Instruction) (i : Instruction) → k < number
     → after ≡ before ++ i ∷ [] → i ≡ handed tail k (Slot k)
-    → before ++ hand_over tail k (number - k) rest ≡ first ++ hand_over tail 0 number rest
-    → after ++ hand_over tail (k + 1) (number - (k + 1)) rest ≡ first ++ hand_over tail 0 number rest
+    → before ++ hand_over tail k k (number - k) rest ≡ first ++ hand_over tail 0 0 number rest
+    → after ++ hand_over tail (k + 1) (k + 1) (number - (k + 1)) rest ≡ first ++ hand_over tail 0 0 number rest
 next_handed tail k number before after first rest i lt e ei h =
     let j : k + 1 ≡ suc k = omega arith in
     let n : number - k ≡ suc (number - suc k) = omega (arith, lt) in
-    ap (λ t. t ++ hand_over tail (k + 1) (number - (k + 1)) rest) e
+    ap (λ t. t ++ hand_over tail (k + 1) (k + 1) (number - (k + 1)) rest) e
     ∙ (append_assoc before (i ∷ []) _
     ∙ (rw (ei, j) refl
-    ∙ (ap (λ m. before ++ hand_over tail k m rest) (sym n) ∙ h)))
+    ∙ (ap (λ m. before ++ hand_over tail k k m rest) (sym n) ∙ h)))
 
 -- with one operand more set aside, the others are left
 pub next_aside : (base slot next i : ℕ) (operands : List (Operand ℕ)) (before after first rest : List Instruction) (o : Operand ℕ) (p : Operand Place) → i < length operands → o ≡ get_or operands i o

@@ -4,3 +4,4 @@ pub mod LayoutDoes
 pub mod OperandsMove
 pub mod OperationsFollow
 pub mod PlacesAgree
+pub mod SavedRound

@@ -5,6 +5,7 @@ pub mod LayoutSize
 pub mod LayoutWork
 pub mod MarksStand
 pub mod OperandsKept
+pub mod RegionStores
 pub mod SettledSlots
 pub mod SlotsFrame
 pub mod VariablesUsed

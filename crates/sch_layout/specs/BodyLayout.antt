@@ -1,8 +1,9 @@
 -- The layout of an expression: its tree in order, as instructions. What follows is an argument, so nothing is
--- appended, and each variable has a place.
-use Rattle.std.specs.Prelude.{◌≡◌, ℕ, zero, suc, ◌+◌, Bool, true, false, List, [], ◌∷◌, ◌++◌, length, Option, Some, None, map}
+-- appended. Each variable has a place, and one that lives in a register has a home, in which it is saved.
+use Rattle.std.specs.Prelude.{◌≡◌, ℕ, zero, suc, ◌+◌, Bool, true, false, cond, List, [], ◌∷◌, ◌++◌, length, Option, Some, None, filter, map}
 use Rattle.sch_word.specs.declared.place.Place.{Place}
 use Rattle.sch_word.specs.declared.place.Place.TheVariants.{Reg, Slot}
+use Rattle.sch_control.specs.declared.mark.MarkKind.{MarkKind}
 use Rattle.sch_control.specs.declared.mark.MarkKind.TheVariants as mark
 use Rattle.sch_control.specs.declared.operation.Atom.{Atom}
 use Rattle.sch_control.specs.declared.operation.Atom.TheVariants.{Constant, Literal, Variable}
@@ -15,10 +16,12 @@ use Rattle.sch_control.specs.declared.operation.Member.{Member}
 use Rattle.sch_control.specs.declared.operation.Operation.{Operation}
 use Rattle.sch_control.specs.declared.operation.Operation.TheVariants as operation
 use Rattle.sch_control.specs.declared.operation.Application.{Application}
+use Rattle.sch_control.specs.Meaning.{Reading, heads, with_region}
 use Rattle.sch_control.specs.Tree.{Expression, perform, bind, sequence, branch, fix, call, tail_call, return, end, save}
+use Rattle.sch_control.specs.Valid.{member_variables}
 use Rattle.sch_frames.specs.declared.instruction.Instruction.{Instruction}
 use Rattle.sch_frames.specs.declared.instruction.Instruction.TheVariants.{Do, Store, Copy, Load, Pass, Fix, Call, Tail, Return, End, IfFalse, Jump, Label, Mark}
-use Rattle.sch_frames.specs.Meaning.{argument_register, argument_slot, closure_register, link_register}
+use Rattle.sch_frames.specs.Meaning.{argument_register, argument_slot, closure_register}
 
 -- ## Labels
 
@@ -114,45 +117,79 @@ abbrev pub handed : (tail : Bool) → (k : ℕ) → Place → Instruction
 handed true k p = Copy (arrival k) p
 handed false k p = passed (argument_register k) (argument_slot k) p
 
--- The operands that are set aside, from one on. A tail call hands each over in a register or in a slot from which
--- one before it has been handed over.
-abbrev pub hand_over : (tail : Bool) → (from count : ℕ) → List Instruction → List Instruction
-hand_over tail from zero rest = rest
-hand_over tail from (suc count) rest = handed tail from (Slot from) ∷ hand_over tail (suc from) count rest
+-- The operands that are set aside, from one on, which is in this slot, and the next in the next. A tail call hands each
+-- over in a register, or in a slot before those of the operands that wait.
+abbrev pub hand_over : (tail : Bool) → (from slot count : ℕ) → List Instruction → List Instruction
+hand_over tail from slot zero rest = rest
+hand_over tail from slot (suc count) rest = handed tail from (Slot slot) ∷ hand_over tail (suc from) (suc slot) count rest
 
--- the return address is back in its register, where there is one
-abbrev pub restored : (home : Option Place) → List Instruction → List Instruction
-restored None rest = rest
-restored (Some p) rest = Copy link_register p ∷ rest
+-- ## Saves and restores
+
+-- Where each variable lives; where one that lives in a register is saved; whose saves and restores leave marks; and the
+-- slot in which the first operand of a call is set aside, with those of the others behind it.
+pub record Plan : Type 0 where
+  pub place : ℕ → Place
+  pub home : ℕ → Place
+  pub is_marked : ℕ → Bool
+  pub aside : ℕ
+
+abbrev pub is_slot : Place → Bool
+is_slot (Reg r) = false
+is_slot (Slot j) = true
+
+-- a copy, under a mark of its own where that is wanted
+abbrev pub copied : (is_marked : Bool) → MarkKind → (to from : Place) → List Instruction → List Instruction
+copied true m to from rest = Mark m ∷ (Copy to from ∷ rest)
+copied false m to from rest = Copy to from ∷ rest
 
 -- ## Expressions
 
--- Where a body keeps what it has: each variable, and, if it is a procedure's, its return address round calls. The
--- operands of its calls are set aside in the first slots.
-pub record Slots : Type 0 where
-  pub place : ℕ → Place
-  pub home : Option Place
+module _ (plan : Plan) where
+  -- How an expression is read that is laid out so: a call keeps what lives in slots. No binding is marked.
+  abbrev pub placed_reading : Reading
+  placed_reading = record {
+    keeps = λ x. is_slot (plan.place x);
+    spills = λ x. false;
+    is_marked = λ x. cond (is_slot (plan.place x)) false (plan.is_marked x);
+    moves = λ site. [];
+  }
 
-module _ (slots : Slots) where
-  -- the operator's closure and the operands stand where a call takes them
+  -- each of some variables that lives in a register is copied; what lives in a slot stays there
+  abbrev pub carried : (kind : ℕ → MarkKind) → (to from : ℕ → Place) → List ℕ → List Instruction → List Instruction
+  carried kind to from [] rest = rest
+  carried kind to from (x ∷ xs) rest =
+      cond (is_slot (plan.place x)) (carried kind to from xs rest) (copied (plan.is_marked x) (kind x) (to x) (from x) (carried kind to from xs rest))
+
+  -- what is saved goes home, and what is restored comes from there
+  abbrev pub stored : List ℕ → List Instruction → List Instruction
+  stored xs rest = carried mark.Save plan.home plan.place xs rest
+
+  abbrev pub loaded : List ℕ → List Instruction → List Instruction
+  loaded xs rest = carried mark.Restore plan.place plan.home xs rest
+
+  -- The operands and the operator's closure stand where a call takes them. All operands are read before a register is
+  -- written, so a variable may live in any that calls use.
   abbrev pub prepared : (tail : Bool) → Application ℕ → List Instruction → List Instruction
   prepared tail a rest =
-      Load closure_register (operand_at slots.place a.operator)
-      ∷ set_aside slots.place 0 a.operands (hand_over tail 0 (length a.operands) rest)
+      set_aside plan.place plan.aside a.operands
+      (Load closure_register (operand_at plan.place a.operator) ∷ hand_over tail 0 plan.aside (length a.operands) rest)
 
-  -- the instructions of an expression, whose labels are numbered from n on, and then the rest
-  abbrev pub lay : Expression → (n : ℕ) → (test : Option ℕ) → List Instruction → List Instruction
-  lay (perform o) n test rest = Do (operation_at slots.place o) ∷ leave test rest
-  lay (bind x a b) n test rest = lay a n None (Store (slots.place x) ∷ lay b (n + labels a) test rest)
-  lay (sequence a b) n test rest = lay a n None (lay b (n + labels a) test rest)
-  lay (branch a b c) n test rest =
-      lay a (suc (suc n)) (Some n)
-      (lay b (suc (suc (n + labels a))) test
-      (Jump (suc n) ∷ (Label n ∷ lay c (suc (suc (n + labels a + labels b))) test (Label (suc n) ∷ rest))))
-  lay (fix members e) n test rest = Fix (members_at slots.place members) ∷ lay e n test rest
-  lay (call a restores) n test rest =
-      prepared false a (Mark (mark.Call a.site) ∷ (Call a.spread (length a.operands) ∷ restored slots.home (leave test rest)))
-  lay (tail_call a) n test rest = prepared true a (Mark (mark.Tail a.site) ∷ (Tail a.spread (length a.operands) ∷ rest))
-  lay (return e) n test rest = lay e n None (Mark mark.Return ∷ (Return ∷ rest))
-  lay (end e) n test rest = lay e n None (End ∷ rest)
-  lay (save saves e) n test rest = lay e n test rest
+  -- The instructions of an expression, whose labels are numbered from n on, and then the rest. `inside` has the variables
+  -- of the regions round it. A region stores at its head what it does not bind, and the others where they are bound.
+  abbrev pub lay : Expression → (inside : ℕ → Bool) → (n : ℕ) → (test : Option ℕ) → List Instruction → List Instruction
+  lay (perform o) inside n test rest = Do (operation_at plan.place o) ∷ leave test rest
+  lay (bind x a b) inside n test rest =
+      lay a inside n None (Store (plan.place x) ∷ stored (filter inside (x ∷ [])) (lay b inside (n + labels a) test rest))
+  lay (sequence a b) inside n test rest = lay a inside n None (lay b inside (n + labels a) test rest)
+  lay (branch a b c) inside n test rest =
+      lay a inside (suc (suc n)) (Some n)
+      (lay b inside (suc (suc (n + labels a))) test
+      (Jump (suc n) ∷ (Label n ∷ lay c inside (suc (suc (n + labels a + labels b))) test (Label (suc n) ∷ rest))))
+  lay (fix members e) inside n test rest =
+      Fix (members_at plan.place members) ∷ stored (filter inside (member_variables members)) (lay e inside n test rest)
+  lay (call a restores) inside n test rest =
+      prepared false a (Mark (mark.Call a.site) ∷ (Call a.spread (length a.operands) ∷ loaded restores (leave test rest)))
+  lay (tail_call a) inside n test rest = prepared true a (Mark (mark.Tail a.site) ∷ (Tail a.spread (length a.operands) ∷ rest))
+  lay (return e) inside n test rest = lay e inside n None (Mark mark.Return ∷ (Return ∷ rest))
+  lay (end e) inside n test rest = lay e inside n None (End ∷ rest)
+  lay (save saves e) inside n test rest = stored (heads e saves) (lay e (with_region saves inside) n test rest)

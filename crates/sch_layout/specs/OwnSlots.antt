@@ -1,8 +1,9 @@
--- The layout of a body with a slot for each variable.
+-- The layout of a body with a slot for each variable: the layout of a tree in which the return address is saved.
 use Rattle.std.specs.Prelude.{ℕ, zero, suc, ◌+◌, ◌-◌, max, Bool, true, false, List, [], ◌∷◌, length, Option, Some, None}
 use Rattle.sch_word.specs.declared.place.Place.{Place}
 use Rattle.sch_word.specs.declared.place.Place.TheVariants.{Slot}
 use Rattle.sch_control.specs.declared.body.Entry.{Entry}
+use Rattle.sch_control.specs.Meaning.{no_region}
 use Rattle.sch_control.specs.Tree as control
 use Rattle.sch_control.specs.Tree.{Expression, perform, bind, sequence, branch, fix, call, tail_call, return, end, save}
 use Rattle.sch_frames.specs.declared.instruction.Instruction.{Instruction}
@@ -10,31 +11,53 @@ use Rattle.sch_frames.specs.declared.instruction.Instruction.TheVariants.{Copy}
 use Rattle.sch_frames.specs.Meaning.{closure_register, link_register}
 use Rattle.sch_frames.specs.Tree.{Code}
 use Rattle.sch_frames.specs.Valid.{formals_of, is_entered}
-use Rattle.sch_layout.specs.BodyLayout.{Slots, arrival, labels, lay}
+use Rattle.sch_layout.specs.BodyLayout.{Plan, arrival, labels, lay}
 
 -- R15 for the return address, and for each other variable a slot of its own from a base on
 abbrev pub own_slot : (base : ℕ) → ℕ → Place
 own_slot base zero = link_register
 own_slot base (suc x) = Slot (base + suc x)
 
--- the return address of a procedure has the slot at the base
-abbrev pub home_of : (entered : Bool) → (base : ℕ) → Option Place
-home_of true base = Some (Slot base)
-home_of false base = None
+-- Only the return address lives in a register, and its home is the slot at the base; nothing leaves marks; operands are
+-- set aside from the first slot on.
+abbrev pub own_slots : (base : ℕ) → Plan
+own_slots base = record { place = own_slot base; home = λ x. Slot base; is_marked = λ x. false; aside = 0 }
 
-abbrev pub own_slots : (base : ℕ) → (entered : Bool) → Slots
-own_slots base entered = record { place = own_slot base; home = home_of entered base }
+-- ## What is saved
+
+-- an expression without regions, with these variables restored after each call
+abbrev pub restoring : List ℕ → Expression → Expression
+restoring xs (perform o) = perform o
+restoring xs (bind x a b) = bind x (restoring xs a) (restoring xs b)
+restoring xs (sequence a b) = sequence (restoring xs a) (restoring xs b)
+restoring xs (branch a b c) = branch (restoring xs a) (restoring xs b) (restoring xs c)
+restoring xs (fix members e) = fix members (restoring xs e)
+restoring xs (call a restores) = call a xs
+restoring xs (tail_call a) = tail_call a
+restoring xs (return e) = return (restoring xs e)
+restoring xs (end e) = end (restoring xs e)
+restoring xs (save saves e) = restoring xs e
+
+-- what calls must not lose: the return address, variable 0 of a procedure
+abbrev pub saved_round : (entered : Bool) → List ℕ
+saved_round true = 0 ∷ []
+saved_round false = []
+
+-- the tree that is laid out for the expression of a body: this is saved round it, and restored after each call
+abbrev pub saved_tree : (entered : Bool) → Expression → Expression
+saved_tree entered e = save (saved_round entered) (restoring (saved_round entered) e)
+
+-- ## Bodies
 
 -- each formal from one on is stored in its slot
 abbrev pub arrivals : (base from count : ℕ) → List Instruction → List Instruction
 arrivals base from zero rest = rest
 arrivals base from (suc count) rest = Copy (own_slot base (suc (suc from))) (arrival from) ∷ arrivals base (suc from) count rest
 
--- a procedure stores what it has in registers and in the slots below the base
+-- a procedure stores its closure, and its arguments from registers and from the slots below the base
 abbrev pub entering : (base : ℕ) → Option Entry → List Instruction → List Instruction
 entering base None rest = rest
-entering base (Some e) rest =
-    Copy (Slot base) link_register ∷ (Copy (own_slot base 1) closure_register ∷ arrivals base 0 e.formals rest)
+entering base (Some e) rest = Copy (own_slot base 1) closure_register ∷ arrivals base 0 e.formals rest
 
 -- the most operands of one call
 abbrev pub most_operands : Expression → ℕ
@@ -54,8 +77,8 @@ most_operands (save saves e) = most_operands e
 abbrev pub slots_base : control.Code → ℕ
 slots_base c = max (formals_of c.entry - 6) (most_operands c.expression)
 
-abbrev pub slots_for : control.Code → Slots
-slots_for c = own_slots (slots_base c) (is_entered c.entry)
+abbrev pub slots_for : control.Code → Plan
+slots_for c = own_slots (slots_base c)
 
 -- the size of the frame, which has a slot for each variable behind these
 abbrev pub slots_words : control.Code → ℕ
@@ -63,7 +86,7 @@ slots_words c = slots_base c + c.variables
 
 -- how a body is laid out, with a slot for each variable
 abbrev pub slots_layout : control.Code → List Instruction
-slots_layout c = entering (slots_base c) c.entry (lay (slots_for c) c.expression 0 None [])
+slots_layout c = entering (slots_base c) c.entry (lay (slots_for c) (saved_tree (is_entered c.entry) c.expression) no_region 0 None [])
 
 abbrev pub slots_code : control.Code → Code
 slots_code c = record { entry = c.entry; words = slots_words c; labels = labels c.expression; instructions = slots_layout c }

@@ -1,16 +1,16 @@
 -- Counts that go no further than past the limit, over plain values.
-use Rattle.std.proofs.Common.{◌≡◌, ℕ, zero, suc, ◌+◌, ◌-◌, ◌*◌, ◌<◌, ◌≤◌, Bool, true, false, not, cond, nat_eq, List, [], ◌∷◌, ◌++◌, length, map, reverse, drop, get_or, refl, sym, ap, ◌∙◌, subst, arith, add-one, length-append}
+use Rattle.std.proofs.Common.{◌≡◌, ℕ, zero, suc, ◌+◌, ◌-◌, ◌*◌, ◌<◌, ◌≤◌, Bool, true, false, not, cond, nat_eq, List, [], ◌∷◌, ◌++◌, length, map, reverse, drop, refl, sym, ap, ◌∙◌, subst, arith, length-append}
 use Rattle.std.proofs.lemmas.List.{reverse-append}
 use Rattle.std.proofs.lemmas.Bool.Decides.{nat_tests}
+use Rattle.sch_word.proofs.facts.NumberTests.{below_differs}
 use Rattle.sch_word.specs.trees.Bindings.{numbers}
 use Rattle.sch_lang.specs.declared.tree.Exp.{Exp}
 use Rattle.sch_lang.specs.Tree.{Expression, Expressions, no_expressions, and_expression}
 use Rattle.sch_lang.specs.Variables.{assigns}
-use Rattle.sch_lang.specs.View.{expression, expressions_of}
-use Rattle.sch_lang.specs.Measures.{counts_nothing, one_unless, twice_if, three_each, bound_count, onto_all, variables, variables_operands, variables_parts}
-use Rattle.sch_limits.specs.Walked.{capped}
-use Rattle.sch_limits.proofs.Marks.{map_length}
-use Rattle.sch_limits.proofs.Lists.{left, next_expression, no_expression, whole}
+use Rattle.sch_lang.specs.View.{expression}
+use Rattle.sch_lang.specs.Measures.{counts_nothing, one_unless, twice_if, three_each, bound_count, onto_all, onto_assigned, variables, variables_operands, variables_parts}
+use Rattle.sch_limits.specs.Walked.{capped, marks_of}
+use Rattle.sch_limits.proofs.Lists.{left}
 
 pub three_is : (n : ℕ) → three_each n ≡ n * 3
 three_is zero = refl
@@ -62,32 +62,45 @@ once_step E n count xs init mark b l g m e h =
     let h' : once_from E (suc (n - 1)) (count - n) ++ reverse init ≡ reverse xs = subst (λ k. once_from E k (count - n) ++ reverse init ≡ reverse xs) p h in
     rw (q, reverse-append xs (b ∷ []), e, m) (ap (λ r. not (assigns E (n - 1)) ∷ r) h')
 
--- the marks of variables from 0 on
-pub mark_at : (f : ℕ → Bool) (n i j : ℕ) (d : Bool) → i < n → get_or (map f (numbers j n)) i d ≡ f (j + i)
-mark_at f zero i j d l = absurd (omega (arith, l))
-mark_at f (suc n) zero j d l = ap f (omega arith)
-mark_at f (suc n) (suc i) j d l = mark_at f n i (suc j) d (omega (arith, l)) ∙ ap f (omega arith)
+-- what a loop that binds variables keeps
+pub record Bound (E : Expression) (n left total : ℕ) (rest init marks once : List Bool) : Type 0 where
+  pub marks_are : reverse marks ≡ marks_of left (assigns E) rest
+  pub total_is : capped (total + bound_count left E) ≡ capped (bound_count n E)
+  pub once_are : once_from E left (n - left) ++ reverse init ≡ reverse once
 
-module _ (E : Expression) (n : ℕ) (marks all : List Bool) (p : marks ≡ all) (q : all ≡ map (assigns E) (numbers 0 n)) where
-  pub marks_length : length marks ≡ n
-  marks_length = ap length (p ∙ q) ∙ map_length (assigns E) n 0
+pub bound_turn : (E : Expression) (n left total total' : ℕ) (rest init ms ms' once once' : List Bool) (mark : Bool) → 0 < left → left ≤ n → ms ≡ ms' ++ mark ∷ [] →
+    total' ≡ capped (total + twice_if mark) → once' ≡ once ++ not mark ∷ [] → Bound E n left total rest init ms once → Bound E n (left - 1) total' rest init ms' once'
+bound_turn E n left total total' rest init ms ms' once once' mark l g e v h k =
+    let p : left ≡ suc (left - 1) = omega (arith, l) in
+    let r : mark ∷ reverse ms' ≡ assigns E (left - 1) ∷ marks_of (left - 1) (assigns E) rest =
+    sym (reverse-append ms' (mark ∷ [])) ∙ ap reverse (sym e) ∙ k.marks_are ∙ ap (λ m. marks_of m (assigns E) rest) p in
+    let mark_is : mark ≡ assigns E (left - 1) = cc in
+    let marks_are : reverse ms' ≡ marks_of (left - 1) (assigns E) rest = cc in
+    record {
+      marks_are = marks_are;
+      total_is = bound_step E left total total' (capped (bound_count n E)) l (v ∙ ap (λ b. capped (total + twice_if b)) mark_is) k.total_is;
+      once_are = once_step E left n once init mark (not mark) l g mark_is refl k.once_are ∙ ap reverse (sym h);
+    }
 
-  pub mark_is : (i : ℕ) (d m : Bool) → i < n → m ≡ get_or marks i d → m ≡ assigns E i
-  mark_is i d m l e = e ∙ ap (λ l. get_or l i d) (p ∙ q) ∙ mark_at (assigns E) n i 0 d l ∙ ap (assigns E) (omega arith)
+pub bound_start : (E : Expression) (n : ℕ) (rest init marks : List Bool) → reverse marks ≡ marks_of n (assigns E) rest → Bound E n n 0 rest init marks init
+bound_start E n rest init marks h =
+    let z : n - n ≡ 0 = omega arith in
+    record { marks_are = h; total_is = ap capped (omega arith); once_are = ap (λ k. once_from E n k ++ reverse init) z }
 
--- ## One after another
+module _ (E : Expression) (n left total : ℕ) (rest init marks once : List Bool) (none : left ≤ 0) (k : Bound E n left total rest init marks once) where
+  no_more : left ≡ 0
+  no_more = omega (arith, none)
 
-module _ (F : Expressions → ℕ) (none : F no_expressions ≡ 0) (items : List Exp) (i total : ℕ) (r : ℕ) (k : capped (total + F (left (drop i items))) ≡ r) where
-  pub next_count : (e : Exp) (cost t : ℕ) → i < length items → e ≡ get_or items i e → F (and_expression (expression e) (left (drop (suc i) items))) ≡ cost + F (left (drop (suc i) items)) →
-      t ≡ capped (total + capped cost) → capped (t + F (left (drop (i + 1) items))) ≡ r
-  next_count e cost t l is h q =
-      let k' : capped (total + F (and_expression (expression e) (left (drop (suc i) items)))) ≡ r = subst (λ x. capped (total + F x) ≡ r) (next_expression items i e l is) k in
-      rw add-one (omega (arith, h, q, k'))
+  pub bound_rest : reverse marks ≡ rest
+  bound_rest = k.marks_are ∙ ap (λ m. marks_of m (assigns E) rest) no_more
 
-  pub end_count : length items ≤ i → total ≡ capped total → total ≡ r
-  end_count l c =
-      let k' : capped (total + F no_expressions) ≡ r = subst (λ x. capped (total + F x) ≡ r) (no_expression items i l) k in
-      omega (arith, none, c, k')
+  pub bound_total : total ≡ capped total → total ≡ capped (bound_count n E)
+  bound_total s = bound_end E left total (bound_count n E) none s k.total_is
+
+  pub bound_once_all : reverse once ≡ onto_assigned n E (reverse init)
+  bound_once_all =
+      let z : n - left ≡ n = omega (arith, none) in
+      sym k.once_are ∙ ap (λ m. once_from E m (n - left) ++ reverse init) no_more ∙ ap (λ m. once_from E 0 m ++ reverse init) z
 
 -- ## The parts of a sequence
 
@@ -100,9 +113,6 @@ unfolding is_none
 part_cost e no_expressions once = omega arith
 part_cost e (and_expression e' es) once = omega arith
 
-eq_below : (a b : ℕ) → a < b → nat_eq a b ≡ false
-eq_below a b l = grind (arith, nat_tests)
-
 eq_next : (a b : ℕ) → nat_eq (suc a + 1) (suc b) ≡ nat_eq (a + 1) b
 eq_next a b = grind (arith, nat_tests)
 
@@ -110,7 +120,7 @@ last_is : (es : List Exp) (i : ℕ) → i < length es → is_none (left (drop (s
 unfolding is_none
 last_is [] i l = absurd (omega arith)
 last_is (x ∷ []) zero l = refl
-last_is (x ∷ y ∷ xs) zero l = sym (eq_below 1 (length (x ∷ y ∷ xs)) (omega arith))
+last_is (x ∷ y ∷ xs) zero l = sym (below_differs 1 (length (x ∷ y ∷ xs)) (omega arith))
 last_is (x ∷ xs) (suc i) l = last_is xs i (omega arith) ∙ sym (eq_next i (length xs))
 
 pub part_taken : (es : List Exp) (i : ℕ) (e : Exp) (once : List Bool) → i < length es →
@@ -123,11 +133,6 @@ part_taken es i e once l =
 pub operand_taken : (e : Expression) (es : Expressions) (once : List Bool) → variables_operands (and_expression e es) once ≡ (one_unless (counts_nothing e once) + variables e once) + variables_operands es once
 operand_taken e es once = omega arith
 
-pub start_count : (F : Expressions → ℕ) (items : List Exp) → capped (0 + F (left items)) ≡ capped (F (expressions_of items))
-start_count F items =
-    let e : 0 + F (left items) ≡ F (left items) = omega arith in
-    ap capped (e ∙ ap F (whole items))
-
 capped_twice : (n : ℕ) → capped n ≡ capped (capped n)
 capped_twice n = omega arith
 
@@ -136,8 +141,3 @@ sum_small t n e = e ∙ capped_twice n ∙ ap capped (sym e)
 
 pub pushed_longer : (xs : List Bool) (b : Bool) (m : ℕ) → m ≤ length xs → m ≤ length (xs ++ b ∷ [])
 pushed_longer xs b m l = omega (arith, l, length-append xs (b ∷ []))
-
--- what a part counts, with what is said of the variables as they stand
-pub same_once : (e : Expression) (last : Bool) {once start : List Bool} (n : ℕ) → once ≡ start → n ≡ capped (cond last 0 (one_unless (counts_nothing e (reverse once))) + variables e (reverse once)) →
-    n ≡ capped (cond last 0 (one_unless (counts_nothing e (reverse start))) + variables e (reverse start))
-same_once e last n h k = k ∙ ap (λ o. capped (cond last 0 (one_unless (counts_nothing e (reverse o))) + variables e (reverse o))) h

@@ -1,66 +1,20 @@
 -- What the walk finds is the free variables.
-use Rattle.std.proofs.Common.{◌≡◌, ℕ, zero, suc, Bool, true, false, List, [], ◌∷◌, refl, sym, ap, ◌∙◌, subst, arith}
+use Rattle.std.proofs.Common.{reverse, subst, ◌≡◌, ℕ, zero, suc, Bool, true, false, List, [], ◌∷◌, refl, sym, ap, ◌∙◌, arith}
 use Rattle.std.specs.Prelude.{nat_eq, ◌||◌}
-use Rattle.std.proofs.lemmas.Bool.{eqb-true, eq-eqb}
 use Rattle.sch_word.specs.trees.NumberSets.{has, unless, insert, union}
 use Rattle.sch_lang.specs.Tree.{Expression, Expressions, Lambdas, constant, literal, local, global, set_local, set_global, define, branch, sequence, bind, fix, letrec, lambda, call, operation, no_expressions, and_expression, no_lambdas, and_lambda, count, count_lambdas}
 use Rattle.sch_lang.specs.Variables.{outside, outside_one, free, free_each, free_lambdas}
-use Rattle.sch_limits.proofs.Marks.{differs}
+use Rattle.sch_word.proofs.facts.NumberSets.{union_insert, union_assoc, Once, once_union}
+use Rattle.sch_word.proofs.facts.NumberTests.{differ}
 use Rattle.std.proofs.lemmas.Bool.Decides.{nat_tests}
 use Rattle.sch_limits.specs.Walked.{found, found_each, found_lambdas}
 
--- ## Unions
-
-abbrev In : ℕ → List ℕ → Type 0
-In x xs = has x xs ≡ true
-
-in_here : (x : ℕ) (xs : List ℕ) → In x (x ∷ xs)
-in_here x xs = rw (eq-eqb x x refl) refl
-
-in_more : (x y : ℕ) (xs : List ℕ) → In x xs → In x (y ∷ xs)
-in_more x y xs h = go (nat_eq x y) h
-  where
-    go : (b : Bool) → has x xs ≡ true → (b || has x xs) ≡ true
-    go true e = refl
-    go false e = e
-
-insert_here : (x : ℕ) (xs : List ℕ) → In x (insert x xs)
-insert_here x xs = go (has x xs) refl
-  where
-    go : (b : Bool) → has x xs ≡ b → In x (unless b x xs)
-    go true e = e
-    go false e = in_here x xs
-
-insert_more : (x y : ℕ) (xs : List ℕ) → In x xs → In x (insert y xs)
-insert_more x y xs h = go (has y xs)
-  where
-    go : (b : Bool) → In x (unless b y xs)
-    go true = h
-    go false = in_more x y xs h
-
-union_left : (x : ℕ) (xs ys : List ℕ) → In x xs → In x (union xs ys)
-union_left x [] ys h = absurd (cc)
-union_left x (y ∷ xs) ys h = go (union_left x xs ys) (nat_eq x y) refl h
-  where
-    go : (In x xs → In x (union xs ys)) → (b : Bool) → nat_eq x y ≡ b → (b || has x xs) ≡ true → In x (insert y (union xs ys))
-    go deeper true e k = subst (λ z. In x (insert z (union xs ys))) (eqb-true x y e) (insert_here x (union xs ys))
-    go deeper false e k = insert_more x y (union xs ys) (deeper k)
-
-union_insert : (x : ℕ) (ps qs : List ℕ) → union (insert x ps) qs ≡ insert x (union ps qs)
-union_insert x ps qs = go (has x ps) refl
-  where
-    go : (b : Bool) → has x ps ≡ b → union (unless b x ps) qs ≡ insert x (union ps qs)
-    go true e = rw (union_left x ps qs e) refl
-    go false e = refl
-
-union_assoc : (ps qs rs : List ℕ) → union (union ps qs) rs ≡ union ps (union qs rs)
-union_assoc [] qs rs = refl
-union_assoc (p ∷ ps) qs rs = union_insert p (union ps qs) rs ∙ ap (insert p) (union_assoc ps qs rs)
+-- ## Variables seen from outside
 
 -- the numbers seen from outside one binding, in order
 outside_has : (x : ℕ) (xs : List ℕ) → has x (outside_one xs) ≡ has (suc x) xs
 outside_has x [] = refl
-outside_has x (zero ∷ xs) = outside_has x xs ∙ sym (ap (λ b. b || has (suc x) xs) (differs (suc x) 0 (λ e. omega (arith, e))))
+outside_has x (zero ∷ xs) = outside_has x xs ∙ sym (ap (λ b. b || has (suc x) xs) (differ (suc x) 0 (λ e. omega (arith, e))))
 outside_has x (suc y ∷ xs) = ap (λ b. nat_eq x y || b) (outside_has x xs) ∙ ap (λ b. b || has (suc x) xs) (grind (arith, nat_tests))
 
 outside_insert : (y : ℕ) (xs : List ℕ) → outside_one (insert (suc y) xs) ≡ insert y (outside_one xs)
@@ -83,12 +37,6 @@ outside_union (zero ∷ ps) qs = outside_zero (union ps qs) ∙ outside_union ps
 outside_union (suc y ∷ ps) qs = outside_insert y (union ps qs) ∙ ap (insert y) (outside_union ps qs)
 
 -- ## Each variable once
-
-abbrev Once : List ℕ → Type 0
-Once xs = union xs [] ≡ xs
-
-once_union : (ps qs : List ℕ) → Once qs → Once (union ps qs)
-once_union ps qs h = union_assoc ps qs [] ∙ ap (union ps) h
 
 once_outside : (n : ℕ) (xs : List ℕ) → Once xs → Once (outside n xs)
 once_outside zero xs h = h
@@ -153,3 +101,20 @@ mutual
 
 pub found_alone : (e : Expression) → found e [] ≡ free e
 found_alone e = found_is e [] ∙ once e
+
+-- ## What a walk finds, seen from outside a binding
+
+module _ (n : ℕ) (e : Expression) where
+  pub once_found : Once (outside n (found e []))
+  once_found = subst (λ l. Once (outside n l)) (sym (found_alone e)) (once_outside n (free e) (once e))
+
+  pub once_found_each : (es : Expressions) → Once (outside n (found_each es (found e [])))
+  once_found_each es =
+      subst (λ l. Once (outside n l)) (sym (each_found es (found e []) ∙ ap (union (free_each es)) (found_alone e))) (once_outside n (union (free_each es) (free e)) (once_union (free_each es) (free e) (once e)))
+
+  pub once_found_lambdas : (ls : Lambdas) → Once (outside n (found_lambdas ls (found e [])))
+  once_found_lambdas ls =
+      subst (λ l. Once (outside n l)) (sym (lambdas_found ls (found e []) ∙ ap (union (free_lambdas ls)) (found_alone e))) (once_outside n (union (free_lambdas ls) (free e)) (once_union (free_lambdas ls) (free e) (once e)))
+
+pub is_once : (n : ℕ) (outer slice inside all : List ℕ) → reverse outer ≡ outside n (reverse slice) → slice ≡ inside → reverse inside ≡ all → Once (outside n all) → Once (reverse outer)
+is_once n outer slice inside all p q r h = subst Once (sym (p ∙ ap (λ l. outside n (reverse l)) q ∙ ap (outside n) r)) h

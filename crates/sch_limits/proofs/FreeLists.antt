@@ -1,11 +1,13 @@
 -- The turns of the loops that find free variables.
-use Rattle.std.proofs.Common.{◌≡◌, ℕ, zero, suc, ◌+◌, ◌-◌, ◌<◌, ◌≤◌, Bool, true, false, List, [], ◌∷◌, ◌++◌, length, reverse, drop, take, get_or, refl, sym, ap, ◌∙◌, subst, arith, add-one, append_assoc, length-append}
-use Rattle.std.specs.Prelude.{nat_eq, nat_lt, nat_le, ◌||◌, ◌&&◌}
+use Rattle.std.proofs.Common.{◌≡◌, ℕ, zero, suc, ◌+◌, ◌-◌, ◌<◌, ◌≤◌, Bool, true, false, List, [], ◌∷◌, ◌++◌, length, reverse, drop, take, get_or, refl, sym, ap, ◌∙◌, arith, add-one, append_assoc}
+use Rattle.std.specs.Prelude.{nat_lt, nat_le, ◌&&◌}
 use Rattle.std.proofs.lemmas.Bool.{ltb-true, ltb-false}
-use Rattle.std.proofs.lemmas.List.{reverse-append, drop_all, get_or_default}
-use Rattle.std.proofs.Math.Seq.{take-suc, take-length}
-use Rattle.sch_word.specs.trees.NumberSets.{has, insert, union}
+use Rattle.std.proofs.lemmas.List.{reverse-append, drop_all, get_or_default, length-reverse}
+use Rattle.std.proofs.Math.Seq.{take-length}
+use Rattle.sch_word.specs.trees.NumberSets.{union}
 use Rattle.sch_word.proofs.Walking.{next_left}
+use Rattle.sch_word.proofs.facts.Booleans.{and_true, and_and}
+use Rattle.sch_word.proofs.facts.Lists.{reverse_cons, turn_back}
 use Rattle.sch_lang.specs.declared.tree.Exp.{Exp}
 use Rattle.sch_lang.specs.declared.tree.Lambda.{Lambda}
 use Rattle.sch_lang.specs.Tree.{Expression}
@@ -17,57 +19,6 @@ use Rattle.sch_lang.specs.View.{expression, expressions_of, lambdas_of}
 use Rattle.sch_limits.specs.Walked.{found, found_each, found_lambdas}
 use Rattle.sch_limits.proofs.FreeFound.{found_alone}
 use Rattle.sch_limits.proofs.Lists.{left, left_lambdas, whole, whole_lambdas}
-
--- ## Tests
-
-and_true : (a b : Bool) → ((a && true) && b) ≡ (a && b)
-and_true true b = refl
-and_true false b = refl
-
-and_and : (a b c : Bool) → ((a && b) && c) ≡ (a && (b && c))
-and_and true b c = refl
-and_and false b c = refl
-
--- ## What is found
-
-reverse_cons : (x : ℕ) (xs : List ℕ) → reverse (x ∷ xs) ≡ reverse xs ++ x ∷ []
-reverse_cons x xs = reverse-append (x ∷ []) xs
-
-has_append : (x : ℕ) (ps qs : List ℕ) → has x (ps ++ qs) ≡ (has x ps || has x qs)
-has_append x [] qs = refl
-has_append x (p ∷ ps) qs = go (nat_eq x p) (has_append x ps qs)
-  where
-    go : (b : Bool) → has x (ps ++ qs) ≡ (has x ps || has x qs) → (b || has x (ps ++ qs)) ≡ ((b || has x ps) || has x qs)
-    go true h = refl
-    go false h = h
-
-either_way : (a b : Bool) → (a || (b || false)) ≡ (b || a)
-either_way true true = refl
-either_way true false = refl
-either_way false true = refl
-either_way false false = refl
-
-has_reverse : (x : ℕ) (xs : List ℕ) → has x (reverse xs) ≡ has x xs
-has_reverse x [] = refl
-has_reverse x (y ∷ xs) = ap (has x) (reverse_cons y xs) ∙ has_append x (reverse xs) (y ∷ []) ∙ either_way (has x (reverse xs)) (nat_eq x y) ∙ ap (λ b. nat_eq x y || b) (has_reverse x xs)
-
-pub inserted : (x : ℕ) (xs : List ℕ) → has x xs ≡ false → reverse (xs ++ x ∷ []) ≡ insert x (reverse xs)
-inserted x xs e = rw (reverse-append xs (x ∷ []), has_reverse x xs, e) refl
-
-pub not_inserted : (x : ℕ) (xs : List ℕ) → has x xs ≡ true → reverse xs ≡ insert x (reverse xs)
-not_inserted x xs e = rw (has_reverse x xs, e) refl
-
--- ## Unions
-
-union_last : (ps qs : List ℕ) (x : ℕ) → union (ps ++ x ∷ []) qs ≡ union ps (insert x qs)
-union_last [] qs x = refl
-union_last (a ∷ ps) qs x = ap (insert a) (union_last ps qs x)
-
-pub union_next : (xs : List ℕ) (i : ℕ) (ys ys' whole : List ℕ) → i < length xs → reverse ys' ≡ insert (get_or xs i 0) (reverse ys) → union (reverse (drop i xs)) (reverse ys) ≡ whole → union (reverse (drop (i + 1) xs)) (reverse ys') ≡ whole
-union_next xs i ys ys' whole l h k =
-    let x = get_or xs i 0 in
-    let n = next_left xs i (λ r. union (reverse r) (reverse ys) ≡ whole) x l (get_or_default xs i 0 x l) k in
-    rw (add-one, h) (sym (union_last (reverse (drop (suc i) xs)) (reverse ys) x) ∙ ap (λ r. union r (reverse ys)) (sym (reverse_cons x (drop (suc i) xs))) ∙ n)
 
 -- ## Variables seen from outside
 
@@ -134,9 +85,6 @@ none_inside n xs i ys whole l k = let k' = rw (drop_all i xs l, outside_none n) 
 
 -- ## From the last to the first
 
-taken : {A : Type 0} (xs : List A) (i : ℕ) (x : A) → i < length xs → x ≡ get_or xs i x → take (suc i) xs ≡ take i xs ++ x ∷ []
-taken xs i x l e = take-suc xs i x l ∙ ap (λ y. take i xs ++ y ∷ []) (sym e)
-
 each_last : (ps : List Exp) (e : Exp) (xs : List ℕ) → found_each (left (ps ++ e ∷ [])) xs ≡ found_each (left ps) (found (expression e) xs)
 each_last [] e xs = refl
 each_last (a ∷ ps) e xs = ap (found (expression a)) (each_last ps e xs)
@@ -150,7 +98,7 @@ lambdas_last [] e xs = refl
 lambdas_last (a ∷ ps) e xs = ap (found_lambda a) (lambdas_last ps e xs)
 
 few_last : (test : Procedure → Bool) (ps : List Exp) (e : Exp) (b : Bool) → (each_procedure_in test (left (ps ++ e ∷ [])) && b) ≡ (each_procedure_in test (left ps) && (each_procedure test (expression e) && b))
-few_last test [] e b = and_true (each_procedure test (expression e)) b
+few_last test [] e b = ap (λ x. x && b) (and_true (each_procedure test (expression e)))
 few_last test (a ∷ ps) e b = and_and (each_procedure test (expression a)) _ b ∙ ap (λ x. each_procedure test (expression a) && x) (few_last test ps e b) ∙ sym (and_and (each_procedure test (expression a)) _ _)
 
 few_of : (test : Procedure → Bool) → Lambda → Bool
@@ -158,17 +106,9 @@ few_of test e = test (procedure e.name e.formals e.rest (expression e.body)) && 
 
 lambdas_few_last : (test : Procedure → Bool) (ps : List Lambda) (e : Lambda) (b : Bool) → (each_lambda test (left_lambdas (ps ++ e ∷ [])) && b) ≡ (each_lambda test (left_lambdas ps) && (few_of test e && b))
 unfolding few_of
-lambdas_few_last test [] e b = and_true (test (procedure e.name e.formals e.rest (expression e.body)) && each_procedure test (expression e.body)) b
+lambdas_few_last test [] e b = ap (λ x. x && b) (and_true (few_of test e))
 lambdas_few_last test (a ∷ ps) e b =
     and_and (few_of test a) _ b ∙ ap (λ x. few_of test a && x) (lambdas_few_last test ps e b) ∙ sym (and_and (few_of test a) _ _)
-
--- a turn, for anything that is found of a list with its last item before what was found
-module _ {A R : Type 0} (F : List A → R → R) (one : A → R → R) (last : (ps : List A) (a : A) (r : R) → F (ps ++ a ∷ []) r ≡ F ps (one a r)) where
-  pub turn_back : (items : List A) (n : ℕ) (a : A) (r r' whole : R) → 0 < n → n ≤ length items → a ≡ get_or items (n - 1) a → r' ≡ one a r → F (take n items) r ≡ whole → F (take (n - 1) items) r' ≡ whole
-  turn_back items n a r r' whole l b e h k =
-      let p : n ≡ suc (n - 1) = omega (arith, l) in
-      let k' : F (take (suc (n - 1)) items) r ≡ whole = subst (λ m. F (take m items) r ≡ whole) p k in
-      rw h (sym (last (take (n - 1) items) a r) ∙ ap (λ t. F t r) (sym (taken items (n - 1) a (omega (arith, l, b)) e)) ∙ k')
 
 pub each_turn : (items : List Exp) (n : ℕ) (a : Exp) (r r' whole : List ℕ) → 0 < n → n ≤ length items → a ≡ get_or items (n - 1) a → r' ≡ found (expression a) r → found_each (left (take n items)) r ≡ whole → found_each (left (take (n - 1) items)) r' ≡ whole
 each_turn = turn_back (λ ps r. found_each (left ps) r) (λ a r. found (expression a) r) each_last
@@ -190,18 +130,10 @@ each_whole items = ap left (take-length items) ∙ whole items
 pub lambdas_whole : (items : List Lambda) → left_lambdas (take (length items) items) ≡ lambdas_of items
 lambdas_whole items = ap left_lambdas (take-length items) ∙ whole_lambdas items
 
-pub true_and : (b : Bool) → (b && true) ≡ b
-true_and true = refl
-true_and false = refl
-
-reverse_length : (xs : List ℕ) → length (reverse xs) ≡ length xs
-reverse_length [] = refl
-reverse_length (x ∷ xs) = ap length (reverse_cons x xs) ∙ length-append (reverse xs) (x ∷ []) ∙ omega (arith, reverse_length xs)
-
 -- the free variables of a procedure are few, and those of the procedures in it
 pub few_are : (n : ℕ) (own inside : List ℕ) (e : Expression) (f empty : List ℕ) (few : Bool) → reverse own ≡ outside n (reverse inside) → inside ≡ f → empty ≡ [] → reverse f ≡ found e (reverse empty) → few ≡ few_free e →
     (nat_le (length own) max_free_variables && few) ≡ (nat_le (length (outside n (free e))) max_free_variables && few_free e)
 few_are n own inside e f empty few p q z r h =
     let k : length own ≡ length (outside n (free e)) =
-    sym (reverse_length own) ∙ ap length p ∙ ap (λ l. length (outside n (reverse l))) q ∙ ap (λ l. length (outside n l)) (r ∙ ap (λ l. found e (reverse l)) z ∙ found_alone e) in
+    sym (length-reverse own) ∙ ap length p ∙ ap (λ l. length (outside n (reverse l))) q ∙ ap (λ l. length (outside n l)) (r ∙ ap (λ l. found e (reverse l)) z ∙ found_alone e) in
     rw (k, h) refl

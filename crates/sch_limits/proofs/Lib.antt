@@ -6,4 +6,4 @@ pub mod MarkSteps
 pub mod FreeLists
 pub mod FreeFound
 pub mod Counted
-pub mod Tested
+pub mod Taken

@@ -1,6 +1,7 @@
 -- What is left of lists of expressions and lambdas in a loop.
-use Rattle.std.proofs.Common.{◌≡◌, ℕ, suc, ◌<◌, ◌≤◌, List, ◌∷◌, length, drop, get_or, sym, ap, ◌∙◌, map, drop-cons}
+use Rattle.std.proofs.Common.{◌≡◌, ℕ, suc, ◌<◌, ◌≤◌, List, length, drop, get_or, sym, ap, map}
 use Rattle.std.proofs.lemmas.List.{drop_all}
+use Rattle.sch_word.proofs.facts.Lists.{next_left}
 use Rattle.sch_lang.specs.declared.tree.Exp.{Exp}
 use Rattle.sch_lang.specs.declared.tree.Lambda.{Lambda}
 use Rattle.sch_lang.specs.Tree.{Expressions, Lambdas, expressions, lambdas, and_expression, and_lambda, no_expressions, no_lambdas}
@@ -14,15 +15,12 @@ left es = expressions (map expression es)
 abbrev pub left_lambdas : List Lambda → Lambdas
 left_lambdas ls = lambdas (map function ls)
 
-next : {A : Type 0} (xs : List A) (i : ℕ) (x : A) → i < length xs → x ≡ get_or xs i x → drop i xs ≡ x ∷ drop (suc i) xs
-next xs i x l e = drop-cons xs i x l ∙ ap (λ a. a ∷ drop (suc i) xs) (sym e)
-
 -- what is left at an item, in front of what is left after it
 pub next_expression : (es : List Exp) (i : ℕ) (e : Exp) → i < length es → e ≡ get_or es i e → left (drop i es) ≡ and_expression (expression e) (left (drop (suc i) es))
-next_expression es i e l is = ap left (next es i e l is)
+next_expression es i e l is = ap left (next_left es i e l is)
 
 pub next_lambda : (ls : List Lambda) (i : ℕ) (e : Lambda) → i < length ls → e ≡ get_or ls i e → left_lambdas (drop i ls) ≡ and_lambda e.name e.formals e.rest (expression e.body) (left_lambdas (drop (suc i) ls))
-next_lambda ls i e l is = ap left_lambdas (next ls i e l is)
+next_lambda ls i e l is = ap left_lambdas (next_left ls i e l is)
 
 pub no_expression : (es : List Exp) (i : ℕ) → length es ≤ i → left (drop i es) ≡ no_expressions
 no_expression es i l = ap left (drop_all i es l)

@@ -1,2 +1,3 @@
 pub mod Within
 pub mod Walked
+pub mod Counts

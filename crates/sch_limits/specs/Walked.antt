@@ -1,13 +1,51 @@
 -- What walks over a tree add to what they have found and marked before.
-use Rattle.std.specs.Prelude.{ℕ, suc, min, Bool, ◌||◌, List, [], ◌∷◌}
+use Rattle.std.specs.Prelude.{ℕ, zero, suc, ◌≡◌, min, reverse, Bool, ◌||◌, List, [], ◌∷◌}
 use Rattle.sch_word.specs.trees.NumberSets.{insert, union}
 use Rattle.sch_lang.specs.Tree.{Expression, Expressions, Lambdas, constant, literal, local, global, set_local, set_global, define, branch, sequence, bind, fix, letrec, lambda, call, operation, no_expressions, and_expression, no_lambdas, and_lambda, count, count_lambdas}
-use Rattle.sch_lang.specs.Variables.{outside}
+use Rattle.sch_lang.specs.Variables.{outside, assigns}
 
 -- marks of the variables from j on, with those that a test tells
 abbrev pub marked : (ℕ → Bool) → (j : ℕ) → List Bool → List Bool
 marked test j [] = []
 marked test j (b ∷ bs) = (b || test j) ∷ marked test (suc j) bs
+
+-- whether each of n variables is in a set, from the farthest to the nearest, in front of others
+abbrev pub marks_of : (n : ℕ) → (ℕ → Bool) → List Bool → List Bool
+marks_of zero test rest = rest
+marks_of (suc n) test rest = test n ∷ marks_of n test rest
+
+-- whether each variable is assigned that a `let` or a lambda in an expression binds, in the order of the
+-- text, in front of others
+abbrev mutual
+  pub marks_in : Expression → List Bool → List Bool
+  marks_in (constant c) rest = rest
+  marks_in (literal n) rest = rest
+  marks_in (local k) rest = rest
+  marks_in (global g) rest = rest
+  marks_in (set_local k e) rest = marks_in e rest
+  marks_in (set_global g e) rest = marks_in e rest
+  marks_in (define g e) rest = marks_in e rest
+  marks_in (branch a b c) rest = marks_in a (marks_in b (marks_in c rest))
+  marks_in (sequence es) rest = marks_in_each es rest
+  marks_in (bind site es e) rest = marks_in_each es (marks_of (count es) (assigns e) (marks_in e rest))
+  marks_in (fix ls e) rest = marks_in_lambdas ls (marks_in e rest)
+  marks_in (letrec site es e) rest = marks_in_each es (marks_in e rest)
+  marks_in (lambda name formals takes_rest e) rest = marks_of formals (assigns e) (marks_in e rest)
+  marks_in (call site f es) rest = marks_in f (marks_in_each es rest)
+  marks_in (operation site which es) rest = marks_in_each es rest
+
+  pub marks_in_each : Expressions → List Bool → List Bool
+  marks_in_each no_expressions rest = rest
+  marks_in_each (and_expression e es) rest = marks_in e (marks_in_each es rest)
+
+  pub marks_in_lambdas : Lambdas → List Bool → List Bool
+  marks_in_lambdas no_lambdas rest = rest
+  marks_in_lambdas (and_lambda name formals takes_rest e ls) rest =
+      marks_of formals (assigns e) (marks_in e (marks_in_lambdas ls rest))
+
+-- What holds after marks were taken from a stack, if these stood on top of it; and those below are left.
+pub record Takes (marks : List Bool → List Bool) (old new : List Bool) (holds : Type 0) : Type 0 where
+  pub taken : (rest : List Bool) → reverse old ≡ marks rest → (reverse new ≡ rest) × holds
 
 -- a count that goes no further than past the limit
 abbrev pub capped : ℕ → ℕ

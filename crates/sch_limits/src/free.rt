@@ -50,6 +50,18 @@ fn insert_each(more: &[u32], xs: &mut Vec<u32>) -> Result<(), Mem>
     Ok(())
 }
 
+/// The same, where each of those put before others stands once: before none they are as they are.
+fn insert_list(more: Vec<u32>, xs: &mut Vec<u32>) -> Result<(), Mem>
+    requires { union (reverse more.items) [] ≡ reverse more.items }
+    ensures { OnOk result (reverse xs.new.items ≡ union (reverse more.items) (reverse xs.old.items)) }
+{
+    if xs.len() == 0 {
+        *xs = more;
+        return Ok(());
+    }
+    insert_each(more.as_slice(), xs)
+}
+
 /// Variables as they are seen from outside a binding of n of them.
 fn outside_group(alloc: Global, count: usize, xs: &[u32]) -> Result<Vec<u32>, Mem>
     ensures { IfOk result (λ left. reverse left.items ≡ outside count (reverse xs.now)) }
@@ -114,7 +126,7 @@ fn find(alloc: Global, e: &Exp, xs: &mut Vec<u32>) -> Result<bool, Mem>
             let mut inside = Vec::new(alloc);
             let few = find(alloc, body, &mut inside)?;
             let outer = outside_group(alloc, count(inits), inside.as_slice())?;
-            insert_each(outer.as_slice(), xs)?;
+            insert_list(outer, xs)?;
             let first = find_each(alloc, inits, xs)?;
             Ok(both(first, few))
         }
@@ -123,7 +135,7 @@ fn find(alloc: Global, e: &Exp, xs: &mut Vec<u32>) -> Result<bool, Mem>
             let few = find(alloc, body, &mut inside)?;
             let first = find_lambdas(alloc, lambdas, &mut inside)?;
             let outer = outside_group(alloc, count_lambdas(lambdas), inside.as_slice())?;
-            insert_each(outer.as_slice(), xs)?;
+            insert_list(outer, xs)?;
             Ok(both(first, few))
         }
         Exp::Rec(_, inits, body) => {
@@ -131,7 +143,7 @@ fn find(alloc: Global, e: &Exp, xs: &mut Vec<u32>) -> Result<bool, Mem>
             let few = find(alloc, body, &mut inside)?;
             let first = find_each(alloc, inits, &mut inside)?;
             let outer = outside_group(alloc, count(inits), inside.as_slice())?;
-            insert_each(outer.as_slice(), xs)?;
+            insert_list(outer, xs)?;
             Ok(both(first, few))
         }
         Exp::Lambda(l) => find_procedure(alloc, l.formals, &l.body, xs),

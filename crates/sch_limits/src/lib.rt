@@ -10,10 +10,10 @@ ghost use Rattle.sch_lang.specs.Variables.{free, outside};
 ghost use Rattle.sch_limits.specs.Within.{few_variables, few_free};
 
 mod assigned;
-mod bodies;
 mod counting;
 mod free;
 mod lengths;
+mod scopes;
 
 pub use assigned::{further, mark_one};
 use sch_lang::Exp;
@@ -22,15 +22,10 @@ use std::alloc::Global;
 
 /// Whether a body with these formals, and the body of each procedure in it, has at most 1,000 variables. A
 /// top-level form is a body without formals.
-///
-/// Each binding looks through its body for assignments, so it takes time in proportion to the size of `e`
-/// times its levels.
 pub fn has_few_variables(alloc: Global, formals: u32, e: &Exp) -> Result<bool, Mem>
     ensures { IfOk result (λ few. few ≡ (nat_le (body_variables formals (expression e.now)) max_variables && few_variables (expression e.now))) }
 {
-    let here = bodies::fits(alloc, formals, e)?;
-    let inside = bodies::fit(alloc, e)?;
-    Ok(lengths::both(here, inside))
+    counting::fits(alloc, formals, e)
 }
 
 /// Whether a body with these formals, and each procedure in it, has at most 1,000 free variables. A top-level

@@ -14,7 +14,7 @@ use Rattle.sch_numbers.specs.Numbered.{numbered}
 use Rattle.sch_numbers.specs.Quoted.{quotes_in}
 use Rattle.sch_numbers.specs.Sites.{widths}
 use Rattle.sch_numbers.specs.Programs.{globals_of_each, symbols_of_each, quotes_of_each, widths_of_definitions, procedures}
-use Rattle.sch_numbers.proofs.DraftLists.{next}
+use Rattle.sch_word.proofs.facts.Lists.{next_left}
 use Rattle.sch_numbers.proofs.NameSteps.{firsts_append}
 use Rattle.sch_numbers.proofs.ProcedureLists.{onto, onto_none, onto_more}
 use Rattle.sch_keeping.specs.declared.definition.Definition as code
@@ -28,7 +28,7 @@ module _ (ds : List code.Definition) (i : ℕ) where
 
   module _ (d : code.Definition) (here : i < length ds) (is : d ≡ get_or ds i d) where
     next_definition : definitions_of (drop i ds) ≡ definition_of d ∷ definitions_of (drop (suc i) ds)
-    next_definition = ap definitions_of (next ds i d here is)
+    next_definition = ap definitions_of (next_left ds i d here is)
 
     pub next_globals : (none seen seen' r : List (List ℕ)) → none ≡ [] → seen' ≡ firsts seen (globals_in none (draft_of d.body)) →
         firsts seen (globals_of_each (definitions_of (drop i ds))) ≡ r → firsts seen' (globals_of_each (definitions_of (drop (i + 1) ds))) ≡ r

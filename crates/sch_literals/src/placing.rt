@@ -115,7 +115,8 @@ pub fn literal_words(
 ) -> Result<StaticObjects, Mem>
     requires small { 16 * first_unit + 32 * literals_size (literals_of literals.now) ≤ 2 ^ 31 }
     ensures objects { IfOk result (λ made. made.objects ≡ objects_words (parts_at first_unit (objects_of_each (literals_of literals.now) 0)) (objects_of_each (literals_of literals.now) 0)) }
-    ensures values { IfOk result (λ made. made.values ≡ map Fixed (map (value_word (parts_at first_unit (objects_of_each (literals_of literals.now) 0))) (literal_values (literals_of literals.now) 0))) }
+    ensures values { IfOk result (λ made. made.values
+        ≡ map Fixed (map (value_word (parts_at first_unit (objects_of_each (literals_of literals.now) 0))) (literal_values (literals_of literals.now) 0))) }
 {
     let mut words = List::new(alloc);
     let placed = put_each(

@@ -11,7 +11,7 @@ use Rattle.sch_names.specs.declared.operation.Arity.{Arity}
 use Rattle.sch_names.specs.declared.operation.Arity.TheVariants.{Fixed, AnyNumber, OneOrMore, TwoOrMore, FillOptional}
 use Rattle.sch_names.specs.declared.operation.Operation.{Operation}
 use Rattle.sch_names.specs.declared.operation.Operation.TheVariants.{Exact, Unit, UnitAnd, Nested, Chained, Filled, Not}
-use Rattle.sch_names.specs.Operations.{exactly, arithmetic, comparison, filling, admitted, by_row, look_up, other_operation, operation_of, Row, row, rows}
+use Rattle.sch_names.specs.Operations.{exactly, arithmetic, comparison, filling, admitted, by_row, primitive_among, other_operation, operation_of, NamedPrimitive, row, rows}
 use Rattle.sch_names.specs.Scope.{Scope, Globals, find, is_among, operating, head, head_of}
 use Rattle.sch_names.specs.Words.{keyword_of}
 
@@ -65,7 +65,7 @@ filling_admits p (suc zero) e = (refl, e)
 filling_admits p (suc (suc n)) e = exactly_admits p (suc (suc n))
 
 -- where operands may be more or less than the primitive takes, it takes two
-abbrev takes_two : Row → Bool
+abbrev takes_two : NamedPrimitive → Bool
 takes_two r = by r.arity
   where
     by : Arity → Bool
@@ -75,13 +75,13 @@ takes_two r = by r.arity
 rows_take_two : list_all takes_two rows ≡ true
 rows_take_two = refl
 
-found_takes_two : (internal : Bool) (x : List ℕ) (rs : List Row) (r : Primitive × Arity) → list_all takes_two rs ≡ true → look_up internal x rs ≡ Some r → takes_two (row r.1 r.0) ≡ true
+found_takes_two : (internal : Bool) (x : List ℕ) (rs : List NamedPrimitive) (r : Primitive × Arity) → list_all takes_two rs ≡ true → primitive_among internal x rs ≡ Some r → takes_two (row r.1 r.0) ≡ true
 found_takes_two internal x [] r h e = absurd cc
 found_takes_two internal x (s ∷ rs) r h e =
     let p = and_parts (takes_two s) (list_all takes_two rs) h in
     by (bytes_eq x (name_of s.primitive) && (internal || not s.internal)) p.0 (found_takes_two internal x rs r p.1) e
   where
-    by : (b : Bool) → takes_two s ≡ true → (look_up internal x rs ≡ Some r → takes_two (row r.1 r.0) ≡ true) → cond b (Some (s.primitive, s.arity)) (look_up internal x rs) ≡ Some r
+    by : (b : Bool) → takes_two s ≡ true → (primitive_among internal x rs ≡ Some r → takes_two (row r.1 r.0) ≡ true) → cond b (Some (s.primitive, s.arity)) (primitive_among internal x rs) ≡ Some r
         → takes_two (row r.1 r.0) ≡ true
     by true p later e = let same : (s.primitive, s.arity) ≡ r = cc in subst (λ r. takes_two (row r.1 r.0) ≡ true) same p
     by false p later e = later e
@@ -103,7 +103,7 @@ row_admits None x n h = other_admits x n
 
 name_admits : (internal : Bool) (x : List ℕ) (n : ℕ) → AdmitsIfAny (operation_of internal x n) n
 unfolding operation_of
-name_admits internal x n = row_admits (look_up internal x rows) x n (λ r e. found_takes_two internal x rows r rows_take_two e)
+name_admits internal x n = row_admits (primitive_among internal x rows) x n (λ r e. found_takes_two internal x rows r rows_take_two e)
 
 of_head : (v : Option ℕ) (g : Bool) (w : Option Keyword) (o : Option Operation) (p : Operation) → head v g w o ≡ operating p → o ≡ Some p
 of_head (Some k) g w o p e = cc

@@ -3,7 +3,9 @@
 use Rattle.std.specs.Prelude.{ℕ, zero, suc, ℤ, pos, Bool, true, false, ◌&&◌, ◌||◌, not, cond, nat_eq, List, [], ◌∷◌, Option, Some, None, if◌then◌else◌, codes}
 use Rattle.std.specs.Str.{bytes_eq}
 use Rattle.sch_word.specs.declared.primitive.Primitive.{Primitive}
-use Rattle.sch_word.specs.declared.primitive.Primitive.TheVariants.{Eq, Eqv, IsBoolean, IsPair, IsNull, IsSymbol, IsInteger, IsChar, IsString, IsVector, IsProcedure, Cons, Car, Cdr, SetCar, SetCdr, Add, Subtract, Multiply, Quotient, Remainder, Modulo, Equal, Less, Greater, LessEqual, GreaterEqual, CharToInteger, IntegerToChar, MakeString, StringLength, StringRef, StringSet, MakeVector, VectorLength, VectorRef, VectorSet, Put, SymbolLength, SymbolRef}
+use Rattle.sch_word.specs.declared.primitive.Primitive.TheVariants.{Eq, Eqv, IsBoolean, IsPair, IsNull, IsSymbol, IsInteger, IsChar, IsString, IsVector, IsProcedure, Cons, Car, Cdr, SetCar}
+use Rattle.sch_word.specs.declared.primitive.Primitive.TheVariants.{SetCdr, Add, Subtract, Multiply, Quotient, Remainder, Modulo, Equal, Less, Greater, LessEqual, GreaterEqual, CharToInteger}
+use Rattle.sch_word.specs.declared.primitive.Primitive.TheVariants.{IntegerToChar, MakeString, StringLength, StringRef, StringSet, MakeVector, VectorLength, VectorRef, VectorSet, Put, SymbolLength, SymbolRef}
 use Rattle.sch_word.specs.values.Primitives.{name_of, operands_of}
 use Rattle.sch_names.specs.declared.operation.Arity.{Arity}
 use Rattle.sch_names.specs.declared.operation.Arity.TheVariants.{Fixed, AnyNumber, OneOrMore, TwoOrMore, FillOptional}
@@ -13,23 +15,23 @@ use Rattle.sch_names.specs.declared.operation.Operation.TheVariants.{Exact, Unit
 -- ## Primitives by their names
 
 -- a primitive with how many operands its name admits, and whether only the text of a library names it
-pub record Row : Type 0 where
+pub record NamedPrimitive : Type 0 where
   pub primitive : Primitive
   pub arity : Arity
   pub internal : Bool
 
 -- one of the code's
-abbrev pub row_of : Primitive × Arity × Bool → Row
-row_of r = record { primitive = r.0; arity = r.1; internal = r.2 }
+abbrev pub named_of : Primitive × Arity × Bool → NamedPrimitive
+named_of r = record { primitive = r.0; arity = r.1; internal = r.2 }
 
-abbrev pub row : Arity → Primitive → Row
+abbrev pub row : Arity → Primitive → NamedPrimitive
 row arity p = record { primitive = p; arity = arity; internal = false }
 
 -- one that the text of a library alone names
-abbrev pub internal_row : Primitive → Row
+abbrev pub internal_row : Primitive → NamedPrimitive
 internal_row p = record { primitive = p; arity = Fixed; internal = true }
 
-abbrev pub rows : List Row
+abbrev pub rows : List NamedPrimitive
 rows =
     row Fixed Eqv ∷ (row Fixed Eq ∷ (row AnyNumber Add ∷ (row OneOrMore Subtract ∷ (row AnyNumber Multiply
     ∷ (row TwoOrMore Equal ∷ (row TwoOrMore Less ∷ (row TwoOrMore Greater ∷ (row TwoOrMore LessEqual
@@ -42,10 +44,10 @@ rows =
     ∷ (internal_row Put ∷ (internal_row SymbolLength ∷ (internal_row SymbolRef ∷ [])))))))))))))))))))))))))))))))))))))))
 
 -- the primitive of a name, among some, with how many operands it admits
-abbrev pub look_up : (internal : Bool) → List ℕ → List Row → Option (Primitive × Arity)
-look_up internal x [] = None
-look_up internal x (r ∷ rs) =
-    cond (bytes_eq x (name_of r.primitive) && (internal || not r.internal)) (Some (r.primitive, r.arity)) (look_up internal x rs)
+abbrev pub primitive_among : (internal : Bool) → List ℕ → List NamedPrimitive → Option (Primitive × Arity)
+primitive_among internal x [] = None
+primitive_among internal x (r ∷ rs) =
+    cond (bytes_eq x (name_of r.primitive) && (internal || not r.internal)) (Some (r.primitive, r.arity)) (primitive_among internal x rs)
 
 -- ## Counts of operands
 
@@ -90,7 +92,7 @@ by_row None x n = other_operation x n
 
 -- the operation of a name with n operands
 unfoldable pub operation_of : (internal : Bool) → List ℕ → ℕ → Option Operation
-operation_of internal x n = by_row (look_up internal x rows) x n
+operation_of internal x n = by_row (primitive_among internal x rows) x n
 
 -- what the results of `+`, `-` and `*` begin with
 abbrev pub unit_of : Primitive → ℤ

@@ -1,7 +1,7 @@
-//! The words that have a meaning of their own.
+//! The keywords.
 
-ghost use Rattle.std.specs.Prelude.{◌≡◌, map};
-ghost use Rattle.sch_names.specs.Words.{keyword_of, look_up, word_of};
+ghost use Rattle.std.specs.Prelude.{◌≡◌, ℕ, List, length, map};
+ghost use Rattle.sch_names.specs.Words.{keyword_of, keyword_among, keywords as all_keywords, named_of};
 
 /// A keyword of R5RS.
 #[derive(Clone, Copy, Drop)]
@@ -26,39 +26,65 @@ pub enum Keyword {
     LeftOut,
 }
 
-/// The words, with those of R5RS that this language leaves out.
-const KEYWORDS: [(&str, Keyword); 24] = [
-    ("quote", Keyword::Quote),
-    ("lambda", Keyword::Lambda),
+/// The keywords by the lengths of their names, with those of R5RS that this language leaves out.
+const OF_TWO: [(&str, Keyword); 4] = [
     ("if", Keyword::If),
+    ("or", Keyword::Or),
+    ("do", Keyword::Do),
+    ("=>", Keyword::Arrow),
+];
+
+const OF_THREE: [(&str, Keyword); 2] = [("and", Keyword::And), ("let", Keyword::Let)];
+
+const OF_FOUR: [(&str, Keyword); 5] = [
     ("set!", Keyword::Set),
     ("cond", Keyword::Cond),
     ("case", Keyword::Case),
-    ("and", Keyword::And),
-    ("or", Keyword::Or),
-    ("let", Keyword::Let),
     ("let*", Keyword::LetStar),
-    ("letrec", Keyword::Letrec),
-    ("begin", Keyword::Begin),
-    ("do", Keyword::Do),
-    ("define", Keyword::Define),
     ("else", Keyword::Else),
-    ("=>", Keyword::Arrow),
+];
+
+const OF_FIVE: [(&str, Keyword); 3] = [
+    ("quote", Keyword::Quote),
+    ("begin", Keyword::Begin),
+    ("delay", Keyword::LeftOut),
+];
+
+const OF_SIX: [(&str, Keyword); 3] = [
+    ("lambda", Keyword::Lambda),
+    ("letrec", Keyword::Letrec),
+    ("define", Keyword::Define),
+];
+
+const OF_MORE: [(&str, Keyword); 7] = [
     ("quasiquote", Keyword::LeftOut),
     ("unquote", Keyword::LeftOut),
     ("unquote-splicing", Keyword::LeftOut),
-    ("delay", Keyword::LeftOut),
     ("define-syntax", Keyword::LeftOut),
     ("let-syntax", Keyword::LeftOut),
     ("letrec-syntax", Keyword::LeftOut),
     ("syntax-rules", Keyword::LeftOut),
 ];
 
-/// What a word of this name is, in a list of words.
-fn look_up(x: &[u8], words: &[(&'static str, Keyword)]) -> Option<Keyword>
-    ensures { result ≡ look_up x.now (map word_of words.now) }
+/// Keywords among which are all whose names have this length.
+fn keywords_of_length(n: usize) -> &'static [(&'static str, Keyword)]
+    ensures { (x : List ℕ) → length x ≡ n → keyword_among x (map named_of result.now) ≡ keyword_among x all_keywords }
 {
-    for (name, keyword) in words {
+    match n {
+        2 => &OF_TWO,
+        3 => &OF_THREE,
+        4 => &OF_FOUR,
+        5 => &OF_FIVE,
+        6 => &OF_SIX,
+        _ => &OF_MORE,
+    }
+}
+
+/// The keyword of this name, among some.
+fn keyword_among(x: &[u8], keywords: &[(&'static str, Keyword)]) -> Option<Keyword>
+    ensures { result ≡ keyword_among x.now (map named_of keywords.now) }
+{
+    for (name, keyword) in keywords {
         if x == name.as_bytes() {
             return Some(*keyword);
         }
@@ -71,5 +97,5 @@ fn look_up(x: &[u8], words: &[(&'static str, Keyword)]) -> Option<Keyword>
 pub fn keyword_of(x: &[u8]) -> Option<Keyword>
     ensures { result ≡ keyword_of x.now }
 {
-    look_up(x, &KEYWORDS)
+    keyword_among(x, keywords_of_length(x.len()))
 }

@@ -42,6 +42,9 @@ impl Names {
     pub fn insert(&mut self, alloc: Global, x: &[u8]) -> Result<(), Mem>
         ensures { OnOk result (names_of self.new ≡ with_name x.now (names_of self.old)) }
     {
+        if self.contains(x) {
+            return Ok(());
+        }
         let name = Vec::from_slice(alloc, x)?;
         self.set.insert_full(name)?;
         Ok(())

@@ -1,9 +1,9 @@
 //! Combinations that are operations of the language and no calls.
 
-ghost use Rattle.std.specs.Prelude.{◌≡◌, map};
+ghost use Rattle.std.specs.Prelude.{◌≡◌, ℕ, Bool, List, length, map};
 ghost use Rattle.std.specs.Str.{bytes_eq};
 ghost use Rattle.sch_word.specs.values.Primitives.{name_of};
-ghost use Rattle.sch_names.specs.Operations.{unit_of, exactly, arithmetic, comparison, filling, admitted, look_up, other_operation, operation_of, row_of};
+ghost use Rattle.sch_names.specs.Operations.{unit_of, exactly, arithmetic, comparison, filling, admitted, primitive_among, other_operation, operation_of, rows as all_rows, named_of};
 
 use sch_word::Primitive;
 
@@ -38,58 +38,83 @@ enum Arity {
     FillOptional,
 }
 
-/// The primitives, in the order in which R5RS 6 has them, with the operands that their names admit, and whether only the
-/// text of a library names them.
-const ROWS: [(Primitive, Arity, bool); 40] = [
-    (Primitive::Eqv, Arity::Fixed, false),
-    (Primitive::Eq, Arity::Fixed, false),
+/// The primitives by the lengths of their names, with the operands that their names admit, and whether only the text of
+/// a library names them: one letter, two to five, six to eight, more.
+const OF_ONE: [(Primitive, Arity, bool); 6] = [
     (Primitive::Add, Arity::AnyNumber, false),
     (Primitive::Subtract, Arity::OneOrMore, false),
     (Primitive::Multiply, Arity::AnyNumber, false),
     (Primitive::Equal, Arity::TwoOrMore, false),
     (Primitive::Less, Arity::TwoOrMore, false),
     (Primitive::Greater, Arity::TwoOrMore, false),
+];
+
+const OF_FEW: [(Primitive, Arity, bool); 11] = [
+    (Primitive::Eqv, Arity::Fixed, false),
+    (Primitive::Eq, Arity::Fixed, false),
     (Primitive::LessEqual, Arity::TwoOrMore, false),
     (Primitive::GreaterEqual, Arity::TwoOrMore, false),
-    (Primitive::Quotient, Arity::Fixed, false),
-    (Primitive::Remainder, Arity::Fixed, false),
-    (Primitive::Modulo, Arity::Fixed, false),
-    (Primitive::IsInteger, Arity::Fixed, false),
-    (Primitive::IsBoolean, Arity::Fixed, false),
     (Primitive::IsPair, Arity::Fixed, false),
     (Primitive::Cons, Arity::Fixed, false),
     (Primitive::Car, Arity::Fixed, false),
     (Primitive::Cdr, Arity::Fixed, false),
+    (Primitive::IsNull, Arity::Fixed, false),
+    (Primitive::IsChar, Arity::Fixed, false),
+    (Primitive::Put, Arity::Fixed, true),
+];
+
+const OF_SOME: [(Primitive, Arity, bool); 9] = [
+    (Primitive::Quotient, Arity::Fixed, false),
+    (Primitive::Modulo, Arity::Fixed, false),
+    (Primitive::IsInteger, Arity::Fixed, false),
+    (Primitive::IsBoolean, Arity::Fixed, false),
     (Primitive::SetCar, Arity::Fixed, false),
     (Primitive::SetCdr, Arity::Fixed, false),
-    (Primitive::IsNull, Arity::Fixed, false),
     (Primitive::IsSymbol, Arity::Fixed, false),
-    (Primitive::IsChar, Arity::Fixed, false),
+    (Primitive::IsString, Arity::Fixed, false),
+    (Primitive::IsVector, Arity::Fixed, false),
+];
+
+const OF_MORE: [(Primitive, Arity, bool); 14] = [
+    (Primitive::Remainder, Arity::Fixed, false),
     (Primitive::CharToInteger, Arity::Fixed, false),
     (Primitive::IntegerToChar, Arity::Fixed, false),
-    (Primitive::IsString, Arity::Fixed, false),
     (Primitive::MakeString, Arity::FillOptional, false),
     (Primitive::StringLength, Arity::Fixed, false),
     (Primitive::StringRef, Arity::Fixed, false),
     (Primitive::StringSet, Arity::Fixed, false),
-    (Primitive::IsVector, Arity::Fixed, false),
     (Primitive::MakeVector, Arity::FillOptional, false),
     (Primitive::VectorLength, Arity::Fixed, false),
     (Primitive::VectorRef, Arity::Fixed, false),
     (Primitive::VectorSet, Arity::Fixed, false),
     (Primitive::IsProcedure, Arity::Fixed, false),
-    (Primitive::Put, Arity::Fixed, true),
     (Primitive::SymbolLength, Arity::Fixed, true),
     (Primitive::SymbolRef, Arity::Fixed, true),
 ];
 
+/// Primitives among which are all whose names have this length.
+fn primitives_of_length(n: usize) -> &'static [(Primitive, Arity, bool)]
+    ensures { (internal : Bool) (x : List ℕ) → length x ≡ n
+        → primitive_among internal x (map named_of result.now) ≡ primitive_among internal x all_rows }
+{
+    if n == 1 {
+        &OF_ONE
+    } else if n < 6 {
+        &OF_FEW
+    } else if n < 9 {
+        &OF_SOME
+    } else {
+        &OF_MORE
+    }
+}
+
 /// The primitive of this name, among some, with the operands that it admits.
-fn look_up(
+fn primitive_among(
     internal: bool,
     x: &[u8],
     rows: &[(Primitive, Arity, bool)],
 ) -> Option<(Primitive, Arity)>
-    ensures { result ≡ look_up internal x.now (map row_of rows.now) }
+    ensures { result ≡ primitive_among internal x.now (map named_of rows.now) }
 {
     for (primitive, arity, hidden) in rows {
         if x == primitive.name().as_bytes() && (internal || !*hidden) {
@@ -182,7 +207,7 @@ fn other_operation(x: &[u8], count: usize) -> Option<Operation>
 pub fn operation_of(internal: bool, x: &[u8], count: usize) -> Option<Operation>
     ensures { result ≡ operation_of internal x.now count }
 {
-    match look_up(internal, x, &ROWS) {
+    match primitive_among(internal, x, primitives_of_length(x.len())) {
         Some((p, arity)) => admitted(arity, p, count),
         None => other_operation(x, count),
     }

@@ -67,6 +67,9 @@ impl Scope {
     pub fn find(&self, x: &[u8]) -> Option<usize>
         ensures { result ≡ find self.now x.now }
     {
+        if self.bound.is_empty() {
+            return None;
+        }
         match self.nearest.get(x).copied().flatten() {
             Some(farther) => Some(self.bound.len() - 1 - farther),
             None => None,

@@ -37,6 +37,7 @@ pub struct Numbers<'a> {
 }
 
 /// The number of the global that a name means.
+#[inline(never)]
 fn global_number(alloc: Global, tables: &Numbers<'_>, x: &[u8]) -> Result<u32, Mem>
     ensures { IfOk result (λ n. n ≡ number_of (global_of (names_of tables.now.own.now) x.now) (names_of tables.now.globals.now)) }
 {
@@ -45,6 +46,7 @@ fn global_number(alloc: Global, tables: &Numbers<'_>, x: &[u8]) -> Result<u32, M
 }
 
 /// The constant that a symbol is.
+#[inline(never)]
 fn symbol(tables: &Numbers<'_>, x: &[u8]) -> Result<Exp, Mem>
     ensures { IfOk result (λ q. expression q ≡ tree.constant (Symbol (number_of x.now (names_of tables.now.symbols.now)))) }
 {
@@ -53,6 +55,7 @@ fn symbol(tables: &Numbers<'_>, x: &[u8]) -> Result<Exp, Mem>
 }
 
 /// One more literal.
+#[inline(never)]
 fn new_literal(alloc: Global, tables: &Numbers<'_>, d: &Datum, out: &mut Output) -> Result<Exp, Mem>
     ensures made { IfOk result (λ q. expression q ≡ tree.literal (length out.old.literals)) }
     ensures sites { OnOk result (out.new.sites ≡ out.old.sites) }
@@ -109,28 +112,16 @@ pub fn number(
             let value = number(alloc, tables, Some(x), e, out)?;
             Ok(Exp::Define(global, Box::new(alloc, value)?))
         }
-        Draft::If(_, _, _) => {
-            let made = number_branch(alloc, tables, e, out)?;
-            Ok(made)
-        }
+        Draft::If(_, _, _) => Ok(number_branch(alloc, tables, e, out)?),
         Draft::Seq(es) => Ok(Exp::Seq(number_each(alloc, tables, &[], es.as_slice(), out)?)),
-        Draft::Let(_, _, _) => {
-            let made = number_let(alloc, tables, e, out)?;
-            Ok(made)
-        }
-        Draft::Letrec(_, _, _, _) => {
-            let made = number_letrec(alloc, tables, e, out)?;
-            Ok(made)
-        }
+        Draft::Let(_, _, _) => Ok(number_let(alloc, tables, e, out)?),
+        Draft::Letrec(_, _, _, _) => Ok(number_letrec(alloc, tables, e, out)?),
         Draft::Lambda(formals, rest, e) => {
             let body = number(alloc, tables, None, e, out)?;
             let made = procedure(alloc, v, *formals, *rest, body)?;
             Ok(made)
         }
-        Draft::Call(_, _) => {
-            let made = number_call(alloc, tables, e, out)?;
-            Ok(made)
-        }
+        Draft::Call(_, _) => Ok(number_call(alloc, tables, e, out)?),
         Draft::Prim(p, es) => {
             let site = new_site(out, es.len())?;
             let operands = number_each(alloc, tables, &[], es.as_slice(), out)?;
@@ -141,6 +132,7 @@ pub fn number(
 
 /// The expression of a choice, and of nothing else.
 #[cycle(numbering)]
+#[inline(never)]
 fn number_branch(
     alloc: Global,
     tables: &Numbers<'_>,
@@ -164,6 +156,7 @@ fn number_branch(
 
 /// The expression of a `let`, and of nothing else.
 #[cycle(numbering)]
+#[inline(never)]
 fn number_let(
     alloc: Global,
     tables: &Numbers<'_>,
@@ -187,6 +180,7 @@ fn number_let(
 
 /// The expression of a `letrec`, and of nothing else.
 #[cycle(numbering)]
+#[inline(never)]
 fn number_letrec(
     alloc: Global,
     tables: &Numbers<'_>,
@@ -211,6 +205,7 @@ fn number_letrec(
 
 /// The expression of a call, and of nothing else.
 #[cycle(numbering)]
+#[inline(never)]
 fn number_call(
     alloc: Global,
     tables: &Numbers<'_>,
@@ -234,6 +229,7 @@ fn number_call(
 
 /// The expressions of drafts that are the inits of variables of these names; where the names end, of none.
 #[cycle(numbering)]
+#[inline(never)]
 pub fn number_each(
     alloc: Global,
     tables: &Numbers<'_>,

@@ -58,10 +58,6 @@ module _ (starts : List ℕ) (scope : Scope) (items : List flat_made.Made) (i : 
 pub members_end : (starts : List ℕ) (scope : Scope) (items : List flat_made.Made) (i at : ℕ) (all whole : List (Member ℕ)) → length items ≤ i → all ++ members_of starts scope (map made (drop i items)) at ≡ whole → all ≡ whole
 members_end starts scope items i at all whole l h = let t = rw (drop_all i items l, append-nil all) at h in t
 
-pub length_is : {A B : Type 0} (f : A → B) (xs : List A) → length (map f xs) ≡ length xs
-length_is f [] = refl
-length_is f (x ∷ xs) = ap suc (length_is f xs)
-
 -- ## Numbers
 
 pub numbers_are : {A B : Type 0} (f : A → B) (xs : List A) (n : ℕ) → numbers n (length xs) ≡ numbers_for (map f xs) n

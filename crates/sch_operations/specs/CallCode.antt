@@ -8,8 +8,8 @@ use Rattle.sch_insn.specs.declared.register.TheConstants.{RAX, RCX, RDX, RBP, R1
 use Rattle.sch_asm.specs.declared.item.Item.{Item}
 use Rattle.sch_asm.specs.declared.item.Item.TheVariants.{Label, Plain, JumpIf, LoadLabel}
 use Rattle.sch_heap.specs.Encoded.{procedure_tag}
-use Rattle.sch_own_routines.specs.Addresses.{stop_label}
-use Rattle.sch_own_routines.specs.Checks.{low_bits}
+use Rattle.sch_places.specs.Addresses.{stop_label}
+use Rattle.sch_places.specs.Checks.{low_bits}
 
 -- R14 has a procedure, or stop 67
 abbrev pub check_operator : List Item → List Item

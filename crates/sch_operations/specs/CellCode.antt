@@ -13,8 +13,8 @@ use Rattle.sch_insn.specs.declared.register.TheConstants.{RAX, RCX, RDX}
 use Rattle.sch_asm.specs.declared.item.Item.{Item}
 use Rattle.sch_asm.specs.declared.item.Item.TheVariants.{Plain, JumpIf}
 use Rattle.sch_heap.specs.Encoded.{unspecified_word, unset_word, cell_tag}
-use Rattle.sch_own_routines.specs.Addresses.{stop_label, place_operand, part_operand}
-use Rattle.sch_own_routines.specs.Checks.{low_bits}
+use Rattle.sch_places.specs.Addresses.{stop_label, place_operand, part_operand}
+use Rattle.sch_places.specs.Checks.{low_bits}
 use Rattle.sch_primitives.specs.ObjectCode.{check_heap, part_code}
 use Rattle.sch_primitives.specs.OperandCode.{atom_code}
 

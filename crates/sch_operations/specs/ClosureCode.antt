@@ -11,7 +11,7 @@ use Rattle.sch_insn.specs.declared.register.TheConstants.{RCX, R12}
 use Rattle.sch_asm.specs.declared.item.Item.{Item}
 use Rattle.sch_asm.specs.declared.item.Item.TheVariants.{Plain, LoadLabel}
 use Rattle.sch_heap.specs.Encoded.{procedure_tag}
-use Rattle.sch_own_routines.specs.Addresses.{body_label, place_operand, part_operand}
+use Rattle.sch_places.specs.Addresses.{body_label, place_operand, part_operand}
 use Rattle.sch_primitives.specs.ObjectCode.{check_heap, part_code}
 use Rattle.sch_operations.specs.CellCode.{source_code}
 

@@ -10,7 +10,7 @@ use sch_heap::word::PROCEDURE;
 use sch_insn::condition::{E, NE};
 use sch_insn::register::{R13, R14, R15, RAX, RBP, RCX, RDX};
 use sch_insn::{Arg, Insn};
-use sch_own_routines::addresses::{bytes_of_words, immediate, stop};
+use sch_places::addresses::{bytes_of_words, immediate, stop};
 use sch_word::{List, Mem, Stop};
 
 /// R14 has a procedure, or stop 67.

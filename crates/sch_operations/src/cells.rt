@@ -12,7 +12,7 @@ use sch_heap::word::{CELL, UNSET, UNSPECIFIED};
 use sch_insn::condition::{E, NE};
 use sch_insn::register::{R12, RAX, RCX, RDX};
 use sch_insn::{Arg, Insn};
-use sch_own_routines::addresses::{MAX_WORDS, place_operand, stop};
+use sch_places::addresses::{MAX_WORDS, place_operand, stop};
 use sch_primitives::{atom, check_heap, part};
 use sch_word::{List, Mem, Place, Stop};
 

@@ -10,9 +10,7 @@ use sch_asm::Item;
 use sch_control::{Closure, Member, Source};
 use sch_insn::register::{R12, RCX};
 use sch_insn::{Arg, Insn};
-use sch_own_routines::addresses::{
-    MAX_WORDS, above, body_label, immediate, part_operand, place_operand,
-};
+use sch_places::addresses::{MAX_WORDS, above, body_label, immediate, part_operand, place_operand};
 use sch_primitives::{check_heap, part};
 use sch_word::{List, Mem, Place};
 

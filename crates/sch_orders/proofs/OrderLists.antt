@@ -7,8 +7,8 @@ use Rattle.sch_word.specs.trees.NumberSets.{has, unless}
 use Rattle.sch_word.specs.trees.Bindings.{numbers}
 use Rattle.sch_word.proofs.Walking.{next_is}
 use Rattle.sch_control.specs.Valid.{bound_parts, without_repeats}
-use Rattle.sch_orders.proofs.Table.{and_right}
 use Rattle.sch_orders.specs.Table.{others, given_order, given_orders}
+use Rattle.sch_word.proofs.facts.Booleans.{and_right}
 
 unless_append : (b : Bool) (k : ℕ) (xs : List ℕ) → unless b k [] ++ xs ≡ unless b k xs
 unless_append true k xs = refl

@@ -11,17 +11,8 @@ use Rattle.sch_control.specs.Tree.{Source}
 use Rattle.sch_control.specs.Fits.{begins_with, fits, table_fits}
 use Rattle.sch_control.specs.Valid.{bound_parts, bound_known, without_repeats}
 use Rattle.sch_orders.specs.Table.{others, given_order, given_orders, given_table}
-
-pub and_left : (a b : Bool) → (a && b) ≡ true → a ≡ true
-and_left true b e = refl
-and_left false b e = e
-
-pub and_right : (a b : Bool) → (a && b) ≡ true → b ≡ true
-and_right true b e = e
-and_right false b e = absurd (cc)
-
-both : (x y : Bool) → x ≡ true → y ≡ true → (x && y) ≡ true
-both x y h k = rw (h, k) refl
+use Rattle.sch_word.proofs.facts.NumberSets.{numbers_length}
+use Rattle.sch_word.proofs.facts.Booleans.{and_left, and_right, and_of}
 
 -- how often a number stands among some
 abbrev one : ℕ → ℕ → ℕ
@@ -32,7 +23,7 @@ times k xs = count_by (λ x. nat_eq x k) xs
 
 begins_itself : (xs ys : List ℕ) → begins_with xs (xs ++ ys) ≡ true
 begins_itself [] ys = refl
-begins_itself (x ∷ xs) ys = both (nat_eq x x) (begins_with xs (xs ++ ys)) (eq-eqb x x refl) (begins_itself xs ys)
+begins_itself (x ∷ xs) ys = and_of (nat_eq x x) (begins_with xs (xs ++ ys)) (eq-eqb x x refl) (begins_itself xs ys)
 
 one_same : (k : ℕ) → one k k ≡ 1
 one_same k = rw (eq-eqb k k refl) refl
@@ -162,10 +153,6 @@ all_among width (x ∷ parts) l r =
     flip true e = absurd (cc)
     flip false e = refl
 
-numbers_length : (x n : ℕ) → length (numbers x n) ≡ n
-numbers_length x zero = refl
-numbers_length x (suc n) = ap suc (numbers_length (suc x) n)
-
 order_length : (width : ℕ) (parts : List ℕ) → list_all (λ k. nat_lt k width) parts ≡ true → without_repeats parts ≡ true → length (given_order width parts) ≡ width
 order_length width parts l r =
     let h = others_length parts (numbers 0 width) in
@@ -174,7 +161,7 @@ order_length width parts l r =
 
 every_once : (f : ℕ → Bool) (x n : ℕ) → ((k : ℕ) → k < x + n → f k ≡ true) → list_all f (numbers x n) ≡ true
 every_once f x zero h = refl
-every_once f x (suc n) h = both (f x) (list_all f (numbers (suc x) n)) (h x (omega arith)) (every_once f (suc x) n (λ k l. h k (omega (arith, l))))
+every_once f x (suc n) h = and_of (f x) (list_all f (numbers (suc x) n)) (h x (omega arith)) (every_once f (suc x) n (λ k l. h k (omega (arith, l))))
 
 given_fits : (sites : List ℕ) (bound : List (List ℕ)) → bound_parts sites bound ≡ true → fits sites bound (given_orders sites bound) ≡ true
 given_fits [] [] h = refl
@@ -184,10 +171,10 @@ given_fits (width ∷ sites) (parts ∷ bound) h =
     let l = and_left (list_all (λ k. nat_lt k width) parts) (without_repeats parts && bound_parts sites bound) h in
     let h' = and_right (list_all (λ k. nat_lt k width) parts) (without_repeats parts && bound_parts sites bound) h in
     let r = and_left (without_repeats parts) (bound_parts sites bound) h' in
-    both (is_permutation width (given_order width parts)) (begins_with parts (given_order width parts) && fits sites bound (given_orders sites bound))
-    (both (nat_eq (length (given_order width parts)) width) (list_all (λ k. nat_eq (times k (given_order width parts)) 1) (numbers 0 width)) (eq-eqb (length (given_order width parts)) width (order_length width parts l r))
+    and_of (is_permutation width (given_order width parts)) (begins_with parts (given_order width parts) && fits sites bound (given_orders sites bound))
+    (and_of (nat_eq (length (given_order width parts)) width) (list_all (λ k. nat_eq (times k (given_order width parts)) 1) (numbers 0 width)) (eq-eqb (length (given_order width parts)) width (order_length width parts l r))
     (every_once (λ k. nat_eq (times k (given_order width parts)) 1) 0 width (λ k m. eq-eqb (times k (given_order width parts)) 1 (order_once width parts k r (omega (arith, m))))))
-    (both (begins_with parts (given_order width parts)) (fits sites bound (given_orders sites bound)) (begins_itself parts (others parts (numbers 0 width)))
+    (and_of (begins_with parts (given_order width parts)) (fits sites bound (given_orders sites bound)) (begins_itself parts (others parts (numbers 0 width)))
     (given_fits sites bound (and_right (without_repeats parts) (bound_parts sites bound) h')))
 
 -- The given table fits each valid program of the language Control, so that its run is that of its flat program.
@@ -198,7 +185,7 @@ given_table_fits p h = given_fits p.sites p.bound h
 pub fitting_orders : (sites : List ℕ) (bound orders : List (List ℕ)) → fits sites bound orders ≡ true → is_order_table sites orders ≡ true
 fitting_orders [] [] [] h = refl
 fitting_orders (width ∷ sites) (parts ∷ bound) (order ∷ orders) h =
-    both (is_permutation width order) (is_order_table sites orders) (and_left (is_permutation width order) (begins_with parts order && fits sites bound orders) h)
+    and_of (is_permutation width order) (is_order_table sites orders) (and_left (is_permutation width order) (begins_with parts order && fits sites bound orders) h)
     (fitting_orders sites bound orders (and_right (begins_with parts order) (fits sites bound orders) (and_right (is_permutation width order) (begins_with parts order && fits sites bound orders) h)))
 fitting_orders [] (parts ∷ bound) orders h = absurd (cc)
 fitting_orders [] [] (order ∷ orders) h = absurd (cc)

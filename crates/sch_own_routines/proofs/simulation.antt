@@ -1,9 +1,4 @@
--- Where values are in the machine, what it owes to an outcome, and the put of any value.
-pub mod Straight
-pub mod Places
-pub mod HeapWrites
-pub mod Changes
+-- What the machine owes to an outcome, how a procedure is entered, and the put of any value.
 pub mod Outcomes
 pub mod Entering
-pub mod StoredNames
 pub mod PutValue

@@ -1,8 +1,3 @@
-pub mod Addresses
-pub mod StaticBytes
-pub mod Names
-pub mod ItemMarks
-pub mod Checks
 pub mod PutCode
 pub mod MakeCode
 pub mod RestCode

@@ -10,8 +10,8 @@ use Rattle.sch_asm.specs.declared.item.Item.TheVariants as item
 use Rattle.sch_asm.specs.declared.routine.Routine.TheVariants as routine
 use Rattle.sch_asm.specs.Routines.{label_of}
 use Rattle.sch_heap.specs.Encoded.{character_tag}
-use Rattle.sch_own_routines.specs.Addresses.{stop_label, part_operand}
-use Rattle.sch_own_routines.specs.Checks.{low_bits, check_fixnum, round_code}
+use Rattle.sch_places.specs.Addresses.{stop_label, part_operand}
+use Rattle.sch_places.specs.Checks.{low_bits, check_fixnum, round_code}
 
 -- RAX has a number that is not negative, or stop 66
 abbrev pub check_length : List Item → List Item

@@ -2,7 +2,7 @@
 use Rattle.std.specs.Prelude.{ℕ, ◌+◌, List, [], ◌∷◌, ◌++◌}
 use Rattle.sch_asm.specs.declared.item.Item.{Item}
 use Rattle.sch_asm.specs.declared.item.Item.TheVariants as item
-use Rattle.sch_own_routines.specs.Addresses.{put_label, vector_label, string_label}
+use Rattle.sch_places.specs.Addresses.{put_label, vector_label, string_label}
 use Rattle.sch_own_routines.specs.PutCode.{put_value_code}
 use Rattle.sch_own_routines.specs.MakeCode.{make_vector_code, make_string_code}
 use Rattle.sch_own_routines.specs.RestCode.{rest_routine}

@@ -11,8 +11,8 @@ use Rattle.sch_asm.specs.declared.routine.Routine.TheVariants as routine
 use Rattle.sch_asm.specs.Routines.{label_of}
 use Rattle.sch_heap.specs.Encoded.{true_word, false_word, nil_word, character_tag, procedure_tag, cell_tag, pair_tag}
 use Rattle.sch_heap.specs.Encoded.{vector_tag, string_tag, symbol_tag}
-use Rattle.sch_own_routines.specs.Addresses.{stop_label, bytes_address, texts_address, table_address}
-use Rattle.sch_own_routines.specs.Checks.{low_bits, string_length}
+use Rattle.sch_places.specs.Addresses.{stop_label, bytes_address, texts_address, table_address}
+use Rattle.sch_places.specs.Checks.{low_bits, string_length}
 
 -- ## Labels of the routine, behind its own
 

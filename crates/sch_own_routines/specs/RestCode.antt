@@ -11,7 +11,7 @@ use Rattle.sch_insn.specs.declared.register.TheConstants.{RAX, RCX, RDX, RBP, R1
 use Rattle.sch_asm.specs.declared.item.Item.{Item}
 use Rattle.sch_asm.specs.declared.item.Item.TheVariants.{Label, Plain, Jump, JumpIf, LoadLabel}
 use Rattle.sch_heap.specs.Encoded.{nil_word, pair_tag}
-use Rattle.sch_own_routines.specs.Addresses.{stop_label, part_operand}
+use Rattle.sch_places.specs.Addresses.{stop_label, part_operand}
 
 -- ## Labels of the routine, below those of bodies
 

@@ -4,12 +4,12 @@ ghost use Rattle.std.specs.Prelude.{◌≡◌, ◌++◌, OnOk, List};
 ghost use Rattle.sch_asm.specs.declared.item.Item.{Item};
 ghost use Rattle.sch_own_routines.specs.MakeCode.{make_string_code};
 
-use crate::addresses::{immediate, stop};
 use sch_asm::{Item, Routine};
 use sch_heap::word::CHARACTER;
 use sch_insn::condition::{A, L, NE};
 use sch_insn::register::{R12, RAX, RCX, RDX};
 use sch_insn::{Arg, Insn};
+use sch_places::addresses::{immediate, stop};
 use sch_word::{List, Mem, Stop};
 
 /// The routine that makes a string, but for its tag. It returns through R11.

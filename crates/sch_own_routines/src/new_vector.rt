@@ -4,11 +4,11 @@ ghost use Rattle.std.specs.Prelude.{◌≡◌, ◌++◌, OnOk, List};
 ghost use Rattle.sch_asm.specs.declared.item.Item.{Item};
 ghost use Rattle.sch_own_routines.specs.MakeCode.{make_vector_code};
 
-use crate::addresses::{immediate, stop};
 use sch_asm::{Item, Routine};
 use sch_insn::condition::{A, L, NE};
 use sch_insn::register::{R12, RAX, RDX};
 use sch_insn::{Arg, Insn};
+use sch_places::addresses::{immediate, stop};
 use sch_word::{List, Mem, Stop};
 
 /// The routine that makes a vector, but for its tag. It returns through R11.

@@ -6,12 +6,12 @@ ghost use Rattle.sch_asm.specs.declared.item.Item.TheVariants as item;
 ghost use Rattle.sch_own_routines.specs.RestCode.{check_enough, check_pairs, first_code, first_slot_code, firsts_code, later_registers};
 ghost use Rattle.sch_own_routines.specs.RestCode.{list_code, list_label, more_code, registers_code, rest_entry, rest_routine, slots_code};
 
-use crate::addresses::{bytes_of_words, immediate, stop};
 use sch_asm::Item;
 use sch_heap::word::{NIL, PAIR};
 use sch_insn::condition::{A, B, E, NE};
 use sch_insn::register::{R8, R9, R10, R11, R12, RAX, RBP, RBX, RCX, RDI, RDX, RSI};
 use sch_insn::{Arg, Insn};
+use sch_places::addresses::{bytes_of_words, immediate, stop};
 use sch_word::{List, Mem, Stop};
 
 // The labels of the routine, most of them numbered by the operands in front.

@@ -4,9 +4,8 @@ ghost use Rattle.std.specs.Prelude.{◌≡◌, ◌++◌, ◌∷◌, OnOk};
 ghost use Rattle.sch_asm.specs.declared.item.Item.TheVariants as item;
 ghost use Rattle.sch_own_routines.specs.PutCode.{immediate_put, objects_put, put_value_code, texts_code};
 ghost use Rattle.sch_own_routines.specs.OwnCode.{own_code};
-ghost use Rattle.sch_own_routines.specs.Addresses.{put_label};
+ghost use Rattle.sch_places.specs.Addresses.{put_label};
 
-use crate::addresses::{PUT_LABEL, STRING_LABEL, TABLE_ADDRESS, VECTOR_LABEL, stop};
 use crate::new_string::string_routine;
 use crate::new_vector::vector_routine;
 use crate::rests::rest_routine;
@@ -15,6 +14,7 @@ use sch_heap::word::{CELL, CHARACTER, FALSE, NIL, PAIR, PROCEDURE, STRING, SYMBO
 use sch_insn::condition::{E, NE};
 use sch_insn::register::{RAX, RDX};
 use sch_insn::{Arg, Insn};
+use sch_places::addresses::{PUT_LABEL, STRING_LABEL, TABLE_ADDRESS, VECTOR_LABEL, stop};
 use sch_word::{List, Mem, Stop};
 
 // The labels in the routine that puts any value.

@@ -1,4 +1,4 @@
--- That a control program runs as a core program.
+-- What the passes make of a core program, one after the other, and that it runs as the core program does.
 use Rattle.std.specs.Prelude.{◌≡◌, ℕ, true, List, Some}
 use Rattle.sch_word.specs.declared.answer.Answer.{Answer}
 use Rattle.sch_lang.specs.Tree as lang
@@ -6,6 +6,19 @@ use Rattle.sch_lang.specs.Run as from
 use Rattle.sch_control.specs.Tree as control
 use Rattle.sch_control.specs.Run as to
 use Rattle.sch_control.specs.Fits.{table_fits}
+use Rattle.sch_cells.specs.Tree as cells
+use Rattle.sch_rename.specs.Made.{renamed_source}
+use Rattle.sch_assign.specs.Celled.{celled_in}
+use Rattle.sch_assign.specs.Converted.{converted_source}
+use Rattle.sch_closure.specs.Closed.{closed_source}
+use Rattle.sch_normal.specs.Normal.{normal_source}
+
+-- each variable that is assigned or belongs to a Rec gets a cell
+abbrev pub with_cells : cells.Source → cells.Source
+with_cells p = converted_source (celled_in p) p.variables p
+
+unfoldable pub control_of : lang.Source → control.Source
+control_of p = normal_source (closed_source (with_cells (renamed_source p)))
 
 -- The two programs have the same sites. Under every order table that fits the control program it is never
 -- wrong, and its run is that of the core program.

@@ -3,7 +3,7 @@
 #![tactic(auto)]
 
 ghost use Rattle.std.specs.List.{count_by};
-ghost use Rattle.std.specs.Prelude.{◌≡◌, ◌≤◌, ◌+◌, ◌*◌, ◌^◌, ℕ, map, nat_eq, IfOk, IsTrue};
+ghost use Rattle.std.specs.Prelude.{◌≡◌, ◌≤◌, ◌+◌, ◌*◌, ◌^◌, ℕ, length, map, nat_eq, IfOk, IsTrue};
 ghost use Rattle.sch_control.specs.Covered.{is_covered_program};
 ghost use Rattle.sch_control.specs.Fits.{table_fits};
 ghost use Rattle.sch_control.specs.ProgramView as control_view;
@@ -14,11 +14,12 @@ ghost use Rattle.sch_lang.specs.Bodies.{bodies_of, most_variables};
 ghost use Rattle.sch_lang.specs.Measures as measures;
 ghost use Rattle.sch_lang.specs.Measures.{nodes_and_bound, program_size};
 ghost use Rattle.sch_lang.specs.ProgramView.{source};
+ghost use Rattle.sch_lang.specs.Tree.{count_lambdas};
 ghost use Rattle.sch_normal.specs.Counted.{bind_within};
 ghost use Rattle.sch_normal.specs.Dropped.{dropped_of};
 ghost use Rattle.sch_normal.specs.Tests.{tests_of};
 ghost use Rattle.sch_orders.specs.Table.{given_table};
-ghost use Rattle.sch_passes.specs.Chain.{RunsAs};
+ghost use Rattle.sch_passes.specs.Chain.{RunsAs, control_of};
 
 mod walkable;
 
@@ -41,9 +42,14 @@ const MAX_LIBRARY: usize = 1_048_576;
 /// It takes stack in proportion to the levels of `p`. More than 1,048,576 procedures of the library are out of memory.
 pub fn control_program(alloc: Global, p: &Program) -> Result<ControlProgram, Mem>
     requires small { nodes_and_bound (source p.now) ≤ 2 ^ 30 }
+    // It is what the passes are defined to make, one of what the one before it made, with the parts that are bound at
+    // each site of the tree.
+    ensures made { IfOk result (λ q. control_view.source q ≡ control_of (source p.now)) }
     ensures runs { IfOk result (λ q. RunsAs (source p.now) (control_view.source q)) }
     // The table that lists, at each site, what is bound and then the other parts by number fits it.
     ensures fits { IfOk result (λ q. IsTrue (table_fits (control_view.source q) (given_table (control_view.source q)))) }
+    // It has as many procedures of the library, in the same order.
+    ensures library { IfOk result (λ q. length (control_view.source q).library ≡ count_lambdas (source p.now).library) }
     ensures statics { IfOk result (λ q. (control_view.source q).statics ≡ (source p.now).statics) }
     // No call spreads its last operand, and there are no more procedures of the library than there may be.
     ensures covered { IfOk result (λ q. IsTrue (is_covered_program (control_view.source q))) }
@@ -61,7 +67,8 @@ pub fn control_program(alloc: Global, p: &Program) -> Result<ControlProgram, Mem
     // It drops no more atoms than `p`.
     ensures dropped { IfOk result (λ q. dropped_of (control_view.source q).bodies ≤ measures.dropped_of (source p.now)) }
     // Its nodes with a site are the calls and primitives of `p`, each site as often.
-    ensures calls { IfOk result (λ q. (n : ℕ) → count_by (λ at. nat_eq at.0 n) (sites_of_each (control_view.source q).bodies) ≡ count_by (λ x. nat_eq x n) (measures.call_sites_of (source p.now))) }
+    ensures calls { IfOk result (λ q. (n : ℕ) →
+        count_by (λ at. nat_eq at.0 n) (sites_of_each (control_view.source q).bodies) ≡ count_by (λ x. nat_eq x n) (measures.call_sites_of (source p.now))) }
     // Each body has at most two variables more than the body of `p` at its place may need.
     ensures each_variables { IfOk result (λ q. IsTrue (bind_within (control_view.source q).bodies (map (λ b. b.variables) (bodies_of (source p.now))))) }
 {

@@ -7,8 +7,8 @@ use Rattle.sch_insn.specs.declared.insn.Insn.TheVariants.{AddTo, CmpTo, CmpNumbe
 use Rattle.sch_insn.specs.declared.register.TheConstants.{RAX, RCX}
 use Rattle.sch_asm.specs.declared.item.Item.{Item}
 use Rattle.sch_asm.specs.declared.item.Item.TheVariants.{Label, Plain, Jump, JumpIf}
-use Rattle.sch_own_routines.specs.Addresses.{stop_label}
-use Rattle.sch_own_routines.specs.Checks.{check_fixnum, boolean_code}
+use Rattle.sch_places.specs.Addresses.{stop_label}
+use Rattle.sch_places.specs.Checks.{check_fixnum, boolean_code}
 
 abbrev pub compare_code : (n condition : ℕ) → List Item → List Item
 compare_code n condition rest = Plain (CmpTo (Reg RAX) RCX) ∷ boolean_code n condition rest

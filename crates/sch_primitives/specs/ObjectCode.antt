@@ -10,8 +10,8 @@ use Rattle.sch_insn.specs.declared.register.TheConstants.{RAX, RCX, RDX, R11, R1
 use Rattle.sch_asm.specs.declared.item.Item.{Item}
 use Rattle.sch_asm.specs.declared.item.Item.TheVariants.{Label, Plain, Jump, JumpIf, LoadLabel, LoadWord}
 use Rattle.sch_heap.specs.Encoded.{unspecified_word, character_tag, pair_tag, vector_tag, string_tag, symbol_tag}
-use Rattle.sch_own_routines.specs.Addresses.{stop_label, table_address, vector_label, string_label, part_operand}
-use Rattle.sch_own_routines.specs.Checks.{low_bits, check_fixnum, round_code, string_length}
+use Rattle.sch_places.specs.Addresses.{stop_label, table_address, vector_label, string_label, part_operand}
+use Rattle.sch_places.specs.Checks.{low_bits, check_fixnum, round_code, string_length}
 
 -- ## The heap: R12 has the address of the next part
 

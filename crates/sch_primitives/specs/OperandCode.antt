@@ -24,8 +24,8 @@ use Rattle.sch_insn.specs.declared.register.TheConstants.{RAX, RCX, RDX, R11}
 use Rattle.sch_asm.specs.declared.item.Item.{Item}
 use Rattle.sch_asm.specs.declared.item.Item.TheVariants.{Label, Plain, Jump, JumpIf, LoadLabel, LoadWord}
 use Rattle.sch_heap.specs.Encoded.{nil_word, unspecified_word, constant_number, character_tag, vector_tag, string_tag}
-use Rattle.sch_own_routines.specs.Addresses.{stop_label, literal_address, put_label, place_operand}
-use Rattle.sch_own_routines.specs.Checks.{check_fixnum, check_character, test_code, overflow_code, string_length}
+use Rattle.sch_places.specs.Addresses.{stop_label, literal_address, put_label, place_operand}
+use Rattle.sch_places.specs.Checks.{check_fixnum, check_character, test_code, overflow_code, string_length}
 use Rattle.sch_primitives.specs.ArithmeticCode.{compare_code, comparison_code, division_code, modulo_code}
 use Rattle.sch_primitives.specs.ObjectCode.{part_of_pair, set_part_of_pair, first_of_pair, rest_of_pair, length_code}
 use Rattle.sch_primitives.specs.ObjectCode.{vector_length, vector_ref_code, string_ref_code, symbol_length_code}

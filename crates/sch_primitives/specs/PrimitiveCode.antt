@@ -13,7 +13,7 @@ use Rattle.sch_insn.specs.declared.register.TheConstants.{RAX, RCX, R11}
 use Rattle.sch_asm.specs.declared.item.Item.{Item}
 use Rattle.sch_asm.specs.declared.item.Item.TheVariants.{Plain, Jump, JumpIf, LoadWord, StoreWord}
 use Rattle.sch_heap.specs.Encoded.{unspecified_word, unset_word}
-use Rattle.sch_own_routines.specs.Addresses.{stop_label, global_address}
+use Rattle.sch_places.specs.Addresses.{stop_label, global_address}
 use Rattle.sch_primitives.specs.ObjectCode.{pair_code, vector_set_code, string_set_code}
 use Rattle.sch_primitives.specs.OperandCode.{atom_code, unary_code, binary_code, operand_code, second_code}
 

@@ -5,7 +5,7 @@ ghost use Rattle.sch_word.specs.declared.primitive.Primitive.TheVariants.{CharTo
 ghost use Rattle.sch_word.specs.declared.primitive.Primitive.TheVariants.{Remainder};
 ghost use Rattle.sch_asm.specs.declared.item.Item.{Item};
 ghost use Rattle.sch_primitives.specs.OperandCode.{binary_code, unary_code};
-ghost use Rattle.sch_own_routines.specs.Checks.{boolean_code, check_fixnum, overflow_code, test_code};
+ghost use Rattle.sch_places.specs.Checks.{boolean_code, check_fixnum, overflow_code, test_code};
 ghost use Rattle.sch_primitives.specs.ArithmeticCode.{compare_code, comparison_code, division_code, modulo_code};
 
 use sch_asm::Item;
@@ -13,7 +13,7 @@ use sch_heap::word::{CHARACTER, FALSE, TRUE};
 use sch_insn::condition::{A, E, GE, L, NE, O};
 use sch_insn::register::{RAX, RCX, RDX};
 use sch_insn::{Arg, Insn};
-use sch_own_routines::addresses::{above, stop};
+use sch_places::addresses::{above, stop};
 use sch_word::{List, Mem, Stop};
 
 /// The word of the number 255.

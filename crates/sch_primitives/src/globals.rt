@@ -11,7 +11,7 @@ use sch_heap::word::{UNSET, UNSPECIFIED};
 use sch_insn::condition::E;
 use sch_insn::register::RAX;
 use sch_insn::{Arg, Insn};
-use sch_own_routines::addresses::{global_address, stop};
+use sch_places::addresses::{global_address, stop};
 use sch_word::{List, Mem, Place, Stop};
 
 /// A global into RAX, or stop 73. Its word stands behind those of a number of literals.

@@ -20,7 +20,7 @@ use sch_heap::word::{CHARACTER, NIL, UNSPECIFIED};
 use sch_insn::condition::{E, G, GE, L, LE};
 use sch_insn::register::{R11, RAX, RCX};
 use sch_insn::{Arg, Insn};
-use sch_own_routines::addresses::{PUT_LABEL, literal_address, place_operand};
+use sch_places::addresses::{PUT_LABEL, literal_address, place_operand};
 use sch_word::{List, Mem, Place, Prim};
 
 /// An atom into a register.

@@ -9,7 +9,7 @@ use sch_heap::word::{PAIR, UNSPECIFIED};
 use sch_insn::condition::{A, NE};
 use sch_insn::register::{R12, RAX, RCX, RDX};
 use sch_insn::{Arg, Insn};
-use sch_own_routines::addresses::{immediate, stop};
+use sch_places::addresses::{immediate, stop};
 use sch_word::{List, Mem, Stop};
 
 /// The first word of the pair whose word is in RAX.

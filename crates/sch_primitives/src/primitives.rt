@@ -12,7 +12,7 @@ use sch_asm::Item;
 use sch_control::{Atom, Operand};
 use sch_insn::register::{R11, RAX, RCX};
 use sch_insn::{Arg, Insn};
-use sch_own_routines::addresses::{above, stop};
+use sch_places::addresses::{above, stop};
 use sch_word::{List, Mem, Place, Prim, Stop};
 
 /// An index into RCX. What a primitive reads is no number: stop 65.

@@ -5,14 +5,14 @@ ghost use Rattle.sch_asm.specs.declared.item.Item.{Item};
 ghost use Rattle.sch_heap.specs.Encoded.{string_tag};
 ghost use Rattle.sch_primitives.specs.ObjectCode.{length_code, string_code, string_ref_code, string_set_code, symbol_length_code};
 ghost use Rattle.sch_primitives.specs.ObjectCode.{symbol_ref_code};
-ghost use Rattle.sch_own_routines.specs.Checks.{string_length};
+ghost use Rattle.sch_places.specs.Checks.{string_length};
 
 use sch_asm::Item;
 use sch_heap::word::{CHARACTER, STRING, SYMBOL, UNSPECIFIED};
 use sch_insn::condition::{AE, NE};
 use sch_insn::register::{R11, R12, RAX, RCX, RDX};
 use sch_insn::{Arg, Insn};
-use sch_own_routines::addresses::{STRING_LABEL, TABLE_ADDRESS, stop};
+use sch_places::addresses::{STRING_LABEL, TABLE_ADDRESS, stop};
 use sch_word::{List, Mem, Stop};
 
 /// The length of the string in RAX.

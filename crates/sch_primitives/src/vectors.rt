@@ -10,7 +10,7 @@ use sch_heap::word::{UNSPECIFIED, VECTOR};
 use sch_insn::condition::{AE, NE};
 use sch_insn::register::{R11, R12, RAX, RCX, RDX};
 use sch_insn::{Arg, Insn};
-use sch_own_routines::addresses::{VECTOR_LABEL, stop};
+use sch_places::addresses::{VECTOR_LABEL, stop};
 use sch_word::{List, Mem, Stop};
 
 /// The length of the vector in RAX.

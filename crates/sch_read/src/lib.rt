@@ -21,5 +21,6 @@ pub use error::ReadError;
 pub use laws::{
     a_text_has_one_fault, a_text_spells_data_or_has_a_fault, a_text_spells_one_list_of_data,
 };
+pub use parser::MAX_NESTING;
 pub use printer::print;
 pub use reader::read_all;

@@ -11,7 +11,7 @@ use sch_word::{List, Mem};
 use std::alloc::Global;
 
 /// The most levels of lists, vectors and quotes.
-const MAX_NESTING: u32 = 1000;
+pub const MAX_NESTING: u32 = 1000;
 
 /// What is open, with its place and what was read of it.
 #[derive(Drop)]

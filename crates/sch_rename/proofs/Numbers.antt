@@ -8,9 +8,11 @@ use Rattle.sch_word.specs.trees.Bindings.{numbers, scope_with}
 use Rattle.sch_cells.specs.Variables.{bound, bound_each, bound_lambdas, closed, closed_each, closed_lambdas, distinct, below}
 use Rattle.sch_rename.specs.Made.{number_at, binds, binds_each, binds_lambdas, renamed, renamed_each, renamed_lambdas}
 use Rattle.sch_lang.specs.InScope.{InScope, EachInScope, LambdasInScope}
-use Rattle.sch_rename.proofs.Scopes.{self, inside, differs}
+use Rattle.sch_rename.proofs.Scopes.{inside}
 use Rattle.sch_word.proofs.Shaped.{both_true}
 use Rattle.sch_rename.proofs.FreeKept.{counts, counts_lambdas}
+use Rattle.sch_word.proofs.facts.NumberTests.{below_differs, same}
+use Rattle.sch_word.proofs.facts.NumberSets.{below_numbers}
 
 -- ## Each number once
 
@@ -65,16 +67,12 @@ mutual
 pub program_bound : (p : Source) → bound_lambdas (renamed_lambdas p.library [] 0) ++ bound_each (renamed_each p.forms [] (binds_lambdas p.library)) ≡ numbers 0 (binds_lambdas p.library + binds_each p.forms)
 program_bound p = on 0 (binds_lambdas p.library) (binds_each p.forms) _ (omega arith) (lambdas_bound p.library [] 0) (each_bound p.forms [] _)
 
-lower_not_in : (y x n : ℕ) → y < x → has y (numbers x n) ≡ false
-lower_not_in y x zero l = refl
-lower_not_in y x (suc n) l = rw (differs y x l) (lower_not_in y (suc x) n (omega (arith, l)))
-
 not_true : {b : Bool} → b ≡ false → IsTrue (not b)
 not_true h = rw h refl
 
 pub numbers_distinct : (x n : ℕ) → IsTrue (distinct (numbers x n))
 numbers_distinct x zero = refl
-numbers_distinct x (suc n) = both_true (not_true (lower_not_in x (suc x) n (omega arith))) (numbers_distinct (suc x) n)
+numbers_distinct x (suc n) = both_true (not_true (below_numbers x (suc x) n (omega arith))) (numbers_distinct (suc x) n)
 
 pub numbers_below : (x n m : ℕ) → x + n ≤ m → IsTrue (below m (numbers x n))
 numbers_below x zero m l = refl
@@ -88,7 +86,7 @@ or_right false h = h
 
 pub number_in : (s : List ℕ) (k : ℕ) → k < length s → IsTrue (has (number_at s k) s)
 number_in [] k l = absurd (omega arith)
-number_in (y ∷ s) zero l = rw (self y) refl
+number_in (y ∷ s) zero l = rw (same y) refl
 number_in (y ∷ s) (suc k) l = or_right (nat_eq (number_at s k) y) (number_in s k (omega arith))
 
 mutual

@@ -21,11 +21,12 @@ use Rattle.sch_cells.specs.Procedures as procedures
 use Rattle.sch_word.specs.trees.Bindings.{Bindings, bound_to, with_variables, scope_with}
 use Rattle.sch_rename.specs.Made.{number_at, binds, binds_each, binds_lambdas, renamed, renamed_each, renamed_lambdas, renamed_source}
 use Rattle.sch_lang.specs.InScope.{InScope, EachInScope, LambdasInScope, IsClosed}
-use Rattle.sch_rename.proofs.Scopes.{self, Falls, falls_more, falls_with, at_below, differs, inside}
+use Rattle.sch_rename.proofs.Scopes.{Falls, falls_more, falls_with, at_below, inside}
 use Rattle.sch_lang.specs.Meaning.{onto}
 use Rattle.sch_lang.proofs.Environments.{onto_more}
 use Rattle.sch_rename.proofs.FreeKept.{counts, counts_lambdas, free_length}
 use Rattle.sch_rename.proofs.AssignedKept.{cells_kept}
+use Rattle.sch_word.proofs.facts.NumberTests.{below_differs, same as self}
 
 -- each variable in scope has the same on both sides
 pub record Fits {A : Type 0} (s : List ℕ) (environment : List A) (environment' : Bindings A) : Type 0 where
@@ -37,7 +38,7 @@ module _ {A : Type 0} where
     where
       go : (k : ℕ) → k < length (x ∷ s) → bound_to (number_at (x ∷ s) k) ((x, c) ∷ environment') ≡ slice_get (c ∷ environment) k
       go zero l = rw (self x) refl
-      go (suc k) l = rw (differs (number_at s k) x (at_below s x k f (omega arith))) (h.at k (omega arith))
+      go (suc k) l = rw (below_differs (number_at s k) x (at_below s x k f (omega arith))) (h.at k (omega arith))
 
   pub fits_with : {s : List ℕ} {environment : List A} {environment' : Bindings A} (x m : ℕ) (cs : List A) → length cs ≡ m → Falls s x → Fits s environment environment' → Fits (scope_with x m s) (onto cs environment) (with_variables x cs environment')
   fits_with x zero [] l f h = h

@@ -6,9 +6,7 @@ use Rattle.sch_word.specs.trees.NumberSets.{has, unless, insert, union}
 use Rattle.sch_lang.specs.Variables.{outside_one, outside}
 use Rattle.sch_rename.specs.Made.{number_at}
 use Rattle.sch_word.specs.trees.Bindings.{scope_with, remove, without}
-
-pub self : (x : ℕ) → nat_eq x x ≡ true
-self x = eq-eqb x x refl
+use Rattle.sch_word.proofs.facts.NumberTests.{below_differs, same as self}
 
 -- a scope of numbers that fall from the nearest on, all below x
 abbrev pub Falls : List ℕ → ℕ → Type 0
@@ -41,13 +39,6 @@ at_same (y ∷ s) x zero zero f l r e = refl
 at_same (y ∷ s) x zero (suc k) f l r e = absurd (let h : number_at s k < y = at_below s y k f.1 (omega arith) in omega (arith, h, e))
 at_same (y ∷ s) x (suc j) zero f l r e = absurd (let h : number_at s j < y = at_below s y j f.1 (omega arith) in omega (arith, h, e))
 at_same (y ∷ s) x (suc j) (suc k) f l r e = ap suc (at_same s y j k f.1 (omega arith) (omega arith) e)
-
-pub differs : (a y : ℕ) → a < y → nat_eq a y ≡ false
-differs a y l = go (nat_eq a y) refl
-  where
-    go : (b : Bool) → nat_eq a y ≡ b → b ≡ false
-    go true e = absurd (let q : a ≡ y = eqb-true a y e in omega (arith, q, l))
-    go false e = refl
 
 -- two numbers of a scope are the same where their places are
 pub same_at : (s : List ℕ) (x k j : ℕ) → Falls s x → k < length s → j < length s → nat_eq (number_at s k) (number_at s j) ≡ nat_eq k j
@@ -110,7 +101,7 @@ both s x xs ys f u v p q = rw (p, q) (union_map s x xs ys f u v)
 one_map : (s : List ℕ) (y : ℕ) (xs : List ℕ) → Falls s y → Under xs (suc (length s)) → remove y (map (number_at (y ∷ s)) xs) ≡ map (number_at s) (outside_one xs)
 one_map s y [] f u = refl
 one_map s y (zero ∷ xs) f u = rw (self y) (one_map s y xs f u.1)
-one_map s y (suc k ∷ xs) f u = rw (differs (number_at s k) y (at_below s y k f (omega (arith, u.0)))) (ap (λ l. number_at s k ∷ l) (one_map s y xs f u.1))
+one_map s y (suc k ∷ xs) f u = rw (below_differs (number_at s k) y (at_below s y k f (omega (arith, u.0)))) (ap (λ l. number_at s k ∷ l) (one_map s y xs f u.1))
 
 pub outside_map : (x m : ℕ) (s : List ℕ) (xs : List ℕ) → Falls s x → Under xs (length s + m) → without x m (map (number_at (scope_with x m s)) xs) ≡ map (number_at s) (outside m xs)
 outside_map x zero s xs f u = refl

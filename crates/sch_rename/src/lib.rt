@@ -9,9 +9,11 @@ ghost use Rattle.sch_lang.specs.Measures.{call_sites_of, dropped_of, over_source
 ghost use Rattle.sch_lang.specs.ProgramView.{source};
 ghost use Rattle.sch_lang.specs.Run.{run};
 ghost use Rattle.sch_lang.specs.Covered.{is_covered_program};
+ghost use Rattle.sch_lang.specs.Tree as tree;
 ghost use Rattle.sch_cells.specs.Bodies as bodies;
 ghost use Rattle.sch_cells.specs.Measures as measures;
 ghost use Rattle.sch_cells.specs.ProgramView as view;
+ghost use Rattle.sch_cells.specs.Tree.{count_lambdas};
 ghost use Rattle.sch_cells.specs.Recursive.{recursive_in, recursive_of};
 ghost use Rattle.sch_cells.specs.Covered as covered;
 ghost use Rattle.sch_cells.specs.UnboxedMeaning as meaning;
@@ -38,6 +40,8 @@ pub fn rename(alloc: Global, p: &Program) -> Result<CellProgram<Unboxed>, Mem>
     ensures made { IfOk result (λ q. view.source q ≡ renamed_source (source p.now)) }
     // Under every order table, limits, answers of a kernel and number of entries it runs as `p` does.
     ensures runs { IfOk result (λ q. SameRuns (run (source p.now)) (meaning.run (view.source q))) }
+    // As many procedures of the library, in the same order.
+    ensures library { IfOk result (λ q. count_lambdas (view.source q).library ≡ tree.count_lambdas (source p.now).library) }
     ensures statics { IfOk result (λ q. statics q.statics ≡ statics_of p.now.symbols p.now.literals p.now.globals) }
     ensures variables { IfOk result (λ q. q.variables ≡ variables_bound (source p.now)) }
     // The sites that are listed, and those of the nodes, in the order of the text.

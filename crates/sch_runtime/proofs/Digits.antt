@@ -6,7 +6,7 @@ use Rattle.std.proofs.lemmas.Bool.{eqb-false}
 use Rattle.std.proofs.lemmas.Bool.Decides.{nat_tests}
 use Rattle.sch_insn.specs.declared.insn.Arg.TheVariants.{Reg, Base}
 use Rattle.sch_insn.specs.declared.insn.Insn.TheVariants.{MovNumber, Idiv, AddNumber, SubNumber, CmpNumber}
-use Rattle.sch_insn.specs.declared.machine.StuckCause.{StuckCause}
+use Rattle.sch_insn.specs.declared.state.StuckCause.{StuckCause}
 use Rattle.sch_insn.specs.Machine.{set_register, add64, sub64, magnitude, difference_of, sum_of, unknown_flags, condition, when_ok, with_flags, with_register, with_place}
 use Rattle.sch_insn.specs.Step.{Runs, moved, perform, quotient_of, dividend_magnitude, is_quotient}
 use Rattle.sch_insn.proofs.Paths.{leads_then, leads_on}

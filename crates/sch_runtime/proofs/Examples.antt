@@ -21,7 +21,7 @@ use Rattle.sch_asm.specs.declared.routine.Routine.TheVariants.{End, Stop, Put, P
 use Rattle.sch_asm.specs.Routines.{label_of}
 use Rattle.sch_asm.specs.Codes.{item_size, text_size}
 use Rattle.sch_asm.specs.Data.{data_at}
-use Rattle.sch_asm.specs.Layout.{addresses_from, emitted, numbered, placed_by}
+use Rattle.sch_asm.specs.Layout.{addresses_from, emitted, placed}
 use Rattle.sch_asm.specs.Views.{text_at}
 use Rattle.sch_runtime.specs.Code.{routine_items}
 
@@ -33,9 +33,9 @@ routine_bytes = refl
 abbrev text_of : List Item → List ℕ
 text_of items =
     let all = items ++ routine_items in
-    let numbers = numbered all 0 (replicate 1030 0) in
     let addresses = addresses_from text_address (map item_size all) in
-    flat_map spelling (emitted (placed_by numbers addresses) (slice_index addresses) 0 all)
+    let places = placed (slice_index addresses) all 0 (replicate 1030 0) in
+    flat_map spelling (emitted (slice_index places) (slice_index addresses) 0 all)
 
 -- how it ends within 400 steps, where some bytes stand behind the routines' own words
 abbrev ends : List Item → List ℕ → List Answer → Option (ℕ × List ℕ)

@@ -16,7 +16,8 @@ use Rattle.sch_asm.specs.Views.{View, Leads}
 use Rattle.sch_asm.specs.Effects.{AreBytes, AreWords, Fills, HasRoom, IsReady, is_scratch}
 use Rattle.sch_asm.proofs.EachItem.{goes, jumps, branches, stores_word, stores_one_byte}
 use Rattle.sch_runtime.specs.Code.{byte_store, bytes_code, bytes_label, bytes_test, bytes_turn, fill_code, test_code, turn_code, word_store, words_code, words_label, words_test, words_turn}
-use Rattle.sch_runtime.proofs.PutBytes.{before_put, behind_put, bytes_put, length_bytes, length_words, put_after, put_none, repeated, size_put, words_put}
+use Rattle.sch_insn.proofs.PutSize.{size_put}
+use Rattle.sch_runtime.proofs.PutBytes.{before_put, behind_put, bytes_put, length_bytes, length_words, put_after, put_none, repeated, words_put}
 use Rattle.sch_runtime.proofs.ZeroTests.{ne_zero}
 
 -- The scratch registers that a fill writes are rax and rdx.

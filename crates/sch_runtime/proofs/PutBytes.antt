@@ -27,11 +27,6 @@ from_put bs k xs le =
 pub behind_put : (bs : List ℕ) (k : ℕ) (xs : List ℕ) → k ≤ length bs → drop (k + length xs) (put_bytes bs k xs) ≡ drop (k + length xs) bs
 behind_put bs k xs le = sym (drop-drop (length xs) k (put_bytes bs k xs)) ∙ ap (drop (length xs)) (from_put bs k xs le) ∙ drop-append_seam xs (drop (k + length xs) bs)
 
-pub size_put : (bs : List ℕ) (k : ℕ) (xs : List ℕ) → k + length xs ≤ length bs → length (put_bytes bs k xs) ≡ length bs
-size_put bs k xs within =
-    let rest = drop (k + length xs) bs in
-    omega (arith, within, length-take-le k bs (omega (arith, within)), length-drop (k + length xs) bs, length-append xs rest, length-append (take k bs) (xs ++ rest))
-
 -- a second piece right behind the first
 pub put_after : (bs : List ℕ) (k : ℕ) (xs ys : List ℕ) → k ≤ length bs → put_bytes (put_bytes bs k xs) (k + length xs) ys ≡ put_bytes bs k (xs ++ ys)
 put_after bs k xs ys le =

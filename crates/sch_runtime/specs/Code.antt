@@ -130,7 +130,9 @@ sign_code = Plain (CmpNumber (Reg RDI) (pos 0)) ∷ JumpIf GE ready_label ∷ mi
 
 -- The last digit of rax goes before rsi, and rax loses it.
 abbrev pub digit_code : List Item
-digit_code = Plain (MovNumber (Reg RDX) (pos 0)) ∷ Plain (Idiv (Reg RCX)) ∷ Plain (AddNumber (Reg RDX) (pos 48)) ∷ Plain (SubNumber (Reg RSI) (pos 1)) ∷ Plain (StoreByte (Base RSI) RDX) ∷ Plain (CmpNumber (Reg RAX) (pos 0)) ∷ JumpIf NE digit_label ∷ sign_code
+digit_code =
+    Plain (MovNumber (Reg RDX) (pos 0)) ∷ Plain (Idiv (Reg RCX)) ∷ Plain (AddNumber (Reg RDX) (pos 48))
+    ∷ Plain (SubNumber (Reg RSI) (pos 1)) ∷ Plain (StoreByte (Base RSI) RDX) ∷ Plain (CmpNumber (Reg RAX) (pos 0)) ∷ JumpIf NE digit_label ∷ sign_code
 
 abbrev pub positive_code : List Item
 positive_code = Plain (MovNumber (Reg RSI) (pos digits_end)) ∷ Plain (MovNumber (Reg RCX) (pos 10)) ∷ Label digit_label ∷ digit_code

@@ -18,7 +18,7 @@ use Rattle.sch_frames.specs.Valid.{is_entered}
 use Rattle.sch_word.specs.runs.Runs.{Run}
 use Rattle.sch_activations.specs.Activations.{activations}
 use Rattle.sch_activations.specs.Ways.{AreWays}
-use Rattle.sch_own_routines.specs.ItemMarks.{kind_of}
+use Rattle.sch_places.specs.ItemMarks.{kind_of}
 
 -- what a result has passed
 abbrev pub marks_of : Result → Option (List control.MarkKind)

@@ -11,7 +11,7 @@ use Rattle.sch_asm.specs.declared.item.Item.TheVariants as item
 use Rattle.sch_asm.specs.declared.item.MarkKind.TheVariants.{Enter}
 use Rattle.sch_asm.specs.declared.routine.Routine.TheVariants as routine
 use Rattle.sch_asm.specs.Routines.{label_of}
-use Rattle.sch_own_routines.specs.Addresses.{body_label}
+use Rattle.sch_places.specs.Addresses.{body_label}
 use Rattle.sch_own_routines.specs.OwnCode.{own_code}
 use Rattle.sch_own_routines.specs.RestCode.{rest_entry}
 use Rattle.sch_operations.specs.CallCode.{check_count}

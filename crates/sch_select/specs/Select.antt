@@ -12,8 +12,8 @@ use Rattle.sch_insn.specs.declared.register.TheConstants.{RAX, RCX, R15}
 use Rattle.sch_asm.specs.declared.item.Item.{Item}
 use Rattle.sch_asm.specs.declared.item.Item.TheVariants.{Label, Plain, Jump, JumpIf, Mark}
 use Rattle.sch_heap.specs.Encoded.{false_word}
-use Rattle.sch_own_routines.specs.Addresses.{place_operand}
-use Rattle.sch_own_routines.specs.ItemMarks.{kind_of}
+use Rattle.sch_places.specs.Addresses.{place_operand}
+use Rattle.sch_places.specs.ItemMarks.{kind_of}
 use Rattle.sch_primitives.specs.OperandCode.{second_code}
 use Rattle.sch_operations.specs.ClosureCode.{group_code}
 use Rattle.sch_operations.specs.OperationCode.{operation_code}

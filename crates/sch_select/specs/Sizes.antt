@@ -8,7 +8,7 @@ use Rattle.sch_asm.specs.declared.item.Item.{Item}
 use Rattle.sch_asm.specs.declared.item.Item.TheVariants as item
 use Rattle.sch_asm.specs.declared.item.MarkKind.{MarkKind}
 use Rattle.sch_asm.specs.declared.item.MarkKind.TheVariants.{Enter}
-use Rattle.sch_own_routines.specs.ItemMarks.{kind_of}
+use Rattle.sch_places.specs.ItemMarks.{kind_of}
 
 -- ## Steps
 

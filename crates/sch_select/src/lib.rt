@@ -4,7 +4,7 @@
 //! What is selected is covered: all that the passes make, but calls that spread their last operand.
 #![tactic(auto)]
 
+mod body_items;
 mod selecting;
-mod walk;
 
 pub use selecting::select;

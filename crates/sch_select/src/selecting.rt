@@ -19,14 +19,14 @@ ghost use Rattle.sch_select.specs.Program.{stack_bytes};
 ghost use Rattle.sch_own_routines.specs.OwnCode.{own_code};
 ghost use Rattle.sch_select.specs.Sizes.{instructions_in, kinds_in, kinds_of};
 
-use crate::walk::{Frames, forms};
+use crate::body_items::{Frames, forms};
 use sch_asm::{Asm, Item, Routine};
 use sch_frames::{FrameBody, FrameProgram};
 use sch_insn::Insn;
 use sch_insn::register::{R12, R13, RBP};
 use sch_literals::literal_words;
-use sch_own_routines::addresses::body_label;
 use sch_own_routines::own_routines;
+use sch_places::addresses::body_label;
 use sch_statics::{lay_out, words_of};
 use sch_word::{Limits, List, Mem};
 use std::alloc::Global;
@@ -45,8 +45,8 @@ fn stack_of(words: u32, depth: u64) -> u64
     frame * depth + 2 * frame
 }
 
-/// Where the heap begins, behind objects from a unit on that take this many words. Where addresses below the stack
-/// could be numbers of more than 31 bits, there is no memory for it.
+/// Where the heap begins, behind objects from a unit on that take this many words. Past `MAX_HEAP_ADDRESS` it is out of
+/// memory, so that addresses below the stack are numbers of 31 bits.
 fn heap_behind(unit: u64, words: usize) -> Result<u64, Mem>
     requires low { 16 * unit ≤ 2 ^ 31 }
     requires few { words ≤ 2 ^ 31 }
@@ -120,8 +120,8 @@ fn items_of(alloc: Global, p: &FrameProgram, ends: Ends) -> Result<List<Item>, M
 /// Resolved with the run-time routines, they do what the program does, whatever the machine is given and
 /// whatever the kernel answers, and pass the program's marks. No call spreads its last operand. The frames of a form
 /// and of the calls that may be pending take at most 2^30 bytes. Time and memory are linear in the
-/// instructions, the labels, what is static and the library. The addresses below the stack are numbers of 31 bits: where
-/// what is static would reach past the last address at which the heap may begin, there is no memory for it.
+/// instructions, the labels, what is static and the library. It is out of memory also where what is static would reach
+/// past the last address at which the heap may begin, and where a label would be past the numbers of 32 bits.
 pub fn select(alloc: Global, p: &FrameProgram, limits: Limits) -> Result<Asm, Mem>
     requires covered { IsTrue (is_covered_program (source p.now)) }
     requires stack { frames_bytes p.now.words limits.depth ≤ max_stack }

@@ -16,6 +16,8 @@ use Rattle.sch_flat.proofs.Rows.{trees_of_list}
 use Rattle.sch_normal.specs.Normal.{bound_places, operator_place, bound_rows, bound_rows_each, bound_rows_bodies}
 use Rattle.sch_simple.specs.Placed.{placed, placed_each, placed_bodies}
 use Rattle.sch_normal.proofs.Items.{left}
+use Rattle.sch_word.proofs.facts.NumberTests.{differ}
+use Rattle.sch_word.proofs.facts.Lists.{turn_back}
 
 -- ## Places
 
@@ -61,9 +63,6 @@ set_beyond (x ∷ xs) (suc i) v l = ap (λ r. x ∷ r) (set_beyond xs i v (omega
 
 -- ## From the last to the first
 
-taken : {A : Type 0} (xs : List A) (i : ℕ) (x : A) → i < length xs → x ≡ get_or xs i x → take (suc i) xs ≡ take i xs ++ x ∷ []
-taken xs i x l e = take-suc xs i x l ∙ ap (λ y. take i xs ++ y ∷ []) (sym e)
-
 each_last : (ps : List Exp) (e : Exp) (table : List (List ℕ)) → placed_each (left (ps ++ e ∷ [])) table ≡ placed_each (left ps) (placed (tree e) table)
 each_last [] e table = refl
 each_last (a ∷ ps) e table = ap (placed (tree a)) (each_last ps e table)
@@ -73,16 +72,10 @@ bodies_last [] b table = refl
 bodies_last (a ∷ ps) b table = ap (placed (tree a.code)) (bodies_last ps b table)
 
 pub each_back : (items : List Exp) (n : ℕ) (e : Exp) (r r' whole : List (List ℕ)) → 0 < n → n ≤ length items → e ≡ get_or items (n - 1) e → r' ≡ placed (tree e) r → placed_each (left (take n items)) r ≡ whole → placed_each (left (take (n - 1) items)) r' ≡ whole
-each_back items n e r r' whole l b is h k =
-    let p : n ≡ suc (n - 1) = omega (arith, l) in
-    let k' : placed_each (left (take (suc (n - 1)) items)) r ≡ whole = subst (λ m. placed_each (left (take m items)) r ≡ whole) p k in
-    rw h (sym (each_last (take (n - 1) items) e r) ∙ ap (λ t. placed_each (left t) r) (sym (taken items (n - 1) e (omega (arith, l, b)) is)) ∙ k')
+each_back = turn_back (λ ps r. placed_each (left ps) r) (λ a r. placed (tree a) r) each_last
 
 pub bodies_back : (items : List body.Body) (n : ℕ) (e : body.Body) (r r' whole : List (List ℕ)) → 0 < n → n ≤ length items → e ≡ get_or items (n - 1) e → r' ≡ placed (tree e.code) r → placed_bodies (map view.body (take n items)) r ≡ whole → placed_bodies (map view.body (take (n - 1) items)) r' ≡ whole
-bodies_back items n e r r' whole l b is h k =
-    let p : n ≡ suc (n - 1) = omega (arith, l) in
-    let k' : placed_bodies (map view.body (take (suc (n - 1)) items)) r ≡ whole = subst (λ m. placed_bodies (map view.body (take m items)) r ≡ whole) p k in
-    rw h (sym (bodies_last (take (n - 1) items) e r) ∙ ap (λ t. placed_bodies (map view.body t) r) (sym (taken items (n - 1) e (omega (arith, l, b)) is)) ∙ k')
+bodies_back = turn_back (λ ps r. placed_bodies (map view.body ps) r) (λ a r. placed (tree a.code) r) bodies_last
 
 pub each_whole : (items : List Exp) → left (take (length items) items) ≡ trees_of items
 each_whole items = ap left (take-length items) ∙ sym (trees_of_list items)
@@ -93,16 +86,16 @@ bodies_whole items = ap (map view.body) (take-length items)
 -- ## The table
 
 -- rows in a table, of which the first of a site is set last
-abbrev noted : Bindings (List ℕ) → List (List ℕ) → List (List ℕ)
-noted [] table = table
-noted (row ∷ rows) table = set (noted rows table) row.0 row.1
+abbrev recorded : Bindings (List ℕ) → List (List ℕ) → List (List ℕ)
+recorded [] table = table
+recorded (row ∷ rows) table = set (recorded rows table) row.0 row.1
 
-noted_append : (rows more : Bindings (List ℕ)) (table : List (List ℕ)) → noted (rows ++ more) table ≡ noted rows (noted more table)
-noted_append [] more table = refl
-noted_append (row ∷ rows) more table = ap (λ t. set t row.0 row.1) (noted_append rows more table)
+recorded_append : (rows more : Bindings (List ℕ)) (table : List (List ℕ)) → recorded (rows ++ more) table ≡ recorded rows (recorded more table)
+recorded_append [] more table = refl
+recorded_append (row ∷ rows) more table = ap (λ t. set t row.0 row.1) (recorded_append rows more table)
 
 mutual
-  placed_is : (e : Tree) (table : List (List ℕ)) → placed e table ≡ noted (bound_rows e) table
+  placed_is : (e : Tree) (table : List (List ℕ)) → placed e table ≡ recorded (bound_rows e) table
   placed_is (constant c) table = refl
   placed_is (literal k) table = refl
   placed_is (variable v) table = refl
@@ -110,27 +103,27 @@ mutual
   placed_is (set_global g e) table = placed_is e table
   placed_is (define g e) table = placed_is e table
   placed_is (branch a b c) table =
-      placed_is a (placed b (placed c table)) ∙ ap (noted (bound_rows a)) (placed_is b (placed c table) ∙ ap (noted (bound_rows b)) (placed_is c table) ∙ sym (noted_append (bound_rows b) (bound_rows c) table))
-      ∙ sym (noted_append (bound_rows a) (bound_rows b ++ bound_rows c) table)
+      placed_is a (placed b (placed c table)) ∙ ap (recorded (bound_rows a)) (placed_is b (placed c table) ∙ ap (recorded (bound_rows b)) (placed_is c table) ∙ sym (recorded_append (bound_rows b) (bound_rows c) table))
+      ∙ sym (recorded_append (bound_rows a) (bound_rows b ++ bound_rows c) table)
   placed_is (sequence es) table = each_is es table
   placed_is (bind site first es e) table =
-      ap (λ t. set t site (numbers 0 (count es))) (each_is es (placed e table) ∙ ap (noted (bound_rows_each es)) (placed_is e table) ∙ sym (noted_append (bound_rows_each es) (bound_rows e) table))
+      ap (λ t. set t site (numbers 0 (count es))) (each_is es (placed e table) ∙ ap (recorded (bound_rows_each es)) (placed_is e table) ∙ sym (recorded_append (bound_rows_each es) (bound_rows e) table))
   placed_is (make_closure m) table = refl
   placed_is (fix_closures first ms e) table = placed_is e table
   placed_is (call site spread f es) table =
-      ap (λ t. set t site (bound_places 1 es (operator_place f))) (placed_is f (placed_each es table) ∙ ap (noted (bound_rows f)) (each_is es table) ∙ sym (noted_append (bound_rows f) (bound_rows_each es) table))
+      ap (λ t. set t site (bound_places 1 es (operator_place f))) (placed_is f (placed_each es table) ∙ ap (recorded (bound_rows f)) (each_is es table) ∙ sym (recorded_append (bound_rows f) (bound_rows_each es) table))
   placed_is (operation site which es) table = ap (λ t. set t site (bound_places 0 es [])) (each_is es table)
   placed_is (new_cells cs e) table = placed_is e table
   placed_is (cell_get v) table = refl
   placed_is (cell_set v e) table = placed_is e table
 
-  each_is : (es : Trees) (table : List (List ℕ)) → placed_each es table ≡ noted (bound_rows_each es) table
+  each_is : (es : Trees) (table : List (List ℕ)) → placed_each es table ≡ recorded (bound_rows_each es) table
   each_is no_trees table = refl
-  each_is (and_tree e es) table = placed_is e (placed_each es table) ∙ ap (noted (bound_rows e)) (each_is es table) ∙ sym (noted_append (bound_rows e) (bound_rows_each es) table)
+  each_is (and_tree e es) table = placed_is e (placed_each es table) ∙ ap (recorded (bound_rows e)) (each_is es table) ∙ sym (recorded_append (bound_rows e) (bound_rows_each es) table)
 
-bodies_are : (bs : List Body) (table : List (List ℕ)) → placed_bodies bs table ≡ noted (bound_rows_bodies bs) table
+bodies_are : (bs : List Body) (table : List (List ℕ)) → placed_bodies bs table ≡ recorded (bound_rows_bodies bs) table
 bodies_are [] table = refl
-bodies_are (b ∷ bs) table = placed_is b.code (placed_bodies bs table) ∙ ap (noted (bound_rows b.code)) (bodies_are bs table) ∙ sym (noted_append (bound_rows b.code) (bound_rows_bodies bs) table)
+bodies_are (b ∷ bs) table = placed_is b.code (placed_bodies bs table) ∙ ap (recorded (bound_rows b.code)) (bodies_are bs table) ∙ sym (recorded_append (bound_rows b.code) (bound_rows_bodies bs) table)
 
 same_from : {A : Type 0} (f g : ℕ → A) (s x n : ℕ) → s < x → ((y : ℕ) → (y ≡ s → ⊥) → g y ≡ f y) → map f (numbers x n) ≡ map g (numbers x n)
 same_from f g s x zero l h = refl
@@ -147,22 +140,15 @@ none_bound : (x n : ℕ) → replicate {A = List ℕ} n [] ≡ map (λ site. [])
 none_bound x zero = refl
 none_bound x (suc n) = ap (λ r. [] ∷ r) (none_bound (suc x) n)
 
-differ : (x y : ℕ) → (x ≡ y → ⊥) → nat_eq x y ≡ false
-differ x y n = go (nat_eq x y) refl
-  where
-    go : (b : Bool) → nat_eq x y ≡ b → b ≡ false
-    go true e = absurd (n (eqb-true x y e))
-    go false e = refl
-
-noted_is : (rows : Bindings (List ℕ)) (n : ℕ) → noted rows (replicate n []) ≡ map (λ site. order_or_none (bound_to site rows)) (numbers 0 n)
-noted_is [] n = none_bound 0 n
-noted_is (row ∷ rows) n =
-    ap (λ t. set t row.0 row.1) (noted_is rows n)
+recorded_is : (rows : Bindings (List ℕ)) (n : ℕ) → recorded rows (replicate n []) ≡ map (λ site. order_or_none (bound_to site rows)) (numbers 0 n)
+recorded_is [] n = none_bound 0 n
+recorded_is (row ∷ rows) n =
+    ap (λ t. set t row.0 row.1) (recorded_is rows n)
     ∙ set_number (λ site. order_or_none (bound_to site rows)) (λ site. order_or_none (bound_to site (row ∷ rows))) row.0 0 n row.0 row.1 (omega arith)
     (rw (eq-eqb row.0 row.0 refl) refl) (λ y d. rw (differ y row.0 d) refl)
 
 -- the table of a program
 pub bound_is : (bodies : List Body) (forms : Trees) (n : ℕ) → placed_bodies bodies (placed_each forms (replicate n [])) ≡ map (λ site. order_or_none (bound_to site (bound_rows_bodies bodies ++ bound_rows_each forms))) (numbers 0 n)
 bound_is bodies forms n =
-    bodies_are bodies (placed_each forms (replicate n [])) ∙ ap (noted (bound_rows_bodies bodies)) (each_is forms (replicate n []))
-    ∙ sym (noted_append (bound_rows_bodies bodies) (bound_rows_each forms) (replicate n [])) ∙ noted_is (bound_rows_bodies bodies ++ bound_rows_each forms) n
+    bodies_are bodies (placed_each forms (replicate n [])) ∙ ap (recorded (bound_rows_bodies bodies)) (each_is forms (replicate n []))
+    ∙ sym (recorded_append (bound_rows_bodies bodies) (bound_rows_each forms) (replicate n [])) ∙ recorded_is (bound_rows_bodies bodies ++ bound_rows_each forms) n

@@ -5,10 +5,10 @@ ghost use Rattle.std.specs.Prelude.{◌≡◌, IfOk};
 ghost use Rattle.sch_flat.specs.ProgramView.{source};
 ghost use Rattle.sch_normal.specs.Normal as normal;
 
-mod places;
 mod simple;
+mod sites;
 
-use crate::places::{nothing_bound, place_bodies, place_each};
+use crate::sites::{nothing_bound, place_bodies, place_each};
 use sch_flat::FlatProgram;
 use sch_word::{List, Mem};
 pub use simple::{is_simple, needs_variable};

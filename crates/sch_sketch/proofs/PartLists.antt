@@ -1,5 +1,6 @@
 -- Sketches that are made one after the other.
 use Rattle.std.proofs.Common.{◌≡◌, ◌<◌, ◌+◌, ℕ, suc, List, [], ◌∷◌, ◌++◌, length, drop, get_or, refl, sym, ap, ◌∙◌, add-one, drop-cons}
+use Rattle.sch_word.proofs.facts.Lists.{next_left}
 use Rattle.sch_read.specs.declared.datum.Datum.{Datum}
 use Rattle.sch_read.specs.Views.{tree_of, data_of}
 use Rattle.sch_sketch.specs.declared.sketch.Sketch as code
@@ -16,13 +17,9 @@ pub ahead_none : (ks : List code.Sketch) → ahead ks no_sketch ≡ sketches_of 
 ahead_none [] = refl
 ahead_none (k ∷ ks) = ap (and_sketch (sketch_of k)) (ahead_none ks)
 
--- what is left begins with the item at hand
-pub next_is : {A : Type 0} (items : List A) (i : ℕ) (a : A) → i < length items → a ≡ get_or items i a → drop i items ≡ a ∷ drop (suc i) items
-next_is items i a l e = drop-cons items i a l ∙ ap (λ b. b ∷ drop (suc i) items) (sym e)
-
 pub texts_next : (items : List Datum) (i : ℕ) (d : Datum) (ks ks' : List code.Sketch) (k : code.Sketch) → i < length items → d ≡ get_or items i d → ks' ≡ ks ++ k ∷ [] → sketch_of k ≡ words.text (tree_of d) →
     (more : Sketches) → ahead ks' (texts (data_of (drop (i + 1) items)) more) ≡ ahead ks (texts (data_of (drop i items)) more)
-texts_next items i d ks ks' k l e p v more = rw (next_is items i d l e, add-one, p, ahead_more, v) refl
+texts_next items i d ks ks' k l e p v more = rw (next_left items i d l e, add-one, p, ahead_more, v) refl
 
 pub made_all : (ks ks0 : List code.Sketch) (F : Sketches → Sketches) → ks0 ≡ [] → ((more : Sketches) → ahead ks more ≡ ahead ks0 (F more)) → sketches_of ks ≡ F no_sketch
 made_all ks ks0 F z h = sym (ahead_none ks) ∙ h no_sketch ∙ ap (λ l. ahead l (F no_sketch)) z

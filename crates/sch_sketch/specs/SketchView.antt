@@ -13,7 +13,8 @@ use Rattle.sch_sketch.specs.declared.sketch.Kind.TheVariants as of
 use Rattle.sch_sketch.specs.declared.sketch.Sketch.{Sketch, fold-Sketch}
 use Rattle.sch_sketch.specs.declared.sketch.Sketch.TheOpen.{Sketch-F}
 use Rattle.sch_sketch.specs.Sketch as plain
-use Rattle.sch_sketch.specs.Sketch.{Sketches, sketches, and_sketch, choosing, sequencing, binding, recurring, abstracting, calling, operating, setting, setting_global, defining, text, rest, wrong, leaf, node, limited}
+use Rattle.sch_sketch.specs.Sketch.{Sketches, sketches, and_sketch, choosing, sequencing, binding, recurring, abstracting, calling, operating, setting, setting_global, defining}
+use Rattle.sch_sketch.specs.Sketch.{text, rest, wrong, leaf, node, limited}
 use Rattle.sch_sketch.specs.Draft.{Draft, constant, symbol, literal, local, global}
 
 abbrev pub leaf_of : Leaf → Draft

@@ -10,7 +10,8 @@ use Rattle.sch_names.specs.Scope.{Scope, onto}
 use Rattle.sch_sketch.specs.declared.sketch.Row.{Row}
 use Rattle.sch_sketch.specs.declared.sketch.Row.TheVariants.{Form, Method, Cases, Tests, Chain, Join}
 use Rattle.sch_sketch.specs.Draft.{Draft, constant, symbol, literal, local, global}
-use Rattle.sch_sketch.specs.Sketch.{Kind, choosing, sequencing, binding, recurring, abstracting, calling, operating, setting, setting_global, defining, Sketch, Sketches, text, rest, wrong, leaf, node, limited, no_sketch, and_sketch, how_many_parts, is_end, scope_in}
+use Rattle.sch_sketch.specs.Sketch.{Kind, choosing, sequencing, binding, recurring, abstracting, calling, operating, setting, setting_global, defining, Sketch, Sketches, text}
+use Rattle.sch_sketch.specs.Sketch.{rest, wrong, leaf, node, limited, no_sketch, and_sketch, how_many_parts, is_end, scope_in}
 use Rattle.sch_sketch.specs.FreeWords.{is_lambda}
 
 -- an expression without parts: no constant names a symbol, and a variable is bound

@@ -24,7 +24,7 @@ use Rattle.sch_layout.proofs.layouts.LayoutSize.{slots_work}
 use Rattle.sch_layout.proofs.layouts.LayoutWork.{slots_done}
 use Rattle.sch_layout.proofs.layouts.CoveredSlots.{slots_begin}
 use Rattle.sch_layout.proofs.layouts.SettledSlots.{slots_covered}
-use Rattle.sch_layout.proofs.layouts.SlotsFrame.{slots_does, slots_room}
+use Rattle.sch_layout.proofs.layouts.SlotsFrame.{slots_does, slots_room, unbound}
 
 -- ## One body more, with its frame body
 
@@ -67,18 +67,21 @@ all_covered (b ∷ bodies) h =
     let parts = and_parts _ _ h in
     and_from _ _ (slots_covered (control.code_of b) b.ended b.shaped b.fields parts.0) (all_covered bodies parts.1)
 
-pub all_size : (cs : List tree.Code) → codes_size (map slots_code cs) ≤ 2 * expressions_size cs + 4 * calls_parts cs + entries_size cs
+pub all_size : (bodies : List Body) → codes_size (map slots_code (control.codes_of bodies))
+    ≤ 2 * expressions_size (control.codes_of bodies) + 4 * calls_parts (control.codes_of bodies) + entries_size (control.codes_of bodies)
 all_size [] = omega arith
-all_size (c ∷ cs) =
-    let here : instructions_size (slots_layout c) ≤ 2 * expression_size c.expression + 4 * call_parts c.expression + entry_size c.entry = slots_work c in
-    let more : codes_size (map slots_code cs) ≤ 2 * expressions_size cs + 4 * calls_parts cs + entries_size cs = all_size cs in
+all_size (b ∷ bodies) =
+    let c = control.code_of b in
+    let here : instructions_size (slots_layout c) ≤ 2 * expression_size c.expression + 4 * call_parts c.expression + entry_size c.entry = slots_work c (unbound c b.scoped b.numbered) in
+    let more = all_size bodies in
     omega (arith, here, more)
 
-pub all_work : (cs : List tree.Code) → codes_size (map slots_code cs) + closures_in (map slots_code cs) ≤ codes_work cs
+pub all_work : (bodies : List Body) → codes_size (map slots_code (control.codes_of bodies)) + closures_in (map slots_code (control.codes_of bodies)) ≤ codes_work (control.codes_of bodies)
 all_work [] = omega arith
-all_work (c ∷ cs) =
-    let here : code_work (slots_code c) ≤ work.code_work c = slots_done c in
-    let more : codes_size (map slots_code cs) + closures_in (map slots_code cs) ≤ codes_work cs = all_work cs in
+all_work (b ∷ bodies) =
+    let c = control.code_of b in
+    let here : code_work (slots_code c) ≤ work.code_work c = slots_done c (unbound c b.scoped b.numbered) in
+    let more = all_work bodies in
     omega (arith, here, more)
 
 -- no frame has more words beside its variables than a call may have operands

@@ -1,6 +1,7 @@
 //! The layout of a body: its tree in order, as instructions.
 
 ghost use Rattle.std.specs.Prelude.{◌≡◌, ◌≤◌, ◌++◌, ◌+◌, ◌∷◌, [], length, take, true, IfOk, OnOk, Option, Some, None};
+ghost use Rattle.sch_control.specs.Meaning.{no_region};
 ghost use Rattle.sch_control.specs.View.{expression};
 ghost use Rattle.sch_control.specs.declared.operation.Operation.TheVariants as operation;
 ghost use Rattle.sch_control.specs.declared.mark.MarkKind.TheVariants as mark;
@@ -8,14 +9,14 @@ ghost use Rattle.sch_frames.specs.declared.instruction.Instruction.{Instruction}
 ghost use Rattle.sch_frames.specs.declared.instruction.Instruction.TheVariants.{Do, Store, Fix, Return, End, Jump, Label, Mark};
 ghost use Rattle.sch_frames.specs.Valid.{formals_of};
 ghost use Rattle.sch_layout.specs.BodyLayout.{operation_at, members_at, leave, labels, lay, Writes};
-ghost use Rattle.sch_layout.specs.OwnSlots.{own_slot, own_slots, arrivals, entering};
+ghost use Rattle.sch_layout.specs.OwnSlots.{own_slot, own_slots, arrivals, entering, restoring, saved_round};
 
 use sch_control::{Entry, Exp, MarkKind, Member, Operation};
 use sch_frames::Instruction;
-use sch_word::{List, Mem, Place};
+use sch_word::Mem;
 use sch_writer::{
-    CLOSURE, LINK, Slots, Writer, arrival, leave, members_at, new_label, operation_at, own_slot,
-    put, write_call, write_tail_call,
+    CLOSURE, Slots, Writer, arrival, leave, members_at, new_label, operation_at, own_slot, put,
+    write_call, write_tail_call,
 };
 use std::alloc::Global;
 
@@ -95,7 +96,8 @@ fn write_end(out: &mut Writer) -> Result<(), Mem>
 }
 
 /// The instructions of an expression. Where there is a test, `#f` goes on behind its label; otherwise the
-/// value is left in the accumulator.
+/// value is left in the accumulator. The return address, where there is one, is restored after each call.
+#[tactic(auto, using(sch_layout::proofs::layouts::RegionStores::no_region_stores, sch_layout::proofs::SavedTree::restoring_labels))]
 pub(crate) fn lay(
     alloc: Global,
     slots: Slots,
@@ -104,7 +106,7 @@ pub(crate) fn lay(
     out: &mut Writer,
 ) -> Result<(), Mem>
     ensures instructions { OnOk result (Writes out.old.instructions out.new.instructions
-        (lay (own_slots slots.base slots.entered) (expression e.now) out.old.labels test)) }
+        (lay (own_slots slots.base) (restoring (saved_round slots.entered) (expression e.now)) no_region out.old.labels test)) }
     ensures labels { OnOk result (out.new.labels ≡ out.old.labels + labels (expression e.now)) }
 {
     match e {
@@ -156,7 +158,7 @@ fn arrive(base: u32, formals: u32, out: &mut Writer) -> Result<(), Mem>
     Ok(())
 }
 
-/// A procedure stores its return address, its closure and its arguments in their slots.
+/// A procedure stores its closure and its arguments in their slots.
 pub(crate) fn enter(base: u32, entry: Option<Entry>, out: &mut Writer) -> Result<(), Mem>
     requires { formals_of entry ≤ 200 }
     ensures instructions { OnOk result (Writes out.old.instructions out.new.instructions (entering base entry)) }
@@ -165,7 +167,6 @@ pub(crate) fn enter(base: u32, entry: Option<Entry>, out: &mut Writer) -> Result
     match entry {
         None => Ok(()),
         Some(e) => {
-            put(out, Instruction::Copy(Place::Slot(base), LINK))?;
             put(out, Instruction::Copy(own_slot(base, 1)?, CLOSURE))?;
             arrive(base, e.formals, out)?;
             Ok(())

@@ -4,6 +4,7 @@ ghost use Rattle.std.specs.Prelude.{◌≡◌, ◌≤◌, ◌+◌, ◌*◌, ◌-
 ghost use Rattle.sch_word.specs.trees.Shape.{max_operands};
 ghost use Rattle.sch_control.specs.Covered as control_covered;
 ghost use Rattle.sch_control.specs.SourceView as control;
+ghost use Rattle.sch_control.specs.Meaning.{no_region};
 ghost use Rattle.sch_control.specs.View.{expression};
 ghost use Rattle.sch_control.specs.Sizes.{expression_size};
 ghost use Rattle.sch_control.specs.Work as control_work;
@@ -13,15 +14,15 @@ ghost use Rattle.sch_frames.specs.Valid.{is_entered, formals_of};
 ghost use Rattle.sch_frames.specs.Sizes.{code_work, instructions_size};
 ghost use Rattle.sch_frames.specs.SourceView.{code_of};
 ghost use Rattle.sch_frames.specs.Standing.{code_marks_stand};
-ghost use Rattle.sch_layout.specs.OwnSlots.{entering, most_operands, own_slots, slots_base, slots_code, slots_words};
-ghost use Rattle.sch_layout.specs.BodyLayout.{labels, lay};
+ghost use Rattle.sch_layout.specs.OwnSlots.{entering, most_operands, own_slots, restoring, saved_round, slots_base, slots_code, slots_words};
+ghost use Rattle.sch_layout.specs.BodyLayout.{labels, lay, stored};
 ghost use Rattle.sch_layout.specs.LayoutSizes.{call_parts, entry_size, nodes};
 
 use crate::body_layout::{enter, lay};
 use sch_control::{Body, Entry, Exp};
 use sch_frames::FrameBody;
 use sch_word::{List, Mem};
-use sch_writer::{Slots, Writer};
+use sch_writer::{Slots, Writer, write_save};
 use std::alloc::Global;
 
 /// The larger of two numbers.
@@ -97,11 +98,12 @@ fn room_for(b: &Body) -> Room
     room_with(b.entry, b.variables, most_operands(&b.exp) as u32)
 }
 
-/// The instructions of a body.
+/// The instructions of a body: what it is entered by, the return address where it is saved, and its expression.
 fn laid_out(alloc: Global, slots: Slots, b: &Body) -> Result<Writer, Mem>
     requires formals { formals_of b.now.entry ≤ 200 }
     ensures instructions { IfOk result (λ out. out.instructions
-        ≡ entering slots.base b.now.entry (lay (own_slots slots.base slots.entered) (expression b.now.exp) 0 None [])) }
+        ≡ entering slots.base b.now.entry (stored (own_slots slots.base) (saved_round slots.entered)
+        (lay (own_slots slots.base) (restoring (saved_round slots.entered) (expression b.now.exp)) no_region 0 None []))) }
     ensures labels { IfOk result (λ out. out.labels ≡ labels (expression b.now.exp)) }
 {
     let mut out = Writer {
@@ -109,18 +111,20 @@ fn laid_out(alloc: Global, slots: Slots, b: &Body) -> Result<Writer, Mem>
         labels: 0,
     };
     enter(slots.base, b.entry, &mut out)?;
+    write_save(slots, &mut out)?;
     lay(alloc, slots, &b.exp, None, &mut out)?;
     Ok(out)
 }
 
 /// The frame body of a body, with a slot for each variable.
 ///
-/// A procedure stores its arguments in the slots of its formals and keeps its return address in a slot. The slots
-/// in which arguments arrive are free then: there a call sets its operands aside, before it hands them over.
+/// A procedure stores its arguments in the slots of its formals and saves its return address in a slot, from which it
+/// is restored after each call. The slots in which arguments arrive are free then: there a call sets its operands
+/// aside, before it hands them over.
 ///
 /// Memory is used as the answer's instructions need it: at most three for each node of the body, two for each
-/// operand of a call, and one for each formal. What is past the numbers of 32 bits, for which a body needs 2^31
-/// nodes, is answered as out of memory too.
+/// operator and each operand of a call, one for each formal, and two more. What is past the numbers of 32 bits, for
+/// which a body needs 2^31 nodes, is answered as out of memory too.
 pub fn frame_slots(alloc: Global, b: &Body) -> Result<FrameBody, Mem>
     // What laying out is defined to make.
     ensures made { IfOk result (λ f. code_of f ≡ slots_code (control.code_of b.now)) }

@@ -7,7 +7,7 @@ use Rattle.sch_frames.specs.Tree.{Source}
 use Rattle.sch_asm.specs.declared.assembly.Word.TheVariants.{Fixed, Address}
 use Rattle.sch_statics.specs.Data.{program_words, closures_of, heap_of}
 use Rattle.sch_statics.specs.NameWords.{symbol_words}
-use Rattle.sch_own_routines.specs.Addresses.{body_label}
+use Rattle.sch_places.specs.Addresses.{body_label}
 
 -- a program without bodies
 abbrev program : (symbols : List (List ℕ)) → Literals → (globals : List (Option ℕ)) → (library : List ℕ) → Source

@@ -32,10 +32,10 @@ use Rattle.sch_literals.proofs.Placed.{placed_objects, placed_literals}
 use Rattle.sch_literals.proofs.Sizes.{contents_length, each_units, objects_contents_length}
 use Rattle.sch_literals.proofs.WordBytes.{word_bytes}
 use Rattle.sch_literals.proofs.PutSteps.{placed_values_length}
-use Rattle.sch_own_routines.specs.Addresses.{body_label, globals_address, global_address, literal_address}
-use Rattle.sch_own_routines.specs.Addresses.{names_address, table_address}
+use Rattle.sch_places.specs.Addresses.{body_label, globals_address, global_address, literal_address}
+use Rattle.sch_places.specs.Addresses.{names_address, table_address}
 use Rattle.sch_statics.specs.NameWords.{symbol_words, symbols_count}
-use Rattle.sch_own_routines.specs.StaticBytes.{static_bytes}
+use Rattle.sch_places.specs.StaticBytes.{static_bytes}
 use Rattle.sch_statics.specs.Data.{word_list, global_word, global_words, padding, closure_words, data_words}
 use Rattle.sch_statics.specs.Data.{static_count, closures_unit, objects_unit, heap_address, max_heap_address}
 use Rattle.sch_statics.proofs.Pieces.{spelled, spelled_count, spelled_fixed, WordsAt, whole_words, word_there}

@@ -14,7 +14,7 @@ use Rattle.sch_literals.specs.PlacedWords.{units_in_each}
 use Rattle.sch_literals.proofs.Placed.{placed_objects}
 use Rattle.sch_literals.proofs.Rows.{count_rows}
 use Rattle.sch_literals.proofs.Sizes.{units_bound}
-use Rattle.sch_own_routines.specs.Addresses.{names_address}
+use Rattle.sch_places.specs.Addresses.{names_address}
 use Rattle.sch_statics.specs.Data.{static_count, closures_unit, objects_unit, heap_address}
 use Rattle.sch_statics.specs.NameWords.{names_count, symbols_count}
 use Rattle.sch_statics.proofs.Starting.{objects_count}

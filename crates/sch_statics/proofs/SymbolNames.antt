@@ -14,7 +14,7 @@ use Rattle.sch_heap.proofs.Contents.{get_front, get_behind}
 use Rattle.sch_literals.specs.ObjectWords.{text_words}
 use Rattle.sch_literals.proofs.WordBytes.{word_bytes, word_bytes_length, text_there}
 use Rattle.sch_literals.proofs.Sizes.{text_words_length}
-use Rattle.sch_own_routines.specs.Names.{IsNamed, AreNamed}
+use Rattle.sch_places.specs.Names.{IsNamed, AreNamed}
 use Rattle.sch_statics.specs.NameWords.{name_words, each_name, name_count, names_count, name_addresses, symbol_words}
 use Rattle.sch_statics.specs.NameWords.{symbols_count}
 

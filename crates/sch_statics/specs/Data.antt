@@ -9,8 +9,8 @@ use Rattle.sch_asm.specs.declared.assembly.Word.TheVariants.{Fixed, Address}
 use Rattle.sch_heap.specs.Encoded.{unset_word, procedure_tag}
 use Rattle.sch_literals.specs.PlacedWords.{units_in_each, placed_values, placed_each}
 use Rattle.sch_frames.specs.Tree.{Source}
-use Rattle.sch_own_routines.specs.Addresses.{literals_address, names_address, body_label}
-use Rattle.sch_own_routines.specs.StaticBytes.{static_bytes}
+use Rattle.sch_places.specs.Addresses.{literals_address, names_address, body_label}
+use Rattle.sch_places.specs.StaticBytes.{static_bytes}
 use Rattle.sch_statics.specs.NameWords.{symbol_words, symbols_count}
 
 -- ## Where things lie

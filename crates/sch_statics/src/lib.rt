@@ -3,6 +3,6 @@
 //! They have a program's literals, its globals, the names of its symbols and the procedures of its library.
 #![tactic(auto)]
 
-mod statics;
+mod data_words;
 
-pub use statics::{Places, lay_out, words_of};
+pub use data_words::{Places, lay_out, words_of};

@@ -5,7 +5,7 @@ use Rattle.std.specs.Prelude.{Result, Ok, Err}
 use Rattle.sch_word.specs.declared.answer.Answer.{Answer}
 use Rattle.sch_insn.specs.declared.insn.Insn.{Insn}
 use Rattle.sch_insn.specs.declared.insn.Insn.TheVariants.{Syscall}
-use Rattle.sch_insn.specs.declared.machine.StuckCause.{StuckCause}
+use Rattle.sch_insn.specs.declared.state.StuckCause.{StuckCause}
 use Rattle.sch_insn.specs.declared.register.TheConstants.{RAX, RDX, RDI}
 use Rattle.sch_insn.specs.Machine.{Core, State, with_place}
 use Rattle.sch_insn.specs.Step.{Progress, Runs, Exited, Stuck, kernel, write_row, piece_written, moved, perform, fetch, fetched, step, go_on, standing, mach}
@@ -17,7 +17,7 @@ use Rattle.sch_step.specs.declared.machine.Machine.{Machine}
 use Rattle.sch_step.specs.View.{act}
 use Rattle.sch_step.specs.Run.{state_of, reached_by_step, reached_by_run, Does, IsAt, IsRunAt}
 use Rattle.sch_step.specs.Machine.{core_of, stands, standing_of, left_by_step, left_by_run, MachineSteps, MachineRuns, HasEnded, IsStill, last_of}
-use Rattle.sch_step.proofs.Outlets.{told_weaker}
+use Rattle.sch_io.proofs.PutSteps.{tells_map}
 
 -- What has come to an end has the state from which it did.
 abbrev EndsIn : State → Progress → Type 0
@@ -74,8 +74,8 @@ still end old new ob nb ol nl of nf n p =
     let nothing : p.took ≡ [] = ap (λ s. s.output) whole in
     record {
       core = ap (λ s. s.core) whole;
-      bytes = told_weaker ob nb (λ x y. y ≡ x ++ p.took) (λ x y. y ≡ x) (λ x y e. e ∙ ap (λ l. x ++ l) nothing ∙ append-nil x) p.bytes_told;
-      left = told_weaker ol nl (λ x y. (b : List ℕ) → MachineSteps end old new b x (b ++ p.took) y) (λ x y. y ≡ x) (λ x y h. ap (λ s. s.answers) (at x y (h []))) p.told;
+      bytes = tells_map ob nb (λ x y. y ≡ x ++ p.took) (λ x y. y ≡ x) p.bytes_told (λ x y e. e ∙ ap (λ l. x ++ l) nothing ∙ append-nil x);
+      left = tells_map ol nl (λ x y. (b : List ℕ) → MachineSteps end old new b x (b ++ p.took) y) (λ x y. y ≡ x) p.told (λ x y h. ap (λ s. s.answers) (at x y (h [])));
     }
 
 -- A machine that is stuck has not exited, and the state that it is left in is stuck by the same cause.
@@ -171,8 +171,8 @@ run_still n end result old new ob nb ol nl of nf at p h =
     let nothing : p.took ≡ [] = ap (λ s. s.output) whole in
     record {
       core = ap (λ s. s.core) whole;
-      bytes = told_weaker ob nb (λ x y. y ≡ x ++ p.took) (λ x y. y ≡ x) (λ x y e. e ∙ ap (λ l. x ++ l) nothing ∙ append-nil x) p.bytes_told;
-      left = told_weaker ol nl (λ x y. (b : List ℕ) → MachineRuns n result old new b x (b ++ p.took) y) (λ x y. y ≡ x) (λ x y r. ap (λ s. s.answers) (same x y (r []))) p.told;
+      bytes = tells_map ob nb (λ x y. y ≡ x ++ p.took) (λ x y. y ≡ x) p.bytes_told (λ x y e. e ∙ ap (λ l. x ++ l) nothing ∙ append-nil x);
+      left = tells_map ol nl (λ x y. (b : List ℕ) → MachineRuns n result old new b x (b ++ p.took) y) (λ x y. y ≡ x) p.told (λ x y r. ap (λ s. s.answers) (same x y (r [])));
     }
 
 -- ---- where no step is left

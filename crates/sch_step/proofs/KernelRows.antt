@@ -3,8 +3,9 @@ use Rattle.std.proofs.Common.{◌≡◌, ◌≢◌, ℕ, zero, suc, ◌<◌, Lis
 use Rattle.std.proofs.lemmas.Bool.{eqb-true, ne_eqb}
 use Rattle.sch_word.specs.declared.answer.Answer.{Answer}
 use Rattle.sch_word.specs.declared.answer.Answer.TheVariants.{Took, Failed}
+use Rattle.sch_word.proofs.facts.Booleans.{and_left}
 use Rattle.sch_io.specs.Answers.{AnswersNext, taken}
-use Rattle.sch_insn.specs.declared.machine.StuckCause.TheVariants.{Kernel}
+use Rattle.sch_insn.specs.declared.state.StuckCause.TheVariants.{Kernel}
 use Rattle.sch_insn.specs.declared.register.TheConstants.{RAX, RCX, RDX, RSI, RDI, R11}
 use Rattle.sch_insn.specs.Machine.{Core, with_register, unknown_flags, bytes_from}
 use Rattle.sch_insn.specs.Step.{Progress, Runs, Exited, Stuck, kernel, write_row, piece_written, answered}
@@ -13,10 +14,6 @@ use Rattle.sch_step.specs.Run.{state_of}
 
 abbrev by_call : Core → ℕ → List ℕ → List Answer → ℕ → Progress
 by_call c next b k rax = cond (rax == 60) (Exited (c.registers RDI % 256) (state_of c b k)) (cond ((rax == 1) && (c.registers RDI == 1)) (write_row (state_of c b k) next (c.registers RDX)) (Stuck (Kernel (c.registers RAX)) (state_of c b k)))
-
-first_true : (s t : Bool) → (s && t) ≡ true → s ≡ true
-first_true true t e = refl
-first_true false t e = absurd cc
 
 pub exits : (c : Core) (next : ℕ) (b : List ℕ) (k : List Answer) → c.registers RAX ≡ 60 → kernel (state_of c b k) next ≡ Exited (c.registers RDI % 256) (state_of c b k)
 exits c next b k e = ap (by_call c next b k) e
@@ -28,7 +25,7 @@ no_row c next b k e f =
 
 pub writes : (c : Core) (next : ℕ) (b : List ℕ) (k : List Answer) → ((c.registers RAX == 1) && (c.registers RDI == 1)) ≡ true → kernel (state_of c b k) next ≡ write_row (state_of c b k) next (c.registers RDX)
 writes c next b k e =
-    let one = eqb-true (c.registers RAX) 1 (first_true (c.registers RAX == 1) (c.registers RDI == 1) e) in
+    let one = eqb-true (c.registers RAX) 1 (and_left (c.registers RAX == 1) (c.registers RDI == 1) e) in
     let other : c.registers RAX ≢ 60 = omega (arith, one) in
     ap (λ t. cond t (Exited (c.registers RDI % 256) (state_of c b k)) (cond ((c.registers RAX == 1) && (c.registers RDI == 1)) (write_row (state_of c b k) next (c.registers RDX)) (Stuck (Kernel (c.registers RAX)) (state_of c b k)))) (ne_eqb (c.registers RAX) 60 other)
     ∙ ap (λ t. cond t (write_row (state_of c b k) next (c.registers RDX)) (Stuck (Kernel (c.registers RAX)) (state_of c b k))) e

@@ -5,9 +5,10 @@ use Rattle.std.proofs.lemmas.List.{length-take-le, map-set, length-map, length-s
 use Rattle.std.specs.Prelude.{map, Result, Ok, Err}
 use Rattle.std.specs.Result.{result_err}
 use Rattle.sch_word.specs.values.Memory as words
-use Rattle.sch_insn.specs.declared.machine.StuckCause.{StuckCause}
-use Rattle.sch_insn.specs.declared.machine.StuckCause.TheVariants.{Access}
+use Rattle.sch_insn.specs.declared.state.StuckCause.{StuckCause}
+use Rattle.sch_insn.specs.declared.state.StuckCause.TheVariants.{Access}
 use Rattle.sch_insn.specs.Machine.{Core, holds, bytes_from, put_bytes, with_bytes, behind_segment, stored, or_access, when_ok, with_segments, write_bytes}
+use Rattle.sch_insn.proofs.PutSize.{size_put}
 use Rattle.sch_step.specs.declared.segment.Segment.{Segment}
 use Rattle.sch_step.specs.Layout.{segment_view, segment_at, IsMemory, NoneHolds}
 
@@ -131,9 +132,6 @@ may_not_write c a ys e = ap result_err (not_written c a ys e)
 
 -- ---- segments stay laid out
 
-length_put : (xs : List ℕ) (k : ℕ) (ys : List ℕ) → k + length ys ≤ length xs → length (put_bytes xs k ys) ≡ length xs
-length_put xs k ys h = omega (arith, length-append (take k xs) (ys ++ drop (k + length ys) xs), length-append ys (drop (k + length ys) xs), length-take-le k xs, length-drop (k + length ys) xs)
-
 -- A list of segments with the same addresses and lengths.
 record SameShape (gs hs : List words.Segment) : Type 0 where
   pub count : length hs ≡ length gs
@@ -176,5 +174,5 @@ pub stays_laid_out : (items : List Segment) (i a : ℕ) (x y : Segment) (ys : Li
 stays_laid_out items i a x y ys laid l e is made =
     let at = at_index items i x l is in
     let room = fits (segment_view x) a (length ys) (subst (λ g. holds g a (length ys) ≡ true) at e) in
-    let shape = same_shape (map segment_view items) i (segment_view y) (ap (λ g. g.address) made ∙ sym (ap (λ g. g.address) at)) (ap (λ g. length g.bytes) made ∙ length_put x.bytes.items (a - x.address) ys room ∙ sym (ap (λ g. length g.bytes) at)) in
+    let shape = same_shape (map segment_view items) i (segment_view y) (ap (λ g. g.address) made ∙ sym (ap (λ g. g.address) at)) (ap (λ g. length g.bytes) made ∙ size_put x.bytes.items (a - x.address) ys room ∙ sym (ap (λ g. length g.bytes) at)) in
     subst IsMemory (sym (map-set segment_view items i y)) (still_laid_out (map segment_view items) (set (map segment_view items) i (segment_view y)) shape laid)

@@ -4,25 +4,11 @@ use Rattle.std.specs.Prelude.{All}
 use Rattle.sch_word.specs.declared.answer.Answer.{Answer}
 use Rattle.sch_word.specs.declared.answer.Answer.TheVariants.{Took, Failed}
 use Rattle.sch_io.specs.Told.{Tells}
+use Rattle.sch_io.proofs.PutSteps.{tells_map, tells_same, tells_then}
 use Rattle.sch_io.specs.Counters.{Rose}
 use Rattle.sch_io.specs.Answers.{AnswersNext, IsWithin, IsRefusal, taken}
 use Rattle.sch_word.specs.runs.Answers.{TakesNothing}
 use Rattle.sch_step.specs.Run.{Does}
-
-told_still : {A : Type 0} (o : Option A) (R : A → A → Type 0) → ((a : A) → R a a) → Tells o o R
-told_still None R h = tt
-told_still (Some a) R h = h a
-
-pub told_weaker : {A : Type 0} (o n : Option A) (R S : A → A → Type 0) → ((a b : A) → R a b → S a b) → Tells o n R → Tells o n S
-told_weaker o None R S f h = tt
-told_weaker None (Some b) R S f h = h
-told_weaker (Some a) (Some b) R S f h = f a b h
-
-told_then : {A : Type 0} (o m n : Option A) (R S T : A → A → Type 0) → ((a b c : A) → R a b → S b c → T a c) → Tells o m R → Tells m n S → Tells o n T
-told_then o m None R S T f h k = tt
-told_then o None (Some c) R S T f h k = absurd k
-told_then None (Some b) (Some c) R S T f h k = h
-told_then (Some a) (Some b) (Some c) R S T f h k = f a b c h k
 
 -- Nothing goes out.
 pub quiet : (P : List ℕ → List Answer → List ℕ → List Answer → Type 0) (bytes : Option (List ℕ)) (left : Option (List Answer)) (faults : ℕ) → ((b : List ℕ) (k : List Answer) → P b k b k) → Does P bytes bytes left left faults faults
@@ -30,8 +16,8 @@ quiet P bytes left faults h = record {
   took = [];
   given = [];
   untold = λ b more. subst (λ b'. P b more b' more) (sym (append-nil b)) (h b more);
-  told = told_still left (λ x y. (b : List ℕ) → P b x (b ++ []) y) (λ x b. subst (λ b'. P b x b' x) (sym (append-nil b)) (h b x));
-  bytes_told = told_still bytes (λ x y. y ≡ x ++ []) (λ x. sym (append-nil x));
+  told = tells_same left (λ x y. (b : List ℕ) → P b x (b ++ []) y) (λ x b. subst (λ b'. P b x b' x) (sym (append-nil b)) (h b x));
+  bytes_told = tells_same bytes (λ x y. y ≡ x ++ []) (λ x. sym (append-nil x));
   faults = omega arith;
   refused = λ k d l. absurd (omega (arith, l));
 }
@@ -51,7 +37,7 @@ loud P piece a ob nb ol nl of nf some h within bytes left faults refused = recor
   took = taken a piece;
   given = a ∷ [];
   untold = λ b more. h b (a ∷ more) more (first_answer a (length piece) more within);
-  told = told_weaker ol nl (AnswersNext (length piece) a) (λ x y. (b : List ℕ) → P b x (b ++ taken a piece) y) (λ x y n b. h b x y n) left;
+  told = tells_map ol nl (AnswersNext (length piece) a) (λ x y. (b : List ℕ) → P b x (b ++ taken a piece) y) left (λ x y n b. h b x y n);
   bytes_told = bytes;
   faults = faults;
   refused = λ k d l. one k d l;
@@ -76,9 +62,9 @@ then P Q R ob mb nb ol ml nl of mf nf f p q = record {
       subst (λ k. R b k (b ++ (p.took ++ q.took)) more) (sym (append_assoc p.given q.given more))
       (subst (λ b'. R b (p.given ++ (q.given ++ more)) b' more) (append_assoc b p.took q.took)
       (f b (p.given ++ (q.given ++ more)) (b ++ p.took) (q.given ++ more) ((b ++ p.took) ++ q.took) more (p.untold b (q.given ++ more)) (q.untold (b ++ p.took) more)));
-  told = told_then ol ml nl (λ x y. (b : List ℕ) → P b x (b ++ p.took) y) (λ x y. (b : List ℕ) → Q b x (b ++ q.took) y) (λ x y. (b : List ℕ) → R b x (b ++ (p.took ++ q.took)) y)
-      (λ x y z g h b. subst (λ b'. R b x b' z) (append_assoc b p.took q.took) (f b x (b ++ p.took) y ((b ++ p.took) ++ q.took) z (g b) (h (b ++ p.took)))) p.told q.told;
-  bytes_told = told_then ob mb nb (λ x y. y ≡ x ++ p.took) (λ x y. y ≡ x ++ q.took) (λ x y. y ≡ x ++ (p.took ++ q.took)) (λ x y z e g. g ∙ ap (λ l. l ++ q.took) e ∙ append_assoc x p.took q.took) p.bytes_told q.bytes_told;
+  told = tells_then ol ml nl (λ x y. (b : List ℕ) → P b x (b ++ p.took) y) (λ x y. (b : List ℕ) → Q b x (b ++ q.took) y) (λ x y. (b : List ℕ) → R b x (b ++ (p.took ++ q.took)) y)
+      p.told q.told (λ x y z g h b. subst (λ b'. R b x b' z) (append_assoc b p.took q.took) (f b x (b ++ p.took) y ((b ++ p.took) ++ q.took) z (g b) (h (b ++ p.took))));
+  bytes_told = tells_then ob mb nb (λ x y. y ≡ x ++ p.took) (λ x y. y ≡ x ++ q.took) (λ x y. y ≡ x ++ (p.took ++ q.took)) p.bytes_told q.bytes_told (λ x y z e g. g ∙ ap (λ l. l ++ q.took) e ∙ append_assoc x p.took q.took);
   faults = let a = p.faults in let b = q.faults in omega arith;
   refused = both p.given q.given (λ k d l t. rose_later of mf nf (p.refused k d l t) q.faults) (λ k d l t. rose_earlier of mf nf p.faults (q.refused k d l t));
 }
@@ -93,7 +79,7 @@ weaker P Q ob nb ol nl of nf f p = record {
   took = p.took;
   given = p.given;
   untold = λ b more. f b (p.given ++ more) (b ++ p.took) more (p.untold b more);
-  told = told_weaker ol nl (λ x y. (b : List ℕ) → P b x (b ++ p.took) y) (λ x y. (b : List ℕ) → Q b x (b ++ p.took) y) (λ x y g b. f b x (b ++ p.took) y (g b)) p.told;
+  told = tells_map ol nl (λ x y. (b : List ℕ) → P b x (b ++ p.took) y) (λ x y. (b : List ℕ) → Q b x (b ++ p.took) y) p.told (λ x y g b. f b x (b ++ p.took) y (g b));
   bytes_told = p.bytes_told;
   faults = p.faults;
   refused = p.refused;

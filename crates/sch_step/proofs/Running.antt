@@ -5,7 +5,7 @@ use Rattle.std.specs.Result.{result_err}
 use Rattle.sch_word.specs.declared.answer.Answer.{Answer}
 use Rattle.sch_insn.specs.declared.insn.Insn.{Insn}
 use Rattle.sch_insn.specs.declared.insn.Insn.TheVariants.{Syscall}
-use Rattle.sch_insn.specs.declared.machine.StuckCause.{StuckCause}
+use Rattle.sch_insn.specs.declared.state.StuckCause.{StuckCause}
 use Rattle.sch_insn.specs.Machine.{Core, State, with_place}
 use Rattle.sch_insn.specs.Step.{Progress, Runs, Exited, Stuck, moved, perform, step, go_on, standing, mach}
 use Rattle.sch_step.specs.declared.ends.Stuck.{Stuck as StuckAt}

@@ -5,7 +5,7 @@ use Rattle.sch_word.specs.runs.Answers.{TakesNothing}
 use Rattle.sch_io.specs.Told.{Tells}
 use Rattle.sch_io.specs.Counters.{Rose}
 use Rattle.sch_insn.specs.declared.insn.Insn.{Insn}
-use Rattle.sch_insn.specs.declared.machine.StuckCause.{StuckCause}
+use Rattle.sch_insn.specs.declared.state.StuckCause.{StuckCause}
 use Rattle.sch_insn.specs.Machine.{Core, State}
 use Rattle.sch_insn.specs.Step.{Progress, Runs, Exited, Stuck, kernel, perform, step}
 use Rattle.sch_step.specs.declared.ends.StepEnd.{StepEnd}
@@ -34,7 +34,8 @@ reached_by_run (run_end.Stuck stuck) c bytes answers = Stuck stuck.cause (state_
 -- some answers: with these answers, before any others, P holds; where the outlet tells the answers that
 -- it holds, P holds with those; where it tells its bytes, it took these bytes. An answer took nothing
 -- only where the outlet's faults rose.
-pub record Does (P : List ℕ → List Answer → List ℕ → List Answer → Type 0) (old_bytes new_bytes : Option (List ℕ)) (old_left new_left : Option (List Answer)) (old_faults new_faults : ℕ) : Type 0 where
+pub record Does (P : List ℕ → List Answer → List ℕ → List Answer → Type 0)
+    (old_bytes new_bytes : Option (List ℕ)) (old_left new_left : Option (List Answer)) (old_faults new_faults : ℕ) : Type 0 where
   pub took : List ℕ
   pub given : List Answer
   pub untold : (bytes : List ℕ) (more : List Answer) → P bytes (given ++ more) (bytes ++ took) more

@@ -1,9 +1,9 @@
 -- A processor of the program as a core of the definitions.
 use Rattle.std.specs.Prelude.{ℕ, Result, Ok, Err}
-use Rattle.sch_insn.specs.declared.machine.Flags.{Flags}
-use Rattle.sch_insn.specs.declared.machine.StuckCause.{StuckCause}
+use Rattle.sch_insn.specs.declared.state.Flags.{Flags}
+use Rattle.sch_insn.specs.declared.state.StuckCause.{StuckCause}
 use Rattle.sch_insn.specs.declared.insn.Insn.{Insn}
-use Rattle.sch_insn.specs.declared.machine.StuckCause.TheVariants.{Kernel}
+use Rattle.sch_insn.specs.declared.state.StuckCause.TheVariants.{Kernel}
 use Rattle.sch_insn.specs.declared.register.TheConstants.{RAX}
 use Rattle.sch_insn.specs.Step.{Row, Acts, Calls, row}
 use Rattle.sch_insn.specs.Machine.{Core, registers_of, with_place, unknown_flags, sum_of, difference_of, bits_of, product_of}

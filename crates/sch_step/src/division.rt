@@ -1,3 +1,5 @@
+//! The division of a signed number of 128 bits, as `idiv` does it.
+
 ghost use Rattle.std.specs.Prelude.{◌≡◌, ◌+◌, ◌*◌, ◌/◌, ◌%◌, ◌<◌, ◌≤◌, ◌^◌, true};
 ghost use Rattle.sch_insn.specs.Machine.{signed as signed_of};
 ghost use Rattle.sch_insn.specs.Step.{dividend_magnitude, is_quotient as is_quotient_of, quotient_of};

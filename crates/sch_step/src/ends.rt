@@ -1,3 +1,5 @@
+//! How steps and runs end.
+
 use sch_insn::StuckCause;
 
 /// Where a machine is stuck, and why.

@@ -1,3 +1,5 @@
+//! The flags, which are computed when a condition reads them.
+
 ghost use Rattle.std.specs.Prelude.{◌≡◌, ◌<◌, ◌≤◌, ◌^◌};
 ghost use Rattle.sch_insn.specs.Machine.{is_negative, test_of, condition as condition_of, sum_of, difference_of, bits_of, product_of, product_fits, magnitude};
 

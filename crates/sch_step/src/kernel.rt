@@ -1,3 +1,5 @@
+//! Calls of the kernel, and a step of the machine.
+
 ghost use Rattle.std.specs.Prelude.{◌≡◌, ◌+◌, ◌==◌, ◌&&◌, true, ◌<◌, ◌≤◌, ◌^◌, ℕ, List, length, take, option_map, IfSome};
 ghost use Rattle.sch_insn.specs.Spelling.{IsValid};
 ghost use Rattle.sch_insn.specs.Machine.{bytes_from, with_place};
@@ -39,7 +41,8 @@ impl Processor {
     /// The bytes of a write that the machine asks for, where they may be read.
     fn piece(&self) -> Option<&[u8]>
         requires some { 0 < (core_of self.now).registers RDX }
-        ensures found { option_map (λ piece. piece.now) result ≡ option_map (take ((core_of self.now).registers RDX)) (bytes_from (λ g. g.readable) (core_of self.now).segments ((core_of self.now).registers RSI) ((core_of self.now).registers RDX)) }
+        ensures found { option_map (λ piece. piece.now) result
+            ≡ option_map (take ((core_of self.now).registers RDX)) (bytes_from (λ g. g.readable) (core_of self.now).segments ((core_of self.now).registers RSI) ((core_of self.now).registers RDX)) }
         ensures size { IfSome result (λ piece. length piece.now ≡ (core_of self.now).registers RDX) }
     {
         let n = self.reg(RDX);
@@ -92,7 +95,8 @@ impl Processor {
     fn go(&mut self, insn: &Insn, next: u64) -> StepEnd
         requires valid { IsValid insn.now }
         ensures at { IsAt result (core_of self.new).place }
-        ensures went { (bytes : List ℕ) (answers : List Answer) → moved (state_of (core_of self.old) bytes answers) (act_of insn.now (with_place next (core_of self.old))) ≡ reached_by_step result (core_of self.new) bytes answers }
+        ensures went { (bytes : List ℕ) (answers : List Answer) → moved (state_of (core_of self.old) bytes answers) (act_of insn.now (with_place next (core_of self.old)))
+            ≡ reached_by_step result (core_of self.new) bytes answers }
     {
         match self.act(insn, next) {
             Ok(place) => {
@@ -108,7 +112,8 @@ impl Processor {
         requires valid { IsValid insn.now }
         requires low { (core_of self.old).place + size ≤ 2 ^ 47 }
         ensures at { IsAt result (core_of self.new).place }
-        ensures did { Does (PerformsTo insn.now ((core_of self.old).place + size) result (core_of self.old) (core_of self.new)) (O.bytes out.old) (O.bytes out.new) (O.left out.old) (O.left out.new) (O.faults out.old) (O.faults out.new) }
+        ensures did { Does (PerformsTo insn.now ((core_of self.old).place + size) result (core_of self.old) (core_of self.new))
+            (O.bytes out.old) (O.bytes out.new) (O.left out.old) (O.left out.new) (O.faults out.old) (O.faults out.new) }
     {
         let next = self.at + size as u64;
         match insn {
@@ -131,7 +136,8 @@ impl Processor {
 
     /// Why the kernel has no row for the call that the machine makes.
     fn refused(&self) -> Option<StuckCause>
-        ensures { (next : ℕ) (bytes : List ℕ) (answers : List Answer) → standing (state_of (core_of self.now) bytes answers) (kernel_of (state_of (core_of self.now) bytes answers) next) ≡ looked result (core_of self.now) bytes answers }
+        ensures { (next : ℕ) (bytes : List ℕ) (answers : List Answer) → standing (state_of (core_of self.now) bytes answers) (kernel_of (state_of (core_of self.now) bytes answers) next)
+            ≡ looked result (core_of self.now) bytes answers }
     {
         if self.reg(RAX) == 60 {
             return None;
@@ -151,7 +157,8 @@ impl Processor {
     fn stuck_cause_at(&self, insn: &Insn, size: usize) -> Option<StuckCause>
         requires valid { IsValid insn.now }
         requires low { (core_of self.now).place + size ≤ 2 ^ 47 }
-        ensures { (bytes : List ℕ) (answers : List Answer) → standing (state_of (core_of self.now) bytes answers) (perform insn.now ((core_of self.now).place + size) (state_of (core_of self.now) bytes answers)) ≡ looked result (core_of self.now) bytes answers }
+        ensures { (bytes : List ℕ) (answers : List Answer) → standing (state_of (core_of self.now) bytes answers) (perform insn.now ((core_of self.now).place + size) (state_of (core_of self.now) bytes answers))
+            ≡ looked result (core_of self.now) bytes answers }
     {
         let next = self.at + size as u64;
         match insn {
@@ -163,7 +170,8 @@ impl Processor {
     /// Why the processor has no row, where it has none.
     pub(crate) fn look(&mut self) -> Option<StuckCause>
         ensures same { core_of self.new ≡ core_of self.old }
-        ensures looked { (bytes : List ℕ) (answers : List Answer) → standing (state_of (core_of self.old) bytes answers) (step_of (state_of (core_of self.old) bytes answers)) ≡ looked result (core_of self.old) bytes answers }
+        ensures looked { (bytes : List ℕ) (answers : List Answer) → standing (state_of (core_of self.old) bytes answers) (step_of (state_of (core_of self.old) bytes answers))
+            ≡ looked result (core_of self.old) bytes answers }
     {
         match self.fetch() {
             Some((insn, size)) => self.stuck_cause_at(&insn, size),

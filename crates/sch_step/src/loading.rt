@@ -1,3 +1,5 @@
+//! A machine from an image: `load`.
+
 ghost use Rattle.std.specs.Prelude.{◌≡◌, ◌+◌, ◌<◌, ◌≤◌, ◌^◌, ◌++◌, ℕ, List, length, drop, replicate, IfOk};
 ghost use Rattle.sch_word.specs.declared.answer.Answer.{Answer};
 ghost use Rattle.sch_insn.specs.Step.{Runs};
@@ -18,7 +20,8 @@ use std::alloc::Global;
 /// A machine that starts with an image: all registers are 0, no flag is known, and there are no spare
 /// words.
 pub fn load(alloc: Global, image: &Image) -> Result<Machine, Mem>
-    ensures starts { IfOk result (λ m. (bytes : List ℕ) (answers : List Answer) → standing_of m bytes answers ≡ Runs (state_of (loaded image.now.entry (memory image.now.segments)) bytes answers)) }
+    ensures starts { IfOk result (λ m. (bytes : List ℕ) (answers : List Answer) → standing_of m bytes answers
+        ≡ Runs (state_of (loaded image.now.entry (memory image.now.segments)) bytes answers)) }
 {
     let segments = load_segments(alloc, image)?;
     // Where operands are looked for first: what is written lies last in an image.

@@ -1,3 +1,5 @@
+//! A machine that runs until it exits.
+
 ghost use Rattle.std.specs.Prelude.{◌≡◌, ◌≢◌, ℕ, List};
 ghost use Rattle.sch_word.specs.declared.answer.Answer.{Answer};
 ghost use Rattle.sch_insn.specs.Step.{go_on, mach};

@@ -1,7 +1,10 @@
+//! What a machine computes with, and its operands.
+
 ghost use Rattle.std.specs.Prelude.{ℕ, List, [], ◌∷◌, option_map, ◌≡◌, ◌+◌, ◌<◌, ◌≤◌, ◌^◌, length, IfSome, None, OnErr, Ok, Err, true, false, vec_len};
 ghost use Rattle.std.specs.Int.{w64, to_le_bytes};
 ghost use Rattle.sch_insn.specs.Spelling.{IsArg, IsValid};
-ghost use Rattle.sch_insn.specs.Machine.{holds, stored, bytes_from, with_register, with_flags, with_place, word_at, byte_at, write_bytes, address_of, load as load_of, store as store_of, word as word_of};
+ghost use Rattle.sch_insn.specs.Machine.{holds, stored, bytes_from, with_register, with_flags, with_place, word_at, byte_at, write_bytes, address_of};
+ghost use Rattle.sch_insn.specs.Machine.{load as load_of, store as store_of, word as word_of};
 ghost use Rattle.sch_insn.specs.Step.{fetch as fetch_of};
 ghost use Rattle.sch_step.specs.Layout.{IsMemory, segments_view, segment_at, NoneHolds};
 

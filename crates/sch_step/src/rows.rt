@@ -1,6 +1,10 @@
+//! What each instruction does, a row for each form.
+
 ghost use Rattle.std.specs.Prelude.{◌≡◌, ◌+◌, ◌*◌, ◌/◌, ◌%◌, ◌<◌, ◌≤◌, ◌^◌, ◌∷◌, [], OnErr, Ok, bit_and, bit_or, bit_xor};
 ghost use Rattle.sch_insn.specs.Spelling.{IsArg, IsValid};
-ghost use Rattle.sch_insn.specs.Machine.{when_ok, with_register, with_flags, with_place, byte_at, write_bytes, address_of, load as load_of, store as store_of, sum_of, difference_of, bits_of, product_of, shifted, shift_right_signed as shift_right_signed_of, condition as condition_of};
+ghost use Rattle.sch_insn.specs.Machine.{when_ok, with_register, with_flags, with_place, byte_at, write_bytes, address_of, load as load_of, store as store_of};
+ghost use Rattle.sch_insn.specs.Machine.{sum_of, difference_of, bits_of, product_of, shifted, shift_right_signed as shift_right_signed_of};
+ghost use Rattle.sch_insn.specs.Machine.{condition as condition_of};
 ghost use Rattle.sch_insn.specs.Step.{change, gather, compare, divide, sign_word, jump_if};
 
 use crate::division::divided;
@@ -116,7 +120,8 @@ impl Processor {
     fn store_byte(&mut self, m: &Arg, r: u8, next: u64) -> Result<u64, StuckCause>
         requires arg { IsArg m.now }
         requires reg { r < 16 }
-        ensures value { gone_on result (core_of self.new) ≡ write_bytes (with_place next (core_of self.old)) (address_of (with_place next (core_of self.old)) m.now) ((core_of self.old).registers r % 256 ∷ []) }
+        ensures value { gone_on result (core_of self.new)
+            ≡ write_bytes (with_place next (core_of self.old)) (address_of (with_place next (core_of self.old)) m.now) ((core_of self.old).registers r % 256 ∷ []) }
         ensures same { OnErr result (core_of self.new ≡ core_of self.old) }
     {
         let address = self.address(m, next);
@@ -130,7 +135,8 @@ impl Processor {
     fn load_byte(&mut self, r: u8, m: &Arg, next: u64) -> Result<u64, StuckCause>
         requires arg { IsArg m.now }
         requires reg { r < 16 }
-        ensures value { gone_on result (core_of self.new) ≡ when_ok (byte_at (core_of self.old).segments (address_of (with_place next (core_of self.old)) m.now)) (λ v. Ok (with_register r v (with_place next (core_of self.old)))) }
+        ensures value { gone_on result (core_of self.new)
+            ≡ when_ok (byte_at (core_of self.old).segments (address_of (with_place next (core_of self.old)) m.now)) (λ v. Ok (with_register r v (with_place next (core_of self.old)))) }
         ensures same { OnErr result (core_of self.new ≡ core_of self.old) }
     {
         let value = self.byte(self.address(m, next))?;

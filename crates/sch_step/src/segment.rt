@@ -1,3 +1,5 @@
+//! A range of a machine's memory.
+
 ghost use Rattle.std.specs.Prelude.{◌≡◌, ◌+◌, ◌<◌, ◌≤◌, ◌∷◌, [], ◌^◌, vec_len, drop};
 ghost use Rattle.std.specs.Int.{w64, to_le_bytes};
 ghost use Rattle.sch_insn.specs.Machine.{holds, with_bytes, put_bytes};

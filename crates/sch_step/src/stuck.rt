@@ -1,3 +1,5 @@
+//! Why an instruction has no next step.
+
 ghost use Rattle.std.specs.Prelude.{◌≡◌, ◌+◌, ◌<◌, ◌≤◌, ◌^◌, ℕ, List, length, None, Ok};
 ghost use Rattle.std.specs.Result.{result_err};
 ghost use Rattle.sch_insn.specs.Spelling.{IsArg, IsValid};

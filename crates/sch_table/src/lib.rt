@@ -3,4 +3,4 @@
 
 mod table;
 
-pub use table::{outline, outline_datum};
+pub use table::{Rest, outline, outline_datum};

@@ -141,20 +141,28 @@ pub fn outline_datum<'a>(
     Ok(other(d))
 }
 
+/// A form of a keyword: its place, and what follows the keyword.
+#[derive(Clone, Copy, Drop)]
+struct Form<'a> {
+    keyword: Keyword,
+    at: u32,
+    items: &'a [Datum],
+}
+
 /// What stands for a form of a keyword.
 fn outline_form<'a>(
     alloc: Global,
     globals: &Globals,
     scope: &mut Scope,
     position: Position,
-    k: Keyword,
-    at: u32,
-    items: &'a [Datum],
+    form: Form<'a>,
 ) -> Result<Sketch<'a>, Mem>
-    ensures made { IfOk result (λ e. sketch_of e ≡ table.row_form (globals_of globals.now) k scope.old position at (data_of items.now)) }
+    ensures made { IfOk result (λ e. sketch_of e
+        ≡ table.row_form (globals_of globals.now) form.entry.keyword scope.old position form.entry.at (data_of form.entry.items.now)) }
     ensures scope { OnOk result (scope.new ≡ scope.old) }
 {
-    match k {
+    let Form { keyword, at, items } = form;
+    match keyword {
         Keyword::Quote => Ok(row_quote(at, items)),
         Keyword::If => row_if(alloc, at, items),
         Keyword::Begin => row_begin(alloc, at, items),
@@ -172,22 +180,43 @@ fn outline_form<'a>(
     }
 }
 
+/// The rest of a form, with the row that reads it: its place, and the data that are left of it. What the second
+/// data are, the row says.
+#[derive(Clone, Copy, Drop)]
+pub struct Rest<'a> {
+    pub row: Row,
+    pub at: u32,
+    pub first: &'a [Datum],
+    pub second: &'a [Datum],
+}
+
 /// What stands for the rest of a form.
 pub fn outline<'a>(
     alloc: Global,
     globals: &Globals,
     scope: &mut Scope,
     position: Position,
-    row: Row,
-    at: u32,
-    first: &'a [Datum],
-    second: &'a [Datum],
+    rest: Rest<'a>,
 ) -> Result<Sketch<'a>, Mem>
-    ensures made { IfOk result (λ k. sketch_of k ≡ table.outline (globals_of globals.now) scope.old position row at (data_of first.now) (data_of second.now)) }
+    ensures made { IfOk result (λ k. sketch_of k
+        ≡ table.outline (globals_of globals.now) scope.old position rest.entry.row rest.entry.at (data_of rest.entry.first.now) (data_of rest.entry.second.now)) }
     ensures scope { OnOk result (scope.new ≡ scope.old) }
 {
+    let Rest {
+        row,
+        at,
+        first,
+        second,
+    } = rest;
     match row {
-        Row::Form(k) => outline_form(alloc, globals, scope, position, k, at, first),
+        Row::Form(keyword) => {
+            let form = Form {
+                keyword,
+                at,
+                items: first,
+            };
+            outline_form(alloc, globals, scope, position, form)
+        }
         Row::Body => row_body(alloc, scope, at, first),
         Row::Method => row_method(alloc, scope, at, first),
         Row::Nest(outer) => row_nest(alloc, outer, at, first, second),

@@ -223,7 +223,7 @@ fn of_operands(alloc: Global, count: usize, tail: bool) -> Result<Bytes, Mem> {
     Ok(source)
 }
 
-// So many names, each between two texts.
+// Names, each between two texts.
 fn push_names(source: &mut Bytes, count: usize, before: &[u8], after: &[u8]) -> Result<(), Mem> {
     for i in 0..count {
         source.extend_from_slice(before)?;

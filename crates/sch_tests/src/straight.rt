@@ -53,7 +53,7 @@ fn arithmetic_prints(rt: HostRuntime) -> Result<(), Fail> {
 
 #[test]
 fn comparisons_print(rt: HostRuntime) -> Result<(), Fail> {
-    let rows: [(&[u8], &[u8]); 4] = [
+    let rows: [(&[u8], &[u8]); 8] = [
         (
             b"(display (integer->char 255))(display (char->integer (integer->char 255)))",
             b"\xff255",
@@ -65,6 +65,22 @@ fn comparisons_print(rt: HostRuntime) -> Result<(), Fail> {
         (
             b"(display (>= 0 1))(display (= 5 5 6))(display (< 1 2 3))",
             b"#f#f#t",
+        ),
+        (
+            b"(define a -1152921504606846976)(define b 1152921504606846975)(display (= a b))(display (= b a))(display (= a a))(display (= b b))",
+            b"#f#f#t#t",
+        ),
+        (
+            b"(define a -1152921504606846976)(define b 1152921504606846975)(display (< a b))(display (< b a))(display (< a a))(display (< b b))",
+            b"#t#f#f#f",
+        ),
+        (
+            b"(define a -1152921504606846976)(define b 1152921504606846975)(display (<= a b))(display (<= b a))(display (<= a a))(display (<= b b))",
+            b"#t#f#t#t",
+        ),
+        (
+            b"(define a -1152921504606846976)(define b 1152921504606846975)(display (>= a b))(display (>= b a))(display (> a b))(display (> b a))",
+            b"#f#t#f#t",
         ),
         (
             b"(display (eqv? 1 1))(display (null? '()))(display (char? 1))(display (boolean? #f))",
@@ -141,7 +157,7 @@ fn straight_code_stops(rt: HostRuntime) -> Result<(), Fail> {
     Ok(())
 }
 
-// Products of 20 operands, whose text would be longer than that of an image may be.
+// 1 MiB of products of 20 operands, whose text would be longer than that of an image may be.
 fn many_products(alloc: Global) -> Result<Bytes, Mem> {
     let mut form = Bytes::new(alloc);
     form.extend_from_slice(b"(* 1")?;
@@ -150,7 +166,7 @@ fn many_products(alloc: Global) -> Result<Bytes, Mem> {
     }
     form.extend_from_slice(b")\n")?;
     let mut source = Bytes::new(alloc);
-    for _ in 0..10_600 {
+    for _ in 0..23_831 {
         source.extend_from_slice(form.as_slice())?;
     }
     Ok(source)

@@ -18,6 +18,14 @@ use Rattle.sch_lang.proofs.worked.Rows.{expressions_of_list, lambdas_of_list}
 pub one_expression : (es was : List Exp) (e : Exp) → was ≡ [] → es ≡ was ++ e ∷ [] → expressions_of es ≡ and_expression (expression e) no_expressions
 one_expression es was e p q = expressions_of_list es ∙ ap (λ l. expressions (map expression l)) (q ∙ ap (λ l. l ++ e ∷ []) p)
 
+pub two_expressions : (es some was : List Exp) (a b : Exp) → was ≡ [] → some ≡ was ++ a ∷ [] → es ≡ some ++ b ∷ [] → expressions_of es ≡ expressions (expression a ∷ expression b ∷ [])
+two_expressions es some was a b p q r = expressions_of_list es ∙ ap (λ l. expressions (map expression l)) (r ∙ ap (λ l. l ++ b ∷ []) (q ∙ ap (λ l. l ++ a ∷ []) p))
+
+pub three_expressions : (es more some was : List Exp) (a b c : Exp) → was ≡ [] → some ≡ was ++ a ∷ [] → more ≡ some ++ b ∷ [] → es ≡ more ++ c ∷ []
+    → expressions_of es ≡ expressions (expression a ∷ expression b ∷ expression c ∷ [])
+three_expressions es more some was a b c p q r s =
+    expressions_of_list es ∙ ap (λ l. expressions (map expression l)) (s ∙ ap (λ l. l ++ c ∷ []) (r ∙ ap (λ l. l ++ b ∷ []) (q ∙ ap (λ l. l ++ a ∷ []) p)))
+
 pub one_of_lambdas : (ls was : List Lambda) (l : Lambda) → was ≡ [] → ls ≡ was ++ l ∷ [] → lambdas_of ls ≡ and_lambda l.name l.formals l.rest (expression l.body) no_lambdas
 one_of_lambdas ls was l p q = lambdas_of_list ls ∙ ap (λ k. lambdas (map function k)) (q ∙ ap (λ k. k ++ l ∷ []) p)
 

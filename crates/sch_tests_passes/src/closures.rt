@@ -23,7 +23,7 @@ use std::alloc::Global;
 use std::test::Fail;
 
 // A list of one expression.
-fn one(alloc: Global, e: Exp) -> Result<List<Exp>, Mem>
+pub(crate) fn one(alloc: Global, e: Exp) -> Result<List<Exp>, Mem>
     ensures { IfOk result (λ es. expressions_of es ≡ tree.and_expression (expression e) tree.no_expressions) }
 {
     let mut all = List::new(alloc);
@@ -47,7 +47,7 @@ fn one_lambda(alloc: Global, body: Exp) -> Result<List<Lambda>, Mem>
     Ok(all)
 }
 
-fn set_local(alloc: Global, k: u32, value: Exp) -> Result<Exp, Mem>
+pub(crate) fn set_local(alloc: Global, k: u32, value: Exp) -> Result<Exp, Mem>
     ensures { IfOk result (λ e. expression e ≡ tree.set_local k (expression value)) }
 {
     Ok(Exp::SetLocal(k, Box::new(alloc, value)?))
@@ -69,7 +69,7 @@ fn letrec(alloc: Global, site: u32, init: Exp, body: Exp) -> Result<Exp, Mem>
     Ok(Exp::Rec(site, inits, Box::new(alloc, body)?))
 }
 
-fn lambda(alloc: Global, formals: u32, rest: bool, body: Exp) -> Result<Exp, Mem>
+pub(crate) fn lambda(alloc: Global, formals: u32, rest: bool, body: Exp) -> Result<Exp, Mem>
     ensures { IfOk result (λ e. expression e ≡ tree.lambda [] formals rest (expression body)) }
 {
     let name = List::new(alloc);
@@ -131,7 +131,11 @@ fn closed_form(alloc: Global, form: Exp, sites: &[u32]) -> Result<FlatProgram, M
 }
 
 // The same with simple operands.
-fn normalized_form(alloc: Global, form: Exp, sites: &[u32]) -> Result<ControlProgram, Mem>
+pub(crate) fn normalized_form(
+    alloc: Global,
+    form: Exp,
+    sites: &[u32],
+) -> Result<ControlProgram, Mem>
     requires valid { IsTrue (is_valid (program 0 sites.now (expression form ∷ []))) }
     requires few { variables_bound (program 0 sites.now (expression form ∷ [])) < 2 ^ 30 }
     requires bodies { length (bodies_of (program 0 sites.now (expression form ∷ []))) < 2 ^ 32 - 2 ^ 10 }

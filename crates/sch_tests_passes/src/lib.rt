@@ -10,6 +10,8 @@ mod frames;
 #[cfg(test)]
 mod library;
 #[cfg(test)]
+mod operand_order;
+#[cfg(test)]
 mod reader;
 #[cfg(test)]
 mod selection;

@@ -1,50 +1,37 @@
 -- Lists of forms, one after the other.
-use Rattle.std.proofs.Common.{◌≡◌, ℕ, suc, ◌+◌, ◌<◌, List, [], ◌∷◌, ◌++◌, length, drop, get_or, map, sym, ap, ◌∙◌, add-one, drop-cons}
-use Rattle.std.proofs.lemmas.List.{append_assoc}
-use Rattle.std.specs.Borrow.{Bor}
+use Rattle.std.proofs.Common.{◌≡◌, ℕ, suc, ◌+◌, ◌<◌, List, [], ◌∷◌, ◌++◌, length, drop, get_or, map, sym, ap, ◌∙◌, add-one}
+use Rattle.std.proofs.lemmas.List.{append_assoc, map-append}
+use Rattle.sch_word.proofs.facts.Lists.{next_left}
 use Rattle.sch_read.specs.declared.datum.Datum as code
 use Rattle.sch_read.specs.Grammar.{Datum}
-use Rattle.sch_read.specs.Parts.{offset}
 use Rattle.sch_read.specs.Views.{tree_of, data_of}
-use Rattle.sch_names.specs.NamesView.{with_name}
-use Rattle.sch_sketch.specs.Sketch.{Sketch}
 use Rattle.sch_numbers.specs.Named.{firsts}
 use Rattle.sch_numbers.proofs.NameSteps.{firsts_append}
-use Rattle.sch_toplevel.specs.Forms.{forms_of, forms_in, form_sketch, defined_by, defined_by_each}
-use Rattle.sch_toplevel.specs.Views.{tree_at, trees_of}
+use Rattle.sch_toplevel.specs.declared.forms.Form.{Form}
+use Rattle.sch_toplevel.specs.FormView.{place_at, places_at, sketch_at, sketches_at}
+use Rattle.sch_toplevel.specs.Forms.{forms_of, forms_in, defined_by, defined_by_each}
 
-pub next : {A : Type 0} (xs : List A) (i : ℕ) (x : A) → i < length xs → x ≡ get_or xs i x → drop i xs ≡ x ∷ drop (suc i) xs
-next xs i x l e = drop-cons xs i x l ∙ ap (λ a. a ∷ drop (suc i) xs) (sym e)
-
--- one datum's forms, and then those of the others
-pub next_forms : (items : List code.Datum) (i : ℕ) (d : code.Datum) (all all' : List (Bor code.Datum)) (r : List Datum) → i < length items → d ≡ get_or items i d →
-    trees_of all' ≡ trees_of all ++ forms_of (tree_of d) → trees_of all ++ forms_in (data_of (drop i items)) ≡ r → trees_of all' ++ forms_in (data_of (drop (i + 1) items)) ≡ r
-next_forms items i d all all' r l e h k =
-    let n = next items i d l e in
+-- what is said of each of one datum's forms, and then of those of the others
+pub next_forms : {A : Type 0} (F : Datum → A) (items : List code.Datum) (i : ℕ) (d : code.Datum) (all all' r : List A) → i < length items → d ≡ get_or items i d →
+    all' ≡ all ++ map F (forms_of (tree_of d)) → all ++ map F (forms_in (data_of (drop i items))) ≡ r → all' ++ map F (forms_in (data_of (drop (i + 1) items))) ≡ r
+next_forms F items i d all all' r l e h k =
+    let n = next_left items i d l e in
     let k' = rw n at k in
-    rw (add-one, h) (append_assoc (trees_of all) (forms_of (tree_of d)) (forms_in (data_of (drop (suc i) items))) ∙ k')
-
--- one name more, and then the others
-pub next_name : {A : Type 0} (F : A → List ℕ) (xs : List A) (i : ℕ) (x : A) (seen seen' r : List (List ℕ)) → i < length xs → x ≡ get_or xs i x →
-    seen' ≡ with_name (F x) seen → firsts seen (map F (drop i xs)) ≡ r → firsts seen' (map F (drop (i + 1) xs)) ≡ r
-next_name F xs i x seen seen' r l e h k =
-    let n = next xs i x l e in
-    let k' = rw n at k in
-    rw (add-one, h) k'
+    let more = forms_in (data_of (drop (suc i) items)) in
+    rw (add-one, h) (append_assoc all (map F (forms_of (tree_of d))) (map F more) ∙ ap (λ l. all ++ l) (sym (map-append F (forms_of (tree_of d)) more)) ∙ k')
 
 -- one form's name, and then those of the others
-pub next_defined : (ds : List (Bor code.Datum)) (i : ℕ) (d : Bor code.Datum) (s : Sketch) (seen seen' r : List (List ℕ)) → i < length ds → d ≡ get_or ds i d →
-    s ≡ form_sketch (tree_at d) → seen' ≡ firsts seen (defined_by s) → firsts seen (defined_by_each (map form_sketch (trees_of (drop i ds)))) ≡ r →
-    firsts seen' (defined_by_each (map form_sketch (trees_of (drop (i + 1) ds)))) ≡ r
-next_defined ds i d s seen seen' r l e g h k =
-    let n = next ds i d l e in
+pub next_defined : (fs : List Form) (i : ℕ) (f : Form) (seen seen' r : List (List ℕ)) → i < length fs → f ≡ get_or fs i f → seen' ≡ firsts seen (defined_by (sketch_at f)) →
+    firsts seen (defined_by_each (sketches_at (drop i fs))) ≡ r → firsts seen' (defined_by_each (sketches_at (drop (i + 1) fs))) ≡ r
+next_defined fs i f seen seen' r l e h k =
+    let n = next_left fs i f l e in
     let k' = rw n at k in
-    rw (add-one, h, g) (sym (firsts_append seen (defined_by (form_sketch (tree_at d))) (defined_by_each (map form_sketch (trees_of (drop (suc i) ds))))) ∙ k')
+    rw (add-one, h) (sym (firsts_append seen (defined_by (sketch_at f)) (defined_by_each (sketches_at (drop (suc i) fs)))) ∙ k')
 
 -- one form's place, and then those of the others
-pub next_place : (ds : List (Bor code.Datum)) (i : ℕ) (d : Bor code.Datum) (n : ℕ) (all all' r : List ℕ) → i < length ds → d ≡ get_or ds i d → n ≡ offset (tree_at d) →
-    all' ≡ all ++ n ∷ [] → all ++ map offset (trees_of (drop i ds)) ≡ r → all' ++ map offset (trees_of (drop (i + 1) ds)) ≡ r
-next_place ds i d n all all' r l e g h k =
-    let m = next ds i d l e in
+pub next_place : (fs : List Form) (i : ℕ) (f : Form) (n : ℕ) (all all' r : List ℕ) → i < length fs → f ≡ get_or fs i f → n ≡ place_at f → all' ≡ all ++ n ∷ [] →
+    all ++ places_at (drop i fs) ≡ r → all' ++ places_at (drop (i + 1) fs) ≡ r
+next_place fs i f n all all' r l e g h k =
+    let m = next_left fs i f l e in
     let k' = rw m at k in
-    rw (add-one, h, g) (append_assoc all (offset (tree_at d) ∷ []) (map offset (trees_of (drop (suc i) ds))) ∙ k')
+    rw (add-one, h, g) (append_assoc all (place_at f ∷ []) (places_at (drop (suc i) fs)) ∙ k')

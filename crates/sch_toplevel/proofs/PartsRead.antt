@@ -1,8 +1,7 @@
 -- The forms of a text are read as the parts of a sequence at level 0.
 use Rattle.std.proofs.Common.{◌≡◌, ℕ, ◌+◌, ◌<◌, Bool, false, List, [], ◌∷◌, ◌++◌, length, drop, get_or, map, Option, refl, sym, ap, ◌∙◌, subst, add-one}
 use Rattle.std.proofs.lemmas.List.{map-append}
-use Rattle.std.specs.Borrow.{Bor}
-use Rattle.sch_read.specs.declared.datum.Datum as text
+use Rattle.sch_word.proofs.facts.Lists.{next_left}
 use Rattle.sch_names.specs.Scope.{Globals}
 use Rattle.sch_sketch.specs.declared.draft.Draft as code
 use Rattle.sch_sketch.specs.declared.fault.Fault.{Fault}
@@ -13,20 +12,9 @@ use Rattle.sch_sketch.specs.Sketch.{Sketch, Sketches, sketches, no_sketch, and_s
 use Rattle.sch_expansion.specs.Following.{and_then}
 use Rattle.sch_expansion.specs.Reads.{Reads, PartsRead}
 use Rattle.sch_expansion.specs.Reads as re
-use Rattle.sch_toplevel.specs.Forms.{form_sketch}
-use Rattle.sch_toplevel.specs.Views.{tree_at, trees_of}
-use Rattle.sch_toplevel.proofs.FormLists.{next}
-
-and_then_none : (es : List Draft) → and_then es no_drafts ≡ drafts es
-and_then_none [] = refl
-and_then_none (e ∷ es) = ap (and_draft e) (and_then_none es)
-
-and_then_more : (es : List Draft) (e : Draft) (more : Drafts) → and_then (es ++ e ∷ []) more ≡ and_then es (and_draft e more)
-and_then_more [] e more = refl
-and_then_more (a ∷ es) e more = ap (and_draft a) (and_then_more es e more)
-
-pub more_made : (es : List code.Draft) (e : code.Draft) (fs : Drafts) → and_then (map draft_of (es ++ e ∷ [])) fs ≡ and_then (map draft_of es) (and_draft (draft_of e) fs)
-more_made es e fs = ap (λ l. and_then l fs) (map-append draft_of es (e ∷ [])) ∙ and_then_more (map draft_of es) (draft_of e) fs
+use Rattle.sch_expansion.proofs.Stacks.{and_then_none}
+use Rattle.sch_toplevel.specs.declared.forms.Form.{Form}
+use Rattle.sch_toplevel.specs.FormView.{sketch_at, sketches_at}
 
 pub all_made : (es : List code.Draft) → and_then (map draft_of es) no_drafts ≡ drafts_of es
 all_made es = and_then_none (map draft_of es)
@@ -72,10 +60,10 @@ module _ (globals : Globals) where
       subst (λ l. PartsOf g (and_sketch p ps) a b l) (sym s.whole) (one_more g p ps a s.between b s.draft s.more s.here s.others)
 
   -- one form, and then the others
-  pub next_form : (ds : List (Bor text.Datum)) (i : ℕ) (d : Bor text.Datum) (k : Sketch) (e : code.Draft) (a m b : Option Fault) (es : Drafts) → i < length ds → d ≡ get_or ds i d →
-      k ≡ form_sketch (tree_at d) → Reads globals 1 [] Value k a m (draft_of e) → PartsOf false (sketches (map form_sketch (trees_of (drop (i + 1) ds)))) m b es →
-      PartsOf false (sketches (map form_sketch (trees_of (drop i ds)))) a b (and_draft (draft_of e) es)
-  next_form ds i d k e a m b es l is h x r =
-      let n = next ds i d l is in
+  pub next_form : (fs : List Form) (i : ℕ) (f : Form) (k : Sketch) (e : code.Draft) (a m b : Option Fault) (es : Drafts) → i < length fs → f ≡ get_or fs i f →
+      k ≡ sketch_at f → Reads globals 1 [] Value k a m (draft_of e) → PartsOf false (sketches (sketches_at (drop (i + 1) fs))) m b es →
+      PartsOf false (sketches (sketches_at (drop i fs))) a b (and_draft (draft_of e) es)
+  next_form fs i f k e a m b es l is h x r =
+      let n = next_left fs i f l is in
       let r' = rw add-one at r in
-      rw n (one_more false (form_sketch (tree_at d)) _ a m b (draft_of e) es (subst (λ j. Reads globals 1 [] Value j a m (draft_of e)) h x) r')
+      rw n (one_more false (sketch_at f) _ a m b (draft_of e) es (subst (λ j. Reads globals 1 [] Value j a m (draft_of e)) h x) r')

@@ -1,6 +1,7 @@
 -- The globals that drafts assign, in the order of the text.
 use Rattle.std.specs.Prelude.{ℕ, List, [], ◌∷◌, ◌++◌}
-use Rattle.sch_sketch.specs.Draft.{Draft, Drafts, constant, symbol, literal, local, global, set_local, set_global, define, branch, sequence, bind, letrec, lambda, call, operation, no_drafts, and_draft}
+use Rattle.sch_sketch.specs.Draft.{Draft, Drafts, constant, symbol, literal, local, global, set_local, set_global, define, branch, sequence, bind, letrec, lambda, call, operation}
+use Rattle.sch_sketch.specs.Draft.{no_drafts, and_draft}
 
 abbrev mutual
   pub assigned_in : Draft → List (List ℕ)

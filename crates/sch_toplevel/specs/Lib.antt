@@ -3,3 +3,4 @@ pub mod Assigned
 pub mod Texts
 pub mod Items
 pub mod Views
+pub mod FormView

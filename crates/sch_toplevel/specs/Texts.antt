@@ -1,7 +1,7 @@
 -- A text is read form by form: each at level 1, outside all variables and for its value, as the parts of a
 -- `begin` are.
-use Rattle.std.specs.Prelude.{◌≡◌, ◌≤◌, ℕ, true, false, List, [], Option, Some, None, map}
-use Rattle.sch_read.specs.Grammar.{Datum, Data}
+use Rattle.std.specs.Prelude.{◌≡◌, ◌≤◌, ℕ, true, List, [], Option, Some, None}
+use Rattle.sch_read.specs.Grammar.{Data}
 use Rattle.sch_names.specs.Scope.{Globals}
 use Rattle.sch_sketch.specs.declared.fault.Fault.{Fault}
 use Rattle.sch_sketch.specs.declared.sketch.Position.TheVariants.{Value}
@@ -11,8 +11,7 @@ use Rattle.sch_expansion.specs.FaultOrder.{rank}
 use Rattle.sch_expansion.specs.Expands.{PartsExpand}
 use Rattle.sch_expansion.specs.Faults.{PartHasFault}
 use Rattle.sch_expansion.specs.Reads.{PartsRead}
-use Rattle.sch_toplevel.specs.Forms.{form_sketch, sketches_of, defined_by_each, own_names, text_globals}
-use Rattle.sch_numbers.specs.Named.{firsts}
+use Rattle.sch_toplevel.specs.Forms.{sketches_of, own_names, text_globals}
 use Rattle.sch_toplevel.specs.Assigned.{assigned_in_each}
 
 -- the forms of a text, in order, stand for drafts
@@ -52,15 +51,6 @@ pub record IsFaultOf (seen : List (List ℕ)) (items : Data) (f : Fault) : Type 
   pub least : (g : Fault) → FormHasFault (text_globals seen items names) items g → rank f ≤ rank g
   pub drafts : Drafts
   pub first : FormsRead (text_globals seen items names) items (Some f) drafts
-
--- the forms have been read once, as if nothing were assigned
-pub record IsReadOnce (seen : List (List ℕ)) (forms : List Datum) (es : Drafts) : Type 0 where
-  pub globals : Globals
-  pub bound : globals.bound ≡ firsts (firsts [] seen) (defined_by_each (map form_sketch forms))
-  pub own : globals.own ≡ firsts [] (defined_by_each (map form_sketch forms))
-  pub internal : globals.internal ≡ false
-  pub fault : Option Fault
-  pub reads : PartsRead globals sequencing true 1 [] Value (sketches (map form_sketch forms)) None fault es
 
 -- A text is read: it has these names of its own, and its forms have a least fault and drafts.
 pub record IsRead (seen : List (List ℕ)) (items : Data) (own : List (List ℕ)) (fault : Option Fault) (es : Drafts) : Type 0 where

@@ -1,64 +1,97 @@
 //! The top-level forms of a text.
 
 ghost use Rattle.std.specs.Prelude.{◌≡◌, ◌++◌, map, IfOk, OnOk};
+ghost use Rattle.sch_read.specs.Parts.{offset};
 ghost use Rattle.sch_read.specs.Views.{tree_of, data_of};
 ghost use Rattle.sch_names.specs.Words.{keyword_of};
 ghost use Rattle.sch_names.specs.NamesView.{names_of};
 ghost use Rattle.sch_sketch.specs.SketchView.{sketch_of};
-ghost use Rattle.sch_definitions.specs.Definitions.{is_define_word};
 ghost use Rattle.sch_numbers.specs.Named.{firsts};
-ghost use Rattle.sch_toplevel.specs.Forms.{is_begin_word, forms_of, forms_in, form_sketch, defined_by, defined_by_each};
-ghost use Rattle.sch_toplevel.specs.Views.{trees_of};
+ghost use Rattle.sch_toplevel.specs.Forms.{forms_of, forms_in, form_sketch, defined_by, defined_by_each};
+ghost use Rattle.sch_toplevel.specs.FormView.{place_at, places_at, sketch_at, sketches_at, IsTopLevel};
 
 use sch_definitions::row_define;
-use sch_names::{Keyword, Names, keyword_of};
+use sch_names::{Globals, Keyword, Names, keyword_of};
 use sch_read::Datum;
 use sch_sketch::{Kind, Sketch, text};
 use sch_word::{List, Mem};
 use std::alloc::Global;
 
-fn is_begin(x: &[u8]) -> bool
-    ensures { result ≡ is_begin_word (keyword_of x.now) }
+/// A form at top level (R5RS 5.1).
+#[derive(Clone, Copy, Drop)]
+pub(crate) enum Form<'a> {
+    /// `(define d ..)`: its place, and what follows the word.
+    Definition(u32, &'a [Datum]),
+    Expression(&'a Datum),
+}
+
+/// What a datum at top level is: a form, or `(begin d ..)`, whose parts are at top level too.
+#[derive(Clone, Copy, Drop)]
+pub(crate) enum TopLevel<'a> {
+    Begin(&'a [Datum]),
+    Form(Form<'a>),
+}
+
+/// What a datum at top level is, by the word at its head.
+pub(crate) fn top_level<'a>(d: &'a Datum) -> TopLevel<'a>
+    ensures { IsTopLevel (tree_of d.now) result }
 {
+    let expression = TopLevel::Form(Form::Expression(d));
+    let Some(items) = d.items() else {
+        return expression;
+    };
+    let Some((operator, others)) = Datum::split(items) else {
+        return expression;
+    };
+    let Some(x) = operator.name() else {
+        return expression;
+    };
     match keyword_of(x) {
-        Some(Keyword::Begin) => true,
-        _ => false,
+        Some(Keyword::Begin) => TopLevel::Begin(others),
+        Some(Keyword::Define) => TopLevel::Form(Form::Definition(d.offset(), others)),
+        _ => expression,
     }
 }
 
-fn is_define(x: &[u8]) -> bool
-    ensures { result ≡ is_define_word (keyword_of x.now) }
-{
-    match keyword_of(x) {
-        Some(Keyword::Define) => true,
-        _ => false,
+impl<'a> Form<'a> {
+    /// The number of bytes before the form.
+    pub(crate) fn place(self) -> u32
+        ensures { result ≡ place_at self.entry }
+    {
+        match self {
+            Form::Definition(at, _) => at,
+            Form::Expression(d) => d.offset(),
+        }
+    }
+
+    /// What the form is read as.
+    pub(crate) fn sketch(self, alloc: Global) -> Result<Sketch<'a>, Mem>
+        ensures { IfOk result (λ k. sketch_of k ≡ sketch_at self.entry) }
+    {
+        match self {
+            Form::Definition(at, items) => row_define(alloc, at, items),
+            Form::Expression(d) => Ok(text(d)),
+        }
     }
 }
 
 /// Adds the forms that a datum at top level is.
 #[cycle(adding)]
-fn add_form<'a>(d: &'a Datum, forms: &mut List<&'a Datum>) -> Result<(), Mem>
-    ensures { OnOk result (trees_of forms.new ≡ trees_of forms.old ++ forms_of (tree_of d.now)) }
+fn add_form<'a>(d: &'a Datum, forms: &mut List<Form<'a>>) -> Result<(), Mem>
+    ensures sketches { OnOk result (sketches_at forms.new ≡ sketches_at forms.old ++ map form_sketch (forms_of (tree_of d.now))) }
+    ensures places { OnOk result (places_at forms.new ≡ places_at forms.old ++ map offset (forms_of (tree_of d.now))) }
 {
-    let Some(items) = d.items() else {
-        return forms.push(d);
-    };
-    let Some((operator, others)) = Datum::split(items) else {
-        return forms.push(d);
-    };
-    let Some(x) = operator.name() else {
-        return forms.push(d);
-    };
-    if is_begin(x) {
-        return add_forms(others, forms);
+    match top_level(d) {
+        TopLevel::Begin(items) => add_forms(items, forms),
+        TopLevel::Form(form) => forms.push(form),
     }
-    forms.push(d)
 }
 
 /// Adds the forms that data at top level are.
 #[cycle(adding)]
-pub(crate) fn add_forms<'a>(items: &'a [Datum], forms: &mut List<&'a Datum>) -> Result<(), Mem>
-    ensures { OnOk result (trees_of forms.new ≡ trees_of forms.old ++ forms_in (data_of items.now)) }
+pub(crate) fn add_forms<'a>(items: &'a [Datum], forms: &mut List<Form<'a>>) -> Result<(), Mem>
+    ensures sketches { OnOk result (sketches_at forms.new ≡ sketches_at forms.old ++ map form_sketch (forms_in (data_of items.now))) }
+    ensures places { OnOk result (places_at forms.new ≡ places_at forms.old ++ map offset (forms_in (data_of items.now))) }
 {
     for d in items {
         add_form(d, forms)?;
@@ -66,46 +99,33 @@ pub(crate) fn add_forms<'a>(items: &'a [Datum], forms: &mut List<&'a Datum>) -> 
     Ok(())
 }
 
-/// What a form is read as: a definition or an expression.
-pub(crate) fn form_sketch<'a>(alloc: Global, d: &'a Datum) -> Result<Sketch<'a>, Mem>
-    ensures { IfOk result (λ k. sketch_of k ≡ form_sketch (tree_of d.now)) }
+/// Adds the name that a form defines to the names that there are and to those of the text.
+fn add_defined(alloc: Global, form: Form<'_>, globals: &mut Globals) -> Result<(), Mem>
+    ensures bound { OnOk result (names_of globals.new.bound ≡ firsts (names_of globals.old.bound) (defined_by (sketch_at form.entry))) }
+    ensures own { OnOk result (names_of globals.new.own ≡ firsts (names_of globals.old.own) (defined_by (sketch_at form.entry))) }
+    ensures internal { OnOk result (globals.new.internal ≡ globals.old.internal) }
 {
-    let Some(items) = d.items() else {
-        return Ok(text(d));
-    };
-    let Some((operator, others)) = Datum::split(items) else {
-        return Ok(text(d));
-    };
-    let Some(x) = operator.name() else {
-        return Ok(text(d));
-    };
-    if is_define(x) {
-        return row_define(alloc, d.offset(), others);
-    }
-    Ok(text(d))
-}
-
-/// Adds the name that a form defines.
-fn add_defined(alloc: Global, k: &Sketch<'_>, names: &mut Names) -> Result<(), Mem>
-    ensures { OnOk result (names_of names.new ≡ firsts (names_of names.old) (defined_by (sketch_of k.now))) }
-{
-    match k {
-        Sketch::Node(Kind::Define(v), _, _) => names.insert(alloc, v),
+    match form.sketch(alloc)? {
+        Sketch::Node(Kind::Define(v), _, _) => {
+            globals.bound.insert(alloc, v)?;
+            globals.own.insert(alloc, v)
+        }
         _ => Ok(()),
     }
 }
 
-/// Adds the names that forms define.
+/// Adds the names that forms define to the names that there are and to those of the text.
 pub(crate) fn add_defined_by_each(
     alloc: Global,
-    forms: &[&Datum],
-    names: &mut Names,
+    forms: &[Form<'_>],
+    globals: &mut Globals,
 ) -> Result<(), Mem>
-    ensures { OnOk result (names_of names.new ≡ firsts (names_of names.old) (defined_by_each (map form_sketch (trees_of forms.now)))) }
+    ensures bound { OnOk result (names_of globals.new.bound ≡ firsts (names_of globals.old.bound) (defined_by_each (sketches_at forms.now))) }
+    ensures own { OnOk result (names_of globals.new.own ≡ firsts (names_of globals.old.own) (defined_by_each (sketches_at forms.now))) }
+    ensures internal { OnOk result (globals.new.internal ≡ globals.old.internal) }
 {
-    for d in forms {
-        let k = form_sketch(alloc, d)?;
-        add_defined(alloc, &k, names)?;
+    for form in forms {
+        add_defined(alloc, *form, globals)?;
     }
     Ok(())
 }

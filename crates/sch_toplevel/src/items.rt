@@ -10,9 +10,10 @@ ghost use Rattle.sch_sketch.specs.declared.sketch.Position.TheVariants.{Value};
 ghost use Rattle.sch_sketch.specs.DraftView.{draft_of};
 ghost use Rattle.sch_sketch.specs.SketchView.{sketch_of};
 ghost use Rattle.sch_expansion.specs.Reads.{Reads};
-ghost use Rattle.sch_toplevel.specs.Items.{behind, is_method, item_name, item_sketch, with_item, name_in, names_by, procedure_in, item_names, ItemsRead};
+ghost use Rattle.sch_toplevel.specs.Items.{is_method, item_name, item_sketch, with_item, name_in, names_by, procedure_in, item_names, ItemsRead};
 
-use crate::forms::form_sketch;
+use crate::forms::{Form, TopLevel, top_level};
+use sch_definitions::row_define;
 use sch_expansion::read;
 use sch_names::{Globals, Name, Names};
 use sch_read::Datum;
@@ -27,19 +28,6 @@ pub struct Items<'a> {
     pub names: List<Name<'a>>,
     pub drafts: List<Draft<'a>>,
     pub fault: Option<Fault>,
-}
-
-/// What follows the word at the head of an item.
-fn behind(d: &Datum) -> &[Datum]
-    ensures { data_of result.now ≡ behind (tree_of d.now) }
-{
-    let Some(items) = d.items() else {
-        return &[];
-    };
-    match Datum::split(items) {
-        Some((_, others)) => others,
-        None => &[],
-    }
 }
 
 /// Whether these data begin with a name and its formals, and no name alone.
@@ -81,6 +69,21 @@ fn item_sketch<'a>(at: u32, items: &'a [Datum], k: Sketch<'a>, before: &Names) -
     }
 }
 
+/// The name and the procedure that an item defines, behind those that define these names.
+fn item_of<'a>(alloc: Global, d: &'a Datum, before: &Names) -> Result<(Name<'a>, Sketch<'a>), Mem>
+    ensures name { IfOk result (λ item. one_name item.0 ≡ name_in (tree_of d.now)) }
+    ensures procedure { IfOk result (λ item. sketch_of item.1 ≡ procedure_in (names_of before.now) (tree_of d.now)) }
+{
+    match top_level(d) {
+        TopLevel::Form(Form::Definition(at, items)) => {
+            let definition = row_define(alloc, at, items)?;
+            let name = item_name(&definition, items);
+            Ok((name, item_sketch(at, items, definition, before)))
+        }
+        _ => Ok((None, bad(d.offset()))),
+    }
+}
+
 /// Reads one item, behind those whose names are bound.
 fn read_item<'a>(
     alloc: Global,
@@ -96,10 +99,7 @@ fn read_item<'a>(
     ensures reads { IfOk result (λ e. Reads (globals_of globals.new) 1 [] Value
         (procedure_in (names_of globals.old.bound) (tree_of d.now)) fault.old fault.new (draft_of e)) }
 {
-    let form = form_sketch(alloc, d)?;
-    let items = behind(d);
-    let v = item_name(&form, items);
-    let procedure = item_sketch(d.offset(), items, form, &globals.bound);
+    let (v, procedure) = item_of(alloc, d, &globals.bound)?;
     if let Some(x) = v {
         globals.bound.insert(alloc, x)?;
     }

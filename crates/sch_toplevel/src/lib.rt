@@ -6,8 +6,8 @@ mod forms;
 mod given;
 mod items;
 mod places;
-mod reading;
+mod texts;
 
 pub use items::{Items, read_items};
 pub use places::form_places;
-pub use reading::{Text, read_text};
+pub use texts::{Text, read_text};

@@ -1,22 +1,21 @@
 //! The places of top-level forms.
 
-ghost use Rattle.std.specs.Prelude.{◌≡◌, ◌++◌, map, IfOk, OnOk};
-ghost use Rattle.sch_read.specs.Parts.{offset};
+ghost use Rattle.std.specs.Prelude.{◌≡◌, ◌++◌, IfOk, OnOk};
 ghost use Rattle.sch_read.specs.Views.{data_of};
 ghost use Rattle.sch_toplevel.specs.Forms.{form_places};
-ghost use Rattle.sch_toplevel.specs.Views.{trees_of};
+ghost use Rattle.sch_toplevel.specs.FormView.{places_at};
 
-use crate::forms::add_forms;
+use crate::forms::{Form, add_forms};
 use sch_read::Datum;
 use sch_word::{List, Mem};
 use std::alloc::Global;
 
 /// Adds the places of forms.
-fn add_places(forms: &[&Datum], places: &mut List<u32>) -> Result<(), Mem>
-    ensures { OnOk result (places.new ≡ places.old ++ map offset (trees_of forms.now)) }
+fn add_places(forms: &[Form<'_>], places: &mut List<u32>) -> Result<(), Mem>
+    ensures { OnOk result (places.new ≡ places.old ++ places_at forms.now) }
 {
-    for d in forms {
-        places.push(d.offset())?;
+    for form in forms {
+        places.push(form.place())?;
     }
     Ok(())
 }

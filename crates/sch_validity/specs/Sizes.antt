@@ -6,7 +6,8 @@ use Rattle.sch_word.specs.values.Values.{is_byte, are_bytes}
 use Rattle.sch_read.specs.Grammar.{Atom, boolean, integer, character, text, symbol as symbol_atom, Datum, Data, atom, list, dotted, vector, none, cons}
 use Rattle.sch_read.specs.Levels.{depth}
 use Rattle.sch_read.specs.Text.{max_nesting}
-use Rattle.sch_sketch.specs.Draft.{Draft, Drafts, constant, symbol, literal, local, global, set_local, set_global, define, branch, sequence, bind, letrec, lambda, call, operation, no_drafts, and_draft, count}
+use Rattle.sch_sketch.specs.Draft.{Draft, Drafts, constant, symbol, literal, local, global, set_local, set_global, define, branch, sequence, bind, letrec, lambda, call, operation}
+use Rattle.sch_sketch.specs.Draft.{no_drafts, and_draft, count}
 use Rattle.sch_sketch.specs.Measure.{literal_size}
 use Rattle.sch_numbers.specs.Named.{symbols_in, symbols_in_each}
 use Rattle.sch_numbers.specs.Quoted.{quotes_in, quotes_in_each}

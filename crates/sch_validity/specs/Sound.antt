@@ -4,7 +4,8 @@ use Rattle.std.specs.Prelude.{◌≡◌, ◌≤◌, ◌<◌, ◌+◌, ℕ, max, 
 use Rattle.sch_word.specs.trees.Shape.{max_operands}
 use Rattle.sch_word.specs.values.Literals.{constant_known}
 use Rattle.sch_word.specs.values.Primitives.{operands_of}
-use Rattle.sch_sketch.specs.Draft.{Draft, Drafts, constant, symbol, literal, local, global, set_local, set_global, define, branch, sequence, bind, letrec, lambda, call, operation, no_drafts, and_draft, count}
+use Rattle.sch_sketch.specs.Draft.{Draft, Drafts, constant, symbol, literal, local, global, set_local, set_global, define, branch, sequence, bind, letrec, lambda, call, operation}
+use Rattle.sch_sketch.specs.Draft.{no_drafts, and_draft, count}
 
 abbrev pub IsProcedure : Draft → Type 0
 IsProcedure (lambda n r e) = Unit {0}
@@ -23,7 +24,7 @@ abbrev pub HasRest : (rest : Bool) → (formals : ℕ) → Type 0
 HasRest true n = 1 ≤ n
 HasRest false n = Unit {0}
 
--- a draft where so many variables are bound
+-- a draft where this number of variables is bound
 abbrev mutual
   pub IsSound : (bound : ℕ) → Draft → Type 0
   IsSound bound (constant c) = constant_known 0 c ≡ true

@@ -8,5 +8,6 @@ pub mod Similar
 pub mod Steady
 pub mod Walking
 pub mod worked
+pub mod facts
 pub mod values
 pub mod WhenOk

@@ -1,7 +1,7 @@
 use crate::fix::Fix;
 
 /// A constant of a program, which stands in code as one word (R5RS 4.1.2).
-#[derive(Clone, Copy, Debug)]
+#[derive(Clone, Copy)]
 pub enum Const {
     Fixnum(Fix),
     /// A character is a byte.

@@ -14,7 +14,7 @@ pub const FIXNUM_MAX: i64 = 1_152_921_504_606_846_975;
 /// An integer from `FIXNUM_MIN` to `FIXNUM_MAX`, which contracts see as that integer.
 ///
 /// R5RS 6.2.3 lets an implementation bound its exact integers; this range is the project's own.
-#[derive(Clone, Copy, Debug)]
+#[derive(Clone, Copy)]
 pub struct Fix {
     value: i64,
 }

@@ -2,7 +2,7 @@ use crate::constant::Const;
 use crate::list::{Bytes, List};
 
 /// A literal of a program's text: what a quotation or a string means (R5RS 4.1.2).
-#[derive(Debug, Drop)]
+#[derive(Drop)]
 pub enum Lit {
     Constant(Const),
     /// A string.

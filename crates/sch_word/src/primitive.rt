@@ -5,7 +5,7 @@ ghost use Rattle.sch_word.specs.values.Primitives.{name_of, operands_of};
 ///
 /// Those whose names begin with `%` are the project's own and stand in the library's text alone. The
 /// others are procedures of R5RS, chapter 6, at one count of operands.
-#[derive(Clone, Copy, Debug)]
+#[derive(Clone, Copy)]
 pub enum Primitive {
     Eq,
     Eqv,

@@ -11,7 +11,7 @@ use std::alloc::Global;
 
 /// The names of a program's symbols, its literals, and its globals, each with the library's procedure
 /// of that number or unset.
-#[derive(Debug, Drop)]
+#[derive(Drop)]
 pub struct Statics {
     pub symbols: List<Bytes>,
     pub literals: List<Lit>,

@@ -2,7 +2,7 @@ ghost use Rattle.std.specs.Prelude.{◌≡◌, ◌↔◌, Some};
 ghost use Rattle.sch_word.specs.runs.Stops.{status_of, stop_of, text_of};
 
 /// The ten ways in which a program stops before its end.
-#[derive(Clone, Copy, Debug, PartialEq, Eq)]
+#[derive(Clone, Copy)]
 pub enum Stop {
     WrongType,
     OutOfRange,

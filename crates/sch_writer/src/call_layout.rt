@@ -4,8 +4,8 @@ ghost use Rattle.std.specs.Prelude.{◌≡◌, ◌+◌, ◌∷◌, false, length
 ghost use Rattle.sch_control.specs.declared.mark.MarkKind.TheVariants as mark;
 ghost use Rattle.sch_frames.specs.Meaning.{argument_register, argument_slot, closure_register, link_register};
 ghost use Rattle.sch_frames.specs.declared.instruction.Instruction.TheVariants.{Call, Mark, Tail};
-ghost use Rattle.sch_layout.specs.BodyLayout.{arrival, hand_over, handed, leave, prepared, restored, set_aside, Writes};
-ghost use Rattle.sch_layout.specs.OwnSlots.{home_of, own_slot, own_slots};
+ghost use Rattle.sch_layout.specs.BodyLayout.{arrival, hand_over, handed, leave, loaded, prepared, set_aside, stored, Writes};
+ghost use Rattle.sch_layout.specs.OwnSlots.{own_slot, own_slots, saved_round};
 
 use crate::instructions::{Slots, Writer, leave, put};
 use crate::slot_places::operand_at;
@@ -110,7 +110,7 @@ fn set_aside(
 
 /// The operands that are set aside are handed over, the first before the others.
 fn hand_over(tail: bool, count: u32, out: &mut Writer) -> Result<(), Mem>
-    ensures instructions { OnOk result (Writes out.old.instructions out.new.instructions (hand_over tail 0 count)) }
+    ensures instructions { OnOk result (Writes out.old.instructions out.new.instructions (hand_over tail 0 0 count)) }
     ensures labels { OnOk result (out.new.labels ≡ out.old.labels) }
 {
     for k in 0..count {
@@ -119,7 +119,7 @@ fn hand_over(tail: bool, count: u32, out: &mut Writer) -> Result<(), Mem>
     Ok(())
 }
 
-/// The operator's closure and the operands stand where a call takes them.
+/// The operands and the operator's closure stand where a call takes them.
 fn prepare(
     alloc: Global,
     slots: Slots,
@@ -128,22 +128,33 @@ fn prepare(
     out: &mut Writer,
 ) -> Result<u32, Mem>
     ensures instructions { OnOk result (Writes out.old.instructions out.new.instructions
-        (prepared (own_slots slots.base slots.entered) tail a.now)) }
+        (prepared (own_slots slots.base) tail a.now)) }
     ensures labels { OnOk result (out.new.labels ≡ out.old.labels) }
     ensures count { IfOk result (λ n. n ≡ length a.now.operands) }
 {
     let operands = a.operands.as_slice();
     let count = short(operands.len())?;
     let operator = operand_at(alloc, slots.base, &a.operator)?;
-    put(out, Instruction::Load(CLOSURE, operator))?;
     set_aside(alloc, slots, operands, out)?;
+    put(out, Instruction::Load(CLOSURE, operator))?;
     hand_over(tail, count, out)?;
     Ok(count)
 }
 
+/// The return address is saved in its slot, where there is one.
+pub fn write_save(slots: Slots, out: &mut Writer) -> Result<(), Mem>
+    ensures instructions { OnOk result (Writes out.old.instructions out.new.instructions (stored (own_slots slots.base) (saved_round slots.entered))) }
+    ensures labels { OnOk result (out.new.labels ≡ out.old.labels) }
+{
+    if slots.entered {
+        put(out, Instruction::Copy(Place::Slot(slots.base), LINK))?;
+    }
+    Ok(())
+}
+
 /// The return address is back in its register, where there is one.
 fn restore(slots: Slots, out: &mut Writer) -> Result<(), Mem>
-    ensures instructions { OnOk result (Writes out.old.instructions out.new.instructions (restored (home_of slots.entered slots.base))) }
+    ensures instructions { OnOk result (Writes out.old.instructions out.new.instructions (loaded (own_slots slots.base) (saved_round slots.entered))) }
     ensures labels { OnOk result (out.new.labels ≡ out.old.labels) }
 {
     if slots.entered {
@@ -152,9 +163,9 @@ fn restore(slots: Slots, out: &mut Writer) -> Result<(), Mem>
     Ok(())
 }
 
-/// A call, whose value is left in the accumulator, or tested, and goes on behind the label where it is `#f`. The operator
-/// is loaded into R14; each operand is loaded into a slot of its own and handed over from there. More than 2^32 operands
-/// are out of memory.
+/// A call, whose value is left in the accumulator, or tested, and goes on behind the label where it is `#f`. Each operand
+/// is loaded into a slot of its own, then the operator into R14, and the operands are handed over from their slots. More
+/// than 2^32 operands are out of memory.
 pub fn write_call(
     alloc: Global,
     slots: Slots,
@@ -163,9 +174,9 @@ pub fn write_call(
     out: &mut Writer,
 ) -> Result<(), Mem>
     ensures instructions { OnOk result (Writes out.old.instructions out.new.instructions
-        (λ rest. prepared (own_slots slots.base slots.entered) false a.now
+        (λ rest. prepared (own_slots slots.base) false a.now
         (Mark (mark.Call a.now.site) ∷ (Call a.now.spread (length a.now.operands)
-        ∷ restored (home_of slots.entered slots.base) (leave test rest))))) }
+        ∷ loaded (own_slots slots.base) (saved_round slots.entered) (leave test rest))))) }
     ensures labels { OnOk result (out.new.labels ≡ out.old.labels) }
 {
     let count = prepare(alloc, slots, false, a, out)?;
@@ -184,7 +195,7 @@ pub fn write_tail_call(
     out: &mut Writer,
 ) -> Result<(), Mem>
     ensures instructions { OnOk result (Writes out.old.instructions out.new.instructions
-        (λ rest. prepared (own_slots slots.base slots.entered) true a.now
+        (λ rest. prepared (own_slots slots.base) true a.now
         (Mark (mark.Tail a.now.site) ∷ (Tail a.now.spread (length a.now.operands) ∷ rest)))) }
     ensures labels { OnOk result (out.new.labels ≡ out.old.labels) }
 {

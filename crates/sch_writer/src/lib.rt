@@ -6,6 +6,6 @@ mod call_layout;
 mod instructions;
 mod slot_places;
 
-pub use call_layout::{CLOSURE, LINK, arrival, write_call, write_tail_call};
+pub use call_layout::{CLOSURE, arrival, write_call, write_save, write_tail_call};
 pub use instructions::{Slots, Writer, leave, new_label, put};
 pub use slot_places::{members_at, operation_at, own_slot};

@@ -1,4 +1,5 @@
 use Rattle.std.proofs.Common.{◌∙◌, ℕ, ◌*◌, ◌≤◌, IsTrue, length, sym, subst, ap}
+use Rattle.std.proofs.Math.Path.{fun_ext}
 use Rattle.sch_word.proofs.WhenOk.{if_ok}
 use Rattle.sch_word.specs.runs.Runs.{SameRuns}
 use Rattle.sch_cells.specs.Covered.{is_covered_program}
@@ -8,8 +9,11 @@ use Rattle.sch_cells.specs.Measures.{call_sites_of, dropped_of, program_size, si
 use Rattle.sch_cells.specs.ProgramView.{source}
 use Rattle.sch_cells.specs.UnboxedMeaning as unboxed
 use Rattle.sch_cells.specs.Valid.{bound_of}
+use Rattle.sch_cells.specs.Tree.{count_lambdas}
+use Rattle.sch_assign.specs.Converted.{converted_source}
 use Rattle.sch_assign.specs.Table.{table}
 use Rattle.sch_assign.proofs.kept.CoveredKept.{covered_kept}
+use Rattle.sch_assign.proofs.kept.FreeMoved.{count_lambdas_same}
 use Rattle.sch_assign.proofs.kept.BodiesKept.{program_bodies}
 use Rattle.sch_assign.proofs.BoundCount.{program_bound}
 use Rattle.sch_assign.proofs.ConversionIsRight.{program_right}
@@ -20,6 +24,17 @@ use Rattle.sch_assign.proofs.kept.WeightKept.{program_weight}
 use Rattle.sch_assign.specs.Weight.{weight}
 use Rattle.sch_assign.proofs.kept.ValidKept.{sites_kept}
 use Rattle.sch_assign.proofs.convert_assign.Goals as goal
+
+pub returns-clause-made : goal.returns-clause-made
+returns-clause-made c =
+    let v = c.args.p.now in
+    let same = λ (y : ℕ). ap (λ bs. table bs y) c.as_slice.ensures.value ∙ c.in_ok-celled.ensures y in
+    if_ok c.convert_program.result _ _ c.convert_program.ensures (λ q made. made ∙ ap (λ f. converted_source f v.variables (source v)) (fun_ext same))
+
+pub returns-clause-library : goal.returns-clause-library
+returns-clause-library c =
+    let v = c.args.p.now in
+    if_ok c.convert_program.result _ _ c.convert_program.ensures (λ q made. ap (λ s. count_lambdas s.library) made ∙ count_lambdas_same (table c.as_slice.result.now) v.variables (source v).library)
 
 pub returns-clause-runs : goal.returns-clause-runs
 returns-clause-runs c =

@@ -3,16 +3,17 @@
 use Rattle.std.proofs.Common.{◌≡◌, ℕ, zero, suc, ◌+◌, ◌<◌, Bool, true, false, List, [], ◌∷◌, ◌++◌, length, Some, refl, sym, ap, ◌∙◌, arith}
 use Rattle.std.specs.Prelude.{not, slice_get, nat_eq}
 use Rattle.std.proofs.lemmas.List.{append-nil}
+use Rattle.sch_word.proofs.facts.Booleans.{neither}
 use Rattle.sch_word.specs.trees.Bindings.{Bindings, bound_to, with_variables, scope_with}
 use Rattle.sch_cells.specs.declared.tree.NewCell.{NewCell}
 use Rattle.sch_cells.specs.Tree.{Tree, Trees, Lambdas, Source, constant, literal, variable, global, set_variable, set_global, define, branch, sequence, bind, fix, letrec, lambda, call, operation, new_cells, cell_get, cell_set, no_trees, and_tree, no_lambdas, and_lambda, count, count_lambdas}
 use Rattle.sch_cells.specs.Variables.{assigns, assigns_each, assigns_lambdas}
 use Rattle.sch_cells.specs.Bodies.{once_or_not, counts_nothing, one_unless, unassigned, all_same, twice_if, bound_count, three_each, with_cells, variables, variables_each, variables_operands, variables_parts, procedure, procedures, bodies, bodies_each, bodies_lambdas, bodies_forms, bodies_of}
-use Rattle.sch_cells.proofs.Clearing.{neither}
 use Rattle.sch_assign.specs.Converted.{and_cell, cells_for, empty_cells, filling, reading, wrapped, converted, converted_each, converted_lambdas, converted_source, Agree, AllAre, Low, Right, RightEach, RightLambdas}
-use Rattle.sch_assign.proofs.Lookups.{Apart, Where, inside, outside, where_is, inside_variables, outside_variables, agree_next, apart}
+use Rattle.sch_assign.proofs.Lookups.{Apart, Where, inside, outside, where_is, inside_variables, outside_variables, agree_next}
 use Rattle.sch_assign.proofs.kept.FreeMoved.{AllLow, low_with, count_same, count_lambdas_same, lambda_free}
 use Rattle.sch_assign.proofs.ConversionIsRight.{IsRight}
+use Rattle.sch_word.proofs.facts.NumberTests.{differ}
 
 -- ## Nothing is assigned
 
@@ -105,12 +106,12 @@ module _ (has_cell : ℕ → Bool) (n : ℕ) where
   cells_high x (suc m) y once l = go (has_cell x) (λ o. cells_high (suc x) m y o l)
     where
       go : (b : Bool) → ((o : Bindings Bool) → bound_to y (with_cells (cells_for has_cell n (suc x) m) o) ≡ bound_to y o) → bound_to y (with_cells (and_cell n b x (cells_for has_cell n (suc x) m)) once) ≡ bound_to y once
-      go true k = k ((x + n, true) ∷ once) ∙ (let t : nat_eq y (x + n) ≡ false = apart y (x + n) (λ e. omega (arith, e, l)) in rw t refl)
+      go true k = k ((x + n, true) ∷ once) ∙ (let t : nat_eq y (x + n) ≡ false = differ y (x + n) (λ e. omega (arith, e, l)) in rw t refl)
       go false k = k once
 
   empty_high : (x m y : ℕ) (once : Bindings Bool) → y < n → bound_to y (with_cells (empty_cells n x m) once) ≡ bound_to y once
   empty_high x zero y once l = refl
-  empty_high x (suc m) y once l = empty_high (suc x) m y ((x + n, true) ∷ once) l ∙ (let t : nat_eq y (x + n) ≡ false = apart y (x + n) (λ e. omega (arith, e, l)) in rw t refl)
+  empty_high x (suc m) y once l = empty_high (suc x) m y ((x + n, true) ∷ once) l ∙ (let t : nat_eq y (x + n) ≡ false = differ y (x + n) (λ e. omega (arith, e, l)) in rw t refl)
 
   pub empty_length : (x m : ℕ) → length (empty_cells n x m) ≡ m
   empty_length x zero = refl

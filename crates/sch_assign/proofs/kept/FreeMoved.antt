@@ -9,9 +9,11 @@ use Rattle.sch_cells.specs.Tree.{Tree, Trees, Lambdas, constant, literal, variab
 use Rattle.sch_cells.specs.Variables.{without_each, cells_bound, cells_used, free, free_each, free_lambdas, distinct}
 use Rattle.sch_cells.specs.Clear.{In}
 use Rattle.sch_assign.specs.Converted.{cells_for, empty_cells, wrapped, reading, filling, converted, converted_each, converted_lambdas, Low, AllAre, Right, RightEach, RightLambdas}
-use Rattle.sch_assign.proofs.Lookups.{apart, Where, inside, outside, where_is, in_outside, low_next, low_first, all_next, all_first, no_cells}
+use Rattle.sch_assign.proofs.Lookups.{Where, inside, outside, where_is, in_outside, low_next, low_first, all_next, all_first, no_cells}
 use Rattle.sch_assign.proofs.Moved.{Under, shift, moved, group_moved, lambda_moved}
 use Rattle.sch_assign.proofs.Sets.{drop, drop_union, drop_map, drop_twice, without_is, each_is, distinct_union, distinct_drop, union_nothing}
+use Rattle.sch_word.proofs.facts.NumberTests.{differ, same_test}
+use Rattle.sch_word.proofs.facts.Lists.{map_length}
 
 -- ## Each free variable once
 
@@ -65,17 +67,6 @@ under_without x m xs n h = rw (without_is x m xs) (under_drop (λ z. has z (numb
 drop_under : (p q : ℕ → Bool) (xs : List ℕ) (n : ℕ) → Under xs n → ((x : ℕ) → x < n → p x ≡ q x) → drop p xs ≡ drop q xs
 drop_under p q [] n h k = refl
 drop_under p q (x ∷ xs) n h k = rw (k x h.0, drop_under p q xs n h.1 k) refl
-
-pub same_test : (a b c d : ℕ) → (a ≡ b → c ≡ d) → (c ≡ d → a ≡ b) → nat_eq a b ≡ nat_eq c d
-same_test a b c d f g = go (nat_eq c d) refl
-  where
-    go : (t : Bool) → nat_eq c d ≡ t → nat_eq a b ≡ t
-    go true e = eq-eqb a b (g (eqb-true c d e))
-    go false e = apart a b (λ q. let k : nat_eq c d ≡ true = eq-eqb c d (f q) in absurd (cc))
-
-map_length : (f : ℕ → ℕ) (xs : List ℕ) → length (map f xs) ≡ length xs
-map_length f [] = refl
-map_length f (x ∷ xs) = ap suc (map_length f xs)
 
 module _ (has_cell : ℕ → Bool) (n : ℕ) where
   pub record AllLow (S : List ℕ) : Type 0 where
@@ -173,8 +164,8 @@ module _ (has_cell : ℕ → Bool) (n : ℕ) where
   group_not_moved x (suc m) z all low l = rw (go (has_cell z) refl, group_not_moved (suc x) m z (all_next has_cell n true x m all) (low_next has_cell n x m low) l) refl
     where
       go : (b : Bool) → has_cell z ≡ b → nat_eq (shift has_cell n b z) x ≡ false
-      go true p = let f : x < n = low_first has_cell n x m low in apart (z + n) x (λ e. omega (arith, e, f))
-      go false p = apart z x (λ e. absurd (let a : has_cell x ≡ true = all_first has_cell n true x m all in let b : has_cell x ≡ false = rw e at p in cc))
+      go true p = let f : x < n = low_first has_cell n x m low in differ (z + n) x (λ e. omega (arith, e, f))
+      go false p = differ z x (λ e. absurd (let a : has_cell x ≡ true = all_first has_cell n true x m all in let b : has_cell x ≡ false = rw e at p in cc))
 
   pub empty_used : (x m : ℕ) → cells_used (empty_cells n x m) ≡ []
   empty_used x zero = refl

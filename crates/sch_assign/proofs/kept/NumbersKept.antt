@@ -2,6 +2,7 @@
 use Rattle.std.proofs.Common.{◌≡◌, ℕ, zero, suc, ◌+◌, ◌-◌, ◌<◌, ◌≤◌, Bool, true, false, List, [], ◌∷◌, ◌++◌, refl, ap, ◌∙◌, subst, arith}
 use Rattle.std.specs.Prelude.{IsTrue, ◌||◌, not, nat_eq, nat_lt}
 use Rattle.std.proofs.lemmas.Bool.{eqb-true, eq-eqb, lt-ltb, ltb-true}
+use Rattle.sch_word.proofs.facts.Booleans.{not_true}
 use Rattle.sch_word.specs.trees.NumberSets.{has}
 use Rattle.sch_word.specs.trees.Bindings.{numbers, scope_with}
 use Rattle.sch_word.proofs.Shaped.{parts, both_true}
@@ -10,11 +11,11 @@ use Rattle.sch_cells.specs.Tree.{Tree, Trees, Lambdas, Source, constant, literal
 use Rattle.sch_cells.specs.Variables.{cells_bound, bound, bound_each, bound_lambdas, distinct, below}
 use Rattle.sch_cells.specs.Valid.{bound_of}
 use Rattle.sch_cells.specs.Clear.{In}
-use Rattle.sch_cells.proofs.Clearing.{not_has}
 use Rattle.sch_assign.specs.Converted.{and_cell, cells_for, empty_cells, filling, reading, wrapped, converted, converted_each, converted_lambdas, converted_source, AllAre, Low, Right, RightEach, RightLambdas}
-use Rattle.sch_assign.proofs.Lookups.{apart, all_first, all_next, low_first, low_next}
-use Rattle.sch_assign.proofs.kept.FreeMoved.{same_test, count_same, count_lambdas_same}
+use Rattle.sch_assign.proofs.Lookups.{all_first, all_next, low_first, low_next}
+use Rattle.sch_assign.proofs.kept.FreeMoved.{count_same, count_lambdas_same}
 use Rattle.sch_assign.proofs.ConversionIsRight.{IsRight, below_has}
+use Rattle.sch_word.proofs.facts.NumberTests.{differ, same_test}
 
 -- ## How many times a number stands in a list
 
@@ -60,7 +61,7 @@ distinct_times : (z : ℕ) (xs : List ℕ) → IsTrue (distinct xs) → times z 
 distinct_times z [] d = omega arith
 distinct_times z (x ∷ xs) d =
     let p = parts (not (has x xs)) (distinct xs) d in
-    go (nat_eq z x) refl (not_has (has x xs) p.0) (distinct_times z xs p.1)
+    go (nat_eq z x) refl (not_true (has x xs) p.0) (distinct_times z xs p.1)
   where
     go : (b : Bool) → nat_eq z x ≡ b → has x xs ≡ false → times z xs ≤ 1 → one_if b + times z xs ≤ 1
     go true e h k = let q : z ≡ x = eqb-true z x e in let n : times z xs ≡ 0 = not_there z xs (rw q h) in omega (arith, n)
@@ -95,14 +96,14 @@ module _ (has_cell : ℕ → Bool) (n : ℕ) where
   keys_high x (suc m) z l = go (has_cell x) (keys_high (suc x) m z l)
     where
       go : (b : Bool) → times z (cells_bound (cells_for has_cell n (suc x) m)) ≡ 0 → times z (cells_bound (and_cell n b x (cells_for has_cell n (suc x) m))) ≡ 0
-      go true k = let t : nat_eq z (x + n) ≡ false = apart z (x + n) (λ e. omega (arith, e, l)) in rw t (omega (arith, k))
+      go true k = let t : nat_eq z (x + n) ≡ false = differ z (x + n) (λ e. omega (arith, e, l)) in rw t (omega (arith, k))
       go false k = k
 
   numbers_low : (x m z : ℕ) → Low n x m → n ≤ z → times z (numbers x m) ≡ 0
   numbers_low x zero z low l = refl
   numbers_low x (suc m) z low l =
       let f : x < n = low_first has_cell n x m low in
-      let t : nat_eq z x ≡ false = apart z x (λ e. omega (arith, e, l, f)) in
+      let t : nat_eq z x ≡ false = differ z x (λ e. omega (arith, e, l, f)) in
       let k = numbers_low (suc x) m z (low_next has_cell n x m low) l in
       rw t (omega (arith, k))
 

@@ -9,10 +9,11 @@ use Rattle.sch_cells.specs.Tree.{Tree, Trees, Lambdas, Source, constant, literal
 use Rattle.sch_cells.specs.Variables.{scope_of, cells_bound, cells_used, all_in, closed, closed_each, closed_lambdas}
 use Rattle.sch_cells.specs.Clear.{In}
 use Rattle.sch_assign.specs.Converted.{and_cell, cells_for, empty_cells, filling, reading, wrapped, converted, converted_each, converted_lambdas, AllAre, Right, RightEach, RightLambdas}
-use Rattle.sch_assign.proofs.Lookups.{self, Where, inside, outside, where_is, in_outside, in_more, in_deeper, in_group}
+use Rattle.sch_assign.proofs.Lookups.{Where, inside, outside, where_is, in_outside, in_more, in_deeper, in_group}
 use Rattle.sch_assign.proofs.Moved.{AllInside, used_inside}
 use Rattle.sch_assign.proofs.kept.FreeMoved.{count_same, count_lambdas_same, keys_have, empty_used}
 use Rattle.sch_assign.proofs.ConversionIsRight.{IsRight}
+use Rattle.sch_word.proofs.facts.NumberTests.{same}
 
 -- ## Scopes with more variables
 
@@ -59,7 +60,7 @@ module _ (has_cell : ℕ → Bool) (n : ℕ) where
   key_there x (suc m) zero z l e a =
       let q : z ≡ x = omega (arith, e) in
       let a' : has_cell x ≡ true = rw q at a in
-      rw (q, a') (let s : nat_eq (x + n) (x + n) ≡ true = self (x + n) in rw s refl)
+      rw (q, a') (let s : nat_eq (x + n) (x + n) ≡ true = same (x + n) in rw s refl)
   key_there x (suc m) (suc i) z l e a = go (has_cell x) (key_there (suc x) m i z (omega (arith, l)) (omega (arith, e)) a)
     where
       go : (b : Bool) → In (z + n) (cells_bound (cells_for has_cell n (suc x) m)) → In (z + n) (cells_bound (and_cell n b x (cells_for has_cell n (suc x) m)))

@@ -15,7 +15,6 @@ use Rattle.sch_cells.specs.Variables.{assigns, assigns_lambdas, closed_each, clo
 use Rattle.sch_cells.specs.Bodies.{variables, procedure, procedures}
 use Rattle.sch_cells.specs.Measures.{over, over_each, over_lambdas, shape, every, sites_of, levels_each, levels_lambdas}
 use Rattle.sch_cells.specs.Valid.{has_form, none_assigned, fix_unassigned, scoped, formed, constants_in_range, within_limits, forms_fit, sited, statics_known, bound_of}
-use Rattle.sch_cells.proofs.Clearing.{neither}
 use Rattle.sch_assign.specs.Converted.{and_cell, cells_for, filling, reading, wrapped, converted, converted_each, converted_lambdas, converted_source, Right, RightEach, RightLambdas}
 use Rattle.sch_assign.proofs.kept.FreeMoved.{AllLow, low_with, count_same, count_lambdas_same}
 use Rattle.sch_assign.proofs.ConversionIsRight.{IsRight}
@@ -25,15 +24,12 @@ use Rattle.sch_assign.proofs.kept.LevelsKept.{each_within, lambdas_within}
 use Rattle.sch_assign.proofs.kept.BodiesKept as bodies
 use Rattle.sch_assign.proofs.kept.BodiesKept.{procedure_kept, procedures_kept, form_variables, nothing_low, empty_length}
 use Rattle.sch_assign.proofs.kept.ShapesKept.{Becomes, same, read, set, bound, fewer, node_of, source_kept, shapes_kept}
+use Rattle.sch_word.proofs.facts.Booleans.{and_true, neither}
 
 -- ## Joining of truths and lists
 
 pub true_first : (b : Bool) → (true && b) ≡ b
 true_first b = refl
-
-pub true_last : (b : Bool) → (b && true) ≡ b
-true_last true = refl
-true_last false = refl
 
 append_nothing : {B : Type 0} (a : List B) → a ++ [] ≡ a
 append_nothing a = append-nil a
@@ -258,15 +254,15 @@ module _ (has_cell : ℕ → Bool) (n : ℕ) where
         let b = parts (every (λ e. has_form false (shape e)) p) (every (λ e. names_known symbols literals globals (shape e)) p) a.0 in
         let c = parts (every (λ e. well_formed (shape e)) p) (every fix_unassigned p) a.1 in
         both_true
-        (both_true (source_kept has_cell n holds_joins true_first true_last (λ e. true) (λ e. has_form true (shape e)) form_node (λ cs e. refl) (λ x. refl) (λ x. refl) (λ x m e. refl) p r)
-        (shapes_kept has_cell n implies_joins true_first true_last (names_known symbols literals globals) (names_known symbols literals globals) (names_turn symbols literals globals) (λ k. refl) refl refl (λ k. refl) p r b.1))
-        (both_true (shapes_kept has_cell n implies_joins true_first true_last well_formed well_formed well_formed_turn (λ k. refl) refl refl (λ k. refl) p r c.0)
-        (source_kept has_cell n holds_joins true_first true_last (λ e. true) fix_unassigned fix_node (λ cs e. refl) (λ x. refl) (λ x. refl) (λ x m e. refl) p r))
+        (both_true (source_kept has_cell n holds_joins true_first and_true (λ e. true) (λ e. has_form true (shape e)) form_node (λ cs e. refl) (λ x. refl) (λ x. refl) (λ x m e. refl) p r)
+        (shapes_kept has_cell n implies_joins true_first and_true (names_known symbols literals globals) (names_known symbols literals globals) (names_turn symbols literals globals) (λ k. refl) refl refl (λ k. refl) p r b.1))
+        (both_true (shapes_kept has_cell n implies_joins true_first and_true well_formed well_formed well_formed_turn (λ k. refl) refl refl (λ k. refl) p r c.0)
+        (source_kept has_cell n holds_joins true_first and_true (λ e. true) fix_unassigned fix_node (λ cs e. refl) (λ x. refl) (λ x. refl) (λ x m e. refl) p r))
 
     pub words_kept : IsTrue (constants_in_range p) → IsTrue (constants_in_range (converted_source has_cell n p))
     words_kept h =
         let a = parts (every (λ e. constant_in_range (shape e)) p) (statics_in_range p.statics) h in
-        both_true (shapes_kept has_cell n implies_joins true_first true_last constant_in_range constant_in_range constant_turn (λ k. refl) refl refl (λ k. refl) p r a.0) a.1
+        both_true (shapes_kept has_cell n implies_joins true_first and_true constant_in_range constant_in_range constant_turn (λ k. refl) refl refl (λ k. refl) p r a.0) a.1
 
     pub limited_kept : IsTrue (within_limits false p) → IsTrue (within_limits true (converted_source has_cell n p))
     limited_kept h =

@@ -1,5 +1,5 @@
 use Rattle.std.specs.Prelude.{IsTrue}
-use Rattle.std.proofs.Common.{◌∙◌, sym, subst, ap, map}
+use Rattle.std.proofs.Common.{◌∙◌, length, sym, subst, ap, map}
 use Rattle.sch_word.proofs.WhenOk.{if_ok}
 use Rattle.sch_word.specs.runs.Runs.{SameRuns}
 use Rattle.sch_cells.specs.BoxedMeaning.{run}
@@ -9,7 +9,7 @@ use Rattle.sch_flat.specs.Covered.{is_covered_program}
 use Rattle.sch_flat.specs.Measures.{sites_of, call_sites_of, tests_of, dropped_of, program_size}
 use Rattle.sch_flat.specs.Run as meaning
 use Rattle.sch_closure.specs.Kept.{SameItems, flat_forms, procedure_of, weight_after}
-use Rattle.sch_closure.proofs.kept.CoveredKept.{covered_kept}
+use Rattle.sch_closure.proofs.kept.CoveredKept.{covered_kept, labels_length}
 use Rattle.sch_closure.proofs.kept.ValidKept.{Given, same_runs, clears, fresh_library, fresh_forms}
 use Rattle.sch_closure.proofs.kept.ProgramKept.{weight_kept, sites_kept, calls_kept, tests_kept, dropped_kept, bodies_kept, forms_kept, size_kept}
 use Rattle.sch_closure.proofs.close.Goals as goal
@@ -20,6 +20,10 @@ returns-clause-runs c =
     let v = c.args.p.now in
     let g : Given p = record { scoped = v.scoped; formed = v.formed; limited = v.limited } in
     if_ok c.close_program.result _ _ c.close_program.ensures (λ q made. subst (λ s. SameRuns (run p) (meaning.run s)) (sym made) (same_runs p g))
+
+pub returns-clause-library : goal.returns-clause-library
+returns-clause-library c =
+    if_ok c.close_program.result _ _ c.close_program.ensures (λ q made. ap (λ s. length s.library) made ∙ labels_length (source c.args.p.now).library 0)
 
 pub returns-clause-sites : goal.returns-clause-sites
 returns-clause-sites c =

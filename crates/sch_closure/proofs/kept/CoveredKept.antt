@@ -108,7 +108,7 @@ mutual
       (all_append (all_procedures body_of e (suc n)) (all_of_lambdas body_of ls (suc n + procedures e)) (bodies_kept e (fields_of x m e) (suc n) f.0.1 p.0) (bodies_of_lambdas ls (suc n + procedures e) f.1 p.1))
 
 -- each procedure of the library has a label
-labels_length : (ls : Lambdas) (n : ℕ) → length (labels ls n) ≡ count_lambdas ls
+pub labels_length : (ls : Lambdas) (n : ℕ) → length (labels ls n) ≡ count_lambdas ls
 labels_length no_lambdas n = refl
 labels_length (and_lambda name x m rest e ls) n = ap suc (labels_length ls (suc n + procedures e))
 

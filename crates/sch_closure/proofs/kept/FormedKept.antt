@@ -18,10 +18,11 @@ use Rattle.sch_flat.specs.Valid.{body_fits, forms_fit}
 use Rattle.sch_closure.specs.Closed as closing
 use Rattle.sch_closure.specs.Closed.{place, place_from, placed, procedures, procedures_each, procedures_lambdas, fields_of, closed, closed_each, made_each, body_of, all_procedures, all_of_each, all_of_lambdas, closed_source}
 use Rattle.sch_closure.specs.Fresh.{Fresh, FreshEach, FreshLambdas}
-use Rattle.sch_closure.proofs.Same.{places_length, made_length, none_within}
+use Rattle.sch_closure.proofs.Same.{made_length, none_within}
 use Rattle.sch_closure.proofs.Scopes.{free_within}
 use Rattle.sch_closure.proofs.kept.ScopedKept.{counts, list_both}
 use Rattle.sch_closure.proofs.kept.VariablesKept.{body_kept, form_kept}
+use Rattle.sch_word.proofs.facts.Lists.{map_length}
 
 -- the bodies of the procedures that a node is or has
 abbrev pub own_lambdas : Lambdas → (n : ℕ) → List flat.Body
@@ -240,7 +241,7 @@ fits_node (letrec site x es e) fs n f h = absurd f
 fits_node (lambda name x m rest e) fs n f h = refl
 fits_node (call site spread g es) fs n f h = rw (counts es fs (n + procedures g)) h
 fits_node (operation site which es) fs n f h = rw (counts es fs n) h
-fits_node (new_cells cs e) fs n f h = rw (places_length (placed fs) cs) h
+fits_node (new_cells cs e) fs n f h = rw (map_length (placed fs) cs) h
 fits_node (cell_get x) fs n f h = refl
 fits_node (cell_set x e) fs n f h = refl
 

@@ -21,11 +21,12 @@ use Rattle.sch_closure.specs.Fresh.{Fresh, FreshEach, FreshLambdas}
 use Rattle.sch_closure.specs.Kept.{SameItems, procedure_of, procedures_in, forms_in, flat_forms, weight_after, weight_before}
 use Rattle.sch_closure.proofs.kept.CountsKept.{same_source, same_alone, sum_per}
 use Rattle.sch_closure.proofs.kept.FormedKept.{own, own_lambdas}
-use Rattle.sch_closure.proofs.Same.{places_length, made_length, none_within}
+use Rattle.sch_closure.proofs.Same.{made_length, none_within}
 use Rattle.sch_closure.proofs.Scopes.{free_within}
 use Rattle.sch_closure.proofs.kept.ScopedKept.{counts}
 use Rattle.sch_closure.proofs.kept.ValidKept.{sites_counted, map_both}
 use Rattle.sch_closure.proofs.kept.VariablesKept.{body_kept, form_kept}
+use Rattle.sch_word.proofs.facts.Lists.{map_length}
 
 -- what is the same of a variable and of a field is that of a variable in any body
 field_same : {A : Type 0} (m : Shape → A) (fs : List ℕ) (k x : ℕ) → m shapes.field ≡ m shapes.variable → m shapes.variable ≡ m (to.shape (flat.variable (place_from k fs x)))
@@ -151,7 +152,7 @@ size_node (letrec site x es e) fs n f = absurd f
 size_node (lambda name x m rest e) fs n f = omega arith
 size_node (call site spread g es) fs n f = omega arith
 size_node (operation site which es) fs n f = omega arith
-size_node (new_cells cs e) fs n f = omega (arith, places_length (placed fs) cs)
+size_node (new_cells cs e) fs n f = omega (arith, map_length (placed fs) cs)
 size_node (cell_get x) fs n f = omega arith
 size_node (cell_set x e) fs n f = omega arith
 
@@ -159,7 +160,7 @@ size_node (cell_set x e) fs n f = omega arith
 
 fields_weight : (ls : Lambdas) (fs : List ℕ) (n : ℕ) → weights.fields_of (to.made_shapes (made_each ls fs n)) ≡ free_of (bodies.procedures ls)
 fields_weight no_lambdas fs n = refl
-fields_weight (and_lambda name x m rest e ls) fs n = omega (arith, fields_weight ls fs (suc n + procedures e), places_length (place fs) (fields_of x m e))
+fields_weight (and_lambda name x m rest e ls) fs n = omega (arith, fields_weight ls fs (suc n + procedures e), map_length (place fs) (fields_of x m e))
 
 -- what a body weighs beside its nodes
 abbrev body_weight : flat.Body → ℕ
@@ -187,10 +188,10 @@ weight_node (sequence (and_tree e es)) fs n f = omega (arith, counts es fs (n + 
 weight_node (bind site x es e) fs n f = omega (arith, counts es fs n)
 weight_node (fix x ls e) fs n f = omega (arith, fields_weight ls fs n, made_length ls fs n, lambdas_weight ls n)
 weight_node (letrec site x es e) fs n f = absurd f
-weight_node (lambda name x m rest e) fs n f = omega (arith, places_length (place fs) (fields_of x m e))
+weight_node (lambda name x m rest e) fs n f = omega (arith, map_length (place fs) (fields_of x m e))
 weight_node (call site spread g es) fs n f = omega (arith, counts es fs (n + procedures g))
 weight_node (operation site which es) fs n f = omega (arith, counts es fs n)
-weight_node (new_cells cs e) fs n f = omega (arith, places_length (placed fs) cs)
+weight_node (new_cells cs e) fs n f = omega (arith, map_length (placed fs) cs)
 weight_node (cell_get x) fs n f = omega arith
 weight_node (cell_set x e) fs n f = omega arith
 

@@ -18,9 +18,13 @@ use Rattle.sch_flat.specs.Valid as valid
 use Rattle.sch_closure.specs.Closed as closing
 use Rattle.sch_closure.specs.Closed.{place, place_from, place_or_none, placed, procedures, procedures_each, procedures_lambdas, fields_of, made, closed, closed_each, made_each, body_of, all_procedures, all_of_each, all_of_lambdas}
 use Rattle.sch_closure.specs.Fresh.{Fresh, FreshEach, FreshLambdas, Stand, StandEach, StandLambdas}
-use Rattle.sch_closure.proofs.Sets.{in_here, in_more, union_left, union_right, remove_other, self}
+use Rattle.sch_closure.proofs.Sets.{remove_other}
 use Rattle.sch_closure.proofs.Scopes.{Within, each_within}
-use Rattle.sch_closure.proofs.Same.{places_length, made_length}
+use Rattle.sch_closure.proofs.Same.{made_length}
+use Rattle.sch_word.proofs.facts.NumberTests.{same}
+use Rattle.sch_word.proofs.facts.NumberSets.{in_more, in_here, union_left, union_right}
+use Rattle.sch_word.proofs.facts.Lists.{map_length}
+use Rattle.sch_word.proofs.facts.Booleans.{not_true}
 
 -- ## Variables that are known
 
@@ -80,10 +84,6 @@ contents_known fs own (c ∷ cs) k = go (λ k. contents_known fs own cs k) c.con
 record New (xs own : List ℕ) : Type 0 where
   at : (y : ℕ) → In y xs → has y own ≡ false
 
-falsehood : (b : Bool) → IsTrue (not b) → b ≡ false
-falsehood true h = absurd (cc)
-falsehood false h = refl
-
 truth : (b : Bool) → b ≡ false → IsTrue (not b)
 truth true h = absurd (cc)
 truth false h = refl
@@ -92,7 +92,7 @@ all_are_new : (xs own : List ℕ) → IsTrue (distinct xs) → New xs own → Is
 all_are_new [] own d n = refl
 all_are_new (x ∷ xs) own d n =
     let p = parts (not (has x xs)) (distinct xs) d in
-    both_true (truth (has x own) (n.at x (in_here x xs))) (all_are_new xs (x ∷ own) p.1 (record { at = λ y i. go y i (nat_eq y x) refl (falsehood (has x xs) p.0) }))
+    both_true (truth (has x own) (n.at x (in_here x xs))) (all_are_new xs (x ∷ own) p.1 (record { at = λ y i. go y i (nat_eq y x) refl (not_true (has x xs) p.0) }))
   where
     go : (y : ℕ) → In y xs → (b : Bool) → nat_eq y x ≡ b → has x xs ≡ false → (nat_eq y x || has y own) ≡ false
     go y i true e f = absurd (let q : y ≡ x = eqb-true y x e in let r : has x xs ≡ true = subst (λ z. has z xs ≡ true) q i in cc)
@@ -137,7 +137,7 @@ list_both test (x ∷ xs) ys p q = let r = parts (test x) (list_all test xs) p i
 module _ (all : List flat.Body) where
   record_known : (name : List ℕ) (x m : ℕ) (rest : Bool) (e : Tree) (fs own : List ℕ) (n : ℕ) → Known fs own (fields_of x m e) → slice_get all n ≡ Some (body_of name x m rest e n) → IsTrue (is_made all own (length fs) (made x m e fs n))
   record_known name x m rest e fs own n k h =
-      both_true (all_known fs own (fields_of x m e) k) (rw (h, places_length (place fs) (fields_of x m e)) (self (length (fields_of x m e))))
+      both_true (all_known fs own (fields_of x m e) k) (rw (h, map_length (place fs) (fields_of x m e)) (same (length (fields_of x m e))))
 
   lambdas_known : (ls : Lambdas) (fs own : List ℕ) (n : ℕ) → Known fs own (free_lambdas ls) → StandLambdas all ls n → IsTrue (list_all (is_made all own (length fs)) (made_each ls fs n))
   lambdas_known no_lambdas fs own n k t = refl

@@ -36,6 +36,7 @@ use Rattle.sch_closure.proofs.Standing.{stands_library, stands_forms, size_each,
 use Rattle.sch_closure.proofs.kept.FormedKept.{names_kept, words_kept, well_formed_kept, fits_kept, bodies_fit, forms_fit_kept}
 use Rattle.sch_closure.proofs.kept.CountsKept.{same_alone}
 use Rattle.sch_closure.proofs.kept.LevelsKept as levels_kept
+use Rattle.sch_closure.proofs.kept.CoveredKept.{labels_length}
 
 -- ## Sites
 
@@ -99,10 +100,6 @@ labels_known all no_lambdas n c t = refl
 labels_known all (and_lambda name x m rest e ls) n c t =
     let none = none_within (fields_of x m e) (without_scope x m (free e) [] (free_within e (scope_with x m []) c.0.1)) in
     both_true (rw (t.0.0) (rw none refl)) (labels_known all ls (suc n + procedures e) c.1 t.1)
-
-labels_length : (ls : Lambdas) (n : ℕ) → length (labels ls n) ≡ count_lambdas ls
-labels_length no_lambdas n = refl
-labels_length (and_lambda name x m rest e ls) n = ap suc (labels_length ls (suc n + procedures e))
 
 starts_length : (es : Trees) (n : ℕ) → length (starts es n) ≡ count es
 starts_length no_trees n = refl

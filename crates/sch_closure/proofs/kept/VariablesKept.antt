@@ -16,9 +16,11 @@ use Rattle.sch_flat.specs.Measures.{one_unless_simple}
 use Rattle.sch_closure.specs.Closed as closing
 use Rattle.sch_closure.specs.Closed.{place, place_from, placed, procedures, procedures_each, procedures_lambdas, fields_of, closed, closed_each, made_each, body_of}
 use Rattle.sch_closure.specs.Fresh.{Fresh, FreshEach, FreshLambdas}
-use Rattle.sch_closure.proofs.Sets.{in_here, union_left, union_right, remove_other}
-use Rattle.sch_closure.proofs.Same.{places_length, made_length, place_bound, apart_head, apart_tail}
+use Rattle.sch_closure.proofs.Sets.{remove_other}
+use Rattle.sch_closure.proofs.Same.{made_length, place_bound, apart_head, apart_tail}
 use Rattle.sch_closure.proofs.kept.ScopedKept.{counts}
+use Rattle.sch_word.proofs.facts.NumberSets.{in_here, union_left, union_right}
+use Rattle.sch_word.proofs.facts.Lists.{map_length}
 
 -- ## No variable is assigned
 
@@ -161,7 +163,7 @@ mutual
       rw (simple g fs n f.0 l, kept g fs n f.0 l, operands_kept es fs (n + procedures g) f.1 (counts_right (free g) (free_each es) k)) refl
   kept (operation site which es) fs n f k = operands_kept es fs n f k
   kept (new_cells cs e) fs n f k =
-      rw (places_length (placed fs) cs, kept e fs n f.1 (counts_cells cs f.0 (counts_right (cells_used cs) (without_each (cells_bound cs) (free e)) k))) refl
+      rw (map_length (placed fs) cs, kept e fs n f.1 (counts_cells cs f.0 (counts_right (cells_used cs) (without_each (cells_bound cs) (free e)) k))) refl
   kept (cell_get x) fs n f k = refl
   kept (cell_set x e) fs n f k = let r = counts_right (x ∷ []) (free e) k in rw (simple e fs n f r, kept e fs n f r) refl
 

@@ -14,7 +14,7 @@ use Rattle.sch_keeping.specs.declared.definition.Definition as code
 use Rattle.sch_keeping.specs.Definitions.{definition_of, definitions_of}
 use Rattle.sch_validity.specs.Library.{procedure_of}
 use Rattle.sch_toplevel.specs.Items.{item_places}
-use Rattle.sch_toplevel.proofs.FormLists.{next}
+use Rattle.sch_word.proofs.facts.Lists.{next_left}
 use Rattle.sch_core.specs.declared.error.Kind.{Kind}
 use Rattle.sch_core.specs.Libraries.{definition_excess, first_definition_excess}
 
@@ -68,10 +68,10 @@ some_item (x ∷ items) (suc i) l = some_item items i (omega (arith, l))
 
 module _ (items : List text.Datum) (ds : List code.Definition) (i n : ℕ) (m : n ≡ min (length items) (length ds)) (r : Option (Kind × ℕ)) (k : first_definition_excess (item_places (data_of (drop i items))) (definitions_of (drop i ds)) ≡ r) where
   next_item : (q : text.Datum) → i < n → q ≡ get_or items i q → item_places (data_of (drop i items)) ≡ offset (tree_of q) ∷ item_places (data_of (drop (suc i) items))
-  next_item q l is = ap (λ l. item_places (data_of l)) (next items i q (omega (arith, l, m)) is)
+  next_item q l is = ap (λ l. item_places (data_of l)) (next_left items i q (omega (arith, l, m)) is)
 
   next_definition : (d : code.Definition) → i < n → d ≡ get_or ds i d → definitions_of (drop i ds) ≡ definition_of d ∷ definitions_of (drop (suc i) ds)
-  next_definition d l is = ap definitions_of (next ds i d (omega (arith, l, m)) is)
+  next_definition d l is = ap definitions_of (next_left ds i d (omega (arith, l, m)) is)
 
   pub definition_here : (d : code.Definition) (q : text.Datum) (at : ℕ) (kind : Kind) → i < n → d ≡ get_or ds i d → q ≡ get_or items i q → at ≡ offset (tree_of q) →
       Some kind ≡ definition_excess (definition_of d) → ◌≡◌ {A = Option (Kind × ℕ)} (Some (kind, at)) r

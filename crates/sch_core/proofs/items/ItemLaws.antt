@@ -13,16 +13,15 @@ use Rattle.sch_numbers.specs.Programs.{Definition, names_of_each}
 use Rattle.sch_validity.specs.Library.{procedure_of}
 use Rattle.sch_toplevel.specs.Forms.{form_sketch}
 use Rattle.sch_toplevel.specs.Items.{behind, names_by, item_globals, procedure_in, item_names, ItemsExpand, ItemHasFault, ItemsRead}
-use Rattle.sch_core.proofs.items.ItemShapes.{becomes_procedure, defines, shaped}
+use Rattle.sch_core.proofs.DataLaws.{some_some}
+use Rattle.sch_core.proofs.items.ItemShapes.{defines, shaped}
+use Rattle.sch_validity.proofs.drafts.Soundness.{procedure}
 
 head_is : {A : Type 0} {x y : A} {xs ys : List A} → x ∷ xs ≡ y ∷ ys → x ≡ y
 head_is e = cc
 
 tail_is : {A : Type 0} {x y : A} {xs ys : List A} → x ∷ xs ≡ y ∷ ys → xs ≡ ys
 tail_is e = cc
-
-some_is : {A : Type 0} {x y : A} → Some x ≡ Some y → x ≡ y
-some_is e = cc
 
 nothing_here : {A : Type 0} {x : A} {xs : List A} → [] ≡ x ∷ xs → ⊥
 nothing_here e = cc
@@ -60,7 +59,7 @@ items_made before (cons d items) a es (m, e, more, w, q, y) =
     let g = item_globals before d in
     let here = here_made before d items a m e more q y in
     let s = shaped g before (offset d) (behind d) e (form_sketch d) here in
-    let x = defines s.name e (becomes_procedure g s.expands refl) in
+    let x = defines s.name e (procedure g s.expands refl) in
     let others = items_made (names_by before d) items m more y in
     (x.definition ∷ others.0, (s.named ∙ ap Some (sym x.named), subst (λ z. Expands g 1 [] Value (procedure_in before d) z) x.made here, others.1))
 
@@ -87,7 +86,7 @@ items_one before none (x ∷ xs) ys p q = absurd p
 items_one before (cons d items) [] ys p q = absurd p
 items_one before (cons d items) (x ∷ xs) [] p q = absurd q
 items_one before (cons d items) (x ∷ xs) (y ∷ ys) p q =
-    let i = definition_is x y (some_is (sym p.0 ∙ q.0)) (unique (item_globals before d) p.1 q.1) in
+    let i = definition_is x y (some_some (sym p.0 ∙ q.0)) (unique (item_globals before d) p.1 q.1) in
     let j = items_one (names_by before d) items xs ys p.2 q.2 in
     λ k. i k ∷ j k
 

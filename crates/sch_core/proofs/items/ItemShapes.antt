@@ -7,39 +7,15 @@ use Rattle.sch_sketch.specs.declared.fault.Fault.TheVariants.{BadForm}
 use Rattle.sch_sketch.specs.declared.sketch.Position.{Position}
 use Rattle.sch_sketch.specs.declared.sketch.Position.TheVariants.{Value}
 use Rattle.sch_sketch.specs.declared.sketch.Row.TheVariants.{Method}
-use Rattle.sch_sketch.specs.Draft.{Draft, Drafts, constant, symbol, literal, local, global, set_local, set_global, define, branch, sequence, bind, letrec, lambda, call, operation}
-use Rattle.sch_sketch.specs.Sketch.{Kind, choosing, sequencing, binding, recurring, abstracting, calling, operating, setting, setting_global, defining, Sketch, text, rest, wrong, leaf, node, limited, assemble}
-use Rattle.sch_sketch.specs.Soundness.{is_abstracting, is_procedure}
-use Rattle.sch_table.proofs.Procedures.{datum_procedure, rest_procedure}
+use Rattle.sch_sketch.specs.Draft.{Draft, constant, symbol, literal, local, global, set_local, set_global, define, branch, sequence, bind, letrec, lambda, call, operation}
+use Rattle.sch_sketch.specs.Sketch.{choosing, sequencing, binding, recurring, abstracting, calling, operating, setting, setting_global, defining, Sketch, text, rest, wrong, leaf, node, limited}
 use Rattle.sch_expansion.specs.Expands.{Expands}
-use Rattle.sch_expansion.specs.Expands as ex
 use Rattle.sch_numbers.specs.Programs.{Definition}
 use Rattle.sch_validity.specs.Library.{procedure_of}
 use Rattle.sch_validity.specs.Sound.{IsProcedure}
 use Rattle.sch_toplevel.specs.Items.{is_method, item_name, item_sketch}
 
 -- ## Procedures
-
-abstracts : (k : Kind) (es : Drafts) → is_abstracting k ≡ true → IsProcedure (assemble k es)
-abstracts (abstracting vs more) es h = tt
-abstracts choosing es h = cc
-abstracts sequencing es h = cc
-abstracts (binding vs) es h = cc
-abstracts (recurring vs p) es h = cc
-abstracts calling es h = cc
-abstracts (operating p) es h = cc
-abstracts (setting k) es h = cc
-abstracts (setting_global x) es h = cc
-abstracts (defining x) es h = cc
-
-module _ (globals : Globals) where
-  -- what is a procedure by its form becomes one
-  pub becomes_procedure : {n : ℕ} {s : Scope} {t : Position} {k : Sketch} {e : Draft} → Expands globals n s t k e → is_procedure s k ≡ true → IsProcedure e
-  becomes_procedure (ex.a_datum n s t d e p) h = becomes_procedure p (datum_procedure globals s d h)
-  becomes_procedure (ex.a_rest n s t r at xs ys e p) h = becomes_procedure p (rest_procedure globals s t r at xs ys h)
-  becomes_procedure (ex.a_leaf n s t at e l) h = cc
-  becomes_procedure (ex.a_node n s t k at ks es l w p) h = abstracts k es h
-  becomes_procedure (ex.within n s t at m k e w p) h = cc
 
 -- a definition of this name whose procedure is this draft
 pub record Defines (v : List ℕ) (e : Draft) : Type 0 where

@@ -14,21 +14,22 @@ use Rattle.sch_linking.specs.Size.{size, size_of_definitions}
 use Rattle.sch_validity.specs.Forms.{ItemExpands}
 use Rattle.sch_validity.specs.Library.{procedure_of, procedures_of_each, IsDefinition, AreDefinitions, AreOrdered}
 use Rattle.sch_validity.specs.Sizes.{AllQuotable, IsQuotable, statics_in, statics_in_each}
-use Rattle.sch_validity.proofs.Items.{item_is_definition, item_constants, item_ordered, item_statics}
-use Rattle.sch_validity.proofs.Starts.{among_append, among_cons}
+use Rattle.sch_validity.proofs.programs.Items.{item_is_definition, item_constants, item_ordered, item_statics}
+use Rattle.sch_validity.proofs.programs.Starts.{among_append, among_cons}
 use Rattle.sch_toplevel.specs.Forms.{form_sketch}
 use Rattle.sch_toplevel.specs.Items.{behind, with_item, name_in, names_by, item_globals, procedure_in, item_places, ItemsExpand}
 use Rattle.sch_core.specs.Libraries.{AreFew, definition_excess, first_definition_excess}
 use Rattle.sch_core.specs.SoundLibraries.{IsSoundLibrary}
 use Rattle.sch_core.proofs.items.ItemShapes.{shaped}
-use Rattle.sch_core.proofs.Nesting.{both, all_quotable}
+use Rattle.sch_word.proofs.facts.Booleans.{and_parts}
+use Rattle.sch_core.proofs.Nesting.{all_quotable}
 use Rattle.sch_core.proofs.TextSizes.{sized}
 use Rattle.sch_core.proofs.ValidTexts.{some_left, either_there, place_none}
 
 -- ## What follows the word of an item
 
 behind_quotable : (d : Datum) → IsQuotable d → AllQuotable (behind d)
-behind_quotable (list at (cons o xs)) h = all_quotable xs (omega (arith, h.1)) (both _ _ h.0).1
+behind_quotable (list at (cons o xs)) h = all_quotable xs (omega (arith, h.1)) (and_parts _ _ h.0).1
 behind_quotable (list at none) h = tt
 behind_quotable (atom at a) h = tt
 behind_quotable (dotted at xs x) h = tt

@@ -34,7 +34,7 @@ returns-in_err-assembled-clause-refused c =
     let depth = c.args.limits.depth in
     let cause = c.in_err-assembled.field-0.0 in
     let made = c.in_ok-control.ensures in
-    let fits : FitsProgram (source c.in_ok-program.program) (control.source c.in_ok-control.control) = program_fits (source c.in_ok-program.program) c.in_ok-control.control made.runs made.fits made.covered made.statics made.names made.each_variables made.calls made.tests made.dropped in
+    let fits : FitsProgram (source c.in_ok-program.program) (control.source c.in_ok-control.control) = program_fits (source c.in_ok-program.program) c.in_ok-control.control made.made made.runs made.fits made.covered made.statics made.library made.names made.each_variables made.calls made.tests made.dropped in
     let means = subst (λ l. Means l text (source c.in_ok-program.program)) c.library_text.ensures.is c.in_ok-program.ensures.means in
     kept_error c.from_residual-in_err-assembled.result cause (IsErrorOf library_text text depth) c.from_residual-in_err-assembled.ensures.1
     (too_large library_text text (source c.in_ok-program.program) (control.source c.in_ok-control.control) depth cause means
@@ -46,7 +46,7 @@ returns-clause-compiled c =
     let orders = c.in_ok-orders.orders in
     let runs = c.in_ok-control.ensures.runs in
     let made = c.in_ok-control.ensures in
-    let fits : FitsProgram (source c.in_ok-program.program) (control.source c.in_ok-control.control) = program_fits (source c.in_ok-program.program) c.in_ok-control.control made.runs made.fits made.covered made.statics made.names made.each_variables made.calls made.tests made.dropped in
+    let fits : FitsProgram (source c.in_ok-program.program) (control.source c.in_ok-control.control) = program_fits (source c.in_ok-program.program) c.in_ok-control.control made.made made.runs made.fits made.covered made.statics made.library made.names made.each_variables made.calls made.tests made.dropped in
     let does = c.in_ok-assembled.ensures.does in
     let limits = c.args.limits in
     let same = runs.same orders c.in_ok-orders.ensures.fits limits.heap limits.depth in
@@ -69,6 +69,7 @@ returns-clause-compiled c =
         program = control.source c.in_ok-control.control;
         fits_program = fits;
         given = c.in_ok-orders.ensures.orders;
+        cycles = c.new.ensures;
         words = does.frame.largest;
         marks = c.in_ok-assembled.ensures.marks;
       };

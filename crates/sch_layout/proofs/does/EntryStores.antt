@@ -7,17 +7,17 @@ use Rattle.sch_word.specs.declared.place.Place.{Place}
 use Rattle.sch_word.specs.declared.place.Place.TheVariants.{Slot}
 use Rattle.sch_word.specs.values.Values.{Value}
 use Rattle.sch_control.specs.declared.body.Entry.{Entry}
-use Rattle.sch_control.specs.Meaning.{World, Result, Callee}
+use Rattle.sch_control.specs.Meaning.{World, Result, Callee, nothing}
 use Rattle.sch_control.specs.Run as control_run
 use Rattle.sch_frames.specs.declared.instruction.Instruction.{Instruction}
 use Rattle.sch_frames.specs.declared.instruction.Instruction.TheVariants.{Copy}
 use Rattle.sch_frames.specs.Does.{EndsAs}
 use Rattle.sch_frames.specs.Meaning.{Cell, Is, Link, Frame, link_register, closure_register, same_place, set, with_place, cell_of, execute_each, entry_places, beginning}
-use Rattle.sch_frames.specs.Valid.{instruction_placed, formals_of, is_entered}
+use Rattle.sch_frames.specs.Valid.{instruction_placed, formals_of}
 use Rattle.sch_frames.proofs.FramePlaces.{set_other, set_self}
-use Rattle.sch_layout.specs.OwnSlots.{own_slot, own_slots, home_of, arrivals, entering}
-use Rattle.sch_layout.specs.BodyLayout.{arrival}
-use Rattle.sch_layout.proofs.does.PlacesAgree.{HomeApart, Apart, Agrees}
+use Rattle.sch_layout.specs.OwnSlots.{own_slot, own_slots, arrivals, entering}
+use Rattle.sch_layout.specs.BodyLayout.{arrival, is_slot}
+use Rattle.sch_layout.proofs.does.PlacesAgree.{Clear, HomeApart, Apart, Agrees, meant, none_some, same_meant}
 use Rattle.sch_layout.proofs.does.OperandsMove.{below_length}
 use Rattle.sch_layout.proofs.layouts.InstructionTests.{arrival_placed}
 
@@ -31,22 +31,27 @@ slots_apart base (suc x) (suc y) n = ne_eqb (base + suc x) (base + suc y) (λ e.
 base_apart : (base x : ℕ) → same_place (Slot base) (own_slot base (suc x)) ≡ false
 base_apart base x = ne_eqb base (base + suc x) (λ e. omega (arith, e))
 
-pub own_apart : (base : ℕ) (entered : Bool) → Apart (own_slots base entered) base
-own_apart base entered = record {
-  apart = slots_apart base;
-  link = refl;
-  behind = λ x. omega arith;
-  home = by entered;
-} where
-  by : (entered : Bool) → HomeApart (own_slot base) base (home_of entered base)
-  by true = (omega arith, base_apart base)
-  by false = tt
+own_homes : (base x : ℕ) → is_slot (own_slot base x) ≡ false → HomeApart (own_slots base) base x
+own_homes base (suc x) s = absurd (cc)
+own_homes base zero s = record { in_slot = refl; clear = λ k low lt e. omega (arith, lt, e); places = places; homes = homes } where
+  places : (y : ℕ) → same_place (Slot base) (own_slot base y) ≡ false
+  places zero = refl
+  places (suc y) = base_apart base y
+
+  homes : (y : ℕ) → is_slot (own_slot base y) ≡ false → 0 ≢ y → same_place (Slot base) (Slot base) ≡ false
+  homes zero s n = absurd (n refl)
+  homes (suc y) s n = absurd (cc)
+
+pub own_apart : (base : ℕ) → Apart (own_slots base) base
+own_apart base = record { apart = slots_apart base; link = refl; clear = clear; home = own_homes base } where
+  clear : (x : ℕ) → Clear 0 base (own_slot base x)
+  clear zero = tt
+  clear (suc x) = λ k low lt e. omega (arith, lt, e)
 
 module _ (base formals : ℕ) (before : (j : ℕ) → suc (suc (suc (suc (suc (suc j))))) < formals → j < base) (self : Value) (arguments : List Value) where
   -- the arguments before one are in their slots, the others where they arrive
   record Arrived (from : ℕ) (places : Place → Cell) : Type 0 where
     link : places link_register ≡ Link
-    home : places (Slot base) ≡ Link
     closure : places (own_slot base 1) ≡ Is self
     stored : (k : ℕ) (v : Value) → k < from → slice_get arguments k ≡ Some v → places (own_slot base (suc (suc k))) ≡ Is v
     waiting : (k : ℕ) (v : Value) → from ≤ k → k < formals → slice_get arguments k ≡ Some v → places (arrival k) ≡ Is v
@@ -73,24 +78,17 @@ module _ (base formals : ℕ) (before : (j : ℕ) → suc (suc (suc (suc (suc (s
   arrives (suc (suc (suc (suc (suc zero))))) v e = ap cell_of e
   arrives (suc (suc (suc (suc (suc (suc j)))))) v e = ap cell_of e
 
-  -- where the return address is kept
-  abbrev kept_link : Place → Cell
-  kept_link = set (entry_places self arguments) (Slot base) (entry_places self arguments link_register)
-
-  first : Arrived 0 (set kept_link (own_slot base 1) (kept_link closure_register))
+  first : Arrived 0 (set (entry_places self arguments) (own_slot base 1) (entry_places self arguments closure_register))
   first = record {
     link = refl;
-    home = set_other kept_link (own_slot base 1) (Slot base) (kept_link closure_register) (base_apart base 0) ∙ set_self (entry_places self arguments) (Slot base) (entry_places self arguments link_register);
-    closure = set_self kept_link (own_slot base 1) (kept_link closure_register);
+    closure = set_self (entry_places self arguments) (own_slot base 1) (entry_places self arguments closure_register);
     stored = λ k v h e. absurd (never k h);
-    waiting = λ k v h h' e. set_other kept_link (own_slot base 1) (arrival k) _ (arrival_apart k (base + 1) h' (omega arith))
-        ∙ (set_other (entry_places self arguments) (Slot base) (arrival k) _ (arrival_apart k base h' (omega arith)) ∙ arrives k v e);
+    waiting = λ k v h h' e. set_other (entry_places self arguments) (own_slot base 1) (arrival k) _ (arrival_apart k (base + 1) h' (omega arith)) ∙ arrives k v e;
   }
 
   next : (from : ℕ) (places : Place → Cell) → from < formals → Arrived from places → Arrived (suc from) (set places (own_slot base (suc (suc from))) (places (arrival from)))
   next from places h a = record {
     link = a.link;
-    home = set_other places (own_slot base (suc (suc from))) (Slot base) _ (base_apart base (suc from)) ∙ a.home;
     closure = set_other places (own_slot base (suc (suc from))) (own_slot base 1) _ (slots_apart base 1 (suc (suc from)) (λ e. omega (arith, e))) ∙ a.closure;
     stored = λ k v l e. by k v l e (cases_eq k from);
     waiting = λ k v l h' e. set_other places (own_slot base (suc (suc from))) (arrival k) _ (arrival_apart k (base + suc (suc from)) h' (omega arith)) ∙ a.waiting k v (omega (arith, l)) h' e;
@@ -114,29 +112,24 @@ module _ (base formals : ℕ) (before : (j : ℕ) → suc (suc (suc (suc (suc (s
         (next from f.places (omega (arith, e)) a) go
 
   agrees : (e : Entry) → length arguments ≡ formals → (places : Place → Cell) → Arrived formals places
-      → Agrees (own_slots base true) (control_run.beginning (Some e) self arguments) places
-  agrees e l places a = record { variables = λ x v h. by x v h; link = λ v h. a.link; home = λ v h. a.home } where
-    is_some : {v u : Value} → Some v ≡ Some u → Is v ≡ Is u
-    is_some h = ap cell_of h
-
-    by : (x : ℕ) (v : Value) → control_run.beginning (Some e) self arguments (suc x) ≡ Some v → places (own_slot base (suc x)) ≡ Is v
-    by zero v h = a.closure ∙ is_some h
-    by (suc k) v h = a.stored k v (subst (λ n. k < n) l (below_length arguments k v h)) h
+      → Agrees (own_slots base) (control_run.beginning (Some e) self arguments) nothing places
+  agrees e l places a = record { here = λ x v h. by x v h; home = λ x v s h. none_some v h } where
+    by : (x : ℕ) (v : Value) → control_run.beginning (Some e) self arguments x ≡ Some v → places (own_slot base x) ≡ meant x v
+    by zero v h = a.link
+    by (suc zero) v h = a.closure ∙ same_meant 1 self v h
+    by (suc (suc k)) v h = a.stored k v (subst (λ n. k < n) l (below_length arguments k v h)) h
 
 -- a slot in which an argument arrives is before the base
 before_base : (base formals j : ℕ) → formals - 6 ≤ base → suc (suc (suc (suc (suc (suc j))))) < formals → j < base
 before_base base formals j le h = omega (arith, le, h)
 
-nothing_there : {A : Type 0} (v : Value) → None ≡ Some v → A
-nothing_there v h = absurd (cc)
-
 -- what is done behind the entering code is done from the values of the formals in their slots
 pub enters : (entry : Option Entry) (base : ℕ) → formals_of entry - 6 ≤ base → (self : Value) (arguments : List Value) → length arguments ≡ formals_of entry
     → (callee : Callee) (depth : ℕ) (rest : List Instruction) (w : World) (r : Result)
-    → ((f : Frame) → Agrees (own_slots base (is_entered entry)) (control_run.beginning entry self arguments) f.places → EndsAs r (execute_each callee depth rest None f w))
+    → ((f : Frame) → Agrees (own_slots base) (control_run.beginning entry self arguments) nothing f.places → EndsAs r (execute_each callee depth rest None f w))
     → EndsAs r (execute_each callee depth (entering base entry rest) None (beginning entry self arguments) w)
 enters None base le self arguments l callee depth rest w r go =
-    go (beginning None self arguments) (record { variables = λ x v h. nothing_there v h; link = λ v h. nothing_there v h; home = λ v h. nothing_there v h })
+    go (beginning None self arguments) (record { here = λ x v h. none_some v h; home = λ x v s h. none_some v h })
 enters (Some e) base le self arguments l callee depth rest w r go =
     arrive base e.formals (λ j h. before_base base e.formals j le h) self arguments callee depth e.formals 0 rest _ w r (omega arith) (first base e.formals (λ j h. before_base base e.formals j le h) self arguments)
     (λ f a. go f (agrees base e.formals (λ j h. before_base base e.formals j le h) self arguments e l f.places a))
@@ -154,9 +147,7 @@ pub entering_placed : (entry : Option Entry) (base words : ℕ) (rest : List Ins
     → list_all (instruction_placed words) rest ≡ true → list_all (instruction_placed words) (entering base entry rest) ≡ true
 entering_placed None base words rest i le h = h
 entering_placed (Some e) base words rest i le h =
-    and_from _ _ (and_from _ _ (lt-ltb base words (omega (arith, le))) refl)
-    (and_from _ _ (and_from _ _ (lt-ltb (base + 1) words (omega (arith, le))) refl)
-    (arrivals_placed base words e.formals e.formals 0 rest (omega arith) i le h))
+    and_from _ _ (and_from _ _ (lt-ltb (base + 1) words (omega (arith, le))) refl) (arrivals_placed base words e.formals e.formals 0 rest (omega arith) i le h)
 
 arrivals_pass : (test : Instruction → Bool) → ((to from : Place) → test (Copy to from) ≡ true) → (base count from : ℕ) (rest : List Instruction)
     → list_all test rest ≡ true → list_all test (arrivals base from count rest) ≡ true
@@ -166,4 +157,4 @@ arrivals_pass test f base (suc count) from rest h = and_from _ _ (f _ _) (arriva
 pub entering_passes : (test : Instruction → Bool) → ((to from : Place) → test (Copy to from) ≡ true) → (entry : Option Entry) (base : ℕ) (rest : List Instruction)
     → list_all test rest ≡ true → list_all test (entering base entry rest) ≡ true
 entering_passes test f None base rest h = h
-entering_passes test f (Some e) base rest h = and_from _ _ (f _ _) (and_from _ _ (f _ _) (arrivals_pass test f base e.formals 0 rest h))
+entering_passes test f (Some e) base rest h = and_from _ _ (f _ _) (arrivals_pass test f base e.formals 0 rest h)

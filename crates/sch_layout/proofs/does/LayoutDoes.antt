@@ -1,33 +1,39 @@
--- The layout of an expression does what the expression does.
-use Rattle.std.proofs.Common.{◌≡◌, ℕ, suc, ◌+◌, ◌<◌, ◌≤◌, List, [], ◌∷◌, ◌++◌, length, Option, Some, None, true, false, cond, refl, sym, ap, ◌∙◌, subst, arith}
-use Rattle.std.specs.Prelude.{max}
+-- The layout of an expression does what the expression does, with its regions and what it restores, where a call leaves
+-- nothing in registers. What this asks of a plan is `Apart`, with room for the operands of each call. The places of any
+-- two variables are apart, and none is a slot in which operands are set aside. The return address lives in R15. What
+-- lives in a register has a home: a slot that is none of those, no variable's place and no other's home. So a variable
+-- may live in a register that calls use, and a formal may stay in the slot where it arrives. Two variables never share
+-- a place, whether they are needed at the same time or not.
+use Rattle.std.proofs.Common.{◌≡◌, ℕ, zero, suc, ◌+◌, ◌<◌, ◌≤◌, List, [], ◌∷◌, ◌++◌, length, Option, Some, None, Bool, true, false, cond, refl, sym, ap, ◌∙◌, subst, arith}
+use Rattle.std.specs.Prelude.{filter, max, nat_eq, ◌||◌}
 use Rattle.std.proofs.Math.Nat.{le-max_left, le-max_right}
-use Rattle.std.proofs.lemmas.Bool.{eq-eqb, ne_eqb, and_parts}
+use Rattle.std.proofs.lemmas.Bool.{eq-eqb, eqb-true, ne_eqb}
 use Rattle.sch_word.specs.declared.place.Place.{Place}
-use Rattle.sch_word.specs.declared.place.Place.TheVariants.{Reg, Slot}
+use Rattle.sch_word.specs.declared.place.Place.TheVariants.{Slot}
 use Rattle.sch_word.specs.values.Values.{Value, is_true}
 use Rattle.sch_word.specs.runs.Charges.{charge_each, procedure_bytes}
 use Rattle.sch_word.specs.runs.Computation.{gives, State, in_store, procedures_from}
+use Rattle.sch_word.specs.trees.NumberSets.{has}
+use Rattle.sch_word.proofs.facts.Booleans.{false_true, neither, not_left, not_right, or_right}
 use Rattle.sch_control.specs.declared.mark.MarkKind.{MarkKind}
 use Rattle.sch_control.specs.declared.mark.MarkKind.TheVariants as mark
 use Rattle.sch_control.specs.declared.operation.Application.{Application}
 use Rattle.sch_control.specs.declared.operation.Member.{Member}
 use Rattle.sch_control.specs.declared.operation.Source.{Source}
 use Rattle.sch_control.specs.Meaning as control
-use Rattle.sch_control.specs.Meaning.{World, Result, Environment, Then, Callee, plain, marked, with_value, on_outcome, on_return, either, put, put_each, put_inside, no_region, note_each, note_members, call_in, evaluate}
+use Rattle.sch_control.specs.Meaning.{World, Result, Environment, Then, Callee, Reading, marked, marked_if, with_value, on_outcome, on_return, either, put, put_if, put_each, put_inside, heads, with_region, save_each, mark_each, mark_bound, mark_members, call_in, evaluate}
 use Rattle.sch_control.specs.Operations.{Procedure, and_value, operand_value, operand_values, operate, member_bytes, members_made, with_procedures}
 use Rattle.sch_control.specs.AtomsAndSites.{application_atoms, member_atoms}
 use Rattle.sch_control.specs.Tree.{Expression, perform, bind, sequence, branch, fix, call, tail_call, return, end, save}
-use Rattle.sch_control.specs.Valid.{is_bare}
+use Rattle.sch_control.specs.Valid.{member_variables}
 use Rattle.sch_frames.specs.declared.instruction.Instruction.{Instruction}
 use Rattle.sch_frames.specs.declared.instruction.Instruction.TheVariants.{Fix, Call, Tail, Return, Jump, Label, Mark}
 use Rattle.sch_frames.specs.Does.{unmarked, EndsAs, world, CalleesFollow}
-use Rattle.sch_frames.specs.Meaning.{Cell, Is, Frame, link_register, argument_register, argument_slot, value_in, held, same_place, with_place, with_members, argument_in, parts, kept, after_call, if_link, execute_each}
+use Rattle.sch_frames.specs.Meaning.{Is, Frame, link_register, argument_register, argument_slot, value_in, held, with_place, with_members, argument_in, parts, after_call, if_link, execute_each}
 use Rattle.sch_frames.proofs.EndsAlike.{onto_end, with_value_ends, on_outcome_ends, on_ending_ends, on_return_ends, call_in_ends, with_procedures_follow, either_ends}
-use Rattle.sch_frames.proofs.FramePlaces.{set_other, set_self}
-use Rattle.sch_layout.specs.BodyLayout.{Slots, sources_at, members_at, operation_at, in_either, prepared, restored, leave, labels, lay}
+use Rattle.sch_layout.specs.BodyLayout.{Plan, sources_at, members_at, operation_at, in_either, is_slot, placed_reading, copied, stored, loaded, prepared, leave, labels, lay}
 use Rattle.sch_layout.specs.OwnSlots.{most_operands}
-use Rattle.sch_layout.proofs.does.PlacesAgree.{MembersUse, Uses, Behind, From, HomeApart, Apart, Holds, Agrees, at_slot, found, bound, members_bound}
+use Rattle.sch_layout.proofs.does.PlacesAgree.{MembersUse, Uses, Behind, Clear, Apart, Agrees, agrees_as, agrees_left, found, bound, members_bound, one_stored, slot_stored, meant, reloaded_one, one_loaded, slot_loaded}
 use Rattle.sch_layout.proofs.does.OperandsMove.{Values, values_are, values_length, aside_other, below_length, parts_are, outgoing_view, moved_out, SlotsOf, call_moves, own_view, moved_in, LinkOf, tail_moves, put_aside, prepared_does}
 use Rattle.sch_layout.proofs.does.OperationsFollow.{AtomsHave, operate_follows, members_follow}
 use Rattle.sch_layout.proofs.does.LabelsPassed.{past, past_label}
@@ -47,17 +53,90 @@ module _ (place : ℕ → Place) where
   bytes_kept [] = refl
   bytes_kept (m ∷ members) = ap (λ n. procedure_bytes n ∷ member_bytes (members_at place members)) (length_sources m.closure.fields) ∙ ap (λ ns. procedure_bytes (length m.closure.fields) ∷ ns) (bytes_kept members)
 
--- read plainly, a group leaves no marks
-unnoted : (members : List (Member ℕ)) (w : World) → note_members plain no_region members w ≡ w
-unnoted [] w = refl
-unnoted (m ∷ members) w = unnoted members w
+-- ## Marks that an evaluator marks leave the state alone
 
-module _ (slots : Slots) (room : ℕ) (at : Apart slots room) (callee callee' : Callee) (follow : CalleesFollow callee callee') (depth : ℕ) where
+module _ (reading : Reading) where
+  if_marked : (b : Bool) (m : MarkKind) (w : World) → (marked_if b m w).state ≡ w.state
+  if_marked true m w = refl
+  if_marked false m w = refl
+
+  each_noted : (kind : ℕ → MarkKind) (xs : List ℕ) (w : World) → (mark_each reading kind xs w).state ≡ w.state
+  each_noted kind [] w = refl
+  each_noted kind (x ∷ xs) w = each_noted kind xs _ ∙ if_marked (reading.is_marked x) (kind x) w
+
+  bound_noted : (inside : ℕ → Bool) (x : ℕ) (w : World) → (mark_bound reading inside x w).state ≡ w.state
+  bound_noted inside x w = if_marked (cond (inside x) (reading.is_marked x) false) (mark.Save x) _ ∙ if_marked (reading.spills x) (mark.Spill x) w
+
+  members_noted : (inside : ℕ → Bool) (members : List (Member ℕ)) (w : World) → (mark_members reading inside members w).state ≡ w.state
+  members_noted inside [] w = refl
+  members_noted inside (m ∷ members) w = members_noted inside members _ ∙ bound_noted inside m.at w
+
+-- whatever marks there are
+at_state : (next : World → Result) (r : Result) (w : World) (s : State Procedure) → w.state ≡ s → ((marks : List MarkKind) → EndsAs (next (world s marks)) r) → EndsAs (next w) r
+at_state next r w s e h = subst (λ t. EndsAs (next (world t w.marks)) r) (sym e) (h w.marks)
+
+-- ## What is saved where it is bound
+
+-- what is saved of one variable and then of others is saved of all
+saved_more : {A : Type 0} (a b : Bool) (x y : A) → cond (a || b) x y ≡ cond b x (cond a x y)
+saved_more true true x y = refl
+saved_more true false x y = refl
+saved_more false true x y = refl
+saved_more false false x y = refl
+
+one_saved : (inside : ℕ → Bool) (environment saved : Environment) (x : ℕ) (v : Value) (y : ℕ)
+    → put_if (inside x) saved x v y ≡ save_each (filter inside (x ∷ [])) (put environment x v) saved y
+one_saved inside environment saved x v y = by (inside x) where
+  here : (t : Bool) (e u : Option Value) → cond t (Some v) u ≡ cond (t || false) (cond t (Some v) e) u
+  here true e u = refl
+  here false e u = refl
+
+  by : (b : Bool) → put_if b saved x v y ≡ save_each (cond b (x ∷ []) []) (put environment x v) saved y
+  by true = here (nat_eq y x) (environment y) (saved y)
+  by false = refl
+
+-- a group binds nothing else
+group_other : (members : List (Member ℕ)) (vs : List Value) (environment : Environment) (z : ℕ) → has z (member_variables members) ≡ false → put_each environment members vs z ≡ environment z
+group_other [] vs environment z h = refl
+group_other (m ∷ members) [] environment z h = refl
+group_other (m ∷ members) (v ∷ vs) environment z h =
+    group_other members vs (put environment m.at v) z (not_right (nat_eq z m.at) _ h) ∙ ap (λ t. cond t (Some v) (environment z)) (not_left (nat_eq z m.at) _ h)
+
+filtered_out : (inside : ℕ → Bool) (xs : List ℕ) (z : ℕ) → inside z ≡ true → has z (filter inside xs) ≡ false → has z xs ≡ false
+filtered_out inside [] z i h = refl
+filtered_out inside (x ∷ xs) z i h = by (inside x) refl (filtered_out inside xs z i) h where
+  by : (b : Bool) → inside x ≡ b → (has z (filter inside xs) ≡ false → has z xs ≡ false) → has z (cond b (x ∷ filter inside xs) (filter inside xs)) ≡ false → (nat_eq z x || has z xs) ≡ false
+  by true e more h = neither (nat_eq z x) _ (not_left (nat_eq z x) _ h) (more (not_right (nat_eq z x) _ h))
+  by false e more h = neither (nat_eq z x) _ (ne_eqb z x (λ q. false_true i (ap inside q ∙ e))) (more h)
+
+-- what is saved of a group are those of its members that are inside a region
+group_saved : (inside : ℕ → Bool) (members : List (Member ℕ)) (vs : List Value) (environment saved : Environment) (z : ℕ) → length vs ≡ length members
+    → put_inside inside saved members vs z ≡ save_each (filter inside (member_variables members)) (put_each environment members vs) saved z
+group_saved inside [] vs environment saved z l = refl
+group_saved inside (m ∷ members) [] environment saved z l = absurd (cc)
+group_saved inside (m ∷ members) (v ∷ vs) environment saved z l =
+    group_saved inside members vs (put environment m.at v) (put_if (inside m.at) saved m.at v) z (omega (arith, l))
+    ∙ by (inside m.at) (nat_eq z m.at) (has z (filter inside (member_variables members))) refl refl refl (put_each (put environment m.at v) members vs z)
+    (λ out. group_other members vs (put environment m.at v) z out) where
+      by : (b t h : Bool) → inside m.at ≡ b → nat_eq z m.at ≡ t → has z (filter inside (member_variables members)) ≡ h → (whole : Option Value)
+          → (has z (member_variables members) ≡ false → whole ≡ cond (nat_eq z m.at) (Some v) (environment z))
+          → cond h whole (put_if b saved m.at v z) ≡ cond (has z (cond b (m.at ∷ filter inside (member_variables members)) (filter inside (member_variables members)))) whole (saved z)
+      by false t h eb et eh whole o = ap (λ x. cond x whole (saved z)) (sym eh)
+      by true t true eb et eh whole o = sym (ap (λ x. cond x whole (saved z)) (or_right (nat_eq z m.at) _ eh))
+      by true false false eb et eh whole o = rw (et, eh) refl
+      by true true false eb et eh whole o =
+          rw et (sym (o (filtered_out inside (member_variables members) z (ap inside (eqb-true z m.at et) ∙ eb) eh) ∙ ap (λ t. cond t (Some v) (environment z)) et))
+
+procedures_length : (count n : ℕ) → length (procedures_from n count) ≡ count
+procedures_length zero n = refl
+procedures_length (suc count) n = ap suc (procedures_length count (suc n))
+
+module _ (plan : Plan) (room : ℕ) (at : Apart plan room) (callee callee' : Callee) (follow : CalleesFollow callee callee') (depth : ℕ) where
   abbrev run : List Instruction → Option ℕ → Frame → World → Result
   run is seeking f w = execute_each callee' depth is seeking f w
 
-  abbrev does : Expression → Environment → Environment → World → Then → Result
-  does e environment saved w next = evaluate plain callee depth e no_region environment saved w next
+  abbrev does : Expression → (inside : ℕ → Bool) → Environment → Environment → World → Then → Result
+  does e inside environment saved w next = evaluate (placed_reading plan) callee depth e inside environment saved w next
 
   -- what is done with a value in the accumulator: what follows, or the label of a test that fails is sought
   abbrev go_on : Option ℕ → Value → List Instruction → Frame → World → Result
@@ -72,7 +151,7 @@ module _ (slots : Slots) (room : ℕ) (at : Apart slots room) (callee callee' : 
   -- what follows an expression is followed by what stands behind its layout
   abbrev Next : Option ℕ → List Instruction → Then → Type 0
   Next test rest next = (v : Value) (environment saved : Environment) (f : Frame) (s : State Procedure) (marks marks' : List MarkKind)
-      → Agrees slots environment f.places → f.accumulator ≡ Is v → EndsAs (next v environment saved (world s marks)) (go_on test v rest f (world s marks'))
+      → Agrees plan environment saved f.places → f.accumulator ≡ Is v → EndsAs (next v environment saved (world s marks)) (go_on test v rest f (world s marks'))
 
   abbrev Below : Option ℕ → ℕ → Type 0
   Below None n = Unit {0}
@@ -83,41 +162,41 @@ module _ (slots : Slots) (room : ℕ) (at : Apart slots room) (callee callee' : 
   below_up (Some l) n m h b = omega (arith, h, b)
 
   -- behind the first arm, over the other arm to the end
-  joined : (c : Expression) (n m : ℕ) (test : Option ℕ) (rest : List Instruction) (v : Value) (f : Frame) (w : World) → suc n < m → Below test n
-      → go_on test v (Jump (suc n) ∷ (Label n ∷ lay slots c m test (Label (suc n) ∷ rest))) f w ≡ go_on test v rest f w
-  joined c n m test rest v f w lt b = by test b where
-    here : (test : Option ℕ) → run (Jump (suc n) ∷ (Label n ∷ lay slots c m test (Label (suc n) ∷ rest))) None f w ≡ run rest None f w
+  joined : (c : Expression) (inside : ℕ → Bool) (n m : ℕ) (test : Option ℕ) (rest : List Instruction) (v : Value) (f : Frame) (w : World) → suc n < m → Below test n
+      → go_on test v (Jump (suc n) ∷ (Label n ∷ lay plan c inside m test (Label (suc n) ∷ rest))) f w ≡ go_on test v rest f w
+  joined c inside n m test rest v f w lt b = by test b where
+    here : (test : Option ℕ) → run (Jump (suc n) ∷ (Label n ∷ lay plan c inside m test (Label (suc n) ∷ rest))) None f w ≡ run rest None f w
     here test =
-        ap (λ t. run (lay slots c m test (Label (suc n) ∷ rest)) (cond t None (Some (suc n))) f w) (ne_eqb n (suc n) (λ e. omega (arith, e)))
-        ∙ (past callee' depth slots c m test (Label (suc n) ∷ rest) (suc n) f w lt
+        ap (λ t. run (lay plan c inside m test (Label (suc n) ∷ rest)) (cond t None (Some (suc n))) f w) (ne_eqb n (suc n) (λ e. omega (arith, e)))
+        ∙ (past callee' depth plan c inside m test (Label (suc n) ∷ rest) (suc n) f w lt
         ∙ ap (λ t. run rest (cond t None (Some (suc n))) f w) (eq-eqb (suc n) (suc n) refl))
 
-    there : (test : Option ℕ) (l : ℕ) → l < n → run (Jump (suc n) ∷ (Label n ∷ lay slots c m test (Label (suc n) ∷ rest))) (Some l) f w ≡ run rest (Some l) f w
+    there : (test : Option ℕ) (l : ℕ) → l < n → run (Jump (suc n) ∷ (Label n ∷ lay plan c inside m test (Label (suc n) ∷ rest))) (Some l) f w ≡ run rest (Some l) f w
     there test l h =
-        past_label callee' depth slots n l _ f w h
-        ∙ (past callee' depth slots c m test (Label (suc n) ∷ rest) l f w (omega (arith, h, lt))
-        ∙ past_label callee' depth slots (suc n) l rest f w (omega (arith, h)))
+        past_label callee' depth plan n l _ f w h
+        ∙ (past callee' depth plan c inside m test (Label (suc n) ∷ rest) l f w (omega (arith, h, lt))
+        ∙ past_label callee' depth plan (suc n) l rest f w (omega (arith, h)))
 
-    by : (test : Option ℕ) → Below test n → go_on test v (Jump (suc n) ∷ (Label n ∷ lay slots c m test (Label (suc n) ∷ rest))) f w ≡ go_on test v rest f w
+    by : (test : Option ℕ) → Below test n → go_on test v (Jump (suc n) ∷ (Label n ∷ lay plan c inside m test (Label (suc n) ∷ rest))) f w ≡ go_on test v rest f w
     by None b = here None
     by (Some l) b =
-        ap (λ t. either (is_true v) t (run (Jump (suc n) ∷ (Label n ∷ lay slots c m (Some l) (Label (suc n) ∷ rest))) (Some l) f w)) (here (Some l))
+        ap (λ t. either (is_true v) t (run (Jump (suc n) ∷ (Label n ∷ lay plan c inside m (Some l) (Label (suc n) ∷ rest))) (Some l) f w)) (here (Some l))
         ∙ ap (λ t. either (is_true v) (run rest None f w) t) (there (Some l) l b)
 
   ended : (n : ℕ) (test : Option ℕ) (rest : List Instruction) (v : Value) (f : Frame) (w : World) → Below test n
       → go_on test v (Label (suc n) ∷ rest) f w ≡ go_on test v rest f w
   ended n None rest v f w b = refl
-  ended n (Some l) rest v f w b = ap (λ t. either (is_true v) (run rest None f w) t) (past_label callee' depth slots (suc n) l rest f w (omega (arith, b)))
+  ended n (Some l) rest v f w b = ap (λ t. either (is_true v) (run rest None f w) t) (past_label callee' depth plan (suc n) l rest f w (omega (arith, b)))
 
-  same_return : (environment : Environment) (rest : List Instruction) (f : Frame) (s : State Procedure) (marks marks' : List MarkKind) (v : Value) → Agrees slots environment f.places → f.accumulator ≡ Is v
+  same_return : (environment saved : Environment) (rest : List Instruction) (f : Frame) (s : State Procedure) (marks marks' : List MarkKind) (v : Value) → Agrees plan environment saved f.places → f.accumulator ≡ Is v
       → EndsAs (with_value (environment 0) (λ link. Some (gives v (marked mark.Return (world s marks))))) (run (Mark mark.Return ∷ (Return ∷ rest)) None f (world s marks'))
-  same_return environment rest f s marks marks' v r e = by (environment 0) refl where
+  same_return environment saved rest f s marks marks' v r e = by (environment 0) refl where
     by : (o : Option Value) → environment 0 ≡ o
         → EndsAs (with_value o (λ link. Some (gives v (marked mark.Return (world s marks)))))
         (if_link (f.places link_register) (with_value (value_in f.accumulator) (λ v. Some (gives v (marked mark.Return (world s marks'))))))
     by None i = tt
     by (Some u) i =
-        ap (λ c. unmarked (if_link c (with_value (value_in f.accumulator) (λ v. Some (gives v (marked mark.Return (world s marks'))))))) (r.link u i)
+        ap (λ c. unmarked (if_link c (with_value (value_in f.accumulator) (λ v. Some (gives v (marked mark.Return (world s marks'))))))) (ap f.places (sym at.link) ∙ r.here 0 u i)
         ∙ ap (λ c. unmarked (with_value (value_in c) (λ v. Some (gives v (marked mark.Return (world s marks')))))) e
 
   -- a group of procedures, with its charges and how many it has
@@ -127,24 +206,83 @@ module _ (slots : Slots) (room : ℕ) (at : Apart slots room) (callee callee' : 
       (λ _ w. let inner = with_members f members (procedures_from (length w.state.procedures) count) in
       with_value (with_procedures w.state (members_made (held inner) w.state members)) (λ s. run rest None inner (record { state = s; marks = w.marks })))
 
-  same_group : (members : List (Member ℕ)) (e : Expression) → MembersUse Behind members → AtomsHave Behind (member_atoms members) → (rest : List Instruction) (next : Then)
-      → ((environment saved : Environment) (f : Frame) (s : State Procedure) → Agrees slots environment f.places → (marks marks' : List MarkKind)
-      → EndsAs (does e environment saved (world s marks) next) (run rest None f (world s marks')))
-      → (environment saved : Environment) (f : Frame) (s : State Procedure) (marks marks' : List MarkKind) → Agrees slots environment f.places
-      → EndsAs (does (fix members e) environment saved (world s marks) next) (run (Fix (members_at slots.place members) ∷ rest) None f (world s marks'))
-  same_group members e u h rest next go environment saved f s marks marks' r =
-      onto_end (does (fix members e) environment saved (world s marks) next) (group (members_at slots.place members) (member_bytes members) (length members) rest f s marks') _
-      (ap (λ bytes. group (members_at slots.place members) bytes (length (members_at slots.place members)) rest f s marks') (bytes_kept slots.place members)
-      ∙ ap (λ n. group (members_at slots.place members) (member_bytes members) n rest f s marks') (length_members slots.place members))
+  -- ## Saves and restores
+
+  -- one variable is stored in its home, and more is done
+  one_stored_does : (x : ℕ) (environment saved : Environment) (f : Frame) (s : State Procedure) (marks' : List MarkKind) (more : List Instruction) (r : Result) → Agrees plan environment saved f.places
+      → ((g : Frame) (marks' : List MarkKind) → Agrees plan environment (λ z. cond (nat_eq z x) (environment z) (saved z)) g.places → g.accumulator ≡ f.accumulator → EndsAs r (run more None g (world s marks')))
+      → EndsAs r (run (cond (is_slot (plan.place x)) more (copied (plan.is_marked x) (mark.Save x) (plan.home x) (plan.place x) more)) None f (world s marks'))
+  one_stored_does x environment saved f s marks' more r a go = by (is_slot (plan.place x)) refl (plan.is_marked x) where
+    by : (t : Bool) → is_slot (plan.place x) ≡ t → (is_marked : Bool)
+        → EndsAs r (run (cond t more (copied is_marked (mark.Save x) (plan.home x) (plan.place x) more)) None f (world s marks'))
+    by true i is_marked = go f marks' (slot_stored plan room at a x i) refl
+    by false i true = go (with_place f (plan.home x) (f.places (plan.place x))) (marks' ++ mark.Save x ∷ []) (one_stored plan room at a x i) refl
+    by false i false = go (with_place f (plan.home x) (f.places (plan.place x))) marks' (one_stored plan room at a x i) refl
+
+  -- some variables are
+  stored_does : (xs : List ℕ) (environment saved : Environment) (f : Frame) (s : State Procedure) (marks' : List MarkKind) (rest : List Instruction) (r : Result) → Agrees plan environment saved f.places
+      → ((g : Frame) (marks' : List MarkKind) → Agrees plan environment (save_each xs environment saved) g.places → g.accumulator ≡ f.accumulator → EndsAs r (run rest None g (world s marks')))
+      → EndsAs r (run (stored plan xs rest) None f (world s marks'))
+  stored_does [] environment saved f s marks' rest r a go = go f marks' a refl
+  stored_does (x ∷ xs) environment saved f s marks' rest r a go =
+      one_stored_does x environment saved f s marks' (stored plan xs rest) r a
+      (λ g marks' a e. stored_does xs environment (λ z. cond (nat_eq z x) (environment z) (saved z)) g s marks' rest r a
+      (λ g' marks' a' e'. go g' marks' (agrees_as plan (λ z. refl) (λ z. saved_more (nat_eq z x) (has z xs) (environment z) (saved z)) a') (e' ∙ e)))
+
+  -- some variables have what is saved of them, if they live in registers
+  abbrev reloaded : List ℕ → Environment → Environment → Environment
+  reloaded xs environment saved x = cond (is_slot (plan.place x)) (environment x) (cond (has x xs) (saved x) (environment x))
+
+  -- one variable is loaded from its home, and more is done
+  one_loaded_does : (y : ℕ) (environment saved : Environment) (f : Frame) (s : State Procedure) (marks' : List MarkKind) (more : List Instruction) (r : Result) → Agrees plan environment saved f.places
+      → ((g : Frame) (marks' : List MarkKind) → Agrees plan (reloaded_one plan room at y environment saved) saved g.places → g.accumulator ≡ f.accumulator → EndsAs r (run more None g (world s marks')))
+      → EndsAs r (run (cond (is_slot (plan.place y)) more (copied (plan.is_marked y) (mark.Restore y) (plan.place y) (plan.home y) more)) None f (world s marks'))
+  one_loaded_does y environment saved f s marks' more r a go = by (is_slot (plan.place y)) refl (plan.is_marked y) where
+    by : (t : Bool) → is_slot (plan.place y) ≡ t → (is_marked : Bool)
+        → EndsAs r (run (cond t more (copied is_marked (mark.Restore y) (plan.place y) (plan.home y) more)) None f (world s marks'))
+    by true i is_marked = go f marks' (slot_loaded plan room at a y i) refl
+    by false i true = go (with_place f (plan.place y) (f.places (plan.home y))) (marks' ++ mark.Restore y ∷ []) (one_loaded plan room at a y i) refl
+    by false i false = go (with_place f (plan.place y) (f.places (plan.home y))) marks' (one_loaded plan room at a y i) refl
+
+  -- some variables are
+  loaded_does : (xs : List ℕ) (environment saved : Environment) (f : Frame) (s : State Procedure) (marks' : List MarkKind) (rest : List Instruction) (r : Result) → Agrees plan environment saved f.places
+      → ((g : Frame) (marks' : List MarkKind) → Agrees plan (reloaded xs environment saved) saved g.places → g.accumulator ≡ f.accumulator → EndsAs r (run rest None g (world s marks')))
+      → EndsAs r (run (loaded plan xs rest) None f (world s marks'))
+  loaded_does [] environment saved f s marks' rest r a go = go f marks' (agrees_as plan (λ x. none (is_slot (plan.place x)) (environment x)) (λ x. refl) a) refl where
+    none : (t : Bool) (o : Option Value) → cond t o o ≡ o
+    none true o = refl
+    none false o = refl
+  loaded_does (y ∷ ys) environment saved f s marks' rest r a go =
+      one_loaded_does y environment saved f s marks' (loaded plan ys rest) r a
+      (λ g marks' a e. loaded_does ys (reloaded_one plan room at y environment saved) saved g s marks' rest r a
+      (λ g' marks' a' e'. go g' marks' (agrees_as plan (λ x. one_more (is_slot (plan.place x)) (nat_eq x y) (has x ys) (environment x) (saved x)) (λ x. refl) a') (e' ∙ e))) where
+        one_more : (t q b : Bool) (e u : Option Value) → cond t e (cond (q || b) u e) ≡ cond t (cond t e (cond q u e)) (cond b u (cond t e (cond q u e)))
+        one_more true q b e u = refl
+        one_more false q b e u = saved_more q b u e
+
+  same_group : (members : List (Member ℕ)) (e : Expression) (inside : ℕ → Bool) → MembersUse Behind members → AtomsHave Behind (member_atoms members) → (rest : List Instruction) (next : Then)
+      → ((environment saved : Environment) (f : Frame) (s : State Procedure) → Agrees plan environment saved f.places → (marks marks' : List MarkKind)
+      → EndsAs (does e inside environment saved (world s marks) next) (run rest None f (world s marks')))
+      → (environment saved : Environment) (f : Frame) (s : State Procedure) (marks marks' : List MarkKind) → Agrees plan environment saved f.places
+      → EndsAs (does (fix members e) inside environment saved (world s marks) next) (run (Fix (members_at plan.place members) ∷ stored plan (filter inside (member_variables members)) rest) None f (world s marks'))
+  same_group members e inside u h rest next go environment saved f s marks marks' r =
+      let whole = stored plan (filter inside (member_variables members)) rest in
+      onto_end (does (fix members e) inside environment saved (world s marks) next) (group (members_at plan.place members) (member_bytes members) (length members) whole f s marks') _
+      (ap (λ bytes. group (members_at plan.place members) bytes (length (members_at plan.place members)) whole f s marks') (bytes_kept plan.place members)
+      ∙ ap (λ n. group (members_at plan.place members) (member_bytes members) n whole f s marks') (length_members plan.place members))
       (on_outcome_ends marks marks' (in_store (charge_each (member_bytes members)) s) _ _
       (λ _ s. let vs = procedures_from (length s.procedures) (length members) in
-      let r' : Agrees slots (put_each environment members vs) (with_members f (members_at slots.place members) vs).places = members_bound slots room at members vs environment f u r in
-      with_value_ends (with_procedures s (members_made (put_each environment members vs) s members))
-      (with_procedures s (members_made (held (with_members f (members_at slots.place members) vs)) s (members_at slots.place members))) _ _
-      (with_procedures_follow s _ _ (members_follow slots.place Behind (put_each environment members vs) (held (with_members f (members_at slots.place members) vs)) (found slots room at (with_members f (members_at slots.place members) vs) r') s members h))
-      (λ s. subst (λ w. EndsAs (does e (put_each environment members vs) (put_inside no_region saved members vs) w next) (run rest None (with_members f (members_at slots.place members) vs) (world s marks')))
-      (sym (unnoted members (world s marks)))
-      (go (put_each environment members vs) (put_inside no_region saved members vs) (with_members f (members_at slots.place members) vs) s r' marks marks'))))
+      let inner = put_each environment members vs in
+      let g = with_members f (members_at plan.place members) vs in
+      let r' : Agrees plan (put_each environment members vs) saved (with_members f (members_at plan.place members) vs).places = members_bound plan room at members vs environment saved f u r in
+      with_value_ends (with_procedures s (members_made inner s members))
+      (with_procedures s (members_made (held g) s (members_at plan.place members))) _ _
+      (with_procedures_follow s _ _ (members_follow plan.place Behind inner (held g) (found plan room at g r') s members h))
+      (λ s. stored_does (filter inside (member_variables members)) inner saved g s marks' rest _ r'
+      (λ g' marks' a e'. at_state (λ w. does e inside inner (put_inside inside saved members vs) w next) _ (mark_members (placed_reading plan) inside members (world s marks)) s
+      (members_noted (placed_reading plan) inside members (world s marks))
+      (λ marks. go inner (put_inside inside saved members vs) g' s
+      (agrees_as plan (λ z. refl) (λ z. group_saved inside members vs environment saved z (procedures_length (length members) _)) a) marks marks')))))
 
   -- ## Calls
 
@@ -156,150 +294,130 @@ module _ (slots : Slots) (room : ℕ) (at : Apart slots room) (callee callee' : 
   argument_own (Some r) j f = refl
   argument_own None j f = refl
 
-  -- read plainly, a call leaves no marks of what it restores
-  unrestored : (xs : List ℕ) (w : World) → note_each plain mark.Restore xs w ≡ w
-  unrestored [] w = refl
-  unrestored (x ∷ xs) w = unrestored xs w
-
-  kept_slot : (places : Place → Cell) (p : Place) → From room p → kept places p ≡ places p
-  kept_slot places (Reg r) b = absurd b
-  kept_slot places (Slot j) b = refl
-
-  not_link : (p : Place) → From room p → same_place p link_register ≡ false
-  not_link (Reg r) b = absurd b
-  not_link (Slot j) b = refl
-
   -- behind a call, in a frame whose slots are those before it
-  returned : (test : Option ℕ) (rest : List Instruction) (next : Then) → Next test rest next → (environment saved : Environment) (f g : Frame) → Agrees slots environment f.places
-      → ((j : ℕ) → room ≤ j → g.places (Slot j) ≡ f.places (Slot j)) → (v : Value) (s : State Procedure) (marks marks' : List MarkKind)
-      → EndsAs (next v environment saved (world s marks)) (run (restored slots.home (leave test rest)) None (after_call g v) (world s marks'))
-  returned test rest next h environment saved f g r same_slots v s marks marks' = by slots.home refl where
-    behind : (p : Place) → From room p → kept g.places p ≡ f.places p
-    behind p b = kept_slot g.places p b ∙ at_slot slots room at f.places g.places same_slots p b
+  returned : (test : Option ℕ) (rest : List Instruction) (next : Then) → Next test rest next → (restores : List ℕ) (environment saved : Environment) (f g : Frame) → Agrees plan environment saved f.places
+      → ((j : ℕ) → Clear plan.aside room (Slot j) → g.places (Slot j) ≡ f.places (Slot j)) → (v : Value) (s : State Procedure) (marks marks' : List MarkKind)
+      → EndsAs (next v (control.after_call (placed_reading plan).keeps restores environment saved) saved (mark_each (placed_reading plan) mark.Restore restores (world s marks)))
+      (run (loaded plan restores (leave test rest)) None (after_call g v) (world s marks'))
+  returned test rest next h restores environment saved f g r same_slots v s marks marks' =
+      loaded_does restores (λ x. cond (is_slot (plan.place x)) (environment x) None) saved (after_call g v) s marks' (leave test rest) _ (agrees_left plan room at f.places g.places r same_slots)
+      (λ g' marks' a e. at_state (λ w. next v (control.after_call (placed_reading plan).keeps restores environment saved) saved w) _ (mark_each (placed_reading plan) mark.Restore restores (world s marks)) s
+      (each_noted (placed_reading plan) mark.Restore restores (world s marks))
+      (λ marks. onto_end (next v (control.after_call (placed_reading plan).keeps restores environment saved) saved (world s marks)) _ _ (leaving test rest g' (world s marks') v e)
+      (h v (control.after_call (placed_reading plan).keeps restores environment saved) saved g' s marks marks'
+      (agrees_as plan (λ x. left (is_slot (plan.place x)) (has x restores) (environment x) (saved x)) (λ x. refl) a) e))) where
+        left : (t b : Bool) (e u : Option Value) → cond t e (cond b u None) ≡ cond t (cond t e None) (cond b u (cond t e None))
+        left true b e u = refl
+        left false b e u = refl
 
-    by : (home : Option Place) → slots.home ≡ home → EndsAs (next v environment saved (world s marks)) (run (restored home (leave test rest)) None (after_call g v) (world s marks'))
-    by None e =
-        onto_end (next v environment saved (world s marks)) _ _ (leaving test rest (after_call g v) (world s marks') v refl)
-        (h v environment saved (after_call g v) s marks marks' (record {
-          variables = λ x u i. behind (slots.place (suc x)) (at.behind x) ∙ r.variables x u i;
-          link = λ u i. absurd (subst (λ o. Holds o f.places) e (r.home u i));
-          home = λ u i. absurd (subst (λ o. Holds o f.places) e (r.home u i));
-        }) refl)
-    by (Some p) e =
-        let apart : HomeApart slots.place room (Some p) = subst (HomeApart slots.place room) e at.home in
-        let g' : Frame = with_place (after_call g v) link_register (kept g.places p) in
-        onto_end (next v environment saved (world s marks)) _ _ (leaving test rest g' (world s marks') v refl)
-        (h v environment saved g' s marks marks' (record {
-          variables = λ x u i.
-              set_other (kept g.places) link_register (slots.place (suc x)) (kept g.places p) (not_link (slots.place (suc x)) (at.behind x))
-              ∙ (behind (slots.place (suc x)) (at.behind x) ∙ r.variables x u i);
-          link = λ u i. set_self (kept g.places) link_register (kept g.places p) ∙ (behind p apart.0 ∙ subst (λ o. Holds o f.places) e (r.home u i));
-          home = λ u i. subst (λ o. Holds o g'.places) (sym e)
-              (set_other (kept g.places) link_register p (kept g.places p) (not_link p apart.0) ∙ (behind p apart.0 ∙ subst (λ o. Holds o f.places) e (r.home u i)));
-        }) refl)
-
-  same_call : (a : Application ℕ) (restores : List ℕ) → AtomsHave Behind (application_atoms a) → length a.operands ≤ room → (n : ℕ) (test : Option ℕ) (rest : List Instruction)
-      → (environment saved : Environment) (f : Frame) (s : State Procedure) (marks marks' : List MarkKind) (next : Then) → Agrees slots environment f.places → Next test rest next
-      → EndsAs (does (call a restores) environment saved (world s marks) next) (run (lay slots (call a restores) n test rest) None f (world s marks'))
-  same_call a restores u few n test rest environment saved f s marks marks' next r h =
+  same_call : (a : Application ℕ) (restores : List ℕ) (inside : ℕ → Bool) → AtomsHave Behind (application_atoms a) → plan.aside + length a.operands ≤ room → (n : ℕ) (test : Option ℕ) (rest : List Instruction)
+      → (environment saved : Environment) (f : Frame) (s : State Procedure) (marks marks' : List MarkKind) (next : Then) → Agrees plan environment saved f.places → Next test rest next
+      → EndsAs (does (call a restores) inside environment saved (world s marks) next) (run (lay plan (call a restores) inside n test rest) None f (world s marks'))
+  same_call a restores inside u few n test rest environment saved f s marks marks' next r h =
       by (operand_value environment s.store a.operator) refl (operand_values environment s.store a.operands) refl where
         by : (x : Option Value) → operand_value environment s.store a.operator ≡ x → (ys : Option (List Value)) → operand_values environment s.store a.operands ≡ ys
             → EndsAs (with_value (and_value x ys)
             (λ vs. on_return (call_in callee a.spread false depth vs (marked (mark.Call a.site) (world s marks)))
-            (λ v w. next v (control.after_call plain.keeps restores environment saved) saved (note_each plain mark.Restore restores w))))
-            (run (prepared slots false a (Mark (mark.Call a.site) ∷ (Call a.spread (length a.operands) ∷ restored slots.home (leave test rest)))) None f (world s marks'))
+            (λ v w. next v (control.after_call (placed_reading plan).keeps restores environment saved) saved (mark_each (placed_reading plan) mark.Restore restores w))))
+            (run (prepared plan false a (Mark (mark.Call a.site) ∷ (Call a.spread (length a.operands) ∷ loaded plan restores (leave test rest)))) None f (world s marks'))
         by None ex ys ey = tt
         by (Some operator) ex None ey = tt
         by (Some operator) ex (Some vs) ey =
             let values : Values environment s.store a.operands vs = values_are environment s.store a.operands vs ey in
             let l : length vs ≡ length a.operands = values_length environment s.store a.operands vs values in
-            let f0 : Frame = put_aside operator vs f in
-            let moves = call_moves slots room at callee' depth f0 in
-            prepared_does slots room at callee' depth false (length a.operands) outgoing_view moved_out (SlotsOf f0) moves operator vs l
-            a environment f (world s marks') _ _ refl few r u ex values (λ j. refl)
+            let f0 : Frame = put_aside plan.aside operator vs f in
+            let moves = call_moves plan room at callee' depth f0 in
+            prepared_does plan room at callee' depth false (length a.operands) outgoing_view moved_out (SlotsOf f0) moves operator vs l
+            a environment saved f (world s marks') _ _ refl few r u ex values (λ j. refl)
             (λ g ready. onto_end _ (with_value (Some (operator ∷ vs)) (λ vs. on_return (call_in callee' a.spread false depth vs (world s (marks' ++ mark.Call a.site ∷ [])))
-            (λ v w. run (restored slots.home (leave test rest)) None (after_call g v) w))) _
+            (λ v w. run (loaded plan restores (leave test rest)) None (after_call g v) w))) _
             (ap (λ o. with_value o (λ vs. on_return (call_in callee' a.spread false depth vs (world s (marks' ++ mark.Call a.site ∷ [])))
-            (λ v w. run (restored slots.home (leave test rest)) None (after_call g v) w)))
+            (λ v w. run (loaded plan restores (leave test rest)) None (after_call g v) w)))
             (parts_are operator vs (length a.operands) g.places g.outgoing l ready.closure
             (λ k v e. argument_out (argument_register k) (argument_slot k) g ∙ ap value_in (ready.ready k v (subst (λ m. k < m) l (below_length vs k v e)) e))))
             (on_return_ends (call_in callee a.spread false depth (operator ∷ vs) (world s (marks ++ mark.Call a.site ∷ []))) (call_in callee' a.spread false depth (operator ∷ vs) (world s (marks' ++ mark.Call a.site ∷ []))) _ _
             (call_in_ends callee callee' follow a.spread false depth (operator ∷ vs) s (marks ++ mark.Call a.site ∷ []) (marks' ++ mark.Call a.site ∷ []))
-            (λ v s marks marks'. subst (λ w. EndsAs (next v environment saved w) (run (restored slots.home (leave test rest)) None (after_call g v) (world s marks'))) (sym (unrestored restores (world s marks)))
-            (returned test rest next h environment saved f g r (λ j lt. ready.kept j ∙ aside_other vs 0 (with_place f (Reg 14) (Is operator)) (Slot j) (λ k le below e. omega (arith, lt, l, few, below, e))) v s marks marks'))))
+            (λ v s marks marks'. returned test rest next h restores environment saved f g r (λ j clear. ready.kept j ∙ aside_other vs plan.aside f (Slot j) (λ k low below. clear k low (omega (arith, l, few, below)))) v s marks marks')))
 
-  same_tail : (a : Application ℕ) → AtomsHave Behind (application_atoms a) → length a.operands ≤ room → (n : ℕ) (test : Option ℕ) (rest : List Instruction)
-      → (environment saved : Environment) (f : Frame) (s : State Procedure) (marks marks' : List MarkKind) (next : Then) → Agrees slots environment f.places
-      → EndsAs (does (tail_call a) environment saved (world s marks) next) (run (lay slots (tail_call a) n test rest) None f (world s marks'))
-  same_tail a u few n test rest environment saved f s marks marks' next r =
+  same_tail : (a : Application ℕ) (inside : ℕ → Bool) → AtomsHave Behind (application_atoms a) → plan.aside + length a.operands ≤ room → (n : ℕ) (test : Option ℕ) (rest : List Instruction)
+      → (environment saved : Environment) (f : Frame) (s : State Procedure) (marks marks' : List MarkKind) (next : Then) → Agrees plan environment saved f.places
+      → EndsAs (does (tail_call a) inside environment saved (world s marks) next) (run (lay plan (tail_call a) inside n test rest) None f (world s marks'))
+  same_tail a inside u few n test rest environment saved f s marks marks' next r =
       by (environment 0) refl (operand_value environment s.store a.operator) refl (operand_values environment s.store a.operands) refl where
         by : (o : Option Value) → environment 0 ≡ o → (x : Option Value) → operand_value environment s.store a.operator ≡ x → (ys : Option (List Value)) → operand_values environment s.store a.operands ≡ ys
             → EndsAs (with_value o (λ link. with_value (and_value x ys) (λ vs. call_in callee a.spread true depth vs (marked (mark.Tail a.site) (world s marks)))))
-            (run (prepared slots true a (Mark (mark.Tail a.site) ∷ (Tail a.spread (length a.operands) ∷ rest))) None f (world s marks'))
+            (run (prepared plan true a (Mark (mark.Tail a.site) ∷ (Tail a.spread (length a.operands) ∷ rest))) None f (world s marks'))
         by None eo x ex ys ey = tt
         by (Some back) eo None ex ys ey = tt
         by (Some back) eo (Some operator) ex None ey = tt
         by (Some back) eo (Some operator) ex (Some vs) ey =
             let values : Values environment s.store a.operands vs = values_are environment s.store a.operands vs ey in
             let l : length vs ≡ length a.operands = values_length environment s.store a.operands vs values in
-            let f0 : Frame = put_aside operator vs f in
-            let moves = tail_moves slots room at callee' depth f0 in
-            prepared_does slots room at callee' depth true (length a.operands) own_view moved_in (LinkOf f0) moves operator vs l
-            a environment f (world s marks') _ _ refl few r u ex values refl
+            let f0 : Frame = put_aside plan.aside operator vs f in
+            let moves = tail_moves plan room at callee' depth f0 in
+            prepared_does plan room at callee' depth true (length a.operands) own_view moved_in (LinkOf f0) moves operator vs l
+            a environment saved f (world s marks') _ _ refl few r u ex values refl
             (λ g ready. onto_end _ (call_in callee' a.spread true depth (operator ∷ vs) (world s (marks' ++ mark.Tail a.site ∷ []))) _
             (ap (λ c. if_link c (with_value (parts g.places (λ j. g.places (Slot j)) (length a.operands)) (λ vs. call_in callee' a.spread true depth vs (world s (marks' ++ mark.Tail a.site ∷ [])))))
-            (ready.kept ∙ (aside_other vs 0 (with_place f (Reg 14) (Is operator)) link_register tt ∙ r.link back eo))
+            (ready.kept ∙ (aside_other vs plan.aside f link_register tt ∙ (ap f.places (sym at.link) ∙ r.here 0 back eo)))
             ∙ ap (λ o. with_value o (λ vs. call_in callee' a.spread true depth vs (world s (marks' ++ mark.Tail a.site ∷ []))))
             (parts_are operator vs (length a.operands) g.places (λ j. g.places (Slot j)) l ready.closure
             (λ k v e. argument_own (argument_register k) (argument_slot k) g ∙ ap value_in (ready.ready k v (subst (λ m. k < m) l (below_length vs k v e)) e))))
             (call_in_ends callee callee' follow a.spread true depth (operator ∷ vs) s (marks ++ mark.Tail a.site ∷ []) (marks' ++ mark.Tail a.site ∷ [])))
 
-  pub same : (e : Expression) → is_bare e ≡ true → Uses Behind e → most_operands e ≤ room → (n : ℕ) (test : Option ℕ) (rest : List Instruction) → Below test n
-      → (environment saved : Environment) (f : Frame) (s : State Procedure) (marks marks' : List MarkKind) (next : Then) → Agrees slots environment f.places → Next test rest next
-      → EndsAs (does e environment saved (world s marks) next) (run (lay slots e n test rest) None f (world s marks'))
-  same (perform o) c u few n test rest b environment saved f s marks marks' next r h =
-      on_ending_ends marks marks' (operate environment o s) (operate (held f) (operation_at slots.place o) s) _ _
-      (operate_follows slots.place Behind environment (held f) (found slots room at f r) o s u)
+  pub same : (e : Expression) (inside : ℕ → Bool) → Uses Behind e → plan.aside + most_operands e ≤ room → (n : ℕ) (test : Option ℕ) (rest : List Instruction) → Below test n
+      → (environment saved : Environment) (f : Frame) (s : State Procedure) (marks marks' : List MarkKind) (next : Then) → Agrees plan environment saved f.places → Next test rest next
+      → EndsAs (does e inside environment saved (world s marks) next) (run (lay plan e inside n test rest) None f (world s marks'))
+  same (perform o) inside u few n test rest b environment saved f s marks marks' next r h =
+      on_ending_ends marks marks' (operate environment o s) (operate (held f) (operation_at plan.place o) s) _ _
+      (operate_follows plan.place Behind environment (held f) (found plan room at f r) o s u)
       (λ v s. onto_end (next v environment saved (world s marks)) _ _ (leaving test rest (record f { accumulator = Is v }) (world s marks') v refl)
       (h v environment saved (record f { accumulator = Is v }) s marks marks' r refl))
-  same (bind x a b) c u few n test rest below environment saved f s marks marks' next r h =
-      let parts = and_parts _ _ c in
+  same (bind x a b) inside u few n test rest below environment saved f s marks marks' next r h =
       let left = le-max_left (most_operands a) (most_operands b) in
       let right = le-max_right (most_operands a) (most_operands b) in
-      same a parts.0 u.1.0 (omega (arith, left, few)) n None _ tt environment saved f s marks marks' _ r
-      (λ v environment saved f s marks marks' r e. same b parts.1 u.1.1 (omega (arith, right, few)) (n + labels a) test rest (below_up test n (n + labels a) (omega arith) below)
-      (put environment x v) saved (with_place f (slots.place x) f.accumulator) s marks marks' next (bound slots room at r x v u.0 f.accumulator e) h)
-  same (sequence a b) c u few n test rest below environment saved f s marks marks' next r h =
-      let parts = and_parts _ _ c in
+      same a inside u.1.0 (omega (arith, left, few)) n None _ tt environment saved f s marks marks' _ r
+      (λ v environment saved f s marks marks' r e.
+      stored_does (filter inside (x ∷ [])) (put environment x v) saved (with_place f (plan.place x) f.accumulator) s marks' _ _ (bound plan room at r x v f.accumulator (e ∙ is_meant x v u.0))
+      (λ g marks' a' e'. at_state (λ w. does b inside (put environment x v) (put_if (inside x) saved x v) w next) _ (mark_bound (placed_reading plan) inside x (world s marks)) s
+      (bound_noted (placed_reading plan) inside x (world s marks))
+      (λ marks. same b inside u.1.1 (omega (arith, right, few)) (n + labels a) test rest (below_up test n (n + labels a) (omega arith) below)
+      (put environment x v) (put_if (inside x) saved x v) g s marks marks' next (agrees_as plan (λ z. refl) (one_saved inside environment saved x v) a') h))) where
+        is_meant : (x : ℕ) (v : Value) → Behind x → Is v ≡ meant x v
+        is_meant zero v b = absurd b
+        is_meant (suc x) v b = refl
+  same (sequence a b) inside u few n test rest below environment saved f s marks marks' next r h =
       let left = le-max_left (most_operands a) (most_operands b) in
       let right = le-max_right (most_operands a) (most_operands b) in
-      same a parts.0 u.0 (omega (arith, left, few)) n None _ tt environment saved f s marks marks' _ r
-      (λ v environment saved f s marks marks' r e. same b parts.1 u.1 (omega (arith, right, few)) (n + labels a) test rest (below_up test n (n + labels a) (omega arith) below)
+      same a inside u.0 (omega (arith, left, few)) n None _ tt environment saved f s marks marks' _ r
+      (λ v environment saved f s marks marks' r e. same b inside u.1 (omega (arith, right, few)) (n + labels a) test rest (below_up test n (n + labels a) (omega arith) below)
       environment saved f s marks marks' next r h)
-  same (branch a b d) c u few n test rest below environment saved f s marks marks' next r h =
-      let parts = and_parts _ _ c in
-      let arms_parts = and_parts _ _ parts.1 in
+  same (branch a b d) inside u few n test rest below environment saved f s marks marks' next r h =
       let left = le-max_left (most_operands a) (max (most_operands b) (most_operands d)) in
       let right = le-max_right (most_operands a) (max (most_operands b) (most_operands d)) in
       let second = le-max_left (most_operands b) (most_operands d) in
       let third = le-max_right (most_operands b) (most_operands d) in
-      same a parts.0 u.0 (omega (arith, left, few)) (suc (suc n)) (Some n) _ (omega arith) environment saved f s marks marks' _ r
+      same a inside u.0 (omega (arith, left, few)) (suc (suc n)) (Some n) _ (omega arith) environment saved f s marks marks' _ r
       (λ v environment saved f s marks marks' r e. either_ends (is_true v) _ _ _ _
-      (λ t. same b arms_parts.0 u.1.0 (omega (arith, right, second, few)) (suc (suc (n + labels a))) test _ (below_up test n _ (omega arith) below) environment saved f s marks marks' next r
+      (λ t. same b inside u.1.0 (omega (arith, right, second, few)) (suc (suc (n + labels a))) test _ (below_up test n _ (omega arith) below) environment saved f s marks marks' next r
       (λ v environment saved f s marks marks' r e. onto_end (next v environment saved (world s marks)) _ _
-      (joined d n (suc (suc (n + labels a + labels b))) test rest v f (world s marks') (omega arith) below) (h v environment saved f s marks marks' r e)))
-      (λ t. onto_end (does d environment saved (world s marks) next) _ _
-      (past callee' depth slots b (suc (suc (n + labels a))) test _ n f (world s marks') (omega arith)
-      ∙ ap (λ z. run (lay slots d (suc (suc (n + labels a + labels b))) test (Label (suc n) ∷ rest)) (cond z None (Some n)) f (world s marks')) (eq-eqb n n refl))
-      (same d arms_parts.1 u.1.1 (omega (arith, right, third, few)) (suc (suc (n + labels a + labels b))) test _ (below_up test n _ (omega arith) below) environment saved f s marks marks' next r
+      (joined d inside n (suc (suc (n + labels a + labels b))) test rest v f (world s marks') (omega arith) below) (h v environment saved f s marks marks' r e)))
+      (λ t. onto_end (does d inside environment saved (world s marks) next) _ _
+      (past callee' depth plan b inside (suc (suc (n + labels a))) test _ n f (world s marks') (omega arith)
+      ∙ ap (λ z. run (lay plan d inside (suc (suc (n + labels a + labels b))) test (Label (suc n) ∷ rest)) (cond z None (Some n)) f (world s marks')) (eq-eqb n n refl))
+      (same d inside u.1.1 (omega (arith, right, third, few)) (suc (suc (n + labels a + labels b))) test _ (below_up test n _ (omega arith) below) environment saved f s marks marks' next r
       (λ v environment saved f s marks marks' r e. onto_end (next v environment saved (world s marks)) _ _ (ended n test rest v f (world s marks') below) (h v environment saved f s marks marks' r e)))))
-  same (fix members e) c u few n test rest below environment saved f s marks marks' next r h =
-      same_group members e u.0 u.1.0 (lay slots e n test rest) next (λ environment saved f s r marks marks'. same e c u.1.1 few n test rest below environment saved f s marks marks' next r h)
-      environment saved f s marks marks' r
-  same (call a restores) c u few n test rest below environment saved f s marks marks' next r h = same_call a restores u few n test rest environment saved f s marks marks' next r h
-  same (tail_call a) c u few n test rest below environment saved f s marks marks' next r h = same_tail a u few n test rest environment saved f s marks marks' next r
-  same (return e) c u few n test rest below environment saved f s marks marks' next r h =
-      same e c u few n None _ tt environment saved f s marks marks' _ r (λ v environment saved f s marks marks' r i. same_return environment rest f s marks marks' v r i)
-  same (end e) c u few n test rest below environment saved f s marks marks' next r h =
-      same e c u few n None _ tt environment saved f s marks marks' _ r (λ v environment saved f s marks marks' r i. refl)
-  same (save saves e) c u few n test rest below environment saved f s marks marks' next r h = absurd (cc)
+  same (fix members e) inside u few n test rest below environment saved f s marks marks' next r h =
+      same_group members e inside u.0 u.1.0 (lay plan e inside n test rest) next
+      (λ environment saved f s r marks marks'. same e inside u.1.1 few n test rest below environment saved f s marks marks' next r h) environment saved f s marks marks' r
+  same (call a restores) inside u few n test rest below environment saved f s marks marks' next r h = same_call a restores inside u few n test rest environment saved f s marks marks' next r h
+  same (tail_call a) inside u few n test rest below environment saved f s marks marks' next r h = same_tail a inside u few n test rest environment saved f s marks marks' next r
+  same (return e) inside u few n test rest below environment saved f s marks marks' next r h =
+      same e inside u few n None _ tt environment saved f s marks marks' _ r (λ v environment saved f s marks marks' r i. same_return environment saved rest f s marks marks' v r i)
+  same (end e) inside u few n test rest below environment saved f s marks marks' next r h =
+      same e inside u few n None _ tt environment saved f s marks marks' _ r (λ v environment saved f s marks marks' r i. refl)
+  same (save saves e) inside u few n test rest below environment saved f s marks marks' next r h =
+      stored_does (heads e saves) environment saved f s marks' _ _ r
+      (λ g marks' a i. at_state (λ w. does e (with_region saves inside) environment (save_each (heads e saves) environment saved) w next) _
+      (mark_each (placed_reading plan) mark.Save (heads e saves) (world s marks)) s (each_noted (placed_reading plan) mark.Save (heads e saves) (world s marks))
+      (λ marks. same e (with_region saves inside) u few n test rest below environment (save_each (heads e saves) environment saved) g s marks marks' next a h))

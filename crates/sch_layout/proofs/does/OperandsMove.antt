@@ -12,12 +12,13 @@ use Rattle.sch_control.specs.Meaning.{World, Result, Environment, Callee, with_v
 use Rattle.sch_control.specs.Operations.{and_value, operand_value, operand_values}
 use Rattle.sch_control.specs.AtomsAndSites.{operand_atoms, operands_atoms, application_atoms}
 use Rattle.sch_frames.specs.declared.instruction.Instruction.{Instruction}
+use Rattle.sch_frames.specs.declared.instruction.Instruction.TheVariants.{Load}
 use Rattle.sch_frames.specs.Does.{Follows, EndsAs}
 use Rattle.sch_frames.specs.Meaning.{Cell, Is, Frame, closure_register, link_register, argument_register, argument_slot, value_in, held, cell_of, same_place, set, with_place, with_outgoing, argument, arguments, parts, execute_each}
 use Rattle.sch_frames.proofs.EndsAlike.{onto_end}
 use Rattle.sch_frames.proofs.FramePlaces.{set_other, set_self, slot_of}
-use Rattle.sch_layout.specs.BodyLayout.{Slots, operand_at, set_aside, in_either, arrival, passed, handed, hand_over, prepared}
-use Rattle.sch_layout.proofs.does.PlacesAgree.{Behind, Apart, Agrees, agrees_kept, found}
+use Rattle.sch_layout.specs.BodyLayout.{Plan, operand_at, set_aside, in_either, arrival, passed, handed, hand_over, prepared}
+use Rattle.sch_layout.proofs.does.PlacesAgree.{Behind, Clear, Apart, Agrees, agrees_kept, clear_before, in_room, found}
 use Rattle.sch_layout.proofs.does.OperationsFollow.{AtomsHave, have_left, have_right, operand_follows}
 
 -- ## Values of operands
@@ -105,19 +106,14 @@ abbrev pub with_aside : Frame → (slot : ℕ) → List Value → Frame
 with_aside f slot [] = f
 with_aside f slot (v ∷ vs) = with_aside (with_place f (Slot slot) (Is v)) (suc slot) vs
 
--- none of a number of slots from one on
-abbrev pub Outside : (slot count : ℕ) → Place → Type 0
-Outside slot count (Reg r) = Unit {0}
-Outside slot count (Slot j) = (k : ℕ) → slot ≤ k → k < slot + count → j ≢ k
-
-pub aside_other : (vs : List Value) (slot : ℕ) (f : Frame) (q : Place) → Outside slot (length vs) q → (with_aside f slot vs).places q ≡ f.places q
+pub aside_other : (vs : List Value) (slot : ℕ) (f : Frame) (q : Place) → Clear slot (slot + length vs) q → (with_aside f slot vs).places q ≡ f.places q
 aside_other [] slot f q o = refl
 aside_other (v ∷ vs) slot f q o = aside_other vs (suc slot) (with_place f (Slot slot) (Is v)) q (wider q o) ∙ set_other f.places (Slot slot) q (Is v) (apart q o) where
-  wider : (q : Place) → Outside slot (suc (length vs)) q → Outside (suc slot) (length vs) q
+  wider : (q : Place) → Clear slot (slot + suc (length vs)) q → Clear (suc slot) (suc slot + length vs) q
   wider (Reg r) o = tt
   wider (Slot j) o = λ k le lt. o k (omega (arith, le)) (omega (arith, lt))
 
-  apart : (q : Place) → Outside slot (suc (length vs)) q → same_place q (Slot slot) ≡ false
+  apart : (q : Place) → Clear slot (slot + suc (length vs)) q → same_place q (Slot slot) ≡ false
   apart (Reg r) o = refl
   apart (Slot j) o = ne_eqb j slot (o slot (omega arith) (omega arith))
 
@@ -129,9 +125,9 @@ aside_at (u ∷ us) slot f zero v e =
 aside_at (u ∷ us) slot f (suc k) v e =
     subst (λ n. (with_aside f slot (u ∷ us)).places (Slot n) ≡ Is v) (omega arith) (aside_at us (suc slot) (with_place f (Slot slot) (Is u)) k v e)
 
--- the frame with all that is set aside, and the closure in its register
-abbrev pub put_aside : (operator : Value) → List Value → Frame → Frame
-put_aside operator vs f = with_aside (with_place f closure_register (Is operator)) 0 vs
+-- the frame with all that is set aside from a slot on, and the closure in its register
+abbrev pub put_aside : (slot : ℕ) → (operator : Value) → List Value → Frame → Frame
+put_aside slot operator vs f = with_place (with_aside f slot vs) closure_register (Is operator)
 
 -- what the callee finds where operands are passed
 abbrev pub outgoing_view : Frame → Place → Cell
@@ -158,31 +154,31 @@ moved_in k v f = with_place f (arrival k) (Is v)
 abbrev pub LinkOf : Frame → Frame → Type 0
 LinkOf f0 f = f.places link_register ≡ f0.places link_register
 
-module _ (slots : Slots) (room : ℕ) (at : Apart slots room) (callee : Callee) (depth : ℕ) where
+module _ (plan : Plan) (room : ℕ) (at : Apart plan room) (callee : Callee) (depth : ℕ) where
   abbrev run : List Instruction → Frame → World → Result
   run is f w = execute_each callee depth is None f w
 
   -- each operand is set aside
-  pub set_aside_does : (operands : List (Operand ℕ)) (vs : List Value) (slot : ℕ) (environment : Environment) (f : Frame) (w : World) (rest : List Instruction) → slot + length operands ≤ room
-      → Agrees slots environment f.places → AtomsHave Behind (operands_atoms operands) → Values environment w.state.store operands vs
-      → run (set_aside slots.place slot operands rest) f w ≡ run rest (with_aside f slot vs) w
-  set_aside_does [] [] slot environment f w rest le r u h = refl
-  set_aside_does [] (v ∷ vs) slot environment f w rest le r u h = absurd h
-  set_aside_does (o ∷ operands) [] slot environment f w rest le r u h = absurd h
-  set_aside_does (o ∷ operands) (v ∷ vs) slot environment f w rest le r u h =
-      ap (λ x. with_value x (λ v. run (set_aside slots.place (suc slot) operands rest) (with_place f (Slot slot) (Is v)) w))
-      (follows_some (operand_value environment w.state.store o) (operand_value (held f) w.state.store (operand_at slots.place o)) v h.0
-      (operand_follows slots.place Behind environment (held f) (found slots room at f r) w.state.store o (have_left Behind (operand_atoms o) _ u)))
-      ∙ set_aside_does operands vs (suc slot) environment (with_place f (Slot slot) (Is v)) w rest (omega (arith, le))
-      (agrees_kept slots room at f.places (set f.places (Slot slot) (Is v)) r (λ j lt. set_other f.places (Slot slot) (Slot j) (Is v) (ne_eqb j slot (λ e. omega (arith, le, lt, e)))) refl)
+  pub set_aside_does : (operands : List (Operand ℕ)) (vs : List Value) (slot : ℕ) (environment saved : Environment) (f : Frame) (w : World) (rest : List Instruction) → plan.aside ≤ slot → slot + length operands ≤ room
+      → Agrees plan environment saved f.places → AtomsHave Behind (operands_atoms operands) → Values environment w.state.store operands vs
+      → run (set_aside plan.place slot operands rest) f w ≡ run rest (with_aside f slot vs) w
+  set_aside_does [] [] slot environment saved f w rest low le r u h = refl
+  set_aside_does [] (v ∷ vs) slot environment saved f w rest low le r u h = absurd h
+  set_aside_does (o ∷ operands) [] slot environment saved f w rest low le r u h = absurd h
+  set_aside_does (o ∷ operands) (v ∷ vs) slot environment saved f w rest low le r u h =
+      ap (λ x. with_value x (λ v. run (set_aside plan.place (suc slot) operands rest) (with_place f (Slot slot) (Is v)) w))
+      (follows_some (operand_value environment w.state.store o) (operand_value (held f) w.state.store (operand_at plan.place o)) v h.0
+      (operand_follows plan.place Behind environment (held f) (found plan room at f r) w.state.store o (have_left Behind (operand_atoms o) _ u)))
+      ∙ set_aside_does operands vs (suc slot) environment saved (with_place f (Slot slot) (Is v)) w rest (omega (arith, low)) (omega (arith, le))
+      (agrees_kept plan room at f.places (set f.places (Slot slot) (Is v)) r (λ p c. set_other f.places (Slot slot) p (Is v) (in_room plan.aside room slot p c low (omega (arith, le)))))
       (have_right Behind (operand_atoms o) _ u) h.1
 
   -- ## What is set aside is handed over
 
   -- how operands are handed over: where they are seen then, and what stays
   pub record Moves (tail : Bool) (view : Frame → Place → Cell) (moved : ℕ → Value → Frame → Frame) (Kept : Frame → Type 0) : Type 0 where
-    pub does : (k : ℕ) (v : Value) (f : Frame) (w : World) (rest : List Instruction) → f.places (Slot k) ≡ Is v
-        → run (handed tail k (Slot k) ∷ rest) f w ≡ run rest (moved k v f) w
+    pub does : (k slot : ℕ) (v : Value) (f : Frame) (w : World) (rest : List Instruction) → f.places (Slot slot) ≡ Is v
+        → run (handed tail k (Slot slot) ∷ rest) f w ≡ run rest (moved k v f) w
     pub seen : (k : ℕ) (v : Value) (f : Frame) (q : Place) → view (moved k v f) q ≡ set (view f) (arrival k) (Is v) q
     pub waits : (k : ℕ) (v : Value) (f : Frame) (j : ℕ) → k < j → (moved k v f).places (Slot j) ≡ f.places (Slot j)
     pub closure : (k : ℕ) (v : Value) (f : Frame) → (moved k v f).places closure_register ≡ f.places closure_register
@@ -193,14 +189,14 @@ module _ (slots : Slots) (room : ℕ) (at : Apart slots room) (callee : Callee) 
     -- the operands before one are handed over, and the others wait where they are set aside
     pub record Ready (from : ℕ) (f : Frame) : Type 0 where
       pub ready : (k : ℕ) (v : Value) → k < from → slice_get vs k ≡ Some v → view f (arrival k) ≡ Is v
-      pub waiting : (k : ℕ) (v : Value) → from ≤ k → slice_get vs k ≡ Some v → f.places (Slot k) ≡ Is v
+      pub waiting : (k : ℕ) (v : Value) → from ≤ k → slice_get vs k ≡ Some v → f.places (Slot (plan.aside + k)) ≡ Is v
       pub closure : f.places closure_register ≡ Is operator
       pub kept : Kept f
 
     next_ready : (from : ℕ) (v : Value) (f : Frame) → slice_get vs from ≡ Some v → Ready from f → Ready (suc from) (moved from v f)
     next_ready from v f e r = record {
       ready = λ k u l h. by k u l h (cases_eq k from);
-      waiting = λ k u le h. m.waits from v f k (omega (arith, le)) ∙ r.waiting k u (omega (arith, le)) h;
+      waiting = λ k u le h. m.waits from v f (plan.aside + k) (omega (arith, le)) ∙ r.waiting k u (omega (arith, le)) h;
       closure = m.closure from v f ∙ r.closure;
       kept = m.kept from v f r.kept;
     } where
@@ -211,32 +207,36 @@ module _ (slots : Slots) (room : ℕ) (at : Apart slots room) (callee : Callee) 
       by k u l h (inr n) =
           m.seen from v f (arrival k) ∙ (set_other (view f) (arrival from) (arrival k) (Is v) (arrivals_apart k from n) ∙ r.ready k u (omega (arith, l, n)) h)
 
-    pub hand_over_does : (left from : ℕ) (f : Frame) (w : World) (rest : List Instruction) (r : Result) → from + left ≡ number → Ready from f
-        → ((f : Frame) → Ready number f → EndsAs r (run rest f w)) → EndsAs r (run (hand_over tail from left rest) f w)
-    hand_over_does zero from f w rest r e h go = go f (subst (λ n. Ready n f) (omega (arith, e)) h)
-    hand_over_does (suc left) from f w rest r e h go =
+    pub hand_over_does : (left from slot : ℕ) (f : Frame) (w : World) (rest : List Instruction) (r : Result) → from + left ≡ number → slot ≡ plan.aside + from → Ready from f
+        → ((f : Frame) → Ready number f → EndsAs r (run rest f w)) → EndsAs r (run (hand_over tail from slot left rest) f w)
+    hand_over_does zero from slot f w rest r e i h go = go f (subst (λ n. Ready n f) (omega (arith, e)) h)
+    hand_over_does (suc left) from slot f w rest r e i h go =
         let lt : from < number = omega (arith, e) in
         let got : (v : Value) × (slice_get vs from ≡ Some v) = there vs from (subst (λ n. from < n) (sym whole) lt) in
-        onto_end r _ _ (m.does from got.0 f w (hand_over tail (suc from) left rest) (h.waiting from got.0 (omega arith) got.1))
-        (hand_over_does left (suc from) (moved from got.0 f) w rest r (omega (arith, e)) (next_ready from got.0 f got.1 h) go)
+        onto_end r _ _ (m.does from slot got.0 f w (hand_over tail (suc from) (suc slot) left rest)
+        (subst (λ s. f.places (Slot s) ≡ Is got.0) (sym i) (h.waiting from got.0 (omega arith) got.1)))
+        (hand_over_does left (suc from) (suc slot) (moved from got.0 f) w rest r (omega (arith, e)) (omega (arith, i)) (next_ready from got.0 f got.1 h) go)
 
-    pub prepared_does : (a : Application ℕ) (environment : Environment) (f : Frame) (w : World) (rest : List Instruction) (r : Result) → length a.operands ≡ number → length a.operands ≤ room
-        → Agrees slots environment f.places → AtomsHave Behind (application_atoms a) → operand_value environment w.state.store a.operator ≡ Some operator
-        → Values environment w.state.store a.operands vs → Kept (put_aside operator vs f) → ((f : Frame) → Ready number f → EndsAs r (run rest f w))
-        → EndsAs r (run (prepared slots tail a rest) f w)
-    prepared_does a environment f w rest r same_number few agrees u o h kept go =
-        onto_end r (run (hand_over tail 0 (length a.operands) rest) (put_aside operator vs f) w) _
-        (ap (λ x. with_value x (λ v. run (set_aside slots.place 0 a.operands (hand_over tail 0 (length a.operands) rest)) (with_place f closure_register (Is v)) w))
-        (follows_some (operand_value environment w.state.store a.operator) (operand_value (held f) w.state.store (operand_at slots.place a.operator)) operator o
-        (operand_follows slots.place Behind environment (held f) (found slots room at f agrees) w.state.store a.operator (have_left Behind (operand_atoms a.operator) _ u)))
-        ∙ set_aside_does a.operands vs 0 environment (with_place f closure_register (Is operator)) w (hand_over tail 0 (length a.operands) rest) (omega (arith, few))
-        (agrees_kept slots room at f.places (set f.places closure_register (Is operator)) agrees (λ j lt. refl) refl)
-        (have_right Behind (operand_atoms a.operator) _ u) h)
-        (hand_over_does (length a.operands) 0 (put_aside operator vs f) w rest r (omega (arith, same_number))
+    pub prepared_does : (a : Application ℕ) (environment saved : Environment) (f : Frame) (w : World) (rest : List Instruction) (r : Result) → length a.operands ≡ number → plan.aside + length a.operands ≤ room
+        → Agrees plan environment saved f.places → AtomsHave Behind (application_atoms a) → operand_value environment w.state.store a.operator ≡ Some operator
+        → Values environment w.state.store a.operands vs → Kept (put_aside plan.aside operator vs f) → ((f : Frame) → Ready number f → EndsAs r (run rest f w))
+        → EndsAs r (run (prepared plan tail a rest) f w)
+    prepared_does a environment saved f w rest r same_number few agrees u o h kept go =
+        let g : Frame = with_aside f plan.aside vs in
+        let over : List Instruction = hand_over tail 0 plan.aside (length a.operands) rest in
+        let stays : Agrees plan environment saved g.places =
+        agrees_kept plan room at f.places g.places agrees (λ p c. aside_other vs plan.aside f p (clear_before plan.aside room (plan.aside + length vs) p (omega (arith, few, whole, same_number)) c)) in
+        onto_end r (run over (put_aside plan.aside operator vs f) w) _
+        (set_aside_does a.operands vs plan.aside environment saved f w (Load closure_register (operand_at plan.place a.operator) ∷ over) (omega arith) few agrees
+        (have_right Behind (operand_atoms a.operator) _ u) h
+        ∙ ap (λ x. with_value x (λ v. run over (with_place g closure_register (Is v)) w))
+        (follows_some (operand_value environment w.state.store a.operator) (operand_value (held g) w.state.store (operand_at plan.place a.operator)) operator o
+        (operand_follows plan.place Behind environment (held g) (found plan room at g stays) w.state.store a.operator (have_left Behind (operand_atoms a.operator) _ u))))
+        (hand_over_does (length a.operands) 0 plan.aside (put_aside plan.aside operator vs f) w rest r (omega (arith, same_number)) (omega arith)
         (record {
           ready = λ k v l e. absurd (never k l);
-          waiting = λ k v le e. subst (λ n. (put_aside operator vs f).places (Slot n) ≡ Is v) (omega arith) (aside_at vs 0 (with_place f closure_register (Is operator)) k v e);
-          closure = aside_other vs 0 (with_place f closure_register (Is operator)) closure_register tt;
+          waiting = λ k v le e. aside_at vs plan.aside f k v e;
+          closure = set_self g.places closure_register (Is operator);
           kept = kept;
         }) go) where
           never : (k : ℕ) → k < 0 → ⊥
@@ -246,7 +246,7 @@ module _ (slots : Slots) (room : ℕ) (at : Apart slots room) (callee : Callee) 
 
   pub call_moves : (f0 : Frame) → Moves false outgoing_view moved_out (SlotsOf f0)
   call_moves f0 = record {
-    does = λ k v f w rest e. moves (argument_register k) (argument_slot k) (Slot k) v f w rest e;
+    does = λ k slot v f w rest e. moves (argument_register k) (argument_slot k) (Slot slot) v f w rest e;
     seen = λ k v f q. seen (argument_register k) (argument_slot k) v f q;
     waits = λ k v f j lt. stays (argument_register k) (argument_slot k) v f j;
     closure = λ k v f. closure k v f (argument_register k) refl;
@@ -274,7 +274,7 @@ module _ (slots : Slots) (room : ℕ) (at : Apart slots room) (callee : Callee) 
   -- a slot in which an operand is handed over lies before those of the operands that wait
   pub tail_moves : (f0 : Frame) → Moves true own_view moved_in (LinkOf f0)
   tail_moves f0 = record {
-    does = λ k v f w rest e. ap (λ c. run rest (with_place f (arrival k) c) w) e;
+    does = λ k slot v f w rest e. ap (λ c. run rest (with_place f (arrival k) c) w) e;
     seen = λ k v f q. refl;
     waits = λ k v f j lt. set_other f.places (arrival k) (Slot j) (Is v) (waits k j lt (argument_register k) refl);
     closure = λ k v f. set_other f.places (arrival k) closure_register (Is v) (closure k (argument_register k) refl);

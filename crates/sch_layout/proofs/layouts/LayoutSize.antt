@@ -12,18 +12,21 @@ use Rattle.sch_control.specs.declared.operation.Operation.TheVariants as operati
 use Rattle.sch_control.specs.declared.operation.Member.{Member}
 use Rattle.sch_control.specs.declared.operation.Source.{Source}
 use Rattle.sch_control.specs.AtomsAndSites.{source_atoms, operand_atoms, operands_atoms, application_atoms, member_atoms}
+use Rattle.sch_control.specs.Meaning.{binds, no_region}
 use Rattle.sch_control.specs.Tree as control
 use Rattle.sch_control.specs.Tree.{Expression, perform, bind, sequence, branch, fix, call, tail_call, return, end, save}
+use Rattle.sch_control.specs.Valid.{member_variables}
 use Rattle.sch_control.specs.declared.mark.MarkKind.TheVariants as mark
 use Rattle.sch_control.specs.Sizes.{operand_size, operands_size, operation_size, expression_size}
 use Rattle.sch_frames.specs.declared.instruction.Instruction.{Instruction}
-use Rattle.sch_frames.specs.declared.instruction.Instruction.TheVariants.{Store, Call, Tail, Return, End, Jump, Label, Mark}
-use Rattle.sch_frames.specs.Meaning.{argument_register, argument_slot}
-use Rattle.sch_frames.specs.Valid.{formals_of}
+use Rattle.sch_frames.specs.declared.instruction.Instruction.TheVariants.{Store, Copy, Load, Call, Tail, Return, End, Jump, Label, Mark}
+use Rattle.sch_frames.specs.Meaning.{argument_register, argument_slot, closure_register, link_register}
+use Rattle.sch_frames.specs.Valid.{formals_of, is_entered}
 use Rattle.sch_frames.specs.Sizes.{instruction_size, instructions_size}
-use Rattle.sch_layout.specs.BodyLayout.{Slots, leave, labels, lay, atom_at, operand_at, operands_at, sources_at, members_at, operation_at, set_aside, passed, handed, hand_over, prepared, restored}
-use Rattle.sch_layout.specs.OwnSlots.{arrivals, entering, slots_base, slots_for, slots_layout}
+use Rattle.sch_layout.specs.BodyLayout.{leave, labels, lay, atom_at, operand_at, operands_at, sources_at, members_at, operation_at, set_aside, passed, handed, hand_over, prepared, stored, loaded}
+use Rattle.sch_layout.specs.OwnSlots.{own_slot, own_slots, arrivals, entering, restoring, saved_round, slots_base, slots_layout}
 use Rattle.sch_layout.specs.LayoutSizes.{entry_size, call_parts, nodes}
+use Rattle.sch_layout.proofs.layouts.RegionStores.{no_region_stores, slots_written}
 
 module _ (place : ℕ → Place) where
   -- ## Operations
@@ -89,24 +92,24 @@ handed_work false k p = by (argument_register k) (argument_slot k) where
   by (Some r) j = omega arith
   by None j = omega arith
 
-over_work : (tail : Bool) (left from : ℕ) (rest : List Instruction) → instructions_size (hand_over tail from left rest) ≤ 2 * left + instructions_size rest
-over_work tail zero from rest = omega arith
-over_work tail (suc left) from rest =
-    let h = over_work tail left (suc from) rest in
-    let k = handed_work tail from (Slot from) in
+over_work : (tail : Bool) (left from slot : ℕ) (rest : List Instruction) → instructions_size (hand_over tail from slot left rest) ≤ 2 * left + instructions_size rest
+over_work tail zero from slot rest = omega arith
+over_work tail (suc left) from slot rest =
+    let h = over_work tail left (suc from) (suc slot) rest in
+    let k = handed_work tail from (Slot slot) in
     omega (arith, h, k)
 
-over_size : (tail : Bool) (left from : ℕ) (rest : List Instruction) → length (hand_over tail from left rest) ≡ left + length rest
-over_size tail zero from rest = omega arith
-over_size tail (suc left) from rest = let h = over_size tail left (suc from) rest in omega (arith, h)
+over_size : (tail : Bool) (left from slot : ℕ) (rest : List Instruction) → length (hand_over tail from slot left rest) ≡ left + length rest
+over_size tail zero from slot rest = omega arith
+over_size tail (suc left) from slot rest = let h = over_size tail left (suc from) (suc slot) rest in omega (arith, h)
 
-restored_work : (home : Option Place) (rest : List Instruction) → instructions_size (restored home rest) ≤ suc (instructions_size rest)
-restored_work None rest = omega arith
-restored_work (Some p) rest = omega arith
+loaded_work : (base : ℕ) (entered : Bool) (rest : List Instruction) → instructions_size (loaded (own_slots base) (saved_round entered) rest) ≤ suc (instructions_size rest)
+loaded_work base false rest = omega arith
+loaded_work base true rest = omega arith
 
-restored_size : (home : Option Place) (rest : List Instruction) → length (restored home rest) ≤ suc (length rest)
-restored_size None rest = omega arith
-restored_size (Some p) rest = omega arith
+loaded_size : (base : ℕ) (entered : Bool) (rest : List Instruction) → length (loaded (own_slots base) (saved_round entered) rest) ≤ suc (length rest)
+loaded_size base false rest = omega arith
+loaded_size base true rest = omega arith
 
 leave_work : (test : Option ℕ) (rest : List Instruction) → instructions_size (leave test rest) ≤ suc (instructions_size rest)
 leave_work None rest = omega arith
@@ -118,72 +121,86 @@ leave_size (Some l) rest = omega arith
 
 -- ## Expressions
 
-module _ (slots : Slots) where
+module _ (base : ℕ) (entered : Bool) where
+  -- with what is restored after each call
+  abbrev laid : Expression → (n : ℕ) → (test : Option ℕ) → List Instruction → List Instruction
+  laid e n test rest = lay (own_slots base) (restoring (saved_round entered) e) no_region n test rest
+
+  abbrev size : Expression → ℕ
+  size e = labels (restoring (saved_round entered) e)
+
   prepared_work : (tail : Bool) (a : Application ℕ) (rest : List Instruction)
-      → instructions_size (prepared slots tail a rest) ≤ 2 + length (application_atoms a) + 4 * length a.operands + instructions_size rest
+      → instructions_size (prepared (own_slots base) tail a rest) ≤ 2 + length (application_atoms a) + 4 * length a.operands + instructions_size rest
   prepared_work tail a rest =
-      let o = operand_bounded slots.place a.operator in
-      let b = aside_work slots.place a.operands 0 (hand_over tail 0 (length a.operands) rest) in
-      let c = over_work tail (length a.operands) 0 rest in
+      let o = operand_bounded (own_slot base) a.operator in
+      let b = aside_work (own_slot base) a.operands 0 (Load closure_register (operand_at (own_slot base) a.operator) ∷ hand_over tail 0 0 (length a.operands) rest) in
+      let c = over_work tail (length a.operands) 0 0 rest in
       let l = length-append (operand_atoms a.operator) (operands_atoms a.operands) in
       omega (arith, o, b, c, l)
 
-  prepared_size : (tail : Bool) (a : Application ℕ) (rest : List Instruction) → length (prepared slots tail a rest) ≡ 1 + 2 * length a.operands + length rest
+  prepared_size : (tail : Bool) (a : Application ℕ) (rest : List Instruction) → length (prepared (own_slots base) tail a rest) ≡ 1 + 2 * length a.operands + length rest
   prepared_size tail a rest =
-      let b = aside_size slots.place a.operands 0 (hand_over tail 0 (length a.operands) rest) in
-      let c = over_size tail (length a.operands) 0 rest in
+      let b = aside_size (own_slot base) a.operands 0 (Load closure_register (operand_at (own_slot base) a.operator) ∷ hand_over tail 0 0 (length a.operands) rest) in
+      let c = over_size tail (length a.operands) 0 0 rest in
       omega (arith, b, c)
 
   lay_work : (e : Expression) (n : ℕ) (test : Option ℕ) (rest : List Instruction)
-      → instructions_size (lay slots e n test rest) ≤ 2 * expression_size e + 4 * call_parts e + instructions_size rest
-  lay_work (perform o) n test rest = let h = leave_work test rest in let k = operation_kept slots.place o in omega (arith, h, k)
+      → instructions_size (laid e n test rest) ≤ 2 * expression_size e + 4 * call_parts e + instructions_size rest
+  lay_work (perform o) n test rest = let h = leave_work test rest in let k = operation_kept (own_slot base) o in omega (arith, h, k)
   lay_work (bind x a b) n test rest =
-      let h = lay_work a n None (Store (slots.place x) ∷ lay slots b (n + labels a) test rest) in
-      let h' = lay_work b (n + labels a) test rest in
+      let h = lay_work a n None (Store (own_slot base x) ∷ laid b (n + size a) test rest) in
+      let h' = lay_work b (n + size a) test rest in
       omega (arith, h, h')
   lay_work (sequence a b) n test rest =
-      let h = lay_work a n None (lay slots b (n + labels a) test rest) in
-      let h' = lay_work b (n + labels a) test rest in
+      let h = lay_work a n None (laid b (n + size a) test rest) in
+      let h' = lay_work b (n + size a) test rest in
       omega (arith, h, h')
   lay_work (branch a b c) n test rest =
-      let tail = lay slots c (suc (suc (n + labels a + labels b))) test (Label (suc n) ∷ rest) in
-      let h'' = lay_work c (suc (suc (n + labels a + labels b))) test (Label (suc n) ∷ rest) in
-      let h' = lay_work b (suc (suc (n + labels a))) test (Jump (suc n) ∷ (Label n ∷ tail)) in
-      let h = lay_work a (suc (suc n)) (Some n) (lay slots b (suc (suc (n + labels a))) test (Jump (suc n) ∷ (Label n ∷ tail))) in
+      let tail = laid c (suc (suc (n + size a + size b))) test (Label (suc n) ∷ rest) in
+      let h'' = lay_work c (suc (suc (n + size a + size b))) test (Label (suc n) ∷ rest) in
+      let h' = lay_work b (suc (suc (n + size a))) test (Jump (suc n) ∷ (Label n ∷ tail)) in
+      let h = lay_work a (suc (suc n)) (Some n) (laid b (suc (suc (n + size a))) test (Jump (suc n) ∷ (Label n ∷ tail))) in
       omega (arith, h, h', h'')
   lay_work (return e) n test rest = let h = lay_work e n None (Mark mark.Return ∷ (Return ∷ rest)) in omega (arith, h)
   lay_work (end e) n test rest = let h = lay_work e n None (End ∷ rest) in omega (arith, h)
-  lay_work (fix members e) n test rest = let h = lay_work e n test rest in let k = members_kept slots.place members in omega (arith, h, k)
+  lay_work (fix members e) n test rest =
+      let h = lay_work e n test rest in
+      let k = members_kept (own_slot base) members in
+      let s = ap instructions_size (no_region_stores (own_slots base) (member_variables members) (laid e n test rest)) in
+      omega (arith, h, k, s)
   lay_work (call a restores) n test rest =
-      let h = prepared_work false a (Mark (mark.Call a.site) ∷ (Call a.spread (length a.operands) ∷ restored slots.home (leave test rest))) in
-      let k = restored_work slots.home (leave test rest) in
+      let h = prepared_work false a (Mark (mark.Call a.site) ∷ (Call a.spread (length a.operands) ∷ loaded (own_slots base) (saved_round entered) (leave test rest))) in
+      let k = loaded_work base entered (leave test rest) in
       let l = leave_work test rest in
       omega (arith, h, k, l)
   lay_work (tail_call a) n test rest = let h = prepared_work true a (Mark (mark.Tail a.site) ∷ (Tail a.spread (length a.operands) ∷ rest)) in omega (arith, h)
   lay_work (save saves e) n test rest = let h = lay_work e n test rest in omega (arith, h)
 
-  lay_size : (e : Expression) (n : ℕ) (test : Option ℕ) (rest : List Instruction) → length (lay slots e n test rest) ≤ 3 * nodes e + 2 * call_parts e + length rest
+  lay_size : (e : Expression) (n : ℕ) (test : Option ℕ) (rest : List Instruction) → length (laid e n test rest) ≤ 3 * nodes e + 2 * call_parts e + length rest
   lay_size (perform o) n test rest = let h = leave_size test rest in omega (arith, h)
   lay_size (bind x a b) n test rest =
-      let h = lay_size a n None (Store (slots.place x) ∷ lay slots b (n + labels a) test rest) in
-      let h' = lay_size b (n + labels a) test rest in
+      let h = lay_size a n None (Store (own_slot base x) ∷ laid b (n + size a) test rest) in
+      let h' = lay_size b (n + size a) test rest in
       omega (arith, h, h')
   lay_size (sequence a b) n test rest =
-      let h = lay_size a n None (lay slots b (n + labels a) test rest) in
-      let h' = lay_size b (n + labels a) test rest in
+      let h = lay_size a n None (laid b (n + size a) test rest) in
+      let h' = lay_size b (n + size a) test rest in
       omega (arith, h, h')
   lay_size (branch a b c) n test rest =
-      let tail = lay slots c (suc (suc (n + labels a + labels b))) test (Label (suc n) ∷ rest) in
-      let h'' = lay_size c (suc (suc (n + labels a + labels b))) test (Label (suc n) ∷ rest) in
-      let h' = lay_size b (suc (suc (n + labels a))) test (Jump (suc n) ∷ (Label n ∷ tail)) in
-      let h = lay_size a (suc (suc n)) (Some n) (lay slots b (suc (suc (n + labels a))) test (Jump (suc n) ∷ (Label n ∷ tail))) in
+      let tail = laid c (suc (suc (n + size a + size b))) test (Label (suc n) ∷ rest) in
+      let h'' = lay_size c (suc (suc (n + size a + size b))) test (Label (suc n) ∷ rest) in
+      let h' = lay_size b (suc (suc (n + size a))) test (Jump (suc n) ∷ (Label n ∷ tail)) in
+      let h = lay_size a (suc (suc n)) (Some n) (laid b (suc (suc (n + size a))) test (Jump (suc n) ∷ (Label n ∷ tail))) in
       omega (arith, h, h', h'')
   lay_size (return e) n test rest = let h = lay_size e n None (Mark mark.Return ∷ (Return ∷ rest)) in omega (arith, h)
   lay_size (end e) n test rest = let h = lay_size e n None (End ∷ rest) in omega (arith, h)
-  lay_size (fix members e) n test rest = let h = lay_size e n test rest in omega (arith, h)
+  lay_size (fix members e) n test rest =
+      let h = lay_size e n test rest in
+      let s = ap length (no_region_stores (own_slots base) (member_variables members) (laid e n test rest)) in
+      omega (arith, h, s)
   lay_size (call a restores) n test rest =
-      let h = prepared_size false a (Mark (mark.Call a.site) ∷ (Call a.spread (length a.operands) ∷ restored slots.home (leave test rest))) in
-      let k = restored_size slots.home (leave test rest) in
+      let h = prepared_size false a (Mark (mark.Call a.site) ∷ (Call a.spread (length a.operands) ∷ loaded (own_slots base) (saved_round entered) (leave test rest))) in
+      let k = loaded_size base entered (leave test rest) in
       let l = leave_size test rest in
       omega (arith, h, k, l)
   lay_size (tail_call a) n test rest = let h = prepared_size true a (Mark (mark.Tail a.site) ∷ (Tail a.spread (length a.operands) ∷ rest)) in omega (arith, h)
@@ -195,29 +212,33 @@ arrivals_work : (base count from : ℕ) (rest : List Instruction) → instructio
 arrivals_work base zero from rest = omega arith
 arrivals_work base (suc count) from rest = let h = arrivals_work base count (suc from) rest in omega (arith, h)
 
-entering_work : (base : ℕ) (entry : Option Entry) (rest : List Instruction) → instructions_size (entering base entry rest) ≡ entry_size entry + instructions_size rest
+entering_work : (base : ℕ) (entry : Option Entry) (rest : List Instruction)
+    → instructions_size (entering base entry (stored (own_slots base) (saved_round (is_entered entry)) rest)) ≡ entry_size entry + instructions_size rest
 entering_work base None rest = omega arith
-entering_work base (Some e) rest = let h = arrivals_work base e.formals 0 rest in omega (arith, h)
+entering_work base (Some e) rest = let h = arrivals_work base e.formals 0 (Copy (Slot base) link_register ∷ rest) in omega (arith, h)
 
-pub slots_work : (c : control.Code) → instructions_size (slots_layout c) ≤ 2 * expression_size c.expression + 4 * call_parts c.expression + entry_size c.entry
-slots_work c =
-    let h = lay_work (slots_for c) c.expression 0 None [] in
-    let k = entering_work (slots_base c) c.entry (lay (slots_for c) c.expression 0 None []) in
-    omega (arith, h, k)
+pub slots_work : (c : control.Code) → binds 0 c.expression ≡ false → instructions_size (slots_layout c) ≤ 2 * expression_size c.expression + 4 * call_parts c.expression + entry_size c.entry
+slots_work c u =
+    let h = lay_work (slots_base c) (is_entered c.entry) c.expression 0 None [] in
+    let k = entering_work (slots_base c) c.entry (laid (slots_base c) (is_entered c.entry) c.expression 0 None []) in
+    let e = ap instructions_size (slots_written c u) in
+    omega (arith, h, k, e)
 
 arrivals_size : (base count from : ℕ) (rest : List Instruction) → length (arrivals base from count rest) ≡ count + length rest
 arrivals_size base zero from rest = omega arith
 arrivals_size base (suc count) from rest = let h = arrivals_size base count (suc from) rest in omega (arith, h)
 
-entering_size : (base : ℕ) (entry : Option Entry) (rest : List Instruction) → length (entering base entry rest) ≤ formals_of entry + 2 + length rest
+entering_size : (base : ℕ) (entry : Option Entry) (rest : List Instruction)
+    → length (entering base entry (stored (own_slots base) (saved_round (is_entered entry)) rest)) ≤ formals_of entry + 2 + length rest
 entering_size base None rest = omega arith
-entering_size base (Some e) rest = let h = arrivals_size base e.formals 0 rest in omega (arith, h)
+entering_size base (Some e) rest = let h = arrivals_size base e.formals 0 (Copy (Slot base) link_register ∷ rest) in omega (arith, h)
 
-pub slots_size : (c : control.Code) → length (slots_layout c) ≤ 3 * nodes c.expression + 2 * call_parts c.expression + (formals_of c.entry + 2)
-slots_size c =
-    let h = lay_size (slots_for c) c.expression 0 None [] in
-    let k = entering_size (slots_base c) c.entry (lay (slots_for c) c.expression 0 None []) in
-    omega (arith, h, k)
+pub slots_size : (c : control.Code) → binds 0 c.expression ≡ false → length (slots_layout c) ≤ 3 * nodes c.expression + 2 * call_parts c.expression + (formals_of c.entry + 2)
+slots_size c u =
+    let h = lay_size (slots_base c) (is_entered c.entry) c.expression 0 None [] in
+    let k = entering_size (slots_base c) c.entry (laid (slots_base c) (is_entered c.entry) c.expression 0 None []) in
+    let e = ap length (slots_written c u) in
+    omega (arith, h, k, e)
 
 pub labels_size : (e : Expression) → labels e ≤ 2 * nodes e
 labels_size (perform o) = omega arith

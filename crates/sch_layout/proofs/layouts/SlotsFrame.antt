@@ -1,25 +1,29 @@
 -- The layout with a slot for each variable is a valid frame body of its body.
-use Rattle.std.proofs.Common.{◌≡◌, ℕ, zero, suc, ◌+◌, ◌-◌, ◌≤◌, List, [], Option, Some, None, Bool, true, false, refl, ap, ◌∙◌, arith}
+use Rattle.std.proofs.Common.{◌≡◌, ℕ, zero, suc, ◌+◌, ◌-◌, ◌≤◌, List, [], Option, Some, None, true, false, refl, sym, ap, ◌∙◌, subst, arith}
 use Rattle.std.specs.Prelude.{nat_lt}
 use Rattle.std.specs.List.{list_all}
 use Rattle.std.proofs.Math.Nat.{le-max_left, le-max_right, max-le}
 use Rattle.std.proofs.lemmas.Bool.{and_parts, and_from, le-leb, leb-true, lt-ltb}
 use Rattle.sch_word.specs.trees.Shape.{max_operands}
 use Rattle.sch_control.specs.declared.body.Entry.{Entry}
-use Rattle.sch_control.specs.Meaning.{nothing, falls_off}
+use Rattle.sch_word.specs.values.Values.{Value}
+use Rattle.sch_control.specs.Meaning.{binds, falls_off, no_region, nothing}
 use Rattle.sch_control.specs.Run as control_run
 use Rattle.sch_control.specs.Tree as control
 use Rattle.sch_control.specs.Tree.{Expression, perform, bind, sequence, branch, fix, call, tail_call, return, end, save}
 use Rattle.sch_control.specs.Valid.{shaped as expression_shaped, first_bound, in_scope_whole, numbered, ended, shaped_whole, entry_shaped, without_repeats}
 use Rattle.sch_frames.specs.declared.instruction.Instruction.{Instruction}
-use Rattle.sch_frames.specs.Does.{FrameOf, world}
+use Rattle.sch_frames.specs.Does.{EndsAs, FrameOf, world}
+use Rattle.sch_frames.specs.Meaning.{execute_each}
 use Rattle.sch_frames.specs.Valid.{is_place, placed, forward, shaped, formals_of, labels_in, jumps_ahead, instruction_placed, instruction_shaped, instruction_known, is_entered}
-use Rattle.sch_layout.specs.BodyLayout.{labels, lay, restored}
-use Rattle.sch_layout.specs.OwnSlots.{own_slot, home_of, most_operands, arrivals, entering, slots_base, slots_for, slots_words, slots_layout, slots_code}
+use Rattle.sch_layout.specs.BodyLayout.{is_slot, labels, lay}
+use Rattle.sch_layout.specs.OwnSlots.{own_slot, most_operands, arrivals, entering, saved_round, saved_tree, slots_base, slots_for, slots_words, slots_layout, slots_code}
+use Rattle.sch_layout.proofs.SavedTree.{restoring_labels, restoring_operands, restoring_uses}
+use Rattle.sch_layout.proofs.does.SavedRound.{behind_unbound, does_saved}
 use Rattle.sch_layout.proofs.does.PlacesAgree.{Behind, Uses, Within}
 use Rattle.sch_layout.proofs.does.EntryStores.{own_apart, enters, entering_placed, entering_passes}
 use Rattle.sch_layout.proofs.layouts.LabelsOnce.{Right, right, lay_below}
-use Rattle.sch_layout.proofs.layouts.InstructionTests.{Roomy, lay_passes, placed_steers, uses_placed, shaped_steers, parts_shaped, known_steers, parts_named}
+use Rattle.sch_layout.proofs.layouts.InstructionTests.{Roomy, tree_passes, placed_steers, placed_carries, uses_placed, shaped_steers, unplaced_shaped, unplaced_known, unplaced_carries, parts_shaped, known_steers, parts_named}
 use Rattle.sch_layout.proofs.does.LayoutDoes.{same}
 use Rattle.sch_layout.proofs.layouts.VariablesUsed.{Numbered, numbered_is, code_uses}
 
@@ -83,10 +87,14 @@ module _ (c : control.Code) (scoped : in_scope_whole c ≡ true) (counted : numb
   operands_fit = le-max_right (formals_of c.entry - 6) (most_operands c.expression)
 
   roomy : Roomy (slots_for c) (slots_words c) (most_operands c.expression)
-  roomy = record { aside = let h = operands_fit in omega (arith, h); back = by (is_entered c.entry) } where
-    by : (entered : Bool) (rest : List Instruction) → list_all (instruction_placed (slots_words c)) rest ≡ true → list_all (instruction_placed (slots_words c)) (restored (home_of entered (slots_base c)) rest) ≡ true
-    by true rest h = let two = first_two in and_from _ _ (lt-ltb (slots_base c) (slots_words c) (omega (arith, two))) h
-    by false rest h = h
+  roomy = record { aside = let h = operands_fit in omega (arith, h); lives = lives; home = λ x s. lt-ltb (slots_base c) (slots_words c) (let two = first_two in omega (arith, two)) } where
+    lives : (x : ℕ) → is_slot (own_slot (slots_base c) x) ≡ false → is_place (slots_words c) (own_slot (slots_base c) x) ≡ true
+    lives zero s = refl
+    lives (suc x) s = absurd (cc)
+
+  -- the return address is not bound
+  pub unbound : binds 0 c.expression ≡ false
+  unbound = behind_unbound c.expression uses_behind
 
   pub slots_placed : shaped_whole c ≡ true → placed c.entry (slots_words c) (slots_layout c) ≡ true
   slots_placed h =
@@ -97,22 +105,33 @@ module _ (c : control.Code) (scoped : in_scope_whole c ≡ true) (counted : numb
       and_from _ _ (le-leb (slots_words c) 2048 (omega (arith, both, variables)))
       (and_from _ _ (le-leb (formals_of c.entry) (6 + slots_words c) (omega (arith, fit)))
       (entering_placed c.entry (slots_base c) (slots_words c) _ fit (omega (arith, two))
-      (lay_passes (slots_for c) (instruction_placed (slots_words c)) (placed_steers _) c.expression
+      (tree_passes (slots_for c) (instruction_placed (slots_words c)) (placed_steers _)
+      (placed_carries (slots_for c) (slots_words c) (most_operands c.expression) (Within c.variables) (λ x w. own_placed (slots_base c) c.variables (slots_words c) x (omega arith) w) roomy)
+      (is_entered c.entry) c.expression
       (uses_placed (slots_for c) (slots_words c) (most_operands c.expression) (Within c.variables) (λ x w. own_placed (slots_base c) c.variables (slots_words c) x (omega arith) w) roomy
-      c.expression (omega arith) uses)
-      0 None [] refl)))
+      c.expression (omega arith) uses))))
+
+  -- a form has no return address
+  begins_without : (entry : Option Entry) (self : Value) (arguments : List Value) → is_entered entry ≡ false → control_run.beginning entry self arguments 0 ≡ None
+  begins_without None self arguments e = refl
+  begins_without (Some e) self arguments h = absurd (cc)
 
   pub slots_does : ended c ≡ true → FrameOf c (slots_code c)
   slots_does bare = record {
     entry = refl;
     does = λ callee callee' follow depth self arguments l state marks marks'.
         enters c.entry (slots_base c) formals_fit self arguments l callee' depth _ (world state marks') _
-        (λ f a. same (slots_for c) (slots_base c) (own_apart (slots_base c) (is_entered c.entry)) callee callee' follow depth
-        c.expression (and_parts _ _ bare).0 uses_behind operands_fit 0 None [] tt
-        (control_run.beginning c.entry self arguments) nothing f state marks marks' falls_off a (λ v environment saved f s marks marks' r e. tt));
+        (λ f a. subst (λ r. EndsAs r (execute_each callee' depth (lay (slots_for c) (saved_tree (is_entered c.entry) c.expression) no_region 0 None []) None f (world state marks')))
+        (sym (does_saved (slots_base c) (is_entered c.entry) callee depth c.expression (and_parts _ _ bare).0 unbound (control_run.beginning c.entry self arguments)
+        (begins_without c.entry self arguments) (world state marks) falls_off (λ v environment saved saved' w. refl)))
+        (same (slots_for c) (slots_base c) (own_apart (slots_base c)) callee callee' follow depth
+        (saved_tree (is_entered c.entry) c.expression) no_region (restoring_uses Behind (saved_round (is_entered c.entry)) c.expression uses_behind)
+        (let fit = operands_fit in subst (λ n. 0 + n ≤ slots_base c) (sym (restoring_operands (saved_round (is_entered c.entry)) c.expression)) (omega (arith, fit))) 0 None [] tt
+        (control_run.beginning c.entry self arguments) nothing f state marks marks' falls_off a (λ v environment saved f s marks marks' r e. tt)));
     names = λ names h.
         entering_passes (instruction_known names) (λ to from. refl) c.entry (slots_base c) _
-        (lay_passes (slots_for c) (instruction_known names) (known_steers names) c.expression (parts_named (slots_for c) names c.expression h) 0 None [] refl);
+        (tree_passes (slots_for c) (instruction_known names) (known_steers names) (unplaced_carries (slots_for c) (instruction_known names) (known_steers names) (unplaced_known names))
+        (is_entered c.entry) c.expression (parts_named (slots_for c) names c.expression h));
   }
 
 -- ## Labels
@@ -135,11 +154,13 @@ entering_ahead base (Some e) rest = arrivals_ahead base e.formals 0 rest
 
 pub slots_forward : (c : control.Code) → forward (labels c.expression) (slots_layout c) ≡ true
 slots_forward c =
-    let laid = lay (slots_for c) c.expression 0 None [] in
-    let r : Right (slots_for c) laid = right (slots_for c) c.expression 0 None [] (λ l h h'. refl) tt (record { once = refl; ahead = refl }) in
+    let tree = saved_tree (is_entered c.entry) c.expression in
+    let laid = lay (slots_for c) tree no_region 0 None [] in
+    let r : Right (slots_for c) laid = right (slots_for c) tree no_region 0 None [] (λ l h h'. refl) tt (record { once = refl; ahead = refl }) in
     let e = entering_labels (slots_base c) c.entry laid in
+    let few = restoring_labels (saved_round (is_entered c.entry)) c.expression in
     and_from _ _
-    (ap (list_all (λ l. nat_lt l (labels c.expression))) e ∙ lay_below (slots_for c) c.expression 0 None [] (labels c.expression) (omega arith) refl)
+    (ap (list_all (λ l. nat_lt l (labels c.expression))) e ∙ lay_below (slots_for c) tree no_region 0 None [] (labels c.expression) (omega (arith, few)) refl)
     (and_from _ _ (ap without_repeats e ∙ r.once) (entering_ahead (slots_base c) c.entry laid ∙ r.ahead))
 
 -- ## Shape
@@ -149,4 +170,5 @@ slots_shaped c h =
     let parts = and_parts _ _ h in
     and_from _ _ parts.0
     (entering_passes instruction_shaped (λ to from. refl) c.entry (slots_base c) _
-    (lay_passes (slots_for c) instruction_shaped shaped_steers c.expression (parts_shaped (slots_for c) c.expression parts.1) 0 None [] refl))
+    (tree_passes (slots_for c) instruction_shaped shaped_steers (unplaced_carries (slots_for c) instruction_shaped shaped_steers unplaced_shaped)
+    (is_entered c.entry) c.expression (parts_shaped (slots_for c) c.expression parts.1)))

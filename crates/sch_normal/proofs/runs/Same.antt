@@ -34,7 +34,7 @@ use Rattle.sch_control.specs.Tree as tree
 use Rattle.sch_control.specs.Operations.{Procedure, operand_value, operand_values, part_values, source_value, source_values, operate, members_made, member_bytes, with_procedures}
 use Rattle.sch_control.specs.Operations as operations
 use Rattle.sch_control.specs.Meaning as to
-use Rattle.sch_control.specs.Meaning.{World, Result, Then, Callee, plain, no_region, marked, with_value, on_outcome, on_return, call_in, put, put_each, put_inside, note_members}
+use Rattle.sch_control.specs.Meaning.{World, Result, Then, Callee, plain, no_region, marked, with_value, on_outcome, on_return, call_in, put, put_each, put_inside, mark_members}
 use Rattle.sch_normal.specs.Normal.{Scope, number_of, source_of, is_simple, simple_operand, operand_at, operands_at, operand_binds, part_binds, operands_bind, inits_bind, init_numbers, numbers_for, binds, needs_variable, finished, called, bound_unless, normal, normal_parts, with_operands, with_inits, with_new_cells, cell_operation, closure_of, members_of, bound_places, operator_place}
 use Rattle.sch_normal.specs.Normal as normal
 use Rattle.sch_normal.proofs.runs.Orders.{and_left, and_right, Parts}
@@ -436,7 +436,7 @@ module _ (a : Setting) (start : State Closure) (fields : ℕ) (enter : from.Ente
   none_inside saved (m ∷ members) [] = refl
   none_inside saved (m ∷ members) (v ∷ vs) = none_inside saved members vs
 
-  none_noted : (members : List (Member ℕ)) (w : World) → note_members plain no_region members w ≡ w
+  none_noted : (members : List (Member ℕ)) (w : World) → mark_members plain no_region members w ≡ w
   none_noted [] w = refl
   none_noted (m ∷ members) w = none_noted members w
 
@@ -462,7 +462,7 @@ module _ (a : Setting) (start : State Closure) (fields : ℕ) (enter : from.Ente
   abbrev Grouped : (x : Expression) → List (Member ℕ) → to.Environment → (saved : to.Environment) → State Procedure → List MarkKind → Then → List Value → Result
   Grouped x members environment saved t marks next vs =
       with_value (with_procedures t (members_made (put_each environment members vs) t members))
-      (λ u. to.evaluate plain callee depth x no_region (put_each environment members vs) (put_inside no_region saved members vs) (note_members plain no_region members (record { state = u; marks = marks })) next)
+      (λ u. to.evaluate plain callee depth x no_region (put_each environment members vs) (put_inside no_region saved members vs) (mark_members plain no_region members (record { state = u; marks = marks })) next)
 
   grouped : (x : Expression) (members : List (Member ℕ)) (environment saved : to.Environment) (t : State Procedure) (marks : List MarkKind) (next : Then) (vs : List Value) (made : List Procedure) → members_made (put_each environment members vs) t members ≡ Some made
       → Grouped x members environment saved t marks next vs ≡ result x (put_each environment members vs) saved (record { state = record { cells = t.cells; store = t.store; procedures = t.procedures ++ made }; marks = marks }) next

@@ -21,7 +21,7 @@ use Rattle.sch_frames.specs.Meaning.{if_link, link_register, closure_register}
 use Rattle.sch_insn.specs.declared.condition.TheConstants.{E, NE}
 use Rattle.sch_insn.specs.declared.insn.Arg.TheVariants as arg
 use Rattle.sch_insn.specs.declared.insn.Insn.TheVariants.{MovNumber, AddNumber, SubNumber, CmpNumber, JumpTo}
-use Rattle.sch_insn.specs.declared.machine.Flags.{Flags}
+use Rattle.sch_insn.specs.declared.state.Flags.{Flags}
 use Rattle.sch_insn.specs.Machine.{set_register, add64, sub64, bits_of, difference_of, sum_of, condition}
 use Rattle.sch_insn.proofs.Conditions.{compared_e, compared_ne}
 use Rattle.sch_insn.proofs.Paths.{leads_here, leads_on, leads_then}
@@ -36,15 +36,15 @@ use Rattle.sch_asm.proofs.EachItem.{goes, branches, loads_label, loads_word}
 use Rattle.sch_heap.specs.Parts.{Parts}
 use Rattle.sch_heap.specs.Encoded.{IsWord}
 use Rattle.sch_heap.proofs.Encodings.{procedure_tested}
-use Rattle.sch_own_routines.specs.ItemMarks.{kind_of}
-use Rattle.sch_own_routines.specs.Addresses.{stop_label}
+use Rattle.sch_places.specs.ItemMarks.{kind_of}
+use Rattle.sch_places.specs.Addresses.{stop_label}
 use Rattle.sch_operations.specs.CallCode.{check_operator, check_depth, enter_code, open_code, close_code, call_code}
 use Rattle.sch_operations.specs.CallCode.{tail_code}
-use Rattle.sch_own_routines.proofs.simulation.Straight.{Kept, kept_set, kept_then, moved_to, Halts, Masked, masked}
-use Rattle.sch_own_routines.proofs.simulation.Straight.{tagged, by_7}
-use Rattle.sch_own_routines.proofs.simulation.Places.{Plan, code_of, Room, Activation, PlacesAt, Holds, held_value}
-use Rattle.sch_own_routines.proofs.simulation.Places.{holds_words}
-use Rattle.sch_own_routines.proofs.simulation.HeapWrites.{heap_inside}
+use Rattle.sch_places.proofs.Straight.{Kept, kept_set, kept_then, moved_to, Halts, Masked, masked}
+use Rattle.sch_places.proofs.Straight.{tagged, by_7}
+use Rattle.sch_places.proofs.Places.{Plan, code_of, Room, Activation, PlacesAt, Holds, held_value}
+use Rattle.sch_places.proofs.Places.{holds_words}
+use Rattle.sch_places.proofs.HeapWrites.{heap_inside}
 use Rattle.sch_own_routines.proofs.simulation.Outcomes.{Ends, Goes_on, Sim, Laid, after, ends_after, goes_on_after}
 use Rattle.sch_own_routines.proofs.simulation.Outcomes.{stops_here}
 use Rattle.sch_primitives.proofs.simulation.Operations.{FrameOf, StoreOf, Rest, onward}

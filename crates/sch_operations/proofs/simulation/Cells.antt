@@ -18,7 +18,7 @@ use Rattle.sch_frames.specs.Meaning.{Frame, Is, held}
 use Rattle.sch_insn.specs.declared.condition.TheConstants.{E, NE}
 use Rattle.sch_insn.specs.declared.insn.Arg.TheVariants.{Reg, Base32}
 use Rattle.sch_insn.specs.declared.insn.Insn.TheVariants.{MovTo, MovFrom, MovNumber, AddNumber, CmpNumber}
-use Rattle.sch_insn.specs.declared.machine.Flags.{Flags}
+use Rattle.sch_insn.specs.declared.state.Flags.{Flags}
 use Rattle.sch_insn.specs.Machine.{set_register, sum_of, bits_of, difference_of, condition, add64, word}
 use Rattle.sch_insn.proofs.Conditions.{compared_e, compared_ne}
 use Rattle.sch_insn.proofs.Paths.{leads_on, leads_here}
@@ -38,19 +38,19 @@ use Rattle.sch_heap.proofs.Spots.{spot_within, spot_newest}
 use Rattle.sch_heap.proofs.Encodings.{fits, is_cell, cell_tested, unset_tested}
 use Rattle.sch_heap.proofs.Contents.{words_stay, held_words, held_fits, cell_taken, cell_there}
 use Rattle.sch_heap.proofs.Elements.{get_there}
-use Rattle.sch_own_routines.specs.ItemMarks.{kind_of}
-use Rattle.sch_own_routines.specs.Addresses.{stop_label, part_operand}
+use Rattle.sch_places.specs.ItemMarks.{kind_of}
+use Rattle.sch_places.specs.Addresses.{stop_label, part_operand}
 use Rattle.sch_operations.specs.CellCode.{source_code, check_cell, cell_operand}
 use Rattle.sch_primitives.specs.ObjectCode.{check_heap, part_code}
 use Rattle.sch_operations.specs.OperationCode.{operation_code}
-use Rattle.sch_own_routines.proofs.simulation.Straight.{halts_after, Halts, Kept, kept_set, kept_then, moved_to}
-use Rattle.sch_own_routines.proofs.simulation.Straight.{Masked, masked, tagged, by_7, is_one}
-use Rattle.sch_own_routines.proofs.simulation.Places.{Plan, heap_above, Activation, StoreAt, PlacesAt}
-use Rattle.sch_own_routines.proofs.simulation.Places.{places_kept}
+use Rattle.sch_places.proofs.Straight.{halts_after, Halts, Kept, kept_set, kept_then, moved_to}
+use Rattle.sch_places.proofs.Straight.{Masked, masked, tagged, by_7, is_one}
+use Rattle.sch_places.proofs.Places.{Plan, heap_above, Activation, StoreAt, PlacesAt}
+use Rattle.sch_places.proofs.Places.{places_kept}
 use Rattle.sch_primitives.proofs.simulation.Operands.{Reads, operand_here, free_scratch}
-use Rattle.sch_own_routines.proofs.simulation.HeapWrites.{one_cell, Wrote, other_word, wrote_one, store_wrote}
-use Rattle.sch_own_routines.proofs.simulation.HeapWrites.{heap_inside, places_wrote, places_grown, store_grown}
-use Rattle.sch_own_routines.proofs.simulation.HeapWrites.{cell_written, room_tested}
+use Rattle.sch_places.proofs.HeapWrites.{one_cell, Wrote, other_word, wrote_one, store_wrote}
+use Rattle.sch_places.proofs.HeapWrites.{heap_inside, places_wrote, places_grown, store_grown}
+use Rattle.sch_places.proofs.HeapWrites.{cell_written, room_tested}
 use Rattle.sch_operations.proofs.simulation.Sources.{Sources, source_here}
 use Rattle.sch_primitives.proofs.objects.HeapTests.{Tested, room_here}
 use Rattle.sch_own_routines.proofs.simulation.Outcomes.{after, Laid, stops_here}

@@ -39,16 +39,16 @@ use Rattle.sch_heap.specs.Encoded.{IsWord}
 use Rattle.sch_heap.specs.Heap.{RecordAt, AreNew}
 use Rattle.sch_heap.proofs.Spots.{spot_stays, spot_newest}
 use Rattle.sch_heap.proofs.Contents.{words_stay, procedure_taken}
-use Rattle.sch_own_routines.specs.ItemMarks.{kind_of}
+use Rattle.sch_places.specs.ItemMarks.{kind_of}
 use Rattle.sch_primitives.specs.ObjectCode.{part_code}
 use Rattle.sch_operations.specs.ClosureCode.{record_code, closure_bytes, group_bytes, places_code, records_code}
 use Rattle.sch_operations.specs.ClosureCode.{group_code}
 use Rattle.sch_operations.specs.OperationCode.{operation_code}
-use Rattle.sch_own_routines.proofs.simulation.Straight.{Halts, kept_set, kept_then, moved_to, is_one}
-use Rattle.sch_own_routines.proofs.simulation.Places.{Plan, code_of, heap_above, Activation, StoreAt, PlacesAt}
-use Rattle.sch_own_routines.proofs.simulation.Places.{places_kept, Holds, holds_words, written}
-use Rattle.sch_own_routines.proofs.simulation.HeapWrites.{one_procedure, Wrote, other_word, wrote_within, store_wrote}
-use Rattle.sch_own_routines.proofs.simulation.HeapWrites.{places_wrote, places_grown, store_grown, room_tested}
+use Rattle.sch_places.proofs.Straight.{Halts, kept_set, kept_then, moved_to, is_one}
+use Rattle.sch_places.proofs.Places.{Plan, code_of, heap_above, Activation, StoreAt, PlacesAt}
+use Rattle.sch_places.proofs.Places.{places_kept, Holds, holds_words, written}
+use Rattle.sch_places.proofs.HeapWrites.{one_procedure, Wrote, other_word, wrote_within, store_wrote}
+use Rattle.sch_places.proofs.HeapWrites.{places_wrote, places_grown, store_grown, room_tested}
 use Rattle.sch_primitives.proofs.objects.HeapTests.{HasRoom, Tested, room_here}
 use Rattle.sch_operations.proofs.simulation.Records.{group_no_objects, more_of, bytes_are, fields_fit, values_count, group_parts}
 use Rattle.sch_operations.proofs.simulation.Records.{group_units, AreSpots, group_spots, group_new, recorded, records_made}

@@ -15,9 +15,9 @@ use Rattle.sch_asm.specs.declared.item.Item.{Item}
 use Rattle.sch_asm.specs.declared.item.MarkKind.{MarkKind}
 use Rattle.sch_asm.specs.Views.{View}
 use Rattle.sch_heap.specs.Parts.{Parts}
-use Rattle.sch_own_routines.specs.ItemMarks.{kind_of}
+use Rattle.sch_places.specs.ItemMarks.{kind_of}
 use Rattle.sch_operations.specs.OperationCode.{operation_code}
-use Rattle.sch_own_routines.proofs.simulation.Places.{Plan, Activation}
+use Rattle.sch_places.proofs.Places.{Plan, Activation}
 use Rattle.sch_own_routines.proofs.simulation.Outcomes.{Laid}
 use Rattle.sch_primitives.proofs.simulation.Operations.{Std, FrameOf, StoreOf, SimOf, Rest, next_of, comes_scratch}
 use Rattle.sch_primitives.proofs.simulation.Operations.{comes_sim, operand_sim, global_here, set_sim}

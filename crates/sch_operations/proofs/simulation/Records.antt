@@ -32,13 +32,13 @@ use Rattle.sch_heap.specs.Heap.{RecordAt, AreNew, field_address}
 use Rattle.sch_heap.proofs.Spots.{spot_newest, end_grown}
 use Rattle.sch_heap.proofs.Encodings.{fits}
 use Rattle.sch_heap.proofs.Contents.{NoObjects, Stay, procedure_taken}
-use Rattle.sch_own_routines.specs.Addresses.{body_label, part_operand}
+use Rattle.sch_places.specs.Addresses.{body_label, part_operand}
 use Rattle.sch_operations.specs.ClosureCode.{fields_code, record_code, closure_bytes, group_bytes, records_code}
-use Rattle.sch_own_routines.proofs.simulation.Straight.{Kept, kept_set, kept_then, moved_to, is_one}
-use Rattle.sch_own_routines.proofs.simulation.Places.{Plan, code_of, heap_above, Activation, StoreAt, PlacesAt}
-use Rattle.sch_own_routines.proofs.simulation.Places.{places_kept}
-use Rattle.sch_own_routines.proofs.simulation.HeapWrites.{Wrote, other_word, wrote_none, wrote_one, wrote_then}
-use Rattle.sch_own_routines.proofs.simulation.HeapWrites.{wrote_within, store_wrote, heap_inside, places_wrote}
+use Rattle.sch_places.proofs.Straight.{Kept, kept_set, kept_then, moved_to, is_one}
+use Rattle.sch_places.proofs.Places.{Plan, code_of, heap_above, Activation, StoreAt, PlacesAt}
+use Rattle.sch_places.proofs.Places.{places_kept}
+use Rattle.sch_places.proofs.HeapWrites.{Wrote, other_word, wrote_none, wrote_one, wrote_then}
+use Rattle.sch_places.proofs.HeapWrites.{wrote_within, store_wrote, heap_inside, places_wrote}
 use Rattle.sch_operations.proofs.simulation.Sources.{Sourced, Sources, source_here}
 use Rattle.sch_operations.proofs.simulation.Cells.{one_scratch}
 use Rattle.sch_primitives.proofs.simulation.Selected.{source_selected, closure_selected, members_selected}

@@ -29,10 +29,10 @@ use Rattle.sch_heap.specs.Heap.{field_address}
 use Rattle.sch_heap.proofs.Spots.{spot_within}
 use Rattle.sch_heap.proofs.Contents.{Stay, words_by}
 use Rattle.sch_operations.specs.CellCode.{source_code}
-use Rattle.sch_own_routines.proofs.simulation.Straight.{is_one, set_one, Kept, kept_set, kept_then, moved_to}
-use Rattle.sch_own_routines.proofs.simulation.Places.{Plan, Activation, StoreAt, PlacesAt, Holds, loaded}
+use Rattle.sch_places.proofs.Straight.{is_one, set_one, Kept, kept_set, kept_then, moved_to}
+use Rattle.sch_places.proofs.Places.{Plan, Activation, StoreAt, PlacesAt, Holds, loaded}
 use Rattle.sch_primitives.proofs.simulation.Operands.{Atomic, atomic}
-use Rattle.sch_own_routines.proofs.simulation.HeapWrites.{heap_inside}
+use Rattle.sch_places.proofs.HeapWrites.{heap_inside}
 use Rattle.sch_primitives.proofs.simulation.Selected.{source_selected}
 
 -- the procedure whose field is read

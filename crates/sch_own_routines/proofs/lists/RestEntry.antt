@@ -12,9 +12,9 @@ use Rattle.sch_asm.specs.declared.item.MarkKind.{MarkKind}
 use Rattle.sch_asm.specs.Stands.{Stands}
 use Rattle.sch_asm.specs.Views.{View}
 use Rattle.sch_heap.specs.Parts.{Parts}
-use Rattle.sch_own_routines.specs.ItemMarks.{kind_of}
+use Rattle.sch_places.specs.ItemMarks.{kind_of}
 use Rattle.sch_own_routines.specs.RestCode.{rest_routine, rest_entry}
-use Rattle.sch_own_routines.proofs.simulation.Places.{Plan, Activation, StoreAt, PlacesAt}
+use Rattle.sch_places.proofs.Places.{Plan, Activation, StoreAt, PlacesAt}
 use Rattle.sch_own_routines.proofs.simulation.Outcomes.{Sim, Laid, after, stops_here}
 use Rattle.sch_own_routines.proofs.lists.RestLoop.{changed}
 use Rattle.sch_own_routines.proofs.lists.Rests.{Begun, Fits, fitted}

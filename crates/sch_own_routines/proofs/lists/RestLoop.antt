@@ -7,7 +7,7 @@ use Rattle.sch_word.specs.values.Values.{Value}
 use Rattle.sch_insn.specs.declared.condition.TheConstants.{E}
 use Rattle.sch_insn.specs.declared.insn.Arg.TheVariants.{Reg}
 use Rattle.sch_insn.specs.declared.insn.Insn.TheVariants.{MovTo, AddNumber, SubNumber, JumpTo}
-use Rattle.sch_insn.specs.declared.machine.Flags.{Flags}
+use Rattle.sch_insn.specs.declared.state.Flags.{Flags}
 use Rattle.sch_insn.specs.Machine.{set_register, sum_of, difference_of, condition}
 use Rattle.sch_insn.proofs.Conditions.{compared_e}
 use Rattle.sch_insn.proofs.Paths.{leads_on}
@@ -21,13 +21,13 @@ use Rattle.sch_asm.proofs.Words.{word_same, word_other, size_kept}
 use Rattle.sch_heap.specs.Parts.{Parts}
 use Rattle.sch_heap.specs.Encoded.{IsWord}
 use Rattle.sch_heap.proofs.Encodings.{fits}
-use Rattle.sch_own_routines.specs.Addresses.{part_operand}
+use Rattle.sch_places.specs.Addresses.{part_operand}
 use Rattle.sch_own_routines.specs.RestCode.{one_less, next_pair, done_code, loop_code, slot_pair, loop_label}
 use Rattle.sch_own_routines.specs.RestCode.{done_label, slot_operand}
-use Rattle.sch_own_routines.proofs.simulation.Straight.{Kept, kept_set, kept_then}
-use Rattle.sch_own_routines.proofs.simulation.Places.{Plan, Activation}
-use Rattle.sch_own_routines.proofs.simulation.HeapWrites.{Wrote, wrote_one, wrote_then, wrote_within, other_word}
-use Rattle.sch_own_routines.proofs.simulation.HeapWrites.{heap_inside}
+use Rattle.sch_places.proofs.Straight.{Kept, kept_set, kept_then}
+use Rattle.sch_places.proofs.Places.{Plan, Activation}
+use Rattle.sch_places.proofs.HeapWrites.{Wrote, wrote_one, wrote_then, wrote_within, other_word}
+use Rattle.sch_places.proofs.HeapWrites.{heap_inside}
 
 -- a state with other registers, flags, bytes and at another place
 abbrev pub changed : View → (ℕ → ℕ) → Flags → (place : ℕ) → List ℕ → View

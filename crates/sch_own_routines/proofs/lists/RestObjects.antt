@@ -16,7 +16,7 @@ use Rattle.sch_heap.specs.Encoded.{IsWord, Words}
 use Rattle.sch_heap.specs.Heap.{ObjectAt, AreKinds, AreNew}
 use Rattle.sch_heap.proofs.Spots.{spot_newest, spot_other, end_grown, among}
 use Rattle.sch_heap.proofs.Contents.{KindsOf, objects_grow, objects_stay, each_of, words_stay, get_behind}
-use Rattle.sch_own_routines.proofs.simulation.Places.{Plan, code_of, Activation, StoreAt, store_changed}
+use Rattle.sch_places.proofs.Places.{Plan, code_of, Activation, StoreAt, store_changed}
 use Rattle.sch_own_routines.proofs.lists.RestLoop.{PairsFrom}
 use Rattle.sch_own_routines.proofs.lists.RestRegisters.{ListAt, list_word}
 

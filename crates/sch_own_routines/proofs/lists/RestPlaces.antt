@@ -6,10 +6,11 @@ use Rattle.std.proofs.lemmas.Bool.{ne_eqb, cases_lt}
 use Rattle.sch_word.specs.declared.place.Place.TheVariants.{Reg, Slot}
 use Rattle.sch_word.specs.values.Values.{Value}
 use Rattle.sch_frames.specs.Meaning.{Junk, cell_of, entry_places, argument_register, argument_slot, same_place}
+use Rattle.sch_frames.proofs.FramePlaces.{slot_of}
 use Rattle.sch_asm.specs.Views.{View}
 use Rattle.sch_heap.specs.Parts.{Parts}
 use Rattle.sch_heap.specs.Encoded.{IsWord, Words}
-use Rattle.sch_own_routines.proofs.simulation.Places.{Plan, Activation, PlacesAt, Holds, holds_words}
+use Rattle.sch_places.proofs.Places.{Plan, Activation, PlacesAt, Holds, holds_words}
 use Rattle.sch_own_routines.proofs.simulation.Entering.{each_register}
 use Rattle.sch_own_routines.proofs.lists.RestLoop.{is_loose}
 use Rattle.sch_own_routines.proofs.lists.RestRegisters.{Listed, list_word, word_of}
@@ -52,15 +53,6 @@ register_index (suc (suc (suc (suc (suc zero))))) r e =
     let is : 7 ≡ r = cc in (sym (ap index_of is), sym (ap is_loose is))
 register_index (suc (suc (suc (suc (suc (suc k)))))) r e = absurd (let bad : None ≡ Some r = e in cc)
 
-pub slot_index : (k : ℕ) → argument_register k ≡ None → k ≡ 6 + argument_slot k
-slot_index zero e = absurd (let bad : Some 3 ≡ None = e in cc)
-slot_index (suc zero) e = absurd (let bad : Some 8 ≡ None = e in cc)
-slot_index (suc (suc zero)) e = absurd (let bad : Some 9 ≡ None = e in cc)
-slot_index (suc (suc (suc zero))) e = absurd (let bad : Some 10 ≡ None = e in cc)
-slot_index (suc (suc (suc (suc zero)))) e = absurd (let bad : Some 6 ≡ None = e in cc)
-slot_index (suc (suc (suc (suc (suc zero))))) e = absurd (let bad : Some 7 ≡ None = e in cc)
-slot_index (suc (suc (suc (suc (suc (suc k)))))) e = omega arith
-
 -- the register of another argument
 other_register : (m k r : ℕ) → argument_register k ≡ Some r → (k ≡ m → ⊥)
     → same_place (argument_place m) (Reg r) ≡ false
@@ -80,7 +72,7 @@ other_slot m k i e ne at same = by (argument_register m) refl at
     by (Some q) f g = absurd (let bad : Reg q ≡ Slot i = g in cc)
     by None f g =
         let j : argument_slot m ≡ i = cc in
-        let a = slot_index k e in let b = slot_index m f in
+        let a = slot_of k e in let b = slot_of m f in
         ne (omega (arith, a, b, j, same))
 
 -- no argument is in these registers

@@ -12,7 +12,7 @@ use Rattle.sch_frames.specs.Meaning.{same_place}
 use Rattle.sch_insn.specs.declared.condition.TheConstants.{NE}
 use Rattle.sch_insn.specs.declared.insn.Arg.TheVariants as arg
 use Rattle.sch_insn.specs.declared.insn.Insn.TheVariants.{MovTo, MovFrom, MovNumber, AddNumber, CmpNumber, JumpTo}
-use Rattle.sch_insn.specs.declared.machine.Flags.{Flags}
+use Rattle.sch_insn.specs.declared.state.Flags.{Flags}
 use Rattle.sch_insn.specs.Machine.{set_register, sum_of, difference_of, condition}
 use Rattle.sch_insn.proofs.Conditions.{compared_ne}
 use Rattle.sch_insn.proofs.Paths.{leads_on}
@@ -26,13 +26,13 @@ use Rattle.sch_asm.proofs.Words.{word_same, word_other, size_kept}
 use Rattle.sch_heap.specs.Parts.{Parts}
 use Rattle.sch_heap.specs.Encoded.{IsWord}
 use Rattle.sch_heap.proofs.Encodings.{fits}
-use Rattle.sch_own_routines.specs.Addresses.{part_operand}
+use Rattle.sch_places.specs.Addresses.{part_operand}
 use Rattle.sch_own_routines.specs.RestCode.{next_pair, loop_code, loop_label, slots_code, more_label, registers_code}
 use Rattle.sch_own_routines.specs.RestCode.{first_code, first_slot_code, some_label, slot_operand}
-use Rattle.sch_own_routines.proofs.simulation.Straight.{Kept, kept_set, kept_then, set_one}
-use Rattle.sch_own_routines.proofs.simulation.Places.{Plan, Activation, StoreAt, store_kept}
-use Rattle.sch_own_routines.proofs.simulation.HeapWrites.{Wrote, wrote_one, wrote_then, wrote_within, other_word}
-use Rattle.sch_own_routines.proofs.simulation.HeapWrites.{heap_inside, store_wrote}
+use Rattle.sch_places.proofs.Straight.{Kept, kept_set, kept_then, set_one}
+use Rattle.sch_places.proofs.Places.{Plan, Activation, StoreAt, store_kept}
+use Rattle.sch_places.proofs.HeapWrites.{Wrote, wrote_one, wrote_then, wrote_within, other_word}
+use Rattle.sch_places.proofs.HeapWrites.{heap_inside, store_wrote}
 use Rattle.sch_own_routines.proofs.lists.RestLoop.{changed, is_loose, InSlots, PairsFrom, Made, slots_kept, next_here}
 use Rattle.sch_own_routines.proofs.lists.RestLoop.{made_before, last_here, loop_here}
 

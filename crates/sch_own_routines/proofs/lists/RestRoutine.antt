@@ -16,7 +16,7 @@ use Rattle.sch_heap.specs.Encoded.{IsWord}
 use Rattle.sch_own_routines.specs.RestCode.{loop_code, loop_label, slots_code, more_label, registers_code, rest_label}
 use Rattle.sch_own_routines.specs.RestCode.{first_code, firsts_code, first_slot_code, more_code, later_registers}
 use Rattle.sch_own_routines.specs.RestCode.{rest_routine, list_label, check_pairs}
-use Rattle.sch_own_routines.proofs.simulation.Places.{Plan, Activation, PlacesAt, Holds}
+use Rattle.sch_places.proofs.Places.{Plan, Activation, PlacesAt, Holds}
 use Rattle.sch_own_routines.proofs.lists.RestLoop.{is_loose, InSlots}
 use Rattle.sch_own_routines.proofs.lists.RestRegisters.{Outside, or_one, AtPlaces, Listed, first_register, first_slot}
 

@@ -10,12 +10,13 @@ use Rattle.sch_word.specs.values.Values.{Value, nil, unspecified}
 use Rattle.sch_word.specs.runs.Charges.{fit, linked, list_value}
 use Rattle.sch_word.specs.runs.Store.{Store}
 use Rattle.sch_word.specs.runs.Computation.{State, Outcome, gives, stops, spent, on_value, require}
+use Rattle.sch_word.proofs.facts.Lists.{left_length}
 use Rattle.sch_control.specs.Operations.{Procedure}
 use Rattle.sch_frames.specs.Meaning.{Junk, entry_places}
 use Rattle.sch_insn.specs.declared.condition.TheConstants.{B, A}
 use Rattle.sch_insn.specs.declared.insn.Arg.TheVariants as arg
 use Rattle.sch_insn.specs.declared.insn.Insn.TheVariants.{MovTo, AddTo, AddNumber, SubNumber, CmpNumber, Shl}
-use Rattle.sch_insn.specs.declared.machine.Flags.{Flags}
+use Rattle.sch_insn.specs.declared.state.Flags.{Flags}
 use Rattle.sch_insn.specs.Machine.{set_register, sum_of, difference_of, condition, unknown_flags}
 use Rattle.sch_insn.proofs.Conditions.{compared_b, compared_a}
 use Rattle.sch_insn.proofs.Paths.{leads_on}
@@ -29,22 +30,17 @@ use Rattle.sch_asm.proofs.EachItem.{goes, branches, jumps, loads_label}
 use Rattle.sch_heap.specs.Parts.{Parts}
 use Rattle.sch_heap.specs.Encoded.{Words}
 use Rattle.sch_heap.proofs.Contents.{words_stay}
-use Rattle.sch_own_routines.specs.Addresses.{stop_label}
+use Rattle.sch_places.specs.Addresses.{stop_label}
 use Rattle.sch_own_routines.specs.RestCode.{rest_routine, rest_entry, check_pairs, list_code, list_label}
-use Rattle.sch_own_routines.proofs.simulation.Straight.{Halts, Kept, kept_set, kept_then}
-use Rattle.sch_own_routines.proofs.simulation.Places.{Plan, Activation, StoreAt, PlacesAt, places_kept}
-use Rattle.sch_own_routines.proofs.simulation.HeapWrites.{room_tested}
+use Rattle.sch_places.proofs.Straight.{Halts, Kept, kept_set, kept_then}
+use Rattle.sch_places.proofs.Places.{Plan, Activation, StoreAt, PlacesAt, places_kept}
+use Rattle.sch_places.proofs.HeapWrites.{room_tested}
 use Rattle.sch_own_routines.proofs.lists.RestLoop.{changed, InSlots}
 use Rattle.sch_own_routines.proofs.lists.RestRegisters.{Listed}
 use Rattle.sch_own_routines.proofs.lists.RestRoutine.{argument_place, by_register, by_slot, from_register_on}
 use Rattle.sch_own_routines.proofs.lists.RestRoutine.{from_slot_on, checked_register, checked_slot}
 use Rattle.sch_own_routines.proofs.lists.RestObjects.{pair_parts, with_list, list_added, list_named}
 use Rattle.sch_own_routines.proofs.lists.RestPlaces.{places_listed}
-
-dropped : {E : Type 0} (xs : List E) (m : ℕ) → m ≤ length xs → m + length (drop m xs) ≡ length xs
-dropped xs zero le = omega arith
-dropped [] (suc m) le = absurd (omega (arith, le))
-dropped (x ∷ xs) (suc m) le = let h = dropped xs m (omega (arith, le)) in omega (arith, h)
 
 slot_place : (m : ℕ) → 6 ≤ m → Slot (m - 6) ≡ argument_place m
 slot_place zero le = absurd (omega (arith, le))
@@ -189,7 +185,7 @@ module _ (plan : Plan) (act : Activation plan) (parts : Parts) (a0 : ℕ) (behin
         → Comes_to y a required us following
     list_here y a counted at low sized f true b st =
         let lt : required < 6 = ltb-true required 6 b in
-        let nw = narrow in let top = act.room.high in let d = dropped vs required enough in
+        let nw = narrow in let top = act.room.high in let d = left_length vs required enough in
         let y1 : View = record y
         { registers = set_register y.registers 11 (setting.place_of n); place = y.place + st.0 } in
         let kept : Kept is_scratch y.registers y1.registers = kept_set is_scratch y.registers 11 (setting.place_of n)
@@ -222,7 +218,7 @@ module _ (plan : Plan) (act : Activation plan) (parts : Parts) (a0 : ℕ) (behin
         }
     list_here y a counted at low sized f false b st =
         let le : 6 ≤ required = ltb-false required 6 b in
-        let nw = narrow in let top = act.room.high in let d = dropped vs required enough in let sm = small in
+        let nw = narrow in let top = act.room.high in let d = left_length vs required enough in let sm = small in
         let fr = f.frame in
         let j = required - 6 in
         let y1 : View = record y { registers = set_register y.registers 1 (y.registers 5); place = y.place + st.0 } in
@@ -352,7 +348,7 @@ module _ (plan : Plan) (act : Activation plan) (parts : Parts) (a0 : ℕ) (behin
       }
 
       left_is : y3.registers 0 ≡ length left_over
-      left_is = let d = dropped vs required enough in let w = narrow in omega (arith, counted, d, many, w)
+      left_is = let d = left_length vs required enough in let w = narrow in omega (arith, counted, d, many, w)
 
       way : Leads setting 3 3 [] x y3
       way = leads_on setting.marks (leads_on setting.marks compared
@@ -378,7 +374,7 @@ module _ (plan : Plan) (act : Activation plan) (parts : Parts) (a0 : ℕ) (behin
       tested : (b : Bool) → nat_le (t.charged + 16 * length left_over) t.constants.heap ≡ b → RoomTested b z q.code
       tested b e = subst (λ b. RoomTested b z q.code)
           (room_tested plan parts s x.bytes x.output x.answers (16 * length left_over) g ∙ e)
-          (let d = dropped vs required enough in let w = narrow in let top = g.within in
+          (let d = left_length vs required enough in let w = narrow in let top = g.within in
           room_for (heap + t.charged) (length left_over) z q.code (q.counted ∙ left_is) (omega (arith, d, w, many))
           (q.kept 12 refl ∙ f3.free) top q.stands)
 

@@ -19,8 +19,8 @@ use Rattle.sch_asm.specs.Views.{View}
 use Rattle.sch_heap.specs.Parts.{a_procedure, Parts}
 use Rattle.sch_heap.specs.Encoded.{IsWord}
 use Rattle.sch_heap.proofs.Spots.{spot_within}
-use Rattle.sch_own_routines.specs.ItemMarks.{kind_of}
-use Rattle.sch_own_routines.proofs.simulation.Places.{Plan, code_of, Activation, StoreAt, PlacesAt, Holds, held_value}
+use Rattle.sch_places.specs.ItemMarks.{kind_of}
+use Rattle.sch_places.proofs.Places.{Plan, code_of, Activation, StoreAt, PlacesAt, Holds, held_value}
 use Rattle.sch_own_routines.proofs.simulation.Outcomes.{Sim}
 
 -- ---- the operands of a call

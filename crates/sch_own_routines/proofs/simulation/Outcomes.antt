@@ -18,14 +18,14 @@ use Rattle.sch_asm.specs.Stands.{Stands}
 use Rattle.sch_asm.specs.Data.{word_in}
 use Rattle.sch_asm.specs.Effects.{Effect}
 use Rattle.sch_asm.specs.Views.{View, full, Leads}
-use Rattle.sch_own_routines.specs.Addresses.{stop_label, put_label, vector_label, string_label}
-use Rattle.sch_own_routines.specs.ItemMarks.{kind_of}
+use Rattle.sch_places.specs.Addresses.{stop_label, put_label, vector_label, string_label}
+use Rattle.sch_places.specs.ItemMarks.{kind_of}
 use Rattle.sch_own_routines.specs.PutCode.{put_value_code}
 use Rattle.sch_own_routines.specs.MakeCode.{make_vector_code, make_string_code}
 use Rattle.sch_own_routines.specs.RestCode.{rest_routine}
-use Rattle.sch_own_routines.specs.StaticBytes.{static_bytes}
-use Rattle.sch_own_routines.proofs.simulation.Straight.{moved_to, Halts}
-use Rattle.sch_own_routines.proofs.simulation.Places.{Plan, Activation, StoreAt}
+use Rattle.sch_places.specs.StaticBytes.{static_bytes}
+use Rattle.sch_places.proofs.Straight.{moved_to, Halts}
+use Rattle.sch_places.proofs.Places.{Plan, Activation, StoreAt}
 
 -- A procedure entry pays for as many steps as a body has at most, an answer of the kernel for ten, and a byte that is
 -- charged for eight.

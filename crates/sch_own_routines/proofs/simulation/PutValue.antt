@@ -16,7 +16,7 @@ use Rattle.sch_word.specs.values.Put.{put}
 use Rattle.sch_insn.specs.declared.condition.TheConstants.{E, NE}
 use Rattle.sch_insn.specs.declared.insn.Arg.TheVariants.{Reg, Base32}
 use Rattle.sch_insn.specs.declared.insn.Insn.TheVariants.{MovFrom, MovNumber, AddTo, AddNumber, CmpNumber, Shr}
-use Rattle.sch_insn.specs.declared.machine.Flags.{Flags}
+use Rattle.sch_insn.specs.declared.state.Flags.{Flags}
 use Rattle.sch_insn.specs.Machine.{set_register, bits_of, sum_of, difference_of, condition, unknown_flags}
 use Rattle.sch_insn.proofs.Conditions.{on_e, compared_e, compared_ne}
 use Rattle.sch_insn.proofs.Paths.{leads_on, leads_here}
@@ -34,18 +34,18 @@ use Rattle.sch_asm.proofs.EachItem.{goes, branches, jumps, loads_word, loads_dat
 use Rattle.sch_heap.specs.Parts.{a_string, Parts}
 use Rattle.sch_heap.specs.Encoded.{IsWord, Names}
 use Rattle.sch_heap.specs.Heap.{StringAt, text_address}
-use Rattle.sch_own_routines.specs.Addresses.{stop_label, texts_address, bytes_address, table_address}
-use Rattle.sch_own_routines.specs.Checks.{string_length}
+use Rattle.sch_places.specs.Addresses.{stop_label, texts_address, bytes_address, table_address}
+use Rattle.sch_places.specs.Checks.{string_length}
 use Rattle.sch_own_routines.specs.PutCode.{put_value_code, procedure_put, text_code, either_text, character_put}
 use Rattle.sch_own_routines.specs.PutCode.{bytes_put, symbol_put, objects_put, immediate_put, where_tag, false_code}
 use Rattle.sch_own_routines.specs.PutCode.{nil_code, unspecified_code, texts_code}
-use Rattle.sch_own_routines.specs.StaticBytes.{all_texts, ascending, static_bytes}
+use Rattle.sch_places.specs.StaticBytes.{all_texts, ascending, static_bytes}
 use Rattle.sch_heap.proofs.Spots.{spot_within}
 use Rattle.sch_heap.proofs.Encodings.{tag_of, tagged as low_bits_of, character_tested}
-use Rattle.sch_own_routines.proofs.simulation.Places.{Plan, StoreAt}
-use Rattle.sch_own_routines.proofs.simulation.StoredNames.{piece_at, SymbolAt, symbol_at, first_name}
-use Rattle.sch_own_routines.proofs.simulation.Straight.{Halts, Kept, kept_set, kept_then, moved_to, tagged, Masked}
-use Rattle.sch_own_routines.proofs.simulation.Straight.{masked, by_7, by_255}
+use Rattle.sch_places.proofs.Places.{Plan, StoreAt}
+use Rattle.sch_places.proofs.StoredNames.{piece_at, SymbolAt, symbol_at, first_name}
+use Rattle.sch_places.proofs.Straight.{Halts, Kept, kept_set, kept_then, moved_to, tagged, Masked}
+use Rattle.sch_places.proofs.Straight.{masked, by_7, by_255}
 
 -- ---- static bytes
 

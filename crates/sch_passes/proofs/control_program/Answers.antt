@@ -2,6 +2,7 @@ use Rattle.std.proofs.Common.{ap, ◌∙◌, arith}
 use Rattle.std.specs.List.{count_by}
 use Rattle.std.specs.Prelude.{◌≤◌, length, nat_eq}
 use Rattle.sch_word.specs.trees.Shape.{max_library}
+use Rattle.sch_word.proofs.facts.Lists.{map_length}
 use Rattle.sch_lang.specs.Bodies.{bodies_of}
 use Rattle.sch_lang.specs.ProgramView.{source}
 use Rattle.sch_lang.specs.Tree.{count_lambdas}
@@ -13,6 +14,9 @@ use Rattle.sch_cells.specs.BoxedMeaning as boxed
 use Rattle.sch_cells.specs.UnboxedMeaning as unboxed
 use Rattle.sch_flat.specs.ProgramView as flat
 use Rattle.sch_control.specs.ProgramView as control
+use Rattle.sch_closure.specs.Closed.{closed_source}
+use Rattle.sch_normal.specs.Normal.{new_label, normal_source}
+use Rattle.sch_passes.specs.Chain.{control_of, with_cells}
 use Rattle.sch_rename.proofs.Loops.{count_lambdas_is}
 use Rattle.sch_passes.proofs.BodiesKept.{each_within, flat_order, names_kept, variables_kept}
 use Rattle.sch_passes.proofs.Chain.{runs_as}
@@ -31,6 +35,17 @@ close-requires c =
     let n = ap length c.in_ok-converted.ensures.bodies in
     let m = ap length c.in_ok-renamed.ensures.bodies in
     record { few = omega (arith, n, m, bodies_within_nodes (source c.args.p.now), c.requires.small) }
+
+pub returns-clause-made : goal.returns-clause-made
+unfolding control_of
+returns-clause-made c =
+    c.in_ok-control.ensures.made ∙ ap normal_source (c.in_ok-flat.ensures.made ∙ ap closed_source (c.in_ok-converted.ensures.made ∙ ap with_cells c.in_ok-renamed.ensures.made))
+
+pub returns-clause-library : goal.returns-clause-library
+returns-clause-library c =
+    let f = flat.source c.in_ok-flat.flat in
+    ap (λ s. length s.library) c.in_ok-control.ensures.made ∙ map_length (new_label f.starts) f.library
+    ∙ (c.in_ok-flat.ensures.library ∙ (c.in_ok-converted.ensures.library ∙ c.in_ok-renamed.ensures.library))
 
 pub returns-clause-runs : goal.returns-clause-runs
 returns-clause-runs c =

@@ -10,7 +10,7 @@ use Rattle.sch_word.specs.runs.Charges.{rounded}
 use Rattle.sch_insn.specs.declared.condition.TheConstants.{A, L}
 use Rattle.sch_insn.specs.declared.insn.Arg.TheVariants.{Reg}
 use Rattle.sch_insn.specs.declared.insn.Insn.TheVariants.{MovTo, AddTo, AddNumber, CmpNumber, Shl, Shr}
-use Rattle.sch_insn.specs.declared.machine.Flags.{Flags}
+use Rattle.sch_insn.specs.declared.state.Flags.{Flags}
 use Rattle.sch_insn.specs.Machine.{set_register, sum_of, difference_of, condition, unknown_flags}
 use Rattle.sch_insn.proofs.Conditions.{compared_a}
 use Rattle.sch_insn.proofs.Paths.{leads_on}
@@ -23,12 +23,12 @@ use Rattle.sch_heap.proofs.Comparisons.{at_most_is, tests_less}
 use Rattle.sch_heap.proofs.Signs.{low_word}
 use Rattle.sch_heap.proofs.Quotients.{positive_word}
 use Rattle.sch_heap.proofs.Ranges.{piece_in}
-use Rattle.sch_own_routines.specs.Checks.{round_code}
-use Rattle.sch_own_routines.specs.Addresses.{stop_label}
+use Rattle.sch_places.specs.Checks.{round_code}
+use Rattle.sch_places.specs.Addresses.{stop_label}
 use Rattle.sch_own_routines.specs.MakeCode.{check_length, check_room, fill_code}
-use Rattle.sch_own_routines.proofs.simulation.Straight.{Halts, Kept, kept_set, kept_then, moved_to}
-use Rattle.sch_own_routines.proofs.simulation.Places.{Plan}
-use Rattle.sch_own_routines.proofs.simulation.HeapWrites.{Wrote}
+use Rattle.sch_places.proofs.Straight.{Halts, Kept, kept_set, kept_then, moved_to}
+use Rattle.sch_places.proofs.Places.{Plan}
+use Rattle.sch_places.proofs.HeapWrites.{Wrote}
 use Rattle.sch_primitives.proofs.objects.Indices.{Ranged}
 
 -- ---- a length, as a number

@@ -6,7 +6,7 @@ use Rattle.sch_word.specs.declared.stop.Stop.TheVariants.{HeapLimit}
 use Rattle.sch_insn.specs.declared.condition.TheConstants.{A}
 use Rattle.sch_insn.specs.declared.insn.Arg.TheVariants.{Reg}
 use Rattle.sch_insn.specs.declared.insn.Insn.TheVariants.{MovTo, AddNumber, CmpNumber}
-use Rattle.sch_insn.specs.declared.machine.Flags.{Flags}
+use Rattle.sch_insn.specs.declared.state.Flags.{Flags}
 use Rattle.sch_insn.specs.Machine.{set_register, sum_of, difference_of, condition}
 use Rattle.sch_insn.proofs.Conditions.{compared_a}
 use Rattle.sch_insn.proofs.Paths.{leads_on}
@@ -16,9 +16,9 @@ use Rattle.sch_asm.specs.Stands.{Stands}
 use Rattle.sch_asm.specs.Views.{View, Leads}
 use Rattle.sch_asm.proofs.EachItem.{goes, branches}
 use Rattle.sch_primitives.specs.ObjectCode.{check_heap}
-use Rattle.sch_own_routines.specs.Addresses.{stop_label}
-use Rattle.sch_own_routines.proofs.simulation.Straight.{is_one, Halts, Kept, kept_set, kept_then, moved_to}
-use Rattle.sch_own_routines.proofs.simulation.Places.{Plan}
+use Rattle.sch_places.specs.Addresses.{stop_label}
+use Rattle.sch_places.proofs.Straight.{is_one, Halts, Kept, kept_set, kept_then, moved_to}
+use Rattle.sch_places.proofs.Places.{Plan}
 
 module _ (plan : Plan) where
   open plan use {setting, stack, near}

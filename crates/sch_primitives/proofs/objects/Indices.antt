@@ -11,8 +11,8 @@ use Rattle.sch_word.specs.runs.Computation.{Action, stops}
 use Rattle.sch_insn.specs.declared.condition.TheConstants.{NE, AE}
 use Rattle.sch_insn.specs.declared.insn.Arg.TheVariants.{Reg, Base32}
 use Rattle.sch_insn.specs.declared.insn.Insn.TheVariants.{CmpNumber, CmpFrom}
-use Rattle.sch_insn.specs.declared.machine.Flags.{Flags}
-use Rattle.sch_insn.specs.declared.machine.StuckCause.{StuckCause}
+use Rattle.sch_insn.specs.declared.state.Flags.{Flags}
+use Rattle.sch_insn.specs.declared.state.StuckCause.{StuckCause}
 use Rattle.sch_insn.specs.Machine.{set_register, add64, word, bits_of, difference_of, condition, word_at, when_ok, with_flags, with_place}
 use Rattle.sch_insn.specs.Step.{Progress, moved}
 use Rattle.sch_insn.proofs.Conditions.{on_ne, compared_ne, compared_ae}
@@ -26,11 +26,11 @@ use Rattle.sch_asm.specs.Views.{View, Leads, full}
 use Rattle.sch_asm.proofs.EachItem.{goes, branches}
 use Rattle.sch_asm.proofs.Words.{memory, loads}
 use Rattle.sch_heap.proofs.Elements.{index_tested}
-use Rattle.sch_own_routines.specs.Checks.{low_bits, check_fixnum}
+use Rattle.sch_places.specs.Checks.{low_bits, check_fixnum}
 use Rattle.sch_primitives.specs.ObjectCode.{check_index}
-use Rattle.sch_own_routines.specs.Addresses.{stop_label}
-use Rattle.sch_own_routines.proofs.simulation.Straight.{Halts, Kept, kept_set, kept_then, moved_to, Masked, masked}
-use Rattle.sch_own_routines.proofs.simulation.Straight.{tagged, by_7}
+use Rattle.sch_places.specs.Addresses.{stop_label}
+use Rattle.sch_places.proofs.Straight.{Halts, Kept, kept_set, kept_then, moved_to, Masked, masked}
+use Rattle.sch_places.proofs.Straight.{tagged, by_7}
 
 -- ---- values that are fixnums or characters, and others
 

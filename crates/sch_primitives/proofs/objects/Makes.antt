@@ -17,7 +17,7 @@ use Rattle.sch_frames.specs.Meaning.{Frame}
 use Rattle.sch_insn.specs.declared.condition.TheConstants.{NE}
 use Rattle.sch_insn.specs.declared.insn.Arg.TheVariants.{Reg, Base32}
 use Rattle.sch_insn.specs.declared.insn.Insn.TheVariants.{MovTo, MovFrom, AddTo, AddNumber, CmpNumber, Shr}
-use Rattle.sch_insn.specs.declared.machine.Flags.{Flags}
+use Rattle.sch_insn.specs.declared.state.Flags.{Flags}
 use Rattle.sch_insn.specs.Machine.{set_register, sum_of, unknown_flags}
 use Rattle.sch_insn.proofs.Paths.{leads_on}
 use Rattle.sch_asm.specs.declared.item.Item.{Item}
@@ -36,16 +36,16 @@ use Rattle.sch_heap.specs.Heap.{ObjectAt, VectorAt, StringAt, field_address, tex
 use Rattle.sch_heap.proofs.Encodings.{fits, integer_tested, character_tested}
 use Rattle.sch_heap.proofs.Contents.{words_stay}
 use Rattle.sch_heap.proofs.Elements.{bytes_same, get_same}
-use Rattle.sch_own_routines.specs.ItemMarks.{kind_of}
+use Rattle.sch_places.specs.ItemMarks.{kind_of}
 use Rattle.sch_primitives.specs.ObjectCode.{vector_code, string_code}
-use Rattle.sch_own_routines.specs.Addresses.{vector_label, string_label, stop_label}
-use Rattle.sch_own_routines.specs.Checks.{round_code, low_bits}
+use Rattle.sch_places.specs.Addresses.{vector_label, string_label, stop_label}
+use Rattle.sch_places.specs.Checks.{round_code, low_bits}
 use Rattle.sch_own_routines.specs.MakeCode.{check_length, check_room, fill_code}
-use Rattle.sch_own_routines.proofs.simulation.Straight.{Halts, halts_after, Kept, kept_set, kept_then, moved_to}
-use Rattle.sch_own_routines.proofs.simulation.Straight.{by_255, is_one}
-use Rattle.sch_own_routines.proofs.simulation.Places.{Plan, Activation, heap_above}
-use Rattle.sch_own_routines.proofs.simulation.HeapWrites.{Wrote, wrote_one, wrote_then, wrote_within, other_word}
-use Rattle.sch_own_routines.proofs.simulation.HeapWrites.{heap_inside, room_tested}
+use Rattle.sch_places.proofs.Straight.{Halts, halts_after, Kept, kept_set, kept_then, moved_to}
+use Rattle.sch_places.proofs.Straight.{by_255, is_one}
+use Rattle.sch_places.proofs.Places.{Plan, Activation, heap_above}
+use Rattle.sch_places.proofs.HeapWrites.{Wrote, wrote_one, wrote_then, wrote_within, other_word}
+use Rattle.sch_places.proofs.HeapWrites.{heap_inside, room_tested}
 use Rattle.sch_primitives.proofs.objects.ObjectWrites.{object_part, next_object_spot}
 use Rattle.sch_primitives.proofs.objects.Tags.{one_of}
 use Rattle.sch_primitives.proofs.objects.Indices.{fixnum_of, no_fixnum, character_of, no_character, Checked}

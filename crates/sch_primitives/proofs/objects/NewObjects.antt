@@ -27,14 +27,14 @@ use Rattle.sch_heap.specs.Encoded.{IsWord}
 use Rattle.sch_heap.specs.Heap.{ObjectAt, PairAt}
 use Rattle.sch_heap.proofs.Encodings.{fits}
 use Rattle.sch_heap.proofs.Contents.{words_stay}
-use Rattle.sch_own_routines.specs.ItemMarks.{kind_of}
+use Rattle.sch_places.specs.ItemMarks.{kind_of}
 use Rattle.sch_primitives.specs.ObjectCode.{part_code, pair_code}
-use Rattle.sch_own_routines.specs.Addresses.{part_operand}
-use Rattle.sch_own_routines.proofs.simulation.Straight.{kept_set, kept_then, moved_to, is_one}
-use Rattle.sch_own_routines.proofs.simulation.Places.{Plan, Activation, StoreAt}
-use Rattle.sch_own_routines.proofs.simulation.Changes.{places_behind}
-use Rattle.sch_own_routines.proofs.simulation.HeapWrites.{Wrote, wrote_one, wrote_then, other_word, store_wrote}
-use Rattle.sch_own_routines.proofs.simulation.HeapWrites.{heap_inside, places_wrote, places_grown, room_tested}
+use Rattle.sch_places.specs.Addresses.{part_operand}
+use Rattle.sch_places.proofs.Straight.{kept_set, kept_then, moved_to, is_one}
+use Rattle.sch_places.proofs.Places.{Plan, Activation, StoreAt}
+use Rattle.sch_places.proofs.Changes.{places_behind}
+use Rattle.sch_places.proofs.HeapWrites.{Wrote, wrote_one, wrote_then, other_word, store_wrote}
+use Rattle.sch_places.proofs.HeapWrites.{heap_inside, places_wrote, places_grown, room_tested}
 use Rattle.sch_primitives.proofs.objects.ObjectWrites.{object_part, object_added, next_object_spot}
 use Rattle.sch_primitives.proofs.objects.Tags.{one_of}
 use Rattle.sch_primitives.proofs.objects.HeapTests.{Tested, room_here}

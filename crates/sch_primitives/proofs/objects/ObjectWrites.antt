@@ -16,8 +16,8 @@ use Rattle.sch_heap.proofs.Spots.{spot_within, spots_apart, spot_newest, spot_ot
 use Rattle.sch_heap.proofs.Ranges.{BytesStay}
 use Rattle.sch_heap.proofs.Contents.{KindsOf, objects_grow, objects_stay, each_of, words_stay}
 use Rattle.sch_heap.proofs.Objects.{same_kind, object_set}
-use Rattle.sch_own_routines.proofs.simulation.Places.{Plan, code_of, StoreAt, store_changed}
-use Rattle.sch_own_routines.proofs.simulation.HeapWrites.{Wrote}
+use Rattle.sch_places.proofs.Places.{Plan, code_of, StoreAt, store_changed}
+use Rattle.sch_places.proofs.HeapWrites.{Wrote}
 
 -- ---- the number of the next object
 

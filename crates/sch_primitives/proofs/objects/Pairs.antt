@@ -30,11 +30,11 @@ use Rattle.sch_heap.specs.Heap.{PairAt}
 use Rattle.sch_heap.proofs.Spots.{spot_within}
 use Rattle.sch_heap.proofs.Encodings.{fits}
 use Rattle.sch_heap.proofs.Objects.{pair_of, pair_tested, pair_named, no_pair, one_spot}
-use Rattle.sch_own_routines.specs.ItemMarks.{kind_of}
+use Rattle.sch_places.specs.ItemMarks.{kind_of}
 use Rattle.sch_primitives.specs.ObjectCode.{part_of_pair, set_part_of_pair}
-use Rattle.sch_own_routines.proofs.simulation.Straight.{is_free, kept_set, kept_then, moved_to, Comes}
-use Rattle.sch_own_routines.proofs.simulation.Places.{Plan, Activation, StoreAt, heap_above, places_kept}
-use Rattle.sch_own_routines.proofs.simulation.HeapWrites.{Wrote, wrote_one, other_word, heap_inside, places_wrote}
+use Rattle.sch_places.proofs.Straight.{is_free, kept_set, kept_then, moved_to, Comes}
+use Rattle.sch_places.proofs.Places.{Plan, Activation, StoreAt, heap_above, places_kept}
+use Rattle.sch_places.proofs.HeapWrites.{Wrote, wrote_one, other_word, heap_inside, places_wrote}
 use Rattle.sch_primitives.proofs.objects.ObjectWrites.{object_written}
 use Rattle.sch_primitives.proofs.objects.Tags.{TagTested, tag_checked, one_of}
 use Rattle.sch_own_routines.proofs.simulation.Outcomes.{after, Laid, stops_here}

@@ -14,7 +14,7 @@ use Rattle.sch_frames.specs.Meaning.{Frame, Is}
 use Rattle.sch_insn.specs.declared.condition.TheConstants.{NE}
 use Rattle.sch_insn.specs.declared.insn.Arg.TheVariants.{Reg, Base32}
 use Rattle.sch_insn.specs.declared.insn.Insn.TheVariants.{MovNumber, CmpNumber, AddTo, Shr, StoreByte}
-use Rattle.sch_insn.specs.declared.machine.Flags.{Flags}
+use Rattle.sch_insn.specs.declared.state.Flags.{Flags}
 use Rattle.sch_insn.specs.Machine.{set_register, add64, word, sum_of, unknown_flags}
 use Rattle.sch_insn.proofs.Paths.{leads_on}
 use Rattle.sch_asm.specs.declared.item.Item.{Item}
@@ -32,13 +32,13 @@ use Rattle.sch_heap.proofs.Ranges.{piece_in, piece_beside_byte}
 use Rattle.sch_heap.proofs.Encodings.{integer_tested, character_tested}
 use Rattle.sch_heap.proofs.Elements.{index_word, text_set, bytes_set}
 use Rattle.sch_heap.proofs.Objects.{string_tested, no_string}
-use Rattle.sch_own_routines.specs.ItemMarks.{kind_of}
+use Rattle.sch_places.specs.ItemMarks.{kind_of}
 use Rattle.sch_primitives.specs.ObjectCode.{string_set_code, check_index}
-use Rattle.sch_own_routines.specs.Checks.{check_fixnum, low_bits}
-use Rattle.sch_own_routines.specs.Addresses.{stop_label}
-use Rattle.sch_own_routines.proofs.simulation.Straight.{halts_after, Kept, kept_set, kept_then, moved_to, by_255}
-use Rattle.sch_own_routines.proofs.simulation.Places.{Plan, Activation, heap_above, places_kept}
-use Rattle.sch_own_routines.proofs.simulation.HeapWrites.{Wrote, other_word, heap_inside, places_wrote}
+use Rattle.sch_places.specs.Checks.{check_fixnum, low_bits}
+use Rattle.sch_places.specs.Addresses.{stop_label}
+use Rattle.sch_places.proofs.Straight.{halts_after, Kept, kept_set, kept_then, moved_to, by_255}
+use Rattle.sch_places.proofs.Places.{Plan, Activation, heap_above, places_kept}
+use Rattle.sch_places.proofs.HeapWrites.{Wrote, other_word, heap_inside, places_wrote}
 use Rattle.sch_primitives.proofs.objects.ObjectWrites.{object_written}
 use Rattle.sch_primitives.proofs.objects.Tags.{TagTested, tag_checked, one_of}
 use Rattle.sch_primitives.proofs.objects.Indices.{fixnum_of, no_fixnum, character_of, no_character, Checked}

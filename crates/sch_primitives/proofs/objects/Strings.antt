@@ -29,11 +29,11 @@ use Rattle.sch_heap.proofs.Elements.{index_word, byte_at_offset, byte_below}
 use Rattle.sch_heap.proofs.Objects.{string_of, string_tested, string_named, no_string, one_spot}
 use Rattle.sch_heap.proofs.Quotients.{positive_word}
 use Rattle.sch_primitives.specs.ObjectCode.{length_code, string_ref_code, check_index}
-use Rattle.sch_own_routines.specs.Checks.{check_fixnum}
-use Rattle.sch_own_routines.proofs.simulation.Straight.{is_free, kept_set, kept_then, moved_to, tagged, Comes}
-use Rattle.sch_own_routines.proofs.simulation.Straight.{comes_after, fixnum_checked}
-use Rattle.sch_own_routines.proofs.simulation.Places.{Plan, Activation, StoreAt}
-use Rattle.sch_own_routines.proofs.simulation.HeapWrites.{heap_inside}
+use Rattle.sch_places.specs.Checks.{check_fixnum}
+use Rattle.sch_places.proofs.Straight.{is_free, kept_set, kept_then, moved_to, tagged, Comes}
+use Rattle.sch_places.proofs.Straight.{comes_after, fixnum_checked}
+use Rattle.sch_places.proofs.Places.{Plan, Activation, StoreAt}
+use Rattle.sch_places.proofs.HeapWrites.{heap_inside}
 use Rattle.sch_primitives.proofs.objects.Tags.{TagTested, tag_checked, one_of}
 use Rattle.sch_primitives.proofs.objects.Indices.{Ranged, index_decided}
 

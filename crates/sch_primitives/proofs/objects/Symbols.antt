@@ -10,7 +10,7 @@ use Rattle.sch_word.specs.runs.Computation.{Action, gives, stops, require, State
 use Rattle.sch_control.specs.Operations.{Procedure}
 use Rattle.sch_insn.specs.declared.insn.Arg.TheVariants.{Reg, Base32}
 use Rattle.sch_insn.specs.declared.insn.Insn.TheVariants.{MovFrom, AddTo, AddNumber, Shl, Shr, LoadByte}
-use Rattle.sch_insn.specs.declared.machine.Flags.{Flags}
+use Rattle.sch_insn.specs.declared.state.Flags.{Flags}
 use Rattle.sch_insn.specs.Machine.{set_register, add64, word, sum_of, unknown_flags, head_or_0}
 use Rattle.sch_insn.proofs.Paths.{leads_on}
 use Rattle.sch_asm.specs.declared.item.Item.{Item}
@@ -25,16 +25,16 @@ use Rattle.sch_heap.specs.Encoded.{IsWord}
 use Rattle.sch_heap.proofs.Encodings.{symbol_tested}
 use Rattle.sch_heap.proofs.Elements.{index_word, byte_at_offset, byte_below}
 use Rattle.sch_heap.proofs.Quotients.{positive_word}
-use Rattle.sch_own_routines.specs.Addresses.{table_address}
+use Rattle.sch_places.specs.Addresses.{table_address}
 use Rattle.sch_primitives.specs.ObjectCode.{name_code, symbol_length_code, symbol_ref_code, check_index}
-use Rattle.sch_own_routines.specs.Checks.{check_fixnum}
-use Rattle.sch_own_routines.proofs.simulation.Straight.{is_free, kept_set, kept_then, moved_to, tagged, Comes}
-use Rattle.sch_own_routines.proofs.simulation.Straight.{comes_after, fixnum_checked}
-use Rattle.sch_own_routines.proofs.simulation.Places.{Plan, Activation, StoreAt, heap_above}
+use Rattle.sch_places.specs.Checks.{check_fixnum}
+use Rattle.sch_places.proofs.Straight.{is_free, kept_set, kept_then, moved_to, tagged, Comes}
+use Rattle.sch_places.proofs.Straight.{comes_after, fixnum_checked}
+use Rattle.sch_places.proofs.Places.{Plan, Activation, StoreAt, heap_above}
 use Rattle.sch_primitives.proofs.objects.Tags.{TagTested, tag_checked, one_of}
 use Rattle.sch_primitives.proofs.objects.Indices.{Ranged, index_decided}
 use Rattle.sch_primitives.proofs.objects.Strings.{index_shifted, character_word}
-use Rattle.sch_own_routines.proofs.simulation.StoredNames.{first_name, SymbolAt, symbol_at}
+use Rattle.sch_places.proofs.StoredNames.{first_name, SymbolAt, symbol_at}
 
 -- ---- values that are symbols, and others
 

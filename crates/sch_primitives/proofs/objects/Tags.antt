@@ -7,7 +7,7 @@ use Rattle.sch_word.specs.declared.stop.Stop.TheVariants.{WrongType}
 use Rattle.sch_insn.specs.declared.condition.TheConstants.{NE}
 use Rattle.sch_insn.specs.declared.insn.Arg.TheVariants.{Reg}
 use Rattle.sch_insn.specs.declared.insn.Insn.TheVariants.{CmpNumber}
-use Rattle.sch_insn.specs.declared.machine.Flags.{Flags}
+use Rattle.sch_insn.specs.declared.state.Flags.{Flags}
 use Rattle.sch_insn.specs.Machine.{set_register, bits_of, difference_of, condition}
 use Rattle.sch_insn.proofs.Conditions.{compared_ne}
 use Rattle.sch_insn.proofs.Paths.{leads_on}
@@ -18,9 +18,9 @@ use Rattle.sch_asm.specs.Stands.{Setting, Stands}
 use Rattle.sch_asm.specs.Views.{View, Leads}
 use Rattle.sch_asm.proofs.EachItem.{goes, branches}
 use Rattle.sch_primitives.specs.ObjectCode.{check_tag}
-use Rattle.sch_own_routines.specs.Addresses.{stop_label}
-use Rattle.sch_own_routines.proofs.simulation.Straight.{Halts, Kept, kept_set, kept_then, moved_to, Masked, masked}
-use Rattle.sch_own_routines.proofs.simulation.Straight.{tagged, by_7}
+use Rattle.sch_places.specs.Addresses.{stop_label}
+use Rattle.sch_places.proofs.Straight.{Halts, Kept, kept_set, kept_then, moved_to, Masked, masked}
+use Rattle.sch_places.proofs.Straight.{tagged, by_7}
 
 -- one register that is among the free ones
 pub one_of : (free : ℕ → Bool) (r : ℕ) (registers registers' : ℕ → ℕ) → free r ≡ true

@@ -33,12 +33,12 @@ use Rattle.sch_asm.specs.Views.{View, Leads}
 use Rattle.sch_asm.proofs.EachItem.{goes, jumps}
 use Rattle.sch_heap.specs.Parts.{Parts}
 use Rattle.sch_heap.specs.Encoded.{IsWord}
-use Rattle.sch_own_routines.specs.ItemMarks.{kind_of}
-use Rattle.sch_own_routines.specs.Addresses.{stop_label}
+use Rattle.sch_places.specs.ItemMarks.{kind_of}
+use Rattle.sch_places.specs.Addresses.{stop_label}
 use Rattle.sch_primitives.specs.OperandCode.{operand_code}
 use Rattle.sch_primitives.specs.PrimitiveCode.{index_operand, three_code, ternary_code}
-use Rattle.sch_own_routines.proofs.simulation.Straight.{Halts, Kept, kept_set, kept_then, moved_to}
-use Rattle.sch_own_routines.proofs.simulation.Places.{Plan, Activation, places_kept}
+use Rattle.sch_places.proofs.Straight.{Halts, Kept, kept_set, kept_then, moved_to}
+use Rattle.sch_places.proofs.Places.{Plan, Activation, places_kept}
 use Rattle.sch_primitives.proofs.simulation.Operands.{Reads, operand_here, free_scratch, Atomic, atomic}
 use Rattle.sch_own_routines.proofs.simulation.Outcomes.{Laid, stops_here}
 use Rattle.sch_primitives.proofs.simulation.Operations.{Std, FrameOf, StoreOf, SimOf, Rest, next_of, onward}

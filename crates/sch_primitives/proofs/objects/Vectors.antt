@@ -16,7 +16,7 @@ use Rattle.sch_control.specs.Meaning.{World, Result, on_outcome}
 use Rattle.sch_frames.specs.Meaning.{Frame, Is}
 use Rattle.sch_insn.specs.declared.insn.Arg.TheVariants.{Reg, Base32}
 use Rattle.sch_insn.specs.declared.insn.Insn.TheVariants.{MovTo, MovFrom, MovNumber, AddTo}
-use Rattle.sch_insn.specs.declared.machine.Flags.{Flags}
+use Rattle.sch_insn.specs.declared.state.Flags.{Flags}
 use Rattle.sch_insn.specs.Machine.{set_register, add64, word, sum_of}
 use Rattle.sch_insn.proofs.Paths.{leads_on}
 use Rattle.sch_asm.specs.declared.item.Item.{Item}
@@ -33,17 +33,17 @@ use Rattle.sch_heap.specs.Encoded.{IsWord}
 use Rattle.sch_heap.specs.Heap.{VectorAt, field_address}
 use Rattle.sch_heap.proofs.Spots.{spot_within}
 use Rattle.sch_heap.proofs.Encodings.{fits, integer_tested}
-use Rattle.sch_heap.proofs.Contents.{set_same, set_other}
+use Rattle.sch_word.proofs.facts.Lists.{set_here, set_elsewhere}
 use Rattle.sch_heap.proofs.Elements.{get_there, index_word}
 use Rattle.sch_heap.proofs.Objects.{vector_of, vector_tested, vector_named, no_vector, one_spot}
 use Rattle.sch_heap.proofs.Quotients.{positive_word}
-use Rattle.sch_own_routines.specs.ItemMarks.{kind_of}
+use Rattle.sch_places.specs.ItemMarks.{kind_of}
 use Rattle.sch_primitives.specs.ObjectCode.{length_code, vector_ref_code, vector_set_code, check_index}
-use Rattle.sch_own_routines.specs.Checks.{check_fixnum}
-use Rattle.sch_own_routines.proofs.simulation.Straight.{halts_after, Kept, is_free, kept_set, kept_then, moved_to}
-use Rattle.sch_own_routines.proofs.simulation.Straight.{tagged, Comes, comes_after, fixnum_checked}
-use Rattle.sch_own_routines.proofs.simulation.Places.{Plan, Activation, StoreAt, heap_above, places_kept}
-use Rattle.sch_own_routines.proofs.simulation.HeapWrites.{Wrote, wrote_one, other_word, heap_inside, places_wrote}
+use Rattle.sch_places.specs.Checks.{check_fixnum}
+use Rattle.sch_places.proofs.Straight.{halts_after, Kept, is_free, kept_set, kept_then, moved_to}
+use Rattle.sch_places.proofs.Straight.{tagged, Comes, comes_after, fixnum_checked}
+use Rattle.sch_places.proofs.Places.{Plan, Activation, StoreAt, heap_above, places_kept}
+use Rattle.sch_places.proofs.HeapWrites.{Wrote, wrote_one, other_word, heap_inside, places_wrote}
 use Rattle.sch_primitives.proofs.objects.ObjectWrites.{object_written}
 use Rattle.sch_primitives.proofs.objects.Tags.{TagTested, tag_checked, one_of}
 use Rattle.sch_primitives.proofs.objects.Indices.{fixnum_of, no_fixnum, Checked, fixnum_decided, Ranged}
@@ -311,7 +311,7 @@ module _ (parts : Parts) (elements : List Value) (unit k y : ℕ) (u : Value) (b
           → IsWord parts v (word_in (with_word bytes (field_address unit k) y) (field_address unit j))
       by true i =
           let z : j ≡ k = eqb-true j k i in
-          let f : Some u ≡ Some v = sym (set_same elements k u below) ∙ ap (slice_get (slice_set elements k u)) (sym z) ∙ e in
+          let f : Some u ≡ Some v = sym (set_here elements k u below) ∙ ap (slice_get (slice_set elements k u)) (sym z) ∙ e in
           let is : u ≡ v = cc in
           subst (λ v. IsWord parts v (word_in (with_word bytes (field_address unit k) y) (field_address unit j))) is
           (subst (λ j. IsWord parts u (word_in (with_word bytes (field_address unit k) y) (field_address unit j))) (sym z)
@@ -322,7 +322,7 @@ module _ (parts : Parts) (elements : List Value) (unit k y : ℕ) (u : Value) (b
           ⊎_elim (λ lt. inl (omega (arith, lt))) (λ ge. ⊎_elim (λ lt. inr (omega (arith, lt)))
           (λ le. absurd (ne (omega (arith, ge, le)))) (cases_lt k j)) (cases_lt j k) in
           subst (IsWord parts v) (sym (word_other bytes (field_address unit k) y (field_address unit j) within
-          (omega (arith, low)) far)) (words j v (sym (set_other elements k j u ne) ∙ e))
+          (omega (arith, low)) far)) (words j v (sym (set_elsewhere elements k j u ne) ∙ e))
 
 module _ (plan : Plan) (body_steps : ℕ) (laid : Laid plan body_steps) (act : Activation plan) where
   open plan use {setting, size, closures, heap, stack, near}

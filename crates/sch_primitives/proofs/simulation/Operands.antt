@@ -19,7 +19,7 @@ use Rattle.sch_control.specs.Operations.{Procedure, given, read, and_value, atom
 use Rattle.sch_frames.specs.Meaning.{Frame, held}
 use Rattle.sch_insn.specs.declared.insn.Arg.TheVariants.{Reg}
 use Rattle.sch_insn.specs.declared.insn.Insn.TheVariants.{MovTo, MovWord}
-use Rattle.sch_insn.specs.declared.machine.Flags.{Flags}
+use Rattle.sch_insn.specs.declared.state.Flags.{Flags}
 use Rattle.sch_insn.specs.Machine.{set_register, word}
 use Rattle.sch_insn.proofs.Paths.{leads_on}
 use Rattle.sch_asm.specs.declared.item.Item.{Item}
@@ -33,14 +33,14 @@ use Rattle.sch_asm.proofs.EachItem.{goes, loads_data}
 use Rattle.sch_heap.specs.Parts.{Parts}
 use Rattle.sch_heap.specs.Encoded.{IsWord, constant_number}
 use Rattle.sch_heap.proofs.Contents.{Stay, words_by}
-use Rattle.sch_own_routines.specs.Addresses.{literal_address}
+use Rattle.sch_places.specs.Addresses.{literal_address}
 use Rattle.sch_primitives.specs.OperandCode.{atom_code, unary_code, binary_code, read_code, operand_code, second_code}
 use Rattle.sch_heap.proofs.Encodings.{constant_word}
-use Rattle.sch_own_routines.proofs.simulation.Straight.{is_free, Kept, kept_set, kept_then, moved_to, Yields, Comes}
-use Rattle.sch_own_routines.proofs.simulation.Straight.{yields_after}
+use Rattle.sch_places.proofs.Straight.{is_free, Kept, kept_set, kept_then, moved_to, Yields, Comes}
+use Rattle.sch_places.proofs.Straight.{yields_after}
 use Rattle.sch_primitives.proofs.simulation.Primitives.{unary_here, binary_here}
-use Rattle.sch_own_routines.proofs.simulation.Places.{Plan, heap_above, few_symbols, Activation, StoreAt, PlacesAt}
-use Rattle.sch_own_routines.proofs.simulation.Places.{places_kept, loaded, held_value}
+use Rattle.sch_places.proofs.Places.{Plan, heap_above, few_symbols, Activation, StoreAt, PlacesAt}
+use Rattle.sch_places.proofs.Places.{places_kept, loaded, held_value}
 use Rattle.sch_primitives.proofs.simulation.Selected.{atom_selected, read_selected, operand_selected, takes}
 use Rattle.sch_primitives.proofs.simulation.Selected.{is_computed}
 use Rattle.sch_control.specs.Valid.{only_reads}

@@ -34,20 +34,20 @@ use Rattle.sch_asm.specs.Views.{View, Leads}
 use Rattle.sch_asm.proofs.EachItem.{goes, branches, jumps, loads_label, loads_data, stores_data}
 use Rattle.sch_heap.specs.Parts.{Parts}
 use Rattle.sch_heap.specs.Encoded.{IsWord}
-use Rattle.sch_own_routines.specs.Addresses.{global_address, put_label, stop_label}
-use Rattle.sch_own_routines.specs.ItemMarks.{kind_of}
+use Rattle.sch_places.specs.Addresses.{global_address, put_label, stop_label}
+use Rattle.sch_places.specs.ItemMarks.{kind_of}
 use Rattle.sch_primitives.specs.OperandCode.{operand_code, put_code}
 use Rattle.sch_primitives.specs.PrimitiveCode.{global_code, set_global_code}
 use Rattle.sch_heap.proofs.Encodings.{fits, unset_tested}
 use Rattle.sch_heap.proofs.Elements.{get_there}
-use Rattle.sch_own_routines.proofs.simulation.Straight.{halts_after, is_free, kept_set, kept_then, moved_to, Yields}
-use Rattle.sch_own_routines.proofs.simulation.Straight.{Comes}
-use Rattle.sch_own_routines.proofs.simulation.Places.{Plan, heap_above, Activation, StoreAt, PlacesAt}
-use Rattle.sch_own_routines.proofs.simulation.Places.{places_kept, Holds}
+use Rattle.sch_places.proofs.Straight.{halts_after, is_free, kept_set, kept_then, moved_to, Yields}
+use Rattle.sch_places.proofs.Straight.{Comes}
+use Rattle.sch_places.proofs.Places.{Plan, heap_above, Activation, StoreAt, PlacesAt}
+use Rattle.sch_places.proofs.Places.{places_kept, Holds}
 use Rattle.sch_primitives.proofs.simulation.Operands.{Reads, operand_here, free_scratch}
 use Rattle.sch_own_routines.proofs.simulation.PutValue.{PutsPiece, puts_value}
-use Rattle.sch_own_routines.proofs.simulation.Changes.{global_inside, global_written, store_behind, places_written}
-use Rattle.sch_own_routines.proofs.simulation.Changes.{below_written, places_behind, word_behind}
+use Rattle.sch_places.proofs.Changes.{global_inside, global_written, store_behind, places_written}
+use Rattle.sch_places.proofs.Changes.{below_written, places_behind, word_behind}
 use Rattle.sch_own_routines.proofs.simulation.Outcomes.{Ends, Sim, after, Laid, stops_here}
 use Rattle.sch_primitives.proofs.simulation.Selected.{operand_selected}
 

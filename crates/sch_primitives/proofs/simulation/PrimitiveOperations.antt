@@ -19,12 +19,12 @@ use Rattle.sch_asm.specs.Effects.{is_scratch}
 use Rattle.sch_asm.specs.Views.{View, Leads}
 use Rattle.sch_heap.specs.Parts.{Parts}
 use Rattle.sch_heap.specs.Encoded.{IsWord}
-use Rattle.sch_own_routines.specs.ItemMarks.{kind_of}
+use Rattle.sch_places.specs.ItemMarks.{kind_of}
 use Rattle.sch_primitives.specs.OperandCode.{operand_code, second_code, unary_code, binary_code}
 use Rattle.sch_primitives.specs.PrimitiveCode.{pair_or_binary}
-use Rattle.sch_own_routines.proofs.simulation.Straight.{is_free, Kept, kept_then, moved_to, Comes, comes_after}
+use Rattle.sch_places.proofs.Straight.{is_free, Kept, kept_then, moved_to, Comes, comes_after}
 use Rattle.sch_primitives.proofs.simulation.Primitives.{unary_here, binary_here}
-use Rattle.sch_own_routines.proofs.simulation.Places.{Plan, Activation, places_kept}
+use Rattle.sch_places.proofs.Places.{Plan, Activation, places_kept}
 use Rattle.sch_primitives.proofs.simulation.Operands.{Reads, ReadsSecond, operand_here, second_here, free_scratch}
 use Rattle.sch_own_routines.proofs.simulation.Outcomes.{Laid}
 use Rattle.sch_primitives.proofs.simulation.Operations.{Std, FrameOf, StoreOf, SimOf, Rest, next_of, onward}

@@ -26,7 +26,7 @@ use Rattle.sch_insn.specs.declared.insn.Arg.TheVariants.{Reg}
 use Rattle.sch_insn.specs.declared.insn.Insn.{Insn}
 use Rattle.sch_insn.specs.declared.insn.Insn.TheVariants.{MovTo, MovNumber, AddTo, SubTo, CmpTo, AddNumber}
 use Rattle.sch_insn.specs.declared.insn.Insn.TheVariants.{CmpNumber, Imul, Idiv, Cqo, Shl, Shr, Sar}
-use Rattle.sch_insn.specs.declared.machine.Flags.{Flags}
+use Rattle.sch_insn.specs.declared.state.Flags.{Flags}
 use Rattle.sch_insn.specs.Machine.{Computed, add64, set_register, difference_of, sum_of, product_of}
 use Rattle.sch_insn.specs.Machine.{shift_right_signed, condition, unknown_flags, when_ok, with_flags, with_register}
 use Rattle.sch_insn.specs.Machine.{with_place}
@@ -41,8 +41,8 @@ use Rattle.sch_asm.specs.Data.{FixnumWord}
 use Rattle.sch_asm.specs.Views.{View, Leads, full}
 use Rattle.sch_asm.proofs.EachItem.{goes, branches, jumps}
 use Rattle.sch_heap.specs.Encoded.{IsWord}
-use Rattle.sch_own_routines.specs.Addresses.{stop_label}
-use Rattle.sch_own_routines.specs.Checks.{check_fixnum, test_code, overflow_code}
+use Rattle.sch_places.specs.Addresses.{stop_label}
+use Rattle.sch_places.specs.Checks.{check_fixnum, test_code, overflow_code}
 use Rattle.sch_primitives.specs.ArithmeticCode.{compare_code, comparison_code, division_code, modulo_code}
 use Rattle.sch_primitives.specs.OperandCode.{unary_code, binary_code}
 use Rattle.sch_heap.proofs.Signs.{low_word, high_word}
@@ -58,10 +58,10 @@ use Rattle.sch_heap.proofs.Objects.{pair_tested, vector_tested, string_tested}
 use Rattle.sch_heap.specs.Heap.{AreKinds}
 use Rattle.sch_word.specs.runs.Computation.{State}
 use Rattle.sch_control.specs.Operations.{Procedure}
-use Rattle.sch_own_routines.proofs.simulation.Places.{Plan, StoreAt}
-use Rattle.sch_own_routines.proofs.simulation.Straight.{is_free, kept_set, kept_then, moved_to, tagged, Comes}
-use Rattle.sch_own_routines.proofs.simulation.Straight.{comes_after, yields_after, fixnum_checked, character_checked}
-use Rattle.sch_own_routines.proofs.simulation.Straight.{booleans, tests, ends_fixnum, by_7, by_127, by_255}
+use Rattle.sch_places.proofs.Places.{Plan, StoreAt}
+use Rattle.sch_places.proofs.Straight.{is_free, kept_set, kept_then, moved_to, tagged, Comes}
+use Rattle.sch_places.proofs.Straight.{comes_after, yields_after, fixnum_checked, character_checked}
+use Rattle.sch_places.proofs.Straight.{booleans, tests, ends_fixnum, by_7, by_127, by_255}
 use Rattle.sch_primitives.proofs.simulation.Selected.{takes, is_computed}
 
 -- ---- fixnums' words

@@ -1,7 +1,8 @@
 -- How the code joins tokens to data: one after another, with a stack of what is open. No public clause
 -- cites this; it is proved to give the grammar's data and the first fault.
 use Rattle.std.specs.Prelude.{ℕ, zero, suc, List, [], ◌∷◌, Result, Ok, Err}
-use Rattle.sch_read.specs.Grammar.{Token, Open, Close, Dot, Plain, Huge, Bad, Opener, parenthesis, hash_parenthesis, quote_mark, bad_token, Datum, Data, atom, list, vector, none, cons, join, one, quoted, with_tail}
+use Rattle.sch_read.specs.Grammar.{Token, Open, Close, Dot, Plain, Huge, Bad, Opener, parenthesis, hash_parenthesis, quote_mark, bad_token, Datum, Data, atom, list, vector, none}
+use Rattle.sch_read.specs.Grammar.{cons, join, one, quoted, with_tail}
 use Rattle.sch_read.specs.Fault.{Fault, Unclosed, StrayClose, DeepNesting, LiteralRange, Flawed}
 
 pub data Frame : Type 0 where

@@ -8,9 +8,11 @@ use Rattle.sch_lang.proofs.Scopes.{program_is_closed}
 use Rattle.sch_cells.specs.Bodies.{bodies_of}
 use Rattle.sch_cells.specs.Measures.{sites_of, call_sites_of, tests_of, dropped_of, program_size}
 use Rattle.sch_cells.specs.Covered.{is_covered_program}
+use Rattle.sch_cells.specs.Tree.{count_lambdas}
 use Rattle.sch_cells.specs.UnboxedMeaning as meaning
 use Rattle.sch_rename.proofs.BodiesKept.{program_bodies}
 use Rattle.sch_rename.proofs.BoundVariables.{program_binds}
+use Rattle.sch_rename.proofs.FreeKept.{counts_lambdas}
 use Rattle.sch_rename.proofs.Same.{runs_alike}
 use Rattle.sch_rename.proofs.ShapesKept.{measure_kept, size_kept}
 use Rattle.sch_rename.proofs.CoveredKept.{covered_kept}
@@ -25,6 +27,10 @@ returns-clause-runs c =
     let p = source c.args.p.now in
     let closed = program_is_closed p c.args.p.now.numbered in
     if_ok c.rename_program.result _ _ c.rename_program.ensures (λ q made. subst (λ s. SameRuns (run p) (meaning.run s)) (sym made) (runs_alike p closed))
+
+pub returns-clause-library : goal.returns-clause-library
+returns-clause-library c =
+    if_ok c.rename_program.result _ _ c.rename_program.ensures (λ q made. ap (λ s. count_lambdas s.library) made ∙ counts_lambdas (source c.args.p.now).library [] 0)
 
 pub returns-clause-statics : goal.returns-clause-statics
 returns-clause-statics c =

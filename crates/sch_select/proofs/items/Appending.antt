@@ -24,7 +24,7 @@ use Rattle.sch_asm.specs.declared.item.Item.{Item}
 use Rattle.sch_asm.specs.declared.item.Item.TheVariants as item
 use Rattle.sch_asm.specs.declared.item.MarkKind.{MarkKind}
 use Rattle.sch_asm.specs.Stands.{Setting, Stands}
-use Rattle.sch_own_routines.specs.Addresses.{stop_label, body_label, place_operand, part_operand, global_address}
+use Rattle.sch_places.specs.Addresses.{stop_label, body_label, place_operand, part_operand, global_address}
 use Rattle.sch_operations.specs.CellCode.{source_code, check_cell, cell_operand}
 use Rattle.sch_primitives.specs.ObjectCode.{check_heap, part_code}
 use Rattle.sch_operations.specs.ClosureCode.{fields_code, record_code, closure_bytes, group_bytes, places_code}

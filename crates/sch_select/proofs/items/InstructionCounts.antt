@@ -41,7 +41,7 @@ use Rattle.sch_asm.specs.declared.item.Item.{Item}
 use Rattle.sch_asm.specs.declared.item.Item.TheVariants as item
 use Rattle.sch_asm.specs.declared.item.MarkKind.TheVariants.{Enter}
 use Rattle.sch_select.proofs.items.RestItems.{count_keeps}
-use Rattle.sch_own_routines.specs.Addresses.{place_operand, global_address, stop_label, body_label, part_operand}
+use Rattle.sch_places.specs.Addresses.{place_operand, global_address, stop_label, body_label, part_operand}
 use Rattle.sch_primitives.specs.OperandCode.{atom_code, unary_code, binary_code, read_code, operand_code, second_code}
 use Rattle.sch_primitives.specs.PrimitiveCode.{pair_or_binary, ternary_code, index_operand, primitive_code}
 use Rattle.sch_operations.specs.OperationCode.{operation_code}

@@ -41,7 +41,7 @@ use Rattle.sch_asm.specs.declared.item.Item.TheVariants as item
 use Rattle.sch_asm.specs.declared.item.MarkKind.TheVariants.{Enter}
 use Rattle.sch_asm.specs.Items.{is_among, labels_in}
 use Rattle.sch_select.proofs.items.RestItems.{count_behind, count_ahead}
-use Rattle.sch_own_routines.specs.Addresses.{first_label, body_label, string_label, vector_label}
+use Rattle.sch_places.specs.Addresses.{first_label, body_label, string_label, vector_label}
 use Rattle.sch_primitives.specs.OperandCode.{atom_code, unary_code, binary_code, read_code, operand_code, second_code}
 use Rattle.sch_operations.specs.CellCode.{source_code}
 use Rattle.sch_operations.specs.ClosureCode.{fields_code, closure_bytes, places_code, record_code, records_code}

@@ -11,6 +11,7 @@ use Rattle.sch_word.specs.declared.primitive.Primitive.TheVariants.{IsInteger, I
 use Rattle.sch_word.specs.declared.primitive.Primitive.TheVariants.{IsProcedure, Modulo, Equal, Less, Greater}
 use Rattle.sch_word.specs.declared.primitive.Primitive.TheVariants.{LessEqual, GreaterEqual, Put, Cons}
 use Rattle.sch_word.specs.declared.primitive.Primitive.TheVariants.{MakeString, MakeVector, StringSet}
+use Rattle.sch_word.proofs.facts.Booleans.{neither}
 use Rattle.sch_control.specs.declared.operation.Atom.{Atom}
 use Rattle.sch_control.specs.declared.operation.Atom.TheVariants.{Constant, Literal, Variable}
 use Rattle.sch_control.specs.declared.operation.Operand.{Operand}
@@ -36,13 +37,10 @@ pub record Block (low high : ℕ) (ls : List ℕ) : Type 0 where
   pub below : (y : ℕ) → y < low → is_among ls y ≡ false
   pub above : (y : ℕ) → high ≤ y → is_among ls y ≡ false
 
-pub either_false : (a b : Bool) → a ≡ false → b ≡ false → (a || b) ≡ false
-either_false a b e f = ap (λ a. a || b) e ∙ f
-
 pub among_append : (xs ys : List ℕ) (y : ℕ) → is_among xs y ≡ false → is_among ys y ≡ false
     → is_among (xs ++ ys) y ≡ false
 among_append [] ys y e f = f
-among_append (x ∷ xs) ys y e f = let p = or_parts (x == y) (is_among xs y) e in either_false (x == y)
+among_append (x ∷ xs) ys y e f = let p = or_parts (x == y) (is_among xs y) e in neither (x == y)
     (is_among (xs ++ ys) y) p.0 (among_append xs ys y p.1 f)
 
 -- elements of the first are in none of the second
@@ -53,7 +51,7 @@ Apart (x ∷ xs) ys = (is_among ys x ≡ false) × Apart xs ys
 pub distinct_append : (xs ys : List ℕ) → repeats xs ≡ false → repeats ys ≡ false → Apart xs ys
     → repeats (xs ++ ys) ≡ false
 distinct_append [] ys e f a = f
-distinct_append (x ∷ xs) ys e f a = let p = or_parts (is_among xs x) (repeats xs) e in either_false
+distinct_append (x ∷ xs) ys e f a = let p = or_parts (is_among xs x) (repeats xs) e in neither
     (is_among (xs ++ ys) x) (repeats (xs ++ ys)) (among_append xs ys x p.0 a.0) (distinct_append xs ys p.1 f a.1)
 
 -- an element of a block is below its end
@@ -98,21 +96,21 @@ wider a b c d ls low high p = record {
 pub one_label : (n : ℕ) → Block n (n + 4) (n ∷ [])
 one_label n = record {
   distinct = refl;
-  below = λ y h. either_false (n == y) false (ne_eqb n y (λ e. omega (arith, e, h))) refl;
-  above = λ y h. either_false (n == y) false (ne_eqb n y (λ e. omega (arith, e, h))) refl;
+  below = λ y h. neither (n == y) false (ne_eqb n y (λ e. omega (arith, e, h))) refl;
+  above = λ y h. neither (n == y) false (ne_eqb n y (λ e. omega (arith, e, h))) refl;
 }
 
 modulo_block : (n : ℕ) → Block n (n + 4) ((n + 1) ∷ ((n + 2) ∷ (n ∷ [])))
 modulo_block n = record {
-  distinct = either_false _ _ (either_false (n + 2 == n + 1) _ (ne_eqb (n + 2) (n + 1) (λ e. omega (arith, e)))
-      (either_false (n == n + 1) false (ne_eqb n (n + 1) (λ e. omega (arith, e))) refl))
-      (either_false _ _ (either_false (n == n + 2) false (ne_eqb n (n + 2) (λ e. omega (arith, e))) refl) refl);
-  below = λ y h. either_false (n + 1 == y) _ (ne_eqb (n + 1) y (λ e. omega (arith, e, h)))
-      (either_false (n + 2 == y) _ (ne_eqb (n + 2) y (λ e. omega (arith, e, h)))
-      (either_false (n == y) false (ne_eqb n y (λ e. omega (arith, e, h))) refl));
-  above = λ y h. either_false (n + 1 == y) _ (ne_eqb (n + 1) y (λ e. omega (arith, e, h)))
-      (either_false (n + 2 == y) _ (ne_eqb (n + 2) y (λ e. omega (arith, e, h)))
-      (either_false (n == y) false (ne_eqb n y (λ e. omega (arith, e, h))) refl));
+  distinct = neither _ _ (neither (n + 2 == n + 1) _ (ne_eqb (n + 2) (n + 1) (λ e. omega (arith, e)))
+      (neither (n == n + 1) false (ne_eqb n (n + 1) (λ e. omega (arith, e))) refl))
+      (neither _ _ (neither (n == n + 2) false (ne_eqb n (n + 2) (λ e. omega (arith, e))) refl) refl);
+  below = λ y h. neither (n + 1 == y) _ (ne_eqb (n + 1) y (λ e. omega (arith, e, h)))
+      (neither (n + 2 == y) _ (ne_eqb (n + 2) y (λ e. omega (arith, e, h)))
+      (neither (n == y) false (ne_eqb n y (λ e. omega (arith, e, h))) refl));
+  above = λ y h. neither (n + 1 == y) _ (ne_eqb (n + 1) y (λ e. omega (arith, e, h)))
+      (neither (n + 2 == y) _ (ne_eqb (n + 2) y (λ e. omega (arith, e, h)))
+      (neither (n == y) false (ne_eqb n y (λ e. omega (arith, e, h))) refl));
 }
 
 -- ---- the labels of each piece

@@ -28,7 +28,7 @@ use Rattle.sch_operations.specs.ClosureCode.{fields_code, closure_bytes, places_
 use Rattle.sch_primitives.specs.PrimitiveCode.{pair_or_binary, ternary_code, index_operand}
 use Rattle.sch_operations.specs.OperationCode.{operation_code}
 use Rattle.sch_select.specs.Select.{instruction_code, body_code}
-use Rattle.sch_own_routines.specs.ItemMarks.{kind_of}
+use Rattle.sch_places.specs.ItemMarks.{kind_of}
 use Rattle.sch_select.specs.Program.{passed_code, entry_code, forms_code, labels_end, own_label, program_code}
 use Rattle.sch_statics.specs.Data.{heap_of}
 use Rattle.sch_select.specs.Sizes.{kinds_among, kinds_in, kinds_of}

@@ -45,7 +45,7 @@ use Rattle.sch_select.specs.Program.{own_label, program_code}
 use Rattle.sch_own_routines.specs.RestCode.{list_code, list_label}
 use Rattle.sch_select.proofs.items.RestItems.{count_labels}
 use Rattle.sch_primitives.specs.PrimitiveCode.{pair_or_binary, ternary_code, index_operand}
-use Rattle.sch_own_routines.specs.Addresses.{vector_label, string_label, put_label, body_label}
+use Rattle.sch_places.specs.Addresses.{vector_label, string_label, put_label, body_label}
 use Rattle.sch_operations.specs.CellCode.{source_code}
 use Rattle.sch_operations.specs.ClosureCode.{fields_code, record_code, closure_bytes, places_code, records_code}
 use Rattle.sch_primitives.specs.OperandCode.{atom_code, unary_code, binary_code, read_code, operand_code, second_code}
@@ -53,7 +53,7 @@ use Rattle.sch_operations.specs.OperationCode.{operation_code}
 use Rattle.sch_select.specs.Select.{body_code}
 use Rattle.sch_statics.specs.Data.{heap_of, names_of, closures_of, objects_unit, static_count, program_words}
 use Rattle.sch_statics.specs.Data.{word_list, global_words, padding, closure_words}
-use Rattle.sch_own_routines.specs.StaticBytes.{static_bytes}
+use Rattle.sch_places.specs.StaticBytes.{static_bytes}
 use Rattle.sch_statics.specs.NameWords.{symbol_words}
 use Rattle.sch_literals.specs.PlacedWords.{placed_values, placed_each}
 use Rattle.sch_primitives.proofs.simulation.Selected.{members_few, operation_few, labels_few}

@@ -24,13 +24,14 @@ use Rattle.sch_asm.specs.Routines.{label_of}
 use Rattle.sch_asm.specs.Items.{IsEachOnce, is_among, labels_in}
 use Rattle.sch_asm.proofs.Tables.{each_once, repeats}
 use Rattle.sch_select.proofs.items.RestItems.{count_labels, count_labelled}
-use Rattle.sch_own_routines.specs.Addresses.{body_label}
+use Rattle.sch_places.specs.Addresses.{body_label}
 use Rattle.sch_select.specs.Select.{instruction_code, body_code}
 use Rattle.sch_select.specs.Program.{passed_code, entry_code, form_code, forms_code, labels_end, own_label}
 use Rattle.sch_select.specs.Program.{program_code}
 use Rattle.sch_own_routines.specs.OwnCode.{own_code}
 use Rattle.sch_statics.specs.Data.{heap_of}
-use Rattle.sch_select.proofs.items.Labels.{one_label, Block, Apart, Labelled, among_append, either_false}
+use Rattle.sch_word.proofs.facts.Booleans.{neither}
+use Rattle.sch_select.proofs.items.Labels.{one_label, Block, Apart, Labelled, among_append}
 use Rattle.sch_select.proofs.items.Labels.{distinct_append, operand_labels, second_labelled, operand_block}
 use Rattle.sch_select.proofs.items.Labels.{group_labelled, operation_labels, operation_labelled, operation_block}
 
@@ -92,7 +93,7 @@ module _ (base : ℕ) where
       → ((l : ℕ) → has l (frames.labels_in instructions) ≡ true → y ≢ base + l)
       → is_among (body_labels n instructions) y ≡ false
   absent y n [] lt h = refl
-  absent y n (Label l ∷ instructions) lt h = either_false (base + l == y)
+  absent y n (Label l ∷ instructions) lt h = neither (base + l == y)
       (is_among (body_labels (n + 12) instructions) y) (ne_eqb (base + l) y
       (λ e. h l (ap (λ b. b || has l (frames.labels_in instructions)) (eq-eqb l l refl)) (sym e)))
       (absent y (n + 12) instructions (omega (arith, lt))
@@ -133,7 +134,7 @@ module _ (base : ℕ) where
     beyond y n (Label l ∷ instructions) e le far =
         let p = and_parts (nat_lt l labels) (list_all (λ l. nat_lt l labels) (frames.labels_in instructions)) e in
         let lt = ltb-true l labels p.0 in
-        either_false (base + l == y) (is_among (body_labels (n + 12) instructions) y)
+        neither (base + l == y) (is_among (body_labels (n + 12) instructions) y)
         (ne_eqb (base + l) y (λ q. omega (arith, q, lt, le, far)))
         (beyond y (n + 12) instructions p.1 (omega (arith, le)) (omega (arith, far)))
     beyond y n (Do o ∷ instructions) e le far = among_append (operation_labels n o)
@@ -176,7 +177,7 @@ module _ (base : ℕ) where
         let q = and_parts (not (has l (frames.labels_in instructions)))
         (without_repeats (frames.labels_in instructions)) d in
         let lt = ltb-true l labels p.0 in
-        either_false (is_among (body_labels (n + 12) instructions) (base + l))
+        neither (is_among (body_labels (n + 12) instructions) (base + l))
         (repeats (body_labels (n + 12) instructions))
         (absent (base + l) (n + 12) instructions (omega (arith, lt, le))
         (λ k h s. let same : k ≡ l = omega (arith, s) in absurd
@@ -286,12 +287,12 @@ inner_block n c e =
     let body = body_labels n (n + c.labels + 2) c.instructions in
     record {
       distinct = distinct_append body ((n + c.labels) ∷ []) b.distinct refl
-          (apart_by body ((n + c.labels) ∷ []) (λ x h. either_false (n + c.labels == x) false
+          (apart_by body ((n + c.labels) ∷ []) (λ x h. neither (n + c.labels == x) false
           (ne_eqb (n + c.labels) x (λ s. other x h (sym s))) refl));
       below = λ y lt. among_append body ((n + c.labels) ∷ []) y (b.below y lt)
-          (either_false (n + c.labels == y) false (ne_eqb (n + c.labels) y (λ s. omega (arith, s, lt))) refl);
+          (neither (n + c.labels == y) false (ne_eqb (n + c.labels) y (λ s. omega (arith, s, lt))) refl);
       above = λ y far. among_append body ((n + c.labels) ∷ []) y (b.above y far)
-          (either_false (n + c.labels == y) false (ne_eqb (n + c.labels) y (λ s. omega (arith, s, far))) refl);
+          (neither (n + c.labels == y) false (ne_eqb (n + c.labels) y (λ s. omega (arith, s, far))) refl);
     }
   where
     other : (x : ℕ) → is_among (body_labels n (n + c.labels + 2) c.instructions) x ≡ true → x ≢ n + c.labels
@@ -308,16 +309,16 @@ with_entry (Some e) k low high ls le lt absent b = by e.rest
     by : (t : Bool) → Block low high (count_labels t k ++ ls)
     by false = b
     by true = record {
-      distinct = either_false (is_among ls k) (repeats ls) absent b.distinct;
-      below = λ y less. either_false (k == y) (is_among ls y) (ne_eqb k y (λ s. omega (arith, s, less, le))) (b.below y less);
-      above = λ y far. either_false (k == y) (is_among ls y) (ne_eqb k y (λ s. omega (arith, s, far, lt))) (b.above y far);
+      distinct = neither (is_among ls k) (repeats ls) absent b.distinct;
+      below = λ y less. neither (k == y) (is_among ls y) (ne_eqb k y (λ s. omega (arith, s, less, le))) (b.below y less);
+      above = λ y far. neither (k == y) (is_among ls y) (ne_eqb k y (λ s. omega (arith, s, far, lt))) (b.above y far);
     }
 
 own_block : (n : ℕ) (c : Code) → forward c.labels c.instructions ≡ true → Block n (labels_end n c) (own_labels n c)
 own_block n c e = with_entry c.entry (n + c.labels + 1) n (labels_end n c) (inner_labels n c) (omega arith) (omega arith)
     (among_append (body_labels n (n + c.labels + 2) c.instructions) ((n + c.labels) ∷ []) (n + c.labels + 1)
     (absent_end n c.labels (n + c.labels + 1) (n + c.labels + 2) c.instructions e (omega arith) (omega arith))
-    (either_false (n + c.labels == n + c.labels + 1) false (ne_eqb (n + c.labels) (n + c.labels + 1) (λ s. omega (arith, s)))
+    (neither (n + c.labels == n + c.labels + 1) false (ne_eqb (n + c.labels) (n + c.labels + 1) (λ s. omega (arith, s)))
     refl)) (inner_block n c e)
 
 abbrev pub forms_labels : (label n : ℕ) → List Code → List ℕ
@@ -355,16 +356,16 @@ forms_block label n (c ∷ cs) le e =
     let rest = forms_labels (suc label) (labels_end n c) cs in
     let others = forms_block (suc label) (labels_end n c) cs (omega (arith, le)) p.1 in
     record {
-      distinct = either_false (is_among (own_labels n c ++ rest) (body_label label)) (repeats (own_labels n c ++ rest))
+      distinct = neither (is_among (own_labels n c ++ rest) (body_label label)) (repeats (own_labels n c ++ rest))
           (among_append (own_labels n c) rest (body_label label) (own.below (body_label label) (omega (arith, le)))
           (others.below (body_label label) (omega arith)))
           (distinct_append (own_labels n c) rest own.distinct others.distinct
           (apart_by (own_labels n c) rest (λ x h. let lo = low_end own x h in let hi = high_end own x h in
           others.between x (omega (arith, lo, le)) hi)));
-      below = λ y lt. either_false (body_label label == y) _ (ne_eqb (body_label label) y (λ s. omega (arith, s, lt)))
+      below = λ y lt. neither (body_label label == y) _ (ne_eqb (body_label label) y (λ s. omega (arith, s, lt)))
           (among_append (own_labels n c) rest y (own.below y (omega (arith, lt, le)))
           (others.below y (omega (arith, lt))));
-      between = λ y lo hi. either_false (body_label label == y) _
+      between = λ y lo hi. neither (body_label label == y) _
           (ne_eqb (body_label label) y (λ s. omega (arith, s, lo)))
           (among_append (own_labels n c) rest y (own.below y hi)
           (others.between y (omega (arith, lo)) (omega (arith, hi))));
@@ -391,7 +392,7 @@ none_of_own [] e x le = refl
 none_of_own (l ∷ ls) e x le =
     let p = and_parts (nat_lt l 1088) (list_all (λ l. nat_lt l 1088) ls) e in
     let lt = ltb-true l 1088 p.0 in
-    either_false (l == x) (is_among ls x) (ne_eqb l x (λ s. omega (arith, s, le, lt))) (none_of_own ls p.1 x le)
+    neither (l == x) (is_among ls x) (ne_eqb l x (λ s. omega (arith, s, le, lt))) (none_of_own ls p.1 x le)
 
 pub program_once : (p : Source) (limit depth : ℕ) → list_all (λ c. forward c.labels c.instructions) p.bodies ≡ true
     → IsEachOnce (labels_in (program_code p limit depth))

@@ -43,7 +43,7 @@ use Rattle.sch_select.proofs.items.RestItems.{count_valid}
 use Rattle.sch_primitives.specs.OperandCode.{atom_code, unary_code, binary_code, read_code, operand_code, second_code}
 use Rattle.sch_operations.specs.CellCode.{source_code}
 use Rattle.sch_primitives.specs.ObjectCode.{check_heap, part_code}
-use Rattle.sch_own_routines.specs.Addresses.{part_operand, global_address, place_operand, literal_address}
+use Rattle.sch_places.specs.Addresses.{part_operand, global_address, place_operand, literal_address}
 use Rattle.sch_operations.specs.ClosureCode.{fields_code, record_code, closure_bytes, group_bytes, places_code}
 use Rattle.sch_operations.specs.ClosureCode.{records_code, group_code}
 use Rattle.sch_operations.specs.OperationCode.{operation_code}

@@ -1,9 +1,10 @@
 -- What the items before the body of a procedure owe, be they a check alone or the making of a list.
-use Rattle.std.proofs.Common.{◌≡◌, ℕ, ◌+◌, ◌-◌, ◌*◌, ◌<◌, ◌≤◌, List, [], ◌∷◌, ◌++◌, Bool, true, false}
+use Rattle.std.proofs.Common.{◌≡◌, ℕ, ◌+◌, ◌-◌, ◌*◌, ◌<◌, ◌≤◌, List, [], ◌∷◌, ◌++◌, Bool, true, false, Option, Some, None}
 use Rattle.std.proofs.Common.{refl, ap, ◌∙◌, arith, ◌==◌, ◌&&◌, ◌||◌, eq-eqb}
 use Rattle.std.specs.Prelude.{pos, nat_lt}
 use Rattle.std.proofs.lemmas.Bool.{ltb-true, lt-ltb, le-leb}
 use Rattle.std.proofs.Math.Bool.{or-true}
+use Rattle.sch_control.specs.declared.body.Entry.{Entry}
 use Rattle.sch_insn.proofs.PrefixCode.{spelling_short}
 use Rattle.sch_insn.specs.declared.insn.Arg.TheVariants.{Reg}
 use Rattle.sch_insn.specs.declared.insn.Insn.TheVariants.{MovTo, AddNumber, SubNumber, CmpNumber}
@@ -12,9 +13,9 @@ use Rattle.sch_asm.specs.declared.item.Item.TheVariants as item
 use Rattle.sch_asm.specs.Codes.{text_size}
 use Rattle.sch_asm.specs.Items.{is_among, labels_in, marks_arrive}
 use Rattle.sch_select.specs.Jumps.{jumps_ahead, goes_ahead}
-use Rattle.sch_select.specs.Program.{count_code}
+use Rattle.sch_select.specs.Program.{count_code, entry_code, passed_code}
 use Rattle.sch_own_routines.specs.RestCode.{list_code, list_label, check_enough}
-use Rattle.sch_own_routines.specs.Addresses.{first_label}
+use Rattle.sch_places.specs.Addresses.{first_label}
 use Rattle.sch_select.specs.Sizes.{instructions_in, kinds_in}
 use Rattle.sch_select.proofs.items.Sound.{items_valid, fits_32, in_front, fits_short}
 
@@ -47,11 +48,19 @@ list_appends : (b : Bool) (required n : ℕ) (rest : List Item)
 list_appends true required n rest = refl
 list_appends false required n rest = refl
 
-pub count_appends : (b : Bool) (formals n : ℕ) (rest : List Item)
+count_appends : (b : Bool) (formals n : ℕ) (rest : List Item)
     → count_code b formals n rest ≡ count_code b formals n [] ++ rest
 count_appends false formals n rest = refl
 count_appends true formals n rest =
     ap (λ items. check_enough (formals - 1) items) (list_appends (nat_lt (formals - 1) 6) (formals - 1) n rest)
+
+pub entry_appends : (entry : Option Entry) (n : ℕ) (rest : List Item) → entry_code entry n rest ≡ entry_code entry n [] ++ rest
+entry_appends None n rest = refl
+entry_appends (Some e) n rest = count_appends e.rest e.formals n rest
+
+pub passed_appends : (entry : Option Entry) (out : ℕ) (rest : List Item) → passed_code entry out rest ≡ passed_code entry out [] ++ rest
+passed_appends None out rest = refl
+passed_appends (Some e) out rest = refl
 
 -- ---- instructions and bytes
 

@@ -20,7 +20,7 @@ use Rattle.sch_asm.specs.declared.routine.Routine.TheVariants as routine
 use Rattle.sch_asm.specs.Codes.{text_size}
 use Rattle.sch_asm.specs.Routines.{label_of}
 use Rattle.sch_asm.proofs.Tables.{size_append}
-use Rattle.sch_own_routines.specs.Addresses.{body_label}
+use Rattle.sch_places.specs.Addresses.{body_label}
 use Rattle.sch_own_routines.specs.OwnCode.{own_code}
 use Rattle.sch_own_routines.specs.RestCode.{check_enough, list_code}
 use Rattle.sch_primitives.specs.OperandCode.{operand_code, second_code}
@@ -30,27 +30,12 @@ use Rattle.sch_operations.specs.OperationCode.{operation_code}
 use Rattle.sch_statics.specs.Data.{heap_of}
 use Rattle.sch_select.specs.Program.{count_code, entry_code, forms_code, labels_end, own_label, passed_code, program_code}
 use Rattle.sch_select.specs.Select.{body_code, instruction_code}
+use Rattle.sch_select.proofs.items.RestItems.{entry_appends, passed_appends}
 use Rattle.sch_select.proofs.items.Appending.{Appends, instruction_appends, operand_appends, second_appends, source_appends, then_appends}
 
 -- what is appended is as long as it is
 size_behind : (f : List Item → List Item) → Appends f → (rest : List Item) → text_size (f rest) ≡ text_size (f []) + text_size rest
 size_behind f a rest = ap text_size (a rest) ∙ size_append (f []) rest
-
-list_appends : (b : Bool) (required n : ℕ) → Appends (list_code b required n)
-list_appends true required n rest = refl
-list_appends false required n rest = refl
-
-count_appends : (b : Bool) (formals n : ℕ) → Appends (count_code b formals n)
-count_appends true formals n rest = ap (check_enough (formals - 1)) (list_appends (nat_lt (formals - 1) 6) (formals - 1) n rest)
-count_appends false formals n rest = refl
-
-entry_appends : (entry : Option Entry) (n : ℕ) → Appends (entry_code entry n)
-entry_appends None n rest = refl
-entry_appends (Some e) n rest = count_appends e.rest e.formals n rest
-
-passed_appends : (entry : Option Entry) (out : ℕ) → Appends (passed_code entry out)
-passed_appends None out rest = refl
-passed_appends (Some e) out rest = refl
 
 -- two ends of the heap
 module _ (heap_end other literals : ℕ) where

@@ -36,13 +36,13 @@ use Rattle.sch_asm.proofs.EachItem.{goes, branches, jumps}
 use Rattle.sch_heap.specs.Parts.{Parts}
 use Rattle.sch_heap.specs.Encoded.{IsWord}
 use Rattle.sch_frames.specs.Covered.{may_stand}
-use Rattle.sch_own_routines.specs.ItemMarks.{kind_of}
-use Rattle.sch_own_routines.specs.Addresses.{place_operand}
+use Rattle.sch_places.specs.ItemMarks.{kind_of}
+use Rattle.sch_places.specs.Addresses.{place_operand}
 use Rattle.sch_select.specs.Select.{instruction_code, body_code}
 use Rattle.sch_heap.proofs.Encodings.{fits, false_tested}
-use Rattle.sch_own_routines.proofs.simulation.Straight.{kept_set, moved_to}
-use Rattle.sch_own_routines.proofs.simulation.Places.{Plan, Activation, Holds, held_value, loaded, written, handed}
-use Rattle.sch_own_routines.proofs.simulation.Places.{places_kept}
+use Rattle.sch_places.proofs.Straight.{kept_set, moved_to}
+use Rattle.sch_places.proofs.Places.{Plan, Activation, Holds, held_value, loaded, written, handed}
+use Rattle.sch_places.proofs.Places.{places_kept}
 use Rattle.sch_select.proofs.items.Appending.{instruction_appends, Behind, behind}
 use Rattle.sch_own_routines.proofs.simulation.Outcomes.{Laid}
 use Rattle.sch_primitives.proofs.simulation.Operations.{Std, FrameOf, StoreOf, SimOf, onward, none_waits}

@@ -37,8 +37,8 @@ use Rattle.sch_frames.specs.Covered.{is_covered_program}
 use Rattle.sch_select.specs.Marks.{enters_procedure, marks_passed}
 use Rattle.sch_statics.specs.Data.{program_words}
 use Rattle.sch_select.specs.Program.{form_code, frames_bytes, program_code, program_zeros, stack_bytes}
-use Rattle.sch_own_routines.specs.Addresses.{body_label, stop_label}
-use Rattle.sch_own_routines.specs.ItemMarks.{kind_of}
+use Rattle.sch_places.specs.Addresses.{body_label, stop_label}
+use Rattle.sch_places.specs.ItemMarks.{kind_of}
 use Rattle.sch_frames.specs.Sizes.{closures_in, instructions_size}
 use Rattle.sch_select.specs.Sizes.{instructions_in, kinds_in, kinds_of, steps_bound}
 use Rattle.sch_select.proofs.programs.Examples.{text_of, number}
@@ -186,19 +186,19 @@ covered = (refl, refl, refl, refl, refl, refl, refl)
 
 -- ## Marks and bounds
 
-abbrev noted : Source
-noted = calling 0 (Mark (mark.Call 3) ∷ Call false 0 ∷ Ended ∷ []) (Do (operation.Operand (number (pos 7))) ∷ Mark mark.Return ∷ Return ∷ [])
+abbrev with_marks : Source
+with_marks = calling 0 (Mark (mark.Call 3) ∷ Call false 0 ∷ Ended ∷ []) (Do (operation.Operand (number (pos 7))) ∷ Mark mark.Return ∷ Return ∷ [])
 
 -- the mark of a call is passed before it is known whether an entry is left
 marks :
-    (marks_passed noted 16 1 [] 5 ≡ Some (mark.Enter 0 ∷ mark.Call 3 ∷ mark.Enter 1 ∷ mark.Return ∷ []))
-    × (marks_passed noted 16 1 [] 0 ≡ Some (mark.Enter 0 ∷ mark.Call 3 ∷ []))
-    × (marks_passed noted 16 0 [] 5 ≡ Some (mark.Enter 0 ∷ mark.Call 3 ∷ []))
-    × (enters_procedure (entries_of noted.bodies) (kind_of (mark.Enter 1)) ≡ true)
-    × (enters_procedure (entries_of noted.bodies) (kind_of (mark.Enter 0)) ≡ false)
-    × (is_covered_program noted ≡ true)
-    × (kinds_of 0 noted.bodies ≡ item_mark.Enter 0 ∷ item_mark.Call 3 ∷ item_mark.Enter 1 ∷ item_mark.Return ∷ [])
-    × (kinds_in (program_code noted 16 1) ≡ kinds_of 0 noted.bodies)
+    (marks_passed with_marks 16 1 [] 5 ≡ Some (mark.Enter 0 ∷ mark.Call 3 ∷ mark.Enter 1 ∷ mark.Return ∷ []))
+    × (marks_passed with_marks 16 1 [] 0 ≡ Some (mark.Enter 0 ∷ mark.Call 3 ∷ []))
+    × (marks_passed with_marks 16 0 [] 5 ≡ Some (mark.Enter 0 ∷ mark.Call 3 ∷ []))
+    × (enters_procedure (entries_of with_marks.bodies) (kind_of (mark.Enter 1)) ≡ true)
+    × (enters_procedure (entries_of with_marks.bodies) (kind_of (mark.Enter 0)) ≡ false)
+    × (is_covered_program with_marks ≡ true)
+    × (kinds_of 0 with_marks.bodies ≡ item_mark.Enter 0 ∷ item_mark.Call 3 ∷ item_mark.Enter 1 ∷ item_mark.Return ∷ [])
+    × (kinds_in (program_code with_marks 16 1) ≡ kinds_of 0 with_marks.bodies)
 marks = (refl, refl, refl, refl, refl, refl, refl, refl)
 
 -- a procedure is jumped over, and its mark stands behind the check of its operands' count
@@ -217,9 +217,9 @@ seven = record { entry = None; words = 3; labels = 0; instructions = Do (operati
 bounds :
     (frames_bytes 3 10 ≡ 264)
     × (stack_bytes 3 10 ≡ 288)
-    × (program_zeros noted 16 10 ≡ 304)
-    × (closures_in noted.bodies ≡ 2)
-    × (steps_bound noted 2 1 48 ≡ 256 * 12 * 3 + 26 + 8 * 48)
+    × (program_zeros with_marks 16 10 ≡ 304)
+    × (closures_in with_marks.bodies ≡ 2)
+    × (steps_bound with_marks 2 1 48 ≡ 256 * 12 * 3 + 26 + 8 * 48)
     × (instructions_in (form_code 3 0 0 1 2000 returning []) ≡ 4)
     × (instructions_size seven.instructions ≡ 2)
     × (instructions_in (form_code 3 0 0 0 2000 seven []) ≡ 1)

@@ -27,7 +27,7 @@ use Rattle.sch_insn.proofs.Paths.{traced_progress}
 use Rattle.sch_asm.specs.declared.item.MarkKind.{MarkKind}
 use Rattle.sch_select.specs.Follows.{AreRuns}
 use Rattle.sch_select.specs.Marks.{CountsEntries, PassesMarks, enters_body, enters_procedure, marks_of, marks_passed}
-use Rattle.sch_own_routines.specs.ItemMarks.{kind_of}
+use Rattle.sch_places.specs.ItemMarks.{kind_of}
 use Rattle.sch_select.proofs.programs.EnterMarks.{Kept, Stays, callee_of, form_kept}
 use Rattle.sch_select.proofs.programs.Bodies.{map_one}
 

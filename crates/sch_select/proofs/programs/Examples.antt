@@ -29,7 +29,7 @@ use Rattle.sch_insn.specs.Step.{mach}
 use Rattle.sch_asm.specs.declared.item.Item.{Item}
 use Rattle.sch_asm.specs.Codes.{item_size, bytes_of}
 use Rattle.sch_asm.specs.Data.{data_at}
-use Rattle.sch_asm.specs.Layout.{addresses_from, emitted, numbered, placed_by}
+use Rattle.sch_asm.specs.Layout.{addresses_from, emitted, placed}
 use Rattle.sch_asm.specs.Views.{text_at}
 use Rattle.sch_runtime.specs.Code.{routine_items}
 use Rattle.sch_statics.specs.Data.{program_words}
@@ -54,9 +54,9 @@ items_of heap p = program_code p heap 1 ++ routine_items
 
 abbrev pub text_of : List Item → List ℕ
 text_of items =
-    let numbers = numbered items 0 (replicate 1600 0) in
     let addresses = addresses_from 0x400000 (map item_size items) in
-    flat_map spelling (emitted (placed_by numbers addresses) (slice_index addresses) 0 items)
+    let places = placed (slice_index addresses) items 0 (replicate 1600 0) in
+    flat_map spelling (emitted (slice_index places) (slice_index addresses) 0 items)
 
 -- how a program ends within 400 steps, with a limit of the heap
 abbrev ends_in : (heap : ℕ) → Source → List Answer → Option (ℕ × List ℕ)

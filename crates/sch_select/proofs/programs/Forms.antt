@@ -31,10 +31,10 @@ use Rattle.sch_heap.specs.Parts.{Parts}
 use Rattle.sch_control.specs.CoveredOperands.{is_form}
 use Rattle.sch_frames.specs.Covered.{is_covered_code, may_stand}
 use Rattle.sch_select.proofs.programs.FreeCodes.{code_parts}
-use Rattle.sch_own_routines.specs.ItemMarks.{kind_of}
-use Rattle.sch_own_routines.specs.Addresses.{body_label}
+use Rattle.sch_places.specs.ItemMarks.{kind_of}
+use Rattle.sch_places.specs.Addresses.{body_label}
 use Rattle.sch_select.specs.Program.{passed_code, count_code, entry_code, form_code, forms_code, labels_end}
-use Rattle.sch_own_routines.proofs.simulation.Places.{Plan, Room, Activation, StoreAt, PlacesAt}
+use Rattle.sch_places.proofs.Places.{Plan, Room, Activation, StoreAt, PlacesAt}
 use Rattle.sch_own_routines.proofs.simulation.Entering.{Enters}
 use Rattle.sch_select.proofs.programs.Standing.{count_past, after_body, entered_code}
 use Rattle.sch_own_routines.proofs.simulation.Outcomes.{Ends, Goes_on, Sim, Laid, ends_after, paid}

@@ -25,13 +25,13 @@ use Rattle.sch_asm.specs.Stands.{Setting, Stands}
 use Rattle.sch_asm.specs.Views.{text_at}
 use Rattle.sch_asm.proofs.Joined.{joined}
 use Rattle.sch_asm.proofs.Standing.{setting_of, stands_front}
-use Rattle.sch_select.proofs.items.RestItems.{count_appends}
+use Rattle.sch_select.proofs.items.RestItems.{entry_appends, passed_appends}
 use Rattle.sch_own_routines.specs.RestCode.{rest_routine}
-use Rattle.sch_own_routines.specs.Addresses.{put_label, vector_label, string_label, body_label}
+use Rattle.sch_places.specs.Addresses.{put_label, vector_label, string_label, body_label}
 use Rattle.sch_select.specs.Select.{body_code}
 use Rattle.sch_statics.specs.NameWords.{symbol_words, symbols_count}
 use Rattle.sch_statics.specs.Data.{program_words, names_of, closures_of, heap_of, max_heap_address}
-use Rattle.sch_own_routines.specs.StaticBytes.{static_bytes}
+use Rattle.sch_places.specs.StaticBytes.{static_bytes}
 use Rattle.sch_select.specs.Program.{own_label, passed_code, entry_code, forms_code, form_code, labels_end}
 use Rattle.sch_select.specs.Program.{program_code, program_zeros, max_stack, stack_bytes}
 use Rattle.sch_own_routines.specs.OwnCode.{own_code}
@@ -46,7 +46,7 @@ use Rattle.sch_select.specs.Ends.{EndsWithin}
 use Rattle.sch_select.specs.Sizes.{steps_bound}
 use Rattle.sch_select.specs.Marks.{PassesMarks, marks_passed}
 use Rattle.sch_select.specs.Follows.{AreRuns, EndsFrames, EntersFrames, FollowsFrames, PassesFrames}
-use Rattle.sch_own_routines.proofs.simulation.Places.{Plan, Room}
+use Rattle.sch_places.proofs.Places.{Plan, Room}
 use Rattle.sch_select.proofs.items.Appending.{Appends, then_appends, body_appends, behind}
 use Rattle.sch_own_routines.proofs.simulation.Outcomes.{Laid}
 use Rattle.sch_select.proofs.programs.Procedures.{bodies_cost}
@@ -68,14 +68,6 @@ pub record IsSelected (p : Source) (heap depth : ℕ) (items : List Item) (data_
   pub enters : EntersFrames p heap depth items data_words zeros
 
 -- ---- what stands behind the forms
-
-passed_appends : (o : Option Entry) (out : ℕ) → Appends (passed_code o out)
-passed_appends None out rest = refl
-passed_appends (Some e) out rest = refl
-
-entry_appends : (o : Option Entry) (n : ℕ) → Appends (entry_code o n)
-entry_appends None n rest = refl
-entry_appends (Some e) n rest = count_appends e.rest e.formals n rest
 
 -- what stands behind the routine that puts any value
 abbrev string_tail : (heap_end : ℕ) → List Item

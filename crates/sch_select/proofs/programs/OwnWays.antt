@@ -23,7 +23,7 @@ use Rattle.sch_activations.proofs.Turns.{Sound, beginning_ways}
 use Rattle.sch_activations.proofs.OwnWays.{Ends, own_ways}
 use Rattle.sch_select.specs.Follows.{AreRuns, PassesFrames, TakesFrames}
 use Rattle.sch_select.specs.Marks.{PassesMarks, TakesWays, marks_of, marks_passed}
-use Rattle.sch_own_routines.specs.ItemMarks.{kind_of}
+use Rattle.sch_places.specs.ItemMarks.{kind_of}
 
 -- a beginning of kinds of marks is that of the first of the marks
 first_marks : (kinds rest : List MarkKind) (marks : List control.MarkKind) → kinds ++ rest ≡ map kind_of marks

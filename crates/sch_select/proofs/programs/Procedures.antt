@@ -43,12 +43,12 @@ use Rattle.sch_frames.specs.Covered.{is_covered_code, may_stand}
 use Rattle.sch_select.proofs.programs.FreeCodes.{IsFree, code_parts}
 use Rattle.sch_select.specs.Program.{count_code}
 use Rattle.sch_own_routines.specs.RestCode.{rest_entry}
-use Rattle.sch_own_routines.specs.ItemMarks.{kind_of}
+use Rattle.sch_places.specs.ItemMarks.{kind_of}
 use Rattle.sch_select.specs.Select.{body_code}
 use Rattle.sch_operations.specs.CallCode.{check_count}
-use Rattle.sch_own_routines.specs.Addresses.{stop_label}
-use Rattle.sch_own_routines.proofs.simulation.Straight.{Halts}
-use Rattle.sch_own_routines.proofs.simulation.Places.{Plan, code_of, Activation, StoreAt, PlacesAt}
+use Rattle.sch_places.specs.Addresses.{stop_label}
+use Rattle.sch_places.proofs.Straight.{Halts}
+use Rattle.sch_places.proofs.Places.{Plan, code_of, Activation, StoreAt, PlacesAt}
 use Rattle.sch_own_routines.proofs.simulation.Outcomes.{Ends, Goes_on, Lands, Sim, Laid, after, ends_after}
 use Rattle.sch_own_routines.proofs.simulation.Outcomes.{goes_on_after, stops_here, paid}
 use Rattle.sch_own_routines.proofs.simulation.Entering.{Enters}

@@ -35,17 +35,17 @@ use Rattle.sch_asm.proofs.EachItem.{goes}
 use Rattle.sch_heap.specs.Parts.{Parts, end_of}
 use Rattle.sch_heap.specs.Encoded.{IsWord, IsHeld}
 use Rattle.sch_heap.specs.Heap.{HeapAt, AreNew}
-use Rattle.sch_own_routines.specs.Addresses.{table_address, literal_address, global_address, names_address}
+use Rattle.sch_places.specs.Addresses.{table_address, literal_address, global_address, names_address}
 use Rattle.sch_select.specs.Program.{own_label, forms_code}
 use Rattle.sch_control.specs.declared.mark.MarkKind as control
-use Rattle.sch_own_routines.specs.ItemMarks.{kind_of}
+use Rattle.sch_places.specs.ItemMarks.{kind_of}
 use Rattle.sch_select.specs.Ends.{EndsWithin}
 use Rattle.sch_select.specs.Sizes.{steps_bound}
 use Rattle.sch_select.proofs.programs.Steps.{steps_within}
 use Rattle.sch_select.specs.Marks.{PassesMarks, marks_of, marks_passed}
 use Rattle.sch_select.specs.Follows.{AreRuns}
 use Rattle.sch_select.proofs.programs.Passing.{Passes, traces}
-use Rattle.sch_own_routines.proofs.simulation.Places.{Plan, code_of, Room, StoreAt}
+use Rattle.sch_places.proofs.Places.{Plan, code_of, Room, StoreAt}
 use Rattle.sch_own_routines.proofs.simulation.Outcomes.{Ends, Laid}
 use Rattle.sch_own_routines.proofs.simulation.Entering.{Enters}
 use Rattle.sch_select.proofs.programs.Procedures.{BodyAt, bodies_cost, enter_sim}

@@ -1,28 +1,21 @@
 -- The test of a fixnum says what the fact says, and what that is in natural numbers.
 use Rattle.std.proofs.Common.{◌≡◌, ℕ, ◌≤◌, ◌<◌, ◌^◌, ◌-◌, Bool, true, false, ℤ, pos, negsuc, refl, sym, subst, T, arith}
-use Rattle.std.specs.Prelude.{int_le, nat_le, nat_abs, ◌&&◌}
+use Rattle.std.specs.Prelude.{int_le, nat_le, nat_abs}
 use Rattle.std.proofs.lemmas.Bool.{le-leb}
 use Rattle.std.proofs.lemmas.Bool.Decides.{nat_tests}
 use Rattle.std.specs.Int.Signed.{le_z_yes}
 use Rattle.sch_word.specs.declared.fix.TheConstants.{FIXNUM_MIN, FIXNUM_MAX}
 use Rattle.sch_word.specs.declared.tag.TheConstants.{FIXNUM_SHIFT}
 use Rattle.sch_word.specs.values.Fixnum.{IsFixnum, is_fixnum}
+use Rattle.sch_word.proofs.facts.Booleans.{and_of, and_parts}
 
 true_of : (b : Bool) → T b → b ≡ true
 true_of true h = refl
 true_of false h = absurd h
 
-both_true : (a b : Bool) → (a && b) ≡ true → (a ≡ true) × (b ≡ true)
-both_true true b h = (refl, h)
-both_true false b h = absurd (cc)
-
-and_of : (a b : Bool) → a ≡ true → b ≡ true → (a && b) ≡ true
-and_of true b g h = h
-and_of false b g h = absurd (cc)
-
 pub is_fixnum_says : (z : ℤ) → is_fixnum z ≡ true → IsFixnum z
 is_fixnum_says z h =
-    let both = both_true (int_le FIXNUM_MIN z) (int_le z FIXNUM_MAX) h in
+    let both = and_parts (int_le FIXNUM_MIN z) (int_le z FIXNUM_MAX) h in
     record { low = le_z_yes (subst T (sym both.0) tt); high = le_z_yes (subst T (sym both.1) tt) }
 
 pub is_fixnum_holds : (z : ℤ) → IsFixnum z → is_fixnum z ≡ true

@@ -11,7 +11,8 @@ use Rattle.sch_numbers.specs.Programs.{seen, program_of}
 use Rattle.sch_keeping.specs.Definitions.{definitions_of}
 use Rattle.sch_linking.specs.Ranged.{IsValidOnceRanged}
 use Rattle.sch_toplevel.specs.Views.{given}
-use Rattle.sch_core.specs.Programs.{form_places, first_excess}
+use Rattle.sch_core.specs.Programs.{first_excess}
+use Rattle.sch_toplevel.specs.Forms.{form_places}
 use Rattle.sch_core.proofs.Answering.{faulty, exceeding, found, valid_once, small, places_are}
 use Rattle.sch_core.proofs.DataLaws.{faulty_error, excessive_error, first_counted, never_both, one_program, err_only}
 use Rattle.sch_core.proofs.expander.core.Goals as goal

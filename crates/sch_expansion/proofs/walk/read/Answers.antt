@@ -8,8 +8,8 @@ use Rattle.sch_expansion.proofs.walk.read.Goals as goal
 
 pub loop-next-init : goal.loop-next-init
 loop-next-init c = λ m e r.
-    let r' = rw c.new-scope.ensures at r in
-    rw c.new-stack.ensures r'
+    let r' = rw c.new-2.ensures at r in
+    rw c.new.ensures r'
 
 pub returns-in-None : goal.returns-in-None
 returns-in-None c =

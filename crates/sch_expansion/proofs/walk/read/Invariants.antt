@@ -8,7 +8,7 @@ use Rattle.sch_expansion.proofs.walk.read.Given as goal
 abbrev pub invariant-loop-next : goal.invariant-loop-next
 invariant-loop-next l =
     Ready (record { globals = globals_of l.fn.globals; level = 1; scope = []; position = Value; sketch = sketch_of l.fn.sketch; fault = l.fn.fault })
-    l.next (reverse l.stack) l.scope l.fault
+    l.next (reverse l.walk.stack) l.walk.scope l.fault
 
 abbrev pub decreases-loop-next : goal.decreases-loop-next
-decreases-loop-next l = next_left l.next (reverse l.stack)
+decreases-loop-next l = next_left l.next (reverse l.walk.stack)

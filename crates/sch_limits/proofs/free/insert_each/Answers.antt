@@ -1,4 +1,4 @@
-use Rattle.sch_limits.proofs.FreeLists.{union_next}
+use Rattle.sch_word.proofs.facts.NumberSets.{union_next}
 use Rattle.sch_limits.proofs.free.insert_each.Goals as goal
 
 pub loop-x-preserved : goal.loop-x-preserved

@@ -1,6 +1,6 @@
 use Rattle.std.proofs.Common.{◌∙◌, sym, ap}
 use Rattle.sch_word.specs.trees.NumberSets.{has}
-use Rattle.sch_limits.proofs.FreeLists.{inserted, not_inserted}
+use Rattle.sch_word.proofs.facts.NumberSets.{inserted, not_inserted}
 use Rattle.sch_limits.proofs.free.insert_variable.Goals as goal
 
 pub returns-in_ok-push : goal.returns-in_ok-push

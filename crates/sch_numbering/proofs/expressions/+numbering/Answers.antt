@@ -9,17 +9,17 @@ use Rattle.sch_numbers.proofs.DraftLists.{width_is}
 use Rattle.sch_numbering.proofs.NumberSteps.{sites_more, literals_more, branch_made, bind_made, letrec_made, call_made, operation_made, branch_sites, bind_sites, letrec_sites, call_sites, operation_sites, branch_literals, bind_literals, letrec_literals, call_literals, next_numbered, end_numbered, next_sites, next_literals, next_constants, end_constants, group_is, unless_is, name_is}
 use Rattle.sch_numbering.proofs.expressions.+numbering.Goals as goal
 
-pub number-returns-in_ok-made-in-If-clause-made : goal.number-returns-in_ok-made-in-If-clause-made
-number-returns-in_ok-made-in-If-clause-made t c = c.in_ok-made-in-If.ensures.made _
+pub number-returns-in_ok-number_branch-in-If-clause-made : goal.number-returns-in_ok-number_branch-in-If-clause-made
+number-returns-in_ok-number_branch-in-If-clause-made t c = c.in_ok-number_branch-in-If.ensures.made _
 
-pub number-returns-in_ok-made-in-Let-clause-made : goal.number-returns-in_ok-made-in-Let-clause-made
-number-returns-in_ok-made-in-Let-clause-made t c = c.in_ok-made-in-Let.ensures.made _
+pub number-returns-in_ok-number_let-in-Let-clause-made : goal.number-returns-in_ok-number_let-in-Let-clause-made
+number-returns-in_ok-number_let-in-Let-clause-made t c = c.in_ok-number_let-in-Let.ensures.made _
 
-pub number-returns-in_ok-made-in-Letrec-clause-made : goal.number-returns-in_ok-made-in-Letrec-clause-made
-number-returns-in_ok-made-in-Letrec-clause-made t c = c.in_ok-made-in-Letrec.ensures.made _
+pub number-returns-in_ok-number_letrec-in-Letrec-clause-made : goal.number-returns-in_ok-number_letrec-in-Letrec-clause-made
+number-returns-in_ok-number_letrec-in-Letrec-clause-made t c = c.in_ok-number_letrec-in-Letrec.ensures.made _
 
-pub number-returns-in_ok-made-in-Call-clause-made : goal.number-returns-in_ok-made-in-Call-clause-made
-number-returns-in_ok-made-in-Call-clause-made t c = c.in_ok-made-in-Call.ensures.made _
+pub number-returns-in_ok-number_call-in-Call-clause-made : goal.number-returns-in_ok-number_call-in-Call-clause-made
+number-returns-in_ok-number_call-in-Call-clause-made t c = c.in_ok-number_call-in-Call.ensures.made _
 
 pub number_branch-returns-clause-made : goal.number_branch-returns-clause-made
 number_branch-returns-clause-made t c = λ v.

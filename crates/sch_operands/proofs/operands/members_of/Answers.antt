@@ -3,8 +3,9 @@ use Rattle.sch_flat.specs.View.{made}
 use Rattle.sch_normal.specs.LabelsFit.{LabelsOfMade}
 use Rattle.sch_normal.specs.Normal.{members_of}
 use Rattle.sch_operands.specs.ScopeTable.{scope_of}
-use Rattle.sch_operands.proofs.Lists.{members_turn, made_turn, members_end, length_is}
+use Rattle.sch_operands.proofs.Lists.{members_turn, made_turn, members_end}
 use Rattle.sch_operands.proofs.operands.members_of.Goals as goal
+use Rattle.sch_word.proofs.facts.Lists.{map_length}
 
 pub loop-m-init : goal.loop-m-init
 loop-m-init c = record {
@@ -19,7 +20,7 @@ closure_of-requires-clause-labels c =
 
 pub overflow_add-at : goal.overflow_add-at
 overflow_add-at c =
-    let n = length_is made c.args.ms.now in
+    let n = map_length made c.args.ms.now in
     let m = ap length c.as_slice-m-items.ensures in
     omega (arith, n, m, c.requires.few, c.loop-m.invariant.at, c.loop-m-test.true)
 

@@ -5,7 +5,7 @@ use Rattle.sch_asm.specs.declared.item.Item.TheVariants as item
 use Rattle.sch_own_routines.specs.MakeCode.{make_string_code, make_vector_code}
 use Rattle.sch_own_routines.specs.PutCode.{put_value_code}
 use Rattle.sch_own_routines.specs.RestCode.{rest_routine}
-use Rattle.sch_own_routines.specs.Addresses.{put_label, string_label, vector_label}
+use Rattle.sch_places.specs.Addresses.{put_label, string_label, vector_label}
 use Rattle.sch_own_routines.proofs.routines.own_routines.Goals as goal
 
 -- routines that stand one behind the other

@@ -14,7 +14,7 @@ use Rattle.sch_literals.proofs.Rows.{count_rows}
 use Rattle.sch_statics.specs.Data.{static_count, objects_unit, names_of, closures_of, heap_of, max_heap_address}
 use Rattle.sch_statics.specs.Data.{data_words, program_words}
 use Rattle.sch_select.specs.Program.{max_data, max_stack, program_code, program_zeros, own_label, stack_bytes}
-use Rattle.sch_own_routines.specs.Addresses.{names_address}
+use Rattle.sch_places.specs.Addresses.{names_address}
 use Rattle.sch_select.specs.Sizes.{instructions_in, kinds_in, kinds_of}
 use Rattle.sch_select.proofs.programs.CoveredPrograms.{codes_free, entries_selected, globals_known, labels_known}
 use Rattle.sch_select.proofs.programs.CoveredPrograms.{covered_selected, texts_are, literals_are, literals_named}

@@ -33,12 +33,12 @@ returns-clause-covered c h = ap (list_all is_covered_code) (returns-clause-made 
 pub returns-clause-size : goal.returns-clause-size
 returns-clause-size c =
     let cs = control.codes_of c.args.bodies.now in
-    subst (λ fs. codes_size fs ≤ 2 * expressions_size cs + 4 * calls_parts cs + entries_size cs) (sym (returns-clause-made c)) (all_size cs)
+    subst (λ fs. codes_size fs ≤ 2 * expressions_size cs + 4 * calls_parts cs + entries_size cs) (sym (returns-clause-made c)) (all_size c.args.bodies.now)
 
 pub returns-clause-work : goal.returns-clause-work
 returns-clause-work c =
     let cs = control.codes_of c.args.bodies.now in
-    subst (λ fs. codes_size fs + closures_in fs ≤ codes_work cs) (sym (returns-clause-made c)) (all_work cs)
+    subst (λ fs. codes_size fs + closures_in fs ≤ codes_work cs) (sym (returns-clause-made c)) (all_work c.args.bodies.now)
 
 pub returns-clause-words : goal.returns-clause-words
 returns-clause-words c = ap frame_words (returns-clause-made c)

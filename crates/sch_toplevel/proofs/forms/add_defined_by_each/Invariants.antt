@@ -1,10 +1,13 @@
-use Rattle.std.proofs.Common.{◌≡◌, drop, map}
+use Rattle.std.proofs.Common.{◌≡◌, drop}
 use Rattle.sch_names.specs.NamesView.{names_of}
 use Rattle.sch_numbers.specs.Named.{firsts}
-use Rattle.sch_toplevel.specs.Forms.{form_sketch, defined_by_each}
-use Rattle.sch_toplevel.specs.Views.{trees_of}
+use Rattle.sch_toplevel.specs.FormView.{sketches_at}
+use Rattle.sch_toplevel.specs.Forms.{defined_by_each}
 use Rattle.sch_toplevel.proofs.forms.add_defined_by_each.Given as goal
 
-abbrev pub invariant-loop-d : goal.invariant-loop-d
-invariant-loop-d l =
-    firsts (names_of l.names) (defined_by_each (map form_sketch (trees_of (drop l.d-index l.forms)))) ≡ firsts (names_of l.initial.names) (defined_by_each (map form_sketch (trees_of l.forms)))
+abbrev pub invariant-loop-form : goal.invariant-loop-form
+invariant-loop-form l = record {
+  bound : firsts (names_of l.globals.bound) (defined_by_each (sketches_at (drop l.form-index l.forms))) ≡ firsts (names_of l.initial.globals.bound) (defined_by_each (sketches_at l.forms));
+  own : firsts (names_of l.globals.own) (defined_by_each (sketches_at (drop l.form-index l.forms))) ≡ firsts (names_of l.initial.globals.own) (defined_by_each (sketches_at l.forms));
+  internal : l.globals.internal ≡ l.initial.globals.internal;
+}

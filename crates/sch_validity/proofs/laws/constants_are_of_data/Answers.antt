@@ -1,4 +1,4 @@
-use Rattle.sch_validity.proofs.Forms.{forms_constants}
+use Rattle.sch_validity.proofs.programs.Forms.{forms_constants}
 use Rattle.sch_validity.proofs.laws.constants_are_of_data.Goals as goal
 
 pub returns : goal.returns

@@ -1,4 +1,4 @@
-use Rattle.sch_validity.proofs.Items.{item_is_definition, item_ordered, item_statics, item_nodes, item_constants}
+use Rattle.sch_validity.proofs.programs.Items.{item_is_definition, item_ordered, item_statics, item_nodes, item_constants}
 use Rattle.sch_validity.proofs.laws.items_are_definitions.Goals as goal
 
 pub returns-clause-sound : goal.returns-clause-sound

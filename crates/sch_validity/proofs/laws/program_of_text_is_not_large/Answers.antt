@@ -1,4 +1,4 @@
-use Rattle.sch_validity.proofs.Forms.{text_not_large}
+use Rattle.sch_validity.proofs.programs.Forms.{text_not_large}
 use Rattle.sch_validity.proofs.laws.program_of_text_is_not_large.Goals as goal
 
 pub returns : goal.returns

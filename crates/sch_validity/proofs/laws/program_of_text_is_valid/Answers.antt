@@ -1,4 +1,4 @@
-use Rattle.sch_validity.proofs.Forms.{valid_text}
+use Rattle.sch_validity.proofs.programs.Forms.{valid_text}
 use Rattle.sch_validity.proofs.laws.program_of_text_is_valid.Goals as goal
 
 pub returns : goal.returns

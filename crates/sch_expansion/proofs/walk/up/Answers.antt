@@ -1,7 +1,0 @@
-use Rattle.std.proofs.Common.{refl, reverse}
-use Rattle.sch_expansion.proofs.Stacks.{part_made}
-use Rattle.sch_expansion.proofs.walk.up.Goals as goal
-
-pub returns-clause-ready : goal.returns-clause-ready
-returns-clause-ready c = λ w b h.
-    c.resume.ensures.ready w b (part_made w c.args.node _ (reverse c.args.stack.now) c.args.scope.now _ b c.args.e refl refl refl refl c.in_ok-push.ensures.ok c.leave.ensures refl h)

@@ -1,0 +1,5 @@
+pub mod Straight
+pub mod Places
+pub mod HeapWrites
+pub mod Changes
+pub mod StoredNames

@@ -1,0 +1,12 @@
+use Rattle.std.proofs.Common.{◌≡◌, ◌++◌, List, drop}
+use Rattle.sch_asm.specs.declared.item.Item.{Item}
+use Rattle.sch_frames.specs.SourceView.{codes_of}
+use Rattle.sch_select.specs.Program.{forms_code}
+use Rattle.sch_select.proofs.body_items.forms.Given as goal
+
+abbrev pub invariant-loop-b : goal.invariant-loop-b
+invariant-loop-b l = record {
+  items : (rest : List Item) → l.out ++ forms_code l.frames.words l.frames.heap_end l.frames.literals l.label l.next
+      (codes_of (drop l.b-index l.bodies)) rest ≡ l.initial.out ++ forms_code l.frames.words l.frames.heap_end l.frames.literals 0 l.n
+      (codes_of l.bodies) rest;
+}

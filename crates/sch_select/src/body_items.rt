@@ -1,0 +1,207 @@
+//! The items of bodies.
+
+ghost use Rattle.std.specs.Prelude.{◌≡◌, ◌+◌, ◌++◌, ◌*◌, IfOk, OnOk, List, length};
+ghost use Rattle.sch_asm.specs.declared.item.Item.{Item};
+ghost use Rattle.sch_frames.specs.declared.instruction.Instruction.TheVariants.{Copy, Load};
+ghost use Rattle.sch_frames.specs.SourceView.{codes_of, code_of};
+ghost use Rattle.sch_select.specs.Select.{body_code, instruction_code};
+ghost use Rattle.sch_places.specs.ItemMarks.{kind_of};
+ghost use Rattle.sch_select.specs.Program.{count_code, entry_code, form_code, forms_code, labels_end, passed_code};
+
+use sch_asm::{Item, MarkKind};
+use sch_control::{Entry, MarkKind as ControlMark, Operand};
+use sch_frames::{FrameBody, Instruction};
+use sch_insn::condition::E;
+use sch_insn::register::{R15, RAX, RCX};
+use sch_insn::{Arg, Insn};
+use sch_operations::{call, check_count, group, operation, tail_call};
+use sch_own_routines::enter_rest;
+use sch_places::addresses::{above, body_label, place_operand};
+use sch_primitives::second;
+use sch_word::{List, Mem, Place};
+
+/// A mark of a body as a mark of an item.
+fn kind_of(mark: ControlMark) -> MarkKind
+    ensures { result ≡ kind_of mark }
+{
+    match mark {
+        ControlMark::Enter(label) => MarkKind::Enter(label),
+        ControlMark::Save(x) => MarkKind::Save(x),
+        ControlMark::Restore(x) => MarkKind::Restore(x),
+        ControlMark::Spill(x) => MarkKind::Spill(x),
+        ControlMark::Temp => MarkKind::Temp,
+        ControlMark::Argument => MarkKind::Argument,
+        ControlMark::Call(site) => MarkKind::Call(site),
+        ControlMark::Return => MarkKind::Return,
+        ControlMark::Tail(site) => MarkKind::Tail(site),
+    }
+}
+
+/// Where the labels of a body are, its own from `base` on, and `end` behind it; how many words a frame has; where
+/// the heap ends; and how many literals there are.
+#[derive(Clone, Copy)]
+struct Labels {
+    base: u32,
+    end: u32,
+    words: u32,
+    heap_end: u32,
+    literals: u32,
+}
+
+/// What a place has into another one.
+fn copy(out: &mut List<Item>, to: Place, from: Place) -> Result<(), Mem>
+    ensures { OnOk result ((rest : List Item) → out.new ++ rest ≡ out.old ++ instruction_code 0 0 0 0 0 0 (Copy to from) rest) }
+{
+    let to = place_operand(to)?;
+    let from = place_operand(from)?;
+    out.push(Item::Plain(Insn::MovFrom(RCX, from)))?;
+    out.push(Item::Plain(Insn::MovTo(to, RCX)))
+}
+
+/// An operand into a place.
+fn load(out: &mut List<Item>, n: u32, p: Place, o: &Operand<Place>) -> Result<(), Mem>
+    ensures { OnOk result ((rest : List Item) → out.new ++ rest ≡ out.old ++ instruction_code 0 0 0 0 0 n (Load p o.now) rest) }
+{
+    let place = place_operand(p)?;
+    second(out, n, o)?;
+    out.push(Item::Plain(Insn::MovTo(place, RCX)))
+}
+
+/// One instruction, whose own labels are from n on.
+fn instruction(out: &mut List<Item>, labels: Labels, n: u32, i: &Instruction) -> Result<(), Mem>
+    ensures { OnOk result ((rest : List Item) → out.new ++ rest
+        ≡ out.old ++ instruction_code labels.base labels.end labels.words labels.heap_end labels.literals n i.now rest) }
+{
+    match i {
+        Instruction::Do(o) => operation(out, labels.heap_end, labels.literals, n, o),
+        Instruction::Store(p) => {
+            let place = place_operand(*p)?;
+            out.push(Item::Plain(Insn::MovTo(place, RAX)))
+        }
+        Instruction::Copy(to, from) => copy(out, *to, *from),
+        Instruction::Load(p, o) => load(out, n, *p, o),
+        Instruction::Pass(k, o) => load(out, n, Place::Slot(above(labels.words, *k)?), o),
+        Instruction::Fix(members) => group(out, labels.heap_end, members.as_slice()),
+        Instruction::Call(_, count) => call(out, labels.words, n, *count),
+        Instruction::Tail(_, count) => tail_call(out, *count),
+        Instruction::Return => out.push(Item::Plain(Insn::JumpTo(Arg::Reg(R15)))),
+        Instruction::End => out.push(Item::Jump(labels.end)),
+        Instruction::IfFalse(l) => {
+            let label = above(labels.base, *l)?;
+            out.push(Item::Plain(Insn::CmpNumber(Arg::Reg(RAX), 6)))?;
+            out.push(Item::JumpIf(E, label))
+        }
+        Instruction::Jump(l) => {
+            let label = above(labels.base, *l)?;
+            out.push(Item::Jump(label))
+        }
+        Instruction::Label(l) => {
+            let label = above(labels.base, *l)?;
+            out.push(Item::Label(label))
+        }
+        Instruction::Mark(mark) => out.push(Item::Mark(kind_of(*mark))),
+    }
+}
+
+/// The instructions of a body, each with twelve labels, from n on, and the number behind these.
+fn body(
+    out: &mut List<Item>,
+    labels: Labels,
+    n: u32,
+    instructions: &[Instruction],
+) -> Result<u32, Mem>
+    ensures items { OnOk result ((rest : List Item) → out.new ++ rest
+        ≡ out.old ++ body_code labels.base labels.end labels.words labels.heap_end labels.literals n instructions.now rest) }
+    ensures next { IfOk result (λ m. m ≡ n + 12 * length instructions.now) }
+{
+    let mut next = n;
+    for i in instructions {
+        instruction(out, labels, next, i)?;
+        next = above(next, 12)?;
+    }
+    Ok(next)
+}
+
+/// A procedure's body is jumped over.
+fn passed(out: &mut List<Item>, entry: &Option<Entry>, end: u32) -> Result<(), Mem>
+    ensures { OnOk result ((rest : List Item) → out.new ++ rest ≡ out.old ++ passed_code entry.now end rest) }
+{
+    match entry {
+        None => Ok(()),
+        Some(_) => out.push(Item::Jump(end)),
+    }
+}
+
+/// How many words a frame has, where the heap ends, and how many literals there are.
+#[derive(Clone, Copy)]
+pub(crate) struct Frames {
+    pub(crate) words: u32,
+    pub(crate) heap_end: u32,
+    pub(crate) literals: u32,
+}
+
+/// The operands are as many as the formals; or those that are left over become a list, for which the label is.
+fn check_operands(out: &mut List<Item>, rest: bool, formals: u32, n: u32) -> Result<(), Mem>
+    ensures { OnOk result ((behind : List Item) → out.new ++ behind ≡ out.old ++ count_code rest formals n behind) }
+{
+    if rest {
+        enter_rest(out, formals.saturating_sub(1), n)
+    } else {
+        check_count(out, formals)
+    }
+}
+
+/// A procedure's body begins with a check of its operands' count.
+fn check_entry(out: &mut List<Item>, entry: &Option<Entry>, n: u32) -> Result<(), Mem>
+    ensures { OnOk result ((rest : List Item) → out.new ++ rest ≡ out.old ++ entry_code entry.now n rest) }
+{
+    match entry {
+        None => Ok(()),
+        Some(e) => check_operands(out, e.rest, e.formals, n),
+    }
+}
+
+/// The body of a label, with labels of its own from n on, and the number behind these.
+fn form(out: &mut List<Item>, frames: Frames, label: u32, n: u32, b: &FrameBody) -> Result<u32, Mem>
+    ensures items { OnOk result ((rest : List Item) → out.new ++ rest
+        ≡ out.old ++ form_code frames.words frames.heap_end frames.literals label n (code_of b.now) rest) }
+    ensures next { IfOk result (λ m. m ≡ labels_end n (code_of b.now)) }
+{
+    let end = above(n, b.labels)?;
+    let list = above(end, 1)?;
+    let first = above(end, 2)?;
+    let labels = Labels {
+        base: n,
+        end,
+        words: frames.words,
+        heap_end: frames.heap_end,
+        literals: frames.literals,
+    };
+    passed(out, &b.entry, end)?;
+    let own = body_label(label)?;
+    out.push(Item::Label(own))?;
+    check_entry(out, &b.entry, list)?;
+    out.push(Item::Mark(MarkKind::Enter(label)))?;
+    let next = body(out, labels, first, b.instructions.as_slice())?;
+    out.push(Item::Label(end))?;
+    Ok(next)
+}
+
+/// The bodies, in their order, with labels of their own from n on.
+pub(crate) fn forms(
+    out: &mut List<Item>,
+    frames: Frames,
+    n: u32,
+    bodies: &[FrameBody],
+) -> Result<(), Mem>
+    ensures { OnOk result ((rest : List Item) → out.new ++ rest
+        ≡ out.old ++ forms_code frames.words frames.heap_end frames.literals 0 n (codes_of bodies.now) rest) }
+{
+    let mut next = n;
+    let mut label = 0;
+    for b in bodies {
+        next = form(out, frames, label, next, b)?;
+        label = above(label, 1)?;
+    }
+    Ok(())
+}

@@ -1,0 +1,3 @@
+pub mod Parts
+pub mod Soundness
+pub mod Levels

@@ -1,0 +1,8 @@
+pub mod Groups
+pub mod Sites
+pub mod Scopes
+pub mod Shapes
+pub mod Limits
+pub mod FewBodies
+pub mod Constants
+pub mod Names

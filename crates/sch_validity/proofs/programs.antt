@@ -1,0 +1,5 @@
+pub mod Definitions
+pub mod Starts
+pub mod Programs
+pub mod Forms
+pub mod Items

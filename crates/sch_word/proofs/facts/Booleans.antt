@@ -1,0 +1,74 @@
+-- Conjunctions and disjunctions, and what their parts are.
+use Rattle.std.specs.Prelude.{◌≡◌, Bool, true, false, ◌&&◌, ◌||◌, not, IsTrue}
+use Rattle.std.proofs.Common.{refl}
+
+-- ## Conjunctions
+
+pub and_of : (a b : Bool) → a ≡ true → b ≡ true → (a && b) ≡ true
+and_of true b g h = h
+and_of false b g h = absurd (cc)
+
+pub and_left : (a b : Bool) → (a && b) ≡ true → a ≡ true
+and_left true b h = refl
+and_left false b h = absurd (cc)
+
+pub and_right : (a b : Bool) → (a && b) ≡ true → b ≡ true
+and_right true b h = h
+and_right false b h = absurd (cc)
+
+pub and_parts : (a b : Bool) → (a && b) ≡ true → (a ≡ true) × (b ≡ true)
+and_parts true b h = (refl, h)
+and_parts false b h = absurd (cc)
+
+pub and_true : (a : Bool) → (a && true) ≡ a
+and_true true = refl
+and_true false = refl
+
+pub and_and : (a b c : Bool) → ((a && b) && c) ≡ (a && (b && c))
+and_and true b c = refl
+and_and false b c = refl
+
+-- ## Disjunctions
+
+pub or_left : (a b : Bool) → a ≡ true → (a || b) ≡ true
+or_left true b h = refl
+or_left false b h = absurd (cc)
+
+pub or_right : (a b : Bool) → b ≡ true → (a || b) ≡ true
+or_right true b h = refl
+or_right false b h = h
+
+pub neither : (a b : Bool) → a ≡ false → b ≡ false → (a || b) ≡ false
+neither true b g h = absurd (cc)
+neither false b g h = h
+
+pub not_left : (a b : Bool) → (a || b) ≡ false → a ≡ false
+not_left true b h = absurd (cc)
+not_left false b h = refl
+
+pub not_right : (a b : Bool) → (a || b) ≡ false → b ≡ false
+not_right true b h = absurd (cc)
+not_right false b h = h
+
+pub or_false : (a : Bool) → (a || false) ≡ a
+or_false true = refl
+or_false false = refl
+
+pub or_or : (a b c : Bool) → ((a || b) || c) ≡ (a || (b || c))
+or_or true b c = refl
+or_or false b c = refl
+
+pub or_swap : (a b : Bool) → (a || b) ≡ (b || a)
+or_swap true true = refl
+or_swap true false = refl
+or_swap false true = refl
+or_swap false false = refl
+
+-- ## Negations
+
+pub not_true : (b : Bool) → IsTrue (not b) → b ≡ false
+not_true true h = absurd (cc)
+not_true false h = refl
+
+pub false_true : {b : Bool} → b ≡ true → b ≡ false → ⊥
+false_true h k = absurd (cc)

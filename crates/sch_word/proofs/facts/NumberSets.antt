@@ -1,0 +1,112 @@
+-- Finite sets of numbers: what is in them, and unions.
+use Rattle.std.proofs.Common.{◌≡◌, ℕ, zero, suc, ◌+◌, ◌<◌, Bool, true, false, List, [], ◌∷◌, ◌++◌, length, reverse, drop, get_or, refl, sym, ap, ◌∙◌, subst, arith, add-one}
+use Rattle.std.specs.Prelude.{nat_eq, ◌||◌}
+use Rattle.std.proofs.lemmas.Bool.{eqb-true}
+use Rattle.std.proofs.lemmas.List.{reverse-append, get_or_default}
+use Rattle.sch_word.specs.trees.NumberSets.{has, unless, insert, union}
+use Rattle.sch_word.specs.trees.Bindings.{numbers}
+use Rattle.sch_word.proofs.facts.Booleans.{or_swap, or_false}
+use Rattle.sch_word.proofs.facts.Lists.{next_left, reverse_cons}
+use Rattle.sch_word.proofs.facts.NumberTests.{same, below_differs}
+
+abbrev pub In : ℕ → List ℕ → Type 0
+In x xs = has x xs ≡ true
+
+-- ## Members
+
+pub in_here : (x : ℕ) (xs : List ℕ) → In x (x ∷ xs)
+in_here x xs = rw (same x) refl
+
+pub in_more : (x y : ℕ) (xs : List ℕ) → In x xs → In x (y ∷ xs)
+in_more x y xs h = go (nat_eq x y) h
+  where
+    go : (b : Bool) → has x xs ≡ true → (b || has x xs) ≡ true
+    go true e = refl
+    go false e = e
+
+pub insert_here : (x : ℕ) (xs : List ℕ) → In x (insert x xs)
+insert_here x xs = go (has x xs) refl
+  where
+    go : (b : Bool) → has x xs ≡ b → In x (unless b x xs)
+    go true e = e
+    go false e = in_here x xs
+
+pub insert_more : (x y : ℕ) (xs : List ℕ) → In x xs → In x (insert y xs)
+insert_more x y xs h = go (has y xs)
+  where
+    go : (b : Bool) → In x (unless b y xs)
+    go true = h
+    go false = in_more x y xs h
+
+pub union_left : (x : ℕ) (xs ys : List ℕ) → In x xs → In x (union xs ys)
+union_left x [] ys h = absurd (cc)
+union_left x (y ∷ xs) ys h = go (union_left x xs ys) (nat_eq x y) refl h
+  where
+    go : (In x xs → In x (union xs ys)) → (b : Bool) → nat_eq x y ≡ b → (b || has x xs) ≡ true → In x (insert y (union xs ys))
+    go deeper true e k = subst (λ z. In x (insert z (union xs ys))) (eqb-true x y e) (insert_here x (union xs ys))
+    go deeper false e k = insert_more x y (union xs ys) (deeper k)
+
+pub union_right : (x : ℕ) (xs ys : List ℕ) → In x ys → In x (union xs ys)
+union_right x [] ys h = h
+union_right x (y ∷ xs) ys h = insert_more x y (union xs ys) (union_right x xs ys h)
+
+pub below_numbers : (y x n : ℕ) → y < x → has y (numbers x n) ≡ false
+below_numbers y x zero l = refl
+below_numbers y x (suc n) l = rw (below_differs y x l) (below_numbers y (suc x) n (omega (arith, l)))
+
+pub numbers_length : (x n : ℕ) → length (numbers x n) ≡ n
+numbers_length x zero = refl
+numbers_length x (suc n) = ap suc (numbers_length (suc x) n)
+
+-- ## Members of lists put together
+
+pub has_append : (x : ℕ) (ps qs : List ℕ) → has x (ps ++ qs) ≡ (has x ps || has x qs)
+has_append x [] qs = refl
+has_append x (p ∷ ps) qs = go (nat_eq x p) (has_append x ps qs)
+  where
+    go : (b : Bool) → has x (ps ++ qs) ≡ (has x ps || has x qs) → (b || has x (ps ++ qs)) ≡ ((b || has x ps) || has x qs)
+    go true h = refl
+    go false h = h
+
+pub has_reverse : (x : ℕ) (xs : List ℕ) → has x (reverse xs) ≡ has x xs
+has_reverse x [] = refl
+has_reverse x (y ∷ xs) =
+    ap (has x) (reverse_cons y xs) ∙ has_append x (reverse xs) (y ∷ []) ∙ or_swap (has x (reverse xs)) (nat_eq x y || false)
+    ∙ ap (λ b. b || has x (reverse xs)) (or_false (nat_eq x y)) ∙ ap (λ b. nat_eq x y || b) (has_reverse x xs)
+
+pub inserted : (x : ℕ) (xs : List ℕ) → has x xs ≡ false → reverse (xs ++ x ∷ []) ≡ insert x (reverse xs)
+inserted x xs e = rw (reverse-append xs (x ∷ []), has_reverse x xs, e) refl
+
+pub not_inserted : (x : ℕ) (xs : List ℕ) → has x xs ≡ true → reverse xs ≡ insert x (reverse xs)
+not_inserted x xs e = rw (has_reverse x xs, e) refl
+
+-- ## Unions
+
+pub union_insert : (x : ℕ) (ps qs : List ℕ) → union (insert x ps) qs ≡ insert x (union ps qs)
+union_insert x ps qs = go (has x ps) refl
+  where
+    go : (b : Bool) → has x ps ≡ b → union (unless b x ps) qs ≡ insert x (union ps qs)
+    go true e = rw (union_left x ps qs e) refl
+    go false e = refl
+
+pub union_assoc : (ps qs rs : List ℕ) → union (union ps qs) rs ≡ union ps (union qs rs)
+union_assoc [] qs rs = refl
+union_assoc (p ∷ ps) qs rs = union_insert p (union ps qs) rs ∙ ap (insert p) (union_assoc ps qs rs)
+
+-- each number once
+abbrev pub Once : List ℕ → Type 0
+Once xs = union xs [] ≡ xs
+
+pub once_union : (ps qs : List ℕ) → Once qs → Once (union ps qs)
+once_union ps qs h = union_assoc ps qs [] ∙ ap (union ps) h
+
+union_last : (ps qs : List ℕ) (x : ℕ) → union (ps ++ x ∷ []) qs ≡ union ps (insert x qs)
+union_last [] qs x = refl
+union_last (a ∷ ps) qs x = ap (insert a) (union_last ps qs x)
+
+-- a turn of a loop that inserts each of some numbers behind those that are there
+pub union_next : (xs : List ℕ) (i : ℕ) (ys ys' whole : List ℕ) → i < length xs → reverse ys' ≡ insert (get_or xs i 0) (reverse ys) → union (reverse (drop i xs)) (reverse ys) ≡ whole → union (reverse (drop (i + 1) xs)) (reverse ys') ≡ whole
+union_next xs i ys ys' whole l h k =
+    let x = get_or xs i 0 in
+    let n = subst (λ r. union (reverse r) (reverse ys) ≡ whole) (next_left xs i x l (get_or_default xs i 0 x l)) k in
+    rw (add-one, h) (sym (union_last (reverse (drop (suc i) xs)) (reverse ys) x) ∙ ap (λ r. union r (reverse ys)) (sym (reverse_cons x (drop (suc i) xs))) ∙ n)
