@@ -21,12 +21,13 @@ use Rattle.sch_activations.specs.Ways.{way}
 -- ---- which marks are whose
 
 -- a form calls twice; the second callee is left by a tail call, and then the next form begins
-two_calls : activations (mark.Enter 0 ∷ mark.Call 5 ∷ mark.Enter 1 ∷ mark.Save 2 ∷ mark.Return ∷ mark.Call 6 ∷ mark.Enter 1 ∷ mark.Tail 7 ∷ mark.Enter 2 ∷ mark.Return ∷ mark.Temp ∷ mark.Enter 3 ∷ []) ≡ record {
-  current = Some (mark.Enter 3 ∷ []);
-  suspended = [];
-  handed_over = false;
-  ended = (mark.Enter 1 ∷ mark.Save 2 ∷ mark.Return ∷ []) ∷ ((mark.Enter 1 ∷ mark.Tail 7 ∷ []) ∷ ((mark.Enter 2 ∷ mark.Return ∷ []) ∷ []));
-}
+two_calls : activations (mark.Enter 0 ∷ mark.Call 5 ∷ mark.Enter 1 ∷ mark.Save 2 ∷ mark.Return ∷ mark.Call 6 ∷ mark.Enter 1 ∷ mark.Tail 7 ∷ mark.Enter 2 ∷ mark.Return ∷ mark.Temp
+    ∷ mark.Enter 3 ∷ []) ≡ record {
+      current = Some (mark.Enter 3 ∷ []);
+      suspended = [];
+      handed_over = false;
+      ended = (mark.Enter 1 ∷ mark.Save 2 ∷ mark.Return ∷ []) ∷ ((mark.Enter 1 ∷ mark.Tail 7 ∷ []) ∷ ((mark.Enter 2 ∷ mark.Return ∷ []) ∷ []));
+    }
 two_calls = refl
 
 -- one that waits has its marks before the call and those after it
@@ -118,7 +119,8 @@ no_procedure s (n ∷ marks) h =
     let q : Some (unspecified ∷ []) ≡ Some vs = h.1.1.0 in
     let p : unspecified ∷ [] ≡ vs = cc in
     let depth = h.1.1.1.0.0 in
-    let i : checked_call s.procedures s.store false false depth (unspecified ∷ []) ≡ passes h.1.1.1.0.1.0 = subst (λ us. checked_call s.procedures s.store false false depth us ≡ passes h.1.1.1.0.1.0) (sym p) h.1.1.1.0.1.1 in
+    let i : checked_call s.procedures s.store false false depth (unspecified ∷ []) ≡ passes h.1.1.1.0.1.0 =
+    subst (λ us. checked_call s.procedures s.store false false depth us ≡ passes h.1.1.1.0.1.0) (sym p) h.1.1.1.0.1.1 in
     cc
 
 -- no way ends by a tail call where it is not known where to return, or without its operand

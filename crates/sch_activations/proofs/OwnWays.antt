@@ -26,7 +26,7 @@ use Rattle.sch_frames.specs.Tree.{Code, Source}
 use Rattle.sch_frames.specs.Valid.{formals_of}
 use Rattle.sch_frames.specs.Covered.{is_covered_code}
 use Rattle.sch_frames.specs.Standing.{all_marks_stand, belongs, code_marks_stand, waiting}
-use Rattle.sch_activations.proofs.Keeping.{code_stands, marks_stand, stands_alone}
+use Rattle.sch_activations.proofs.MarksAndEnds.{code_stands, marks_stand, stands_alone}
 use Rattle.sch_activations.specs.Ways.{IsWay, way}
 use Rattle.sch_activations.proofs.Turns.{Back, Level, On, Sound, called, entered, one_own, returned, tail_called, told_sound}
 
@@ -113,7 +113,8 @@ module _ (codes : List Code) where
         → Ends P (on_return (call_in callee spread false depth vs w) next)
     call_goes spread suspended vs w level P next go = by (checked_call w.state.procedures w.state.store spread false depth vs) refl vs
       where
-        by : (c : Checked (Entered Procedure)) → checked_call w.state.procedures w.state.store spread false depth vs ≡ c → (us : List Value) → Ends P (on_return (on_checked c w (into callee us w)) next)
+        by : (c : Checked (Entered Procedure)) → checked_call w.state.procedures w.state.store spread false depth vs ≡ c → (us : List Value)
+            → Ends P (on_return (on_checked c w (into callee us w)) next)
         by (passes e) i [] = tt
         by (passes e) i (v ∷ us) =
             came_back (Back codes suspended) P (callee v e.procedure e.arguments e.depth w) next (returns suspended v e.procedure e.arguments e.depth w level) (go e i)
@@ -153,24 +154,31 @@ module _ (codes : List Code) where
       one_before before m marks = subst Whole (sym (append_assoc before (m ∷ []) marks))
 
       module _ (rest : List Instruction) (goes : Goes rest) where
-        marked_goes : (m : MarkKind) → stands_alone (is_form code.entry) (Mark m) ≡ true → marks_stand (is_form code.entry) (waiting (Mark m)) rest ≡ true → (f : Frame) (w : World) (before : List MarkKind)
+        marked_goes : (m : MarkKind) → stands_alone (is_form code.entry) (Mark m) ≡ true → marks_stand (is_form code.entry) (waiting (Mark m)) rest ≡ true
+            → (f : Frame) (w : World) (before : List MarkKind)
             → Leads None None f w.state before (Mark m ∷ rest) → Mine None None before w.marks → Ends P (execute_each callee depth rest None f (marked m w))
         marked_goes (mark.Enter x) a h f w before leads mine = absurd (let bad : false ≡ true = a in cc)
         marked_goes (mark.Call site) a h f w before leads mine = goes (Some (mark.Call site)) h None f _ before (λ marks y. leads (mark.Call site ∷ marks) (refl, y)) (w.marks, (refl, mine))
         marked_goes (mark.Tail site) a h f w before leads mine = goes (Some (mark.Tail site)) h None f _ before (λ marks y. leads (mark.Tail site ∷ marks) (refl, y)) (w.marks, (refl, mine))
         marked_goes mark.Return a h f w before leads mine = goes (Some mark.Return) h None f _ before (λ marks y. leads (mark.Return ∷ marks) (refl, y)) (w.marks, (refl, mine))
         marked_goes (mark.Save x) a h f w before leads mine =
-            goes None h None f _ (before ++ mark.Save x ∷ []) (λ marks y. one_before before (mark.Save x) marks (leads (mark.Save x ∷ marks) (refl, y))) (one_own codes (mark.Save x) (is_form code.entry) a refl mine)
+            goes None h None f _ (before ++ mark.Save x ∷ []) (λ marks y. one_before before (mark.Save x) marks (leads (mark.Save x ∷ marks) (refl, y)))
+            (one_own codes (mark.Save x) (is_form code.entry) a refl mine)
         marked_goes (mark.Restore x) a h f w before leads mine =
-            goes None h None f _ (before ++ mark.Restore x ∷ []) (λ marks y. one_before before (mark.Restore x) marks (leads (mark.Restore x ∷ marks) (refl, y))) (one_own codes (mark.Restore x) (is_form code.entry) a refl mine)
+            goes None h None f _ (before ++ mark.Restore x ∷ []) (λ marks y. one_before before (mark.Restore x) marks (leads (mark.Restore x ∷ marks) (refl, y)))
+            (one_own codes (mark.Restore x) (is_form code.entry) a refl mine)
         marked_goes (mark.Spill x) a h f w before leads mine =
-            goes None h None f _ (before ++ mark.Spill x ∷ []) (λ marks y. one_before before (mark.Spill x) marks (leads (mark.Spill x ∷ marks) (refl, y))) (one_own codes (mark.Spill x) (is_form code.entry) a refl mine)
+            goes None h None f _ (before ++ mark.Spill x ∷ []) (λ marks y. one_before before (mark.Spill x) marks (leads (mark.Spill x ∷ marks) (refl, y)))
+            (one_own codes (mark.Spill x) (is_form code.entry) a refl mine)
         marked_goes mark.Temp a h f w before leads mine =
-            goes None h None f _ (before ++ mark.Temp ∷ []) (λ marks y. one_before before mark.Temp marks (leads (mark.Temp ∷ marks) (refl, y))) (one_own codes mark.Temp (is_form code.entry) a refl mine)
+            goes None h None f _ (before ++ mark.Temp ∷ []) (λ marks y. one_before before mark.Temp marks (leads (mark.Temp ∷ marks) (refl, y)))
+            (one_own codes mark.Temp (is_form code.entry) a refl mine)
         marked_goes mark.Argument a h f w before leads mine =
-            goes None h None f _ (before ++ mark.Argument ∷ []) (λ marks y. one_before before mark.Argument marks (leads (mark.Argument ∷ marks) (refl, y))) (one_own codes mark.Argument (is_form code.entry) a refl mine)
+            goes None h None f _ (before ++ mark.Argument ∷ []) (λ marks y. one_before before mark.Argument marks (leads (mark.Argument ∷ marks) (refl, y)))
+            (one_own codes mark.Argument (is_form code.entry) a refl mine)
 
-        tested : (v : Value) (b : Bool) → is_true v ≡ b → (l : ℕ) → marks_stand (is_form code.entry) None rest ≡ true → (f : Frame) (w : World) (before : List MarkKind) → value_in f.accumulator ≡ Some v
+        tested : (v : Value) (b : Bool) → is_true v ≡ b → (l : ℕ) → marks_stand (is_form code.entry) None rest ≡ true → (f : Frame) (w : World) (before : List MarkKind)
+            → value_in f.accumulator ≡ Some v
             → Leads None None f w.state before (IfFalse l ∷ rest) → Mine None None before w.marks
             → Ends P (either b (execute_each callee depth rest None f w) (execute_each callee depth rest (Some l) f w))
         tested v true e l h f w before i leads mine = goes None h None f w before (λ marks y. leads marks (v, (i, subst (λ b. way rest (cond b None (Some l)) f w.state marks) (sym e) y))) mine
@@ -202,13 +210,16 @@ module _ (codes : List Code) where
         done (Mark m) a h f w before leads mine = marked_goes m a h f w before leads mine
 
         -- the instruction for which a mark waits
-        left : (m : MarkKind) (i : Instruction) → belongs m i ≡ true → marks_stand (is_form code.entry) None rest ≡ true → (f : Frame) (w : World) (before prior : List MarkKind) → w.marks ≡ prior ++ m ∷ []
+        left : (m : MarkKind) (i : Instruction) → belongs m i ≡ true → marks_stand (is_form code.entry) None rest ≡ true → (f : Frame) (w : World) (before prior : List MarkKind)
+            → w.marks ≡ prior ++ m ∷ []
             → Leads None (Some m) f w.state before (i ∷ rest) → On codes (mark.Enter label ∷ before) suspended prior → Ends P (execute callee depth i (execute_each callee depth rest) f w)
         left (mark.Call site) (Call spread count) b h f w before prior e leads mine =
             let level = called codes site mine in
             valued P (parts f.places f.outgoing count) _
-            (λ vs q. call_goes spread ((mark.Enter label ∷ (before ++ mark.Call site ∷ [])) ∷ suspended) vs w (subst (Level codes ((mark.Enter label ∷ (before ++ mark.Call site ∷ [])) ∷ suspended)) (sym e) level) P _
-            (λ p i v u on. goes None h None (after_call f v) u (before ++ mark.Call site ∷ []) (λ marks y. one_before before (mark.Call site) marks (leads marks (vs, (q, ((depth, (p, i)), (v, (u.state, y))))))) on))
+            (λ vs q. call_goes spread ((mark.Enter label ∷ (before ++ mark.Call site ∷ [])) ∷ suspended) vs w
+            (subst (Level codes ((mark.Enter label ∷ (before ++ mark.Call site ∷ [])) ∷ suspended)) (sym e) level) P _
+            (λ p i v u on. goes None h None (after_call f v) u (before ++ mark.Call site ∷ [])
+            (λ marks y. one_before before (mark.Call site) marks (leads marks (vs, (q, ((depth, (p, i)), (v, (u.state, y))))))) on))
         left (mark.Tail site) (Tail spread count) b h f w before prior e leads mine =
             linked P (f.places link_register) _ (λ i. valued P (parts f.places (λ j. f.places (Slot j)) count) (λ vs. call_in callee spread true depth vs w)
             (λ vs q. let level = tail_called codes site mine (a_way (before ++ mark.Tail site ∷ []) (leads [] (i, (vs, (q, refl))))) in
@@ -221,7 +232,8 @@ module _ (codes : List Code) where
       pub body_goes : (rest : List Instruction) → Goes rest
       body_goes [] waits h look f w before leads mine = tt
       body_goes (i ∷ rest) None h (Some l) f w before leads mine =
-          passed_over l i (λ waits look. marks_stand (is_form code.entry) waits rest ≡ true → ((marks : List MarkKind) → way rest look f w.state marks → Whole (before ++ marks)) → Ends P (execute_each callee depth rest look f w))
+          passed_over l i (λ waits look. marks_stand (is_form code.entry) waits rest ≡ true → ((marks : List MarkKind) → way rest look f w.state marks → Whole (before ++ marks))
+          → Ends P (execute_each callee depth rest look f w))
           (λ waits h leads. body_goes rest waits h (Some l) f w before leads mine) (λ h leads. body_goes rest None h None f w before leads mine) (and_parts _ _ h).1 leads
       body_goes (i ∷ rest) (Some m) h (Some l) f w before leads mine =
           let q = and_parts _ _ h in let e = no_label m l i q.0 in
@@ -267,17 +279,20 @@ module _ (codes : List Code) (covered : list_all is_covered_code codes ≡ true)
       by : (o : Option Code) → slice_get codes label ≡ o → Ends codes P (do_known o callee depth self vs (marked (mark.Enter label) w))
       by None e = tt
       by (Some c) e =
-          body_goes codes callee returns depth label c self vs w.state e (fitting c e) suspended P back (finished c e) c.instructions None (code_stands c (passes_at is_covered_code codes label c covered e) (passes_at code_marks_stand codes label c stand e)) None (beginning c.entry self vs) _ []
+          body_goes codes callee returns depth label c self vs w.state e (fitting c e) suspended P back (finished c e) c.instructions None
+          (code_stands c (passes_at is_covered_code codes label c covered e) (passes_at code_marks_stand codes label c stand e)) None (beginning c.entry self vs) _ []
           (λ marks y. y) (entered codes label level)
 
   module _ (n : ℕ) (returns : Returns codes (enter (entry_at (entries_of codes)) (bodies_of codes) n)) where
-    entering_returns : (suspended : List (List MarkKind)) (o : Option Entry) (self : Value) (p : Procedure) (vs : List Value) (depth : ℕ) (w : World) → entry_at (entries_of codes) p.label ≡ o → Level codes suspended w.marks
+    entering_returns : (suspended : List (List MarkKind)) (o : Option Entry) (self : Value) (p : Procedure) (vs : List Value) (depth : ℕ) (w : World) → entry_at (entries_of codes) p.label ≡ o
+        → Level codes suspended w.marks
         → Ends codes (Back codes suspended) (enter_body (bodies_of codes) (enter (entry_at (entries_of codes)) (bodies_of codes) n) o self p vs depth w)
     entering_returns suspended None self p vs depth w i level = tt
     entering_returns suspended (Some e) self p vs depth w i level =
         outcome codes (Back codes suspended) w.marks (level_sound codes level) (in_store (fit e.formals e.rest vs) w.state) _
         (λ arguments s r. outcome codes (Back codes suspended) w.marks (level_sound codes level) (in_store take_entry s) _
-        (λ x t q. body_comes (enter (entry_at (entries_of codes)) (bodies_of codes) n) returns p.label depth self arguments suspended (record { state = t; marks = w.marks }) level (Back codes suspended) (λ marks b. b)
+        (λ x t q. body_comes (enter (entry_at (entries_of codes)) (bodies_of codes) n) returns p.label depth self arguments suspended (record { state = t; marks = w.marks }) level
+        (Back codes suspended) (λ marks b. b)
         (λ c known form own marks on. absurd (form_free c.entry e (sym (entry_of codes p.label c known) ∙ i) form))
         (λ c known. fitted e.formals e.rest vs w.state arguments s r ∙ sym (ap formals_of (sym (entry_of codes p.label c known) ∙ i)))))
 

@@ -1,5 +1,6 @@
 -- What is needed to make the bodies of a program, and the turns of the loops that make them.
-use Rattle.std.proofs.Common.{◌≡◌, ℕ, zero, suc, ◌+◌, ◌-◌, ◌<◌, ◌≤◌, ◌^◌, true, false, List, [], ◌∷◌, ◌++◌, length, map, take, drop, get_or, Option, Some, None, refl, sym, ap, ◌∙◌, subst, arith, add-one, append_assoc, append-nil, drop-drop}
+use Rattle.std.proofs.Common.{◌≡◌, ℕ, zero, suc, ◌+◌, ◌-◌, ◌<◌, ◌≤◌, ◌^◌, true, false, List, [], ◌∷◌, ◌++◌, length, map}
+use Rattle.std.proofs.Common.{take, drop, get_or, Option, Some, None, refl, sym, ap, ◌∙◌, subst, arith, add-one, append_assoc, append-nil, drop-drop}
 use Rattle.std.specs.Prelude.{slice_get, nat_le, ◌&&◌, codes}
 use Rattle.std.specs.List.{list_all}
 use Rattle.std.specs.List.Sorted.{IsNonDecreasing}
@@ -9,17 +10,18 @@ use Rattle.std.proofs.lemmas.List.Folds.{list_all-append}
 use Rattle.sch_word.proofs.Walking.{next_is, next_left}
 use Rattle.sch_flat.specs.declared.tree.Exp.{Exp}
 use Rattle.sch_flat.specs.declared.tree.Body as flat_body
-use Rattle.sch_flat.specs.Tree.{Tree, Trees, Made, Body, constant, literal, variable, global, set_global, define, branch, sequence, bind, make_closure, fix_closures, call, operation, new_cells, cell_get, cell_set, no_trees, and_tree, count}
+use Rattle.sch_flat.specs.Tree.{Tree, Trees, Made, Body, constant, literal, variable, global, set_global, define, branch, sequence}
+use Rattle.sch_flat.specs.Tree.{bind, make_closure, fix_closures, call, operation, new_cells, cell_get, cell_set, no_trees, and_tree, count}
 use Rattle.sch_flat.specs.Valid.{ascending, scoped, scoped_each, body_scoped, has_fields, is_made, is_known, is_content, all_new, cell_variables, cells_scope}
 use Rattle.sch_flat.specs.View.{tree, body}
 use Rattle.sch_word.specs.trees.Bindings.{numbers, scope_with, with_variables}
+use Rattle.sch_word.proofs.facts.Booleans.{and_left, and_right}
 use Rattle.sch_control.specs.declared.body.Body as control_body
 use Rattle.sch_control.specs.SourceView.{code_of, codes_of}
 use Rattle.sch_control.specs.Tree.{Code, Expression, end}
 use Rattle.sch_control.specs.Valid.{code_valid, in_scope_whole, numbered, ended, shaped_whole, fields_known, max_body_variables}
 use Rattle.sch_normal.specs.LabelsFit.{LabelsOfMade, LabelsFit, LabelsFitEach, LabelsOfBodies}
 use Rattle.sch_normal.specs.Normal.{Scope, binds, normal, procedure_code, form_code, normal_bodies}
-use Rattle.sch_normal.proofs.runs.Orders.{and_left, and_right}
 use Rattle.sch_normal.proofs.runs.Bodies.{ascending_last}
 use Rattle.sch_normal.proofs.Items.{left}
 
@@ -69,7 +71,10 @@ module _ (bodies : List Body) (more : ℕ) (few : length bodies + more ≤ 2 ^ 3
 
   all_fit : (names : List ℕ) (fields : ℕ) (ms : List Made) → list_all (is_made bodies names fields) ms ≡ true → LabelsOfMade more ms
   all_fit names fields [] h = tt
-  all_fit names fields (m ∷ ms) h = (made_fits names fields m (and_left (is_made bodies names fields m) (list_all (is_made bodies names fields) ms) h), all_fit names fields ms (and_right (is_made bodies names fields m) (list_all (is_made bodies names fields) ms) h))
+  all_fit names fields (m ∷ ms) h = (
+    made_fits names fields m (and_left (is_made bodies names fields m) (list_all (is_made bodies names fields) ms) h),
+    all_fit names fields ms (and_right (is_made bodies names fields m) (list_all (is_made bodies names fields) ms) h),
+  )
 
   mutual
     pub labels_fit : (e : Tree) (names : List ℕ) (fields : ℕ) → scoped bodies e names fields ≡ true → LabelsFit more e
@@ -80,20 +85,29 @@ module _ (bodies : List Body) (more : ℕ) (few : length bodies + more ≤ 2 ^ 3
     labels_fit (set_global g e) names fields h = labels_fit e names fields h
     labels_fit (define g e) names fields h = labels_fit e names fields h
     labels_fit (branch a b c) names fields h =
-        let h' = and_right (scoped bodies a names fields) (scoped bodies b names fields && scoped bodies c names fields) h in
-        (labels_fit a names fields (and_left (scoped bodies a names fields) (scoped bodies b names fields && scoped bodies c names fields) h), labels_fit b names fields (and_left (scoped bodies b names fields) (scoped bodies c names fields) h'), labels_fit c names fields (and_right (scoped bodies b names fields) (scoped bodies c names fields) h'))
+        let h' = and_right (scoped bodies a names fields) (scoped bodies b names fields && scoped bodies c names fields) h in (
+          labels_fit a names fields (and_left (scoped bodies a names fields) (scoped bodies b names fields && scoped bodies c names fields) h),
+          labels_fit b names fields (and_left (scoped bodies b names fields) (scoped bodies c names fields) h'),
+          labels_fit c names fields (and_right (scoped bodies b names fields) (scoped bodies c names fields) h'),
+        )
     labels_fit (sequence es) names fields h = labels_fit_each es names fields h
     labels_fit (bind site first es e) names fields h =
         let inner = scope_with first (count es) names in
-        let h' = and_right (scoped_each bodies es names fields) (all_new (numbers first (count es)) names && scoped bodies e inner fields) h in
-        (labels_fit_each es names fields (and_left (scoped_each bodies es names fields) (all_new (numbers first (count es)) names && scoped bodies e inner fields) h), labels_fit e inner fields (and_right (all_new (numbers first (count es)) names) (scoped bodies e inner fields) h'))
+        let h' = and_right (scoped_each bodies es names fields) (all_new (numbers first (count es)) names && scoped bodies e inner fields) h in (
+          labels_fit_each es names fields (and_left (scoped_each bodies es names fields) (all_new (numbers first (count es)) names && scoped bodies e inner fields) h),
+          labels_fit e inner fields (and_right (all_new (numbers first (count es)) names) (scoped bodies e inner fields) h'),
+        )
     labels_fit (make_closure m) names fields h = made_fits names fields m h
     labels_fit (fix_closures first ms e) names fields h =
         let inner = scope_with first (length ms) names in
-        let h' = and_right (all_new (numbers first (length ms)) names) (list_all (is_made bodies inner fields) ms && scoped bodies e inner fields) h in
-        (all_fit inner fields ms (and_left (list_all (is_made bodies inner fields) ms) (scoped bodies e inner fields) h'), labels_fit e inner fields (and_right (list_all (is_made bodies inner fields) ms) (scoped bodies e inner fields) h'))
-    labels_fit (call site spread f es) names fields h =
-        (labels_fit f names fields (and_left (scoped bodies f names fields) (scoped_each bodies es names fields) h), labels_fit_each es names fields (and_right (scoped bodies f names fields) (scoped_each bodies es names fields) h))
+        let h' = and_right (all_new (numbers first (length ms)) names) (list_all (is_made bodies inner fields) ms && scoped bodies e inner fields) h in (
+          all_fit inner fields ms (and_left (list_all (is_made bodies inner fields) ms) (scoped bodies e inner fields) h'),
+          labels_fit e inner fields (and_right (list_all (is_made bodies inner fields) ms) (scoped bodies e inner fields) h'),
+        )
+    labels_fit (call site spread f es) names fields h = (
+      labels_fit f names fields (and_left (scoped bodies f names fields) (scoped_each bodies es names fields) h),
+      labels_fit_each es names fields (and_right (scoped bodies f names fields) (scoped_each bodies es names fields) h),
+    )
     labels_fit (operation site which es) names fields h = labels_fit_each es names fields h
     labels_fit (new_cells cs e) names fields h =
         let h' = and_right (list_all (λ c. is_content names fields c.content) cs) (all_new (cell_variables cs) names && scoped bodies e (cells_scope cs names) fields) h in
@@ -103,12 +117,17 @@ module _ (bodies : List Body) (more : ℕ) (few : length bodies + more ≤ 2 ^ 3
 
     pub labels_fit_each : (es : Trees) (names : List ℕ) (fields : ℕ) → scoped_each bodies es names fields ≡ true → LabelsFitEach more es
     labels_fit_each no_trees names fields h = tt
-    labels_fit_each (and_tree e es) names fields h =
-        (labels_fit e names fields (and_left (scoped bodies e names fields) (scoped_each bodies es names fields) h), labels_fit_each es names fields (and_right (scoped bodies e names fields) (scoped_each bodies es names fields) h))
+    labels_fit_each (and_tree e es) names fields h = (
+      labels_fit e names fields (and_left (scoped bodies e names fields) (scoped_each bodies es names fields) h),
+      labels_fit_each es names fields (and_right (scoped bodies e names fields) (scoped_each bodies es names fields) h),
+    )
 
   pub labels_fit_bodies : (bs : List Body) → list_all (body_scoped bodies) bs ≡ true → LabelsOfBodies more bs
   labels_fit_bodies [] h = tt
-  labels_fit_bodies (b ∷ bs) h = (labels_fit b.code (scope_with b.first b.formals []) b.fields (and_left (body_scoped bodies b) (list_all (body_scoped bodies) bs) h), labels_fit_bodies bs (and_right (body_scoped bodies b) (list_all (body_scoped bodies) bs) h))
+  labels_fit_bodies (b ∷ bs) h = (
+    labels_fit b.code (scope_with b.first b.formals []) b.fields (and_left (body_scoped bodies b) (list_all (body_scoped bodies) bs) h),
+    labels_fit_bodies bs (and_right (body_scoped bodies b) (list_all (body_scoped bodies) bs) h),
+  )
 
 -- ## Numbers in order
 
@@ -135,13 +154,15 @@ codes_append (x ∷ xs) ys = ap (λ r. code_of x ∷ r) (codes_append xs ys)
 
 -- ## One body
 
-pub procedure_is : (starts : List ℕ) (b : Body) (name : List ℕ) (first next : ℕ) (scope : Scope) (e : Expression) → name ≡ b.name → scope ≡ with_variables b.first (numbers 2 b.formals) [] → first ≡ 2 + b.formals → next ≡ first + binds b.code → e ≡ normal starts true b.code scope first
+pub procedure_is : (starts : List ℕ) (b : Body) (name : List ℕ) (first next : ℕ) (scope : Scope) (e : Expression) → name ≡ b.name → scope ≡ with_variables b.first (numbers 2 b.formals) []
+    → first ≡ 2 + b.formals → next ≡ first + binds b.code → e ≡ normal starts true b.code scope first
     → record { name = name; entry = Some (record { formals = b.formals; rest = b.rest; fields = b.fields }); variables = next; expression = e } ≡ procedure_code starts b
 procedure_is starts b name first next scope e p q r s t =
     let v : next ≡ 2 + (b.formals + binds b.code) = omega (arith, r, s) in
     rw (p, v, t, q, r) refl
 
-pub form_is : (starts : List ℕ) (e : Tree) (name : List ℕ) (first next : ℕ) (scope : Scope) (x : Expression) → name ≡ codes "form" → scope ≡ [] → first ≡ 2 → next ≡ first + binds e → x ≡ normal starts false e scope first
+pub form_is : (starts : List ℕ) (e : Tree) (name : List ℕ) (first next : ℕ) (scope : Scope) (x : Expression) → name ≡ codes "form" → scope ≡ [] → first ≡ 2 → next ≡ first + binds e
+    → x ≡ normal starts false e scope first
     → record { name = name; entry = None; variables = next; expression = end x } ≡ form_code starts e
 form_is starts e name first next scope x p q r s t =
     let v : next ≡ 2 + binds e = omega (arith, r, s) in
@@ -156,7 +177,8 @@ module _ (starts : List ℕ) (items : List flat_body.Body) (i : ℕ) (b : flat_b
       rw (p, add-one, codes_append all (q ∷ []), append_assoc (codes_of all) (code_of q ∷ []) (map (procedure_code starts) (map body (drop (suc i) items))), h)
       (next_left items i (λ r. codes_of all ++ map (procedure_code starts) (map body r) ≡ whole) b l is k)
 
-  pub procedures_valid : list_all code_valid (map (procedure_code starts) (map body (drop i items))) ≡ true → (code_valid (procedure_code starts (body b)) ≡ true) × (list_all code_valid (map (procedure_code starts) (map body (drop (i + 1) items))) ≡ true)
+  pub procedures_valid : list_all code_valid (map (procedure_code starts) (map body (drop i items))) ≡ true
+      → (code_valid (procedure_code starts (body b)) ≡ true) × (list_all code_valid (map (procedure_code starts) (map body (drop (i + 1) items))) ≡ true)
   procedures_valid h =
       let h' = next_left items i (λ r. list_all code_valid (map (procedure_code starts) (map body r)) ≡ true) b l is h in
       let rest = list_all code_valid (map (procedure_code starts) (map body (drop (suc i) items))) in
@@ -165,7 +187,8 @@ module _ (starts : List ℕ) (items : List flat_body.Body) (i : ℕ) (b : flat_b
   pub procedures_labels : (more : ℕ) → LabelsOfBodies more (map body (drop i items)) → LabelsFit more (tree b.code) × LabelsOfBodies more (map body (drop (i + 1) items))
   procedures_labels more h = rw add-one (next_left items i (λ r. LabelsOfBodies more (map body r)) b l is h)
 
-pub procedures_end : (starts : List ℕ) (items : List flat_body.Body) (i : ℕ) (all : List control_body.Body) (whole : List Code) → length items ≤ i → codes_of all ++ map (procedure_code starts) (map body (drop i items)) ≡ whole → codes_of all ≡ whole
+pub procedures_end : (starts : List ℕ) (items : List flat_body.Body) (i : ℕ) (all : List control_body.Body) (whole : List Code) → length items ≤ i
+    → codes_of all ++ map (procedure_code starts) (map body (drop i items)) ≡ whole → codes_of all ≡ whole
 procedures_end starts items i all whole l h = let t = rw (drop_all i items l, append-nil (codes_of all)) at h in t
 
 -- ## Forms, each before its procedures
@@ -183,7 +206,8 @@ labels_drop more (b ∷ bs) (suc n) h = labels_drop more bs n h.1
 dropped_more : {A : Type 0} (xs : List A) (a b : ℕ) → a ≤ b → drop (b - a) (drop a xs) ≡ drop b xs
 dropped_more xs a b l = drop-drop (b - a) a xs ∙ ap (λ n. drop n xs) (omega (arith, l))
 
-module _ (starts : List ℕ) (bodies : List flat_body.Body) (items : List Exp) (before i : ℕ) (e : Exp) (place : ℕ) (l : i < length items) (is : e ≡ get_or items i e) (m : i < length starts) (p : place ≡ get_or starts i 0) (b : before ≤ place) where
+module _ (starts : List ℕ) (bodies : List flat_body.Body) (items : List Exp) (before i : ℕ) (e : Exp) (place : ℕ) (l : i < length items) (is : e ≡ get_or items i e) (m : i < length starts)
+    (p : place ≡ get_or starts i 0) (b : before ≤ place) where
   abbrev between : List flat_body.Body
   between = take (place - before) (drop before bodies)
 
@@ -200,7 +224,8 @@ module _ (starts : List ℕ) (bodies : List flat_body.Body) (items : List Exp) (
   unfolded =
       ap (λ r. normal_bodies starts before (map body (drop before bodies)) (left (drop i items)) r) starts_left
       ∙ ap (λ r. normal_bodies starts before (map body (drop before bodies)) (left r) (place ∷ drop (suc i) starts)) (next_is items i e l is)
-      ∙ ap (λ r. map (procedure_code starts) r ++ form_code starts (tree e) ∷ normal_bodies starts place (drop (place - before) (map body (drop before bodies))) (left (drop (suc i) items)) (drop (suc i) starts)) (take-map body (place - before) (drop before bodies))
+      ∙ ap (λ r. map (procedure_code starts) r ++ form_code starts (tree e) ∷ normal_bodies starts place (drop (place - before) (map body (drop before bodies))) (left (drop (suc i) items))
+      (drop (suc i) starts)) (take-map body (place - before) (drop before bodies))
       ∙ ap (λ r. map (procedure_code starts) (map body between) ++ form_code starts (tree e) ∷ normal_bodies starts place r (left (drop (suc i) items)) (drop (suc i) starts)) after
 
   valid_parts : (xs ys : List Code) (c : Code) → list_all code_valid (xs ++ c ∷ ys) ≡ true → (list_all code_valid xs ≡ true) × (code_valid c ≡ true) × (list_all code_valid ys ≡ true)
@@ -210,37 +235,45 @@ module _ (starts : List ℕ) (bodies : List flat_body.Body) (items : List Exp) (
       (and_left (list_all code_valid xs) (code_valid c && list_all code_valid ys) h', and_left (code_valid c) (list_all code_valid ys) k, and_right (code_valid c) (list_all code_valid ys) k)
 
   pub forms_valid : list_all code_valid (normal_bodies starts before (map body (drop before bodies)) (left (drop i items)) (drop i starts)) ≡ true
-      → (list_all code_valid (map (procedure_code starts) (map body between)) ≡ true) × (code_valid (form_code starts (tree e)) ≡ true) × (list_all code_valid (normal_bodies starts place (map body (drop place bodies)) (left (drop (i + 1) items)) (drop (i + 1) starts)) ≡ true)
+      → (list_all code_valid (map (procedure_code starts) (map body between)) ≡ true) × (code_valid (form_code starts (tree e)) ≡ true)
+      × (list_all code_valid (normal_bodies starts place (map body (drop place bodies)) (left (drop (i + 1) items)) (drop (i + 1) starts)) ≡ true)
   forms_valid h = rw add-one (valid_parts (map (procedure_code starts) (map body between)) rest (form_code starts (tree e)) (subst (λ r. list_all code_valid r ≡ true) unfolded h))
 
-  pub forms_made : (all all1 all2 : List control_body.Body) (q : control_body.Body) (whole : List Code) → codes_of all1 ≡ codes_of all ++ map (procedure_code starts) (map body between) → all2 ≡ all1 ++ q ∷ [] → code_of q ≡ form_code starts (tree e)
+  pub forms_made : (all all1 all2 : List control_body.Body) (q : control_body.Body) (whole : List Code) → codes_of all1 ≡ codes_of all ++ map (procedure_code starts) (map body between)
+      → all2 ≡ all1 ++ q ∷ [] → code_of q ≡ form_code starts (tree e)
       → codes_of all ++ normal_bodies starts before (map body (drop before bodies)) (left (drop i items)) (drop i starts) ≡ whole
       → codes_of all2 ++ normal_bodies starts place (map body (drop place bodies)) (left (drop (i + 1) items)) (drop (i + 1) starts) ≡ whole
   forms_made all all1 all2 q whole h1 h2 h3 k =
       let k' : codes_of all ++ (map (procedure_code starts) (map body between) ++ form_code starts (tree e) ∷ rest) ≡ whole = subst (λ r. codes_of all ++ r ≡ whole) unfolded k in
       rw add-one (ap (λ x. codes_of x ++ rest) h2 ∙ ap (λ x. x ++ rest) (codes_append all1 (q ∷ [])) ∙ append_assoc (codes_of all1) (code_of q ∷ []) rest
-      ∙ ap (λ c. codes_of all1 ++ c ∷ rest) h3 ∙ ap (λ x. x ++ form_code starts (tree e) ∷ rest) h1 ∙ append_assoc (codes_of all) (map (procedure_code starts) (map body between)) (form_code starts (tree e) ∷ rest) ∙ k')
+      ∙ ap (λ c. codes_of all1 ++ c ∷ rest) h3 ∙ ap (λ x. x ++ form_code starts (tree e) ∷ rest) h1
+      ∙ append_assoc (codes_of all) (map (procedure_code starts) (map body between)) (form_code starts (tree e) ∷ rest) ∙ k')
 
   pub forms_labels : (more : ℕ) → LabelsOfBodies more (map body (drop before bodies)) → LabelsOfBodies more (map body between) × LabelsOfBodies more (map body (drop place bodies))
-  forms_labels more h =
-      (subst (LabelsOfBodies more) (take-map body (place - before) (drop before bodies)) (labels_take more (map body (drop before bodies)) (place - before) h), subst (LabelsOfBodies more) after (labels_drop more (map body (drop before bodies)) (place - before) h))
+  forms_labels more h = (
+    subst (LabelsOfBodies more) (take-map body (place - before) (drop before bodies)) (labels_take more (map body (drop before bodies)) (place - before) h),
+    subst (LabelsOfBodies more) after (labels_drop more (map body (drop before bodies)) (place - before) h),
+  )
 
 -- the next place is not before this one, nor behind the last
-pub ascends_next : (starts : List ℕ) (before i last : ℕ) → i < length starts → ascending before last (drop i starts) ≡ true → (before ≤ get_or starts i 0) × (get_or starts i 0 ≤ last) × (ascending (get_or starts i 0) last (drop (i + 1) starts) ≡ true)
+pub ascends_next : (starts : List ℕ) (before i last : ℕ) → i < length starts → ascending before last (drop i starts) ≡ true
+    → (before ≤ get_or starts i 0) × (get_or starts i 0 ≤ last) × (ascending (get_or starts i 0) last (drop (i + 1) starts) ≡ true)
 ascends_next starts before i last m h =
     let place = get_or starts i 0 in
     let h' : (nat_le before place && ascending place last (drop (suc i) starts)) ≡ true = next_left starts i (λ r. ascending before last r ≡ true) place m (get_or_default starts i 0 place m) h in
     let k = and_right (nat_le before place) (ascending place last (drop (suc i) starts)) h' in
     rw add-one (leb-true before place (and_left (nat_le before place) (ascending place last (drop (suc i) starts)) h'), ascending_last place last (drop (suc i) starts) k, k)
 
-pub forms_end : (starts : List ℕ) (bodies : List flat_body.Body) (items : List Exp) (before i : ℕ) → length items ≤ i → normal_bodies starts before (map body (drop before bodies)) (left (drop i items)) (drop i starts) ≡ map (procedure_code starts) (map body (drop before bodies))
+pub forms_end : (starts : List ℕ) (bodies : List flat_body.Body) (items : List Exp) (before i : ℕ) → length items ≤ i
+    → normal_bodies starts before (map body (drop before bodies)) (left (drop i items)) (drop i starts) ≡ map (procedure_code starts) (map body (drop before bodies))
 forms_end starts bodies items before i l = ap (λ r. normal_bodies starts before (map body (drop before bodies)) (left r) (drop i starts)) (drop_all i items l)
 
 pub before_last : (starts : List ℕ) (before i last : ℕ) → ascending before last (drop i starts) ≡ true → before ≤ last
 before_last starts before i last h = ascending_last before last (drop i starts) h
 
 -- the procedures between two forms
-pub between_labels : (bodies : List flat_body.Body) (before place more : ℕ) → LabelsOfBodies more (map body (drop before bodies)) → LabelsOfBodies more (map body (take (place - before) (drop before bodies)))
+pub between_labels : (bodies : List flat_body.Body) (before place more : ℕ) → LabelsOfBodies more (map body (drop before bodies))
+    → LabelsOfBodies more (map body (take (place - before) (drop before bodies)))
 between_labels bodies before place more h = subst (LabelsOfBodies more) (take-map body (place - before) (drop before bodies)) (labels_take more (map body (drop before bodies)) (place - before) h)
 
 pub between_valid : (starts : List ℕ) (bodies : List flat_body.Body) (items : List Exp) (before i last : ℕ) → i < length items → i < length starts → ascending before last (drop i starts) ≡ true

@@ -7,6 +7,7 @@ use Rattle.std.proofs.lemmas.Bool.{eqb-true}
 use Rattle.std.proofs.lemmas.List.{length-map}
 use Rattle.sch_word.specs.declared.statics.Statics.{Statics}
 use Rattle.sch_word.specs.values.StaticsView.{statics}
+use Rattle.sch_word.proofs.facts.Booleans.{and_left, and_right}
 use Rattle.sch_flat.specs.declared.tree.Body as flat_body
 use Rattle.sch_flat.specs.declared.tree.Exp.{Exp}
 use Rattle.sch_flat.specs.Tree.{Source, count}
@@ -17,7 +18,6 @@ use Rattle.sch_control.specs.SourceView.{source_of, codes_of}
 use Rattle.sch_control.specs.Valid.{code_valid}
 use Rattle.sch_normal.specs.LabelsFit.{LabelsFitEach, LabelsOfBodies}
 use Rattle.sch_normal.specs.Normal.{new_label, normal_bodies, normal_source, bound_parts}
-use Rattle.sch_normal.proofs.runs.Orders.{and_left, and_right}
 use Rattle.sch_anf.proofs.CodeLists.{sorted, label_fits, labels_fit_each, labels_fit_bodies}
 use Rattle.sch_normal.proofs.valid.ValidProgram.{bodies_valid}
 
@@ -32,7 +32,8 @@ pub record Given (starts : List ℕ) (bodies : List flat_body.Body) (forms : Lis
   pub valid : list_all code_valid (normal_bodies starts 0 (map body bodies) (trees_of forms) starts) ≡ true
 
 -- no more bodies and forms than numbers of 32 bits, said of a program
-pub few_bodies : (starts starts' : List ℕ) (bodies bodies' : List flat_body.Body) → starts' ≡ starts → bodies' ≡ bodies → length bodies' + length starts' ≤ 2 ^ 32 → length (map body bodies) + length starts ≤ 2 ^ 32
+pub few_bodies : (starts starts' : List ℕ) (bodies bodies' : List flat_body.Body) → starts' ≡ starts → bodies' ≡ bodies → length bodies' + length starts' ≤ 2 ^ 32
+    → length (map body bodies) + length starts ≤ 2 ^ 32
 few_bodies starts starts' bodies bodies' s b h = let m = length-map bodies body in let l = ap length s in let k = ap length b in omega (arith, h, m, l, k)
 
 module _ (p : Source) (few : length p.bodies + length p.starts ≤ 2 ^ 32) where
@@ -56,17 +57,21 @@ module _ (p : Source) (few : length p.bodies + length p.starts ≤ 2 ^ 32) where
     bodies_fit = labels_fit_bodies p.bodies (length p.starts) few p.bodies (and_left (list_all (body_scoped p.bodies) p.bodies) (forms_scoped && library_scoped) closed)
 
     forms_fit : LabelsFitEach (length p.starts) p.forms
-    forms_fit = labels_fit_each p.bodies (length p.starts) few p.forms [] 0 (and_left forms_scoped library_scoped (and_right (list_all (body_scoped p.bodies) p.bodies) (forms_scoped && library_scoped) closed))
+    forms_fit = labels_fit_each p.bodies (length p.starts) few p.forms [] 0
+        (and_left forms_scoped library_scoped (and_right (list_all (body_scoped p.bodies) p.bodies) (forms_scoped && library_scoped) closed))
 
     each_fits : (labels : List ℕ) → list_all (λ label. has_fields (slice_get p.bodies label) 0) labels ≡ true → (k : ℕ) → k < length labels → get_or labels k 0 + length p.starts < 2 ^ 32
     each_fits [] h k l = absurd (omega (arith, l))
-    each_fits (label ∷ labels) h zero l = label_fits p.bodies (length p.starts) few label 0 (and_left (has_fields (slice_get p.bodies label) 0) (list_all (λ label. has_fields (slice_get p.bodies label) 0) labels) h)
-    each_fits (label ∷ labels) h (suc k) l = each_fits labels (and_right (has_fields (slice_get p.bodies label) 0) (list_all (λ label. has_fields (slice_get p.bodies label) 0) labels) h) k (omega (arith, l))
+    each_fits (label ∷ labels) h zero l = label_fits p.bodies (length p.starts) few label 0
+        (and_left (has_fields (slice_get p.bodies label) 0) (list_all (λ label. has_fields (slice_get p.bodies label) 0) labels) h)
+    each_fits (label ∷ labels) h (suc k) l = each_fits labels (and_right (has_fields (slice_get p.bodies label) 0) (list_all (λ label. has_fields (slice_get p.bodies label) 0) labels) h) k
+        (omega (arith, l))
 
     pub library_fits : (k : ℕ) → k < length p.library → get_or p.library k 0 + length p.starts < 2 ^ 32
     library_fits = each_fits p.library (and_right forms_scoped library_scoped (and_right (list_all (body_scoped p.bodies) p.bodies) (forms_scoped && library_scoped) closed))
 
-pub given : (starts : List ℕ) (bodies : List flat_body.Body) (forms : List Exp) (p : Source) → p.starts ≡ starts → p.bodies ≡ map body bodies → p.forms ≡ trees_of forms → length p.bodies + length p.starts ≤ 2 ^ 32 → is_closed p ≡ true → is_formed p ≡ true → in_order p ≡ true → sited p ≡ true → statics_known p ≡ true → constants_in_range p ≡ true
+pub given : (starts : List ℕ) (bodies : List flat_body.Body) (forms : List Exp) (p : Source) → p.starts ≡ starts → p.bodies ≡ map body bodies → p.forms ≡ trees_of forms
+    → length p.bodies + length p.starts ≤ 2 ^ 32 → is_closed p ≡ true → is_formed p ≡ true → in_order p ≡ true → sited p ≡ true → statics_known p ≡ true → constants_in_range p ≡ true
     → Given starts bodies forms
 given starts bodies forms p s b f few closed formed ascends once ready words = record {
   sorted = subst IsNonDecreasing s (rising p few closed ascends);
@@ -81,6 +86,7 @@ given starts bodies forms p s b f few closed formed ascends once ready words = r
 
 -- ## The program
 
-pub made_program : (p : Source) (ready : Statics) (library sites : List ℕ) (bodies : List control_body.Body) (bound : List (List ℕ)) → statics ready ≡ p.statics → library ≡ map (new_label p.starts) p.library → codes_of bodies ≡ normal_bodies p.starts 0 p.bodies p.forms p.starts
+pub made_program : (p : Source) (ready : Statics) (library sites : List ℕ) (bodies : List control_body.Body) (bound : List (List ℕ)) → statics ready ≡ p.statics
+    → library ≡ map (new_label p.starts) p.library → codes_of bodies ≡ normal_bodies p.starts 0 p.bodies p.forms p.starts
     → sites ≡ p.sites → bound ≡ bound_parts p → source_of ready library bodies sites bound ≡ normal_source p
 made_program p ready library sites bodies bound a b c d e = rw (a, b, c, d, e) refl

@@ -11,9 +11,9 @@ ghost use Rattle.sch_control.specs.Valid.{code_valid};
 ghost use Rattle.sch_normal.specs.LabelsFit.{LabelsFit, LabelsFitEach, LabelsOfBodies};
 ghost use Rattle.sch_normal.specs.Normal.{form_code, normal_bodies, procedure_code};
 
-use crate::normalizing::normalize_expression;
 use sch_control as control;
 use sch_control::Entry;
+use sch_expressions::normalize_expression;
 use sch_flat::{Body, Exp};
 use sch_operands::Variables;
 use sch_word::{List, Mem};

@@ -18,8 +18,6 @@ ghost use Rattle.sch_normal.specs.Tests.{tests_of};
 ghost use Rattle.sch_normal.specs.Weight.{weight};
 
 mod body;
-mod normalizing;
-mod steps;
 
 use crate::body::normalize_bodies;
 use sch_control::ControlProgram;

@@ -7,7 +7,7 @@ use Rattle.sch_word.specs.values.Memory.{Segment}
 use Rattle.sch_insn.specs.declared.insn.Insn.{Insn}
 use Rattle.sch_insn.specs.Spelling.{AllValid, spelling}
 use Rattle.sch_insn.specs.Stands.{HasAt}
-use Rattle.sch_insn.proofs.Placing.{has_all, spelling_some}
+use Rattle.sch_insn.proofs.SegmentContents.{has_all, spelling_some}
 use Rattle.sch_asm.specs.declared.item.Item.{Item}
 use Rattle.sch_asm.specs.declared.item.Item.TheVariants.{Label, Plain, Jump, JumpIf, LoadLabel, LoadWord, StoreWord, Mark}
 use Rattle.sch_asm.specs.declared.item.Mark as mark

@@ -1,5 +1,5 @@
 -- The tables of a text are those of its items.
-use Rattle.std.proofs.Common.{◌≡◌, ◌≢◌, ℕ, zero, suc, ◌+◌, ◌*◌, ◌<◌, ◌≤◌, List, [], ◌∷◌, ◌++◌, length, map, Bool, true, false, refl, sym, ap, ◌∙◌, subst, arith, ⊎_elim, ◌==◌, ◌||◌, ◌&&◌}
+use Rattle.std.proofs.Common.{◌≡◌, ◌≢◌, ℕ, zero, suc, ◌+◌, ◌*◌, ◌<◌, ◌≤◌, List, [], ◌∷◌, ◌++◌, length, Bool, true, false, refl, sym, ap, ◌∙◌, subst, arith, ⊎_elim, ◌==◌, ◌||◌, ◌&&◌}
 use Rattle.std.specs.Prelude.{nat_le, nat_lt, slice_set, slice_index, replicate, IsTrue, All, AllPairs}
 use Rattle.std.specs.List.{AllByRecursion}
 use Rattle.std.proofs.lemmas.Bool.{eqb-true, eqb-false, cases_Bool, cases_lt, or_parts}
@@ -19,17 +19,13 @@ use Rattle.sch_asm.specs.declared.routine.Routine.TheVariants.{End, Stop, Put, P
 use Rattle.sch_asm.specs.Routines.{label_of}
 use Rattle.sch_asm.specs.Items.{AreItems, AreKnown, AreOwn, IsEachOnce, is_among, is_routine, labels_in, uses_in, word_uses}
 use Rattle.sch_asm.specs.Codes.{item_size, text_size}
-use Rattle.sch_asm.specs.Layout.{raised, label_bound, entered, placed, StandsAt, StandAt, StandsBelow, StandBelow, UseBelow, WordsBelow, total, addresses_from}
+use Rattle.sch_asm.specs.Layout.{raised, label_bound, entered, placed_from, StandsAt, StandAt, StandsBelow, StandBelow, UseBelow, WordsBelow}
 
 -- ---- sizes
 
 pub size_append : (xs ys : List Item) → text_size (xs ++ ys) ≡ text_size xs + text_size ys
 size_append [] ys = omega arith
 size_append (x ∷ xs) ys = let e = size_append xs ys in omega arith
-
-pub total_sizes : (is : List Item) → total (map item_size is) ≡ text_size is
-total_sizes [] = refl
-total_sizes (i ∷ is) = ap (λ n. item_size i + n) (total_sizes is)
 
 size_small : (i : Item) → item_size i ≤ 15
 size_small (Label l) = omega arith
@@ -57,7 +53,7 @@ raised_up b (LoadWord r a) = omega arith
 raised_up b (StoreWord a r) = omega arith
 raised_up b (Mark m) = omega arith
 
-bound_up : (is : List Item) (b : ℕ) → b ≤ label_bound b is
+pub bound_up : (is : List Item) (b : ℕ) → b ≤ label_bound b is
 bound_up [] b = omega arith
 bound_up (i ∷ is) b = let h = raised_up b i in let k = bound_up is (raised b i) in omega (arith, h, k)
 
@@ -162,11 +158,11 @@ pub stand_append : (xs ys : List Item) (n : ℕ) → StandBelow n xs → StandBe
 stand_append [] ys n h k = k
 stand_append (x ∷ xs) ys n h k = (h.0, stand_append xs ys n h.1 k)
 
-pub placed_append : (at : ℕ → ℕ) (xs ys : List Item) (k : ℕ) (t : List ℕ) → placed at (xs ++ ys) k t ≡ placed at ys (k + length xs) (placed at xs k t)
-placed_append at [] ys k t = let e : k + 0 ≡ k = omega arith in ap (λ j. placed at ys j t) (sym e)
-placed_append at (x ∷ xs) ys k t =
-    let e : k + 1 + length xs ≡ k + length (x ∷ xs) = omega arith in
-    placed_append at xs ys (k + 1) (entered x (at k) t) ∙ ap (λ j. placed at ys j (placed at xs (k + 1) (entered x (at k) t))) e
+pub placed_append : (a : ℕ) (xs ys : List Item) (t : List ℕ) → placed_from a (xs ++ ys) t ≡ placed_from (a + text_size xs) ys (placed_from a xs t)
+placed_append a [] ys t = let e : a + 0 ≡ a = omega arith in ap (λ b. placed_from b ys t) (sym e)
+placed_append a (x ∷ xs) ys t =
+    let e : a + item_size x + text_size xs ≡ a + text_size (x ∷ xs) = omega arith in
+    placed_append (a + item_size x) xs ys (entered x a t) ∙ ap (λ b. placed_from b ys (placed_from (a + item_size x) xs (entered x a t))) e
 
 -- ---- the places of labels
 
@@ -259,27 +255,27 @@ entered_length : (i : Item) (k : ℕ) (t : List ℕ) → length (entered i k t) 
 entered_length (Label l) k t = length-set t l k
 entered_length _ k t = refl
 
-pub placed_length : (at : ℕ → ℕ) (is : List Item) (k : ℕ) (t : List ℕ) → length (placed at is k t) ≡ length t
-placed_length at [] k t = refl
-placed_length at (i ∷ is) k t = placed_length at is (k + 1) (entered i (at k) t) ∙ entered_length i (at k) t
+pub placed_length : (a : ℕ) (is : List Item) (t : List ℕ) → length (placed_from a is t) ≡ length t
+placed_length a [] t = refl
+placed_length a (i ∷ is) t = placed_length (a + item_size i) is (entered i a t) ∙ entered_length i a t
 
 entered_kept : (l : ℕ) (i : Item) (k : ℕ) (t : List ℕ) → IsNot l i → slice_index (entered i k t) l ≡ slice_index t l
 entered_kept l (Label m) k t u = get_or-set_other t m l k 0 u
 entered_kept l _ k t u = refl
 
-kept : (at : ℕ → ℕ) (is : List Item) (k : ℕ) (t : List ℕ) (l : ℕ) → Absent l is → slice_index (placed at is k t) l ≡ slice_index t l
-kept at [] k t l u = refl
-kept at (i ∷ is) k t l u = kept at is (k + 1) (entered i (at k) t) l u.1 ∙ entered_kept l i (at k) t u.0
+kept : (a : ℕ) (is : List Item) (t : List ℕ) (l : ℕ) → Absent l is → slice_index (placed_from a is t) l ≡ slice_index t l
+kept a [] t l u = refl
+kept a (i ∷ is) t l u = kept (a + item_size i) is (entered i a t) l u.1 ∙ entered_kept l i a t u.0
 
-own : (at : ℕ → ℕ) (i : Item) (is : List Item) (k j : ℕ) (t : List ℕ) → Once i is → StandsBelow (length t) i → StandsAt at (placed at is j (entered i (at k) t)) k i
-own at (Label l) is k j t u v = kept at is j (slice_set t l (at k)) l u ∙ get_or-set_same t l (at k) 0 v
-own at _ is k j t u v = tt
+own : (i : Item) (is : List Item) (a b : ℕ) (t : List ℕ) → Once i is → StandsBelow (length t) i → StandsAt (placed_from b is (entered i a t)) a i
+own (Label l) is a b t u v = kept b is (slice_set t l a) l u ∙ get_or-set_same t l a 0 v
+own _ is a b t u v = tt
 
-pub stand_at : (at : ℕ → ℕ) (is : List Item) (k : ℕ) (t : List ℕ) → Apart is → StandBelow (length t) is → StandAt at (placed at is k t) k is
-stand_at at [] k t u v = tt
-stand_at at (i ∷ is) k t u v = (
-  own at i is k (k + 1) t u.0 v.0,
-  stand_at at is (k + 1) (entered i (at k) t) u.1 (subst (λ n. StandBelow n is) (sym (entered_length i (at k) t)) v.1),
+pub stand_at : (is : List Item) (a : ℕ) (t : List ℕ) → Apart is → StandBelow (length t) is → StandAt (placed_from a is t) a is
+stand_at [] a t u v = tt
+stand_at (i ∷ is) a t u v = (
+  own i is a (a + item_size i) t u.0 v.0,
+  stand_at is (a + item_size i) (entered i a t) u.1 (subst (λ n. StandBelow n is) (sym (entered_length i a t)) v.1),
 )
 
 -- each number is below a bound
@@ -298,9 +294,9 @@ below_entered : (i : Item) (k n : ℕ) (t : List ℕ) → k < n → Below n t �
 below_entered (Label l) k n t lt h = below_set t l k n lt h
 below_entered _ k n t lt h = h
 
-pub below_placed : (at : ℕ → ℕ) (is : List Item) (k n : ℕ) (t : List ℕ) → ((j : ℕ) → at j < n) → Below n t → Below n (placed at is k t)
-below_placed at [] k n t lt h = h
-below_placed at (i ∷ is) k n t lt h = below_placed at is (k + 1) n (entered i (at k) t) lt (below_entered i (at k) n t (lt k) h)
+pub below_placed : (is : List Item) (a n : ℕ) (t : List ℕ) → a + text_size is < n → Below n t → Below n (placed_from a is t)
+below_placed [] a n t lt h = h
+below_placed (i ∷ is) a n t lt h = below_placed is (a + item_size i) n (entered i a t) (omega (arith, lt)) (below_entered i a n t (omega (arith, lt)) h)
 
 -- also behind the table
 pub below_anywhere : (t : List ℕ) (n : ℕ) → 0 < n → Below n t → (k : ℕ) → slice_index t k < n
@@ -309,18 +305,6 @@ below_anywhere t n some h k =
 
 pub below_zeros : (c n : ℕ) → 0 < n → Below n (replicate c 0)
 below_zeros c n some k h = grind (arith, common_steps)
-
--- ---- addresses
-
-pub addresses_length : (a : ℕ) (ns : List ℕ) → length (addresses_from a ns) ≡ length ns + 1
-addresses_length a [] = refl
-addresses_length a (n ∷ ns) = let e = addresses_length (a + n) ns in omega arith
-
-pub below_addresses : (a : ℕ) (ns : List ℕ) (m : ℕ) → a + total ns < m → Below m (addresses_from a ns)
-below_addresses a [] m lt zero h = omega arith
-below_addresses a [] m lt (suc k) h = absurd (omega arith)
-below_addresses a (n ∷ ns) m lt zero h = omega arith
-below_addresses a (n ∷ ns) m lt (suc k) h = below_addresses (a + n) ns m (omega arith) k (omega arith)
 
 -- ---- all labels that are used have a place in the table
 

@@ -1,5 +1,5 @@
--- Tables of a text: the address of each item and of each label. Items are numbered from 0.
-use Rattle.std.specs.Prelude.{◌≡◌, ℕ, ◌+◌, ◌<◌, List, [], ◌∷◌, ◌++◌, length, max, slice_set, slice_index, map, Option, Some, None, ℤ, pos, ◌-ℤ◌}
+-- The table of a text: the address of each label. Items stand one behind the other from an address on.
+use Rattle.std.specs.Prelude.{◌≡◌, ℕ, ◌+◌, ◌<◌, List, [], ◌∷◌, ◌++◌, length, max, slice_set, slice_index, Option, Some, None, ℤ, pos, ◌-ℤ◌}
 use Rattle.sch_word.specs.runs.ProgramLayout.{text_address}
 use Rattle.sch_insn.specs.declared.insn.Arg.TheVariants.{Rip}
 use Rattle.sch_insn.specs.declared.insn.Insn.{Insn}
@@ -28,19 +28,19 @@ abbrev pub entered : Item → ℕ → List ℕ → List ℕ
 entered (Label l) a places = slice_set places l a
 entered _ a places = places
 
--- The same with items from number k on, where `at` has the address of each item.
-abbrev pub placed : (ℕ → ℕ) → List Item → ℕ → List ℕ → List ℕ
-placed at [] k places = places
-placed at (i ∷ is) k places = placed at is (k + 1) (entered i (at k) places)
+-- The same with items from an address on.
+abbrev pub placed_from : ℕ → List Item → List ℕ → List ℕ
+placed_from a [] places = places
+placed_from a (i ∷ is) places = placed_from (a + item_size i) is (entered i a places)
 
 -- Each label that stands has the address of its item in a table.
-abbrev pub StandsAt : (ℕ → ℕ) → List ℕ → ℕ → Item → Type 0
-StandsAt at places k (Label l) = slice_index places l ≡ at k
-StandsAt at places k _ = Unit {0}
+abbrev pub StandsAt : List ℕ → ℕ → Item → Type 0
+StandsAt places a (Label l) = slice_index places l ≡ a
+StandsAt places a _ = Unit {0}
 
-abbrev pub StandAt : (ℕ → ℕ) → List ℕ → ℕ → List Item → Type 0
-StandAt at places k [] = Unit {0}
-StandAt at places k (i ∷ is) = StandsAt at places k i × StandAt at places (k + 1) is
+abbrev pub StandAt : List ℕ → ℕ → List Item → Type 0
+StandAt places a [] = Unit {0}
+StandAt places a (i ∷ is) = StandsAt places a i × StandAt places (a + item_size i) is
 
 -- The labels that stand are below n.
 abbrev pub StandsBelow : ℕ → Item → Type 0
@@ -70,20 +70,11 @@ abbrev pub WordsBelow : ℕ → List Word → Type 0
 WordsBelow n [] = Unit {0}
 WordsBelow n (w ∷ ws) = WordBelow n w × WordsBelow n ws
 
--- ---- sizes and addresses
+-- ---- sizes
 
 abbrev pub IsSized : Item → Type 0
 IsSized (Plain i) = IsValid i
 IsSized _ = Unit {0}
-
-abbrev pub total : List ℕ → ℕ
-total [] = 0
-total (n ∷ ns) = n + total ns
-
--- The address of each item, and that behind the last one.
-abbrev pub addresses_from : ℕ → List ℕ → List ℕ
-addresses_from a [] = a ∷ []
-addresses_from a (n ∷ ns) = a ∷ addresses_from (a + n) ns
 
 -- ---- what is put out
 
@@ -109,26 +100,18 @@ abbrev pub marks_of : ℕ → Item → List mark.Mark
 marks_of a (Mark m) = record { address = a; kind = m } ∷ []
 marks_of a _ = []
 
--- Items from number k on, where `at` has the address of each item and `place` that of each label.
-abbrev pub emitted : (ℕ → ℕ) → (ℕ → ℕ) → ℕ → List Item → List Insn
-emitted place at k [] = []
-emitted place at k (i ∷ is) = insns_of place (at (k + 1)) i ++ emitted place at (k + 1) is
+-- Items from an address on, where `place` has the address of each label.
+abbrev pub emitted_from : (ℕ → ℕ) → ℕ → List Item → List Insn
+emitted_from place a [] = []
+emitted_from place a (i ∷ is) = insns_of place (a + item_size i) i ++ emitted_from place (a + item_size i) is
 
-abbrev pub marked : (ℕ → ℕ) → ℕ → List Item → List mark.Mark
-marked at k [] = []
-marked at k (i ∷ is) = marks_of (at k) i ++ marked at (k + 1) is
+abbrev pub marked_from : ℕ → List Item → List mark.Mark
+marked_from a [] = []
+marked_from a (i ∷ is) = marks_of a i ++ marked_from (a + item_size i) is
 
--- What tables put out for items from number k on.
-abbrev pub emitted_by : List ℕ → List ℕ → ℕ → List Item → List Insn
-emitted_by places addresses k is = emitted (slice_index places) (slice_index addresses) k is
-
-abbrev pub marked_by : List ℕ → ℕ → List Item → List mark.Mark
-marked_by addresses k is = marked (slice_index addresses) k is
-
--- The tables are those of items and words: each label that stands has the address of its item, each item the
--- address where those before it end, and each label that is used has a place in the table.
-pub record IsLaidOut (items : List Item) (words : List Word) (places addresses : List ℕ) : Type 0 where
-  pub standing : StandAt (slice_index addresses) places 0 items
-  pub ends : addresses ≡ addresses_from text_address (map item_size items)
+-- The table is that of items and words: each label that stands has the address of its item, and each label that is used
+-- has a place in the table.
+pub record IsLaidOut (items : List Item) (words : List Word) (places : List ℕ) : Type 0 where
+  pub standing : StandAt places text_address items
   pub uses : UseBelow (length places) items
   pub words_use : WordsBelow (length places) words

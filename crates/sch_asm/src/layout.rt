@@ -1,22 +1,19 @@
 //! Where items and labels stand.
 
-ghost use Rattle.std.specs.Prelude.{◌≡◌, ◌+◌, ◌*◌, ◌^◌, ◌<◌, ◌≤◌, ◌++◌, EachIndex, IfOk, OnOk, length, map, replicate, slice_index};
-ghost use Rattle.sch_word.specs.runs.ProgramLayout.{max_text_size, text_address};
+ghost use Rattle.std.specs.Prelude.{◌≡◌, ◌+◌, ◌*◌, ◌^◌, ◌<◌, ◌++◌, EachIndex, IfOk, length, replicate, slice_index};
 ghost use Rattle.sch_asm.specs.Items.{AreItems};
-ghost use Rattle.sch_asm.specs.Codes.{item_size};
-ghost use Rattle.sch_asm.specs.Layout.{IsSized, StandBelow, addresses_from, label_bound, placed, raised, total};
+ghost use Rattle.sch_asm.specs.Codes.{item_size, text_size};
+ghost use Rattle.sch_asm.specs.Layout.{IsSized, StandBelow, label_bound, placed_from, raised};
 
 use crate::item::Item;
-use sch_word::{List, Mem, TEXT_ADDRESS};
+use sch_word::Mem;
 use std::alloc::Global;
 
-/// The address of each label, and that of each item and of the end.
+/// The address of each label.
 #[derive(Drop)]
 pub struct Layout {
     pub places: Vec<u32>,
-    pub addresses: List<u32>,
     ghost low: { EachIndex places.items (λ l. slice_index places.items l < 2 ^ 30) },
-    ghost small: { EachIndex addresses (λ k. slice_index addresses k < 2 ^ 30) },
 }
 
 impl Layout {
@@ -30,15 +27,27 @@ impl Layout {
     }
 }
 
-/// One more than the greatest label that stands in items, and 0 where there is none.
-pub fn labels_of(items: &[Item]) -> usize
-    ensures { result ≡ label_bound 0 items.now }
+/// How many bytes items take, and one more than the greatest label that stands in them.
+#[derive(Clone, Copy)]
+pub struct Extent {
+    pub bytes: u64,
+    pub labels: usize,
+}
+
+/// The extent of items behind others of this one.
+pub fn extended(before: Extent, items: &[Item]) -> Extent
+    requires sound { AreItems items.now }
+    requires few { before.bytes + text_size items.now < 2 ^ 64 }
+    ensures bytes { result.bytes ≡ before.bytes + text_size items.now }
+    ensures labels { result.labels ≡ label_bound before.labels items.now }
 {
-    let mut bound = 0;
+    let mut bytes = before.bytes;
+    let mut labels = before.labels;
     for item in items {
-        bound = raise(bound, item);
+        bytes += long_size(item) as u64;
+        labels = raise(labels, item);
     }
-    bound
+    Extent { bytes, labels }
 }
 
 fn raise(bound: usize, item: &Item) -> usize
@@ -50,24 +59,28 @@ fn raise(bound: usize, item: &Item) -> usize
     }
 }
 
-/// Enters the labels of items that have the numbers from `first` on, by the address of each item.
-pub fn place_labels(items: &[Item], first: usize, addresses: &[u32], places: &mut Vec<u32>)
+/// Enters the labels of items from an address on, and gives the address behind them.
+pub fn place_labels(items: &[Item], from: u32, places: &mut Vec<u32>) -> u32
+    requires sound { AreItems items.now }
     requires below { StandBelow (length places.old.items) items.now }
-    requires within { first + length items.now < length addresses.now }
-    ensures places { places.new.items ≡ placed (slice_index addresses.now) items.now first places.old.items }
+    requires short { from + text_size items.now < 2 ^ 30 }
+    ensures places { places.new.items ≡ placed_from from items.now places.old.items }
     ensures size { length places.new.items ≡ length places.old.items }
+    ensures end { result ≡ from + text_size items.now }
 {
-    let mut number = first;
+    let mut at = from;
     for item in items {
         if let Item::Label(label) = item {
-            places[*label as usize] = addresses[number];
+            places[*label as usize] = at;
         }
-        number += 1;
+        at += long_size(item) as u32;
     }
+    at
 }
 
 /// How many bytes an item takes where jumps have their long forms.
-fn long_size(item: &Item) -> u8
+#[inline(always)]
+pub fn long_size(item: &Item) -> u8
     requires sized { IsSized item.now }
     ensures { result ≡ item_size item.now }
 {
@@ -80,44 +93,6 @@ fn long_size(item: &Item) -> u8
     }
 }
 
-/// Adds the size of each item.
-pub fn push_sizes(items: &[Item], sizes: &mut List<u8>) -> Result<(), Mem>
-    requires sound { AreItems items.now }
-    ensures { OnOk result (sizes.new ≡ sizes.old ++ map item_size items.now) }
-{
-    for item in items {
-        sizes.push(long_size(item))?;
-    }
-    Ok(())
-}
-
-/// The sum of sizes.
-pub fn total_size(sizes: &[u8]) -> u64
-    requires { total sizes.now < 2 ^ 64 }
-    ensures { result ≡ total sizes.now }
-{
-    let mut sum = 0;
-    for size in sizes {
-        sum += *size as u64;
-    }
-    sum
-}
-
-/// The address of each item by the sizes, and that behind the last one.
-pub fn addresses_of(alloc: Global, sizes: &[u8]) -> Result<List<u32>, Mem>
-    requires { total sizes.now ≤ max_text_size }
-    ensures { IfOk result (λ addresses. addresses ≡ addresses_from text_address sizes.now) }
-{
-    let mut addresses = List::from_vec(Vec::with_capacity(alloc, sizes.len())?);
-    let mut at = TEXT_ADDRESS as u32;
-    for size in sizes {
-        addresses.push(at)?;
-        at += *size as u32;
-    }
-    addresses.push(at)?;
-    Ok(addresses)
-}
-
 /// A table of `count` zeros.
 pub fn zeros(alloc: Global, count: usize) -> Result<Vec<u32>, Mem>
     ensures { IfOk result (λ places. places.items ≡ replicate count 0) }
@@ -125,10 +100,26 @@ pub fn zeros(alloc: Global, count: usize) -> Result<Vec<u32>, Mem>
     Ok(vec![in alloc; 0u32; count]?)
 }
 
-/// How many items two lists have. An item takes at least 16 bytes of memory, so there are fewer than 2^60.
-pub fn item_count(items: &[Item], routines: &[Item]) -> usize
-    ensures count { result ≡ length items.now + length routines.now }
-    ensures few { 15 * (length items.now + length routines.now) < 2 ^ 64 }
+// How many items two lists have. An item takes at least 16 bytes of memory, so there are fewer than 2^60.
+fn item_count(items: &[Item], routines: &[Item]) -> usize
+    ensures { 15 * (length items.now + length routines.now) < 2 ^ 64 }
 {
     items.len() + routines.len()
+}
+
+/// The extent of two lists, the one behind the other.
+pub fn extent_of(items: &[Item], routines: &[Item]) -> Extent
+    requires items { AreItems items.now }
+    requires routines { AreItems routines.now }
+    ensures bytes { result.bytes ≡ text_size (items.now ++ routines.now) }
+    ensures labels { result.labels ≡ label_bound (label_bound 0 items.now) routines.now }
+{
+    // so the bytes are a number of 64 bits
+    item_count(items, routines);
+    let none = Extent {
+        bytes: 0,
+        labels: 0,
+    };
+    let own = extended(none, items);
+    extended(own, routines)
 }

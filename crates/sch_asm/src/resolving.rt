@@ -1,27 +1,26 @@
 //! From items to a text: `resolve`.
 
-ghost use Rattle.std.specs.Prelude.{◌≡◌, ◌+◌, ◌*◌, ◌^◌, ◌<◌, ◌≤◌, ◌++◌, length, map, IfOk, IfErr, OnOk, slice_index};
+ghost use Rattle.std.specs.Prelude.{◌≡◌, ◌+◌, ◌*◌, ◌^◌, ◌<◌, ◌≤◌, ◌++◌, length, IfOk, IfErr, IfSome, OnOk, slice_index};
 ghost use Rattle.std.specs.List.{flat_map};
 ghost use Rattle.sch_word.specs.runs.ProgramLayout.{max_text_size};
 ghost use Rattle.sch_insn.specs.Spelling.{AllValid, IsCondition, IsValid, spelling};
 ghost use Rattle.sch_asm.specs.Items.{AreItems, AreOwn, AreRoutines, IsItem};
-ghost use Rattle.sch_asm.specs.Codes.{AreResolved, IsTooLarge, bytes_of, item_size, text_size, value_of as word_value};
-ghost use Rattle.sch_asm.specs.Layout.{IsLaidOut, UseBelow, UsesBelow, WordBelow, WordsBelow, displacement, emitted_by, insns_of, marked_by, marks_of, option_list, total};
+ghost use Rattle.sch_asm.specs.Codes.{AreResolved, IsTooLarge, bytes_of, text_size, value_of as word_value};
+ghost use Rattle.sch_asm.specs.Layout.{IsLaidOut, UseBelow, UsesBelow, WordBelow, WordsBelow, displacement, emitted_from, insns_of, label_bound, marked_from, marks_of, option_list};
 
 use crate::assembly::{Asm, Word};
 use crate::error::AsmError;
 use crate::item::{Item, Mark};
-use crate::layout::{
-    Layout, addresses_of, item_count, labels_of, place_labels, push_sizes, total_size, zeros,
-};
+use crate::layout::{Layout, extent_of, long_size, place_labels, zeros};
+use sch_code::Text;
 use sch_insn::{Arg, Insn};
-use sch_word::{Bytes, List, MAX_TEXT_SIZE, Mem};
+use sch_word::{Bytes, List, MAX_TEXT_SIZE, Mem, TEXT_ADDRESS};
 use std::alloc::Global;
 
 /// A text and its data with addresses: instructions, marks, the bytes of words and zeros behind them.
 #[derive(Drop)]
 pub struct Resolved {
-    pub code: List<Insn>,
+    pub code: Text,
     pub marks: List<Mark>,
     pub words: Bytes,
     pub zeros: u64,
@@ -43,15 +42,15 @@ pub fn resolve(alloc: Global, a: &Asm, routines: &Asm) -> Result<Resolved, AsmEr
     ensures fits { IfOk result (λ r. length (flat_map spelling r.code) ≤ max_text_size) }
     ensures too_large { IfErr result (IsTooLarge (text_size (a.now.items ++ routines.now.items))) }
 {
-    let sizes = sizes_of(alloc, a.items.as_slice(), routines.items.as_slice())?;
-    let bytes = total_size(sizes.as_slice());
-    if bytes > MAX_TEXT_SIZE {
-        return Err(AsmError::TextTooLarge(bytes));
+    let extent = extent_of(a.items.as_slice(), routines.items.as_slice());
+    if extent.bytes > MAX_TEXT_SIZE {
+        return Err(AsmError::TextTooLarge(extent.bytes));
     }
-    let layout = lay_out(alloc, a, routines, sizes.as_slice())?;
-    let mut code = List::new(alloc);
+    let layout = lay_out(alloc, a, routines, extent.labels)?;
+    let start = TEXT_ADDRESS as u32;
+    let mut code = Text::with_capacity(alloc, extent.bytes as usize)?;
     let mut marks = List::new(alloc);
-    let behind = emit(a.items.as_slice(), 0, &layout, &mut code, &mut marks)?;
+    let behind = emit(a.items.as_slice(), start, &layout, &mut code, &mut marks)?;
     emit(
         routines.items.as_slice(),
         behind,
@@ -68,39 +67,18 @@ pub fn resolve(alloc: Global, a: &Asm, routines: &Asm) -> Result<Resolved, AsmEr
     })
 }
 
-// The size of each item of two lists.
-fn sizes_of(alloc: Global, items: &[Item], routines: &[Item]) -> Result<List<u8>, Mem>
-    requires items { AreItems items.now }
-    requires routines { AreItems routines.now }
-    ensures sizes { IfOk result (λ sizes. sizes ≡ map item_size (items.now ++ routines.now)) }
-    ensures total { IfOk result (λ sizes. total sizes < 2 ^ 64) }
-{
-    let count = item_count(items, routines);
-    let mut sizes = List::from_vec(Vec::with_capacity(alloc, count)?);
-    push_sizes(items, &mut sizes)?;
-    push_sizes(routines, &mut sizes)?;
-    Ok(sizes)
-}
-
-// Where the items stand that have these sizes.
-fn lay_out(alloc: Global, a: &Asm, routines: &Asm, sizes: &[u8]) -> Result<Layout, Mem>
+// Where the labels of items stand, which are below `labels`.
+fn lay_out(alloc: Global, a: &Asm, routines: &Asm, labels: usize) -> Result<Layout, Mem>
     requires own { AreOwn a.now.items }
     requires routines { AreRoutines routines.now.items routines.now.words routines.now.zeros }
-    requires sizes { sizes.now ≡ map item_size (a.now.items ++ routines.now.items) }
-    requires small { total sizes.now ≤ max_text_size }
-    ensures { IfOk result (λ layout. IsLaidOut (a.now.items ++ routines.now.items) a.now.words layout.places.items layout.addresses) }
+    requires labels { labels ≡ label_bound (label_bound 0 a.now.items) routines.now.items }
+    requires small { text_size (a.now.items ++ routines.now.items) ≤ max_text_size }
+    ensures { IfOk result (λ layout. IsLaidOut (a.now.items ++ routines.now.items) a.now.words layout.places.items) }
 {
-    let labels = labels_of(a.items.as_slice()).max(labels_of(routines.items.as_slice()));
-    let addresses = addresses_of(alloc, sizes)?;
     let mut places = zeros(alloc, labels)?;
-    place_labels(a.items.as_slice(), 0, addresses.as_slice(), &mut places);
-    place_labels(
-        routines.items.as_slice(),
-        a.items.len(),
-        addresses.as_slice(),
-        &mut places,
-    );
-    Ok(Layout { places, addresses })
+    let behind = place_labels(a.items.as_slice(), TEXT_ADDRESS as u32, &mut places);
+    place_labels(routines.items.as_slice(), behind, &mut places);
+    Ok(Layout { places })
 }
 
 // From the address behind an instruction to another address.
@@ -117,7 +95,8 @@ fn insn_of(item: &Item, next: u32, layout: &Layout) -> Option<Insn>
     requires sound { IsItem item.now }
     requires next { next < 2 ^ 30 }
     requires uses { UsesBelow (length layout.now.places.items) item.now }
-    ensures { option_list result ≡ insns_of (slice_index layout.now.places.items) next item.now }
+    ensures insns { option_list result ≡ insns_of (slice_index layout.now.places.items) next item.now }
+    ensures valid { IfSome result IsValid }
 {
     match item {
         Item::Label(_) | Item::Mark(_) => None,
@@ -155,33 +134,32 @@ fn mark_of(item: &Item, at: u32) -> Option<Mark>
     }
 }
 
-// Puts out the instructions and marks of the items that have the numbers from `first` on, and gives the
-// number behind them.
+// Puts out the instructions and marks of the items from an address on, and gives the address behind them.
 fn emit(
     items: &[Item],
-    first: usize,
+    from: u32,
     layout: &Layout,
-    code: &mut List<Insn>,
+    code: &mut Text,
     marks: &mut List<Mark>,
-) -> Result<usize, Mem>
+) -> Result<u32, Mem>
     requires sound { AreItems items.now }
     requires uses { UseBelow (length layout.now.places.items) items.now }
-    requires within { first + length items.now < length layout.now.addresses }
-    ensures code { OnOk result (code.new ≡ code.old ++ emitted_by layout.now.places.items layout.now.addresses first items.now) }
-    ensures marks { OnOk result (marks.new ≡ marks.old ++ marked_by layout.now.addresses first items.now) }
-    ensures end { IfOk result (λ end. end ≡ first + length items.now) }
+    requires short { from + text_size items.now < 2 ^ 30 }
+    ensures code { OnOk result (code.new ≡ code.old ++ emitted_from (slice_index layout.now.places.items) from items.now) }
+    ensures marks { OnOk result (marks.new ≡ marks.old ++ marked_from from items.now) }
+    ensures end { IfOk result (λ end. end ≡ from + text_size items.now) }
 {
-    let mut number = first;
+    let mut at = from;
     for item in items {
-        if let Some(mark) = mark_of(item, layout.addresses.as_slice()[number]) {
+        if let Some(mark) = mark_of(item, at) {
             marks.push(mark)?;
         }
-        number += 1;
-        if let Some(insn) = insn_of(item, layout.addresses.as_slice()[number], layout) {
+        at += long_size(item) as u32;
+        if let Some(insn) = insn_of(item, at, layout) {
             code.push(insn)?;
         }
     }
-    Ok(number)
+    Ok(at)
 }
 
 // A word's value.

@@ -275,7 +275,7 @@ pub(crate) fn convert_each(
     requires few { n + n < 2 ^ 32 }
     ensures { IfOk result (λ qs. trees_of qs ≡ converted_each (table celled.now) n (trees_of es.now)) }
 {
-    let mut all = List::new(alloc);
+    let mut all = List::from_vec(Vec::with_capacity(alloc, es.len())?);
     for e in es.as_slice() {
         all.push(convert(alloc, celled, n, e)?)?;
     }
@@ -331,7 +331,7 @@ pub(crate) fn convert_lambdas(
     requires few { n + n < 2 ^ 32 }
     ensures { IfOk result (λ qs. lambdas_of qs ≡ converted_lambdas (table celled.now) n (lambdas_of ls.now)) }
 {
-    let mut all = List::new(alloc);
+    let mut all = List::from_vec(Vec::with_capacity(alloc, ls.len())?);
     for l in ls.as_slice() {
         all.push(convert_lambda(alloc, celled, n, l)?)?;
     }

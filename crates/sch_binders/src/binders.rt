@@ -12,7 +12,7 @@ ghost use Rattle.sch_binders.specs.Bindings.{bound, inits};
 ghost use Rattle.sch_binders.specs.Binders as table;
 
 use crate::shape::{add_inits, binding_of, bound_names};
-use sch_bodies::{group, is_body};
+use sch_bodies::{Bindings, group, is_body};
 use sch_definitions::are_distinct;
 use sch_names::{Name, Scope};
 use sch_read::Datum;
@@ -189,10 +189,10 @@ fn letrec<'a>(
     let Some(names) = binding_form(alloc, scope, bound, body)? else {
         return Ok(bad(at));
     };
-    let mut parts = List::new(alloc);
-    add_inits(&mut parts, bound)?;
+    let mut inits = List::new(alloc);
+    add_inits(&mut inits, bound)?;
     let last = alone(Row::Body, at, body);
-    let made = group(alloc, scope, names, at, parts, last)?;
+    let made = group(alloc, scope, at, Bindings { names, inits }, last)?;
     Ok(made)
 }
 

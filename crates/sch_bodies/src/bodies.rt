@@ -90,19 +90,25 @@ fn are_procedures_inside(
     Ok(are)
 }
 
+/// Variables, and their inits in the same order.
+pub struct Bindings<'a> {
+    pub names: List<Name<'a>>,
+    pub inits: List<Sketch<'a>>,
+}
+
 /// A `letrec` of these variables, with its inits and its body.
 pub fn group<'a>(
     alloc: Global,
     scope: &mut Scope,
-    names: List<Name<'a>>,
     at: u32,
-    inits: List<Sketch<'a>>,
+    bound: Bindings<'a>,
     last: Sketch<'a>,
 ) -> Result<Sketch<'a>, Mem>
-    ensures made { IfOk result (λ k. (is : words.Sketches → words.Sketches) → ((ks : words.Sketches) → ahead inits.entry ks ≡ is ks) →
-        sketch_of k ≡ table.group scope.old (given_names names.entry) at is (sketch_of last.entry)) }
+    ensures made { IfOk result (λ k. (is : words.Sketches → words.Sketches) → ((ks : words.Sketches) → ahead bound.entry.inits ks ≡ is ks) →
+        sketch_of k ≡ table.group scope.old (given_names bound.entry.names) at is (sketch_of last.entry)) }
     ensures scope { OnOk result (scope.new ≡ scope.old) }
 {
+    let Bindings { names, inits } = bound;
     let procedures = are_procedures_inside(alloc, scope, names.as_slice(), inits.as_slice())?;
     let mut parts = inits;
     parts.push(last)?;
@@ -123,7 +129,11 @@ fn defining_body<'a>(
     let mut parts = List::new(alloc);
     let es = add_head(alloc, scope, items, &mut names, &mut parts)?;
     let last = alone(Row::Form(Keyword::Begin), at, es);
-    let made = group(alloc, scope, names, at, parts, last)?;
+    let bound = Bindings {
+        names,
+        inits: parts,
+    };
+    let made = group(alloc, scope, at, bound, last)?;
     Ok(made)
 }
 
@@ -147,19 +157,26 @@ pub fn row_body<'a>(
     Ok(alone(Row::Form(Keyword::Begin), at, items))
 }
 
+/// The formals of a procedure, as they stand in the text, with the one after a dot.
+#[derive(Clone, Copy)]
+struct Formals<'a> {
+    items: &'a [Datum],
+    tail: Option<&'a Datum>,
+}
+
 /// A procedure with these formals.
 fn procedure<'a>(
     alloc: Global,
     scope: &mut Scope,
     at: u32,
-    items: &'a [Datum],
-    tail: Option<&'a Datum>,
+    given: Formals<'a>,
     body: &'a [Datum],
 ) -> Result<Sketch<'a>, Mem>
     ensures made { IfOk result (λ k. sketch_of k
-        ≡ table.procedure scope.old at (data_of items.now) (tree_in tail.entry) (data_of body.now)) }
+        ≡ table.procedure scope.old at (data_of given.entry.items.now) (tree_in given.entry.tail) (data_of body.now)) }
     ensures scope { OnOk result (scope.new ≡ scope.old) }
 {
+    let Formals { items, tail } = given;
     let rest = tail.is_some();
     let Some(names) = distinct_formals(alloc, items, tail)? else {
         return Ok(bad(at));
@@ -189,8 +206,8 @@ pub fn row_lambda<'a>(
     let Some((first, body)) = Datum::split(items) else {
         return Ok(bad(at));
     };
-    let (names, tail) = parts_of(first);
-    let made = procedure(alloc, scope, at, names, tail, body)?;
+    let (items, tail) = parts_of(first);
+    let made = procedure(alloc, scope, at, Formals { items, tail }, body)?;
     Ok(made)
 }
 
@@ -208,12 +225,12 @@ pub fn row_method<'a>(
         return Ok(bad(at));
     };
     let (parts, tail) = parts_of(first);
-    let Some((v, names)) = Datum::split(parts) else {
+    let Some((v, items)) = Datum::split(parts) else {
         return Ok(bad(at));
     };
     let Some(_) = v.name() else {
         return Ok(bad(at));
     };
-    let made = procedure(alloc, scope, at, names, tail, body)?;
+    let made = procedure(alloc, scope, at, Formals { items, tail }, body)?;
     Ok(made)
 }

@@ -3,4 +3,4 @@
 
 mod bodies;
 
-pub use bodies::{group, is_body, row_body, row_lambda, row_method};
+pub use bodies::{Bindings, group, is_body, row_body, row_lambda, row_method};

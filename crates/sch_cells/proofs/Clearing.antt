@@ -111,8 +111,10 @@ mutual
       let t = distinct_parts (bound_lambdas ls) (bound e) s.right in
       let r = right_apart (numbers x m) (bound_lambdas ls ++ bound e) S a in (
         left_apart (numbers x m) _ S a,
-        clear_lambdas ls (scope_with x m S) p.0 t.left (apart_scope (bound_lambdas ls) x m S (apart_back _ _ (apart_left (numbers x m) (bound_lambdas ls) (bound e) s.apart)) (left_apart (bound_lambdas ls) (bound e) S r)),
-        clear e (scope_with x m S) p.1 t.right (apart_scope (bound e) x m S (apart_back _ _ (apart_right (numbers x m) (bound_lambdas ls) (bound e) s.apart)) (right_apart (bound_lambdas ls) (bound e) S r)),
+        clear_lambdas ls (scope_with x m S) p.0 t.left
+            (apart_scope (bound_lambdas ls) x m S (apart_back _ _ (apart_left (numbers x m) (bound_lambdas ls) (bound e) s.apart)) (left_apart (bound_lambdas ls) (bound e) S r)),
+        clear e (scope_with x m S) p.1 t.right (apart_scope (bound e) x m S (apart_back _ _ (apart_right (numbers x m) (bound_lambdas ls) (bound e) s.apart))
+            (right_apart (bound_lambdas ls) (bound e) S r)),
       )
   clear (letrec site x es e) S k d a =
       let m = count es in
@@ -121,7 +123,8 @@ mutual
       let t = distinct_parts (bound_each es) (bound e) s.right in
       let r = right_apart (numbers x m) (bound_each es ++ bound e) S a in (
         left_apart (numbers x m) _ S a,
-        clear_each es (scope_with x m S) p.0 t.left (apart_scope (bound_each es) x m S (apart_back _ _ (apart_left (numbers x m) (bound_each es) (bound e) s.apart)) (left_apart (bound_each es) (bound e) S r)),
+        clear_each es (scope_with x m S) p.0 t.left
+            (apart_scope (bound_each es) x m S (apart_back _ _ (apart_left (numbers x m) (bound_each es) (bound e) s.apart)) (left_apart (bound_each es) (bound e) S r)),
         clear e (scope_with x m S) p.1 t.right (apart_scope (bound e) x m S (apart_back _ _ (apart_right (numbers x m) (bound_each es) (bound e) s.apart)) (right_apart (bound_each es) (bound e) S r)),
       )
   clear (lambda name x m rest e) S k d a =
@@ -155,7 +158,11 @@ mutual
       let s = distinct_parts (numbers x m) (bound e ++ bound_lambdas ls) d in
       let t = distinct_parts (bound e) (bound_lambdas ls) s.right in
       let r = right_apart (numbers x m) (bound e ++ bound_lambdas ls) S a in (
-        (left_apart (numbers x m) _ S a, clear e (scope_with x m S) p.0 t.left (apart_scope (bound e) x m S (apart_back _ _ (apart_left (numbers x m) (bound e) (bound_lambdas ls) s.apart)) (left_apart (bound e) (bound_lambdas ls) S r))),
+        (
+          left_apart (numbers x m) _ S a,
+          clear e (scope_with x m S) p.0 t.left
+              (apart_scope (bound e) x m S (apart_back _ _ (apart_left (numbers x m) (bound e) (bound_lambdas ls) s.apart)) (left_apart (bound e) (bound_lambdas ls) S r)),
+        ),
         clear_lambdas ls S p.1 t.right (right_apart (bound e) (bound_lambdas ls) S r),
       )
 

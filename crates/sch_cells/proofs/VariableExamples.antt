@@ -174,7 +174,8 @@ free_in_scope_of_cells : boxed_run (procedure_of (2 ∷ []) (new_cells (new_cell
 free_in_scope_of_cells = refl
 
 -- a cell that is read and another that is written: the cells of x and y have 32 bytes
-free_in_cells : boxed_run (form (2 ∷ []) (bind 0 0 (trees (number 1 ∷ number 2 ∷ [])) (new_cells (new_cell 2 (Some 0) ∷ new_cell 3 (Some 1) ∷ []) (function 2 0 (cell_set 2 (cell_get 3)))))) 0 ≡ ends [] 0 0 64
+free_in_cells : boxed_run (form (2 ∷ []) (bind 0 0 (trees (number 1 ∷ number 2 ∷ []))
+    (new_cells (new_cell 2 (Some 0) ∷ new_cell 3 (Some 1) ∷ []) (function 2 0 (cell_set 2 (cell_get 3)))))) 0 ≡ ends [] 0 0 64
 free_in_cells = refl
 
 -- what is written to a cell

@@ -1,3 +1,5 @@
+//! Programs of the cell language, and the two forms in which they are written.
+
 ghost use Rattle.std.specs.Prelude.{Bool, true, false, IsTrue};
 ghost use Rattle.sch_cells.specs.SourceView.{source_of};
 ghost use Rattle.sch_cells.specs.Valid.{scoped, formed, constants_in_range, within_limits, sited, statics_known};

@@ -1,3 +1,5 @@
+//! Expressions of the cell language.
+
 use sch_word::{Bytes, Const, List, Prim};
 
 /// An expression of the cell language, in which each variable has one number in the whole program.

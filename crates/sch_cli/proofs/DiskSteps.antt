@@ -35,7 +35,8 @@ failed_with (Err e) why h = ap Err h
 
 -- ---- a source that was not read
 
-pub unread_compiles : (source target : List ℕ) (heap depth : ℕ) (disk : DiskChange) (why : Failure) → IsUnread source max_source_size why disk → SameFiles disk → HadCalls 1 disk → Compiles source target heap depth disk (Err why)
+pub unread_compiles : (source target : List ℕ) (heap depth : ℕ) (disk : DiskChange) (why : Failure) → IsUnread source max_source_size why disk → SameFiles disk → HadCalls 1 disk
+    → Compiles source target heap depth disk (Err why)
 unread_compiles source target heap depth disk failure.ReadFailed h same calls = not_read h same calls
 unread_compiles source target heap depth disk failure.TooLong h same calls = refused failure.TooLong h same calls
 unread_compiles source target heap depth disk failure.Memory h same calls = no_memory same calls
@@ -45,13 +46,15 @@ pub took_nothing : (told : Option (List ℕ)) → Tells told told (λ before aft
 took_nothing None = tt
 took_nothing (Some bytes) = refl
 
-pub unread_runs : (name : List ℕ) (heap depth steps : ℕ) (disk : DiskChange) (out : StreamChange) (why : Failure) → IsUnread name max_source_size why disk → TookNothing out → RunsSource name heap depth steps disk out (Err why)
+pub unread_runs : (name : List ℕ) (heap depth steps : ℕ) (disk : DiskChange) (out : StreamChange) (why : Failure) → IsUnread name max_source_size why disk → TookNothing out
+    → RunsSource name heap depth steps disk out (Err why)
 unread_runs name heap depth steps disk out failure.ReadFailed h nothing = runs.not_read h nothing
 unread_runs name heap depth steps disk out failure.TooLong h nothing = runs.refused failure.TooLong h nothing
 unread_runs name heap depth steps disk out failure.Memory h nothing = runs.no_memory nothing
 unread_runs name heap depth steps disk out _ h nothing = absurd h
 
-pub unread_steps : (name : List ℕ) (steps : ℕ) (disk : DiskChange) (out : StreamChange) (why : Failure) → IsUnread name max_image_file_size why disk → TookNothing out → StepsImage name steps disk out (Err why)
+pub unread_steps : (name : List ℕ) (steps : ℕ) (disk : DiskChange) (out : StreamChange) (why : Failure) → IsUnread name max_image_file_size why disk → TookNothing out
+    → StepsImage name steps disk out (Err why)
 unread_steps name steps disk out failure.ReadFailed h nothing = runs.not_read h nothing
 unread_steps name steps disk out failure.TooLong h nothing = runs.too_long h nothing
 unread_steps name steps disk out failure.Memory h nothing = runs.no_memory nothing
@@ -67,7 +70,8 @@ both before None (Some a) P R Q same h r f = absurd r
 both None (Some m) (Some a) P R Q same h r f = absurd same
 both (Some b) (Some m) (Some a) P R Q same h r f = f b m a same h r
 
-module _ (source target text file : List ℕ) (heap depth : ℕ) (b m a : DiskState) (read : HasRead source max_source_size text (record { before = b; after = m })) (same : SameFiles (record { before = b; after = m }))
+module _ (source target text file : List ℕ) (heap depth : ℕ) (b m a : DiskState) (read : HasRead source max_source_size text (record { before = b; after = m }))
+    (same : SameFiles (record { before = b; after = m }))
     (faults : b.faults ≤ m.faults) (calls : HadCalls 1 (record { before = b; after = m })) (calls' : HadCalls 1 (record { before = m; after = a })) (made : IsFileOf text heap depth file) where
   two_calls : HadCalls 2 (record { before = b; after = a })
   two_calls few = let one = calls (omega arith) in let two = calls' (omega arith) in omega arith
@@ -78,7 +82,8 @@ module _ (source target text file : List ℕ) (heap depth : ℕ) (b m a : DiskSt
   program_for (Some source_text) before after h r = (file, subst (λ t. IsFileOf t heap depth file) (sym h) made, r)
 
   wrote : FilesChange (record { before = m; after = a }) (Replaces target file) → FilesChange (record { before = b; after = a }) (WroteProgram source target heap depth)
-  wrote r = both b.files m.files a.files (λ before _. IsSomeAnd (get before source) (λ source_text. source_text ≡ text)) (Replaces target file) (WroteProgram source target heap depth) same read.found r
+  wrote r = both b.files m.files a.files (λ before _. IsSomeAnd (get before source) (λ source_text. source_text ≡ text)) (Replaces target file)
+      (WroteProgram source target heap depth) same read.found r
       (λ before middle after is found writes. program_for (get before source) before after found (subst (λ all. Replaces target file all after) is writes))
 
   spoiled : FilesChange (record { before = m; after = a }) (Spoils target) → FilesChange (record { before = b; after = a }) (Spoils target)
@@ -86,13 +91,16 @@ module _ (source target text file : List ℕ) (heap depth : ℕ) (b m a : DiskSt
       (λ before middle after is found spoils. subst (λ all. Spoils target all after) is spoils)
 
   compiled : FilesChange (record { before = m; after = a }) (Spoils target) → FileIs (record { before = b; after = a }) source (λ source_text. (made : List ℕ) × IsFileOf source_text heap depth made)
-  compiled s = both b.files m.files a.files (λ before _. IsSomeAnd (get before source) (λ source_text. source_text ≡ text)) (Spoils target) (λ before _. IsSomeAnd (get before source) (λ source_text. (made : List ℕ) × IsFileOf source_text heap depth made)) same read.found s
+  compiled s = both b.files m.files a.files (λ before _. IsSomeAnd (get before source) (λ source_text. source_text ≡ text)) (Spoils target)
+      (λ before _. IsSomeAnd (get before source) (λ source_text. (made : List ℕ) × IsFileOf source_text heap depth made)) same read.found s
       (λ before middle after is found spoils. some_is (get before source) text (λ source_text. (made : List ℕ) × IsFileOf source_text heap depth made) found (file, made))
 
   failed : DiskFailed (record { before = m; after = a }) → DiskFailed (record { before = b; after = a })
   failed rose = omega (arith, faults, rose)
 
-  pub written_compiles : (answer : Result ⊤ Failure) → OnOk answer (FilesChange (record { before = m; after = a }) (Replaces target file)) → OnErr answer (FilesChange (record { before = m; after = a }) (Spoils target)) →
+  pub written_compiles : (answer : Result ⊤ Failure) → OnOk answer (FilesChange (record { before = m; after = a }) (Replaces target file))
+      → OnErr answer (FilesChange (record { before = m; after = a }) (Spoils target)) →
       OnErr answer (DiskFailed (record { before = m; after = a })) → IfErr answer (λ why. why ≡ failure.WriteFailed) → Compiles source target heap depth (record { before = b; after = a }) answer
   written_compiles (Ok done) ok err rose only = written (wrote ok) two_calls
-  written_compiles (Err why) ok err rose only = subst (λ why. Compiles source target heap depth (record { before = b; after = a }) (Err why)) (sym only) (not_written (failed rose) (compiled err) (spoiled err) two_calls)
+  written_compiles (Err why) ok err rose only = subst (λ why. Compiles source target heap depth (record { before = b; after = a }) (Err why)) (sym only)
+      (not_written (failed rose) (compiled err) (spoiled err) two_calls)

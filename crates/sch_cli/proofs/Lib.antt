@@ -5,5 +5,5 @@ pub mod MachineEnds
 pub mod OneStatus
 pub mod SomeVerdict
 pub mod ProgramRuns
-pub mod Saying
+pub mod LineParts
 pub mod OptionWords

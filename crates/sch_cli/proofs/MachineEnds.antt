@@ -41,7 +41,8 @@ module _ (image : Image) (steps : ℕ) (old new : Machine) (end : RunEnd) (at : 
         output_is = ap output_of is ∙ output_same end (core_of new) output left;
       }
 
-  pub executes : (out : StreamChange) → Does (MachineRuns steps end old new) out.before.bytes out.after.bytes out.before.left out.after.left out.before.faults out.after.faults → Executes image steps end out
+  pub executes : (out : StreamChange) → Does (MachineRuns steps end old new) out.before.bytes out.after.bytes out.before.left out.after.left out.before.faults out.after.faults
+      → Executes image steps end out
   executes out did = record {
     output = did.took;
     given = did.given;

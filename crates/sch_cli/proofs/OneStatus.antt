@@ -153,7 +153,8 @@ by_stack : (p : Source) (depth : ℕ) → max_stack < frames_bytes (frame_words_
 unfolding by_size
 by_stack p depth l = rw (above max_stack (frames_bytes (frame_words_of p) depth) l) refl
 
-by_text : (p : Source) (depth : ℕ) → frames_bytes (frame_words_of p) depth ≤ max_stack → max_text_size < text_bytes_of p → by_size p depth ≡ Err (failure.Compile (compiling.TextTooLarge (text_bytes_of p)))
+by_text : (p : Source) (depth : ℕ) → frames_bytes (frame_words_of p) depth ≤ max_stack → max_text_size < text_bytes_of p
+    → by_size p depth ≡ Err (failure.Compile (compiling.TextTooLarge (text_bytes_of p)))
 unfolding by_size
 by_text p depth f l = rw (within max_stack (frames_bytes (frame_words_of p) depth) f, above max_text_size (text_bytes_of p) l) refl
 
@@ -176,7 +177,8 @@ text_is text depth bytes is =
 
 -- ---- verdicts
 
-found_meaning : (text : List ℕ) (depth : ℕ) (p : Source) (verdict : Result ⊤ Failure) → length text ≤ max_source_size → Means library_text text p → verdict ≡ by_size p depth → InTexts library_text text depth verdict
+found_meaning : (text : List ℕ) (depth : ℕ) (p : Source) (verdict : Result ⊤ Failure) → length text ≤ max_source_size → Means library_text text p → verdict ≡ by_size p depth
+    → InTexts library_text text depth verdict
 found_meaning text depth p verdict short m e = second verdict short m.definitions m.defined (right verdict m.items m.spells p m.program e)
 
 found : (text : List ℕ) (depth : ℕ) (verdict : Result ⊤ Failure) → IsVerdict text depth verdict → InTexts library_text text depth verdict
@@ -202,7 +204,8 @@ pub same : (text : List ℕ) (depth : ℕ) (one two : Result ⊤ Failure) → Is
 same text depth one two h k = one_in_texts library_text text depth one two (found text depth one h) (found text depth two k)
 
 -- a text that is compiled is accepted
-pub compiled : (text : List ℕ) (depth heap : ℕ) (file : List ℕ) (listing : Listing) → length text ≤ max_source_size → IsCompiled library_text text heap depth file listing → IsVerdict text depth (Ok tt)
+pub compiled : (text : List ℕ) (depth heap : ℕ) (file : List ℕ) (listing : Listing) → length text ≤ max_source_size → IsCompiled library_text text heap depth file listing
+    → IsVerdict text depth (Ok tt)
 compiled text depth heap file listing short c =
     built (Ok tt) c.program (record { short = short; means = c.means })
     (sym (by_none c.program depth (stack_fits library_text text heap depth file listing c) (text_fits library_text text heap depth file listing c)))

@@ -14,7 +14,8 @@ taken zero (x ∷ xs) e = absurd (omega (arith, e))
 taken (suc k) (x ∷ xs) e = ap (λ ys. x ∷ ys) (taken k xs (omega (arith, e)))
 
 -- an option and its number, which give these options, and then what others give
-pub with_both : {A : Type 0} (f : A → List ℕ) (words : List A) (a b : A) (given : commands.Options) (made : Option Options) (more : Options) (option digits : List ℕ) (result : Option commands.Options) (k : ℕ)
+pub with_both : {A : Type 0} (f : A → List ℕ) (words : List A) (a b : A) (given : commands.Options) (made : Option Options) (more : Options) (option digits : List ℕ)
+    (result : Option commands.Options) (k : ℕ)
     → a ≡ slice_index_or words 0 a → b ≡ slice_index_or words 1 b → 2 ≤ length words → k ≡ length words - 2
     → option_map options_of made ≡ with_option option digits given → made ≡ Some more → option ≡ f a → digits ≡ f b
     → result ≡ with_options (options_of more) (map f (take k (drop 2 words))) → result ≡ with_options given (map f words)

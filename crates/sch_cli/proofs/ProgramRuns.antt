@@ -88,10 +88,12 @@ module _ (image : Image) (p : tree.Source) (table : List (List ℕ)) (heap depth
       (ends steps answers (mach steps (started image answers)) refl))
 
 -- a run that ends with this status has this end
-end_number : (runs : List Answer → ℕ → Run) (steps : ℕ) (answers : List Answer) (status : Status) (output : List ℕ) → status ≡ Stopped OutputFailed → EndsAs runs steps answers status output → (runs answers steps).end ≡ ended 74
+end_number : (runs : List Answer → ℕ → Run) (steps : ℕ) (answers : List Answer) (status : Status) (output : List ℕ) → status ≡ Stopped OutputFailed → EndsAs runs steps answers status output
+    → (runs answers steps).end ≡ ended 74
 end_number runs steps answers status output is h = (subst (λ s. EndsAs runs steps answers s output) is h).0
 
-pub runs_program : (p : tree.Source) (table : List (List ℕ)) (heap depth : ℕ) (image : Image) (steps : ℕ) (end : RunEnd) (out : StreamChange) → IsImageOf image p table heap depth → Executes image steps end out →
+pub runs_program : (p : tree.Source) (table : List (List ℕ)) (heap depth : ℕ) (image : Image) (steps : ℕ) (end : RunEnd) (out : StreamChange) → IsImageOf image p table heap depth
+    → Executes image steps end out →
     RunsProgram p table heap depth image steps end out
 runs_program p table heap depth image steps end out does executed =
     let runs = run p table heap depth in

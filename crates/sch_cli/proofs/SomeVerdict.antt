@@ -62,13 +62,17 @@ too_long e = cc
 unread : (text : List ℕ) (depth : ℕ) (part : Part) (f : Fault) → length text ≤ max_source_size → IsErrorOf library_text text depth (compiling.Read part (error_of f)) → Verdict text depth
 unread text depth part f short h = (Err (failure.Compile (compiling.Read part (error_of f))), refused (failure.Compile (compiling.Read part (error_of f))) (short, h) (read_known part f))
 
-unexpanded : (text : List ℕ) (depth : ℕ) (part : Part) (e : CoreError) → length text ≤ max_source_size → e ≢ core.Memory → IsErrorOf library_text text depth (compiling.Core part e) → Verdict text depth
+unexpanded : (text : List ℕ) (depth : ℕ) (part : Part) (e : CoreError) → length text ≤ max_source_size → e ≢ core.Memory → IsErrorOf library_text text depth (compiling.Core part e)
+    → Verdict text depth
 unexpanded text depth part e short known h = (Err (failure.Compile (compiling.Core part e)), refused (failure.Compile (compiling.Core part e)) (short, h) (core_known e known))
 
 of_data : (text : List ℕ) (depth : ℕ) (ds : List Definition) → IsLibraryText library_text ds → (items : Data) → length text ≤ max_source_size → Spells text items →
     ((p : Source) × IsProgramOf ds items p) ⊎ ((e : CoreError) × (e ≢ core.Memory) × expanding.IsErrorIn ds items e) → Verdict text depth
-of_data text depth ds defined items short spells (inl found) =
-    (by_size found.0 depth, built (by_size found.0 depth) found.0 (record { short = short; means = record { definitions = ds; defined = defined; items = items; spells = spells; program = found.1 } }) refl)
+of_data text depth ds defined items short spells (inl found) = (
+  by_size found.0 depth,
+  built (by_size found.0 depth) found.0
+      (record { short = short; means = record { definitions = ds; defined = defined; items = items; spells = spells; program = found.1 } }) refl,
+)
 of_data text depth ds defined items short spells (inr wrong) =
     unexpanded text depth User wrong.0 short wrong.1
     (record { known = wrong.1; definitions = ds; defined = defined; items = items; spells = spells; wrong = wrong.2 })

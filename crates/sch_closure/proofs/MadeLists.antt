@@ -19,11 +19,11 @@ use Rattle.sch_flat.specs.Tree as flat
 use Rattle.sch_flat.specs.Tree.{and_tree, no_trees}
 use Rattle.sch_flat.specs.View as view
 use Rattle.sch_flat.proofs.Rows as rows
-use Rattle.sch_closure.specs.Closed as closing
-use Rattle.sch_closure.specs.Closed.{place_from, place, fields_of, procedures, procedures_each, procedures_lambdas, captured, closed, closed_each, made, made_each, starts}
-use Rattle.sch_closure.specs.Fresh.{EachStands, LambdasStand}
+use Rattle.sch_closed.specs.Closed as closing
+use Rattle.sch_closed.specs.Closed.{place_from, place, fields_of, procedures, procedures_each, procedures_lambdas, captured, closed, closed_each, made, made_each, starts}
+use Rattle.sch_closed.specs.Fresh.{EachStands, LambdasStand}
 use Rattle.sch_closure.specs.Walked.{with_bodies, with_bodies_each, with_bodies_lambdas}
-use Rattle.sch_closure.proofs.Loops.{left, left_lambdas}
+use Rattle.sch_free.proofs.Loops.{left, left_lambdas}
 use Rattle.sch_closure.proofs.Walks.{body_set}
 use Rattle.sch_word.proofs.facts.NumberTests.{differ}
 use Rattle.sch_word.proofs.facts.Lists.{map_length}
@@ -102,11 +102,13 @@ module _ (items : List Lambda) (i : ℕ) (e : Lambda) (n m : ℕ) (l : i < lengt
   after : m ≡ suc n + procedures (tree e.body)
   after = omega (arith, g)
 
-  pub lambdas_made : (own : List ℕ) (all : List to_made.Made) (q : to_made.Made) (whole : List flat.Made) → view.made q ≡ made e.first e.formals (tree e.body) own n → onto and_then_made all (made_each (left_lambdas (drop i items)) own n) ≡ whole
+  pub lambdas_made : (own : List ℕ) (all : List to_made.Made) (q : to_made.Made) (whole : List flat.Made) → view.made q ≡ made e.first e.formals (tree e.body) own n
+      → onto and_then_made all (made_each (left_lambdas (drop i items)) own n) ≡ whole
       → onto and_then_made (all ++ q ∷ []) (made_each (left_lambdas (drop (i + 1) items)) own m) ≡ whole
   lambdas_made own all q whole h k = next_made items i and_then_made (λ es x. made_each (left_lambdas es) own x) all e q n m whole l is (rw (h, after) refl) k
 
-  pub lambdas_bodies : (d d' whole : List flat.Body) → d' ≡ with_bodies (tree e.body) (d ++ closing.body_of e.name e.first e.formals e.rest (tree e.body) (length d) ∷ []) → with_bodies_lambdas (left_lambdas (drop i items)) d ≡ whole → with_bodies_lambdas (left_lambdas (drop (i + 1) items)) d' ≡ whole
+  pub lambdas_bodies : (d d' whole : List flat.Body) → d' ≡ with_bodies (tree e.body) (d ++ closing.body_of e.name e.first e.formals e.rest (tree e.body) (length d) ∷ [])
+      → with_bodies_lambdas (left_lambdas (drop i items)) d ≡ whole → with_bodies_lambdas (left_lambdas (drop (i + 1) items)) d' ≡ whole
   lambdas_bodies d d' whole h k = rw (add-one, h) (next_left items i (λ r. with_bodies_lambdas (left_lambdas r) d ≡ whole) e l is k)
 
   pub lambdas_count : (total : ℕ) → n + procedures_lambdas (left_lambdas (drop i items)) ≡ total → m + procedures_lambdas (left_lambdas (drop (i + 1) items)) ≡ total
@@ -119,7 +121,8 @@ module _ (items : List Lambda) (i : ℕ) (e : Lambda) (n m : ℕ) (l : i < lengt
 pub each_start : (items es : List Exp) (table : List (List ℕ)) (n : ℕ) → items ≡ es → EachStands captured table (from.trees_of es) n → EachStands captured table (left items) n
 each_start items es table n h k = subst (λ t. EachStands captured table t n) (trees_of_list items) (subst (λ l. EachStands captured table (from.trees_of l) n) (sym h) k)
 
-pub each_end : (items es : List Exp) (i : ℕ) (own : List ℕ) (n start : ℕ) (all : List to.Exp) → items ≡ es → length items ≤ i → onto and_then all (closed_each (left (drop i items)) own n) ≡ closed_each (from.trees_of items) own start
+pub each_end : (items es : List Exp) (i : ℕ) (own : List ℕ) (n start : ℕ) (all : List to.Exp) → items ≡ es → length items ≤ i
+    → onto and_then all (closed_each (left (drop i items)) own n) ≡ closed_each (from.trees_of items) own start
     → view.trees_of all ≡ closed_each (from.trees_of es) own start
 each_end items es i own n start all h l k =
     trees_onto all ∙ end_made items i and_then (λ es x. closed_each (left es) own x) all n _ no_trees l refl k ∙ ap (λ l. closed_each (from.trees_of l) own start) h
@@ -127,7 +130,8 @@ each_end items es i own n start all h l k =
 pub lambdas_start : (items ls : List Lambda) (table : List (List ℕ)) (n : ℕ) → items ≡ ls → LambdasStand captured table (from.lambdas_of ls) n → LambdasStand captured table (left_lambdas items) n
 lambdas_start items ls table n h k = subst (λ t. LambdasStand captured table t n) (lambdas_of_list items) (subst (λ l. LambdasStand captured table (from.lambdas_of l) n) (sym h) k)
 
-pub lambdas_end : (items ls : List Lambda) (i : ℕ) (own : List ℕ) (n start : ℕ) (all : List to_made.Made) → items ≡ ls → length items ≤ i → onto and_then_made all (made_each (left_lambdas (drop i items)) own n) ≡ made_each (from.lambdas_of items) own start
+pub lambdas_end : (items ls : List Lambda) (i : ℕ) (own : List ℕ) (n start : ℕ) (all : List to_made.Made) → items ≡ ls → length items ≤ i
+    → onto and_then_made all (made_each (left_lambdas (drop i items)) own n) ≡ made_each (from.lambdas_of items) own start
     → map view.made all ≡ made_each (from.lambdas_of ls) own start
 lambdas_end items ls i own n start all h l k =
     made_onto all ∙ end_made items i and_then_made (λ ls x. made_each (left_lambdas ls) own x) all n _ [] l refl k ∙ ap (λ l. made_each (from.lambdas_of l) own start) h
@@ -156,7 +160,8 @@ pub made_body : (name name' : List ℕ) (x m : ℕ) (r : Bool) (e : Tree) (n k :
 made_body name name' x m r e n k inside code p i q c = rw (p, c) (rw (i, q) refl)
 
 -- the body is put where another stood while what is inside it was made
-pub body_made : (e : Tree) (old pushed new : List to_body.Body) (label : ℕ) (blank b : to_body.Body) (whole : ℕ → flat.Body) → pushed ≡ old ++ blank ∷ [] → map view.body new ≡ with_bodies e (map view.body pushed) → label ≡ length old → view.body b ≡ whole label
+pub body_made : (e : Tree) (old pushed new : List to_body.Body) (label : ℕ) (blank b : to_body.Body) (whole : ℕ → flat.Body) → pushed ≡ old ++ blank ∷ []
+    → map view.body new ≡ with_bodies e (map view.body pushed) → label ≡ length old → view.body b ≡ whole label
     → map view.body (slice_set new label b) ≡ with_bodies e (map view.body old ++ whole (length (map view.body old)) ∷ [])
 body_made e old pushed new label blank b whole p q l h =
     let n : label ≡ length (map view.body old) = l ∙ sym (map_length view.body old) in
@@ -171,7 +176,8 @@ body_made e old pushed new label blank b whole p q l h =
 abbrev labels_in : List to_made.Made → List ℕ
 labels_in ms = map (λ m. m.label) (map view.made ms)
 
-pub label_next : (ms : List to_made.Made) (i : ℕ) (a : to_made.Made) (all whole : List ℕ) → i < length ms → a ≡ get_or ms i a → all ++ labels_in (drop i ms) ≡ whole → (all ++ a.label ∷ []) ++ labels_in (drop (i + 1) ms) ≡ whole
+pub label_next : (ms : List to_made.Made) (i : ℕ) (a : to_made.Made) (all whole : List ℕ) → i < length ms → a ≡ get_or ms i a → all ++ labels_in (drop i ms) ≡ whole
+    → (all ++ a.label ∷ []) ++ labels_in (drop (i + 1) ms) ≡ whole
 label_next ms i a all whole l e k =
     rw (add-one, append_assoc all (a.label ∷ []) (labels_in (drop (suc i) ms))) (next_left ms i (λ r. all ++ labels_in r ≡ whole) a l e k)
 

@@ -1,30 +1,21 @@
--- What the two walks make of a program is its flat program.
-use Rattle.std.proofs.Common.{◌≡◌, ℕ, suc, ◌+◌, ◌<◌, ◌≤◌, List, [], ◌++◌, length, map, reverse, refl, sym, ap, ◌∙◌, arith, append-nil, length-append}
+-- What the walk makes of a program is its flat program.
+use Rattle.std.proofs.Common.{◌≡◌, ℕ, suc, ◌+◌, ◌<◌, ◌≤◌, List, [], ◌++◌, length, map, refl, sym, ap, ◌∙◌, arith, length-append}
 use Rattle.sch_word.specs.declared.statics.Statics as declared
 use Rattle.sch_word.specs.values.StaticsView.{statics}
-use Rattle.sch_cells.specs.Tree.{Source, Tree, Trees, Lambdas, constant, literal, variable, global, set_variable, set_global, define, branch, sequence, bind, fix, letrec, lambda, call, operation, new_cells, cell_get, cell_set, no_trees, and_tree, no_lambdas, and_lambda}
+use Rattle.sch_cells.specs.Tree.{Source, Tree, Trees, Lambdas, constant, literal, variable, global, set_variable, set_global, define, branch, sequence}
+use Rattle.sch_cells.specs.Tree.{bind, fix, letrec, lambda, call, operation, new_cells, cell_get, cell_set, no_trees, and_tree, no_lambdas, and_lambda}
 use Rattle.sch_cells.specs.Bodies as bodies
 use Rattle.sch_flat.specs.declared.tree.Exp as to
 use Rattle.sch_flat.specs.declared.tree.Made as to_made
 use Rattle.sch_flat.specs.declared.tree.Body as to_body
 use Rattle.sch_flat.specs.SourceView.{source_of}
 use Rattle.sch_flat.specs.View as view
-use Rattle.sch_closure.specs.Closed.{procedures, procedures_each, procedures_lambdas, captured, body_of, all_of_each, all_of_lambdas, closed_source, labels, starts, made_each, closed_each}
-use Rattle.sch_closure.specs.Walked.{fields_of_each, fields_of_lambdas, with_bodies_each, with_bodies_lambdas}
-use Rattle.sch_closure.proofs.Walks.{each_fields, lambdas_fields, each_bodies, lambdas_bodies}
+use Rattle.sch_closed.specs.Closed.{procedures, procedures_each, procedures_lambdas, body_of, all_of_each, all_of_lambdas, closed_source, labels, starts, made_each, closed_each}
+use Rattle.sch_closure.specs.Walked.{with_bodies_each, with_bodies_lambdas}
+use Rattle.sch_closure.proofs.Walks.{each_bodies, lambdas_bodies}
 use Rattle.sch_closure.proofs.MadeLists.{labels_made}
-use Rattle.sch_closure.proofs.Standing.{size_lambdas}
+use Rattle.sch_closed.proofs.Standing.{size_lambdas}
 use Rattle.sch_word.proofs.facts.Lists.{map_length}
-
--- the fields of all procedures by their labels
-abbrev pub all_fields : Source → List (List ℕ)
-all_fields p = all_of_lambdas captured p.library 0 ++ all_of_each captured p.forms (procedures_lambdas p.library)
-
-pub fields_made : (p : Source) (empty before after all : List (List ℕ)) → empty ≡ [] → reverse before ≡ fields_of_each p.forms (reverse empty) → reverse after ≡ fields_of_lambdas p.library (reverse before) → all ≡ reverse after → all ≡ all_fields p
-fields_made p empty before after all none forms library turned =
-    let n = procedures_lambdas p.library in
-    let f : reverse before ≡ all_of_each captured p.forms n = forms ∙ ap (λ l. fields_of_each p.forms (reverse l)) none ∙ each_fields p.forms n [] ∙ append-nil (all_of_each captured p.forms n) in
-    turned ∙ library ∙ ap (fields_of_lambdas p.library) f ∙ lambdas_fields p.library 0 (all_of_each captured p.forms n)
 
 pub library_bodies : (p : Source) (bs : List to_body.Body) → map view.body bs ≡ with_bodies_lambdas p.library [] → map view.body bs ≡ all_of_lambdas body_of p.library 0
 library_bodies p bs h = h ∙ lambdas_bodies p.library []
@@ -32,7 +23,8 @@ library_bodies p bs h = h ∙ lambdas_bodies p.library []
 pub library_length : (p : Source) (bs : List to_body.Body) → map view.body bs ≡ with_bodies_lambdas p.library [] → length bs ≡ procedures_lambdas p.library
 library_length p bs h = sym (map_length view.body bs) ∙ ap length (library_bodies p bs h) ∙ size_lambdas body_of p.library 0
 
-pub program_bodies : (p : Source) (before after : List to_body.Body) → map view.body before ≡ with_bodies_lambdas p.library [] → map view.body after ≡ with_bodies_each p.forms (map view.body before) → map view.body after ≡ (closed_source p).bodies
+pub program_bodies : (p : Source) (before after : List to_body.Body) → map view.body before ≡ with_bodies_lambdas p.library []
+    → map view.body after ≡ with_bodies_each p.forms (map view.body before) → map view.body after ≡ (closed_source p).bodies
 program_bodies p before after h k =
     let l = library_bodies p before h in
     let m : length (map view.body before) ≡ procedures_lambdas p.library = ap length l ∙ size_lambdas body_of p.library 0 in

@@ -1,4 +1,1 @@
-pub mod Closed
-pub mod Fresh
 pub mod Walked
-pub mod Kept

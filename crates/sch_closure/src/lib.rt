@@ -16,16 +16,15 @@ ghost use Rattle.sch_flat.specs.ProgramView as view;
 ghost use Rattle.sch_flat.specs.Run as meaning;
 ghost use Rattle.sch_flat.specs.Covered as covered;
 ghost use Rattle.sch_flat.specs.View.{body, made, trees_of};
-ghost use Rattle.sch_closure.specs.Closed.{closed_source};
-ghost use Rattle.sch_closure.specs.Kept.{SameItems, flat_forms, forms_in, procedure_of, procedures_in, weight_after, weight_before};
+ghost use Rattle.sch_closed.specs.Closed.{closed_source};
+ghost use Rattle.sch_closed.specs.Kept.{SameItems, flat_forms, forms_in, procedure_of, procedures_in, weight_after, weight_before};
 
 mod closing;
-mod gathering;
 
 use crate::closing::{close_forms, close_lambdas};
-use crate::gathering::{find_each, find_lambdas};
 use sch_cells::{Boxed, CellProgram};
 use sch_flat::{FlatProgram, Made};
+use sch_free::find_fields;
 use sch_word::{List, Mem};
 use std::alloc::Global;
 
@@ -66,11 +65,7 @@ fn close_program(alloc: Global, p: &CellProgram<Boxed>) -> Result<FlatProgram, M
     requires few { length (bodies_of (source p.now)) < 2 ^ 32 - 2 ^ 10 }
     ensures { IfOk result (λ q. view.source q ≡ closed_source (source p.now)) }
 {
-    let mut free = Vec::new(alloc);
-    let mut fields = Vec::new(alloc);
-    find_each(alloc, &p.forms, &mut free, &mut fields)?;
-    find_lambdas(alloc, &p.library, &mut free, &mut fields)?;
-    fields.reverse();
+    let fields = find_fields(alloc, &p.library, &p.forms)?;
     let mut bodies = Vec::new(alloc);
     let records = close_lambdas(alloc, &p.library, &[], fields.as_slice(), &mut bodies)?;
     let library = labels_of(alloc, records.as_slice())?;

@@ -4,7 +4,7 @@ use Rattle.std.specs.Prelude.{IfSome}
 use Rattle.sch_insn.specs.declared.insn.Insn.{Insn}
 use Rattle.sch_insn.specs.Spelling.{spelling, IsValid}
 use Rattle.sch_insn.specs.Decode.{decode}
-use Rattle.sch_insn.proofs.Back.{Bytes, Spelt, decode_back}
+use Rattle.sch_insn.proofs.ReadingsAreSpelled.{Bytes, Spelt, decode_back}
 use Rattle.sch_insn.proofs.Reading.{decode_spelling}
 
 spelt : (bs : List ℕ) (o : Option (Insn × ℕ)) → Bytes bs → o ≡ decode bs → IfSome o (Spelt bs)

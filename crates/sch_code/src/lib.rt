@@ -4,7 +4,9 @@
 mod code;
 mod decoding;
 mod encoding;
+mod text;
 
 pub use code::Code;
 pub use decoding::decode;
 pub use encoding::encode;
+pub use text::Text;

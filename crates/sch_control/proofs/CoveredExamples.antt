@@ -13,7 +13,8 @@ use Rattle.sch_control.proofs.Examples.{number, held_in, form, lambda, program, 
 cell_row : is_covered (end (bind 0 (perform operation.UnsetCell) (perform (operation.CellGet (source.Atom (Variable 0)))))) ≡ true
 cell_row = refl
 
-procedure_row : is_covered_program (program [] (form 1 (end (perform (operation.MakeClosure (record { label = 1; fields = source.Field 0 3 ∷ [] })))) ∷ lambda 0 0 2 (return (perform (operation.Operand (number 1)))) ∷ []) [] []) ≡ true
+procedure_row : is_covered_program (program [] (form 1 (end (perform (operation.MakeClosure (record { label = 1; fields = source.Field 0 3 ∷ [] }))))
+    ∷ lambda 0 0 2 (return (perform (operation.Operand (number 1)))) ∷ []) [] []) ≡ true
 procedure_row = refl
 
 straight_row : is_covered_program straight_program ≡ true
@@ -21,7 +22,8 @@ straight_row = refl
 
 -- a call in the body of a procedure, which may not spread its last operand
 abbrev calling : Bool → Source
-calling spread = program [] (form 1 (end (perform (operation.Operand (number 1)))) ∷ lambda 0 0 2 (return (call (record { site = 0; spread = spread; operator = held_in 1; operands = held_in 1 ∷ [] }) [])) ∷ []) [] []
+calling spread = program [] (form 1 (end (perform (operation.Operand (number 1))))
+    ∷ lambda 0 0 2 (return (call (record { site = 0; spread = spread; operator = held_in 1; operands = held_in 1 ∷ [] }) [])) ∷ []) [] []
 
 called_row : is_covered_program (calling false) ≡ true
 called_row = refl
@@ -30,7 +32,12 @@ spread_row : is_covered_program (calling true) ≡ false
 spread_row = refl
 
 -- a procedure that takes a list
-rest_row : is_covered_program (program [] (record { name = []; entry = Some (record { formals = 1; rest = true; fields = 0 }); variables = 3; expression = return (perform (operation.Operand (number 1))) } ∷ []) [] []) ≡ are_lists_covered
+rest_row : is_covered_program (program [] (record {
+  name = [];
+  entry = Some (record { formals = 1; rest = true; fields = 0 });
+  variables = 3;
+  expression = return (perform (operation.Operand (number 1)));
+} ∷ []) [] []) ≡ are_lists_covered
 rest_row = refl
 
 -- a pair, and a literal that is captured

@@ -107,7 +107,8 @@ taking_valid = refl
 
 abbrev pub looping : Source
 looping = program []
-    (form 5 (fix (record { at = 2; closure = record { label = 1; fields = source.Atom (Variable 3) ∷ [] } } ∷ record { at = 3; closure = record { label = 2; fields = source.Atom (Variable 2) ∷ [] } } ∷ [])
+    (form 5 (fix (record { at = 2; closure = record { label = 1; fields = source.Atom (Variable 3) ∷ [] } }
+    ∷ record { at = 3; closure = record { label = 2; fields = source.Atom (Variable 2) ∷ [] } } ∷ [])
     (bind 4 (call (applied 0 (held_in 2) (number 2 ∷ [])) []) (end (shown 1 (held_in 4)))))
     ∷ lambda 1 1 5 (branch (perform (operation.Prim 2 Equal (held_in 2 ∷ number 0 ∷ []))) (return (perform (operation.Operand (truth true))))
     (bind 3 (perform (operation.Field 1 0)) (bind 4 (perform (operation.Prim 3 Subtract (held_in 2 ∷ number 1 ∷ []))) (tail_call (applied 4 (held_in 3) (held_in 4 ∷ []))))))
@@ -199,5 +200,6 @@ tested : each_way_ends (of_procedure (branch (branch (call (applied 0 (held_in 2
 tested = refl
 
 -- a closure with more fields than its body has free variables
-too_many_fields : all_known (program [] (form 3 (end (perform (operation.MakeClosure (record { label = 1; fields = source.Atom (Constant Nil) ∷ [] })))) ∷ lambda 0 0 2 (return (perform (operation.Operand (number 1)))) ∷ []) [] []) ≡ false
+too_many_fields : all_known (program [] (form 3 (end (perform (operation.MakeClosure (record { label = 1; fields = source.Atom (Constant Nil) ∷ [] }))))
+    ∷ lambda 0 0 2 (return (perform (operation.Operand (number 1)))) ∷ []) [] []) ≡ false
 too_many_fields = refl

@@ -31,7 +31,8 @@ nothing_done = perform (operation.Global 0)
 only_reads_all : list_all only_reads (Eq ∷ Eqv ∷ IsBoolean ∷ IsPair ∷ IsNull ∷ IsSymbol ∷ IsInteger ∷ IsChar ∷ IsString ∷ IsVector ∷ IsProcedure ∷ []) ≡ true
 only_reads_all = refl
 
-only_reads_none : fails only_reads (Cons ∷ Car ∷ Cdr ∷ SetCar ∷ SetCdr ∷ Add ∷ Subtract ∷ Multiply ∷ Quotient ∷ Remainder ∷ Modulo ∷ Equal ∷ Less ∷ Greater ∷ LessEqual ∷ GreaterEqual ∷ CharToInteger ∷ IntegerToChar ∷ MakeString ∷ StringLength ∷ StringRef ∷ StringSet ∷ MakeVector ∷ VectorLength ∷ VectorRef ∷ VectorSet ∷ Put ∷ SymbolLength ∷ SymbolRef ∷ []) ≡ true
+only_reads_none : fails only_reads (Cons ∷ Car ∷ Cdr ∷ SetCar ∷ SetCdr ∷ Add ∷ Subtract ∷ Multiply ∷ Quotient ∷ Remainder ∷ Modulo ∷ Equal ∷ Less ∷ Greater ∷ LessEqual ∷ GreaterEqual
+    ∷ CharToInteger ∷ IntegerToChar ∷ MakeString ∷ StringLength ∷ StringRef ∷ StringSet ∷ MakeVector ∷ VectorLength ∷ VectorRef ∷ VectorSet ∷ Put ∷ SymbolLength ∷ SymbolRef ∷ []) ≡ true
 only_reads_none = refl
 
 abbrev test_of : ℕ → Operand ℕ
@@ -56,7 +57,8 @@ numbers_fit : list_all numbered (form 1002 (end nothing_done) ∷ form 3 (bind 2
 numbers_fit = refl
 
 -- 1,003 variables; a formal past them; a variable that is bound as the return address, the closure or a formal; one past them
-numbers_past : fails numbered (form 1003 (end nothing_done) ∷ lambda 1 0 2 (return nothing_done) ∷ lambda 1 0 4 (binding 0) ∷ form 4 (bind 1 nothing_done (end nothing_done)) ∷ lambda 1 0 4 (binding 2) ∷ lambda 1 0 4 (binding 4) ∷ []) ≡ true
+numbers_past : fails numbered (form 1003 (end nothing_done) ∷ lambda 1 0 2 (return nothing_done) ∷ lambda 1 0 4 (binding 0) ∷ form 4 (bind 1 nothing_done (end nothing_done))
+    ∷ lambda 1 0 4 (binding 2) ∷ lambda 1 0 4 (binding 4) ∷ []) ≡ true
 numbers_past = refl
 
 abbrev closure : (label fields : ℕ) → Closure ℕ
@@ -65,7 +67,8 @@ closure label fields = record { label = label; fields = replicate fields (source
 abbrev member : (at fields : ℕ) → Member ℕ
 member at fields = record { at = at; closure = closure 1 fields }
 
-bound_everywhere : bound_in (bind 2 (bind 3 nothing_done nothing_done) (sequence (bind 4 nothing_done nothing_done) (branch (bind 5 nothing_done nothing_done) (return (bind 6 nothing_done nothing_done))
+bound_everywhere : bound_in (bind 2 (bind 3 nothing_done nothing_done)
+    (sequence (bind 4 nothing_done nothing_done) (branch (bind 5 nothing_done nothing_done) (return (bind 6 nothing_done nothing_done))
     (fix (member 7 0 ∷ member 8 0 ∷ []) (save (2 ∷ []) (end (bind 9 nothing_done nothing_done))))))) ≡ 2 ∷ 3 ∷ 4 ∷ 5 ∷ 6 ∷ 7 ∷ 8 ∷ 9 ∷ []
 bound_everywhere = refl
 
@@ -87,7 +90,8 @@ shapes : list_all operation_shaped (operation.Operand (test_of 2) ∷ operation.
     ∷ operation.CellGet (source.Field 1 0) ∷ operation.CellSet (source.Field 1 0) (number 1) ∷ operation.MakeClosure (closure 1 1000) ∷ []) ≡ true
 shapes = refl
 
-shapes_not : fails operation_shaped (operation.Operand not_simple ∷ operation.Prim 0 Put [] ∷ operation.Prim 0 Cons (number 1 ∷ []) ∷ operation.Prim 0 Put (number 1 ∷ number 2 ∷ []) ∷ operation.Prim 0 Put (not_simple ∷ [])
+shapes_not : fails operation_shaped (operation.Operand not_simple ∷ operation.Prim 0 Put [] ∷ operation.Prim 0 Cons (number 1 ∷ []) ∷ operation.Prim 0 Put (number 1 ∷ number 2 ∷ [])
+    ∷ operation.Prim 0 Put (not_simple ∷ [])
     ∷ operation.SetGlobal 0 not_simple ∷ operation.CellSet (source.Field 1 0) not_simple ∷ operation.MakeClosure (closure 1 1001) ∷ []) ≡ true
 shapes_not = refl
 
@@ -97,7 +101,8 @@ spread_over operands = record { site = 0; spread = true; operator = held_in 2; o
 calls_shaped : list_all application_shaped (applied 0 (held_in 2) [] ∷ applied 0 (test_of 2) (replicate 200 (number 1)) ∷ spread_over (held_in 3 ∷ []) ∷ []) ≡ true
 calls_shaped = refl
 
-calls_shaped_not : fails application_shaped (applied 0 (held_in 2) (replicate 201 (number 1)) ∷ spread_over [] ∷ applied 0 not_simple [] ∷ applied 0 (held_in 2) (number 1 ∷ not_simple ∷ []) ∷ []) ≡ true
+calls_shaped_not : fails application_shaped (applied 0 (held_in 2) (replicate 201 (number 1)) ∷ spread_over [] ∷ applied 0 not_simple []
+    ∷ applied 0 (held_in 2) (number 1 ∷ not_simple ∷ []) ∷ []) ≡ true
 calls_shaped_not = refl
 
 groups_shaped : list_all group_shaped (replicate 200 (member 3 0) ∷ (member 3 0 ∷ member 4 1000 ∷ []) ∷ []) ≡ true
@@ -157,7 +162,8 @@ abbrev capturing : (field : ℕ) → Closure ℕ
 capturing k = record { label = 1; fields = source.Atom (Constant Nil) ∷ source.Field 1 k ∷ [] }
 
 abbrev field_operations : (field : ℕ) → List (Operation ℕ)
-field_operations k = operation.Field 1 k ∷ operation.NewCell (source.Field 1 k) ∷ operation.CellGet (source.Field 1 k) ∷ operation.CellSet (source.Field 1 k) (number 1) ∷ operation.MakeClosure (capturing k) ∷ []
+field_operations k = operation.Field 1 k ∷ operation.NewCell (source.Field 1 k) ∷ operation.CellGet (source.Field 1 k) ∷ operation.CellSet (source.Field 1 k) (number 1)
+    ∷ operation.MakeClosure (capturing k) ∷ []
 
 fields_read : list_all (operation_field 1) (operation.Global 5 ∷ field_operations 0) ≡ true
 fields_read = refl
@@ -177,7 +183,8 @@ groups_fields_not = refl
 fields_of_entry : list_all fields_known (lambda 0 1 2 (return (perform (operation.Field 1 0))) ∷ lambda 0 1 3 (fix (capturing_group 0) (return nothing_done)) ∷ []) ≡ true
 fields_of_entry = refl
 
-fields_of_entry_not : fails fields_known (lambda 0 1 2 (return (perform (operation.Field 1 1))) ∷ lambda 0 1 3 (fix (capturing_group 1) (return nothing_done)) ∷ form 2 (end (perform (operation.Field 1 0))) ∷ []) ≡ true
+fields_of_entry_not : fails fields_known (lambda 0 1 2 (return (perform (operation.Field 1 1))) ∷ lambda 0 1 3 (fix (capturing_group 1) (return nothing_done))
+    ∷ form 2 (end (perform (operation.Field 1 0))) ∷ []) ≡ true
 fields_of_entry_not = refl
 
 -- ## No regions and no restores
@@ -273,7 +280,8 @@ read_at site = operand.Read site IsNull (Variable 2 ∷ [])
 abbrev at_site : ℕ → Expression
 at_site site = shown site (number 1)
 
-sites_everywhere : sites_of (bind 2 (at_site 0) (sequence (at_site 1) (branch (at_site 2) (return (at_site 3)) (fix (member 7 0 ∷ []) (save [] (bind 3 (call (applied 4 (read_at 5) (read_at 6 ∷ number 1 ∷ [])) [])
+sites_everywhere : sites_of (bind 2 (at_site 0) (sequence (at_site 1)
+    (branch (at_site 2) (return (at_site 3)) (fix (member 7 0 ∷ []) (save [] (bind 3 (call (applied 4 (read_at 5) (read_at 6 ∷ number 1 ∷ [])) [])
     (sequence (perform (operation.Prim 7 Eq (read_at 8 ∷ number 1 ∷ []))) (branch (perform (operation.SetGlobal 0 (read_at 9))) (end (perform (operation.SetGlobal 0 (read_at 10))))
     (sequence (perform (operation.CellSet (source.Field 1 0) (read_at 11))) (tail_call (applied 12 (held_in 2) [])))))))))))
     ≡ (0, 1) ∷ (1, 1) ∷ (2, 1) ∷ (3, 1) ∷ (4, 3) ∷ (5, 1) ∷ (6, 1) ∷ (7, 2) ∷ (8, 1) ∷ (9, 1) ∷ (10, 1) ∷ (11, 1) ∷ (12, 1) ∷ []
@@ -286,7 +294,8 @@ parts_bound : list_all bound_known (binds [] [] ∷ binds (2 ∷ 1 ∷ []) ((1 �
 parts_bound = refl
 
 -- a part past the width, one that is bound twice, a site without its parts, and parts of no site
-parts_bound_not : fails bound_known (binds (2 ∷ 1 ∷ []) ((1 ∷ 0 ∷ []) ∷ (1 ∷ []) ∷ []) ∷ binds (2 ∷ 1 ∷ []) ((1 ∷ 1 ∷ []) ∷ [] ∷ []) ∷ binds (2 ∷ 1 ∷ []) ((1 ∷ []) ∷ []) ∷ binds [] ([] ∷ []) ∷ []) ≡ true
+parts_bound_not : fails bound_known (binds (2 ∷ 1 ∷ []) ((1 ∷ 0 ∷ []) ∷ (1 ∷ []) ∷ []) ∷ binds (2 ∷ 1 ∷ []) ((1 ∷ 1 ∷ []) ∷ [] ∷ []) ∷ binds (2 ∷ 1 ∷ []) ((1 ∷ []) ∷ [])
+    ∷ binds [] ([] ∷ []) ∷ []) ≡ true
 parts_bound_not = refl
 
 -- ## What stands ready

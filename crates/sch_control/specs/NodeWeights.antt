@@ -14,7 +14,7 @@ abbrev pub fields_of : List shapes.Made → ℕ
 fields_of [] = 0
 fields_of (m ∷ ms) = m.fields + fields_of ms
 
--- A procedure with so many formals is jumped over, stores its return address, its closure and its arguments, and
+-- A procedure with n formals is jumped over, stores its return address, its closure and its arguments, and
 -- returns.
 abbrev pub entered : (formals : ℕ) → ℕ
 entered formals = 4 + formals

@@ -1,3 +1,5 @@
+//! Bodies, and how they are entered.
+
 ghost use Rattle.std.specs.Prelude.{IsTrue};
 ghost use Rattle.sch_control.specs.View.{code};
 ghost use Rattle.sch_control.specs.Valid.{ended, fields_known, in_scope_whole, numbered, shaped_whole};

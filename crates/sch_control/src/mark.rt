@@ -1,3 +1,5 @@
+//! Marks of a body.
+
 /// What a mark says of the instruction behind it. `Enter` has the number of its body; `Save`, `Restore`
 /// and `Spill` that of a variable; `Call` and `Tail` that of a site of the program.
 #[derive(Clone, Copy)]

@@ -1,3 +1,5 @@
+//! Programs of the language Control.
+
 ghost use Rattle.std.specs.Prelude.{IsTrue};
 ghost use Rattle.sch_control.specs.SourceView.{source_of};
 ghost use Rattle.sch_control.specs.Valid.{all_known, bound_known, library_known, sites_once, statics_known};

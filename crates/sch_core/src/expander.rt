@@ -1,6 +1,6 @@
 //! The program of a text.
 
-ghost use Rattle.std.specs.Prelude.{◌≡◌, ◌≤◌, ◌+◌, ◌*◌, [], length, IfOk, IfErr, MatchResult};
+ghost use Rattle.std.specs.Prelude.{◌≡◌, ◌≤◌, ◌+◌, ◌*◌, length, IfOk, IfErr, MatchResult};
 ghost use Rattle.sch_read.specs.Views.{data_of};
 ghost use Rattle.sch_core.specs.Answer.{IsErrorIn};
 ghost use Rattle.sch_core.specs.Programs.{IsProgramOf};
@@ -8,42 +8,19 @@ ghost use Rattle.sch_toplevel.specs.Forms.{form_places};
 ghost use Rattle.sch_lang.specs.Measures.{nodes_and_bound};
 ghost use Rattle.sch_lang.specs.ProgramView.{source};
 ghost use Rattle.sch_lang.specs.Tree.{Source, count};
-ghost use Rattle.sch_lang.specs.View.{expressions_of};
 ghost use Rattle.sch_keeping.specs.Definitions.{definitions_of};
 ghost use Rattle.sch_linking.specs.Size.{size_of_definitions};
-ghost use Rattle.sch_numbers.specs.Numbered.{numbered_each};
 ghost use Rattle.sch_read.specs.Valid.{max_weight, weights};
-ghost use Rattle.sch_sketch.specs.DraftView.{drafts_of};
 
 use crate::error::{CoreError, error_of};
 use crate::libraries::{Library, seen_names};
 use crate::limits::first_excess;
 use crate::quotable::are_quotable;
-use sch_lang::{Exp, Program};
+use sch_lang::Program;
 use sch_linking::assemble;
-use sch_names::Names;
-use sch_numbering::{Numbers, number_each};
-use sch_numbers::Output;
 use sch_read::Datum;
-use sch_sketch::Draft;
-use sch_toplevel::{Text, form_places, read_text};
-use sch_word::{List, Mem};
+use sch_toplevel::{Text, read_text};
 use std::alloc::Global;
-
-/// The expressions of drafts, in which all globals and symbols have one number: their variables can be counted.
-fn countable(alloc: Global, drafts: &[Draft<'_>]) -> Result<List<Exp>, Mem>
-    ensures { IfOk result (λ es. expressions_of es ≡ numbered_each [] [] [] [] (drafts_of drafts.now) 0 0) }
-{
-    let none = Names::new(alloc);
-    let numbers = Numbers {
-        own: &none,
-        globals: &none,
-        symbols: &none,
-    };
-    let mut out = Output::new(alloc);
-    let made = number_each(alloc, &numbers, &[], drafts, &mut out)?;
-    Ok(made)
-}
 
 /// The program of a text that uses a library, or why it has none: the least place, and there the first cause.
 /// Data of more than 1,000 levels of lists are out of memory.
@@ -63,15 +40,18 @@ pub fn core(alloc: Global, library: Library<'_>, items: &[Datum]) -> Result<Prog
     }
     let Library { definitions } = library;
     let seen = seen_names(alloc, definitions.as_slice())?;
-    let Text { own, drafts, fault } = read_text(alloc, seen.as_slice(), items)?;
+    let Text {
+        own,
+        drafts,
+        places,
+        fault,
+    } = read_text(alloc, seen.as_slice(), items)?;
     if let Some(f) = fault {
         return Err(error_of(f));
     }
-    let places = form_places(alloc, items)?;
-    let forms = countable(alloc, drafts.as_slice())?;
-    if let Some((kind, at)) = first_excess(alloc, places.as_slice(), forms.as_slice())? {
+    let parts = assemble(alloc, definitions, &own, drafts.as_slice())?;
+    if let Some((kind, at)) = first_excess(alloc, places.as_slice(), parts.forms.as_slice())? {
         return Err(CoreError::Limit(kind, at));
     }
-    let program = assemble(alloc, definitions, &own, drafts.as_slice())?;
-    Ok(program)
+    Ok(parts.into_program())
 }

@@ -18,18 +18,26 @@ use sch_sketch::{Kind, Sketch, Wrong, bad, one, text, two};
 use sch_word::Mem;
 use std::alloc::Global;
 
-/// An assignment to a variable that stands at `q`. The distance of a variable is a number of 32 bits: a
+/// The operands of a `set!`, as they stand in the text.
+#[derive(Clone, Copy)]
+struct Assigned<'a> {
+    variable: &'a Datum,
+    value: &'a Datum,
+}
+
+/// An assignment to a variable. The distance of a variable is a number of 32 bits: a
 /// scope with more variables than that is out of memory.
 fn assignment<'a>(
     alloc: Global,
     globals: &Globals,
     scope: &Scope,
     at: u32,
-    variable: &'a Datum,
-    value: &'a Datum,
+    parts: Assigned<'a>,
 ) -> Result<Sketch<'a>, Mem>
-    ensures { IfOk result (λ k. sketch_of k ≡ table.assigning (globals_of globals.now) scope.now at (tree_of variable.now) (tree_of value.now)) }
+    ensures { IfOk result (λ k. sketch_of k
+        ≡ table.assigning (globals_of globals.now) scope.now at (tree_of parts.entry.variable.now) (tree_of parts.entry.value.now)) }
 {
+    let Assigned { variable, value } = parts;
     let Some(x) = variable.name() else {
         return Ok(bad(at));
     };
@@ -71,7 +79,7 @@ pub fn row_set<'a>(
     let None = Datum::split(more) else {
         return Ok(bad(at));
     };
-    let made = assignment(alloc, globals, scope, at, variable, value)?;
+    let made = assignment(alloc, globals, scope, at, Assigned { variable, value })?;
     Ok(made)
 }
 

@@ -1,7 +1,6 @@
 mod ProgramFits
 pub mod Images
 mod PartErrors
-pub mod Spelled
 pub mod Meanings
 pub mod Resolved
 pub mod Steps

@@ -7,7 +7,7 @@ use Rattle.sch_word.specs.values.Memory.{Segment}
 use Rattle.sch_insn.specs.Behaves.{exit_of, start}
 use Rattle.sch_insn.specs.Machine.{State}
 use Rattle.sch_insn.specs.Step.{Progress, Runs, Exited, Stuck, mach}
-use Rattle.sch_insn.proofs.Growing.{stays}
+use Rattle.sch_insn.proofs.OutputGrows.{stays}
 use Rattle.sch_select.specs.Ends.{EndsWithin}
 use Rattle.sch_driver.specs.Assembled.{steps_of}
 

@@ -1,9 +1,7 @@
 //! From a control program to an image.
 
 ghost use Rattle.std.specs.Prelude.{◌≡◌, ◌<◌, ◌≤◌, map, IfOk, IfErr, IsTrue, OnOk};
-ghost use Rattle.std.specs.List.{flat_map};
 ghost use Rattle.sch_word.specs.declared.limits.TheConstants.{MAX_DEPTH};
-ghost use Rattle.sch_insn.specs.Spelling.{AllValid, spelling};
 ghost use Rattle.sch_control.specs.Covered.{is_covered_program};
 ghost use Rattle.sch_control.specs.ProgramView.{source};
 ghost use Rattle.sch_layout.specs.OwnSlots.{slots_code};
@@ -15,32 +13,16 @@ ghost use Rattle.sch_driver.specs.declared.error.CompileError.TheVariants as err
 
 use crate::error::CompileError;
 use sch_asm::{Mark, resolve};
-use sch_code::{Code, encode};
 use sch_control::ControlProgram;
 use sch_elf::{Image, program_image};
-use sch_insn::Insn;
 use sch_runtime::routines;
 use sch_select::select;
 use sch_slots::frame_program;
-use sch_word::{Bytes, Limits, List, Mem};
+use sch_word::{Limits, List};
 use std::alloc::Global;
 
 /// The most bytes that the frames of calls may take.
 const MAX_STACK: u64 = 1_073_741_824;
-
-/// The spellings of instructions, one after the other.
-fn text_of(alloc: Global, code: &[Insn]) -> Result<Bytes, Mem>
-    requires valid { AllValid code.now }
-    ensures { IfOk result (λ text. text ≡ flat_map spelling code.now) }
-{
-    let mut text = Bytes::new(alloc);
-    let mut buffer = Code::new();
-    for insn in code {
-        encode(insn, &mut buffer);
-        text.extend_from_slice(buffer.bytes())?;
-    }
-    Ok(text)
-}
 
 /// An image, with how many words its largest frame has, and how many instructions and which marks its text.
 #[derive(Drop)]
@@ -86,7 +68,7 @@ pub(crate) fn assemble(
     let resolved = resolve(alloc, &code, &routines)?;
     drop(code);
     let instructions = resolved.code.len() as u64;
-    let text = text_of(alloc, resolved.code.as_slice())?;
+    let text = resolved.code.into_bytes();
     let image = program_image(alloc, text, resolved.words, resolved.zeros)?;
     Ok(Assembled {
         image,

@@ -50,7 +50,7 @@ headers_step file file' end offset size segment more o l e =
     ∙ ap (λ n. file ++ (program_header_bytes (load n segment) ++ flat_map program_header_bytes (placed (n + size) more))) o
     ∙ ap (λ n. file ++ (program_header_bytes (load (offset_from end segment.address) segment) ++ flat_map program_header_bytes (placed (offset_from end segment.address + n) more))) l
 
--- the segments of an image need so much room at most
+-- how much room the segments of an image need at most
 pub need-le : (segments : List Segment) → need segments ≤ 4096 * length segments + sum_by size_of segments
 need-le [] = omega arith
 need-le (segment ∷ more) = omega (arith, need-le more, sum_by-cons size_of segment more)
@@ -58,7 +58,8 @@ need-le (segment ∷ more) = omega (arith, need-le more, sum_by-cons size_of seg
 pub length-headers : (headers : List ProgramHeader) → length (flat_map program_header_bytes headers) ≡ 56 * length headers
 length-headers [] = refl
 length-headers (header ∷ more) =
-    let e : length (program_header_bytes header ++ flat_map program_header_bytes more) ≡ length (program_header_bytes header) + length (flat_map program_header_bytes more) = length-append (program_header_bytes header) (flat_map program_header_bytes more) in
+    let e : length (program_header_bytes header ++ flat_map program_header_bytes more) ≡ length (program_header_bytes header) + length (flat_map program_header_bytes more) =
+    length-append (program_header_bytes header) (flat_map program_header_bytes more) in
     let h : length (program_header_bytes header) ≡ 56 = refl in
     omega (arith, e, h, length-headers more)
 

@@ -62,7 +62,8 @@ headers_read (h ∷ hs) file front rest place p e room =
     let here : program_header file place ≡ h = ap (program_header file) p ∙ header_read file front h after split room.0 in
     let size : length (program_header_bytes h) ≡ 56 = refl in
     let next : place + 56 ≡ length (front ++ program_header_bytes h) = omega (arith, p, size, length-append front (program_header_bytes h)) in
-    let more : headers_from file (place + 56) (length hs) ≡ hs = headers_read hs file (front ++ program_header_bytes h) rest (place + 56) next (split ∙ sym (append_assoc front (program_header_bytes h) after)) room.1 in
+    let more : headers_from file (place + 56) (length hs) ≡ hs =
+    headers_read hs file (front ++ program_header_bytes h) rest (place + 56) next (split ∙ sym (append_assoc front (program_header_bytes h) after)) room.1 in
     λ i. here i ∷ more i
 
 -- the first headers of a table

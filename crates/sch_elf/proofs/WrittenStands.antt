@@ -63,7 +63,8 @@ segments_read (s ∷ ss) file front end n e =
     let at : offset ≡ length (front ++ gap) = omega (arith, n, length-append front gap, length-replicate {A = ℕ} (offset - end) 0) in
     let next : offset + length s.bytes ≡ length ((front ++ gap) ++ s.bytes) = omega (arith, at, length-append (front ++ gap) s.bytes) in
     let here : file_segment file (load offset s) ≡ s = segment_read file (front ++ gap) s rest offset at split in
-    let more : map (file_segment file) (placed (offset + length s.bytes) ss) ≡ ss = segments_read ss file ((front ++ gap) ++ s.bytes) (offset + length s.bytes) next (split ∙ sym (append_assoc (front ++ gap) s.bytes rest)) in
+    let more : map (file_segment file) (placed (offset + length s.bytes) ss) ≡ ss =
+    segments_read ss file ((front ++ gap) ++ s.bytes) (offset + length s.bytes) next (split ∙ sym (append_assoc (front ++ gap) s.bytes rest)) in
     λ i. here i ∷ more i
 
 placed_loads : (ss : List Segment) (end : ℕ) → AllByRecursion (λ h. is_load h ≡ true) (placed end ss)
@@ -254,7 +255,8 @@ image_stands image some fits =
     let count : (file_header file).e_phnum ≡ n = image_phnum image laid.few in
     let heads : headers_from file 64 n ≡ all = image_headers image laid in
     let whole : take (length all) all ≡ all = take_all all in
-    let loaded : loads file ≡ all = ap (λ k. filter is_load (headers_from file 64 k)) count ∙ ap (filter is_load) (heads ∙ sym whole) ∙ all_kept all (length all) (placed_loads ss (start ss)) ∙ whole in
+    let loaded : loads file ≡ all = ap (λ k. filter is_load (headers_from file 64 k)) count ∙ ap (filter is_load) (heads ∙ sym whole)
+    ∙ all_kept all (length all) (placed_loads ss (start ss)) ∙ whole in
     let header : List ℕ = file_header_bytes image.entry n in
     let table : List ℕ = flat_map program_header_bytes all in
     let front : start ss ≡ length (header ++ table) = sym (headers_end header (header ++ table) image.entry n ss refl refl) in

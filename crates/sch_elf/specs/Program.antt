@@ -4,7 +4,7 @@ use Rattle.sch_word.specs.runs.ProgramLayout as layout
 use Rattle.sch_elf.specs.declared.image.Segment.{Segment}
 use Rattle.sch_elf.specs.declared.image.Image.{Image}
 
--- where the text lies, and is entered; where the data lie; and the most bytes of a text
+-- where the text lies, and is entered; where the data lie; and the most bytes of a text and of data
 abbrev pub text_address : ℕ
 text_address = layout.text_address
 
@@ -14,9 +14,8 @@ data_address = layout.data_address
 abbrev pub max_text_size : ℕ
 max_text_size = layout.max_text_size
 
--- the most bytes of data with the zeros after them: together with a text those of an image
 abbrev pub max_data_size : ℕ
-max_data_size = 0xBF000000
+max_data_size = layout.max_data_size
 
 -- the text, which can be read and executed
 abbrev pub text_segment : List ℕ → Segment

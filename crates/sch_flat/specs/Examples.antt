@@ -72,7 +72,8 @@ even_odd = even_odd_with (bound 1)
 -- ((lambda (x) (set! x (+ x 1)) (%put x)) 4), with the cell of x in this variable
 abbrev pub assigned_with : (variable : ℕ) → Source
 assigned_with x = program (2 ∷ (2 ∷ (1 ∷ [])))
-    (body 0 1 0 (new_cells (record { variable = x; content = Some (bound 0) } ∷ []) (sequence (trees (cell_set (bound x) (two 1 Add (cell_get (bound x)) (number 1)) ∷ (put 2 (cell_get (bound x)) ∷ []))))) ∷ [])
+    (body 0 1 0 (new_cells (record { variable = x; content = Some (bound 0) } ∷ [])
+    (sequence (trees (cell_set (bound x) (two 1 Add (cell_get (bound x)) (number 1)) ∷ (put 2 (cell_get (bound x)) ∷ []))))) ∷ [])
     (apply 0 (make_closure (made 0 [])) (number 4 ∷ []))
 
 abbrev pub assigned : Source

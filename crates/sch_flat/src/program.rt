@@ -1,3 +1,5 @@
+//! Programs of flat closures.
+
 ghost use Rattle.std.specs.Prelude.{IsTrue};
 ghost use Rattle.sch_flat.specs.SourceView.{source_of};
 ghost use Rattle.sch_flat.specs.Valid.{constants_in_range, is_closed, is_formed, in_order, sited, statics_known, within_levels};

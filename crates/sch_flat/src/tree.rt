@@ -1,3 +1,5 @@
+//! Expressions of flat closures, with their variables and records.
+
 use sch_word::{Bytes, Const, List, Prim};
 
 /// A variable that is used in a body.

@@ -101,7 +101,8 @@ link_lost = refl
 -- a group: each closure has the other as its field
 abbrev group : Source
 group = program []
-    (form 2 0 (Fix (record { at = Slot 0; closure = record { label = 1; fields = source.Atom (Variable (Slot 1)) ∷ [] } } ∷ record { at = Slot 1; closure = record { label = 2; fields = source.Atom (Variable (Slot 0)) ∷ [] } } ∷ [])
+    (form 2 0 (Fix (record { at = Slot 0; closure = record { label = 1; fields = source.Atom (Variable (Slot 1)) ∷ [] } }
+    ∷ record { at = Slot 1; closure = record { label = 2; fields = source.Atom (Variable (Slot 0)) ∷ [] } } ∷ [])
     ∷ Copy (Reg 14) (Slot 0) ∷ Call false 0 ∷ Store (Reg 3) ∷ Do (operation.Prim 0 Put (held_in (Reg 3) ∷ [])) ∷ End ∷ [])
     ∷ lambda 0 1 1 0 (Do (operation.Field (Reg 14) 0) ∷ Store (Reg 14) ∷ Tail false 0 ∷ [])
     ∷ lambda 0 1 1 0 (Do (operation.Operand (operand.Atom (Constant (Boolean true)))) ∷ Return ∷ [])
@@ -164,20 +165,23 @@ covered_rows = (refl, refl, refl, refl, refl)
 
 -- a list is spread, an operand is a literal
 instruction_rows :
-    (map is_covered_instruction (Load (Slot 0) (operand.Atom (Literal 0)) ∷ Pass 0 (operand.Atom (Literal 0)) ∷ Call true 1 ∷ Tail true 1 ∷ []) ≡ are_literals_covered ∷ are_literals_covered ∷ false ∷ false ∷ [])
+    (map is_covered_instruction (Load (Slot 0) (operand.Atom (Literal 0)) ∷ Pass 0 (operand.Atom (Literal 0)) ∷ Call true 1 ∷ Tail true 1 ∷ []) ≡ are_literals_covered ∷ are_literals_covered
+    ∷ false ∷ false ∷ [])
     × (map is_covered_instruction (Load (Slot 0) (number 0) ∷ Pass 0 (number 0) ∷ Call false 1 ∷ Tail false 1 ∷ []) ≡ true ∷ true ∷ true ∷ true ∷ [])
 instruction_rows = (refl, refl)
 
 -- a form ends only in its own body, and the mark of a call has the call behind it, with no label between
 settled_rows :
     (map is_covered_code (form 2 1 (Copy (Slot 0) (Slot 1) ∷ End ∷ []) ∷ lambda 0 0 2 1 (Copy (Slot 0) (Slot 1) ∷ End ∷ []) ∷ []) ≡ true ∷ false ∷ [])
-    × (map is_covered_code (lambda 0 0 2 1 (Copy (Slot 0) (Slot 1) ∷ Mark (mark.Tail 0) ∷ Tail false 0 ∷ []) ∷ lambda 0 0 2 1 (Copy (Slot 0) (Slot 1) ∷ Mark (mark.Tail 0) ∷ Label 0 ∷ Tail false 0 ∷ []) ∷ []) ≡ true ∷ false ∷ [])
+    × (map is_covered_code (lambda 0 0 2 1 (Copy (Slot 0) (Slot 1) ∷ Mark (mark.Tail 0) ∷ Tail false 0 ∷ [])
+    ∷ lambda 0 0 2 1 (Copy (Slot 0) (Slot 1) ∷ Mark (mark.Tail 0) ∷ Label 0 ∷ Tail false 0 ∷ []) ∷ []) ≡ true ∷ false ∷ [])
 settled_rows = (refl, refl)
 
 -- no mark of an entry stands among instructions
 plain_rows :
     (map plain_instruction (Mark (mark.Enter 0) ∷ Mark (mark.Call 0) ∷ Mark (mark.Tail 0) ∷ Mark mark.Return ∷ Return ∷ []) ≡ false ∷ true ∷ true ∷ true ∷ true ∷ [])
-    × (map is_covered_code (lambda 0 0 2 1 (Copy (Slot 0) (Slot 1) ∷ Mark mark.Return ∷ Return ∷ []) ∷ lambda 0 0 2 1 (Copy (Slot 0) (Slot 1) ∷ Mark (mark.Enter 0) ∷ Return ∷ []) ∷ []) ≡ true ∷ false ∷ [])
+    × (map is_covered_code (lambda 0 0 2 1 (Copy (Slot 0) (Slot 1) ∷ Mark mark.Return ∷ Return ∷ []) ∷ lambda 0 0 2 1 (Copy (Slot 0) (Slot 1) ∷ Mark (mark.Enter 0) ∷ Return ∷ []) ∷ [])
+    ≡ true ∷ false ∷ [])
 plain_rows = (refl, refl)
 
 -- a label or a mark is nothing that is done

@@ -1,3 +1,5 @@
+//! Instructions of a body over a frame.
+
 ghost use Rattle.std.specs.Prelude.{◌≡◌};
 ghost use Rattle.sch_frames.specs.Sizes.{spreads};
 

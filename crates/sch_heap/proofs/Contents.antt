@@ -64,7 +64,8 @@ abbrev pub HeapStays : Parts → (before after : List ℕ) → Type 0
 HeapStays parts before after = BytesStay (16 * parts.first) (16 * end_of parts) before after
 
 -- a word of a part
-part_word : (parts : Parts) (o : Owner) (at : Spot) (bytes bytes' : List ℕ) (a : ℕ) → HeapStays parts bytes bytes' → spot parts o ≡ Some at → 16 * at.unit ≤ a → a + 8 ≤ 16 * at.unit + 16 * suc at.more → word_in bytes' a ≡ word_in bytes a
+part_word : (parts : Parts) (o : Owner) (at : Spot) (bytes bytes' : List ℕ) (a : ℕ) → HeapStays parts bytes bytes' → spot parts o ≡ Some at → 16 * at.unit ≤ a
+    → a + 8 ≤ 16 * at.unit + 16 * suc at.more → word_in bytes' a ≡ word_in bytes a
 part_word parts o at bytes bytes' a same there lo hi =
     let w = spot_within parts o at there in
     let low = w.0 in let high = w.1 in
@@ -77,7 +78,8 @@ cell_kept parts bytes bytes' n contents same c = record {
   holds = subst (IsHeld parts contents) (sym (part_word parts (a_cell n) c.at bytes bytes' (16 * c.at.unit) same c.there (omega arith) (omega arith))) c.holds;
 }
 
-pub record_kept : (code_of : ℕ → ℕ) (parts : Parts) (bytes bytes' : List ℕ) (n : ℕ) (p : Procedure) → HeapStays parts bytes bytes' → RecordAt code_of parts bytes n p → RecordAt code_of parts bytes' n p
+pub record_kept : (code_of : ℕ → ℕ) (parts : Parts) (bytes bytes' : List ℕ) (n : ℕ) (p : Procedure) → HeapStays parts bytes bytes' → RecordAt code_of parts bytes n p
+    → RecordAt code_of parts bytes' n p
 record_kept code_of parts bytes bytes' n p same r =
     let room = r.room in
     record {
@@ -119,7 +121,8 @@ object_kept parts bytes bytes' n (string text) same p =
       are_bytes = p.are_bytes;
     }
 
-pub heap_kept : (code_of : ℕ → ℕ) (parts : Parts) (cells : List (Option Value)) (procedures : List Procedure) (objects : List Object) (bytes bytes' : List ℕ) → HeapStays parts bytes bytes' → HeapAt code_of parts cells procedures objects bytes → HeapAt code_of parts cells procedures objects bytes'
+pub heap_kept : (code_of : ℕ → ℕ) (parts : Parts) (cells : List (Option Value)) (procedures : List Procedure) (objects : List Object) (bytes bytes' : List ℕ) → HeapStays parts bytes bytes'
+    → HeapAt code_of parts cells procedures objects bytes → HeapAt code_of parts cells procedures objects bytes'
 heap_kept code_of parts cells procedures objects bytes bytes' same h = record {
   cell = λ n contents e. cell_kept parts bytes bytes' n contents same (h.cell n contents e);
   procedure = λ n p e. record_kept code_of parts bytes bytes' n p same (h.procedure n p e);
@@ -210,7 +213,8 @@ objects_grow code_of parts others cells procedures before after bytes stay more 
   kinds = kinds_grow parts others before after stay more h.kinds;
 }
 
-pub heap_grows : (code_of : ℕ → ℕ) (parts : Parts) (others : List Part) (cells : List (Option Value)) (procedures : List Procedure) (objects : List Object) (bytes : List ℕ) → NoObjects others → HeapAt code_of parts cells procedures objects bytes → HeapAt code_of (grown parts others) cells procedures objects bytes
+pub heap_grows : (code_of : ℕ → ℕ) (parts : Parts) (others : List Part) (cells : List (Option Value)) (procedures : List Procedure) (objects : List Object) (bytes : List ℕ) → NoObjects others
+    → HeapAt code_of parts cells procedures objects bytes → HeapAt code_of (grown parts others) cells procedures objects bytes
 heap_grows code_of parts others cells procedures objects bytes none h =
     objects_grow code_of parts others cells procedures objects objects bytes (λ n o e. e) (no_kinds others objects none) (λ n o e. inl e) h
 
@@ -231,16 +235,23 @@ module _ {A : Type 0} (xs ys : List A) (P : ℕ → A → Type 0) where
           let at : length xs + i ≡ n = omega (arith, le) in
           subst (λ n. P n x) at (g i x (sym (get_behind xs ys i) ∙ ap (slice_get (xs ++ ys)) at ∙ e))
 
-pub cells_added : (code_of : ℕ → ℕ) (parts : Parts) (cells more : List (Option Value)) (procedures : List Procedure) (objects : List Object) (bytes : List ℕ) → ((i : ℕ) (c : Option Value) → slice_get more i ≡ Some c → CellAt parts bytes (length cells + i) c) → HeapAt code_of parts cells procedures objects bytes → HeapAt code_of parts (cells ++ more) procedures objects bytes
-cells_added code_of parts cells more procedures objects bytes filled h = record { cell = each_of cells more (CellAt parts bytes) h.cell filled; procedure = h.procedure; object = h.object; kinds = h.kinds }
+pub cells_added : (code_of : ℕ → ℕ) (parts : Parts) (cells more : List (Option Value)) (procedures : List Procedure) (objects : List Object) (bytes : List ℕ)
+    → ((i : ℕ) (c : Option Value) → slice_get more i ≡ Some c → CellAt parts bytes (length cells + i) c) → HeapAt code_of parts cells procedures objects bytes
+    → HeapAt code_of parts (cells ++ more) procedures objects bytes
+cells_added code_of parts cells more procedures objects bytes filled h =
+    record { cell = each_of cells more (CellAt parts bytes) h.cell filled; procedure = h.procedure; object = h.object; kinds = h.kinds }
 
-pub procedures_added : (code_of : ℕ → ℕ) (parts : Parts) (cells : List (Option Value)) (procedures made : List Procedure) (objects : List Object) (bytes : List ℕ) → ((i : ℕ) (p : Procedure) → slice_get made i ≡ Some p → RecordAt code_of parts bytes (length procedures + i) p) → HeapAt code_of parts cells procedures objects bytes → HeapAt code_of parts cells (procedures ++ made) objects bytes
-procedures_added code_of parts cells procedures made objects bytes filled h = record { cell = h.cell; procedure = each_of procedures made (RecordAt code_of parts bytes) h.procedure filled; object = h.object; kinds = h.kinds }
+pub procedures_added : (code_of : ℕ → ℕ) (parts : Parts) (cells : List (Option Value)) (procedures made : List Procedure) (objects : List Object) (bytes : List ℕ)
+    → ((i : ℕ) (p : Procedure) → slice_get made i ≡ Some p → RecordAt code_of parts bytes (length procedures + i) p) → HeapAt code_of parts cells procedures objects bytes
+    → HeapAt code_of parts cells (procedures ++ made) objects bytes
+procedures_added code_of parts cells procedures made objects bytes filled h =
+    record { cell = h.cell; procedure = each_of procedures made (RecordAt code_of parts bytes) h.procedure filled; object = h.object; kinds = h.kinds }
 
 -- ---- one word of a part is written
 
 -- a part of another owner
-other_part : (parts : Parts) (o w : Owner) (s t : Spot) (bytes : List ℕ) (a v : ℕ) → spot parts o ≡ Some s → spot parts w ≡ Some t → same_owner o w ≡ false → 0x10000000 ≤ 16 * parts.first → Inside (length bytes) a → 16 * t.unit ≤ a → a + 8 ≤ 16 * t.unit + 16 * suc t.more
+other_part : (parts : Parts) (o w : Owner) (s t : Spot) (bytes : List ℕ) (a v : ℕ) → spot parts o ≡ Some s → spot parts w ≡ Some t → same_owner o w ≡ false → 0x10000000 ≤ 16 * parts.first
+    → Inside (length bytes) a → 16 * t.unit ≤ a → a + 8 ≤ 16 * t.unit + 16 * suc t.more
     → BytesStay (16 * s.unit) (16 * s.unit + 16 * suc s.more) bytes (with_word bytes a v)
 other_part parts o w s t bytes a v e f other low within lo hi b n from to =
     let first = (spot_within parts o s e).0 in
@@ -254,7 +265,8 @@ pub record OthersStay (code_of : ℕ → ℕ) (parts : Parts) (w : Owner) (cells
   pub object : (n : ℕ) (o : Object) → same_owner (owner_of n o) w ≡ false → ObjectAt parts before n o → ObjectAt parts after n o
 
 -- bytes of a part that stay, as words
-kept_word : (s : Spot) (before after : List ℕ) (a : ℕ) → BytesStay (16 * s.unit) (16 * s.unit + 16 * suc s.more) before after → 16 * s.unit ≤ a → a + 8 ≤ 16 * s.unit + 16 * suc s.more → word_in after a ≡ word_in before a
+kept_word : (s : Spot) (before after : List ℕ) (a : ℕ) → BytesStay (16 * s.unit) (16 * s.unit + 16 * suc s.more) before after → 16 * s.unit ≤ a → a + 8 ≤ 16 * s.unit + 16 * suc s.more
+    → word_in after a ≡ word_in before a
 kept_word s before after a same lo hi = word_stays before after a (same a 8 lo hi)
 
 pub others_stay : (code_of : ℕ → ℕ) (parts : Parts) (w : Owner) (cells : List (Option Value)) (procedures : List Procedure) (objects : List Object) (before after : List ℕ)
@@ -303,10 +315,16 @@ others_stay code_of parts w cells procedures objects before after stay = record 
 
 -- ---- a cell is set
 
-pub cell_set : (code_of : ℕ → ℕ) (parts : Parts) (cells : List (Option Value)) (procedures : List Procedure) (objects : List Object) (bytes : List ℕ) (n : ℕ) (contents : Option Value) (at : Spot) (x : ℕ) → n < length cells → spot parts (a_cell n) ≡ Some at → IsHeld parts contents x → Inside (length bytes) (16 * at.unit) → 0x10000000 ≤ 16 * parts.first
+pub cell_set : (code_of : ℕ → ℕ) (parts : Parts) (cells : List (Option Value)) (procedures : List Procedure) (objects : List Object) (bytes : List ℕ) (n : ℕ) (contents : Option Value) (at : Spot)
+    (x : ℕ) → n < length cells → spot parts (a_cell n) ≡ Some at → IsHeld parts contents x → Inside (length bytes) (16 * at.unit) → 0x10000000 ≤ 16 * parts.first
     → HeapAt code_of parts cells procedures objects bytes → HeapAt code_of parts (slice_set cells n contents) procedures objects (with_word bytes (16 * at.unit) x)
 cell_set code_of parts cells procedures objects bytes n contents at x lt there held within low h =
-    record { cell = λ k c e. by k c e (k == n) refl; procedure = λ k p e. rest.procedure k p refl (h.procedure k p e); object = λ k o e. rest.object k o (no_cell k o) (h.object k o e); kinds = h.kinds }
+    record {
+      cell = λ k c e. by k c e (k == n) refl;
+      procedure = λ k p e. rest.procedure k p refl (h.procedure k p e);
+      object = λ k o e. rest.object k o (no_cell k o) (h.object k o e);
+      kinds = h.kinds;
+    }
   where
     after : List ℕ
     after = with_word bytes (16 * at.unit) x
@@ -340,7 +358,8 @@ cell_taken parts cells procedures more a = record {
   procedure = λ n le. spot_other parts (a_procedure n) (a_cell cells) more (a.procedure n le) refl;
 }
 
-pub procedure_taken : (parts : Parts) (cells procedures more : ℕ) → AreNew parts cells procedures → AreNew (grown parts (record { owner = a_procedure procedures; more = more } ∷ [])) cells (suc procedures)
+pub procedure_taken : (parts : Parts) (cells procedures more : ℕ) → AreNew parts cells procedures
+    → AreNew (grown parts (record { owner = a_procedure procedures; more = more } ∷ [])) cells (suc procedures)
 procedure_taken parts cells procedures more a = record {
   cell = λ n le. spot_other parts (a_cell n) (a_procedure procedures) more (a.cell n le) refl;
   procedure = λ n le. spot_other parts (a_procedure n) (a_procedure procedures) more (a.procedure n (omega (arith, le))) (ne_eqb procedures n (λ e. omega (arith, e, le)));

@@ -248,17 +248,23 @@ module _ (parts : Parts) where
   same_objects objects kinds m n x y (inr (inl h)) (inr (inl g)) = same_names (a_vector m) (a_vector n) 2 x y h g (m == n) refl
   same_objects objects kinds m n x y (inr (inr h)) (inr (inr g)) = same_names (a_string m) (a_string n) 3 x y h g (m == n) refl
   same_objects objects kinds m n x y (inl h) (inr (inl g)) = let p = h.is in let q = g.is in
-      ne_eqb x y (λ z. omega (arith, p, q, z)) ∙ sym (ne_eqb m n (λ z. pair_no_vector (slice_get objects n) (subst (λ m. is_pair (slice_get objects m) ≡ true) z (kinds.pairs m h.at h.there)) (kinds.vectors n g.at g.there)))
+      ne_eqb x y (λ z. omega (arith, p, q, z))
+      ∙ sym (ne_eqb m n (λ z. pair_no_vector (slice_get objects n) (subst (λ m. is_pair (slice_get objects m) ≡ true) z (kinds.pairs m h.at h.there)) (kinds.vectors n g.at g.there)))
   same_objects objects kinds m n x y (inl h) (inr (inr g)) = let p = h.is in let q = g.is in
-      ne_eqb x y (λ z. omega (arith, p, q, z)) ∙ sym (ne_eqb m n (λ z. pair_no_string (slice_get objects n) (subst (λ m. is_pair (slice_get objects m) ≡ true) z (kinds.pairs m h.at h.there)) (kinds.strings n g.at g.there)))
+      ne_eqb x y (λ z. omega (arith, p, q, z))
+      ∙ sym (ne_eqb m n (λ z. pair_no_string (slice_get objects n) (subst (λ m. is_pair (slice_get objects m) ≡ true) z (kinds.pairs m h.at h.there)) (kinds.strings n g.at g.there)))
   same_objects objects kinds m n x y (inr (inl h)) (inl g) = let p = h.is in let q = g.is in
-      ne_eqb x y (λ z. omega (arith, p, q, z)) ∙ sym (ne_eqb m n (λ z. pair_no_vector (slice_get objects n) (kinds.pairs n g.at g.there) (subst (λ m. is_vector (slice_get objects m) ≡ true) z (kinds.vectors m h.at h.there))))
+      ne_eqb x y (λ z. omega (arith, p, q, z))
+      ∙ sym (ne_eqb m n (λ z. pair_no_vector (slice_get objects n) (kinds.pairs n g.at g.there) (subst (λ m. is_vector (slice_get objects m) ≡ true) z (kinds.vectors m h.at h.there))))
   same_objects objects kinds m n x y (inr (inl h)) (inr (inr g)) = let p = h.is in let q = g.is in
-      ne_eqb x y (λ z. omega (arith, p, q, z)) ∙ sym (ne_eqb m n (λ z. vector_no_string (slice_get objects n) (subst (λ m. is_vector (slice_get objects m) ≡ true) z (kinds.vectors m h.at h.there)) (kinds.strings n g.at g.there)))
+      ne_eqb x y (λ z. omega (arith, p, q, z))
+      ∙ sym (ne_eqb m n (λ z. vector_no_string (slice_get objects n) (subst (λ m. is_vector (slice_get objects m) ≡ true) z (kinds.vectors m h.at h.there)) (kinds.strings n g.at g.there)))
   same_objects objects kinds m n x y (inr (inr h)) (inl g) = let p = h.is in let q = g.is in
-      ne_eqb x y (λ z. omega (arith, p, q, z)) ∙ sym (ne_eqb m n (λ z. pair_no_string (slice_get objects n) (kinds.pairs n g.at g.there) (subst (λ m. is_string (slice_get objects m) ≡ true) z (kinds.strings m h.at h.there))))
+      ne_eqb x y (λ z. omega (arith, p, q, z))
+      ∙ sym (ne_eqb m n (λ z. pair_no_string (slice_get objects n) (kinds.pairs n g.at g.there) (subst (λ m. is_string (slice_get objects m) ≡ true) z (kinds.strings m h.at h.there))))
   same_objects objects kinds m n x y (inr (inr h)) (inr (inl g)) = let p = h.is in let q = g.is in
-      ne_eqb x y (λ z. omega (arith, p, q, z)) ∙ sym (ne_eqb m n (λ z. vector_no_string (slice_get objects n) (kinds.vectors n g.at g.there) (subst (λ m. is_string (slice_get objects m) ≡ true) z (kinds.strings m h.at h.there))))
+      ne_eqb x y (λ z. omega (arith, p, q, z))
+      ∙ sym (ne_eqb m n (λ z. vector_no_string (slice_get objects n) (kinds.vectors n g.at g.there) (subst (λ m. is_string (slice_get objects m) ≡ true) z (kinds.strings m h.at h.there))))
 
   pub same_tested : (objects : List Object) → AreKinds parts objects → (a b : Value) (x y : ℕ) → IsWord parts a x → IsWord parts b y → (x == y) ≡ same_value a b
   same_tested objects kinds (fixnum m) (fixnum n) x y h g = same_fixnums m n x y h g
@@ -378,7 +384,8 @@ fixnum_word n h =
     let m : n ≤ℤ pos 1152921504606846975 = h.high in
     record { range = h; fits = word_fits (pos 8 *ℤ n) (omega (arith, ints)); shifted = word_is (pos 8 *ℤ n) (omega (arith, ints)) }
 
-pub constant_word : (parts : Parts) (symbols : ℕ) (c : Const) → is_constant c ≡ true → constant_known symbols c ≡ true → symbols ≤ 4294967296 → symbols ≤ parts.symbols → IsWord parts (constant_value c) (word (constant_number c))
+pub constant_word : (parts : Parts) (symbols : ℕ) (c : Const) → is_constant c ≡ true → constant_known symbols c ≡ true → symbols ≤ 4294967296 → symbols ≤ parts.symbols
+    → IsWord parts (constant_value c) (word (constant_number c))
 constant_word parts symbols (Fixnum n) e k few there = fixnum_word n (is_fixnum_says n e)
 constant_word parts symbols (Character c) e k few there = (refl, let lt = ltb-true c 256 e in lt)
 constant_word parts symbols (Boolean b) e k few there = refl

@@ -28,8 +28,10 @@ is_no test o never = by (test o) refl
 module _ (parts : Parts) (t : Store) (kinds : AreKinds parts t.objects) where
   pub pair_tested : (v : Value) (x : ℕ) → IsWord parts v x → (x % 8 == 1) ≡ is_pair (object_at v t)
   pair_tested (object n) x (inl h) = tag_tested parts (object n) x 1 (inl h) ∙ sym (kinds.pairs n h.at h.there)
-  pair_tested (object n) x (inr (inl h)) = tag_tested parts (object n) x 1 (inr (inl h)) ∙ sym (is_no is_pair (slice_get t.objects n) (λ e. pair_no_vector (slice_get t.objects n) e (kinds.vectors n h.at h.there)))
-  pair_tested (object n) x (inr (inr h)) = tag_tested parts (object n) x 1 (inr (inr h)) ∙ sym (is_no is_pair (slice_get t.objects n) (λ e. pair_no_string (slice_get t.objects n) e (kinds.strings n h.at h.there)))
+  pair_tested (object n) x (inr (inl h)) = tag_tested parts (object n) x 1 (inr (inl h))
+      ∙ sym (is_no is_pair (slice_get t.objects n) (λ e. pair_no_vector (slice_get t.objects n) e (kinds.vectors n h.at h.there)))
+  pair_tested (object n) x (inr (inr h)) = tag_tested parts (object n) x 1 (inr (inr h))
+      ∙ sym (is_no is_pair (slice_get t.objects n) (λ e. pair_no_string (slice_get t.objects n) e (kinds.strings n h.at h.there)))
   pair_tested (fixnum n) x h = tag_tested parts (fixnum n) x 1 h
   pair_tested (character c) x h = tag_tested parts (character c) x 1 h
   pair_tested (boolean b) x h = tag_tested parts (boolean b) x 1 h
@@ -40,9 +42,11 @@ module _ (parts : Parts) (t : Store) (kinds : AreKinds parts t.objects) where
   pair_tested (cell n) x h = tag_tested parts (cell n) x 1 h
 
   pub vector_tested : (v : Value) (x : ℕ) → IsWord parts v x → (x % 8 == 2) ≡ is_vector (object_at v t)
-  vector_tested (object n) x (inl h) = tag_tested parts (object n) x 2 (inl h) ∙ sym (is_no is_vector (slice_get t.objects n) (λ e. pair_no_vector (slice_get t.objects n) (kinds.pairs n h.at h.there) e))
+  vector_tested (object n) x (inl h) = tag_tested parts (object n) x 2 (inl h)
+      ∙ sym (is_no is_vector (slice_get t.objects n) (λ e. pair_no_vector (slice_get t.objects n) (kinds.pairs n h.at h.there) e))
   vector_tested (object n) x (inr (inl h)) = tag_tested parts (object n) x 2 (inr (inl h)) ∙ sym (kinds.vectors n h.at h.there)
-  vector_tested (object n) x (inr (inr h)) = tag_tested parts (object n) x 2 (inr (inr h)) ∙ sym (is_no is_vector (slice_get t.objects n) (λ e. vector_no_string (slice_get t.objects n) e (kinds.strings n h.at h.there)))
+  vector_tested (object n) x (inr (inr h)) = tag_tested parts (object n) x 2 (inr (inr h))
+      ∙ sym (is_no is_vector (slice_get t.objects n) (λ e. vector_no_string (slice_get t.objects n) e (kinds.strings n h.at h.there)))
   vector_tested (fixnum n) x h = tag_tested parts (fixnum n) x 2 h
   vector_tested (character c) x h = tag_tested parts (character c) x 2 h
   vector_tested (boolean b) x h = tag_tested parts (boolean b) x 2 h
@@ -53,8 +57,10 @@ module _ (parts : Parts) (t : Store) (kinds : AreKinds parts t.objects) where
   vector_tested (cell n) x h = tag_tested parts (cell n) x 2 h
 
   pub string_tested : (v : Value) (x : ℕ) → IsWord parts v x → (x % 8 == 3) ≡ is_string (object_at v t)
-  string_tested (object n) x (inl h) = tag_tested parts (object n) x 3 (inl h) ∙ sym (is_no is_string (slice_get t.objects n) (λ e. pair_no_string (slice_get t.objects n) (kinds.pairs n h.at h.there) e))
-  string_tested (object n) x (inr (inl h)) = tag_tested parts (object n) x 3 (inr (inl h)) ∙ sym (is_no is_string (slice_get t.objects n) (λ e. vector_no_string (slice_get t.objects n) (kinds.vectors n h.at h.there) e))
+  string_tested (object n) x (inl h) = tag_tested parts (object n) x 3 (inl h)
+      ∙ sym (is_no is_string (slice_get t.objects n) (λ e. pair_no_string (slice_get t.objects n) (kinds.pairs n h.at h.there) e))
+  string_tested (object n) x (inr (inl h)) = tag_tested parts (object n) x 3 (inr (inl h))
+      ∙ sym (is_no is_string (slice_get t.objects n) (λ e. vector_no_string (slice_get t.objects n) (kinds.vectors n h.at h.there) e))
   string_tested (object n) x (inr (inr h)) = tag_tested parts (object n) x 3 (inr (inr h)) ∙ sym (kinds.strings n h.at h.there)
   string_tested (fixnum n) x h = tag_tested parts (fixnum n) x 3 h
   string_tested (character c) x h = tag_tested parts (character c) x 3 h
@@ -187,11 +193,13 @@ same_kind (vector vs) (vector ws) = true
 same_kind (string bs) (string cs) = true
 same_kind _ _ = false
 
-kind_kept : (test : Option Object → Bool) (objects : List Object) (n k : ℕ) (o p : Object) → slice_get objects n ≡ Some o → n < length objects → (test (Some o) ≡ test (Some p)) → test (slice_get objects k) ≡ true → test (slice_get (slice_set objects n p) k) ≡ true
+kind_kept : (test : Option Object → Bool) (objects : List Object) (n k : ℕ) (o p : Object) → slice_get objects n ≡ Some o → n < length objects → (test (Some o) ≡ test (Some p))
+    → test (slice_get objects k) ≡ true → test (slice_get (slice_set objects n p) k) ≡ true
 kind_kept test objects n k o p e lt same h = by (k == n) refl
   where
     by : (b : Bool) → (k == n) ≡ b → test (slice_get (slice_set objects n p) k) ≡ true
-    by true i = let z : k ≡ n = eqb-true k n i in ap (λ k. test (slice_get (slice_set objects n p) k)) z ∙ ap test (set_here objects n p lt) ∙ sym same ∙ ap test (sym e) ∙ ap (λ k. test (slice_get objects k)) (sym z) ∙ h
+    by true i = let z : k ≡ n = eqb-true k n i in ap (λ k. test (slice_get (slice_set objects n p) k)) z ∙ ap test (set_here objects n p lt) ∙ sym same ∙ ap test (sym e)
+        ∙ ap (λ k. test (slice_get objects k)) (sym z) ∙ h
     by false i = ap test (set_elsewhere objects n k p (eqb-false k n i)) ∙ h
 
 same_pairs : (o p : Object) → same_kind o p ≡ true → is_pair (Some o) ≡ is_pair (Some p)

@@ -44,7 +44,8 @@ range_neg zero le = record { low = omega (arith, ints); high = omega (arith, int
 range_neg (suc p) le = record { low = omega (arith, ints); high = omega (arith, ints) }
 
 fits_pos : (p : ℕ) → nat_lt (8 * p) (2 ^ 63) ≡ is_fixnum (pos p)
-fits_pos p = ⊎_elim (λ lt. yes_lt lt ∙ sym (is_fixnum_holds (pos p) (range_pos p lt))) (λ le. no_lt le ∙ sym (not_fixnum (pos p) (λ h. let m : pos p ≤ℤ pos 1152921504606846975 = h.high in omega (arith, ints)))) (cases_lt p 1152921504606846976)
+fits_pos p = ⊎_elim (λ lt. yes_lt lt ∙ sym (is_fixnum_holds (pos p) (range_pos p lt)))
+    (λ le. no_lt le ∙ sym (not_fixnum (pos p) (λ h. let m : pos p ≤ℤ pos 1152921504606846975 = h.high in omega (arith, ints)))) (cases_lt p 1152921504606846976)
   where
     yes_lt : p < 1152921504606846976 → nat_lt (8 * p) (2 ^ 63) ≡ true
     yes_lt lt = grind (arith, nat_tests)
@@ -66,7 +67,8 @@ fits_neg p = ⊎_elim (λ lt. no_le lt ∙ sym (not_fixnum (neg_ℤ (pos p)) (ov
     no_le lt = grind (arith, nat_tests)
 
 -- whether the product fits, by the signs and the magnitudes
-fits_by : (w y : ℕ) (s t : Bool) (m n : ℕ) → is_negative w ≡ s → is_negative y ≡ t → cond s (2 ^ 64 - w) w ≡ m → cond t (2 ^ 64 - y) y ≡ 8 * n → product_fits w y ≡ cond (differ s t) (nat_le (8 * (m * n)) (2 ^ 63)) (nat_lt (8 * (m * n)) (2 ^ 63))
+fits_by : (w y : ℕ) (s t : Bool) (m n : ℕ) → is_negative w ≡ s → is_negative y ≡ t → cond s (2 ^ 64 - w) w ≡ m → cond t (2 ^ 64 - y) y ≡ 8 * n
+    → product_fits w y ≡ cond (differ s t) (nat_le (8 * (m * n)) (2 ^ 63)) (nat_lt (8 * (m * n)) (2 ^ 63))
 fits_by w y s t m n e f g h =
     let one : magnitude w ≡ m = ap (λ s. cond s (2 ^ 64 - w) w) e ∙ g in
     let two : magnitude y ≡ 8 * n = ap (λ t. cond t (2 ^ 64 - y) y) f ∙ h in
@@ -103,14 +105,16 @@ product_computes (pos m) (pos n) w y r u v =
     let prod : w * y ≡ 8 * p = ap (λ k. k * y) u ∙ ap (λ k. m * k) e ∙ mul_left_comm m 8 n in
     record {
       flag = ap (λ t. Some (not t)) fit;
-      value = λ t. let h = is_fixnum_says (pos p) t in let k : pos p ≤ℤ pos 1152921504606846975 = h.high in word_pos p (w * y % 2 ^ 64) h (let s : p ≤ 1152921504606846975 = omega (arith, ints) in omega (arith, prod, s));
+      value = λ t. let h = is_fixnum_says (pos p) t in let k : pos p ≤ℤ pos 1152921504606846975 = h.high in
+          word_pos p (w * y % 2 ^ 64) h (let s : p ≤ 1152921504606846975 = omega (arith, ints) in omega (arith, prod, s));
     }
 product_computes (pos m) (negsuc n) w y r u v =
     let la : pos m ≤ℤ pos 1152921504606846976 = r.high in
     let lb : negsuc 1152921504606846975 ≤ℤ negsuc n = v.range.low in
     let e = high_word n y v in
     let p = m * suc n in
-    let fit : product_fits w y ≡ is_fixnum (neg_ℤ (pos p)) = fits_by w y false true m (suc n) (positive w (omega (arith, ints, u, la))) (negative y (omega (arith, ints, e, lb))) u (omega (arith, e)) ∙ fits_neg p in
+    let fit : product_fits w y ≡ is_fixnum (neg_ℤ (pos p)) =
+    fits_by w y false true m (suc n) (positive w (omega (arith, ints, u, la))) (negative y (omega (arith, ints, e, lb))) u (omega (arith, e)) ∙ fits_neg p in
     let whole : m * y + m * (8 * suc n) ≡ m * 18446744073709551616 = sym (mul-add m y (8 * suc n)) ∙ ap (λ k. m * k) e in
     let prod : w * y + 8 * p ≡ 18446744073709551616 * m = ap (λ k. k * y + 8 * p) u ∙ ap (λ k. m * y + k) (sym (mul_left_comm m 8 (suc n))) ∙ whole ∙ mul_comm m 18446744073709551616 in
     record {
@@ -125,7 +129,8 @@ product_computes (negsuc m) (pos n) w y r u v =
     let lb : pos n ≤ℤ pos 1152921504606846975 = v.range.high in
     let e = low_word n y v in
     let p = suc m * n in
-    let fit : product_fits w y ≡ is_fixnum (neg_ℤ (pos p)) = fits_by w y true false (suc m) n (negative w (omega (arith, ints, u, la))) (positive y (omega (arith, ints, e, lb))) (omega (arith, u)) e ∙ fits_neg p in
+    let fit : product_fits w y ≡ is_fixnum (neg_ℤ (pos p)) =
+    fits_by w y true false (suc m) n (negative w (omega (arith, ints, u, la))) (positive y (omega (arith, ints, e, lb))) (omega (arith, u)) e ∙ fits_neg p in
     let whole : y * w + y * suc m ≡ y * 18446744073709551616 = sym (mul-add y w (suc m)) ∙ ap (λ k. y * k) u in
     let part : y * suc m ≡ 8 * p = mul_comm y (suc m) ∙ ap (λ k. suc m * k) e ∙ mul_left_comm (suc m) 8 n in
     let prod : w * y + 8 * p ≡ 18446744073709551616 * y = ap (λ k. k + 8 * p) (mul_comm w y) ∙ ap (λ k. y * w + k) (sym part) ∙ whole ∙ mul_comm y 18446744073709551616 in
@@ -141,7 +146,8 @@ product_computes (negsuc m) (negsuc n) w y r u v =
     let lb : negsuc 1152921504606846975 ≤ℤ negsuc n = v.range.low in
     let e = high_word n y v in
     let p = suc m * suc n in
-    let fit : product_fits w y ≡ is_fixnum (pos p) = fits_by w y true true (suc m) (suc n) (negative w (omega (arith, ints, u, la))) (negative y (omega (arith, ints, e, lb))) (omega (arith, u)) (omega (arith, e)) ∙ fits_pos p in
+    let fit : product_fits w y ≡ is_fixnum (pos p) =
+    fits_by w y true true (suc m) (suc n) (negative w (omega (arith, ints, u, la))) (negative y (omega (arith, ints, e, lb))) (omega (arith, u)) (omega (arith, e)) ∙ fits_pos p in
     let first : y * w + y * suc m ≡ y * 18446744073709551616 = sym (mul-add y w (suc m)) ∙ ap (λ k. y * k) u in
     let second : suc m * y + suc m * (8 * suc n) ≡ suc m * 18446744073709551616 = sym (mul-add (suc m) y (8 * suc n)) ∙ ap (λ k. suc m * k) e in
     let part : suc m * (8 * suc n) ≡ 8 * p = mul_left_comm (suc m) 8 (suc n) in
@@ -150,5 +156,6 @@ product_computes (negsuc m) (negsuc n) w y r u v =
     let prod : w * y + 18446744073709551616 * suc m ≡ 18446744073709551616 * y + 8 * p = omega (arith, first, second, part, turned, swapped) in
     record {
       flag = ap (λ t. Some (not t)) fit;
-      value = λ t. let h = is_fixnum_says (pos p) t in let k : pos p ≤ℤ pos 1152921504606846975 = h.high in word_pos p (w * y % 2 ^ 64) h (let s : p ≤ 1152921504606846975 = omega (arith, ints) in omega (arith, prod, s));
+      value = λ t. let h = is_fixnum_says (pos p) t in let k : pos p ≤ℤ pos 1152921504606846975 = h.high in
+          word_pos p (w * y % 2 ^ 64) h (let s : p ≤ 1152921504606846975 = omega (arith, ints) in omega (arith, prod, s));
     }

@@ -54,7 +54,8 @@ fits_quotient false q le = go le
     go le = grind (arith, nat_tests)
 
 -- by signs and magnitudes
-pub divides_by : (x y m n : ℕ) (s t : Bool) → is_negative x ≡ s → is_negative y ≡ t → cond s (18446744073709551616 - x) x ≡ 8 * m → cond t (18446744073709551616 - y) y ≡ 8 * n → x < 18446744073709551616 → 0 < y → m ≤ 1152921504606846976 →
+pub divides_by : (x y m n : ℕ) (s t : Bool) → is_negative x ≡ s → is_negative y ≡ t → cond s (18446744073709551616 - x) x ≡ 8 * m → cond t (18446744073709551616 - y) y ≡ 8 * n
+    → x < 18446744073709551616 → 0 < y → m ≤ 1152921504606846976 →
     quotient_of (sign_word x) x y ≡ Ok (signed (differ s t) (m / n), signed s (8 * (m % n)))
 divides_by x y m n s t e f g h lt some small =
     let up = dividend x (8 * m) s e g lt in

@@ -41,7 +41,8 @@ set_before (b ∷ bytes) (suc j) zero v le = refl
 set_before (b ∷ bytes) (suc j) (suc k) v le = set_before bytes j k v (omega (arith, le))
 
 -- bytes beside one that is written
-pub piece_beside_byte : (bytes : List ℕ) (a v b n : ℕ) → 0x10000000 ≤ a → a < 0x10000000 + length bytes → 0x10000000 ≤ b → (b + n ≤ a) ⊎ (a + 1 ≤ b) → piece_in (with_byte bytes a v) b n ≡ piece_in bytes b n
+pub piece_beside_byte : (bytes : List ℕ) (a v b n : ℕ) → 0x10000000 ≤ a → a < 0x10000000 + length bytes → 0x10000000 ≤ b → (b + n ≤ a) ⊎ (a + 1 ≤ b)
+    → piece_in (with_byte bytes a v) b n ≡ piece_in bytes b n
 piece_beside_byte bytes a v b n low high from far =
     ap (λ l. piece_in l b n) (byte_set bytes a v high low)
     ∙ ⊎_elim

@@ -102,12 +102,15 @@ spots_apart parts a b s t e f n = apart_from parts.first parts.list a b s t e f 
 
 -- ---- a new part
 
-by_absent : (unit : ℕ) (p : Part) (parts : List Part) (o : Owner) (b : Bool) → same_owner p.owner o ≡ b → spot_from unit (p ∷ parts) o ≡ None → (same_owner p.owner o ≡ false) × (spot_from (unit + suc p.more) parts o ≡ None)
+by_absent : (unit : ℕ) (p : Part) (parts : List Part) (o : Owner) (b : Bool) → same_owner p.owner o ≡ b → spot_from unit (p ∷ parts) o ≡ None
+    → (same_owner p.owner o ≡ false) × (spot_from (unit + suc p.more) parts o ≡ None)
 by_absent unit p parts o true s e = absurd (let bad : Some (record { unit = unit; more = p.more }) ≡ None = sym (found_first unit p parts o s) ∙ e in cc)
 by_absent unit p parts o false s e = (s, sym (found_behind unit p parts o s) ∙ e)
 
-newest_from : (unit : ℕ) (parts : List Part) (o : Owner) (more : ℕ) (others : List Part) → spot_from unit parts o ≡ None → spot_from unit (parts ++ (record { owner = o; more = more } ∷ others)) o ≡ Some (record { unit = unit + units parts; more = more })
-newest_from unit [] o more others e = found_first unit (record { owner = o; more = more }) others o (owner_same o) ∙ (let z : unit ≡ unit + 0 = omega arith in ap (λ u. Some (record { unit = u; more = more })) z)
+newest_from : (unit : ℕ) (parts : List Part) (o : Owner) (more : ℕ) (others : List Part) → spot_from unit parts o ≡ None
+    → spot_from unit (parts ++ (record { owner = o; more = more } ∷ others)) o ≡ Some (record { unit = unit + units parts; more = more })
+newest_from unit [] o more others e = found_first unit (record { owner = o; more = more }) others o (owner_same o)
+    ∙ (let z : unit ≡ unit + 0 = omega arith in ap (λ u. Some (record { unit = u; more = more })) z)
 newest_from unit (p ∷ parts) o more others e =
     let h = by_absent unit p parts o (same_owner p.owner o) refl e in
     found_behind unit p (parts ++ (record { owner = o; more = more } ∷ others)) o h.0
@@ -115,10 +118,12 @@ newest_from unit (p ∷ parts) o more others e =
     ∙ (let z : unit + suc p.more + units parts ≡ unit + units (p ∷ parts) = omega arith in ap (λ u. Some (record { unit = u; more = more })) z)
 
 -- it lies behind the others
-pub spot_newest : (parts : Parts) (o : Owner) (more : ℕ) (others : List Part) → spot parts o ≡ None → spot (grown parts (record { owner = o; more = more } ∷ others)) o ≡ Some (record { unit = end_of parts; more = more })
+pub spot_newest : (parts : Parts) (o : Owner) (more : ℕ) (others : List Part) → spot parts o ≡ None
+    → spot (grown parts (record { owner = o; more = more } ∷ others)) o ≡ Some (record { unit = end_of parts; more = more })
 spot_newest parts o more others e = newest_from parts.first parts.list o more others e
 
-other_from : (unit : ℕ) (parts : List Part) (o n : Owner) (more : ℕ) → spot_from unit parts o ≡ None → same_owner n o ≡ false → spot_from unit (parts ++ record { owner = n; more = more } ∷ []) o ≡ None
+other_from : (unit : ℕ) (parts : List Part) (o n : Owner) (more : ℕ) → spot_from unit parts o ≡ None → same_owner n o ≡ false
+    → spot_from unit (parts ++ record { owner = n; more = more } ∷ []) o ≡ None
 other_from unit [] o n more e s = found_behind unit (record { owner = n; more = more }) [] o s
 other_from unit (p ∷ parts) o n more e s =
     let h = by_absent unit p parts o (same_owner p.owner o) refl e in

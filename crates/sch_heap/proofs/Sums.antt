@@ -42,7 +42,8 @@ sum_low_low a b x y ra rb e f =
     let lb = least b rb in
     let w : add64 x y ≡ x + y = omega arith in
     ⊎_elim
-    (λ lt. within (a +ℤ b) (sum_of x y) (sum_flag x y false false false (positive x hx) (positive y hy) (positive (add64 x y) (omega arith))) (record { low = omega (arith, ints); high = omega (arith, ints) }) (omega arith) (inl (omega (arith, ints))))
+    (λ lt. within (a +ℤ b) (sum_of x y) (sum_flag x y false false false (positive x hx) (positive y hy) (positive (add64 x y) (omega arith)))
+    (record { low = omega (arith, ints); high = omega (arith, ints) }) (omega arith) (inl (omega (arith, ints))))
     (λ le. outside (a +ℤ b) (sum_of x y) (sum_flag x y false false true (positive x hx) (positive y hy) (negative (add64 x y) (omega arith))) (λ r. let m = most (a +ℤ b) r in omega (arith, ints)))
     (cases_lt (x + y) 9223372036854775808)
 
@@ -80,7 +81,8 @@ sum_high_high a b x y ra rb fx fy e f =
     let w : add64 x y + 18446744073709551616 ≡ x + y = omega arith in
     ⊎_elim
     (λ lt. outside (a +ℤ b) (sum_of x y) (sum_flag x y true true false (negative x hx) (negative y hy) (positive (add64 x y) (omega arith))) (λ r. let m = least (a +ℤ b) r in omega (arith, ints)))
-    (λ le. within (a +ℤ b) (sum_of x y) (sum_flag x y true true true (negative x hx) (negative y hy) (negative (add64 x y) (omega arith))) (record { low = omega (arith, ints); high = omega (arith, ints) }) (omega arith) (inr (omega (arith, ints))))
+    (λ le. within (a +ℤ b) (sum_of x y) (sum_flag x y true true true (negative x hx) (negative y hy) (negative (add64 x y) (omega arith)))
+    (record { low = omega (arith, ints); high = omega (arith, ints) }) (omega arith) (inr (omega (arith, ints))))
     (cases_lt (add64 x y) 9223372036854775808)
 
 -- The word of a sum.
@@ -116,7 +118,8 @@ difference_low_high a b x y ra rb fx fy e f =
     let la = least a ra in let lb = least b rb in let ma = most a ra in let mb = most b rb in
     let w : sub64 x y + y ≡ x + 18446744073709551616 = omega arith in
     ⊎_elim
-    (λ lt. within (a -ℤ b) (difference_of x y) (difference_flag x y false true false (positive x hx) (negative y hy) (positive (sub64 x y) lt)) (record { low = omega (arith, ints); high = omega (arith, ints) }) (omega arith) (inl (omega (arith, ints))))
+    (λ lt. within (a -ℤ b) (difference_of x y) (difference_flag x y false true false (positive x hx) (negative y hy) (positive (sub64 x y) lt))
+    (record { low = omega (arith, ints); high = omega (arith, ints) }) (omega arith) (inl (omega (arith, ints))))
     (λ le. outside (a -ℤ b) (difference_of x y) (difference_flag x y false true true (positive x hx) (negative y hy) (negative (sub64 x y) le)) (λ r. let m = most (a -ℤ b) r in omega (arith, ints)))
     (cases_lt (sub64 x y) 9223372036854775808)
 
@@ -128,7 +131,8 @@ difference_high_low a b x y ra rb fx fy e f =
     let w : sub64 x y + y ≡ x = omega arith in
     ⊎_elim
     (λ lt. outside (a -ℤ b) (difference_of x y) (difference_flag x y true false false (negative x hx) (positive y hy) (positive (sub64 x y) lt)) (λ r. let m = least (a -ℤ b) r in omega (arith, ints)))
-    (λ le. within (a -ℤ b) (difference_of x y) (difference_flag x y true false true (negative x hx) (positive y hy) (negative (sub64 x y) le)) (record { low = omega (arith, ints); high = omega (arith, ints) }) (omega arith) (inr (omega (arith, ints))))
+    (λ le. within (a -ℤ b) (difference_of x y) (difference_flag x y true false true (negative x hx) (positive y hy) (negative (sub64 x y) le))
+    (record { low = omega (arith, ints); high = omega (arith, ints) }) (omega arith) (inr (omega (arith, ints))))
     (cases_lt (sub64 x y) 9223372036854775808)
 
 difference_high_high : (a b : ℤ) (x y : ℕ) → IsFixnum a → IsFixnum b → x < 2 ^ 64 → y < 2 ^ 64 → IsHigh a x → IsHigh b y → Computes (a -ℤ b) (difference_of x y)

@@ -11,7 +11,7 @@ use Rattle.sch_insn.specs.Step.{Progress, Runs, Exited, Stuck, mach}
 use Rattle.sch_insn.specs.Path.{Does}
 use Rattle.sch_insn.specs.Behaves.{Given, IsPrefix, start, output_of, exit_of, Reaches, Covers, FollowsRuns}
 use Rattle.sch_insn.proofs.Paths.{path_mach, path_early, exits_mach}
-use Rattle.sch_insn.proofs.Growing.{prefix_same, mach_grows, path_grows, stays, along_end, not_stuck}
+use Rattle.sch_insn.proofs.OutputGrows.{prefix_same, mach_grows, path_grows, stays, along_end, not_stuck}
 
 -- ---- what a progress has exited with
 
@@ -94,7 +94,8 @@ unstuck s m r d = by r.end d
         let x = path_early m s d.way d.last d.path d.long in
         let both : Runs x.at ≡ Stuck cause u = sym x.runs ∙ f in absurd cc
 
-pub follows : (entry : ℕ) (segments : List Segment) (runs : List Answer → ℕ → Run) → ((g : Given) (answers : List Answer) (n : ℕ) → Does (start entry segments g answers) n (runs answers n).end (runs answers n).output) → FollowsRuns entry segments runs
+pub follows : (entry : ℕ) (segments : List Segment) (runs : List Answer → ℕ → Run)
+    → ((g : Given) (answers : List Answer) (n : ℕ) → Does (start entry segments g answers) n (runs answers n).end (runs answers n).output) → FollowsRuns entry segments runs
 follows entry segments runs h = record {
   reaches = λ g answers n. reached (start entry segments g answers) n (runs answers n) (h g answers n);
   covered = λ g answers m. covers (start entry segments g answers) m (runs answers m) (h g answers m);

@@ -44,7 +44,14 @@ record Left : Type 0 where
   place : ℕ
 
 abbrev seen : Progress → Option Left
-seen (Runs s) = Some (record { rax = s.core.registers RAX; rcx = s.core.registers RCX; rdx = s.core.registers RDX; word = word_at s.core.segments 0x10000000; flags = s.core.flags; place = s.core.place })
+seen (Runs s) = Some (record {
+  rax = s.core.registers RAX;
+  rcx = s.core.registers RCX;
+  rdx = s.core.registers RDX;
+  word = word_at s.core.segments 0x10000000;
+  flags = s.core.flags;
+  place = s.core.place;
+})
 seen (Exited status s) = None
 seen (Stuck cause s) = None
 
@@ -96,7 +103,44 @@ each_row :
     × (after (Shl (Reg RAX) 12) ≡ left 0x3456789ABCDEF000 0xFFFFFFFB 3 0x8070605040302010 unknown_flags)
     × (after (Shr (Reg RAX) 12) ≡ left 0xF123456789ABC 0xFFFFFFFB 3 0x8070605040302010 unknown_flags)
     × (after (Sar (Reg RAX) 12) ≡ left 0xFFFF123456789ABC 0xFFFFFFFB 3 0x8070605040302010 unknown_flags)
-each_row = (refl, refl, refl, refl, refl, refl, refl, refl, refl, refl, refl, refl, refl, refl, refl, refl, refl, refl, refl, refl, refl, refl, refl, refl, refl, refl, refl, refl, refl, refl, refl, refl, refl, refl, refl, refl)
+each_row = (
+  refl,
+  refl,
+  refl,
+  refl,
+  refl,
+  refl,
+  refl,
+  refl,
+  refl,
+  refl,
+  refl,
+  refl,
+  refl,
+  refl,
+  refl,
+  refl,
+  refl,
+  refl,
+  refl,
+  refl,
+  refl,
+  refl,
+  refl,
+  refl,
+  refl,
+  refl,
+  refl,
+  refl,
+  refl,
+  refl,
+  refl,
+  refl,
+  refl,
+  refl,
+  refl,
+  refl,
+)
 
 -- Both words of memory.
 abbrev words_of : Progress → Option (Result ℕ StuckCause × Result ℕ StuckCause)

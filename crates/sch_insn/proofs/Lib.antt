@@ -2,12 +2,12 @@ pub mod Lists
 pub mod PutSize
 pub mod OnAnswer
 pub mod Reading
-pub mod Back
+pub mod ReadingsAreSpelled
 pub mod PrefixCode
 pub mod Paths
-pub mod Growing
+pub mod OutputGrows
 pub mod Clauses
-pub mod Placing
+pub mod SegmentContents
 pub mod Conditions
 mod Rows
 mod EachRow

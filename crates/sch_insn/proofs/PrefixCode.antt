@@ -8,7 +8,7 @@ use Rattle.sch_insn.specs.declared.insn.Insn.TheVariants.{MovTo, MovFrom, MovNum
 use Rattle.sch_insn.specs.Spelling.{four_bytes, wide, sib, operand, spelling, Spells, AreBytes}
 use Rattle.sch_insn.specs.Decode.{decode}
 use Rattle.sch_insn.proofs.Reading.{decode_spelling}
-use Rattle.sch_insn.proofs.Back.{Bytes, decode_back}
+use Rattle.sch_insn.proofs.ReadingsAreSpelled.{Bytes, decode_back}
 
 pub one_spelling : (i : Insn) (xs ys : List ℕ) → Spells i xs → Spells i ys → xs ≡ ys
 one_spelling i xs ys a b = a.same ∙ sym b.same

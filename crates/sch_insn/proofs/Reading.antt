@@ -99,7 +99,8 @@ operand_read (Base b) r rest h =
     let none : Option (Arg × ℕ) = None in
     let bs = sib b ++ rest in
     parts_read 0 r b (b / 8) bs
-    ∙ ap (λ t. when_some (cond t (cond ((b / 8) == 0) (when_some (number_of_4 bs) (λ d. Some (Rip d, 4))) none) (when_some (sib_size (b % 8) bs) (λ n. Some (Base (8 * (b / 8) + b % 8), n)))) (with_operand r)) (ne_eqb (b % 8) 5 h.1)
+    ∙ ap (λ t. when_some (cond t (cond ((b / 8) == 0) (when_some (number_of_4 bs) (λ d. Some (Rip d, 4))) none) (when_some (sib_size (b % 8) bs) (λ n. Some (Base (8 * (b / 8) + b % 8), n))))
+    (with_operand r)) (ne_eqb (b % 8) 5 h.1)
     ∙ ap (λ o. when_some (when_some o (λ n. Some (Base (8 * (b / 8) + b % 8), n))) (with_operand r)) (sib_read b rest)
     ∙ ap (λ n. Some (r, Base n, length (sib b) + 1)) (register_again b)
     ∙ ap (λ n. Some (r, Base b, n)) (plus_1 (length (sib b)))
@@ -150,7 +151,8 @@ full_read r high op rest = let none : Option (Insn × ℕ) = None in ap (λ b. c
 last_branch : {A : Type 0} (a b c : Bool) (u v w x : A) → a ≡ false → b ≡ false → c ≡ false → cond a u (cond b v (cond c w x)) ≡ x
 last_branch a b c u v w x p q r = rw (p, q, r) refl
 
-wide_read : (op : ℕ) (m : Arg) (r : ℕ) (rest : List ℕ) → (op / 8 == 23) ≡ false → (op == 153) ≡ false → (op == 15) ≡ false → IsArg m → r < 16 → decode (wide op r m ++ rest) ≡ wide_of op r m (length (operand r m) + 2) rest
+wide_read : (op : ℕ) (m : Arg) (r : ℕ) (rest : List ℕ) → (op / 8 == 23) ≡ false → (op == 153) ≡ false → (op == 15) ≡ false → IsArg m → r < 16
+    → decode (wide op r m ++ rest) ≡ wide_of op r m (length (operand r m) + 2) rest
 wide_read op m r rest e1 e2 e3 h hr =
     let bs = operand r m ++ rest in
     let k = length (operand r m) in
@@ -174,7 +176,8 @@ plus_3 : (n : ℕ) → n + 3 ≡ suc (suc (suc n))
 plus_3 n = omega arith
 
 -- A form that ends with a number of four bytes, and one that ends with a count.
-numbered : (i : Insn) (op d : ℕ) (m : Arg) (n : ℤ) (rest : List ℕ) → spelling i ≡ wide op d m ++ four_bytes n → (op / 8 == 23) ≡ false → (op == 153) ≡ false → (op == 15) ≡ false → d < 16 → IsArg m → FitsSigned w32 n → wide_of op d m (length (operand d m) + 2) (four_bytes n ++ rest) ≡ Some (i, length (operand d m) + 2 + 4) → decode (spelling i ++ rest) ≡ Some (i, length (spelling i))
+numbered : (i : Insn) (op d : ℕ) (m : Arg) (n : ℤ) (rest : List ℕ) → spelling i ≡ wide op d m ++ four_bytes n → (op / 8 == 23) ≡ false → (op == 153) ≡ false → (op == 15) ≡ false → d < 16 → IsArg m
+    → FitsSigned w32 n → wide_of op d m (length (operand d m) + 2) (four_bytes n ++ rest) ≡ Some (i, length (operand d m) + 2 + 4) → decode (spelling i ++ rest) ≡ Some (i, length (spelling i))
 numbered i op d m n rest s e1 e2 e3 low h fits go =
     let size : length (operand d m) + 2 + 4 ≡ length (wide op d m ++ four_bytes n) = omega (arith, length-append (wide op d m) (four_bytes n)) in
     ap (λ l. decode (l ++ rest)) s
@@ -192,7 +195,8 @@ count_read k rest h =
     ap (λ b. cond b none (cond (nat_lt 63 k) none (Some k))) (some_bytes k rest)
     ∙ ap (λ b. cond b none (Some k)) (not_above_63 k h)
 
-counted : (i : Insn) (d : ℕ) (m : Arg) (k : ℕ) (rest : List ℕ) → spelling i ≡ wide 193 d m ++ k ∷ [] → d < 16 → IsArg m → wide_of 193 d m (length (operand d m) + 2) (k ∷ rest) ≡ Some (i, length (operand d m) + 2 + 1) → decode (spelling i ++ rest) ≡ Some (i, length (spelling i))
+counted : (i : Insn) (d : ℕ) (m : Arg) (k : ℕ) (rest : List ℕ) → spelling i ≡ wide 193 d m ++ k ∷ [] → d < 16 → IsArg m
+    → wide_of 193 d m (length (operand d m) + 2) (k ∷ rest) ≡ Some (i, length (operand d m) + 2 + 1) → decode (spelling i ++ rest) ≡ Some (i, length (spelling i))
 counted i d m k rest s low h go =
     let size : length (operand d m) + 2 + 1 ≡ length (wide 193 d m ++ k ∷ []) = omega (arith, length-append (wide 193 d m) (k ∷ [])) in
     ap (λ l. decode (l ++ rest)) s
@@ -226,14 +230,22 @@ decode_spelling (SubFrom r m) rest h = wide_read 43 m r rest refl refl refl h.0 
 decode_spelling (XorFrom r m) rest h = wide_read 51 m r rest refl refl refl h.0 h.1 ∙ sized (XorFrom r m) (plus_2 (length (operand r m)))
 decode_spelling (CmpFrom r m) rest h = wide_read 59 m r rest refl refl refl h.0 h.1 ∙ sized (CmpFrom r m) (plus_2 (length (operand r m)))
 decode_spelling (MovFrom r m) rest h = wide_read 139 m r rest refl refl refl h.0 h.1 ∙ sized (MovFrom r m) (plus_2 (length (operand r m)))
-decode_spelling (Lea r m) rest h = wide_read 141 m r rest refl refl refl h.0 h.1 ∙ ap (λ b. cond b (Some (Lea r m, length (operand r m) + 2)) None) h.2 ∙ sized (Lea r m) (plus_2 (length (operand r m)))
-decode_spelling (AddNumber m n) rest h = numbered (AddNumber m n) 129 0 m n rest refl refl refl refl (omega arith) h.0 h.1 (ap (λ o. when_some o (λ n. Some (AddNumber m n, length (operand 0 m) + 2 + 4))) (number_of_4_read n rest h.1))
-decode_spelling (OrNumber m n) rest h = numbered (OrNumber m n) 129 1 m n rest refl refl refl refl (omega arith) h.0 h.1 (ap (λ o. when_some o (λ n. Some (OrNumber m n, length (operand 1 m) + 2 + 4))) (number_of_4_read n rest h.1))
-decode_spelling (AndNumber m n) rest h = numbered (AndNumber m n) 129 4 m n rest refl refl refl refl (omega arith) h.0 h.1 (ap (λ o. when_some o (λ n. Some (AndNumber m n, length (operand 4 m) + 2 + 4))) (number_of_4_read n rest h.1))
-decode_spelling (SubNumber m n) rest h = numbered (SubNumber m n) 129 5 m n rest refl refl refl refl (omega arith) h.0 h.1 (ap (λ o. when_some o (λ n. Some (SubNumber m n, length (operand 5 m) + 2 + 4))) (number_of_4_read n rest h.1))
-decode_spelling (XorNumber m n) rest h = numbered (XorNumber m n) 129 6 m n rest refl refl refl refl (omega arith) h.0 h.1 (ap (λ o. when_some o (λ n. Some (XorNumber m n, length (operand 6 m) + 2 + 4))) (number_of_4_read n rest h.1))
-decode_spelling (CmpNumber m n) rest h = numbered (CmpNumber m n) 129 7 m n rest refl refl refl refl (omega arith) h.0 h.1 (ap (λ o. when_some o (λ n. Some (CmpNumber m n, length (operand 7 m) + 2 + 4))) (number_of_4_read n rest h.1))
-decode_spelling (MovNumber m n) rest h = numbered (MovNumber m n) 199 0 m n rest refl refl refl refl (omega arith) h.0 h.1 (ap (λ o. when_some o (λ n. Some (MovNumber m n, length (operand 0 m) + 2 + 4))) (number_of_4_read n rest h.1))
+decode_spelling (Lea r m) rest h = wide_read 141 m r rest refl refl refl h.0 h.1 ∙ ap (λ b. cond b (Some (Lea r m, length (operand r m) + 2)) None) h.2
+    ∙ sized (Lea r m) (plus_2 (length (operand r m)))
+decode_spelling (AddNumber m n) rest h = numbered (AddNumber m n) 129 0 m n rest refl refl refl refl (omega arith) h.0 h.1
+    (ap (λ o. when_some o (λ n. Some (AddNumber m n, length (operand 0 m) + 2 + 4))) (number_of_4_read n rest h.1))
+decode_spelling (OrNumber m n) rest h = numbered (OrNumber m n) 129 1 m n rest refl refl refl refl (omega arith) h.0 h.1
+    (ap (λ o. when_some o (λ n. Some (OrNumber m n, length (operand 1 m) + 2 + 4))) (number_of_4_read n rest h.1))
+decode_spelling (AndNumber m n) rest h = numbered (AndNumber m n) 129 4 m n rest refl refl refl refl (omega arith) h.0 h.1
+    (ap (λ o. when_some o (λ n. Some (AndNumber m n, length (operand 4 m) + 2 + 4))) (number_of_4_read n rest h.1))
+decode_spelling (SubNumber m n) rest h = numbered (SubNumber m n) 129 5 m n rest refl refl refl refl (omega arith) h.0 h.1
+    (ap (λ o. when_some o (λ n. Some (SubNumber m n, length (operand 5 m) + 2 + 4))) (number_of_4_read n rest h.1))
+decode_spelling (XorNumber m n) rest h = numbered (XorNumber m n) 129 6 m n rest refl refl refl refl (omega arith) h.0 h.1
+    (ap (λ o. when_some o (λ n. Some (XorNumber m n, length (operand 6 m) + 2 + 4))) (number_of_4_read n rest h.1))
+decode_spelling (CmpNumber m n) rest h = numbered (CmpNumber m n) 129 7 m n rest refl refl refl refl (omega arith) h.0 h.1
+    (ap (λ o. when_some o (λ n. Some (CmpNumber m n, length (operand 7 m) + 2 + 4))) (number_of_4_read n rest h.1))
+decode_spelling (MovNumber m n) rest h = numbered (MovNumber m n) 199 0 m n rest refl refl refl refl (omega arith) h.0 h.1
+    (ap (λ o. when_some o (λ n. Some (MovNumber m n, length (operand 0 m) + 2 + 4))) (number_of_4_read n rest h.1))
 decode_spelling (Shl m k) rest h = counted (Shl m k) 4 m k rest refl (omega arith) h.0 (ap (λ o. when_some o (λ n. Some (Shl m n, length (operand 4 m) + 2 + 1))) (count_read k rest h.1))
 decode_spelling (Shr m k) rest h = counted (Shr m k) 5 m k rest refl (omega arith) h.0 (ap (λ o. when_some o (λ n. Some (Shr m n, length (operand 5 m) + 2 + 1))) (count_read k rest h.1))
 decode_spelling (Sar m k) rest h = counted (Sar m k) 7 m k rest refl (omega arith) h.0 (ap (λ o. when_some o (λ n. Some (Sar m n, length (operand 7 m) + 2 + 1))) (count_read k rest h.1))
@@ -277,7 +289,8 @@ decode_spelling (MovWord r n) rest h =
     let bs = eight_bytes n ++ rest in
     let o : op / 8 ≡ 23 = omega arith in
     let same : 8 * (r / 8) + op % 8 ≡ r = omega arith in
-    let other : Option (Insn × ℕ) = cond (op == 153) (cond (((0 / 8) == 0) && ((r / 8) == 0)) (Some (Cqo, 2)) None) (cond (op == 15) (long_of 0 (r / 8) bs) (when_some (operand_of 0 (r / 8) bs) (λ p. wide_of op p.0 p.1 (p.2 + 2) (drop (p.2 + 1) (op ∷ bs))))) in
+    let other : Option (Insn × ℕ) = cond (op == 153) (cond (((0 / 8) == 0) && ((r / 8) == 0)) (Some (Cqo, 2)) None)
+    (cond (op == 15) (long_of 0 (r / 8) bs) (when_some (operand_of 0 (r / 8) bs) (λ p. wide_of op p.0 p.1 (p.2 + 2) (drop (p.2 + 1) (op ∷ bs))))) in
     rex_read 1 0 (r / 8) (op ∷ bs) (omega arith) (omega arith) high
     ∙ full_read 0 (r / 8) op bs
     ∙ ap (λ b. cond b (whole_word_of 0 (8 * (r / 8) + op % 8) bs) other) (eq-eqb (op / 8) 23 o)

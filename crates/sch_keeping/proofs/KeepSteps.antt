@@ -1,6 +1,6 @@
 -- The steps of the loops that choose what is kept of a library, over plain values.
 use Rattle.std.proofs.Common.{◌≡◌, ◌<◌, ◌≤◌, ◌+◌, ℕ, zero, suc, Bool, true, false, cond, not, ◌||◌, ◌&&◌, List, [], ◌∷◌, ◌++◌, length, drop, get_or, map, reverse, refl, sym, ap, subst, ◌∙◌, arith, add-one, append_assoc, append-nil, Option}
-use Rattle.std.proofs.Math.Bool.{and-false, or-false}
+use Rattle.std.proofs.Math.Bool.{and-false, or-false, or_assoc}
 use Rattle.std.proofs.lemmas.List.{reverse-append, drop_all}
 use Rattle.std.proofs.lemmas.Slice.Eq.{bytes_eq-Decides}
 use Rattle.std.specs.Str.{bytes_eq}
@@ -67,11 +67,11 @@ module _ (first hs : List (List ℕ)) (ds : List Definition) (d : Definition) (t
         ∙ ap (λ a. a || is_among x (globals_of_each k)) (sym (among_append x first (map library_global hs))) ∙ sym (among_append x all (globals_of_each k)) in
         ap (λ b. with_definition b d k) (sym (e ∙ p))
 
-    pub named_more : (t' : List (List ℕ)) → t' ≡ firsts t (globals_in [] d.body) → (x : List ℕ) → is_among x t' ≡ (is_among x first || is_among x (globals_of_each (d ∷ kept ds (first ++ map library_global hs))))
-    named_more t' e x =
+    pub named_more : (t' : List (List ℕ)) (x : List ℕ) → is_among x t' ≡ (is_among x t || is_among x (globals_in [] d.body)) → is_among x t' ≡ (is_among x first || is_among x (globals_of_each (d ∷ kept ds (first ++ map library_global hs))))
+    named_more t' x e =
         let g = globals_of_each (kept ds all) in
-        rw e (
-        among_firsts x t (globals_in [] d.body) ∙ ap (λ a. a || is_among x (globals_in [] d.body)) (inv x) ∙ or_four (is_among x first) (is_among x g) (is_among x (globals_in [] d.body))
+        e ∙ (
+        ap (λ a. a || is_among x (globals_in [] d.body)) (inv x) ∙ or_four (is_among x first) (is_among x g) (is_among x (globals_in [] d.body))
         ∙ ap (λ a. is_among x first || a) (sym (among_append x (globals_in [] d.body) g))
         )
 
@@ -92,8 +92,17 @@ still_whole ds left others d whole is =
 pub one_more_kept : (all : List code.Definition) (d : code.Definition) → definitions_of (reverse (all ++ d ∷ [])) ≡ definition_of d ∷ definitions_of (reverse all)
 one_more_kept all d = rw (reverse-append all (d ∷ [])) refl
 
-module _ (first hs t : List (List ℕ)) (ds left others : List code.Definition) (d : code.Definition) (whole : left ++ drop (length left) ds ≡ ds) (is : left ≡ others ++ d ∷ []) where
-  module _ (b : Bool) (inv : (x : List ℕ) → is_among x t ≡ (is_among x first || is_among x (globals_of_each (kept (definitions_of (drop (length left) ds)) (first ++ map library_global hs))))) where
+-- names behind others, and some more of them
+more_among : (x : List ℕ) (first w g : List (List ℕ)) → is_among x (first ++ firsts w g) ≡ (is_among x (first ++ w) || is_among x g)
+more_among x first w g =
+    among_append x first (firsts w g) ∙ ap (λ b. is_among x first || b) (among_firsts x w g) ∙ sym (or_assoc (is_among x first) (is_among x w) (is_among x g))
+    ∙ ap (λ b. b || is_among x g) (sym (among_append x first w))
+
+module _ (first hs w : List (List ℕ)) (ds left others : List code.Definition) (d : code.Definition) (whole : left ++ drop (length left) ds ≡ ds) (is : left ≡ others ++ d ∷ []) where
+  abbrev t : List (List ℕ)
+  t = first ++ w
+
+  module _ (b : Bool) (inv : (x : List ℕ) → is_among x (first ++ w) ≡ (is_among x first || is_among x (globals_of_each (kept (definitions_of (drop (length left) ds)) (first ++ map library_global hs))))) where
     kept_now : b ≡ is_among (library_global d.name.now) (t ++ map library_global hs) →
         kept (definitions_of (drop (length others) ds)) (first ++ map library_global hs) ≡ with_definition b (definition_of d) (kept (definitions_of (drop (length left) ds)) (first ++ map library_global hs))
     kept_now e =
@@ -114,13 +123,13 @@ module _ (first hs t : List (List ℕ)) (ds left others : List code.Definition) 
           go true n = one_more_kept all d ∙ ap (λ l. definition_of d ∷ l) k ∙ added n
           go false n = k ∙ skipped n
 
-      pub step_names : (t' : List (List ℕ)) → t' ≡ cond b (firsts t (globals_in [] (draft_of d.body))) t →
-          (x : List ℕ) → is_among x t' ≡ (is_among x first || is_among x (globals_of_each (kept (definitions_of (drop (length others) ds)) (first ++ map library_global hs))))
-      step_names t' h x = rw h (go b refl)
+      pub step_names : (w' : List (List ℕ)) → w' ≡ cond b (firsts w (globals_in [] (draft_of d.body))) w →
+          (x : List ℕ) → is_among x (first ++ w') ≡ (is_among x first || is_among x (globals_of_each (kept (definitions_of (drop (length others) ds)) (first ++ map library_global hs))))
+      step_names w' h x = rw h (go b refl)
         where
-          go : (c : Bool) → b ≡ c → is_among x (cond c (firsts t (globals_in [] (draft_of d.body))) t) ≡ (is_among x first || is_among x (globals_of_each (kept (definitions_of (drop (length others) ds)) (first ++ map library_global hs))))
+          go : (c : Bool) → b ≡ c → is_among x (first ++ cond c (firsts w (globals_in [] (draft_of d.body))) w) ≡ (is_among x first || is_among x (globals_of_each (kept (definitions_of (drop (length others) ds)) (first ++ map library_global hs))))
           go true n =
-              named_more first hs (definitions_of (drop (length left) ds)) (definition_of d) t inv (firsts t (globals_in [] (draft_of d.body))) refl x ∙ ap (λ l. is_among x first || is_among x (globals_of_each l)) (added n)
+              named_more first hs (definitions_of (drop (length left) ds)) (definition_of d) t inv (first ++ firsts w (globals_in [] (draft_of d.body))) x (more_among x first w (globals_in [] (draft_of d.body))) ∙ ap (λ l. is_among x first || is_among x (globals_of_each l)) (added n)
           go false n = inv x ∙ ap (λ l. is_among x first || is_among x (globals_of_each l)) (skipped n)
 
 -- at the start no definition has been looked at, and in the end each of them
@@ -130,8 +139,9 @@ none_looked ds = drop_all (length ds) ds (omega arith)
 pub begin_whole : (ds : List code.Definition) → ds ++ drop (length ds) ds ≡ ds
 begin_whole ds = ap (λ l. ds ++ l) (none_looked ds) ∙ append-nil ds
 
-pub begin_names : (first hs : List (List ℕ)) (ds : List code.Definition) (x : List ℕ) → is_among x first ≡ (is_among x first || is_among x (globals_of_each (kept (definitions_of (drop (length ds) ds)) (first ++ map library_global hs))))
-begin_names first hs ds x = rw (none_looked ds) (sym (or-false (is_among x first)))
+pub begin_names : (first hs w : List (List ℕ)) (ds : List code.Definition) → w ≡ [] →
+    (x : List ℕ) → is_among x (first ++ w) ≡ (is_among x first || is_among x (globals_of_each (kept (definitions_of (drop (length ds) ds)) (first ++ map library_global hs))))
+begin_names first hs w ds z x = rw (none_looked ds, z) (among_append x first [])
 
 pub begin_list : (first hs : List (List ℕ)) (ds all : List code.Definition) → all ≡ [] → definitions_of (reverse all) ≡ kept (definitions_of (drop (length ds) ds)) (first ++ map library_global hs)
 begin_list first hs ds all h = rw (none_looked ds, h) refl

@@ -48,32 +48,44 @@ pub fn held(alloc: Global, definitions: &[Definition<'_>], own: &Names) -> Resul
     Ok(names)
 }
 
-/// Whether a definition's global is among those named, or is held by a global of the text.
-fn is_named(alloc: Global, x: &[u8], held: &Names, named: &Names) -> Result<bool, Mem>
-    ensures { IfOk result (λ b. b ≡ is_among (library_global x.now) (names_of named.now ++ map library_global (names_of held.now))) }
+/// What a text asks of a library: the globals that it names, and those of its own that hold procedures of the
+/// library.
+#[derive(Clone, Copy, Drop)]
+pub struct Asked<'a> {
+    pub named: &'a Names,
+    pub held: &'a Names,
+}
+
+/// Whether a definition's global is held by a global of the text, or is among those that the text or a kept definition
+/// names.
+fn is_named(alloc: Global, x: &[u8], asked: &Asked<'_>, wanted: &Names) -> Result<bool, Mem>
+    ensures { IfOk result (λ b. b ≡ is_among (library_global x.now) ((names_of asked.now.named.now ++ names_of wanted.now) ++ map library_global (names_of asked.now.held.now))) }
 {
-    if held.contains(x) {
+    if asked.held.contains(x) {
         return Ok(true);
     }
     let none = Names::new(alloc);
     let key = global_key(alloc, &none, x)?;
-    Ok(named.contains(key.as_slice()))
+    if asked.named.contains(key.as_slice()) {
+        return Ok(true);
+    }
+    Ok(wanted.contains(key.as_slice()))
 }
 
-/// Keeps a definition, if it is named or held. Then what it names is added to the table.
+/// Keeps a definition, if it is named or held. Then what it names is wanted too.
 fn keep<'a>(
     alloc: Global,
     d: Definition<'a>,
-    held: &Names,
-    named: &mut Tables,
+    asked: &Asked<'_>,
+    wanted: &mut Tables,
     all: &mut List<Definition<'a>>,
 ) -> Result<(), Mem>
-    ensures list { OnOk result (all.new ≡ cond (is_among (library_global d.entry.name.now) (names_of named.old.globals.names ++ map library_global (names_of held.now))) (all.old ++ d.entry ∷ []) all.old) }
-    ensures names { OnOk result (names_of named.new.globals.names ≡ cond (is_among (library_global d.entry.name.now) (names_of named.old.globals.names ++ map library_global (names_of held.now))) (firsts (names_of named.old.globals.names) (globals_in [] (draft_of d.entry.body))) (names_of named.old.globals.names)) }
+    ensures list { OnOk result (all.new ≡ cond (is_among (library_global d.entry.name.now) ((names_of asked.now.named.now ++ names_of wanted.old.globals.names) ++ map library_global (names_of asked.now.held.now))) (all.old ++ d.entry ∷ []) all.old) }
+    ensures names { OnOk result (names_of wanted.new.globals.names ≡ cond (is_among (library_global d.entry.name.now) ((names_of asked.now.named.now ++ names_of wanted.old.globals.names) ++ map library_global (names_of asked.now.held.now))) (firsts (names_of wanted.old.globals.names) (globals_in [] (draft_of d.entry.body))) (names_of wanted.old.globals.names)) }
 {
-    if is_named(alloc, d.name, held, &named.globals.names)? {
+    if is_named(alloc, d.name, asked, &wanted.globals.names)? {
         let none = Names::new(alloc);
-        name_draft(alloc, &none, &d.body, named)?;
+        name_draft(alloc, &none, &d.body, wanted)?;
         all.push(d)?;
     }
     Ok(())
@@ -84,15 +96,15 @@ fn keep<'a>(
 pub fn kept<'a>(
     alloc: Global,
     definitions: List<Definition<'a>>,
-    held: &Names,
-    named: &mut Tables,
+    asked: &Asked<'_>,
 ) -> Result<List<Definition<'a>>, Mem>
-    ensures { IfOk result (λ ds. definitions_of ds ≡ words.kept (definitions_of definitions.entry) (names_of named.old.globals.names ++ map library_global (names_of held.now))) }
+    ensures { IfOk result (λ ds. definitions_of ds ≡ words.kept (definitions_of definitions.entry) (names_of asked.now.named.now ++ map library_global (names_of asked.now.held.now))) }
 {
     let mut left = definitions;
     let mut all = List::new(alloc);
+    let mut wanted = Tables::new(alloc);
     while let Some(d) = left.pop() {
-        keep(alloc, d, held, named, &mut all)?;
+        keep(alloc, d, asked, &mut wanted, &mut all)?;
     }
     let mut items = all.into_vec();
     items.reverse();

@@ -6,5 +6,5 @@ mod keeping;
 mod starting;
 
 pub use definition::Definition;
-pub use keeping::{held, is_hidden, kept};
+pub use keeping::{Asked, held, is_hidden, kept};
 pub use starting::starts;

@@ -8,5 +8,5 @@ pub mod OutputFails
 pub mod OwnOrders
 pub mod Scopes
 pub mod SitesInOrder
-pub mod Spending
+pub mod SpentComputations
 pub mod worked

@@ -9,7 +9,7 @@ use Rattle.sch_word.specs.values.Values.{Value, fixnum, unspecified, object, pro
 use Rattle.sch_word.specs.runs.Computation.{Outcome, State, gives, spent, on_value, in_turn}
 use Rattle.sch_word.specs.runs.Runs.{seen}
 use Rattle.sch_word.proofs.values.Fixnums.{lesser_fixnum}
-use Rattle.sch_word.proofs.Ahead.{more_than, more_than_is}
+use Rattle.sch_word.proofs.EntriesAhead.{more_than, more_than_is}
 use Rattle.sch_word.specs.runs.Orders.{Orders, order_at, in_text_order}
 use Rattle.sch_lang.specs.Tree.{literal, local, global, branch}
 use Rattle.sch_lang.specs.Meaning.{Closure, evaluate, enter}
@@ -59,16 +59,19 @@ one_less k =
     let least : ltb (suc k) 1 ≡ false = false_from_ne_true (ltb (suc k) 1) (λ e. omega (arith, ltb-true (suc k) 1 e)) in
     ap (λ b. cond b (negsuc (1 - suc (suc k))) (pos (suc k - 1))) least ∙ ap pos (omega arith)
 
-entered : (e : ℕ) (cells : List (Option Value)) (v : Value) (left : ℕ) → enter orders (suc e) loop (v ∷ []) 0 (looping cells [] (suc left)) ≡ evaluate orders (enter orders e) loop.body (length cells ∷ []) 0 true (looping (cells ++ (Some v ∷ [])) [] left)
+entered : (e : ℕ) (cells : List (Option Value)) (v : Value) (left : ℕ)
+    → enter orders (suc e) loop (v ∷ []) 0 (looping cells [] (suc left)) ≡ evaluate orders (enter orders e) loop.body (length cells ∷ []) 0 true (looping (cells ++ (Some v ∷ [])) [] left)
 entered e cells v left = refl
 
 last_round : (e c : ℕ) (cells : List (Option Value)) (left : ℕ) → slice_get cells c ≡ Some (Some (fixnum (pos 0))) → evaluate orders (enter orders e) loop.body (c ∷ []) 0 true (looping cells [] left) ≡ gives unspecified (looping cells (codes "ok") left)
 last_round e c cells left here = rw here refl
 
-other_round : (e c k : ℕ) (cells : List (Option Value)) (left : ℕ) → slice_get cells c ≡ Some (Some (fixnum (pos (suc k)))) → is_fixnum (pos k) ≡ true → evaluate orders (enter orders e) loop.body (c ∷ []) 0 true (looping cells [] (suc left)) ≡ enter orders e loop (fixnum (pos k) ∷ []) 0 (looping cells [] (suc left))
+other_round : (e c k : ℕ) (cells : List (Option Value)) (left : ℕ) → slice_get cells c ≡ Some (Some (fixnum (pos (suc k)))) → is_fixnum (pos k) ≡ true
+    → evaluate orders (enter orders e) loop.body (c ∷ []) 0 true (looping cells [] (suc left)) ≡ enter orders e loop (fixnum (pos k) ∷ []) 0 (looping cells [] (suc left))
 other_round e c k cells left here fits = rw (here, never_zero k, here, one_less k, fits) refl
 
-spent_round : (e c k : ℕ) (cells : List (Option Value)) → slice_get cells c ≡ Some (Some (fixnum (pos (suc k)))) → is_fixnum (pos k) ≡ true → evaluate orders (enter orders e) loop.body (c ∷ []) 0 true (looping cells [] 0) ≡ spent (looping cells [] 0)
+spent_round : (e c k : ℕ) (cells : List (Option Value)) → slice_get cells c ≡ Some (Some (fixnum (pos (suc k)))) → is_fixnum (pos k) ≡ true
+    → evaluate orders (enter orders e) loop.body (c ∷ []) 0 true (looping cells [] 0) ≡ spent (looping cells [] 0)
 spent_round e c k cells here fits = rw (here, never_zero k, here, one_less k, fits) refl
 
 -- ## All rounds
@@ -78,7 +81,8 @@ record Finished (left : ℕ) (o : Outcome (State Closure) Value) : Type 0 where
   cells : List (Option Value)
   is : o ≡ gives unspecified (looping cells (codes "ok") left)
 
-rounds : (k more : ℕ) (cells : List (Option Value)) → is_fixnum (pos k) ≡ true → Finished more (enter orders (suc (more_than k more)) loop (fixnum (pos k) ∷ []) 0 (looping cells [] (suc (more_than k more))))
+rounds : (k more : ℕ) (cells : List (Option Value)) → is_fixnum (pos k) ≡ true
+    → Finished more (enter orders (suc (more_than k more)) loop (fixnum (pos k) ∷ []) 0 (looping cells [] (suc (more_than k more))))
 rounds zero more cells fits = record { cells = _; is = last_round more (length cells) (cells ++ (Some (fixnum (pos 0)) ∷ [])) more (last_cell cells (fixnum (pos 0))) }
 rounds (suc k) more cells fits =
     let fewer : is_fixnum (pos k) ≡ true = lesser_fixnum k (suc k) (omega arith) fits in
@@ -87,7 +91,8 @@ rounds (suc k) more cells fits =
     record { cells = rest.cells; is = other_round (suc (more_than k more)) (length cells) k longer (more_than k more) (last_cell cells (fixnum (pos (suc k)))) fewer ∙ rest.is }
 
 -- the definition is charged and the last form enters the loop
-begun : (n entries : ℕ) → outcome (loop_of n) (in_text_order (loop_of n).sites) 4096 1 [] (suc entries) ≡ on_value (enter orders (suc entries) loop (fixnum (pos n) ∷ []) 0 (looping [] [] (suc entries))) (in_turn [])
+begun : (n entries : ℕ)
+    → outcome (loop_of n) (in_text_order (loop_of n).sites) 4096 1 [] (suc entries) ≡ on_value (enter orders (suc entries) loop (fixnum (pos n) ∷ []) 0 (looping [] [] (suc entries))) (in_turn [])
 begun n entries = refl
 
 seen_finished : (n more entries : ℕ) (o : Outcome (State Closure) Value) → Finished more o → entries ≡ n + 1 + more → seen [] entries (on_value o (in_turn [])) ≡ ends (codes "ok") 0 (n + 1) 16

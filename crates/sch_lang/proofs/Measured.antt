@@ -6,7 +6,8 @@ use Rattle.sch_word.proofs.Shaped.{Joins, AtMost, at_most_joins}
 use Rattle.sch_lang.specs.Tree.{Expression, Expressions, Lambdas, constant, literal, local, global, set_local, set_global, define, branch, sequence, bind, fix, letrec, lambda, call, operation, no_expressions, and_expression, no_lambdas, and_lambda, count_lambdas, Source}
 use Rattle.sch_lang.specs.Measures.{over, over_each, over_lambdas, over_source, procedures, shape, node_size, program_size, variables_bound, node_and_bound, nodes_and_bound}
 
-module _ {A : Type 0} (Related : A → A → Type 0) (nothing : A) (join : A → A → A) (joins : Joins Related nothing join) (here here' : Expression → A) (node : (e : Expression) → Related (here e) (here' e)) where
+module _ {A : Type 0} (Related : A → A → Type 0) (nothing : A) (join : A → A → A) (joins : Joins Related nothing join) (here here' : Expression → A)
+    (node : (e : Expression) → Related (here e) (here' e)) where
   mutual
     pub over_related : (e : Expression) → Related (over nothing join here e) (over nothing join here' e)
     over_related (constant c) = node (constant c)

@@ -9,7 +9,7 @@ use Rattle.sch_word.specs.runs.Computation.{Outcome, gives, stops, spent, State,
 use Rattle.sch_word.specs.runs.Charges.{charge_each}
 use Rattle.sch_word.specs.runs.Runs.{Run, End, ended, going, run_with, seen, starting_store, starting_state}
 use Rattle.sch_word.proofs.Steady.{Steady, steady_charge, steady_charge_each, steady_fit, steady_primitive, steady_read_global, steady_write_global, steady_read_literal}
-use Rattle.sch_word.proofs.Ahead.{more_than, more_than_is, Grows, grows_gives, grows_stops, grows_spent, grows_either, grows_in_store, grows_after, EachGrows, no_growth, and_growth, grows_all_values, grows_in_turn, grows_read_cell, grows_write_cell, grows_write_cells, grows_new_cells, grows_new_procedure, grows_new_fix, grows_take_entry, grows_call, ahead, AheadOutcome, Ahead, ahead_gives, ahead_stops, ahead_spent, ahead_either, ahead_after, ahead_in_store, EachAhead, no_ahead, and_ahead, ahead_all_values, ahead_in_turn, ahead_read_cell, ahead_write_cell, ahead_write_cells, ahead_new_cells, ahead_new_procedure, ahead_new_fix, ahead_take_entry, ahead_call}
+use Rattle.sch_word.proofs.EntriesAhead.{more_than, more_than_is, Grows, grows_gives, grows_stops, grows_spent, grows_either, grows_in_store, grows_after, EachGrows, no_growth, and_growth, grows_all_values, grows_in_turn, grows_read_cell, grows_write_cell, grows_write_cells, grows_new_cells, grows_new_procedure, grows_new_fix, grows_take_entry, grows_call, ahead, AheadOutcome, Ahead, ahead_gives, ahead_stops, ahead_spent, ahead_either, ahead_after, ahead_in_store, EachAhead, no_ahead, and_ahead, ahead_all_values, ahead_in_turn, ahead_read_cell, ahead_write_cell, ahead_write_cells, ahead_new_cells, ahead_new_procedure, ahead_new_fix, ahead_take_entry, ahead_call}
 use Rattle.sch_word.specs.runs.Orders.{Orders, order_at}
 use Rattle.sch_word.specs.values.CellBytes.{cells_bytes}
 use Rattle.sch_lang.specs.Tree.{Expression, Expressions, constant, literal, local, global, set_local, set_global, define, branch, sequence, bind, fix, letrec, lambda, call, operation, no_expressions, and_expression, count, count_lambdas, Source}
@@ -96,15 +96,19 @@ module _ (k : ℕ) (orders : Orders) (enter1 enter2 : Enter)
     (enter_ahead : (p : Closure) (vs : List Value) (depth : ℕ) → Ahead k (enter1 p vs depth) (enter2 p vs depth))
     (enter_grows : (p : Closure) (vs : List Value) (depth : ℕ) → Grows (enter2 p vs depth)) where
   -- what follows the parts of a binding, and of entering a procedure
-  bound_grows : (vs : List Value) (e : Expression) (environment : List ℕ) (depth : ℕ) (tail : Bool) → Grows (after (new_cells (some_each vs)) (λ cs. evaluate orders enter2 e (onto cs environment) depth tail))
+  bound_grows : (vs : List Value) (e : Expression) (environment : List ℕ) (depth : ℕ) (tail : Bool)
+      → Grows (after (new_cells (some_each vs)) (λ cs. evaluate orders enter2 e (onto cs environment) depth tail))
   bound_grows vs e environment depth tail =
       grows_after (grows_new_cells (some_each vs)) (λ cs. evaluate_grows orders enter2 enter_grows e (onto cs environment) depth tail)
 
-  written_grows : (cs : List ℕ) (vs : List Value) (e : Expression) (environment : List ℕ) (depth : ℕ) (tail : Bool) → Grows (after (write_cells cs vs) (λ _. evaluate orders enter2 e (onto cs environment) depth tail))
+  written_grows : (cs : List ℕ) (vs : List Value) (e : Expression) (environment : List ℕ) (depth : ℕ) (tail : Bool)
+      → Grows (after (write_cells cs vs) (λ _. evaluate orders enter2 e (onto cs environment) depth tail))
   written_grows cs vs e environment depth tail =
       grows_after (grows_write_cells cs vs) (λ _. evaluate_grows orders enter2 enter_grows e (onto cs environment) depth tail)
 
-  inits_grow : (site : ℕ) (cs : List ℕ) (es : Expressions) (e : Expression) (environment : List ℕ) (depth : ℕ) (tail : Bool) → Grows (after (all_values (orders site) (each orders enter2 es (onto cs environment) depth)) (λ vs. after (write_cells cs vs) (λ _. evaluate orders enter2 e (onto cs environment) depth tail)))
+  inits_grow : (site : ℕ) (cs : List ℕ) (es : Expressions) (e : Expression) (environment : List ℕ) (depth : ℕ) (tail : Bool)
+      → Grows (after (all_values (orders site) (each orders enter2 es (onto cs environment) depth))
+      (λ vs. after (write_cells cs vs) (λ _. evaluate orders enter2 e (onto cs environment) depth tail)))
   inits_grow site cs es e environment depth tail =
       grows_after (grows_all_values (orders site) (each_grows orders enter2 enter_grows es (onto cs environment) depth)) (λ vs. written_grows cs vs e environment depth tail)
 
@@ -179,7 +183,9 @@ module _ (orders : Orders) (n : ℕ) where
   entered_grows p ws depth =
       grows_after (grows_new_cells (some_each ws)) (λ cs. evaluate_grows orders (enter orders n) (enter_grows orders n) p.body (onto cs p.environment) depth true)
 
-  charged_grows : (p : Closure) (ws : List Value) (depth : ℕ) → Grows (after (in_store (charge_each (cells_of p.formals p.body))) (λ _. after (new_cells (some_each ws)) (λ cs. evaluate orders (enter orders n) p.body (onto cs p.environment) depth true)))
+  charged_grows : (p : Closure) (ws : List Value) (depth : ℕ)
+      → Grows (after (in_store (charge_each (cells_of p.formals p.body)))
+      (λ _. after (new_cells (some_each ws)) (λ cs. evaluate orders (enter orders n) p.body (onto cs p.environment) depth true)))
   charged_grows p ws depth = grows_after (steady_grows (steady_charge_each (cells_of p.formals p.body))) (λ _. entered_grows p ws depth)
 
 enter_ahead : (k : ℕ) (orders : Orders) (n : ℕ) (p : Closure) (vs : List Value) (depth : ℕ) → Ahead k (enter orders n p vs depth) (enter orders (more_than n k) p vs depth)
@@ -208,9 +214,11 @@ taken_same : (n k left : ℕ) → (n + k) - more_than left k ≡ n - left
 taken_same n k left = rw (more_than_is left k) (omega arith)
 
 seen_same : (answers : List Answer) (n k : ℕ) (why : End) (s : State Closure) → seen_as why answers (n + k) (ahead k s) ≡ seen_as why answers n s
-seen_same answers n k why s = ap (λ m. record { output = s.store.output; entries = m; charged = s.store.charged; answers = length answers - length s.store.answers; end = why }) (taken_same n k s.store.entries)
+seen_same answers n k why s = ap (λ m. record { output = s.store.output; entries = m; charged = s.store.charged; answers = length answers - length s.store.answers; end = why })
+    (taken_same n k s.store.entries)
 
-seen_further : (answers : List Answer) (n k : ℕ) (s : State Closure) (t : State Closure) (why : End) → GrowsTo (ahead k s).store t.store → GoesFurther (seen_as going answers n s) (seen_as why answers (n + k) t)
+seen_further : (answers : List Answer) (n k : ℕ) (s : State Closure) (t : State Closure) (why : End) → GrowsTo (ahead k s).store t.store
+    → GoesFurther (seen_as going answers n s) (seen_as why answers (n + k) t)
 seen_further answers n k s t why g = record {
   written = g.written;
   output = g.output;
@@ -231,14 +239,17 @@ outcome_stays answers n k status (gives v s) b h e = ap (seen answers (n + k)) h
 outcome_stays answers n k status (stops why s) b h e = ap (seen answers (n + k)) h ∙ seen_same answers n k _ s
 outcome_stays answers n k status (spent s) b h e = absurd (cc)
 
-outcomes_ahead : (p : Source) (table : List (List ℕ)) (heap depth : ℕ) (answers : List Answer) (n k : ℕ) → AheadOutcome k (outcome p table heap depth answers n) (outcome p table heap depth answers (more_than n k))
+outcomes_ahead : (p : Source) (table : List (List ℕ)) (heap depth : ℕ) (answers : List Answer) (n k : ℕ)
+    → AheadOutcome k (outcome p table heap depth answers n) (outcome p table heap depth answers (more_than n k))
 outcomes_ahead p table heap depth answers n k =
     (ahead_in_turn k unspecified
-    (each_ahead k (order_at table) (enter (order_at table) n) (enter (order_at table) (more_than n k)) (enter_ahead k (order_at table) n) (enter_grows (order_at table) (more_than n k)) p.forms [] depth)
+    (each_ahead k (order_at table) (enter (order_at table) n) (enter (order_at table) (more_than n k)) (enter_ahead k (order_at table) n)
+    (enter_grows (order_at table) (more_than n k)) p.forms [] depth)
     (each_grows (order_at table) (enter (order_at table) (more_than n k)) (enter_grows (order_at table) (more_than n k)) p.forms [] depth)).from
     (starting_state (starting_store p.statics heap answers n) (closures p.library []))
 
-outcomes_with_more : (p : Source) (table : List (List ℕ)) (heap depth : ℕ) (answers : List Answer) (n k : ℕ) → AheadOutcome k (outcome p table heap depth answers n) (outcome p table heap depth answers (n + k))
+outcomes_with_more : (p : Source) (table : List (List ℕ)) (heap depth : ℕ) (answers : List Answer) (n k : ℕ)
+    → AheadOutcome k (outcome p table heap depth answers n) (outcome p table heap depth answers (n + k))
 outcomes_with_more p table heap depth answers n k =
     subst (λ m. AheadOutcome k (outcome p table heap depth answers n) (outcome p table heap depth answers m)) (more_than_is n k) (outcomes_ahead p table heap depth answers n k)
 

@@ -159,7 +159,25 @@ module _ (R : Type 0) where
   keeps_object_test : (test : Option Object → Bool) (v : Value) → Acts (object_test test v)
   keeps_object_test test v = record { from = λ t g. g }
 
-  ruleset rows = (keeps_gives, keeps_require, keeps_after, keeps_unary, keeps_binary, keeps_ternary, keeps_as_fixnum, keeps_as_character, keeps_as_symbol, keeps_as_pair, keeps_as_vector, keeps_as_string, keeps_charge, keeps_new_object, keeps_write_object, keeps_element, keeps_object_test)
+  ruleset rows = (
+    keeps_gives,
+    keeps_require,
+    keeps_after,
+    keeps_unary,
+    keeps_binary,
+    keeps_ternary,
+    keeps_as_fixnum,
+    keeps_as_character,
+    keeps_as_symbol,
+    keeps_as_pair,
+    keeps_as_vector,
+    keeps_as_string,
+    keeps_charge,
+    keeps_new_object,
+    keeps_write_object,
+    keeps_element,
+    keeps_object_test,
+  )
 
   -- ## Output
 

@@ -54,7 +54,8 @@ module _ (orders orders' : Orders) where
 
   module _ (enter1 enter2 : Enter) (same_enter : (p q : Closure) → Becomes p q → (vs : List Value) (depth : ℕ) → DoesSame Becomes (enter1 p vs depth) (enter2 q vs depth)) where
     mutual
-      evaluate_same : (e : Expression) → AgreeOn orders orders' (sites e) → (environment : List ℕ) (depth : ℕ) (tail : Bool) → DoesSame Becomes (evaluate orders enter1 e environment depth tail) (evaluate orders' enter2 e environment depth tail)
+      evaluate_same : (e : Expression) → AgreeOn orders orders' (sites e) → (environment : List ℕ) (depth : ℕ) (tail : Bool)
+          → DoesSame Becomes (evaluate orders enter1 e environment depth tail) (evaluate orders' enter2 e environment depth tail)
       evaluate_same (constant c) a environment depth tail = similar_gives (same_store Becomes) _ _ (λ _ _. refl)
       evaluate_same (literal n) a environment depth tail = same_in_store Becomes (read_literal n)
       evaluate_same (local k) a environment depth tail = with_cell_same (slice_get environment k) (same_read_cell Becomes)
@@ -97,12 +98,14 @@ module _ (orders orders' : Orders) where
           rw (← a.0) (same_keeping Becomes (similar_all_values (same_store Becomes) (orders site) (each_same es a.1 environment depth))
           (λ vs _. same_in_store Becomes (primitive which vs)))
 
-      each_same : (es : Expressions) → AgreeOn orders orders' (sites_each es) → (environment : List ℕ) (depth : ℕ) → EachSimilar (same_store Becomes) tt (each orders enter1 es environment depth) (each orders' enter2 es environment depth)
+      each_same : (es : Expressions) → AgreeOn orders orders' (sites_each es) → (environment : List ℕ) (depth : ℕ)
+          → EachSimilar (same_store Becomes) tt (each orders enter1 es environment depth) (each orders' enter2 es environment depth)
       each_same no_expressions a environment depth = no_similar
       each_same (and_expression e es) a environment depth =
           and_similar (evaluate_same e (agree_left (sites e) (sites_each es) a) environment depth false) (each_same es (agree_right (sites e) (sites_each es) a) environment depth)
 
-      parts_same : (es : Expressions) → AgreeOn orders orders' (sites_each es) → (environment : List ℕ) (depth : ℕ) (tail : Bool) → EachSimilar (same_store Becomes) tt (parts orders enter1 es environment depth tail) (parts orders' enter2 es environment depth tail)
+      parts_same : (es : Expressions) → AgreeOn orders orders' (sites_each es) → (environment : List ℕ) (depth : ℕ) (tail : Bool)
+          → EachSimilar (same_store Becomes) tt (parts orders enter1 es environment depth tail) (parts orders' enter2 es environment depth tail)
       parts_same no_expressions a environment depth tail = no_similar
       parts_same (and_expression e no_expressions) a environment depth tail =
           and_similar (evaluate_same e (agree_left (sites e) [] a) environment depth tail) no_similar
@@ -110,7 +113,8 @@ module _ (orders orders' : Orders) where
           and_similar (evaluate_same e (agree_left (sites e) (sites_each (and_expression e' es)) a) environment depth false)
           (parts_same (and_expression e' es) (agree_right (sites e) (sites_each (and_expression e' es)) a) environment depth tail)
 
-  body_same : (n : ℕ) → ((p q : Closure) → Becomes p q → (vs : List Value) (depth : ℕ) → DoesSame Becomes (enter orders n p vs depth) (enter orders' n q vs depth)) → (p : Closure) → AgreeOn orders orders' (sites p.body) → (vs : List Value) (depth : ℕ) → DoesSame Becomes (enter orders (suc n) p vs depth) (enter orders' (suc n) p vs depth)
+  body_same : (n : ℕ) → ((p q : Closure) → Becomes p q → (vs : List Value) (depth : ℕ) → DoesSame Becomes (enter orders n p vs depth) (enter orders' n q vs depth)) → (p : Closure)
+      → AgreeOn orders orders' (sites p.body) → (vs : List Value) (depth : ℕ) → DoesSame Becomes (enter orders (suc n) p vs depth) (enter orders' (suc n) p vs depth)
   body_same n deeper p a vs depth =
       same_keeping Becomes (keeps_in_store Becomes (λ ws. length ws ≡ p.formals) (fit p.formals p.rest vs) (fit_length p.formals p.rest vs))
       (λ ws _. similar_then (same_store Becomes) (same_in_store Becomes take_entry)

@@ -4,6 +4,7 @@ use Rattle.std.specs.Prelude.{slice_get, nat_eq}
 use Rattle.std.specs.List.{list_all, count_by, fold}
 use Rattle.std.proofs.lemmas.Bool.{eqb-true, eqb-false}
 use Rattle.sch_word.specs.runs.Computation.{numbers_from}
+use Rattle.sch_word.proofs.facts.Booleans.{and_of}
 use Rattle.sch_lang.specs.Tree.{Source}
 use Rattle.sch_lang.specs.Measures.{sites_of}
 use Rattle.sch_word.specs.trees.Shape.{is_width}
@@ -13,9 +14,6 @@ use Rattle.sch_lang.specs.Valid.{sites_once}
 abbrev pub numbered : ℕ → List ℕ → List (ℕ × ℕ)
 numbered n [] = []
 numbered n (width ∷ widths) = (n, width) ∷ numbered (suc n) widths
-
-both : (a b : Bool) → a ≡ true → b ≡ true → (a && b) ≡ true
-both a b g h = rw (g, h) refl
 
 false_of : (b : Bool) → (b ≡ true → ⊥) → b ≡ false
 false_of true h = absurd (h refl)
@@ -39,15 +37,17 @@ counted_once s n [] before g h = absurd (omega (arith, g, h))
 counted_once s n (width ∷ widths) before g h =
     here (nat_eq n s) refl (λ differs. counted_once s (suc n) widths (before + cond (nat_eq n s) 1 0) (omega (arith, g, differs)) (omega (arith, h)))
   where
-    here : (b : Bool) → nat_eq n s ≡ b → (n ≢ s → counted s (before + cond (nat_eq n s) 1 0) (numbered (suc n) widths) ≡ before + cond (nat_eq n s) 1 0 + 1) → counted s (before + cond (nat_eq n s) 1 0) (numbered (suc n) widths) ≡ before + 1
+    here : (b : Bool) → nat_eq n s ≡ b → (n ≢ s → counted s (before + cond (nat_eq n s) 1 0) (numbered (suc n) widths) ≡ before + cond (nat_eq n s) 1 0 + 1)
+        → counted s (before + cond (nat_eq n s) 1 0) (numbered (suc n) widths) ≡ before + 1
     here true e later =
         counted_never s (suc n) widths (before + cond (nat_eq n s) 1 0) (omega (arith, eqb-true n s e)) ∙ ap (λ b. before + cond b 1 0) e
     here false e later = later (eqb-false n s e) ∙ (ap (λ b. before + cond b 1 0 + 1) e ∙ omega arith)
 
-all_once : (k : ℕ) (widths : List ℕ) (n : ℕ) (more : List ℕ) → k ≤ n → n + length more ≤ k + length widths → list_all (λ s. nat_eq (count_by (λ at. nat_eq at.0 s) (numbered k widths)) 1) (numbers_from n more) ≡ true
+all_once : (k : ℕ) (widths : List ℕ) (n : ℕ) (more : List ℕ) → k ≤ n → n + length more ≤ k + length widths
+    → list_all (λ s. nat_eq (count_by (λ at. nat_eq at.0 s) (numbered k widths)) 1) (numbers_from n more) ≡ true
 all_once k widths n [] g h = refl
 all_once k widths n (width ∷ more) g h =
-    both _ _ (ap (λ c. nat_eq c 1) (counted_once n k widths 0 g (omega (arith, h)))) (all_once k widths (suc n) more (omega arith) (omega (arith, h)))
+    and_of _ _ (ap (λ c. nat_eq c 1) (counted_once n k widths 0 g (omega (arith, h)))) (all_once k widths (suc n) more (omega arith) (omega (arith, h)))
 
 get_here : (done : List ℕ) (width : ℕ) (widths : List ℕ) → slice_get (done ++ (width ∷ widths)) (length done) ≡ Some width
 get_here [] width widths = refl
@@ -60,11 +60,11 @@ widths_listed : (done widths all : List ℕ) → all ≡ done ++ widths → list
 widths_listed done [] all e = refl
 widths_listed done (width ∷ widths) all e =
     let longer : length (done ++ (width ∷ [])) ≡ suc (length done) = omega (arith, length-append done (width ∷ [])) in
-    both _ _ (width_here (slice_get all (length done)) width (ap (λ l. slice_get l (length done)) e ∙ get_here done width widths))
+    and_of _ _ (width_here (slice_get all (length done)) width (ap (λ l. slice_get l (length done)) e ∙ get_here done width widths))
     (subst (λ n. list_all (λ at. is_width (slice_get all at.0) at.1) (numbered n widths) ≡ true) longer
     (widths_listed (done ++ (width ∷ [])) widths all (e ∙ sym (append_assoc done (width ∷ []) widths))))
 
 pub sites_in_order : (p : Source) → sites_of p ≡ numbered 0 p.sites → sites_once p ≡ true
 sites_in_order p e =
     subst (λ l. (list_all (λ s. nat_eq (count_by (λ at. nat_eq at.0 s) l) 1) (numbers_from 0 p.sites) && list_all (λ at. is_width (slice_get p.sites at.0) at.1) l) ≡ true) (sym e)
-    (both _ _ (all_once 0 p.sites 0 p.sites (omega arith) (omega arith)) (widths_listed [] p.sites p.sites refl))
+    (and_of _ _ (all_once 0 p.sites 0 p.sites (omega arith) (omega arith)) (widths_listed [] p.sites p.sites refl))

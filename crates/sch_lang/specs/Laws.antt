@@ -17,7 +17,8 @@ AgreeOn orders orders' (at ∷ more) = (orders at.0 ≡ orders' at.0) × AgreeOn
 
 -- a run depends on its order table at the program's own sites alone
 pub record NeedsOwnOrders (p : Source) : Type 0 where
-  pub runs : (table table' : List (List ℕ)) → AgreeOn (order_at table) (order_at table') (sites_of p) → (heap depth : ℕ) (answers : List Answer) (entries : ℕ) → run p table heap depth answers entries ≡ run p table' heap depth answers entries
+  pub runs : (table table' : List (List ℕ)) → AgreeOn (order_at table) (order_at table') (sites_of p)
+      → (heap depth : ℕ) (answers : List Answer) (entries : ℕ) → run p table heap depth answers entries ≡ run p table' heap depth answers entries
 
 -- a run that has come further: its output begins with the other's, and it has taken, charged and used
 -- no less
@@ -30,13 +31,17 @@ pub record GoesFurther (a b : Run) : Type 0 where
 
 -- more entries change nothing of a run that has ended, and let any other go further
 pub record MoreEntries (p : Source) : Type 0 where
-  pub ended_stays : (table : List (List ℕ)) (heap depth : ℕ) (answers : List Answer) (entries more status : ℕ) → (run p table heap depth answers entries).end ≡ ended status → run p table heap depth answers (entries + more) ≡ run p table heap depth answers entries
-  pub goes_further : (table : List (List ℕ)) (heap depth : ℕ) (answers : List Answer) (entries more : ℕ) → GoesFurther (run p table heap depth answers entries) (run p table heap depth answers (entries + more))
+  pub ended_stays : (table : List (List ℕ)) (heap depth : ℕ) (answers : List Answer) (entries more status : ℕ) → (run p table heap depth answers entries).end ≡ ended status
+      → run p table heap depth answers (entries + more) ≡ run p table heap depth answers entries
+  pub goes_further : (table : List (List ℕ)) (heap depth : ℕ) (answers : List Answer) (entries more : ℕ)
+      → GoesFurther (run p table heap depth answers entries) (run p table heap depth answers (entries + more))
 
 -- a run goes on only where all its entries are taken
 pub record GoesOnWhenSpent (p : Source) : Type 0 where
-  pub all_taken : (table : List (List ℕ)) (heap depth : ℕ) (answers : List Answer) (entries : ℕ) → (run p table heap depth answers entries).end ≡ going → (run p table heap depth answers entries).entries ≡ entries
+  pub all_taken : (table : List (List ℕ)) (heap depth : ℕ) (answers : List Answer) (entries : ℕ) → (run p table heap depth answers entries).end ≡ going
+      → (run p table heap depth answers entries).entries ≡ entries
 
 -- a run stops with a failed output only where one of the kernel's answers takes nothing
 pub record FailsByAnswer (p : Source) : Type 0 where
-  pub nothing_taken : (table : List (List ℕ)) (heap depth : ℕ) (answers : List Answer) (entries : ℕ) → (run p table heap depth answers entries).end ≡ ended (status_of OutputFailed) → Any TakesNothing answers
+  pub nothing_taken : (table : List (List ℕ)) (heap depth : ℕ) (answers : List Answer) (entries : ℕ) → (run p table heap depth answers entries).end ≡ ended (status_of OutputFailed)
+      → Any TakesNothing answers

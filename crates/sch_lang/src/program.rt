@@ -1,3 +1,5 @@
+//! Programs of the core language.
+
 ghost use Rattle.std.specs.Prelude.{IsTrue};
 ghost use Rattle.sch_lang.specs.SourceView.{source_of};
 ghost use Rattle.sch_lang.specs.Valid.{constants_in_range, in_range, shaped, within_limits, sites_once, statics_known};

@@ -1,3 +1,5 @@
+//! Expressions of the core language.
+
 use sch_word::{Bytes, Const, List, Prim};
 
 /// An expression of the core language (R5RS 4.1, with `let` and `letrec` of 4.2.2).

@@ -38,7 +38,8 @@ use Rattle.sch_frames.specs.Valid.{code_valid, is_valid}
 use Rattle.sch_layout.specs.LayoutSizes.{call_parts, calls_parts, entries_size, entry_size, most_words, nodes}
 use Rattle.sch_layout.specs.BodyLayout.{Plan, is_slot, lay, placed_reading}
 use Rattle.sch_layout.specs.OwnSlots.{most_operands, saved_tree, slots_code, slots_layout, slots_words}
-use Rattle.sch_layout.proofs.does.PlacesAgree.{Clear, HomeApart, Apart}
+use Rattle.sch_layout.specs.SharedPlaces.{OutsideSlots, HomeApart}
+use Rattle.sch_layout.proofs.does.ApartPlaces.{Apart}
 
 -- ## Words for the rows
 
@@ -171,8 +172,12 @@ none_lives j low lt (suc (suc (suc (suc zero)))) = ne_eqb j 0 (λ e. omega (arit
 none_lives j low lt (suc (suc (suc (suc (suc y))))) = ne_eqb j (20 + suc (suc (suc (suc (suc y))))) (λ e. omega (arith, e, lt))
 
 placed_apart : (is_marked : Bool) → Apart (placed is_marked) 10
-placed_apart is_marked = record { apart = λ x y n. other_place (in_registers x) (in_registers y) (λ e. n (sym (lives x) ∙ (e ∙ lives y))); link = refl; clear = clear; home = home } where
-  clear : (x : ℕ) → Clear 1 10 (in_registers x)
+placed_apart is_marked = record {
+  homes = record { link = refl; home = home };
+  apart = λ x y n. other_place (in_registers x) (in_registers y) (λ e. n (sym (lives x) ∙ (e ∙ lives y)));
+  clear = clear;
+} where
+  clear : (x : ℕ) → OutsideSlots 1 10 (in_registers x)
   clear zero = tt
   clear (suc zero) = λ k low lt e. omega (arith, lt, e)
   clear (suc (suc zero)) = tt
@@ -282,14 +287,14 @@ tested_layout = refl
 abbrev gives_nothing : Callee
 gives_nothing self p arguments depth w = Some (gives unspecified w)
 
-abbrev gives_first : Callee
+abbrev pub gives_first : Callee
 gives_first self p [] depth w = None
 gives_first self p (v ∷ vs) depth w = Some (gives v w)
 
-abbrev begun : World
+abbrev pub begun : World
 begun = control_run.starting_world straight_program.statics (1 ∷ []) 4096 [] 1
 
-abbrev variables : Environment
+abbrev pub variables : Environment
 variables zero = Some unspecified
 variables (suc (suc zero)) = Some (procedure 0)
 variables (suc (suc (suc zero))) = Some unspecified
@@ -300,7 +305,7 @@ abbrev places : Place → Cell
 places (Reg r) = cond (nat_eq r 15) Link (cond (nat_eq r 3) (Is (procedure 0)) (cond (nat_eq r 14) (Is unspecified) Junk))
 places (Slot j) = cond (nat_eq j 0) (Is (procedure 0)) Junk
 
-abbrev holding : Frame
+abbrev pub holding : Frame
 holding = record { accumulator = Junk; places = places; outgoing = λ k. Junk }
 
 abbrev body_does : Callee → Expression → Result
@@ -313,7 +318,7 @@ abbrev done_both : Expression → Result → Type 0
 done_both e r = (body_does gives_nothing e ≡ r) × (layout_does gives_nothing e ≡ r)
 
 -- the value that a body gives, and the marks
-abbrev given : Result → Option (Value × List MarkKind)
+abbrev pub given : Result → Option (Value × List MarkKind)
 given (Some (gives v w)) = Some (v, w.marks)
 given r = None
 

@@ -1,7 +1,9 @@
+pub mod ApartPlaces
 pub mod EntryStores
 pub mod LabelsPassed
 pub mod LayoutDoes
 pub mod OperandsMove
 pub mod OperationsFollow
+pub mod PlacedBodies
 pub mod PlacesAgree
 pub mod SavedRound

@@ -3,6 +3,7 @@
 use Rattle.std.specs.Prelude.{◌≡◌, ℕ, zero, suc, ◌+◌, Bool, true, false, cond, List, [], ◌∷◌, ◌++◌, length, Option, Some, None, filter, map}
 use Rattle.sch_word.specs.declared.place.Place.{Place}
 use Rattle.sch_word.specs.declared.place.Place.TheVariants.{Reg, Slot}
+use Rattle.sch_control.specs.declared.body.Entry.{Entry}
 use Rattle.sch_control.specs.declared.mark.MarkKind.{MarkKind}
 use Rattle.sch_control.specs.declared.mark.MarkKind.TheVariants as mark
 use Rattle.sch_control.specs.declared.operation.Atom.{Atom}
@@ -21,7 +22,7 @@ use Rattle.sch_control.specs.Tree.{Expression, perform, bind, sequence, branch, 
 use Rattle.sch_control.specs.Valid.{member_variables}
 use Rattle.sch_frames.specs.declared.instruction.Instruction.{Instruction}
 use Rattle.sch_frames.specs.declared.instruction.Instruction.TheVariants.{Do, Store, Copy, Load, Pass, Fix, Call, Tail, Return, End, IfFalse, Jump, Label, Mark}
-use Rattle.sch_frames.specs.Meaning.{argument_register, argument_slot, closure_register}
+use Rattle.sch_frames.specs.Meaning.{argument_register, argument_slot, closure_register, link_register, same_place}
 
 -- ## Labels
 
@@ -141,6 +142,29 @@ is_slot (Slot j) = true
 abbrev pub copied : (is_marked : Bool) → MarkKind → (to from : Place) → List Instruction → List Instruction
 copied true m to from rest = Mark m ∷ (Copy to from ∷ rest)
 copied false m to from rest = Copy to from ∷ rest
+
+-- ## Entries
+
+-- where each variable stands as a procedure is entered: where to return, its closure, and its arguments
+abbrev pub arrived : ℕ → Place
+arrived zero = link_register
+arrived (suc zero) = closure_register
+arrived (suc (suc k)) = arrival k
+
+-- what stands in its place already is not copied
+abbrev pub brought : (to from : Place) → List Instruction → List Instruction
+brought to from rest = cond (same_place to from) rest (Copy to from ∷ rest)
+
+module _ (plan : Plan) where
+  -- a number of variables from one on come into their places, one after the other
+  abbrev pub arrivals : (from count : ℕ) → List Instruction → List Instruction
+  arrivals from zero rest = rest
+  arrivals from (suc count) rest = brought (plan.place from) (arrived from) (arrivals (suc from) count rest)
+
+  -- a procedure brings its closure and then its arguments into their places
+  abbrev pub entering : Option Entry → List Instruction → List Instruction
+  entering None rest = rest
+  entering (Some e) rest = arrivals 1 (suc e.formals) rest
 
 -- ## Expressions
 

@@ -1,17 +1,15 @@
 -- The layout of a body with a slot for each variable: the layout of a tree in which the return address is saved.
-use Rattle.std.specs.Prelude.{ℕ, zero, suc, ◌+◌, ◌-◌, max, Bool, true, false, List, [], ◌∷◌, length, Option, Some, None}
+use Rattle.std.specs.Prelude.{ℕ, zero, suc, ◌+◌, ◌-◌, max, Bool, true, false, List, [], ◌∷◌, length, None}
 use Rattle.sch_word.specs.declared.place.Place.{Place}
 use Rattle.sch_word.specs.declared.place.Place.TheVariants.{Slot}
-use Rattle.sch_control.specs.declared.body.Entry.{Entry}
 use Rattle.sch_control.specs.Meaning.{no_region}
 use Rattle.sch_control.specs.Tree as control
 use Rattle.sch_control.specs.Tree.{Expression, perform, bind, sequence, branch, fix, call, tail_call, return, end, save}
 use Rattle.sch_frames.specs.declared.instruction.Instruction.{Instruction}
-use Rattle.sch_frames.specs.declared.instruction.Instruction.TheVariants.{Copy}
-use Rattle.sch_frames.specs.Meaning.{closure_register, link_register}
+use Rattle.sch_frames.specs.Meaning.{link_register}
 use Rattle.sch_frames.specs.Tree.{Code}
 use Rattle.sch_frames.specs.Valid.{formals_of, is_entered}
-use Rattle.sch_layout.specs.BodyLayout.{Plan, arrival, labels, lay}
+use Rattle.sch_layout.specs.BodyLayout.{Plan, entering, labels, lay}
 
 -- R15 for the return address, and for each other variable a slot of its own from a base on
 abbrev pub own_slot : (base : ℕ) → ℕ → Place
@@ -49,16 +47,6 @@ saved_tree entered e = save (saved_round entered) (restoring (saved_round entere
 
 -- ## Bodies
 
--- each formal from one on is stored in its slot
-abbrev pub arrivals : (base from count : ℕ) → List Instruction → List Instruction
-arrivals base from zero rest = rest
-arrivals base from (suc count) rest = Copy (own_slot base (suc (suc from))) (arrival from) ∷ arrivals base (suc from) count rest
-
--- a procedure stores its closure, and its arguments from registers and from the slots below the base
-abbrev pub entering : (base : ℕ) → Option Entry → List Instruction → List Instruction
-entering base None rest = rest
-entering base (Some e) rest = Copy (own_slot base 1) closure_register ∷ arrivals base 0 e.formals rest
-
 -- the most operands of one call
 abbrev pub most_operands : Expression → ℕ
 most_operands (perform o) = 0
@@ -86,7 +74,7 @@ slots_words c = slots_base c + c.variables
 
 -- how a body is laid out, with a slot for each variable
 abbrev pub slots_layout : control.Code → List Instruction
-slots_layout c = entering (slots_base c) c.entry (lay (slots_for c) (saved_tree (is_entered c.entry) c.expression) no_region 0 None [])
+slots_layout c = entering (slots_for c) c.entry (lay (slots_for c) (saved_tree (is_entered c.entry) c.expression) no_region 0 None [])
 
 abbrev pub slots_code : control.Code → Code
 slots_code c = record { entry = c.entry; words = slots_words c; labels = labels c.expression; instructions = slots_layout c }

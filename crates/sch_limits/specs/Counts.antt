@@ -3,7 +3,7 @@ use Rattle.std.specs.Prelude.{◌≡◌, ℕ, Bool}
 use Rattle.sch_limits.specs.declared.counting.Counted.{Counted}
 use Rattle.sch_limits.specs.Walked.{capped}
 
--- so many variables, and whether each procedure has few enough
+-- the variables that were counted, and whether each procedure has few enough
 pub record Counts (c : Counted) (variables : ℕ) (few : Bool) : Type 0 where
   pub variables_are : c.variables ≡ capped variables
   pub few_is : c.few ≡ few

@@ -1,6 +1,7 @@
 -- What walks over a tree add to what they have found and marked before.
 use Rattle.std.specs.Prelude.{ℕ, zero, suc, ◌≡◌, min, reverse, Bool, ◌||◌, List, [], ◌∷◌}
 use Rattle.sch_word.specs.trees.NumberSets.{insert, union}
+use Rattle.sch_word.specs.trees.Shape.{max_variables}
 use Rattle.sch_lang.specs.Tree.{Expression, Expressions, Lambdas, constant, literal, local, global, set_local, set_global, define, branch, sequence, bind, fix, letrec, lambda, call, operation, no_expressions, and_expression, no_lambdas, and_lambda, count, count_lambdas}
 use Rattle.sch_lang.specs.Variables.{outside, assigns}
 
@@ -49,7 +50,7 @@ pub record Takes (marks : List Bool → List Bool) (old new : List Bool) (holds 
 
 -- a count that goes no further than past the limit
 abbrev pub capped : ℕ → ℕ
-capped n = min n 1001
+capped n = min n (suc max_variables)
 
 -- the free variables of an expression, before those found
 abbrev mutual

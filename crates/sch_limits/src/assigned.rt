@@ -129,7 +129,7 @@ fn mark_rec(e: &Exp, scope: &mut Vec<bool>, stack: &mut Vec<bool>) -> Result<(),
     Ok(())
 }
 
-/// The same for a body in which so many variables more are bound. Their marks come on the stack.
+/// Marks what a body assigns in which `count` variables more are bound. Their marks come on the stack.
 #[cycle(marking)]
 fn mark_under(
     count: usize,

@@ -23,7 +23,7 @@ use std::alloc::Global;
 const MAX_VARIABLES: usize = 1000;
 
 /// One more than a body may have.
-const TOO_MANY: usize = 1001;
+const TOO_MANY: usize = MAX_VARIABLES + 1;
 
 /// The variables that are counted, and whether each procedure that the walk came to has few enough.
 #[derive(Clone, Copy, Drop)]
@@ -48,7 +48,7 @@ fn sum(a: Counted, b: Counted) -> Counted
     }
 }
 
-/// So many variables more.
+/// What was counted and `variables` more.
 fn with(variables: usize, a: Counted) -> Counted
     ensures variables { result.variables ≡ capped (variables + a.variables) }
     ensures few { result.few ≡ a.few }
@@ -331,7 +331,8 @@ fn count_part(
     marks: &mut Vec<bool>,
 ) -> Result<Counted, Mem>
     ensures count { IfOk result (λ n. Takes (marks_in (expression e.now)) marks.old.items marks.new.items
-        (Counts n (cond is_last 0 (one_unless (counts_nothing (expression e.now) (reverse once.old.items))) + variables (expression e.now) (reverse once.old.items)) (few_variables (expression e.now)))) }
+        (Counts n (cond is_last 0 (one_unless (counts_nothing (expression e.now) (reverse once.old.items)))
+        + variables (expression e.now) (reverse once.old.items)) (few_variables (expression e.now)))) }
     ensures once { OnOk result (once.new.items ≡ once.old.items) }
 {
     if is_last {

@@ -1,5 +1,6 @@
 -- The program of definitions and forms, from the parts that were made.
-use Rattle.std.proofs.Common.{◌≡◌, ℕ, true, List, [], ◌++◌, length, map, ◌+◌, Option, arith, refl, ap, sym, ◌∙◌, ◌&&◌, ◌||◌}
+use Rattle.std.proofs.Common.{◌≡◌, ℕ, Bool, true, false, cond, List, [], ◌∷◌, ◌++◌, length, map, ◌+◌, Option, arith, refl, ap, sym, ◌∙◌, ◌&&◌, ◌||◌}
+use Rattle.std.proofs.Math.Bool.{or-true}
 use Rattle.std.proofs.lemmas.Bool.{and_parts}
 use Rattle.sch_word.specs.declared.literal.Lit.{Lit}
 use Rattle.sch_word.specs.values.Literals.{literals}
@@ -12,19 +13,38 @@ use Rattle.sch_lang.specs.View.{expressions_of, lambdas_of}
 use Rattle.sch_lang.specs.SourceView.{source_of}
 use Rattle.sch_lang.specs.Valid.{constants_in_range, in_range, shaped, within_limits, sites_once, statics_known, is_valid}
 use Rattle.sch_sketch.specs.Draft.{Names, Drafts}
+use Rattle.sch_names.specs.NamesView.{with_name}
 use Rattle.sch_names.specs.Scope.{is_among}
 use Rattle.sch_numbers.specs.Named.{firsts, library_global, globals_in_each, symbols_in_each}
 use Rattle.sch_numbers.specs.Numbered.{numbered_each}
 use Rattle.sch_numbers.specs.Quoted.{literal_of, quotes_in_each}
 use Rattle.sch_numbers.specs.Sites.{widths_of_each}
 use Rattle.sch_numbers.specs.Programs.{Definition, globals_of_each, symbols_of_each, quotes_of_each, widths_of_definitions, procedures, starts, kept, held, named, program_with, program_of}
-use Rattle.sch_numbers.proofs.NameSteps.{then_named}
+use Rattle.sch_numbers.proofs.NameSteps.{firsts_append, then_named}
 use Rattle.sch_keeping.proofs.NameSets.{among_firsts, among_either, kept_same, starts_same}
 use Rattle.sch_numbering.proofs.NumberSteps.{literals_more, then_literals}
 
 -- two walks over names, from none
 pub both_named : (a b : List (List ℕ)) {n0 n1 n2 : List (List ℕ)} → n0 ≡ [] → n1 ≡ firsts n0 a → n2 ≡ firsts n1 b → n2 ≡ firsts [] (a ++ b)
 both_named a b {n0} z p q = then_named a b n0 p q ∙ ap (λ n. firsts n (a ++ b)) z
+
+-- the first of some names are added as the names are
+then_first : (x : List ℕ) (seen names : List (List ℕ)) → firsts seen (with_name x names) ≡ with_name x (firsts seen names)
+then_first x seen names = go (is_among x names) refl
+  where
+    go : (b : Bool) → is_among x names ≡ b → firsts seen (cond b names (names ++ x ∷ [])) ≡ with_name x (firsts seen names)
+    go true h =
+        let there : is_among x (firsts seen names) ≡ true = among_firsts x seen names ∙ ap (λ b. is_among x seen || b) h ∙ or-true (is_among x seen) in
+        rw there refl
+    go false h = firsts_append seen names (x ∷ [])
+
+pub firsts_of_firsts : (seen names xs : List (List ℕ)) → firsts seen (firsts names xs) ≡ firsts (firsts seen names) xs
+firsts_of_firsts seen names [] = refl
+firsts_of_firsts seen names (x ∷ xs) = firsts_of_firsts seen (with_name x names) xs ∙ ap (λ n. firsts n xs) (then_first x seen names)
+
+-- a walk over names from none, and then those that another walk has listed
+pub also_named : (a b more : List (List ℕ)) {n0 n1 n2 : List (List ℕ)} → n0 ≡ [] → n1 ≡ firsts n0 a → n2 ≡ firsts n1 more → more ≡ firsts [] b → n2 ≡ firsts [] (a ++ b)
+also_named a b more {n1 = n1} z p q h = both_named a b z p (q ∙ ap (firsts n1) h ∙ firsts_of_firsts n1 [] b)
 
 -- two walks over what is listed, from nothing
 both_listed : {A : Type 0} (a b : List A) {n0 n1 n2 : List A} → n0 ≡ [] → n1 ≡ n0 ++ a → n2 ≡ n1 ++ b → n2 ≡ a ++ b

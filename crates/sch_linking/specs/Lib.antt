@@ -1,2 +1,3 @@
+pub mod PartsView
 pub mod Ranged
 pub mod Size

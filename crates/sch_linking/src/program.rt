@@ -1,13 +1,12 @@
-//! The program of a library's definitions and a text's forms.
+//! The parts of the program of a library's definitions and a text's forms.
 
-ghost use Rattle.std.specs.Prelude.{◌≡◌, ◌++◌, [], length, map, None, IfOk, OnOk};
+ghost use Rattle.std.specs.Prelude.{◌≡◌, ◌++◌, [], length, map, None, IfOk, IsTrue, OnOk};
 ghost use Rattle.sch_word.specs.values.LiteralView.{literal};
-ghost use Rattle.sch_lang.specs.ProgramView.{source};
 ghost use Rattle.sch_lang.specs.View.{expression, lambdas_of};
 ghost use Rattle.sch_names.specs.NamesView.{names_of};
 ghost use Rattle.sch_sketch.specs.DraftView.{draft_of, drafts_of};
-ghost use Rattle.sch_numbers.specs.Listed.{AreListed};
-ghost use Rattle.sch_numbers.specs.Named.{firsts};
+ghost use Rattle.sch_numbers.specs.Listed.{AreListed, IsListed};
+ghost use Rattle.sch_numbers.specs.Named.{firsts, globals_in_each, symbols_in_each};
 ghost use Rattle.sch_numbers.specs.Quoted.{literal_of, quotes_in};
 ghost use Rattle.sch_numbers.specs.Constants.{HasConstants};
 ghost use Rattle.sch_numbers.specs.Sites.{widths};
@@ -15,10 +14,12 @@ ghost use Rattle.sch_numbers.specs.Numbered.{numbered};
 ghost use Rattle.sch_numbers.specs.Programs as words;
 ghost use Rattle.sch_numbers.specs.Programs.{globals_of_each, symbols_of_each, quotes_of_each, widths_of_definitions, program_of};
 ghost use Rattle.sch_keeping.specs.Definitions.{definitions_of};
-ghost use Rattle.sch_linking.specs.Ranged.{IsValidOnceRanged, BodiesHaveConstants};
+ghost use Rattle.sch_linking.specs.PartsView.{parts_of};
+ghost use Rattle.sch_linking.specs.Ranged.{trees_in_range, BodiesHaveConstants};
 
-use sch_keeping::{Definition, held, kept, starts};
-use sch_lang::{Lambda, Program};
+use crate::parts::Parts;
+use sch_keeping::{Asked, Definition, held, kept, starts};
+use sch_lang::Lambda;
 use sch_names::Names;
 use sch_numbering::{Numbers, number, number_each};
 use sch_numbers::{Output, Table, Tables, name_draft, name_each, number_of_32};
@@ -93,6 +94,28 @@ fn number_definitions(
     Ok(all)
 }
 
+/// Adds names that are listed.
+fn name_listed(alloc: Global, names: &[Bytes], table: &mut Table) -> Result<(), Mem>
+    ensures names { OnOk result (names_of table.new.names ≡ firsts (names_of table.old.names) names.now) }
+    ensures listed { OnOk result (IsListed table.old → IsListed table.new) }
+{
+    for x in names {
+        table.insert(alloc, x.as_slice())?;
+    }
+    Ok(())
+}
+
+/// Adds the globals and the symbols of other tables, in their order.
+fn name_also(alloc: Global, more: &Tables, tables: &mut Tables) -> Result<(), Mem>
+    ensures globals { OnOk result (names_of tables.new.globals.names ≡ firsts (names_of tables.old.globals.names) more.now.globals.list) }
+    ensures symbols { OnOk result (names_of tables.new.symbols.names ≡ firsts (names_of tables.old.symbols.names) more.now.symbols.list) }
+    ensures listed { OnOk result (AreListed tables.old → AreListed tables.new) }
+{
+    name_listed(alloc, more.globals.list.as_slice(), &mut tables.globals)?;
+    name_listed(alloc, more.symbols.list.as_slice(), &mut tables.symbols)?;
+    Ok(())
+}
+
 /// The symbols, in the order of their numbers.
 fn symbol_list(tables: Tables) -> List<Bytes>
     ensures { result ≡ tables.symbols.list }
@@ -102,27 +125,30 @@ fn symbol_list(tables: Tables) -> List<Bytes>
     list
 }
 
-/// The globals that a text has, and those of them that hold a procedure of the library at the start.
+/// The globals that a text has, those of them that hold a procedure of the library at the start, and all globals and
+/// symbols that the text names.
 #[derive(Clone, Copy, Drop)]
-pub struct Own<'a> {
-    pub names: &'a Names,
-    pub held: &'a Names,
+struct Own<'a> {
+    names: &'a Names,
+    held: &'a Names,
+    named: &'a Tables,
 }
 
-/// The program of kept definitions and of the forms of a text. It is valid: of the constants that is known
-/// by their types alone.
-pub fn program_with(
+/// The parts of the program of kept definitions and of the forms of a text.
+fn program_with(
     alloc: Global,
     definitions: &[Definition<'_>],
     own: &Own<'_>,
     forms: &[Draft<'_>],
-) -> Result<Program, Mem>
-    requires valid { IsValidOnceRanged (words.program_with (definitions_of definitions.now) (names_of own.now.names.now) (names_of own.now.held.now) (drafts_of forms.now)) }
-    ensures { IfOk result (λ p. source p ≡ words.program_with (definitions_of definitions.now) (names_of own.now.names.now) (names_of own.now.held.now) (drafts_of forms.now)) }
+) -> Result<Parts, Mem>
+    requires globals { own.now.named.now.globals.list ≡ firsts [] (globals_in_each (names_of own.now.names.now) (drafts_of forms.now)) }
+    requires symbols { own.now.named.now.symbols.list ≡ firsts [] (symbols_in_each (drafts_of forms.now)) }
+    ensures made { IfOk result (λ p. parts_of p ≡ words.program_with (definitions_of definitions.now) (names_of own.now.names.now) (names_of own.now.held.now) (drafts_of forms.now)) }
+    ensures ranged { IfOk result (λ p. IsTrue (trees_in_range (parts_of p))) }
 {
     let mut tables = Tables::new(alloc);
     name_definitions(alloc, definitions, &mut tables)?;
-    name_each(alloc, own.names, forms, &mut tables)?;
+    name_also(alloc, own.named, &mut tables)?;
     let mut out = Output::new(alloc);
     let library = number_definitions(alloc, &tables, definitions, &mut out)?;
     let numbers = Numbers {
@@ -132,8 +158,12 @@ pub fn program_with(
     };
     let forms = number_each(alloc, &numbers, &[], forms, &mut out)?;
     let globals = starts(alloc, definitions, own.held, tables.globals.list.as_slice())?;
-    let Output { sites, literals } = out;
-    Ok(Program {
+    let Output {
+        sites,
+        literals,
+        ..
+    } = out;
+    Ok(Parts {
         symbols: symbol_list(tables),
         literals,
         globals,
@@ -143,25 +173,30 @@ pub fn program_with(
     })
 }
 
-/// The program of a library and of the forms of a text with these globals of its own: the definitions that
-/// it needs are kept.
+/// The parts of the program of a library and of the forms of a text with these globals of its own: the definitions
+/// that it needs are kept. The constants in its trees are in range by their types.
 pub fn assemble(
     alloc: Global,
     definitions: List<Definition<'_>>,
     own: &Names,
     forms: &[Draft<'_>],
-) -> Result<Program, Mem>
-    requires valid { IsValidOnceRanged (program_of (definitions_of definitions) (names_of own.now) (drafts_of forms.now)) }
-    ensures { IfOk result (λ p. source p ≡ program_of (definitions_of definitions.entry) (names_of own.now) (drafts_of forms.now)) }
+) -> Result<Parts, Mem>
+    ensures made { IfOk result (λ p. parts_of p ≡ program_of (definitions_of definitions.entry) (names_of own.now) (drafts_of forms.now)) }
+    ensures ranged { IfOk result (λ p. IsTrue (trees_in_range (parts_of p))) }
 {
     let mut named = Tables::new(alloc);
     name_each(alloc, own, forms, &mut named)?;
     let held = held(alloc, definitions.as_slice(), own)?;
-    let kept = kept(alloc, definitions, &held, &mut named)?;
+    let asked = Asked {
+        named: &named.globals.names,
+        held: &held,
+    };
+    let kept = kept(alloc, definitions, &asked)?;
     let own = Own {
         names: own,
         held: &held,
+        named: &named,
     };
-    let p = program_with(alloc, kept.as_slice(), &own, forms)?;
-    Ok(p)
+    let parts = program_with(alloc, kept.as_slice(), &own, forms)?;
+    Ok(parts)
 }

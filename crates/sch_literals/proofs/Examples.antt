@@ -12,7 +12,8 @@ use Rattle.sch_literals.specs.PlacedWords.{placed_values, placed_each}
 
 -- (1 (2 . 3) "ab" #\a sym), whose symbol has the number 7
 abbrev one : Literal
-one = list (literals (constant (Fixnum (pos 1)) ∷ list (literals (constant (Fixnum (pos 2)) ∷ [])) (constant (Fixnum (pos 3))) ∷ text (97 ∷ 98 ∷ []) ∷ constant (Character 97) ∷ constant (Symbol 7) ∷ [])) (constant Nil)
+one = list (literals (constant (Fixnum (pos 1)) ∷ list (literals (constant (Fixnum (pos 2)) ∷ [])) (constant (Fixnum (pos 3))) ∷ text (97 ∷ 98 ∷ []) ∷ constant (Character 97) ∷ constant (Symbol 7)
+    ∷ [])) (constant Nil)
 
 parts_one : object_parts 0 (objects_of_each (literals (one ∷ [])) 0) ≡
     record { owner = a_pair 0; more = 0 } ∷ record { owner = a_pair 1; more = 0 } ∷ record { owner = a_pair 2; more = 0 }

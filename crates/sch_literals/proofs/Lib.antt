@@ -2,10 +2,10 @@ mod Examples
 pub mod ObjectSpots
 pub mod ObjectsThere
 pub mod OwnWords
-pub mod Placed
+pub mod PlacedLiterals
 pub mod PutSteps
-pub mod Reversed
+pub mod ReversedWords
 pub mod Rows
 pub mod Sizes
-pub mod Standing
+pub mod LiteralValues
 pub mod WordBytes

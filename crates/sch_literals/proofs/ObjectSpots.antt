@@ -151,7 +151,8 @@ module _ (first : ℕ) (objects : List Object) where
   pub own_spotted : AreSpotted (parts_at first objects) first objects
   own_spotted = record { pairs = λ n. refl; vectors = λ n. refl; strings = λ n. refl }
 
-pub spotted_behind : (symbols first : ℕ) (front : List Part) (objects : List Object) → have_no_object front ≡ true → AreSpotted (record { first = first; list = front ++ object_parts 0 objects; symbols = symbols }) (first + units front) objects
+pub spotted_behind : (symbols first : ℕ) (front : List Part) (objects : List Object) → have_no_object front ≡ true
+    → AreSpotted (record { first = first; list = front ++ object_parts 0 objects; symbols = symbols }) (first + units front) objects
 spotted_behind symbols first front objects h = record {
   pairs = λ n. passes first objects first front (a_pair n) (no_pair first objects n) h;
   vectors = λ n. passes first objects first front (a_vector n) (no_vector first objects n) h;

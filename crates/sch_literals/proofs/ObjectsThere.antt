@@ -27,7 +27,7 @@ use Rattle.sch_literals.specs.ObjectWords.{object_word, value_word, text_words, 
 use Rattle.sch_literals.proofs.ObjectSpots.{units_within, spotted_kinds, spotted_behind}
 use Rattle.sch_literals.proofs.OwnWords.{spot_of, pair_word, vector_word, string_word}
 use Rattle.sch_literals.proofs.Sizes.{objects_bound, contents_length, vector_more, string_more}
-use Rattle.sch_literals.proofs.Standing.{IsStanding, Holds, EachHolds, standing_at, holds_at, values_stand, each_holds}
+use Rattle.sch_literals.proofs.LiteralValues.{IsStanding, Holds, EachHolds, standing_at, holds_at, values_stand, each_holds}
 use Rattle.sch_literals.proofs.WordBytes.{words_inside, word_bytes, word_bytes_length, behind_first, word_there, word_data, text_there}
 
 -- ---- pieces
@@ -107,13 +107,28 @@ module _ (parts : Parts) (first : ℕ) (objects : List Object) (spotted : AreSpo
   names : (n : ℕ) (o : Object) → slice_get objects n ≡ Some o → NamesObject parts n (object_word (parts_at first objects) n)
   names n (pair a d) e =
       let w = pair_word first objects n a d e in let h = ends_within n (pair a d) e in
-      inl (record { at = record { unit = first + units (object_parts 0 (take n objects)); more = object_more (pair a d) }; there = spotted.pairs n ∙ spot_of first objects n (pair a d) e; is = w; fits = omega (arith, w, h) })
+      inl (record {
+        at = record { unit = first + units (object_parts 0 (take n objects)); more = object_more (pair a d) };
+        there = spotted.pairs n ∙ spot_of first objects n (pair a d) e;
+        is = w;
+        fits = omega (arith, w, h);
+      })
   names n (vector es) e =
       let w = vector_word first objects n es e in let h = ends_within n (vector es) e in
-      inr (inl (record { at = record { unit = first + units (object_parts 0 (take n objects)); more = object_more (vector es) }; there = spotted.vectors n ∙ spot_of first objects n (vector es) e; is = w; fits = omega (arith, w, h) }))
+      inr (inl (record {
+        at = record { unit = first + units (object_parts 0 (take n objects)); more = object_more (vector es) };
+        there = spotted.vectors n ∙ spot_of first objects n (vector es) e;
+        is = w;
+        fits = omega (arith, w, h);
+      }))
   names n (string bytes) e =
       let w = string_word first objects n bytes e in let h = ends_within n (string bytes) e in
-      inr (inr (record { at = record { unit = first + units (object_parts 0 (take n objects)); more = object_more (string bytes) }; there = spotted.strings n ∙ spot_of first objects n (string bytes) e; is = w; fits = omega (arith, w, h) }))
+      inr (inr (record {
+        at = record { unit = first + units (object_parts 0 (take n objects)); more = object_more (string bytes) };
+        there = spotted.strings n ∙ spot_of first objects n (string bytes) e;
+        is = w;
+        fits = omega (arith, w, h);
+      }))
 
   names_below : (n : ℕ) → n < length objects → NamesObject parts n (object_word (parts_at first objects) n)
   names_below n lt = by (slice_get objects n) refl
@@ -144,8 +159,10 @@ module _ (parts : Parts) (first : ℕ) (objects : List Object) (spotted : AreSpo
   object_at bytes unit n (pair a d) h at s le = record {
     at = record { unit = unit; more = object_more (pair a d) };
     there = s;
-    first = subst (IsWord parts a) (sym (word_at bytes unit (object_contents (parts_at first objects) (pair a d)) at 0 (value_word (parts_at first objects) a) (16 * unit) refl (value_fits a h.0) (omega arith))) (value_there a h.0);
-    rest = subst (IsWord parts d) (sym (word_at bytes unit (object_contents (parts_at first objects) (pair a d)) at 1 (value_word (parts_at first objects) d) (16 * unit + 8) refl (value_fits d h.1) (omega arith))) (value_there d h.1);
+    first = subst (IsWord parts a) (sym (word_at bytes unit (object_contents (parts_at first objects) (pair a d)) at 0 (value_word (parts_at first objects) a) (16 * unit) refl (value_fits a h.0)
+        (omega arith))) (value_there a h.0);
+    rest = subst (IsWord parts d) (sym (word_at bytes unit (object_contents (parts_at first objects) (pair a d)) at 1 (value_word (parts_at first objects) d) (16 * unit + 8) refl
+        (value_fits d h.1) (omega arith))) (value_there d h.1);
   }
   object_at bytes unit n (vector es) h at s le =
       let more = vector_more (length es) in

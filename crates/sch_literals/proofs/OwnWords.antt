@@ -18,7 +18,8 @@ absent parts o none = by (spot parts o) refl
     by (Some at) e = absurd (none at e)
 
 module _ (first : ℕ) (objects : List Object) where
-  pub spot_of : (n : ℕ) (o : Object) → slice_get objects n ≡ Some o → spot (parts_at first objects) (object_owner n o) ≡ Some (record { unit = first + units (object_parts 0 (take n objects)); more = object_more o })
+  pub spot_of : (n : ℕ) (o : Object) → slice_get objects n ≡ Some o
+      → spot (parts_at first objects) (object_owner n o) ≡ Some (record { unit = first + units (object_parts 0 (take n objects)); more = object_more o })
   spot_of n o e = let z : 0 + n ≡ n = omega arith in ap (λ n. spot_from first (object_parts 0 objects) (object_owner n o)) (sym z) ∙ object_spot first 0 objects n o e
 
   no_pair : (n : ℕ) → is_pair (slice_get objects n) ≡ false → spot (parts_at first objects) (a_pair n) ≡ None
@@ -29,15 +30,18 @@ module _ (first : ℕ) (objects : List Object) where
 
   -- the word of an object, by its kind
   pub pair_word : (n : ℕ) (a d : Value) → slice_get objects n ≡ Some (pair a d) → object_word (parts_at first objects) n ≡ 16 * (first + units (object_parts 0 (take n objects))) + pair_tag
-  pair_word n a d e = ap (λ s. word_at_spot s pair_tag (word_at_spot (spot (parts_at first objects) (a_vector n)) vector_tag (word_at_spot (spot (parts_at first objects) (a_string n)) string_tag 0))) (spot_of n (pair a d) e)
+  pair_word n a d e = ap (λ s. word_at_spot s pair_tag
+      (word_at_spot (spot (parts_at first objects) (a_vector n)) vector_tag (word_at_spot (spot (parts_at first objects) (a_string n)) string_tag 0))) (spot_of n (pair a d) e)
 
   pub vector_word : (n : ℕ) (es : List Value) → slice_get objects n ≡ Some (vector es) → object_word (parts_at first objects) n ≡ 16 * (first + units (object_parts 0 (take n objects))) + vector_tag
   vector_word n es e =
-      ap (λ s. word_at_spot s pair_tag (word_at_spot (spot (parts_at first objects) (a_vector n)) vector_tag (word_at_spot (spot (parts_at first objects) (a_string n)) string_tag 0))) (no_pair n (ap is_pair e))
+      ap (λ s. word_at_spot s pair_tag (word_at_spot (spot (parts_at first objects) (a_vector n)) vector_tag (word_at_spot (spot (parts_at first objects) (a_string n)) string_tag 0)))
+      (no_pair n (ap is_pair e))
       ∙ ap (λ s. word_at_spot s vector_tag (word_at_spot (spot (parts_at first objects) (a_string n)) string_tag 0)) (spot_of n (vector es) e)
 
   pub string_word : (n : ℕ) (bytes : List ℕ) → slice_get objects n ≡ Some (string bytes) → object_word (parts_at first objects) n ≡ 16 * (first + units (object_parts 0 (take n objects))) + string_tag
   string_word n bytes e =
-      ap (λ s. word_at_spot s pair_tag (word_at_spot (spot (parts_at first objects) (a_vector n)) vector_tag (word_at_spot (spot (parts_at first objects) (a_string n)) string_tag 0))) (no_pair n (ap is_pair e))
+      ap (λ s. word_at_spot s pair_tag (word_at_spot (spot (parts_at first objects) (a_vector n)) vector_tag (word_at_spot (spot (parts_at first objects) (a_string n)) string_tag 0)))
+      (no_pair n (ap is_pair e))
       ∙ ap (λ s. word_at_spot s vector_tag (word_at_spot (spot (parts_at first objects) (a_string n)) string_tag 0)) (no_vector n (ap is_vector e))
       ∙ ap (λ s. word_at_spot s string_tag 0) (spot_of n (string bytes) e)

@@ -45,7 +45,8 @@ vector_units ls end before after values unit contents h c =
     let k = ap (λ k. k / 2) (length-reverse values ∙ values_count ls end before after values unit h) in
     omega (arith, n, k)
 
-pub vector_put : (ls : Literals) (end : ℕ) (before middle values : List ℕ) (inner : ℕ) (contents after : List ℕ) (value unit : ℕ) → ArePut ls end before middle values inner → contents ≡ vector_contents (reverse values)
+pub vector_put : (ls : Literals) (end : ℕ) (before middle values : List ℕ) (inner : ℕ) (contents after : List ℕ) (value unit : ℕ) → ArePut ls end before middle values inner
+    → contents ≡ vector_contents (reverse values)
     → IsObjectPut contents vector_tag inner middle after value unit → IsPut (elements ls) end before after value unit
 vector_put ls end before middle values inner contents after value unit h c g =
     let n = vector_units ls end before middle values inner contents h c in
@@ -91,7 +92,8 @@ list_put ls tail end before first last behind second values inner after value un
     let he = h.ends in
     let behind_is : behind ≡ unit + count_literals ls + units_in_each ls = omega (arith, he, place) in
     let last_is = t.value_is in
-    let pairs : linked_words (inner - length values) (reverse values) last ≡ linked_words unit (placed_values ls (unit + count_literals ls)) (placed_value tail (unit + count_literals ls + units_in_each ls)) =
+    let pairs : linked_words (inner - length values) (reverse values) last ≡ linked_words unit (placed_values ls (unit + count_literals ls))
+    (placed_value tail (unit + count_literals ls + units_in_each ls)) =
     ap (λ u. linked_words u (reverse values) last) start ∙ ap (λ vs. linked_words unit vs last) (forward ∙ ap (placed_values ls) place)
     ∙ ap (linked_words unit (placed_values ls (unit + count_literals ls))) (last_is ∙ ap (placed_value tail) behind_is) in
     record {
@@ -101,9 +103,12 @@ list_put ls tail end before first last behind second values inner after value un
       words = w
           ∙ ap (λ l. l ++ reverse (linked_words (inner - length values) (reverse values) last)) (h.words ∙ ap (λ l. l ++ reverse (placed_each ls inner)) t.words)
           ∙ ap (λ l. ((before ++ reverse (placed_words tail behind)) ++ reverse (placed_each ls inner)) ++ reverse l) pairs
-          ∙ ap (λ u. ((before ++ reverse (placed_words tail u)) ++ reverse (placed_each ls inner)) ++ reverse (linked_words unit (placed_values ls (unit + count_literals ls)) (placed_value tail (unit + count_literals ls + units_in_each ls)))) behind_is
-          ∙ ap (λ u. ((before ++ reverse (placed_words tail (unit + count_literals ls + units_in_each ls))) ++ reverse (placed_each ls u)) ++ reverse (linked_words unit (placed_values ls (unit + count_literals ls)) (placed_value tail (unit + count_literals ls + units_in_each ls)))) place
-          ∙ three_reversed before (linked_words unit (placed_values ls (unit + count_literals ls)) (placed_value tail (unit + count_literals ls + units_in_each ls))) (placed_each ls (unit + count_literals ls)) (placed_words tail (unit + count_literals ls + units_in_each ls));
+          ∙ ap (λ u. ((before ++ reverse (placed_words tail u)) ++ reverse (placed_each ls inner))
+          ++ reverse (linked_words unit (placed_values ls (unit + count_literals ls)) (placed_value tail (unit + count_literals ls + units_in_each ls)))) behind_is
+          ∙ ap (λ u. ((before ++ reverse (placed_words tail (unit + count_literals ls + units_in_each ls))) ++ reverse (placed_each ls u))
+          ++ reverse (linked_words unit (placed_values ls (unit + count_literals ls)) (placed_value tail (unit + count_literals ls + units_in_each ls)))) place
+          ∙ three_reversed before (linked_words unit (placed_values ls (unit + count_literals ls)) (placed_value tail (unit + count_literals ls + units_in_each ls)))
+          (placed_each ls (unit + count_literals ls)) (placed_words tail (unit + count_literals ls + units_in_each ls));
     }
 
 -- ---- one literal more

@@ -67,7 +67,8 @@ linked_units m n [] last = refl
 linked_units m n (v ∷ []) last = refl
 linked_units m n (v ∷ (w ∷ vs)) last = let h = linked_units (suc m) (suc n) (w ∷ vs) last in omega (arith, h)
 
-three_units : (m : ℕ) (xs ys zs : List Object) (a b c : ℕ) → units (object_parts m xs) ≡ a → units (object_parts m ys) ≡ b → units (object_parts m zs) ≡ c → units (object_parts m (xs ++ (ys ++ zs))) ≡ a + (b + c)
+three_units : (m : ℕ) (xs ys zs : List Object) (a b c : ℕ) → units (object_parts m xs) ≡ a → units (object_parts m ys) ≡ b → units (object_parts m zs) ≡ c
+    → units (object_parts m (xs ++ (ys ++ zs))) ≡ a + (b + c)
 three_units m xs ys zs a b c x y z =
     let h = units_append m xs (ys ++ zs) in
     let g = units_append (m + length xs) ys zs in

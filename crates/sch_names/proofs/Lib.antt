@@ -1,4 +1,4 @@
 pub mod NameTables
 pub mod NameNumbers
-pub mod Tabling
+pub mod ScopeLists
 pub mod Counts

@@ -44,14 +44,16 @@ mixed = call 0 false (global 0) (trees (
 
 -- each operand is bound whole at its turn, and the operator after them
 mixed_normal : normal [] false mixed [] 2 ≡
-    to.bind 2 (to.bind 3 (to.perform (does.Global 1)) (to.bind 4 (to.bind 5 (to.perform (does.Global 2)) (to.perform (does.Prim 2 Car (held 5 ∷ [])))) (to.perform (does.Prim 1 Add (held 3 ∷ held 4 ∷ [])))))
+    to.bind 2 (to.bind 3 (to.perform (does.Global 1)) (to.bind 4 (to.bind 5 (to.perform (does.Global 2)) (to.perform (does.Prim 2 Car (held 5 ∷ []))))
+    (to.perform (does.Prim 1 Add (held 3 ∷ held 4 ∷ [])))))
     (to.bind 6 (to.sequence (to.perform (does.SetGlobal 1 (fixed 20))) (to.perform (does.Operand (fixed 0))))
     (to.bind 7 (to.perform (does.Global 0))
     (to.call (record { site = 0; spread = false; operator = held 7; operands = held 2 ∷ held 6 ∷ [] }) [])))
 mixed_normal = refl
 
 -- in a tail context the same is a tail call
-tail_normal : normal [] true (call 0 false (variable (flat.bound 4)) (trees (number 1 ∷ []))) ((4, 3) ∷ []) 4 ≡ to.tail_call (record { site = 0; spread = false; operator = held 3; operands = fixed 1 ∷ [] })
+tail_normal : normal [] true (call 0 false (variable (flat.bound 4)) (trees (number 1 ∷ []))) ((4, 3) ∷ []) 4
+    ≡ to.tail_call (record { site = 0; spread = false; operator = held 3; operands = fixed 1 ∷ [] })
 tail_normal = refl
 
 -- a read over atoms stays an operand; a field of the closure is bound
@@ -84,7 +86,8 @@ two_forms = record {
   statics = record { symbols = []; literals = no_literals; globals = None ∷ [] };
   library = [];
   bodies = record { name = []; first = 0; formals = 1; rest = false; fields = 0; code = operation 0 Put (trees (variable (flat.bound 0) ∷ [])) } ∷ [];
-  forms = trees (set_global 0 (make_closure (record { label = 0; fields = [] })) ∷ call 1 false (global 0) (trees (operation 2 Car (trees (operation 3 Cons (trees (constant (Fixnum (negsuc 7)) ∷ number 8 ∷ [])) ∷ [])) ∷ [])) ∷ []);
+  forms = trees (set_global 0 (make_closure (record { label = 0; fields = [] })) ∷ call 1 false (global 0)
+      (trees (operation 2 Car (trees (operation 3 Cons (trees (constant (Fixnum (negsuc 7)) ∷ number 8 ∷ [])) ∷ [])) ∷ [])) ∷ []);
   starts = 0 ∷ 1 ∷ [];
   sites = 1 ∷ 2 ∷ 1 ∷ 2 ∷ [];
 }

@@ -1,6 +1,7 @@
 -- The labels of a tree leave room for a number that is added to each.
 use Rattle.std.specs.Prelude.{ℕ, ◌+◌, ◌<◌, ◌^◌, List, [], ◌∷◌}
-use Rattle.sch_flat.specs.Tree.{Made, Tree, Trees, Body, constant, literal, variable, global, set_global, define, branch, sequence, bind, make_closure, fix_closures, call, operation, new_cells, cell_get, cell_set, no_trees, and_tree}
+use Rattle.sch_flat.specs.Tree.{Made, Tree, Trees, Body, constant, literal, variable, global, set_global, define, branch}
+use Rattle.sch_flat.specs.Tree.{sequence, bind, make_closure, fix_closures, call, operation, new_cells, cell_get, cell_set, no_trees, and_tree}
 
 module _ (more : ℕ) where
   abbrev pub LabelsOfMade : List Made → Type 0

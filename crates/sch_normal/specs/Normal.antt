@@ -8,7 +8,8 @@ use Rattle.sch_word.specs.runs.Orders.{order_or_none}
 use Rattle.sch_word.specs.trees.Covered.{is_empty}
 use Rattle.sch_flat.specs.Measures.{is_atom as is_leaf}
 use Rattle.sch_flat.specs.Tree as from
-use Rattle.sch_flat.specs.Tree.{Tree, Trees, Variable, bound, free, Made, NewCell, constant, literal, variable, global, set_global, define, branch, sequence, make_closure, fix_closures, call, operation, new_cells, cell_get, cell_set, no_trees, and_tree}
+use Rattle.sch_flat.specs.Tree.{Tree, Trees, Variable, bound, free, Made, NewCell, constant, literal, variable, global, set_global}
+use Rattle.sch_flat.specs.Tree.{define, branch, sequence, make_closure, fix_closures, call, operation, new_cells, cell_get, cell_set, no_trees, and_tree}
 use Rattle.sch_control.specs.declared.operation.Atom.{Atom}
 use Rattle.sch_control.specs.declared.operation.Atom.TheVariants as atom
 use Rattle.sch_control.specs.declared.operation.Operand.{Operand}
@@ -316,8 +317,8 @@ form_code starts e = record {
   expression = to.end (normal starts false e [] 2);
 }
 
--- The bodies: each form stands before those of its procedures. So many bodies stand before the rest, and for
--- each form that is left the last list has how many stand before its procedures'.
+-- The bodies: each form stands before those of its procedures. `before` is the number of flat bodies that stand
+-- before `bodies`; `places` has for each form of `forms` the number of those that stand before its procedures' bodies.
 abbrev pub normal_bodies : (starts : List ℕ) → (before : ℕ) → List from.Body → (forms : Trees) → (places : List ℕ) → List to.Code
 normal_bodies starts before bodies no_trees places = map (procedure_code starts) bodies
 normal_bodies starts before bodies (and_tree e es) [] = form_code starts e ∷ normal_bodies starts before bodies es []

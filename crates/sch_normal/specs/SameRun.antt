@@ -10,4 +10,5 @@ use Rattle.sch_control.specs.Fits.{table_fits}
 -- Under every order table that fits the second program, it is never wrong, and nothing is seen of its run but
 -- what is seen of the run of the first.
 pub record SameRun (p : flat.Source) (q : control.Source) : Type 0 where
-  pub same : (table : List (List ℕ)) → table_fits q table ≡ true → (heap depth : ℕ) (answers : List Answer) (entries : ℕ) → to.run q heap depth answers entries ≡ Some (from.run p table heap depth answers entries)
+  pub same : (table : List (List ℕ)) → table_fits q table ≡ true → (heap depth : ℕ) (answers : List Answer) (entries : ℕ)
+      → to.run q heap depth answers entries ≡ Some (from.run p table heap depth answers entries)

@@ -19,8 +19,8 @@ use sch_lang::Exp;
 use sch_limits::further;
 use sch_names::{Name, Names};
 use sch_numbers::{
-    Output, bind, branch, call, call_site, constant, global_key, grouped, is_group, new_site,
-    number_in, number_of_32, operation, procedure, quote, site_unless,
+    Output, bind, branch, call, call_site, constant, grouped, is_group, new_site, number_in,
+    number_of_32, operation, procedure, quote, site_unless, write_global,
 };
 use sch_read::Datum;
 use sch_sketch::Draft;
@@ -38,11 +38,14 @@ pub struct Numbers<'a> {
 
 /// The number of the global that a name means.
 #[inline(never)]
-fn global_number(alloc: Global, tables: &Numbers<'_>, x: &[u8]) -> Result<u32, Mem>
-    ensures { IfOk result (λ n. n ≡ number_of (global_of (names_of tables.now.own.now) x.now) (names_of tables.now.globals.now)) }
+fn global_number(tables: &Numbers<'_>, x: &[u8], out: &mut Output) -> Result<u32, Mem>
+    ensures number { IfOk result (λ n. n ≡ number_of (global_of (names_of tables.now.own.now) x.now) (names_of tables.now.globals.now)) }
+    ensures sites { OnOk result (out.new.sites ≡ out.old.sites) }
+    ensures literals { OnOk result (out.new.literals ≡ out.old.literals) }
 {
-    let key = global_key(alloc, tables.own, x)?;
-    number_in(tables.globals, key.as_slice())
+    write_global(tables.own, x, &mut out.key)?;
+    let n = number_in(tables.globals, out.key.as_slice())?;
+    Ok(n)
 }
 
 /// The constant that a symbol is.
@@ -97,18 +100,18 @@ pub fn number(
         Draft::Symbol(x) => symbol(tables, x),
         Draft::Literal(d) => new_literal(alloc, tables, d, out),
         Draft::Local(k) => Ok(Exp::Local(*k)),
-        Draft::Global(x) => Ok(Exp::Global(global_number(alloc, tables, x)?)),
+        Draft::Global(x) => Ok(Exp::Global(global_number(tables, x, out)?)),
         Draft::SetLocal(k, e) => {
             let value = number(alloc, tables, None, e, out)?;
             Ok(Exp::SetLocal(*k, Box::new(alloc, value)?))
         }
         Draft::SetGlobal(x, e) => {
-            let global = global_number(alloc, tables, x)?;
+            let global = global_number(tables, x, out)?;
             let value = number(alloc, tables, None, e, out)?;
             Ok(Exp::SetGlobal(global, Box::new(alloc, value)?))
         }
         Draft::Define(x, e) => {
-            let global = global_number(alloc, tables, x)?;
+            let global = global_number(tables, x, out)?;
             let value = number(alloc, tables, Some(x), e, out)?;
             Ok(Exp::Define(global, Box::new(alloc, value)?))
         }
@@ -242,7 +245,7 @@ pub fn number_each(
     ensures literals { OnOk result (map literal out.new.literals ≡ map literal out.old.literals ++ map (literal_of (names_of tables.now.symbols.now)) (quotes_in_each (drafts_of es.now))) }
     ensures constants { OnOk result (HaveConstants (drafts_of es.now)) }
 {
-    let mut all = List::new(alloc);
+    let mut all = List::from_vec(Vec::with_capacity(alloc, es.len())?);
     let mut at = 0;
     for e in es {
         let v = name_at(names, at);

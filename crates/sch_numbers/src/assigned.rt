@@ -86,7 +86,7 @@ fn none_marked(marks: &[bool]) -> bool
     true
 }
 
-/// So many marks, none of which is set.
+/// `count` marks, none of which is set.
 fn new_marks(alloc: Global, count: usize) -> Result<Vec<bool>, Mem>
     ensures { IfOk result (λ marks. marks.items ≡ replicate count false) }
 {

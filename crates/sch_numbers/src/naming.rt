@@ -7,7 +7,7 @@ ghost use Rattle.sch_sketch.specs.DraftView.{draft_of, drafts_of};
 ghost use Rattle.sch_numbers.specs.Listed.{IsListed, AreListed};
 ghost use Rattle.sch_numbers.specs.Named.{firsts, global_of, globals_in, globals_in_each, symbols_in, symbols_in_each, symbols_of_datum, symbols_of_data};
 
-use crate::tables::{Table, Tables, global_key};
+use crate::tables::{Table, Tables, write_global};
 use sch_names::Names;
 use sch_read::{Atom, Datum, Node};
 use sch_sketch::Draft;
@@ -52,8 +52,8 @@ fn name_global(alloc: Global, own: &Names, x: &[u8], tables: &mut Tables) -> Res
     ensures symbols { OnOk result (tables.new.symbols ≡ tables.old.symbols) }
     ensures listed { OnOk result (IsListed tables.old.globals → IsListed tables.new.globals) }
 {
-    let key = global_key(alloc, own, x)?;
-    tables.globals.insert(alloc, key.as_slice())?;
+    write_global(own, x, &mut tables.key)?;
+    tables.globals.insert(alloc, tables.key.as_slice())?;
     Ok(())
 }
 

@@ -47,6 +47,8 @@ impl Table {
 pub struct Tables {
     pub globals: Table,
     pub symbols: Table,
+    /// Room for the global that is looked up.
+    pub(crate) key: Vec<u8>,
 }
 
 impl Tables {
@@ -58,6 +60,7 @@ impl Tables {
         Tables {
             globals: Table::new(alloc),
             symbols: Table::new(alloc),
+            key: Vec::new(alloc),
         }
     }
 }
@@ -67,6 +70,8 @@ impl Tables {
 pub struct Output {
     pub sites: List<u32>,
     pub literals: List<Lit>,
+    /// Room for the global that is looked up.
+    pub key: Vec<u8>,
 }
 
 impl Output {
@@ -77,21 +82,32 @@ impl Output {
         Output {
             sites: List::new(alloc),
             literals: List::new(alloc),
+            key: Vec::new(alloc),
         }
     }
 }
 
-/// The global that a name means in a text that has these of its own: the name behind a mark.
-pub fn global_key(alloc: Global, own: &Names, x: &[u8]) -> Result<Vec<u8>, Mem>
-    ensures { IfOk result (λ key. key.items ≡ global_of (names_of own.now) x.now) }
+/// Writes the global that a name means in a text that has these of its own: the name behind a mark. It takes the
+/// place of what was written there.
+pub fn write_global(own: &Names, x: &[u8], key: &mut Vec<u8>) -> Result<(), Mem>
+    ensures { OnOk result (key.new.items ≡ global_of (names_of own.now) x.now) }
 {
-    let mut key = Vec::new(alloc);
+    key.clear();
     if own.contains(x) {
         key.push(0)?;
     } else {
         key.push(1)?;
     }
     key.extend_from_slice(x)?;
+    Ok(())
+}
+
+/// The same in a vector of its own.
+pub fn global_key(alloc: Global, own: &Names, x: &[u8]) -> Result<Vec<u8>, Mem>
+    ensures { IfOk result (λ key. key.items ≡ global_of (names_of own.now) x.now) }
+{
+    let mut key = Vec::new(alloc);
+    write_global(own, x, &mut key)?;
     Ok(key)
 }
 

@@ -17,7 +17,8 @@ use Rattle.sch_normal.proofs.Items.{left}
 -- ## Atoms
 
 module _ (items : List Exp) (i : ℕ) (e : Exp) (l : i < length items) (is : e ≡ get_or items i e) where
-  pub atoms_next : (scope : Scope) (all all' whole : List (Atom ℕ)) → all' ≡ all ++ atom_of scope (tree e) ∷ [] → all ++ atoms_of scope (left (drop i items)) ≡ whole → all' ++ atoms_of scope (left (drop (i + 1) items)) ≡ whole
+  pub atoms_next : (scope : Scope) (all all' whole : List (Atom ℕ)) → all' ≡ all ++ atom_of scope (tree e) ∷ [] → all ++ atoms_of scope (left (drop i items)) ≡ whole
+      → all' ++ atoms_of scope (left (drop (i + 1) items)) ≡ whole
   atoms_next scope all all' whole p h =
       rw (p, add-one, append_assoc all (atom_of scope (tree e) ∷ []) (atoms_of scope (left (drop (suc i) items)))) (next_left items i (λ r. all ++ atoms_of scope (left r) ≡ whole) e l is h)
 
@@ -27,9 +28,11 @@ atoms_all scope items i all whole l h = let t = rw (drop_all i items l, append-n
 -- ## Labels
 
 -- in a list in which those below a number stand first, their count is where the others begin
-pub before_is : (xs : List ℕ) (i label : ℕ) → i ≤ length xs → ((k : ℕ) → k < i → nat_le (get_or xs k 0) label ≡ true) → ((k : ℕ) → i ≤ k → k < length xs → nat_le (get_or xs k 0) label ≡ false) → forms_before xs label ≡ i
+pub before_is : (xs : List ℕ) (i label : ℕ) → i ≤ length xs → ((k : ℕ) → k < i → nat_le (get_or xs k 0) label ≡ true) → ((k : ℕ) → i ≤ k → k < length xs → nat_le (get_or xs k 0) label ≡ false)
+    → forms_before xs label ≡ i
 before_is [] i label l h k = omega (arith, l)
-before_is (x ∷ xs) zero label l h k = rw (k 0 (omega arith) (omega arith)) (let r = before_is xs zero label (omega arith) (λ j a. absurd (omega (arith, a))) (λ j a b. k (suc j) (omega arith) (omega (arith, b))) in omega (arith, r))
+before_is (x ∷ xs) zero label l h k = rw (k 0 (omega arith) (omega arith))
+    (let r = before_is xs zero label (omega arith) (λ j a. absurd (omega (arith, a))) (λ j a b. k (suc j) (omega arith) (omega (arith, b))) in omega (arith, r))
 before_is (x ∷ xs) (suc i) label l h k =
     rw (h 0 (omega arith)) (let r = before_is xs i label (omega (arith, l)) (λ j a. h (suc j) (omega (arith, a))) (λ j a b. k (suc j) (omega (arith, a)) (omega (arith, b))) in omega (arith, r))
 
@@ -55,7 +58,8 @@ module _ (starts : List ℕ) (scope : Scope) (items : List flat_made.Made) (i : 
   pub made_turn : (more : ℕ) → LabelsOfMade more (map made (drop i items)) → (m.label + more < 2 ^ 32) × LabelsOfMade more (map made (drop (i + 1) items))
   made_turn more h = rw add-one (next_left items i (λ r. LabelsOfMade more (map made r)) m l is h)
 
-pub members_end : (starts : List ℕ) (scope : Scope) (items : List flat_made.Made) (i at : ℕ) (all whole : List (Member ℕ)) → length items ≤ i → all ++ members_of starts scope (map made (drop i items)) at ≡ whole → all ≡ whole
+pub members_end : (starts : List ℕ) (scope : Scope) (items : List flat_made.Made) (i at : ℕ) (all whole : List (Member ℕ)) → length items ≤ i
+    → all ++ members_of starts scope (map made (drop i items)) at ≡ whole → all ≡ whole
 members_end starts scope items i at all whole l h = let t = rw (drop_all i items l, append-nil all) at h in t
 
 -- ## Numbers

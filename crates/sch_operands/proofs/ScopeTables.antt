@@ -1,5 +1,6 @@
 -- A table of numbers has what is bound, and a binding can be undone.
-use Rattle.std.proofs.Common.{◌≡◌, ◌≢◌, ℕ, zero, suc, ◌+◌, ◌-◌, ◌<◌, ◌≤◌, Bool, true, false, List, [], ◌∷◌, ◌++◌, length, reverse, map, take, drop, replicate, get_or, set, refl, sym, ap, ◌∙◌, subst, arith, add-one, length-append, take-take}
+use Rattle.std.proofs.Common.{◌≡◌, ◌≢◌, ℕ, zero, suc, ◌+◌, ◌-◌, ◌<◌, ◌≤◌, Bool, true, false, List, [], ◌∷◌, ◌++◌, length}
+use Rattle.std.proofs.Common.{reverse, map, take, drop, replicate, get_or, set, refl, sym, ap, ◌∙◌, subst, arith, add-one, length-append, take-take}
 use Rattle.std.specs.Prelude.{nat_eq, nat_lt, ◌&&◌}
 use Rattle.std.specs.List.{list_all}
 use Rattle.std.proofs.lemmas.Bool.{eq-eqb, eqb-true, lt-ltb, ltb-true, false≢true}
@@ -7,13 +8,12 @@ use Rattle.std.proofs.lemmas.List.{get_or-set_same, get_or-set_other, get_or_app
 use Rattle.std.proofs.lemmas.List.Folds.{list_all-append}
 use Rattle.sch_word.specs.trees.Bindings.{numbers, with_variables}
 use Rattle.sch_word.proofs.Walking.{next_left}
+use Rattle.sch_word.proofs.facts.Booleans.{and_left, and_right, and_of}
 use Rattle.sch_flat.specs.declared.tree.NewCell.{NewCell}
 use Rattle.sch_flat.specs.View.{new_cell}
 use Rattle.sch_operands.specs.declared.variables.Binding.{Binding}
 use Rattle.sch_normal.specs.Normal.{Scope, number_of, cells_scope}
 use Rattle.sch_operands.specs.ScopeTable.{pairs_of, scope_of, undoes, is_table}
-use Rattle.sch_normal.proofs.runs.Orders.{and_left, and_right}
-use Rattle.sch_normal.proofs.valid.Parts.{both}
 
 differs : (x y : ℕ) → nat_eq x y ≡ false → x ≢ y
 differs x y e h = false≢true (sym e ∙ eq-eqb x y h)
@@ -54,14 +54,14 @@ zeros zero = refl
 zeros (suc k) = zeros k
 
 longer : (table : List ℕ) (bs : List Binding) (k : ℕ) → undoes table bs ≡ true → undoes (table ++ replicate k 0) bs ≡ true
-longer table [] k h = list_all-append (λ y. nat_eq y 0) table (replicate k 0) ∙ both (list_all (λ y. nat_eq y 0) table) (list_all (λ y. nat_eq y 0) (replicate k 0)) h (zeros k)
+longer table [] k h = list_all-append (λ y. nat_eq y 0) table (replicate k 0) ∙ and_of (list_all (λ y. nat_eq y 0) table) (list_all (λ y. nat_eq y 0) (replicate k 0)) h (zeros k)
 longer table (b ∷ bs) k h =
     let l = within table b bs h in
     let n = number table b bs h in
     let m = length-append table (replicate k 0) in
-    both (nat_lt b.variable (length (table ++ replicate k 0))) (nat_eq (get_or (table ++ replicate k 0) b.variable 0) b.number && undoes (set (table ++ replicate k 0) b.variable b.before) bs)
+    and_of (nat_lt b.variable (length (table ++ replicate k 0))) (nat_eq (get_or (table ++ replicate k 0) b.variable 0) b.number && undoes (set (table ++ replicate k 0) b.variable b.before) bs)
     (lt-ltb b.variable (length (table ++ replicate k 0)) (omega (arith, l, m)))
-    (both (nat_eq (get_or (table ++ replicate k 0) b.variable 0) b.number) (undoes (set (table ++ replicate k 0) b.variable b.before) bs)
+    (and_of (nat_eq (get_or (table ++ replicate k 0) b.variable 0) b.number) (undoes (set (table ++ replicate k 0) b.variable b.before) bs)
     (eq-eqb (get_or (table ++ replicate k 0) b.variable 0) b.number (get_or_append_left table (replicate k 0) 0 b.variable l ∙ n))
     (subst (λ t. undoes t bs ≡ true) (sym (set-append_left table (replicate k 0) b.variable b.before l)) (longer (set table b.variable b.before) bs k (undone table b bs h))))
 
@@ -70,14 +70,15 @@ pub longer_table : (table longer' : List ℕ) (bound : List Binding) (k : ℕ) �
 longer_table table longer' bound k e h = rw e (longer table (reverse bound) k h)
 
 -- one binding more
-pub bound_more : (table : List ℕ) (bound : List Binding) (b : Binding) → b.variable < length table → b.before ≡ get_or table b.variable 0 → is_table table bound ≡ true → is_table (set table b.variable b.number) (bound ++ b ∷ []) ≡ true
+pub bound_more : (table : List ℕ) (bound : List Binding) (b : Binding) → b.variable < length table → b.before ≡ get_or table b.variable 0 → is_table table bound ≡ true
+    → is_table (set table b.variable b.number) (bound ++ b ∷ []) ≡ true
 bound_more table bound b l e h =
     let table' = set table b.variable b.number in
     let back : set table' b.variable b.before ≡ table = set-set table b.variable b.number b.before ∙ ap (λ y. set table b.variable y) e ∙ set-get_or table b.variable 0 in
     let whole : undoes table' (b ∷ reverse bound) ≡ true =
-    both (nat_lt b.variable (length table')) (nat_eq (get_or table' b.variable 0) b.number && undoes (set table' b.variable b.before) (reverse bound))
+    and_of (nat_lt b.variable (length table')) (nat_eq (get_or table' b.variable 0) b.number && undoes (set table' b.variable b.before) (reverse bound))
     (lt-ltb b.variable (length table') (omega (arith, l, length-set table b.variable b.number)))
-    (both (nat_eq (get_or table' b.variable 0) b.number) (undoes (set table' b.variable b.before) (reverse bound))
+    (and_of (nat_eq (get_or table' b.variable 0) b.number) (undoes (set table' b.variable b.before) (reverse bound))
     (eq-eqb (get_or table' b.variable 0) b.number (get_or-set_same table b.variable b.number 0 l))
     (subst (λ t. undoes t (reverse bound) ≡ true) (sym back) h)) in
     subst (λ bs. undoes table' bs ≡ true) (sym (reverse-append bound (b ∷ []))) whole
@@ -116,7 +117,8 @@ each_turn first place number all scope scope' whole l n s h =
     rw (at, s, add-one) h'
 
 -- and those of new cells
-pub cells_turn : (cells : List NewCell) (place : ℕ) (c : NewCell) (next next' : ℕ) (scope scope' whole : Scope) → place < length cells → c ≡ get_or cells place c → next' ≡ suc next → scope' ≡ (c.variable, next) ∷ scope
+pub cells_turn : (cells : List NewCell) (place : ℕ) (c : NewCell) (next next' : ℕ) (scope scope' whole : Scope) → place < length cells → c ≡ get_or cells place c → next' ≡ suc next
+    → scope' ≡ (c.variable, next) ∷ scope
     → cells_scope (map new_cell (drop place cells)) next scope ≡ whole → cells_scope (map new_cell (drop (place + 1) cells)) next' scope' ≡ whole
 cells_turn cells place c next next' scope scope' whole l is n s h =
     let h' = next_left cells place (λ r. cells_scope (map new_cell r) next scope ≡ whole) c l is h in

@@ -17,7 +17,7 @@ use sch_primitives::{atom, check_heap, part};
 use sch_word::{List, Mem, Place, Stop};
 
 /// The low three bits of a cell's word.
-const CELL_TAG: u32 = 7;
+const CELL_TAG: u32 = CELL as u32;
 
 /// The bytes of a cell.
 const CELL_BYTES: u32 = 16;

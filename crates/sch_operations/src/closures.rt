@@ -8,6 +8,7 @@ ghost use Rattle.sch_operations.specs.ClosureCode.{record_code, records_code};
 use crate::cells::source;
 use sch_asm::Item;
 use sch_control::{Closure, Member, Source};
+use sch_heap::word::PROCEDURE;
 use sch_insn::register::{R12, RCX};
 use sch_insn::{Arg, Insn};
 use sch_places::addresses::{MAX_WORDS, above, body_label, immediate, part_operand, place_operand};
@@ -15,7 +16,7 @@ use sch_primitives::{check_heap, part};
 use sch_word::{List, Mem, Place};
 
 /// The low three bits of a procedure's word.
-const PROCEDURE_TAG: u32 = 4;
+const PROCEDURE_TAG: u32 = PROCEDURE as u32;
 
 /// The bytes of a closure's record. More than those of 32 bits are out of memory.
 fn closure_bytes(c: &Closure<Place>) -> Result<u32, Mem>

@@ -14,7 +14,8 @@ unless_append : (b : Bool) (k : ℕ) (xs : List ℕ) → unless b k [] ++ xs ≡
 unless_append true k xs = refl
 unless_append false k xs = refl
 
-pub others_turn : (parts all all' whole : List ℕ) (k n : ℕ) → k < n → all' ≡ all ++ unless (has k parts) k [] → all ++ others parts (numbers k (n - k)) ≡ whole → all' ++ others parts (numbers (k + 1) (n - (k + 1))) ≡ whole
+pub others_turn : (parts all all' whole : List ℕ) (k n : ℕ) → k < n → all' ≡ all ++ unless (has k parts) k [] → all ++ others parts (numbers k (n - k)) ≡ whole
+    → all' ++ others parts (numbers (k + 1) (n - (k + 1))) ≡ whole
 others_turn parts all all' whole k n l h e =
     let m : n - k ≡ suc (n - (k + 1)) = omega (arith, l) in
     let e' : all ++ others parts (numbers k (suc (n - (k + 1)))) ≡ whole = subst (λ j. all ++ others parts (numbers k j) ≡ whole) m e in
@@ -27,7 +28,8 @@ others_end parts all whole k n l e =
     let m : n - k ≡ 0 = omega (arith, l) in
     sym (append-nil all) ∙ subst (λ j. all ++ others parts (numbers k j) ≡ whole) m e
 
-pub orders_turn : (sites : List ℕ) (bound : List (List ℕ)) (i : ℕ) (parts order : List ℕ) (all all' whole : List (List ℕ)) → i < length sites → i < length bound → parts ≡ get_or bound i parts → order ≡ given_order (get_or sites i 0) parts → all' ≡ all ++ order ∷ []
+pub orders_turn : (sites : List ℕ) (bound : List (List ℕ)) (i : ℕ) (parts order : List ℕ) (all all' whole : List (List ℕ)) → i < length sites → i < length bound → parts ≡ get_or bound i parts
+    → order ≡ given_order (get_or sites i 0) parts → all' ≡ all ++ order ∷ []
     → all ++ given_orders (drop i sites) (drop i bound) ≡ whole → all' ++ given_orders (drop (i + 1) sites) (drop (i + 1) bound) ≡ whole
 orders_turn sites bound i parts order all all' whole l m is o h k =
     let x = get_or sites i 0 in

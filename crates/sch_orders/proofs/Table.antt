@@ -85,7 +85,8 @@ times_others k parts [] = go (has k parts)
     go false = refl
 times_others k parts (x ∷ ks) = go (nat_eq x k) refl (has x parts) refl (times_others k parts ks)
   where
-    go : (b : Bool) → nat_eq x k ≡ b → (c : Bool) → has x parts ≡ c → times k (others parts ks) ≡ cond (has k parts) 0 (times k ks) → times k (unless c x (others parts ks)) ≡ cond (has k parts) 0 (times k (x ∷ ks))
+    go : (b : Bool) → nat_eq x k ≡ b → (c : Bool) → has x parts ≡ c → times k (others parts ks) ≡ cond (has k parts) 0 (times k ks)
+        → times k (unless c x (others parts ks)) ≡ cond (has k parts) 0 (times k (x ∷ ks))
     go true e true i h = let m = eqb-true x k e in let j : has k parts ≡ true = ap (λ z. has z parts) (sym m) ∙ i in rw j (h ∙ rw j refl)
     go true e false i h =
         let m = eqb-true x k e in
@@ -172,7 +173,8 @@ given_fits (width ∷ sites) (parts ∷ bound) h =
     let h' = and_right (list_all (λ k. nat_lt k width) parts) (without_repeats parts && bound_parts sites bound) h in
     let r = and_left (without_repeats parts) (bound_parts sites bound) h' in
     and_of (is_permutation width (given_order width parts)) (begins_with parts (given_order width parts) && fits sites bound (given_orders sites bound))
-    (and_of (nat_eq (length (given_order width parts)) width) (list_all (λ k. nat_eq (times k (given_order width parts)) 1) (numbers 0 width)) (eq-eqb (length (given_order width parts)) width (order_length width parts l r))
+    (and_of (nat_eq (length (given_order width parts)) width) (list_all (λ k. nat_eq (times k (given_order width parts)) 1) (numbers 0 width))
+    (eq-eqb (length (given_order width parts)) width (order_length width parts l r))
     (every_once (λ k. nat_eq (times k (given_order width parts)) 1) 0 width (λ k m. eq-eqb (times k (given_order width parts)) 1 (order_once width parts k r (omega (arith, m))))))
     (and_of (begins_with parts (given_order width parts)) (fits sites bound (given_orders sites bound)) (begins_itself parts (others parts (numbers 0 width)))
     (given_fits sites bound (and_right (without_repeats parts) (bound_parts sites bound) h')))

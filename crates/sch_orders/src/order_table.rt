@@ -33,7 +33,8 @@ fn add_other(k: u32, parts: &[u32], all: &mut List<u32>) -> Result<(), Mem>
 fn order_of(alloc: Global, width: u32, parts: &[u32]) -> Result<List<u32>, Mem>
     ensures { IfOk result (λ order. order ≡ table.given_order width parts.now) }
 {
-    let mut all = List::from_slice(alloc, parts)?;
+    let mut all = List::from_vec(Vec::with_capacity(alloc, width as usize)?);
+    all.extend_from_slice(parts)?;
     for k in 0..width {
         add_other(k, parts, &mut all)?;
     }
@@ -49,7 +50,7 @@ pub(crate) fn orders_of(
     requires { length sites.now ≡ length bound.now }
     ensures { IfOk result (λ orders. orders ≡ table.given_orders sites.now bound.now) }
 {
-    let mut all = List::new(alloc);
+    let mut all = List::from_vec(Vec::with_capacity(alloc, sites.len())?);
     for i in 0..sites.len() {
         all.push(order_of(alloc, sites[i], bound[i].as_slice())?)?;
     }

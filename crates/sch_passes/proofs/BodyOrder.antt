@@ -5,8 +5,8 @@ use Rattle.std.proofs.Math.Seq.{take-append_seam, drop-append_seam}
 use Rattle.sch_word.specs.trees.Shape.{Procedure}
 use Rattle.sch_cells.specs.Tree.{Tree, Trees, Lambdas, Source, constant, literal, variable, global, set_variable, set_global, define, branch, sequence, bind, fix, letrec, lambda, call, operation, new_cells, cell_get, cell_set, no_trees, and_tree, no_lambdas, and_lambda}
 use Rattle.sch_cells.specs.Bodies.{bodies, bodies_each, bodies_lambdas, bodies_forms, bodies_of, form}
-use Rattle.sch_closure.specs.Closed.{procedures, procedures_each, procedures_lambdas, starts}
-use Rattle.sch_closure.specs.Kept.{forms_in, procedures_in}
+use Rattle.sch_closed.specs.Closed.{procedures, procedures_each, procedures_lambdas, starts}
+use Rattle.sch_closed.specs.Kept.{forms_in, procedures_in}
 use Rattle.sch_normal.specs.Counted.{in_order}
 
 -- ## As many bodies as procedures

@@ -2,3 +2,5 @@ mod BodiesKept
 mod BodyOrder
 mod Chain
 mod Examples
+mod Room
+mod RoomExamples

@@ -1,28 +1,32 @@
 //! Which programs the walks have stack for.
 
+ghost use Rattle.std.specs.Prelude.{◌≡◌, ◌&&◌, nat_le};
+ghost use Rattle.sch_lang.specs.ProgramView.{source};
+ghost use Rattle.sch_lang.specs.View.{expression, expressions_of, lambdas_of};
+ghost use Rattle.sch_passes.specs.Walkable as walkable;
+ghost use Rattle.sch_passes.specs.Walkable.{lambda_bodies_fit, max_parts, most_parts, most_parts_each, most_parts_in_turn, inner_bodies_fit, inner_bodies_fit_each, inner_bodies_fit_lambdas};
+
 use sch_lang::{Exp, Lambda, Program};
 use sch_word::List;
 
-/// The most parts of sequences that are done before a place of a body in the same body, since each is a level of the
-/// trees that are made of it.
+/// The most parts of sequences up to a place of a body in the same body, since each is a level of the trees that are
+/// made of it.
 const MAX_PARTS: usize = 10_000;
 
-/// Whether the stack has room for the walks over what is made of a program.
-pub fn is_walkable(p: &Program) -> bool {
-    are_walkable(p.forms.as_slice()) && are_procedures_walkable(p.library.as_slice())
+/// Whether the stack has room for the walks over what is made of a program: no place of a body has more than 10,000
+/// parts of sequences up to it.
+#[tactic(auto, unfolding(crate::specs::Walkable::is_walkable))]
+pub fn is_walkable(p: &Program) -> bool
+    ensures { result ≡ walkable.is_walkable (source p.now) }
+{
+    have_room(&p.forms, MAX_PARTS) && procedures_have_room(&p.library)
 }
 
-fn are_walkable(forms: &[Exp]) -> bool {
-    forms.iter().all(|e| has_room(e, MAX_PARTS))
-}
-
-fn are_procedures_walkable(library: &[Lambda]) -> bool {
-    library.iter().all(|l| has_room(&l.body, MAX_PARTS))
-}
-
-/// Whether no place of an expression has more than `left` parts before it. A procedure's body is one of its own.
+/// Whether no place of an expression has more than `left` parts up to it. A procedure's body is one of its own.
 #[cycle(parts)]
-fn has_room(e: &Exp, left: usize) -> bool {
+fn has_room(e: &Exp, left: usize) -> bool
+    ensures { result ≡ (nat_le (most_parts (expression e.now)) left && inner_bodies_fit max_parts (expression e.now)) }
+{
     match e {
         Exp::Constant(_) | Exp::Literal(_) | Exp::Local(_) | Exp::Global(_) => true,
         Exp::SetLocal(_, e) | Exp::SetGlobal(_, e) | Exp::Define(_, e) => has_room(e, left),
@@ -38,7 +42,9 @@ fn has_room(e: &Exp, left: usize) -> bool {
 
 /// The same of each of several expressions.
 #[cycle(parts)]
-fn have_room(es: &List<Exp>, left: usize) -> bool {
+fn have_room(es: &List<Exp>, left: usize) -> bool
+    ensures { result ≡ (nat_le (most_parts_each (expressions_of es.now)) left && inner_bodies_fit_each max_parts (expressions_of es.now)) }
+{
     for e in es.as_slice() {
         if !has_room(e, left) {
             return false;
@@ -49,7 +55,9 @@ fn have_room(es: &List<Exp>, left: usize) -> bool {
 
 /// The same of the parts of a sequence, each of which is done behind those before it.
 #[cycle(parts)]
-fn has_room_in_turn(es: &List<Exp>, left: usize) -> bool {
+fn has_room_in_turn(es: &List<Exp>, left: usize) -> bool
+    ensures { result ≡ (nat_le (most_parts_in_turn (expressions_of es.now)) left && inner_bodies_fit_each max_parts (expressions_of es.now)) }
+{
     let mut left = left;
     for e in es.as_slice() {
         if left == 0 || !has_room(e, left) {
@@ -62,7 +70,9 @@ fn has_room_in_turn(es: &List<Exp>, left: usize) -> bool {
 
 /// The same of the bodies of several procedures.
 #[cycle(parts)]
-fn procedures_have_room(ls: &List<Lambda>) -> bool {
+fn procedures_have_room(ls: &List<Lambda>) -> bool
+    ensures { result ≡ (lambda_bodies_fit max_parts (lambdas_of ls.now) && inner_bodies_fit_lambdas max_parts (lambdas_of ls.now)) }
+{
     for l in ls.as_slice() {
         if !has_room(&l.body, MAX_PARTS) {
             return false;

@@ -1,5 +1,5 @@
 -- The machine does what operands and primitives do.
-pub mod Selected
+pub mod SelectedPrograms
 pub mod Primitives
 pub mod Operands
 pub mod Operations

@@ -1,23 +1,13 @@
--- A number that is capped at each digit, at the greatest of 64 bits, is the whole number capped, and the cap is
--- no fixnum.
-use Rattle.std.proofs.Common.{◌≡◌, ℕ, ◌+◌, ◌-◌, ◌*◌, ◌^◌, ◌<◌, ◌≤◌, ◌⊎◌, inl, inr, min, arith, sym, ◌∙◌, ap, Bool, true, false, List, refl, T}
-use Rattle.std.specs.Prelude.{ℤ, pos, neg_ℤ, cond, int_le, ◌&&◌, if◌then◌else◌}
-use Rattle.sch_word.specs.values.Fixnum.{IsFixnum}
-use Rattle.sch_word.specs.declared.fix.TheConstants.{FIXNUM_MIN, FIXNUM_MAX}
+-- A number that is capped at the greatest of 64 bits has the token of the whole number: the cap is no fixnum.
+use Rattle.std.proofs.Common.{◌≡◌, ℕ, ◌+◌, ◌-◌, ◌*◌, ◌^◌, ◌<◌, ◌≤◌, ◌⊎◌, inl, inr, min, arith, sym, ◌∙◌, ap, Bool, true, false, List}
+use Rattle.std.specs.Prelude.{ℤ, pos, neg_ℤ, cond, if◌then◌else◌}
 use Rattle.std.specs.Str.Parse.{digits_value, starts_with_minus, without_leading_sign, signed_digits_value}
-use Rattle.std.proofs.Math.Nat.{mul-le-mul_left}
 use Rattle.std.proofs.lemmas.Bool.{cases_lt}
 use Rattle.std.proofs.lemmas.Bool.Decides.{nat_tests}
 use Rattle.sch_read.specs.Grammar.{Plain, Huge, Bad, bad_number, integer}
-use Rattle.sch_read.specs.Lexer.Token.{integer_at, are_digits, number_at}
+use Rattle.sch_lexemes.specs.Numerals.{are_digits}
+use Rattle.sch_read.specs.Lexer.Token.{integer_at, number_at}
 use Rattle.sch_word.specs.values.Fixnum.{is_fixnum}
-
-pub capped_step : (v base d most : ℕ) → 1 ≤ base → min (min (min v most * base) most + d) most ≡ min (v * base + d) most
-capped_step v base d most h =
-    let a : v * 1 ≤ v * base = mul-le-mul_left v h in
-    let b : min v most * 1 ≤ min v most * base = mul-le-mul_left (min v most) h in
-    let c : v ≤ most → min v most * base ≡ v * base = λ k. ap (λ n. n * base) (let e : min v most ≡ v = omega arith in e) in
-    grind arith
 
 positive-large : (v : ℕ) → 2 ^ 64 - 1 ≤ v → is_fixnum (pos v) ≡ false
 positive-large v h = grind (arith, nat_tests)
@@ -54,10 +44,3 @@ number-signed at base numeral size h e =
     ap (λ n. integer_at at (cond (starts_with_minus numeral) (neg_ℤ (pos n)) (pos n))) e
     ∙ capped-signed at (starts_with_minus numeral) (digits_value base (without_leading_sign numeral)) (2 ^ 64 - 1) (omega arith)
     ∙ sym (ap (λ t. if t then integer_at at (signed_digits_value base numeral) else Bad at bad_number) h)
-
-test-true : (b : Bool) → T b → b ≡ true
-test-true true h = refl
-test-true false h = absurd h
-
-pub fixnum_test : (z : ℤ) → IsFixnum z → is_fixnum z ≡ true
-fixnum_test z h = ap (λ t. t && int_le z FIXNUM_MAX) (test-true (int_le FIXNUM_MIN z) h.low.le) ∙ test-true (int_le z FIXNUM_MAX) h.high.le

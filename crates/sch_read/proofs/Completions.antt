@@ -307,15 +307,49 @@ list-back : (n at : ℕ) (xs : Data) (fs : List Frame) (top : Data) (t : Token) 
 list-back n at xs fs top t ts out s g = go (start-back n (Items at xs ∷ fs) top t ts out tt s g)
   where
     go : (d : Datum) × (us : List Token) × ReadsOne n (t ∷ ts) d us × Gets n (Items at xs ∷ fs) top d us out → Completes n (Items at xs ∷ fs) top (t ∷ ts) out
-    go (x, us, r, (d, rest, inl c, g')) = (d, rest, inl (record { ds = cons x c.ds; end_ = c.end_; reads = more n (t ∷ ts) us x c.ds (Close c.end_ ∷ rest) r c.reads; is = c.is ∙ ap (list at) (join-assoc xs (one x) c.ds) }), g')
-    go (x, us, r, (d, rest, inr c, g')) = (d, rest, inr (record { ds = cons x c.ds; dot = c.dot; us = c.us; last = c.last; end_ = c.end_; x = c.x; all = c.all; reads = more n (t ∷ ts) us x c.ds (Dot c.dot ∷ c.us) r c.reads; some = sym (join-assoc xs (one x) c.ds) ∙ c.some; reads_last = c.reads_last; is = c.is }), g')
+    go (x, us, r, (d, rest, inl c, g')) = (
+      d,
+      rest,
+      inl
+          (record { ds = cons x c.ds; end_ = c.end_; reads = more n (t ∷ ts) us x c.ds (Close c.end_ ∷ rest) r c.reads; is = c.is ∙ ap (list at) (join-assoc xs (one x) c.ds) }),
+      g',
+    )
+    go (x, us, r, (d, rest, inr c, g')) = (
+      d,
+      rest,
+      inr
+          (record {
+            ds = cons x c.ds;
+            dot = c.dot;
+            us = c.us;
+            last = c.last;
+            end_ = c.end_;
+            x = c.x;
+            all = c.all;
+            reads = more n (t ∷ ts) us x c.ds (Dot c.dot ∷ c.us) r c.reads;
+            some = sym (join-assoc xs (one x) c.ds) ∙ c.some;
+            reads_last = c.reads_last;
+            is = c.is;
+          }),
+      g',
+    )
 
 vector-back : (n at : ℕ) (xs : Data) (fs : List Frame) (top : Data) (t : Token) (ts : List Token) (out : Data) → IsSound (Elements at xs ∷ fs) →
     IsOkAnd (start n (Elements at xs ∷ fs) top t) (Goes ts out) → Completes n (Elements at xs ∷ fs) top (t ∷ ts) out
 vector-back n at xs fs top t ts out s g = go (start-back n (Elements at xs ∷ fs) top t ts out tt s g)
   where
     go : (d : Datum) × (us : List Token) × ReadsOne n (t ∷ ts) d us × Gets n (Elements at xs ∷ fs) top d us out → Completes n (Elements at xs ∷ fs) top (t ∷ ts) out
-    go (x, us, r, (d, rest, c, g')) = (d, rest, record { ds = cons x c.ds; end_ = c.end_; reads = more n (t ∷ ts) us x c.ds (Close c.end_ ∷ rest) r c.reads; is = c.is ∙ ap (vector at) (join-assoc xs (one x) c.ds) }, g')
+    go (x, us, r, (d, rest, c, g')) = (
+      d,
+      rest,
+      record {
+        ds = cons x c.ds;
+        end_ = c.end_;
+        reads = more n (t ∷ ts) us x c.ds (Close c.end_ ∷ rest) r c.reads;
+        is = c.is ∙ ap (vector at) (join-assoc xs (one x) c.ds);
+      },
+      g',
+    )
 
 read_dot-back : (n at : ℕ) (xs : Data) (fs : List Frame) (top : Data) (p : ℕ) (ts : List Token) (out : Data) →
     IsOkAnd (read_dot n at xs fs top p) (Goes ts out) → Completes n (Items at xs ∷ fs) top (Dot p ∷ ts) out

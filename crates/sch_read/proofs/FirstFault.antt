@@ -32,8 +32,17 @@ some-end (Items at xs ∷ fs) n top s =
     let i = some-get fs (suc n) top (list at xs) s.0 s.1 in
     (Close 0 ∷ i.0, i.1, (list at xs, i.0, inl (record { ds = none; end_ = 0; reads = end n (Close 0 ∷ i.0); is = ap (list at) (sym (join-none xs)) }), i.2))
 some-end (AfterDot at xs ∷ fs) n top s =
-    let i = some-get fs (suc n) top (with_tail at xs (atom 0 (boolean true))) s.0 s.1 in
-    (Plain 0 (boolean true) ∷ Close 0 ∷ i.0, i.1, (with_tail at xs (atom 0 (boolean true)), i.0, record { last = atom 0 (boolean true); end_ = 0; reads = plain n 0 (boolean true) (Close 0 ∷ i.0); is = refl }, i.2))
+    let i = some-get fs (suc n) top (with_tail at xs (atom 0 (boolean true))) s.0 s.1 in (
+      Plain 0 (boolean true) ∷ Close 0 ∷ i.0,
+      i.1,
+      (
+        with_tail at xs
+            (atom 0 (boolean true)),
+        i.0,
+        record { last = atom 0 (boolean true); end_ = 0; reads = plain n 0 (boolean true) (Close 0 ∷ i.0); is = refl },
+        i.2,
+      ),
+    )
 some-end (Tail at xs last ∷ fs) n top s =
     let i = some-get fs (suc n) top (with_tail at xs last) s.0 s.1 in
     (Close 0 ∷ i.0, i.1, (with_tail at xs last, i.0, record { end_ = 0; next = refl; is = refl }, i.2))
@@ -225,7 +234,8 @@ kind-same W V T S (Open p o) f to from tos froms (inl k) = inl (tos k.0, k.1)
 kind-same W V T S (Open p o) f to from tos froms (inr k) = inr ((λ v. k.0 (froms v)), k.1)
 
 -- one more token in front
-later : (ms ns : List Mark) (C D : List Token → Data → Type 0) (t : Token) (ts : List Token) (f : Fault) → ((us : List Token) (o : Data) → C (t ∷ us) o → D us o) → ((us : List Token) (o : Data) → D us o → C (t ∷ us) o) → ns ≡ opened ms t →
+later : (ms ns : List Mark) (C D : List Token → Data → Type 0) (t : Token) (ts : List Token) (f : Fault) → ((us : List Token) (o : Data) → C (t ∷ us) o → D us o)
+    → ((us : List Token) (o : Data) → D us o → C (t ∷ us) o) → ns ≡ opened ms t →
     Stops D ts f ⊎ Short ns D ts f → Stops C (t ∷ ts) f ⊎ Short ms C (t ∷ ts) f
 later ms ns C D t ts f to from same (inl h) = inl (record {
   front = t ∷ h.front;

@@ -7,7 +7,5 @@ pub mod FrameStack
 pub mod CappedNumbers
 pub mod Weights
 pub mod Validity
-pub mod RoundTrip
 pub mod ReleaseEffort
-pub mod PrinterTasks
 pub mod texts

@@ -6,13 +6,16 @@ use Rattle.std.proofs.lemmas.Bool.{cases_lt}
 use Rattle.std.proofs.lemmas.Bool.Decides.{nat_tests}
 use Rattle.std.specs.Char.{to_ascii_lowercase, is_ascii_alphabetic}
 use Rattle.std.specs.Str.{bytes_eq}
-use Rattle.sch_read.specs.Lexer.Letters.{folded, is_initial, is_subsequent}
+use Rattle.sch_lexemes.specs.Letters.{folded, is_initial, is_subsequent}
 use Rattle.std.proofs.lemmas.Slice.Eq.{bytes_eq-Decides}
 use Rattle.std.specs.Str.Parse.{without_leading_sign, signed_digits_value}
 use Rattle.std.proofs.Common.{length}
-use Rattle.sch_read.specs.Lexer.Letters.{is_white}
-use Rattle.sch_read.specs.Lexer.Lexeme.{is_empty}
-use Rattle.sch_read.specs.Lexer.Token.{is_identifier, token_at, word_at, name_at, number_at, integer_at, character_at, string_at, string_of, Content, Whole, Unended, NoEscape, content, is_number_like, is_character, are_digits, base_of, numeral_of}
+use Rattle.sch_word.proofs.facts.Booleans.{and_parts, and_of, or_left}
+use Rattle.sch_lexemes.specs.Letters.{is_white}
+use Rattle.sch_lexemes.specs.Lexeme.{is_empty}
+use Rattle.sch_lexemes.specs.Numerals.{is_number_like, are_digits, base_of, numeral_of}
+use Rattle.sch_lexemes.specs.Identifiers.{is_identifier}
+use Rattle.sch_read.specs.Lexer.Token.{token_at, word_at, name_at, number_at, integer_at, character_at, string_at, string_of, Content, Whole, Unended, NoEscape, content, is_character}
 use Rattle.sch_word.specs.values.Fixnum.{is_fixnum}
 use Rattle.sch_read.specs.Grammar.{Token, Open, Close, Dot, Plain, Huge, Bad, parenthesis, hash_parenthesis, quote_mark, bad_token, bad_number, boolean, integer, character, symbol, Datum, Data, atom, list, dotted, vector, none, cons, join, with_tail, ReadsOne, ReadsMany, plain, listed, with_dot, elements, quotes, end, more}
 use Rattle.sch_read.specs.Lexer.Cut.{Cuts, nothing, lexeme}
@@ -31,23 +34,9 @@ lower-cases c = go (cases_lt c 65) (cases_lt c 91)
 lower-twice : (c : ℕ) → to_ascii_lowercase (to_ascii_lowercase c) ≡ to_ascii_lowercase c
 lower-twice c = grind (arith, nat_tests)
 
-pub and-parts : (a b : Bool) → a && b ≡ true → (a ≡ true) × (b ≡ true)
-and-parts true b h = (refl, h)
-and-parts false b h = cc
-
-pub and-whole : (a b : Bool) → a ≡ true → b ≡ true → a && b ≡ true
-and-whole a b h k = ap (λ t. t && b) h ∙ k
-
 pub or-parts : (a b : Bool) → a || b ≡ true → (a ≡ true) ⊎ (b ≡ true)
 or-parts true b h = inl refl
 or-parts false b h = inr h
-
-pub or-left : (a b : Bool) → a ≡ true → a || b ≡ true
-or-left a b h = ap (λ t. t || b) h
-
-or-right : (a b : Bool) → b ≡ true → a || b ≡ true
-or-right true b h = refl
-or-right false b h = h
 
 pub same-bytes : (xs ys : List ℕ) → bytes_eq xs ys ≡ true → xs ≡ ys
 same-bytes xs ys e = (bytes_eq-Decides xs ys).0 e
@@ -57,20 +46,20 @@ initial-lower c h = go (lower-cases c)
   where
     go : (to_ascii_lowercase c ≡ c) ⊎ (is_ascii_alphabetic (to_ascii_lowercase c) ≡ true) → is_initial (to_ascii_lowercase c) ≡ true
     go (inl e) = ap is_initial e ∙ h
-    go (inr e) = or-left (is_ascii_alphabetic (to_ascii_lowercase c)) _ e
+    go (inr e) = or_left (is_ascii_alphabetic (to_ascii_lowercase c)) _ e
 
 subsequent-lower : (c : ℕ) → is_subsequent c ≡ true → is_subsequent (to_ascii_lowercase c) ≡ true
 subsequent-lower c h = go (lower-cases c)
   where
     go : (to_ascii_lowercase c ≡ c) ⊎ (is_ascii_alphabetic (to_ascii_lowercase c) ≡ true) → is_subsequent (to_ascii_lowercase c) ≡ true
     go (inl e) = ap is_subsequent e ∙ h
-    go (inr e) = or-left (is_initial (to_ascii_lowercase c)) _ (or-left (is_ascii_alphabetic (to_ascii_lowercase c)) _ e)
+    go (inr e) = or_left (is_initial (to_ascii_lowercase c)) _ (or_left (is_ascii_alphabetic (to_ascii_lowercase c)) _ e)
 
 all-subsequent-lower : (bs : List ℕ) → list_all is_subsequent bs ≡ true → list_all is_subsequent (folded bs) ≡ true
 all-subsequent-lower [] h = refl
 all-subsequent-lower (b ∷ bs) h =
-    let p = and-parts (is_subsequent b) (list_all is_subsequent bs) h in
-    and-whole (is_subsequent (to_ascii_lowercase b)) (list_all is_subsequent (folded bs)) (subsequent-lower b p.0) (all-subsequent-lower bs p.1)
+    let p = and_parts (is_subsequent b) (list_all is_subsequent bs) h in
+    and_of (is_subsequent (to_ascii_lowercase b)) (list_all is_subsequent (folded bs)) (subsequent-lower b p.0) (all-subsequent-lower bs p.1)
 
 pub folded-folded : (bs : List ℕ) → folded (folded bs) ≡ folded bs
 folded-folded [] = refl
@@ -95,8 +84,8 @@ identifier-folded (b ∷ bs) h = go (or-parts (is_initial b && list_all is_subse
     go : (is_initial b && list_all is_subsequent bs ≡ true) ⊎ (bytes_eq (b ∷ bs) (codes "+") || (bytes_eq (b ∷ bs) (codes "-") || bytes_eq (b ∷ bs) (codes "...")) ≡ true) →
         is_identifier (folded (b ∷ bs)) ≡ true
     go (inl e) =
-        let p = and-parts (is_initial b) (list_all is_subsequent bs) e in
-        or-left _ _ (and-whole (is_initial (to_ascii_lowercase b)) (list_all is_subsequent (folded bs)) (initial-lower b p.0) (all-subsequent-lower bs p.1))
+        let p = and_parts (is_initial b) (list_all is_subsequent bs) e in
+        or_left _ _ (and_of (is_initial (to_ascii_lowercase b)) (list_all is_subsequent (folded bs)) (initial-lower b p.0) (all-subsequent-lower bs p.1))
     go (inr e) = peculiar-folded (b ∷ bs) e
 
 -- tokens whose symbols are valid

@@ -9,6 +9,4 @@ pub mod Parts
 pub mod Answer
 pub mod Valid
 pub mod Levels
-pub mod Printed
-pub mod Printer
 pub mod ReleaseEffort

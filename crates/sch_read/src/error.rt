@@ -1,3 +1,5 @@
+//! Why a text is refused.
+
 ghost use Rattle.std.specs.Prelude.{◌≡◌, ⊤};
 ghost use Rattle.sch_read.specs.Fault.{Flawed};
 ghost use Rattle.sch_read.specs.Parser.StackView.{Fails};

@@ -3,16 +3,15 @@
 ghost use Rattle.std.specs.Prelude.{◌≡◌, ℕ, ◌+◌, ◌<◌, ◌^◌, IfOk, drop, length};
 ghost use Rattle.std.specs.Char.{to_ascii_lowercase};
 ghost use Rattle.std.specs.Str.{bytes_eq};
-ghost use Rattle.std.specs.List.{list_all};
-ghost use Rattle.sch_read.specs.Lexer.Letters.{folded, is_subsequent as subsequent};
+ghost use Rattle.sch_lexemes.specs.Letters.{folded};
 ghost use Rattle.sch_read.specs.Lexer.Token as tokens;
 ghost use Rattle.sch_read.specs.Lexer.TokenView.{token_of, tokens_of};
 
 use crate::datum::Atom;
-use crate::letters::{is_initial, is_subsequent, is_white};
-use crate::numeral::{byte_at, is_number_like, number_token};
+use crate::numeral::number_token;
 use crate::strings::string_token;
 use crate::token::{Flaw, Opener, Placed, Token};
+use sch_lexemes::{byte_at, is_identifier, is_number_like, is_white};
 use sch_word::{Bytes, List, Mem};
 use std::alloc::Global;
 
@@ -45,26 +44,6 @@ fn named_character(name: &[u8]) -> Token
         Token::Plain(Atom::Character(b'\n'))
     } else {
         Token::Bad(Flaw::Token)
-    }
-}
-
-fn all_subsequent(bytes: &[u8]) -> bool
-    ensures { result ≡ list_all subsequent bytes.now }
-{
-    bytes.iter().all(|b| is_subsequent(*b))
-}
-
-fn is_identifier(word: &[u8]) -> bool
-    ensures { result ≡ tokens.is_identifier word.now }
-{
-    match word {
-        [] => false,
-        [first, rest @ ..] => {
-            is_initial(*first) && all_subsequent(rest)
-                || word == b"+".as_slice()
-                || word == b"-".as_slice()
-                || word == b"...".as_slice()
-        }
     }
 }
 

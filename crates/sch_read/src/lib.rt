@@ -1,15 +1,12 @@
-//! The reader: the bytes of a text to its data, and data to bytes.
+//! The reader: the bytes of a text to its data.
 #![tactic(auto)]
 
 mod datum;
 mod error;
 mod laws;
-mod letters;
-mod lexeme;
 mod lexer;
 mod numeral;
 mod parser;
-mod printer;
 mod reader;
 mod release;
 mod strings;
@@ -22,5 +19,4 @@ pub use laws::{
     a_text_has_one_fault, a_text_spells_data_or_has_a_fault, a_text_spells_one_list_of_data,
 };
 pub use parser::MAX_NESTING;
-pub use printer::print;
 pub use reader::read_all;

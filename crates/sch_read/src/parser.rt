@@ -5,7 +5,7 @@ ghost use Rattle.sch_read.specs.Text.{max_nesting};
 
 use crate::datum::Datum;
 use crate::error::{ReadError, flawed};
-use crate::token::{Flaw, Opener, Token};
+use crate::token::{Flaw, Opener, Placed, Token};
 use crate::trees::{append_reversed, elements, listed, plain, quote, tailed, turned};
 use sch_word::{List, Mem};
 use std::alloc::Global;
@@ -44,7 +44,7 @@ impl Parser {
     ghost use Rattle.sch_read.specs.Grammar.{none, Open};
     ghost use Rattle.sch_read.specs.Views.{tree_of, data_of};
     ghost use Rattle.sch_read.specs.Parser.StackView.{state_of, stack_of, frame_of, StepsTo};
-    ghost use Rattle.sch_read.specs.Lexer.TokenView.{token_of, opener_of};
+    ghost use Rattle.sch_read.specs.Lexer.TokenView.{token_of, placed_of, opener_of};
 
     /// Nothing is read yet.
     pub(crate) fn new(alloc: Global) -> Parser
@@ -214,13 +214,13 @@ impl Parser {
         place: u32,
         items: List<Datum>,
         last: Datum,
-        at: u32,
-        token: Token,
+        met: Placed,
     ) -> Result<(), ReadError>
         requires { self.old.spare + vec_len self.old.frames < max_nesting }
         ensures { StepsTo result (in_tail self.old.spare place (data_of (reverse items)) (tree_of last)
-            (stack_of self.old.frames.items) (data_of self.old.top) (token_of at token)) (state_of self.new) }
+            (stack_of self.old.frames.items) (data_of self.old.top) (placed_of met)) (state_of self.new) }
     {
+        let Placed { at, token } = met;
         match token {
             Token::Close => {
                 self.shut(place, items, last)?;
@@ -268,7 +268,12 @@ impl Parser {
             None => self.at_top(at, token),
             Some(Frame::Items(place, items)) => self.in_list(place, items, at, token),
             Some(Frame::Elements(place, items)) => self.in_vector(place, items, at, token),
-            Some(Frame::Tail(place, items, last)) => self.in_tail(place, items, last, at, token),
+            Some(Frame::Tail(place, items, last)) => self.in_tail(
+                place,
+                items,
+                last,
+                Placed { at, token },
+            ),
             Some(frame) => {
                 self.push(frame)?;
                 self.start(at, token)

@@ -197,7 +197,7 @@ pub(crate) fn rename_each(
     ensures next { OnOk result (next.new ≡ next.old + binds_each (expressions_of es.now)) }
     ensures scope { OnOk result (scope.new.items ≡ scope.old.items) }
 {
-    let mut all = List::new(alloc);
+    let mut all = List::from_vec(Vec::with_capacity(alloc, es.len())?);
     for e in es.as_slice() {
         all.push(rename_expression(alloc, e, scope, next)?)?;
     }
@@ -250,7 +250,7 @@ pub(crate) fn rename_lambdas(
     ensures next { OnOk result (next.new ≡ next.old + binds_lambdas (lambdas_of ls.now)) }
     ensures scope { OnOk result (scope.new.items ≡ scope.old.items) }
 {
-    let mut all = List::new(alloc);
+    let mut all = List::from_vec(Vec::with_capacity(alloc, ls.len())?);
     for l in ls.as_slice() {
         all.push(rename_lambda(alloc, l, scope, next)?)?;
     }

@@ -58,8 +58,10 @@ limit (suc j) = 10 * limit j
 module _ (setting : Setting) where
   open setting use {place_of}
 
-  divided : (y : View) (next q r : ℕ) → quotient_of (y.registers RDX) (y.registers RAX) (y.registers RCX) ≡ Ok (q, r) → perform (Idiv (Reg RCX)) next (full setting y) ≡ Runs (full setting (record y { registers = set_register (set_register y.registers RAX q) RDX r; flags = unknown_flags; place = next }))
-  divided y next q r e = ap (λ (o : Result (ℕ × ℕ) StuckCause). moved (full setting y) (when_ok o (λ p. Ok (with_flags unknown_flags (with_register RDX p.1 (with_register RAX p.0 (with_place next (full setting y).core))))))) e
+  divided : (y : View) (next q r : ℕ) → quotient_of (y.registers RDX) (y.registers RAX) (y.registers RCX) ≡ Ok (q, r)
+      → perform (Idiv (Reg RCX)) next (full setting y) ≡ Runs (full setting (record y { registers = set_register (set_register y.registers RAX q) RDX r; flags = unknown_flags; place = next }))
+  divided y next q r e = ap (λ (o : Result (ℕ × ℕ) StuckCause). moved (full setting y)
+      (when_ok o (λ p. Ok (with_flags unknown_flags (with_register RDX p.1 (with_register RAX p.0 (with_place next (full setting y).core))))))) e
 
   -- A view in which a piece has been begun, from its end on: what has become of an earlier view.
   pub record Begun (z y : View) (piece : List ℕ) (room : ℕ) : Type 0 where
@@ -76,7 +78,8 @@ module _ (setting : Setting) where
     pub answers_are : y.answers ≡ z.answers
 
   -- one byte more, where rsi has gone down by one
-  pub longer : (z x y : View) (piece : List ℕ) (room v : ℕ) → Begun z x piece (suc room) → 512 ≤ length z.bytes → y.registers RSI ≡ x.registers RSI - 1 → y.bytes ≡ with_byte x.bytes (x.registers RSI - 1) v → y.registers RDI ≡ x.registers RDI → y.registers R11 ≡ x.registers R11 →
+  pub longer : (z x y : View) (piece : List ℕ) (room v : ℕ) → Begun z x piece (suc room) → 512 ≤ length z.bytes → y.registers RSI ≡ x.registers RSI - 1
+      → y.bytes ≡ with_byte x.bytes (x.registers RSI - 1) v → y.registers RDI ≡ x.registers RDI → y.registers R11 ≡ x.registers R11 →
       ((r : ℕ) → is_other r ≡ true → y.registers r ≡ x.registers r) → y.output ≡ x.output → y.answers ≡ x.answers → Begun z y (v ∷ piece) room
   longer z x y piece room v b long e f g h i j k =
       let low = b.low in
@@ -121,7 +124,8 @@ module _ (setting : Setting) where
     test : condition y.flags NE ≡ Some (not (x.registers RAX / 10 == 0))
     ahead : Stands setting [] y.place (JumpIf NE digit_label ∷ sign_code)
 
-  digit : (z x : View) (piece : List ℕ) (room : ℕ) → Stands setting [] x.place digit_code → x.registers RAX < 2 ^ 63 → x.registers RCX ≡ 10 → 512 ≤ length z.bytes → Begun z x piece (suc room) → Digit z x piece room
+  digit : (z x : View) (piece : List ℕ) (room : ℕ) → Stands setting [] x.place digit_code → x.registers RAX < 2 ^ 63 → x.registers RCX ≡ 10 → 512 ≤ length z.bytes → Begun z x piece (suc room)
+      → Digit z x piece room
   digit z x piece room h small ten long b =
       let n = x.registers RAX in
       let p = x.registers RSI in
@@ -159,7 +163,8 @@ module _ (setting : Setting) where
       }
 
   -- the digit was the first one, or the loop goes on
-  closes : (z x : View) (piece more : List ℕ) (room j : ℕ) (d : Digit z x piece (suc room)) (t : Bool) → (x.registers RAX / 10 == 0) ≡ t → (t ≡ false → Printed z (record (d.y) { place = place_of digit_label }) more j) → Printed z x (if t then digit_glyph false (x.registers RAX % 10) ∷ piece else more) (7 + j)
+  closes : (z x : View) (piece more : List ℕ) (room j : ℕ) (d : Digit z x piece (suc room)) (t : Bool) → (x.registers RAX / 10 == 0) ≡ t
+      → (t ≡ false → Printed z (record (d.y) { place = place_of digit_label }) more j) → Printed z x (if t then digit_glyph false (x.registers RAX % 10) ∷ piece else more) (7 + j)
   closes z x piece more room j d true e next =
       let h = d.ahead in
       let y : View = record (d.y) { place = d.y.place + h.0 } in
@@ -170,7 +175,19 @@ module _ (setting : Setting) where
         most = 7;
         leads = leads_on setting.marks d.leads (branches setting d.y NE digit_label sign_code [] false h (d.test ∙ ap (λ t. Some (not t)) e));
         few = omega arith;
-        begun = record { digits = b.digits; end = b.end; low = (let l = b.low in omega (arith, l)); rdi_is = b.rdi_is; r11_is = b.r11_is; registers = b.registers; size = b.size; words = b.words; others = b.others; output_is = b.output_is; answers_are = b.answers_are };
+        begun = record {
+          digits = b.digits;
+          end = b.end;
+          low = (let l = b.low in omega (arith, l));
+          rdi_is = b.rdi_is;
+          r11_is = b.r11_is;
+          registers = b.registers;
+          size = b.size;
+          words = b.words;
+          others = b.others;
+          output_is = b.output_is;
+          answers_are = b.answers_are;
+        };
         ahead = h.4;
       }
   closes z x piece more room j d false e next =
@@ -188,13 +205,15 @@ module _ (setting : Setting) where
 
   module _ (digit_stands : Stands setting [] (place_of digit_label) digit_code) where
     -- From `digit_label` on, rax has the number and rcx ten.
-    pub prints : (j f : ℕ) (z x : View) (piece : List ℕ) → j ≤ f → x.place ≡ place_of digit_label → x.registers RAX < limit j → x.registers RAX < 2 ^ 63 → x.registers RCX ≡ 10 → 512 ≤ length z.bytes → Begun z x piece (suc (suc j)) →
+    pub prints : (j f : ℕ) (z x : View) (piece : List ℕ) → j ≤ f → x.place ≡ place_of digit_label → x.registers RAX < limit j → x.registers RAX < 2 ^ 63 → x.registers RCX ≡ 10
+        → 512 ≤ length z.bytes → Begun z x piece (suc (suc j)) →
         Printed z x (digits_onto (suc f) 10 false (x.registers RAX) piece) (7 + 7 * j)
     prints zero f z x piece le at lt small ten long b =
         let h = subst (λ a. Stands setting [] a digit_code) (sym at) digit_stands in
         let d = digit z x piece 1 h small ten long b in
         let none : x.registers RAX / 10 ≡ 0 = omega (arith, lt) in
-        closes z x piece (digits_onto f 10 false (x.registers RAX / 10) (digit_glyph false (x.registers RAX % 10) ∷ piece)) 0 0 d (x.registers RAX / 10 == 0) refl (λ e. absurd (eqb-false (x.registers RAX / 10) 0 e none))
+        closes z x piece (digits_onto f 10 false (x.registers RAX / 10) (digit_glyph false (x.registers RAX % 10) ∷ piece)) 0 0 d (x.registers RAX / 10 == 0) refl
+        (λ e. absurd (eqb-false (x.registers RAX / 10) 0 e none))
     prints (suc j) zero z x piece le at lt small ten long b = absurd (omega (arith, le))
     prints (suc j) (suc f) z x piece le at lt small ten long b =
         let h = subst (λ a. Stands setting [] a digit_code) (sym at) digit_stands in
@@ -205,5 +224,18 @@ module _ (setting : Setting) where
         closes z x piece more (suc j) (7 * suc j) d (x.registers RAX / 10 == 0) refl
         (λ e. subst (Printed z (record (d.y) { place = place_of digit_label }) more) bound
         (subst (λ n. Printed z (record (d.y) { place = place_of digit_label }) (digits_onto (suc f) 10 false n (digit_glyph false (x.registers RAX % 10) ∷ piece)) (7 + 7 * j)) rest
-        (prints j f z (record (d.y) { place = place_of digit_label }) (digit_glyph false (x.registers RAX % 10) ∷ piece) (omega (arith, le)) refl (omega (arith, rest, lt)) (omega (arith, rest, small)) d.ten long
-        (let b = d.begun in record { digits = b.digits; end = b.end; low = b.low; rdi_is = b.rdi_is; r11_is = b.r11_is; registers = b.registers; size = b.size; words = b.words; others = b.others; output_is = b.output_is; answers_are = b.answers_are }))))
+        (prints j f z (record (d.y) { place = place_of digit_label }) (digit_glyph false (x.registers RAX % 10) ∷ piece) (omega (arith, le)) refl (omega (arith, rest, lt))
+        (omega (arith, rest, small)) d.ten long
+        (let b = d.begun in record {
+          digits = b.digits;
+          end = b.end;
+          low = b.low;
+          rdi_is = b.rdi_is;
+          r11_is = b.r11_is;
+          registers = b.registers;
+          size = b.size;
+          words = b.words;
+          others = b.others;
+          output_is = b.output_is;
+          answers_are = b.answers_are;
+        }))))

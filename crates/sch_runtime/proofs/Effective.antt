@@ -15,7 +15,7 @@ use Rattle.sch_asm.specs.Effects.{AreEffective, Effect, Stops}
 use Rattle.sch_asm.proofs.Standing.{stands_back, stands_part}
 use Rattle.sch_runtime.specs.Code.{digit_code, digit_label, done_code, done_label, exit_code, exits, fixnum_code, fixnum_items, fixnum_label, fill_items, bytes_code, bytes_items, bytes_label, words_code, words_label, loop_code, loop_label, positive_code, positive_label, put_code, put_items, put_label, ready_code, ready_label, routine_items, statuses, write_code, write_label}
 use Rattle.sch_runtime.proofs.Exits.{exits_here}
-use Rattle.sch_runtime.proofs.Putting as putting
+use Rattle.sch_runtime.proofs.PutRoutine as putting
 use Rattle.sch_runtime.proofs.PutFixnum.{puts_fixnum}
 use Rattle.sch_runtime.proofs.FillLoop.{fills_bytes, fills_words}
 
@@ -72,7 +72,8 @@ module _ (setting : Setting) where
         bytes = stands_part setting bytes_label bytes_code [] [] k.0 k.1;
       }
 
-  stop_here : (s : Stop) → Stands setting [] (place_of (label_of (routine.Stop s))) (exit_code (status_of s)) → (x : View) → x.place ≡ place_of (label_of (routine.Stop s)) → Stops setting x 3 (status_of s) x.output x.answers
+  stop_here : (s : Stop) → Stands setting [] (place_of (label_of (routine.Stop s))) (exit_code (status_of s)) → (x : View) → x.place ≡ place_of (label_of (routine.Stop s))
+      → Stops setting x 3 (status_of s) x.output x.answers
   stop_here s h x at = exits_here setting x (status_of s) (low s) (subst (λ a. Stands setting [] a (exit_code (status_of s))) (sym at) h)
     where
       low : (s : Stop) → status_of s < 256

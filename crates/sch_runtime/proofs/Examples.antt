@@ -1,7 +1,7 @@
 -- Small programs joined with the routines, run by the machine.
 use Rattle.std.proofs.Common.{◌≡◌, ℕ, List, [], ◌∷◌, ◌++◌, Option, Some, refl}
 use Rattle.std.specs.List.{flat_map}
-use Rattle.std.specs.Prelude.{codes, map, pos, negsuc, replicate, slice_index, ℤ}
+use Rattle.std.specs.Prelude.{codes, pos, negsuc, replicate, slice_index, ℤ}
 use Rattle.sch_word.specs.runs.ProgramLayout.{text_address}
 use Rattle.sch_word.specs.declared.answer.Answer.{Answer}
 use Rattle.sch_word.specs.declared.answer.Answer.TheVariants.{Took, Failed}
@@ -19,9 +19,9 @@ use Rattle.sch_asm.specs.declared.item.Item.TheVariants.{Label, Plain, Jump, Loa
 use Rattle.sch_asm.specs.declared.routine.Routine.{Routine}
 use Rattle.sch_asm.specs.declared.routine.Routine.TheVariants.{End, Stop, Put, PutFixnum, FillWords, FillBytes}
 use Rattle.sch_asm.specs.Routines.{label_of}
-use Rattle.sch_asm.specs.Codes.{item_size, text_size}
+use Rattle.sch_asm.specs.Codes.{text_size}
 use Rattle.sch_asm.specs.Data.{data_at}
-use Rattle.sch_asm.specs.Layout.{addresses_from, emitted, placed}
+use Rattle.sch_asm.specs.Layout.{emitted_from, placed_from}
 use Rattle.sch_asm.specs.Views.{text_at}
 use Rattle.sch_runtime.specs.Code.{routine_items}
 
@@ -33,9 +33,8 @@ routine_bytes = refl
 abbrev text_of : List Item → List ℕ
 text_of items =
     let all = items ++ routine_items in
-    let addresses = addresses_from text_address (map item_size all) in
-    let places = placed (slice_index addresses) all 0 (replicate 1030 0) in
-    flat_map spelling (emitted (slice_index places) (slice_index addresses) 0 all)
+    let places = placed_from text_address all (replicate 1030 0) in
+    flat_map spelling (emitted_from (slice_index places) text_address all)
 
 -- how it ends within 400 steps, where some bytes stand behind the routines' own words
 abbrev ends : List Item → List ℕ → List Answer → Option (ℕ × List ℕ)

@@ -34,7 +34,8 @@ module _ (setting : Setting) where
       }
 
   -- after some steps
-  pub stops_after : (x y : View) (a b c bound status : ℕ) (output : List ℕ) (left : List Answer) → Leads setting a b [] x y → Stops setting y c status output left → b + c + 10 * length y.answers ≤ bound + 10 * length x.answers → Stops setting x bound status output left
+  pub stops_after : (x y : View) (a b c bound status : ℕ) (output : List ℕ) (left : List Answer) → Leads setting a b [] x y → Stops setting y c status output left
+      → b + c + 10 * length y.answers ≤ bound + 10 * length x.answers → Stops setting x bound status output left
   stops_after x y a b c bound status output left p s le = record {
     last = s.last;
     least = a + s.least;

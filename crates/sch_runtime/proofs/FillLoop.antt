@@ -85,7 +85,8 @@ module _ (setting : Setting) where
           let y3 : View = record y2 { place = x.registers R11 } in
           record {
             y = y3;
-            leads = leads_on setting.marks (leads_on setting.marks (goes setting x y1 (CmpNumber (Reg RDX) (pos 0)) h.0 [] h.1 refl) (branches setting y1 NE turn (Plain (JumpTo (Reg R11)) ∷ []) [] false h.2 is))
+            leads = leads_on setting.marks (leads_on setting.marks (goes setting x y1 (CmpNumber (Reg RDX) (pos 0)) h.0 [] h.1 refl)
+                (branches setting y1 NE turn (Plain (JumpTo (Reg R11)) ∷ []) [] false h.2 is))
                 (goes setting y2 y3 (JumpTo (Reg R11)) h2.0 [] h2.1 refl);
             at = refl;
             registers = λ r e f. refl;
@@ -122,7 +123,11 @@ module _ (setting : Setting) where
           let h2 = turn_stands in
           let y3 : View = record y2 { bytes = put_bytes x.bytes k element; place = y2.place + h2.0 } in
           let h3 = h2.2 in
-          let y4 : View = record y3 { registers = set_register x.registers RAX (add64 (x.registers RAX) (word (pos size))); flags = (sum_of (x.registers RAX) (word (pos size))).flags; place = y3.place + h3.0 } in
+          let y4 : View = record y3 {
+            registers = set_register x.registers RAX (add64 (x.registers RAX) (word (pos size)));
+            flags = (sum_of (x.registers RAX) (word (pos size))).flags;
+            place = y3.place + h3.0;
+          } in
           let h4 = h3.2 in
           let y5 : View = record y4 { registers = set_register y4.registers RDX (sub64 (x.registers RDX) 1); flags = (difference_of (x.registers RDX) 1).flags; place = y4.place + h4.0 } in
           let same = size_put x.bytes k element (omega (arith, low, high, both)) in
@@ -175,7 +180,8 @@ module _ (setting : Setting) where
           }
 
     -- the routine
-    fills : (label : ℕ) → Stands setting [] (place_of label) (fill_code store size turn test) → (x : View) (a n total : ℕ) (AreFilled : List ℕ → Type 0) → x.place ≡ place_of label → IsReady x → HasRoom x a n total → x.registers RCX ≡ w →
+    fills : (label : ℕ) → Stands setting [] (place_of label) (fill_code store size turn test) → (x : View) (a n total : ℕ) (AreFilled : List ℕ → Type 0) → x.place ≡ place_of label → IsReady x
+        → HasRoom x a n total → x.registers RCX ≡ w →
         length (repeated n element) ≡ total → n ≤ total → AreFilled (put_bytes x.bytes (a - 0x10000000) (repeated n element)) → Fills setting x a total (5 * n + 4) AreFilled
     fills label stands x a n total AreFilled at ready room is all within filled =
         let low = room.low in
@@ -220,16 +226,19 @@ module _ (setting : Setting) where
           left_is = r.left_is;
         }
 
-  pub fills_words : Stands setting [] (place_of words_label) words_code → (x : View) (a n w : ℕ) → x.place ≡ place_of words_label → IsReady x → HasRoom x a n (8 * n) → x.registers RCX ≡ w → w < 2 ^ 64 → Fills setting x a (8 * n) (5 * n + 4) (AreWords a n w)
+  pub fills_words : Stands setting [] (place_of words_label) words_code → (x : View) (a n w : ℕ) → x.place ≡ place_of words_label → IsReady x → HasRoom x a n (8 * n) → x.registers RCX ≡ w
+      → w < 2 ^ 64 → Fills setting x a (8 * n) (5 * n + 4) (AreWords a n w)
   fills_words stands x a n w at ready room is fits =
       let low = room.low in
       let high = room.high in
       fills word_store 8 words_turn words_test w (to_le_bytes w64 w) (word_stores w) refl refl words_label stands x a n (8 * n) (AreWords a n w) at ready room is (length_words n w) (omega arith)
       (words_put x.bytes a n w (omega (arith, low)) (omega (arith, high)) fits)
 
-  pub fills_bytes : Stands setting [] (place_of bytes_label) bytes_code → (x : View) (a n b : ℕ) → x.place ≡ place_of bytes_label → IsReady x → HasRoom x a n n → x.registers RCX % 256 ≡ b → Fills setting x a n (5 * n + 4) (AreBytes a n b)
+  pub fills_bytes : Stands setting [] (place_of bytes_label) bytes_code → (x : View) (a n b : ℕ) → x.place ≡ place_of bytes_label → IsReady x → HasRoom x a n n → x.registers RCX % 256 ≡ b
+      → Fills setting x a n (5 * n + 4) (AreBytes a n b)
   fills_bytes stands x a n b at ready room is =
       let low = room.low in
       let high = room.high in
-      fills byte_store 1 bytes_turn bytes_test (x.registers RCX) (b ∷ []) (byte_stores (x.registers RCX) b is) refl refl bytes_label stands x a n n (AreBytes a n b) at ready room refl (length_bytes n b) (omega arith)
+      fills byte_store 1 bytes_turn bytes_test (x.registers RCX) (b ∷ []) (byte_stores (x.registers RCX) b is) refl refl bytes_label stands x a n n (AreBytes a n b) at ready room refl
+      (length_bytes n b) (omega arith)
       (bytes_put x.bytes a n b (omega (arith, low)) (omega (arith, high)))

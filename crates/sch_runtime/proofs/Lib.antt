@@ -1,11 +1,11 @@
 pub mod ZeroTests
 pub mod Exits
 pub mod WriteLoop
-pub mod Putting
+pub mod PutRoutine
 pub mod Digits
 pub mod PutFixnum
 pub mod PutBytes
 pub mod FillLoop
 pub mod Effective
-pub mod Joining
+pub mod RoutineItems
 mod Examples

@@ -34,7 +34,8 @@ put_after bs k xs ys le =
     let n = length ys in
     let all = put_bytes bs k xs in
     let rest = drop (k + m) bs in
-    let front : take (k + m) all ≡ take k bs ++ xs = ap (λ j. take (j + m) all) (sym (length-take-le k bs le)) ∙ take-append-add (take k bs) (xs ++ rest) m ∙ ap (λ l. take k bs ++ l) (take-append_seam xs rest) in
+    let front : take (k + m) all ≡ take k bs ++ xs =
+    ap (λ j. take (j + m) all) (sym (length-take-le k bs le)) ∙ take-append-add (take k bs) (xs ++ rest) m ∙ ap (λ l. take k bs ++ l) (take-append_seam xs rest) in
     let end : k + m + n ≡ k + length (xs ++ ys) = omega (arith, length-append xs ys) in
     let back : drop (k + m + n) all ≡ drop (k + length (xs ++ ys)) bs = sym (drop-drop n (k + m) all) ∙ ap (drop n) (behind_put bs k xs le) ∙ drop-drop n (k + m) bs ∙ ap (λ j. drop j bs) end in
     let behind = drop (k + length (xs ++ ys)) bs in

@@ -19,7 +19,7 @@ use Rattle.sch_asm.proofs.Bytes.{with_byte}
 use Rattle.sch_runtime.specs.Code.{absolute_code, digit_code, digit_label, digits_end, done_code, done_label, exit_code, failed_label, fixnum_code, fixnum_label, kept_rdi, kept_rsi, loop_code, loop_label, minus_code, positive_code, positive_label, ready_code, ready_label, sign_code, write_code, write_label}
 use Rattle.sch_runtime.proofs.ZeroTests.{ge_zero, is_high, is_low}
 use Rattle.sch_runtime.proofs.WriteLoop.{is_other, other_of}
-use Rattle.sch_runtime.proofs.Putting.{Kept, Saved, kept_bytes, saves, finishes}
+use Rattle.sch_runtime.proofs.PutRoutine.{Kept, Saved, kept_bytes, saves, finishes}
 use Rattle.sch_runtime.proofs.Digits.{Begun, limit, longer, prints}
 
 -- ---- the number of a fixnum's word
@@ -57,7 +57,8 @@ shifted_number (negsuc m) x h =
     let fits = h.fits in
     let low : m ≤ 1152921504606846975 = omega (arith, ints, high) in
     let e : x + 8 * suc m ≡ 18446744073709551616 = ⊎_elim (λ e. omega (arith, ints, e)) (λ e. omega (arith, ints, e)) h.shifted in
-    let v : shift_right_signed x 3 + suc m ≡ 18446744073709551616 = ap (λ b. cond b (2 ^ 64 - 1 - (2 ^ 64 - 1 - x) / 2 ^ 3) (x / 2 ^ 3) + suc m) (is_high x (omega (arith, e, low))) ∙ omega (arith, e, low) in
+    let v : shift_right_signed x 3 + suc m ≡ 18446744073709551616 =
+    ap (λ b. cond b (2 ^ 64 - 1 - (2 ^ 64 - 1 - x) / 2 ^ 3) (x / 2 ^ 3) + suc m) (is_high x (omega (arith, e, low))) ∙ omega (arith, e, low) in
     record {
       size = suc m;
       negative = true;
@@ -102,16 +103,30 @@ module _ (setting : Setting) where
     begun : Begun setting z y piece 0
     ahead : Stands setting [] y.place ready_code
 
-  signs : (ready_stands : Stands setting [] (place_of ready_label) ready_code) (z x : View) (piece : List ℕ) (negative : Bool) → Stands setting [] x.place sign_code → Begun setting z x piece 1 → 512 ≤ length z.bytes → is_negative (x.registers RDI) ≡ negative → x.registers RDI < 2 ^ 64 → Signed z x (cond negative (45 ∷ piece) piece)
+  signs : (ready_stands : Stands setting [] (place_of ready_label) ready_code) (z x : View) (piece : List ℕ) (negative : Bool) → Stands setting [] x.place sign_code → Begun setting z x piece 1
+      → 512 ≤ length z.bytes → is_negative (x.registers RDI) ≡ negative → x.registers RDI < 2 ^ 64 → Signed z x (cond negative (45 ∷ piece) piece)
   signs ready_stands z x piece false h b long e fits =
       let y1 : View = record x { flags = (difference_of (x.registers RDI) 0).flags; place = x.place + h.0 } in
       record {
         y = record y1 { place = place_of ready_label };
         least = 2;
         most = 2;
-        leads = leads_on setting.marks (goes setting x y1 (CmpNumber (Reg RDI) (pos 0)) h.0 [] h.1 refl) (branches setting y1 GE ready_label minus_code [] true h.2 (ge_zero (x.registers RDI) false fits e));
+        leads = leads_on setting.marks (goes setting x y1 (CmpNumber (Reg RDI) (pos 0)) h.0 [] h.1 refl)
+            (branches setting y1 GE ready_label minus_code [] true h.2 (ge_zero (x.registers RDI) false fits e));
         few = omega arith;
-        begun = record { digits = b.digits; end = b.end; low = (let l = b.low in omega (arith, l)); rdi_is = b.rdi_is; r11_is = b.r11_is; registers = b.registers; size = b.size; words = b.words; others = b.others; output_is = b.output_is; answers_are = b.answers_are };
+        begun = record {
+          digits = b.digits;
+          end = b.end;
+          low = (let l = b.low in omega (arith, l));
+          rdi_is = b.rdi_is;
+          r11_is = b.r11_is;
+          registers = b.registers;
+          size = b.size;
+          words = b.words;
+          others = b.others;
+          output_is = b.output_is;
+          answers_are = b.answers_are;
+        };
         ahead = ready_stands;
       }
   signs ready_stands z x piece true h b long e fits =
@@ -144,7 +159,8 @@ module _ (setting : Setting) where
         ahead = h4.2.2;
       }
 
-  module _ (write_stands : Stands setting [] (place_of write_label) write_code) (loop_stands : Stands setting [] (place_of loop_label) loop_code) (failed_stands : Stands setting [] (place_of failed_label) (exit_code 74)) (done_stands : Stands setting [] (place_of done_label) done_code) where
+  module _ (write_stands : Stands setting [] (place_of write_label) write_code) (loop_stands : Stands setting [] (place_of loop_label) loop_code)
+      (failed_stands : Stands setting [] (place_of failed_label) (exit_code 74)) (done_stands : Stands setting [] (place_of done_label) done_code) where
     -- rax has the absolute value, and rdi the number
     record Absolute (x : View) (size : ℕ) (negative : Bool) : Type 0 where
       z : View
@@ -162,7 +178,8 @@ module _ (setting : Setting) where
       output_is : z.output ≡ x.output
       answers_are : z.answers ≡ x.answers
 
-    absolute : (fixnum_stands : Stands setting [] (place_of fixnum_label) fixnum_code) (positive_stands : Stands setting [] (place_of positive_label) positive_code) (x : View) (n : ℤ) → x.place ≡ place_of fixnum_label → IsReady x → (s : Shifted n (shift_right_signed (x.registers RAX) 3)) → Absolute x s.size s.negative
+    absolute : (fixnum_stands : Stands setting [] (place_of fixnum_label) fixnum_code) (positive_stands : Stands setting [] (place_of positive_label) positive_code) (x : View) (n : ℤ)
+        → x.place ≡ place_of fixnum_label → IsReady x → (s : Shifted n (shift_right_signed (x.registers RAX) 3)) → Absolute x s.size s.negative
     absolute fixnum_stands positive_stands x n at ready s = by s.negative s.sign s.is
       where
         v : ℕ
@@ -224,7 +241,8 @@ module _ (setting : Setting) where
               z = record y6 { registers = set_register y5.registers RAX (sub64 0 v); flags = (difference_of 0 v).flags; place = y6.place + h6.0 };
               least = 7;
               most = 7;
-              leads = leads_on setting.marks (leads_on setting.marks p (branches setting y5 GE positive_label (Plain (Neg (Reg RAX)) ∷ Label positive_label ∷ positive_code) [] false h5 (ge_zero v true s.fits e)))
+              leads = leads_on setting.marks (leads_on setting.marks p
+                  (branches setting y5 GE positive_label (Plain (Neg (Reg RAX)) ∷ Label positive_label ∷ positive_code) [] false h5 (ge_zero v true s.fits e)))
                   (goes setting y6 _ (Neg (Reg RAX)) h6.0 [] h6.1 refl);
               few = omega arith;
               ahead = h6.2.2;
@@ -239,7 +257,8 @@ module _ (setting : Setting) where
             }
 
     -- the routine
-    pub puts_fixnum : (fixnum_stands : Stands setting [] (place_of fixnum_label) fixnum_code) (positive_stands : Stands setting [] (place_of positive_label) positive_code) (digit_stands : Stands setting [] (place_of digit_label) digit_code) (ready_stands : Stands setting [] (place_of ready_label) ready_code) →
+    pub puts_fixnum : (fixnum_stands : Stands setting [] (place_of fixnum_label) fixnum_code) (positive_stands : Stands setting [] (place_of positive_label) positive_code)
+        (digit_stands : Stands setting [] (place_of digit_label) digit_code) (ready_stands : Stands setting [] (place_of ready_label) ready_code) →
         (x : View) (n : ℤ) → x.place ≡ place_of fixnum_label → IsReady x → FixnumWord n (x.registers RAX) → Puts setting x 167 (signed_decimal n)
     puts_fixnum fixnum_stands positive_stands digit_stands ready_stands x n at ready word =
         let s = shifted_number n (x.registers RAX) word in
@@ -256,7 +275,8 @@ module _ (setting : Setting) where
         let p0 : Leads setting (o.least + 1 + 1 + r.least) (o.most + 1 + 1 + r.most) [] x r.y = leads_then setting.marks (leads_on setting.marks (leads_on setting.marks o.leads
         (goes setting z w1 (MovNumber (Reg RSI) (pos digits_end)) h.0 [] h.1 refl)) (goes setting w1 w2 (MovNumber (Reg RCX) (pos 10)) h.2.0 [] h.2.1 refl)) r.leads in
         let b0 = r.begun in
-        let g = signs ready_stands w2 r.y (digits_onto 64 10 false (z.registers RAX) []) s.negative r.ahead b0 long (ap is_negative b0.rdi_is ∙ o.sign) (let e = b0.rdi_is in omega (arith, e, o.fits)) in
+        let g = signs ready_stands w2 r.y (digits_onto 64 10 false (z.registers RAX) []) s.negative r.ahead b0 long (ap is_negative b0.rdi_is ∙ o.sign)
+        (let e = b0.rdi_is in omega (arith, e, o.fits)) in
         let b = g.begun in
         let end = b.end in
         let low = b.low in
@@ -264,9 +284,14 @@ module _ (setting : Setting) where
         let k0 = g.ahead in
         let u1 : View = record (g.y) { registers = set_register g.y.registers RDX digits_end; place = g.y.place + k0.0 } in
         let k1 = k0.2 in
-        let u2 : View = record u1 { registers = set_register u1.registers RDX (sub64 digits_end (g.y.registers RSI)); flags = (difference_of digits_end (g.y.registers RSI)).flags; place = u1.place + k1.0 } in
+        let u2 : View = record u1 {
+          registers = set_register u1.registers RDX (sub64 digits_end (g.y.registers RSI));
+          flags = (difference_of digits_end (g.y.registers RSI)).flags;
+          place = u1.place + k1.0;
+        } in
         let u3 : View = record u2 { place = place_of write_label } in
-        let p : Leads setting (o.least + 1 + 1 + r.least + g.least + 1 + 1 + 1) (o.most + 1 + 1 + r.most + g.most + 1 + 1 + 1) [] x u3 = leads_on setting.marks (leads_on setting.marks (leads_on setting.marks (leads_then setting.marks p0 g.leads)
+        let p : Leads setting (o.least + 1 + 1 + r.least + g.least + 1 + 1 + 1) (o.most + 1 + 1 + r.most + g.most + 1 + 1 + 1) [] x u3 =
+        leads_on setting.marks (leads_on setting.marks (leads_on setting.marks (leads_then setting.marks p0 g.leads)
         (goes setting g.y u1 (MovNumber (Reg RDX) (pos digits_end)) k0.0 [] k0.1 refl)) (goes setting u1 u2 (SubTo (Reg RDX) RSI) k1.0 [] k1.1 refl)) (jumps setting u2 write_label [] [] k1.2) in
         let few : o.most + 1 + 1 + r.most + g.most + 1 + 1 + 1 ≤ 150 = (let a = o.few in let c = r.few in let d = g.few in omega (arith, a, c, d)) in
         let k : Kept setting x u3 = record {
@@ -281,7 +306,8 @@ module _ (setting : Setting) where
           answers_are = b.answers_are ∙ o.answers_are;
         } in
         let length_is : sub64 digits_end (g.y.registers RSI) ≡ length piece = omega (arith, end, low) in
-        let done = finishes setting write_stands loop_stands failed_stands done_stands x u3 (o.least + 1 + 1 + r.least + g.least + 1 + 1 + 1) 150 piece (leads_within setting.marks p (omega arith) few) k ready length_is b.digits (omega (arith, low)) in
+        let done = finishes setting write_stands loop_stands failed_stands done_stands x u3 (o.least + 1 + 1 + r.least + g.least + 1 + 1 + 1) 150 piece
+        (leads_within setting.marks p (omega arith) few) k ready length_is b.digits (omega (arith, low)) in
         let d0 : digits_onto 64 10 false (z.registers RAX) [] ≡ decimal s.size = ap (λ n. digits_onto 64 10 false n []) e0 ∙ sym (decimal_by s.size) in
         let same : piece ≡ signed_decimal n = ap (λ l. cond s.negative (45 ∷ l) l) d0 ∙ sym s.decimal_is in
         subst (Puts setting x 167) same done

@@ -50,7 +50,8 @@ module _ (setting : Setting) where
   Led least most x y = Leads setting least most [] x y
 
   -- the kernel is offered the piece
-  offered : (x : View) (next : ℕ) (b : ℕ) (bs : List ℕ) → x.registers RDX ≡ length (b ∷ bs) → PieceAt x.bytes (x.registers RSI) (b ∷ bs) → write_row (full setting x) next (x.registers RDX) ≡ Runs (answered (full setting x) next (b ∷ bs) x.answers)
+  offered : (x : View) (next : ℕ) (b : ℕ) (bs : List ℕ) → x.registers RDX ≡ length (b ∷ bs) → PieceAt x.bytes (x.registers RSI) (b ∷ bs)
+      → write_row (full setting x) next (x.registers RDX) ≡ Runs (answered (full setting x) next (b ∷ bs) x.answers)
   offered x next b bs size at =
       let n = length bs in
       let s = full setting x in
@@ -100,7 +101,8 @@ module _ (setting : Setting) where
       leads : Led 5 5 x (wrote (asking x) next rax taken left)
       ahead : Stands setting [] next count_code
 
-    asked : (x : View) (b : ℕ) (bs : List ℕ) (rax : ℕ) (taken : List ℕ) (left : List Answer) → x.place ≡ place_of loop_label → x.registers RDX ≡ length (b ∷ bs) → length (b ∷ bs) < 2 ^ 63 → PieceAt x.bytes (x.registers RSI) (b ∷ bs) →
+    asked : (x : View) (b : ℕ) (bs : List ℕ) (rax : ℕ) (taken : List ℕ) (left : List Answer) → x.place ≡ place_of loop_label → x.registers RDX ≡ length (b ∷ bs) → length (b ∷ bs) < 2 ^ 63
+        → PieceAt x.bytes (x.registers RSI) (b ∷ bs) →
         ((y : View) (next : ℕ) → y.answers ≡ x.answers → answered (full setting y) next (b ∷ bs) y.answers ≡ full setting (wrote y next rax taken left)) → Asked x rax taken left
     asked x b bs rax taken left at size small piece answer =
         let h : Stands setting [] x.place loop_code = subst (λ a. Stands setting [] a loop_code) (sym at) loop_stands in
@@ -114,7 +116,8 @@ module _ (setting : Setting) where
         let next = y4.place + h2.2.2.0 in
         record {
           next = next;
-          leads = leads_on setting.marks (leads_on setting.marks (leads_on setting.marks (leads_on setting.marks (goes setting x y1 (CmpNumber (Reg RDX) (pos 0)) h.0 [] h.1 refl) (branches setting y1 E done_label ask_code [] false h.2 is))
+          leads = leads_on setting.marks (leads_on setting.marks
+              (leads_on setting.marks (leads_on setting.marks (goes setting x y1 (CmpNumber (Reg RDX) (pos 0)) h.0 [] h.1 refl) (branches setting y1 E done_label ask_code [] false h.2 is))
               (goes setting y2 y3 (MovNumber (Reg RAX) (pos 1)) h2.0 [] h2.1 refl))
               (goes setting y3 y4 (MovNumber (Reg RDI) (pos 1)) h2.2.0 [] h2.2.1 refl))
               (goes setting y4 (wrote (asking x) next rax taken left) Syscall h2.2.2.0 [] h2.2.2.1 (offered y4 next b bs size piece ∙ ap Runs (answer y4 next refl)));
@@ -153,7 +156,8 @@ module _ (setting : Setting) where
       output_is : y.output ≡ x.output ++ taken
       left_is : y.answers ≡ left
 
-    counted : (x : View) (m : ℕ) (taken : List ℕ) (left : List Answer) → Asked x m taken left → 0 < m → m ≤ x.registers RDX → x.registers RDX < 2 ^ 63 → x.registers RSI + x.registers RDX < 2 ^ 63 → Counted x m taken left
+    counted : (x : View) (m : ℕ) (taken : List ℕ) (left : List Answer) → Asked x m taken left → 0 < m → m ≤ x.registers RDX → x.registers RDX < 2 ^ 63 → x.registers RSI + x.registers RDX < 2 ^ 63
+        → Counted x m taken left
     counted x m taken left q some within small top =
         let h = q.ahead in
         let y0 = wrote (asking x) q.next m taken left in
@@ -182,7 +186,8 @@ module _ (setting : Setting) where
         }
 
     -- a turn that took something, and what follows
-    follows : (w : Bool) (x : View) (m : ℕ) (taken output : List ℕ) (left after : List Answer) → (q : Counted x m taken after) → 10 * length after + 10 ≤ 10 * length x.answers → Ends w q.y output left → Ends w x output left
+    follows : (w : Bool) (x : View) (m : ℕ) (taken output : List ℕ) (left after : List Answer) → (q : Counted x m taken after) → 10 * length after + 10 ≤ 10 * length x.answers
+        → Ends w q.y output left → Ends w x output left
     follows true x m taken output left after q le d = record {
       y = d.y;
       least = 10 + d.least;
@@ -198,7 +203,8 @@ module _ (setting : Setting) where
     follows false x m taken output left after q le d = let e = ap length q.left_is in stops_after setting x q.y 10 10 12 12 74 output left q.leads d (omega (arith, le, ap (λ n. 10 * n) e))
 
     -- a write that took nothing
-    gives_up : (x : View) (rax : ℕ) (a : Answer) (left : List Answer) → x.answers ≡ a ∷ left → Asked x rax [] left → condition (difference_of rax 0).flags LE ≡ Some true → Stops setting x 12 74 (x.output ++ []) left
+    gives_up : (x : View) (rax : ℕ) (a : Answer) (left : List Answer) → x.answers ≡ a ∷ left → Asked x rax [] left → condition (difference_of rax 0).flags LE ≡ Some true
+        → Stops setting x 12 74 (x.output ++ []) left
     gives_up x rax a left e q taken =
         let h = q.ahead in
         let y0 = wrote (asking x) q.next rax [] left in
@@ -208,16 +214,29 @@ module _ (setting : Setting) where
         (leads_on setting.marks (leads_on setting.marks q.leads (goes setting y0 y1 (CmpNumber (Reg RAX) (pos 0)) h.0 [] h.1 refl)) (branches setting y1 LE failed_label next_code [] true h.2 taken))
         (fails y2 refl) (let f = ap length e in omega (arith, f))
 
-    answered_by : (b : ℕ) (bs : List ℕ) (rax : ℕ) (taken : List ℕ) (left answers : List Answer) → ((y : View) (next : ℕ) → answered (full setting y) next (b ∷ bs) answers ≡ full setting (wrote y next rax taken left)) →
+    answered_by : (b : ℕ) (bs : List ℕ) (rax : ℕ) (taken : List ℕ) (left answers : List Answer)
+        → ((y : View) (next : ℕ) → answered (full setting y) next (b ∷ bs) answers ≡ full setting (wrote y next rax taken left)) →
         (x : View) → x.answers ≡ answers → (y : View) (next : ℕ) → y.answers ≡ x.answers → answered (full setting y) next (b ∷ bs) y.answers ≡ full setting (wrote y next rax taken left)
     answered_by b bs rax taken left answers h x e y next f = ap (answered (full setting y) next (b ∷ bs)) (f ∙ e) ∙ h y next
 
     -- a put, by the answers
-    pub writes : (answers : List Answer) (x : View) (piece : List ℕ) → x.answers ≡ answers → x.place ≡ place_of loop_label → x.registers RDX ≡ length piece → PieceAt x.bytes (x.registers RSI) piece → 0x10000000 + length x.bytes < 2 ^ 63 →
+    pub writes : (answers : List Answer) (x : View) (piece : List ℕ) → x.answers ≡ answers → x.place ≡ place_of loop_label → x.registers RDX ≡ length piece
+        → PieceAt x.bytes (x.registers RSI) piece → 0x10000000 + length x.bytes < 2 ^ 63 →
         Ends (put piece answers).whole x (x.output ++ (put piece answers).taken) (put piece answers).left
     writes answers x [] e at size piece top =
         let d = finished x at size in
-        record { y = d.y; least = d.least; most = d.most; leads = d.leads; few = let f = d.few in omega (arith, f, ap (λ l. 10 * length l) e); at = d.at; kept = d.kept; bytes = d.bytes; output_is = d.output_is ∙ sym (append-nil x.output); left_is = d.left_is ∙ e }
+        record {
+          y = d.y;
+          least = d.least;
+          most = d.most;
+          leads = d.leads;
+          few = let f = d.few in omega (arith, f, ap (λ l. 10 * length l) e);
+          at = d.at;
+          kept = d.kept;
+          bytes = d.bytes;
+          output_is = d.output_is ∙ sym (append-nil x.output);
+          left_is = d.left_is ∙ e;
+        }
     writes [] x (b ∷ bs) e at size piece top =
         let n = length (b ∷ bs) in
         let high = piece.high in
@@ -239,11 +258,13 @@ module _ (setting : Setting) where
         }
     writes (Failed ∷ answers) x (b ∷ bs) e at size piece top =
         let high = piece.high in
-        gives_up x (2 ^ 64 - 5) Failed answers e (asked x b bs (2 ^ 64 - 5) [] answers at size (omega arith) piece (answered_by b bs (2 ^ 64 - 5) [] answers (Failed ∷ answers) (λ y next. refl) x e)) (le_zero (2 ^ 64 - 5) true (omega arith) refl)
+        gives_up x (2 ^ 64 - 5) Failed answers e (asked x b bs (2 ^ 64 - 5) [] answers at size (omega arith) piece
+        (answered_by b bs (2 ^ 64 - 5) [] answers (Failed ∷ answers) (λ y next. refl) x e)) (le_zero (2 ^ 64 - 5) true (omega arith) refl)
     writes (Took zero ∷ answers) x (b ∷ bs) e at size piece top =
         let high = piece.high in
         let least : min 0 (length (b ∷ bs)) ≡ 0 = omega arith in
-        gives_up x 0 (Took 0) answers e (asked x b bs 0 [] answers at size (omega arith) piece (answered_by b bs 0 [] answers (Took 0 ∷ answers) (λ y next. ap (λ m. full setting (wrote y next m (take m (b ∷ bs)) answers)) least) x e)) (le_zero 0 false (omega arith) refl)
+        gives_up x 0 (Took 0) answers e (asked x b bs 0 [] answers at size (omega arith) piece
+        (answered_by b bs 0 [] answers (Took 0 ∷ answers) (λ y next. ap (λ m. full setting (wrote y next m (take m (b ∷ bs)) answers)) least) x e)) (le_zero 0 false (omega arith) refl)
     writes (Took (suc k) ∷ answers) x (b ∷ bs) e at size piece top =
         let high = piece.high in
         let whole = b ∷ bs in
@@ -254,9 +275,12 @@ module _ (setting : Setting) where
         let t = counted x m (take m whole) answers q some (omega arith) (omega arith) (omega arith) in
         let z = t.size in
         let len = length-drop m whole in
-        let at' : PieceAt t.y.bytes (t.y.registers RSI) (drop m whole) = subst (λ a. PieceAt t.y.bytes a (drop m whole)) (sym t.address) (subst (λ l. PieceAt l (x.registers RSI + m) (drop m whole)) (sym t.bytes) (piece_later x.bytes (x.registers RSI) whole m within piece)) in
+        let at' : PieceAt t.y.bytes (t.y.registers RSI) (drop m whole) =
+        subst (λ a. PieceAt t.y.bytes a (drop m whole)) (sym t.address)
+        (subst (λ l. PieceAt l (x.registers RSI + m) (drop m whole)) (sym t.bytes) (piece_later x.bytes (x.registers RSI) whole m within piece)) in
         let r = writes answers t.y (drop m whole) t.left_is t.at (omega arith) at' (subst (λ l. 0x10000000 + length l < 2 ^ 63) (sym t.bytes) top) in
         let p = put (drop (suc k) whole) answers in
         let r' = subst (λ l. Ends (put l answers).whole t.y (t.y.output ++ (put l answers).taken) (put l answers).left) (drop_min (suc k) whole) r in
-        let out : t.y.output ++ p.taken ≡ x.output ++ (take (suc k) whole ++ p.taken) = ap (λ l. l ++ p.taken) (t.output_is ∙ ap (λ l. x.output ++ l) (take_min (suc k) whole)) ∙ append_assoc x.output (take (suc k) whole) p.taken in
+        let out : t.y.output ++ p.taken ≡ x.output ++ (take (suc k) whole ++ p.taken) =
+        ap (λ l. l ++ p.taken) (t.output_is ∙ ap (λ l. x.output ++ l) (take_min (suc k) whole)) ∙ append_assoc x.output (take (suc k) whole) p.taken in
         follows p.whole x m (take m whole) (x.output ++ (take (suc k) whole ++ p.taken)) p.left answers t (omega (arith, ap length e)) (subst (λ o. Ends p.whole t.y o p.left) out r')

@@ -1,5 +1,5 @@
 -- The items of a program: their labels, marks, sizes and shapes.
-pub mod Appending
+pub mod AppendedItems
 pub mod Labels
 pub mod RestItems
 pub mod ProgramLabels

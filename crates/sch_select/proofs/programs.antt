@@ -2,13 +2,13 @@
 pub mod FreeCodes
 pub mod Bodies
 pub mod Procedures
-pub mod Standing
+pub mod StandingBodies
 pub mod Forms
 pub mod Steps
 pub mod EnterMarks
 pub mod EnterCounts
 pub mod OwnWays
-pub mod Passing
+pub mod PathEvents
 pub mod Whole
 pub mod JoinedProgram
 pub mod CoveredPrograms

@@ -1,6 +1,7 @@
 -- A whole program: its items, and the zeros behind its words.
 use Rattle.std.specs.Prelude.{ℕ, suc, ◌+◌, ◌-◌, ◌*◌, Bool, true, false, List, [], ◌∷◌, length, pos, Option, Some}
 use Rattle.std.specs.Prelude.{None}
+use Rattle.sch_word.specs.runs.ProgramLayout as layout
 use Rattle.sch_word.specs.values.Literals.{count_literals}
 use Rattle.sch_control.specs.declared.body.Entry.{Entry}
 use Rattle.sch_frames.specs.Tree.{Code, Source}
@@ -55,12 +56,12 @@ module _ (words heap_end literals : ℕ) where
 
 -- ## Sizes
 
--- the most bytes of a stack, but for its last frame, and of the data (the project's own)
+-- the most bytes of a stack, but for its last frame (the project's own), and of the data
 abbrev pub max_stack : ℕ
 max_stack = 1073741824
 
 abbrev pub max_data : ℕ
-max_data = 0xBF000000
+max_data = layout.max_data_size
 
 -- the frames of a form and of the calls that may be pending
 abbrev pub frames_bytes : (words depth : ℕ) → ℕ

@@ -1,5 +1,6 @@
 -- The turns of the loops that note what is bound at each site.
-use Rattle.std.proofs.Common.{◌≡◌, ℕ, zero, suc, ◌+◌, ◌-◌, ◌<◌, ◌≤◌, Bool, true, false, List, [], ◌∷◌, ◌++◌, length, map, take, drop, replicate, get_or, set, refl, sym, ap, ◌∙◌, subst, arith, add-one, append_assoc, append-nil}
+use Rattle.std.proofs.Common.{◌≡◌, ℕ, zero, suc, ◌+◌, ◌-◌, ◌<◌, ◌≤◌, Bool, true, false, List, [], ◌∷◌, ◌++◌, length}
+use Rattle.std.proofs.Common.{map, take, drop, replicate, get_or, set, refl, sym, ap, ◌∙◌, subst, arith, add-one, append_assoc, append-nil}
 use Rattle.std.specs.Prelude.{nat_eq}
 use Rattle.std.proofs.lemmas.Bool.{eq-eqb, eqb-true}
 use Rattle.std.proofs.lemmas.List.{drop_all}
@@ -9,7 +10,8 @@ use Rattle.sch_word.specs.runs.Orders.{order_or_none}
 use Rattle.sch_word.proofs.Walking.{next_left}
 use Rattle.sch_flat.specs.declared.tree.Exp.{Exp}
 use Rattle.sch_flat.specs.declared.tree.Body as body
-use Rattle.sch_flat.specs.Tree.{Tree, Trees, Body, constant, literal, variable, global, set_global, define, branch, sequence, bind, make_closure, fix_closures, call, operation, new_cells, cell_get, cell_set, no_trees, and_tree, count}
+use Rattle.sch_flat.specs.Tree.{Tree, Trees, Body, constant, literal, variable, global, set_global, define, branch, sequence}
+use Rattle.sch_flat.specs.Tree.{bind, make_closure, fix_closures, call, operation, new_cells, cell_get, cell_set, no_trees, and_tree, count}
 use Rattle.sch_flat.specs.View as view
 use Rattle.sch_flat.specs.View.{tree, trees_of}
 use Rattle.sch_flat.proofs.Rows.{trees_of_list}
@@ -22,13 +24,15 @@ use Rattle.sch_word.proofs.facts.Lists.{turn_back}
 -- ## Places
 
 module _ (items : List Exp) (i : ℕ) (e : Exp) (l : i < length items) (is : e ≡ get_or items i e) where
-  pub places_turn : (place place' : ℕ) (all all' : List ℕ) (whole : List ℕ → List ℕ) → place' ≡ place + 1 → ((last : List ℕ) → all' ++ last ≡ all ++ bound_places place (and_tree (tree e) no_trees) last)
+  pub places_turn : (place place' : ℕ) (all all' : List ℕ) (whole : List ℕ → List ℕ) → place' ≡ place + 1
+      → ((last : List ℕ) → all' ++ last ≡ all ++ bound_places place (and_tree (tree e) no_trees) last)
       → ((last : List ℕ) → all ++ bound_places place (left (drop i items)) last ≡ whole last) → (last : List ℕ) → all' ++ bound_places place' (left (drop (i + 1) items)) last ≡ whole last
   places_turn place place' all all' whole p h k last =
       let p' : place' ≡ suc place = omega (arith, p) in
       rw (p', add-one) (h (bound_places (suc place) (left (drop (suc i) items)) last) ∙ next_left items i (λ r. all ++ bound_places place (left r) last ≡ whole last) e l is (k last))
 
-pub places_end : (items : List Exp) (i place : ℕ) (all : List ℕ) (whole : List ℕ → List ℕ) → length items ≤ i → ((last : List ℕ) → all ++ bound_places place (left (drop i items)) last ≡ whole last) → (last : List ℕ) → all ++ last ≡ whole last
+pub places_end : (items : List Exp) (i place : ℕ) (all : List ℕ) (whole : List ℕ → List ℕ) → length items ≤ i
+    → ((last : List ℕ) → all ++ bound_places place (left (drop i items)) last ≡ whole last) → (last : List ℕ) → all ++ last ≡ whole last
 places_end items i place all whole l h last = let t = rw (drop_all i items l) at (h last) in t
 
 pub numbers_turn : (all all' whole : List ℕ) (place n : ℕ) → place < n → all' ≡ all ++ place ∷ [] → all ++ numbers place (n - place) ≡ whole → all' ++ numbers (place + 1) (n - (place + 1)) ≡ whole
@@ -50,7 +54,8 @@ pub count_is : (es : List Exp) → count (trees_of es) ≡ length es
 count_is es = ap count (trees_of_list es) ∙ count_left es
 
 -- the places of a call
-pub call_is : (f : Tree) (es : Trees) (none all all' : List ℕ) → none ≡ [] → ((last : List ℕ) → all ++ last ≡ none ++ bound_places 1 es last) → ((last : List ℕ) → all' ++ last ≡ all ++ bound_places 0 (and_tree f no_trees) last) → all' ≡ bound_places 1 es (operator_place f)
+pub call_is : (f : Tree) (es : Trees) (none all all' : List ℕ) → none ≡ [] → ((last : List ℕ) → all ++ last ≡ none ++ bound_places 1 es last)
+    → ((last : List ℕ) → all' ++ last ≡ all ++ bound_places 0 (and_tree f no_trees) last) → all' ≡ bound_places 1 es (operator_place f)
 call_is f es none all all' e h k = sym (append-nil all') ∙ k [] ∙ h (operator_place f) ∙ ap (λ l. l ++ bound_places 1 es (operator_place f)) e
 
 pub operation_is : (es : Trees) (none all : List ℕ) → none ≡ [] → ((last : List ℕ) → all ++ last ≡ none ++ bound_places 0 es last) → all ≡ bound_places 0 es []
@@ -71,10 +76,12 @@ bodies_last : (ps : List body.Body) (b : body.Body) (table : List (List ℕ)) �
 bodies_last [] b table = refl
 bodies_last (a ∷ ps) b table = ap (placed (tree a.code)) (bodies_last ps b table)
 
-pub each_back : (items : List Exp) (n : ℕ) (e : Exp) (r r' whole : List (List ℕ)) → 0 < n → n ≤ length items → e ≡ get_or items (n - 1) e → r' ≡ placed (tree e) r → placed_each (left (take n items)) r ≡ whole → placed_each (left (take (n - 1) items)) r' ≡ whole
+pub each_back : (items : List Exp) (n : ℕ) (e : Exp) (r r' whole : List (List ℕ)) → 0 < n → n ≤ length items → e ≡ get_or items (n - 1) e → r' ≡ placed (tree e) r
+    → placed_each (left (take n items)) r ≡ whole → placed_each (left (take (n - 1) items)) r' ≡ whole
 each_back = turn_back (λ ps r. placed_each (left ps) r) (λ a r. placed (tree a) r) each_last
 
-pub bodies_back : (items : List body.Body) (n : ℕ) (e : body.Body) (r r' whole : List (List ℕ)) → 0 < n → n ≤ length items → e ≡ get_or items (n - 1) e → r' ≡ placed (tree e.code) r → placed_bodies (map view.body (take n items)) r ≡ whole → placed_bodies (map view.body (take (n - 1) items)) r' ≡ whole
+pub bodies_back : (items : List body.Body) (n : ℕ) (e : body.Body) (r r' whole : List (List ℕ)) → 0 < n → n ≤ length items → e ≡ get_or items (n - 1) e → r' ≡ placed (tree e.code) r
+    → placed_bodies (map view.body (take n items)) r ≡ whole → placed_bodies (map view.body (take (n - 1) items)) r' ≡ whole
 bodies_back = turn_back (λ ps r. placed_bodies (map view.body ps) r) (λ a r. placed (tree a.code) r) bodies_last
 
 pub each_whole : (items : List Exp) → left (take (length items) items) ≡ trees_of items
@@ -103,15 +110,18 @@ mutual
   placed_is (set_global g e) table = placed_is e table
   placed_is (define g e) table = placed_is e table
   placed_is (branch a b c) table =
-      placed_is a (placed b (placed c table)) ∙ ap (recorded (bound_rows a)) (placed_is b (placed c table) ∙ ap (recorded (bound_rows b)) (placed_is c table) ∙ sym (recorded_append (bound_rows b) (bound_rows c) table))
+      placed_is a (placed b (placed c table)) ∙ ap (recorded (bound_rows a))
+      (placed_is b (placed c table) ∙ ap (recorded (bound_rows b)) (placed_is c table) ∙ sym (recorded_append (bound_rows b) (bound_rows c) table))
       ∙ sym (recorded_append (bound_rows a) (bound_rows b ++ bound_rows c) table)
   placed_is (sequence es) table = each_is es table
   placed_is (bind site first es e) table =
-      ap (λ t. set t site (numbers 0 (count es))) (each_is es (placed e table) ∙ ap (recorded (bound_rows_each es)) (placed_is e table) ∙ sym (recorded_append (bound_rows_each es) (bound_rows e) table))
+      ap (λ t. set t site (numbers 0 (count es))) (each_is es (placed e table) ∙ ap (recorded (bound_rows_each es)) (placed_is e table)
+      ∙ sym (recorded_append (bound_rows_each es) (bound_rows e) table))
   placed_is (make_closure m) table = refl
   placed_is (fix_closures first ms e) table = placed_is e table
   placed_is (call site spread f es) table =
-      ap (λ t. set t site (bound_places 1 es (operator_place f))) (placed_is f (placed_each es table) ∙ ap (recorded (bound_rows f)) (each_is es table) ∙ sym (recorded_append (bound_rows f) (bound_rows_each es) table))
+      ap (λ t. set t site (bound_places 1 es (operator_place f)))
+      (placed_is f (placed_each es table) ∙ ap (recorded (bound_rows f)) (each_is es table) ∙ sym (recorded_append (bound_rows f) (bound_rows_each es) table))
   placed_is (operation site which es) table = ap (λ t. set t site (bound_places 0 es [])) (each_is es table)
   placed_is (new_cells cs e) table = placed_is e table
   placed_is (cell_get v) table = refl
@@ -148,7 +158,8 @@ recorded_is (row ∷ rows) n =
     (rw (eq-eqb row.0 row.0 refl) refl) (λ y d. rw (differ y row.0 d) refl)
 
 -- the table of a program
-pub bound_is : (bodies : List Body) (forms : Trees) (n : ℕ) → placed_bodies bodies (placed_each forms (replicate n [])) ≡ map (λ site. order_or_none (bound_to site (bound_rows_bodies bodies ++ bound_rows_each forms))) (numbers 0 n)
+pub bound_is : (bodies : List Body) (forms : Trees) (n : ℕ)
+    → placed_bodies bodies (placed_each forms (replicate n [])) ≡ map (λ site. order_or_none (bound_to site (bound_rows_bodies bodies ++ bound_rows_each forms))) (numbers 0 n)
 bound_is bodies forms n =
     bodies_are bodies (placed_each forms (replicate n [])) ∙ ap (recorded (bound_rows_bodies bodies)) (each_is forms (replicate n []))
     ∙ sym (recorded_append (bound_rows_bodies bodies) (bound_rows_each forms) (replicate n [])) ∙ recorded_is (bound_rows_bodies bodies ++ bound_rows_each forms) n

@@ -1,8 +1,8 @@
 //! From control to frames: the layout of bodies, with a slot for each variable.
 #![tactic(auto)]
 
-mod body_layout;
 mod frame_bodies;
+mod own_slots;
 mod slots;
 
 pub use frame_bodies::frame_program;

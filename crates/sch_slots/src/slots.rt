@@ -1,28 +1,26 @@
 //! Bodies with a slot for each variable.
 
-ghost use Rattle.std.specs.Prelude.{◌≡◌, ◌≤◌, ◌+◌, ◌*◌, ◌-◌, [], length, max, None, IfOk, IsTrue};
+ghost use Rattle.std.specs.Prelude.{◌≡◌, ◌≤◌, ◌+◌, ◌*◌, ◌-◌, length, max, IfOk, IsTrue};
 ghost use Rattle.sch_word.specs.trees.Shape.{max_operands};
 ghost use Rattle.sch_control.specs.Covered as control_covered;
 ghost use Rattle.sch_control.specs.SourceView as control;
-ghost use Rattle.sch_control.specs.Meaning.{no_region};
 ghost use Rattle.sch_control.specs.View.{expression};
 ghost use Rattle.sch_control.specs.Sizes.{expression_size};
 ghost use Rattle.sch_control.specs.Work as control_work;
 ghost use Rattle.sch_frames.specs.Covered.{code_begins, is_covered_code};
 ghost use Rattle.sch_frames.specs.Does.{FrameOf};
-ghost use Rattle.sch_frames.specs.Valid.{is_entered, formals_of};
+ghost use Rattle.sch_frames.specs.Valid.{formals_of};
 ghost use Rattle.sch_frames.specs.Sizes.{code_work, instructions_size};
 ghost use Rattle.sch_frames.specs.SourceView.{code_of};
 ghost use Rattle.sch_frames.specs.Standing.{code_marks_stand};
-ghost use Rattle.sch_layout.specs.OwnSlots.{entering, most_operands, own_slots, restoring, saved_round, slots_base, slots_code, slots_words};
-ghost use Rattle.sch_layout.specs.BodyLayout.{labels, lay, stored};
+ghost use Rattle.sch_layout.specs.OwnSlots.{most_operands, slots_base, slots_code, slots_words};
 ghost use Rattle.sch_layout.specs.LayoutSizes.{call_parts, entry_size, nodes};
 
-use crate::body_layout::{enter, lay};
+use crate::own_slots::OwnSlots;
 use sch_control::{Body, Entry, Exp};
 use sch_frames::FrameBody;
-use sch_word::{List, Mem};
-use sch_writer::{Slots, Writer, write_save};
+use sch_word::Mem;
+use sch_writer::write_body;
 use std::alloc::Global;
 
 /// The larger of two numbers.
@@ -61,10 +59,10 @@ fn formals_of(entry: Option<Entry>) -> u32
     }
 }
 
-/// Where a body keeps what it has, and the size of its frame.
+/// The places of a body, and the size of its frame.
 #[derive(Clone, Copy)]
 struct Room {
-    slots: Slots,
+    places: OwnSlots,
     words: u32,
 }
 
@@ -73,47 +71,23 @@ fn room_with(entry: Option<Entry>, variables: u32, most: u32) -> Room
     requires formals { formals_of entry ≤ 200 }
     requires variables { variables ≤ 1002 }
     requires most { most ≤ 200 }
-    ensures base { result.slots.base ≡ max (formals_of entry - 6) most }
-    ensures entered { result.slots.entered ≡ is_entered entry }
+    ensures base { result.places.base ≡ max (formals_of entry - 6) most }
     ensures words { result.words ≡ max (formals_of entry - 6) most + variables }
 {
     let arriving = formals_of(entry).saturating_sub(6);
     let base = larger(arriving as usize, most as usize) as u32;
-    let slots = Slots {
-        base,
-        entered: entry.is_some(),
-    };
     Room {
-        slots,
+        places: OwnSlots { base },
         words: base + variables,
     }
 }
 
 /// The room that a body needs.
 fn room_for(b: &Body) -> Room
-    ensures base { result.slots.base ≡ slots_base (control.code_of b.now) }
-    ensures entered { result.slots.entered ≡ is_entered b.now.entry }
+    ensures base { result.places.base ≡ slots_base (control.code_of b.now) }
     ensures words { result.words ≡ slots_words (control.code_of b.now) }
 {
     room_with(b.entry, b.variables, most_operands(&b.exp) as u32)
-}
-
-/// The instructions of a body: what it is entered by, the return address where it is saved, and its expression.
-fn laid_out(alloc: Global, slots: Slots, b: &Body) -> Result<Writer, Mem>
-    requires formals { formals_of b.now.entry ≤ 200 }
-    ensures instructions { IfOk result (λ out. out.instructions
-        ≡ entering slots.base b.now.entry (stored (own_slots slots.base) (saved_round slots.entered)
-        (lay (own_slots slots.base) (restoring (saved_round slots.entered) (expression b.now.exp)) no_region 0 None []))) }
-    ensures labels { IfOk result (λ out. out.labels ≡ labels (expression b.now.exp)) }
-{
-    let mut out = Writer {
-        instructions: List::new(alloc),
-        labels: 0,
-    };
-    enter(slots.base, b.entry, &mut out)?;
-    write_save(slots, &mut out)?;
-    lay(alloc, slots, &b.exp, None, &mut out)?;
-    Ok(out)
 }
 
 /// The frame body of a body, with a slot for each variable.
@@ -145,7 +119,7 @@ pub fn frame_slots(alloc: Global, b: &Body) -> Result<FrameBody, Mem>
     ensures labels { IfOk result (λ f. f.labels ≤ 2 * nodes (expression b.now.exp)) }
 {
     let room = room_for(b);
-    let out = laid_out(alloc, room.slots, b)?;
+    let out = write_body(alloc, room.places, b)?;
     Ok(FrameBody {
         entry: b.entry,
         words: room.words,

@@ -1,6 +1,6 @@
 pub mod Pieces
 pub mod SymbolNames
-pub mod Starting
+pub mod StartData
 pub mod StaticSizes
 pub mod TextSteps
 mod DataExamples

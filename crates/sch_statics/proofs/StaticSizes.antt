@@ -11,13 +11,13 @@ use Rattle.sch_asm.specs.declared.assembly.Word.TheVariants.{Fixed}
 use Rattle.sch_literals.specs.ObjectParts.{parts_at}
 use Rattle.sch_literals.specs.ObjectWords.{objects_contents, objects_words}
 use Rattle.sch_literals.specs.PlacedWords.{units_in_each}
-use Rattle.sch_literals.proofs.Placed.{placed_objects}
+use Rattle.sch_literals.proofs.PlacedLiterals.{placed_objects}
 use Rattle.sch_literals.proofs.Rows.{count_rows}
 use Rattle.sch_literals.proofs.Sizes.{units_bound}
 use Rattle.sch_places.specs.Addresses.{names_address}
 use Rattle.sch_statics.specs.Data.{static_count, closures_unit, objects_unit, heap_address}
 use Rattle.sch_statics.specs.NameWords.{names_count, symbols_count}
-use Rattle.sch_statics.proofs.Starting.{objects_count}
+use Rattle.sch_statics.proofs.StartData.{objects_count}
 
 -- a symbol takes two words for each of its bytes and itself at most
 names_bound : (names : List (List ℕ)) → names_count names ≤ names_size names

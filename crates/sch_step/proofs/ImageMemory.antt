@@ -17,7 +17,8 @@ zero_count : (n : ℕ) → length (zeros_of n) ≡ n
 zero_count n = let zero_byte : ℕ = 0 in length-replicate n zero_byte
 
 -- Bytes put over the first of some zeros.
-pub filled : (given bytes over items : List ℕ) (n zeros : ℕ) → given ≡ bytes ++ drop (length bytes) over → over ≡ items → n ≡ length bytes + zeros → items ≡ replicate (length bytes + zeros) 0 → take n (given ++ drop (length given) items) ≡ bytes ++ zeros_of zeros
+pub filled : (given bytes over items : List ℕ) (n zeros : ℕ) → given ≡ bytes ++ drop (length bytes) over → over ≡ items → n ≡ length bytes + zeros → items ≡ replicate (length bytes + zeros) 0
+    → take n (given ++ drop (length given) items) ≡ bytes ++ zeros_of zeros
 filled given bytes over items n zeros g o size all =
     let rest : drop (length bytes) over ≡ zeros_of zeros =
     ap (drop (length bytes)) (o ∙ all) ∙ drop-replicate (length bytes) (length bytes + zeros) 0 ∙ ap zeros_of (left (length bytes) zeros) in

@@ -13,28 +13,36 @@ use Rattle.sch_step.specs.Kernel.{rax_of, written_core}
 use Rattle.sch_step.specs.Run.{state_of}
 
 abbrev by_call : Core → ℕ → List ℕ → List Answer → ℕ → Progress
-by_call c next b k rax = cond (rax == 60) (Exited (c.registers RDI % 256) (state_of c b k)) (cond ((rax == 1) && (c.registers RDI == 1)) (write_row (state_of c b k) next (c.registers RDX)) (Stuck (Kernel (c.registers RAX)) (state_of c b k)))
+by_call c next b k rax = cond (rax == 60) (Exited (c.registers RDI % 256) (state_of c b k))
+    (cond ((rax == 1) && (c.registers RDI == 1)) (write_row (state_of c b k) next (c.registers RDX)) (Stuck (Kernel (c.registers RAX)) (state_of c b k)))
 
 pub exits : (c : Core) (next : ℕ) (b : List ℕ) (k : List Answer) → c.registers RAX ≡ 60 → kernel (state_of c b k) next ≡ Exited (c.registers RDI % 256) (state_of c b k)
 exits c next b k e = ap (by_call c next b k) e
 
-pub no_row : (c : Core) (next : ℕ) (b : List ℕ) (k : List Answer) → c.registers RAX ≢ 60 → ((c.registers RAX == 1) && (c.registers RDI == 1)) ≡ false → kernel (state_of c b k) next ≡ Stuck (Kernel (c.registers RAX)) (state_of c b k)
+pub no_row : (c : Core) (next : ℕ) (b : List ℕ) (k : List Answer) → c.registers RAX ≢ 60 → ((c.registers RAX == 1) && (c.registers RDI == 1)) ≡ false
+    → kernel (state_of c b k) next ≡ Stuck (Kernel (c.registers RAX)) (state_of c b k)
 no_row c next b k e f =
-    ap (λ t. cond t (Exited (c.registers RDI % 256) (state_of c b k)) (cond ((c.registers RAX == 1) && (c.registers RDI == 1)) (write_row (state_of c b k) next (c.registers RDX)) (Stuck (Kernel (c.registers RAX)) (state_of c b k)))) (ne_eqb (c.registers RAX) 60 e)
+    ap (λ t. cond t (Exited (c.registers RDI % 256) (state_of c b k))
+    (cond ((c.registers RAX == 1) && (c.registers RDI == 1)) (write_row (state_of c b k) next (c.registers RDX)) (Stuck (Kernel (c.registers RAX)) (state_of c b k))))
+    (ne_eqb (c.registers RAX) 60 e)
     ∙ ap (λ t. cond t (write_row (state_of c b k) next (c.registers RDX)) (Stuck (Kernel (c.registers RAX)) (state_of c b k))) f
 
-pub writes : (c : Core) (next : ℕ) (b : List ℕ) (k : List Answer) → ((c.registers RAX == 1) && (c.registers RDI == 1)) ≡ true → kernel (state_of c b k) next ≡ write_row (state_of c b k) next (c.registers RDX)
+pub writes : (c : Core) (next : ℕ) (b : List ℕ) (k : List Answer) → ((c.registers RAX == 1) && (c.registers RDI == 1)) ≡ true
+    → kernel (state_of c b k) next ≡ write_row (state_of c b k) next (c.registers RDX)
 writes c next b k e =
     let one = eqb-true (c.registers RAX) 1 (and_left (c.registers RAX == 1) (c.registers RDI == 1) e) in
     let other : c.registers RAX ≢ 60 = omega (arith, one) in
-    ap (λ t. cond t (Exited (c.registers RDI % 256) (state_of c b k)) (cond ((c.registers RAX == 1) && (c.registers RDI == 1)) (write_row (state_of c b k) next (c.registers RDX)) (Stuck (Kernel (c.registers RAX)) (state_of c b k)))) (ne_eqb (c.registers RAX) 60 other)
+    ap (λ t. cond t (Exited (c.registers RDI % 256) (state_of c b k))
+    (cond ((c.registers RAX == 1) && (c.registers RDI == 1)) (write_row (state_of c b k) next (c.registers RDX)) (Stuck (Kernel (c.registers RAX)) (state_of c b k))))
+    (ne_eqb (c.registers RAX) 60 other)
     ∙ ap (λ t. cond t (write_row (state_of c b k) next (c.registers RDX)) (Stuck (Kernel (c.registers RAX)) (state_of c b k))) e
 
 pub empty : (c : Core) (next : ℕ) (b : List ℕ) (k : List Answer) → c.registers RDX ≡ 0 → write_row (state_of c b k) next (c.registers RDX) ≡ Runs (state_of (written_core c next 0) b k)
 unfolding written_core
 empty c next b k e = ap (write_row (state_of c b k) next) e ∙ ap (λ b'. Runs (state_of (written_core c next 0) b' k)) (append-nil b)
 
-pub shut : (c : Core) (next n : ℕ) (b : List ℕ) (k : List Answer) → c.registers RDX ≡ n → 0 < n → bytes_from (λ g. g.readable) c.segments (c.registers RSI) n ≡ None → write_row (state_of c b k) next (c.registers RDX) ≡ Stuck (Kernel (c.registers RAX)) (state_of c b k)
+pub shut : (c : Core) (next n : ℕ) (b : List ℕ) (k : List Answer) → c.registers RDX ≡ n → 0 < n → bytes_from (λ g. g.readable) c.segments (c.registers RSI) n ≡ None
+    → write_row (state_of c b k) next (c.registers RDX) ≡ Stuck (Kernel (c.registers RAX)) (state_of c b k)
 shut c next zero b k e some f = absurd (omega (arith, some))
 shut c next (suc n) b k e some f = ap (write_row (state_of c b k) next) e ∙ ap (piece_written (state_of c b k) next (suc n)) f
 
@@ -42,7 +50,8 @@ take-length : (xs : List ℕ) → take (length xs) xs ≡ xs
 take-length [] = refl
 take-length (x ∷ xs) = ap (λ l. x ∷ l) (take-length xs)
 
-after : (c : Core) (next : ℕ) (b : List ℕ) (piece : List ℕ) (a : Answer) (x y : List Answer) → AnswersNext (length piece) a x y → answered (state_of c b x) next piece x ≡ state_of (written_core c next (rax_of a)) (b ++ taken a piece) y
+after : (c : Core) (next : ℕ) (b : List ℕ) (piece : List ℕ) (a : Answer) (x y : List Answer) → AnswersNext (length piece) a x y
+    → answered (state_of c b x) next piece x ≡ state_of (written_core c next (rax_of a)) (b ++ taken a piece) y
 unfolding written_core
 after c next b piece a [] y h =
     subst (λ z. answered (state_of c b []) next piece [] ≡ state_of (written_core c next (rax_of a)) (b ++ taken a piece) z) (sym h.1)
@@ -55,7 +64,8 @@ after c next b piece a (Failed ∷ rest) y h =
     subst (λ z. answered (state_of c b (Failed ∷ rest)) next piece (Failed ∷ rest) ≡ state_of (written_core c next (rax_of a)) (b ++ taken a piece) z) (sym h.1)
     (subst (λ z. answered (state_of c b (Failed ∷ rest)) next piece (Failed ∷ rest) ≡ state_of (written_core c next (rax_of z)) (b ++ taken z piece) rest) (sym h.0) refl)
 
-pub wrote : (c : Core) (next n : ℕ) (b bs : List ℕ) (a : Answer) (x y : List Answer) → c.registers RDX ≡ n → 0 < n → bytes_from (λ g. g.readable) c.segments (c.registers RSI) n ≡ Some bs → AnswersNext (length (take n bs)) a x y → write_row (state_of c b x) next (c.registers RDX) ≡ Runs (state_of (written_core c next (rax_of a)) (b ++ taken a (take n bs)) y)
+pub wrote : (c : Core) (next n : ℕ) (b bs : List ℕ) (a : Answer) (x y : List Answer) → c.registers RDX ≡ n → 0 < n → bytes_from (λ g. g.readable) c.segments (c.registers RSI) n ≡ Some bs
+    → AnswersNext (length (take n bs)) a x y → write_row (state_of c b x) next (c.registers RDX) ≡ Runs (state_of (written_core c next (rax_of a)) (b ++ taken a (take n bs)) y)
 wrote c next zero b bs a x y e some f h = absurd (omega (arith, some))
 wrote c next (suc n) b bs a x y e some f h =
     ap (write_row (state_of c b x) next) e

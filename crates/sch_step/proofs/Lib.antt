@@ -1,7 +1,7 @@
 pub mod Memory
 pub mod Outlets
 pub mod KernelRows
-pub mod Stepping
-pub mod Running
+pub mod ProcessorSteps
+pub mod MachineRuns
 pub mod ImageMemory
-pub mod Ended
+pub mod EndedMachines

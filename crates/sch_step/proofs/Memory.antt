@@ -22,7 +22,8 @@ behind g gs h = record {
 abbrev pub in_segment : (words.Segment → Bool) → words.Segment → ℕ → Option (List ℕ)
 in_segment right g a = cond (right g) (Some (drop (a - g.address) g.bytes)) None
 
-serves : (right : words.Segment → Bool) (gs : List words.Segment) (i a n : ℕ) → 0 < n → IsMemory gs → i < length gs → holds (segment_at gs i) a n ≡ true → bytes_from right gs a n ≡ in_segment right (segment_at gs i) a
+serves : (right : words.Segment → Bool) (gs : List words.Segment) (i a n : ℕ) → 0 < n → IsMemory gs → i < length gs → holds (segment_at gs i) a n ≡ true
+    → bytes_from right gs a n ≡ in_segment right (segment_at gs i) a
 serves right [] i a n z laid l e = absurd (omega (arith, l))
 serves right (g ∷ gs) zero a n z laid l e = ap (λ b. cond b (in_segment right g a) (bytes_from right gs a n)) e
 serves right (g ∷ gs) (suc i) a n z laid l e =
@@ -41,17 +42,21 @@ at_index [] i x l e = absurd (omega (arith, l))
 at_index (g ∷ gs) zero x l e = ap segment_view (sym e)
 at_index (g ∷ gs) (suc i) x l e = at_index gs i x (omega (arith, l)) e
 
-served : (right : words.Segment → Bool) (items : List Segment) (i a n : ℕ) (x : Segment) → 0 < n → IsMemory (map segment_view items) → i < length items → holds (segment_at (map segment_view items) i) a n ≡ true → x ≡ get_or items i x → bytes_from right (map segment_view items) a n ≡ in_segment right (segment_view x) a
+served : (right : words.Segment → Bool) (items : List Segment) (i a n : ℕ) (x : Segment) → 0 < n → IsMemory (map segment_view items) → i < length items
+    → holds (segment_at (map segment_view items) i) a n ≡ true → x ≡ get_or items i x → bytes_from right (map segment_view items) a n ≡ in_segment right (segment_view x) a
 served right items i a n x z laid l e is =
     let within : i < length (map segment_view items) = omega (arith, l, length-map items segment_view) in
     serves right (map segment_view items) i a n z laid within e ∙ ap (λ g. in_segment right g a) (at_index items i x l is)
 
-pub served_open : (right : words.Segment → Bool) (items : List Segment) (i a n : ℕ) (x : Segment) → 0 < n → IsMemory (map segment_view items) → i < length items → holds (segment_at (map segment_view items) i) a n ≡ true → x ≡ get_or items i x → right (segment_view x) ≡ true → bytes_from right (map segment_view items) a n ≡ Some (drop (a - x.address) x.bytes.items)
+pub served_open : (right : words.Segment → Bool) (items : List Segment) (i a n : ℕ) (x : Segment) → 0 < n → IsMemory (map segment_view items) → i < length items
+    → holds (segment_at (map segment_view items) i) a n ≡ true → x ≡ get_or items i x → right (segment_view x) ≡ true
+    → bytes_from right (map segment_view items) a n ≡ Some (drop (a - x.address) x.bytes.items)
 served_open right items i a n x z laid l e is r =
     let none : Option (List ℕ) = None in
     served right items i a n x z laid l e is ∙ ap (λ b. cond b (Some (drop (a - x.address) x.bytes.items)) none) r
 
-pub served_shut : (right : words.Segment → Bool) (items : List Segment) (i a n : ℕ) (x : Segment) → 0 < n → IsMemory (map segment_view items) → i < length items → holds (segment_at (map segment_view items) i) a n ≡ true → x ≡ get_or items i x → right (segment_view x) ≡ false → bytes_from right (map segment_view items) a n ≡ None
+pub served_shut : (right : words.Segment → Bool) (items : List Segment) (i a n : ℕ) (x : Segment) → 0 < n → IsMemory (map segment_view items) → i < length items
+    → holds (segment_at (map segment_view items) i) a n ≡ true → x ≡ get_or items i x → right (segment_view x) ≡ false → bytes_from right (map segment_view items) a n ≡ None
 served_shut right items i a n x z laid l e is r =
     let none : Option (List ℕ) = None in
     served right items i a n x z laid l e is ∙ ap (λ b. cond b (Some (drop (a - x.address) x.bytes.items)) none) r
@@ -65,17 +70,20 @@ into gs i a ys g = cond g.writable (Some (set gs i (with_bytes g (put_bytes g.by
 into_behind : (g : words.Segment) (gs : List words.Segment) (i a : ℕ) (ys : List ℕ) (h : words.Segment) → behind_segment g (into gs i a ys h) ≡ into (g ∷ gs) (suc i) a ys h
 into_behind g gs i a ys h = go h.writable
   where
-    go : (b : Bool) → behind_segment g (cond b (Some (set gs i (with_bytes h (put_bytes h.bytes (a - h.address) ys)))) None) ≡ cond b (Some (set (g ∷ gs) (suc i) (with_bytes h (put_bytes h.bytes (a - h.address) ys)))) None
+    go : (b : Bool) → behind_segment g (cond b (Some (set gs i (with_bytes h (put_bytes h.bytes (a - h.address) ys)))) None) ≡ cond b
+        (Some (set (g ∷ gs) (suc i) (with_bytes h (put_bytes h.bytes (a - h.address) ys)))) None
     go true = refl
     go false = refl
 
-stores : (gs : List words.Segment) (i a : ℕ) (ys : List ℕ) → 0 < length ys → IsMemory gs → i < length gs → holds (segment_at gs i) a (length ys) ≡ true → stored gs a ys ≡ into gs i a ys (segment_at gs i)
+stores : (gs : List words.Segment) (i a : ℕ) (ys : List ℕ) → 0 < length ys → IsMemory gs → i < length gs → holds (segment_at gs i) a (length ys) ≡ true
+    → stored gs a ys ≡ into gs i a ys (segment_at gs i)
 stores [] i a ys z laid l e = absurd (omega (arith, l))
 stores (g ∷ gs) zero a ys z laid l e = ap (λ b. cond b (into (g ∷ gs) zero a ys g) (behind_segment g (stored gs a ys))) e
 stores (g ∷ gs) (suc i) a ys z laid l e =
     let within : i < length gs = omega (arith, l) in
     let first : holds g a (length ys) ≡ false = laid.apart zero (suc i) a (length ys) (omega arith) l z e in
-    ap (λ b. cond b (into (g ∷ gs) zero a ys g) (behind_segment g (stored gs a ys))) first ∙ ap (behind_segment g) (stores gs i a ys z (behind g gs laid) within e) ∙ into_behind g gs i a ys (segment_at gs i)
+    ap (λ b. cond b (into (g ∷ gs) zero a ys g) (behind_segment g (stored gs a ys))) first ∙ ap (behind_segment g) (stores gs i a ys z (behind g gs laid) within e)
+    ∙ into_behind g gs i a ys (segment_at gs i)
 
 none_stores : (gs : List words.Segment) (a : ℕ) (ys : List ℕ) → NoneHolds gs a (length ys) → stored gs a ys ≡ None
 none_stores [] a ys h = refl
@@ -85,7 +93,8 @@ none_stores (g ∷ gs) a ys h =
 pub no_place : (gs : List words.Segment) (a n : ℕ) (ys : List ℕ) → length ys ≡ n → NoneHolds gs a n → stored gs a ys ≡ None
 no_place gs a n ys e h = none_stores gs a ys (subst (NoneHolds gs a) (sym e) h)
 
-pub shut_place : (items : List Segment) (i a n : ℕ) (x : Segment) (ys : List ℕ) → length ys ≡ n → 0 < n → IsMemory (map segment_view items) → i < length items → holds (segment_at (map segment_view items) i) a n ≡ true → x ≡ get_or items i x → x.writable ≡ false → stored (map segment_view items) a ys ≡ None
+pub shut_place : (items : List Segment) (i a n : ℕ) (x : Segment) (ys : List ℕ) → length ys ≡ n → 0 < n → IsMemory (map segment_view items) → i < length items
+    → holds (segment_at (map segment_view items) i) a n ≡ true → x ≡ get_or items i x → x.writable ≡ false → stored (map segment_view items) a ys ≡ None
 shut_place items i a n x ys size z laid l e is w =
     let within : i < length (map segment_view items) = omega (arith, l, length-map items segment_view) in
     let some : 0 < length ys = omega (arith, size, z) in
@@ -98,7 +107,9 @@ shut_place items i a n x ys size z laid l e is w =
 pub open_place : (items : List Segment) (i : ℕ) (x : Segment) → i < length items → x ≡ get_or items i x → x.writable ≡ true → (segment_at (map segment_view items) i).writable ≡ true
 open_place items i x l is w = ap (λ g. g.writable) (at_index items i x l is) ∙ w
 
-pub written : (c : Core) (items : List Segment) (i a : ℕ) (x y : Segment) (ys : List ℕ) → c.segments ≡ map segment_view items → 0 < length ys → IsMemory (map segment_view items) → i < length items → holds (segment_at (map segment_view items) i) a (length ys) ≡ true → x ≡ get_or items i x → (segment_at (map segment_view items) i).writable ≡ true → segment_view y ≡ with_bytes (segment_view x) (put_bytes x.bytes.items (a - x.address) ys) → write_bytes c a ys ≡ Ok (with_segments (map segment_view (set items i y)) c)
+pub written : (c : Core) (items : List Segment) (i a : ℕ) (x y : Segment) (ys : List ℕ) → c.segments ≡ map segment_view items → 0 < length ys → IsMemory (map segment_view items) → i < length items
+    → holds (segment_at (map segment_view items) i) a (length ys) ≡ true → x ≡ get_or items i x → (segment_at (map segment_view items) i).writable ≡ true
+    → segment_view y ≡ with_bytes (segment_view x) (put_bytes x.bytes.items (a - x.address) ys) → write_bytes c a ys ≡ Ok (with_segments (map segment_view (set items i y)) c)
 written c items i a x y ys p some laid l e is w made =
     let within : i < length (map segment_view items) = omega (arith, l, length-map items segment_view) in
     let none : Option (List words.Segment) = None in
@@ -115,7 +126,8 @@ pub not_written : (c : Core) (a : ℕ) (ys : List ℕ) → stored c.segments a y
 not_written c a ys e = ap (λ o. when_ok (or_access a o) (λ gs. Ok (with_segments gs c))) e
 
 -- Where a place is found, any n bytes may be written there.
-pub may_write : (c : Core) (items : List Segment) (i a n : ℕ) (ys : List ℕ) → c.segments ≡ map segment_view items → length ys ≡ n → 0 < n → IsMemory (map segment_view items) → i < length items → holds (segment_at (map segment_view items) i) a n ≡ true → (segment_at (map segment_view items) i).writable ≡ true → result_err (write_bytes c a ys) ≡ None
+pub may_write : (c : Core) (items : List Segment) (i a n : ℕ) (ys : List ℕ) → c.segments ≡ map segment_view items → length ys ≡ n → 0 < n → IsMemory (map segment_view items) → i < length items
+    → holds (segment_at (map segment_view items) i) a n ≡ true → (segment_at (map segment_view items) i).writable ≡ true → result_err (write_bytes c a ys) ≡ None
 may_write c items i a n ys p size z laid l e w =
     let within : i < length (map segment_view items) = omega (arith, l, length-map items segment_view) in
     let some : 0 < length ys = omega (arith, size, z) in
@@ -170,9 +182,12 @@ still_laid_out gs hs s laid = record {
 fits : (g : words.Segment) (a n : ℕ) → holds g a n ≡ true → (a - g.address) + n ≤ length g.bytes
 fits g a n e = grind (arith, nat_tests)
 
-pub stays_laid_out : (items : List Segment) (i a : ℕ) (x y : Segment) (ys : List ℕ) → IsMemory (map segment_view items) → i < length items → holds (segment_at (map segment_view items) i) a (length ys) ≡ true → x ≡ get_or items i x → segment_view y ≡ with_bytes (segment_view x) (put_bytes x.bytes.items (a - x.address) ys) → IsMemory (map segment_view (set items i y))
+pub stays_laid_out : (items : List Segment) (i a : ℕ) (x y : Segment) (ys : List ℕ) → IsMemory (map segment_view items) → i < length items
+    → holds (segment_at (map segment_view items) i) a (length ys) ≡ true → x ≡ get_or items i x → segment_view y ≡ with_bytes (segment_view x) (put_bytes x.bytes.items (a - x.address) ys)
+    → IsMemory (map segment_view (set items i y))
 stays_laid_out items i a x y ys laid l e is made =
     let at = at_index items i x l is in
     let room = fits (segment_view x) a (length ys) (subst (λ g. holds g a (length ys) ≡ true) at e) in
-    let shape = same_shape (map segment_view items) i (segment_view y) (ap (λ g. g.address) made ∙ sym (ap (λ g. g.address) at)) (ap (λ g. length g.bytes) made ∙ size_put x.bytes.items (a - x.address) ys room ∙ sym (ap (λ g. length g.bytes) at)) in
+    let shape = same_shape (map segment_view items) i (segment_view y) (ap (λ g. g.address) made ∙ sym (ap (λ g. g.address) at))
+    (ap (λ g. length g.bytes) made ∙ size_put x.bytes.items (a - x.address) ys room ∙ sym (ap (λ g. length g.bytes) at)) in
     subst IsMemory (sym (map-set segment_view items i y)) (still_laid_out (map segment_view items) (set (map segment_view items) i (segment_view y)) shape laid)

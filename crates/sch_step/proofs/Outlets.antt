@@ -11,7 +11,8 @@ use Rattle.sch_word.specs.runs.Answers.{TakesNothing}
 use Rattle.sch_step.specs.Run.{Does}
 
 -- Nothing goes out.
-pub quiet : (P : List ℕ → List Answer → List ℕ → List Answer → Type 0) (bytes : Option (List ℕ)) (left : Option (List Answer)) (faults : ℕ) → ((b : List ℕ) (k : List Answer) → P b k b k) → Does P bytes bytes left left faults faults
+pub quiet : (P : List ℕ → List Answer → List ℕ → List Answer → Type 0) (bytes : Option (List ℕ)) (left : Option (List Answer)) (faults : ℕ) → ((b : List ℕ) (k : List Answer) → P b k b k)
+    → Does P bytes bytes left left faults faults
 quiet P bytes left faults h = record {
   took = [];
   given = [];
@@ -32,7 +33,9 @@ refusal (Took (suc k)) n some h = absurd h
 refusal Failed n some h = tt
 
 -- One piece goes out and is answered.
-pub loud : (P : List ℕ → List Answer → List ℕ → List Answer → Type 0) (piece : List ℕ) (a : Answer) (ob nb : Option (List ℕ)) (ol nl : Option (List Answer)) (of nf : ℕ) → 0 < length piece → ((b : List ℕ) (x y : List Answer) → AnswersNext (length piece) a x y → P b x (b ++ taken a piece) y) → IsWithin a (length piece) → Tells ob nb (λ x y. y ≡ x ++ taken a piece) → Tells ol nl (AnswersNext (length piece) a) → of ≤ nf → (IsRefusal a (length piece) → Rose of nf) → Does P ob nb ol nl of nf
+pub loud : (P : List ℕ → List Answer → List ℕ → List Answer → Type 0) (piece : List ℕ) (a : Answer) (ob nb : Option (List ℕ)) (ol nl : Option (List Answer)) (of nf : ℕ) → 0 < length piece
+    → ((b : List ℕ) (x y : List Answer) → AnswersNext (length piece) a x y → P b x (b ++ taken a piece) y) → IsWithin a (length piece) → Tells ob nb (λ x y. y ≡ x ++ taken a piece)
+    → Tells ol nl (AnswersNext (length piece) a) → of ≤ nf → (IsRefusal a (length piece) → Rose of nf) → Does P ob nb ol nl of nf
 loud P piece a ob nb ol nl of nf some h within bytes left faults refused = record {
   took = taken a piece;
   given = a ∷ [];
@@ -54,7 +57,9 @@ rose_earlier : (a b c : ℕ) → a ≤ b → Rose b c → Rose a c
 rose_earlier a b c l r = omega (arith, r, l)
 
 -- One thing was done, and then another.
-pub then : (P Q R : List ℕ → List Answer → List ℕ → List Answer → Type 0) (ob mb nb : Option (List ℕ)) (ol ml nl : Option (List Answer)) (of mf nf : ℕ) → ((b : List ℕ) (k : List Answer) (b' : List ℕ) (k' : List Answer) (b'' : List ℕ) (k'' : List Answer) → P b k b' k' → Q b' k' b'' k'' → R b k b'' k'') → Does P ob mb ol ml of mf → Does Q mb nb ml nl mf nf → Does R ob nb ol nl of nf
+pub then : (P Q R : List ℕ → List Answer → List ℕ → List Answer → Type 0) (ob mb nb : Option (List ℕ)) (ol ml nl : Option (List Answer)) (of mf nf : ℕ)
+    → ((b : List ℕ) (k : List Answer) (b' : List ℕ) (k' : List Answer) (b'' : List ℕ) (k'' : List Answer) → P b k b' k' → Q b' k' b'' k'' → R b k b'' k'') → Does P ob mb ol ml of mf
+    → Does Q mb nb ml nl mf nf → Does R ob nb ol nl of nf
 then P Q R ob mb nb ol ml nl of mf nf f p q = record {
   took = p.took ++ q.took;
   given = p.given ++ q.given;
@@ -64,7 +69,8 @@ then P Q R ob mb nb ol ml nl of mf nf f p q = record {
       (f b (p.given ++ (q.given ++ more)) (b ++ p.took) (q.given ++ more) ((b ++ p.took) ++ q.took) more (p.untold b (q.given ++ more)) (q.untold (b ++ p.took) more)));
   told = tells_then ol ml nl (λ x y. (b : List ℕ) → P b x (b ++ p.took) y) (λ x y. (b : List ℕ) → Q b x (b ++ q.took) y) (λ x y. (b : List ℕ) → R b x (b ++ (p.took ++ q.took)) y)
       p.told q.told (λ x y z g h b. subst (λ b'. R b x b' z) (append_assoc b p.took q.took) (f b x (b ++ p.took) y ((b ++ p.took) ++ q.took) z (g b) (h (b ++ p.took))));
-  bytes_told = tells_then ob mb nb (λ x y. y ≡ x ++ p.took) (λ x y. y ≡ x ++ q.took) (λ x y. y ≡ x ++ (p.took ++ q.took)) p.bytes_told q.bytes_told (λ x y z e g. g ∙ ap (λ l. l ++ q.took) e ∙ append_assoc x p.took q.took);
+  bytes_told = tells_then ob mb nb (λ x y. y ≡ x ++ p.took) (λ x y. y ≡ x ++ q.took) (λ x y. y ≡ x ++ (p.took ++ q.took)) p.bytes_told q.bytes_told
+      (λ x y z e g. g ∙ ap (λ l. l ++ q.took) e ∙ append_assoc x p.took q.took);
   faults = let a = p.faults in let b = q.faults in omega arith;
   refused = both p.given q.given (λ k d l t. rose_later of mf nf (p.refused k d l t) q.faults) (λ k d l t. rose_earlier of mf nf p.faults (q.refused k d l t));
 }
@@ -74,7 +80,8 @@ then P Q R ob mb nb ol ml nl of mf nf f p q = record {
     both (x ∷ xs) ys h g zero d l = h zero d (omega arith)
     both (x ∷ xs) ys h g (suc k) d l = both xs ys (λ j d m. h (suc j) d (omega (arith, m))) g k d (omega (arith, l))
 
-pub weaker : (P Q : List ℕ → List Answer → List ℕ → List Answer → Type 0) (ob nb : Option (List ℕ)) (ol nl : Option (List Answer)) (of nf : ℕ) → ((b : List ℕ) (k : List Answer) (b' : List ℕ) (k' : List Answer) → P b k b' k' → Q b k b' k') → Does P ob nb ol nl of nf → Does Q ob nb ol nl of nf
+pub weaker : (P Q : List ℕ → List Answer → List ℕ → List Answer → Type 0) (ob nb : Option (List ℕ)) (ol nl : Option (List Answer)) (of nf : ℕ)
+    → ((b : List ℕ) (k : List Answer) (b' : List ℕ) (k' : List Answer) → P b k b' k' → Q b k b' k') → Does P ob nb ol nl of nf → Does Q ob nb ol nl of nf
 weaker P Q ob nb ol nl of nf f p = record {
   took = p.took;
   given = p.given;

@@ -157,7 +157,8 @@ impl Processor {
     fn stuck_cause_at(&self, insn: &Insn, size: usize) -> Option<StuckCause>
         requires valid { IsValid insn.now }
         requires low { (core_of self.now).place + size ≤ 2 ^ 47 }
-        ensures { (bytes : List ℕ) (answers : List Answer) → standing (state_of (core_of self.now) bytes answers) (perform insn.now ((core_of self.now).place + size) (state_of (core_of self.now) bytes answers))
+        ensures { (bytes : List ℕ) (answers : List Answer) → standing (state_of (core_of self.now) bytes answers)
+            (perform insn.now ((core_of self.now).place + size) (state_of (core_of self.now) bytes answers))
             ≡ looked result (core_of self.now) bytes answers }
     {
         let next = self.at + size as u64;

@@ -1,18 +1,16 @@
 //! The routines that fill, run: elements are filled in behind eight of forty bytes, which are then put.
 
 ghost use Rattle.std.specs.Prelude.{◌≡◌, [], ◌<◌, IfOk};
-ghost use Rattle.sch_insn.specs.Spelling.{AllValid};
 ghost use Rattle.sch_asm.specs.Items.{AreOwn};
 
 use sch_asm::{Asm, Item, Routine, resolve};
-use sch_code::{Code, encode};
 use sch_elf::program_image;
 use sch_insn::register::{R11, RAX, RCX, RDX};
 use sch_insn::{Arg, Insn};
 use sch_io::MemOutlet;
 use sch_runtime::routines;
 use sch_step::{RunEnd, load, run};
-use sch_word::{Bytes, Limits, List, MAX_TEXT_SIZE, Mem};
+use sch_word::{Limits, List, MAX_TEXT_SIZE, Mem};
 use std::alloc::Global;
 use std::test::Fail;
 
@@ -48,19 +46,6 @@ fn program(alloc: Global, label: u32, count: u8) -> Result<Asm, Mem>
     })
 }
 
-// The bytes of instructions.
-fn text_of(alloc: Global, code: &[Insn]) -> Result<Bytes, Mem>
-    requires { AllValid code.now }
-{
-    let mut text = Bytes::new(alloc);
-    let mut buffer = Code::new();
-    for insn in code {
-        encode(insn, &mut buffer);
-        text.extend_from_slice(buffer.bytes())?;
-    }
-    Ok(text)
-}
-
 // What is put after a fill.
 fn filled(alloc: Global, label: u32, count: u8) -> Result<MemOutlet, Fail>
     requires { label < 15 }
@@ -69,7 +54,7 @@ fn filled(alloc: Global, label: u32, count: u8) -> Result<MemOutlet, Fail>
     let routines = routines(alloc, limits)?;
     let program = program(alloc, label, count)?;
     let resolved = resolve(alloc, &program, &routines)?;
-    let text = text_of(alloc, resolved.code.as_slice())?;
+    let text = resolved.code.into_bytes();
     if text.len() as u64 > MAX_TEXT_SIZE {
         return Err("too large".into());
     }

@@ -1,6 +1,7 @@
 //! Texts that are read, and data that are printed and let go of.
 
-use sch_read::{Atom, Datum, Node, ReadError, print, read_all};
+use sch_print::print;
+use sch_read::{Atom, Datum, Node, ReadError, read_all};
 use sch_word::{List, Mem};
 use std::alloc::Global;
 use std::test::Fail;

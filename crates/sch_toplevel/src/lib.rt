@@ -9,5 +9,4 @@ mod places;
 mod texts;
 
 pub use items::{Items, read_items};
-pub use places::form_places;
 pub use texts::{Text, read_text};

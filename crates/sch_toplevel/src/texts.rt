@@ -9,7 +9,7 @@ ghost use Rattle.sch_sketch.specs.Sketch.{sketches, sequencing};
 ghost use Rattle.sch_expansion.specs.Reads.{PartsRead};
 ghost use Rattle.sch_numbers.specs.Named.{firsts};
 ghost use Rattle.sch_toplevel.specs.Assigned.{assigned_in_each};
-ghost use Rattle.sch_toplevel.specs.Forms.{defined_by_each};
+ghost use Rattle.sch_toplevel.specs.Forms.{defined_by_each, form_places};
 ghost use Rattle.sch_toplevel.specs.FormView.{sketches_at};
 ghost use Rattle.sch_toplevel.specs.Texts.{IsRead};
 ghost use Rattle.sch_toplevel.specs.Views.{given};
@@ -17,6 +17,7 @@ ghost use Rattle.sch_toplevel.specs.Views.{given};
 use crate::assigned::add_assigned_each;
 use crate::forms::{Form, add_defined_by_each, add_forms};
 use crate::given::add_names;
+use crate::places::places_of;
 use sch_expansion::read;
 use sch_names::{Globals, Names};
 use sch_read::Datum;
@@ -24,12 +25,13 @@ use sch_sketch::{Draft, Fault};
 use sch_word::{List, Mem};
 use std::alloc::Global;
 
-/// A text that is read: the names of its own, the drafts of its forms, and its least fault. With a fault the
-/// drafts say nothing.
+/// A text that is read: the names of its own, the drafts of its forms, the number of bytes before each form, and its
+/// least fault. With a fault the drafts say nothing.
 #[derive(Drop)]
 pub struct Text<'a> {
     pub own: Names,
     pub drafts: List<Draft<'a>>,
+    pub places: List<u32>,
     pub fault: Option<Fault>,
 }
 
@@ -43,7 +45,8 @@ fn read_forms<'a>(
     ensures { IfOk result (λ es. PartsRead (globals_of globals.now) sequencing true 1 [] Value
         (sketches (sketches_at forms.now)) fault.old fault.new (drafts_of es)) }
 {
-    let mut all = List::new(alloc);
+    let room = Vec::with_capacity(alloc, forms.len())?;
+    let mut all = List::from_vec(room);
     for form in forms {
         let k = form.sketch(alloc)?;
         let e = read(alloc, globals, k, fault)?;
@@ -81,10 +84,12 @@ fn adds_assigned(alloc: Global, drafts: &[Draft<'_>], own: &mut Names) -> Result
 /// Reads a text that sees these names of a library. What it assigns is known only when it is read; where that is
 /// more than it defines, it is read a second time.
 pub fn read_text<'a>(alloc: Global, seen: &[&[u8]], items: &'a [Datum]) -> Result<Text<'a>, Mem>
-    ensures { IfOk result (λ t. IsRead (given seen.now) (data_of items.now) (names_of t.own) t.fault (drafts_of t.drafts)) }
+    ensures read { IfOk result (λ t. IsRead (given seen.now) (data_of items.now) (names_of t.own) t.fault (drafts_of t.drafts)) }
+    ensures places { IfOk result (λ t. t.places ≡ form_places (data_of items.now)) }
 {
     let mut forms = List::new(alloc);
     add_forms(items, &mut forms)?;
+    let places = places_of(alloc, forms.as_slice())?;
     let mut globals = defined_globals(alloc, seen, forms.as_slice())?;
     let mut fault = None;
     let mut drafts = read_forms(alloc, &globals, forms.as_slice(), &mut fault)?;
@@ -97,5 +102,10 @@ pub fn read_text<'a>(alloc: Global, seen: &[&[u8]], items: &'a [Datum]) -> Resul
         own,
         internal: _,
     } = globals;
-    Ok(Text { own, drafts, fault })
+    Ok(Text {
+        own,
+        drafts,
+        places,
+        fault,
+    })
 }

@@ -1,4 +1,4 @@
-pub mod Ahead
+pub mod EntriesAhead
 pub mod NoEntryLeft
 pub mod Lengths
 pub mod RunsAlike

@@ -74,7 +74,8 @@ module _ {P Q : Type 0} (Becomes : P → Q → Type 0) where
   both_entry_left zero h = both_exhausted
   both_entry_left (suc n) h = both_pass h
 
-  pub checked_call_same : {ps : List P} {qs : List Q} → Pairs ps qs → (t : Store) (spread tail : Bool) (depth : ℕ) (vs : List Value) → BothChecked SameEntry (checked_call ps t spread tail depth vs) (checked_call qs t spread tail depth vs)
+  pub checked_call_same : {ps : List P} {qs : List Q} → Pairs ps qs → (t : Store) (spread tail : Bool) (depth : ℕ) (vs : List Value)
+      → BothChecked SameEntry (checked_call ps t spread tail depth vs) (checked_call qs t spread tail depth vs)
   checked_call_same h t spread tail depth vs =
       both_on_passed (both_self (handed (operands vs) spread t.objects))
       (λ _ _ arguments. both_on_passed (pairs_callee h vs)
@@ -106,12 +107,14 @@ module _ {P Q : Type 0} (Becomes : P → Q → Type 0) where
   abbrev pub DoesSame : {V : Type 0} → Computation P V → Computation Q V → Type 0
   DoesSame c d = Similar same_store (Same same_store) tt c d
 
-  pub with_rest_keeps : {V : Type 0} (Promise : V → Type 0) (a : Outcome Store V) (cs : List (Option Value)) (ps : List P) (qs : List Q) → Gives Promise a → Pairs ps qs → SimilarOutcome same_store (λ _ v v'. (v ≡ v') × Promise v) tt (with_rest cs ps a) (with_rest cs qs a)
+  pub with_rest_keeps : {V : Type 0} (Promise : V → Type 0) (a : Outcome Store V) (cs : List (Option Value)) (ps : List P) (qs : List Q) → Gives Promise a → Pairs ps qs
+      → SimilarOutcome same_store (λ _ v v'. (v ≡ v') × Promise v) tt (with_rest cs ps a) (with_rest cs qs a)
   with_rest_keeps Promise (gives v t) cs ps qs h p = (tt, _, v, tt, record { procedures = qs; pairs = p; is = refl }, (refl, h), refl)
   with_rest_keeps Promise (stops why t) cs ps qs h p = (tt, _, tt, record { procedures = qs; pairs = p; is = refl }, refl)
   with_rest_keeps Promise (spent t) cs ps qs h p = (tt, _, tt, record { procedures = qs; pairs = p; is = refl }, refl)
 
-  pub with_rest_same : {V : Type 0} (a : Outcome Store V) (cs : List (Option Value)) (ps : List P) (qs : List Q) → Pairs ps qs → SimilarOutcome same_store (Same same_store) tt (with_rest cs ps a) (with_rest cs qs a)
+  pub with_rest_same : {V : Type 0} (a : Outcome Store V) (cs : List (Option Value)) (ps : List P) (qs : List Q) → Pairs ps qs
+      → SimilarOutcome same_store (Same same_store) tt (with_rest cs ps a) (with_rest cs qs a)
   with_rest_same (gives v t) cs ps qs p = (tt, _, v, tt, record { procedures = qs; pairs = p; is = refl }, refl, refl)
   with_rest_same (stops why t) cs ps qs p = (tt, _, tt, record { procedures = qs; pairs = p; is = refl }, refl)
   with_rest_same (spent t) cs ps qs p = (tt, _, tt, record { procedures = qs; pairs = p; is = refl }, refl)
@@ -129,7 +132,10 @@ module _ {P Q : Type 0} (Becomes : P → Q → Type 0) where
   set_or_stop_same (Some (Some v)) s t r = (tt, t, v, tt, r, refl, refl)
 
   pub same_read_cell : (c : ℕ) → DoesSame (read_cell c) (read_cell c)
-  same_read_cell c = record { from = λ w0 g s t r. rw r.is (set_or_stop_same (slice_get s.cells c) s (with_procedures s r.procedures) (record { procedures = r.procedures; pairs = r.pairs; is = refl })) }
+  same_read_cell c = record {
+    from = λ w0 g s t r. rw r.is
+        (set_or_stop_same (slice_get s.cells c) s (with_procedures s r.procedures) (record { procedures = r.procedures; pairs = r.pairs; is = refl }));
+  }
 
   pub same_write_cell : (c : ℕ) (v : Value) → DoesSame (write_cell c v) (write_cell c v)
   same_write_cell c v = record { from = λ w0 g s t r. rw r.is (tt, _, unspecified, tt, record { procedures = r.procedures; pairs = r.pairs; is = refl }, refl, refl) }
@@ -149,14 +155,28 @@ module _ {P Q : Type 0} (Becomes : P → Q → Type 0) where
     from = λ w0 g s t r. rw r.is (tt, _, _, tt, record { procedures = r.procedures; pairs = r.pairs; is = refl }, (refl, numbers_length (length s.cells) contents ∙ long), refl);
   }
 
-  pub keeps_new_group : (m : ℕ) {make : List Value → List P} {make' : List Value → List Q} → ((vs : List Value) → length vs ≡ m → Pairs (make vs) (make' vs)) → Keeps (λ vs vs'. (vs ≡ vs') × (length vs ≡ m)) (new_group m make) (new_group m make')
+  pub keeps_new_group : (m : ℕ) {make : List Value → List P} {make' : List Value → List Q} → ((vs : List Value) → length vs ≡ m → Pairs (make vs) (make' vs))
+      → Keeps (λ vs vs'. (vs ≡ vs') × (length vs ≡ m)) (new_group m make) (new_group m make')
   keeps_new_group m {make} {make'} h = record {
     from = λ w0 g s t r.
         let vs = procedures_from (length s.procedures) m in
-        rw (r.is, ← pairs_length r.pairs) (tt, _, vs, tt, record { procedures = r.procedures ++ make' vs; pairs = pairs_append r.pairs (h vs (procedures_length (length s.procedures) m)); is = refl }, (refl, procedures_length (length s.procedures) m), refl);
+        rw (r.is, ← pairs_length r.pairs) (
+          tt,
+          _,
+          vs,
+          tt,
+          record {
+            procedures = r.procedures ++ make' vs;
+            pairs = pairs_append r.pairs (h vs (procedures_length (length s.procedures) m));
+            is = refl;
+          },
+          (refl, procedures_length (length s.procedures) m),
+          refl,
+        );
   }
 
-  pub keeps_new_fix : (m : ℕ) {make : List ℕ → List P} {make' : List ℕ → List Q} → ((cs : List ℕ) → length cs ≡ m → Pairs (make cs) (make' cs)) → Keeps (λ cs cs'. (cs ≡ cs') × (length cs ≡ m)) (new_fix m make) (new_fix m make')
+  pub keeps_new_fix : (m : ℕ) {make : List ℕ → List P} {make' : List ℕ → List Q} → ((cs : List ℕ) → length cs ≡ m → Pairs (make cs) (make' cs))
+      → Keeps (λ cs cs'. (cs ≡ cs') × (length cs ≡ m)) (new_fix m make) (new_fix m make')
   keeps_new_fix m {make} {make'} h = record {
     from = λ w0 g s t r.
         let vs = procedures_from (length s.procedures) m in
@@ -166,7 +186,8 @@ module _ {P Q : Type 0} (Becomes : P → Q → Type 0) where
   }
 
   -- one after another, where both give the same value, with a promise on it
-  pub same_keeping : {V W : Type 0} {Promise : V → Type 0} {c : Computation P V} {d : Computation Q V} {next : V → Computation P W} {next' : V → Computation Q W} → Keeps (λ v v'. (v ≡ v') × Promise v) c d → ((v : V) → Promise v → DoesSame (next v) (next' v)) → DoesSame (after c next) (after d next')
+  pub same_keeping : {V W : Type 0} {Promise : V → Type 0} {c : Computation P V} {d : Computation Q V} {next : V → Computation P W} {next' : V → Computation Q W}
+      → Keeps (λ v v'. (v ≡ v') × Promise v) c d → ((v : V) → Promise v → DoesSame (next v) (next' v)) → DoesSame (after c next) (after d next')
   same_keeping {Promise = Promise} h k = similar_keeping same_store Promise h (λ _ _ v kept. k v kept)
 
   -- a call, where entering related procedures does the same
@@ -177,11 +198,13 @@ module _ {P Q : Type 0} (Becomes : P → Q → Type 0) where
     pub same_call : (spread tail : Bool) (depth : ℕ) (vs : List Value) → DoesSame (call_with enter spread tail depth vs) (call_with enter' spread tail depth vs)
     same_call spread tail depth vs = record {
       from = λ w0 g s t r.
-          rw r.is ((similar_checked same_store (checked_call_same r.pairs s.store spread tail depth vs) same_entering).from tt tt s (with_procedures s r.procedures) (record { procedures = r.procedures; pairs = r.pairs; is = refl }));
+          rw r.is ((similar_checked same_store (checked_call_same r.pairs s.store spread tail depth vs) same_entering).from tt tt s (with_procedures s r.procedures)
+          (record { procedures = r.procedures; pairs = r.pairs; is = refl }));
     }
 
   -- what is seen of two runs from related starts is the same
-  pub same_seen : {V : Type 0} (answers : List Answer) (entries : ℕ) (c : Computation P V) (d : Computation Q V) → DoesSame c d → (t : Store) (ps : List P) (qs : List Q) → Pairs ps qs → seen answers entries (c (starting_state t ps)) ≡ seen answers entries (d (starting_state t qs))
+  pub same_seen : {V : Type 0} (answers : List Answer) (entries : ℕ) (c : Computation P V) (d : Computation Q V) → DoesSame c d → (t : Store) (ps : List P) (qs : List Q) → Pairs ps qs
+      → seen answers entries (c (starting_state t ps)) ≡ seen answers entries (d (starting_state t qs))
   same_seen answers entries c d h t ps qs p =
       similar_seen same_store (λ s. s.store) (λ s. s.store) (λ _ s t r. sym (ap (λ u. u.store) r.is)) (Same same_store) answers entries tt _ _
       (h.from tt tt (starting_state t ps) (starting_state t qs) (record { procedures = qs; pairs = p; is = refl }))

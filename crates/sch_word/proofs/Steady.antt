@@ -148,7 +148,8 @@ more_objects value objects t = gives (value (length t.objects)) (record t { obje
 
 steady_more_objects : (value : ℕ → Value) (objects : ℕ → List Object) → Steady (more_objects value objects)
 steady_more_objects value objects = record {
-  grows = λ t. quiet t (record t { objects = t.objects ++ objects (length t.objects) }) refl refl refl (omega arith) (omega (arith, length-append t.objects (objects (length t.objects)))) (omega arith);
+  grows = λ t. quiet t (record t { objects = t.objects ++ objects (length t.objects) }) refl refl refl (omega arith)
+      (omega (arith, length-append t.objects (objects (length t.objects)))) (omega arith);
   blind = λ n t. refl;
   lasts = λ t. tt;
 }

@@ -1,3 +1,5 @@
+//! Constants of a program.
+
 use crate::fix::Fix;
 
 /// A constant of a program, which stands in code as one word (R5RS 4.1.2).

@@ -1,3 +1,5 @@
+//! Limits of a run.
+
 ghost use Rattle.std.specs.Prelude.{◌≡◌, ◌≤◌, ◌%◌, ◌↔◌, IsSome, IfSome};
 ghost use Rattle.sch_word.specs.runs.Limits.{AreLimits};
 

@@ -1,3 +1,5 @@
+//! Literals of a program.
+
 use crate::constant::Const;
 use crate::list::{Bytes, List};
 

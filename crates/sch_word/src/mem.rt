@@ -1,3 +1,5 @@
+//! Out of memory.
+
 use std::alloc::{AllocError, AllocFailed};
 use thiserror::Error;
 

@@ -1,3 +1,5 @@
+//! Primitives: their names and how many operands each takes.
+
 ghost use Rattle.std.specs.Prelude.{◌≡◌};
 ghost use Rattle.sch_word.specs.values.Primitives.{name_of, operands_of};
 

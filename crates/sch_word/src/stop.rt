@@ -1,3 +1,5 @@
+//! Stops: their statuses and texts.
+
 ghost use Rattle.std.specs.Prelude.{◌≡◌, ◌↔◌, Some};
 ghost use Rattle.sch_word.specs.runs.Stops.{status_of, stop_of, text_of};
 

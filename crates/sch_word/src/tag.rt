@@ -1,3 +1,5 @@
+//! Tags of words.
+
 ghost use Rattle.std.specs.Prelude.{◌≡◌};
 ghost use Rattle.sch_word.specs.values.Tags.{tag_bits};
 

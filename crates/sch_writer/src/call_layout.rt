@@ -1,14 +1,15 @@
-//! Calls: operands are set aside, each in a slot of its own before those of variables, and then handed over.
+//! Calls: operands are set aside, each in a slot of its own, and then handed over; and what is saved and restored.
 
-ghost use Rattle.std.specs.Prelude.{◌≡◌, ◌+◌, ◌∷◌, false, length, true, IfOk, OnOk};
+ghost use Rattle.std.specs.Prelude.{◌≡◌, ◌+◌, ◌∷◌, [], false, length, true, IfOk, OnOk};
 ghost use Rattle.sch_control.specs.declared.mark.MarkKind.TheVariants as mark;
 ghost use Rattle.sch_frames.specs.Meaning.{argument_register, argument_slot, closure_register, link_register};
 ghost use Rattle.sch_frames.specs.declared.instruction.Instruction.TheVariants.{Call, Mark, Tail};
-ghost use Rattle.sch_layout.specs.BodyLayout.{arrival, hand_over, handed, leave, loaded, prepared, set_aside, stored, Writes};
-ghost use Rattle.sch_layout.specs.OwnSlots.{own_slot, own_slots, saved_round};
+ghost use Rattle.sch_layout.specs.BodyLayout.{arrival, copied, hand_over, handed, leave, loaded, prepared, set_aside, stored, Writes};
+ghost use Rattle.sch_layout.specs.OwnSlots.{saved_round};
 
-use crate::instructions::{Slots, Writer, leave, put};
-use crate::slot_places::operand_at;
+use crate::instructions::{Writer, leave, put};
+use crate::operand_places::operand_at;
+use crate::variable_places::{BodyPlaces, VariablePlaces};
 use sch_control::{Application, Atom, MarkKind, Operand};
 use sch_frames::Instruction;
 use sch_word::{Mem, Place};
@@ -18,7 +19,7 @@ use std::alloc::Global;
 pub const LINK: Place = Place::Reg(15);
 
 /// Where the closure of an activation is as it is entered: R14.
-pub const CLOSURE: Place = Place::Reg(14);
+pub(crate) const CLOSURE: Place = Place::Reg(14);
 
 /// The register of an operand by the number of those before it: RBX, R8, R9, R10, RSI or RDI.
 fn argument_register(k: u32) -> Option<u8>
@@ -43,7 +44,7 @@ fn argument_slot(k: u32) -> u32
 }
 
 /// Where an argument arrives.
-pub fn arrival(k: u32) -> Place
+pub(crate) fn arrival(k: u32) -> Place
     ensures { result ≡ arrival k }
 {
     match argument_register(k) {
@@ -87,78 +88,141 @@ fn following(slot: u32) -> Result<u32, Mem>
 }
 
 /// Each operand is loaded into a slot of its own.
-fn set_aside(
+fn set_aside<P: VariablePlaces>(
     alloc: Global,
-    slots: Slots,
+    places: &P,
     operands: &[Operand<u32>],
     out: &mut Writer,
 ) -> Result<(), Mem>
     ensures instructions { OnOk result (Writes out.old.instructions out.new.instructions
-        (set_aside (own_slot slots.base) 0 operands.now)) }
+        (set_aside (P.plan places.now).place (P.plan places.now).aside operands.now)) }
     ensures labels { OnOk result (out.new.labels ≡ out.old.labels) }
 {
-    let mut next = 0;
+    let mut next = places.aside();
     for o in operands {
         put(
             out,
-            Instruction::Load(Place::Slot(next), operand_at(alloc, slots.base, o)?),
+            Instruction::Load(Place::Slot(next), operand_at(alloc, places, o)?),
         )?;
         next = following(next)?;
     }
     Ok(())
 }
 
-/// The operands that are set aside are handed over, the first before the others.
-fn hand_over(tail: bool, count: u32, out: &mut Writer) -> Result<(), Mem>
-    ensures instructions { OnOk result (Writes out.old.instructions out.new.instructions (hand_over tail 0 0 count)) }
+/// The operands that are set aside from a slot on are handed over, the first before the others.
+fn hand_over(tail: bool, aside: u32, count: u32, out: &mut Writer) -> Result<(), Mem>
+    ensures instructions { OnOk result (Writes out.old.instructions out.new.instructions (hand_over tail 0 aside count)) }
     ensures labels { OnOk result (out.new.labels ≡ out.old.labels) }
 {
+    let mut next = aside;
     for k in 0..count {
-        put(out, handed(tail, k, Place::Slot(k)))?;
+        put(out, handed(tail, k, Place::Slot(next)))?;
+        next = following(next)?;
     }
     Ok(())
 }
 
 /// The operands and the operator's closure stand where a call takes them.
-fn prepare(
+fn prepare<P: VariablePlaces>(
     alloc: Global,
-    slots: Slots,
+    places: &P,
     tail: bool,
     a: &Application<u32>,
     out: &mut Writer,
 ) -> Result<u32, Mem>
     ensures instructions { OnOk result (Writes out.old.instructions out.new.instructions
-        (prepared (own_slots slots.base) tail a.now)) }
+        (prepared (P.plan places.now) tail a.now)) }
     ensures labels { OnOk result (out.new.labels ≡ out.old.labels) }
     ensures count { IfOk result (λ n. n ≡ length a.now.operands) }
 {
     let operands = a.operands.as_slice();
     let count = short(operands.len())?;
-    let operator = operand_at(alloc, slots.base, &a.operator)?;
-    set_aside(alloc, slots, operands, out)?;
+    let operator = operand_at(alloc, places, &a.operator)?;
+    set_aside(alloc, places, operands, out)?;
     put(out, Instruction::Load(CLOSURE, operator))?;
-    hand_over(tail, count, out)?;
+    hand_over(tail, places.aside(), count, out)?;
     Ok(count)
 }
 
-/// The return address is saved in its slot, where there is one.
-pub fn write_save(slots: Slots, out: &mut Writer) -> Result<(), Mem>
-    ensures instructions { OnOk result (Writes out.old.instructions out.new.instructions (stored (own_slots slots.base) (saved_round slots.entered))) }
+/// A copy, under its mark where that is wanted.
+fn copied(
+    is_marked: bool,
+    mark: MarkKind,
+    to: Place,
+    from: Place,
+    out: &mut Writer,
+) -> Result<(), Mem>
+    ensures instructions { OnOk result (Writes out.old.instructions out.new.instructions (copied is_marked mark to from)) }
     ensures labels { OnOk result (out.new.labels ≡ out.old.labels) }
 {
-    if slots.entered {
-        put(out, Instruction::Copy(Place::Slot(slots.base), LINK))?;
+    if is_marked {
+        put(out, Instruction::Mark(mark))?;
+    }
+    put(out, Instruction::Copy(to, from))?;
+    Ok(())
+}
+
+/// A variable is saved in its home, if it lives in a register.
+fn save<P: VariablePlaces>(places: &P, x: u32, out: &mut Writer) -> Result<(), Mem>
+    ensures instructions { OnOk result (Writes out.old.instructions out.new.instructions (stored (P.plan places.now) (x ∷ []))) }
+    ensures labels { OnOk result (out.new.labels ≡ out.old.labels) }
+{
+    match places.place(x)? {
+        Place::Slot(_) => Ok(()),
+        Place::Reg(r) => {
+            let to = places.home(x)?;
+            copied(
+                places.is_marked(x),
+                MarkKind::Save(x),
+                to,
+                Place::Reg(r),
+                out,
+            )
+        }
+    }
+}
+
+/// A variable is restored from its home, if it lives in a register.
+fn restore<P: VariablePlaces>(places: &P, x: u32, out: &mut Writer) -> Result<(), Mem>
+    ensures instructions { OnOk result (Writes out.old.instructions out.new.instructions (loaded (P.plan places.now) (x ∷ []))) }
+    ensures labels { OnOk result (out.new.labels ≡ out.old.labels) }
+{
+    match places.place(x)? {
+        Place::Slot(_) => Ok(()),
+        Place::Reg(r) => {
+            let from = places.home(x)?;
+            copied(
+                places.is_marked(x),
+                MarkKind::Restore(x),
+                Place::Reg(r),
+                from,
+                out,
+            )
+        }
+    }
+}
+
+/// What calls must not lose is saved round a body: the return address, where there is one.
+pub(crate) fn write_saves<P: VariablePlaces>(
+    body: &BodyPlaces<P>,
+    out: &mut Writer,
+) -> Result<(), Mem>
+    ensures instructions { OnOk result (Writes out.old.instructions out.new.instructions (stored (P.plan body.now.places) (saved_round body.now.entered))) }
+    ensures labels { OnOk result (out.new.labels ≡ out.old.labels) }
+{
+    if body.entered {
+        save(&body.places, 0, out)?;
     }
     Ok(())
 }
 
-/// The return address is back in its register, where there is one.
-fn restore(slots: Slots, out: &mut Writer) -> Result<(), Mem>
-    ensures instructions { OnOk result (Writes out.old.instructions out.new.instructions (loaded (own_slots slots.base) (saved_round slots.entered))) }
+/// It is restored after a call.
+fn write_restores<P: VariablePlaces>(body: &BodyPlaces<P>, out: &mut Writer) -> Result<(), Mem>
+    ensures instructions { OnOk result (Writes out.old.instructions out.new.instructions (loaded (P.plan body.now.places) (saved_round body.now.entered))) }
     ensures labels { OnOk result (out.new.labels ≡ out.old.labels) }
 {
-    if slots.entered {
-        put(out, Instruction::Copy(LINK, Place::Slot(slots.base)))?;
+    if body.entered {
+        restore(&body.places, 0, out)?;
     }
     Ok(())
 }
@@ -166,40 +230,40 @@ fn restore(slots: Slots, out: &mut Writer) -> Result<(), Mem>
 /// A call, whose value is left in the accumulator, or tested, and goes on behind the label where it is `#f`. Each operand
 /// is loaded into a slot of its own, then the operator into R14, and the operands are handed over from their slots. More
 /// than 2^32 operands are out of memory.
-pub fn write_call(
+pub(crate) fn write_call<P: VariablePlaces>(
     alloc: Global,
-    slots: Slots,
+    body: &BodyPlaces<P>,
     a: &Application<u32>,
     test: Option<u32>,
     out: &mut Writer,
 ) -> Result<(), Mem>
     ensures instructions { OnOk result (Writes out.old.instructions out.new.instructions
-        (λ rest. prepared (own_slots slots.base) false a.now
+        (λ rest. prepared (P.plan body.now.places) false a.now
         (Mark (mark.Call a.now.site) ∷ (Call a.now.spread (length a.now.operands)
-        ∷ loaded (own_slots slots.base) (saved_round slots.entered) (leave test rest))))) }
+        ∷ loaded (P.plan body.now.places) (saved_round body.now.entered) (leave test rest))))) }
     ensures labels { OnOk result (out.new.labels ≡ out.old.labels) }
 {
-    let count = prepare(alloc, slots, false, a, out)?;
+    let count = prepare(alloc, &body.places, false, a, out)?;
     put(out, Instruction::Mark(MarkKind::Call(a.site)))?;
     put(out, Instruction::Call(a.spread, count))?;
-    restore(slots, out)?;
+    write_restores(body, out)?;
     leave(out, test)?;
     Ok(())
 }
 
 /// A tail call, prepared as a call is, whose operands go where those of the body itself arrive.
-pub fn write_tail_call(
+pub(crate) fn write_tail_call<P: VariablePlaces>(
     alloc: Global,
-    slots: Slots,
+    places: &P,
     a: &Application<u32>,
     out: &mut Writer,
 ) -> Result<(), Mem>
     ensures instructions { OnOk result (Writes out.old.instructions out.new.instructions
-        (λ rest. prepared (own_slots slots.base) true a.now
+        (λ rest. prepared (P.plan places.now) true a.now
         (Mark (mark.Tail a.now.site) ∷ (Tail a.now.spread (length a.now.operands) ∷ rest)))) }
     ensures labels { OnOk result (out.new.labels ≡ out.old.labels) }
 {
-    let count = prepare(alloc, slots, true, a, out)?;
+    let count = prepare(alloc, places, true, a, out)?;
     put(out, Instruction::Mark(MarkKind::Tail(a.site)))?;
     put(out, Instruction::Tail(a.spread, count))?;
     Ok(())

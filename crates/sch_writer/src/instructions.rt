@@ -6,14 +6,6 @@ ghost use Rattle.sch_layout.specs.BodyLayout.{leave, Writes};
 use sch_frames::Instruction;
 use sch_word::{List, Mem};
 
-/// Where a body keeps what it has. Its variables are in slots from `base` on, and the operands of its calls are
-/// set aside in the slots before these. A body that is `entered` keeps its return address in the slot at the base.
-#[derive(Clone, Copy)]
-pub struct Slots {
-    pub base: u32,
-    pub entered: bool,
-}
-
 /// Instructions as they are written, and how many labels there are among them.
 #[derive(Drop)]
 pub struct Writer {
@@ -22,7 +14,7 @@ pub struct Writer {
 }
 
 /// The next label. One past the numbers of 32 bits is out of memory.
-pub fn new_label(out: &mut Writer) -> Result<u32, Mem>
+pub(crate) fn new_label(out: &mut Writer) -> Result<u32, Mem>
     ensures number { IfOk result (λ l. l ≡ out.old.labels) }
     ensures labels { OnOk result (out.new.labels ≡ out.old.labels + 1) }
     ensures instructions { out.new.instructions ≡ out.old.instructions }
@@ -38,7 +30,7 @@ pub fn new_label(out: &mut Writer) -> Result<u32, Mem>
 }
 
 /// One instruction more.
-pub fn put(out: &mut Writer, i: Instruction) -> Result<(), Mem>
+pub(crate) fn put(out: &mut Writer, i: Instruction) -> Result<(), Mem>
     ensures instructions { OnOk result (out.new.instructions ≡ out.old.instructions ++ i ∷ []) }
     ensures labels { out.new.labels ≡ out.old.labels }
 {
@@ -47,7 +39,7 @@ pub fn put(out: &mut Writer, i: Instruction) -> Result<(), Mem>
 }
 
 /// A value is left in the accumulator, or tested, and goes on behind the label where it is `#f`.
-pub fn leave(out: &mut Writer, test: Option<u32>) -> Result<(), Mem>
+pub(crate) fn leave(out: &mut Writer, test: Option<u32>) -> Result<(), Mem>
     ensures instructions { OnOk result (Writes out.old.instructions out.new.instructions (leave test)) }
     ensures labels { out.new.labels ≡ out.old.labels }
 {

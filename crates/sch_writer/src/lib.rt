@@ -1,11 +1,14 @@
-//! The instructions of a body as they are written: operands in the slots of variables, and calls, whose operands are set
-//! aside and handed over.
+//! The instructions of a body as they are written, over any places of its variables: what it is entered by, its operands in
+//! their places, and calls, whose operands are set aside and handed over.
 #![tactic(auto)]
 
+mod body_layout;
 mod call_layout;
 mod instructions;
-mod slot_places;
+mod operand_places;
+mod variable_places;
 
-pub use call_layout::{CLOSURE, arrival, write_call, write_save, write_tail_call};
-pub use instructions::{Slots, Writer, leave, new_label, put};
-pub use slot_places::{members_at, operation_at, own_slot};
+pub use body_layout::write_body;
+pub use call_layout::LINK;
+pub use instructions::Writer;
+pub use variable_places::VariablePlaces;

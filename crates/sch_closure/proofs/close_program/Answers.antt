@@ -2,11 +2,11 @@ use Rattle.std.proofs.Common.{◌≡◌, ◌^◌, ◌-◌, [], length, map, ap, 
 use Rattle.sch_cells.specs.ProgramView.{source}
 use Rattle.sch_flat.specs.View.{body, made}
 use Rattle.sch_flat.specs.Valid.{constants_in_range, is_closed, is_formed, within_levels, in_order, sited, statics_known}
-use Rattle.sch_closure.specs.Closed.{captured, procedures_lambdas, made_each}
+use Rattle.sch_closed.specs.Closed.{captured, procedures_lambdas, made_each}
 use Rattle.sch_closure.specs.Walked.{with_bodies_lambdas}
-use Rattle.sch_closure.proofs.Standing.{stands_library, stands_forms}
-use Rattle.sch_closure.proofs.MadeProgram.{fields_made, made_program, library_length, few_procedures}
-use Rattle.sch_closure.proofs.kept.ValidKept.{Given, short, closed_kept, formed_kept, constants_kept, nested_kept, ordered_kept, sited_kept, ready_kept}
+use Rattle.sch_closed.proofs.Standing.{stands_library, stands_forms}
+use Rattle.sch_closure.proofs.MadeProgram.{made_program, library_length, few_procedures}
+use Rattle.sch_closed.proofs.kept.ValidKept.{Given, short, closed_kept, formed_kept, constants_kept, nested_kept, ordered_kept, sited_kept, ready_kept}
 use Rattle.sch_closure.proofs.close_program.Goals as goal
 
 pub close_lambdas-requires-clause-short : goal.close_lambdas-requires-clause-short
@@ -14,13 +14,13 @@ close_lambdas-requires-clause-short c =
     let p = source c.args.p.now in
     let v = c.args.p.now in
     let g : Given p = record { scoped = v.scoped; formed = v.formed; limited = v.limited } in
-    let f = c.as_slice.ensures.value ∙ fields_made p c.new-fields.result.items c.find_each.new.fields.items c.find_lambdas.new.fields.items c.reverse.new.self.items c.new-fields.ensures.items c.in_ok-find_each.ensures.fields c.in_ok-find_lambdas.ensures.fields c.reverse.ensures.items in
+    let f = c.as_slice.ensures.value ∙ c.in_ok-fields.ensures in
     rw f (short p g)
 
 pub close_lambdas-requires-clause-stand : goal.close_lambdas-requires-clause-stand
 close_lambdas-requires-clause-stand c =
     let p = source c.args.p.now in
-    let f = c.as_slice.ensures.value ∙ fields_made p c.new-fields.result.items c.find_each.new.fields.items c.find_lambdas.new.fields.items c.reverse.new.self.items c.new-fields.ensures.items c.in_ok-find_each.ensures.fields c.in_ok-find_lambdas.ensures.fields c.reverse.ensures.items in
+    let f = c.as_slice.ensures.value ∙ c.in_ok-fields.ensures in
     rw (f, c.new-bodies.ensures.items) (stands_library captured p.library p.forms)
 
 pub close_lambdas-requires-clause-few : goal.close_lambdas-requires-clause-few
@@ -34,13 +34,13 @@ close_forms-requires-clause-short c =
     let p = source c.args.p.now in
     let v = c.args.p.now in
     let g : Given p = record { scoped = v.scoped; formed = v.formed; limited = v.limited } in
-    let f = c.as_slice-3.ensures.value ∙ fields_made p c.new-fields.result.items c.find_each.new.fields.items c.find_lambdas.new.fields.items c.reverse.new.self.items c.new-fields.ensures.items c.in_ok-find_each.ensures.fields c.in_ok-find_lambdas.ensures.fields c.reverse.ensures.items in
+    let f = c.as_slice-3.ensures.value ∙ c.in_ok-fields.ensures in
     rw f (short p g)
 
 pub close_forms-requires-clause-stand : goal.close_forms-requires-clause-stand
 close_forms-requires-clause-stand c =
     let p = source c.args.p.now in
-    let f = c.as_slice-3.ensures.value ∙ fields_made p c.new-fields.result.items c.find_each.new.fields.items c.find_lambdas.new.fields.items c.reverse.new.self.items c.new-fields.ensures.items c.in_ok-find_each.ensures.fields c.in_ok-find_lambdas.ensures.fields c.reverse.ensures.items in
+    let f = c.as_slice-3.ensures.value ∙ c.in_ok-fields.ensures in
     let n : length c.close_lambdas.new.bodies.items ≡ procedures_lambdas p.library =
     library_length p c.close_lambdas.new.bodies.items (c.in_ok-records.ensures.bodies ∙ ap (λ bs. with_bodies_lambdas p.library (map body bs)) c.new-bodies.ensures.items) in
     rw (f, n) (stands_forms captured p.library p.forms)

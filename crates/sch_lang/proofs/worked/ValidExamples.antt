@@ -93,7 +93,8 @@ no_byte_of_name : is_valid (ready ((255 ∷ []) ∷ (97 ∷ 256 ∷ []) ∷ []) 
 no_byte_of_name = refl
 
 -- a number inside a vector in a list
-no_number_of_literal : is_valid (ready [] (literals.list (and_literal (literals.elements (and_literal (literals.constant (Fixnum (pos 1152921504606846976))) no_literals)) no_literals) (literals.constant Nil))) ≡ false
+no_number_of_literal : is_valid (ready [] (literals.list (and_literal (literals.elements (and_literal (literals.constant (Fixnum (pos 1152921504606846976))) no_literals)) no_literals)
+    (literals.constant Nil))) ≡ false
 no_number_of_literal = refl
 
 -- a vector that holds a vector, and so on

@@ -1,39 +1,42 @@
 -- The layout of an expression does what the expression does, with its regions and what it restores, where a call leaves
--- nothing in registers. What this asks of a plan is `Apart`, with room for the operands of each call. The places of any
--- two variables are apart, and none is a slot in which operands are set aside. The return address lives in R15. What
--- lives in a register has a home: a slot that is none of those, no variable's place and no other's home. So a variable
--- may live in a register that calls use, and a formal may stay in the slot where it arrives. Two variables never share
--- a place, whether they are needed at the same time or not.
-use Rattle.std.proofs.Common.{◌≡◌, ℕ, zero, suc, ◌+◌, ◌<◌, ◌≤◌, List, [], ◌∷◌, ◌++◌, length, Option, Some, None, Bool, true, false, cond, refl, sym, ap, ◌∙◌, subst, arith}
-use Rattle.std.specs.Prelude.{filter, max, nat_eq, ◌||◌}
-use Rattle.std.proofs.Math.Nat.{le-max_left, le-max_right}
+-- nothing in registers. What this asks of a plan is `Homes`, once, and `Placed` of the expression: where a variable is
+-- written lives no other that is live then, and so two variables may share a place that are never live together. A
+-- variable may live in a register that calls use, and a formal may stay in the slot where it arrives.
+use Rattle.std.proofs.Common.{◌≡◌, ℕ, zero, suc, ◌+◌, ◌<◌, List, [], ◌∷◌, ◌++◌, length, Option, Some, None, Bool, true, false, cond, refl, sym, ap, ◌∙◌, subst, arith, ◌⊎◌, inl, inr}
+use Rattle.std.specs.Bool.{MatchBool}
+use Rattle.std.specs.Prelude.{◌≢◌, filter, nat_eq, ◌||◌}
 use Rattle.std.proofs.lemmas.Bool.{eq-eqb, eqb-true, ne_eqb}
 use Rattle.sch_word.specs.declared.place.Place.{Place}
 use Rattle.sch_word.specs.declared.place.Place.TheVariants.{Slot}
 use Rattle.sch_word.specs.values.Values.{Value, is_true}
 use Rattle.sch_word.specs.runs.Charges.{charge_each, procedure_bytes}
-use Rattle.sch_word.specs.runs.Computation.{gives, State, in_store, procedures_from}
+use Rattle.sch_word.specs.runs.Computation.{gives, stops, spent, State, in_store, procedures_from}
 use Rattle.sch_word.specs.trees.NumberSets.{has}
-use Rattle.sch_word.proofs.facts.Booleans.{false_true, neither, not_left, not_right, or_right}
+use Rattle.sch_word.proofs.facts.Booleans.{false_true, neither, not_left, not_right, or_left, or_right}
 use Rattle.sch_control.specs.declared.mark.MarkKind.{MarkKind}
 use Rattle.sch_control.specs.declared.mark.MarkKind.TheVariants as mark
 use Rattle.sch_control.specs.declared.operation.Application.{Application}
+use Rattle.sch_control.specs.declared.operation.Atom.TheVariants.{Constant, Literal, Variable}
+use Rattle.sch_control.specs.declared.operation.Operand.TheVariants as operand
+use Rattle.sch_control.specs.declared.operation.Operation.{Operation}
+use Rattle.sch_control.specs.declared.operation.Operation.TheVariants as operation
 use Rattle.sch_control.specs.declared.operation.Member.{Member}
 use Rattle.sch_control.specs.declared.operation.Source.{Source}
 use Rattle.sch_control.specs.Meaning as control
-use Rattle.sch_control.specs.Meaning.{World, Result, Environment, Then, Callee, Reading, marked, marked_if, with_value, on_outcome, on_return, either, put, put_if, put_each, put_inside, heads, with_region, save_each, mark_each, mark_bound, mark_members, call_in, evaluate}
-use Rattle.sch_control.specs.Operations.{Procedure, and_value, operand_value, operand_values, operate, member_bytes, members_made, with_procedures}
-use Rattle.sch_control.specs.AtomsAndSites.{application_atoms, member_atoms}
+use Rattle.sch_control.specs.Meaning.{World, Result, Environment, Then, Callee, Reading, marked, marked_if, with_value, on_outcome, on_return, either, put, put_if, put_each, put_inside, heads, with_region, save_each, on_ending, mark_each, mark_bound, mark_members, call_in, evaluate}
+use Rattle.sch_control.specs.Operations.{Procedure, Ending, and_value, operand_value, operand_values, operate, member_bytes, members_made, with_procedures}
+use Rattle.sch_control.specs.AtomsAndSites.{operation_atoms, application_atoms, member_atoms}
 use Rattle.sch_control.specs.Tree.{Expression, perform, bind, sequence, branch, fix, call, tail_call, return, end, save}
 use Rattle.sch_control.specs.Valid.{member_variables}
 use Rattle.sch_frames.specs.declared.instruction.Instruction.{Instruction}
 use Rattle.sch_frames.specs.declared.instruction.Instruction.TheVariants.{Fix, Call, Tail, Return, Jump, Label, Mark}
-use Rattle.sch_frames.specs.Does.{unmarked, EndsAs, world, CalleesFollow}
+use Rattle.sch_frames.specs.Does.{Follows, unmarked, EndsAs, world, CalleesFollow}
 use Rattle.sch_frames.specs.Meaning.{Is, Frame, link_register, argument_register, argument_slot, value_in, held, with_place, with_members, argument_in, parts, after_call, if_link, execute_each}
-use Rattle.sch_frames.proofs.EndsAlike.{onto_end, with_value_ends, on_outcome_ends, on_ending_ends, on_return_ends, call_in_ends, with_procedures_follow, either_ends}
+use Rattle.sch_frames.proofs.EndsAlike.{onto_end, with_value_ends, on_outcome_ends, on_return_ends, call_in_ends, with_procedures_follow, either_ends}
 use Rattle.sch_layout.specs.BodyLayout.{Plan, sources_at, members_at, operation_at, in_either, is_slot, placed_reading, copied, stored, loaded, prepared, leave, labels, lay}
-use Rattle.sch_layout.specs.OwnSlots.{most_operands}
-use Rattle.sch_layout.proofs.does.PlacesAgree.{MembersUse, Uses, Behind, Clear, Apart, Agrees, agrees_as, agrees_left, found, bound, members_bound, one_stored, slot_stored, meant, reloaded_one, one_loaded, slot_loaded}
+use Rattle.sch_layout.specs.Live.{Mentions, Perhaps, AfterValue, Across, Live, Grouped, Later}
+use Rattle.sch_layout.specs.SharedPlaces.{EachHas, OutsideSlots, Homes, Alone, RoomFor, Placed}
+use Rattle.sch_layout.proofs.does.PlacesAgree.{MembersUse, Uses, Behind, Lives, atoms_live, Agrees, agrees_as, agrees_on, agrees_left, found, bound, members_bound, one_stored, slot_stored, meant, reloaded_one, one_loaded, slot_loaded}
 use Rattle.sch_layout.proofs.does.OperandsMove.{Values, values_are, values_length, aside_other, below_length, parts_are, outgoing_view, moved_out, SlotsOf, call_moves, own_view, moved_in, LinkOf, tail_moves, put_aside, prepared_does}
 use Rattle.sch_layout.proofs.does.OperationsFollow.{AtomsHave, operate_follows, members_follow}
 use Rattle.sch_layout.proofs.does.LabelsPassed.{past, past_label}
@@ -109,6 +112,13 @@ filtered_out inside (x ∷ xs) z i h = by (inside x) refl (filtered_out inside x
   by true e more h = neither (nat_eq z x) _ (not_left (nat_eq z x) _ h) (more (not_right (nat_eq z x) _ h))
   by false e more h = neither (nat_eq z x) _ (ne_eqb z x (λ q. false_true i (ap inside q ∙ e))) (more h)
 
+filtered_none : (inside : ℕ → Bool) (xs : List ℕ) (z : ℕ) → has z xs ≡ false → has z (filter inside xs) ≡ false
+filtered_none inside [] z h = refl
+filtered_none inside (x ∷ xs) z h = by (inside x) (filtered_none inside xs z (not_right (nat_eq z x) _ h)) where
+  by : (b : Bool) → has z (filter inside xs) ≡ false → has z (cond b (x ∷ filter inside xs) (filter inside xs)) ≡ false
+  by true none = neither (nat_eq z x) _ (not_left (nat_eq z x) _ h) none
+  by false none = none
+
 -- what is saved of a group are those of its members that are inside a region
 group_saved : (inside : ℕ → Bool) (members : List (Member ℕ)) (vs : List Value) (environment saved : Environment) (z : ℕ) → length vs ≡ length members
     → put_inside inside saved members vs z ≡ save_each (filter inside (member_variables members)) (put_each environment members vs) saved z
@@ -131,7 +141,62 @@ procedures_length : (count n : ℕ) → length (procedures_from n count) ≡ cou
 procedures_length zero n = refl
 procedures_length (suc count) n = ap suc (procedures_length count (suc n))
 
-module _ (plan : Plan) (room : ℕ) (at : Apart plan room) (callee callee' : Callee) (follow : CalleesFollow callee callee') (depth : ℕ) where
+-- ## What is live
+
+perhaps : (L : Bool → Type 0) (t : Bool) → L t → Perhaps L
+perhaps L true l = inl l
+perhaps L false l = inr l
+
+abbrev the_value : (none : Value) → Ending → Value
+the_value none (Some (gives v s)) = v
+the_value none _ = none
+
+-- what is live behind the value that an operation gives is live behind the operation
+after_value : (o : Operation ℕ) (L : Bool → Type 0) (environment : Environment) (s s' : State Procedure) (v : Value) → operate environment o s ≡ Some (gives v s') → L (is_true v) → AfterValue o L
+after_value (operation.Operand (operand.Atom (Constant c))) L environment s s' v e l = subst (λ u. L (is_true u)) (sym (ap (the_value v) e)) l
+after_value (operation.Operand (operand.Atom (Literal n))) L environment s s' v e l = perhaps L (is_true v) l
+after_value (operation.Operand (operand.Atom (Variable x))) L environment s s' v e l = perhaps L (is_true v) l
+after_value (operation.Operand (operand.Read site which atoms)) L environment s s' v e l = perhaps L (is_true v) l
+after_value (operation.Prim site which operands) L environment s s' v e l = perhaps L (is_true v) l
+after_value (operation.Global g) L environment s s' v e l = perhaps L (is_true v) l
+after_value (operation.SetGlobal g o) L environment s s' v e l = perhaps L (is_true v) l
+after_value (operation.Field x k) L environment s s' v e l = perhaps L (is_true v) l
+after_value (operation.NewCell c) L environment s s' v e l = perhaps L (is_true v) l
+after_value operation.UnsetCell L environment s s' v e l = perhaps L (is_true v) l
+after_value (operation.CellGet c) L environment s s' v e l = perhaps L (is_true v) l
+after_value (operation.CellSet c o) L environment s s' v e l = perhaps L (is_true v) l
+after_value (operation.MakeClosure c) L environment s s' v e l = perhaps L (is_true v) l
+
+-- ends that follow, where it is known what is given
+given_ends : (marks marks' : List MarkKind) (a b : Ending) (next next' : Value → World → Result) → Follows a b
+    → ((v : Value) (s : State Procedure) → a ≡ Some (gives v s) → EndsAs (next v (world s marks)) (next' v (world s marks'))) → EndsAs (on_ending marks a next) (on_ending marks' b next')
+given_ends marks marks' None b next next' f h = tt
+given_ends marks marks' (Some (gives v s)) b next next' f h =
+    onto_end (next v (world s marks)) (next' v (world s marks')) (on_ending marks' b next') (ap (λ t. on_ending marks' t next') f) (h v s refl)
+given_ends marks marks' (Some (stops why s)) b next next' f h = ap (λ t. unmarked (on_ending marks' t next')) f
+given_ends marks marks' (Some (spent s)) b next next' f h = ap (λ t. unmarked (on_ending marks' t next')) f
+
+-- another variable than this one
+not_itself : {P : Type 0} {x z : ℕ} → z ≢ x → (z ≡ x) ⊎ P → P
+not_itself n (inl e) = absurd (n e)
+not_itself n (inr p) = p
+
+not_bound : {P : Type 0} {b : Bool} → b ≡ false → (b ≡ true) ⊎ P → P
+not_bound h (inl e) = absurd (false_true e h)
+not_bound h (inr p) = p
+
+each_of : (P : ℕ → Type 0) (xs : List ℕ) → ((x : ℕ) → has x xs ≡ true → P x) → EachHas P xs
+each_of P [] h = tt
+each_of P (x ∷ xs) h = (h x (or_left (nat_eq x x) (has x xs) (eq-eqb x x refl)), each_of P xs (λ y e. h y (or_right (nat_eq y x) (has y xs) e)))
+
+each_filtered : (P : ℕ → Type 0) (test : ℕ → Bool) (xs : List ℕ) → EachHas P xs → EachHas P (filter test xs)
+each_filtered P test [] h = tt
+each_filtered P test (x ∷ xs) h = by (test x) (each_filtered P test xs h.1) where
+  by : (b : Bool) → EachHas P (filter test xs) → EachHas P (cond b (x ∷ filter test xs) (filter test xs))
+  by true more = (h.0, more)
+  by false more = more
+
+module _ (plan : Plan) (room : ℕ) (homes : Homes plan room) (callee callee' : Callee) (follow : CalleesFollow callee callee') (depth : ℕ) where
   abbrev run : List Instruction → Option ℕ → Frame → World → Result
   run is seeking f w = execute_each callee' depth is seeking f w
 
@@ -149,9 +214,9 @@ module _ (plan : Plan) (room : ℕ) (at : Apart plan room) (callee callee' : Cal
   leaving (Some l) rest f w v e = ap (λ c. with_value (value_in c) (λ v. either (is_true v) (run rest None f w) (run rest (Some l) f w))) e
 
   -- what follows an expression is followed by what stands behind its layout
-  abbrev Next : Option ℕ → List Instruction → Then → Type 0
-  Next test rest next = (v : Value) (environment saved : Environment) (f : Frame) (s : State Procedure) (marks marks' : List MarkKind)
-      → Agrees plan environment saved f.places → f.accumulator ≡ Is v → EndsAs (next v environment saved (world s marks)) (go_on test v rest f (world s marks'))
+  abbrev Next : Later → Option ℕ → List Instruction → Then → Type 0
+  Next L test rest next = (v : Value) (environment saved : Environment) (f : Frame) (s : State Procedure) (marks marks' : List MarkKind)
+      → Agrees plan (λ x. L x (is_true v)) environment saved f.places → f.accumulator ≡ Is v → EndsAs (next v environment saved (world s marks)) (go_on test v rest f (world s marks'))
 
   abbrev Below : Option ℕ → ℕ → Type 0
   Below None n = Unit {0}
@@ -188,7 +253,7 @@ module _ (plan : Plan) (room : ℕ) (at : Apart plan room) (callee callee' : Cal
   ended n None rest v f w b = refl
   ended n (Some l) rest v f w b = ap (λ t. either (is_true v) (run rest None f w) t) (past_label callee' depth plan (suc n) l rest f w (omega (arith, b)))
 
-  same_return : (environment saved : Environment) (rest : List Instruction) (f : Frame) (s : State Procedure) (marks marks' : List MarkKind) (v : Value) → Agrees plan environment saved f.places → f.accumulator ≡ Is v
+  same_return : (environment saved : Environment) (rest : List Instruction) (f : Frame) (s : State Procedure) (marks marks' : List MarkKind) (v : Value) → Agrees plan (λ x. x ≡ 0) environment saved f.places → f.accumulator ≡ Is v
       → EndsAs (with_value (environment 0) (λ link. Some (gives v (marked mark.Return (world s marks))))) (run (Mark mark.Return ∷ (Return ∷ rest)) None f (world s marks'))
   same_return environment saved rest f s marks marks' v r e = by (environment 0) refl where
     by : (o : Option Value) → environment 0 ≡ o
@@ -196,7 +261,7 @@ module _ (plan : Plan) (room : ℕ) (at : Apart plan room) (callee callee' : Cal
         (if_link (f.places link_register) (with_value (value_in f.accumulator) (λ v. Some (gives v (marked mark.Return (world s marks'))))))
     by None i = tt
     by (Some u) i =
-        ap (λ c. unmarked (if_link c (with_value (value_in f.accumulator) (λ v. Some (gives v (marked mark.Return (world s marks'))))))) (ap f.places (sym at.link) ∙ r.here 0 u i)
+        ap (λ c. unmarked (if_link c (with_value (value_in f.accumulator) (λ v. Some (gives v (marked mark.Return (world s marks'))))))) (ap f.places (sym homes.link) ∙ r.here 0 u refl i)
         ∙ ap (λ c. unmarked (with_value (value_in c) (λ v. Some (gives v (marked mark.Return (world s marks')))))) e
 
   -- a group of procedures, with its charges and how many it has
@@ -208,25 +273,27 @@ module _ (plan : Plan) (room : ℕ) (at : Apart plan room) (callee callee' : Cal
 
   -- ## Saves and restores
 
-  -- one variable is stored in its home, and more is done
-  one_stored_does : (x : ℕ) (environment saved : Environment) (f : Frame) (s : State Procedure) (marks' : List MarkKind) (more : List Instruction) (r : Result) → Agrees plan environment saved f.places
-      → ((g : Frame) (marks' : List MarkKind) → Agrees plan environment (λ z. cond (nat_eq z x) (environment z) (saved z)) g.places → g.accumulator ≡ f.accumulator → EndsAs r (run more None g (world s marks')))
+  -- one live variable is stored in its home, and more is done
+  one_stored_does : (live : ℕ → Type 0) (x : ℕ) → live x → (environment saved : Environment) (f : Frame) (s : State Procedure) (marks' : List MarkKind) (more : List Instruction) (r : Result)
+      → Agrees plan live environment saved f.places
+      → ((g : Frame) (marks' : List MarkKind) → Agrees plan live environment (λ z. cond (nat_eq z x) (environment z) (saved z)) g.places → g.accumulator ≡ f.accumulator → EndsAs r (run more None g (world s marks')))
       → EndsAs r (run (cond (is_slot (plan.place x)) more (copied (plan.is_marked x) (mark.Save x) (plan.home x) (plan.place x) more)) None f (world s marks'))
-  one_stored_does x environment saved f s marks' more r a go = by (is_slot (plan.place x)) refl (plan.is_marked x) where
+  one_stored_does live x l environment saved f s marks' more r a go = by (is_slot (plan.place x)) refl (plan.is_marked x) where
     by : (t : Bool) → is_slot (plan.place x) ≡ t → (is_marked : Bool)
         → EndsAs r (run (cond t more (copied is_marked (mark.Save x) (plan.home x) (plan.place x) more)) None f (world s marks'))
-    by true i is_marked = go f marks' (slot_stored plan room at a x i) refl
-    by false i true = go (with_place f (plan.home x) (f.places (plan.place x))) (marks' ++ mark.Save x ∷ []) (one_stored plan room at a x i) refl
-    by false i false = go (with_place f (plan.home x) (f.places (plan.place x))) marks' (one_stored plan room at a x i) refl
+    by true i is_marked = go f marks' (slot_stored plan room homes live a x i) refl
+    by false i true = go (with_place f (plan.home x) (f.places (plan.place x))) (marks' ++ mark.Save x ∷ []) (one_stored plan room homes live a x l i) refl
+    by false i false = go (with_place f (plan.home x) (f.places (plan.place x))) marks' (one_stored plan room homes live a x l i) refl
 
-  -- some variables are
-  stored_does : (xs : List ℕ) (environment saved : Environment) (f : Frame) (s : State Procedure) (marks' : List MarkKind) (rest : List Instruction) (r : Result) → Agrees plan environment saved f.places
-      → ((g : Frame) (marks' : List MarkKind) → Agrees plan environment (save_each xs environment saved) g.places → g.accumulator ≡ f.accumulator → EndsAs r (run rest None g (world s marks')))
+  -- some live variables are
+  stored_does : (live : ℕ → Type 0) (xs : List ℕ) → EachHas live xs → (environment saved : Environment) (f : Frame) (s : State Procedure) (marks' : List MarkKind) (rest : List Instruction) (r : Result)
+      → Agrees plan live environment saved f.places
+      → ((g : Frame) (marks' : List MarkKind) → Agrees plan live environment (save_each xs environment saved) g.places → g.accumulator ≡ f.accumulator → EndsAs r (run rest None g (world s marks')))
       → EndsAs r (run (stored plan xs rest) None f (world s marks'))
-  stored_does [] environment saved f s marks' rest r a go = go f marks' a refl
-  stored_does (x ∷ xs) environment saved f s marks' rest r a go =
-      one_stored_does x environment saved f s marks' (stored plan xs rest) r a
-      (λ g marks' a e. stored_does xs environment (λ z. cond (nat_eq z x) (environment z) (saved z)) g s marks' rest r a
+  stored_does live [] l environment saved f s marks' rest r a go = go f marks' a refl
+  stored_does live (x ∷ xs) l environment saved f s marks' rest r a go =
+      one_stored_does live x l.0 environment saved f s marks' (stored plan xs rest) r a
+      (λ g marks' a e. stored_does live xs l.1 environment (λ z. cond (nat_eq z x) (environment z) (saved z)) g s marks' rest r a
       (λ g' marks' a' e'. go g' marks' (agrees_as plan (λ z. refl) (λ z. saved_more (nat_eq z x) (has z xs) (environment z) (saved z)) a') (e' ∙ e)))
 
   -- some variables have what is saved of them, if they live in registers
@@ -234,38 +301,42 @@ module _ (plan : Plan) (room : ℕ) (at : Apart plan room) (callee callee' : Cal
   reloaded xs environment saved x = cond (is_slot (plan.place x)) (environment x) (cond (has x xs) (saved x) (environment x))
 
   -- one variable is loaded from its home, and more is done
-  one_loaded_does : (y : ℕ) (environment saved : Environment) (f : Frame) (s : State Procedure) (marks' : List MarkKind) (more : List Instruction) (r : Result) → Agrees plan environment saved f.places
-      → ((g : Frame) (marks' : List MarkKind) → Agrees plan (reloaded_one plan room at y environment saved) saved g.places → g.accumulator ≡ f.accumulator → EndsAs r (run more None g (world s marks')))
+  one_loaded_does : (live : ℕ → Type 0) (y : ℕ) → Alone plan live y → (environment saved : Environment) (f : Frame) (s : State Procedure) (marks' : List MarkKind) (more : List Instruction) (r : Result)
+      → Agrees plan live environment saved f.places
+      → ((g : Frame) (marks' : List MarkKind) → Agrees plan live (reloaded_one plan room homes y environment saved) saved g.places → g.accumulator ≡ f.accumulator → EndsAs r (run more None g (world s marks')))
       → EndsAs r (run (cond (is_slot (plan.place y)) more (copied (plan.is_marked y) (mark.Restore y) (plan.place y) (plan.home y) more)) None f (world s marks'))
-  one_loaded_does y environment saved f s marks' more r a go = by (is_slot (plan.place y)) refl (plan.is_marked y) where
+  one_loaded_does live y free environment saved f s marks' more r a go = by (is_slot (plan.place y)) refl (plan.is_marked y) where
     by : (t : Bool) → is_slot (plan.place y) ≡ t → (is_marked : Bool)
         → EndsAs r (run (cond t more (copied is_marked (mark.Restore y) (plan.place y) (plan.home y) more)) None f (world s marks'))
-    by true i is_marked = go f marks' (slot_loaded plan room at a y i) refl
-    by false i true = go (with_place f (plan.place y) (f.places (plan.home y))) (marks' ++ mark.Restore y ∷ []) (one_loaded plan room at a y i) refl
-    by false i false = go (with_place f (plan.place y) (f.places (plan.home y))) marks' (one_loaded plan room at a y i) refl
+    by true i is_marked = go f marks' (slot_loaded plan room homes live a y i) refl
+    by false i true = go (with_place f (plan.place y) (f.places (plan.home y))) (marks' ++ mark.Restore y ∷ []) (one_loaded plan room homes live a y free i) refl
+    by false i false = go (with_place f (plan.place y) (f.places (plan.home y))) marks' (one_loaded plan room homes live a y free i) refl
 
   -- some variables are
-  loaded_does : (xs : List ℕ) (environment saved : Environment) (f : Frame) (s : State Procedure) (marks' : List MarkKind) (rest : List Instruction) (r : Result) → Agrees plan environment saved f.places
-      → ((g : Frame) (marks' : List MarkKind) → Agrees plan (reloaded xs environment saved) saved g.places → g.accumulator ≡ f.accumulator → EndsAs r (run rest None g (world s marks')))
+  loaded_does : (live : ℕ → Type 0) (xs : List ℕ) → EachHas (Alone plan live) xs → (environment saved : Environment) (f : Frame) (s : State Procedure) (marks' : List MarkKind) (rest : List Instruction) (r : Result)
+      → Agrees plan live environment saved f.places
+      → ((g : Frame) (marks' : List MarkKind) → Agrees plan live (reloaded xs environment saved) saved g.places → g.accumulator ≡ f.accumulator → EndsAs r (run rest None g (world s marks')))
       → EndsAs r (run (loaded plan xs rest) None f (world s marks'))
-  loaded_does [] environment saved f s marks' rest r a go = go f marks' (agrees_as plan (λ x. none (is_slot (plan.place x)) (environment x)) (λ x. refl) a) refl where
+  loaded_does live [] free environment saved f s marks' rest r a go = go f marks' (agrees_as plan (λ x. none (is_slot (plan.place x)) (environment x)) (λ x. refl) a) refl where
     none : (t : Bool) (o : Option Value) → cond t o o ≡ o
     none true o = refl
     none false o = refl
-  loaded_does (y ∷ ys) environment saved f s marks' rest r a go =
-      one_loaded_does y environment saved f s marks' (loaded plan ys rest) r a
-      (λ g marks' a e. loaded_does ys (reloaded_one plan room at y environment saved) saved g s marks' rest r a
+  loaded_does live (y ∷ ys) free environment saved f s marks' rest r a go =
+      one_loaded_does live y free.0 environment saved f s marks' (loaded plan ys rest) r a
+      (λ g marks' a e. loaded_does live ys free.1 (reloaded_one plan room homes y environment saved) saved g s marks' rest r a
       (λ g' marks' a' e'. go g' marks' (agrees_as plan (λ x. one_more (is_slot (plan.place x)) (nat_eq x y) (has x ys) (environment x) (saved x)) (λ x. refl) a') (e' ∙ e))) where
         one_more : (t q b : Bool) (e u : Option Value) → cond t e (cond (q || b) u e) ≡ cond t (cond t e (cond q u e)) (cond b u (cond t e (cond q u e)))
         one_more true q b e u = refl
         one_more false q b e u = saved_more q b u e
 
-  same_group : (members : List (Member ℕ)) (e : Expression) (inside : ℕ → Bool) → MembersUse Behind members → AtomsHave Behind (member_atoms members) → (rest : List Instruction) (next : Then)
-      → ((environment saved : Environment) (f : Frame) (s : State Procedure) → Agrees plan environment saved f.places → (marks marks' : List MarkKind)
+  same_group : (members : List (Member ℕ)) (e : Expression) (inside : ℕ → Bool) (live : ℕ → Type 0) → MembersUse Behind members → AtomsHave Behind (member_atoms members)
+      → EachHas (Alone plan (Grouped inside members live)) (member_variables members) → (rest : List Instruction) (next : Then)
+      → ((environment saved : Environment) (f : Frame) (s : State Procedure) → Agrees plan live environment saved f.places → (marks marks' : List MarkKind)
       → EndsAs (does e inside environment saved (world s marks) next) (run rest None f (world s marks')))
-      → (environment saved : Environment) (f : Frame) (s : State Procedure) (marks marks' : List MarkKind) → Agrees plan environment saved f.places
+      → (environment saved : Environment) (f : Frame) (s : State Procedure) (marks marks' : List MarkKind)
+      → Agrees plan (λ x. (has x (member_variables members) ≡ false) × (Mentions x (member_atoms members) ⊎ live x)) environment saved f.places
       → EndsAs (does (fix members e) inside environment saved (world s marks) next) (run (Fix (members_at plan.place members) ∷ stored plan (filter inside (member_variables members)) rest) None f (world s marks'))
-  same_group members e inside u h rest next go environment saved f s marks marks' r =
+  same_group members e inside live u h free rest next go environment saved f s marks marks' r =
       let whole = stored plan (filter inside (member_variables members)) rest in
       onto_end (does (fix members e) inside environment saved (world s marks) next) (group (members_at plan.place members) (member_bytes members) (length members) whole f s marks') _
       (ap (λ bytes. group (members_at plan.place members) bytes (length (members_at plan.place members)) whole f s marks') (bytes_kept plan.place members)
@@ -274,15 +345,18 @@ module _ (plan : Plan) (room : ℕ) (at : Apart plan room) (callee callee' : Cal
       (λ _ s. let vs = procedures_from (length s.procedures) (length members) in
       let inner = put_each environment members vs in
       let g = with_members f (members_at plan.place members) vs in
-      let r' : Agrees plan (put_each environment members vs) saved (with_members f (members_at plan.place members) vs).places = members_bound plan room at members vs environment saved f u r in
+      let r' : Agrees plan (Grouped inside members live) (put_each environment members vs) saved (with_members f (members_at plan.place members) vs).places =
+      members_bound plan room homes (Grouped inside members live) members vs (procedures_length (length members) _) environment saved f u free (agrees_on plan (λ x l. (l.0, not_bound (filtered_none inside (member_variables members) x l.0) l.1)) r) in
       with_value_ends (with_procedures s (members_made inner s members))
       (with_procedures s (members_made (held g) s (members_at plan.place members))) _ _
-      (with_procedures_follow s _ _ (members_follow plan.place Behind inner (held g) (found plan room at g r') s members h))
-      (λ s. stored_does (filter inside (member_variables members)) inner saved g s marks' rest _ r'
+      (with_procedures_follow s _ _ (members_follow plan.place (Lives (Grouped inside members live)) inner (held g) (found plan (Grouped inside members live) g r') s members
+      (atoms_live (Grouped inside members live) (member_atoms members) h (λ x l. inr (inl l)))))
+      (λ s. stored_does (Grouped inside members live) (filter inside (member_variables members))
+      (each_of (Grouped inside members live) (filter inside (member_variables members)) (λ x l. inl l)) inner saved g s marks' rest _ r'
       (λ g' marks' a e'. at_state (λ w. does e inside inner (put_inside inside saved members vs) w next) _ (mark_members (placed_reading plan) inside members (world s marks)) s
       (members_noted (placed_reading plan) inside members (world s marks))
       (λ marks. go inner (put_inside inside saved members vs) g' s
-      (agrees_as plan (λ z. refl) (λ z. group_saved inside members vs environment saved z (procedures_length (length members) _)) a) marks marks')))))
+      (agrees_on plan (λ x l. inr (inr l)) (agrees_as plan (λ z. refl) (λ z. group_saved inside members vs environment saved z (procedures_length (length members) _)) a)) marks marks')))))
 
   -- ## Calls
 
@@ -295,25 +369,27 @@ module _ (plan : Plan) (room : ℕ) (at : Apart plan room) (callee callee' : Cal
   argument_own None j f = refl
 
   -- behind a call, in a frame whose slots are those before it
-  returned : (test : Option ℕ) (rest : List Instruction) (next : Then) → Next test rest next → (restores : List ℕ) (environment saved : Environment) (f g : Frame) → Agrees plan environment saved f.places
-      → ((j : ℕ) → Clear plan.aside room (Slot j) → g.places (Slot j) ≡ f.places (Slot j)) → (v : Value) (s : State Procedure) (marks marks' : List MarkKind)
+  returned : (L : Later) (test : Option ℕ) (rest : List Instruction) (next : Then) → Next L test rest next → (a : Application ℕ) (restores : List ℕ) → RoomFor plan room (λ x. Perhaps (L x)) a
+      → EachHas (Alone plan (λ x. Perhaps (L x))) restores → (environment saved : Environment) (f g : Frame) → Agrees plan (λ x. Perhaps (L x)) environment saved f.places
+      → ((j : ℕ) → OutsideSlots plan.aside (plan.aside + length a.operands) (Slot j) → g.places (Slot j) ≡ f.places (Slot j)) → (v : Value) (s : State Procedure) (marks marks' : List MarkKind)
       → EndsAs (next v (control.after_call (placed_reading plan).keeps restores environment saved) saved (mark_each (placed_reading plan) mark.Restore restores (world s marks)))
       (run (loaded plan restores (leave test rest)) None (after_call g v) (world s marks'))
-  returned test rest next h restores environment saved f g r same_slots v s marks marks' =
-      loaded_does restores (λ x. cond (is_slot (plan.place x)) (environment x) None) saved (after_call g v) s marks' (leave test rest) _ (agrees_left plan room at f.places g.places r same_slots)
+  returned L test rest next h a restores fits free environment saved f g r same_slots v s marks marks' =
+      loaded_does (λ x. Perhaps (L x)) restores free (λ x. cond (is_slot (plan.place x)) (environment x) None) saved (after_call g v) s marks' (leave test rest) _
+      (agrees_left plan room homes (λ x. Perhaps (L x)) (plan.aside + length a.operands) fits.0 fits.1 f.places g.places r same_slots)
       (λ g' marks' a e. at_state (λ w. next v (control.after_call (placed_reading plan).keeps restores environment saved) saved w) _ (mark_each (placed_reading plan) mark.Restore restores (world s marks)) s
       (each_noted (placed_reading plan) mark.Restore restores (world s marks))
       (λ marks. onto_end (next v (control.after_call (placed_reading plan).keeps restores environment saved) saved (world s marks)) _ _ (leaving test rest g' (world s marks') v e)
       (h v (control.after_call (placed_reading plan).keeps restores environment saved) saved g' s marks marks'
-      (agrees_as plan (λ x. left (is_slot (plan.place x)) (has x restores) (environment x) (saved x)) (λ x. refl) a) e))) where
+      (agrees_on plan (λ x l. perhaps (L x) (is_true v) l) (agrees_as plan (λ x. left (is_slot (plan.place x)) (has x restores) (environment x) (saved x)) (λ x. refl) a)) e))) where
         left : (t b : Bool) (e u : Option Value) → cond t e (cond b u None) ≡ cond t (cond t e None) (cond b u (cond t e None))
         left true b e u = refl
         left false b e u = refl
 
-  same_call : (a : Application ℕ) (restores : List ℕ) (inside : ℕ → Bool) → AtomsHave Behind (application_atoms a) → plan.aside + length a.operands ≤ room → (n : ℕ) (test : Option ℕ) (rest : List Instruction)
-      → (environment saved : Environment) (f : Frame) (s : State Procedure) (marks marks' : List MarkKind) (next : Then) → Agrees plan environment saved f.places → Next test rest next
+  same_call : (a : Application ℕ) (restores : List ℕ) (inside : ℕ → Bool) (L : Later) → AtomsHave Behind (application_atoms a) → Placed plan room (call a restores) inside L → (n : ℕ) (test : Option ℕ) (rest : List Instruction)
+      → (environment saved : Environment) (f : Frame) (s : State Procedure) (marks marks' : List MarkKind) (next : Then) → Agrees plan (λ x. Live x (call a restores) (L x)) environment saved f.places → Next L test rest next
       → EndsAs (does (call a restores) inside environment saved (world s marks) next) (run (lay plan (call a restores) inside n test rest) None f (world s marks'))
-  same_call a restores inside u few n test rest environment saved f s marks marks' next r h =
+  same_call a restores inside L u p n test rest environment saved f s marks marks' next r h =
       by (operand_value environment s.store a.operator) refl (operand_values environment s.store a.operands) refl where
         by : (x : Option Value) → operand_value environment s.store a.operator ≡ x → (ys : Option (List Value)) → operand_values environment s.store a.operands ≡ ys
             → EndsAs (with_value (and_value x ys)
@@ -326,9 +402,9 @@ module _ (plan : Plan) (room : ℕ) (at : Apart plan room) (callee callee' : Cal
             let values : Values environment s.store a.operands vs = values_are environment s.store a.operands vs ey in
             let l : length vs ≡ length a.operands = values_length environment s.store a.operands vs values in
             let f0 : Frame = put_aside plan.aside operator vs f in
-            let moves = call_moves plan room at callee' depth f0 in
-            prepared_does plan room at callee' depth false (length a.operands) outgoing_view moved_out (SlotsOf f0) moves operator vs l
-            a environment saved f (world s marks') _ _ refl few r u ex values (λ j. refl)
+            let moves = call_moves plan room homes callee' depth f0 in
+            prepared_does plan room homes callee' depth false (length a.operands) outgoing_view moved_out (SlotsOf f0) moves operator vs l
+            (λ x. Mentions x (application_atoms a) ⊎ Perhaps (L x)) a environment saved f (world s marks') _ _ refl p.0 r (atoms_live _ (application_atoms a) u (λ x l. inl l)) ex values (λ j. refl)
             (λ g ready. onto_end _ (with_value (Some (operator ∷ vs)) (λ vs. on_return (call_in callee' a.spread false depth vs (world s (marks' ++ mark.Call a.site ∷ [])))
             (λ v w. run (loaded plan restores (leave test rest)) None (after_call g v) w))) _
             (ap (λ o. with_value o (λ vs. on_return (call_in callee' a.spread false depth vs (world s (marks' ++ mark.Call a.site ∷ [])))
@@ -337,12 +413,14 @@ module _ (plan : Plan) (room : ℕ) (at : Apart plan room) (callee callee' : Cal
             (λ k v e. argument_out (argument_register k) (argument_slot k) g ∙ ap value_in (ready.ready k v (subst (λ m. k < m) l (below_length vs k v e)) e))))
             (on_return_ends (call_in callee a.spread false depth (operator ∷ vs) (world s (marks ++ mark.Call a.site ∷ []))) (call_in callee' a.spread false depth (operator ∷ vs) (world s (marks' ++ mark.Call a.site ∷ []))) _ _
             (call_in_ends callee callee' follow a.spread false depth (operator ∷ vs) s (marks ++ mark.Call a.site ∷ []) (marks' ++ mark.Call a.site ∷ []))
-            (λ v s marks marks'. returned test rest next h restores environment saved f g r (λ j clear. ready.kept j ∙ aside_other vs plan.aside f (Slot j) (λ k low below. clear k low (omega (arith, l, few, below)))) v s marks marks')))
+            (λ v s marks marks'. returned L test rest next h a restores (p.0.0, λ x l. p.0.1 x (inr l)) p.1 environment saved f g (agrees_on plan (λ x l. inr l) r)
+            (λ j clear. ready.kept j ∙ aside_other vs plan.aside f (Slot j) (λ k low below. clear k low (omega (arith, l, below)))) v s marks marks')))
 
-  same_tail : (a : Application ℕ) (inside : ℕ → Bool) → AtomsHave Behind (application_atoms a) → plan.aside + length a.operands ≤ room → (n : ℕ) (test : Option ℕ) (rest : List Instruction)
-      → (environment saved : Environment) (f : Frame) (s : State Procedure) (marks marks' : List MarkKind) (next : Then) → Agrees plan environment saved f.places
+  same_tail : (a : Application ℕ) (inside : ℕ → Bool) → AtomsHave Behind (application_atoms a) → RoomFor plan room (λ x. Mentions x (application_atoms a)) a → (n : ℕ) (test : Option ℕ) (rest : List Instruction)
+      → (environment saved : Environment) (f : Frame) (s : State Procedure) (marks marks' : List MarkKind) (next : Then)
+      → Agrees plan (λ x. (x ≡ 0) ⊎ Mentions x (application_atoms a)) environment saved f.places
       → EndsAs (does (tail_call a) inside environment saved (world s marks) next) (run (lay plan (tail_call a) inside n test rest) None f (world s marks'))
-  same_tail a inside u few n test rest environment saved f s marks marks' next r =
+  same_tail a inside u fits n test rest environment saved f s marks marks' next r =
       by (environment 0) refl (operand_value environment s.store a.operator) refl (operand_values environment s.store a.operands) refl where
         by : (o : Option Value) → environment 0 ≡ o → (x : Option Value) → operand_value environment s.store a.operator ≡ x → (ys : Option (List Value)) → operand_values environment s.store a.operands ≡ ys
             → EndsAs (with_value o (λ link. with_value (and_value x ys) (λ vs. call_in callee a.spread true depth vs (marked (mark.Tail a.site) (world s marks)))))
@@ -354,70 +432,71 @@ module _ (plan : Plan) (room : ℕ) (at : Apart plan room) (callee callee' : Cal
             let values : Values environment s.store a.operands vs = values_are environment s.store a.operands vs ey in
             let l : length vs ≡ length a.operands = values_length environment s.store a.operands vs values in
             let f0 : Frame = put_aside plan.aside operator vs f in
-            let moves = tail_moves plan room at callee' depth f0 in
-            prepared_does plan room at callee' depth true (length a.operands) own_view moved_in (LinkOf f0) moves operator vs l
-            a environment saved f (world s marks') _ _ refl few r u ex values refl
+            let moves = tail_moves plan room homes callee' depth f0 in
+            prepared_does plan room homes callee' depth true (length a.operands) own_view moved_in (LinkOf f0) moves operator vs l
+            (λ x. Mentions x (application_atoms a)) a environment saved f (world s marks') _ _ refl fits (agrees_on plan (λ x l. inr l) r) (atoms_live _ (application_atoms a) u (λ x l. l)) ex values refl
             (λ g ready. onto_end _ (call_in callee' a.spread true depth (operator ∷ vs) (world s (marks' ++ mark.Tail a.site ∷ []))) _
             (ap (λ c. if_link c (with_value (parts g.places (λ j. g.places (Slot j)) (length a.operands)) (λ vs. call_in callee' a.spread true depth vs (world s (marks' ++ mark.Tail a.site ∷ [])))))
-            (ready.kept ∙ (aside_other vs plan.aside f link_register tt ∙ (ap f.places (sym at.link) ∙ r.here 0 back eo)))
+            (ready.kept ∙ (aside_other vs plan.aside f link_register tt ∙ (ap f.places (sym homes.link) ∙ r.here 0 back (inl refl) eo)))
             ∙ ap (λ o. with_value o (λ vs. call_in callee' a.spread true depth vs (world s (marks' ++ mark.Tail a.site ∷ []))))
             (parts_are operator vs (length a.operands) g.places (λ j. g.places (Slot j)) l ready.closure
             (λ k v e. argument_own (argument_register k) (argument_slot k) g ∙ ap value_in (ready.ready k v (subst (λ m. k < m) l (below_length vs k v e)) e))))
             (call_in_ends callee callee' follow a.spread true depth (operator ∷ vs) s (marks ++ mark.Tail a.site ∷ []) (marks' ++ mark.Tail a.site ∷ [])))
 
-  pub same : (e : Expression) (inside : ℕ → Bool) → Uses Behind e → plan.aside + most_operands e ≤ room → (n : ℕ) (test : Option ℕ) (rest : List Instruction) → Below test n
-      → (environment saved : Environment) (f : Frame) (s : State Procedure) (marks marks' : List MarkKind) (next : Then) → Agrees plan environment saved f.places → Next test rest next
+  -- A variable that is bound is stored where it is inside a region, and so for a moment it is live beside what is live then.
+  abbrev WithIt : ℕ → (live : ℕ → Type 0) → ℕ → Type 0
+  WithIt x live z = (z ≡ x) ⊎ live z
+
+  pub same : (e : Expression) (inside : ℕ → Bool) (L : Later) → Uses Behind e → Placed plan room e inside L → (n : ℕ) (test : Option ℕ) (rest : List Instruction) → Below test n
+      → (environment saved : Environment) (f : Frame) (s : State Procedure) (marks marks' : List MarkKind) (next : Then) → Agrees plan (λ x. Live x e (L x)) environment saved f.places → Next L test rest next
       → EndsAs (does e inside environment saved (world s marks) next) (run (lay plan e inside n test rest) None f (world s marks'))
-  same (perform o) inside u few n test rest b environment saved f s marks marks' next r h =
-      on_ending_ends marks marks' (operate environment o s) (operate (held f) (operation_at plan.place o) s) _ _
-      (operate_follows plan.place Behind environment (held f) (found plan room at f r) o s u)
-      (λ v s. onto_end (next v environment saved (world s marks)) _ _ (leaving test rest (record f { accumulator = Is v }) (world s marks') v refl)
-      (h v environment saved (record f { accumulator = Is v }) s marks marks' r refl))
-  same (bind x a b) inside u few n test rest below environment saved f s marks marks' next r h =
-      let left = le-max_left (most_operands a) (most_operands b) in
-      let right = le-max_right (most_operands a) (most_operands b) in
-      same a inside u.1.0 (omega (arith, left, few)) n None _ tt environment saved f s marks marks' _ r
+  same (perform o) inside L u p n test rest below environment saved f s marks marks' next r h =
+      given_ends marks marks' (operate environment o s) (operate (held f) (operation_at plan.place o) s) _ _
+      (operate_follows plan.place (Lives (λ x. Live x (perform o) (L x))) environment (held f) (found plan (λ x. Live x (perform o) (L x)) f r) o s (atoms_live _ (operation_atoms o) u (λ x l. inl l)))
+      (λ v s' e. onto_end (next v environment saved (world s' marks)) _ _ (leaving test rest (record f { accumulator = Is v }) (world s' marks') v refl)
+      (h v environment saved (record f { accumulator = Is v }) s' marks marks' (agrees_on plan (λ x l. inr (after_value o (L x) environment s s' v e l)) r) refl))
+  same (bind x a b) inside L u p n test rest below environment saved f s marks marks' next r h =
+      same a inside (λ z t. Across x z (Live z b (L z))) u.1.0 p.1.0 n None _ tt environment saved f s marks marks' _ r
       (λ v environment saved f s marks marks' r e.
-      stored_does (filter inside (x ∷ [])) (put environment x v) saved (with_place f (plan.place x) f.accumulator) s marks' _ _ (bound plan room at r x v f.accumulator (e ∙ is_meant x v u.0))
+      stored_does (WithIt x (λ z. Live z b (L z))) (filter inside (x ∷ [])) (each_filtered (WithIt x (λ z. Live z b (L z))) inside (x ∷ []) (inl refl, tt))
+      (put environment x v) saved (with_place f (plan.place x) f.accumulator) s marks' _ _
+      (bound plan room homes (WithIt x (λ z. Live z b (L z))) x (agrees_on plan (λ z l. (l.0, not_itself l.0 l.1)) r) (λ z l i. p.0 z (not_itself i l) i) v f.accumulator (e ∙ is_meant x v u.0))
       (λ g marks' a' e'. at_state (λ w. does b inside (put environment x v) (put_if (inside x) saved x v) w next) _ (mark_bound (placed_reading plan) inside x (world s marks)) s
       (bound_noted (placed_reading plan) inside x (world s marks))
-      (λ marks. same b inside u.1.1 (omega (arith, right, few)) (n + labels a) test rest (below_up test n (n + labels a) (omega arith) below)
-      (put environment x v) (put_if (inside x) saved x v) g s marks marks' next (agrees_as plan (λ z. refl) (one_saved inside environment saved x v) a') h))) where
+      (λ marks. same b inside L u.1.1 p.1.1 (n + labels a) test rest (below_up test n (n + labels a) (omega arith) below)
+      (put environment x v) (put_if (inside x) saved x v) g s marks marks' next
+      (agrees_on plan (λ z l. inr l) (agrees_as plan (λ z. refl) (one_saved inside environment saved x v) a')) h))) where
         is_meant : (x : ℕ) (v : Value) → Behind x → Is v ≡ meant x v
         is_meant zero v b = absurd b
         is_meant (suc x) v b = refl
-  same (sequence a b) inside u few n test rest below environment saved f s marks marks' next r h =
-      let left = le-max_left (most_operands a) (most_operands b) in
-      let right = le-max_right (most_operands a) (most_operands b) in
-      same a inside u.0 (omega (arith, left, few)) n None _ tt environment saved f s marks marks' _ r
-      (λ v environment saved f s marks marks' r e. same b inside u.1 (omega (arith, right, few)) (n + labels a) test rest (below_up test n (n + labels a) (omega arith) below)
+  same (sequence a b) inside L u p n test rest below environment saved f s marks marks' next r h =
+      same a inside (λ x t. Live x b (L x)) u.0 p.0 n None _ tt environment saved f s marks marks' _ r
+      (λ v environment saved f s marks marks' r e. same b inside L u.1 p.1 (n + labels a) test rest (below_up test n (n + labels a) (omega arith) below)
       environment saved f s marks marks' next r h)
-  same (branch a b d) inside u few n test rest below environment saved f s marks marks' next r h =
-      let left = le-max_left (most_operands a) (max (most_operands b) (most_operands d)) in
-      let right = le-max_right (most_operands a) (max (most_operands b) (most_operands d)) in
-      let second = le-max_left (most_operands b) (most_operands d) in
-      let third = le-max_right (most_operands b) (most_operands d) in
-      same a inside u.0 (omega (arith, left, few)) (suc (suc n)) (Some n) _ (omega arith) environment saved f s marks marks' _ r
+  same (branch a b d) inside L u p n test rest below environment saved f s marks marks' next r h =
+      same a inside (λ x t. MatchBool t (Live x b (L x)) (Live x d (L x))) u.0 p.0 (suc (suc n)) (Some n) _ (omega arith) environment saved f s marks marks' _ r
       (λ v environment saved f s marks marks' r e. either_ends (is_true v) _ _ _ _
-      (λ t. same b inside u.1.0 (omega (arith, right, second, few)) (suc (suc (n + labels a))) test _ (below_up test n _ (omega arith) below) environment saved f s marks marks' next r
+      (λ t. same b inside L u.1.0 p.1.0 (suc (suc (n + labels a))) test _ (below_up test n _ (omega arith) below) environment saved f s marks marks' next
+      (agrees_on plan (λ x l. subst (λ z. MatchBool z (Live x b (L x)) (Live x d (L x))) (sym t) l) r)
       (λ v environment saved f s marks marks' r e. onto_end (next v environment saved (world s marks)) _ _
       (joined d inside n (suc (suc (n + labels a + labels b))) test rest v f (world s marks') (omega arith) below) (h v environment saved f s marks marks' r e)))
       (λ t. onto_end (does d inside environment saved (world s marks) next) _ _
       (past callee' depth plan b inside (suc (suc (n + labels a))) test _ n f (world s marks') (omega arith)
       ∙ ap (λ z. run (lay plan d inside (suc (suc (n + labels a + labels b))) test (Label (suc n) ∷ rest)) (cond z None (Some n)) f (world s marks')) (eq-eqb n n refl))
-      (same d inside u.1.1 (omega (arith, right, third, few)) (suc (suc (n + labels a + labels b))) test _ (below_up test n _ (omega arith) below) environment saved f s marks marks' next r
+      (same d inside L u.1.1 p.1.1 (suc (suc (n + labels a + labels b))) test _ (below_up test n _ (omega arith) below) environment saved f s marks marks' next
+      (agrees_on plan (λ x l. subst (λ z. MatchBool z (Live x b (L x)) (Live x d (L x))) (sym t) l) r)
       (λ v environment saved f s marks marks' r e. onto_end (next v environment saved (world s marks)) _ _ (ended n test rest v f (world s marks') below) (h v environment saved f s marks marks' r e)))))
-  same (fix members e) inside u few n test rest below environment saved f s marks marks' next r h =
-      same_group members e inside u.0 u.1.0 (lay plan e inside n test rest) next
-      (λ environment saved f s r marks marks'. same e inside u.1.1 few n test rest below environment saved f s marks marks' next r h) environment saved f s marks marks' r
-  same (call a restores) inside u few n test rest below environment saved f s marks marks' next r h = same_call a restores inside u few n test rest environment saved f s marks marks' next r h
-  same (tail_call a) inside u few n test rest below environment saved f s marks marks' next r h = same_tail a inside u few n test rest environment saved f s marks marks' next r
-  same (return e) inside u few n test rest below environment saved f s marks marks' next r h =
-      same e inside u few n None _ tt environment saved f s marks marks' _ r (λ v environment saved f s marks marks' r i. same_return environment saved rest f s marks marks' v r i)
-  same (end e) inside u few n test rest below environment saved f s marks marks' next r h =
-      same e inside u few n None _ tt environment saved f s marks marks' _ r (λ v environment saved f s marks marks' r i. refl)
-  same (save saves e) inside u few n test rest below environment saved f s marks marks' next r h =
-      stored_does (heads e saves) environment saved f s marks' _ _ r
+  same (fix members e) inside L u p n test rest below environment saved f s marks marks' next r h =
+      same_group members e inside (λ x. Live x e (L x)) u.0 u.1.0 p.0 (lay plan e inside n test rest) next
+      (λ environment saved f s r marks marks'. same e inside L u.1.1 p.1 n test rest below environment saved f s marks marks' next r h) environment saved f s marks marks' r
+  same (call a restores) inside L u p n test rest below environment saved f s marks marks' next r h = same_call a restores inside L u p n test rest environment saved f s marks marks' next r h
+  same (tail_call a) inside L u p n test rest below environment saved f s marks marks' next r h = same_tail a inside u p n test rest environment saved f s marks marks' next r
+  same (return e) inside L u p n test rest below environment saved f s marks marks' next r h =
+      same e inside (λ x t. x ≡ 0) u p n None _ tt environment saved f s marks marks' _ r (λ v environment saved f s marks marks' r i. same_return environment saved rest f s marks marks' v r i)
+  same (end e) inside L u p n test rest below environment saved f s marks marks' next r h =
+      same e inside (λ x t. ⊥) u p n None _ tt environment saved f s marks marks' _ r (λ v environment saved f s marks marks' r i. refl)
+  same (save saves e) inside L u p n test rest below environment saved f s marks marks' next r h =
+      stored_does (λ x. Live x (save saves e) (L x)) (heads e saves) (each_of (λ x. Live x (save saves e) (L x)) (heads e saves) (λ x l. inl l)) environment saved f s marks' _ _ r
       (λ g marks' a i. at_state (λ w. does e (with_region saves inside) environment (save_each (heads e saves) environment saved) w next) _
       (mark_each (placed_reading plan) mark.Save (heads e saves) (world s marks)) s (each_noted (placed_reading plan) mark.Save (heads e saves) (world s marks))
-      (λ marks. same e (with_region saves inside) u few n test rest below environment (save_each (heads e saves) environment saved) g s marks marks' next a h))
+      (λ marks. same e (with_region saves inside) L u p n test rest below environment (save_each (heads e saves) environment saved) g s marks marks' next (agrees_on plan (λ x l. inr l) a) h))

@@ -18,7 +18,8 @@ use Rattle.sch_frames.specs.Meaning.{Cell, Is, Frame, closure_register, link_reg
 use Rattle.sch_frames.proofs.EndsAlike.{onto_end}
 use Rattle.sch_frames.proofs.FramePlaces.{set_other, set_self, slot_of}
 use Rattle.sch_layout.specs.BodyLayout.{Plan, operand_at, set_aside, in_either, arrival, passed, handed, hand_over, prepared}
-use Rattle.sch_layout.proofs.does.PlacesAgree.{Behind, Clear, Apart, Agrees, agrees_kept, clear_before, in_room, found}
+use Rattle.sch_layout.specs.SharedPlaces.{OutsideSlots, RoomFor, Homes}
+use Rattle.sch_layout.proofs.does.PlacesAgree.{Lives, Agrees, agrees_kept, in_room, found}
 use Rattle.sch_layout.proofs.does.OperationsFollow.{AtomsHave, have_left, have_right, operand_follows}
 
 -- ## Values of operands
@@ -106,14 +107,14 @@ abbrev pub with_aside : Frame → (slot : ℕ) → List Value → Frame
 with_aside f slot [] = f
 with_aside f slot (v ∷ vs) = with_aside (with_place f (Slot slot) (Is v)) (suc slot) vs
 
-pub aside_other : (vs : List Value) (slot : ℕ) (f : Frame) (q : Place) → Clear slot (slot + length vs) q → (with_aside f slot vs).places q ≡ f.places q
+pub aside_other : (vs : List Value) (slot : ℕ) (f : Frame) (q : Place) → OutsideSlots slot (slot + length vs) q → (with_aside f slot vs).places q ≡ f.places q
 aside_other [] slot f q o = refl
 aside_other (v ∷ vs) slot f q o = aside_other vs (suc slot) (with_place f (Slot slot) (Is v)) q (wider q o) ∙ set_other f.places (Slot slot) q (Is v) (apart q o) where
-  wider : (q : Place) → Clear slot (slot + suc (length vs)) q → Clear (suc slot) (suc slot + length vs) q
+  wider : (q : Place) → OutsideSlots slot (slot + suc (length vs)) q → OutsideSlots (suc slot) (suc slot + length vs) q
   wider (Reg r) o = tt
   wider (Slot j) o = λ k le lt. o k (omega (arith, le)) (omega (arith, lt))
 
-  apart : (q : Place) → Clear slot (slot + suc (length vs)) q → same_place q (Slot slot) ≡ false
+  apart : (q : Place) → OutsideSlots slot (slot + suc (length vs)) q → same_place q (Slot slot) ≡ false
   apart (Reg r) o = refl
   apart (Slot j) o = ne_eqb j slot (o slot (omega arith) (omega arith))
 
@@ -154,24 +155,26 @@ moved_in k v f = with_place f (arrival k) (Is v)
 abbrev pub LinkOf : Frame → Frame → Type 0
 LinkOf f0 f = f.places link_register ≡ f0.places link_register
 
-module _ (plan : Plan) (room : ℕ) (at : Apart plan room) (callee : Callee) (depth : ℕ) where
+module _ (plan : Plan) (room : ℕ) (homes : Homes plan room) (callee : Callee) (depth : ℕ) where
   abbrev run : List Instruction → Frame → World → Result
   run is f w = execute_each callee depth is None f w
 
-  -- each operand is set aside
-  pub set_aside_does : (operands : List (Operand ℕ)) (vs : List Value) (slot : ℕ) (environment saved : Environment) (f : Frame) (w : World) (rest : List Instruction) → plan.aside ≤ slot → slot + length operands ≤ room
-      → Agrees plan environment saved f.places → AtomsHave Behind (operands_atoms operands) → Values environment w.state.store operands vs
+  -- each operand is set aside, in slots before which nothing lives that is live
+  pub set_aside_does : (live : ℕ → Type 0) (before : ℕ) → before ≤ room → ((x : ℕ) → live x → OutsideSlots plan.aside before (plan.place x))
+      → (operands : List (Operand ℕ)) (vs : List Value) (slot : ℕ) (environment saved : Environment) (f : Frame) (w : World) (rest : List Instruction) → plan.aside ≤ slot → slot + length operands ≤ before
+      → Agrees plan live environment saved f.places → AtomsHave (Lives live) (operands_atoms operands) → Values environment w.state.store operands vs
       → run (set_aside plan.place slot operands rest) f w ≡ run rest (with_aside f slot vs) w
-  set_aside_does [] [] slot environment saved f w rest low le r u h = refl
-  set_aside_does [] (v ∷ vs) slot environment saved f w rest low le r u h = absurd h
-  set_aside_does (o ∷ operands) [] slot environment saved f w rest low le r u h = absurd h
-  set_aside_does (o ∷ operands) (v ∷ vs) slot environment saved f w rest low le r u h =
+  set_aside_does live before fits clear [] [] slot environment saved f w rest low le r u h = refl
+  set_aside_does live before fits clear [] (v ∷ vs) slot environment saved f w rest low le r u h = absurd h
+  set_aside_does live before fits clear (o ∷ operands) [] slot environment saved f w rest low le r u h = absurd h
+  set_aside_does live before fits clear (o ∷ operands) (v ∷ vs) slot environment saved f w rest low le r u h =
       ap (λ x. with_value x (λ v. run (set_aside plan.place (suc slot) operands rest) (with_place f (Slot slot) (Is v)) w))
       (follows_some (operand_value environment w.state.store o) (operand_value (held f) w.state.store (operand_at plan.place o)) v h.0
-      (operand_follows plan.place Behind environment (held f) (found plan room at f r) w.state.store o (have_left Behind (operand_atoms o) _ u)))
-      ∙ set_aside_does operands vs (suc slot) environment saved (with_place f (Slot slot) (Is v)) w rest (omega (arith, low)) (omega (arith, le))
-      (agrees_kept plan room at f.places (set f.places (Slot slot) (Is v)) r (λ p c. set_other f.places (Slot slot) p (Is v) (in_room plan.aside room slot p c low (omega (arith, le)))))
-      (have_right Behind (operand_atoms o) _ u) h.1
+      (operand_follows plan.place (Lives live) environment (held f) (found plan live f r) w.state.store o (have_left (Lives live) (operand_atoms o) _ u)))
+      ∙ set_aside_does live before fits clear operands vs (suc slot) environment saved (with_place f (Slot slot) (Is v)) w rest (omega (arith, low)) (omega (arith, le))
+      (agrees_kept plan room homes live before fits clear f.places (set f.places (Slot slot) (Is v)) r
+      (λ p c. set_other f.places (Slot slot) p (Is v) (in_room plan.aside before slot p c low (omega (arith, le)))))
+      (have_right (Lives live) (operand_atoms o) _ u) h.1
 
   -- ## What is set aside is handed over
 
@@ -217,21 +220,22 @@ module _ (plan : Plan) (room : ℕ) (at : Apart plan room) (callee : Callee) (de
         (subst (λ s. f.places (Slot s) ≡ Is got.0) (sym i) (h.waiting from got.0 (omega arith) got.1)))
         (hand_over_does left (suc from) (suc slot) (moved from got.0 f) w rest r (omega (arith, e)) (omega (arith, i)) (next_ready from got.0 f got.1 h) go)
 
-    pub prepared_does : (a : Application ℕ) (environment saved : Environment) (f : Frame) (w : World) (rest : List Instruction) (r : Result) → length a.operands ≡ number → plan.aside + length a.operands ≤ room
-        → Agrees plan environment saved f.places → AtomsHave Behind (application_atoms a) → operand_value environment w.state.store a.operator ≡ Some operator
+    pub prepared_does : (live : ℕ → Type 0) (a : Application ℕ) (environment saved : Environment) (f : Frame) (w : World) (rest : List Instruction) (r : Result) → length a.operands ≡ number
+        → RoomFor plan room live a → Agrees plan live environment saved f.places → AtomsHave (Lives live) (application_atoms a) → operand_value environment w.state.store a.operator ≡ Some operator
         → Values environment w.state.store a.operands vs → Kept (put_aside plan.aside operator vs f) → ((f : Frame) → Ready number f → EndsAs r (run rest f w))
         → EndsAs r (run (prepared plan tail a rest) f w)
-    prepared_does a environment saved f w rest r same_number few agrees u o h kept go =
+    prepared_does live a environment saved f w rest r same_number fits agrees u o h kept go =
         let g : Frame = with_aside f plan.aside vs in
         let over : List Instruction = hand_over tail 0 plan.aside (length a.operands) rest in
-        let stays : Agrees plan environment saved g.places =
-        agrees_kept plan room at f.places g.places agrees (λ p c. aside_other vs plan.aside f p (clear_before plan.aside room (plan.aside + length vs) p (omega (arith, few, whole, same_number)) c)) in
+        let n : length vs ≡ length a.operands = whole ∙ sym same_number in
+        let stays : Agrees plan live environment saved g.places =
+        agrees_kept plan room homes live (plan.aside + length a.operands) fits.0 fits.1 f.places g.places agrees (λ p c. aside_other vs plan.aside f p (subst (λ n. OutsideSlots plan.aside (plan.aside + n) p) (sym n) c)) in
         onto_end r (run over (put_aside plan.aside operator vs f) w) _
-        (set_aside_does a.operands vs plan.aside environment saved f w (Load closure_register (operand_at plan.place a.operator) ∷ over) (omega arith) few agrees
-        (have_right Behind (operand_atoms a.operator) _ u) h
+        (set_aside_does live (plan.aside + length a.operands) fits.0 fits.1 a.operands vs plan.aside environment saved f w (Load closure_register (operand_at plan.place a.operator) ∷ over)
+        (omega arith) (omega arith) agrees (have_right (Lives live) (operand_atoms a.operator) _ u) h
         ∙ ap (λ x. with_value x (λ v. run over (with_place g closure_register (Is v)) w))
         (follows_some (operand_value environment w.state.store a.operator) (operand_value (held g) w.state.store (operand_at plan.place a.operator)) operator o
-        (operand_follows plan.place Behind environment (held g) (found plan room at g stays) w.state.store a.operator (have_left Behind (operand_atoms a.operator) _ u))))
+        (operand_follows plan.place (Lives live) environment (held g) (found plan live g stays) w.state.store a.operator (have_left (Lives live) (operand_atoms a.operator) _ u))))
         (hand_over_does (length a.operands) 0 plan.aside (put_aside plan.aside operator vs f) w rest r (omega (arith, same_number)) (omega arith)
         (record {
           ready = λ k v l e. absurd (never k l);

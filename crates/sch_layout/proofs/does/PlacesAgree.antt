@@ -1,19 +1,25 @@
--- What a body's places hold: the values of its variables, and where it returns; and the same of what is saved.
-use Rattle.std.proofs.Common.{◌≡◌, ◌≢◌, ℕ, zero, suc, ◌<◌, ◌≤◌, List, [], ◌∷◌, Option, Some, None, Bool, true, false, cond, refl, sym, ap, ◌∙◌, subst, arith}
+-- What a body's places hold: the values of its live variables, and where it returns; and the same of what is saved.
+use Rattle.std.proofs.Common.{◌≡◌, ◌≢◌, ℕ, zero, suc, ◌<◌, ◌≤◌, List, [], ◌∷◌, length, Option, Some, None, Bool, true, false, cond, refl, sym, ap, ◌∙◌, subst, arith}
 use Rattle.std.specs.Prelude.{nat_eq}
 use Rattle.std.proofs.lemmas.Bool.{eqb-true, eqb-false, eq-eqb, ne_eqb}
 use Rattle.sch_word.specs.declared.place.Place.{Place}
 use Rattle.sch_word.specs.declared.place.Place.TheVariants.{Reg, Slot}
+use Rattle.sch_word.specs.trees.NumberSets.{has}
 use Rattle.sch_word.specs.values.Values.{Value}
-use Rattle.sch_word.proofs.facts.Booleans.{false_true}
+use Rattle.sch_word.proofs.facts.Booleans.{false_true, neither, or_left, or_right}
+use Rattle.sch_control.specs.declared.operation.Atom.{Atom}
+use Rattle.sch_control.specs.declared.operation.Atom.TheVariants.{Constant, Literal, Variable}
 use Rattle.sch_control.specs.declared.operation.Member.{Member}
 use Rattle.sch_control.specs.Meaning.{Environment, put, put_each}
 use Rattle.sch_control.specs.AtomsAndSites.{operation_atoms, application_atoms, member_atoms}
 use Rattle.sch_control.specs.Tree.{Expression, perform, bind, sequence, branch, fix, call, tail_call, return, end, save}
+use Rattle.sch_control.specs.Valid.{member_variables}
 use Rattle.sch_frames.specs.Does.{Follows}
-use Rattle.sch_frames.specs.Meaning.{Cell, Is, Link, Junk, Frame, link_register, value_in, held, same_place, set, with_place, with_members, kept}
+use Rattle.sch_frames.specs.Meaning.{Cell, Is, Link, Junk, Frame, value_in, held, same_place, set, with_place, with_members, kept}
 use Rattle.sch_frames.proofs.FramePlaces.{set_other, set_self}
 use Rattle.sch_layout.specs.BodyLayout.{Plan, is_slot, members_at}
+use Rattle.sch_layout.specs.Live.{Mentions, Across}
+use Rattle.sch_layout.specs.SharedPlaces.{EachHas, OutsideSlots, Homes, Alone}
 use Rattle.sch_layout.proofs.does.OperationsFollow.{AtomsHave}
 
 -- ## Variables that an expression uses
@@ -45,37 +51,28 @@ Behind (suc x) = Unit {0}
 abbrev pub Within : ℕ → ℕ → Type 0
 Within n x = Behind x × (x < n)
 
+-- a variable behind the return address that is live
+abbrev pub Lives : (live : ℕ → Type 0) → ℕ → Type 0
+Lives live x = Behind x × live x
+
+-- atoms whose variables are live
+pub atoms_live : (live : ℕ → Type 0) (atoms : List (Atom ℕ)) → AtomsHave Behind atoms → ((x : ℕ) → Mentions x atoms → live x) → AtomsHave (Lives live) atoms
+atoms_live live [] u h = tt
+atoms_live live (Constant c ∷ atoms) u h = (tt, atoms_live live atoms u.1 h)
+atoms_live live (Literal n ∷ atoms) u h = (tt, atoms_live live atoms u.1 h)
+atoms_live live (Variable y ∷ atoms) u h = ((u.0, h y (or_left (nat_eq y y) _ (eq-eqb y y refl))), atoms_live live atoms u.1 (λ x r. h x (or_right (nat_eq x y) _ r)))
+
 -- ## Places
-
--- no slot from one on that is before another
-abbrev pub Clear : (first room : ℕ) → Place → Type 0
-Clear first room (Reg r) = Unit {0}
-Clear first room (Slot j) = (k : ℕ) → first ≤ k → k < room → j ≢ k
-
--- A variable that lives in a register is saved in a slot. It is none in which operands are set aside or a variable lives,
--- and no other variable is saved there.
-pub record HomeApart (plan : Plan) (room x : ℕ) : Type 0 where
-  pub in_slot : is_slot (plan.home x) ≡ true
-  pub clear : Clear plan.aside room (plan.home x)
-  pub places : (y : ℕ) → same_place (plan.home x) (plan.place y) ≡ false
-  pub homes : (y : ℕ) → is_slot (plan.place y) ≡ false → x ≢ y → same_place (plan.home x) (plan.home y) ≡ false
-
--- What the proof asks of a plan, with operands set aside in the slots from `aside` on and before `room`. The places of
--- two variables are apart, and none is such a slot; the return address lives in R15; and what is saved is apart.
-pub record Apart (plan : Plan) (room : ℕ) : Type 0 where
-  pub apart : (x y : ℕ) → x ≢ y → same_place (plan.place x) (plan.place y) ≡ false
-  pub link : plan.place 0 ≡ link_register
-  pub clear : (x : ℕ) → Clear plan.aside room (plan.place x)
-  pub home : (x : ℕ) → is_slot (plan.place x) ≡ false → HomeApart plan room x
 
 -- what the place of a variable holds that has a value: variable 0 is where to return
 abbrev pub meant : ℕ → Value → Cell
 meant zero v = Link
 meant (suc x) v = Is v
 
--- each variable that has a value has it in its place, and one that lives in a register has what is saved of it in its home
-pub record Agrees (plan : Plan) (environment saved : Environment) (places : Place → Cell) : Type 0 where
-  pub here : (x : ℕ) (v : Value) → environment x ≡ Some v → places (plan.place x) ≡ meant x v
+-- each live variable that has a value has it in its place, and one that lives in a register has what is saved of it in its
+-- home, whether it is live or not
+pub record Agrees (plan : Plan) (live : ℕ → Type 0) (environment saved : Environment) (places : Place → Cell) : Type 0 where
+  pub here : (x : ℕ) (v : Value) → live x → environment x ≡ Some v → places (plan.place x) ≡ meant x v
   pub home : (x : ℕ) (v : Value) → is_slot (plan.place x) ≡ false → saved x ≡ Some v → places (plan.home x) ≡ meant x v
 
 pub flipped : (p q : Place) → same_place p q ≡ false → same_place q p ≡ false
@@ -85,12 +82,12 @@ flipped (Reg a) (Slot b) e = refl
 flipped (Slot a) (Reg b) e = refl
 
 -- what is clear of some slots is clear of fewer
-pub clear_before : (first room before : ℕ) (p : Place) → before ≤ room → Clear first room p → Clear first before p
+pub clear_before : (first room before : ℕ) (p : Place) → before ≤ room → OutsideSlots first room p → OutsideSlots first before p
 clear_before first room before (Reg r) le c = tt
 clear_before first room before (Slot j) le c = λ k low lt. c k low (omega (arith, lt, le))
 
 -- and is none of them
-pub in_room : (first room slot : ℕ) (p : Place) → Clear first room p → first ≤ slot → slot < room → same_place p (Slot slot) ≡ false
+pub in_room : (first room slot : ℕ) (p : Place) → OutsideSlots first room p → first ≤ slot → slot < room → same_place p (Slot slot) ≡ false
 in_room first room slot (Reg r) c low lt = refl
 in_room first room slot (Slot j) c low lt = ne_eqb j slot (c slot low lt)
 
@@ -113,71 +110,80 @@ put_other environment x v y n = ap (λ t. cond t (Some v) (environment y)) (ne_e
 
 module _ (plan : Plan) where
   -- environments that are the same at each variable agree alike
-  pub agrees_as : {environment environment' saved saved' : Environment} {places : Place → Cell} → ((x : ℕ) → environment' x ≡ environment x) → ((x : ℕ) → saved' x ≡ saved x)
-      → Agrees plan environment saved places → Agrees plan environment' saved' places
-  agrees_as e e' r = record { here = λ x v h. r.here x v (sym (e x) ∙ h); home = λ x v s h. r.home x v s (sym (e' x) ∙ h) }
+  pub agrees_as : {live : ℕ → Type 0} {environment environment' saved saved' : Environment} {places : Place → Cell} → ((x : ℕ) → environment' x ≡ environment x) → ((x : ℕ) → saved' x ≡ saved x)
+      → Agrees plan live environment saved places → Agrees plan live environment' saved' places
+  agrees_as e e' r = record { here = λ x v l h. r.here x v l (sym (e x) ∙ h); home = λ x v s h. r.home x v s (sym (e' x) ∙ h) }
 
-module _ (plan : Plan) (room : ℕ) (at : Apart plan room) where
-  -- what is kept in places but the slots of what is set aside is kept
-  pub agrees_kept : {environment saved : Environment} (places places' : Place → Cell) → Agrees plan environment saved places
-      → ((p : Place) → Clear plan.aside room p → places' p ≡ places p) → Agrees plan environment saved places'
-  agrees_kept places places' r k = record {
-    here = λ x v h. k (plan.place x) (at.clear x) ∙ r.here x v h;
-    home = λ x v s h. k (plan.home x) (at.home x s).clear ∙ r.home x v s h;
-  }
+  -- fewer variables are live
+  pub agrees_on : {live live' : ℕ → Type 0} {environment saved : Environment} {places : Place → Cell} → ((x : ℕ) → live' x → live x)
+      → Agrees plan live environment saved places → Agrees plan live' environment saved places
+  agrees_on f r = record { here = λ x v l h. r.here x v (f x l) h; home = r.home }
 
-  pub found : {environment saved : Environment} (f : Frame) → Agrees plan environment saved f.places → (x : ℕ) → Behind x → Follows (environment x) (held f (plan.place x))
-  found {environment} f r zero b = absurd b
-  found {environment} f r (suc x) b = by (environment (suc x)) refl where
+  pub found : (live : ℕ → Type 0) {environment saved : Environment} (f : Frame) → Agrees plan live environment saved f.places → (x : ℕ) → Lives live x → Follows (environment x) (held f (plan.place x))
+  found live {environment} f r zero b = absurd b.0
+  found live {environment} f r (suc x) b = by (environment (suc x)) refl where
     by : (o : Option Value) → environment (suc x) ≡ o → Follows o (held f (plan.place (suc x)))
     by None e = tt
-    by (Some v) e = ap value_in (r.here (suc x) v e)
+    by (Some v) e = ap value_in (r.here (suc x) v b.1 e)
+
+module _ (plan : Plan) (room : ℕ) (homes : Homes plan room) where
+  -- what is kept in places but some slots of what is set aside is kept
+  pub agrees_kept : (live : ℕ → Type 0) (before : ℕ) → before ≤ room → ((x : ℕ) → live x → OutsideSlots plan.aside before (plan.place x)) → {environment saved : Environment} (places places' : Place → Cell)
+      → Agrees plan live environment saved places → ((p : Place) → OutsideSlots plan.aside before p → places' p ≡ places p) → Agrees plan live environment saved places'
+  agrees_kept live before le clear places places' r k = record {
+    here = λ x v l h. k (plan.place x) (clear x l) ∙ r.here x v l h;
+    home = λ x v s h. k (plan.home x) (clear_before plan.aside room before (plan.home x) le (homes.home x s).clear) ∙ r.home x v s h;
+  }
 
   -- after a variable is bound and its place holds the value
-  pub bound : {environment saved : Environment} {places : Place → Cell} → Agrees plan environment saved places → (x : ℕ) (v : Value) (c : Cell) → c ≡ meant x v
-      → Agrees plan (put environment x v) saved (set places (plan.place x) c)
-  bound {environment} {saved} {places} r x v c e = record {
-    here = λ y u h. by y u (nat_eq y x) refl h;
-    home = λ y u s h. set_other places (plan.place x) (plan.home y) c ((at.home y s).places x) ∙ r.home y u s h;
+  pub bound : (live : ℕ → Type 0) {environment saved : Environment} {places : Place → Cell} (x : ℕ) → Agrees plan (λ y. Across x y (live y)) environment saved places → Alone plan live x
+      → (v : Value) (c : Cell) → c ≡ meant x v → Agrees plan live (put environment x v) saved (set places (plan.place x) c)
+  bound live {environment} {saved} {places} x r free v c e = record {
+    here = λ y u l h. by y u l (nat_eq y x) refl h;
+    home = λ y u s h. set_other places (plan.place x) (plan.home y) c ((homes.home y s).places x) ∙ r.home y u s h;
   } where
-    by : (y : ℕ) (u : Value) (t : Bool) → nat_eq y x ≡ t → put environment x v y ≡ Some u → set places (plan.place x) c (plan.place y) ≡ meant y u
-    by y u true i h =
+    by : (y : ℕ) (u : Value) → live y → (t : Bool) → nat_eq y x ≡ t → put environment x v y ≡ Some u → set places (plan.place x) c (plan.place y) ≡ meant y u
+    by y u l true i h =
         subst (λ z. put environment x v z ≡ Some u → set places (plan.place x) c (plan.place z) ≡ meant z u) (sym (eqb-true y x i))
         (λ h. set_self places (plan.place x) c ∙ (e ∙ same_meant x v u (sym (put_self environment x v) ∙ h))) h
-    by y u false i h =
-        set_other places (plan.place x) (plan.place y) c (at.apart y x (eqb-false y x i)) ∙ r.here y u (sym (put_other environment x v y (eqb-false y x i)) ∙ h)
+    by y u l false i h =
+        set_other places (plan.place x) (plan.place y) c (free y l (eqb-false y x i))
+        ∙ r.here y u (eqb-false y x i, l) (sym (put_other environment x v y (eqb-false y x i)) ∙ h)
 
   -- after a group is bound and its places hold its values
-  pub members_bound : (members : List (Member ℕ)) (vs : List Value) (environment saved : Environment) (f : Frame) → MembersUse Behind members → Agrees plan environment saved f.places
-      → Agrees plan (put_each environment members vs) saved (with_members f (members_at plan.place members) vs).places
-  members_bound [] vs environment saved f u r = r
-  members_bound (m ∷ members) [] environment saved f u r = r
-  members_bound (m ∷ members) (v ∷ vs) environment saved f u r =
-      members_bound members vs (put environment m.at v) saved (with_place f (plan.place m.at) (Is v)) u.1 (bound r m.at v (Is v) (is_meant m.at u.0)) where
+  pub members_bound : (live : ℕ → Type 0) (members : List (Member ℕ)) (vs : List Value) → length vs ≡ length members → (environment saved : Environment) (f : Frame) → MembersUse Behind members
+      → EachHas (Alone plan live) (member_variables members) → Agrees plan (λ x. (has x (member_variables members) ≡ false) × live x) environment saved f.places
+      → Agrees plan live (put_each environment members vs) saved (with_members f (members_at plan.place members) vs).places
+  members_bound live [] vs l environment saved f u free r = agrees_on plan (λ x l. (refl, l)) r
+  members_bound live (m ∷ members) [] l environment saved f u free r = absurd (cc)
+  members_bound live (m ∷ members) (v ∷ vs) l environment saved f u free r =
+      members_bound live members vs (omega (arith, l)) (put environment m.at v) saved (with_place f (plan.place m.at) (Is v)) u.1 free.1
+      (bound (λ x. (has x (member_variables members) ≡ false) × live x) m.at
+      (agrees_on plan (λ x h. (neither (nat_eq x m.at) _ (ne_eqb x m.at h.0) h.1.0, h.1.1)) r) (λ x h n. free.0 x h.1 n) v (Is v) (is_meant m.at u.0)) where
         is_meant : (x : ℕ) → Behind x → Is v ≡ meant x v
         is_meant zero b = absurd b
         is_meant (suc x) b = refl
 
   -- ## Saves and restores
 
-  -- after a variable is stored in its home
-  pub one_stored : {environment saved : Environment} {places : Place → Cell} → Agrees plan environment saved places → (x : ℕ) → is_slot (plan.place x) ≡ false
-      → Agrees plan environment (λ z. cond (nat_eq z x) (environment z) (saved z)) (set places (plan.home x) (places (plan.place x)))
-  one_stored {environment} {saved} {places} r x s = record {
-    here = λ y u h. set_other places (plan.home x) (plan.place y) _ (flipped (plan.home x) (plan.place y) ((at.home x s).places y)) ∙ r.here y u h;
+  -- after a live variable is stored in its home
+  pub one_stored : (live : ℕ → Type 0) {environment saved : Environment} {places : Place → Cell} → Agrees plan live environment saved places → (x : ℕ) → live x → is_slot (plan.place x) ≡ false
+      → Agrees plan live environment (λ z. cond (nat_eq z x) (environment z) (saved z)) (set places (plan.home x) (places (plan.place x)))
+  one_stored live {environment} {saved} {places} r x lx s = record {
+    here = λ y u l h. set_other places (plan.home x) (plan.place y) _ (flipped (plan.home x) (plan.place y) ((homes.home x s).places y)) ∙ r.here y u l h;
     home = λ y u s' h. by y u s' (nat_eq y x) refl h;
   } where
     by : (y : ℕ) (u : Value) → is_slot (plan.place y) ≡ false → (t : Bool) → nat_eq y x ≡ t → cond t (environment y) (saved y) ≡ Some u
         → set places (plan.home x) (places (plan.place x)) (plan.home y) ≡ meant y u
     by y u s' true i h =
         subst (λ z. environment z ≡ Some u → set places (plan.home x) (places (plan.place x)) (plan.home z) ≡ meant z u) (sym (eqb-true y x i))
-        (λ h. set_self places (plan.home x) (places (plan.place x)) ∙ r.here x u h) h
-    by y u s' false i h = set_other places (plan.home x) (plan.home y) _ ((at.home y s').homes x s (eqb-false y x i)) ∙ r.home y u s' h
+        (λ h. set_self places (plan.home x) (places (plan.place x)) ∙ r.here x u lx h) h
+    by y u s' false i h = set_other places (plan.home x) (plan.home y) _ ((homes.home y s').homes x s (eqb-false y x i)) ∙ r.home y u s' h
 
   -- a variable that lives in a slot need not be stored
-  pub slot_stored : {environment saved : Environment} {places : Place → Cell} → Agrees plan environment saved places → (x : ℕ) → is_slot (plan.place x) ≡ true
-      → Agrees plan environment (λ z. cond (nat_eq z x) (environment z) (saved z)) places
-  slot_stored {environment} {saved} {places} r x s = record { here = r.here; home = λ y u s' h. by y u s' (nat_eq y x) refl h } where
+  pub slot_stored : (live : ℕ → Type 0) {environment saved : Environment} {places : Place → Cell} → Agrees plan live environment saved places → (x : ℕ) → is_slot (plan.place x) ≡ true
+      → Agrees plan live environment (λ z. cond (nat_eq z x) (environment z) (saved z)) places
+  slot_stored live {environment} {saved} {places} r x s = record { here = r.here; home = λ y u s' h. by y u s' (nat_eq y x) refl h } where
     by : (y : ℕ) (u : Value) → is_slot (plan.place y) ≡ false → (t : Bool) → nat_eq y x ≡ t → cond t (environment y) (saved y) ≡ Some u → places (plan.home y) ≡ meant y u
     by y u s' true i h = absurd (false_true s (subst (λ z. is_slot (plan.place z) ≡ false) (eqb-true y x i) s'))
     by y u s' false i h = r.home y u s' h
@@ -186,49 +192,50 @@ module _ (plan : Plan) (room : ℕ) (at : Apart plan room) where
   abbrev pub reloaded_one : ℕ → Environment → Environment → Environment
   reloaded_one y environment saved x = cond (is_slot (plan.place x)) (environment x) (cond (nat_eq x y) (saved x) (environment x))
 
-  -- after a variable is loaded from its home
-  pub one_loaded : {environment saved : Environment} {places : Place → Cell} → Agrees plan environment saved places → (y : ℕ) → is_slot (plan.place y) ≡ false
-      → Agrees plan (reloaded_one y environment saved) saved (set places (plan.place y) (places (plan.home y)))
-  one_loaded {environment} {saved} {places} r y s = record {
-    here = λ x v h. by x v (is_slot (plan.place x)) (nat_eq x y) refl refl h;
-    home = λ x v s' h. set_other places (plan.place y) (plan.home x) _ ((at.home x s').places y) ∙ r.home x v s' h;
+  -- after a variable is loaded from its home, where nothing else lives that is live
+  pub one_loaded : (live : ℕ → Type 0) {environment saved : Environment} {places : Place → Cell} → Agrees plan live environment saved places → (y : ℕ) → Alone plan live y → is_slot (plan.place y) ≡ false
+      → Agrees plan live (reloaded_one y environment saved) saved (set places (plan.place y) (places (plan.home y)))
+  one_loaded live {environment} {saved} {places} r y free s = record {
+    here = λ x v l h. by x v l (is_slot (plan.place x)) (nat_eq x y) refl refl h;
+    home = λ x v s' h. set_other places (plan.place y) (plan.home x) _ ((homes.home x s').places y) ∙ r.home x v s' h;
   } where
-    other : (x : ℕ) (v : Value) → nat_eq x y ≡ false → environment x ≡ Some v → set places (plan.place y) (places (plan.home y)) (plan.place x) ≡ meant x v
-    other x v i h = set_other places (plan.place y) (plan.place x) _ (at.apart x y (eqb-false x y i)) ∙ r.here x v h
+    other : (x : ℕ) (v : Value) → live x → nat_eq x y ≡ false → environment x ≡ Some v → set places (plan.place y) (places (plan.home y)) (plan.place x) ≡ meant x v
+    other x v l i h = set_other places (plan.place y) (plan.place x) _ (free x l (eqb-false x y i)) ∙ r.here x v l h
 
-    by : (x : ℕ) (v : Value) (t q : Bool) → is_slot (plan.place x) ≡ t → nat_eq x y ≡ q → cond t (environment x) (cond q (saved x) (environment x)) ≡ Some v
+    by : (x : ℕ) (v : Value) → live x → (t q : Bool) → is_slot (plan.place x) ≡ t → nat_eq x y ≡ q → cond t (environment x) (cond q (saved x) (environment x)) ≡ Some v
         → set places (plan.place y) (places (plan.home y)) (plan.place x) ≡ meant x v
-    by x v true true e i h = absurd (false_true e (subst (λ z. is_slot (plan.place z) ≡ false) (sym (eqb-true x y i)) s))
-    by x v true false e i h = other x v i h
-    by x v false true e i h =
+    by x v l true true e i h = absurd (false_true e (subst (λ z. is_slot (plan.place z) ≡ false) (sym (eqb-true x y i)) s))
+    by x v l true false e i h = other x v l i h
+    by x v l false true e i h =
         subst (λ z. saved z ≡ Some v → set places (plan.place y) (places (plan.home y)) (plan.place z) ≡ meant z v) (sym (eqb-true x y i))
         (λ h. set_self places (plan.place y) (places (plan.home y)) ∙ r.home y v s h) h
-    by x v false false e i h = other x v i h
+    by x v l false false e i h = other x v l i h
 
   -- a variable that lives in a slot has its value there
-  pub slot_loaded : {environment saved : Environment} {places : Place → Cell} → Agrees plan environment saved places → (y : ℕ) → is_slot (plan.place y) ≡ true
-      → Agrees plan (reloaded_one y environment saved) saved places
-  slot_loaded {environment} {saved} {places} r y s = record { here = λ x v h. by x v (is_slot (plan.place x)) (nat_eq x y) refl refl h; home = r.home } where
-    by : (x : ℕ) (v : Value) (t q : Bool) → is_slot (plan.place x) ≡ t → nat_eq x y ≡ q → cond t (environment x) (cond q (saved x) (environment x)) ≡ Some v → places (plan.place x) ≡ meant x v
-    by x v true q e i h = r.here x v h
-    by x v false true e i h = absurd (false_true s (subst (λ z. is_slot (plan.place z) ≡ false) (eqb-true x y i) e))
-    by x v false false e i h = r.here x v h
+  pub slot_loaded : (live : ℕ → Type 0) {environment saved : Environment} {places : Place → Cell} → Agrees plan live environment saved places → (y : ℕ) → is_slot (plan.place y) ≡ true
+      → Agrees plan live (reloaded_one y environment saved) saved places
+  slot_loaded live {environment} {saved} {places} r y s = record { here = λ x v l h. by x v l (is_slot (plan.place x)) (nat_eq x y) refl refl h; home = r.home } where
+    by : (x : ℕ) (v : Value) → live x → (t q : Bool) → is_slot (plan.place x) ≡ t → nat_eq x y ≡ q → cond t (environment x) (cond q (saved x) (environment x)) ≡ Some v → places (plan.place x) ≡ meant x v
+    by x v l true q e i h = r.here x v l h
+    by x v l false true e i h = absurd (false_true s (subst (λ z. is_slot (plan.place z) ≡ false) (eqb-true x y i) e))
+    by x v l false false e i h = r.here x v l h
 
   -- after a call, in a frame whose slots are those before it but where operands were set aside: what lives in slots
-  pub agrees_left : {environment saved : Environment} (places places' : Place → Cell) → Agrees plan environment saved places
-      → ((j : ℕ) → Clear plan.aside room (Slot j) → places' (Slot j) ≡ places (Slot j)) → Agrees plan (λ x. cond (is_slot (plan.place x)) (environment x) None) saved (kept places')
-  agrees_left {environment} {saved} places places' r k = record {
-    here = λ x v h. by (plan.place x) (at.clear x) (environment x) v h ∙ r.here x v (in_slot (is_slot (plan.place x)) (environment x) v h);
-    home = λ x v s h. slot (plan.home x) (at.home x s).in_slot (at.home x s).clear ∙ r.home x v s h;
+  pub agrees_left : (live : ℕ → Type 0) (before : ℕ) → before ≤ room → ((x : ℕ) → live x → OutsideSlots plan.aside before (plan.place x)) → {environment saved : Environment} (places places' : Place → Cell)
+      → Agrees plan live environment saved places → ((j : ℕ) → OutsideSlots plan.aside before (Slot j) → places' (Slot j) ≡ places (Slot j))
+      → Agrees plan live (λ x. cond (is_slot (plan.place x)) (environment x) None) saved (kept places')
+  agrees_left live before le clear {environment} {saved} places places' r k = record {
+    here = λ x v l h. by (plan.place x) (clear x l) (environment x) v h ∙ r.here x v l (in_slot (is_slot (plan.place x)) (environment x) v h);
+    home = λ x v s h. slot (plan.home x) (homes.home x s).in_slot (clear_before plan.aside room before (plan.home x) le (homes.home x s).clear) ∙ r.home x v s h;
   } where
     in_slot : (t : Bool) (o : Option Value) (v : Value) → cond t o None ≡ Some v → o ≡ Some v
     in_slot true o v h = h
     in_slot false o v h = none_some v h
 
-    by : (p : Place) → Clear plan.aside room p → (o : Option Value) (v : Value) → cond (is_slot p) o None ≡ Some v → kept places' p ≡ places p
+    by : (p : Place) → OutsideSlots plan.aside before p → (o : Option Value) (v : Value) → cond (is_slot p) o None ≡ Some v → kept places' p ≡ places p
     by (Reg r) b o v h = none_some v h
     by (Slot j) b o v h = k j b
 
-    slot : (p : Place) → is_slot p ≡ true → Clear plan.aside room p → kept places' p ≡ places p
+    slot : (p : Place) → is_slot p ≡ true → OutsideSlots plan.aside before p → kept places' p ≡ places p
     slot (Reg r) s b = absurd (cc)
     slot (Slot j) s b = k j b

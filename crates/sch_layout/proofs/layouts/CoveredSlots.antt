@@ -13,7 +13,6 @@ use Rattle.sch_control.specs.declared.operation.Source.TheVariants as source
 use Rattle.sch_control.specs.declared.operation.Member.{Member}
 use Rattle.sch_control.specs.declared.operation.Operation.{Operation}
 use Rattle.sch_control.specs.declared.operation.Operation.TheVariants as operation
-use Rattle.sch_control.specs.declared.body.Entry.{Entry}
 use Rattle.sch_control.specs.declared.mark.MarkKind.TheVariants as mark
 use Rattle.sch_control.specs.Covered.{is_covered, is_covered_source, is_covered_member, is_covered_operation}
 use Rattle.sch_control.specs.CoveredOperands.{is_covered_operand}
@@ -26,7 +25,8 @@ use Rattle.sch_frames.specs.Meaning.{closure_register}
 use Rattle.sch_frames.specs.Valid.{is_entered}
 use Rattle.sch_frames.specs.Covered.{is_covered_instruction, begins, code_begins}
 use Rattle.sch_layout.specs.BodyLayout.{Plan, copied, is_slot, operand_at, source_at, sources_at, members_at, operation_at, set_aside, hand_over, prepared, stored, lay}
-use Rattle.sch_layout.specs.OwnSlots.{entering, saved_tree, slots_base, slots_for, slots_layout, slots_code}
+use Rattle.sch_layout.specs.OwnSlots.{saved_tree, slots_for, slots_layout, slots_code}
+use Rattle.sch_layout.proofs.EntryCopies.{entering_has}
 use Rattle.sch_layout.proofs.does.EntryStores.{entering_passes}
 use Rattle.sch_layout.proofs.layouts.InstructionTests.{Steers, Leads, Passes, Loads, Unplaced, handed_passes, prepared_passes, tree_passes, unplaced_carries}
 use Rattle.sch_layout.proofs.layouts.OperandsKept.{atom_kept, operand_kept, operands_kept}
@@ -122,13 +122,9 @@ module _ (plan : Plan) where
 
 pub layout_covered : (c : control.Code) → is_covered c.expression ≡ true → list_all is_covered_instruction (slots_layout c) ≡ true
 layout_covered c h =
-    entering_passes is_covered_instruction (λ to from. refl) c.entry (slots_base c) _
+    entering_passes is_covered_instruction (λ to from. refl) (slots_for c) c.entry _
     (tree_passes (slots_for c) is_covered_instruction covered_steers (unplaced_carries (slots_for c) is_covered_instruction covered_steers covered_unplaced)
     (is_entered c.entry) c.expression (parts_covered (slots_for c) c.expression h))
 
-entering_begins : (base : ℕ) (entry : Option Entry) (rest : List Instruction) → begins rest ≡ true → begins (entering base entry rest) ≡ true
-entering_begins base None rest h = h
-entering_begins base (Some e) rest h = refl
-
 pub slots_begin : (c : control.Code) → code_begins (slots_code c) ≡ true
-slots_begin c = entering_begins (slots_base c) c.entry _ (lay_begins (slots_for c) (λ x. refl) (saved_tree (is_entered c.entry) c.expression) no_region 0 None [])
+slots_begin c = entering_has (slots_for c) (λ is. begins is ≡ true) c.entry (λ x lt rest h. refl) _ (lay_begins (slots_for c) (λ x. refl) (saved_tree (is_entered c.entry) c.expression) no_region 0 None [])

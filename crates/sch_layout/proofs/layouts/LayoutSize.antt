@@ -23,9 +23,10 @@ use Rattle.sch_frames.specs.declared.instruction.Instruction.TheVariants.{Store,
 use Rattle.sch_frames.specs.Meaning.{argument_register, argument_slot, closure_register, link_register}
 use Rattle.sch_frames.specs.Valid.{formals_of, is_entered}
 use Rattle.sch_frames.specs.Sizes.{instruction_size, instructions_size}
-use Rattle.sch_layout.specs.BodyLayout.{leave, labels, lay, atom_at, operand_at, operands_at, sources_at, members_at, operation_at, set_aside, passed, handed, hand_over, prepared, stored, loaded}
-use Rattle.sch_layout.specs.OwnSlots.{own_slot, own_slots, arrivals, entering, restoring, saved_round, slots_base, slots_layout}
+use Rattle.sch_layout.specs.BodyLayout.{entering, leave, labels, lay, atom_at, operand_at, operands_at, sources_at, members_at, operation_at, set_aside, passed, handed, hand_over, prepared, stored, loaded}
+use Rattle.sch_layout.specs.OwnSlots.{own_slot, own_slots, restoring, saved_round, slots_base, slots_layout}
 use Rattle.sch_layout.specs.LayoutSizes.{entry_size, call_parts, nodes}
+use Rattle.sch_layout.proofs.EntryCopies.{entering_less}
 use Rattle.sch_layout.proofs.layouts.RegionStores.{no_region_stores, slots_written}
 
 module _ (place : ℕ → Place) where
@@ -208,14 +209,12 @@ module _ (base : ℕ) (entered : Bool) where
 
 -- ## Bodies
 
-arrivals_work : (base count from : ℕ) (rest : List Instruction) → instructions_size (arrivals base from count rest) ≡ count + instructions_size rest
-arrivals_work base zero from rest = omega arith
-arrivals_work base (suc count) from rest = let h = arrivals_work base count (suc from) rest in omega (arith, h)
-
 entering_work : (base : ℕ) (entry : Option Entry) (rest : List Instruction)
-    → instructions_size (entering base entry (stored (own_slots base) (saved_round (is_entered entry)) rest)) ≡ entry_size entry + instructions_size rest
+    → instructions_size (entering (own_slots base) entry (stored (own_slots base) (saved_round (is_entered entry)) rest)) ≤ entry_size entry + instructions_size rest
 entering_work base None rest = omega arith
-entering_work base (Some e) rest = let h = arrivals_work base e.formals 0 (Copy (Slot base) link_register ∷ rest) in omega (arith, h)
+entering_work base (Some e) rest =
+    let h = entering_less (own_slots base) (λ is. instructions_size is) (λ to from rest. omega arith) (Some e) (Copy (Slot base) link_register ∷ rest) in
+    omega (arith, h)
 
 pub slots_work : (c : control.Code) → binds 0 c.expression ≡ false → instructions_size (slots_layout c) ≤ 2 * expression_size c.expression + 4 * call_parts c.expression + entry_size c.entry
 slots_work c u =
@@ -224,14 +223,12 @@ slots_work c u =
     let e = ap instructions_size (slots_written c u) in
     omega (arith, h, k, e)
 
-arrivals_size : (base count from : ℕ) (rest : List Instruction) → length (arrivals base from count rest) ≡ count + length rest
-arrivals_size base zero from rest = omega arith
-arrivals_size base (suc count) from rest = let h = arrivals_size base count (suc from) rest in omega (arith, h)
-
 entering_size : (base : ℕ) (entry : Option Entry) (rest : List Instruction)
-    → length (entering base entry (stored (own_slots base) (saved_round (is_entered entry)) rest)) ≤ formals_of entry + 2 + length rest
+    → length (entering (own_slots base) entry (stored (own_slots base) (saved_round (is_entered entry)) rest)) ≤ formals_of entry + 2 + length rest
 entering_size base None rest = omega arith
-entering_size base (Some e) rest = let h = arrivals_size base e.formals 0 (Copy (Slot base) link_register ∷ rest) in omega (arith, h)
+entering_size base (Some e) rest =
+    let h = entering_less (own_slots base) (λ is. length is) (λ to from rest. omega arith) (Some e) (Copy (Slot base) link_register ∷ rest) in
+    omega (arith, h)
 
 pub slots_size : (c : control.Code) → binds 0 c.expression ≡ false → length (slots_layout c) ≤ 3 * nodes c.expression + 2 * call_parts c.expression + (formals_of c.entry + 2)
 slots_size c u =

@@ -19,8 +19,9 @@ use Rattle.sch_frames.specs.declared.instruction.Instruction.TheVariants.{Store,
 use Rattle.sch_frames.specs.Meaning.{argument_register, argument_slot, closure_register, link_register}
 use Rattle.sch_frames.specs.Valid.{is_entered}
 use Rattle.sch_frames.specs.Sizes.{grouped, instructions_size, jumped}
-use Rattle.sch_layout.specs.BodyLayout.{leave, labels, lay, member_at, operand_at, set_aside, passed, handed, hand_over, prepared, stored, loaded}
-use Rattle.sch_layout.specs.OwnSlots.{own_slot, own_slots, arrivals, entering, restoring, saved_round, slots_base, slots_layout}
+use Rattle.sch_layout.specs.BodyLayout.{entering, leave, labels, lay, member_at, operand_at, set_aside, passed, handed, hand_over, prepared, stored, loaded}
+use Rattle.sch_layout.specs.OwnSlots.{own_slot, own_slots, restoring, saved_round, slots_base, slots_layout}
+use Rattle.sch_layout.proofs.EntryCopies.{entering_less}
 use Rattle.sch_layout.proofs.layouts.LayoutSize.{operand_kept, operation_kept, members_kept}
 use Rattle.sch_layout.proofs.layouts.RegionStores.{no_region_stores, slots_written}
 
@@ -121,14 +122,12 @@ module _ (base : ℕ) (entered : Bool) where
 
 -- ## Bodies
 
-arrivals_done : (base count from : ℕ) (rest : List Instruction) → done (arrivals base from count rest) ≡ count + done rest
-arrivals_done base zero from rest = omega arith
-arrivals_done base (suc count) from rest = let h = arrivals_done base count (suc from) rest in omega (arith, h)
-
 entering_done : (base : ℕ) (entry : Option Entry) (rest : List Instruction)
-    → done (entering base entry (stored (own_slots base) (saved_round (is_entered entry)) rest)) + jumped entry ≡ entry_work entry + done rest
+    → done (entering (own_slots base) entry (stored (own_slots base) (saved_round (is_entered entry)) rest)) + jumped entry ≤ entry_work entry + done rest
 entering_done base None rest = omega arith
-entering_done base (Some e) rest = let h = arrivals_done base e.formals 0 (Copy (Slot base) link_register ∷ rest) in omega (arith, h)
+entering_done base (Some e) rest =
+    let h = entering_less (own_slots base) (λ is. done is) (λ to from rest. omega arith) (Some e) (Copy (Slot base) link_register ∷ rest) in
+    omega (arith, h)
 
 pub slots_done : (c : control.Code) → binds 0 c.expression ≡ false → instructions_size (slots_layout c) + grouped (slots_layout c) + jumped c.entry ≤ work.code_work c
 slots_done c u =

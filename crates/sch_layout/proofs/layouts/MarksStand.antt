@@ -3,7 +3,6 @@ use Rattle.std.proofs.Common.{◌≡◌, ℕ, zero, suc, ◌+◌, List, [], ◌�
 use Rattle.std.specs.Prelude.{filter}
 use Rattle.std.proofs.lemmas.Bool.{and_from}
 use Rattle.sch_word.specs.declared.place.Place.{Place}
-use Rattle.sch_control.specs.declared.body.Entry.{Entry}
 use Rattle.sch_control.specs.declared.operation.Application.{Application}
 use Rattle.sch_control.specs.declared.operation.Operand.{Operand}
 use Rattle.sch_control.specs.declared.mark.MarkKind.TheVariants as mark
@@ -15,8 +14,9 @@ use Rattle.sch_frames.specs.declared.instruction.Instruction.{Instruction}
 use Rattle.sch_frames.specs.Meaning.{argument_register, argument_slot}
 use Rattle.sch_frames.specs.Valid.{is_entered}
 use Rattle.sch_layout.specs.BodyLayout.{Plan, hand_over, handed, labels, lay, leave, loaded, passed, prepared, set_aside, stored}
-use Rattle.sch_layout.specs.OwnSlots.{arrivals, entering, saved_tree, slots_base, slots_code, slots_for}
+use Rattle.sch_layout.specs.OwnSlots.{saved_tree, slots_code, slots_for}
 use Rattle.sch_layout.proofs.CarriedCopies.{carried_has}
+use Rattle.sch_layout.proofs.EntryCopies.{entering_has}
 use Rattle.sch_frames.specs.Standing.{all_marks_stand, code_marks_stand, marks_stand}
 
 -- they stand so in what follows
@@ -64,16 +64,8 @@ module _ (plan : Plan) where
   lay_stands (tail_call a) inside n test rest h = prepared_stands true a _ h
   lay_stands (save saves e) inside n test rest h = stored_stands (heads e saves) (lay plan e (with_region saves inside) n test rest) (lay_stands e (with_region saves inside) n test rest h)
 
-arrivals_stand : (base count from : ℕ) (rest : List Instruction) → Stand rest → Stand (arrivals base from count rest)
-arrivals_stand base zero from rest h = h
-arrivals_stand base (suc count) from rest h = arrivals_stand base count (suc from) rest h
-
-entering_stands : (base : ℕ) (entry : Option Entry) (rest : List Instruction) → Stand rest → Stand (entering base entry rest)
-entering_stands base None rest h = h
-entering_stands base (Some e) rest h = arrivals_stand base e.formals 0 rest h
-
 pub slots_stand : (c : control.Code) → code_marks_stand (slots_code c) ≡ true
-slots_stand c = entering_stands (slots_base c) c.entry _ (lay_stands (slots_for c) (saved_tree (is_entered c.entry) c.expression) no_region 0 None [] refl)
+slots_stand c = entering_has (slots_for c) Stand c.entry (λ x lt rest h. h) _ (lay_stands (slots_for c) (saved_tree (is_entered c.entry) c.expression) no_region 0 None [] refl)
 
 pub all_slots_stand : (cs : List control.Code) → all_marks_stand (map slots_code cs) ≡ true
 all_slots_stand [] = refl

@@ -13,8 +13,8 @@ use Rattle.sch_control.specs.Valid.{member_variables}
 use Rattle.sch_frames.specs.declared.instruction.Instruction.{Instruction}
 use Rattle.sch_frames.specs.declared.instruction.Instruction.TheVariants.{Store, Fix, Return, End, Jump, Label, Mark}
 use Rattle.sch_frames.specs.Valid.{is_entered}
-use Rattle.sch_layout.specs.BodyLayout.{Plan, members_at, stored, labels, lay}
-use Rattle.sch_layout.specs.OwnSlots.{entering, restoring, saved_round, slots_base, slots_for, slots_layout}
+use Rattle.sch_layout.specs.BodyLayout.{Plan, entering, members_at, stored, labels, lay}
+use Rattle.sch_layout.specs.OwnSlots.{restoring, saved_round, slots_for, slots_layout}
 use Rattle.sch_layout.proofs.does.SavedRound.{binds_restoring}
 
 -- outside of regions nothing is stored where it is bound
@@ -74,11 +74,11 @@ round_heads true e u = ap (λ t. unless t 0 []) u
 
 -- the instructions of a body: what it is entered by, where its return address goes, and then those of its expression
 pub slots_written : (c : control.Code) → binds 0 c.expression ≡ false
-    → slots_layout c ≡ entering (slots_base c) c.entry (stored (slots_for c) (saved_round (is_entered c.entry)) (lay (slots_for c) (restoring (saved_round (is_entered c.entry)) c.expression) no_region 0 None []))
+    → slots_layout c ≡ entering (slots_for c) c.entry (stored (slots_for c) (saved_round (is_entered c.entry)) (lay (slots_for c) (restoring (saved_round (is_entered c.entry)) c.expression) no_region 0 None []))
 slots_written c u =
     let xs = saved_round (is_entered c.entry) in
     let e = restoring xs c.expression in
     let u' : binds 0 (restoring (saved_round (is_entered c.entry)) c.expression) ≡ false = binds_restoring xs 0 c.expression ∙ u in
-    ap (entering (slots_base c) c.entry)
+    ap (entering (slots_for c) c.entry)
     (ap (λ ys. stored (slots_for c) ys (lay (slots_for c) e (with_region xs no_region) 0 None [])) (round_heads (is_entered c.entry) e u')
     ∙ ap (stored (slots_for c) xs) (lay_alike (slots_for c) e (with_region xs no_region) no_region (outside_round (is_entered c.entry) e u') 0 None []))

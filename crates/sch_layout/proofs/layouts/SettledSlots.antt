@@ -29,8 +29,9 @@ use Rattle.sch_frames.specs.Meaning.{closure_register, argument_register, argume
 use Rattle.sch_frames.specs.Valid.{is_entered}
 use Rattle.sch_frames.specs.Covered.{is_covered_code, source_low, member_low, operation_low, instruction_low, marks_settled, may_stand, plain_instruction, begins}
 use Rattle.sch_layout.specs.BodyLayout.{Plan, operand_at, source_at, sources_at, members_at, operation_at, set_aside, passed, handed, hand_over, prepared, stored, loaded, labels, lay, leave}
-use Rattle.sch_layout.specs.OwnSlots.{arrivals, entering, saved_tree, slots_base, slots_for, slots_layout, slots_code}
+use Rattle.sch_layout.specs.OwnSlots.{saved_tree, slots_for, slots_layout, slots_code}
 use Rattle.sch_layout.proofs.CarriedCopies.{carried_has}
+use Rattle.sch_layout.proofs.EntryCopies.{entering_has}
 use Rattle.sch_layout.proofs.does.EntryStores.{entering_passes}
 use Rattle.sch_layout.proofs.layouts.CoveredSlots.{layout_covered, slots_begin}
 use Rattle.sch_layout.proofs.layouts.InstructionTests.{Steers, Leads, Passes, Loads, Unplaced, handed_passes, prepared_passes, tree_passes, unplaced_carries}
@@ -128,7 +129,7 @@ few_fields (Some e) h =
 slots_low : (c : control.Code) → shaped_whole c ≡ true → fields_known c ≡ true → list_all instruction_low (slots_layout c) ≡ true
 slots_low c whole there =
     let few = few_fields c.entry (and_parts (entry_shaped c.entry) (shaped c.expression) whole).0 in
-    entering_passes instruction_low (λ to from. refl) c.entry (slots_base c) _
+    entering_passes instruction_low (λ to from. refl) (slots_for c) c.entry _
     (tree_passes (slots_for c) instruction_low low_steers (unplaced_carries (slots_for c) instruction_low low_steers low_unasked.unplaced) (is_entered c.entry) c.expression (parts_low (slots_for c) (fields_of c.entry) few c.expression there))
 
 -- ## Ends
@@ -157,7 +158,7 @@ last_may (Some e) h = h
 slots_stand : (c : control.Code) → ended c ≡ true → list_all (may_stand (is_form c.entry)) (slots_layout c) ≡ true
 slots_stand c h =
     let ends = is_form c.entry in
-    entering_passes (may_stand ends) (λ to from. refl) c.entry (slots_base c) _
+    entering_passes (may_stand ends) (λ to from. refl) (slots_for c) c.entry _
     (tree_passes (slots_for c) (may_stand ends) (stand_steers ends) (unplaced_carries (slots_for c) (may_stand ends) (stand_steers ends) (stand_unasked ends).unplaced) (is_entered c.entry) c.expression
     (parts_stand (slots_for c) ends c.expression (last_position c.entry) (last_may c.entry) (and_parts (is_bare c.expression) _ h).1))
 
@@ -184,7 +185,7 @@ module _ (plan : Plan) where
 
 slots_plain : (c : control.Code) → list_all plain_instruction (slots_layout c) ≡ true
 slots_plain c =
-    entering_passes plain_instruction (λ to from. refl) c.entry (slots_base c) _
+    entering_passes plain_instruction (λ to from. refl) (slots_for c) c.entry _
     (tree_passes (slots_for c) plain_instruction plain_steers (unplaced_carries (slots_for c) plain_instruction plain_steers plain_unasked.unplaced) (is_entered c.entry) c.expression (parts_plain (slots_for c) c.expression))
 
 -- ## Marks with an instruction behind
@@ -231,14 +232,6 @@ module _ (plan : Plan) where
   lay_settled (tail_call a) inside n test rest h = prepared_settled true a _ h
   lay_settled (save saves e) inside n test rest h = stored_settled (heads e saves) (lay plan e (with_region saves inside) n test rest) (lay_settled e (with_region saves inside) n test rest h)
 
-arrivals_settled : (base count from : ℕ) (rest : List Instruction) → marks_settled false rest ≡ true → marks_settled false (arrivals base from count rest) ≡ true
-arrivals_settled base zero from rest h = h
-arrivals_settled base (suc count) from rest h = arrivals_settled base count (suc from) rest h
-
-entering_settled : (base : ℕ) (entry : Option Entry) (rest : List Instruction) → marks_settled false rest ≡ true → marks_settled false (entering base entry rest) ≡ true
-entering_settled base None rest h = h
-entering_settled base (Some e) rest h = arrivals_settled base e.formals 0 rest h
-
 -- no mark and no label stands first, so a mark may wait
 may_wait : (is : List Instruction) → begins is ≡ true → marks_settled false is ≡ true → marks_settled true is ≡ true
 may_wait [] b h = absurd cc
@@ -254,4 +247,4 @@ slots_covered c bare whole there covered =
     (and_from _ _ (slots_low c whole there)
     (and_from _ _ (slots_stand c bare)
     (and_from _ _ (slots_plain c)
-    (may_wait (slots_layout c) (slots_begin c) (entering_settled (slots_base c) c.entry _ (lay_settled (slots_for c) (saved_tree (is_entered c.entry) c.expression) no_region 0 None [] refl)))))))
+    (may_wait (slots_layout c) (slots_begin c) (entering_has (slots_for c) (λ is. marks_settled false is ≡ true) c.entry (λ x lt rest h. h) _ (lay_settled (slots_for c) (saved_tree (is_entered c.entry) c.expression) no_region 0 None [] refl)))))))

@@ -1,5 +1,5 @@
 -- The layout with a slot for each variable is a valid frame body of its body.
-use Rattle.std.proofs.Common.{◌≡◌, ℕ, zero, suc, ◌+◌, ◌-◌, ◌≤◌, List, [], Option, Some, None, true, false, refl, sym, ap, ◌∙◌, subst, arith}
+use Rattle.std.proofs.Common.{◌≡◌, ℕ, zero, suc, ◌+◌, ◌-◌, ◌<◌, ◌≤◌, List, [], Option, Some, None, true, false, refl, sym, ap, ◌∙◌, subst, arith}
 use Rattle.std.specs.Prelude.{nat_lt}
 use Rattle.std.specs.List.{list_all}
 use Rattle.std.proofs.Math.Nat.{le-max_left, le-max_right, max-le}
@@ -7,31 +7,32 @@ use Rattle.std.proofs.lemmas.Bool.{and_parts, and_from, le-leb, leb-true, lt-ltb
 use Rattle.sch_word.specs.trees.Shape.{max_operands}
 use Rattle.sch_control.specs.declared.body.Entry.{Entry}
 use Rattle.sch_word.specs.values.Values.{Value}
-use Rattle.sch_control.specs.Meaning.{binds, falls_off, no_region, nothing}
+use Rattle.sch_control.specs.Meaning.{binds, falls_off, no_region}
 use Rattle.sch_control.specs.Run as control_run
 use Rattle.sch_control.specs.Tree as control
 use Rattle.sch_control.specs.Tree.{Expression, perform, bind, sequence, branch, fix, call, tail_call, return, end, save}
 use Rattle.sch_control.specs.Valid.{shaped as expression_shaped, first_bound, in_scope_whole, numbered, ended, shaped_whole, entry_shaped, without_repeats}
-use Rattle.sch_frames.specs.declared.instruction.Instruction.{Instruction}
 use Rattle.sch_frames.specs.Does.{EndsAs, FrameOf, world}
-use Rattle.sch_frames.specs.Meaning.{execute_each}
+use Rattle.sch_frames.specs.Meaning.{execute_each, beginning}
 use Rattle.sch_frames.specs.Valid.{is_place, placed, forward, shaped, formals_of, labels_in, jumps_ahead, instruction_placed, instruction_shaped, instruction_known, is_entered}
 use Rattle.sch_layout.specs.BodyLayout.{is_slot, labels, lay}
-use Rattle.sch_layout.specs.OwnSlots.{own_slot, most_operands, arrivals, entering, saved_round, saved_tree, slots_base, slots_for, slots_words, slots_layout, slots_code}
+use Rattle.sch_layout.specs.OwnSlots.{own_slot, most_operands, saved_round, saved_tree, slots_base, slots_for, slots_words, slots_layout, slots_code}
 use Rattle.sch_layout.proofs.SavedTree.{restoring_labels, restoring_operands, restoring_uses}
 use Rattle.sch_layout.proofs.does.SavedRound.{behind_unbound, does_saved}
 use Rattle.sch_layout.proofs.does.PlacesAgree.{Behind, Uses, Within}
-use Rattle.sch_layout.proofs.does.EntryStores.{own_apart, enters, entering_placed, entering_passes}
+use Rattle.sch_layout.proofs.EntryCopies.{entering_has}
+use Rattle.sch_layout.proofs.does.ApartPlaces.{own_placed}
+use Rattle.sch_layout.proofs.does.PlacedBodies.{body_does}
+use Rattle.sch_layout.proofs.does.EntryStores.{entering_placed, entering_passes}
 use Rattle.sch_layout.proofs.layouts.LabelsOnce.{Right, right, lay_below}
 use Rattle.sch_layout.proofs.layouts.InstructionTests.{Roomy, tree_passes, placed_steers, placed_carries, uses_placed, shaped_steers, unplaced_shaped, unplaced_known, unplaced_carries, parts_shaped, known_steers, parts_named}
-use Rattle.sch_layout.proofs.does.LayoutDoes.{same}
 use Rattle.sch_layout.proofs.layouts.VariablesUsed.{Numbered, numbered_is, code_uses}
 
 -- ## Places
 
-own_placed : (base n words x : ℕ) → base + n ≤ words → Within n x → is_place words (own_slot base x) ≡ true
-own_placed base n words zero le h = absurd h.0
-own_placed base n words (suc x) le h = lt-ltb (base + suc x) words (omega (arith, le, h.1))
+slot_placed : (base n words x : ℕ) → base + n ≤ words → Within n x → is_place words (own_slot base x) ≡ true
+slot_placed base n words zero le h = absurd h.0
+slot_placed base n words (suc x) le h = lt-ltb (base + suc x) words (omega (arith, le, h.1))
 
 formals_most : (entry : Option Entry) → entry_shaped entry ≡ true → formals_of entry ≤ 200
 formals_most None h = omega arith
@@ -96,6 +97,10 @@ module _ (c : control.Code) (scoped : in_scope_whole c ≡ true) (counted : numb
   pub unbound : binds 0 c.expression ≡ false
   unbound = behind_unbound c.expression uses_behind
 
+  entered_placed : (x : ℕ) → x < 2 + formals_of c.entry → is_place (slots_words c) (own_slot (slots_base c) x) ≡ true
+  entered_placed zero lt = refl
+  entered_placed (suc x) lt = let two = first_two in lt-ltb (slots_base c + suc x) (slots_words c) (omega (arith, lt, two))
+
   pub slots_placed : shaped_whole c ≡ true → placed c.entry (slots_words c) (slots_layout c) ≡ true
   slots_placed h =
       let both = base_most c h in
@@ -104,11 +109,11 @@ module _ (c : control.Code) (scoped : in_scope_whole c ≡ true) (counted : numb
       let variables = numbers.most in
       and_from _ _ (le-leb (slots_words c) 2048 (omega (arith, both, variables)))
       (and_from _ _ (le-leb (formals_of c.entry) (6 + slots_words c) (omega (arith, fit)))
-      (entering_placed c.entry (slots_base c) (slots_words c) _ fit (omega (arith, two))
+      (entering_placed (slots_for c) c.entry (slots_words c) _ (omega (arith, fit)) entered_placed
       (tree_passes (slots_for c) (instruction_placed (slots_words c)) (placed_steers _)
-      (placed_carries (slots_for c) (slots_words c) (most_operands c.expression) (Within c.variables) (λ x w. own_placed (slots_base c) c.variables (slots_words c) x (omega arith) w) roomy)
+      (placed_carries (slots_for c) (slots_words c) (most_operands c.expression) (Within c.variables) (λ x w. slot_placed (slots_base c) c.variables (slots_words c) x (omega arith) w) roomy)
       (is_entered c.entry) c.expression
-      (uses_placed (slots_for c) (slots_words c) (most_operands c.expression) (Within c.variables) (λ x w. own_placed (slots_base c) c.variables (slots_words c) x (omega arith) w) roomy
+      (uses_placed (slots_for c) (slots_words c) (most_operands c.expression) (Within c.variables) (λ x w. slot_placed (slots_base c) c.variables (slots_words c) x (omega arith) w) roomy
       c.expression (omega arith) uses))))
 
   -- a form has no return address
@@ -120,48 +125,34 @@ module _ (c : control.Code) (scoped : in_scope_whole c ≡ true) (counted : numb
   slots_does bare = record {
     entry = refl;
     does = λ callee callee' follow depth self arguments l state marks marks'.
-        enters c.entry (slots_base c) formals_fit self arguments l callee' depth _ (world state marks') _
-        (λ f a. subst (λ r. EndsAs r (execute_each callee' depth (lay (slots_for c) (saved_tree (is_entered c.entry) c.expression) no_region 0 None []) None f (world state marks')))
+        let xs = saved_round (is_entered c.entry) in
+        let few : most_operands (saved_tree (is_entered c.entry) c.expression) ≤ slots_base c =
+        let fit = operands_fit in subst (λ n. n ≤ slots_base c) (sym (restoring_operands (saved_round (is_entered c.entry)) c.expression)) (omega (arith, fit)) in
+        subst (λ r. EndsAs r (execute_each callee' depth (slots_layout c) None (beginning c.entry self arguments) (world state marks')))
         (sym (does_saved (slots_base c) (is_entered c.entry) callee depth c.expression (and_parts _ _ bare).0 unbound (control_run.beginning c.entry self arguments)
         (begins_without c.entry self arguments) (world state marks) falls_off (λ v environment saved saved' w. refl)))
-        (same (slots_for c) (slots_base c) (own_apart (slots_base c)) callee callee' follow depth
-        (saved_tree (is_entered c.entry) c.expression) no_region (restoring_uses Behind (saved_round (is_entered c.entry)) c.expression uses_behind)
-        (let fit = operands_fit in subst (λ n. 0 + n ≤ slots_base c) (sym (restoring_operands (saved_round (is_entered c.entry)) c.expression)) (omega (arith, fit))) 0 None [] tt
-        (control_run.beginning c.entry self arguments) nothing f state marks marks' falls_off a (λ v environment saved f s marks marks' r e. tt)));
+        (body_does (slots_for c) (slots_base c) c.entry (saved_tree (is_entered c.entry) c.expression) (own_placed (slots_base c) c.entry (saved_tree (is_entered c.entry) c.expression) formals_fit few)
+        (restoring_uses Behind xs c.expression uses_behind) callee callee' follow depth self arguments l state marks marks');
     names = λ names h.
-        entering_passes (instruction_known names) (λ to from. refl) c.entry (slots_base c) _
+        entering_passes (instruction_known names) (λ to from. refl) (slots_for c) c.entry _
         (tree_passes (slots_for c) (instruction_known names) (known_steers names) (unplaced_carries (slots_for c) (instruction_known names) (known_steers names) (unplaced_known names))
         (is_entered c.entry) c.expression (parts_named (slots_for c) names c.expression h));
   }
 
 -- ## Labels
 
-arrivals_labels : (base count from : ℕ) (rest : List Instruction) → labels_in (arrivals base from count rest) ≡ labels_in rest
-arrivals_labels base zero from rest = refl
-arrivals_labels base (suc count) from rest = arrivals_labels base count (suc from) rest
-
-entering_labels : (base : ℕ) (entry : Option Entry) (rest : List Instruction) → labels_in (entering base entry rest) ≡ labels_in rest
-entering_labels base None rest = refl
-entering_labels base (Some e) rest = arrivals_labels base e.formals 0 rest
-
-arrivals_ahead : (base count from : ℕ) (rest : List Instruction) → jumps_ahead (arrivals base from count rest) ≡ jumps_ahead rest
-arrivals_ahead base zero from rest = refl
-arrivals_ahead base (suc count) from rest = arrivals_ahead base count (suc from) rest
-
-entering_ahead : (base : ℕ) (entry : Option Entry) (rest : List Instruction) → jumps_ahead (entering base entry rest) ≡ jumps_ahead rest
-entering_ahead base None rest = refl
-entering_ahead base (Some e) rest = arrivals_ahead base e.formals 0 rest
-
 pub slots_forward : (c : control.Code) → forward (labels c.expression) (slots_layout c) ≡ true
 slots_forward c =
     let tree = saved_tree (is_entered c.entry) c.expression in
     let laid = lay (slots_for c) tree no_region 0 None [] in
     let r : Right (slots_for c) laid = right (slots_for c) tree no_region 0 None [] (λ l h h'. refl) tt (record { once = refl; ahead = refl }) in
-    let e = entering_labels (slots_base c) c.entry laid in
+    let e : labels_in (slots_layout c) ≡ labels_in (lay (slots_for c) (saved_tree (is_entered c.entry) c.expression) no_region 0 None []) =
+    entering_has (slots_for c) (λ is. labels_in is ≡ labels_in (lay (slots_for c) (saved_tree (is_entered c.entry) c.expression) no_region 0 None [])) c.entry (λ x lt rest h. h) laid refl in
+    let ahead : jumps_ahead (slots_layout c) ≡ true = entering_has (slots_for c) (λ is. jumps_ahead is ≡ true) c.entry (λ x lt rest h. h) laid r.ahead in
     let few = restoring_labels (saved_round (is_entered c.entry)) c.expression in
     and_from _ _
     (ap (list_all (λ l. nat_lt l (labels c.expression))) e ∙ lay_below (slots_for c) tree no_region 0 None [] (labels c.expression) (omega (arith, few)) refl)
-    (and_from _ _ (ap without_repeats e ∙ r.once) (entering_ahead (slots_base c) c.entry laid ∙ r.ahead))
+    (and_from _ _ (ap without_repeats e ∙ r.once) ahead)
 
 -- ## Shape
 
@@ -169,6 +160,6 @@ pub slots_shaped : (c : control.Code) → shaped_whole c ≡ true → shaped c.e
 slots_shaped c h =
     let parts = and_parts _ _ h in
     and_from _ _ parts.0
-    (entering_passes instruction_shaped (λ to from. refl) c.entry (slots_base c) _
+    (entering_passes instruction_shaped (λ to from. refl) (slots_for c) c.entry _
     (tree_passes (slots_for c) instruction_shaped shaped_steers (unplaced_carries (slots_for c) instruction_shaped shaped_steers unplaced_shaped)
     (is_entered c.entry) c.expression (parts_shaped (slots_for c) c.expression parts.1)))

@@ -9,13 +9,9 @@ use Rattle.sch_control.specs.declared.operation.Atom.TheVariants.{Constant, Lite
 use Rattle.sch_control.specs.declared.operation.Member.{Member}
 use Rattle.sch_control.specs.Tree.{Expression, perform, bind, sequence, branch, fix, call, tail_call, return, end, save, Code}
 use Rattle.sch_control.specs.Valid.{in_scope_atoms, in_scope, with_variable, with_members, member_variables, bound_in, first_scope, first_bound, numbered, max_body_variables}
+use Rattle.sch_layout.specs.SharedPlaces.{EachHas}
 use Rattle.sch_layout.proofs.does.OperationsFollow.{AtomsHave}
 use Rattle.sch_layout.proofs.does.PlacesAgree.{MembersUse, Uses, Behind, Within}
-
--- each number of a list has a property
-abbrev pub EachHas : (ℕ → Type 0) → List ℕ → Type 0
-EachHas P [] = Unit {0}
-EachHas P (x ∷ xs) = P x × EachHas P xs
 
 each_left : (P : ℕ → Type 0) (xs ys : List ℕ) → EachHas P (xs ++ ys) → EachHas P xs
 each_left P [] ys h = tt

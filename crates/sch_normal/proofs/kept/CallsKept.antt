@@ -6,7 +6,8 @@ use Rattle.std.proofs.lemmas.List.{map-append}
 use Rattle.std.proofs.lemmas.List.Sums.{sum_by-append}
 use Rattle.sch_word.specs.trees.Shape as shapes
 use Rattle.sch_flat.specs.Tree as flat
-use Rattle.sch_flat.specs.Tree.{Tree, Trees, Body, Source, constant, literal, variable, global, set_global, define, branch, sequence, bind, make_closure, fix_closures, call, operation, new_cells, cell_get, cell_set, no_trees, and_tree}
+use Rattle.sch_flat.specs.Tree.{Tree, Trees, Body, Source, constant, literal, variable, global, set_global, define, branch}
+use Rattle.sch_flat.specs.Tree.{sequence, bind, make_closure, fix_closures, call, operation, new_cells, cell_get, cell_set, no_trees, and_tree}
 use Rattle.sch_flat.specs.Measures.{over, over_each, over_bodies, call_sites_of}
 use Rattle.sch_control.specs.Valid.{sites_of_each}
 use Rattle.sch_normal.specs.Normal.{normal_source}
@@ -35,7 +36,8 @@ mutual
   calls_keys (global g) = refl
   calls_keys (set_global g e) = calls_keys e
   calls_keys (define g e) = calls_keys e
-  calls_keys (branch x y z) = joined (sites_in x) (sites_in y ++ sites_in z) (calls x) (calls y ++ calls z) (calls_keys x) (joined (sites_in y) (sites_in z) (calls y) (calls z) (calls_keys y) (calls_keys z))
+  calls_keys (branch x y z) = joined (sites_in x) (sites_in y ++ sites_in z) (calls x) (calls y ++ calls z) (calls_keys x)
+      (joined (sites_in y) (sites_in z) (calls y) (calls z) (calls_keys y) (calls_keys z))
   calls_keys (sequence es) = calls_keys_each es
   calls_keys (bind site first es e) = joined (sites_in_each es) (sites_in e) (calls_each es) (calls e) (calls_keys_each es) (calls_keys e)
   calls_keys (make_closure m) = refl

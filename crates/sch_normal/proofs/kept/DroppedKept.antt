@@ -3,8 +3,10 @@ use Rattle.std.proofs.Common.{◌≡◌, ℕ, zero, suc, ◌+◌, ◌-◌, Bool,
 use Rattle.std.specs.Prelude.{◌&&◌, ◌||◌}
 use Rattle.sch_word.specs.trees.Shape as shapes
 use Rattle.sch_word.specs.trees.Bindings.{numbers, with_variables}
+use Rattle.sch_word.proofs.facts.Booleans.{and_left, and_right}
 use Rattle.sch_flat.specs.Tree as flat
-use Rattle.sch_flat.specs.Tree.{Tree, Trees, Body, NewCell, constant, literal, variable, global, set_global, define, branch, sequence, bind, make_closure, fix_closures, call, operation, new_cells, cell_get, cell_set, no_trees, and_tree}
+use Rattle.sch_flat.specs.Tree.{Tree, Trees, Body, NewCell, constant, literal, variable, global, set_global, define, branch}
+use Rattle.sch_flat.specs.Tree.{sequence, bind, make_closure, fix_closures, call, operation, new_cells, cell_get, cell_set, no_trees, and_tree}
 use Rattle.sch_flat.specs.Measures.{over, over_each, over_bodies, dropped, one_if}
 use Rattle.sch_flat.specs.Measures as measures
 use Rattle.sch_control.specs.declared.operation.Operation.{Operation}
@@ -13,9 +15,10 @@ use Rattle.sch_control.specs.declared.operation.Application.{Application}
 use Rattle.sch_control.specs.Tree as tree
 use Rattle.sch_control.specs.Tree.{Expression, Code}
 use Rattle.sch_normal.specs.Dropped.{is_bare_atom, dropped_in, dropped_of}
-use Rattle.sch_normal.specs.Normal.{Scope, is_read, is_atom, are_atoms, is_simple, ends_in_call, are_none, only_atom, only_atom_parts, needs_variable, part_binds, binds, operands_bind, inits_bind, init_numbers, finished, called, bound_unless, normal, normal_parts, with_operands, with_inits, with_new_cells, procedure_code, form_code, normal_bodies, normal_source}
+use Rattle.sch_normal.specs.Normal.{Scope, is_read, is_atom, are_atoms, is_simple, ends_in_call, are_none, only_atom, only_atom_parts}
+use Rattle.sch_normal.specs.Normal.{needs_variable, part_binds, binds, operands_bind, inits_bind, init_numbers, finished, called, bound_unless}
+use Rattle.sch_normal.specs.Normal.{normal, normal_parts, with_operands, with_inits, with_new_cells, procedure_code, form_code, normal_bodies, normal_source}
 use Rattle.sch_normal.specs.Normal as normal
-use Rattle.sch_normal.proofs.runs.Orders.{and_left, and_right}
 
 abbrev flat_dropped : Tree → ℕ
 flat_dropped = over 0 (λ x y. x + y) shapes.dropped_in
@@ -163,7 +166,8 @@ module _ (starts : List ℕ) where
     dropped_kept tail (call site spread f es) scope n =
         let a : Application ℕ = record { site = site; spread = spread; operator = normal.operand_at scope f (n + operands_bind es); operands = normal.operands_at scope es n } in
         let p = operands_kept es scope n (bound_unless (is_simple f) (n + operands_bind es) (normal starts false f scope (suc (n + operands_bind es))) (called tail a)) in
-        let q = unless_dropped (is_simple f) f (n + operands_bind es) (normal starts false f scope (suc (n + operands_bind es))) (called tail a) refl (dropped_kept false f scope (suc (n + operands_bind es))) in
+        let q = unless_dropped (is_simple f) f (n + operands_bind es) (normal starts false f scope (suc (n + operands_bind es))) (called tail a) refl
+        (dropped_kept false f scope (suc (n + operands_bind es))) in
         omega (arith, p, q, called_none tail a)
     dropped_kept tail (operation site which es) scope n =
         let o : Operation ℕ = does.Prim site which (normal.operands_at scope es n) in
@@ -180,20 +184,24 @@ module _ (starts : List ℕ) where
     parts_kept tail no_trees scope n = finished_none tail _
     parts_kept tail (and_tree e no_trees) scope n = let h = dropped_kept tail e scope n in omega (arith, h)
     parts_kept tail (and_tree e (and_tree e' es)) scope n =
-        go (needs_variable e) refl (dropped_kept false e scope n) (dropped_kept false e scope (suc n)) (parts_kept tail (and_tree e' es) scope (n + binds e)) (parts_kept tail (and_tree e' es) scope (suc n + binds e))
+        go (needs_variable e) refl (dropped_kept false e scope n) (dropped_kept false e scope (suc n)) (parts_kept tail (and_tree e' es) scope (n + binds e))
+        (parts_kept tail (and_tree e' es) scope (suc n + binds e))
       where
         go : (b : Bool) → needs_variable e ≡ b → dropped_in (normal starts false e scope n) ≡ flat_dropped e → dropped_in (normal starts false e scope (suc n)) ≡ flat_dropped e
             → dropped_in (normal_parts starts tail (and_tree e' es) scope (n + binds e)) ≡ dropped (and_tree e' es) + flat_dropped_each (and_tree e' es)
             → dropped_in (normal_parts starts tail (and_tree e' es) scope (suc n + binds e)) ≡ dropped (and_tree e' es) + flat_dropped_each (and_tree e' es)
-            → dropped_in (cond b (tree.bind n (normal starts false e scope (suc n)) (normal_parts starts tail (and_tree e' es) scope (suc n + binds e))) (tree.sequence (normal starts false e scope n) (normal_parts starts tail (and_tree e' es) scope (n + binds e))))
+            → dropped_in (cond b (tree.bind n (normal starts false e scope (suc n)) (normal_parts starts tail (and_tree e' es) scope (suc n + binds e)))
+            (tree.sequence (normal starts false e scope n) (normal_parts starts tail (and_tree e' es) scope (n + binds e))))
             ≡ dropped (and_tree e (and_tree e' es)) + flat_dropped_each (and_tree e (and_tree e' es))
         go true i p p' q q' = let none : one_if (measures.is_atom e) ≡ 0 = ap one_if (kept_other e i) in omega (arith, p', q', none)
-        go false i p p' q q' = let same : one_if (is_bare_atom (normal starts false e scope n)) ≡ one_if (measures.is_atom e) = ap one_if (dropped_alike starts e scope n i) in omega (arith, p, q, same)
+        go false i p p' q q' = let same : one_if (is_bare_atom (normal starts false e scope n)) ≡ one_if (measures.is_atom e) =
+            ap one_if (dropped_alike starts e scope n i) in omega (arith, p, q, same)
 
     operands_kept : (es : Trees) (scope : Scope) (n : ℕ) (body : Expression) → dropped_in (with_operands starts es scope n body) ≡ flat_dropped_each es + dropped_in body
     operands_kept no_trees scope n body = omega arith
     operands_kept (and_tree e es) scope n body =
-        let p = unless_dropped (is_simple e) e n (normal starts false e scope (suc n)) (with_operands starts es scope (n + part_binds (is_simple e) (binds e)) body) refl (dropped_kept false e scope (suc n)) in
+        let p = unless_dropped (is_simple e) e n (normal starts false e scope (suc n)) (with_operands starts es scope (n + part_binds (is_simple e) (binds e)) body) refl
+        (dropped_kept false e scope (suc n)) in
         let q = operands_kept es scope (n + part_binds (is_simple e) (binds e)) body in
         omega (arith, p, q)
 
@@ -235,7 +243,15 @@ module _ (starts : List ℕ) where
       let h = codes_kept es places (drop (p - before) bodies) p in
       let k = dropped_kept false e [] 2 in
       let m = procedures_kept (take (p - before) bodies) in
-      omega (arith, h, k, m, bodies_split bodies (p - before), dropped_append (map (procedure_code starts) (take (p - before) bodies)) (form_code starts e ∷ normal_bodies starts p (drop (p - before) bodies) es places))
+      omega (
+        arith,
+        h,
+        k,
+        m,
+        bodies_split bodies (p - before),
+        dropped_append (map (procedure_code starts) (take (p - before) bodies))
+            (form_code starts e ∷ normal_bodies starts p (drop (p - before) bodies) es places),
+      )
 
 -- What normalizing makes of a program drops as many atoms as the program.
 pub program_dropped : (p : flat.Source) → dropped_of (normal_source p).bodies ≡ measures.dropped_of p

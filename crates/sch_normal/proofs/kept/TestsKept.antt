@@ -2,8 +2,10 @@
 use Rattle.std.proofs.Common.{◌≡◌, ℕ, zero, suc, ◌+◌, ◌-◌, Bool, true, false, cond, List, [], ◌∷◌, ◌++◌, length, map, take, drop, refl, ap, ◌∙◌, arith}
 use Rattle.sch_word.specs.trees.Shape as shapes
 use Rattle.sch_word.specs.trees.Bindings.{numbers, with_variables}
+use Rattle.sch_word.proofs.facts.Booleans.{and_left, and_right}
 use Rattle.sch_flat.specs.Tree as flat
-use Rattle.sch_flat.specs.Tree.{Tree, Trees, Body, NewCell, constant, literal, variable, global, set_global, define, branch, sequence, bind, make_closure, fix_closures, call, operation, new_cells, cell_get, cell_set, no_trees, and_tree}
+use Rattle.sch_flat.specs.Tree.{Tree, Trees, Body, NewCell, constant, literal, variable, global, set_global, define, branch}
+use Rattle.sch_flat.specs.Tree.{sequence, bind, make_closure, fix_closures, call, operation, new_cells, cell_get, cell_set, no_trees, and_tree}
 use Rattle.sch_flat.specs.Measures.{over, over_each, over_bodies}
 use Rattle.sch_flat.specs.Measures as measures
 use Rattle.sch_control.specs.declared.operation.Operation.{Operation}
@@ -11,10 +13,10 @@ use Rattle.sch_control.specs.declared.operation.Operation.TheVariants as does
 use Rattle.sch_control.specs.declared.operation.Application.{Application}
 use Rattle.sch_control.specs.Tree as tree
 use Rattle.sch_control.specs.Tree.{Expression, Code}
-use Rattle.sch_normal.specs.Normal.{Scope, is_read, is_atom, are_atoms, is_simple, needs_variable, part_binds, binds, operands_bind, inits_bind, init_numbers, finished, called, bound_unless, normal, normal_parts, with_operands, with_inits, with_new_cells, procedure_code, form_code, normal_bodies, normal_source}
+use Rattle.sch_normal.specs.Normal.{Scope, is_read, is_atom, are_atoms, is_simple, needs_variable, part_binds, binds, operands_bind, inits_bind, init_numbers, finished}
+use Rattle.sch_normal.specs.Normal.{called, bound_unless, normal, normal_parts, with_operands, with_inits, with_new_cells, procedure_code, form_code, normal_bodies, normal_source}
 use Rattle.sch_normal.specs.Normal as normal
 use Rattle.sch_normal.specs.Tests.{tests_in, tests_of}
-use Rattle.sch_normal.proofs.runs.Orders.{and_left, and_right}
 
 abbrev flat_tests : Tree → ℕ
 flat_tests = over 0 (λ x y. x + y) shapes.tests_in
@@ -85,7 +87,8 @@ module _ (starts : List ℕ) where
     tests_kept tail (call site spread f es) scope n =
         let a : Application ℕ = record { site = site; spread = spread; operator = normal.operand_at scope f (n + operands_bind es); operands = normal.operands_at scope es n } in
         let p = operands_kept es scope n (bound_unless (is_simple f) (n + operands_bind es) (normal starts false f scope (suc (n + operands_bind es))) (called tail a)) in
-        let q = unless_tests (is_simple f) f (n + operands_bind es) (normal starts false f scope (suc (n + operands_bind es))) (called tail a) refl (tests_kept false f scope (suc (n + operands_bind es))) in
+        let q = unless_tests (is_simple f) f (n + operands_bind es) (normal starts false f scope (suc (n + operands_bind es))) (called tail a) refl
+        (tests_kept false f scope (suc (n + operands_bind es))) in
         omega (arith, p, q, called_none tail a)
     tests_kept tail (operation site which es) scope n =
         let o : Operation ℕ = does.Prim site which (normal.operands_at scope es n) in
@@ -103,15 +106,18 @@ module _ (starts : List ℕ) where
     parts_kept tail (and_tree e no_trees) scope n = let h = tests_kept tail e scope n in omega (arith, h)
     parts_kept tail (and_tree e (and_tree e' es)) scope n = go (needs_variable e) (λ m. tests_kept false e scope m) (λ m. parts_kept tail (and_tree e' es) scope m)
       where
-        go : (b : Bool) → ((m : ℕ) → tests_in (normal starts false e scope m) ≡ flat_tests e) → ((m : ℕ) → tests_in (normal_parts starts tail (and_tree e' es) scope m) ≡ flat_tests_each (and_tree e' es))
-            → tests_in (cond b (tree.bind n (normal starts false e scope (suc n)) (normal_parts starts tail (and_tree e' es) scope (suc n + binds e))) (tree.sequence (normal starts false e scope n) (normal_parts starts tail (and_tree e' es) scope (n + binds e)))) ≡ flat_tests_each (and_tree e (and_tree e' es))
+        go : (b : Bool) → ((m : ℕ) → tests_in (normal starts false e scope m) ≡ flat_tests e)
+            → ((m : ℕ) → tests_in (normal_parts starts tail (and_tree e' es) scope m) ≡ flat_tests_each (and_tree e' es))
+            → tests_in (cond b (tree.bind n (normal starts false e scope (suc n)) (normal_parts starts tail (and_tree e' es) scope (suc n + binds e)))
+            (tree.sequence (normal starts false e scope n) (normal_parts starts tail (and_tree e' es) scope (n + binds e)))) ≡ flat_tests_each (and_tree e (and_tree e' es))
         go true p q = ap (λ m. m + tests_in (normal_parts starts tail (and_tree e' es) scope (suc n + binds e))) (p (suc n)) ∙ ap (λ m. flat_tests e + m) (q (suc n + binds e))
         go false p q = ap (λ m. m + tests_in (normal_parts starts tail (and_tree e' es) scope (n + binds e))) (p n) ∙ ap (λ m. flat_tests e + m) (q (n + binds e))
 
     operands_kept : (es : Trees) (scope : Scope) (n : ℕ) (body : Expression) → tests_in (with_operands starts es scope n body) ≡ flat_tests_each es + tests_in body
     operands_kept no_trees scope n body = omega arith
     operands_kept (and_tree e es) scope n body =
-        let p = unless_tests (is_simple e) e n (normal starts false e scope (suc n)) (with_operands starts es scope (n + part_binds (is_simple e) (binds e)) body) refl (tests_kept false e scope (suc n)) in
+        let p = unless_tests (is_simple e) e n (normal starts false e scope (suc n)) (with_operands starts es scope (n + part_binds (is_simple e) (binds e)) body) refl
+        (tests_kept false e scope (suc n)) in
         let q = operands_kept es scope (n + part_binds (is_simple e) (binds e)) body in
         omega (arith, p, q)
 
@@ -153,7 +159,15 @@ module _ (starts : List ℕ) where
       let h = codes_kept es places (drop (p - before) bodies) p in
       let k = tests_kept false e [] 2 in
       let m = procedures_kept (take (p - before) bodies) in
-      omega (arith, h, k, m, bodies_split bodies (p - before), tests_append (map (procedure_code starts) (take (p - before) bodies)) (form_code starts e ∷ normal_bodies starts p (drop (p - before) bodies) es places))
+      omega (
+        arith,
+        h,
+        k,
+        m,
+        bodies_split bodies (p - before),
+        tests_append (map (procedure_code starts) (take (p - before) bodies))
+            (form_code starts e ∷ normal_bodies starts p (drop (p - before) bodies) es places),
+      )
 
 -- What normalizing makes of a program has as many tests as the program.
 pub program_tests : (p : flat.Source) → tests_of (normal_source p).bodies ≡ measures.tests_of p

@@ -5,7 +5,8 @@ use Rattle.sch_word.specs.declared.constant.Const.TheVariants.{Unspecified}
 use Rattle.sch_word.specs.trees.Bindings.{numbers, with_variables}
 use Rattle.sch_word.specs.trees.Shape as shapes
 use Rattle.sch_flat.specs.Tree as from
-use Rattle.sch_flat.specs.Tree.{Tree, Trees, Variable, Made, NewCell, bound, free, constant, literal, variable, global, set_global, define, branch, sequence, make_closure, fix_closures, call, operation, new_cells, cell_get, cell_set, no_trees, and_tree, count}
+use Rattle.sch_flat.specs.Tree.{Tree, Trees, Variable, Made, NewCell, bound, free, constant, literal, variable, global, set_global, define}
+use Rattle.sch_flat.specs.Tree.{branch, sequence, make_closure, fix_closures, call, operation, new_cells, cell_get, cell_set, no_trees, and_tree, count}
 use Rattle.sch_flat.specs.Measures.{over, over_each, over_bodies, made_shapes, dropped}
 use Rattle.sch_control.specs.declared.operation.Atom.TheVariants as atom
 use Rattle.sch_control.specs.declared.operation.Operand.{Operand}
@@ -19,7 +20,9 @@ use Rattle.sch_control.specs.Tree as to
 use Rattle.sch_control.specs.Tree.{Expression, Code}
 use Rattle.sch_control.specs.NodeWeights.{weight_of, fields_of}
 use Rattle.sch_control.specs.Work.{codes_work, expression_work, operands_work}
-use Rattle.sch_normal.specs.Normal.{Scope, number_of, source_of, are_atoms, init_numbers, inits_bind, is_simple, simple_operand, atoms_of, binds, operand_binds, operands_bind, operand_at, operands_at, needs_variable, bound_unless, closure_of, members_of, numbers_for, cell_operation, cells_scope, finished, called, normal, normal_parts, with_operands, with_inits, with_new_cells, procedure_code, form_code, normal_bodies, normal_source}
+use Rattle.sch_normal.specs.Normal.{Scope, number_of, source_of, are_atoms, init_numbers, inits_bind, is_simple, simple_operand, atoms_of, binds, operand_binds}
+use Rattle.sch_normal.specs.Normal.{operands_bind, operand_at, operands_at, needs_variable, bound_unless, closure_of, members_of, numbers_for, cell_operation, cells_scope, finished}
+use Rattle.sch_normal.specs.Normal.{called, normal, normal_parts, with_operands, with_inits, with_new_cells, procedure_code, form_code, normal_bodies, normal_source}
 use Rattle.sch_normal.specs.Weight.{bodies_weight, weight}
 
 abbrev size : Tree → ℕ
@@ -115,7 +118,8 @@ module _ (starts : List ℕ) where
   -- ## Expressions
 
   -- a value that is set
-  value_size : (tail : Bool) (e : Tree) (scope : Scope) (n : ℕ) (o : Operation ℕ) (m : ℕ) → expression_work (normal starts false e scope (suc n)) ≤ size e → operation_size o ≤ operand_size (operand_at scope e n) + m
+  value_size : (tail : Bool) (e : Tree) (scope : Scope) (n : ℕ) (o : Operation ℕ) (m : ℕ) → expression_work (normal starts false e scope (suc n)) ≤ size e
+      → operation_size o ≤ operand_size (operand_at scope e n) + m
       → expression_work (bound_unless (is_simple e) n (normal starts false e scope (suc n)) (finished tail (to.perform o))) ≤ 3 + m + size e + returned tail
   value_size tail e scope n o m h k =
       let body = finished tail (to.perform o) in
@@ -162,7 +166,8 @@ module _ (starts : List ℕ) where
         let m = n + operands_bind es in
         let a : Application ℕ = record { site = site; spread = spread; operator = operand_at scope f m; operands = operands_at scope es n } in
         let last = bound_unless (is_simple f) m (normal starts false f scope (suc m)) (called tail a) in
-        let s = part_size (is_simple f) (simple_operand scope f) m (normal starts false f scope (suc m)) (called tail a) (size f) (simple_size scope f) (omega (arith, normal_size false f scope (suc m))) in
+        let s = part_size (is_simple f) (simple_operand scope f) m (normal starts false f scope (suc m)) (called tail a) (size f) (simple_size scope f)
+        (omega (arith, normal_size false f scope (suc m))) in
         let t = operands_within es scope n last in
         omega (arith, s, t, called_size tail a, handed_size (operands_at scope es n), operands_count es scope n)
     normal_size tail (operation site which es) scope n =
@@ -179,7 +184,8 @@ module _ (starts : List ℕ) where
         let s = value_size tail e scope n (does.CellSet (source_of scope v) (operand_at scope e n)) 1 (omega (arith, normal_size false e scope (suc n))) (omega (arith, long)) in
         omega (arith, s)
 
-    parts_size : (tail : Bool) (es : Trees) (scope : Scope) (n : ℕ) → expression_work (normal_parts starts tail es scope n) ≤ weight_of (shapes.sequence (count es) (dropped es)) + sizes es + returned tail
+    parts_size : (tail : Bool) (es : Trees) (scope : Scope) (n : ℕ)
+        → expression_work (normal_parts starts tail es scope n) ≤ weight_of (shapes.sequence (count es) (dropped es)) + sizes es + returned tail
     parts_size tail no_trees scope n = let f = finished_size tail (does.Operand (operand.Atom (atom.Constant Unspecified))) in omega (arith, f)
     parts_size tail (and_tree e no_trees) scope n = let s = normal_size tail e scope n in omega (arith, s)
     parts_size tail (and_tree e (and_tree e' es)) scope n =
@@ -193,7 +199,8 @@ module _ (starts : List ℕ) where
         (omega (arith, a)) (omega (arith, b)) (omega (arith, p)) (omega (arith, q)) in
         omega (arith, s)
 
-    operands_within : (es : Trees) (scope : Scope) (n : ℕ) (body : Expression) → expression_work (with_operands starts es scope n body) + operands_size (operands_at scope es n) ≤ expression_work body + sizes es + 2 * count es
+    operands_within : (es : Trees) (scope : Scope) (n : ℕ) (body : Expression)
+        → expression_work (with_operands starts es scope n body) + operands_size (operands_at scope es n) ≤ expression_work body + sizes es + 2 * count es
     operands_within no_trees scope n body = omega arith
     operands_within (and_tree e es) scope n body =
         let rest = with_operands starts es scope (n + operand_binds e) body in
@@ -230,7 +237,8 @@ module _ (starts : List ℕ) where
   bodies_split [] (suc d) = omega arith
   bodies_split (b ∷ bs) (suc d) = let h = bodies_split bs d in omega (arith, h)
 
-  codes_size : (forms : Trees) (places : List ℕ) (bodies : List from.Body) (before : ℕ) → codes_work (normal_bodies starts before bodies forms places) ≤ bodies_size bodies + (count forms + sizes forms)
+  codes_size : (forms : Trees) (places : List ℕ) (bodies : List from.Body) (before : ℕ)
+      → codes_work (normal_bodies starts before bodies forms places) ≤ bodies_size bodies + (count forms + sizes forms)
   codes_size no_trees places bodies before = let h = procedures_size bodies in omega (arith, h)
   codes_size (and_tree e es) [] bodies before =
       let h = codes_size es [] bodies before in
@@ -240,7 +248,15 @@ module _ (starts : List ℕ) where
       let h = codes_size es places (drop (p - before) bodies) p in
       let k = normal_size false e [] 2 in
       let m = procedures_size (take (p - before) bodies) in
-      omega (arith, h, k, m, bodies_split bodies (p - before), work_append (map (procedure_code starts) (take (p - before) bodies)) (form_code starts e ∷ normal_bodies starts p (drop (p - before) bodies) es places))
+      omega (
+        arith,
+        h,
+        k,
+        m,
+        bodies_split bodies (p - before),
+        work_append (map (procedure_code starts) (take (p - before) bodies))
+            (form_code starts e ∷ normal_bodies starts p (drop (p - before) bodies) es places),
+      )
 
 -- There is no more work in the bodies that normalizing makes than the program weighs.
 pub program_weight : (p : from.Source) → codes_work (normal_source p).bodies ≤ weight p

@@ -11,6 +11,7 @@ use Rattle.sch_word.specs.trees.Bindings.{value_or, value_of, with_variables, sc
 use Rattle.sch_word.specs.values.Primitives.{operands_of}
 use Rattle.sch_word.specs.values.PrimitiveRows.{primitive, unary, binary}
 use Rattle.sch_word.specs.runs.Computation.{Outcome, Action, gives, State, in_store, read_literal, in_order, blanks}
+use Rattle.sch_word.proofs.facts.Booleans.{and_left, and_right}
 use Rattle.sch_flat.specs.Tree.{Tree, Trees, Variable, bound, free, constant, literal, variable, operation, no_trees, and_tree, count}
 use Rattle.sch_flat.specs.Meaning as from
 use Rattle.sch_flat.specs.Meaning.{Closure, value_in, values_in, and_values}
@@ -19,8 +20,9 @@ use Rattle.sch_control.specs.declared.operation.Atom.TheVariants as atom
 use Rattle.sch_control.specs.declared.operation.Operand.TheVariants as operand
 use Rattle.sch_control.specs.Operations.{field, atom_value, atom_values, operand_value, operand_values, source_value, given}
 use Rattle.sch_control.specs.Meaning as to
-use Rattle.sch_normal.specs.Normal.{Scope, number_of, source_of, is_read, is_atom, are_atoms, is_simple, atom_of, atoms_of, simple_operand, operands_at, operand_binds, operands_bind, binds, bound_places}
-use Rattle.sch_normal.proofs.runs.Orders.{and_left, and_right, Parts, no_parts, and_simple, and_bound}
+use Rattle.sch_normal.specs.Normal.{Scope, number_of, source_of, is_read, is_atom, are_atoms, is_simple, atom_of}
+use Rattle.sch_normal.specs.Normal.{atoms_of, simple_operand, operands_at, operand_binds, operands_bind, binds, bound_places}
+use Rattle.sch_normal.proofs.runs.Orders.{Parts, no_parts, and_simple, and_bound}
 use Rattle.sch_normal.proofs.runs.Worlds.{Setting, Reached, images, state_of}
 use Rattle.sch_normal.proofs.runs.Fine.{Fine, FineEach, simples, operands_rest}
 
@@ -111,7 +113,8 @@ module _ (a : Setting) (start : State Closure) (fields : ℕ) where
 
   -- ## Variables
 
-  pub source_given : (names : List ℕ) (scope : Scope) (n : ℕ) (h : from.Environment) (environment : to.Environment) (v : Variable) → is_known names fields v ≡ true → Agrees names scope n h environment → (s : State Closure) → Reached a start s
+  pub source_given : (names : List ℕ) (scope : Scope) (n : ℕ) (h : from.Environment) (environment : to.Environment) (v : Variable) → is_known names fields v ≡ true
+      → Agrees names scope n h environment → (s : State Closure) → Reached a start s
       → source_value environment (state_of a.starts s) (source_of scope v) ≡ Some (value_in h v)
   source_given names scope n h environment (bound x) f w s r = (w.at x f).1
   source_given names scope n h environment (free k) f w s r = w.field k f s r
@@ -126,7 +129,8 @@ module _ (a : Setting) (start : State Closure) (fields : ℕ) where
   unary_given (u ∷ []) row t l h = h u
   unary_given (u ∷ (u' ∷ us)) row t l h = absurd (omega (arith, l))
 
-  binary_given : (us : List Value) (row : Value → Value → Action Value) (t : Store) → length us ≡ 2 → ((u u' : Value) → (v : Value) × (row u u' t ≡ gives v t)) → (v : Value) × (binary us row t ≡ gives v t)
+  binary_given : (us : List Value) (row : Value → Value → Action Value) (t : Store) → length us ≡ 2 → ((u u' : Value) → (v : Value) × (row u u' t ≡ gives v t))
+      → (v : Value) × (binary us row t ≡ gives v t)
   binary_given [] row t l h = absurd (omega (arith, l))
   binary_given (u ∷ []) row t l h = absurd (omega (arith, l))
   binary_given (u ∷ (u' ∷ [])) row t l h = h u u'
@@ -204,8 +208,10 @@ module _ (a : Setting) (start : State Closure) (fields : ℕ) where
     -- ## Parts, once those that are not simple are bound
 
     -- the value that a part has in the end
-    pub part_given : (m n : ℕ) (e : Tree) (w : Value) (b : Bool) → is_simple e ≡ b → Fine a fields e names → Agrees names scope m h environment → (s : State Closure) → Reached a start s → (b ≡ false → environment n ≡ Some w)
-        → (u : Value) × ((cs : List (State Closure → Outcome (State Closure) Value)) (ws us : List Value) (simple : List Bool) → Parts s cs ws us simple → Parts s (value e ∷ cs) (w ∷ ws) (u ∷ us) (b ∷ simple))
+    pub part_given : (m n : ℕ) (e : Tree) (w : Value) (b : Bool) → is_simple e ≡ b → Fine a fields e names → Agrees names scope m h environment → (s : State Closure) → Reached a start s
+        → (b ≡ false → environment n ≡ Some w)
+        → (u : Value) × ((cs : List (State Closure → Outcome (State Closure) Value)) (ws us : List Value) (simple : List Bool) → Parts s cs ws us simple
+        → Parts s (value e ∷ cs) (w ∷ ws) (u ∷ us) (b ∷ simple))
         × (operand_value environment s.store (cond b (simple_operand scope e) (operand.Atom (atom.Variable n))) ≡ Some u)
     part_given m n e w true i f k s r h = let g = simple_given m e i f k s r in (g.0, λ cs ws us simple parts. and_simple g.1 parts, g.2)
     part_given m n e w false i f k s r h = (w, λ cs ws us simple parts. and_bound parts, h refl)

@@ -3,10 +3,11 @@ use Rattle.std.proofs.Common.{◌≡◌, ℕ, zero, suc, ◌+◌, ◌-◌, ◌<�
 use Rattle.std.specs.Prelude.{slice_get, nat_le}
 use Rattle.std.proofs.lemmas.Bool.{leb-true, leb-false}
 use Rattle.std.proofs.lemmas.List.{length-map}
+use Rattle.sch_word.proofs.facts.Booleans.{and_left, and_right}
+use Rattle.sch_word.proofs.facts.Lists.{left_length}
 use Rattle.sch_flat.specs.Tree.{Trees, Body, no_trees, and_tree, count}
 use Rattle.sch_flat.specs.Valid.{ascending}
 use Rattle.sch_normal.specs.Normal.{forms_before, new_label, procedure_code, form_code, normal_bodies}
-use Rattle.sch_normal.proofs.runs.Orders.{and_left, and_right}
 
 get_map : {A B : Type 0} (f : A → B) (xs : List A) (i : ℕ) (x : A) → slice_get xs i ≡ Some x → slice_get (map f xs) i ≡ Some (f x)
 get_map f [] i x e = absurd (cc)
@@ -40,11 +41,6 @@ take_all xs zero l = refl
 take_all [] (suc d) l = absurd (omega (arith, l))
 take_all (x ∷ xs) (suc d) l = ap suc (take_all xs d (omega (arith, l)))
 
-drop_all : {A : Type 0} (xs : List A) (d : ℕ) → d ≤ length xs → d + length (drop d xs) ≡ length xs
-drop_all xs zero l = omega arith
-drop_all [] (suc d) l = absurd (omega (arith, l))
-drop_all (x ∷ xs) (suc d) l = let m = drop_all xs d (omega (arith, l)) in omega (arith, m)
-
 -- the last of these is not more than the last number
 pub ascending_last : (from last : ℕ) (places : List ℕ) → ascending from last places ≡ true → from ≤ last
 ascending_last from last [] a = leb-true from last a
@@ -67,7 +63,8 @@ none_before from last label (p ∷ places) a l =
 module _ (starts : List ℕ) where
   -- a body that is left stands behind those before it and the forms before its label
   stands : (forms : Trees) (places : List ℕ) (bodies : List Body) (before last : ℕ) → length places ≡ count forms → ascending before last places ≡ true → last ≡ before + length bodies
-      → (i label : ℕ) (b : Body) → label ≡ before + i → slice_get bodies i ≡ Some b → slice_get (normal_bodies starts before bodies forms places) (i + forms_before places label) ≡ Some (procedure_code starts b)
+      → (i label : ℕ) (b : Body) → label ≡ before + i → slice_get bodies i ≡ Some b
+      → slice_get (normal_bodies starts before bodies forms places) (i + forms_before places label) ≡ Some (procedure_code starts b)
   stands no_trees [] bodies before last c a e i label b l h =
       ap (λ j. slice_get (map (procedure_code starts) bodies) j) (omega arith) ∙ get_map (procedure_code starts) bodies i b h
   stands no_trees (p ∷ places) bodies before last c a e i label b l h = absurd (omega (arith, c))
@@ -85,11 +82,13 @@ module _ (starts : List ℕ) where
       enough = let m = ascending_last p last places rest in let n = from in omega (arith, m, e, n)
 
       ends : last ≡ p + length (drop (p - before) bodies)
-      ends = let m = drop_all bodies (p - before) enough in let n = from in omega (arith, m, n, e)
+      ends = let m = left_length bodies (p - before) enough in let n = from in omega (arith, m, n, e)
 
-      go : ((j : ℕ) → label ≡ p + j → slice_get (drop (p - before) bodies) j ≡ Some b → slice_get (normal_bodies starts p (drop (p - before) bodies) forms places) (j + forms_before places label) ≡ Some (procedure_code starts b))
+      go : ((j : ℕ) → label ≡ p + j → slice_get (drop (p - before) bodies) j ≡ Some b
+          → slice_get (normal_bodies starts p (drop (p - before) bodies) forms places) (j + forms_before places label) ≡ Some (procedure_code starts b))
           → (t : Bool) → nat_le p label ≡ t
-          → slice_get (map (procedure_code starts) (take (p - before) bodies) ++ form_code starts f ∷ normal_bodies starts p (drop (p - before) bodies) forms places) (i + (cond t 1 0 + forms_before places label)) ≡ Some (procedure_code starts b)
+          → slice_get (map (procedure_code starts) (take (p - before) bodies) ++ form_code starts f ∷ normal_bodies starts p (drop (p - before) bodies) forms places)
+          (i + (cond t 1 0 + forms_before places label)) ≡ Some (procedure_code starts b)
       go more false t =
           let m = leb-false p label t in
           let none = none_before p last label places rest (omega (arith, m)) in
@@ -102,7 +101,8 @@ module _ (starts : List ℕ) where
           let j : ℕ = i - (p - before) in
           let at : i ≡ (p - before) + j = omega (arith, k, m, l) in
           let long = length-map (take (p - before) bodies) (procedure_code starts) ∙ take_all bodies (p - before) enough in
-          get_right (map (procedure_code starts) (take (p - before) bodies)) (form_code starts f ∷ normal_bodies starts p (drop (p - before) bodies) forms places) (i + (1 + forms_before places label)) (suc (j + forms_before places label)) (omega (arith, at, long))
+          get_right (map (procedure_code starts) (take (p - before) bodies)) (form_code starts f ∷ normal_bodies starts p (drop (p - before) bodies) forms places)
+          (i + (1 + forms_before places label)) (suc (j + forms_before places label)) (omega (arith, at, long))
           ∙ more j (omega (arith, k, m, l)) (get_drop bodies (p - before) i j at ∙ h)
 
   -- a body stands at its new label

@@ -10,11 +10,15 @@ use Rattle.sch_word.specs.trees.Bindings.{numbers, scope_with}
 use Rattle.sch_word.specs.values.Primitives.{operands_of}
 use Rattle.sch_word.specs.runs.Computation.{Outcome, gives, in_order}
 use Rattle.sch_word.specs.runs.Orders.{is_permutation}
-use Rattle.sch_flat.specs.Tree.{Tree, Trees, constant, literal, variable, global, set_global, define, branch, sequence, bind, make_closure, fix_closures, call, operation, new_cells, cell_get, cell_set, no_trees, and_tree, count}
+use Rattle.sch_word.proofs.facts.Booleans.{and_left, and_right}
+use Rattle.sch_word.proofs.facts.NumberSets.{numbers_length}
+use Rattle.sch_word.proofs.facts.NumberTests.{below_differs}
+use Rattle.sch_flat.specs.Tree.{Tree, Trees, constant, literal, variable, global, set_global, define, branch, sequence, bind}
+use Rattle.sch_flat.specs.Tree.{make_closure, fix_closures, call, operation, new_cells, cell_get, cell_set, no_trees, and_tree, count}
 use Rattle.sch_flat.specs.Valid.{is_known, is_content, is_made, cells_scope}
 use Rattle.sch_control.specs.Fits.{begins_with}
 use Rattle.sch_normal.specs.Normal.{is_simple, bound_places, operator_place}
-use Rattle.sch_normal.proofs.runs.Orders.{and_left, and_right, begins, Parts, settled}
+use Rattle.sch_normal.proofs.runs.Orders.{begins, Parts, settled}
 use Rattle.sch_normal.proofs.runs.Worlds.{Setting}
 
 -- an order of all parts, in which these come first
@@ -64,16 +68,10 @@ bound_append place no_trees last rest = refl
 bound_append place (and_tree e es) last rest = go (is_simple e) (bound_append (suc place) es last rest)
   where
     go : (b : Bool) → bound_places (suc place) es last ++ rest ≡ bound_places (suc place) es (last ++ rest)
-        → cond b (bound_places (suc place) es last) (place ∷ bound_places (suc place) es last) ++ rest ≡ cond b (bound_places (suc place) es (last ++ rest)) (place ∷ bound_places (suc place) es (last ++ rest))
+        → cond b (bound_places (suc place) es last) (place ∷ bound_places (suc place) es last) ++ rest
+        ≡ cond b (bound_places (suc place) es (last ++ rest)) (place ∷ bound_places (suc place) es (last ++ rest))
     go true h = h
     go false h = ap (λ l. place ∷ l) h
-
-other_number : (q place : ℕ) → q < place → nat_eq q place ≡ false
-other_number q place l = go (nat_eq q place) refl
-  where
-    go : (b : Bool) → nat_eq q place ≡ b → nat_eq q place ≡ false
-    go true e = let m = eqb-true q place e in absurd (omega (arith, l, m))
-    go false e = e
 
 pub bound_below : (q place : ℕ) (es : Trees) (last : List ℕ) → q < place → has q (bound_places place es last) ≡ has q last
 bound_below q place no_trees last l = refl
@@ -81,7 +79,7 @@ bound_below q place (and_tree e es) last l = go (is_simple e) (bound_below q (su
   where
     go : (b : Bool) → has q (bound_places (suc place) es last) ≡ has q last → has q (cond b (bound_places (suc place) es last) (place ∷ bound_places (suc place) es last)) ≡ has q last
     go true h = h
-    go false h = rw (other_number q place l) h
+    go false h = rw (below_differs q place l) h
 
 bound_at : (es : Trees) (place i q : ℕ) (last : List ℕ) (b : Bool) → q ≡ place + i → has q last ≡ false → slice_get (simples es) i ≡ Some b → has q (bound_places place es last) ≡ not b
 bound_at no_trees place i q last b e n h = absurd (cc)
@@ -109,7 +107,8 @@ pub record Rest (S : Type 0) (simple : List Bool) (first : List ℕ → List ℕ
 pub operands_rest : (S : Type 0) (es : Trees) (order : List ℕ) → FitsSite (count es) (bound_places 0 es []) order → Rest S (simples es) (bound_places 0 es) order
 operands_rest S es order f =
     let found = begins (bound_places 0 es []) order (and_right (is_permutation (count es) order) (begins_with (bound_places 0 es []) order) f) in
-    let permutation : is_permutation (length (simples es)) (bound_places 0 es [] ++ found.0) ≡ true = subst (λ l. is_permutation (length (simples es)) l ≡ true) found.1 (rw (simples_length es) (and_left (is_permutation (count es) order) (begins_with (bound_places 0 es []) order) f)) in
+    let permutation : is_permutation (length (simples es)) (bound_places 0 es [] ++ found.0) ≡ true =
+    subst (λ l. is_permutation (length (simples es)) l ≡ true) found.1 (rw (simples_length es) (and_left (is_permutation (count es) order) (begins_with (bound_places 0 es []) order) f)) in
     record {
       rest = found.0;
       is = found.1 ∙ bound_append 0 es [] found.0;
@@ -134,11 +133,13 @@ not_operator f q = go (is_simple f)
         go' true e = let m = eqb-true (suc q) 0 e in absurd (omega (arith, m))
         go' false e = refl
 
-pub call_rest : (S : Type 0) (f : Tree) (es : Trees) (order : List ℕ) → FitsSite (suc (count es)) (bound_places 1 es (operator_place f)) order → Rest S (is_simple f ∷ simples es) (λ rest. bound_places 1 es (operator_place f ++ rest)) order
+pub call_rest : (S : Type 0) (f : Tree) (es : Trees) (order : List ℕ) → FitsSite (suc (count es)) (bound_places 1 es (operator_place f)) order
+    → Rest S (is_simple f ∷ simples es) (λ rest. bound_places 1 es (operator_place f ++ rest)) order
 call_rest S f es order h =
     let first = bound_places 1 es (operator_place f) in
     let found = begins first order (and_right (is_permutation (suc (count es)) order) (begins_with first order) h) in
-    let permutation : is_permutation (suc (length (simples es))) (first ++ found.0) ≡ true = subst (λ l. is_permutation (suc (length (simples es))) l ≡ true) found.1 (rw (simples_length es) (and_left (is_permutation (suc (count es)) order) (begins_with first order) h)) in
+    let permutation : is_permutation (suc (length (simples es))) (first ++ found.0) ≡ true =
+    subst (λ l. is_permutation (suc (length (simples es))) l ≡ true) found.1 (rw (simples_length es) (and_left (is_permutation (suc (count es)) order) (begins_with first order) h)) in
     record {
       rest = found.0;
       is = found.1 ∙ bound_append 1 es (operator_place f) found.0;
@@ -150,10 +151,6 @@ call_rest S f es order h =
     place (suc q) b e = bound_at es 1 q (suc q) (operator_place f) b (omega arith) (not_operator f q) e
 
 -- where all parts come first, there is no rest
-numbers_length : (x n : ℕ) → length (numbers x n) ≡ n
-numbers_length x zero = refl
-numbers_length x (suc n) = ap suc (numbers_length (suc x) n)
-
 pub inits_order : (n : ℕ) (order : List ℕ) → FitsSite n (numbers 0 n) order → order ≡ numbers 0 n
 inits_order n order h =
     let found = begins (numbers 0 n) order (and_right (is_permutation n order) (begins_with (numbers 0 n) order) h) in

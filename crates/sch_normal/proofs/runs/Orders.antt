@@ -1,6 +1,6 @@
 -- An order in which some parts come first gives the values of all parts, where the others change nothing.
 use Rattle.std.proofs.Common.{◌≡◌, ℕ, zero, suc, ◌+◌, ◌<◌, ◌≤◌, Bool, true, false, cond, not, List, [], ◌∷◌, ◌++◌, length, Some, refl, sym, ap, ◌∙◌, arith}
-use Rattle.std.specs.Prelude.{slice_get, slice_set, nat_eq, nat_lt, ◌&&◌, ◌||◌}
+use Rattle.std.specs.Prelude.{slice_get, slice_set, nat_eq, nat_lt, ◌||◌}
 use Rattle.std.specs.List.{list_all, count_by}
 use Rattle.std.proofs.lemmas.Bool.{eq-eqb, eqb-true, eqb-false, ltb-true, ltb-false}
 use Rattle.std.proofs.lemmas.List.{length-set}
@@ -11,21 +11,11 @@ use Rattle.sch_word.specs.trees.NumberSets.{has}
 use Rattle.sch_word.specs.trees.Bindings.{numbers}
 use Rattle.sch_word.specs.runs.Computation.{Outcome, gives, at_place, in_order}
 use Rattle.sch_word.specs.runs.Orders.{is_permutation}
+use Rattle.sch_word.proofs.facts.Lists.{set_here, set_elsewhere}
+use Rattle.sch_word.proofs.facts.Booleans.{and_left, and_right}
 use Rattle.sch_control.specs.Fits.{begins_with}
 
 -- ## Lists
-
-get_set_same : {A : Type 0} (l : List A) (i : ℕ) (w : A) → i < length l → slice_get (slice_set l i w) i ≡ Some w
-get_set_same [] i w h = absurd (omega arith)
-get_set_same (x ∷ l) zero w h = refl
-get_set_same (x ∷ l) (suc i) w h = get_set_same l i w (omega arith)
-
-get_set_other : {A : Type 0} (l : List A) (i j : ℕ) (w : A) → (j ≡ i → ⊥) → slice_get (slice_set l i w) j ≡ slice_get l j
-get_set_other [] i j w h = refl
-get_set_other (x ∷ l) zero zero w h = absurd (h refl)
-get_set_other (x ∷ l) zero (suc j) w h = refl
-get_set_other (x ∷ l) (suc i) zero w h = refl
-get_set_other (x ∷ l) (suc i) (suc j) w h = get_set_other l i j w (λ q. h (ap suc q))
 
 same_list : {A : Type 0} (l m : List A) → length l ≡ length m → ((i : ℕ) → slice_get l i ≡ slice_get m i) → l ≡ m
 same_list [] [] e h = refl
@@ -35,14 +25,6 @@ same_list (x ∷ l) (y ∷ m) e h =
     let here : x ≡ y = let q = h zero in cc in
     let rest = same_list l m (omega arith) (λ i. h (suc i)) in
     cc
-
-pub and_left : (a b : Bool) → (a && b) ≡ true → a ≡ true
-and_left true b e = refl
-and_left false b e = e
-
-pub and_right : (a b : Bool) → (a && b) ≡ true → b ≡ true
-and_right true b e = e
-and_right false b e = absurd (cc)
 
 -- ## Computations that change nothing
 
@@ -71,14 +53,14 @@ in_any_order (p ∷ rest) cs vs us s l g h = rw a.is (in_any_order rest cs (slic
         go false i = i
 
     at : (b : Bool) → nat_lt p (length us) ≡ b → slice_get (slice_set vs p a.value) p ≡ slice_get us p
-    at true e = let k = ltb-true p (length us) e in get_set_same vs p a.value (omega (arith, l, k)) ∙ sym (a.there k)
+    at true e = let k = ltb-true p (length us) e in set_here vs p a.value (omega (arith, l, k)) ∙ sym (a.there k)
     at false e =
         let k = ltb-false p (length us) e in
         slice_get_past (slice_set vs p a.value) p (omega (arith, l, k, length-set vs p a.value)) ∙ sym (slice_get_past us p (omega (arith, k)))
 
     next : (q : ℕ) (b : Bool) → nat_eq q p ≡ b → has q rest ≡ false → slice_get (slice_set vs p a.value) q ≡ slice_get us q
     next q true e i = let m : q ≡ p = eqb-true q p e in rw m (at (nat_lt p (length us)) refl)
-    next q false e i = get_set_other vs p q a.value (eqb-false q p e) ∙ h q (rw e i)
+    next q false e i = set_elsewhere vs p q a.value (eqb-false q p e) ∙ h q (rw e i)
 
 -- ## Permutations
 
@@ -126,7 +108,8 @@ each_number f x (suc n) k h l u = go (λ l. each_number f (suc x) n k (and_right
 -- each place of a permutation stands once
 stands_once : (width : ℕ) (order : List ℕ) (k : ℕ) → is_permutation width order ≡ true → k < width → times k order ≡ 1
 stands_once width order k h l =
-    eqb-true (times k order) 1 (each_number (λ k. nat_eq (times k order) 1) 0 width k (and_right (nat_eq (length order) width) (list_all (λ k. nat_eq (times k order) 1) (numbers 0 width)) h) (omega arith) (omega (arith, l)))
+    eqb-true (times k order) 1 (each_number (λ k. nat_eq (times k order) 1) 0 width k (and_right (nat_eq (length order) width) (list_all (λ k. nat_eq (times k order) 1) (numbers 0 width)) h)
+    (omega arith) (omega (arith, l)))
 
 -- ## Parts
 
@@ -134,8 +117,10 @@ stands_once width order k h l =
 -- a part that was bound has the value that it was bound to.
 pub data Parts {S : Type 0} (s : S) : List (S → Outcome S Value) → (vs us : List Value) → (simple : List Bool) → Type 0 where
   no_parts : Parts s [] [] [] []
-  and_simple : {c : S → Outcome S Value} {v u : Value} {cs : List (S → Outcome S Value)} {vs us : List Value} {simple : List Bool} → c s ≡ gives u s → Parts s cs vs us simple → Parts s (c ∷ cs) (v ∷ vs) (u ∷ us) (true ∷ simple)
-  and_bound : {c : S → Outcome S Value} {v : Value} {cs : List (S → Outcome S Value)} {vs us : List Value} {simple : List Bool} → Parts s cs vs us simple → Parts s (c ∷ cs) (v ∷ vs) (v ∷ us) (false ∷ simple)
+  and_simple : {c : S → Outcome S Value} {v u : Value} {cs : List (S → Outcome S Value)} {vs us : List Value} {simple : List Bool} → c s ≡ gives u s → Parts s cs vs us simple
+      → Parts s (c ∷ cs) (v ∷ vs) (u ∷ us) (true ∷ simple)
+  and_bound : {c : S → Outcome S Value} {v : Value} {cs : List (S → Outcome S Value)} {vs us : List Value} {simple : List Bool} → Parts s cs vs us simple
+      → Parts s (c ∷ cs) (v ∷ vs) (v ∷ us) (false ∷ simple)
 
 module _ {S : Type 0} {s : S} where
   parts_length : {cs : List (S → Outcome S Value)} {vs us : List Value} {simple : List Bool} → Parts s cs vs us simple → length vs ≡ length us

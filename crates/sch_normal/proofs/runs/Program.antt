@@ -13,6 +13,7 @@ use Rattle.sch_word.specs.runs.Orders.{order_at}
 use Rattle.sch_word.specs.trees.Shape.{names_known, well_formed, fits, is_width, max_variables}
 use Rattle.sch_word.specs.trees.Shape as shapes
 use Rattle.sch_word.proofs.values.LiteralObjects.{literal_values_length}
+use Rattle.sch_word.proofs.facts.Booleans.{and_left, and_right}
 use Rattle.sch_flat.specs.Tree.{Tree, Body, Source, count}
 use Rattle.sch_flat.specs.Measures.{over, over_each, over_bodies, over_source, sites_of}
 use Rattle.sch_flat.specs.Meaning.{Closure}
@@ -24,7 +25,6 @@ use Rattle.sch_control.specs.Fits.{table_fits}
 use Rattle.sch_control.specs.Valid.{entries_of}
 use Rattle.sch_normal.specs.Normal.{new_label, normal_bodies, normal_source, bound_rows, bound_rows_each, bound_rows_bodies, bound_rows_source}
 use Rattle.sch_normal.specs.SameRun.{SameRun}
-use Rattle.sch_normal.proofs.runs.Orders.{and_left, and_right}
 use Rattle.sch_normal.proofs.runs.Worlds.{Setting, Reached, Same, images, is_procedure_of}
 use Rattle.sch_normal.proofs.runs.Fine.{Fine, FineEach}
 use Rattle.sch_normal.proofs.runs.Bodies.{stands_at}
@@ -51,7 +51,8 @@ setting p table heap = record {
   literal = literal_there p.statics.literals;
 }
 
-module _ (p : Source) (closed : is_closed p ≡ true) (formed : is_formed p ≡ true) (ascends : in_order p ≡ true) (once : sited p ≡ true) (table : List (List ℕ)) (fitting : table_fits (normal_source p) table ≡ true) (heap : ℕ) where
+module _ (p : Source) (closed : is_closed p ≡ true) (formed : is_formed p ≡ true) (ascends : in_order p ≡ true) (once : sited p ≡ true) (table : List (List ℕ))
+    (fitting : table_fits (normal_source p) table ≡ true) (heap : ℕ) where
   abbrev a : Setting
   a = setting p table heap
 
@@ -70,7 +71,8 @@ module _ (p : Source) (closed : is_closed p ≡ true) (formed : is_formed p ≡ 
   well_good : over_source true (λ x y. x && y) well_formed p ≡ true
   well_good = and_left _ rest_formed (and_right (over_source true (λ x y. x && y) (names_known (length p.statics.symbols) (count_literals p.statics.literals) (length p.statics.globals)) p) _ formed)
 
-  at_body : (here : shapes.Shape → Bool) (bodies : List Body) (label : ℕ) (b : Body) → over_bodies true (λ x y. x && y) here bodies ≡ true → slice_get bodies label ≡ Some b → over true (λ x y. x && y) here b.code ≡ true
+  at_body : (here : shapes.Shape → Bool) (bodies : List Body) (label : ℕ) (b : Body) → over_bodies true (λ x y. x && y) here bodies ≡ true → slice_get bodies label ≡ Some b
+      → over true (λ x y. x && y) here b.code ≡ true
   at_body here [] label b h e = absurd (cc)
   at_body here (x ∷ bodies) zero b h e = let m : x ≡ b = cc in subst (λ (z : Body). over true (λ x y. x && y) here z.code ≡ true) m (and_left _ (over_bodies true (λ x y. x && y) here bodies) h)
   at_body here (x ∷ bodies) (suc label) b h e = at_body here bodies label b (and_right (over true (λ x y. x && y) here x.code) _ h) e
@@ -89,12 +91,14 @@ module _ (p : Source) (closed : is_closed p ≡ true) (formed : is_formed p ≡ 
   abbrev sites_bodies : List Body → List (ℕ × ℕ)
   sites_bodies = over_bodies [] (λ x y. x ++ y) shapes.site_of
 
-  ordered_bodies : (bodies : List Body) (label : ℕ) (b : Body) → Every Width (sites_bodies bodies) → Every Found (bound_rows_bodies bodies) → slice_get bodies label ≡ Some b → Ordered (order_at table) b.code
+  ordered_bodies : (bodies : List Body) (label : ℕ) (b : Body) → Every Width (sites_bodies bodies) → Every Found (bound_rows_bodies bodies) → slice_get bodies label ≡ Some b
+      → Ordered (order_at table) b.code
   ordered_bodies [] label b s r e = absurd (cc)
   ordered_bodies (x ∷ bodies) zero b s r e =
       let m : x ≡ b = cc in
       subst (λ (z : Body). Ordered (order_at table) z.code) m
-      (ordered (order_at table) Width Found (λ site width parts w f. ordered_at p table fitting site width parts w f) x.code (every_left Width (sites_in x.code) (sites_bodies bodies) s) (every_left Found (bound_rows x.code) (bound_rows_bodies bodies) r))
+      (ordered (order_at table) Width Found (λ site width parts w f. ordered_at p table fitting site width parts w f) x.code (every_left Width (sites_in x.code) (sites_bodies bodies) s)
+      (every_left Found (bound_rows x.code) (bound_rows_bodies bodies) r))
   ordered_bodies (x ∷ bodies) (suc label) b s r e =
       ordered_bodies bodies label b (every_right Width (sites_in x.code) (sites_bodies bodies) s) (every_right Found (bound_rows x.code) (bound_rows_bodies bodies) r) e
 
@@ -114,9 +118,11 @@ module _ (p : Source) (closed : is_closed p ≡ true) (formed : is_formed p ≡ 
   body_fine label b e =
       fine a b.fields (length p.statics.symbols) (length p.statics.globals) b.code (scope_with b.first b.formals [])
       (each_at (body_scoped p.bodies) p.bodies label b (and_left (list_all (body_scoped p.bodies) p.bodies) (forms_scoped && library_scoped) closed) e)
-      (at_body (names_known (length p.statics.symbols) (count_literals p.statics.literals) (length p.statics.globals)) p.bodies label b (and_left _ (over_each true (λ x y. x && y) (names_known (length p.statics.symbols) (count_literals p.statics.literals) (length p.statics.globals)) p.forms) names_good) e)
+      (at_body (names_known (length p.statics.symbols) (count_literals p.statics.literals) (length p.statics.globals)) p.bodies label b
+      (and_left _ (over_each true (λ x y. x && y) (names_known (length p.statics.symbols) (count_literals p.statics.literals) (length p.statics.globals)) p.forms) names_good) e)
       (at_body well_formed p.bodies label b (and_left _ (over_each true (λ x y. x && y) well_formed p.forms) well_good) e)
-      (ordered_bodies p.bodies label b (every_left Width (sites_bodies p.bodies) (sites_in_each p.forms) all_sites) (every_left Found (bound_rows_bodies p.bodies) (bound_rows_each p.forms) all_rows) e)
+      (ordered_bodies p.bodies label b (every_left Width (sites_bodies p.bodies) (sites_in_each p.forms) all_sites)
+      (every_left Found (bound_rows_bodies p.bodies) (bound_rows_each p.forms) all_rows) e)
 
   forms_fine : FineEach a 0 p.forms []
   forms_fine =
@@ -150,14 +156,16 @@ module _ (p : Source) (closed : is_closed p ≡ true) (formed : is_formed p ≡ 
     known = library_known p.library (and_right forms_scoped library_scoped (and_right (list_all (body_scoped p.bodies) p.bodies) (forms_scoped && library_scoped) closed));
   }
 
-  same_seen : (answers : List Answer) (entries : ℕ) (s : State Closure) (o : Outcome (State Closure) Value) (r : Result) → Same a s (on_value o (λ v t. gives unspecified t)) r → control.seen_of answers entries r ≡ Some (seen answers entries o)
+  same_seen : (answers : List Answer) (entries : ℕ) (s : State Closure) (o : Outcome (State Closure) Value) (r : Result) → Same a s (on_value o (λ v t. gives unspecified t)) r
+      → control.seen_of answers entries r ≡ Some (seen answers entries o)
   same_seen answers entries s (gives v t) r h = ap (λ r. control.seen_of answers entries r) h.1
   same_seen answers entries s (stops why t) r h = ap (λ r. control.seen_of answers entries r) h.1 ∙ rw h.2 refl
   same_seen answers entries s (spent t) r h = ap (λ r. control.seen_of answers entries r) h.1 ∙ rw h.2 refl
 
   pub run_same : (depth : ℕ) (answers : List Answer) (entries : ℕ) → control.run (normal_source p) heap depth answers entries ≡ Some (flat.run p table heap depth answers entries)
   run_same depth answers entries =
-      ap (λ ps. control.seen_of answers entries (control.outcome_of (entries_of (normal_source p).bodies) (control.bodies_of (normal_source p).bodies) depth entries (record { state = starting_state (starting_store p.statics heap answers entries) ps; marks = [] }))) (sym (library_same p.library))
+      ap (λ ps. control.seen_of answers entries (control.outcome_of (entries_of (normal_source p).bodies) (control.bodies_of (normal_source p).bodies) depth entries
+      (record { state = starting_state (starting_store p.statics heap answers entries) ps; marks = [] }))) (sym (library_same p.library))
       ∙ same_seen answers entries (first_state answers entries) (flat.outcome p table heap depth answers entries) _
       (forms_same a (normal_bodies p.starts 0 p.bodies p.forms p.starts)
       (λ label b e. stands_at p.starts p.forms p.bodies places (and_right (nat_eq (length p.starts) (count p.forms)) (ascending 0 (length p.bodies) p.starts) ascends) label b e) body_fine

@@ -7,11 +7,12 @@ use Rattle.sch_word.specs.trees.Bindings.{numbers, scope_with}
 use Rattle.sch_word.specs.values.Primitives.{operands_of}
 use Rattle.sch_word.specs.trees.Shape as shapes
 use Rattle.sch_word.specs.trees.Shape.{names_known, well_formed, is_width, sites_once}
-use Rattle.sch_flat.specs.Tree.{Tree, Trees, constant, literal, variable, global, set_global, define, branch, sequence, bind, make_closure, fix_closures, call, operation, new_cells, cell_get, cell_set, no_trees, and_tree, count}
+use Rattle.sch_word.proofs.facts.Booleans.{and_left, and_right}
+use Rattle.sch_flat.specs.Tree.{Tree, Trees, constant, literal, variable, global, set_global, define, branch, sequence, bind}
+use Rattle.sch_flat.specs.Tree.{make_closure, fix_closures, call, operation, new_cells, cell_get, cell_set, no_trees, and_tree, count}
 use Rattle.sch_flat.specs.Measures.{over, over_each}
 use Rattle.sch_flat.specs.Valid.{is_known, is_content, is_made, all_new, cell_variables, cells_scope, scoped, scoped_each}
 use Rattle.sch_normal.specs.Normal.{bound_places, operator_place, bound_rows, bound_rows_each}
-use Rattle.sch_normal.proofs.runs.Orders.{and_left, and_right}
 use Rattle.sch_normal.proofs.runs.Worlds.{Setting}
 use Rattle.sch_normal.proofs.runs.Fine.{FitsSite, Fine, FineEach}
 
@@ -64,7 +65,8 @@ module _ (orders : ℕ → List ℕ) where
     OrderedEach no_trees = Unit {0}
     OrderedEach (and_tree e es) = Ordered e × OrderedEach es
 
-  module _ (Width : ℕ × ℕ → Type 0) (Found : ℕ × List ℕ → Type 0) (ordered_at : (site width : ℕ) (parts : List ℕ) → Width (site, width) → Found (site, parts) → FitsSite width parts (orders site)) where
+  module _ (Width : ℕ × ℕ → Type 0) (Found : ℕ × List ℕ → Type 0)
+      (ordered_at : (site width : ℕ) (parts : List ℕ) → Width (site, width) → Found (site, parts) → FitsSite width parts (orders site)) where
     mutual
       pub ordered : (e : Tree) → Every Width (sites_in e) → Every Found (bound_rows e) → Ordered e
       ordered (constant c) s r = tt
@@ -75,8 +77,10 @@ module _ (orders : ℕ → List ℕ) where
       ordered (define g e) s r = ordered e s r
       ordered (branch x y z) s r = (
         ordered x (every_left Width (sites_in x) (sites_in y ++ sites_in z) s) (every_left Found (bound_rows x) (bound_rows y ++ bound_rows z) r),
-        ordered y (every_left Width (sites_in y) (sites_in z) (every_right Width (sites_in x) (sites_in y ++ sites_in z) s)) (every_left Found (bound_rows y) (bound_rows z) (every_right Found (bound_rows x) (bound_rows y ++ bound_rows z) r)),
-        ordered z (every_right Width (sites_in y) (sites_in z) (every_right Width (sites_in x) (sites_in y ++ sites_in z) s)) (every_right Found (bound_rows y) (bound_rows z) (every_right Found (bound_rows x) (bound_rows y ++ bound_rows z) r)),
+        ordered y (every_left Width (sites_in y) (sites_in z) (every_right Width (sites_in x) (sites_in y ++ sites_in z) s))
+            (every_left Found (bound_rows y) (bound_rows z) (every_right Found (bound_rows x) (bound_rows y ++ bound_rows z) r)),
+        ordered z (every_right Width (sites_in y) (sites_in z) (every_right Width (sites_in x) (sites_in y ++ sites_in z) s))
+            (every_right Found (bound_rows y) (bound_rows z) (every_right Found (bound_rows x) (bound_rows y ++ bound_rows z) r)),
       )
       ordered (sequence es) s r = ordered_each es s r
       ordered (bind site first es e) s r = (
@@ -130,7 +134,8 @@ module _ (a : Setting) (fields symbols globals : ℕ) where
         let s' = and_right (scoped a.bodies x names fields) (scoped a.bodies y names fields && scoped a.bodies z names fields) s in
         let n' = and_right (named x) (named y && named z) n in
         let f' = and_right (formed x) (formed y && formed z) f in (
-          fine x names (and_left (scoped a.bodies x names fields) (scoped a.bodies y names fields && scoped a.bodies z names fields) s) (and_left (named x) (named y && named z) n) (and_left (formed x) (formed y && formed z) f) o.0,
+          fine x names (and_left (scoped a.bodies x names fields) (scoped a.bodies y names fields && scoped a.bodies z names fields) s) (and_left (named x) (named y && named z) n)
+              (and_left (formed x) (formed y && formed z) f) o.0,
           fine y names (and_left (scoped a.bodies y names fields) (scoped a.bodies z names fields) s') (and_left (named y) (named z) n') (and_left (formed y) (formed z) f') o.1,
           fine z names (and_right (scoped a.bodies y names fields) (scoped a.bodies z names fields) s') (and_right (named y) (named z) n') (and_right (formed y) (formed z) f') o.2,
         )
@@ -142,8 +147,10 @@ module _ (a : Setting) (fields symbols globals : ℕ) where
     fine (bind site first es e) names s n f o =
         let s' = and_right (scoped_each a.bodies es names fields) (all_new (numbers first (count es)) names && scoped a.bodies e (scope_with first (count es) names) fields) s in (
           o.0,
-          fine_each es names (and_left (scoped_each a.bodies es names fields) (all_new (numbers first (count es)) names && scoped a.bodies e (scope_with first (count es) names) fields) s) (and_left (named_each es) (named e) n) (and_left (formed_each es) (formed e) f) o.1,
-          fine e (scope_with first (count es) names) (and_right (all_new (numbers first (count es)) names) (scoped a.bodies e (scope_with first (count es) names) fields) s') (and_right (named_each es) (named e) n) (and_right (formed_each es) (formed e) f) o.2,
+          fine_each es names (and_left (scoped_each a.bodies es names fields) (all_new (numbers first (count es)) names && scoped a.bodies e (scope_with first (count es) names) fields) s)
+              (and_left (named_each es) (named e) n) (and_left (formed_each es) (formed e) f) o.1,
+          fine e (scope_with first (count es) names) (and_right (all_new (numbers first (count es)) names) (scoped a.bodies e (scope_with first (count es) names) fields) s')
+              (and_right (named_each es) (named e) n) (and_right (formed_each es) (formed e) f) o.2,
         )
     fine (make_closure m) names s n f o = s
     fine (fix_closures first ms e) names s n f o =
@@ -154,8 +161,10 @@ module _ (a : Setting) (fields symbols globals : ℕ) where
         )
     fine (call site spread t es) names s n f o = (
       o.0,
-      fine t names (and_left (scoped a.bodies t names fields) (scoped_each a.bodies es names fields) s) (and_left (named t) (named_each es) n) (and_left (formed t) (formed_each es) (parts spread f)) o.1,
-      fine_each es names (and_right (scoped a.bodies t names fields) (scoped_each a.bodies es names fields) s) (and_right (named t) (named_each es) n) (and_right (formed t) (formed_each es) (parts spread f)) o.2,
+      fine t names (and_left (scoped a.bodies t names fields) (scoped_each a.bodies es names fields) s) (and_left (named t) (named_each es) n)
+          (and_left (formed t) (formed_each es) (parts spread f)) o.1,
+      fine_each es names (and_right (scoped a.bodies t names fields) (scoped_each a.bodies es names fields) s) (and_right (named t) (named_each es) n)
+          (and_right (formed t) (formed_each es) (parts spread f)) o.2,
     )
       where
         parts : (spread : Bool) → formed (call site spread t es) ≡ true → (formed t && formed_each es) ≡ true
@@ -169,7 +178,8 @@ module _ (a : Setting) (fields symbols globals : ℕ) where
     fine (new_cells cs e) names s n f o =
         let here = list_all (λ c. is_content names fields c.content) cs in (
           and_left here (all_new (cell_variables cs) names && scoped a.bodies e (cells_scope cs names) fields) s,
-          fine e (cells_scope cs names) (and_right (all_new (cell_variables cs) names) (scoped a.bodies e (cells_scope cs names) fields) (and_right here (all_new (cell_variables cs) names && scoped a.bodies e (cells_scope cs names) fields) s)) n f o,
+          fine e (cells_scope cs names) (and_right (all_new (cell_variables cs) names) (scoped a.bodies e (cells_scope cs names) fields)
+              (and_right here (all_new (cell_variables cs) names && scoped a.bodies e (cells_scope cs names) fields) s)) n f o,
         )
     fine (cell_get v) names s n f o = s
     fine (cell_set v e) names s n f o =

@@ -11,13 +11,15 @@ use Rattle.sch_word.specs.runs.Computation.{numbers_from}
 use Rattle.sch_word.specs.runs.Orders.{order_or_none, order_at, is_permutation}
 use Rattle.sch_word.specs.trees.Shape as shapes
 use Rattle.sch_word.specs.trees.Shape.{is_width, sites_once}
+use Rattle.sch_word.proofs.facts.Booleans.{and_left, and_right, and_of}
 use Rattle.sch_flat.specs.Tree as flat
-use Rattle.sch_flat.specs.Tree.{Tree, Trees, Body, Source, constant, literal, variable, global, set_global, define, branch, sequence, bind, make_closure, fix_closures, call, operation, new_cells, cell_get, cell_set, no_trees, and_tree, count}
+use Rattle.sch_flat.specs.Tree.{Tree, Trees, Body, Source, constant, literal, variable, global, set_global, define, branch, sequence}
+use Rattle.sch_flat.specs.Tree.{bind, make_closure, fix_closures, call, operation, new_cells, cell_get, cell_set, no_trees, and_tree}
 use Rattle.sch_flat.specs.Measures.{over_bodies, sites_of}
 use Rattle.sch_flat.specs.Valid.{sited}
 use Rattle.sch_control.specs.Fits.{begins_with, fits}
 use Rattle.sch_normal.specs.Normal.{bound_rows, bound_rows_each, bound_rows_bodies, bound_rows_source, bound_parts}
-use Rattle.sch_normal.proofs.runs.Orders.{and_left, and_right, each_number}
+use Rattle.sch_normal.proofs.runs.Orders.{each_number}
 use Rattle.sch_normal.proofs.runs.Fine.{FitsSite}
 use Rattle.sch_normal.proofs.runs.Ready.{Every, every_of, sites_in, sites_in_each}
 
@@ -44,7 +46,8 @@ mutual
   rows_keys (global g) = refl
   rows_keys (set_global g e) = rows_keys e
   rows_keys (define g e) = rows_keys e
-  rows_keys (branch x y z) = joined (bound_rows x) (bound_rows y ++ bound_rows z) (sites_in x) (sites_in y ++ sites_in z) (rows_keys x) (joined (bound_rows y) (bound_rows z) (sites_in y) (sites_in z) (rows_keys y) (rows_keys z))
+  rows_keys (branch x y z) = joined (bound_rows x) (bound_rows y ++ bound_rows z) (sites_in x) (sites_in y ++ sites_in z) (rows_keys x)
+      (joined (bound_rows y) (bound_rows z) (sites_in y) (sites_in z) (rows_keys y) (rows_keys z))
   rows_keys (sequence es) = rows_keys_each es
   rows_keys (bind site first es e) = ap (λ l. site ∷ l) (joined (bound_rows_each es) (bound_rows e) (sites_in_each es) (sites_in e) (rows_keys_each es) (rows_keys e))
   rows_keys (make_closure m) = refl
@@ -64,7 +67,8 @@ rows_keys_bodies [] = refl
 rows_keys_bodies (b ∷ bs) = joined (bound_rows b.code) (bound_rows_bodies bs) (sites_in b.code) (over_bodies [] (λ x y. x ++ y) shapes.site_of bs) (rows_keys b.code) (rows_keys_bodies bs)
 
 rows_keys_source : (p : Source) → keys (bound_rows_source p) ≡ keys (sites_of p)
-rows_keys_source p = joined (bound_rows_bodies p.bodies) (bound_rows_each p.forms) (over_bodies [] (λ x y. x ++ y) shapes.site_of p.bodies) (sites_in_each p.forms) (rows_keys_bodies p.bodies) (rows_keys_each p.forms)
+rows_keys_source p = joined (bound_rows_bodies p.bodies) (bound_rows_each p.forms) (over_bodies [] (λ x y. x ++ y) shapes.site_of p.bodies) (sites_in_each p.forms) (rows_keys_bodies p.bodies)
+    (rows_keys_each p.forms)
 
 -- ## Once
 
@@ -94,13 +98,16 @@ module _ (listed : List ℕ) (sites : List (ℕ × ℕ)) (h : sites_once listed 
   Width at = is_width (slice_get listed at.0) at.1 ≡ true
 
   pub widths : Every Width sites
-  widths = every_of (λ at. is_width (slice_get listed at.0) at.1) sites (and_right (list_all (λ s. nat_eq (count_by (λ at. nat_eq at.0 s) sites) 1) (numbers_from 0 listed)) (list_all (λ at. is_width (slice_get listed at.0) at.1) sites) h)
+  widths = every_of (λ at. is_width (slice_get listed at.0) at.1) sites
+      (and_right (list_all (λ s. nat_eq (count_by (λ at. nat_eq at.0 s) sites) 1) (numbers_from 0 listed)) (list_all (λ at. is_width (slice_get listed at.0) at.1) sites) h)
 
   pub counted : (site : ℕ) → site < length listed → times site (keys sites) ≡ 1
   counted site l =
       let each = and_left (list_all (λ s. nat_eq (count_by (λ at. nat_eq at.0 s) sites) 1) (numbers_from 0 listed)) (list_all (λ at. is_width (slice_get listed at.0) at.1) sites) h in
-      let each' : list_all (λ s. nat_eq (count_by (λ at. nat_eq at.0 s) sites) 1) (numbers 0 (length listed)) ≡ true = subst (λ l. list_all (λ s. nat_eq (count_by (λ at. nat_eq at.0 s) sites) 1) l ≡ true) (from_numbers 0 listed) each in
-      sym (keyed_times site sites) ∙ eqb-true (count_by (λ at. nat_eq at.0 site) sites) 1 (each_number (λ s. nat_eq (count_by (λ at. nat_eq at.0 s) sites) 1) 0 (length listed) site each' (omega arith) (omega (arith, l)))
+      let each' : list_all (λ s. nat_eq (count_by (λ at. nat_eq at.0 s) sites) 1) (numbers 0 (length listed)) ≡ true =
+      subst (λ l. list_all (λ s. nat_eq (count_by (λ at. nat_eq at.0 s) sites) 1) l ≡ true) (from_numbers 0 listed) each in
+      sym (keyed_times site sites) ∙ eqb-true (count_by (λ at. nat_eq at.0 site) sites) 1
+      (each_number (λ s. nat_eq (count_by (λ at. nat_eq at.0 s) sites) 1) 0 (length listed) site each' (omega arith) (omega (arith, l)))
 
   pub once : Every (λ k. times k (keys sites) ≡ 1) (keys sites)
   once = go sites widths
@@ -127,7 +134,8 @@ each_found all before (r ∷ rows) e h =
     none : times r.0 (keys before) ≡ 0
     none =
         let o : one r.0 r.0 ≡ 1 = rw (eq-eqb r.0 r.0 refl) refl in
-        let total : times r.0 (keys all) ≡ times r.0 (keys before) + times r.0 (r.0 ∷ keys rows) = ap (λ l. times r.0 (keys l)) e ∙ (ap (λ l. times r.0 l) (keys_append before (r ∷ rows)) ∙ sum_by-append (one r.0) (keys before) (r.0 ∷ keys rows)) in
+        let total : times r.0 (keys all) ≡ times r.0 (keys before) + times r.0 (r.0 ∷ keys rows) =
+        ap (λ l. times r.0 (keys l)) e ∙ (ap (λ l. times r.0 l) (keys_append before (r ∷ rows)) ∙ sum_by-append (one r.0) (keys before) (r.0 ∷ keys rows)) in
         omega (arith, h.0, total, o, sum_by-cons (one r.0) r.0 (keys rows))
 
 pub rows_found : (p : Source) → sited p ≡ true → Every (λ r. bound_to r.0 (bound_rows_source p) ≡ Some r.1) (bound_rows_source p)
@@ -137,7 +145,8 @@ rows_found p h =
 
 -- ## Fitting tables
 
-fits_at : (sites : List ℕ) (bound table : List (List ℕ)) (site width : ℕ) (parts : List ℕ) → fits sites bound table ≡ true → slice_get sites site ≡ Some width → slice_get bound site ≡ Some parts → FitsSite width parts (order_at table site)
+fits_at : (sites : List ℕ) (bound table : List (List ℕ)) (site width : ℕ) (parts : List ℕ) → fits sites bound table ≡ true → slice_get sites site ≡ Some width → slice_get bound site ≡ Some parts
+    → FitsSite width parts (order_at table site)
 fits_at [] bound table site width parts h w b = absurd (cc)
 fits_at (x ∷ sites) [] table site width parts h w b = absurd (cc)
 fits_at (x ∷ sites) (y ∷ bound) [] site width parts h w b = absurd (cc)
@@ -145,11 +154,8 @@ fits_at (x ∷ sites) (y ∷ bound) (order ∷ table) zero width parts h w b =
     let m : x ≡ width = cc in
     let n : y ≡ parts = cc in
     subst (λ x. FitsSite x parts order) m (subst (λ y. FitsSite x y order) n
-    (both (is_permutation x order) (begins_with y order) (and_left (is_permutation x order) (begins_with y order && fits sites bound table) h)
+    (and_of (is_permutation x order) (begins_with y order) (and_left (is_permutation x order) (begins_with y order && fits sites bound table) h)
     (and_left (begins_with y order) (fits sites bound table) (and_right (is_permutation x order) (begins_with y order && fits sites bound table) h))))
-  where
-    both : (a b : Bool) → a ≡ true → b ≡ true → (a && b) ≡ true
-    both a b p q = rw (p, q) refl
 fits_at (x ∷ sites) (y ∷ bound) (order ∷ table) (suc site) width parts h w b =
     fits_at sites bound table site width parts (and_right (begins_with y order) (fits sites bound table) (and_right (is_permutation x order) (begins_with y order && fits sites bound table) h)) w b
 
@@ -158,8 +164,10 @@ number_at x zero k l = absurd (omega (arith, l))
 number_at x (suc n) zero l = ap Some (omega arith)
 number_at x (suc n) (suc k) l = number_at (suc x) n k (omega (arith, l)) ∙ ap Some (omega arith)
 
-pub ordered_at : (p : Source) (table : List (List ℕ)) → fits p.sites (bound_parts p) table ≡ true → (site width : ℕ) (parts : List ℕ) → is_width (slice_get p.sites site) width ≡ true → bound_to site (bound_rows_source p) ≡ Some parts → FitsSite width parts (order_at table site)
+pub ordered_at : (p : Source) (table : List (List ℕ)) → fits p.sites (bound_parts p) table ≡ true → (site width : ℕ) (parts : List ℕ) → is_width (slice_get p.sites site) width ≡ true
+    → bound_to site (bound_rows_source p) ≡ Some parts → FitsSite width parts (order_at table site)
 ordered_at p table h site width parts w f =
     let found = width_within p.sites site width w in
     fits_at p.sites (bound_parts p) table site width parts h found.0
-    (slice_get-map (λ site. order_or_none (bound_to site (bound_rows_source p))) (numbers 0 (length p.sites)) site ∙ (rw (number_at 0 (length p.sites) site found.1) (ap Some (ap order_or_none (ap (λ k. bound_to k (bound_rows_source p)) (omega arith) ∙ f)))))
+    (slice_get-map (λ site. order_or_none (bound_to site (bound_rows_source p))) (numbers 0 (length p.sites)) site
+    ∙ (rw (number_at 0 (length p.sites) site found.1) (ap Some (ap order_or_none (ap (λ k. bound_to k (bound_rows_source p)) (omega arith) ∙ f)))))

@@ -71,7 +71,8 @@ module _ (a : Setting) where
   pub reached_on : (s t u : State Closure) → Reached a s t → Reached a t u → Reached a s u
   reached_on s t u r q = record { kept = λ i c e. q.kept i c (r.kept i c e); constants = q.constants; known = q.known }
 
-  pub reached_store : (start s : State Closure) (cells : List (Option Value)) (t : Store) → Reached a start s → t.constants ≡ a.constants → Reached a start (record { cells = cells; store = t; procedures = s.procedures })
+  pub reached_store : (start s : State Closure) (cells : List (Option Value)) (t : Store) → Reached a start s → t.constants ≡ a.constants
+      → Reached a start (record { cells = cells; store = t; procedures = s.procedures })
   reached_store start s cells t r e = record { kept = r.kept; constants = e; known = r.known }
 
   -- from a state that is reached
@@ -82,25 +83,31 @@ module _ (a : Setting) where
 
   -- ## Steps
 
-  pub same_after : {V W : Type 0} (start : State Closure) (o : Outcome (State Closure) V) (f : V → State Closure → Outcome (State Closure) W) (k : W → State Closure → Outcome (State Closure) Value) (r : Result)
+  pub same_after : {V W : Type 0} (start : State Closure) (o : Outcome (State Closure) V) (f : V → State Closure → Outcome (State Closure) W)
+      (k : W → State Closure → Outcome (State Closure) Value) (r : Result)
       → Same a start (on_value o (λ v s. on_value (f v s) k)) r → Same a start (on_value (on_value o f) k) r
   same_after start (gives v s) f k r h = h
   same_after start (stops why s) f k r h = h
   same_after start (spent s) f k r h = h
 
   -- an action on the store does the same on both sides
-  pub same_action : {V : Type 0} (start s : State Closure) (o : Outcome Store V) (cells : List (Option Value)) (marks : List MarkKind) (k : V → State Closure → Outcome (State Closure) Value) (next : V → World → Result)
+  pub same_action : {V : Type 0} (start s : State Closure) (o : Outcome Store V) (cells : List (Option Value)) (marks : List MarkKind) (k : V → State Closure → Outcome (State Closure) Value)
+      (next : V → World → Result)
       → Reached a start s → OutcomeGrows s.store o
-      → ((v : V) (t : Store) → t.constants ≡ a.constants → Same a start (k v (record { cells = s.cells; store = t; procedures = s.procedures })) (next v (record { state = record { cells = cells; store = t; procedures = images a.starts s.procedures }; marks = marks })))
+      → ((v : V) (t : Store) → t.constants ≡ a.constants → Same a start (k v (record { cells = s.cells; store = t; procedures = s.procedures }))
+      (next v (record { state = record { cells = cells; store = t; procedures = images a.starts s.procedures }; marks = marks })))
       → Same a start (on_value (with_rest s.cells s.procedures o) k) (on_outcome marks (with_rest cells (images a.starts s.procedures) o) next)
   same_action start s (gives v t) cells marks k next r g h = h v t (g.constants ∙ r.constants)
   same_action start s (stops why t) cells marks k next r g h = (record { state = record { cells = cells; store = t; procedures = images a.starts s.procedures }; marks = marks }, refl, refl)
   same_action start s (spent t) cells marks k next r g h = (record { state = record { cells = cells; store = t; procedures = images a.starts s.procedures }; marks = marks }, refl, refl)
 
   -- the same for one that keeps a promise on its value
-  pub same_promised : {V : Type 0} (Promise : V → Type 0) (start s : State Closure) (o : Outcome Store V) (marks : List MarkKind) (k : V → State Closure → Outcome (State Closure) Value) (next : V → World → Result)
+  pub same_promised : {V : Type 0} (Promise : V → Type 0) (start s : State Closure) (o : Outcome Store V) (marks : List MarkKind) (k : V → State Closure → Outcome (State Closure) Value)
+      (next : V → World → Result)
       → Reached a start s → OutcomeGrows s.store o → Gives Promise o
-      → ((v : V) (t : Store) → t.constants ≡ a.constants → Promise v → Same a start (k v (record { cells = s.cells; store = t; procedures = s.procedures })) (next v (record { state = record { cells = s.cells; store = t; procedures = images a.starts s.procedures }; marks = marks })))
+      → ((v : V) (t : Store) → t.constants ≡ a.constants → Promise v
+      → Same a start (k v (record { cells = s.cells; store = t; procedures = s.procedures }))
+      (next v (record { state = record { cells = s.cells; store = t; procedures = images a.starts s.procedures }; marks = marks })))
       → Same a start (on_value (with_rest s.cells s.procedures o) k) (on_outcome marks (with_rest s.cells (images a.starts s.procedures) o) next)
   same_promised Promise start s (gives v t) marks k next r g p h = h v t (g.constants ∙ r.constants) p
   same_promised Promise start s (stops why t) marks k next r g p h = (record { state = record { cells = s.cells; store = t; procedures = images a.starts s.procedures }; marks = marks }, refl, refl)
@@ -114,7 +121,8 @@ module _ (a : Setting) where
       → Same a s (enter c vs left s) (to (procedure i) (image a.starts c) vs left (world_of a.starts s marks))
 
   module _ (enter : Enter) (to : Callee) (same_enter : SameEnter enter to) where
-    same_left : (s : State Closure) (marks : List MarkKind) (i : ℕ) (us : List Value) (c : Closure) (arguments : List Value) (entries : ℕ) (left : Checked ℕ) → Reached a s s → slice_get s.procedures i ≡ Some c
+    same_left : (s : State Closure) (marks : List MarkKind) (i : ℕ) (us : List Value) (c : Closure) (arguments : List Value) (entries : ℕ) (left : Checked ℕ) → Reached a s s
+        → slice_get s.procedures i ≡ Some c
         → Same a s (checked (on_passed left (λ left. entry_left entries (entry_of c arguments left))) (λ e. enter e.procedure e.arguments e.depth) s)
         (on_checked (on_passed left (λ left. entry_left entries (entry_of (image a.starts c) arguments left))) (world_of a.starts s marks) (entered to (procedure i ∷ us) (world_of a.starts s marks)))
     same_left s marks i us c arguments zero (passes left) r e = (_, refl, refl)
@@ -125,21 +133,25 @@ module _ (a : Setting) where
 
     same_known : (s : State Closure) (marks : List MarkKind) (i : ℕ) (us : List Value) (o : Option Closure) (arguments : List Value) (left : Checked ℕ) → Reached a s s → slice_get s.procedures i ≡ o
         → Same a s (checked (on_passed (known_procedure o) (λ p. on_passed left (λ left. entry_left s.store.entries (entry_of p arguments left)))) (λ e. enter e.procedure e.arguments e.depth) s)
-        (on_checked (on_passed (known_procedure (option_map (image a.starts) o)) (λ p. on_passed left (λ left. entry_left s.store.entries (entry_of p arguments left)))) (world_of a.starts s marks) (entered to (procedure i ∷ us) (world_of a.starts s marks)))
+        (on_checked (on_passed (known_procedure (option_map (image a.starts) o)) (λ p. on_passed left (λ left. entry_left s.store.entries (entry_of p arguments left))))
+        (world_of a.starts s marks) (entered to (procedure i ∷ us) (world_of a.starts s marks)))
     same_known s marks i us None arguments left r e = (_, refl, refl)
     same_known s marks i us (Some c) arguments left r e = same_left s marks i us c arguments s.store.entries left r e
 
     abbrev Called : State Closure → List MarkKind → (tail : Bool) → ℕ → List Value → Checked (List Value) → Type 0
     Called s marks tail depth us arguments =
-        Same a s (checked (on_passed arguments (λ arguments. on_passed (callee s.procedures us) (λ p. on_passed (depth_left tail depth) (λ left. entry_left s.store.entries (entry_of p arguments left))))) (λ e. enter e.procedure e.arguments e.depth) s)
-        (on_checked (on_passed arguments (λ arguments. on_passed (callee (images a.starts s.procedures) us) (λ p. on_passed (depth_left tail depth) (λ left. entry_left s.store.entries (entry_of p arguments left))))) (world_of a.starts s marks) (entered to us (world_of a.starts s marks)))
+        Same a s (checked (on_passed arguments (λ arguments. on_passed (callee s.procedures us)
+        (λ p. on_passed (depth_left tail depth) (λ left. entry_left s.store.entries (entry_of p arguments left))))) (λ e. enter e.procedure e.arguments e.depth) s)
+        (on_checked (on_passed arguments (λ arguments. on_passed (callee (images a.starts s.procedures) us)
+        (λ p. on_passed (depth_left tail depth) (λ left. entry_left s.store.entries (entry_of p arguments left))))) (world_of a.starts s marks) (entered to us (world_of a.starts s marks)))
 
     same_called : (s : State Closure) (marks : List MarkKind) (tail : Bool) (depth : ℕ) (us : List Value) (arguments : Checked (List Value)) → Reached a s s → Called s marks tail depth us arguments
     same_called s marks tail depth us (refused why) r = (_, refl, refl)
     same_called s marks tail depth us exhausted r = (_, refl, refl)
     same_called s marks tail depth us unreachable r = (_, refl, refl)
     same_called s marks tail depth [] (passes arguments) r = (_, refl, refl)
-    same_called s marks tail depth (procedure i ∷ us) (passes arguments) r = rw (slice_get-map (image a.starts) s.procedures i) (same_known s marks i us (slice_get s.procedures i) arguments (depth_left tail depth) r refl)
+    same_called s marks tail depth (procedure i ∷ us) (passes arguments) r =
+        rw (slice_get-map (image a.starts) s.procedures i) (same_known s marks i us (slice_get s.procedures i) arguments (depth_left tail depth) r refl)
     same_called s marks tail depth (fixnum n ∷ us) (passes arguments) r = (_, refl, refl)
     same_called s marks tail depth (character b ∷ us) (passes arguments) r = (_, refl, refl)
     same_called s marks tail depth (boolean b ∷ us) (passes arguments) r = (_, refl, refl)

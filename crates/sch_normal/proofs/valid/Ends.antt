@@ -2,13 +2,15 @@
 use Rattle.std.proofs.Common.{◌≡◌, ℕ, suc, ◌+◌, Bool, true, false, cond, List, [], ◌∷◌, length, refl}
 use Rattle.std.specs.Prelude.{◌||◌}
 use Rattle.sch_flat.specs.Tree as flat
-use Rattle.sch_flat.specs.Tree.{Tree, Trees, NewCell, constant, literal, variable, global, set_global, define, branch, sequence, bind, make_closure, fix_closures, call, operation, new_cells, cell_get, cell_set, no_trees, and_tree}
+use Rattle.sch_flat.specs.Tree.{Tree, Trees, NewCell, constant, literal, variable, global, set_global, define, branch, sequence}
+use Rattle.sch_flat.specs.Tree.{bind, make_closure, fix_closures, call, operation, new_cells, cell_get, cell_set, no_trees, and_tree}
 use Rattle.sch_control.specs.declared.operation.Operation.{Operation}
 use Rattle.sch_control.specs.declared.operation.Application.{Application}
 use Rattle.sch_control.specs.Tree as tree
 use Rattle.sch_control.specs.Tree.{Expression}
 use Rattle.sch_control.specs.Valid.{Position, value, no_call, procedure_end, form_end, positioned, is_bare}
-use Rattle.sch_normal.specs.Normal.{Scope, is_simple, ends_in_call, last_in_call, needs_variable, part_binds, binds, operands_bind, inits_bind, finished, called, bound_unless, normal, normal_parts, with_operands, with_inits, with_new_cells, cell_operation}
+use Rattle.sch_normal.specs.Normal.{Scope, is_simple, ends_in_call, last_in_call, needs_variable, part_binds, binds, operands_bind, inits_bind}
+use Rattle.sch_normal.specs.Normal.{finished, called, bound_unless, normal, normal_parts, with_operands, with_inits, with_new_cells, cell_operation}
 
 -- where a tree may stand that may be a call, or not
 abbrev Allowed : (tail call : Bool) → Position → Type 0
@@ -110,8 +112,10 @@ module _ (starts : List ℕ) where
     placed_parts tail (and_tree e (and_tree e' es)) scope n at h =
         go (needs_variable e) refl (λ i. placed false e scope n no_call (calm (ends_in_call e) _ i)) (placed false e scope (suc n) value tt) (λ m. placed_parts tail (and_tree e' es) scope m at h)
       where
-        go : (b : Bool) → needs_variable e ≡ b → (needs_variable e ≡ false → Placed (normal starts false e scope n) no_call) → Placed (normal starts false e scope (suc n)) value → ((m : ℕ) → Placed (normal_parts starts tail (and_tree e' es) scope m) at)
-            → Placed (cond b (tree.bind n (normal starts false e scope (suc n)) (normal_parts starts tail (and_tree e' es) scope (suc n + binds e))) (tree.sequence (normal starts false e scope n) (normal_parts starts tail (and_tree e' es) scope (n + binds e)))) at
+        go : (b : Bool) → needs_variable e ≡ b → (needs_variable e ≡ false → Placed (normal starts false e scope n) no_call) → Placed (normal starts false e scope (suc n)) value
+            → ((m : ℕ) → Placed (normal_parts starts tail (and_tree e' es) scope m) at)
+            → Placed (cond b (tree.bind n (normal starts false e scope (suc n)) (normal_parts starts tail (and_tree e' es) scope (suc n + binds e)))
+            (tree.sequence (normal starts false e scope n) (normal_parts starts tail (and_tree e' es) scope (n + binds e)))) at
         go true i p q more = bind_placed n (normal starts false e scope (suc n)) (normal_parts starts tail (and_tree e' es) scope (suc n + binds e)) at q (more (suc n + binds e))
         go false i p q more = let a = p i in let b = more (n + binds e) in (rw (a.0, b.0) refl, rw (a.1, b.1) refl)
 
@@ -122,4 +126,5 @@ module _ (starts : List ℕ) where
 
     placed_inits : (es : Trees) (scope : Scope) (n : ℕ) (body : Expression) (at : Position) → Placed body at → Placed (with_inits starts es scope n body) at
     placed_inits no_trees scope n body at h = h
-    placed_inits (and_tree e es) scope n body at h = bind_placed n (normal starts false e scope (suc n)) (with_inits starts es scope (suc n + binds e) body) at (placed false e scope (suc n) value tt) (placed_inits es scope (suc n + binds e) body at h)
+    placed_inits (and_tree e es) scope n body at h = bind_placed n (normal starts false e scope (suc n)) (with_inits starts es scope (suc n + binds e) body) at
+        (placed false e scope (suc n) value tt) (placed_inits es scope (suc n + binds e) body at h)

@@ -1,17 +1,19 @@
 -- A normal form binds the numbers from n on, each once, and no more than the flat tree may need.
-use Rattle.std.proofs.Common.{◌≡◌, ℕ, zero, suc, ◌+◌, ◌<◌, ◌≤◌, Bool, true, false, cond, List, [], ◌∷◌, ◌++◌, length, refl, sym, ap, ◌∙◌, arith}
-use Rattle.std.specs.Prelude.{nat_eq, nat_lt, nat_le, ◌&&◌, ◌||◌}
+use Rattle.std.proofs.Common.{◌≡◌, ℕ, zero, suc, ◌+◌, ◌≤◌, Bool, true, false, cond, List, [], ◌∷◌, ◌++◌, length, refl, sym, ap, ◌∙◌, arith}
+use Rattle.std.specs.Prelude.{nat_lt, nat_le, ◌&&◌}
 use Rattle.std.specs.List.{list_all}
-use Rattle.std.proofs.lemmas.Bool.{eqb-true, le-leb, lt-ltb}
-use Rattle.sch_word.specs.trees.NumberSets.{has}
+use Rattle.std.proofs.lemmas.Bool.{le-leb, lt-ltb}
 use Rattle.sch_word.specs.trees.Bindings.{numbers}
+use Rattle.sch_word.proofs.facts.NumberSets.{below_numbers}
 use Rattle.sch_flat.specs.Tree as flat
-use Rattle.sch_flat.specs.Tree.{Tree, Trees, Made, NewCell, constant, literal, variable, global, set_global, define, branch, sequence, bind, make_closure, fix_closures, call, operation, new_cells, cell_get, cell_set, no_trees, and_tree, count}
+use Rattle.sch_flat.specs.Tree.{Tree, Trees, Made, NewCell, constant, literal, variable, global, set_global, define, branch, sequence}
+use Rattle.sch_flat.specs.Tree.{bind, make_closure, fix_closures, call, operation, new_cells, cell_get, cell_set, no_trees, and_tree, count}
 use Rattle.sch_flat.specs.Measures.{one_unless_simple, variables, variables_each, variables_operands, variables_parts}
 use Rattle.sch_control.specs.Tree as tree
 use Rattle.sch_control.specs.Tree.{Expression}
 use Rattle.sch_control.specs.Valid.{bound_in, member_variables, without_repeats}
-use Rattle.sch_normal.specs.Normal.{Scope, is_simple, needs_variable, part_binds, binds, binds_parts, operands_bind, inits_bind, finished, called, bound_unless, normal, normal_parts, with_operands, with_inits, with_new_cells, members_of}
+use Rattle.sch_normal.specs.Normal.{Scope, is_simple, needs_variable, part_binds, binds, binds_parts, operands_bind, inits_bind, finished}
+use Rattle.sch_normal.specs.Normal.{called, bound_unless, normal, normal_parts, with_operands, with_inits, with_new_cells, members_of}
 
 -- ## Numbers in a row
 
@@ -41,17 +43,23 @@ module _ (starts : List ℕ) where
   members_bound scope (m ∷ ms) n = ap (λ l. n ∷ l) (members_bound scope ms (suc n))
 
   -- a part that is bound where it is not simple, and what follows
-  unless_bound : (b : Bool) (e : Tree) (scope : Scope) (n m : ℕ) (body : Expression) → bound_in (normal starts false e scope (suc n)) ≡ numbers (suc n) (binds e) → bound_in body ≡ numbers (n + part_binds b (binds e)) m
+  unless_bound : (b : Bool) (e : Tree) (scope : Scope) (n m : ℕ) (body : Expression) → bound_in (normal starts false e scope (suc n)) ≡ numbers (suc n) (binds e)
+      → bound_in body ≡ numbers (n + part_binds b (binds e)) m
       → bound_in (bound_unless b n (normal starts false e scope (suc n)) body) ≡ numbers n (part_binds b (binds e) + m)
   unless_bound true e scope n m body h k = k ∙ renumber (n + 0) n m (0 + m) (omega arith) (omega arith)
-  unless_bound false e scope n m body h k = ap (λ l. n ∷ l) (joined (suc n) (binds e) m (binds e + m) (bound_in (normal starts false e scope (suc n))) (bound_in body) h (k ∙ renumber (n + suc (binds e)) (suc n + binds e) m m (omega arith) refl) refl) ∙ renumber n n (suc (binds e + m)) (suc (binds e) + m) refl (omega arith)
+  unless_bound false e scope n m body h k = ap (λ l. n ∷ l) (joined (suc n) (binds e) m (binds e + m) (bound_in (normal starts false e scope (suc n))) (bound_in body) h
+      (k ∙ renumber (n + suc (binds e)) (suc n + binds e) m m (omega arith) refl) refl) ∙ renumber n n (suc (binds e + m)) (suc (binds e) + m) refl (omega arith)
 
-  new_cells_bound : (scope : Scope) (cs : List NewCell) (n m : ℕ) (body : Expression) → bound_in body ≡ numbers (n + length cs) m → bound_in (with_new_cells scope cs n body) ≡ numbers n (length cs + m)
+  new_cells_bound : (scope : Scope) (cs : List NewCell) (n m : ℕ) (body : Expression) → bound_in body ≡ numbers (n + length cs) m
+      → bound_in (with_new_cells scope cs n body) ≡ numbers n (length cs + m)
   new_cells_bound scope [] n m body h = h ∙ renumber (n + 0) n m (0 + m) (omega arith) (omega arith)
-  new_cells_bound scope (c ∷ cs) n m body h = ap (λ l. n ∷ l) (new_cells_bound scope cs (suc n) m body (h ∙ renumber (n + suc (length cs)) (suc n + length cs) m m (omega arith) refl)) ∙ renumber n n (suc (length cs + m)) (suc (length cs) + m) refl (omega arith)
+  new_cells_bound scope (c ∷ cs) n m body h = ap (λ l. n ∷ l) (new_cells_bound scope cs (suc n) m body (h ∙ renumber (n + suc (length cs)) (suc n + length cs) m m (omega arith) refl))
+      ∙ renumber n n (suc (length cs + m)) (suc (length cs) + m) refl (omega arith)
 
-  value_bound : (tail : Bool) (e : Tree) (scope : Scope) (n : ℕ) (o : _) → bound_in (normal starts false e scope (suc n)) ≡ numbers (suc n) (binds e) → bound_in (bound_unless (is_simple e) n (normal starts false e scope (suc n)) (finished tail (tree.perform o))) ≡ numbers n (part_binds (is_simple e) (binds e))
-  value_bound tail e scope n o h = unless_bound (is_simple e) e scope n 0 (finished tail (tree.perform o)) h (finished_bound tail o) ∙ renumber n n (part_binds (is_simple e) (binds e) + 0) (part_binds (is_simple e) (binds e)) refl (omega arith)
+  value_bound : (tail : Bool) (e : Tree) (scope : Scope) (n : ℕ) (o : _) → bound_in (normal starts false e scope (suc n)) ≡ numbers (suc n) (binds e)
+      → bound_in (bound_unless (is_simple e) n (normal starts false e scope (suc n)) (finished tail (tree.perform o))) ≡ numbers n (part_binds (is_simple e) (binds e))
+  value_bound tail e scope n o h = unless_bound (is_simple e) e scope n 0 (finished tail (tree.perform o)) h (finished_bound tail o)
+      ∙ renumber n n (part_binds (is_simple e) (binds e) + 0) (part_binds (is_simple e) (binds e)) refl (omega arith)
 
   mutual
     pub bound : (tail : Bool) (e : Tree) (scope : Scope) (n : ℕ) → bound_in (normal starts tail e scope n) ≡ numbers n (binds e)
@@ -72,7 +80,8 @@ module _ (starts : List ℕ) where
         joined n (length ms) (binds e) (length ms + binds e) _ _ (members_bound _ ms n) (bound tail e _ (n + length ms)) refl
     bound tail (call site spread f es) scope n =
         bound_operands es scope n (part_binds (is_simple f) (binds f)) _
-        (unless_bound (is_simple f) f scope (n + operands_bind es) 0 _ (bound false f scope (suc (n + operands_bind es))) (called_bound tail _) ∙ renumber (n + operands_bind es) (n + operands_bind es) (part_binds (is_simple f) (binds f) + 0) (part_binds (is_simple f) (binds f)) refl (omega arith))
+        (unless_bound (is_simple f) f scope (n + operands_bind es) 0 _ (bound false f scope (suc (n + operands_bind es))) (called_bound tail _)
+        ∙ renumber (n + operands_bind es) (n + operands_bind es) (part_binds (is_simple f) (binds f) + 0) (part_binds (is_simple f) (binds f)) refl (omega arith))
     bound tail (operation site which es) scope n = bound_operands es scope n 0 _ (finished_bound tail _) ∙ renumber n n (operands_bind es + 0) (operands_bind es) refl (omega arith)
     bound tail (new_cells cs e) scope n = new_cells_bound scope cs n (binds e) _ (bound tail e _ (n + length cs))
     bound tail (cell_get v) scope n = finished_bound tail _
@@ -84,24 +93,31 @@ module _ (starts : List ℕ) where
     bound_parts tail (and_tree e (and_tree e' es)) scope n =
         go (needs_variable e) (bound false e scope n) (bound false e scope (suc n)) (λ m. bound_parts tail (and_tree e' es) scope m)
       where
-        go : (b : Bool) → bound_in (normal starts false e scope n) ≡ numbers n (binds e) → bound_in (normal starts false e scope (suc n)) ≡ numbers (suc n) (binds e) → ((m : ℕ) → bound_in (normal_parts starts tail (and_tree e' es) scope m) ≡ numbers m (binds_parts (and_tree e' es)))
-            → bound_in (cond b (tree.bind n (normal starts false e scope (suc n)) (normal_parts starts tail (and_tree e' es) scope (suc n + binds e))) (tree.sequence (normal starts false e scope n) (normal_parts starts tail (and_tree e' es) scope (n + binds e))))
+        go : (b : Bool) → bound_in (normal starts false e scope n) ≡ numbers n (binds e) → bound_in (normal starts false e scope (suc n)) ≡ numbers (suc n) (binds e)
+            → ((m : ℕ) → bound_in (normal_parts starts tail (and_tree e' es) scope m) ≡ numbers m (binds_parts (and_tree e' es)))
+            → bound_in (cond b (tree.bind n (normal starts false e scope (suc n)) (normal_parts starts tail (and_tree e' es) scope (suc n + binds e)))
+            (tree.sequence (normal starts false e scope n) (normal_parts starts tail (and_tree e' es) scope (n + binds e))))
             ≡ numbers n (cond b (suc (binds e)) (binds e) + binds_parts (and_tree e' es))
         go true p q more =
-            ap (λ l. n ∷ l) (joined (suc n) (binds e) (binds_parts (and_tree e' es)) (binds e + binds_parts (and_tree e' es)) _ _ q (more (suc n + binds e)) refl) ∙ renumber n n (suc (binds e + binds_parts (and_tree e' es))) (suc (binds e) + binds_parts (and_tree e' es)) refl (omega arith)
+            ap (λ l. n ∷ l) (joined (suc n) (binds e) (binds_parts (and_tree e' es)) (binds e + binds_parts (and_tree e' es)) _ _ q (more (suc n + binds e)) refl)
+            ∙ renumber n n (suc (binds e + binds_parts (and_tree e' es))) (suc (binds e) + binds_parts (and_tree e' es)) refl (omega arith)
         go false p q more = joined n (binds e) (binds_parts (and_tree e' es)) _ _ _ p (more (n + binds e)) refl
 
-    bound_operands : (es : Trees) (scope : Scope) (n m : ℕ) (body : Expression) → bound_in body ≡ numbers (n + operands_bind es) m → bound_in (with_operands starts es scope n body) ≡ numbers n (operands_bind es + m)
+    bound_operands : (es : Trees) (scope : Scope) (n m : ℕ) (body : Expression) → bound_in body ≡ numbers (n + operands_bind es) m
+        → bound_in (with_operands starts es scope n body) ≡ numbers n (operands_bind es + m)
     bound_operands no_trees scope n m body h = h ∙ renumber (n + 0) n m (0 + m) (omega arith) (omega arith)
     bound_operands (and_tree e es) scope n m body h =
         unless_bound (is_simple e) e scope n (operands_bind es + m) _ (bound false e scope (suc n))
-        (bound_operands es scope (n + part_binds (is_simple e) (binds e)) m body (h ∙ renumber (n + operands_bind (and_tree e es)) (n + part_binds (is_simple e) (binds e) + operands_bind es) m m (omega arith) refl))
+        (bound_operands es scope (n + part_binds (is_simple e) (binds e)) m body
+        (h ∙ renumber (n + operands_bind (and_tree e es)) (n + part_binds (is_simple e) (binds e) + operands_bind es) m m (omega arith) refl))
         ∙ renumber n n (part_binds (is_simple e) (binds e) + (operands_bind es + m)) (operands_bind (and_tree e es) + m) refl (omega arith)
 
-    bound_inits : (es : Trees) (scope : Scope) (n m : ℕ) (body : Expression) → bound_in body ≡ numbers (n + inits_bind es) m → bound_in (with_inits starts es scope n body) ≡ numbers n (inits_bind es + m)
+    bound_inits : (es : Trees) (scope : Scope) (n m : ℕ) (body : Expression) → bound_in body ≡ numbers (n + inits_bind es) m
+        → bound_in (with_inits starts es scope n body) ≡ numbers n (inits_bind es + m)
     bound_inits no_trees scope n m body h = h ∙ renumber (n + 0) n m (0 + m) (omega arith) (omega arith)
     bound_inits (and_tree e es) scope n m body h =
-        ap (λ l. n ∷ l) (joined (suc n) (binds e) (inits_bind es + m) (binds e + (inits_bind es + m)) _ _ (bound false e scope (suc n)) (bound_inits es scope (suc n + binds e) m body (h ∙ renumber (n + inits_bind (and_tree e es)) (suc n + binds e + inits_bind es) m m (omega arith) refl)) refl)
+        ap (λ l. n ∷ l) (joined (suc n) (binds e) (inits_bind es + m) (binds e + (inits_bind es + m)) _ _ (bound false e scope (suc n))
+        (bound_inits es scope (suc n + binds e) m body (h ∙ renumber (n + inits_bind (and_tree e es)) (suc n + binds e + inits_bind es) m m (omega arith) refl)) refl)
         ∙ renumber n n (suc (binds e + (inits_bind es + m))) (inits_bind (and_tree e es) + m) refl (omega arith)
 
 -- ## No more than may be needed
@@ -192,14 +208,6 @@ pub within_numbers : (x n low high : ℕ) → low ≤ x → x + n ≤ high → l
 within_numbers x zero low high l h = refl
 within_numbers x (suc n) low high l h = rw (le-leb low x l, lt-ltb x high (omega (arith, h))) (within_numbers (suc x) n low high (omega (arith, l)) (omega (arith, h)))
 
-not_among : (y x n : ℕ) → y < x → has y (numbers x n) ≡ false
-not_among y x zero l = refl
-not_among y x (suc n) l = go (nat_eq y x) refl (not_among y (suc x) n (omega (arith, l)))
-  where
-    go : (b : Bool) → nat_eq y x ≡ b → has y (numbers (suc x) n) ≡ false → (b || has y (numbers (suc x) n)) ≡ false
-    go true e h = let m = eqb-true y x e in absurd (omega (arith, m, l))
-    go false e h = h
-
 pub numbers_once : (x n : ℕ) → without_repeats (numbers x n) ≡ true
 numbers_once x zero = refl
-numbers_once x (suc n) = rw (not_among x (suc x) n (omega arith)) (numbers_once (suc x) n)
+numbers_once x (suc n) = rw (below_numbers x (suc x) n (omega arith)) (numbers_once (suc x) n)

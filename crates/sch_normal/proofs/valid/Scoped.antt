@@ -5,8 +5,10 @@ use Rattle.std.specs.List.{list_all}
 use Rattle.std.proofs.lemmas.Bool.{eq-eqb}
 use Rattle.sch_word.specs.trees.NumberSets.{has}
 use Rattle.sch_word.specs.trees.Bindings.{numbers, scope_with, with_variables}
+use Rattle.sch_word.proofs.facts.Booleans.{and_left, and_right}
 use Rattle.sch_flat.specs.Tree as flat
-use Rattle.sch_flat.specs.Tree.{Tree, Trees, Variable, Body, Made, NewCell, constant, literal, variable, global, set_global, define, branch, sequence, bind, make_closure, fix_closures, call, operation, new_cells, cell_get, cell_set, no_trees, and_tree, count}
+use Rattle.sch_flat.specs.Tree.{Tree, Trees, Variable, Body, Made, NewCell, constant, literal, variable, global, set_global, define, branch}
+use Rattle.sch_flat.specs.Tree.{sequence, bind, make_closure, fix_closures, call, operation, new_cells, cell_get, cell_set, no_trees, and_tree, count}
 use Rattle.sch_flat.specs.Valid.{is_known, is_content, is_made, all_new, cell_variables, cells_scope, scoped, scoped_each, has_fields}
 use Rattle.sch_control.specs.declared.operation.Operation.{Operation}
 use Rattle.sch_control.specs.declared.operation.Atom.{Atom}
@@ -19,9 +21,10 @@ use Rattle.sch_control.specs.AtomsAndSites.{operand_atoms, operands_atoms, sourc
 use Rattle.sch_control.specs.Tree as tree
 use Rattle.sch_control.specs.Tree.{Expression}
 use Rattle.sch_control.specs.Valid.{with_variable, with_members, in_scope_atom, in_scope_atoms, in_scope}
-use Rattle.sch_normal.specs.Normal.{Scope, number_of, source_of, is_read, is_atom, are_atoms, is_simple, atom_of, atoms_of, simple_operand, operand_at, operands_at, operand_binds, needs_variable, part_binds, binds, operands_bind, inits_bind, init_numbers, numbers_for, finished, called, bound_unless, normal, normal_parts, with_operands, with_inits, with_new_cells, cell_operation, closure_of, members_of}
+use Rattle.sch_normal.specs.Normal.{Scope, number_of, source_of, is_read, is_atom, are_atoms, is_simple, atom_of, atoms_of, simple_operand, operand_at}
+use Rattle.sch_normal.specs.Normal.{operands_at, operand_binds, needs_variable, part_binds, binds, operands_bind, inits_bind, init_numbers, numbers_for, finished, called}
+use Rattle.sch_normal.specs.Normal.{bound_unless, normal, normal_parts, with_operands, with_inits, with_new_cells, cell_operation, closure_of, members_of}
 use Rattle.sch_normal.specs.Normal as normal
-use Rattle.sch_normal.proofs.runs.Orders.{and_left, and_right}
 
 -- one set of variables is in another
 record Wider (inner outer : ℕ → Bool) : Type 0 where
@@ -87,13 +90,15 @@ module _ (starts : List ℕ) (bodies : List Body) (fields : ℕ) where
       go z true k i = rw k e
       go z false k i = rw k (h.at z i)
 
-  pub inside_with : (names : List ℕ) (scope : Scope) (s : ℕ → Bool) (x m : ℕ) (ys : List ℕ) → length ys ≡ m → HeldIn s ys → Inside names scope s → Inside (scope_with x m names) (with_variables x ys scope) s
+  pub inside_with : (names : List ℕ) (scope : Scope) (s : ℕ → Bool) (x m : ℕ) (ys : List ℕ) → length ys ≡ m → HeldIn s ys → Inside names scope s
+      → Inside (scope_with x m names) (with_variables x ys scope) s
   inside_with names scope s x zero [] e k h = h
   inside_with names scope s x (suc m) [] e k h = absurd (omega (arith, e))
   inside_with names scope s x zero (y ∷ ys) e k h = absurd (omega (arith, e))
   inside_with names scope s x (suc m) (y ∷ ys) e k h = inside_with (x ∷ names) ((x, y) ∷ scope) s (suc x) m ys (omega (arith, e)) k.1 (inside_push names scope s x y k.0 h)
 
-  inside_cells : (names : List ℕ) (scope : Scope) (s : ℕ → Bool) (cs : List NewCell) (n : ℕ) → HeldIn s (numbers_for cs n) → Inside names scope s → Inside (cells_scope cs names) (normal.cells_scope cs n scope) s
+  inside_cells : (names : List ℕ) (scope : Scope) (s : ℕ → Bool) (cs : List NewCell) (n : ℕ) → HeldIn s (numbers_for cs n) → Inside names scope s
+      → Inside (cells_scope cs names) (normal.cells_scope cs n scope) s
   inside_cells names scope s [] n k h = h
   inside_cells names scope s (c ∷ cs) n k h = inside_cells (c.variable ∷ names) ((c.variable, n) ∷ scope) s cs (suc n) k.1 (inside_push names scope s c.variable n k.0 h)
 
@@ -104,7 +109,8 @@ module _ (starts : List ℕ) (bodies : List Body) (fields : ℕ) where
 
     sources_scoped : (vs : List Variable) → list_all (is_known names fields) vs ≡ true → in_scope_atoms s (source_atoms (map (source_of scope) vs)) ≡ true
     sources_scoped [] i = refl
-    sources_scoped (v ∷ vs) i = rw (source_scoped v (and_left (is_known names fields v) (list_all (is_known names fields) vs) i)) (sources_scoped vs (and_right (is_known names fields v) (list_all (is_known names fields) vs) i))
+    sources_scoped (v ∷ vs) i = rw (source_scoped v (and_left (is_known names fields v) (list_all (is_known names fields) vs) i))
+        (sources_scoped vs (and_right (is_known names fields v) (list_all (is_known names fields) vs) i))
 
     members_scoped : (ms : List Made) (n : ℕ) → list_all (is_made bodies names fields) ms ≡ true → in_scope_atoms s (member_atoms (members_of starts scope ms n)) ≡ true
     members_scoped [] n i = refl
@@ -129,7 +135,8 @@ module _ (starts : List ℕ) (bodies : List Body) (fields : ℕ) where
     simple_scoped (operation site which es) i k = atoms_scoped es (and_right (is_read which) (are_atoms es) i) k
     simple_scoped e i k = rw (atom_scoped e i k) refl
 
-    operand_scoped : (b : Bool) (e : Tree) (n : ℕ) → is_simple e ≡ b → (b ≡ false → s n ≡ true) → scoped bodies e names fields ≡ true → in_scope_atoms s (operand_atoms (cond b (simple_operand scope e) (op.Atom (atom.Variable n)))) ≡ true
+    operand_scoped : (b : Bool) (e : Tree) (n : ℕ) → is_simple e ≡ b → (b ≡ false → s n ≡ true) → scoped bodies e names fields ≡ true
+        → in_scope_atoms s (operand_atoms (cond b (simple_operand scope e) (op.Atom (atom.Variable n)))) ≡ true
     operand_scoped true e n i k f = simple_scoped e i f
     operand_scoped false e n i k f = rw (k refl) refl
 
@@ -142,7 +149,8 @@ module _ (starts : List ℕ) (bodies : List Body) (fields : ℕ) where
 
   members_wider : (scope : Scope) (ms : List Made) (n : ℕ) (s : ℕ → Bool) → Wider s (with_members (members_of starts scope ms n) s)
   members_wider scope [] n s = wider_self s
-  members_wider scope (m ∷ ms) n s = wider_on s (with_variable n s) (with_members (members_of starts scope ms (suc n)) (with_variable n s)) (with_more n s) (members_wider scope ms (suc n) (with_variable n s))
+  members_wider scope (m ∷ ms) n s = wider_on s (with_variable n s) (with_members (members_of starts scope ms (suc n)) (with_variable n s)) (with_more n s)
+      (members_wider scope ms (suc n) (with_variable n s))
 
   members_held : (scope : Scope) (ms : List Made) (n : ℕ) (s : ℕ → Bool) → HeldIn (with_members (members_of starts scope ms n) s) (numbers_for ms n)
   members_held scope [] n s = tt
@@ -156,7 +164,8 @@ module _ (starts : List ℕ) (bodies : List Body) (fields : ℕ) where
   init_length no_trees n = refl
   init_length (and_tree e es) n = ap suc (init_length es (suc n + binds e))
 
-  content_scoped : (o : Option Variable) (names : List ℕ) (scope : Scope) (s : ℕ → Bool) → is_content names fields o ≡ true → Inside names scope s → in_scope_atoms s (operation_atoms (cell_operation scope o)) ≡ true
+  content_scoped : (o : Option Variable) (names : List ℕ) (scope : Scope) (s : ℕ → Bool) → is_content names fields o ≡ true → Inside names scope s
+      → in_scope_atoms s (operation_atoms (cell_operation scope o)) ≡ true
   content_scoped None names scope s i h = refl
   content_scoped (Some v) names scope s i h = rw (source_scoped names scope s h v i) refl
 
@@ -165,7 +174,8 @@ module _ (starts : List ℕ) (bodies : List Body) (fields : ℕ) where
   cells_scoped [] names scope n s body i h more = more s (wider_self s) tt
   cells_scoped (c ∷ cs) names scope n s body i h more =
       rw (content_scoped c.content names scope s (and_left (is_content names fields c.content) (list_all (λ c. is_content names fields c.content) cs) i) h)
-      (cells_scoped cs names scope (suc n) (with_variable n s) body (and_right (is_content names fields c.content) (list_all (λ c. is_content names fields c.content) cs) i) (inside_wider names scope s (with_variable n s) (with_more n s) h)
+      (cells_scoped cs names scope (suc n) (with_variable n s) body (and_right (is_content names fields c.content) (list_all (λ c. is_content names fields c.content) cs) i)
+      (inside_wider names scope s (with_variable n s) (with_more n s) h)
       (λ t w k. more t (wider_on s (with_variable n s) t (with_more n s) w) (w.at n (with_here n s), k)))
 
   abbrev Claim : Tree → Type 0
@@ -175,7 +185,8 @@ module _ (starts : List ℕ) (bodies : List Body) (fields : ℕ) where
       → in_scope body (with_variable n s) ≡ true → in_scope (tree.bind n (normal starts false e scope (suc n)) body) s ≡ true
   bind_scoped e claim names scope n s body f h more = rw (claim false names scope (suc n) s f h, more) refl
 
-  part_scoped : (b : Bool) (e : Tree) → is_simple e ≡ b → Claim e → (names : List ℕ) (scope : Scope) (n : ℕ) (s : ℕ → Bool) (body : Expression) → scoped bodies e names fields ≡ true → Inside names scope s
+  part_scoped : (b : Bool) (e : Tree) → is_simple e ≡ b → Claim e → (names : List ℕ) (scope : Scope) (n : ℕ) (s : ℕ → Bool) (body : Expression) → scoped bodies e names fields ≡ true
+      → Inside names scope s
       → ((t : ℕ → Bool) → Wider s t → (b ≡ false → t n ≡ true) → in_scope body t ≡ true) → in_scope (bound_unless b n (normal starts false e scope (suc n)) body) s ≡ true
   part_scoped true e i claim names scope n s body f h more = more s (wider_self s) (λ e. absurd (cc))
   part_scoped false e i claim names scope n s body f h more = bind_scoped e claim names scope n s body f h (more (with_variable n s) (with_more n s) (λ _. with_here n s))
@@ -206,8 +217,10 @@ module _ (starts : List ℕ) (bodies : List Body) (fields : ℕ) where
     in_scope_all (sequence es) tail names scope n s f h = in_scope_parts es tail names scope n s f h
     in_scope_all (bind site first es e) tail names scope n s f h =
         let f' = and_right (scoped_each bodies es names fields) (all_new (numbers first (count es)) names && scoped bodies e (scope_with first (count es) names) fields) f in
-        in_scope_inits es names scope n s (normal starts tail e (with_variables first (init_numbers es n) scope) (n + inits_bind es)) (and_left (scoped_each bodies es names fields) (all_new (numbers first (count es)) names && scoped bodies e (scope_with first (count es) names) fields) f) h
-        (λ t w k. in_scope_all e tail (scope_with first (count es) names) (with_variables first (init_numbers es n) scope) (n + inits_bind es) t (and_right (all_new (numbers first (count es)) names) (scoped bodies e (scope_with first (count es) names) fields) f')
+        in_scope_inits es names scope n s (normal starts tail e (with_variables first (init_numbers es n) scope) (n + inits_bind es))
+        (and_left (scoped_each bodies es names fields) (all_new (numbers first (count es)) names && scoped bodies e (scope_with first (count es) names) fields) f) h
+        (λ t w k. in_scope_all e tail (scope_with first (count es) names) (with_variables first (init_numbers es n) scope) (n + inits_bind es) t
+        (and_right (all_new (numbers first (count es)) names) (scoped bodies e (scope_with first (count es) names) fields) f')
         (inside_with names scope t first (count es) (init_numbers es n) (init_length es n) k (inside_wider names scope s t w h)))
     in_scope_all (make_closure m) tail names scope n s f h =
         finished_scoped tail _ s (sources_scoped names scope s h m.fields (and_left (list_all (is_known names fields) m.fields) (has_fields (slice_get bodies m.label) (length m.fields)) f))
@@ -216,7 +229,8 @@ module _ (starts : List ℕ) (bodies : List Body) (fields : ℕ) where
         let inside : Scope = with_variables first (numbers_for ms n) scope in
         let t : ℕ → Bool = with_members (members_of starts inside ms n) s in
         let f' = and_right (all_new (numbers first (length ms)) names) (list_all (is_made bodies inner fields) ms && scoped bodies e inner fields) f in
-        let k : Inside inner inside t = inside_with names scope t first (length ms) (numbers_for ms n) (for_length ms n) (members_held inside ms n s) (inside_wider names scope s t (members_wider inside ms n s) h) in
+        let k : Inside inner inside t = inside_with names scope t first (length ms) (numbers_for ms n) (for_length ms n) (members_held inside ms n s)
+        (inside_wider names scope s t (members_wider inside ms n s) h) in
         rw (members_scoped inner inside t k ms n (and_left (list_all (is_made bodies inner fields) ms) (scoped bodies e inner fields) f'))
         (in_scope_all e tail inner inside (n + length ms) t (and_right (list_all (is_made bodies inner fields) ms) (scoped bodies e inner fields) f') k)
     in_scope_all (call site spread g es) tail names scope n s f h =
@@ -229,29 +243,36 @@ module _ (starts : List ℕ) (bodies : List Body) (fields : ℕ) where
         (operand_scoped names scope u (inside_wider names scope t u w' (inside_wider names scope s t w h)) (is_simple g) g (n + operands_bind es) refl o fg)
         (operands_scoped names scope u (inside_wider names scope t u w' (inside_wider names scope s t w h)) es n (filled_wider t u es n w' k) fs))))
     in_scope_all (operation site which es) tail names scope n s f h =
-        in_scope_operands es names scope n s (finished tail (tree.perform (does.Prim site which (operands_at scope es n)))) f h (λ t w k. finished_scoped tail (does.Prim site which (operands_at scope es n)) t (operands_scoped names scope t (inside_wider names scope s t w h) es n k f))
+        in_scope_operands es names scope n s (finished tail (tree.perform (does.Prim site which (operands_at scope es n)))) f h
+        (λ t w k. finished_scoped tail (does.Prim site which (operands_at scope es n)) t (operands_scoped names scope t (inside_wider names scope s t w h) es n k f))
     in_scope_all (new_cells cs e) tail names scope n s f h =
         let f' = and_right (list_all (λ c. is_content names fields c.content) cs) (all_new (cell_variables cs) names && scoped bodies e (cells_scope cs names) fields) f in
-        cells_scoped cs names scope n s (normal starts tail e (normal.cells_scope cs n scope) (n + length cs)) (and_left (list_all (λ c. is_content names fields c.content) cs) (all_new (cell_variables cs) names && scoped bodies e (cells_scope cs names) fields) f) h
-        (λ t w k. in_scope_all e tail (cells_scope cs names) (normal.cells_scope cs n scope) (n + length cs) t (and_right (all_new (cell_variables cs) names) (scoped bodies e (cells_scope cs names) fields) f')
+        cells_scoped cs names scope n s (normal starts tail e (normal.cells_scope cs n scope) (n + length cs))
+        (and_left (list_all (λ c. is_content names fields c.content) cs) (all_new (cell_variables cs) names && scoped bodies e (cells_scope cs names) fields) f) h
+        (λ t w k. in_scope_all e tail (cells_scope cs names) (normal.cells_scope cs n scope) (n + length cs) t
+        (and_right (all_new (cell_variables cs) names) (scoped bodies e (cells_scope cs names) fields) f')
         (inside_cells names scope t cs n k (inside_wider names scope s t w h)))
     in_scope_all (cell_get v) tail names scope n s f h = finished_scoped tail _ s (rw (source_scoped names scope s h v f) refl)
     in_scope_all (cell_set v e) tail names scope n s f h =
         value_scoped e (in_scope_all e) tail (λ x. does.CellSet (source_of scope v) x) names scope n s (and_right (is_known names fields v) (scoped bodies e names fields) f) h
         (λ t x w k. rw (source_scoped names scope t (inside_wider names scope s t w h) v (and_left (is_known names fields v) (scoped bodies e names fields) f)) k)
 
-    in_scope_parts : (es : Trees) (tail : Bool) (names : List ℕ) (scope : Scope) (n : ℕ) (s : ℕ → Bool) → scoped_each bodies es names fields ≡ true → Inside names scope s → in_scope (normal_parts starts tail es scope n) s ≡ true
+    in_scope_parts : (es : Trees) (tail : Bool) (names : List ℕ) (scope : Scope) (n : ℕ) (s : ℕ → Bool) → scoped_each bodies es names fields ≡ true → Inside names scope s
+        → in_scope (normal_parts starts tail es scope n) s ≡ true
     in_scope_parts no_trees tail names scope n s f h = finished_scoped tail _ s refl
     in_scope_parts (and_tree e no_trees) tail names scope n s f h = in_scope_all e tail names scope n s (and_left (scoped bodies e names fields) true f) h
     in_scope_parts (and_tree e (and_tree e' es)) tail names scope n s f h =
         go (needs_variable e) (in_scope_all e false names scope n s here h) (in_scope_all e false names scope (suc n) s here h)
-        (λ m t w. in_scope_parts (and_tree e' es) tail names scope m t (and_right (scoped bodies e names fields) (scoped_each bodies (and_tree e' es) names fields) f) (inside_wider names scope s t w h))
+        (λ m t w. in_scope_parts (and_tree e' es) tail names scope m t (and_right (scoped bodies e names fields) (scoped_each bodies (and_tree e' es) names fields) f)
+        (inside_wider names scope s t w h))
       where
         here : scoped bodies e names fields ≡ true
         here = and_left (scoped bodies e names fields) (scoped_each bodies (and_tree e' es) names fields) f
 
-        go : (b : Bool) → in_scope (normal starts false e scope n) s ≡ true → in_scope (normal starts false e scope (suc n)) s ≡ true → ((m : ℕ) (t : ℕ → Bool) → Wider s t → in_scope (normal_parts starts tail (and_tree e' es) scope m) t ≡ true)
-            → in_scope (cond b (tree.bind n (normal starts false e scope (suc n)) (normal_parts starts tail (and_tree e' es) scope (suc n + binds e))) (tree.sequence (normal starts false e scope n) (normal_parts starts tail (and_tree e' es) scope (n + binds e)))) s ≡ true
+        go : (b : Bool) → in_scope (normal starts false e scope n) s ≡ true → in_scope (normal starts false e scope (suc n)) s ≡ true
+            → ((m : ℕ) (t : ℕ → Bool) → Wider s t → in_scope (normal_parts starts tail (and_tree e' es) scope m) t ≡ true)
+            → in_scope (cond b (tree.bind n (normal starts false e scope (suc n)) (normal_parts starts tail (and_tree e' es) scope (suc n + binds e)))
+            (tree.sequence (normal starts false e scope n) (normal_parts starts tail (and_tree e' es) scope (n + binds e)))) s ≡ true
         go true p q more = rw (q, more (suc n + binds e) (with_variable n s) (with_more n s)) refl
         go false p q more = rw (p, more (n + binds e) s (wider_self s)) refl
 
@@ -259,8 +280,10 @@ module _ (starts : List ℕ) (bodies : List Body) (fields : ℕ) where
         → ((t : ℕ → Bool) → Wider s t → FilledIn t es n → in_scope body t ≡ true) → in_scope (with_operands starts es scope n body) s ≡ true
     in_scope_operands no_trees names scope n s body f h more = more s (wider_self s) tt
     in_scope_operands (and_tree e es) names scope n s body f h more =
-        part_scoped (is_simple e) e refl (in_scope_all e) names scope n s (with_operands starts es scope (n + part_binds (is_simple e) (binds e)) body) (and_left (scoped bodies e names fields) (scoped_each bodies es names fields) f) h
-        (λ t w k. in_scope_operands es names scope (n + part_binds (is_simple e) (binds e)) t body (and_right (scoped bodies e names fields) (scoped_each bodies es names fields) f) (inside_wider names scope s t w h)
+        part_scoped (is_simple e) e refl (in_scope_all e) names scope n s (with_operands starts es scope (n + part_binds (is_simple e) (binds e)) body)
+        (and_left (scoped bodies e names fields) (scoped_each bodies es names fields) f) h
+        (λ t w k. in_scope_operands es names scope (n + part_binds (is_simple e) (binds e)) t body (and_right (scoped bodies e names fields) (scoped_each bodies es names fields) f)
+        (inside_wider names scope s t w h)
         (λ u w' l. more u (wider_on s t u w w') ((λ i. w'.at n (k i)), l)))
 
     in_scope_inits : (es : Trees) (names : List ℕ) (scope : Scope) (n : ℕ) (s : ℕ → Bool) (body : Expression) → scoped_each bodies es names fields ≡ true → Inside names scope s
@@ -268,5 +291,6 @@ module _ (starts : List ℕ) (bodies : List Body) (fields : ℕ) where
     in_scope_inits no_trees names scope n s body f h more = more s (wider_self s) tt
     in_scope_inits (and_tree e es) names scope n s body f h more =
         bind_scoped e (in_scope_all e) names scope n s (with_inits starts es scope (suc n + binds e) body) (and_left (scoped bodies e names fields) (scoped_each bodies es names fields) f) h
-        (in_scope_inits es names scope (suc n + binds e) (with_variable n s) body (and_right (scoped bodies e names fields) (scoped_each bodies es names fields) f) (inside_wider names scope s (with_variable n s) (with_more n s) h)
+        (in_scope_inits es names scope (suc n + binds e) (with_variable n s) body (and_right (scoped bodies e names fields) (scoped_each bodies es names fields) f)
+        (inside_wider names scope s (with_variable n s) (with_more n s) h)
         (λ t w k. more t (wider_on s (with_variable n s) t (with_more n s) w) (w.at n (with_here n s), k)))

@@ -4,7 +4,8 @@ use Rattle.std.specs.List.{sum_by}
 use Rattle.std.proofs.lemmas.List.Sums.{sum_by-append, sum_by-cons}
 use Rattle.sch_word.specs.declared.constant.Const.TheVariants.{Unspecified}
 use Rattle.sch_flat.specs.Tree as flat
-use Rattle.sch_flat.specs.Tree.{Tree, Trees, NewCell, constant, literal, variable, global, set_global, define, branch, sequence, bind, make_closure, fix_closures, call, operation, new_cells, cell_get, cell_set, no_trees, and_tree, count}
+use Rattle.sch_flat.specs.Tree.{Tree, Trees, NewCell, constant, literal, variable, global, set_global, define, branch, sequence}
+use Rattle.sch_flat.specs.Tree.{bind, make_closure, fix_closures, call, operation, new_cells, cell_get, cell_set, no_trees, and_tree, count}
 use Rattle.sch_control.specs.declared.operation.Atom.TheVariants as atom
 use Rattle.sch_control.specs.declared.operation.Operand.TheVariants as op
 use Rattle.sch_control.specs.declared.operation.Operation.{Operation}
@@ -15,10 +16,11 @@ use Rattle.sch_control.specs.Tree as tree
 use Rattle.sch_control.specs.Tree.{Expression}
 use Rattle.sch_control.specs.Valid as to
 use Rattle.sch_word.specs.trees.Bindings.{with_variables}
-use Rattle.sch_normal.specs.Normal.{Scope, init_numbers, source_of, is_read, is_atom, are_atoms, is_simple, atoms_of, simple_operand, operand_at, operands_at, operand_binds, needs_variable, part_binds, binds, operands_bind, inits_bind, finished, called, bound_unless, normal, normal_parts, with_operands, with_inits, with_new_cells, cell_operation}
-use Rattle.sch_normal.proofs.runs.Orders.{and_left, and_right}
+use Rattle.sch_normal.specs.Normal.{Scope, init_numbers, source_of, is_read, is_atom, are_atoms, is_simple, atoms_of, simple_operand, operand_at, operands_at, operand_binds, needs_variable}
+use Rattle.sch_normal.specs.Normal.{part_binds, binds, operands_bind, inits_bind, finished, called, bound_unless, normal, normal_parts, with_operands, with_inits, with_new_cells, cell_operation}
 use Rattle.sch_word.specs.trees.Shape as shapes
 use Rattle.sch_word.specs.trees.Shape.{Shape}
+use Rattle.sch_word.proofs.facts.Booleans.{and_left, and_right}
 use Rattle.sch_flat.specs.Measures.{over, over_each}
 
 -- the site of a call or a primitive, with its width
@@ -74,7 +76,8 @@ module _ (starts : List ℕ) (f : ℕ × ℕ → ℕ) where
   bound_sites no_trees = 0
   bound_sites (and_tree e es) = cond (is_simple e) 0 (total (sites_in e)) + bound_sites es
 
-  operand_kept : (b : Bool) (scope : Scope) (e : Tree) (n : ℕ) → is_simple e ≡ b → cond b 0 (total (sites_in e)) + total (operand_sites (cond b (simple_operand scope e) (op.Atom (atom.Variable n)))) ≡ total (sites_in e)
+  operand_kept : (b : Bool) (scope : Scope) (e : Tree) (n : ℕ) → is_simple e ≡ b
+      → cond b 0 (total (sites_in e)) + total (operand_sites (cond b (simple_operand scope e) (op.Atom (atom.Variable n)))) ≡ total (sites_in e)
   operand_kept true scope e n i = let h = simple_kept scope e i in omega (arith, h)
   operand_kept false scope e n i = omega arith
 
@@ -105,12 +108,14 @@ module _ (starts : List ℕ) (f : ℕ × ℕ → ℕ) where
   cells_sites scope [] n body = refl
   cells_sites scope (c ∷ cs) n body = go c.content (cells_sites scope cs (suc n) body)
     where
-      go : (o : Option flat.Variable) → made (with_new_cells scope cs (suc n) body) ≡ made body → total (operation_sites (cell_operation scope o) ++ to.sites_of (with_new_cells scope cs (suc n) body)) ≡ made body
+      go : (o : Option flat.Variable) → made (with_new_cells scope cs (suc n) body) ≡ made body
+          → total (operation_sites (cell_operation scope o) ++ to.sites_of (with_new_cells scope cs (suc n) body)) ≡ made body
       go None h = h
       go (Some v) h = h
 
   -- a value that is set, bound first where it is not simple
-  value_sites : (tail : Bool) (e : Tree) (scope : Scope) (n : ℕ) (o : Operation ℕ) → made (normal starts false e scope (suc n)) ≡ total (sites_in e) → operation_sites o ≡ operand_sites (operand_at scope e n)
+  value_sites : (tail : Bool) (e : Tree) (scope : Scope) (n : ℕ) (o : Operation ℕ) → made (normal starts false e scope (suc n)) ≡ total (sites_in e)
+      → operation_sites o ≡ operand_sites (operand_at scope e n)
       → made (bound_unless (is_simple e) n (normal starts false e scope (suc n)) (finished tail (tree.perform o))) ≡ total (sites_in e)
   value_sites tail e scope n o h k =
       let here = unless_sites (is_simple e) e n (normal starts false e scope (suc n)) (finished tail (tree.perform o)) h in
@@ -118,7 +123,8 @@ module _ (starts : List ℕ) (f : ℕ × ℕ → ℕ) where
       omega (arith, here, kept, finished_sites tail o, ap total k)
 
   call_sites : (tail : Bool) (site : ℕ) (spread : Bool) (scope : Scope) (g : Tree) (es : Trees) (n x : ℕ)
-      → made (called tail (record { site = site; spread = spread; operator = operand_at scope g x; operands = operands_at scope es n })) + (cond (is_simple g) 0 (total (sites_in g)) + bound_sites es) ≡ total (sites_in (call site spread g es))
+      → made (called tail (record { site = site; spread = spread; operator = operand_at scope g x; operands = operands_at scope es n })) +
+      (cond (is_simple g) 0 (total (sites_in g)) + bound_sites es) ≡ total (sites_in (call site spread g es))
   call_sites tail site spread scope g es n x =
       let a : Application ℕ = record { site = site; spread = spread; operator = operand_at scope g x; operands = operands_at scope es n } in
       let width : f (site, suc (length (operands_at scope es n))) ≡ f (site, suc (count es)) = ap (λ m. f (site, suc m)) (operands_length scope es n) in
@@ -141,7 +147,14 @@ module _ (starts : List ℕ) (f : ℕ × ℕ → ℕ) where
   prim_sites tail site which scope es n =
       let width : f (site, length (operands_at scope es n)) ≡ f (site, count es) = ap (λ m. f (site, m)) (operands_length scope es n) in
       let es' = operands_kept scope es n in
-      omega (arith, finished_sites tail (does.Prim site which (operands_at scope es n)), first (site, length (operands_at scope es n)) (operands_sites (operands_at scope es n)), width, es', first (site, count es) (sites_in_each es))
+      omega (
+        arith,
+        finished_sites tail (does.Prim site which (operands_at scope es n)),
+        first (site, length (operands_at scope es n)) (operands_sites (operands_at scope es n)),
+        width,
+        es',
+        first (site, count es) (sites_in_each es),
+      )
 
   mutual
     pub kept : (tail : Bool) (e : Tree) (scope : Scope) (n : ℕ) → made (normal starts tail e scope n) ≡ total (sites_in e)
@@ -191,14 +204,18 @@ module _ (starts : List ℕ) (f : ℕ × ℕ → ℕ) where
     kept_parts tail (and_tree e (and_tree e' es)) scope n =
         go (needs_variable e) (λ m. kept false e scope m) (λ m. kept_parts tail (and_tree e' es) scope m)
       where
-        go : (b : Bool) → ((m : ℕ) → made (normal starts false e scope m) ≡ total (sites_in e)) → ((m : ℕ) → made (normal_parts starts tail (and_tree e' es) scope m) ≡ total (sites_in_each (and_tree e' es)))
-            → made (cond b (tree.bind n (normal starts false e scope (suc n)) (normal_parts starts tail (and_tree e' es) scope (suc n + binds e))) (tree.sequence (normal starts false e scope n) (normal_parts starts tail (and_tree e' es) scope (n + binds e)))) ≡ total (sites_in_each (and_tree e (and_tree e' es)))
+        go : (b : Bool) → ((m : ℕ) → made (normal starts false e scope m) ≡ total (sites_in e))
+            → ((m : ℕ) → made (normal_parts starts tail (and_tree e' es) scope m) ≡ total (sites_in_each (and_tree e' es)))
+            → made (cond b (tree.bind n (normal starts false e scope (suc n)) (normal_parts starts tail (and_tree e' es) scope (suc n + binds e)))
+            (tree.sequence (normal starts false e scope n) (normal_parts starts tail (and_tree e' es) scope (n + binds e)))) ≡ total (sites_in_each (and_tree e (and_tree e' es)))
         go true p q =
             both (to.sites_of (normal starts false e scope (suc n))) (to.sites_of (normal_parts starts tail (and_tree e' es) scope (suc n + binds e)))
-            ∙ (ap (λ m. m + made (normal_parts starts tail (and_tree e' es) scope (suc n + binds e))) (p (suc n)) ∙ (ap (λ m. total (sites_in e) + m) (q (suc n + binds e)) ∙ sym (both (sites_in e) (sites_in_each (and_tree e' es)))))
+            ∙ (ap (λ m. m + made (normal_parts starts tail (and_tree e' es) scope (suc n + binds e))) (p (suc n))
+            ∙ (ap (λ m. total (sites_in e) + m) (q (suc n + binds e)) ∙ sym (both (sites_in e) (sites_in_each (and_tree e' es)))))
         go false p q =
             both (to.sites_of (normal starts false e scope n)) (to.sites_of (normal_parts starts tail (and_tree e' es) scope (n + binds e)))
-            ∙ (ap (λ m. m + made (normal_parts starts tail (and_tree e' es) scope (n + binds e))) (p n) ∙ (ap (λ m. total (sites_in e) + m) (q (n + binds e)) ∙ sym (both (sites_in e) (sites_in_each (and_tree e' es)))))
+            ∙ (ap (λ m. m + made (normal_parts starts tail (and_tree e' es) scope (n + binds e))) (p n)
+            ∙ (ap (λ m. total (sites_in e) + m) (q (n + binds e)) ∙ sym (both (sites_in e) (sites_in_each (and_tree e' es)))))
 
     kept_operands : (es : Trees) (scope : Scope) (n : ℕ) (body : Expression) → made (with_operands starts es scope n body) ≡ bound_sites es + made body
     kept_operands no_trees scope n body = omega arith
@@ -240,14 +257,16 @@ module _ (f : ℕ × ℕ → ℕ) where
     fewer (global g) = omega arith
     fewer (set_global g e) = fewer e
     fewer (define g e) = fewer e
-    fewer (branch x y z) = two (sites_in x) (sites_in y ++ sites_in z) (all_sites x) (all_sites y ++ all_sites z) (fewer x) (two (sites_in y) (sites_in z) (all_sites y) (all_sites z) (fewer y) (fewer z))
+    fewer (branch x y z) = two (sites_in x) (sites_in y ++ sites_in z) (all_sites x) (all_sites y ++ all_sites z) (fewer x)
+        (two (sites_in y) (sites_in z) (all_sites y) (all_sites z) (fewer y) (fewer z))
     fewer (sequence es) = fewer_each es
     fewer (bind site x es e) =
         let h = two (sites_in_each es) (sites_in e) (all_sites_each es) (all_sites e) (fewer_each es) (fewer e) in
         omega (arith, h, sum_by-cons f (site, count es) (all_sites_each es ++ all_sites e))
     fewer (make_closure m) = omega arith
     fewer (fix_closures x ms e) = fewer e
-    fewer (call site spread g es) = one_more (site, suc (count es)) (sites_in g ++ sites_in_each es) (all_sites g ++ all_sites_each es) (two (sites_in g) (sites_in_each es) (all_sites g) (all_sites_each es) (fewer g) (fewer_each es))
+    fewer (call site spread g es) = one_more (site, suc (count es)) (sites_in g ++ sites_in_each es) (all_sites g ++ all_sites_each es)
+        (two (sites_in g) (sites_in_each es) (all_sites g) (all_sites_each es) (fewer g) (fewer_each es))
     fewer (operation site which es) = one_more (site, count es) (sites_in_each es) (all_sites_each es) (fewer_each es)
     fewer (new_cells cs e) = fewer e
     fewer (cell_get v) = omega arith

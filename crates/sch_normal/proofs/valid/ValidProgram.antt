@@ -1,5 +1,6 @@
 -- The program that normalizing makes is valid.
-use Rattle.std.proofs.Common.{◌≡◌, ℕ, zero, suc, ◌+◌, ◌-◌, ◌≤◌, Bool, true, false, cond, List, [], ◌∷◌, ◌++◌, length, map, take, drop, Option, Some, None, refl, sym, ap, ◌∙◌, subst, arith, append_assoc}
+use Rattle.std.proofs.Common.{◌≡◌, ℕ, zero, suc, ◌+◌, ◌-◌, ◌≤◌, Bool, true, false, cond, List, [], ◌∷◌, ◌++◌}
+use Rattle.std.proofs.Common.{length, map, take, drop, Option, Some, None, refl, sym, ap, ◌∙◌, subst, arith, append_assoc}
 use Rattle.std.specs.Prelude.{slice_get, nat_eq, nat_le, nat_lt, not, ◌&&◌, ◌||◌}
 use Rattle.std.specs.List.{list_all, sum_by, count_by}
 use Rattle.std.proofs.lemmas.Bool.{eq-eqb, eqb-true, lt-ltb}
@@ -11,21 +12,23 @@ use Rattle.sch_word.specs.runs.Orders.{order_or_none}
 use Rattle.sch_word.specs.runs.Runs.{statics_valid, statics_in_range}
 use Rattle.sch_word.specs.trees.Shape as shapes
 use Rattle.sch_word.specs.trees.Shape.{Shape, names_known, constant_in_range, well_formed, fits, is_width, max_variables, max_free_variables}
-use Rattle.sch_flat.specs.Tree.{Tree, Trees, Body, Source, constant, literal, variable, global, set_global, define, branch, sequence, bind, make_closure, fix_closures, call, operation, new_cells, cell_get, cell_set, no_trees, and_tree, count}
+use Rattle.sch_word.proofs.facts.Booleans.{and_left, and_right, and_of}
+use Rattle.sch_flat.specs.Tree.{Tree, Trees, Body, Source, constant, literal, variable, global, set_global, define, branch, sequence}
+use Rattle.sch_flat.specs.Tree.{bind, make_closure, fix_closures, call, operation, new_cells, cell_get, cell_set, no_trees, and_tree, count}
 use Rattle.sch_flat.specs.Measures.{over, over_each, over_bodies, over_source, sites_of, variables}
 use Rattle.sch_flat.specs.Valid.{has_fields, body_scoped, scoped, scoped_each, is_closed, is_formed, in_order, sited, ascending, body_fits, forms_fit, statics_known, constants_in_range}
 use Rattle.sch_control.specs.declared.body.Entry.{Entry}
 use Rattle.sch_control.specs.Tree.{Code}
 use Rattle.sch_control.specs.Valid as to
 use Rattle.sch_control.specs.Valid.{Names, entries_of, names_of, sites_of_each, enters, without_fields, without_repeats, code_known}
-use Rattle.sch_normal.specs.Normal.{is_simple, new_label, procedure_code, form_code, normal_bodies, normal_source, bound_places, operator_place, bound_rows, bound_rows_each, bound_rows_bodies, bound_rows_source}
-use Rattle.sch_normal.proofs.runs.Orders.{and_left, and_right}
+use Rattle.sch_normal.specs.Normal.{is_simple, new_label, procedure_code, form_code, normal_bodies, normal_source}
+use Rattle.sch_normal.specs.Normal.{bound_places, operator_place, bound_rows, bound_rows_each, bound_rows_bodies, bound_rows_source}
 use Rattle.sch_normal.proofs.runs.Fine.{bound_below}
 use Rattle.sch_normal.proofs.runs.Bodies.{stands_at}
 use Rattle.sch_normal.proofs.runs.Ready as ready
 use Rattle.sch_normal.proofs.runs.Ready.{Every, every_of, every_left, every_right}
 use Rattle.sch_normal.proofs.runs.Sites.{keyed_times, width_within, counted, widths}
-use Rattle.sch_normal.proofs.valid.Parts.{both, node_good, joint_source, entry_for}
+use Rattle.sch_normal.proofs.valid.Parts.{node_good, joint_source, entry_for}
 use Rattle.sch_normal.proofs.valid.SitesKept.{sites_in, sites_in_each, kept, fewer, fewer_each}
 use Rattle.sch_normal.proofs.valid.Numbered.{numbers_once}
 use Rattle.sch_normal.proofs.valid.ValidBodies.{Sound, procedure_sound, form_sound}
@@ -38,7 +41,7 @@ every_append P (x ∷ xs) ys h k = (h.0, every_append P xs ys h.1 k)
 
 all_of : {A : Type 0} (f : A → Bool) (xs : List A) → Every (λ x. f x ≡ true) xs → list_all f xs ≡ true
 all_of f [] h = refl
-all_of f (x ∷ xs) h = both (f x) (list_all f xs) h.0 (all_of f xs h.1)
+all_of f (x ∷ xs) h = and_of (f x) (list_all f xs) h.0 (all_of f xs h.1)
 
 every_take : {A : Type 0} (P : A → Type 0) (xs : List A) (d : ℕ) → Every P xs → Every P (take d xs)
 every_take P xs zero h = tt
@@ -58,7 +61,8 @@ abbrev EveryTree : (Tree → Type 0) → Trees → Type 0
 EveryTree P no_trees = Unit {0}
 EveryTree P (and_tree e es) = P e × EveryTree P es
 
-every_code : (starts : List ℕ) (P : Code → Type 0) (forms : Trees) (places : List ℕ) (bodies : List Body) (before : ℕ) → Every (λ b. P (procedure_code starts b)) bodies → EveryTree (λ e. P (form_code starts e)) forms → Every P (normal_bodies starts before bodies forms places)
+every_code : (starts : List ℕ) (P : Code → Type 0) (forms : Trees) (places : List ℕ) (bodies : List Body) (before : ℕ) → Every (λ b. P (procedure_code starts b)) bodies
+    → EveryTree (λ e. P (form_code starts e)) forms → Every P (normal_bodies starts before bodies forms places)
 every_code starts P no_trees places bodies before h k = every_map P (procedure_code starts) bodies h
 every_code starts P (and_tree e es) [] bodies before h k = (k.0, every_code starts P es [] bodies before h k.1)
 every_code starts P (and_tree e es) (p ∷ places) bodies before h k =
@@ -94,14 +98,16 @@ module _ (starts : List ℕ) (f : ℕ × ℕ → ℕ) where
   procedures_kept (b ∷ bs) =
       let h = procedures_kept bs in
       let k = kept starts f true b.code _ _ in
-      sum_by-append f (to.sites_of (procedure_code starts b).expression) (sites_of_each (map (procedure_code starts) bs)) ∙ (ap (λ m. m + sum_by f (sites_of_each (map (procedure_code starts) bs))) k ∙ ap (λ m. sum_by f (sites_in b.code) + m) h)
+      sum_by-append f (to.sites_of (procedure_code starts b).expression) (sites_of_each (map (procedure_code starts) bs))
+      ∙ (ap (λ m. m + sum_by f (sites_of_each (map (procedure_code starts) bs))) k ∙ ap (λ m. sum_by f (sites_in b.code) + m) h)
 
   rows_split : (bs : List Body) (d : ℕ) → rows_bodies (take d bs) + rows_bodies (drop d bs) ≡ rows_bodies bs
   rows_split bs zero = omega arith
   rows_split [] (suc d) = omega arith
   rows_split (b ∷ bs) (suc d) = let h = rows_split bs d in omega (arith, h)
 
-  pub all_kept : (forms : Trees) (places : List ℕ) (bodies : List Body) (before : ℕ) → sum_by f (sites_of_each (normal_bodies starts before bodies forms places)) ≡ rows_bodies bodies + sum_by f (sites_in_each forms)
+  pub all_kept : (forms : Trees) (places : List ℕ) (bodies : List Body) (before : ℕ)
+      → sum_by f (sites_of_each (normal_bodies starts before bodies forms places)) ≡ rows_bodies bodies + sum_by f (sites_in_each forms)
   all_kept no_trees places bodies before = let h = procedures_kept bodies in omega (arith, h)
   all_kept (and_tree e es) [] bodies before =
       let h = all_kept es [] bodies before in
@@ -164,7 +170,7 @@ Good width parts = (list_all (λ k. nat_lt k width) parts ≡ true) × (without_
 
 row_numbers : (x n width : ℕ) → x + n ≤ width → list_all (λ k. nat_lt k width) (numbers x n) ≡ true
 row_numbers x zero width l = refl
-row_numbers x (suc n) width l = both (nat_lt x width) _ (lt-ltb x width (omega (arith, l))) (row_numbers (suc x) n width (omega (arith, l)))
+row_numbers x (suc n) width l = and_of (nat_lt x width) _ (lt-ltb x width (omega (arith, l))) (row_numbers (suc x) n width (omega (arith, l)))
 
 row_once : (x n : ℕ) → without_repeats (numbers x n) ≡ true
 row_once x n = numbers_once x n
@@ -173,9 +179,10 @@ places_few : (es : Trees) (place width : ℕ) (last : List ℕ) → place + coun
 places_few no_trees place width last l h = h
 places_few (and_tree e es) place width last l h = go (is_simple e) (places_few es (suc place) width last (omega (arith, l)) h)
   where
-    go : (b : Bool) → list_all (λ k. nat_lt k width) (bound_places (suc place) es last) ≡ true → list_all (λ k. nat_lt k width) (cond b (bound_places (suc place) es last) (place ∷ bound_places (suc place) es last)) ≡ true
+    go : (b : Bool) → list_all (λ k. nat_lt k width) (bound_places (suc place) es last) ≡ true
+        → list_all (λ k. nat_lt k width) (cond b (bound_places (suc place) es last) (place ∷ bound_places (suc place) es last)) ≡ true
     go true k = k
-    go false k = both (nat_lt place width) _ (lt-ltb place width (omega (arith, l))) k
+    go false k = and_of (nat_lt place width) _ (lt-ltb place width (omega (arith, l))) k
 
 places_once : (es : Trees) (place : ℕ) (last : List ℕ) → ((q : ℕ) → place ≤ q → has q last ≡ false) → without_repeats last ≡ true → without_repeats (bound_places place es last) ≡ true
 places_once no_trees place last n h = h
@@ -185,12 +192,13 @@ places_once (and_tree e es) place last n h = go (is_simple e) (places_once es (s
     go true k = k
     go false k = rw (bound_below place (suc place) es last (omega arith), n place (omega arith)) k
 
-operator_good : (f : Tree) (width : ℕ) → 1 ≤ width → (list_all (λ k. nat_lt k width) (operator_place f) ≡ true) × (without_repeats (operator_place f) ≡ true) × ((q : ℕ) → 1 ≤ q → has q (operator_place f) ≡ false)
+operator_good : (f : Tree) (width : ℕ) → 1 ≤ width → (list_all (λ k. nat_lt k width) (operator_place f) ≡ true) × (without_repeats (operator_place f) ≡ true)
+    × ((q : ℕ) → 1 ≤ q → has q (operator_place f) ≡ false)
 operator_good f width l = go (is_simple f)
   where
     go : (b : Bool) → (list_all (λ k. nat_lt k width) (cond b [] (0 ∷ [])) ≡ true) × (without_repeats (cond b [] (0 ∷ [])) ≡ true) × ((q : ℕ) → 1 ≤ q → has q (cond b [] (0 ∷ [])) ≡ false)
     go true = (refl, refl, λ q l. refl)
-    go false = (both (nat_lt 0 width) true (lt-ltb 0 width (omega (arith, l))) refl, refl, λ q l. other (nat_eq q 0) refl l)
+    go false = (and_of (nat_lt 0 width) true (lt-ltb 0 width (omega (arith, l))) refl, refl, λ q l. other (nat_eq q 0) refl l)
       where
         other : {q : ℕ} (b : Bool) → nat_eq q 0 ≡ b → 1 ≤ q → (b || false) ≡ false
         other {q} true e l = let m = eqb-true q 0 e in absurd (omega (arith, m, l))
@@ -218,18 +226,22 @@ module _ (listed : List ℕ) where
     rows_good (branch x y z) h =
         let k = every_right Width (ready.sites_in x) (ready.sites_in y ++ ready.sites_in z) h in
         every_append RowGood (bound_rows x) (bound_rows y ++ bound_rows z) (rows_good x (every_left Width (ready.sites_in x) (ready.sites_in y ++ ready.sites_in z) h))
-        (every_append RowGood (bound_rows y) (bound_rows z) (rows_good y (every_left Width (ready.sites_in y) (ready.sites_in z) k)) (rows_good z (every_right Width (ready.sites_in y) (ready.sites_in z) k)))
+        (every_append RowGood (bound_rows y) (bound_rows z) (rows_good y (every_left Width (ready.sites_in y) (ready.sites_in z) k))
+        (rows_good z (every_right Width (ready.sites_in y) (ready.sites_in z) k)))
     rows_good (sequence es) h = rows_good_each es h
     rows_good (bind site first es e) h = (
       row_good site (count es) (numbers 0 (count es)) h.0 (row_numbers 0 (count es) (count es) (omega arith), row_once 0 (count es)),
-      every_append RowGood (bound_rows_each es) (bound_rows e) (rows_good_each es (every_left Width (ready.sites_in_each es) (ready.sites_in e) h.1)) (rows_good e (every_right Width (ready.sites_in_each es) (ready.sites_in e) h.1)),
+      every_append RowGood (bound_rows_each es) (bound_rows e) (rows_good_each es (every_left Width (ready.sites_in_each es) (ready.sites_in e) h.1))
+          (rows_good e (every_right Width (ready.sites_in_each es) (ready.sites_in e) h.1)),
     )
     rows_good (make_closure m) h = tt
     rows_good (fix_closures first ms e) h = rows_good e h
     rows_good (call site spread f es) h =
         let o = operator_good f (suc (count es)) (omega arith) in (
-          row_good site (suc (count es)) (bound_places 1 es (operator_place f)) h.0 (places_few es 1 (suc (count es)) (operator_place f) (omega arith) o.0, places_once es 1 (operator_place f) o.2 o.1),
-          every_append RowGood (bound_rows f) (bound_rows_each es) (rows_good f (every_left Width (ready.sites_in f) (ready.sites_in_each es) h.1)) (rows_good_each es (every_right Width (ready.sites_in f) (ready.sites_in_each es) h.1)),
+          row_good site (suc (count es)) (bound_places 1 es (operator_place f)) h.0
+              (places_few es 1 (suc (count es)) (operator_place f) (omega arith) o.0, places_once es 1 (operator_place f) o.2 o.1),
+          every_append RowGood (bound_rows f) (bound_rows_each es) (rows_good f (every_left Width (ready.sites_in f) (ready.sites_in_each es) h.1))
+              (rows_good_each es (every_right Width (ready.sites_in f) (ready.sites_in_each es) h.1)),
         )
     rows_good (operation site which es) h =
         (row_good site (count es) (bound_places 0 es []) h.0 (places_few es 0 (count es) [] (omega arith) refl, places_once es 0 [] (λ q l. refl) refl), rows_good_each es h.1)
@@ -240,7 +252,8 @@ module _ (listed : List ℕ) where
     rows_good_each : (es : Trees) → Every Width (ready.sites_in_each es) → Every RowGood (bound_rows_each es)
     rows_good_each no_trees h = tt
     rows_good_each (and_tree e es) h =
-        every_append RowGood (bound_rows e) (bound_rows_each es) (rows_good e (every_left Width (ready.sites_in e) (ready.sites_in_each es) h)) (rows_good_each es (every_right Width (ready.sites_in e) (ready.sites_in_each es) h))
+        every_append RowGood (bound_rows e) (bound_rows_each es) (rows_good e (every_left Width (ready.sites_in e) (ready.sites_in_each es) h))
+        (rows_good_each es (every_right Width (ready.sites_in e) (ready.sites_in_each es) h))
 
   rows_good_bodies : (bs : List Body) → Every Width (over_bodies [] (λ x y. x ++ y) shapes.site_of bs) → Every RowGood (bound_rows_bodies bs)
   rows_good_bodies [] h = tt
@@ -260,11 +273,12 @@ each_bound : (sites : List ℕ) (i : ℕ) (g : ℕ → List ℕ) → ((j w : ℕ
 each_bound [] i g h = refl
 each_bound (w ∷ sites) i g h =
     let here : Good w (g i) = subst (λ k. Good w (g k)) (omega arith) (h 0 w refl) in
-    both (list_all (λ k. nat_lt k w) (g i)) _ here.0 (both (without_repeats (g i)) _ here.1 (each_bound sites (suc i) g (λ j v e. subst (λ k. Good v (g k)) (omega arith) (h (suc j) v e))))
+    and_of (list_all (λ k. nat_lt k w) (g i)) _ here.0 (and_of (without_repeats (g i)) _ here.1 (each_bound sites (suc i) g (λ j v e. subst (λ k. Good v (g k)) (omega arith) (h (suc j) v e))))
 
 -- ## The program
 
-module _ (p : Source) (closed : is_closed p ≡ true) (formed : is_formed p ≡ true) (ascends : in_order p ≡ true) (once : sited p ≡ true) (ready' : statics_known p ≡ true) (words : constants_in_range p ≡ true) where
+module _ (p : Source) (closed : is_closed p ≡ true) (formed : is_formed p ≡ true) (ascends : in_order p ≡ true) (once : sited p ≡ true) (ready' : statics_known p ≡ true)
+    (words : constants_in_range p ≡ true) where
   abbrev codes : List Code
   codes = normal_bodies p.starts 0 p.bodies p.forms p.starts
 
@@ -284,17 +298,21 @@ module _ (p : Source) (closed : is_closed p ≡ true) (formed : is_formed p ≡ 
   bodies_fit = list_all body_fits p.bodies
 
   few : bodies_fit ≡ true
-  few = and_left bodies_fit (forms_fit p.forms) (and_right fitting (bodies_fit && forms_fit p.forms) (and_right well (fitting && (bodies_fit && forms_fit p.forms)) (and_right named (well && (fitting && (bodies_fit && forms_fit p.forms))) formed)))
+  few = and_left bodies_fit (forms_fit p.forms) (and_right fitting (bodies_fit && forms_fit p.forms)
+      (and_right well (fitting && (bodies_fit && forms_fit p.forms)) (and_right named (well && (fitting && (bodies_fit && forms_fit p.forms))) formed)))
 
   forms_few : forms_fit p.forms ≡ true
-  forms_few = and_right bodies_fit (forms_fit p.forms) (and_right fitting (bodies_fit && forms_fit p.forms) (and_right well (fitting && (bodies_fit && forms_fit p.forms)) (and_right named (well && (fitting && (bodies_fit && forms_fit p.forms))) formed)))
+  forms_few = and_right bodies_fit (forms_fit p.forms) (and_right fitting (bodies_fit && forms_fit p.forms)
+      (and_right well (fitting && (bodies_fit && forms_fit p.forms)) (and_right named (well && (fitting && (bodies_fit && forms_fit p.forms))) formed)))
 
   all_good : over_source true (λ x y. x && y) (node_good names) p ≡ true
   all_good =
       joint_source (λ s. names_known names.symbols names.literals names.globals s && constant_in_range s) (λ s. well_formed s && fits max_variables s) p
-      (joint_source (names_known names.symbols names.literals names.globals) constant_in_range p (and_left named (well && (fitting && (bodies_fit && forms_fit p.forms))) formed) (and_left (over_source true (λ x y. x && y) constant_in_range p) (statics_in_range p.statics) words))
+      (joint_source (names_known names.symbols names.literals names.globals) constant_in_range p (and_left named (well && (fitting && (bodies_fit && forms_fit p.forms))) formed)
+      (and_left (over_source true (λ x y. x && y) constant_in_range p) (statics_in_range p.statics) words))
       (joint_source well_formed (fits max_variables) p (and_left well (fitting && (bodies_fit && forms_fit p.forms)) (and_right named (well && (fitting && (bodies_fit && forms_fit p.forms))) formed))
-      (and_left fitting (bodies_fit && forms_fit p.forms) (and_right well (fitting && (bodies_fit && forms_fit p.forms)) (and_right named (well && (fitting && (bodies_fit && forms_fit p.forms))) formed))))
+      (and_left fitting (bodies_fit && forms_fit p.forms) (and_right well (fitting && (bodies_fit && forms_fit p.forms))
+      (and_right named (well && (fitting && (bodies_fit && forms_fit p.forms))) formed))))
 
   pub few_fields : (label : ℕ) (b : Body) → slice_get p.bodies label ≡ Some b → nat_le b.fields max_free_variables ≡ true
   few_fields label b e =
@@ -302,7 +320,9 @@ module _ (p : Source) (closed : is_closed p ≡ true) (formed : is_formed p ≡ 
       and_left (nat_le b.fields max_free_variables) _ (and_right (nat_le b.formals 200) _ (and_right (not b.rest || nat_le 1 b.formals) _ f))
 
   stands : (label : ℕ) (b : Body) → slice_get p.bodies label ≡ Some b → slice_get codes (new_label p.starts label) ≡ Some (procedure_code p.starts b)
-  stands label b e = stands_at p.starts p.forms p.bodies (eqb-true (length p.starts) (count p.forms) (and_left (nat_eq (length p.starts) (count p.forms)) (ascending 0 (length p.bodies) p.starts) ascends)) (and_right (nat_eq (length p.starts) (count p.forms)) (ascending 0 (length p.bodies) p.starts) ascends) label b e
+  stands label b e = stands_at p.starts p.forms p.bodies (eqb-true (length p.starts) (count p.forms)
+      (and_left (nat_eq (length p.starts) (count p.forms)) (ascending 0 (length p.bodies) p.starts) ascends))
+      (and_right (nat_eq (length p.starts) (count p.forms)) (ascending 0 (length p.bodies) p.starts) ascends) label b e
 
   pub entry_there : (label : ℕ) (b : Body) → slice_get p.bodies label ≡ Some b → slice_get names.entries (new_label p.starts label) ≡ Some (Some (entry_for b))
   entry_there label b e = entry_found codes (new_label p.starts label) (procedure_code p.starts b) (stands label b e)
@@ -310,18 +330,24 @@ module _ (p : Source) (closed : is_closed p ≡ true) (formed : is_formed p ≡ 
   abbrev IsSound : Code → Type 0
   IsSound = Sound p.starts p.bodies names few_fields entry_there
 
-  bodies_sound : (bs : List Body) → list_all (body_scoped p.bodies) bs ≡ true → over_bodies true (λ x y. x && y) (node_good names) bs ≡ true → list_all body_fits bs ≡ true → Every (λ b. IsSound (procedure_code p.starts b)) bs
+  bodies_sound : (bs : List Body) → list_all (body_scoped p.bodies) bs ≡ true → over_bodies true (λ x y. x && y) (node_good names) bs ≡ true → list_all body_fits bs ≡ true
+      → Every (λ b. IsSound (procedure_code p.starts b)) bs
   bodies_sound [] s g f = tt
   bodies_sound (b ∷ bs) s g f = (
-    procedure_sound p.starts p.bodies names few_fields entry_there b (and_left (body_scoped p.bodies b) (list_all (body_scoped p.bodies) bs) s) (and_left (over true (λ x y. x && y) (node_good names) b.code) (over_bodies true (λ x y. x && y) (node_good names) bs) g) (and_left (body_fits b) (list_all body_fits bs) f),
-    bodies_sound bs (and_right (body_scoped p.bodies b) (list_all (body_scoped p.bodies) bs) s) (and_right (over true (λ x y. x && y) (node_good names) b.code) (over_bodies true (λ x y. x && y) (node_good names) bs) g) (and_right (body_fits b) (list_all body_fits bs) f),
+    procedure_sound p.starts p.bodies names few_fields entry_there b (and_left (body_scoped p.bodies b) (list_all (body_scoped p.bodies) bs) s)
+        (and_left (over true (λ x y. x && y) (node_good names) b.code) (over_bodies true (λ x y. x && y) (node_good names) bs) g) (and_left (body_fits b) (list_all body_fits bs) f),
+    bodies_sound bs (and_right (body_scoped p.bodies b) (list_all (body_scoped p.bodies) bs) s)
+        (and_right (over true (λ x y. x && y) (node_good names) b.code) (over_bodies true (λ x y. x && y) (node_good names) bs) g) (and_right (body_fits b) (list_all body_fits bs) f),
   )
 
-  forms_sound : (es : Trees) → scoped_each p.bodies es [] 0 ≡ true → over_each true (λ x y. x && y) (node_good names) es ≡ true → forms_fit es ≡ true → EveryTree (λ e. IsSound (form_code p.starts e)) es
+  forms_sound : (es : Trees) → scoped_each p.bodies es [] 0 ≡ true → over_each true (λ x y. x && y) (node_good names) es ≡ true → forms_fit es ≡ true
+      → EveryTree (λ e. IsSound (form_code p.starts e)) es
   forms_sound no_trees s g f = tt
   forms_sound (and_tree e es) s g f = (
-    form_sound p.starts p.bodies names few_fields entry_there e (and_left (scoped p.bodies e [] 0) (scoped_each p.bodies es [] 0) s) (and_left (over true (λ x y. x && y) (node_good names) e) (over_each true (λ x y. x && y) (node_good names) es) g) (and_left (nat_le (variables e) max_variables) (forms_fit es) f),
-    forms_sound es (and_right (scoped p.bodies e [] 0) (scoped_each p.bodies es [] 0) s) (and_right (over true (λ x y. x && y) (node_good names) e) (over_each true (λ x y. x && y) (node_good names) es) g) (and_right (nat_le (variables e) max_variables) (forms_fit es) f),
+    form_sound p.starts p.bodies names few_fields entry_there e (and_left (scoped p.bodies e [] 0) (scoped_each p.bodies es [] 0) s)
+        (and_left (over true (λ x y. x && y) (node_good names) e) (over_each true (λ x y. x && y) (node_good names) es) g) (and_left (nat_le (variables e) max_variables) (forms_fit es) f),
+    forms_sound es (and_right (scoped p.bodies e [] 0) (scoped_each p.bodies es [] 0) s)
+        (and_right (over true (λ x y. x && y) (node_good names) e) (over_each true (λ x y. x && y) (node_good names) es) g) (and_right (nat_le (variables e) max_variables) (forms_fit es) f),
   )
 
   abbrev forms_scoped : Bool
@@ -333,8 +359,10 @@ module _ (p : Source) (closed : is_closed p ≡ true) (formed : is_formed p ≡ 
   pub all_sound : Every IsSound codes
   all_sound =
       every_code p.starts IsSound p.forms p.starts p.bodies 0
-      (bodies_sound p.bodies (and_left (list_all (body_scoped p.bodies) p.bodies) (forms_scoped && library_scoped) closed) (and_left (over_bodies true (λ x y. x && y) (node_good names) p.bodies) (over_each true (λ x y. x && y) (node_good names) p.forms) all_good) few)
-      (forms_sound p.forms (and_left forms_scoped library_scoped (and_right (list_all (body_scoped p.bodies) p.bodies) (forms_scoped && library_scoped) closed)) (and_right (over_bodies true (λ x y. x && y) (node_good names) p.bodies) (over_each true (λ x y. x && y) (node_good names) p.forms) all_good) forms_few)
+      (bodies_sound p.bodies (and_left (list_all (body_scoped p.bodies) p.bodies) (forms_scoped && library_scoped) closed)
+      (and_left (over_bodies true (λ x y. x && y) (node_good names) p.bodies) (over_each true (λ x y. x && y) (node_good names) p.forms) all_good) few)
+      (forms_sound p.forms (and_left forms_scoped library_scoped (and_right (list_all (body_scoped p.bodies) p.bodies) (forms_scoped && library_scoped) closed))
+      (and_right (over_bodies true (λ x y. x && y) (node_good names) p.bodies) (over_each true (λ x y. x && y) (node_good names) p.forms) all_good) forms_few)
 
   pub all_known : to.all_known (normal_source p) ≡ true
   all_known = all_of (code_known names) codes (go codes all_sound)
@@ -372,13 +400,16 @@ module _ (p : Source) (closed : is_closed p ≡ true) (formed : is_formed p ≡ 
           go true e = refl
           go false e = absurd (omega (arith, e))
 
-  site_counts : (xs : List (ℕ × ℕ)) → Every (λ at. is_listed at ≡ true) xs → Every (λ at. 1 ≤ sum_by (at_site at.0) sites) xs → Every (λ at. (nat_eq (count_by (λ other. nat_eq other.0 at.0) sites) 1 && is_listed at) ≡ true) xs
+  site_counts : (xs : List (ℕ × ℕ)) → Every (λ at. is_listed at ≡ true) xs → Every (λ at. 1 ≤ sum_by (at_site at.0) sites) xs
+      → Every (λ at. (nat_eq (count_by (λ other. nat_eq other.0 at.0) sites) 1 && is_listed at) ≡ true) xs
   site_counts [] w h = tt
   site_counts (x ∷ xs) w h =
       let k = no_more p.starts (at_site x.0) p p.starts in
       let m = counted p.sites (sites_of p) once x.0 (width_within p.sites x.0 x.1 w.0).1 in
-      let most : sum_by (at_site x.0) (sites_of p) ≡ 1 = keyed_times x.0 (sites_of p) ∙ m in
-      (both (nat_eq (count_by (λ other. nat_eq other.0 x.0) sites) 1) (is_listed x) (eq-eqb (count_by (λ other. nat_eq other.0 x.0) sites) 1 (omega (arith, k, most, h.0))) w.0, site_counts xs w.1 h.1)
+      let most : sum_by (at_site x.0) (sites_of p) ≡ 1 = keyed_times x.0 (sites_of p) ∙ m in (
+        and_of (nat_eq (count_by (λ other. nat_eq other.0 x.0) sites) 1) (is_listed x) (eq-eqb (count_by (λ other. nat_eq other.0 x.0) sites) 1 (omega (arith, k, most, h.0))) w.0,
+        site_counts xs w.1 h.1,
+      )
 
   pub sites_once : to.sites_once (normal_source p) ≡ true
   sites_once = all_of (λ at. nat_eq (count_by (λ other. nat_eq other.0 at.0) sites) 1 && is_listed at) sites (site_counts sites site_widths (each_there sites [] sites refl))
@@ -409,12 +440,13 @@ module _ (p : Source) (closed : is_closed p ≡ true) (formed : is_formed p ≡ 
       go : (labels : List ℕ) → list_all (λ label. has_fields (slice_get p.bodies label) 0) labels ≡ true → without_fields names.entries (map (new_label p.starts) labels) ≡ true
       go [] h = refl
       go (l ∷ labels) h =
-          both (enters (slice_get names.entries (new_label p.starts l)) 0) _ (there l (slice_get p.bodies l) refl (and_left (has_fields (slice_get p.bodies l) 0) (list_all (λ label. has_fields (slice_get p.bodies label) 0) labels) h))
+          and_of (enters (slice_get names.entries (new_label p.starts l)) 0) _
+          (there l (slice_get p.bodies l) refl (and_left (has_fields (slice_get p.bodies l) 0) (list_all (λ label. has_fields (slice_get p.bodies label) 0) labels) h))
           (go labels (and_right (has_fields (slice_get p.bodies l) 0) (list_all (λ label. has_fields (slice_get p.bodies label) 0) labels) h))
 
   pub statics_good : to.statics_known (normal_source p) ≡ true
   statics_good =
-      both (statics_valid (length (map (new_label p.starts) p.library)) p.statics) (statics_in_range p.statics)
+      and_of (statics_valid (length (map (new_label p.starts) p.library)) p.statics) (statics_in_range p.statics)
       (subst (λ n. statics_valid n p.statics ≡ true) (sym (length-map p.library (new_label p.starts))) ready')
       (and_right (over_source true (λ x y. x && y) constant_in_range p) (statics_in_range p.statics) words)
 

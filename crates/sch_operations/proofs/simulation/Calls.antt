@@ -48,8 +48,8 @@ use Rattle.sch_places.proofs.HeapWrites.{heap_inside}
 use Rattle.sch_own_routines.proofs.simulation.Outcomes.{Ends, Goes_on, Sim, Laid, after, ends_after, goes_on_after}
 use Rattle.sch_own_routines.proofs.simulation.Outcomes.{stops_here}
 use Rattle.sch_primitives.proofs.simulation.Operations.{FrameOf, StoreOf, Rest, onward}
-use Rattle.sch_own_routines.proofs.simulation.Entering.{arguments_count, argument_at, passed, entry_registers}
-use Rattle.sch_own_routines.proofs.simulation.Entering.{is_there, CodeOf, code_there, Enters}
+use Rattle.sch_own_routines.proofs.simulation.ProcedureEntries.{arguments_count, argument_at, passed, entry_registers}
+use Rattle.sch_own_routines.proofs.simulation.ProcedureEntries.{is_there, CodeOf, code_there, Enters}
 
 module _ (plan : Plan) (body_steps : ℕ) (laid : Laid plan body_steps) (act : Activation plan) (callee : Callee)
     (enters : Enters plan body_steps callee act.nested) where

@@ -56,7 +56,7 @@ use Rattle.sch_primitives.proofs.objects.HeapTests.{Tested, room_here}
 use Rattle.sch_own_routines.proofs.simulation.Outcomes.{after, Laid, stops_here}
 use Rattle.sch_primitives.proofs.simulation.Operations.{Std, FrameOf, StoreOf, SimOf, Rest, next_of, onward}
 use Rattle.sch_primitives.proofs.simulation.Operations.{none_waits}
-use Rattle.sch_primitives.proofs.simulation.Selected.{source_selected, operand_selected}
+use Rattle.sch_primitives.proofs.simulation.SelectedPrograms.{source_selected, operand_selected}
 
 -- one register that is a scratch register
 pub one_scratch : (r : ℕ) (registers registers' : ℕ → ℕ) → is_scratch r ≡ true → Kept (is_one r) registers registers'

@@ -56,7 +56,7 @@ use Rattle.sch_operations.proofs.simulation.Records.{records_cost, both_there}
 use Rattle.sch_own_routines.proofs.simulation.Outcomes.{after, Laid, stops_here}
 use Rattle.sch_primitives.proofs.simulation.Operations.{Std, FrameOf, StoreOf, SimOf, Rest, next_of, none_waits}
 use Rattle.sch_operations.proofs.simulation.Cells.{one_scratch}
-use Rattle.sch_primitives.proofs.simulation.Selected.{source_selected, closure_selected, members_selected}
+use Rattle.sch_primitives.proofs.simulation.SelectedPrograms.{source_selected, closure_selected, members_selected}
 
 -- ---- charges
 

@@ -25,7 +25,7 @@ use Rattle.sch_primitives.proofs.simulation.PrimitiveOperations.{unary_sim, bina
 use Rattle.sch_primitives.proofs.objects.Three.{three_sim}
 use Rattle.sch_operations.proofs.simulation.Cells.{new_cell_sim, unset_cell_sim, field_sim, cell_get_sim, cell_set_sim}
 use Rattle.sch_operations.proofs.simulation.Closures.{make_closure_sim}
-use Rattle.sch_primitives.proofs.simulation.Selected.{operand_selected, source_selected, operation_selected, takes}
+use Rattle.sch_primitives.proofs.simulation.SelectedPrograms.{operand_selected, source_selected, operation_selected, takes}
 
 -- how many steps an operation takes at most
 abbrev pub operation_cost : Operation Place → ℕ

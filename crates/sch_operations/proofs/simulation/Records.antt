@@ -41,7 +41,7 @@ use Rattle.sch_places.proofs.HeapWrites.{Wrote, other_word, wrote_none, wrote_on
 use Rattle.sch_places.proofs.HeapWrites.{wrote_within, store_wrote, heap_inside, places_wrote}
 use Rattle.sch_operations.proofs.simulation.Sources.{Sourced, Sources, source_here}
 use Rattle.sch_operations.proofs.simulation.Cells.{one_scratch}
-use Rattle.sch_primitives.proofs.simulation.Selected.{source_selected, closure_selected, members_selected}
+use Rattle.sch_primitives.proofs.simulation.SelectedPrograms.{source_selected, closure_selected, members_selected}
 
 -- ---- sizes
 

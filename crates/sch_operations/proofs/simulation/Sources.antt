@@ -33,7 +33,7 @@ use Rattle.sch_places.proofs.Straight.{is_one, set_one, Kept, kept_set, kept_the
 use Rattle.sch_places.proofs.Places.{Plan, Activation, StoreAt, PlacesAt, Holds, loaded}
 use Rattle.sch_primitives.proofs.simulation.Operands.{Atomic, atomic}
 use Rattle.sch_places.proofs.HeapWrites.{heap_inside}
-use Rattle.sch_primitives.proofs.simulation.Selected.{source_selected}
+use Rattle.sch_primitives.proofs.simulation.SelectedPrograms.{source_selected}
 
 -- the procedure whose field is read
 record Reads (o : Option Value) (k : ℕ) (procedures : List Procedure) (v : Value) : Type 0 where

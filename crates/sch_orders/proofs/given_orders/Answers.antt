@@ -20,10 +20,12 @@ pub returns-clause-fits : goal.returns-clause-fits
 returns-clause-fits c =
     let p = c.args.p.now in
     if_ok c.orders_of.result _ _ c.orders_of.ensures
-    (λ q made. subst (λ t. IsTrue (table_fits (source p) t)) (sym (made ∙ ap (λ s. given_orders s c.as_slice-2.result.now) c.as_slice.ensures ∙ ap (given_orders p.sites) c.as_slice-2.ensures)) (given_table_fits (source p) p.ordered))
+    (λ q made. subst (λ t. IsTrue (table_fits (source p) t)) (sym (made ∙ ap (λ s. given_orders s c.as_slice-2.result.now) c.as_slice.ensures ∙ ap (given_orders p.sites) c.as_slice-2.ensures))
+    (given_table_fits (source p) p.ordered))
 
 pub returns-clause-permutations : goal.returns-clause-permutations
 returns-clause-permutations c =
     let p = c.args.p.now in
     if_ok c.orders_of.result _ _ c.orders_of.ensures
-    (λ q made. subst (λ t. IsTrue (is_order_table p.sites t)) (sym (made ∙ ap (λ s. given_orders s c.as_slice-2.result.now) c.as_slice.ensures ∙ ap (given_orders p.sites) c.as_slice-2.ensures)) (fitting_orders p.sites p.bound (given_orders p.sites p.bound) (given_table_fits (source p) p.ordered)))
+    (λ q made. subst (λ t. IsTrue (is_order_table p.sites t)) (sym (made ∙ ap (λ s. given_orders s c.as_slice-2.result.now) c.as_slice.ensures ∙ ap (given_orders p.sites) c.as_slice-2.ensures))
+    (fitting_orders p.sites p.bound (given_orders p.sites p.bound) (given_table_fits (source p) p.ordered)))

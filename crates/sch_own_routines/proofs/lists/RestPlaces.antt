@@ -11,7 +11,7 @@ use Rattle.sch_asm.specs.Views.{View}
 use Rattle.sch_heap.specs.Parts.{Parts}
 use Rattle.sch_heap.specs.Encoded.{IsWord, Words}
 use Rattle.sch_places.proofs.Places.{Plan, Activation, PlacesAt, Holds, holds_words}
-use Rattle.sch_own_routines.proofs.simulation.Entering.{each_register}
+use Rattle.sch_own_routines.proofs.simulation.ProcedureEntries.{each_register}
 use Rattle.sch_own_routines.proofs.lists.RestLoop.{is_loose}
 use Rattle.sch_own_routines.proofs.lists.RestRegisters.{Listed, list_word, word_of}
 use Rattle.sch_own_routines.proofs.lists.RestRoutine.{place_by, argument_place}

@@ -177,13 +177,19 @@ module _ (plan : Plan) where
           → m < 6 → x.place ≡ setting.place_of (rest_label m) → m + length vs ≤ 6 + n
           → AtPlaces plan act parts (drop m operand_registers) x.registers x.bytes act.frame vs
           → Listed plan act parts x a (argument_place m) vs 12
-      by_register n framed room zero lt here many h = from_register n framed room 0 3 (8 ∷ (9 ∷ (10 ∷ (6 ∷ (7 ∷ []))))) (firsts 1 (8 ∷ (9 ∷ (10 ∷ (6 ∷ (7 ∷ [])))))) refl refl (refl, (refl, (refl, (refl, (refl, tt))))) (refl, (refl, (refl, (refl, (refl, tt))))) c0.0 c0.1
+      by_register n framed room zero lt here many h =
+          from_register n framed room 0 3 (8 ∷ (9 ∷ (10 ∷ (6 ∷ (7 ∷ []))))) (firsts 1 (8 ∷ (9 ∷ (10 ∷ (6 ∷ (7 ∷ [])))))) refl refl (refl, (refl, (refl, (refl, (refl, tt)))))
+          (refl, (refl, (refl, (refl, (refl, tt))))) c0.0 c0.1
           (subst (λ a. Stands setting [] a mores) (sym m1.1.1) m1.1) here (omega (arith, many)) h
-      by_register n framed room (suc zero) lt here many h = from_register n framed room 1 8 (9 ∷ (10 ∷ (6 ∷ (7 ∷ [])))) (firsts 2 (9 ∷ (10 ∷ (6 ∷ (7 ∷ []))))) refl refl (refl, (refl, (refl, (refl, tt)))) (refl, (refl, (refl, (refl, tt)))) c1.0 c1.1
+      by_register n framed room (suc zero) lt here many h =
+          from_register n framed room 1 8 (9 ∷ (10 ∷ (6 ∷ (7 ∷ [])))) (firsts 2 (9 ∷ (10 ∷ (6 ∷ (7 ∷ []))))) refl refl (refl, (refl, (refl, (refl, tt))))
+          (refl, (refl, (refl, (refl, tt)))) c1.0 c1.1
           (subst (λ a. Stands setting [] a (registers_code 2 (9 ∷ (10 ∷ (6 ∷ (7 ∷ [])))) slots)) (sym m2.1.1) m2.1) here (omega (arith, many)) h
-      by_register n framed room (suc (suc zero)) lt here many h = from_register n framed room 2 9 (10 ∷ (6 ∷ (7 ∷ []))) (firsts 3 (10 ∷ (6 ∷ (7 ∷ [])))) refl refl (refl, (refl, (refl, tt))) (refl, (refl, (refl, tt))) c2.0 c2.1
+      by_register n framed room (suc (suc zero)) lt here many h =
+          from_register n framed room 2 9 (10 ∷ (6 ∷ (7 ∷ []))) (firsts 3 (10 ∷ (6 ∷ (7 ∷ [])))) refl refl (refl, (refl, (refl, tt))) (refl, (refl, (refl, tt))) c2.0 c2.1
           (subst (λ a. Stands setting [] a (registers_code 3 (10 ∷ (6 ∷ (7 ∷ []))) slots)) (sym m3.1.1) m3.1) here (omega (arith, many)) h
-      by_register n framed room (suc (suc (suc zero))) lt here many h = from_register n framed room 3 10 (6 ∷ (7 ∷ [])) (firsts 4 (6 ∷ (7 ∷ []))) refl refl (refl, (refl, tt)) (refl, (refl, tt)) c3.0 c3.1
+      by_register n framed room (suc (suc (suc zero))) lt here many h =
+          from_register n framed room 3 10 (6 ∷ (7 ∷ [])) (firsts 4 (6 ∷ (7 ∷ []))) refl refl (refl, (refl, tt)) (refl, (refl, tt)) c3.0 c3.1
           (subst (λ a. Stands setting [] a (registers_code 4 (6 ∷ (7 ∷ [])) slots)) (sym m4.1.1) m4.1) here (omega (arith, many)) h
       by_register n framed room (suc (suc (suc (suc zero)))) lt here many h = from_register n framed room 4 6 (7 ∷ []) (firsts 5 (7 ∷ [])) refl refl (refl, tt) (refl, tt) c4.0 c4.1
           (subst (λ a. Stands setting [] a (registers_code 5 (7 ∷ []) slots)) (sym m5.1.1) m5.1) here (omega (arith, many)) h

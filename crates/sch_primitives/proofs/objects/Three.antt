@@ -45,7 +45,7 @@ use Rattle.sch_primitives.proofs.simulation.Operations.{Std, FrameOf, StoreOf, S
 use Rattle.sch_primitives.proofs.simulation.Operations.{none_waits}
 use Rattle.sch_primitives.proofs.objects.Vectors.{vector_set_sim}
 use Rattle.sch_primitives.proofs.objects.StringWrites.{string_set_sim}
-use Rattle.sch_primitives.proofs.simulation.Selected.{operand_selected, read_selected, takes}
+use Rattle.sch_primitives.proofs.simulation.SelectedPrograms.{operand_selected, read_selected, takes}
 
 -- ---- an index that a primitive reads is a boolean
 

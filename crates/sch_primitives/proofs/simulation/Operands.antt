@@ -41,8 +41,8 @@ use Rattle.sch_places.proofs.Straight.{yields_after}
 use Rattle.sch_primitives.proofs.simulation.Primitives.{unary_here, binary_here}
 use Rattle.sch_places.proofs.Places.{Plan, heap_above, few_symbols, Activation, StoreAt, PlacesAt}
 use Rattle.sch_places.proofs.Places.{places_kept, loaded, held_value}
-use Rattle.sch_primitives.proofs.simulation.Selected.{atom_selected, read_selected, operand_selected, takes}
-use Rattle.sch_primitives.proofs.simulation.Selected.{is_computed}
+use Rattle.sch_primitives.proofs.simulation.SelectedPrograms.{atom_selected, read_selected, operand_selected, takes}
+use Rattle.sch_primitives.proofs.simulation.SelectedPrograms.{is_computed}
 use Rattle.sch_control.specs.Valid.{only_reads}
 use Rattle.sch_word.specs.values.Literals.{constant_known}
 

@@ -49,7 +49,7 @@ use Rattle.sch_own_routines.proofs.simulation.PutValue.{PutsPiece, puts_value}
 use Rattle.sch_places.proofs.Changes.{global_inside, global_written, store_behind, places_written}
 use Rattle.sch_places.proofs.Changes.{below_written, places_behind, word_behind}
 use Rattle.sch_own_routines.proofs.simulation.Outcomes.{Ends, Sim, after, Laid, stops_here}
-use Rattle.sch_primitives.proofs.simulation.Selected.{operand_selected}
+use Rattle.sch_primitives.proofs.simulation.SelectedPrograms.{operand_selected}
 
 pub none_waits : (l before waiting : List MarkKind) → l ≡ before ++ waiting → l ≡ (before ++ waiting) ++ []
 none_waits l before waiting e = e ∙ sym (append-nil (before ++ waiting))

@@ -35,7 +35,7 @@ use Rattle.sch_primitives.proofs.objects.Makes.{make_vector_sim, make_string_sim
 use Rattle.sch_primitives.proofs.objects.Vectors.{vector_length_here, vector_ref_here}
 use Rattle.sch_primitives.proofs.objects.Strings.{string_length_here, string_ref_here}
 use Rattle.sch_primitives.proofs.objects.Symbols.{symbol_length_here, symbol_ref_here}
-use Rattle.sch_primitives.proofs.simulation.Selected.{operand_selected, takes, is_computed}
+use Rattle.sch_primitives.proofs.simulation.SelectedPrograms.{operand_selected, takes, is_computed}
 
 -- only a primitive that makes an object looks at the end of the heap
 computed_code : (heap_end n : ℕ) (which : Primitive) → is_computed which ≡ true → (rest : List Item)

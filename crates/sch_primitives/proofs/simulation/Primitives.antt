@@ -62,7 +62,7 @@ use Rattle.sch_places.proofs.Places.{Plan, StoreAt}
 use Rattle.sch_places.proofs.Straight.{is_free, kept_set, kept_then, moved_to, tagged, Comes}
 use Rattle.sch_places.proofs.Straight.{comes_after, yields_after, fixnum_checked, character_checked}
 use Rattle.sch_places.proofs.Straight.{booleans, tests, ends_fixnum, by_7, by_127, by_255}
-use Rattle.sch_primitives.proofs.simulation.Selected.{takes, is_computed}
+use Rattle.sch_primitives.proofs.simulation.SelectedPrograms.{takes, is_computed}
 
 -- ---- fixnums' words
 

@@ -1,38 +1,13 @@
 -- The token that a lexeme is (R5RS 7.1.1). White space and comments are none.
-use Rattle.std.specs.Prelude.{◌==◌, ◌||◌, ◌&&◌, ◌+◌, ℕ, ℤ, Bool, true, false, List, [], ◌∷◌, if◌then◌else◌, codes, drop, nat_lt, not, slice_index}
-use Rattle.std.specs.List.{list_all}
+use Rattle.std.specs.Prelude.{◌==◌, ◌||◌, ◌&&◌, ◌+◌, ℕ, ℤ, Bool, true, false, List, [], ◌∷◌, if◌then◌else◌, codes, drop, slice_index}
 use Rattle.std.specs.Str.{bytes_eq}
-use Rattle.std.specs.Char.{digit_value, is_ascii_digit, to_ascii_lowercase}
 use Rattle.std.specs.Str.Parse.{without_leading_sign, signed_digits_value}
 use Rattle.sch_word.specs.values.Fixnum.{is_fixnum}
-use Rattle.sch_read.specs.Lexer.Letters.{is_white, is_one_of, folded, is_initial, is_subsequent}
-use Rattle.sch_read.specs.Lexer.Lexeme.{is_empty}
+use Rattle.sch_lexemes.specs.Letters.{is_white, folded, is_escape, escaped}
+use Rattle.sch_lexemes.specs.Lexeme.{is_empty}
+use Rattle.sch_lexemes.specs.Numerals.{is_number_like, base_of, numeral_of, are_digits}
+use Rattle.sch_lexemes.specs.Identifiers.{is_identifier}
 use Rattle.sch_read.specs.Grammar.{Token, Open, Close, Dot, Plain, Huge, Bad, parenthesis, hash_parenthesis, quote_mark, bad_token, bad_number, bad_string, boolean, integer, character, text, symbol}
-
--- the first byte is `#`, and the second names a base: binary, octal, decimal or hexadecimal
-abbrev pub has_base : List ℕ → Bool
-has_base word = slice_index word 0 == 35 && is_one_of (codes "bodx") (to_ascii_lowercase (slice_index word 1))
-
--- the base that a letter names
-abbrev pub base_named : ℕ → ℕ
-base_named b = if b == 98 then 2 else (if b == 111 then 8 else (if b == 120 then 16 else 10))
-
-abbrev pub base_of : List ℕ → ℕ
-base_of word = if has_base word then base_named (to_ascii_lowercase (slice_index word 1)) else 10
-
--- the word without the name of its base
-abbrev pub numeral_of : List ℕ → List ℕ
-numeral_of word = if has_base word then drop 2 word else word
-
--- such a word is a number or ill formed: it names a base, or begins with a digit, or with a sign or
--- a point and then a digit
-abbrev pub is_number_like : List ℕ → Bool
-is_number_like word = has_base word || (is_ascii_digit (slice_index word 0)
-    || (is_one_of (codes "+-.") (slice_index word 0) && is_ascii_digit (slice_index word 1)))
-
--- at least one digit, and each of the base
-abbrev pub are_digits : ℕ → List ℕ → Bool
-are_digits base ds = not (is_empty ds) && list_all (λ c. nat_lt (digit_value c) base) ds
 
 abbrev pub integer_at : ℕ → ℤ → Token
 integer_at at z = if is_fixnum z then Plain at (integer z) else Huge at
@@ -51,11 +26,6 @@ character_at at (b ∷ bs) =
     else (if bytes_eq (folded (b ∷ bs)) (codes "space") then Plain at (character 32)
     else (if bytes_eq (folded (b ∷ bs)) (codes "newline") then Plain at (character 10)
     else Bad at bad_token))
-
-abbrev pub is_identifier : List ℕ → Bool
-is_identifier [] = false
-is_identifier (b ∷ bs) = (is_initial b && list_all is_subsequent bs)
-    || (bytes_eq (b ∷ bs) (codes "+") || (bytes_eq (b ∷ bs) (codes "-") || bytes_eq (b ∷ bs) (codes "...")))
 
 -- a word that is neither a number nor a character
 abbrev pub name_at : ℕ → List ℕ → Token
@@ -87,13 +57,6 @@ abbrev pub with_byte : ℕ → Content → Content
 with_byte b (Whole bs) = Whole (b ∷ bs)
 with_byte b Unended = Unended
 with_byte b (NoEscape at) = NoEscape at
-
--- R5RS has `\"` and `\\`; `\n` and `\t` are this project's own
-abbrev pub is_escape : ℕ → Bool
-is_escape b = is_one_of (codes "\"\\nt") b
-
-abbrev pub escaped : ℕ → ℕ
-escaped b = if b == 110 then 10 else (if b == 116 then 9 else b)
 
 -- the rest of a string, from a place on
 abbrev mutual

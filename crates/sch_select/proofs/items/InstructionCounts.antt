@@ -56,10 +56,10 @@ use Rattle.sch_select.specs.Sizes.{instructions_in}
 use Rattle.sch_select.proofs.items.ProgramLabels.{last_code}
 use Rattle.sch_select.proofs.items.TextSize.{sources_counts}
 use Rattle.sch_select.proofs.items.Sound.{impossible}
-use Rattle.sch_primitives.proofs.simulation.Selected.{atom_selected, read_selected, operand_selected}
-use Rattle.sch_primitives.proofs.simulation.Selected.{primitive_selected, operation_selected, source_selected}
-use Rattle.sch_primitives.proofs.simulation.Selected.{instruction_selected, three_selected, form_selected, selects}
-use Rattle.sch_primitives.proofs.simulation.Selected.{takes}
+use Rattle.sch_primitives.proofs.simulation.SelectedPrograms.{atom_selected, read_selected, operand_selected}
+use Rattle.sch_primitives.proofs.simulation.SelectedPrograms.{primitive_selected, operation_selected, source_selected}
+use Rattle.sch_primitives.proofs.simulation.SelectedPrograms.{instruction_selected, three_selected, form_selected, selects}
+use Rattle.sch_primitives.proofs.simulation.SelectedPrograms.{takes}
 
 -- ## Atoms and primitives
 

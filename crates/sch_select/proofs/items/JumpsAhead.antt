@@ -52,7 +52,7 @@ use Rattle.sch_select.specs.Program.{passed_code, entry_code, forms_code, labels
 use Rattle.sch_own_routines.specs.OwnCode.{own_code}
 use Rattle.sch_statics.specs.Data.{heap_of}
 use Rattle.sch_select.specs.Jumps.{goes_ahead, jumps_ahead}
-use Rattle.sch_primitives.proofs.simulation.Selected.{members_few, operation_few, labels_few}
+use Rattle.sch_primitives.proofs.simulation.SelectedPrograms.{members_few, operation_few, labels_few}
 use Rattle.sch_select.proofs.items.ProgramLabels.{body_labels, body_labelled}
 use Rattle.sch_select.proofs.items.ProgramKnown.{first_in, later_in, left_in, right_in, label_in}
 use Rattle.sch_select.proofs.items.Sound.{in_front}

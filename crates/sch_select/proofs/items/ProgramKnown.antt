@@ -56,7 +56,7 @@ use Rattle.sch_statics.specs.Data.{word_list, global_words, padding, closure_wor
 use Rattle.sch_places.specs.StaticBytes.{static_bytes}
 use Rattle.sch_statics.specs.NameWords.{symbol_words}
 use Rattle.sch_literals.specs.PlacedWords.{placed_values, placed_each}
-use Rattle.sch_primitives.proofs.simulation.Selected.{members_few, operation_few, labels_few}
+use Rattle.sch_primitives.proofs.simulation.SelectedPrograms.{members_few, operation_few, labels_few}
 use Rattle.sch_select.proofs.items.Labels.{unary_labels, binary_labels, read_labels, operand_labels, operation_labels}
 use Rattle.sch_select.proofs.items.ProgramLabels.{inner_labels, entry_labels, body_labels, own_labels, form_labels}
 use Rattle.sch_select.proofs.items.ProgramLabels.{forms_labels, forms_labelled, last_code}

@@ -53,10 +53,10 @@ use Rattle.sch_select.specs.Program.{passed_code, entry_code, forms_code, labels
 use Rattle.sch_statics.specs.Data.{heap_of}
 use Rattle.sch_select.proofs.items.ProgramLabels.{last_code}
 use Rattle.sch_select.proofs.items.Sound.{items_valid, arg_valid, fits_32, fits_64, items_say, in_front, fits_short}
-use Rattle.sch_primitives.proofs.simulation.Selected.{atom_selected, read_selected, operand_selected, source_selected}
-use Rattle.sch_primitives.proofs.simulation.Selected.{closure_selected, members_selected, operation_selected}
-use Rattle.sch_primitives.proofs.simulation.Selected.{three_selected, instruction_selected, form_selected, selects}
-use Rattle.sch_primitives.proofs.simulation.Selected.{takes}
+use Rattle.sch_primitives.proofs.simulation.SelectedPrograms.{atom_selected, read_selected, operand_selected, source_selected}
+use Rattle.sch_primitives.proofs.simulation.SelectedPrograms.{closure_selected, members_selected, operation_selected}
+use Rattle.sch_primitives.proofs.simulation.SelectedPrograms.{three_selected, instruction_selected, form_selected, selects}
+use Rattle.sch_primitives.proofs.simulation.SelectedPrograms.{takes}
 use Rattle.sch_frames.specs.Covered.{marks_settled}
 use Rattle.sch_control.specs.Valid.{only_reads}
 

@@ -31,7 +31,7 @@ use Rattle.sch_statics.specs.Data.{heap_of}
 use Rattle.sch_select.specs.Program.{count_code, entry_code, forms_code, labels_end, own_label, passed_code, program_code}
 use Rattle.sch_select.specs.Select.{body_code, instruction_code}
 use Rattle.sch_select.proofs.items.RestItems.{entry_appends, passed_appends}
-use Rattle.sch_select.proofs.items.Appending.{Appends, instruction_appends, operand_appends, second_appends, source_appends, then_appends}
+use Rattle.sch_select.proofs.items.AppendedItems.{Appends, instruction_appends, operand_appends, second_appends, source_appends, then_appends}
 
 -- what is appended is as long as it is
 size_behind : (f : List Item → List Item) → Appends f → (rest : List Item) → text_size (f rest) ≡ text_size (f []) + text_size rest

@@ -43,16 +43,16 @@ use Rattle.sch_heap.proofs.Encodings.{fits, false_tested}
 use Rattle.sch_places.proofs.Straight.{kept_set, moved_to}
 use Rattle.sch_places.proofs.Places.{Plan, Activation, Holds, held_value, loaded, written, handed}
 use Rattle.sch_places.proofs.Places.{places_kept}
-use Rattle.sch_select.proofs.items.Appending.{instruction_appends, Behind, behind}
+use Rattle.sch_select.proofs.items.AppendedItems.{instruction_appends, Behind, behind}
 use Rattle.sch_own_routines.proofs.simulation.Outcomes.{Laid}
 use Rattle.sch_primitives.proofs.simulation.Operations.{Std, FrameOf, StoreOf, SimOf, onward, none_waits}
-use Rattle.sch_own_routines.proofs.simulation.Entering.{Enters}
+use Rattle.sch_own_routines.proofs.simulation.ProcedureEntries.{Enters}
 use Rattle.sch_operations.proofs.simulation.Calls.{call_sim, tail_sim}
 use Rattle.sch_operations.proofs.simulation.EachOperation.{operation_cost, operation_sim}
 use Rattle.sch_operations.proofs.simulation.Closures.{group_sim}
 use Rattle.sch_operations.proofs.simulation.Records.{records_cost}
 use Rattle.sch_primitives.proofs.simulation.Operands.{ReadsSecond, second_here}
-use Rattle.sch_primitives.proofs.simulation.Selected.{instruction_selected, operand_selected, members_selected}
+use Rattle.sch_primitives.proofs.simulation.SelectedPrograms.{instruction_selected, operand_selected, members_selected}
 
 pub map_one : (ms : List control.MarkKind) (m : control.MarkKind)
     → map kind_of (ms ++ m ∷ []) ≡ map kind_of ms ++ kind_of m ∷ []

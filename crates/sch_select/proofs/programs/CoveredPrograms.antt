@@ -26,11 +26,11 @@ use Rattle.sch_control.specs.declared.operation.Member.{Member}
 use Rattle.sch_control.specs.declared.operation.Operation.{Operation}
 use Rattle.sch_frames.specs.Tree.{Code}
 use Rattle.sch_frames.specs.Run.{entries_of}
-use Rattle.sch_primitives.proofs.simulation.Selected.{takes, atom_selected, read_selected, operand_selected}
-use Rattle.sch_primitives.proofs.simulation.Selected.{source_selected, closure_selected, members_selected}
-use Rattle.sch_primitives.proofs.simulation.Selected.{primitive_selected, operation_selected, instruction_selected}
-use Rattle.sch_primitives.proofs.simulation.Selected.{form_selected, entry_selected, members_few, operation_few}
-use Rattle.sch_primitives.proofs.simulation.Selected.{labels_few, selects}
+use Rattle.sch_primitives.proofs.simulation.SelectedPrograms.{takes, atom_selected, read_selected, operand_selected}
+use Rattle.sch_primitives.proofs.simulation.SelectedPrograms.{source_selected, closure_selected, members_selected}
+use Rattle.sch_primitives.proofs.simulation.SelectedPrograms.{primitive_selected, operation_selected, instruction_selected}
+use Rattle.sch_primitives.proofs.simulation.SelectedPrograms.{form_selected, entry_selected, members_few, operation_few}
+use Rattle.sch_primitives.proofs.simulation.SelectedPrograms.{labels_few, selects}
 use Rattle.sch_control.specs.Covered.{is_covered_source, is_covered_closure, is_covered_member, is_covered_operation}
 use Rattle.sch_frames.specs.Covered.{is_covered_code, is_covered_instruction, is_covered_program, marks_settled}
 use Rattle.sch_frames.specs.Covered.{closure_low, instruction_low, member_low, operation_low, source_low}

@@ -1,7 +1,7 @@
 -- Small frame programs with their routines, run by the machine.
 use Rattle.std.proofs.Common.{◌≡◌, ℕ, List, [], ◌∷◌, ◌++◌, Option, Some, None, true, false, refl}
 use Rattle.std.specs.List.{flat_map}
-use Rattle.std.specs.Prelude.{codes, map, pos, negsuc, replicate, slice_index, ℤ}
+use Rattle.std.specs.Prelude.{codes, pos, negsuc, replicate, slice_index, ℤ}
 use Rattle.sch_word.specs.declared.answer.Answer.{Answer}
 use Rattle.sch_word.specs.declared.answer.Answer.TheVariants.{Took, Failed}
 use Rattle.sch_word.specs.declared.constant.Const.{Const}
@@ -27,9 +27,9 @@ use Rattle.sch_insn.specs.Behaves.{exit_of, start, zeros}
 use Rattle.sch_insn.specs.Spelling.{spelling}
 use Rattle.sch_insn.specs.Step.{mach}
 use Rattle.sch_asm.specs.declared.item.Item.{Item}
-use Rattle.sch_asm.specs.Codes.{item_size, bytes_of}
+use Rattle.sch_asm.specs.Codes.{bytes_of}
 use Rattle.sch_asm.specs.Data.{data_at}
-use Rattle.sch_asm.specs.Layout.{addresses_from, emitted, placed}
+use Rattle.sch_asm.specs.Layout.{emitted_from, placed_from}
 use Rattle.sch_asm.specs.Views.{text_at}
 use Rattle.sch_runtime.specs.Code.{routine_items}
 use Rattle.sch_statics.specs.Data.{program_words}
@@ -54,9 +54,8 @@ items_of heap p = program_code p heap 1 ++ routine_items
 
 abbrev pub text_of : List Item → List ℕ
 text_of items =
-    let addresses = addresses_from 0x400000 (map item_size items) in
-    let places = placed (slice_index addresses) items 0 (replicate 1600 0) in
-    flat_map spelling (emitted (slice_index places) (slice_index addresses) 0 items)
+    let places = placed_from 0x400000 items (replicate 1600 0) in
+    flat_map spelling (emitted_from (slice_index places) 0x400000 items)
 
 -- how a program ends within 400 steps, with a limit of the heap
 abbrev ends_in : (heap : ℕ) → Source → List Answer → Option (ℕ × List ℕ)

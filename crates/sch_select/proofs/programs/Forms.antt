@@ -35,11 +35,11 @@ use Rattle.sch_places.specs.ItemMarks.{kind_of}
 use Rattle.sch_places.specs.Addresses.{body_label}
 use Rattle.sch_select.specs.Program.{passed_code, count_code, entry_code, form_code, forms_code, labels_end}
 use Rattle.sch_places.proofs.Places.{Plan, Room, Activation, StoreAt, PlacesAt}
-use Rattle.sch_own_routines.proofs.simulation.Entering.{Enters}
-use Rattle.sch_select.proofs.programs.Standing.{count_past, after_body, entered_code}
+use Rattle.sch_own_routines.proofs.simulation.ProcedureEntries.{Enters}
+use Rattle.sch_select.proofs.programs.StandingBodies.{count_past, after_body, entered_code}
 use Rattle.sch_own_routines.proofs.simulation.Outcomes.{Ends, Goes_on, Sim, Laid, ends_after, paid}
 use Rattle.sch_select.proofs.programs.Bodies.{body_cost, body_sim, map_one}
-use Rattle.sch_primitives.proofs.simulation.Selected.{form_selected, instruction_selected}
+use Rattle.sch_primitives.proofs.simulation.SelectedPrograms.{form_selected, instruction_selected}
 
 -- how many steps forms take at most
 abbrev pub forms_cost : List Code → ℕ

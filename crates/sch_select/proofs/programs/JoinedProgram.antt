@@ -47,16 +47,16 @@ use Rattle.sch_select.specs.Sizes.{steps_bound}
 use Rattle.sch_select.specs.Marks.{PassesMarks, marks_passed}
 use Rattle.sch_select.specs.Follows.{AreRuns, EndsFrames, EntersFrames, FollowsFrames, PassesFrames}
 use Rattle.sch_places.proofs.Places.{Plan, Room}
-use Rattle.sch_select.proofs.items.Appending.{Appends, then_appends, body_appends, behind}
+use Rattle.sch_select.proofs.items.AppendedItems.{Appends, then_appends, body_appends, behind}
 use Rattle.sch_own_routines.proofs.simulation.Outcomes.{Laid}
 use Rattle.sch_select.proofs.programs.Procedures.{bodies_cost}
 use Rattle.sch_select.proofs.items.ProgramLabels.{last_code}
 use Rattle.sch_statics.proofs.SymbolNames.{are_named, symbol_words_count}
-use Rattle.sch_statics.proofs.Starting.{parts_at_start, bytes_count, texts_there, table_there, literals_there}
-use Rattle.sch_statics.proofs.Starting.{globals_there, names_there, ends_at, contents_there, new_there}
+use Rattle.sch_statics.proofs.StartData.{parts_at_start, bytes_count, texts_there, table_there, literals_there}
+use Rattle.sch_statics.proofs.StartData.{globals_there, names_there, ends_at, contents_there, new_there}
 use Rattle.sch_select.proofs.programs.EnterCounts.{counts_entries}
 use Rattle.sch_select.proofs.programs.Whole.{Starts, program_ends, program_follows, program_passes}
-use Rattle.sch_primitives.proofs.simulation.Selected.{form_selected, entry_selected, selects}
+use Rattle.sch_primitives.proofs.simulation.SelectedPrograms.{form_selected, entry_selected, selects}
 use Rattle.sch_frames.specs.Covered.{is_covered_code, marks_settled}
 
 -- what items, with the words and the zeros of data, do of a program

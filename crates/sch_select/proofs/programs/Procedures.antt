@@ -51,11 +51,11 @@ use Rattle.sch_places.proofs.Straight.{Halts}
 use Rattle.sch_places.proofs.Places.{Plan, code_of, Activation, StoreAt, PlacesAt}
 use Rattle.sch_own_routines.proofs.simulation.Outcomes.{Ends, Goes_on, Lands, Sim, Laid, after, ends_after}
 use Rattle.sch_own_routines.proofs.simulation.Outcomes.{goes_on_after, stops_here, paid}
-use Rattle.sch_own_routines.proofs.simulation.Entering.{Enters}
+use Rattle.sch_own_routines.proofs.simulation.ProcedureEntries.{Enters}
 use Rattle.sch_select.proofs.programs.Bodies.{body_cost, body_sim, map_one}
 use Rattle.sch_own_routines.proofs.lists.RestLoop.{changed}
 use Rattle.sch_own_routines.proofs.lists.Rests.{Fits, fitted}
-use Rattle.sch_primitives.proofs.simulation.Selected.{form_selected, entry_selected, instruction_selected}
+use Rattle.sch_primitives.proofs.simulation.SelectedPrograms.{form_selected, entry_selected, instruction_selected}
 
 -- ---- bodies by their labels
 

@@ -44,14 +44,14 @@ use Rattle.sch_select.specs.Sizes.{steps_bound}
 use Rattle.sch_select.proofs.programs.Steps.{steps_within}
 use Rattle.sch_select.specs.Marks.{PassesMarks, marks_of, marks_passed}
 use Rattle.sch_select.specs.Follows.{AreRuns}
-use Rattle.sch_select.proofs.programs.Passing.{Passes, traces}
+use Rattle.sch_select.proofs.programs.PathEvents.{Passes, traces}
 use Rattle.sch_places.proofs.Places.{Plan, code_of, Room, StoreAt}
 use Rattle.sch_own_routines.proofs.simulation.Outcomes.{Ends, Laid}
-use Rattle.sch_own_routines.proofs.simulation.Entering.{Enters}
+use Rattle.sch_own_routines.proofs.simulation.ProcedureEntries.{Enters}
 use Rattle.sch_select.proofs.programs.Procedures.{BodyAt, bodies_cost, enter_sim}
-use Rattle.sch_select.proofs.programs.Standing.{bodies_stand}
+use Rattle.sch_select.proofs.programs.StandingBodies.{bodies_stand}
 use Rattle.sch_select.proofs.programs.Forms.{Owed, forms_sim, forms_cost}
-use Rattle.sch_primitives.proofs.simulation.Selected.{form_selected, entry_selected}
+use Rattle.sch_primitives.proofs.simulation.SelectedPrograms.{form_selected, entry_selected}
 
 -- ---- globals, when a program starts
 

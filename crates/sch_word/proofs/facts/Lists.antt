@@ -36,7 +36,8 @@ set_elsewhere (x ∷ xs) (suc i) (suc k) v n = set_elsewhere xs i k v (λ e. n (
 
 -- a turn from the last to the first, for anything that is found of a list with its last item before what was found
 module _ {A R : Type 0} (F : List A → R → R) (one : A → R → R) (last : (ps : List A) (a : A) (r : R) → F (ps ++ a ∷ []) r ≡ F ps (one a r)) where
-  pub turn_back : (items : List A) (n : ℕ) (a : A) (r r' whole : R) → 0 < n → n ≤ length items → a ≡ get_or items (n - 1) a → r' ≡ one a r → F (take n items) r ≡ whole → F (take (n - 1) items) r' ≡ whole
+  pub turn_back : (items : List A) (n : ℕ) (a : A) (r r' whole : R) → 0 < n → n ≤ length items → a ≡ get_or items (n - 1) a → r' ≡ one a r → F (take n items) r ≡ whole
+      → F (take (n - 1) items) r' ≡ whole
   turn_back items n a r r' whole l b e h k =
       let p : n ≡ suc (n - 1) = omega (arith, l) in
       let k' : F (take (suc (n - 1)) items) r ≡ whole = subst (λ m. F (take m items) r ≡ whole) p k in

@@ -105,7 +105,8 @@ union_last [] qs x = refl
 union_last (a ∷ ps) qs x = ap (insert a) (union_last ps qs x)
 
 -- a turn of a loop that inserts each of some numbers behind those that are there
-pub union_next : (xs : List ℕ) (i : ℕ) (ys ys' whole : List ℕ) → i < length xs → reverse ys' ≡ insert (get_or xs i 0) (reverse ys) → union (reverse (drop i xs)) (reverse ys) ≡ whole → union (reverse (drop (i + 1) xs)) (reverse ys') ≡ whole
+pub union_next : (xs : List ℕ) (i : ℕ) (ys ys' whole : List ℕ) → i < length xs → reverse ys' ≡ insert (get_or xs i 0) (reverse ys) → union (reverse (drop i xs)) (reverse ys) ≡ whole
+    → union (reverse (drop (i + 1) xs)) (reverse ys') ≡ whole
 union_next xs i ys ys' whole l h k =
     let x = get_or xs i 0 in
     let n = subst (λ r. union (reverse r) (reverse ys) ≡ whole) (next_left xs i x l (get_or_default xs i 0 x l)) k in

@@ -13,7 +13,8 @@ node_rows : (is_covered_node (constant (Symbol 0)) ≡ true) × (is_covered_node
 node_rows = (refl, refl, refl)
 
 -- code may assign, make cells and procedures, and take lists
-made_rows : (is_covered_node set_variable ≡ true) × (is_covered_node (new_cells 2) ≡ true) × (is_covered_node (lambda (taking true)) ≡ true) × (is_covered_node (fix 2 (taking false ∷ taking true ∷ [])) ≡ true)
+made_rows : (is_covered_node set_variable ≡ true) × (is_covered_node (new_cells 2) ≡ true) × (is_covered_node (lambda (taking true)) ≡ true)
+    × (is_covered_node (fix 2 (taking false ∷ taking true ∷ [])) ≡ true)
 made_rows = (refl, refl, refl, refl)
 
 -- it calls, and no call spreads its last operand

@@ -12,3 +12,7 @@ data_address = 0x10000000
 -- the most bytes of a text: 16 MiB, so that it ends before the data begin (the project's own)
 abbrev pub max_text_size : ℕ
 max_text_size = 16777216
+
+-- the most bytes of data with the zeros after them: with a text those of an image (the project's own)
+abbrev pub max_data_size : ℕ
+max_data_size = 0xBF000000

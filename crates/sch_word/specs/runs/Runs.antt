@@ -87,7 +87,8 @@ pub record SameRuns (a b : Runs) : Type 0 where
 -- the same under tables that have an order for each of these sites, as a pass needs that drops or
 -- computes what another order would show
 pub record SameOrderedRuns (sites : List ℕ) (a b : Runs) : Type 0 where
-  pub same : (table : List (List ℕ)) → is_order_table sites table ≡ true → (heap depth : ℕ) (answers : List Answer) (entries : ℕ) → a table heap depth answers entries ≡ b table heap depth answers entries
+  pub same : (table : List (List ℕ)) → is_order_table sites table ≡ true
+      → (heap depth : ℕ) (answers : List Answer) (entries : ℕ) → a table heap depth answers entries ≡ b table heap depth answers entries
 
 -- ## Which statics are valid
 

@@ -3,7 +3,8 @@ use Rattle.sch_anf.proofs.CodeLists.{procedures_made, procedures_valid, procedur
 use Rattle.sch_anf.proofs.body.add_procedures.Goals as goal
 
 pub normalize_procedure-requires-clause-labels : goal.normalize_procedure-requires-clause-labels
-normalize_procedure-requires-clause-labels c = (procedures_labels c.args.starts.now c.args.bodies.now c.loop-b.b-index c.b-item.result c.loop-b-test.true c.b-item.is (length c.args.starts.now) c.loop-b.invariant.labels).0
+normalize_procedure-requires-clause-labels c = (procedures_labels c.args.starts.now c.args.bodies.now c.loop-b.b-index c.b-item.result c.loop-b-test.true c.b-item.is
+    (length c.args.starts.now) c.loop-b.invariant.labels).0
 
 pub normalize_procedure-requires-clause-valid : goal.normalize_procedure-requires-clause-valid
 normalize_procedure-requires-clause-valid c = (procedures_valid c.args.starts.now c.args.bodies.now c.loop-b.b-index c.b-item.result c.loop-b-test.true c.b-item.is c.loop-b.invariant.valid).0

@@ -5,7 +5,7 @@ use Rattle.sch_flat.proofs.Rows.{trees_of_list}
 use Rattle.sch_control.specs.Valid.{code_valid}
 use Rattle.sch_normal.specs.LabelsFit.{LabelsFitEach}
 use Rattle.sch_normal.specs.Normal.{normal_bodies}
-use Rattle.sch_anf.proofs.Loops.{labels_next}
+use Rattle.sch_expressions.proofs.Loops.{labels_next}
 use Rattle.sch_simple.proofs.PlacedLists.{count_is}
 use Rattle.sch_anf.proofs.CodeLists.{ascends_next, forms_valid, forms_made, forms_labels, between_labels, between_valid}
 use Rattle.sch_anf.proofs.body.normalize_bodies.Goals as goal
@@ -57,7 +57,9 @@ loop-i-preserved c =
     let m : c.loop-i.i < length starts = omega (arith, i.places, c.loop-i-test.true) in
     let a = ascends_next starts c.loop-i.before c.loop-i.i (length bodies) m i.ascends in
     record {
-      made = forms_made starts bodies items c.loop-i.before c.loop-i.i e place (omega (arith, c.loop-i-test.true)) c.index-items-i.is m refl a.0 c.loop-i.all c.add_procedures.new.all c.push.new.self c.in_ok-normalize_form.field-0 _ c.in_ok-add_procedures.ensures.made c.in_ok-push.ensures.ok c.in_ok-normalize_form.ensures.made i.made;
+      made = forms_made starts bodies items c.loop-i.before c.loop-i.i e place
+          (omega (arith, c.loop-i-test.true)) c.index-items-i.is m refl a.0 c.loop-i.all c.add_procedures.new.all c.push.new.self c.in_ok-normalize_form.field-0 _
+          c.in_ok-add_procedures.ensures.made c.in_ok-push.ensures.ok c.in_ok-normalize_form.ensures.made i.made;
       valid = (forms_valid starts bodies items c.loop-i.before c.loop-i.i e place (omega (arith, c.loop-i-test.true)) c.index-items-i.is m refl a.0 i.valid).2;
       ascends = a.2;
       bodies_fit = (forms_labels starts bodies items c.loop-i.before c.loop-i.i e place (omega (arith, c.loop-i-test.true)) c.index-items-i.is m refl a.0 (length starts) i.bodies_fit).1;

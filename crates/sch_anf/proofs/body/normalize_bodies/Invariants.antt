@@ -11,7 +11,8 @@ use Rattle.sch_anf.proofs.body.normalize_bodies.Given as goal
 
 abbrev pub invariant-loop-i : goal.invariant-loop-i
 invariant-loop-i l = record {
-  made : codes_of l.all ++ normal_bodies l.starts l.before (map body (drop l.before l.bodies)) (left (drop l.i l.items)) (drop l.i l.starts) ≡ normal_bodies l.starts 0 (map body l.bodies) (trees_of l.items) l.starts;
+  made : codes_of l.all ++ normal_bodies l.starts l.before (map body (drop l.before l.bodies)) (left (drop l.i l.items)) (drop l.i l.starts)
+      ≡ normal_bodies l.starts 0 (map body l.bodies) (trees_of l.items) l.starts;
   valid : list_all code_valid (normal_bodies l.starts l.before (map body (drop l.before l.bodies)) (left (drop l.i l.items)) (drop l.i l.starts)) ≡ true;
   ascends : ascending l.before (length l.bodies) (drop l.i l.starts) ≡ true;
   bodies_fit : LabelsOfBodies (length l.starts) (map body (drop l.before l.bodies));

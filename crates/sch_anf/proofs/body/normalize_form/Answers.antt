@@ -12,7 +12,8 @@ invariant_of-result c =
     let starts = c.args.starts.now in
     let e = tree c.args.e.now in
     let whole =
-    form_is starts e c.in_ok-name.name c.begin.new.self.next c.normalize_expression.new.v.next (scope_of c.begin.new.self.bound.items) (expression c.in_ok-exp.exp.value) c.in_ok-name.ensures (ap scope_of (c.begin.ensures.bound ∙ c.requires.none))
+    form_is starts e c.in_ok-name.name c.begin.new.self.next c.normalize_expression.new.v.next (scope_of c.begin.new.self.bound.items) (expression c.in_ok-exp.exp.value) c.in_ok-name.ensures
+    (ap scope_of (c.begin.ensures.bound ∙ c.requires.none))
     c.begin.ensures.next c.in_ok-exp.ensures.next c.in_ok-exp.ensures.made in
     let p = promises (form_code starts e) c.requires.valid in
     record {

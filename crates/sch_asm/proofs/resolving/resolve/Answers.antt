@@ -1,8 +1,5 @@
--- The instructions, marks and words that are put out by the tables are those of the items and words.
-use Rattle.std.proofs.Common.{◌≡◌, ℕ, ◌+◌, ◌*◌, ◌<◌, ◌≤◌, ◌++◌, ◌∷◌, List, [], length, map, refl, sym, ap, ◌∙◌, subst, arith, ⊎_elim, length-append}
-use Rattle.std.proofs.lemmas.Bool.{cases_lt}
-use Rattle.std.proofs.lemmas.List.{length-map}
-use Rattle.std.proofs.Math.ListN.{get_or-eq_default}
+-- The instructions, marks and words that are put out by the table are those of the items and words.
+use Rattle.std.proofs.Common.{◌≡◌, ℕ, ◌+◌, ◌<◌, ◌≤◌, ◌++◌, List, [], length, refl, sym, ap, ◌∙◌, subst, arith}
 use Rattle.std.specs.List.{flat_map}
 use Rattle.std.specs.Prelude.{slice_index}
 use Rattle.sch_insn.specs.declared.insn.Insn.{Insn}
@@ -11,113 +8,106 @@ use Rattle.sch_asm.specs.declared.assembly.Word.{Word}
 use Rattle.sch_asm.specs.declared.item.Item.{Item}
 use Rattle.sch_asm.specs.declared.item.Mark as mark
 use Rattle.sch_asm.specs.Items.{AreItems}
-use Rattle.sch_asm.specs.Codes.{AreResolved, Codes, bytes_of, item_size, text_size}
-use Rattle.sch_asm.specs.Layout.{IsLaidOut, UseBelow, emitted, marked, total}
-use Rattle.sch_asm.proofs.Tables.{Below, addresses_length, below_anywhere, sound_append, total_sizes, use_back, use_front}
-use Rattle.sch_asm.proofs.Emitted.{codes, emitted_append, emitted_size, emitted_valid, marked_append, own_by, rows}
+use Rattle.sch_asm.specs.Codes.{AreResolved, Codes, bytes_of, text_size}
+use Rattle.sch_asm.specs.Layout.{IsLaidOut, UseBelow, emitted_from, marked_from}
+use Rattle.sch_asm.proofs.Tables.{Below, below_anywhere, size_append, sound_append, use_back, use_front}
+use Rattle.sch_asm.proofs.Emitted.{codes, emitted_append, emitted_size, emitted_valid, marked_append, own_by}
 use Rattle.sch_asm.proofs.resolving.resolve.Goals as goal
 use Rattle.sch_asm.proofs.Words.{data_length}
 
 -- ---- sizes
 
-sizes_are : (xs ys first second : List Item) (sizes : List ℕ) → first ≡ xs → second ≡ ys → sizes ≡ map item_size (first ++ second) → sizes ≡ map item_size (xs ++ ys)
-sizes_are xs ys first second sizes e f g = g ∙ ap (λ l. map item_size (l ++ second)) e ∙ ap (λ l. map item_size (xs ++ l)) f
+size_is : (xs ys first second : List Item) (bytes : ℕ) → first ≡ xs → second ≡ ys → bytes ≡ text_size (first ++ second) → bytes ≡ text_size (xs ++ ys)
+size_is xs ys first second bytes e f g = g ∙ ap (λ l. text_size (l ++ second)) e ∙ ap (λ l. text_size (xs ++ l)) f
 
-size_is : (is : List Item) (bytes : ℕ) (sizes lent : List ℕ) → bytes ≡ total lent → lent ≡ sizes → sizes ≡ map item_size is → bytes ≡ text_size is
-size_is is bytes sizes lent e f g = e ∙ ap total (f ∙ g) ∙ total_sizes is
-
--- ---- tables
-
-long : (is : List Item) (ws : List Word) (places addresses : List ℕ) → IsLaidOut is ws places addresses → length addresses ≡ length is + 1
-long is ws places addresses h = ap length h.ends ∙ addresses_length 0x400000 (map item_size is) ∙ ap (λ k. k + 1) (length-map is item_size)
-
-room : (xs ys : List Item) (ws : List Word) (places addresses : List ℕ) → IsLaidOut (xs ++ ys) ws places addresses → length xs + length ys < length addresses
-room xs ys ws places addresses h = let e = long (xs ++ ys) ws places addresses h in let l = length-append xs ys in omega (arith, e, l)
+-- ---- the table
 
 small_place : (places : List ℕ) → Below 1073741824 places → (l : ℕ) → slice_index places l < 2147483648
 small_place places h l = omega (arith, below_anywhere places 1073741824 (omega arith) h l)
 
 -- ---- what is put out
 
-record Written (is : List Item) (ws : List Word) (code : List Insn) (marks : List mark.Mark) (words places addresses : List ℕ) : Type 0 where
-  laid : IsLaidOut is ws places addresses
+record Written (is : List Item) (ws : List Word) (code : List Insn) (marks : List mark.Mark) (words places : List ℕ) : Type 0 where
+  laid : IsLaidOut is ws places
   small : Below 1073741824 places
   sound : AreItems is
   fits : text_size is ≤ 16777216
-  code_is : code ≡ emitted (slice_index places) (slice_index addresses) 0 is
-  marks_is : marks ≡ marked (slice_index addresses) 0 is
+  code_is : code ≡ emitted_from (slice_index places) 0x400000 is
+  marks_is : marks ≡ marked_from 0x400000 is
   words_are : words ≡ flat_map (bytes_of (slice_index places)) ws
 
-both_code : (place at : ℕ → ℕ) (xs ys first second : List Item) (b : ℕ) (start code code' : List Insn) → start ≡ [] → first ≡ xs → second ≡ ys → b ≡ 0 + length first → code ≡ start ++ emitted place at 0 first → code' ≡ code ++ emitted place at b second → code' ≡ emitted place at 0 (xs ++ ys)
-both_code place at xs ys first second b start code code' e f g h i j =
-    j ∙ ap (λ l. l ++ emitted place at b second) (i ∙ ap (λ l. l ++ emitted place at 0 first) e ∙ ap (emitted place at 0) f)
-    ∙ ap (λ n. emitted place at 0 xs ++ emitted place at n second) (h ∙ ap (λ l. 0 + length l) f) ∙ ap (λ l. emitted place at 0 xs ++ emitted place at (0 + length xs) l) g
-    ∙ sym (emitted_append place at xs ys 0)
+both_code : (place : ℕ → ℕ) (xs ys first second : List Item) (b : ℕ) (start code code' : List Insn) → start ≡ [] → first ≡ xs → second ≡ ys → b ≡ 0x400000 + text_size first → code ≡ start ++ emitted_from place 0x400000 first → code' ≡ code ++ emitted_from place b second → code' ≡ emitted_from place 0x400000 (xs ++ ys)
+both_code place xs ys first second b start code code' e f g h i j =
+    j ∙ ap (λ l. l ++ emitted_from place b second) (i ∙ ap (λ l. l ++ emitted_from place 0x400000 first) e ∙ ap (emitted_from place 0x400000) f)
+    ∙ ap (λ a. emitted_from place 0x400000 xs ++ emitted_from place a second) (h ∙ ap (λ l. 0x400000 + text_size l) f) ∙ ap (λ l. emitted_from place 0x400000 xs ++ emitted_from place (0x400000 + text_size xs) l) g
+    ∙ sym (emitted_append place xs ys 0x400000)
 
-both_marks : (at : ℕ → ℕ) (xs ys first second : List Item) (b : ℕ) (start marks marks' : List mark.Mark) → start ≡ [] → first ≡ xs → second ≡ ys → b ≡ 0 + length first → marks ≡ start ++ marked at 0 first → marks' ≡ marks ++ marked at b second → marks' ≡ marked at 0 (xs ++ ys)
-both_marks at xs ys first second b start marks marks' e f g h i j =
-    j ∙ ap (λ l. l ++ marked at b second) (i ∙ ap (λ l. l ++ marked at 0 first) e ∙ ap (marked at 0) f)
-    ∙ ap (λ n. marked at 0 xs ++ marked at n second) (h ∙ ap (λ l. 0 + length l) f) ∙ ap (λ l. marked at 0 xs ++ marked at (0 + length xs) l) g
-    ∙ sym (marked_append at xs ys 0)
+both_marks : (xs ys first second : List Item) (b : ℕ) (start marks marks' : List mark.Mark) → start ≡ [] → first ≡ xs → second ≡ ys → b ≡ 0x400000 + text_size first → marks ≡ start ++ marked_from 0x400000 first → marks' ≡ marks ++ marked_from b second → marks' ≡ marked_from 0x400000 (xs ++ ys)
+both_marks xs ys first second b start marks marks' e f g h i j =
+    j ∙ ap (λ l. l ++ marked_from b second) (i ∙ ap (λ l. l ++ marked_from 0x400000 first) e ∙ ap (marked_from 0x400000) f)
+    ∙ ap (λ a. marked_from 0x400000 xs ++ marked_from a second) (h ∙ ap (λ l. 0x400000 + text_size l) f) ∙ ap (λ l. marked_from 0x400000 xs ++ marked_from (0x400000 + text_size xs) l) g
+    ∙ sym (marked_append xs ys 0x400000)
 
-resolved : (is : List Item) (ws : List Word) (code : List Insn) (marks : List mark.Mark) (words places addresses : List ℕ) → Written is ws code marks words places addresses → AreResolved is ws code marks words × AllValid code × (length (flat_map spelling code) ≡ text_size is)
-resolved is ws code marks words places addresses w =
+resolved : (is : List Item) (ws : List Word) (code : List Insn) (marks : List mark.Mark) (words places : List ℕ) → Written is ws code marks words places → AreResolved is ws code marks words × AllValid code × (length (flat_map spelling code) ≡ text_size is)
+resolved is ws code marks words places w =
     let place = slice_index places in
-    let at = slice_index addresses in
     let small = small_place places w.small in
-    let r = rows is 0 0x400000 addresses w.laid.ends in
-    let first : at 0 ≡ 0x400000 = r.0 in
-    let fits = w.fits in
-    let low : at 0 + text_size is < 2147483648 = omega (arith, first, fits) in
-    let c = codes place at small is 0 low w.sound r.1 (own_by places addresses is 0 small w.laid.standing) in (
+    let low : 0x400000 + text_size is < 2147483648 = omega (arith, w.fits) in
+    let c = codes place small is 0x400000 low w.sound (own_by places is 0x400000 small w.laid.standing) in (
       record {
         place_of = place;
         small = small;
-        codes = subst (λ l. Codes place 0x400000 is l marks) (sym w.code_is) (subst (λ l. Codes place 0x400000 is (emitted place at 0 is) l) (sym w.marks_is) (subst (λ a. Codes place a is (emitted place at 0 is) (marked at 0 is)) first c));
+        codes = subst (λ l. Codes place 0x400000 is l marks) (sym w.code_is) (subst (λ l. Codes place 0x400000 is (emitted_from place 0x400000 is) l) (sym w.marks_is) c);
         bytes = w.words_are;
       },
-      subst AllValid (sym w.code_is) (emitted_valid place at small is 0 low w.sound r.1),
-      ap (λ l. length (flat_map spelling l)) w.code_is ∙ emitted_size place at is 0,
+      subst AllValid (sym w.code_is) (emitted_valid place small is 0x400000 low w.sound),
+      ap (λ l. length (flat_map spelling l)) w.code_is ∙ emitted_size place is 0x400000,
     )
 
 -- ---- the goals
 
-pub returns-then-bytes-gt-MAX_TEXT_SIZE-clause-too_large : goal.returns-then-bytes-gt-MAX_TEXT_SIZE-clause-too_large
-returns-then-bytes-gt-MAX_TEXT_SIZE-clause-too_large c =
-    (size_is (c.args.a.now.items ++ c.args.routines.now.items) c.total_size-bytes.result c.in_ok-sizes.sizes c.as_slice-3.result.now c.total_size-bytes.ensures c.as_slice-3.ensures (sizes_are c.args.a.now.items c.args.routines.now.items c.as_slice.result.now c.as_slice-2.result.now c.in_ok-sizes.sizes c.as_slice.ensures c.as_slice-2.ensures c.in_ok-sizes.ensures.sizes), c.if-bytes-gt-MAX_TEXT_SIZE.true)
+pub returns-then-extent-gt-MAX_TEXT_SIZE-clause-too_large : goal.returns-then-extent-gt-MAX_TEXT_SIZE-clause-too_large
+returns-then-extent-gt-MAX_TEXT_SIZE-clause-too_large c =
+    (size_is c.args.a.now.items c.args.routines.now.items c.as_slice.result.now c.as_slice-2.result.now c.extent_of-extent.result.bytes c.as_slice.ensures c.as_slice-2.ensures c.extent_of-extent.ensures.bytes, c.if-extent-gt-MAX_TEXT_SIZE.true)
 
 pub emit-requires-clause-uses : goal.emit-requires-clause-uses
 emit-requires-clause-uses c =
-    subst (UseBelow (length c.in_ok-layout.layout.places.items)) (sym c.as_slice-5.ensures) (use_front c.args.a.now.items c.args.routines.now.items (length c.in_ok-layout.layout.places.items) c.in_ok-layout.ensures.uses)
+    subst (UseBelow (length c.in_ok-layout.layout.places.items)) (sym c.as_slice-3.ensures) (use_front c.args.a.now.items c.args.routines.now.items (length c.in_ok-layout.layout.places.items) c.in_ok-layout.ensures.uses)
 
-pub emit-requires-clause-within : goal.emit-requires-clause-within
-emit-requires-clause-within c =
-    let r = room c.args.a.now.items c.args.routines.now.items c.args.a.now.words c.in_ok-layout.layout.places.items c.in_ok-layout.layout.addresses c.in_ok-layout.ensures in
-    let e = ap length c.as_slice-5.ensures in omega (arith, r, e)
+pub emit-requires-clause-short : goal.emit-requires-clause-short
+emit-requires-clause-short c =
+    let size = size_is c.args.a.now.items c.args.routines.now.items c.as_slice.result.now c.as_slice-2.result.now c.extent_of-extent.result.bytes c.as_slice.ensures c.as_slice-2.ensures c.extent_of-extent.ensures.bytes in
+    let s = size_append c.args.a.now.items c.args.routines.now.items in
+    let l = ap text_size c.as_slice-3.ensures in
+    omega (arith, size, s, l, c.if-extent-gt-MAX_TEXT_SIZE.false)
 
 pub emit-requires-2-clause-uses : goal.emit-requires-2-clause-uses
 emit-requires-2-clause-uses c =
-    subst (UseBelow (length c.in_ok-layout.layout.places.items)) (sym c.as_slice-6.ensures) (use_back c.args.a.now.items c.args.routines.now.items (length c.in_ok-layout.layout.places.items) c.in_ok-layout.ensures.uses)
+    subst (UseBelow (length c.in_ok-layout.layout.places.items)) (sym c.as_slice-4.ensures) (use_back c.args.a.now.items c.args.routines.now.items (length c.in_ok-layout.layout.places.items) c.in_ok-layout.ensures.uses)
 
-pub emit-requires-2-clause-within : goal.emit-requires-2-clause-within
-emit-requires-2-clause-within c =
-    let r = room c.args.a.now.items c.args.routines.now.items c.args.a.now.words c.in_ok-layout.layout.places.items c.in_ok-layout.layout.addresses c.in_ok-layout.ensures in
-    let e = ap length c.as_slice-5.ensures in let f = ap length c.as_slice-6.ensures in omega (arith, r, e, f, c.in_ok-behind.ensures.end)
+pub emit-requires-2-clause-short : goal.emit-requires-2-clause-short
+emit-requires-2-clause-short c =
+    let size = size_is c.args.a.now.items c.args.routines.now.items c.as_slice.result.now c.as_slice-2.result.now c.extent_of-extent.result.bytes c.as_slice.ensures c.as_slice-2.ensures c.extent_of-extent.ensures.bytes in
+    let s = size_append c.args.a.now.items c.args.routines.now.items in
+    let l = ap text_size c.as_slice-3.ensures in
+    let m = ap text_size c.as_slice-4.ensures in
+    omega (arith, size, s, l, m, c.in_ok-behind.ensures.end, c.if-extent-gt-MAX_TEXT_SIZE.false)
 
 pub returns : goal.returns
 returns c =
-    let size = size_is (c.args.a.now.items ++ c.args.routines.now.items) c.total_size-bytes.result c.in_ok-sizes.sizes c.as_slice-3.result.now c.total_size-bytes.ensures c.as_slice-3.ensures (sizes_are c.args.a.now.items c.args.routines.now.items c.as_slice.result.now c.as_slice-2.result.now c.in_ok-sizes.sizes c.as_slice.ensures c.as_slice-2.ensures c.in_ok-sizes.ensures.sizes) in
+    let xs = c.args.a.now.items in
+    let ys = c.args.routines.now.items in
+    let size = size_is xs ys c.as_slice.result.now c.as_slice-2.result.now c.extent_of-extent.result.bytes c.as_slice.ensures c.as_slice-2.ensures c.extent_of-extent.ensures.bytes in
     let place = slice_index c.in_ok-layout.layout.places.items in
-    let at = slice_index c.in_ok-layout.layout.addresses in
-    let w : Written (c.args.a.now.items ++ c.args.routines.now.items) c.args.a.now.words c.emit-2.new.code c.emit-2.new.marks c.in_ok-words.words c.in_ok-layout.layout.places.items c.in_ok-layout.layout.addresses = record {
+    let w : Written (xs ++ ys) c.args.a.now.words c.emit-2.new.code c.emit-2.new.marks c.in_ok-words.words c.in_ok-layout.layout.places.items = record {
       laid = c.in_ok-layout.ensures;
       small = c.in_ok-layout.layout.low;
-      sound = sound_append c.args.a.now.items c.args.routines.now.items c.args.a.now.sound c.args.routines.now.sound;
-      fits = omega (arith, size, c.if-bytes-gt-MAX_TEXT_SIZE.false);
-      code_is = both_code place at c.args.a.now.items c.args.routines.now.items c.as_slice-5.result.now c.as_slice-6.result.now c.in_ok-behind.behind c.new-code.result c.emit.new.code c.emit-2.new.code c.new-code.ensures c.as_slice-5.ensures c.as_slice-6.ensures c.in_ok-behind.ensures.end c.in_ok-behind.ensures.code c.in_ok-emit.ensures.code;
-      marks_is = both_marks at c.args.a.now.items c.args.routines.now.items c.as_slice-5.result.now c.as_slice-6.result.now c.in_ok-behind.behind c.new-marks.result c.emit.new.marks c.emit-2.new.marks c.new-marks.ensures c.as_slice-5.ensures c.as_slice-6.ensures c.in_ok-behind.ensures.end c.in_ok-behind.ensures.marks c.in_ok-emit.ensures.marks;
-      words_are = c.in_ok-words.ensures ∙ ap (flat_map (bytes_of place)) c.as_slice-7.ensures;
+      sound = sound_append xs ys c.args.a.now.sound c.args.routines.now.sound;
+      fits = omega (arith, size, c.if-extent-gt-MAX_TEXT_SIZE.false);
+      code_is = both_code place xs ys c.as_slice-3.result.now c.as_slice-4.result.now c.in_ok-behind.behind c.in_ok-code.code c.emit.new.code c.emit-2.new.code c.in_ok-code.ensures c.as_slice-3.ensures c.as_slice-4.ensures c.in_ok-behind.ensures.end c.in_ok-behind.ensures.code c.in_ok-emit.ensures.code;
+      marks_is = both_marks xs ys c.as_slice-3.result.now c.as_slice-4.result.now c.in_ok-behind.behind c.new-marks.result c.emit.new.marks c.emit-2.new.marks c.new-marks.ensures c.as_slice-3.ensures c.as_slice-4.ensures c.in_ok-behind.ensures.end c.in_ok-behind.ensures.marks c.in_ok-emit.ensures.marks;
+      words_are = c.in_ok-words.ensures ∙ ap (flat_map (bytes_of place)) c.as_slice-5.ensures;
     } in
-    let r = resolved (c.args.a.now.items ++ c.args.routines.now.items) c.args.a.now.words c.emit-2.new.code c.emit-2.new.marks c.in_ok-words.words c.in_ok-layout.layout.places.items c.in_ok-layout.layout.addresses w in
+    let r = resolved (xs ++ ys) c.args.a.now.words c.emit-2.new.code c.emit-2.new.marks c.in_ok-words.words c.in_ok-layout.layout.places.items w in
     let e = r.2 in
     record { stands = r.0; valid = r.1; words = ap length w.words_are ∙ data_length place c.args.a.now.words; zeros = refl; size = r.2; fits = omega (arith, e, w.fits); too_large = tt }

@@ -1,3 +1,4 @@
+use Rattle.std.proofs.Common.{◌∙◌}
 use Rattle.sch_assign.specs.Table.{table}
 use Rattle.sch_assign.proofs.Loops.{each_made, each_start, each_end, within_start, within_next, lambdas_made, lambdas_start, lambdas_end, within_lambdas_start, within_lambdas_next}
 use Rattle.sch_assign.proofs.conversion.+converting.Goals as goal
@@ -6,7 +7,7 @@ pub convert_each-loop-e-init : goal.convert_each-loop-e-init
 convert_each-loop-e-init t c =
     let items = c.as_slice-e-items.result.now in
     record {
-      made = each_start (table c.args.celled.now) c.args.n items c.new-all.result c.new-all.ensures;
+      made = each_start (table c.args.celled.now) c.args.n items c.from_vec-all.result (c.from_vec-all.ensures ∙ c.in_ok-with_capacity.ensures.items);
       within = within_start c.args.n items c.args.es.now c.as_slice-e-items.ensures c.requires.within;
     }
 
@@ -27,7 +28,7 @@ pub convert_lambdas-loop-l-init : goal.convert_lambdas-loop-l-init
 convert_lambdas-loop-l-init t c =
     let items = c.as_slice-l-items.result.now in
     record {
-      made = lambdas_start (table c.args.celled.now) c.args.n items c.new-all.result c.new-all.ensures;
+      made = lambdas_start (table c.args.celled.now) c.args.n items c.from_vec-all.result (c.from_vec-all.ensures ∙ c.in_ok-with_capacity.ensures.items);
       within = within_lambdas_start c.args.n items c.args.ls.now c.as_slice-l-items.ensures c.requires.within;
     }
 

@@ -31,8 +31,10 @@ returns g c =
     let file = c.as_slice-2.result.now in
     let lent = c.as_slice.result.now in
     let text = c.in_ok-text.text in
-    let made = subst (λ t. IsFileOf t c.args.limits.heap c.args.limits.depth file) c.as_slice.ensures (subst (IsFileOf lent c.args.limits.heap c.args.limits.depth) (sym c.as_slice-2.ensures) c.in_ok-file.ensures.made) in
+    let made = subst (λ t. IsFileOf t c.args.limits.heap c.args.limits.depth file) c.as_slice.ensures
+    (subst (IsFileOf lent c.args.limits.heap c.args.limits.depth) (sym c.as_slice-2.ensures) c.in_ok-file.ensures.made) in
     let before = (disk_change g.D.Disk.files g.D.Disk.faults g.D.Disk.calls c.args.disk.now c.read_file.new.disk).before in
     let change = disk_change g.D.Disk.files g.D.Disk.faults g.D.Disk.calls c.read_file.new.disk c.write_file.new.disk in
-    written_compiles c.args.source.now c.args.target.now text file c.args.limits.heap c.args.limits.depth before change.before change.after c.in_ok-text.ensures.read c.read_file.ensures.unchanged c.read_file.ensures.faults c.read_file.ensures.calls
+    written_compiles c.args.source.now c.args.target.now text file c.args.limits.heap c.args.limits.depth before change.before change.after c.in_ok-text.ensures.read c.read_file.ensures.unchanged
+    c.read_file.ensures.faults c.read_file.ensures.calls
     c.write_file.ensures.calls made c.write_file.result c.write_file.ensures.ok c.write_file.ensures.err c.write_file.ensures.failed c.write_file.ensures.only

@@ -4,7 +4,7 @@ use Rattle.std.proofs.lemmas.List.{take_all}
 use Rattle.sch_io.specs.Told.{Tells}
 use Rattle.sch_io.proofs.PutSteps.{bytes_then}
 use Rattle.sch_cli.specs.Messages.{joined}
-use Rattle.sch_cli.proofs.Saying.{joined_more, joined_split, says_part, says_whole}
+use Rattle.sch_cli.proofs.LineParts.{joined_more, joined_split, says_part, says_whole}
 use Rattle.sch_cli.proofs.message.say_pieces.Goals as goal
 
 -- what is read past the last piece

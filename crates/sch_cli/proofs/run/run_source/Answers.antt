@@ -25,7 +25,8 @@ returns-in_err-image-clause-ran g c =
     let out = stream_change g.O.Outlet.bytes g.O.Outlet.left g.O.Outlet.faults c.args.out.now c.args.out.now in
     let why = c.in_err-image.field-0.0 in
     let is = subst (λ lent. IsRefused lent c.args.wanted.limits.depth why) c.as_slice.ensures c.in_err-image.ensures.refused in
-    subst (RunsSource name c.args.wanted.limits.heap c.args.wanted.limits.depth c.args.wanted.steps disk out) (sym (failed_with c.from_residual-in_err-image.result why c.from_residual-in_err-image.ensures.1))
+    subst (RunsSource name c.args.wanted.limits.heap c.args.wanted.limits.depth c.args.wanted.steps disk out)
+    (sym (failed_with c.from_residual-in_err-image.result why c.from_residual-in_err-image.ensures.1))
     (refused why (file_is disk name c.in_ok-text.text (λ file. IsRefused file c.args.wanted.limits.depth why) c.in_ok-text.ensures.read.found is) (took_nothing (g.O.Outlet.bytes c.args.out.now)))
 
 pub returns-in_err-end-clause-ran : goal.returns-in_err-end-clause-ran
@@ -35,7 +36,8 @@ returns-in_err-end-clause-ran g c =
     let old = c.args.out.now in
     let out = stream_change g.O.Outlet.bytes g.O.Outlet.left g.O.Outlet.faults old c.execute.new.out in
     let nothing = subst (λ o. TookNothing (stream_change g.O.Outlet.bytes g.O.Outlet.left g.O.Outlet.faults old o)) (sym c.in_err-end.ensures.err) (took_nothing (g.O.Outlet.bytes old)) in
-    subst (RunsSource name c.args.wanted.limits.heap c.args.wanted.limits.depth c.args.wanted.steps disk out) (sym (failed_with c.from_residual-in_err-end.result Memory c.from_residual-in_err-end.ensures.1)) (no_memory nothing)
+    subst (RunsSource name c.args.wanted.limits.heap c.args.wanted.limits.depth c.args.wanted.steps disk out)
+    (sym (failed_with c.from_residual-in_err-end.result Memory c.from_residual-in_err-end.ensures.1)) (no_memory nothing)
 
 pub returns-clause-ran : goal.returns-clause-ran
 returns-clause-ran g c =

@@ -24,7 +24,8 @@ returns-in_err-image-clause-stepped g c =
     let error = c.in_err-image.field-0.0 in
     let is = subst (λ lent. images.IsRefused lent error) c.as_slice.ensures c.in_err-image.ensures.refused in
     subst (StepsImage name c.args.steps disk out) (sym (failed_with c.from_residual-in_err-image.result (Image error) c.from_residual-in_err-image.ensures.1))
-    (no_image error (file_is disk name c.in_ok-file.file (λ file. (length file ≤ max_image_file_size) × images.IsRefused file error) c.in_ok-file.ensures.read.found (c.in_ok-file.ensures.read.within, is))
+    (no_image error (file_is disk name c.in_ok-file.file (λ file. (length file ≤ max_image_file_size) × images.IsRefused file error) c.in_ok-file.ensures.read.found
+    (c.in_ok-file.ensures.read.within, is))
     (took_nothing (g.O.Outlet.bytes c.args.out.now)))
 
 pub returns-in_err-end-clause-stepped : goal.returns-in_err-end-clause-stepped

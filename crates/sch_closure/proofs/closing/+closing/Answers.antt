@@ -2,9 +2,10 @@ use Rattle.std.proofs.Common.{◌≡◌, ◌∷◌, [], ◌+◌, length, map, ap
 use Rattle.sch_cells.specs.View.{tree}
 use Rattle.sch_cells.proofs.Rows.{trees_of_list, lambdas_of_list}
 use Rattle.sch_flat.specs.View.{body}
-use Rattle.sch_closure.specs.Closed.{procedures_each, procedures_lambdas, closed_each, made_each, body_of, fields_of}
+use Rattle.sch_closed.specs.Closed.{procedures_each, procedures_lambdas, closed_each, made_each, body_of, fields_of}
 use Rattle.sch_closure.specs.Walked.{with_bodies_each, with_bodies_lambdas}
-use Rattle.sch_closure.proofs.MadeLists.{each_made, each_bodies, each_count, each_start, each_stand, each_end, lambdas_made, lambdas_bodies, lambdas_count, lambdas_start, lambdas_stand, lambdas_end, here_is, made_body, body_made}
+use Rattle.sch_closure.proofs.MadeLists.{each_made, each_bodies, each_count, each_start, each_stand, each_end, lambdas_made, lambdas_bodies}
+use Rattle.sch_closure.proofs.MadeLists.{lambdas_count, lambdas_start, lambdas_stand, lambdas_end, here_is, made_body, body_made}
 use Rattle.sch_closure.proofs.closing.+closing.Goals as goal
 
 pub close_each-loop-e-init : goal.close_each-loop-e-init
@@ -36,7 +37,8 @@ close_each-loop-e-preserved t c =
 
 pub close_each-returns-clause-made : goal.close_each-returns-clause-made
 close_each-returns-clause-made t c =
-    each_end c.as_slice-e-items.result.now c.args.es.now c.loop-e.e-index c.args.own.now (length c.loop-e.bodies.items) (length c.args.bodies.now.items) c.loop-e.all c.as_slice-e-items.ensures c.loop-e-test.false c.loop-e.invariant.made
+    each_end c.as_slice-e-items.result.now c.args.es.now c.loop-e.e-index c.args.own.now (length c.loop-e.bodies.items)
+    (length c.args.bodies.now.items) c.loop-e.all c.as_slice-e-items.ensures c.loop-e-test.false c.loop-e.invariant.made
 
 pub close_lambda-returns-clause-bodies : goal.close_lambda-returns-clause-bodies
 close_lambda-returns-clause-bodies t c =
@@ -44,10 +46,12 @@ close_lambda-returns-clause-bodies t c =
     let old = c.args.bodies.now.items in
     let n = c.len-label.result in
     let label : n ≡ length old = omega (arith, c.len-label.ensures) in
-    let inside : c.as_slice-inside.result.now ≡ fields_of l.first l.formals (tree l.body) = c.as_slice-inside.ensures ∙ here_is c.args.fields.now n _ _ (rw label c.requires.here) c.index-fields-label.is in
+    let inside : c.as_slice-inside.result.now ≡ fields_of l.first l.formals (tree l.body) =
+    c.as_slice-inside.ensures ∙ here_is c.args.fields.now n _ _ (rw label c.requires.here) c.index-fields-label.is in
     body_made (tree l.body) old c.push.new.self.items c.close_expression.new.bodies.items n c.unmade_body.result _ (λ k. body_of l.name l.first l.formals l.rest (tree l.body) k)
     c.in_ok-push.ensures.items c.in_ok-code.ensures.bodies label
-    (made_body l.name c.in_ok-name.name l.first l.formals l.rest (tree l.body) n (length c.push.new.self.items) c.as_slice-inside.result.now _ (c.in_ok-name.ensures ∙ c.as_slice.ensures) inside (ap length c.in_ok-push.ensures.items ∙ omega (arith, length-append old (c.unmade_body.result ∷ []), label)) c.in_ok-code.ensures.made)
+    (made_body l.name c.in_ok-name.name l.first l.formals l.rest (tree l.body) n (length c.push.new.self.items) c.as_slice-inside.result.now _ (c.in_ok-name.ensures ∙ c.as_slice.ensures) inside
+    (ap length c.in_ok-push.ensures.items ∙ omega (arith, length-append old (c.unmade_body.result ∷ []), label)) c.in_ok-code.ensures.made)
 
 pub close_lambdas-loop-l-init : goal.close_lambdas-loop-l-init
 close_lambdas-loop-l-init t c =
@@ -78,4 +82,5 @@ close_lambdas-loop-l-preserved t c =
 
 pub close_lambdas-returns-clause-made : goal.close_lambdas-returns-clause-made
 close_lambdas-returns-clause-made t c =
-    lambdas_end c.as_slice-l-items.result.now c.args.ls.now c.loop-l.l-index c.args.own.now (length c.loop-l.bodies.items) (length c.args.bodies.now.items) c.loop-l.all c.as_slice-l-items.ensures c.loop-l-test.false c.loop-l.invariant.made
+    lambdas_end c.as_slice-l-items.result.now c.args.ls.now c.loop-l.l-index c.args.own.now (length c.loop-l.bodies.items)
+    (length c.args.bodies.now.items) c.loop-l.all c.as_slice-l-items.ensures c.loop-l-test.false c.loop-l.invariant.made

@@ -1,7 +1,7 @@
 use Rattle.std.proofs.Common.{◌≡◌, ◌∷◌, ◌++◌, ◌+◌, [], arith, length, map, ap, ◌∙◌, sym}
 use Rattle.sch_cells.proofs.Rows.{trees_of_list}
 use Rattle.sch_flat.specs.View.{body}
-use Rattle.sch_closure.specs.Closed.{procedures_each, closed_each, starts}
+use Rattle.sch_closed.specs.Closed.{procedures_each, closed_each, starts}
 use Rattle.sch_closure.specs.Walked.{with_bodies_each}
 use Rattle.sch_closure.proofs.MadeLists.{each_made, each_bodies, each_count, each_start, each_stand, each_starts, each_end}
 use Rattle.sch_closure.proofs.closing.close_forms.Goals as goal
@@ -33,9 +33,11 @@ loop-e-preserved c =
       bodies = each_bodies items c.loop-e.e-index e n m c.loop-e-test.true c.e-item.is p.count (map body c.loop-e.bodies.items) (map body c.close_expression.new.bodies.items) _ p.bodies i.bodies;
       count = each_count items c.loop-e.e-index e n m c.loop-e-test.true c.e-item.is p.count _ i.count;
       stand = each_stand items c.loop-e.e-index e n m c.loop-e-test.true c.e-item.is p.count c.args.fields.now i.stand;
-      starts = each_starts items c.loop-e.e-index e n m c.loop-e-test.true c.e-item.is p.count c.loop-e.before c.push.new.self _ (c.in_ok-push.ensures.ok ∙ ap (λ k. c.loop-e.before ++ k ∷ []) k) i.starts;
+      starts = each_starts items c.loop-e.e-index e n m c.loop-e-test.true c.e-item.is p.count c.loop-e.before c.push.new.self _
+          (c.in_ok-push.ensures.ok ∙ ap (λ k. c.loop-e.before ++ k ∷ []) k) i.starts;
     }
 
 pub returns-clause-made : goal.returns-clause-made
 returns-clause-made c =
-    each_end c.as_slice-e-items.result.now c.args.es.now c.loop-e.e-index [] (length c.loop-e.bodies.items) (length c.args.bodies.now.items) c.loop-e.all c.as_slice-e-items.ensures c.loop-e-test.false c.loop-e.invariant.made
+    each_end c.as_slice-e-items.result.now c.args.es.now c.loop-e.e-index [] (length c.loop-e.bodies.items)
+    (length c.args.bodies.now.items) c.loop-e.all c.as_slice-e-items.ensures c.loop-e-test.false c.loop-e.invariant.made

@@ -1,6 +1,4 @@
 use Rattle.std.proofs.Common.{◌≤◌, ◌∙◌, ap, subst, sym}
-use Rattle.std.specs.List.{flat_map}
-use Rattle.sch_insn.specs.Spelling.{spelling}
 use Rattle.sch_control.specs.ProgramView.{source}
 use Rattle.sch_control.specs.Work.{codes_work}
 use Rattle.sch_frames.specs.ProgramView as frames
@@ -55,9 +53,9 @@ returns-clause-does c =
     let code = c.in_ok-code.ensures in
     let n = text_within f c.in_ok-code.code.items c.in_ok-routines.routines.items (codes_work p.bodies) code.text made.work c.in_ok-routines.ensures.short in
     assembled p f c.args.limits.heap c.args.limits.depth c.in_ok-code.code c.in_ok-routines.routines
-    r.resolved.code r.resolved.marks r.resolved.words c.in_ok-text.text r.resolved.zeros c.in_ok-image.image c.len-instructions.result c.len-instructions.ensures
+    r.resolved.code r.resolved.marks r.resolved.words c.into_bytes-text.result r.resolved.zeros c.in_ok-image.image c.len-instructions.result c.len-instructions.ensures
     made.same (framed_parts p f made.statics made.library made.made made.words)
     (record { follows = code.follows; ends = code.steps; passes = code.passes; enters = code.entries; takes = code.takes; stand = made.stand; units = code.instructions; zeros = code.zeros; items = code.items; words_end = code.words })
     c.in_ok-routines.ensures.items (record { largest = made.words; few = few_words c.in_ok-frames.frames; bound = made.covered_words c.requires.covered }) c.in_ok-check_stack.ensures.fits r.ensures.words
     c.in_ok-routines.ensures.effective r.ensures.stands r.ensures.valid r.ensures.fits r.ensures.size (subst (λ k. k ≤ assembled_bound p) (sym r.ensures.size) n)
-    (c.in_ok-text.ensures ∙ ap (flat_map spelling) c.as_slice.ensures) r.ensures.zeros c.in_ok-image.ensures.layout
+    c.into_bytes-text.ensures r.ensures.zeros c.in_ok-image.ensures.layout

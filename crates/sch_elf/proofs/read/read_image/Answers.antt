@@ -12,7 +12,8 @@ pub read_segments-requires : goal.read_segments-requires
 read_segments-requires c =
     let file = c.args.file.now in
     let heads : c.deref-2.result.now ≡ loads file = c.deref-2.ensures.value ∙ c.in_ok-loads.ensures.loads in
-    subst (λ l. All (λ (h : ProgramHeader). (h.p_filesz ≤ h.p_memsz) × (h.p_offset + h.p_filesz ≤ length file)) l) (sym heads) (all_loadable file (file_header file).e_phnum c.in_ok-loads.ensures.sound).inside
+    subst (λ l. All (λ (h : ProgramHeader). (h.p_filesz ≤ h.p_memsz) × (h.p_offset + h.p_filesz ≤ length file)) l) (sym heads)
+    (all_loadable file (file_header file).e_phnum c.in_ok-loads.ensures.sound).inside
 
 pub invariant_of-result : goal.invariant_of-result
 invariant_of-result c =

@@ -10,9 +10,9 @@ abbrev pub invariant-loop-d : goal.invariant-loop-d
 invariant-loop-d l = record {
   whole : l.left ++ drop (length l.left) l.fn.definitions ≡ l.fn.definitions;
   names :
-      (x : List ℕ) → is_among x (names_of l.named.globals.names)
-      ≡ (is_among x (names_of l.initial.named.globals.names) || is_among x (globals_of_each (kept (definitions_of (drop (length l.left) l.fn.definitions)) (names_of l.initial.named.globals.names ++ map library_global (names_of l.held)))));
-  list : definitions_of (reverse l.all) ≡ kept (definitions_of (drop (length l.left) l.fn.definitions)) (names_of l.initial.named.globals.names ++ map library_global (names_of l.held));
+      (x : List ℕ) → is_among x (names_of l.asked.named.now ++ names_of l.wanted.globals.names)
+      ≡ (is_among x (names_of l.asked.named.now) || is_among x (globals_of_each (kept (definitions_of (drop (length l.left) l.fn.definitions)) (names_of l.asked.named.now ++ map library_global (names_of l.asked.held.now)))));
+  list : definitions_of (reverse l.all) ≡ kept (definitions_of (drop (length l.left) l.fn.definitions)) (names_of l.asked.named.now ++ map library_global (names_of l.asked.held.now));
 }
 
 abbrev pub decreases-loop-d : goal.decreases-loop-d

@@ -1,4 +1,4 @@
-use Rattle.sch_lang.proofs.Spending.{goes_on_when_spent}
+use Rattle.sch_lang.proofs.SpentComputations.{goes_on_when_spent}
 use Rattle.sch_lang.proofs.laws.run_goes_on_when_spent.Goals as goal
 
 pub returns : goal.returns

@@ -1,6 +1,6 @@
 use Rattle.std.proofs.Common.{◌≡◌, ◌%◌, length, sym, ap, subst, ◌∙◌, arith}
 use Rattle.std.specs.Prelude.{OnOk}
-use Rattle.sch_literals.proofs.Reversed.{filled_even, filled_odd}
+use Rattle.sch_literals.proofs.ReversedWords.{filled_even, filled_odd}
 use Rattle.sch_literals.proofs.contents.fill_units.Goals as goal
 
 pub returns-then-len-eq1 : goal.returns-then-len-eq1

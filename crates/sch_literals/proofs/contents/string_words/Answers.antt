@@ -1,6 +1,6 @@
 use Rattle.std.proofs.Common.{◌*◌, ◌++◌, ◌∷◌, [], length, sym, ap, ◌∙◌}
 use Rattle.sch_literals.specs.ObjectWords.{text_words}
-use Rattle.sch_literals.proofs.Reversed.{text_more}
+use Rattle.sch_literals.proofs.ReversedWords.{text_more}
 use Rattle.sch_literals.proofs.contents.string_words.Goals as goal
 
 pub loop-k-preserved : goal.loop-k-preserved

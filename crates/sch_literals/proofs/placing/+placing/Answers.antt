@@ -55,7 +55,8 @@ pub put_literal-returns-in_ok-contents-in-Text : goal.put_literal-returns-in_ok-
 put_literal-returns-in_ok-contents-in-Text t c =
     IfOk-weaker c.put_object.result _ _
     (λ placed g. subst (λ l. IsPut (literal l) c.args.end c.args.words.now c.put_object.new.words placed.value placed.unit) (sym c.in-Text.is)
-    (text_put c.in-Text.text c.in_ok-contents-in-Text.contents c.args.end c.args.words.now c.put_object.new.words placed.value placed.unit (c.in_ok-contents-in-Text.ensures ∙ ap string_contents c.as_slice.ensures) g))
+    (text_put c.in-Text.text c.in_ok-contents-in-Text.contents c.args.end c.args.words.now c.put_object.new.words placed.value placed.unit
+    (c.in_ok-contents-in-Text.ensures ∙ ap string_contents c.as_slice.ensures) g))
     c.put_object.ensures
 
 pub put_literal-returns-in_ok-value-in-List : goal.put_literal-returns-in_ok-value-in-List
@@ -79,7 +80,8 @@ pub put_literal-returns-in_ok-contents-in-Vector : goal.put_literal-returns-in_o
 put_literal-returns-in_ok-contents-in-Vector t c =
     IfOk-weaker c.put_object-in-Vector.result _ _
     (λ placed g. subst (λ l. IsPut (literal l) c.args.end c.args.words.now c.put_object-in-Vector.new.words placed.value placed.unit) (sym c.in-Vector.is)
-    (vector_put (literals_of c.in-Vector.ls) _ _ _ _ _ c.in_ok-contents-in-Vector.contents c.put_object-in-Vector.new.words placed.value placed.unit c.in_ok-items-in-Vector.ensures c.in_ok-contents-in-Vector.ensures g))
+    (vector_put (literals_of c.in-Vector.ls) _ _ _ _ _ c.in_ok-contents-in-Vector.contents c.put_object-in-Vector.new.words placed.value placed.unit c.in_ok-items-in-Vector.ensures
+    c.in_ok-contents-in-Vector.ensures g))
     c.put_object-in-Vector.ensures
 
 pub put_each-put_literal-requires : goal.put_each-put_literal-requires
@@ -99,9 +101,11 @@ put_each-put_literal-requires t c =
 
 pub put_each-loop-k-preserved : goal.put_each-loop-k-preserved
 put_each-loop-k-preserved t c =
-    let h = item_put c.as_slice-items.result.now c.loop-k.k c.index-items-items.result c.args.end c.args.words.now c.loop-k.words c.loop-k.values c.loop-k.unit c.put_literal.new.words c.in_ok-placed.placed.value c.in_ok-placed.placed.unit
+    let h = item_put c.as_slice-items.result.now c.loop-k.k c.index-items-items.result c.args.end c.args.words.now c.loop-k.words c.loop-k.values c.loop-k.unit c.put_literal.new.words
+    c.in_ok-placed.placed.value c.in_ok-placed.placed.unit
     c.loop-k-test.true c.index-items-items.is c.loop-k.invariant c.in_ok-placed.ensures in
-    subst (λ vs. ArePut (left (drop (length c.as_slice-items.result.now - (c.loop-k.k + 1)) c.as_slice-items.result.now)) c.args.end c.args.words.now c.put_literal.new.words vs c.in_ok-placed.placed.unit)
+    subst (λ vs. ArePut (left (drop (length c.as_slice-items.result.now - (c.loop-k.k + 1)) c.as_slice-items.result.now)) c.args.end c.args.words.now c.put_literal.new.words vs
+    c.in_ok-placed.placed.unit)
     (sym c.in_ok-push.ensures.ok) h
 
 pub put_each-returns : goal.put_each-returns

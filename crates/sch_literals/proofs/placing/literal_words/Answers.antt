@@ -2,7 +2,7 @@ use Rattle.std.proofs.Common.{◌≡◌, ◌+◌, map, sym, ap, ◌∙◌, arith
 use Rattle.sch_word.specs.values.LiteralView.{literals_of}
 use Rattle.sch_asm.specs.declared.assembly.Word.TheVariants.{Fixed}
 use Rattle.sch_literals.specs.PlacedWords.{units_in_each}
-use Rattle.sch_literals.proofs.Placed.{placed_objects, placed_literals}
+use Rattle.sch_literals.proofs.PlacedLiterals.{placed_objects, placed_literals}
 use Rattle.sch_literals.proofs.PutSteps.{words_forward, all_forward}
 use Rattle.sch_literals.proofs.Sizes.{units_bound}
 use Rattle.sch_literals.proofs.placing.literal_words.Goals as goal

@@ -16,7 +16,8 @@ loop-m-init c = record {
 
 pub closure_of-requires-clause-labels : goal.closure_of-requires-clause-labels
 closure_of-requires-clause-labels c =
-    (made_turn c.args.starts.now (scope_of c.args.v.now.bound.items) c.as_slice-m-items.result.now c.loop-m.m-index c.m-item.result c.loop-m-test.true c.m-item.is (length c.args.starts.now) c.loop-m.invariant.labels).0
+    (made_turn c.args.starts.now (scope_of c.args.v.now.bound.items) c.as_slice-m-items.result.now c.loop-m.m-index c.m-item.result c.loop-m-test.true c.m-item.is
+    (length c.args.starts.now) c.loop-m.invariant.labels).0
 
 pub overflow_add-at : goal.overflow_add-at
 overflow_add-at c =
@@ -30,7 +31,9 @@ loop-m-preserved c =
     let items = c.as_slice-m-items.result.now in
     let e = c.m-item.result in
     record {
-      members = members_turn c.args.starts.now (scope_of c.args.v.now.bound.items) items c.loop-m.m-index e c.loop-m-test.true c.m-item.is c.loop-m.at _ c.loop-m.all _ _ _ refl c.in_ok-closure.ensures c.in_ok-push.ensures.ok i.members;
+      members = members_turn c.args.starts.now
+          (scope_of c.args.v.now.bound.items) items c.loop-m.m-index e c.loop-m-test.true c.m-item.is c.loop-m.at _ c.loop-m.all _ _ _ refl c.in_ok-closure.ensures c.in_ok-push.ensures.ok
+          i.members;
       labels = (made_turn c.args.starts.now (scope_of c.args.v.now.bound.items) items c.loop-m.m-index e c.loop-m-test.true c.m-item.is (length c.args.starts.now) i.labels).1;
       at = omega (arith, i.at);
     }

@@ -1,7 +1,8 @@
 use Rattle.std.proofs.Common.{◌≡◌, ◌-◌, ◌^◌, min, true, rules, ◌∙◌, ap, cond}
 use Rattle.std.specs.Prelude.{pos, neg_ℤ}
 use Rattle.std.specs.Str.Parse.{digits_value, starts_with_minus, without_leading_sign}
-use Rattle.sch_read.specs.Lexer.Token.{base_of, numeral_of, are_digits, integer_at}
+use Rattle.sch_lexemes.specs.Numerals.{base_of, numeral_of, are_digits}
+use Rattle.sch_read.specs.Lexer.Token.{integer_at}
 use Rattle.sch_read.proofs.CappedNumbers.{number-signed}
 use Rattle.sch_read.proofs.numeral.number_token.Goals as goal
 

@@ -11,5 +11,6 @@ returns-clause-ok c = ap (runs (state_of c.args.parser.now)) (left_last c.args.t
 
 pub returns-in_err-feed-clause-err : goal.returns-in_err-feed-clause-err
 returns-in_err-feed-clause-err c =
-    let failed : Fails c.in_err-feed.field-0.0 (runs (state_of c.args.parser.now) (token_at c.args.lexeme.start (slice_range c.args.text.now c.args.lexeme.start (length c.args.text.now)) ++ [])) = c.in_err-feed.ensures [] in
+    let failed : Fails c.in_err-feed.field-0.0 (runs (state_of c.args.parser.now) (token_at c.args.lexeme.start (slice_range c.args.text.now c.args.lexeme.start (length c.args.text.now)) ++ [])) =
+    c.in_err-feed.ensures [] in
     rw (left_last c.args.text.now c.args.lexeme) (search rules)

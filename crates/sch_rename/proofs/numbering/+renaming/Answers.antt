@@ -1,4 +1,4 @@
-use Rattle.std.proofs.Common.{refl, reverse}
+use Rattle.std.proofs.Common.{refl, reverse, ◌∙◌}
 use Rattle.sch_cells.specs.Tree.{no_trees, no_lambdas}
 use Rattle.sch_rename.proofs.Loops.{then_same, each_made, each_next, each_inside, each_start, each_start_next, each_start_inside, each_end, lambdas_made, lambdas_next, lambdas_inside, lambdas_start, lambdas_start_next, lambdas_start_inside, lambdas_end}
 use Rattle.sch_rename.proofs.numbering.+renaming.Goals as goal
@@ -7,7 +7,7 @@ pub rename_each-loop-e-init : goal.rename_each-loop-e-init
 rename_each-loop-e-init t c =
     let items = c.as_slice-e-items.result.now in
     record {
-      made = each_start (reverse c.args.scope.now.items) items c.new-all.result c.args.next.now c.new-all.ensures;
+      made = each_start (reverse c.args.scope.now.items) items c.from_vec-all.result c.args.next.now (c.from_vec-all.ensures ∙ c.in_ok-with_capacity.ensures.items);
       next = each_start_next items c.args.next.now;
       inside = each_start_inside items c.args.es.now _ c.as_slice-e-items.ensures c.requires.inside;
       scope = refl;
@@ -34,7 +34,7 @@ pub rename_lambdas-loop-l-init : goal.rename_lambdas-loop-l-init
 rename_lambdas-loop-l-init t c =
     let items = c.as_slice-l-items.result.now in
     record {
-      made = lambdas_start (reverse c.args.scope.now.items) items c.new-all.result c.args.next.now c.new-all.ensures;
+      made = lambdas_start (reverse c.args.scope.now.items) items c.from_vec-all.result c.args.next.now (c.from_vec-all.ensures ∙ c.in_ok-with_capacity.ensures.items);
       next = lambdas_start_next items c.args.next.now;
       inside = lambdas_start_inside items c.args.ls.now _ c.as_slice-l-items.ensures c.requires.inside;
       scope = refl;

@@ -2,7 +2,7 @@ use Rattle.std.proofs.Common.{[], sym, subst, refl}
 use Rattle.sch_asm.specs.Items.{AreItems, AreKnown, AreRoutines, IsEachOnce, labels_in, marks_arrive}
 use Rattle.sch_asm.specs.Effects.{AreEffective}
 use Rattle.std.specs.Prelude.{IsTrue, false}
-use Rattle.sch_runtime.proofs.Joining.{routines_joined, routines_known, routines_once, routines_sound}
+use Rattle.sch_runtime.proofs.RoutineItems.{routines_joined, routines_known, routines_once, routines_sound}
 use Rattle.sch_runtime.proofs.Effective.{routines_are_effective}
 use Rattle.sch_runtime.proofs.building.routines.Goals as goal
 

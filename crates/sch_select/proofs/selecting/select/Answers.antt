@@ -9,7 +9,7 @@ use Rattle.sch_asm.specs.Items.{AreItems, AreKnown, AreOwn, IsEachOnce, labels_i
 use Rattle.sch_asm.specs.Codes.{text_size}
 use Rattle.sch_frames.specs.ProgramView.{source}
 use Rattle.sch_frames.specs.Sizes.{closures_in, program_size}
-use Rattle.sch_literals.proofs.Placed.{placed_objects, placed_literals}
+use Rattle.sch_literals.proofs.PlacedLiterals.{placed_objects, placed_literals}
 use Rattle.sch_literals.proofs.Rows.{count_rows}
 use Rattle.sch_statics.specs.Data.{static_count, objects_unit, names_of, closures_of, heap_of, max_heap_address}
 use Rattle.sch_statics.specs.Data.{data_words, program_words}
@@ -21,7 +21,7 @@ use Rattle.sch_select.proofs.programs.CoveredPrograms.{covered_selected, texts_a
 use Rattle.sch_select.proofs.programs.CoveredPrograms.{procedures_known}
 use Rattle.sch_select.proofs.programs.OwnWays.{takes_frames}
 use Rattle.sch_select.proofs.programs.JoinedProgram.{IsSelected, program_selected}
-use Rattle.sch_statics.proofs.Starting.{words_end}
+use Rattle.sch_statics.proofs.StartData.{words_end}
 use Rattle.sch_statics.proofs.StaticSizes.{made_few, made_heap, names_below}
 use Rattle.sch_select.proofs.items.ProgramFacts.{all_forward, bodies_count, data_end, program_own, statics_few}
 use Rattle.sch_select.proofs.items.ProgramFacts.{statics_small, symbols_few, whole_items, words_few}

@@ -15,6 +15,7 @@ pub place_each-loop-left-preserved : goal.place_each-loop-left-preserved
 place_each-loop-left-preserved t c =
     let i = c.loop-left.invariant in
     record {
-      placed = each_back c.as_slice-items.result.now c.loop-left.left c.index-items-left.result c.loop-left.bound.items c.place_expression.new.bound.items _ c.loop-left-test.true i.within c.index-items-left.is c.in_ok-place_expression.ensures i.placed;
+      placed = each_back c.as_slice-items.result.now c.loop-left.left c.index-items-left.result c.loop-left.bound.items c.place_expression.new.bound.items _ c.loop-left-test.true i.within
+          c.index-items-left.is c.in_ok-place_expression.ensures i.placed;
       within = omega (arith, i.within);
     }

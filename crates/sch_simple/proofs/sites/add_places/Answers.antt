@@ -12,7 +12,8 @@ loop-e-init c = record {
 
 pub loop-e-preserved : goal.loop-e-preserved
 loop-e-preserved c = record {
-  places = places_turn c.as_slice-e-items.result.now c.loop-e.e-index c.e-item.result c.loop-e-test.true c.e-item.is c.loop-e.place _ c.loop-e.all _ _ c.in_ok-place.ensures c.in_ok-add_place.ensures c.loop-e.invariant.places;
+  places = places_turn c.as_slice-e-items.result.now c.loop-e.e-index c.e-item.result c.loop-e-test.true c.e-item.is c.loop-e.place _ c.loop-e.all _ _ c.in_ok-place.ensures
+      c.in_ok-add_place.ensures c.loop-e.invariant.places;
 }
 
 pub returns : goal.returns

@@ -17,6 +17,7 @@ loop-left-preserved c =
     let b = get_or c.args.bodies.now k c.index-bodies-left.result in
     let l : k < length c.args.bodies.now = omega (arith, i.within, c.loop-left-test.true) in
     record {
-      placed = bodies_back c.args.bodies.now c.loop-left.left b c.loop-left.bound.items c.place_expression.new.bound.items _ c.loop-left-test.true i.within (get_or_default c.args.bodies.now k c.index-bodies-left.result b l) c.in_ok-place_expression.ensures i.placed;
+      placed = bodies_back c.args.bodies.now c.loop-left.left b c.loop-left.bound.items c.place_expression.new.bound.items _ c.loop-left-test.true i.within
+          (get_or_default c.args.bodies.now k c.index-bodies-left.result b l) c.in_ok-place_expression.ensures i.placed;
       within = omega (arith, i.within);
     }

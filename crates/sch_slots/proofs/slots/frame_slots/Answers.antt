@@ -19,7 +19,7 @@ use Rattle.sch_slots.proofs.slots.frame_slots.Goals as goal
 pub invariant_of-result : goal.invariant_of-result
 invariant_of-result c =
     let b = c.args.b.now in
-    let i : c.in_ok-out.out.instructions ≡ slots_layout (control.code_of c.args.b.now) = layout_written (control.code_of c.args.b.now) (unbound (control.code_of c.args.b.now) c.args.b.now.scoped c.args.b.now.numbered) _ _ _ c.room_for-room.ensures.base c.room_for-room.ensures.entered c.in_ok-out.ensures.instructions in
+    let i : c.in_ok-out.out.instructions ≡ slots_layout (control.code_of c.args.b.now) = layout_written (control.code_of c.args.b.now) (unbound (control.code_of c.args.b.now) c.args.b.now.scoped c.args.b.now.numbered) _ _ c.room_for-room.ensures.base c.in_ok-out.ensures.instructions in
     let l = c.in_ok-out.ensures.labels in
     let words = c.room_for-room.ensures.words in
     record {
@@ -30,7 +30,7 @@ invariant_of-result c =
 
 pub returns-clause-made : goal.returns-clause-made
 returns-clause-made c =
-    let i : c.in_ok-out.out.instructions ≡ slots_layout (control.code_of c.args.b.now) = layout_written (control.code_of c.args.b.now) (unbound (control.code_of c.args.b.now) c.args.b.now.scoped c.args.b.now.numbered) _ _ _ c.room_for-room.ensures.base c.room_for-room.ensures.entered c.in_ok-out.ensures.instructions in
+    let i : c.in_ok-out.out.instructions ≡ slots_layout (control.code_of c.args.b.now) = layout_written (control.code_of c.args.b.now) (unbound (control.code_of c.args.b.now) c.args.b.now.scoped c.args.b.now.numbered) _ _ c.room_for-room.ensures.base c.in_ok-out.ensures.instructions in
     rw (i, c.in_ok-out.ensures.labels, c.room_for-room.ensures.words) refl
 
 pub returns-clause-same : goal.returns-clause-same
@@ -57,12 +57,12 @@ returns-clause-frame_words c =
 
 pub returns-clause-size : goal.returns-clause-size
 returns-clause-size c =
-    let i : c.in_ok-out.out.instructions ≡ slots_layout (control.code_of c.args.b.now) = layout_written (control.code_of c.args.b.now) (unbound (control.code_of c.args.b.now) c.args.b.now.scoped c.args.b.now.numbered) _ _ _ c.room_for-room.ensures.base c.room_for-room.ensures.entered c.in_ok-out.ensures.instructions in
+    let i : c.in_ok-out.out.instructions ≡ slots_layout (control.code_of c.args.b.now) = layout_written (control.code_of c.args.b.now) (unbound (control.code_of c.args.b.now) c.args.b.now.scoped c.args.b.now.numbered) _ _ c.room_for-room.ensures.base c.in_ok-out.ensures.instructions in
     rw i (slots_size (control.code_of c.args.b.now) (unbound (control.code_of c.args.b.now) c.args.b.now.scoped c.args.b.now.numbered))
 
 pub returns-clause-work : goal.returns-clause-work
 returns-clause-work c =
-    let i : c.in_ok-out.out.instructions ≡ slots_layout (control.code_of c.args.b.now) = layout_written (control.code_of c.args.b.now) (unbound (control.code_of c.args.b.now) c.args.b.now.scoped c.args.b.now.numbered) _ _ _ c.room_for-room.ensures.base c.room_for-room.ensures.entered c.in_ok-out.ensures.instructions in
+    let i : c.in_ok-out.out.instructions ≡ slots_layout (control.code_of c.args.b.now) = layout_written (control.code_of c.args.b.now) (unbound (control.code_of c.args.b.now) c.args.b.now.scoped c.args.b.now.numbered) _ _ c.room_for-room.ensures.base c.in_ok-out.ensures.instructions in
     rw i (slots_work (control.code_of c.args.b.now) (unbound (control.code_of c.args.b.now) c.args.b.now.scoped c.args.b.now.numbered))
 
 pub returns-clause-all_work : goal.returns-clause-all_work

@@ -1,4 +1,4 @@
-use Rattle.sch_step.proofs.Running.{exited_does}
+use Rattle.sch_step.proofs.MachineRuns.{exited_does}
 use Rattle.sch_step.proofs.machine.advance.Goals as goal
 
 pub returns-in-Some-clause-did : goal.returns-in-Some-clause-did

@@ -1,4 +1,4 @@
-use Rattle.sch_step.proofs.Ended.{rest_ended}
+use Rattle.sch_step.proofs.EndedMachines.{rest_ended}
 use Rattle.sch_step.proofs.machine.rest.Goals as goal
 
 pub returns-clause-ended : goal.returns-clause-ended

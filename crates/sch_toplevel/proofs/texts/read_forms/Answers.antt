@@ -14,7 +14,7 @@ use Rattle.sch_toplevel.proofs.PartsRead.{any_first, next_form, all_made}
 use Rattle.sch_toplevel.proofs.texts.read_forms.Goals as goal
 
 pub loop-form-init : goal.loop-form-init
-loop-form-init c = λ b es r. rw c.new-all.ensures (any_first (globals_of c.args.globals.now) false true _ _ b es r)
+loop-form-init c = λ b es r. rw (c.from_vec-all.ensures ∙ c.in_ok-room.ensures.items) (any_first (globals_of c.args.globals.now) false true _ _ b es r)
 
 pub loop-form-preserved : goal.loop-form-preserved
 loop-form-preserved c = λ b es r.

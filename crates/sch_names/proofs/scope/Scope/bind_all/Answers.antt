@@ -1,5 +1,5 @@
 use Rattle.std.proofs.Common.{arith, ap, length, ◌≡◌, suc, None}
-use Rattle.sch_names.proofs.Tabling.{onto_next, one_more}
+use Rattle.sch_names.proofs.ScopeLists.{onto_next, one_more}
 use Rattle.sch_names.proofs.scope.Scope.bind_all.Goals as goal
 
 pub loop-v-preserved : goal.loop-v-preserved

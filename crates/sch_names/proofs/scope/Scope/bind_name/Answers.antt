@@ -1,7 +1,7 @@
 use Rattle.std.proofs.Common.{ap, sym, ◌∙◌, ◌++◌, ◌∷◌, [], Some}
 use Rattle.std.specs.Option.{option_flatten}
 use Rattle.sch_names.specs.declared.scope.Binding.{Binding}
-use Rattle.sch_names.proofs.Tabling.{tabled_more}
+use Rattle.sch_names.proofs.ScopeLists.{tabled_more}
 use Rattle.sch_names.proofs.scope.Scope.bind_name.Goals as goal
 
 pub invariant_of-self-2 : goal.invariant_of-self-2

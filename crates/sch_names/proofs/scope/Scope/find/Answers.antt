@@ -1,7 +1,7 @@
 use Rattle.std.proofs.Common.{◌-◌, arith, ap, sym, ◌∙◌, Some}
 use Rattle.std.specs.Option.{option_flatten}
 use Rattle.sch_names.specs.Scope.{find}
-use Rattle.sch_names.proofs.Tabling.{tabled_found, tabled_missing}
+use Rattle.sch_names.proofs.ScopeLists.{tabled_found, tabled_missing}
 use Rattle.sch_names.proofs.scope.Scope.find.Goals as goal
 
 pub overflow_sub-result : goal.overflow_sub-result

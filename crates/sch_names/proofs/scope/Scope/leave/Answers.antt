@@ -1,5 +1,5 @@
 use Rattle.std.proofs.Common.{arith, ◌∙◌}
-use Rattle.sch_names.proofs.Tabling.{one_less}
+use Rattle.sch_names.proofs.ScopeLists.{one_less}
 use Rattle.sch_names.proofs.scope.Scope.leave.Goals as goal
 
 pub loop-self-preserved : goal.loop-self-preserved

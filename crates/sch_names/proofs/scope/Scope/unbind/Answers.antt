@@ -1,5 +1,5 @@
 use Rattle.std.proofs.Common.{ap, ◌∙◌, ◌++◌, ◌∷◌, []}
-use Rattle.sch_names.proofs.Tabling.{tabled_less, tabled_last}
+use Rattle.sch_names.proofs.ScopeLists.{tabled_less, tabled_last}
 use Rattle.sch_names.proofs.scope.Scope.unbind.Goals as goal
 
 pub unreachable-requires : goal.unreachable-requires

@@ -10,5 +10,6 @@ invariant_of-self-2 c =
     let b : Binding = record { variable = c.args.variable; number = c.args.number; before = c.entry-before.result } in
     let pushed = c.in_ok-push.ensures.items in
     record {
-      tabled = subst (λ bs. IsTrue (is_table (set v.table.items b.variable b.number) bs)) (sym pushed) (bound_more v.table.items v.bound.items b c.in_ok-make_room.ensures.room (c.entry-before.ensures ∙ ap (λ t. get_or t c.args.variable 0) c.as_slice.ensures.value) v.tabled);
+      tabled = subst (λ bs. IsTrue (is_table (set v.table.items b.variable b.number) bs)) (sym pushed)
+          (bound_more v.table.items v.bound.items b c.in_ok-make_room.ensures.room (c.entry-before.ensures ∙ ap (λ t. get_or t c.args.variable 0) c.as_slice.ensures.value) v.tabled);
     }

@@ -7,7 +7,11 @@ pub returns-in_err-i-clause-found : goal.returns-in_err-i-clause-found
 returns-in_err-i-clause-found c = ap (option_map (λ s. s.now)) c.from_residual.ensures ∙ sym (none_serves (λ g. g.readable) _ c.args.address c.args.n (c.find.ensures.none c.in_err-i.was))
 
 pub returns-then-not-s-clause-found : goal.returns-then-not-s-clause-found
-returns-then-not-s-clause-found c = sym (served_shut (λ g. g.readable) c.args.self.now.segments.items c.in_ok-i.i c.args.address c.args.n c.index-s.result.now c.requires.some c.args.self.now.laid_out c.in_ok-i.ensures.within c.in_ok-i.ensures.some c.index-s.ensures c.if-not-s.true)
+returns-then-not-s-clause-found c = sym (served_shut
+    (λ g. g.readable) c.args.self.now.segments.items c.in_ok-i.i c.args.address c.args.n c.index-s.result.now c.requires.some c.args.self.now.laid_out c.in_ok-i.ensures.within
+    c.in_ok-i.ensures.some c.index-s.ensures c.if-not-s.true)
 
 pub returns-clause-found : goal.returns-clause-found
-returns-clause-found c = ap Some c.tail.ensures ∙ sym (served_open (λ g. g.readable) c.args.self.now.segments.items c.in_ok-i.i c.args.address c.args.n c.index-s.result.now c.requires.some c.args.self.now.laid_out c.in_ok-i.ensures.within c.in_ok-i.ensures.some c.index-s.ensures c.if-not-s.false)
+returns-clause-found c = ap Some c.tail.ensures ∙ sym
+    (served_open (λ g. g.readable) c.args.self.now.segments.items c.in_ok-i.i c.args.address c.args.n c.index-s.result.now c.requires.some c.args.self.now.laid_out c.in_ok-i.ensures.within
+    c.in_ok-i.ensures.some c.index-s.ensures c.if-not-s.false)

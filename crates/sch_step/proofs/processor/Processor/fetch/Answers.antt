@@ -7,7 +7,11 @@ pub returns-in_err-i-clause-value : goal.returns-in_err-i-clause-value
 returns-in_err-i-clause-value c = c.from_residual.ensures ∙ sym (ap (λ o. when_some o decode) (none_serves (λ g. g.executable) _ c.args.self.now.at 1 (c.find.ensures.none c.in_err-i.was)))
 
 pub returns-then-not-s-clause-value : goal.returns-then-not-s-clause-value
-returns-then-not-s-clause-value c = sym (ap (λ o. when_some o decode) (served_shut (λ g. g.executable) c.args.self.now.segments.items c.in_ok-i.i c.args.self.now.at 1 c.index-s.result.now (omega arith) c.args.self.now.laid_out c.in_ok-i.ensures.within c.in_ok-i.ensures.some c.index-s.ensures c.if-not-s.true))
+returns-then-not-s-clause-value c = sym (ap (λ o. when_some o decode)
+    (served_shut (λ g. g.executable) c.args.self.now.segments.items c.in_ok-i.i c.args.self.now.at 1 c.index-s.result.now
+    (omega arith) c.args.self.now.laid_out c.in_ok-i.ensures.within c.in_ok-i.ensures.some c.index-s.ensures c.if-not-s.true))
 
 pub returns-clause-value : goal.returns-clause-value
-returns-clause-value c = c.decode.ensures.read ∙ ap decode c.tail.ensures ∙ sym (ap (λ o. when_some o decode) (served_open (λ g. g.executable) c.args.self.now.segments.items c.in_ok-i.i c.args.self.now.at 1 c.index-s.result.now (omega arith) c.args.self.now.laid_out c.in_ok-i.ensures.within c.in_ok-i.ensures.some c.index-s.ensures c.if-not-s.false))
+returns-clause-value c = c.decode.ensures.read ∙ ap decode c.tail.ensures
+    ∙ sym (ap (λ o. when_some o decode) (served_open (λ g. g.executable) c.args.self.now.segments.items c.in_ok-i.i c.args.self.now.at 1 c.index-s.result.now
+    (omega arith) c.args.self.now.laid_out c.in_ok-i.ensures.within c.in_ok-i.ensures.some c.index-s.ensures c.if-not-s.false))

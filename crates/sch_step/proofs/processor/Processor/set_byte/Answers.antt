@@ -5,10 +5,15 @@ use Rattle.sch_step.proofs.Memory.{written, not_written, stays_laid_out}
 use Rattle.sch_step.proofs.processor.Processor.set_byte.Goals as goal
 
 pub returns-in-None-clause-value : goal.returns-in-None-clause-value
-returns-in-None-clause-value c = λ place. sym (not_written (with_place place (core_of c.args.self.now)) c.args.address (c.args.value ∷ []) (c.place_to_write.ensures.none c.in-None.is (c.args.value ∷ []) refl (omega arith)))
+returns-in-None-clause-value c = λ place. sym (not_written (with_place place (core_of c.args.self.now)) c.args.address (c.args.value ∷ [])
+    (c.place_to_write.ensures.none c.in-None.is (c.args.value ∷ []) refl (omega arith)))
 
 pub returns-clause-value : goal.returns-clause-value
-returns-clause-value c = λ place. sym (written (with_place place (core_of c.args.self.now)) c.args.self.now.segments.items c.in-Some.i c.args.address c.index_mut-s.result.now c.put_byte.new.self (c.args.value ∷ []) refl (omega arith) c.args.self.now.laid_out c.in-Some.ensures.within c.in-Some.ensures.some c.index_mut-s.ensures.value c.in-Some.ensures.writable c.put_byte.ensures)
+returns-clause-value c = λ place. sym (written (with_place place (core_of c.args.self.now)) c.args.self.now.segments.items c.in-Some.i c.args.address c.index_mut-s.result.now c.put_byte.new.self
+    (c.args.value ∷ []) refl (omega arith) c.args.self.now.laid_out c.in-Some.ensures.within c.in-Some.ensures.some c.index_mut-s.ensures.value c.in-Some.ensures.writable c.put_byte.ensures)
 
 pub invariant_of-self : goal.invariant_of-self
-invariant_of-self c = record { laid_out = stays_laid_out c.args.self.now.segments.items c.in-Some.i c.args.address c.index_mut-s.result.now c.put_byte.new.self (c.args.value ∷ []) c.args.self.now.laid_out c.in-Some.ensures.within c.in-Some.ensures.some c.index_mut-s.ensures.value c.put_byte.ensures }
+invariant_of-self c = record {
+  laid_out = stays_laid_out c.args.self.now.segments.items c.in-Some.i c.args.address c.index_mut-s.result.now c.put_byte.new.self
+      (c.args.value ∷ []) c.args.self.now.laid_out c.in-Some.ensures.within c.in-Some.ensures.some c.index_mut-s.ensures.value c.put_byte.ensures;
+}

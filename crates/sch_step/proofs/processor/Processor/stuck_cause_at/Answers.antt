@@ -1,5 +1,5 @@
 use Rattle.sch_step.specs.View.{core_of}
-use Rattle.sch_step.proofs.Running.{looked_at}
+use Rattle.sch_step.proofs.MachineRuns.{looked_at}
 use Rattle.sch_step.proofs.processor.Processor.stuck_cause_at.Goals as goal
 
 pub returns-in_default : goal.returns-in_default

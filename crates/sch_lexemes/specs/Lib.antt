@@ -1,0 +1,5 @@
+pub mod Identifiers
+pub mod Letters
+pub mod Lexeme
+pub mod Numerals
+pub mod Stages

@@ -1,0 +1,2 @@
+pub mod PrinterTasks
+pub mod RoundTrip

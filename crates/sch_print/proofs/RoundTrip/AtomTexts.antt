@@ -1,0 +1,141 @@
+-- The text of an atom is one lexeme, and the token of it is the atom.
+use Rattle.std.proofs.Common.{◌≡◌, ◌⊎◌, inl, inr, ℕ, List, [], ◌∷◌, ◌++◌, refl, sym, ◌∙◌, ap, arith, Bool, true, false, append_assoc, eqb-true}
+use Rattle.std.specs.Prelude.{◌==◌, ◌||◌, ◌&&◌, not, if◌then◌else◌, codes}
+use Rattle.std.specs.List.{list_all}
+use Rattle.std.proofs.lemmas.Bool.Decides.{nat_tests}
+use Rattle.std.specs.Char.{is_ascii_alphabetic, is_ascii_digit}
+use Rattle.sch_lexemes.specs.Letters.{is_one_of, is_white, is_delimiter, is_word_byte, is_initial, is_subsequent}
+use Rattle.sch_lexemes.specs.Lexeme.{is_lexeme, IsLongest}
+use Rattle.sch_read.specs.Grammar.{Plain, Atom}
+use Rattle.sch_read.specs.Lexer.Token.{token_at, word_at}
+use Rattle.sch_read.proofs.Longest.{end-longest, byte-longest}
+use Rattle.sch_word.proofs.facts.Booleans.{and_parts}
+use Rattle.sch_read.proofs.Validity.{or-parts}
+
+-- the rest begins with a delimiter, if at all
+abbrev pub IsBroken : List ℕ → Type 0
+IsBroken [] = Unit {0}
+IsBroken (b ∷ bs) = is_delimiter b ≡ true
+
+pub record IsAtomText (a : Atom) (bytes : List ℕ) : Type 0 where
+  pub lexeme : is_lexeme bytes ≡ true
+  pub longest : (rest : List ℕ) → IsBroken rest → IsLongest bytes rest
+  pub token : (at : ℕ) → token_at at bytes ≡ Plain at a ∷ []
+
+-- what holds of each byte of a list holds of one of them
+one-of-all : (P : ℕ → Bool) (bytes : List ℕ) (b : ℕ) → is_one_of bytes b ≡ true → list_all P bytes ≡ true → P b ≡ true
+one-of-all P [] b h k = cc
+one-of-all P (c ∷ cs) b h k = go (or-parts (c == b) (is_one_of cs b) h) (λ e. one-of-all P cs b e (and_parts (P c) (list_all P cs) k).1)
+  where
+    go : (c == b ≡ true) ⊎ (is_one_of cs b ≡ true) → (is_one_of cs b ≡ true → P b ≡ true) → P b ≡ true
+    go (inl e) f = ap P (sym (eqb-true c b e)) ∙ (and_parts (P c) (list_all P cs) k).0
+    go (inr e) f = f e
+
+-- a byte that may begin a word: no delimiter, quote mark or `#`
+abbrev pub is_plain : ℕ → Bool
+is_plain b = is_word_byte b && (not (b == 39) && not (b == 35))
+
+-- a byte that begins a name: neither a number nor a sign
+abbrev pub begins_name : ℕ → Bool
+begins_name b = is_plain b && (not (is_ascii_digit b) && not (is_one_of (codes "+-.") b))
+
+plain-letter : (b : ℕ) → is_ascii_alphabetic b ≡ true → begins_name b ≡ true
+plain-letter b h = grind (arith, nat_tests)
+
+pub plain-digit : (b : ℕ) → is_ascii_digit b ≡ true → is_plain b ≡ true
+plain-digit b h = grind (arith, nat_tests)
+
+pub name-initial : (b : ℕ) → is_initial b ≡ true → begins_name b ≡ true
+name-initial b h = go (or-parts (is_ascii_alphabetic b) _ h)
+  where
+    go : (is_ascii_alphabetic b ≡ true) ⊎ (is_one_of (codes "!$%&*/:<=>?^_~") b ≡ true) → begins_name b ≡ true
+    go (inl e) = plain-letter b e
+    go (inr e) = one-of-all begins_name (codes "!$%&*/:<=>?^_~") b e refl
+
+pub word-subsequent : (b : ℕ) → is_subsequent b ≡ true → is_word_byte b ≡ true
+word-subsequent b h = go (or-parts (is_initial b) _ h)
+  where
+    last : (is_ascii_digit b ≡ true) ⊎ (is_one_of (codes "+-.@") b ≡ true) → is_word_byte b ≡ true
+    last (inl e) = (and_parts (is_word_byte b) _ (plain-digit b e)).0
+    last (inr e) = one-of-all is_word_byte (codes "+-.@") b e refl
+
+    go : (is_initial b ≡ true) ⊎ (is_ascii_digit b || is_one_of (codes "+-.@") b ≡ true) → is_word_byte b ≡ true
+    go (inl e) = (and_parts (is_word_byte b) _ (and_parts (is_plain b) _ (name-initial b e)).0).0
+    go (inr e) = last (or-parts (is_ascii_digit b) _ e)
+
+pub not-parts : (b : Bool) → not b ≡ true → b ≡ false
+not-parts true h = cc
+not-parts false h = refl
+
+pub or-none : (a b : Bool) → a || b ≡ false → (a ≡ false) × (b ≡ false)
+or-none true b h = cc
+or-none false b h = (refl, h)
+
+and-false : (a b : Bool) → b ≡ false → a && b ≡ false
+and-false true b h = h
+and-false false b h = refl
+
+pub is-false : (t : Bool) → (t ≡ true → ⊥) → t ≡ false
+is-false true h = absurd (h refl)
+is-false false h = refl
+
+all-ends : (ps : List ℕ) (b : ℕ) → is_delimiter b ≡ true → list_all is_word_byte (ps ++ b ∷ []) ≡ false
+all-ends [] b h = ap (λ t. not t && true) h
+all-ends (p ∷ ps) b h = and-false (is_word_byte p) (list_all is_word_byte (ps ++ b ∷ [])) (all-ends ps b h)
+
+-- a lexeme that goes on with a word's bytes
+pub tail-atom : (first ps : List ℕ) (a : Atom) → ((bs : List ℕ) → is_lexeme (first ++ bs) ≡ list_all is_word_byte bs) → list_all is_word_byte ps ≡ true →
+    ((at : ℕ) → token_at at (first ++ ps) ≡ Plain at a ∷ []) → IsAtomText a (first ++ ps)
+tail-atom first ps a starts all token = record {
+  lexeme = starts ps ∙ all;
+  longest = λ rest. longest rest;
+  token = token;
+}
+  where
+    longest : (rest : List ℕ) → IsBroken rest → IsLongest (first ++ ps) rest
+    longest [] broken = end-longest (first ++ ps)
+    longest (b ∷ bs) broken = byte-longest (first ++ ps) b bs (ap is_lexeme (append_assoc first ps (b ∷ [])) ∙ starts (ps ++ b ∷ []) ∙ all-ends ps b broken)
+
+-- what a plain byte is not
+pub record IsNoMark (b : ℕ) : Type 0 where
+  pub white : is_white b ≡ false
+  pub opening : (b == 40) ≡ false
+  pub closing : (b == 41) ≡ false
+  pub quote : (b == 34) ≡ false
+  pub semicolon : (b == 59) ≡ false
+  pub single : (b == 39) ≡ false
+  pub hash : (b == 35) ≡ false
+  pub delimiter : is_delimiter b ≡ false
+
+pub no-mark : (b : ℕ) → is_plain b ≡ true → IsNoMark b
+no-mark b h =
+    let p = and_parts (is_word_byte b) _ h in
+    let q = and_parts (not (b == 39)) (not (b == 35)) p.1 in
+    let d = not-parts (is_delimiter b) p.0 in
+    let o1 = or-none (is_white b) _ d in
+    let o2 = or-none (b == 40) _ o1.1 in
+    let o3 = or-none (b == 41) _ o2.1 in
+    let o4 = or-none (b == 34) (b == 59) o3.1 in
+    record { white = o1.0; opening = o2.0; closing = o3.0; quote = o4.0; semicolon = o4.1; single = not-parts (b == 39) q.0; hash = not-parts (b == 35) q.1; delimiter = d }
+
+pub skip : {A : Type 0} (t : Bool) (x y : A) → t ≡ false → (if t then x else y) ≡ y
+skip true x y h = cc
+skip false x y h = refl
+
+pub both-false : (a b : Bool) → a ≡ false → b ≡ false → a || b ≡ false
+both-false true b h k = h
+both-false false b h k = k
+
+plain-lexeme : (b : ℕ) (bs : List ℕ) → is_plain b ≡ true → is_lexeme (b ∷ bs) ≡ list_all is_word_byte bs
+plain-lexeme b bs h =
+    let m = no-mark b h in
+    skip (b == 59) _ _ m.semicolon ∙ skip (b == 34) _ _ m.quote ∙ skip (b == 35) _ _ m.hash ∙ skip (is_delimiter b || b == 39) _ _ (both-false (is_delimiter b) (b == 39) m.delimiter m.single)
+
+plain-token : (at b : ℕ) (bs : List ℕ) → is_plain b ≡ true → token_at at (b ∷ bs) ≡ word_at at (b ∷ bs) ∷ []
+plain-token at b bs h =
+    let m = no-mark b h in
+    skip (is_white b || b == 59) _ _ (both-false (is_white b) (b == 59) m.white m.semicolon) ∙ skip (b == 40) _ _ m.opening ∙ skip (b == 41) _ _ m.closing ∙ skip (b == 39) _ _ m.single
+    ∙ skip (b == 34) _ _ m.quote
+
+pub word-atom : (b : ℕ) (bs : List ℕ) (a : Atom) → is_plain b ≡ true → list_all is_word_byte bs ≡ true → ((at : ℕ) → word_at at (b ∷ bs) ≡ Plain at a) → IsAtomText a (b ∷ bs)
+word-atom b bs a h all word = tail-atom (b ∷ []) bs a (λ cs. plain-lexeme b cs h) all (λ at. plain-token at b bs h ∙ ap (λ t. t ∷ []) (word at))

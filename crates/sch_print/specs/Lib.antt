@@ -1,0 +1,3 @@
+pub mod FixnumData
+pub mod Printed
+pub mod Tasks

@@ -1,2 +1,0 @@
--- From data to bytes, as the code writes them.
-pub mod Tasks
