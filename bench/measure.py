@@ -6,11 +6,15 @@ import time
 
 SIZES = (64 << 10, 1 << 20)
 
+# A program has the heap that `./schc` asks for, but where the variable is set, as by `GLIBC_TUNABLES= bench/compile.py`.
+HEAP = "hugetlb=1", "mxfast=0", "mmap_threshold=268435456", "trim_threshold=268435456"
+ENVIRONMENT = {"GLIBC_TUNABLES": ":".join("glibc.malloc." + word for word in HEAP), **os.environ}
+
 
 def once(words, folder=None, wanted=0):
     """Seconds and peak kilobytes of one run, which must end with the status that is wanted."""
     begin = time.perf_counter()
-    child = subprocess.Popen(words, cwd=folder, stderr=subprocess.DEVNULL if wanted else None)
+    child = subprocess.Popen(words, cwd=folder, env=ENVIRONMENT, stderr=subprocess.DEVNULL if wanted else None)
     _, status, usage = os.wait4(child.pid, 0)
     seconds = time.perf_counter() - begin
     if os.waitstatus_to_exitcode(status) != wanted:

@@ -1,6 +1,6 @@
 //! The bodies of a program: each top-level form directly before those of its procedures.
 
-ghost use Rattle.std.specs.Prelude.{◌≡◌, ◌+◌, ◌++◌, ◌<◌, ◌^◌, [], IsTrue, drop, length, map, IfOk, OnOk};
+ghost use Rattle.std.specs.Prelude.{◌≡◌, ◌+◌, ◌++◌, ◌<◌, ◌≤◌, ◌^◌, [], IsTrue, drop, length, map, IfOk, OnOk};
 ghost use Rattle.std.specs.List.{list_all};
 ghost use Rattle.std.specs.List.Sorted.{IsNonDecreasing};
 ghost use Rattle.sch_flat.specs.Tree.{count};
@@ -106,6 +106,7 @@ pub(crate) fn normalize_bodies(
     forms: &List<Exp>,
 ) -> Result<List<control::Body>, Mem>
     requires sorted { IsNonDecreasing starts.now }
+    requires few { length bodies.now + length starts.now ≤ 2 ^ 32 }
     requires starts { length starts.now ≡ count (trees_of forms.now) }
     requires ascends { IsTrue (ascending 0 (length bodies.now) starts.now) }
     requires bodies { LabelsOfBodies (length starts.now) (map body bodies.now) }
@@ -114,7 +115,7 @@ pub(crate) fn normalize_bodies(
     ensures { IfOk result (λ all. codes_of all ≡ normal_bodies starts.now 0 (map body bodies.now) (trees_of forms.now) starts.now) }
 {
     let mut v = Variables::new(alloc);
-    let mut all = List::new(alloc);
+    let mut all = List::from_vec(Vec::with_capacity(alloc, bodies.len() + starts.len())?);
     let mut before = 0;
     let items = forms.as_slice();
     for i in 0..items.len() {

@@ -1,6 +1,6 @@
 //! Where items and labels stand.
 
-ghost use Rattle.std.specs.Prelude.{◌≡◌, ◌+◌, ◌*◌, ◌^◌, ◌<◌, ◌++◌, EachIndex, IfOk, length, replicate, slice_index};
+ghost use Rattle.std.specs.Prelude.{◌≡◌, ◌+◌, ◌*◌, ◌^◌, ◌<◌, EachIndex, IfOk, length, replicate, slice_index};
 ghost use Rattle.sch_asm.specs.Items.{AreItems};
 ghost use Rattle.sch_asm.specs.Codes.{item_size, text_size};
 ghost use Rattle.sch_asm.specs.Layout.{IsSized, StandBelow, label_bound, placed_from, raised};
@@ -9,10 +9,11 @@ use crate::item::Item;
 use sch_word::Mem;
 use std::alloc::Global;
 
-/// The address of each label.
+/// The address of each label of a text, and how many bytes the text has.
 #[derive(Drop)]
 pub struct Layout {
     pub places: Vec<u32>,
+    pub bytes: u64,
     ghost low: { EachIndex places.items (λ l. slice_index places.items l < 2 ^ 30) },
 }
 
@@ -27,27 +28,15 @@ impl Layout {
     }
 }
 
-/// How many bytes items take, and one more than the greatest label that stands in them.
-#[derive(Clone, Copy)]
-pub struct Extent {
-    pub bytes: u64,
-    pub labels: usize,
-}
-
-/// The extent of items behind others of this one.
-pub fn extended(before: Extent, items: &[Item]) -> Extent
-    requires sound { AreItems items.now }
-    requires few { before.bytes + text_size items.now < 2 ^ 64 }
-    ensures bytes { result.bytes ≡ before.bytes + text_size items.now }
-    ensures labels { result.labels ≡ label_bound before.labels items.now }
+/// One more than the greatest label that stands in items, at least `before`.
+pub fn label_bound(before: usize, items: &[Item]) -> usize
+    ensures { result ≡ label_bound before items.now }
 {
-    let mut bytes = before.bytes;
-    let mut labels = before.labels;
+    let mut bound = before;
     for item in items {
-        bytes += long_size(item) as u64;
-        labels = raise(labels, item);
+        bound = raise(bound, item);
     }
-    Extent { bytes, labels }
+    bound
 }
 
 fn raise(bound: usize, item: &Item) -> usize
@@ -59,23 +48,31 @@ fn raise(bound: usize, item: &Item) -> usize
     }
 }
 
-/// Enters the labels of items from an address on, and gives the address behind them.
-pub fn place_labels(items: &[Item], from: u32, places: &mut Vec<u32>) -> u32
+/// Enters the labels of items from an address on, and gives the address behind them. The table is of use where that
+/// is below 2^30.
+pub fn place_labels(items: &[Item], from: u64, places: &mut Vec<u32>) -> u64
     requires sound { AreItems items.now }
     requires below { StandBelow (length places.old.items) items.now }
-    requires short { from + text_size items.now < 2 ^ 30 }
-    ensures places { places.new.items ≡ placed_from from items.now places.old.items }
+    requires few { from + text_size items.now < 2 ^ 64 }
+    ensures places { result < 2 ^ 30 → places.new.items ≡ placed_from from items.now places.old.items }
     ensures size { length places.new.items ≡ length places.old.items }
     ensures end { result ≡ from + text_size items.now }
 {
     let mut at = from;
     for item in items {
         if let Item::Label(label) = item {
-            places[*label as usize] = at;
+            places[*label as usize] = number_of(at);
         }
-        at += long_size(item) as u32;
+        at += long_size(item) as u64;
     }
     at
+}
+
+/// An address as a number of 32 bits, if it is one.
+fn number_of(address: u64) -> u32
+    ensures { address < 2 ^ 32 → result ≡ address }
+{
+    address.min(u32::MAX as u64) as u32
 }
 
 /// How many bytes an item takes where jumps have their long forms.
@@ -100,26 +97,9 @@ pub fn zeros(alloc: Global, count: usize) -> Result<Vec<u32>, Mem>
     Ok(vec![in alloc; 0u32; count]?)
 }
 
-// How many items two lists have. An item takes at least 16 bytes of memory, so there are fewer than 2^60.
-fn item_count(items: &[Item], routines: &[Item]) -> usize
-    ensures { 15 * (length items.now + length routines.now) < 2 ^ 64 }
+/// How many items two lists have. An item takes at least 16 bytes of memory, so there are fewer than 2^60.
+pub fn item_count(items: &[Item], routines: &[Item]) -> usize
+    ensures { 2 ^ 30 + 15 * (length items.now + length routines.now) < 2 ^ 64 }
 {
     items.len() + routines.len()
-}
-
-/// The extent of two lists, the one behind the other.
-pub fn extent_of(items: &[Item], routines: &[Item]) -> Extent
-    requires items { AreItems items.now }
-    requires routines { AreItems routines.now }
-    ensures bytes { result.bytes ≡ text_size (items.now ++ routines.now) }
-    ensures labels { result.labels ≡ label_bound (label_bound 0 items.now) routines.now }
-{
-    // so the bytes are a number of 64 bits
-    item_count(items, routines);
-    let none = Extent {
-        bytes: 0,
-        labels: 0,
-    };
-    let own = extended(none, items);
-    extended(own, routines)
 }

@@ -1,17 +1,17 @@
 //! From items to a text: `resolve`.
 
-ghost use Rattle.std.specs.Prelude.{◌≡◌, ◌+◌, ◌*◌, ◌^◌, ◌<◌, ◌≤◌, ◌++◌, length, IfOk, IfErr, IfSome, OnOk, slice_index};
+ghost use Rattle.std.specs.Prelude.{◌≡◌, ◌+◌, ◌*◌, ◌^◌, ◌<◌, ◌≤◌, ◌++◌, length, IfOk, IfErr, IfNone, IfSome, OnOk, slice_index};
 ghost use Rattle.std.specs.List.{flat_map};
 ghost use Rattle.sch_word.specs.runs.ProgramLayout.{max_text_size};
 ghost use Rattle.sch_insn.specs.Spelling.{AllValid, IsCondition, IsValid, spelling};
 ghost use Rattle.sch_asm.specs.Items.{AreItems, AreOwn, AreRoutines, IsItem};
-ghost use Rattle.sch_asm.specs.Codes.{AreResolved, IsTooLarge, bytes_of, text_size, value_of as word_value};
-ghost use Rattle.sch_asm.specs.Layout.{IsLaidOut, UseBelow, UsesBelow, WordBelow, WordsBelow, displacement, emitted_from, insns_of, label_bound, marked_from, marks_of, option_list};
+ghost use Rattle.sch_asm.specs.Codes.{AreResolved, IsTooLarge, bytes_of, item_size, text_size, value_of as word_value};
+ghost use Rattle.sch_asm.specs.Layout.{IsLaidOut, UseBelow, UsesBelow, WordBelow, WordsBelow, displacement, emitted_from, insns_of, marked_from, marks_of, option_list};
 
 use crate::assembly::{Asm, Word};
 use crate::error::AsmError;
 use crate::item::{Item, Mark};
-use crate::layout::{Layout, extent_of, long_size, place_labels, zeros};
+use crate::layout::{Layout, item_count, label_bound, place_labels, zeros};
 use sch_code::Text;
 use sch_insn::{Arg, Insn};
 use sch_word::{Bytes, List, MAX_TEXT_SIZE, Mem, TEXT_ADDRESS};
@@ -29,8 +29,8 @@ pub struct Resolved {
 /// Gives a text its addresses: the items of `a` from `TEXT_ADDRESS` on and behind them those of
 /// `routines`, with the data of `a` at `DATA_ADDRESS`. All jumps have their long forms.
 ///
-/// `TextTooLarge` comes exactly where the text has more than `MAX_TEXT_SIZE` bytes. Time and memory are linear
-/// in the items, the words and the greatest label that stands.
+/// `TextTooLarge` comes exactly where the text has more than `MAX_TEXT_SIZE` bytes and there is memory for the table
+/// of its labels. Time and memory are linear in the items, the words and the greatest label that stands.
 pub fn resolve(alloc: Global, a: &Asm, routines: &Asm) -> Result<Resolved, AsmError>
     requires own { AreOwn a.now.items }
     requires routines { AreRoutines routines.now.items routines.now.words routines.now.zeros }
@@ -42,13 +42,9 @@ pub fn resolve(alloc: Global, a: &Asm, routines: &Asm) -> Result<Resolved, AsmEr
     ensures fits { IfOk result (λ r. length (flat_map spelling r.code) ≤ max_text_size) }
     ensures too_large { IfErr result (IsTooLarge (text_size (a.now.items ++ routines.now.items))) }
 {
-    let extent = extent_of(a.items.as_slice(), routines.items.as_slice());
-    if extent.bytes > MAX_TEXT_SIZE {
-        return Err(AsmError::TextTooLarge(extent.bytes));
-    }
-    let layout = lay_out(alloc, a, routines, extent.labels)?;
+    let layout = lay_out(alloc, a, routines)?;
     let start = TEXT_ADDRESS as u32;
-    let mut code = Text::with_capacity(alloc, extent.bytes as usize)?;
+    let mut code = Text::with_capacity(alloc, layout.bytes as usize)?;
     let mut marks = List::new(alloc);
     let behind = emit(a.items.as_slice(), start, &layout, &mut code, &mut marks)?;
     emit(
@@ -67,18 +63,28 @@ pub fn resolve(alloc: Global, a: &Asm, routines: &Asm) -> Result<Resolved, AsmEr
     })
 }
 
-// Where the labels of items stand, which are below `labels`.
-fn lay_out(alloc: Global, a: &Asm, routines: &Asm, labels: usize) -> Result<Layout, Mem>
+// Where the labels of items stand, if their text is not too large.
+fn lay_out(alloc: Global, a: &Asm, routines: &Asm) -> Result<Layout, AsmError>
     requires own { AreOwn a.now.items }
     requires routines { AreRoutines routines.now.items routines.now.words routines.now.zeros }
-    requires labels { labels ≡ label_bound (label_bound 0 a.now.items) routines.now.items }
-    requires small { text_size (a.now.items ++ routines.now.items) ≤ max_text_size }
-    ensures { IfOk result (λ layout. IsLaidOut (a.now.items ++ routines.now.items) a.now.words layout.places.items) }
+    ensures places { IfOk result (λ layout. IsLaidOut (a.now.items ++ routines.now.items) a.now.words layout.places.items) }
+    ensures bytes { IfOk result (λ layout. layout.bytes ≡ text_size (a.now.items ++ routines.now.items)) }
+    ensures fits { IfOk result (λ layout. layout.bytes ≤ max_text_size) }
+    ensures too_large { IfErr result (IsTooLarge (text_size (a.now.items ++ routines.now.items))) }
 {
-    let mut places = zeros(alloc, labels)?;
-    let behind = place_labels(a.items.as_slice(), TEXT_ADDRESS as u32, &mut places);
-    place_labels(routines.items.as_slice(), behind, &mut places);
-    Ok(Layout { places })
+    let own = a.items.as_slice();
+    let others = routines.items.as_slice();
+    // so the bytes are a number of 64 bits
+    item_count(own, others);
+    let bound = label_bound(label_bound(0, own), others);
+    let mut places = zeros(alloc, bound)?;
+    let behind = place_labels(own, TEXT_ADDRESS, &mut places);
+    let end = place_labels(others, behind, &mut places);
+    let bytes = end - TEXT_ADDRESS;
+    if bytes > MAX_TEXT_SIZE {
+        return Err(AsmError::TextTooLarge(bytes));
+    }
+    Ok(Layout { places, bytes })
 }
 
 // From the address behind an instruction to another address.
@@ -90,32 +96,34 @@ fn displacement_to(next: u32, to: u32) -> i32
     to as i32 - next as i32
 }
 
-// The instruction of an item that ends before the address `next`, if it has one.
-fn insn_of(item: &Item, next: u32, layout: &Layout) -> Option<Insn>
+// The instruction of an item that stands at an address, if it has one.
+fn insn_of(item: &Item, at: u32, layout: &Layout) -> Option<Insn>
     requires sound { IsItem item.now }
-    requires next { next < 2 ^ 30 }
+    requires short { at + item_size item.now < 2 ^ 30 }
     requires uses { UsesBelow (length layout.now.places.items) item.now }
-    ensures insns { option_list result ≡ insns_of (slice_index layout.now.places.items) next item.now }
+    ensures insns { option_list result ≡ insns_of (slice_index layout.now.places.items) (at + item_size item.now) item.now }
     ensures valid { IfSome result IsValid }
+    ensures size { IfSome result (λ insn. length (spelling insn) ≡ item_size item.now) }
+    ensures none { IfNone result (item_size item.now ≡ 0) }
 {
     match item {
         Item::Label(_) | Item::Mark(_) => None,
         Item::Plain(insn) => Some(*insn),
-        Item::Jump(label) => Some(Insn::Jump(displacement_to(next, layout.place(*label)))),
+        Item::Jump(label) => Some(Insn::Jump(displacement_to(at + 5, layout.place(*label)))),
         Item::JumpIf(condition, label) => Some(Insn::JumpIf(
             *condition,
-            displacement_to(next, layout.place(*label)),
+            displacement_to(at + 6, layout.place(*label)),
         )),
         Item::LoadLabel(register, label) => Some(Insn::Lea(
             *register,
-            Arg::Rip(displacement_to(next, layout.place(*label))),
+            Arg::Rip(displacement_to(at + 7, layout.place(*label))),
         )),
         Item::LoadWord(register, address) => Some(Insn::MovFrom(
             *register,
-            Arg::Rip(displacement_to(next, *address as u32)),
+            Arg::Rip(displacement_to(at + 7, *address as u32)),
         )),
         Item::StoreWord(address, register) => Some(Insn::MovTo(
-            Arg::Rip(displacement_to(next, *address as u32)),
+            Arg::Rip(displacement_to(at + 7, *address as u32)),
             *register,
         )),
     }
@@ -154,9 +162,8 @@ fn emit(
         if let Some(mark) = mark_of(item, at) {
             marks.push(mark)?;
         }
-        at += long_size(item) as u32;
         if let Some(insn) = insn_of(item, at, layout) {
-            code.push(insn)?;
+            at += code.push(insn)? as u32;
         }
     }
     Ok(at)

@@ -9,8 +9,9 @@ ghost use Rattle.sch_assign.specs.Table.{table};
 
 use crate::marking::{count, variable_at};
 use sch_cells::{Exp, Lambda, NewCell};
-use sch_word::{List, Mem};
+use sch_word::{Const, List, Mem};
 use std::alloc::Global;
+use std::mem;
 
 // Whether a variable gets a cell.
 fn gets_cell(celled: &[bool], x: u32) -> bool
@@ -93,6 +94,34 @@ fn wrap(alloc: Global, cs: List<NewCell>, e: Box<Exp>) -> Result<Box<Exp>, Mem>
     Ok(Box::new(alloc, Exp::NewCells(cs, e))?)
 }
 
+// The body of a procedure under its cells, if there are any.
+#[inline(never)]
+fn wrap_body(alloc: Global, cs: List<NewCell>, e: Exp) -> Result<Exp, Mem>
+    ensures { IfOk result (λ q. tree q ≡ wrapped cs (tree e)) }
+{
+    if cs.is_empty() {
+        return Ok(e);
+    }
+    Ok(Exp::NewCells(cs, Box::new(alloc, e)?))
+}
+
+// What stands in the place of an expression while that is converted.
+fn no_expression() -> Exp {
+    Exp::Constant(Const::Unspecified)
+}
+
+// The same for a lambda.
+#[inline(never)]
+fn no_lambda(alloc: Global) -> Lambda {
+    Lambda {
+        name: List::new(alloc),
+        first: 0,
+        formals: 0,
+        rest: false,
+        body: no_expression(),
+    }
+}
+
 // A variable's value goes into its cell.
 #[inline(never)]
 fn fill_one(alloc: Global, n: u32, x: u32) -> Result<Exp, Mem>
@@ -140,35 +169,35 @@ fn recursive(
     Ok(Exp::NewCells(cs, Box::new(alloc, inner)?))
 }
 
-/// The expression with cells for the variables of the table.
+/// The expression with cells for the variables of the table. Its nodes are moved, and not copied.
 #[cycle(converting)]
-fn convert(alloc: Global, celled: &[bool], n: u32, e: &Exp) -> Result<Exp, Mem>
-    requires within { InRange n (tree e.now) }
+fn convert(alloc: Global, celled: &[bool], n: u32, e: Exp) -> Result<Exp, Mem>
+    requires within { InRange n (tree e) }
     requires few { n + n < 2 ^ 32 }
-    ensures { IfOk result (λ q. tree q ≡ converted (table celled.now) n (tree e.now)) }
+    ensures { IfOk result (λ q. tree q ≡ converted (table celled.now) n (tree e)) }
 {
     match e {
-        Exp::Constant(c) => Ok(Exp::Constant(*c)),
-        Exp::Literal(k) => Ok(Exp::Literal(*k)),
+        Exp::Constant(c) => Ok(Exp::Constant(c)),
+        Exp::Literal(k) => Ok(Exp::Literal(k)),
         Exp::Var(x) => {
-            if gets_cell(celled, *x) {
-                Ok(Exp::CellGet(*x + n))
+            if gets_cell(celled, x) {
+                Ok(Exp::CellGet(x + n))
             } else {
-                Ok(Exp::Var(*x))
+                Ok(Exp::Var(x))
             }
         }
-        Exp::Global(g) => Ok(Exp::Global(*g)),
+        Exp::Global(g) => Ok(Exp::Global(g)),
         Exp::SetVar(x, value) => {
             let value = convert_boxed(alloc, celled, n, value)?;
-            Ok(Exp::CellSet(*x + n, value))
+            Ok(Exp::CellSet(x + n, value))
         }
         Exp::SetGlobal(g, value) => {
             let value = convert_boxed(alloc, celled, n, value)?;
-            Ok(Exp::SetGlobal(*g, value))
+            Ok(Exp::SetGlobal(g, value))
         }
         Exp::Define(g, value) => {
             let value = convert_boxed(alloc, celled, n, value)?;
-            Ok(Exp::Define(*g, value))
+            Ok(Exp::Define(g, value))
         }
         Exp::If(test, yes, no) => {
             let test = convert_boxed(alloc, celled, n, test)?;
@@ -186,13 +215,13 @@ fn convert(alloc: Global, celled: &[bool], n: u32, e: &Exp) -> Result<Exp, Mem>
             inits,
             body,
         } => {
-            let cs = cells(alloc, celled, n, *first, count(inits))?;
+            let cs = cells(alloc, celled, n, first, count(&inits))?;
             let inits = convert_each(alloc, celled, n, inits)?;
             let body = convert_boxed(alloc, celled, n, body)?;
             let body = wrap(alloc, cs, body)?;
             Ok(Exp::Let {
-                site: *site,
-                first: *first,
+                site,
+                first,
                 inits,
                 body,
             })
@@ -205,7 +234,7 @@ fn convert(alloc: Global, celled: &[bool], n: u32, e: &Exp) -> Result<Exp, Mem>
             let lambdas = convert_lambdas(alloc, celled, n, lambdas)?;
             let body = convert_boxed(alloc, celled, n, body)?;
             Ok(Exp::Fix {
-                first: *first,
+                first,
                 lambdas,
                 body,
             })
@@ -216,12 +245,12 @@ fn convert(alloc: Global, celled: &[bool], n: u32, e: &Exp) -> Result<Exp, Mem>
             inits,
             body,
         } => {
-            let count = count(inits);
-            let cs = no_values(alloc, n, *first, count)?;
+            let count = count(&inits);
+            let cs = no_values(alloc, n, first, count)?;
             let inits = convert_each(alloc, celled, n, inits)?;
             let body = convert_boxed(alloc, celled, n, body)?;
-            let parts = fill(alloc, n, *first, count, Box::into_inner(body))?;
-            recursive(alloc, cs, *site, *first, inits, parts)
+            let parts = fill(alloc, n, first, count, Box::into_inner(body))?;
+            recursive(alloc, cs, site, first, inits, parts)
         }
         Exp::Lambda(l) => {
             let l = convert_procedure(alloc, celled, n, l)?;
@@ -236,15 +265,15 @@ fn convert(alloc: Global, celled: &[bool], n: u32, e: &Exp) -> Result<Exp, Mem>
             let operator = convert_boxed(alloc, celled, n, operator)?;
             let operands = convert_each(alloc, celled, n, operands)?;
             Ok(Exp::Call {
-                site: *site,
-                spread: *spread,
+                site,
+                spread,
                 operator,
                 operands,
             })
         }
         Exp::Prim(site, which, operands) => {
             let operands = convert_each(alloc, celled, n, operands)?;
-            Ok(Exp::Prim(*site, *which, operands))
+            Ok(Exp::Prim(site, which, operands))
         }
         Exp::NewCells(_, _) | Exp::CellGet(_) | Exp::CellSet(_, _) => unreachable!(),
     }
@@ -253,13 +282,15 @@ fn convert(alloc: Global, celled: &[bool], n: u32, e: &Exp) -> Result<Exp, Mem>
 // The same on the heap. As a function of its own it keeps the frames of the walk small.
 #[cycle(converting)]
 #[inline(never)]
-fn convert_boxed(alloc: Global, celled: &[bool], n: u32, e: &Exp) -> Result<Box<Exp>, Mem>
-    requires within { InRange n (tree e.now) }
+fn convert_boxed(alloc: Global, celled: &[bool], n: u32, e: Box<Exp>) -> Result<Box<Exp>, Mem>
+    requires within { InRange n (tree e.value) }
     requires few { n + n < 2 ^ 32 }
-    ensures { IfOk result (λ q. tree q.value ≡ converted (table celled.now) n (tree e.now)) }
+    ensures { IfOk result (λ q. tree q.value ≡ converted (table celled.now) n (tree e.value)) }
 {
-    let e = convert(alloc, celled, n, e)?;
-    Ok(Box::new(alloc, e)?)
+    let mut place = e;
+    let e = mem::replace(&mut *place, no_expression());
+    *place = convert(alloc, celled, n, e)?;
+    Ok(place)
 }
 
 /// The same for each of some expressions.
@@ -269,52 +300,57 @@ pub(crate) fn convert_each(
     alloc: Global,
     celled: &[bool],
     n: u32,
-    es: &List<Exp>,
+    es: List<Exp>,
 ) -> Result<List<Exp>, Mem>
-    requires within { EachInRange n (trees_of es.now) }
+    requires within { EachInRange n (trees_of es) }
     requires few { n + n < 2 ^ 32 }
-    ensures { IfOk result (λ qs. trees_of qs ≡ converted_each (table celled.now) n (trees_of es.now)) }
+    ensures { IfOk result (λ qs. trees_of qs ≡ converted_each (table celled.now) n (trees_of es)) }
 {
-    let mut all = List::from_vec(Vec::with_capacity(alloc, es.len())?);
-    for e in es.as_slice() {
-        all.push(convert(alloc, celled, n, e)?)?;
+    let mut items = es.into_vec();
+    for i in 0..items.len() {
+        let e = mem::replace(&mut items[i], no_expression());
+        items[i] = convert(alloc, celled, n, e)?;
     }
-    Ok(all)
+    Ok(List::from_vec(items))
 }
 
 #[cycle(converting)]
 #[inline(never)]
-fn convert_lambda(alloc: Global, celled: &[bool], n: u32, l: &Lambda) -> Result<Lambda, Mem>
-    requires low { Low n l.now.first l.now.formals }
-    requires within { InRange n (tree l.now.body) }
+fn convert_lambda(alloc: Global, celled: &[bool], n: u32, l: Lambda) -> Result<Lambda, Mem>
+    requires low { Low n l.first l.formals }
+    requires within { InRange n (tree l.body) }
     requires few { n + n < 2 ^ 32 }
     ensures { IfOk result (λ q. plain.lambda q.name q.first q.formals q.rest (tree q.body) ≡
-        converted (table celled.now) n (plain.lambda l.now.name l.now.first l.now.formals l.now.rest (tree l.now.body))) }
+        converted (table celled.now) n (plain.lambda l.name l.first l.formals l.rest (tree l.body))) }
 {
     let cs = cells(alloc, celled, n, l.first, l.formals as usize)?;
-    let body = convert_boxed(alloc, celled, n, &l.body)?;
-    let body = wrap(alloc, cs, body)?;
-    let name = List::from_slice(alloc, l.name.as_slice())?;
+    let body = convert(alloc, celled, n, l.body)?;
+    let body = wrap_body(alloc, cs, body)?;
     Ok(Lambda {
-        name,
+        name: l.name,
         first: l.first,
         formals: l.formals,
         rest: l.rest,
-        body: Box::into_inner(body),
+        body,
     })
 }
 
 // The same on the heap.
 #[cycle(converting)]
 #[inline(never)]
-fn convert_procedure(alloc: Global, celled: &[bool], n: u32, l: &Lambda) -> Result<Box<Lambda>, Mem>
-    requires low { Low n l.now.first l.now.formals }
-    requires within { InRange n (tree l.now.body) }
+fn convert_procedure(
+    alloc: Global,
+    celled: &[bool],
+    n: u32,
+    l: Box<Lambda>,
+) -> Result<Box<Lambda>, Mem>
+    requires low { Low n l.value.first l.value.formals }
+    requires within { InRange n (tree l.value.body) }
     requires few { n + n < 2 ^ 32 }
     ensures { IfOk result (λ q. plain.lambda q.value.name q.value.first q.value.formals q.value.rest (tree q.value.body) ≡
-        converted (table celled.now) n (plain.lambda l.now.name l.now.first l.now.formals l.now.rest (tree l.now.body))) }
+        converted (table celled.now) n (plain.lambda l.value.name l.value.first l.value.formals l.value.rest (tree l.value.body))) }
 {
-    let l = convert_lambda(alloc, celled, n, l)?;
+    let l = convert_lambda(alloc, celled, n, Box::into_inner(l))?;
     Ok(Box::new(alloc, l)?)
 }
 
@@ -325,15 +361,16 @@ pub(crate) fn convert_lambdas(
     alloc: Global,
     celled: &[bool],
     n: u32,
-    ls: &List<Lambda>,
+    ls: List<Lambda>,
 ) -> Result<List<Lambda>, Mem>
-    requires within { LambdasInRange n (lambdas_of ls.now) }
+    requires within { LambdasInRange n (lambdas_of ls) }
     requires few { n + n < 2 ^ 32 }
-    ensures { IfOk result (λ qs. lambdas_of qs ≡ converted_lambdas (table celled.now) n (lambdas_of ls.now)) }
+    ensures { IfOk result (λ qs. lambdas_of qs ≡ converted_lambdas (table celled.now) n (lambdas_of ls)) }
 {
-    let mut all = List::from_vec(Vec::with_capacity(alloc, ls.len())?);
-    for l in ls.as_slice() {
-        all.push(convert_lambda(alloc, celled, n, l)?)?;
+    let mut items = ls.into_vec();
+    for i in 0..items.len() {
+        let l = mem::replace(&mut items[i], no_lambda(alloc));
+        items[i] = convert_lambda(alloc, celled, n, l)?;
     }
-    Ok(all)
+    Ok(List::from_vec(items))
 }

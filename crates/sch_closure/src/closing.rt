@@ -33,7 +33,7 @@ fn place_each(alloc: Global, fields: &[u32], xs: &[u32]) -> Result<List<Variable
     requires { length fields.now < 2 ^ 32 }
     ensures { IfOk result (λ vs. map view.used vs ≡ map (place fields.now) xs.now) }
 {
-    let mut all = List::new(alloc);
+    let mut all = List::from_vec(Vec::with_capacity(alloc, xs.len())?);
     for x in xs {
         all.push(place_variable(fields, *x))?;
     }
@@ -64,7 +64,7 @@ fn place_cells(
     requires { length fields.now < 2 ^ 32 }
     ensures { IfOk result (λ made. map view.new_cell made ≡ map (placed fields.now) cs.now) }
 {
-    let mut all = List::new(alloc);
+    let mut all = List::from_vec(Vec::with_capacity(alloc, cs.len())?);
     for c in cs {
         all.push(place_cell(fields, c))?;
     }
@@ -222,7 +222,7 @@ fn close_each(
     ensures bodies { OnOk result (map view.body bodies.new.items ≡ with_bodies_each (trees_of es.now) (map view.body bodies.old.items)) }
     ensures count { OnOk result (length bodies.new.items ≡ length bodies.old.items + procedures_each (trees_of es.now)) }
 {
-    let mut all = List::new(alloc);
+    let mut all = List::from_vec(Vec::with_capacity(alloc, es.len())?);
     for e in es.as_slice() {
         all.push(close_expression(alloc, e, own, fields, bodies)?)?;
     }
@@ -299,7 +299,7 @@ pub(crate) fn close_lambdas(
     ensures bodies { OnOk result (map view.body bodies.new.items ≡ with_bodies_lambdas (lambdas_of ls.now) (map view.body bodies.old.items)) }
     ensures count { OnOk result (length bodies.new.items ≡ length bodies.old.items + procedures_lambdas (lambdas_of ls.now)) }
 {
-    let mut all = List::new(alloc);
+    let mut all = List::from_vec(Vec::with_capacity(alloc, ls.len())?);
     for l in ls.as_slice() {
         all.push(close_lambda(alloc, l, own, fields, bodies)?)?;
     }
@@ -322,7 +322,7 @@ pub(crate) fn close_forms(
     ensures bodies { OnOk result (map view.body bodies.new.items ≡ with_bodies_each (trees_of es.now) (map view.body bodies.old.items)) }
     ensures starts { OnOk result (before.new ≡ starts (trees_of es.now) (length bodies.old.items)) }
 {
-    let mut all = List::new(alloc);
+    let mut all = List::from_vec(Vec::with_capacity(alloc, es.len())?);
     for e in es.as_slice() {
         before.push(bodies.len() as u32)?;
         all.push(close_expression(alloc, e, &[], fields, bodies)?)?;

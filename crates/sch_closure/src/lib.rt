@@ -66,10 +66,10 @@ fn close_program(alloc: Global, p: &CellProgram<Boxed>) -> Result<FlatProgram, M
     ensures { IfOk result (λ q. view.source q ≡ closed_source (source p.now)) }
 {
     let fields = find_fields(alloc, &p.library, &p.forms)?;
-    let mut bodies = Vec::new(alloc);
+    let mut bodies = Vec::with_capacity(alloc, fields.len())?;
     let records = close_lambdas(alloc, &p.library, &[], fields.as_slice(), &mut bodies)?;
     let library = labels_of(alloc, records.as_slice())?;
-    let mut starts = List::new(alloc);
+    let mut starts = List::from_vec(Vec::with_capacity(alloc, p.forms.len())?);
     let forms = close_forms(alloc, &p.forms, fields.as_slice(), &mut bodies, &mut starts)?;
     let statics = p.statics.copy(alloc)?;
     let sites = List::from_slice(alloc, p.sites.as_slice())?;
@@ -87,7 +87,7 @@ fn close_program(alloc: Global, p: &CellProgram<Boxed>) -> Result<FlatProgram, M
 fn labels_of(alloc: Global, ms: &[Made]) -> Result<List<u32>, Mem>
     ensures { IfOk result (λ all. all ≡ map (λ m. m.label) (map made ms.now)) }
 {
-    let mut all = List::new(alloc);
+    let mut all = List::from_vec(Vec::with_capacity(alloc, ms.len())?);
     for m in ms {
         all.push(m.label)?;
     }

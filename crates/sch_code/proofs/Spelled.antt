@@ -1,7 +1,8 @@
 -- A text spells the instructions whose spellings it is.
-use Rattle.std.proofs.Common.{◌≡◌, ℕ, zero, suc, ◌+◌, ◌<◌, ◌≤◌, List, [], ◌∷◌, ◌++◌, length, drop, Some, None, refl, sym, ap, ◌∙◌, subst, arith, append-nil, length-append}
+use Rattle.std.proofs.Common.{◌≡◌, ℕ, zero, suc, ◌+◌, ◌<◌, ◌≤◌, List, [], ◌∷◌, ◌++◌, length, drop, take, Some, None, refl, sym, ap, ◌∙◌, subst, arith, append-nil, length-append}
 use Rattle.std.specs.List.{flat_map}
 use Rattle.std.proofs.lemmas.List.Concat.{flat_map-append}
+use Rattle.std.proofs.Math.Seq.{take-append-add}
 use Rattle.sch_insn.specs.declared.insn.Insn.{Insn}
 use Rattle.sch_insn.specs.Decode.{decode}
 use Rattle.sch_insn.specs.Spelling.{AllValid, IsValid, spelling}
@@ -79,6 +80,12 @@ text_more bytes bytes' count count' i t v e f =
     let is = spelled_by bytes in
     let l = length-append is (i ∷ []) in
     subst (IsText bytes') (omega (arith, l, f, t.counted)) (is_text bytes' (is ++ i ∷ []) (one_more bytes bytes' count i t v e))
+
+-- of what is put behind others only the front is kept
+pub front_kept : (old whole spelled part kept : List ℕ) (end size : ℕ) → take (length spelled) whole ≡ spelled → spelled ≡ part → size ≡ length part → end ≡ length old + size → kept ≡ take end (old ++ whole) → kept ≡ old ++ part
+front_kept old whole spelled part kept end size front same few at e =
+    e ∙ ap (λ n. take n (old ++ whole)) at ∙ take-append-add old whole size
+    ∙ ap (λ l. old ++ l) (ap (λ n. take n whole) (few ∙ sym (ap length same)) ∙ front ∙ same)
 
 pub text_empty : IsText [] 0
 text_empty = is_text [] [] (record { valid = tt; same = refl })

@@ -38,6 +38,13 @@ impl Code {
         &self.bytes[..self.len]
     }
 
+    /// The whole buffer, at whose front the bytes are that were put into it.
+    pub(crate) fn whole(&self) -> &[u8; 16]
+        ensures { take (length self.now) result.now ≡ self.now }
+    {
+        &self.bytes
+    }
+
     /// Forgets what the buffer has.
     pub(crate) fn clear(&mut self)
         ensures { self.new ≡ [] }

@@ -1,6 +1,6 @@
 //! A text: the spellings of instructions, one after the other.
 
-ghost use Rattle.std.specs.Prelude.{◌≡◌, ◌∷◌, [], ◌++◌, IfOk, OnOk, length};
+ghost use Rattle.std.specs.Prelude.{◌≡◌, ◌∷◌, [], ◌++◌, IfOk, OnErr, OnOk, length};
 ghost use Rattle.std.specs.List.{flat_map};
 ghost use Rattle.sch_insn.specs.Spelling.{IsValid, spelling};
 
@@ -36,21 +36,26 @@ impl Text {
         ensures { IfOk result (λ text. text ≡ []) }
     {
         Ok(Text {
-            bytes: Vec::with_capacity(alloc, size)?,
+            bytes: Vec::with_capacity(alloc, size.saturating_add(16))?,
             count: 0,
         })
     }
 
-    /// One more instruction. Where memory runs out the text may not be used any more.
-    pub fn push(&mut self, i: Insn) -> Result<(), Mem>
+    /// One more instruction, and how many bytes its spelling has. Where memory runs out the text stays as it was.
+    pub fn push(&mut self, i: Insn) -> Result<usize, Mem>
         requires valid { IsValid i }
-        ensures { OnOk result (self.new ≡ self.old ++ i ∷ []) }
+        ensures ok { OnOk result (self.new ≡ self.old ++ i ∷ []) }
+        ensures err { OnErr result (self.new ≡ self.old) }
+        ensures size { IfOk result (λ size. size ≡ length (spelling i)) }
     {
         let mut spelled = Code::new();
-        encode(&i, &mut spelled);
-        self.bytes.extend_from_slice(spelled.bytes())?;
+        let size = encode(&i, &mut spelled);
+        let end = self.bytes.len() + size;
+        // The whole buffer is copied, since a number of bytes that is fixed takes one move.
+        self.bytes.extend_from_slice(spelled.whole())?;
+        self.bytes.truncate(end);
         self.count += 1;
-        Ok(())
+        Ok(size)
     }
 
     /// How many instructions there are.

@@ -1,8 +1,8 @@
 -- The plain tree of an expression of the program's type.
 use Rattle.std.specs.Prelude.{ℕ, List, [], Option}
 use Rattle.sch_control.specs.declared.body.Entry.{Entry}
-use Rattle.sch_control.specs.declared.tree.Exp.{Exp, Do, Bind', Seq', If', Fix', Call, TailCall, Return', End'}
-use Rattle.sch_control.specs.Tree.{Expression, perform, bind, sequence, branch, fix, call, tail_call, return, end, Code}
+use Rattle.sch_control.specs.declared.tree.Exp.{Exp, Do, Bind', Seq', If', Fix', Call, TailCall, Return', End', Save'}
+use Rattle.sch_control.specs.Tree.{Expression, perform, bind, sequence, branch, fix, call, tail_call, return, end, save, Code}
 
 -- by what is restored after a call, as the call's annotation says
 module _ {C : Type 0} (restores : C → List ℕ) where
@@ -16,6 +16,7 @@ module _ {C : Type 0} (restores : C → List ℕ) where
   expression_with (TailCall application) = tail_call application
   expression_with (Return' p e) = return (expression_with e)
   expression_with (End' p e) = end (expression_with e)
+  expression_with (Save' saves p e) = save saves (expression_with e)
 
 -- of a body whose calls have no annotation, nothing is restored
 abbrev pub expression : Exp (Unit {0}) → Expression

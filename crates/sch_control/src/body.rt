@@ -28,7 +28,8 @@ pub struct Body {
     ghost scoped: { IsTrue (in_scope_whole (code name entry variables exp)) },
     // Each variable is bound once, behind the formals, and there are at most 1,002.
     ghost numbered: { IsTrue (numbered (code name entry variables exp)) },
-    // Each call is bound, tested, in tail position or the last of a form, and each way through the body ends it.
+    // Each call is bound, tested, in tail position or the last of a form, and each way through the body ends it. There is
+    // no region.
     ghost ended: { IsTrue (ended (code name entry variables exp)) },
     // Operands are simple, counts are those of the primitives, and the limits on operands and formals hold.
     ghost shaped: { IsTrue (shaped_whole (code name entry variables exp)) },

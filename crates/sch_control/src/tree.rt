@@ -6,7 +6,7 @@ use sch_word::List;
 /// An expression of a body. `C` is what is said of each call.
 ///
 /// A body has its variables by number: 0 is the return address, 1 the closure, then come the formals, then
-/// what is bound.
+/// what is bound. A valid `Body` has no region.
 #[derive(Drop)]
 pub enum Exp<C: Drop> {
     Do(Operation<u32>),
@@ -25,4 +25,6 @@ pub enum Exp<C: Drop> {
     Return(Box<Exp<C>>),
     /// Ends a top-level form. It asks for no return address.
     End(Box<Exp<C>>),
+    /// A region: each of the variables is saved at its head or, where it is bound inside, as it is bound.
+    Save(List<u32>, Box<Exp<C>>),
 }

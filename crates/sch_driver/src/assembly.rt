@@ -12,22 +12,25 @@ ghost use Rattle.sch_driver.specs.Assembled.{IsAssembled, IsUnfit};
 ghost use Rattle.sch_driver.specs.declared.error.CompileError.TheVariants as error;
 
 use crate::error::CompileError;
+use crate::listing::{names_of, room_for_names};
 use sch_asm::{Mark, resolve};
 use sch_control::ControlProgram;
 use sch_elf::{Image, program_image};
 use sch_runtime::routines;
 use sch_select::select;
 use sch_slots::frame_program;
-use sch_word::{Limits, List};
+use sch_word::{Bytes, Limits, List};
 use std::alloc::Global;
 
 /// The most bytes that the frames of calls may take.
 const MAX_STACK: u64 = 1_073_741_824;
 
-/// An image, with how many words its largest frame has, and how many instructions and which marks its text.
+/// An image, with the names of its bodies, how many words its largest frame has, and how many instructions and which
+/// marks its text.
 #[derive(Drop)]
 pub(crate) struct Assembled {
     pub(crate) image: Image,
+    pub(crate) bodies: List<Bytes>,
     pub(crate) frame_words: u32,
     pub(crate) instructions: u64,
     pub(crate) marks: List<Mark>,
@@ -55,11 +58,14 @@ pub(crate) fn assemble(
 ) -> Result<Assembled, CompileError>
     requires covered { IsTrue (is_covered_program (source p)) }
     ensures does { IfOk result (λ a. IsAssembled (source p) limits.heap limits.depth a.frame_words a.instructions a.marks a.image) }
+    ensures names { IfOk result (λ a. a.bodies ≡ map (λ b. b.name) p.bodies) }
     ensures marks { IfOk result (λ a. map (λ m. m.kind) a.marks ≡ kinds_of 0 (map slots_code (source p).bodies)) }
     ensures refused { IfErr result (IsUnfit (source p) limits.depth) }
 {
+    // Taken before the frames, so that it lies below them on the heap, and what is above can be given back.
+    let room = room_for_names(alloc, &p)?;
     let frames = frame_program(alloc, &p)?;
-    drop(p);
+    let bodies = names_of(room, p)?;
     check_stack(frames.words, limits.depth)?;
     let code = select(alloc, &frames, limits)?;
     let frame_words = frames.words;
@@ -72,6 +78,7 @@ pub(crate) fn assemble(
     let image = program_image(alloc, text, resolved.words, resolved.zeros)?;
     Ok(Assembled {
         image,
+        bodies,
         frame_words,
         instructions,
         marks: resolved.marks,

@@ -13,7 +13,6 @@ mod listing;
 mod reading;
 
 use crate::assembly::assemble;
-use crate::listing::names_of;
 use crate::reading::read_program;
 pub use error::{CompileError, Part};
 pub use laws::a_text_has_one_meaning;
@@ -40,14 +39,13 @@ pub fn compile(alloc: Global, text: &[u8], limits: Limits) -> Result<Compiled, C
     let program = read_program(alloc, library_text(), text)?;
     let control = control_program(alloc, &program)?;
     drop(program);
-    let bodies = names_of(alloc, control.bodies.as_slice())?;
     let orders = given_orders(alloc, &control)?;
     let assembled = assemble(alloc, control, limits)?;
     let file = write_image(alloc, &assembled.image)?;
     Ok(Compiled {
         image: file,
         listing: Listing {
-            bodies,
+            bodies: assembled.bodies,
             orders,
             cycles: List::new(alloc),
             frame_words: assembled.frame_words,

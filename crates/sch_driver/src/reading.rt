@@ -1,6 +1,6 @@
 //! Reads and expands a text with a library.
 
-ghost use Rattle.std.specs.Prelude.{◌≤◌, ◌*◌, ℕ, length, IfOk, IfErr};
+ghost use Rattle.std.specs.Prelude.{◌≤◌, ◌*◌, ℕ, length, IfOk, IfErr, IsTrue};
 ghost use Rattle.sch_lang.specs.Measures.{nodes_and_bound};
 ghost use Rattle.sch_lang.specs.ProgramView.{source};
 ghost use Rattle.sch_read.specs.Text.{Spells};
@@ -10,6 +10,7 @@ ghost use Rattle.sch_keeping.specs.Definitions.{definitions_of};
 ghost use Rattle.sch_linking.specs.Size.{size_of_definitions};
 ghost use Rattle.sch_core.specs.Libraries.{IsLibraryOf};
 ghost use Rattle.sch_core.specs.Programs.{IsProgramOf};
+ghost use Rattle.sch_passes.specs.Walkable.{is_walkable};
 ghost use Rattle.sch_driver.specs.Causes.{IsErrorOf, Means, max_source_size};
 ghost use Rattle.sch_driver.specs.PartErrors.{FailsToRead, FailsToDefine, FailsToExpand};
 
@@ -72,6 +73,7 @@ pub(crate) fn read_program(
     requires short { length text.now ≤ max_source_size }
     ensures means { IfOk result (λ p. Means library.now text.now (source p)) }
     ensures size { IfOk result (λ p. nodes_and_bound (source p) ≤ 32 * max_weight) }
+    ensures walkable { IfOk result (λ p. IsTrue (is_walkable (source p))) }
     ensures refused { IfErr result (λ e. (depth : ℕ) → IsErrorOf library.now text.now depth e) }
 {
     let definitions = read_part(alloc, Part::Library, library)?;

@@ -23,11 +23,25 @@ pub fn write_image(alloc: Global, image: &Image) -> Result<Bytes, Mem>
     ensures stands { IfOk result (λ file. StandsFor file image.now) }
 {
     let segments = image.segments.as_slice();
-    let mut file = Vec::new(alloc);
+    let mut file = Vec::with_capacity(alloc, room(segments) as usize)?;
     put_file_header(&mut file, image.entry, segments.len() as u16)?;
     put_program_headers(&mut file, segments)?;
     put_contents(&mut file, segments)?;
     Ok(Bytes::from_vec(file))
+}
+
+// As many bytes are enough for the file of some segments.
+fn room(segments: &[Segment]) -> u64
+    requires few { length segments.now ≤ 8 }
+    requires room { need segments.now < 2 ^ 32 }
+    ensures { result ≡ start segments.now + need segments.now }
+{
+    let headers = constants::PROGRAM_HEADER_SIZE as u64 * segments.len() as u64;
+    let mut size = constants::FILE_HEADER_SIZE as u64 + headers;
+    for segment in segments {
+        size += constants::PAGE_SIZE + segment.bytes.len() as u64;
+    }
+    size
 }
 
 fn put_file_header(file: &mut Vec<u8>, entry: u64, count: u16) -> Result<(), Mem>

@@ -109,6 +109,15 @@ part_made w o o' os s s' b e hk hl hp left hm u d h =
           rw (hk, hm, u, more_made) (h.1 c es q');
     }
 
+-- a part that is a leaf
+pub part_read : (w : Task) (o o'' : Open) (left' : List code_sketch.Sketch) (os : List Open) (s s' s'' : Scope) (t' : Position) (p : code_sketch.Sketch) (first last : Bool) (b m : Option Fault) (e : code_draft.Draft) →
+    o''.kind ≡ o.kind → o''.level ≡ o.level → o''.position ≡ o.position → o''.depth ≡ o.depth → o''.left ≡ left' → o''.drafts ≡ o.drafts ++ e ∷ [] → o.left ≡ left' ++ p ∷ [] →
+    first ≡ nat_eq (length o.drafts) 0 → last ≡ nat_eq (length left') 0 → s' ≡ scope_in (kind_of o.kind) first last s → drop (length s' - length s) s' ≡ s → t' ≡ position_in (kind_of o.kind) first last o.position →
+    s'' ≡ drop (length s' - o.depth) s' → Goes w o os s b → Reads w.globals o.level s' t' (sketch_of p) b m (draft_of e) → Goes w o'' os s'' m
+part_read w o o'' left' os s s' s'' t' p first last b m e hk hl hp hd left hm split f l u kept v after g r =
+    let o' : Open = record o { left = left' } in
+    part_made w o' o'' os s' s'' m e hk hl hp left hm after hd (next_part w o o' os s s' t' p first last b m (draft_of e) refl refl refl refl refl split f l u kept v g r)
+
 pub parts_opened : (w : Task) (o : Open) (os : List Open) (s : Scope) (ks : List code_sketch.Sketch) (b : Option Fault) → o.depth ≡ length s → o.left ≡ reverse ks → o.drafts ≡ [] →
     PartsWanted w (kind_of o.kind) o.level o.position (sketches_of ks) os s b → Goes w o os s b
 parts_opened w o os s ks b hd left hm f =
@@ -131,6 +140,23 @@ smaller_part o left p m e =
     let y : sketches_measure (sketches_of (reverse o.left)) ≡ sketch_measure (sketch_of p) + sketches_measure (sketches_of (reverse left)) =
     ap (λ d. sketches_measure (sketches_of (reverse d))) e ∙ ap (λ d. sketches_measure (sketches_of d)) (reverse-append left (p ∷ [])) in
     omega (arith, y)
+
+-- the same for what stands for the part, and for a node of which parts were read before
+pub smaller_next : (o : Open) (left : List code_sketch.Sketch) (p : code_sketch.Sketch) (k n m : ℕ) → o.left ≡ left ++ p ∷ [] → k ≤ sketch_measure (sketch_of p) → open_left o ≤ n →
+    2 * k + ((1 + 2 * sketches_measure (sketches_of (reverse left))) + m) < 1 + n + m
+smaller_next o left p k n m e l u = omega (arith, l, u, smaller_part o left p m e)
+
+pub fewer_left : (o : Open) (left : List code_sketch.Sketch) (p : code_sketch.Sketch) (n : ℕ) → o.left ≡ left ++ p ∷ [] → open_left o ≤ n → 1 + 2 * sketches_measure (sketches_of (reverse left)) ≤ n
+fewer_left o left p n e u = omega (arith, u, smaller_part o left p 0 e)
+
+pub smaller_end : (o : Open) (n m : ℕ) → open_left o ≤ n → 1 + m < 1 + n + m
+smaller_end o n m u = omega (arith, u)
+
+pub smaller_outlined : (a k k' m : ℕ) → a < 2 * k + m → k ≤ k' → a < 2 * k' + m
+smaller_outlined a k k' m l u = omega (arith, l, u)
+
+pub smaller_opened : (n k x m : ℕ) → n ≡ 1 + 2 * k → x < 1 + n + m → x < 2 + 2 * k + m
+smaller_opened n k x m e l = omega (arith, e, l)
 
 pub smaller_datum : (globals : Globals) {k k' : Sketch} {d : Datum} (s : Scope) (m : ℕ) → k ≡ text d → k' ≡ outline_datum globals s d → 2 * sketch_measure k' + m < 2 * sketch_measure k + m
 smaller_datum globals {d = d} s m h h' = rw (h, h') (omega (arith, datum_falls globals s d))

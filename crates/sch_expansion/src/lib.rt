@@ -6,4 +6,4 @@ mod reports;
 mod walk;
 
 pub use fault_order::report;
-pub use walk::read;
+pub use walk::{Walk, read};

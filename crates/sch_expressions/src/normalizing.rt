@@ -62,7 +62,7 @@ pub fn normalize_expression(
             inits,
             body,
         } => {
-            let mut steps = Vec::new(alloc);
+            let mut steps = Vec::with_capacity(alloc, inits.len())?;
             let numbers = normalize_inits(alloc, starts, inits, v, &mut steps)?;
             let depth = v.depth();
             v.bind_each(*first, &numbers)?;
@@ -196,7 +196,7 @@ fn normalize_operands(
     ensures next { OnOk result (v.new.next ≡ v.old.next + operands_bind (trees_of es.now)) }
     ensures scope { OnOk result (v.new.bound.items ≡ v.old.bound.items) }
 {
-    let mut all = List::new(alloc);
+    let mut all = List::from_vec(Vec::with_capacity(alloc, es.len())?);
     for e in es.as_slice() {
         all.push(normalize_part(alloc, starts, e, v, steps)?)?;
     }
@@ -222,7 +222,7 @@ fn normalize_inits(
     ensures next { OnOk result (v.new.next ≡ v.old.next + inits_bind (trees_of es.now)) }
     ensures scope { OnOk result (v.new.bound.items ≡ v.old.bound.items) }
 {
-    let mut all = List::new(alloc);
+    let mut all = List::from_vec(Vec::with_capacity(alloc, es.len())?);
     for e in es.as_slice() {
         all.push(normalize_bound(alloc, starts, e, v, steps)?)?;
     }
@@ -281,7 +281,7 @@ fn normalize_parts(
     if count == 0 {
         return read_atom(alloc, tail, Atom::Constant(Const::Unspecified));
     }
-    let mut steps = Vec::new(alloc);
+    let mut steps = Vec::with_capacity(alloc, count - 1)?;
     for i in 0..count - 1 {
         normalize_dropped(alloc, starts, &items[i], v, &mut steps)?;
     }

@@ -1,5 +1,5 @@
 -- Look-ups in tables of names.
-use Rattle.std.proofs.Common.{◌≡◌, ℕ, Bool, cond, true, false, List, [], ◌∷◌, refl, ap, ◌∙◌, map, ◌++◌, ◌||◌, Vec, if◌then◌else◌}
+use Rattle.std.proofs.Common.{◌≡◌, ℕ, Bool, cond, true, false, List, [], ◌∷◌, refl, ap, ◌∙◌, map, ◌++◌, ◌||◌, Vec, if◌then◌else◌, length, arith}
 use Rattle.std.proofs.lemmas.List.{map-append}
 use Rattle.std.specs.List.{list_any}
 use Rattle.std.specs.Str.{bytes_eq}
@@ -14,6 +14,12 @@ or_cond false b c e = e
 pub among : (x : List ℕ) (ks : List (Vec ℕ Global)) → list_any (λ k. bytes_eq x k.items) ks ≡ is_among x (map (λ v. v.items) ks)
 among x [] = refl
 among x (k ∷ ks) = or_cond (bytes_eq x k.items) _ _ (among x ks)
+
+pub none_among : (x : List ℕ) (ns : List (List ℕ)) → length ns ≡ 0 → false ≡ is_among x ns
+none_among x [] e = refl
+none_among x (n ∷ ns) e =
+    let f : ⊥ = omega (arith, e) in
+    absurd f
 
 chosen : (b c : Bool) (ks : List (Vec ℕ Global)) (v : Vec ℕ Global) → b ≡ c →
     map (λ k. k.items) (if b then ks else ks ++ v ∷ []) ≡ cond c (map (λ k. k.items) ks) (map (λ k. k.items) ks ++ v.items ∷ [])

@@ -56,9 +56,10 @@ const OF_SIX: [(&str, Keyword); 3] = [
     ("define", Keyword::Define),
 ];
 
-const OF_MORE: [(&str, Keyword); 7] = [
+const OF_SEVEN: [(&str, Keyword); 1] = [("unquote", Keyword::LeftOut)];
+
+const OF_MORE: [(&str, Keyword); 6] = [
     ("quasiquote", Keyword::LeftOut),
-    ("unquote", Keyword::LeftOut),
     ("unquote-splicing", Keyword::LeftOut),
     ("define-syntax", Keyword::LeftOut),
     ("let-syntax", Keyword::LeftOut),
@@ -76,6 +77,8 @@ fn keywords_of_length(n: usize) -> &'static [(&'static str, Keyword)]
         4 => &OF_FOUR,
         5 => &OF_FIVE,
         6 => &OF_SIX,
+        7 => &OF_SEVEN,
+        0 | 1 | 8 | 9 => &[],
         _ => &OF_MORE,
     }
 }

@@ -35,6 +35,9 @@ impl Names {
     pub fn contains(&self, x: &[u8]) -> bool
         ensures { result ≡ is_among x.now (names_of self.now) }
     {
+        if self.len() == 0 {
+            return false;
+        }
         self.set.contains(x)
     }
 

@@ -28,7 +28,7 @@ fn atom_of(e: &Exp, v: &Variables) -> Atom<u32>
 fn atoms_of(alloc: Global, es: &List<Exp>, v: &Variables) -> Result<List<Atom<u32>>, Mem>
     ensures { IfOk result (λ atoms. atoms ≡ normal.atoms_of (scope_of v.now.bound.items) (trees_of es.now)) }
 {
-    let mut all = List::new(alloc);
+    let mut all = List::from_vec(Vec::with_capacity(alloc, es.len())?);
     for e in es.as_slice() {
         all.push(atom_of(e, v))?;
     }
@@ -83,7 +83,7 @@ pub fn new_labels(alloc: Global, starts: &[u32], labels: &[u32]) -> Result<List<
     requires few { (k : ℕ) → k < length labels.now → slice_index labels.now k + length starts.now < 2 ^ 32 }
     ensures { IfOk result (λ all. all ≡ map (normal.new_label starts.now) labels.now) }
 {
-    let mut all = List::new(alloc);
+    let mut all = List::from_vec(Vec::with_capacity(alloc, labels.len())?);
     for label in labels {
         all.push(new_label(starts, *label))?;
     }
@@ -134,7 +134,7 @@ pub fn members_of(
     requires few { first + length (map made ms.now) < 2 ^ 32 }
     ensures { IfOk result (λ q. q ≡ normal.members_of starts.now (scope_of v.now.bound.items) (map made ms.now) first) }
 {
-    let mut all = List::new(alloc);
+    let mut all = List::from_vec(Vec::with_capacity(alloc, ms.len())?);
     let mut at = first;
     for m in ms.as_slice() {
         let closure = closure_of(alloc, starts, m, v)?;

@@ -76,8 +76,7 @@ pub fn control_program(alloc: Global, p: &Program) -> Result<ControlProgram, Mem
         return Err(Mem);
     }
     let renamed = rename(alloc, p)?;
-    let converted = convert_assign(alloc, &renamed)?;
-    drop(renamed);
+    let converted = convert_assign(alloc, renamed)?;
     let flat = close(alloc, &converted)?;
     drop(converted);
     let control = normalize(alloc, &flat)?;

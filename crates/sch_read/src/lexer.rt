@@ -51,8 +51,7 @@ fn named_character(name: &[u8]) -> Token
 fn folded_name(alloc: Global, word: &[u8]) -> Result<Bytes, Mem>
     ensures { IfOk result (λ name. name ≡ folded word.now) }
 {
-    let name: Vec<u8> = word.iter().map(|b| b.to_ascii_lowercase()).collect(alloc)?;
-    Ok(List::from_vec(name))
+    Ok(List::from_vec(word.to_ascii_lowercase(alloc)?))
 }
 
 /// The token of a word that is neither a number nor a character.

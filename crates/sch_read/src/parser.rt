@@ -142,7 +142,7 @@ impl Parser {
     }
 
     /// A token in an open list.
-    #[tactic(auto, using(crate::proofs::FrameStack::stack_of_push))]
+    #[tactic(auto, using(crate::proofs::DataLists::data_of_push, crate::proofs::FrameStack::stack_of_push))]
     fn in_list(
         &mut self,
         place: u32,
@@ -161,6 +161,12 @@ impl Parser {
                 Ok(())
             }
             Token::Dot => self.read_dot(place, items, at),
+            Token::Plain(value) => {
+                let mut items = items;
+                items.push(plain(at, value))?;
+                self.push(Frame::Items(place, items))?;
+                Ok(())
+            }
             token => {
                 self.push(Frame::Items(place, items))?;
                 self.start(at, token)

@@ -41,7 +41,7 @@ pub(crate) fn quote(alloc: Global, at: u32, d: Datum) -> Result<Datum, Mem>
     ensures { IfOk result (λ q. tree_of q ≡ quoted at (tree_of d)) }
 {
     let name = List::from_slice(alloc, b"quote")?;
-    let mut items = List::new(alloc);
+    let mut items = List::from_vec(Vec::with_capacity(alloc, 2)?);
     items.push(plain(at, Atom::Symbol(name)))?;
     items.push(d)?;
     Ok(listed(at, items))

@@ -17,13 +17,13 @@ use Rattle.sch_own_routines.specs.OwnCode.{own_code}
 use Rattle.sch_own_routines.specs.RestCode.{rest_entry}
 use Rattle.sch_operations.specs.CallCode.{check_count}
 use Rattle.sch_statics.specs.Data.{heap_of}
-use Rattle.sch_select.specs.Select.{body_code}
+use Rattle.sch_select.specs.Select.{all_labels_needed, body_code}
 
 -- ## The bodies, in their order
 
 -- where the labels of the next body begin
 abbrev pub labels_end : (n : ℕ) → Code → ℕ
-labels_end n c = n + c.labels + 2 + 12 * length c.instructions
+labels_end n c = n + c.labels + 2 + all_labels_needed c.instructions
 
 -- a procedure's body is jumped over where the forms are done
 abbrev pub passed_code : Option Entry → (out : ℕ) → List Item → List Item

@@ -2,7 +2,12 @@
 -- accumulator, RCX has a second operand, RDX and R11 are free, and RBP has the address of the frame. Of code that is
 -- not covered nothing is claimed, whatever its items are here.
 use Rattle.std.specs.Prelude.{ℕ, ◌+◌, List, [], ◌∷◌, pos}
+use Rattle.sch_word.specs.declared.place.Place.{Place}
 use Rattle.sch_word.specs.declared.place.Place.TheVariants as place
+use Rattle.sch_control.specs.declared.operation.Operand.{Operand}
+use Rattle.sch_control.specs.declared.operation.Operand.TheVariants as operand
+use Rattle.sch_control.specs.declared.operation.Operation.{Operation}
+use Rattle.sch_control.specs.declared.operation.Operation.TheVariants as operation
 use Rattle.sch_frames.specs.declared.instruction.Instruction.{Instruction}
 use Rattle.sch_frames.specs.declared.instruction.Instruction.TheVariants as instruction
 use Rattle.sch_insn.specs.declared.condition.TheConstants.{E}
@@ -18,6 +23,36 @@ use Rattle.sch_primitives.specs.OperandCode.{second_code}
 use Rattle.sch_operations.specs.ClosureCode.{group_code}
 use Rattle.sch_operations.specs.OperationCode.{operation_code}
 use Rattle.sch_operations.specs.CallCode.{call_code, tail_code}
+
+-- ## How many labels of its own an instruction needs at most
+
+-- an operand that is an atom needs none
+abbrev pub operand_needs : Operand Place → ℕ
+operand_needs (operand.Atom a) = 0
+operand_needs (operand.Read site which atoms) = 4
+
+-- a primitive has four for each of two operands, and four behind them
+abbrev pub operation_needs : Operation Place → ℕ
+operation_needs (operation.Operand o) = operand_needs o
+operation_needs (operation.Prim site which operands) = 12
+operation_needs (operation.SetGlobal g o) = operand_needs o
+operation_needs (operation.CellSet x o) = operand_needs o
+operation_needs _ = 0
+
+-- a call has the one at which the procedure returns
+abbrev pub labels_needed : Instruction → ℕ
+labels_needed (instruction.Do o) = operation_needs o
+labels_needed (instruction.Load p o) = operand_needs o
+labels_needed (instruction.Pass k o) = operand_needs o
+labels_needed (instruction.Call spread count) = 1
+labels_needed _ = 0
+
+-- those of a body's instructions together
+abbrev pub all_labels_needed : List Instruction → ℕ
+all_labels_needed [] = 0
+all_labels_needed (i ∷ instructions) = labels_needed i + all_labels_needed instructions
+
+-- ## The items
 
 -- The labels of a body are numbered from `base` on, and `out` stands behind it. A frame has this number of words, the
 -- heap ends there, and the program has this number of literals.
@@ -41,7 +76,7 @@ module _ (base out words heap_end literals : ℕ) where
   instruction_code n (instruction.Label l) rest = Label (base + l) ∷ rest
   instruction_code n (instruction.Mark m) rest = Mark (kind_of m) ∷ rest
 
-  -- each instruction has twelve labels of its own, from n on
+  -- each instruction has the labels that it needs, from n on
   abbrev pub body_code : (n : ℕ) → List Instruction → List Item → List Item
   body_code n [] rest = rest
-  body_code n (i ∷ instructions) rest = instruction_code n i (body_code (n + 12) instructions rest)
+  body_code n (i ∷ instructions) rest = instruction_code n i (body_code (n + labels_needed i) instructions rest)

@@ -1,15 +1,16 @@
 //! The items of bodies.
 
-ghost use Rattle.std.specs.Prelude.{◌≡◌, ◌+◌, ◌++◌, ◌*◌, IfOk, OnOk, List, length};
+ghost use Rattle.std.specs.Prelude.{◌≡◌, ◌+◌, ◌++◌, IfOk, OnOk, List};
 ghost use Rattle.sch_asm.specs.declared.item.Item.{Item};
 ghost use Rattle.sch_frames.specs.declared.instruction.Instruction.TheVariants.{Copy, Load};
 ghost use Rattle.sch_frames.specs.SourceView.{codes_of, code_of};
+ghost use Rattle.sch_select.specs.Select.{all_labels_needed, labels_needed, operand_needs, operation_needs};
 ghost use Rattle.sch_select.specs.Select.{body_code, instruction_code};
 ghost use Rattle.sch_places.specs.ItemMarks.{kind_of};
 ghost use Rattle.sch_select.specs.Program.{count_code, entry_code, form_code, forms_code, labels_end, passed_code};
 
 use sch_asm::{Item, MarkKind};
-use sch_control::{Entry, MarkKind as ControlMark, Operand};
+use sch_control::{Entry, MarkKind as ControlMark, Operand, Operation};
 use sch_frames::{FrameBody, Instruction};
 use sch_insn::condition::E;
 use sch_insn::register::{R15, RAX, RCX};
@@ -103,7 +104,41 @@ fn instruction(out: &mut List<Item>, labels: Labels, n: u32, i: &Instruction) ->
     }
 }
 
-/// The instructions of a body, each with twelve labels, from n on, and the number behind these.
+/// How many labels of its own an operand needs at most.
+fn operand_needs(o: &Operand<Place>) -> u32
+    ensures { result ≡ operand_needs o.now }
+{
+    match o {
+        Operand::Atom(_) => 0,
+        Operand::Read(..) => 4,
+    }
+}
+
+/// How many an operation needs at most.
+fn operation_needs(o: &Operation<Place>) -> u32
+    ensures { result ≡ operation_needs o.now }
+{
+    match o {
+        Operation::Operand(o) | Operation::SetGlobal(_, o) | Operation::CellSet(_, o) =>
+            operand_needs(o),
+        Operation::Prim(..) => 12,
+        _ => 0,
+    }
+}
+
+/// How many an instruction needs at most.
+fn labels_needed(i: &Instruction) -> u32
+    ensures { result ≡ labels_needed i.now }
+{
+    match i {
+        Instruction::Do(o) => operation_needs(o),
+        Instruction::Load(_, o) | Instruction::Pass(_, o) => operand_needs(o),
+        Instruction::Call(..) => 1,
+        _ => 0,
+    }
+}
+
+/// The instructions of a body, each with the labels that it needs, from n on, and the number behind these.
 fn body(
     out: &mut List<Item>,
     labels: Labels,
@@ -112,12 +147,12 @@ fn body(
 ) -> Result<u32, Mem>
     ensures items { OnOk result ((rest : List Item) → out.new ++ rest
         ≡ out.old ++ body_code labels.base labels.end labels.words labels.heap_end labels.literals n instructions.now rest) }
-    ensures next { IfOk result (λ m. m ≡ n + 12 * length instructions.now) }
+    ensures next { IfOk result (λ m. m ≡ n + all_labels_needed instructions.now) }
 {
     let mut next = n;
     for i in instructions {
         instruction(out, labels, next, i)?;
-        next = above(next, 12)?;
+        next = above(next, labels_needed(i))?;
     }
     Ok(next)
 }

@@ -86,7 +86,7 @@ fn call_places(alloc: Global, f: &Exp, es: &List<Exp>) -> Result<List<u32>, Mem>
 fn init_places(alloc: Global, es: &List<Exp>) -> Result<List<u32>, Mem>
     ensures { IfOk result (λ all. all ≡ numbers 0 (count (trees_of es.now))) }
 {
-    let mut all = List::new(alloc);
+    let mut all = List::from_vec(Vec::with_capacity(alloc, es.len())?);
     for place in 0..es.len() {
         all.push(place_number(place)?)?;
     }
@@ -165,7 +165,7 @@ pub(crate) fn place_each(
 pub(crate) fn nothing_bound(alloc: Global, sites: usize) -> Result<Vec<List<u32>>, Mem>
     ensures { IfOk result (λ bound. bound.items ≡ replicate sites []) }
 {
-    let mut bound = Vec::new(alloc);
+    let mut bound = Vec::with_capacity(alloc, sites)?;
     for done in 0..sites {
         bound.push(List::new(alloc))?;
     }

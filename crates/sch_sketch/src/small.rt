@@ -95,10 +95,18 @@ pub fn limited<'a>(
     Ok(Sketch::Limited(at, count, inner))
 }
 
+/// A list without sketches, with room for this many.
+fn room<'a>(alloc: Global, count: usize) -> Result<List<Sketch<'a>>, Mem>
+    ensures { IfOk result (λ parts. parts ≡ []) }
+{
+    let items = Vec::with_capacity(alloc, count)?;
+    Ok(List::from_vec(items))
+}
+
 pub fn one<'a>(alloc: Global, kind: Kind<'a>, at: u32, a: Sketch<'a>) -> Result<Sketch<'a>, Mem>
     ensures { IfOk result (λ k. sketch_of k ≡ words.node (kind_of kind.entry) at (small.one (sketch_of a.entry))) }
 {
-    let mut parts = List::new(alloc);
+    let mut parts = room(alloc, 1)?;
     parts.push(a)?;
     Ok(node(kind, at, parts))
 }
@@ -112,7 +120,7 @@ pub fn two<'a>(
 ) -> Result<Sketch<'a>, Mem>
     ensures { IfOk result (λ k. sketch_of k ≡ words.node (kind_of kind.entry) at (small.two (sketch_of a.entry) (sketch_of b.entry))) }
 {
-    let mut parts = List::new(alloc);
+    let mut parts = room(alloc, 2)?;
     parts.push(a)?;
     parts.push(b)?;
     Ok(node(kind, at, parts))
@@ -129,7 +137,7 @@ pub fn choice<'a>(
     ensures { IfOk result (λ k. sketch_of k
         ≡ words.node words.choosing at (small.three (sketch_of a.entry) (sketch_of b.entry) (sketch_of c.entry))) }
 {
-    let mut parts = List::new(alloc);
+    let mut parts = room(alloc, 3)?;
     parts.push(a)?;
     parts.push(b)?;
     parts.push(c)?;
@@ -146,7 +154,7 @@ pub fn bind_fresh<'a>(
     ensures { IfOk result (λ k. sketch_of k
         ≡ words.node (words.binding small.fresh) at (small.two (sketch_of init.entry) (sketch_of body.entry))) }
 {
-    let mut names = List::new(alloc);
+    let mut names = List::from_vec(Vec::with_capacity(alloc, 1)?);
     names.push(None)?;
     let made = two(alloc, Kind::Let(names), at, init, body)?;
     Ok(made)
@@ -171,7 +179,7 @@ pub fn texts_only<'a>(
 ) -> Result<Sketch<'a>, Mem>
     ensures { IfOk result (λ k. sketch_of k ≡ words.node (kind_of kind.entry) at (small.texts (data_of items.now) no_sketch)) }
 {
-    let mut parts = List::new(alloc);
+    let mut parts = room(alloc, items.len())?;
     add_texts(&mut parts, items)?;
     let made = node(kind, at, parts);
     Ok(made)
@@ -188,7 +196,7 @@ pub fn texts_and<'a>(
     ensures { IfOk result (λ k. sketch_of k
         ≡ words.node (kind_of kind.entry) at (small.texts (data_of items.now) (small.one (sketch_of last.entry)))) }
 {
-    let mut parts = List::new(alloc);
+    let mut parts = room(alloc, items.len().saturating_add(1))?;
     add_texts(&mut parts, items)?;
     parts.push(last)?;
     let made = node(kind, at, parts);
@@ -206,7 +214,7 @@ pub fn and_texts<'a>(
     ensures { IfOk result (λ k. sketch_of k
         ≡ words.node (kind_of kind.entry) at (and_sketch (sketch_of first.entry) (small.texts (data_of items.now) no_sketch))) }
 {
-    let mut parts = List::new(alloc);
+    let mut parts = room(alloc, items.len().saturating_add(1))?;
     parts.push(first)?;
     add_texts(&mut parts, items)?;
     let made = node(kind, at, parts);
@@ -217,7 +225,7 @@ pub fn and_texts<'a>(
 pub fn fresh_each<'a>(alloc: Global, items: &[Datum]) -> Result<List<Name<'a>>, Mem>
     ensures { IfOk result (λ vs. given_names vs ≡ small.fresh_each (data_of items.now)) }
 {
-    let mut fresh = List::new(alloc);
+    let mut fresh = List::from_vec(Vec::with_capacity(alloc, items.len())?);
     for _d in items {
         fresh.push(None)?;
     }

@@ -1,9 +1,12 @@
-//! The places of a body in which each variable has a slot of its own.
+//! The places of a body in which each variable has a slot of its own, and what its calls must not lose.
 
-ghost use Rattle.sch_layout.specs.OwnSlots.{own_slots};
+ghost use Rattle.std.specs.Prelude.{◌≡◌};
+ghost use Rattle.sch_frames.specs.Valid.{is_entered};
+ghost use Rattle.sch_layout.specs.OwnSlots.{own_slots, saved_round};
 
+use sch_control::Entry;
 use sch_word::{Mem, Place};
-use sch_writer::{LINK, VariablePlaces};
+use sch_writer::{LINK, Restores, VariablePlaces};
 
 /// Each variable is in a slot of its own behind the one at the base, but for the return address: this is in R15, and is
 /// saved in the slot at the base. The operands of calls are set aside in the slots before.
@@ -35,5 +38,30 @@ impl VariablePlaces for OwnSlots {
 
     fn aside(&self) -> u32 {
         0
+    }
+}
+
+/// Each call restores the same variables.
+#[derive(Clone, Copy)]
+pub(crate) struct EachCall<'a> {
+    pub restored: &'a [u32],
+}
+
+impl Restores<()> for EachCall<'_> {
+    ghost lists = { λ each call. each.restored.now };
+
+    fn after<'a>(&'a self, _call: &'a ()) -> &'a [u32] {
+        self.restored
+    }
+}
+
+/// What the calls of a body must not lose, so that it is saved round the body: the return address, variable 0 of a
+/// procedure.
+pub(crate) fn saved_round(entry: Option<Entry>) -> &'static [u32]
+    ensures { result.now ≡ saved_round (is_entered entry) }
+{
+    match entry {
+        None => &[],
+        Some(_) => &[0],
     }
 }

@@ -16,11 +16,11 @@ ghost use Rattle.sch_frames.specs.Standing.{code_marks_stand};
 ghost use Rattle.sch_layout.specs.OwnSlots.{most_operands, slots_base, slots_code, slots_words};
 ghost use Rattle.sch_layout.specs.LayoutSizes.{call_parts, entry_size, nodes};
 
-use crate::own_slots::OwnSlots;
+use crate::own_slots::{EachCall, OwnSlots, saved_round};
 use sch_control::{Body, Entry, Exp};
 use sch_frames::FrameBody;
 use sch_word::Mem;
-use sch_writer::write_body;
+use sch_writer::{Allocation, write_body};
 use std::alloc::Global;
 
 /// The larger of two numbers.
@@ -47,6 +47,7 @@ fn most_operands(e: &Exp<()>) -> usize
         Exp::TailCall(a) => a.operands.len(),
         Exp::Return(e) => most_operands(e),
         Exp::End(e) => most_operands(e),
+        Exp::Save(_, e) => most_operands(e),
     }
 }
 
@@ -97,8 +98,8 @@ fn room_for(b: &Body) -> Room
 /// aside, before it hands them over.
 ///
 /// Memory is used as the answer's instructions need it: at most three for each node of the body, two for each
-/// operator and each operand of a call, one for each formal, and two more. What is past the numbers of 32 bits, for
-/// which a body needs 2^31 nodes, is answered as out of memory too.
+/// operator and each operand of a call, one for each formal, and two more, with room for eight at first. What is past
+/// the numbers of 32 bits, for which a body needs 2^31 nodes, is answered as out of memory too.
 pub fn frame_slots(alloc: Global, b: &Body) -> Result<FrameBody, Mem>
     // What laying out is defined to make.
     ensures made { IfOk result (λ f. code_of f ≡ slots_code (control.code_of b.now)) }
@@ -119,7 +120,12 @@ pub fn frame_slots(alloc: Global, b: &Body) -> Result<FrameBody, Mem>
     ensures labels { IfOk result (λ f. f.labels ≤ 2 * nodes (expression b.now.exp)) }
 {
     let room = room_for(b);
-    let out = write_body(alloc, room.places, b)?;
+    let round = saved_round(b.entry);
+    let allocation = Allocation {
+        places: room.places,
+        restores: EachCall { restored: round },
+    };
+    let out = write_body(alloc, &allocation, round, b.entry, &b.exp)?;
     Ok(FrameBody {
         entry: b.entry,
         words: room.words,

@@ -91,7 +91,7 @@ pub fn make_cells(alloc: Global, cells: &List<NewCell>, v: &Variables) -> Result
     requires { v.now.next + length (map new_cell cells.now) < 2 ^ 32 }
     ensures { IfOk result (λ steps. Adds [] steps.items (with_new_cells (scope_of v.now.bound.items) (map new_cell cells.now) v.now.next)) }
 {
-    let mut steps = Vec::new(alloc);
+    let mut steps = Vec::with_capacity(alloc, cells.len())?;
     let mut at = v.next;
     for cell in cells.as_slice() {
         let value = Box::new(alloc, control::Exp::Do(cell_operation(cell, v)))?;

@@ -1,4 +1,5 @@
-//! Tests of the passes from a text to items: that they succeed where there is memory.
+//! Tests of the passes from a text to items: that they succeed where there is memory, and what is written for a body with
+//! variables in registers.
 #![tactic(auto)]
 
 #[cfg(test)]
@@ -13,5 +14,7 @@ mod library;
 mod operand_order;
 #[cfg(test)]
 mod reader;
+#[cfg(test)]
+mod registers;
 #[cfg(test)]
 mod selection;

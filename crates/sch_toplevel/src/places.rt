@@ -21,7 +21,8 @@ fn add_places(forms: &[Form<'_>], places: &mut List<u32>) -> Result<(), Mem>
 pub(crate) fn places_of(alloc: Global, forms: &[Form<'_>]) -> Result<List<u32>, Mem>
     ensures { IfOk result (λ places. places ≡ places_at forms.now) }
 {
-    let mut places = List::new(alloc);
+    let room = Vec::with_capacity(alloc, forms.len())?;
+    let mut places = List::from_vec(room);
     add_places(forms, &mut places)?;
     Ok(places)
 }

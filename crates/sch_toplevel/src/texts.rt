@@ -18,7 +18,7 @@ use crate::assigned::add_assigned_each;
 use crate::forms::{Form, add_defined_by_each, add_forms};
 use crate::given::add_names;
 use crate::places::places_of;
-use sch_expansion::read;
+use sch_expansion::Walk;
 use sch_names::{Globals, Names};
 use sch_read::Datum;
 use sch_sketch::{Draft, Fault};
@@ -47,9 +47,10 @@ fn read_forms<'a>(
 {
     let room = Vec::with_capacity(alloc, forms.len())?;
     let mut all = List::from_vec(room);
+    let mut walk = Walk::new(alloc);
     for form in forms {
         let k = form.sketch(alloc)?;
-        let e = read(alloc, globals, k, fault)?;
+        let e = walk.read(globals, k, fault)?;
         all.push(e)?;
     }
     Ok(all)
@@ -87,7 +88,8 @@ pub fn read_text<'a>(alloc: Global, seen: &[&[u8]], items: &'a [Datum]) -> Resul
     ensures read { IfOk result (λ t. IsRead (given seen.now) (data_of items.now) (names_of t.own) t.fault (drafts_of t.drafts)) }
     ensures places { IfOk result (λ t. t.places ≡ form_places (data_of items.now)) }
 {
-    let mut forms = List::new(alloc);
+    let room = Vec::with_capacity(alloc, items.len())?;
+    let mut forms = List::from_vec(room);
     add_forms(items, &mut forms)?;
     let places = places_of(alloc, forms.as_slice())?;
     let mut globals = defined_globals(alloc, seen, forms.as_slice())?;

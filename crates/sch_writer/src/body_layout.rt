@@ -1,29 +1,33 @@
 //! The layout of a body: its tree in order, as instructions.
 
-ghost use Rattle.std.specs.Prelude.{◌≡◌, ◌++◌, ◌+◌, ◌∷◌, [], length, take, true, IfOk, OnOk, Option, Some, None};
+ghost use Rattle.std.specs.Prelude.{◌≡◌, ◌+◌, ◌∷◌, [], filter, IfOk, OnOk, None};
 ghost use Rattle.sch_control.specs.Meaning.{no_region};
-ghost use Rattle.sch_control.specs.View.{expression};
+ghost use Rattle.sch_control.specs.Tree.{save};
+ghost use Rattle.sch_control.specs.Valid.{member_variables};
+ghost use Rattle.sch_control.specs.View.{expression_with};
 ghost use Rattle.sch_control.specs.declared.operation.Operation.TheVariants as operation;
 ghost use Rattle.sch_control.specs.declared.mark.MarkKind.TheVariants as mark;
-ghost use Rattle.sch_frames.specs.declared.instruction.Instruction.{Instruction};
 ghost use Rattle.sch_frames.specs.declared.instruction.Instruction.TheVariants.{Do, Store, Fix, Return, End, Jump, Label, Mark};
 ghost use Rattle.sch_frames.specs.Meaning.{same_place};
-ghost use Rattle.sch_frames.specs.Valid.{is_entered};
 ghost use Rattle.sch_layout.specs.BodyLayout.{arrived, arrivals, entering, brought, operation_at, members_at, leave, labels, lay, stored, Writes};
-ghost use Rattle.sch_layout.specs.OwnSlots.{restoring, saved_round};
+ghost use Rattle.sch_writer.specs.Regions.{inside};
 
-use crate::call_layout::{CLOSURE, LINK, arrival, write_call, write_saves, write_tail_call};
-use crate::instructions::{Writer, leave, new_label, put};
+use crate::allocation::{Allocation, Around, Restores};
+use crate::call_layout::{CLOSURE, LINK, arrival, write_call, write_tail_call};
+use crate::instructions::{Writer, leave, new_label, new_writer, put};
 use crate::operand_places::{members_at, operation_at};
-use crate::variable_places::{BodyPlaces, VariablePlaces, body_places};
-use sch_control::{Body, Entry, Exp, MarkKind, Member, Operation};
+use crate::regions::Regions;
+use crate::saves::{write_bound, write_heads, write_members, write_saves};
+use crate::variable_places::VariablePlaces;
+use sch_control::{Entry, Exp, MarkKind, Member, Operation};
 use sch_frames::Instruction;
-use sch_word::{List, Mem, Place};
+use sch_word::{Mem, Place};
 use std::alloc::Global;
 
-// What is written between the parts of an expression stands in functions of its own, so that the walk over the
-// parts, which is as deep as they nest, has a small frame.
+// What is written between the parts of an expression stands in functions of its own, which are not put into the walk over
+// the parts: this is as deep as they nest, and has a small frame so.
 
+#[inline(never)]
 fn write_operation<P: VariablePlaces>(
     alloc: Global,
     places: &P,
@@ -40,28 +44,42 @@ fn write_operation<P: VariablePlaces>(
     Ok(())
 }
 
-fn write_store<P: VariablePlaces>(places: &P, x: u32, out: &mut Writer) -> Result<(), Mem>
-    ensures instructions { OnOk result (Writes out.old.instructions out.new.instructions (λ rest. Store ((P.plan places.now).place x) ∷ rest)) }
+#[inline(never)]
+fn write_store<P: VariablePlaces, R>(
+    around: &Around<'_, P, R>,
+    x: u32,
+    out: &mut Writer,
+) -> Result<(), Mem>
+    ensures instructions { OnOk result (Writes out.old.instructions out.new.instructions
+        (λ rest. Store ((P.plan around.now.allocation.now.places).place x)
+        ∷ stored (P.plan around.now.allocation.now.places) (filter (inside around.now.regions) (x ∷ [])) rest)) }
     ensures labels { OnOk result (out.new.labels ≡ out.old.labels) }
 {
+    let places = &around.allocation.places;
     put(out, Instruction::Store(places.place(x)?))?;
-    Ok(())
+    write_bound(places, &around.regions, x, out)
 }
 
-fn write_group<P: VariablePlaces>(
-    alloc: Global,
-    places: &P,
+#[inline(never)]
+fn write_group<P: VariablePlaces, R>(
+    around: &Around<'_, P, R>,
     members: &[Member<u32>],
     out: &mut Writer,
 ) -> Result<(), Mem>
     ensures instructions { OnOk result (Writes out.old.instructions out.new.instructions
-        (λ rest. Fix (members_at (P.plan places.now).place members.now) ∷ rest)) }
+        (λ rest. Fix (members_at (P.plan around.now.allocation.now.places).place members.now)
+        ∷ stored (P.plan around.now.allocation.now.places) (filter (inside around.now.regions) (member_variables members.now)) rest)) }
     ensures labels { OnOk result (out.new.labels ≡ out.old.labels) }
 {
-    put(out, Instruction::Fix(members_at(alloc, places, members)?))?;
-    Ok(())
+    let places = &around.allocation.places;
+    put(
+        out,
+        Instruction::Fix(members_at(around.alloc, places, members)?),
+    )?;
+    write_members(places, &around.regions, members, out)
 }
 
+#[inline(never)]
 fn write_else(no: u32, end: u32, out: &mut Writer) -> Result<(), Mem>
     ensures instructions { OnOk result (Writes out.old.instructions out.new.instructions (λ rest. Jump end ∷ (Label no ∷ rest))) }
     ensures labels { OnOk result (out.new.labels ≡ out.old.labels) }
@@ -71,6 +89,7 @@ fn write_else(no: u32, end: u32, out: &mut Writer) -> Result<(), Mem>
     Ok(())
 }
 
+#[inline(never)]
 fn write_label(label: u32, out: &mut Writer) -> Result<(), Mem>
     ensures instructions { OnOk result (Writes out.old.instructions out.new.instructions (λ rest. Label label ∷ rest)) }
     ensures labels { OnOk result (out.new.labels ≡ out.old.labels) }
@@ -79,6 +98,7 @@ fn write_label(label: u32, out: &mut Writer) -> Result<(), Mem>
     Ok(())
 }
 
+#[inline(never)]
 fn write_return(out: &mut Writer) -> Result<(), Mem>
     ensures instructions { OnOk result (Writes out.old.instructions out.new.instructions (λ rest. Mark mark.Return ∷ (Return ∷ rest))) }
     ensures labels { OnOk result (out.new.labels ≡ out.old.labels) }
@@ -88,6 +108,7 @@ fn write_return(out: &mut Writer) -> Result<(), Mem>
     Ok(())
 }
 
+#[inline(never)]
 fn write_end(out: &mut Writer) -> Result<(), Mem>
     ensures instructions { OnOk result (Writes out.old.instructions out.new.instructions (λ rest. End ∷ rest)) }
     ensures labels { OnOk result (out.new.labels ≡ out.old.labels) }
@@ -96,54 +117,79 @@ fn write_end(out: &mut Writer) -> Result<(), Mem>
     Ok(())
 }
 
-/// The instructions of an expression. Where there is a test, `#f` goes on behind its label; otherwise the
-/// value is left in the accumulator. The return address, where there is one, is restored after each call.
-#[tactic(auto, using(sch_layout::proofs::layouts::RegionStores::no_region_stores, sch_layout::proofs::SavedTree::restoring_labels))]
-fn lay<P: VariablePlaces>(
-    alloc: Global,
-    body: &BodyPlaces<P>,
-    e: &Exp<()>,
+/// The instructions of an expression within more regions.
+#[cycle(lay)]
+#[inline(never)]
+fn lay_region<'a, C: Drop, P: VariablePlaces, R: Restores<C>>(
+    around: &'a Around<'a, P, R>,
+    saves: &'a [u32],
+    e: &'a Exp<C>,
     test: Option<u32>,
     out: &mut Writer,
 ) -> Result<(), Mem>
     ensures instructions { OnOk result (Writes out.old.instructions out.new.instructions
-        (lay (P.plan body.now.places) (restoring (saved_round body.now.entered) (expression e.now)) no_region out.old.labels test)) }
-    ensures labels { OnOk result (out.new.labels ≡ out.old.labels + labels (expression e.now)) }
+        (lay (P.plan around.now.allocation.now.places) (save saves.now (expression_with (R.lists around.now.allocation.now.restores) e.now))
+        (inside around.now.regions) out.old.labels test)) }
+    ensures labels { OnOk result (out.new.labels ≡ out.old.labels + labels (expression_with (R.lists around.now.allocation.now.restores) e.now)) }
+{
+    write_heads(around, saves, e, out)?;
+    let within = Around {
+        alloc: around.alloc,
+        allocation: around.allocation,
+        regions: Regions::Within(saves, &around.regions),
+    };
+    lay(&within, e, test, out)
+}
+
+/// The instructions of an expression. Where there is a test, `#f` goes on behind its label; otherwise the
+/// value is left in the accumulator.
+#[cycle(lay)]
+fn lay<'a, C: Drop, P: VariablePlaces, R: Restores<C>>(
+    around: &'a Around<'a, P, R>,
+    e: &'a Exp<C>,
+    test: Option<u32>,
+    out: &mut Writer,
+) -> Result<(), Mem>
+    ensures instructions { OnOk result (Writes out.old.instructions out.new.instructions
+        (lay (P.plan around.now.allocation.now.places) (expression_with (R.lists around.now.allocation.now.restores) e.now)
+        (inside around.now.regions) out.old.labels test)) }
+    ensures labels { OnOk result (out.new.labels ≡ out.old.labels + labels (expression_with (R.lists around.now.allocation.now.restores) e.now)) }
 {
     match e {
-        Exp::Do(o) => write_operation(alloc, &body.places, o, test, out),
+        Exp::Do(o) => write_operation(around.alloc, &around.allocation.places, o, test, out),
         Exp::Bind(x, a, b) => {
-            lay(alloc, body, a, None, out)?;
-            write_store(&body.places, *x, out)?;
-            lay(alloc, body, b, test, out)
+            lay(around, a, None, out)?;
+            write_store(around, *x, out)?;
+            lay(around, b, test, out)
         }
         Exp::Seq(a, b) => {
-            lay(alloc, body, a, None, out)?;
-            lay(alloc, body, b, test, out)
+            lay(around, a, None, out)?;
+            lay(around, b, test, out)
         }
         Exp::If(a, b, c) => {
             let no = new_label(out)?;
             let end = new_label(out)?;
-            lay(alloc, body, a, Some(no), out)?;
-            lay(alloc, body, b, test, out)?;
+            lay(around, a, Some(no), out)?;
+            lay(around, b, test, out)?;
             write_else(no, end, out)?;
-            lay(alloc, body, c, test, out)?;
+            lay(around, c, test, out)?;
             write_label(end, out)
         }
         Exp::Fix(members, e) => {
-            write_group(alloc, &body.places, members.as_slice(), out)?;
-            lay(alloc, body, e, test, out)
+            write_group(around, members.as_slice(), out)?;
+            lay(around, e, test, out)
         }
         Exp::Return(e) => {
-            lay(alloc, body, e, None, out)?;
+            lay(around, e, None, out)?;
             write_return(out)
         }
         Exp::End(e) => {
-            lay(alloc, body, e, None, out)?;
+            lay(around, e, None, out)?;
             write_end(out)
         }
-        Exp::Call(a, _) => write_call(alloc, body, a, test, out),
-        Exp::TailCall(a) => write_tail_call(alloc, &body.places, a, out),
+        Exp::Call(a, call) => write_call(around, a, call, test, out),
+        Exp::TailCall(a) => write_tail_call(around.alloc, &around.allocation.places, a, out),
+        Exp::Save(saves, e) => lay_region(around, saves.as_slice(), e, test, out),
     }
 }
 
@@ -205,25 +251,32 @@ fn enter<P: VariablePlaces>(places: &P, entry: Option<Entry>, out: &mut Writer) 
     }
 }
 
-/// The instructions of a body by the places of its variables: what it is entered by, what is saved round it, and its
-/// expression. What is past the numbers of 32 bits is out of memory.
-pub fn write_body<P: VariablePlaces + Copy>(
+/// The instructions of a body by its allocation: what it is entered by, what is saved round it (`round`), and its
+/// expression, with the regions that it has. What is saved round it is in no region: where the expression binds such a
+/// variable, it is not saved again. What is past the numbers of 32 bits is out of memory.
+///
+/// Time and memory are linear in what is read and written, but that for each variable of a region the expression of this
+/// is walked once more, to see whether it is bound there, and the regions round a binding are gone through.
+pub fn write_body<C: Drop, P: VariablePlaces, R: Restores<C>>(
     alloc: Global,
-    places: P,
-    b: &Body,
+    allocation: &Allocation<P, R>,
+    round: &[u32],
+    entry: Option<Entry>,
+    e: &Exp<C>,
 ) -> Result<Writer, Mem>
     ensures instructions { IfOk result (λ out. out.instructions
-        ≡ entering (P.plan places) b.now.entry (stored (P.plan places) (saved_round (is_entered b.now.entry))
-        (lay (P.plan places) (restoring (saved_round (is_entered b.now.entry)) (expression b.now.exp)) no_region 0 None []))) }
-    ensures labels { IfOk result (λ out. out.labels ≡ labels (expression b.now.exp)) }
+        ≡ entering (P.plan allocation.now.places) entry (stored (P.plan allocation.now.places) round.now
+        (lay (P.plan allocation.now.places) (expression_with (R.lists allocation.now.restores) e.now) no_region 0 None []))) }
+    ensures labels { IfOk result (λ out. out.labels ≡ labels (expression_with (R.lists allocation.now.restores) e.now)) }
 {
-    let body = body_places(places, b.entry);
-    let mut out = Writer {
-        instructions: List::new(alloc),
-        labels: 0,
+    let around = Around {
+        alloc,
+        allocation,
+        regions: Regions::Nowhere,
     };
-    enter(&body.places, b.entry, &mut out)?;
-    write_saves(&body, &mut out)?;
-    lay(alloc, &body, &b.exp, None, &mut out)?;
+    let mut out = new_writer(alloc)?;
+    enter(&allocation.places, entry, &mut out)?;
+    write_saves(&allocation.places, round, &mut out)?;
+    lay(&around, e, None, &mut out)?;
     Ok(out)
 }

@@ -1,15 +1,16 @@
-//! Calls: operands are set aside, each in a slot of its own, and then handed over; and what is saved and restored.
+//! Calls: operands are set aside, each in a slot of its own, and then handed over; and what is restored behind them.
 
 ghost use Rattle.std.specs.Prelude.{◌≡◌, ◌+◌, ◌∷◌, [], false, length, true, IfOk, OnOk};
 ghost use Rattle.sch_control.specs.declared.mark.MarkKind.TheVariants as mark;
 ghost use Rattle.sch_frames.specs.Meaning.{argument_register, argument_slot, closure_register, link_register};
 ghost use Rattle.sch_frames.specs.declared.instruction.Instruction.TheVariants.{Call, Mark, Tail};
-ghost use Rattle.sch_layout.specs.BodyLayout.{arrival, copied, hand_over, handed, leave, loaded, prepared, set_aside, stored, Writes};
-ghost use Rattle.sch_layout.specs.OwnSlots.{saved_round};
+ghost use Rattle.sch_layout.specs.BodyLayout.{arrival, hand_over, handed, leave, loaded, prepared, set_aside, Writes};
 
+use crate::allocation::{Around, Restores};
 use crate::instructions::{Writer, leave, put};
 use crate::operand_places::operand_at;
-use crate::variable_places::{BodyPlaces, VariablePlaces};
+use crate::saves::write_restores;
+use crate::variable_places::VariablePlaces;
 use sch_control::{Application, Atom, MarkKind, Operand};
 use sch_frames::Instruction;
 use sch_word::{Mem, Place};
@@ -144,114 +145,34 @@ fn prepare<P: VariablePlaces>(
     Ok(count)
 }
 
-/// A copy, under its mark where that is wanted.
-fn copied(
-    is_marked: bool,
-    mark: MarkKind,
-    to: Place,
-    from: Place,
-    out: &mut Writer,
-) -> Result<(), Mem>
-    ensures instructions { OnOk result (Writes out.old.instructions out.new.instructions (copied is_marked mark to from)) }
-    ensures labels { OnOk result (out.new.labels ≡ out.old.labels) }
-{
-    if is_marked {
-        put(out, Instruction::Mark(mark))?;
-    }
-    put(out, Instruction::Copy(to, from))?;
-    Ok(())
-}
-
-/// A variable is saved in its home, if it lives in a register.
-fn save<P: VariablePlaces>(places: &P, x: u32, out: &mut Writer) -> Result<(), Mem>
-    ensures instructions { OnOk result (Writes out.old.instructions out.new.instructions (stored (P.plan places.now) (x ∷ []))) }
-    ensures labels { OnOk result (out.new.labels ≡ out.old.labels) }
-{
-    match places.place(x)? {
-        Place::Slot(_) => Ok(()),
-        Place::Reg(r) => {
-            let to = places.home(x)?;
-            copied(
-                places.is_marked(x),
-                MarkKind::Save(x),
-                to,
-                Place::Reg(r),
-                out,
-            )
-        }
-    }
-}
-
-/// A variable is restored from its home, if it lives in a register.
-fn restore<P: VariablePlaces>(places: &P, x: u32, out: &mut Writer) -> Result<(), Mem>
-    ensures instructions { OnOk result (Writes out.old.instructions out.new.instructions (loaded (P.plan places.now) (x ∷ []))) }
-    ensures labels { OnOk result (out.new.labels ≡ out.old.labels) }
-{
-    match places.place(x)? {
-        Place::Slot(_) => Ok(()),
-        Place::Reg(r) => {
-            let from = places.home(x)?;
-            copied(
-                places.is_marked(x),
-                MarkKind::Restore(x),
-                Place::Reg(r),
-                from,
-                out,
-            )
-        }
-    }
-}
-
-/// What calls must not lose is saved round a body: the return address, where there is one.
-pub(crate) fn write_saves<P: VariablePlaces>(
-    body: &BodyPlaces<P>,
-    out: &mut Writer,
-) -> Result<(), Mem>
-    ensures instructions { OnOk result (Writes out.old.instructions out.new.instructions (stored (P.plan body.now.places) (saved_round body.now.entered))) }
-    ensures labels { OnOk result (out.new.labels ≡ out.old.labels) }
-{
-    if body.entered {
-        save(&body.places, 0, out)?;
-    }
-    Ok(())
-}
-
-/// It is restored after a call.
-fn write_restores<P: VariablePlaces>(body: &BodyPlaces<P>, out: &mut Writer) -> Result<(), Mem>
-    ensures instructions { OnOk result (Writes out.old.instructions out.new.instructions (loaded (P.plan body.now.places) (saved_round body.now.entered))) }
-    ensures labels { OnOk result (out.new.labels ≡ out.old.labels) }
-{
-    if body.entered {
-        restore(&body.places, 0, out)?;
-    }
-    Ok(())
-}
-
 /// A call, whose value is left in the accumulator, or tested, and goes on behind the label where it is `#f`. Each operand
-/// is loaded into a slot of its own, then the operator into R14, and the operands are handed over from their slots. More
-/// than 2^32 operands are out of memory.
-pub(crate) fn write_call<P: VariablePlaces>(
-    alloc: Global,
-    body: &BodyPlaces<P>,
+/// is loaded into a slot of its own, then the operator into R14, and the operands are handed over from their slots. What
+/// the call has says what is restored behind it. 2^32 operands or more are out of memory.
+#[inline(never)]
+pub(crate) fn write_call<C, P: VariablePlaces, R: Restores<C>>(
+    around: &Around<'_, P, R>,
     a: &Application<u32>,
+    call: &C,
     test: Option<u32>,
     out: &mut Writer,
 ) -> Result<(), Mem>
     ensures instructions { OnOk result (Writes out.old.instructions out.new.instructions
-        (λ rest. prepared (P.plan body.now.places) false a.now
+        (λ rest. prepared (P.plan around.now.allocation.now.places) false a.now
         (Mark (mark.Call a.now.site) ∷ (Call a.now.spread (length a.now.operands)
-        ∷ loaded (P.plan body.now.places) (saved_round body.now.entered) (leave test rest))))) }
+        ∷ loaded (P.plan around.now.allocation.now.places) (R.lists around.now.allocation.now.restores call.now) (leave test rest))))) }
     ensures labels { OnOk result (out.new.labels ≡ out.old.labels) }
 {
-    let count = prepare(alloc, &body.places, false, a, out)?;
+    let places = &around.allocation.places;
+    let count = prepare(around.alloc, places, false, a, out)?;
     put(out, Instruction::Mark(MarkKind::Call(a.site)))?;
     put(out, Instruction::Call(a.spread, count))?;
-    write_restores(body, out)?;
+    write_restores(places, around.allocation.restores.after(call), out)?;
     leave(out, test)?;
     Ok(())
 }
 
 /// A tail call, prepared as a call is, whose operands go where those of the body itself arrive.
+#[inline(never)]
 pub(crate) fn write_tail_call<P: VariablePlaces>(
     alloc: Global,
     places: &P,

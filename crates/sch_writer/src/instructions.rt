@@ -5,12 +5,28 @@ ghost use Rattle.sch_layout.specs.BodyLayout.{leave, Writes};
 
 use sch_frames::Instruction;
 use sch_word::{List, Mem};
+use std::alloc::Global;
+
+/// For how many instructions there is room at first. A form that calls a procedure with an operand has as many.
+const FIRST_ROOM: usize = 8;
 
 /// Instructions as they are written, and how many labels there are among them.
 #[derive(Drop)]
 pub struct Writer {
     pub instructions: List<Instruction>,
     pub labels: u32,
+}
+
+/// Nothing is written yet.
+pub(crate) fn new_writer(alloc: Global) -> Result<Writer, Mem>
+    ensures instructions { IfOk result (λ out. out.instructions ≡ []) }
+    ensures labels { IfOk result (λ out. out.labels ≡ 0) }
+{
+    let room = Vec::with_capacity(alloc, FIRST_ROOM)?;
+    Ok(Writer {
+        instructions: List::from_vec(room),
+        labels: 0,
+    })
 }
 
 /// The next label. One past the numbers of 32 bits is out of memory.

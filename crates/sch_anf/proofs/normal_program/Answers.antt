@@ -15,7 +15,7 @@ normalize_bodies-requires c =
     let g : Given c.as_slice-starts.result.now c.as_slice-flat_bodies.result.now p.forms =
     given c.as_slice-starts.result.now c.as_slice-flat_bodies.result.now p.forms (source p) (sym c.as_slice-starts.ensures)
     (ap (map body) (sym c.as_slice-flat_bodies.ensures)) refl few p.closed p.formed p.ordered p.sited p.ready p.words in
-    record { sorted = g.sorted; starts = g.starts_match; ascends = g.ascends; bodies = g.bodies_fit; forms = g.forms_fit; valid = g.valid }
+    record { few = c.in_ok-check_labels.ensures; sorted = g.sorted; starts = g.starts_match; ascends = g.ascends; bodies = g.bodies_fit; forms = g.forms_fit; valid = g.valid }
 
 pub new_labels-requires : goal.new_labels-requires
 new_labels-requires c =

@@ -21,12 +21,12 @@ pub close_lambdas-requires-clause-stand : goal.close_lambdas-requires-clause-sta
 close_lambdas-requires-clause-stand c =
     let p = source c.args.p.now in
     let f = c.as_slice.ensures.value ∙ c.in_ok-fields.ensures in
-    rw (f, c.new-bodies.ensures.items) (stands_library captured p.library p.forms)
+    rw (f, c.in_ok-bodies.ensures.items) (stands_library captured p.library p.forms)
 
 pub close_lambdas-requires-clause-few : goal.close_lambdas-requires-clause-few
 close_lambdas-requires-clause-few c =
     let p = source c.args.p.now in
-    let l : length c.new-bodies.result.items ≡ 0 = ap length c.new-bodies.ensures.items in
+    let l : length c.in_ok-bodies.bodies.items ≡ 0 = ap length c.in_ok-bodies.ensures.items in
     omega (arith, l, few_procedures p (2 ^ 32 - 2 ^ 10) c.requires.few)
 
 pub close_forms-requires-clause-short : goal.close_forms-requires-clause-short
@@ -42,20 +42,20 @@ close_forms-requires-clause-stand c =
     let p = source c.args.p.now in
     let f = c.as_slice-3.ensures.value ∙ c.in_ok-fields.ensures in
     let n : length c.close_lambdas.new.bodies.items ≡ procedures_lambdas p.library =
-    library_length p c.close_lambdas.new.bodies.items (c.in_ok-records.ensures.bodies ∙ ap (λ bs. with_bodies_lambdas p.library (map body bs)) c.new-bodies.ensures.items) in
+    library_length p c.close_lambdas.new.bodies.items (c.in_ok-records.ensures.bodies ∙ ap (λ bs. with_bodies_lambdas p.library (map body bs)) c.in_ok-bodies.ensures.items) in
     rw (f, n) (stands_forms captured p.library p.forms)
 
 pub close_forms-requires-clause-few : goal.close_forms-requires-clause-few
 close_forms-requires-clause-few c =
     let p = source c.args.p.now in
     let n : length c.close_lambdas.new.bodies.items ≡ procedures_lambdas p.library =
-    library_length p c.close_lambdas.new.bodies.items (c.in_ok-records.ensures.bodies ∙ ap (λ bs. with_bodies_lambdas p.library (map body bs)) c.new-bodies.ensures.items) in
+    library_length p c.close_lambdas.new.bodies.items (c.in_ok-records.ensures.bodies ∙ ap (λ bs. with_bodies_lambdas p.library (map body bs)) c.in_ok-bodies.ensures.items) in
     omega (arith, n, few_procedures p (2 ^ 32 - 2 ^ 10) c.requires.few)
 
 pub returns : goal.returns
 returns c =
     let p = source c.args.p.now in
-    let empty = c.new-bodies.ensures.items in
+    let empty = c.in_ok-bodies.ensures.items in
     made_program p _ c.in_ok-records.records _ c.close_lambdas.new.bodies.items _ _ _ _ c.in_ok-statics.ensures
     (c.in_ok-records.ensures.made ∙ ap (λ bs. made_each p.library [] (length bs)) empty)
     (c.in_ok-library.ensures ∙ ap (λ ms. map (λ m. m.label) (map made ms)) c.as_slice-2.ensures)
@@ -68,7 +68,7 @@ invariant_of-result c =
     let p = source c.args.p.now in
     let v = c.args.p.now in
     let g : Given p = record { scoped = v.scoped; formed = v.formed; limited = v.limited } in
-    let empty = c.new-bodies.ensures.items in
+    let empty = c.in_ok-bodies.ensures.items in
     let whole =
     made_program p _ c.in_ok-records.records _ c.close_lambdas.new.bodies.items _ _ _ _ c.in_ok-statics.ensures
     (c.in_ok-records.ensures.made ∙ ap (λ bs. made_each p.library [] (length bs)) empty)

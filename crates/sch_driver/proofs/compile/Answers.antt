@@ -75,7 +75,7 @@ returns-clause-compiled c =
       };
       size = does.size;
       bound = bound_chain p (control.source c.in_ok-control.control) does.laid_out.code does.bound c.in_ok-control.ensures.work;
-      names = c.in_ok-bodies.ensures ∙ ap (map (λ b. b.name)) c.as_slice.ensures ∙ names_of_codes _ ∙ c.in_ok-control.ensures.names;
+      names = c.in_ok-assembled.ensures.names ∙ names_of_codes _ ∙ c.in_ok-control.ensures.names;
       counted = does.counted;
       words_end = does.words_end;
       room = does.room;

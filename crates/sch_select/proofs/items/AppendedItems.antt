@@ -33,7 +33,7 @@ use Rattle.sch_primitives.specs.OperandCode.{atom_code, unary_code, binary_code,
 use Rattle.sch_primitives.specs.PrimitiveCode.{primitive_code, pair_or_binary, index_operand, three_code}
 use Rattle.sch_primitives.specs.PrimitiveCode.{ternary_code}
 use Rattle.sch_operations.specs.OperationCode.{operation_code}
-use Rattle.sch_select.specs.Select.{instruction_code, body_code}
+use Rattle.sch_select.specs.Select.{labels_needed, instruction_code, body_code}
 use Rattle.sch_heap.specs.Encoded.{unspecified_word, unset_word}
 use Rattle.std.specs.Prelude.{pos}
 
@@ -188,8 +188,8 @@ module _ (base out words heap_end literals : ℕ) where
       → Appends (body_code base out words heap_end literals n instructions)
   body_appends n [] rest = refl
   body_appends n (i ∷ instructions) rest = then_appends (instruction_code base out words heap_end literals n i)
-      (body_code base out words heap_end literals (n + 12) instructions) (instruction_appends n i)
-      (body_appends (n + 12) instructions) rest
+      (body_code base out words heap_end literals (n + labels_needed i) instructions) (instruction_appends n i)
+      (body_appends (n + labels_needed i) instructions) rest
 
 -- items behind others, whatever waits for them
 pub record Behind (setting : Setting) (rest : List Item) : Type 0 where

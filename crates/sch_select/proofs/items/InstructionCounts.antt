@@ -45,7 +45,7 @@ use Rattle.sch_places.specs.Addresses.{place_operand, global_address, stop_label
 use Rattle.sch_primitives.specs.OperandCode.{atom_code, unary_code, binary_code, read_code, operand_code, second_code}
 use Rattle.sch_primitives.specs.PrimitiveCode.{pair_or_binary, ternary_code, index_operand, primitive_code}
 use Rattle.sch_operations.specs.OperationCode.{operation_code}
-use Rattle.sch_select.specs.Select.{instruction_code, body_code}
+use Rattle.sch_select.specs.Select.{labels_needed, instruction_code, body_code}
 use Rattle.sch_operations.specs.CellCode.{source_code, check_cell, cell_operand}
 use Rattle.sch_primitives.specs.ObjectCode.{check_heap, part_code}
 use Rattle.sch_operations.specs.ClosureCode.{fields_code, closure_bytes, group_bytes, places_code, records_code}
@@ -277,10 +277,10 @@ module _ (words globals symbols literals : ℕ) where
   body_adds base out heap_end n [] b e m rest = let z = none_waits b m in omega (arith, z)
   body_adds base out heap_end n (i ∷ is) b e m rest =
       let p = and_parts (instruction_selected words globals symbols literals i) (list_all (instruction_selected words globals symbols literals) is) e in
-      by i p.0 m (λ b m. body_adds base out heap_end (n + 12) is b p.1 m rest)
+      by i p.0 m (λ b m. body_adds base out heap_end (n + labels_needed i) is b p.1 m rest)
     where
       next : List Item
-      next = body_code base out words heap_end literals (n + 12) is rest
+      next = body_code base out words heap_end literals (n + labels_needed i) is rest
 
       by : (i : Instruction) → instruction_selected words globals symbols literals i ≡ true → marks_settled b (i ∷ is) ≡ true
           → ((b : Bool) → marks_settled b is ≡ true

@@ -47,7 +47,7 @@ use Rattle.sch_operations.specs.CellCode.{source_code}
 use Rattle.sch_operations.specs.ClosureCode.{fields_code, closure_bytes, places_code, record_code, records_code}
 use Rattle.sch_primitives.specs.PrimitiveCode.{pair_or_binary, ternary_code, index_operand}
 use Rattle.sch_operations.specs.OperationCode.{operation_code}
-use Rattle.sch_select.specs.Select.{body_code}
+use Rattle.sch_select.specs.Select.{labels_needed, body_code}
 use Rattle.sch_select.specs.Program.{passed_code, entry_code, forms_code, labels_end, own_label, program_code}
 use Rattle.sch_own_routines.specs.OwnCode.{own_code}
 use Rattle.sch_statics.specs.Data.{heap_of}
@@ -268,42 +268,46 @@ module _ (count : ℕ) where
   body_ahead base out words heap_end literals n [] rest e f o = refl
   body_ahead base out words heap_end literals n (instruction.IfFalse l ∷ is) rest e f o =
       let p = and_parts (has l (frames.labels_in is)) (frames.jumps_ahead is) e in
-      near (base + l) _ _ (within_body base out words heap_end literals (n + 12) l is rest p.0)
-      ∙ body_ahead base out words heap_end literals (n + 12) is rest p.1 f o
+      near (base + l) _ _ (within_body base out words heap_end literals (n + labels_needed (instruction.IfFalse l))
+      l is rest p.0)
+      ∙ body_ahead base out words heap_end literals (n + labels_needed (instruction.IfFalse l)) is rest p.1 f o
   body_ahead base out words heap_end literals n (instruction.Jump l ∷ is) rest e f o =
       let p = and_parts (has l (frames.labels_in is)) (frames.jumps_ahead is) e in
-      near (base + l) _ _ (within_body base out words heap_end literals (n + 12) l is rest p.0)
-      ∙ body_ahead base out words heap_end literals (n + 12) is rest p.1 f o
+      near (base + l) _ _ (within_body base out words heap_end literals (n + labels_needed (instruction.Jump l)) l
+      is rest p.0)
+      ∙ body_ahead base out words heap_end literals (n + labels_needed (instruction.Jump l)) is rest p.1 f o
   body_ahead base out words heap_end literals n (instruction.End ∷ is) rest e f o = near out _ _
-      (behind_body base out words heap_end literals (n + 12) out is rest o)
-      ∙ body_ahead base out words heap_end literals (n + 12) is rest e f o
+      (behind_body base out words heap_end literals (n + labels_needed instruction.End) out is rest o)
+      ∙ body_ahead base out words heap_end literals (n + labels_needed instruction.End) is rest e f o
   body_ahead base out words heap_end literals n (instruction.Do q ∷ is) rest e f o =
       let g = and_parts (operation_few count q) (list_all (labels_few count) is) f in
-      operation_ahead heap_end literals n q g.0 (body_code base out words heap_end literals (n + 12) is rest)
-      ∙ body_ahead base out words heap_end literals (n + 12) is rest e g.1 o
+      operation_ahead heap_end literals n q g.0 (body_code base out words heap_end literals
+      (n + labels_needed (instruction.Do q)) is rest)
+      ∙ body_ahead base out words heap_end literals (n + labels_needed (instruction.Do q)) is rest e g.1 o
   body_ahead base out words heap_end literals n (instruction.Load p q ∷ is) rest e f o = second_ahead n q _
-      ∙ body_ahead base out words heap_end literals (n + 12) is rest e f o
+      ∙ body_ahead base out words heap_end literals (n + labels_needed (instruction.Load p q)) is rest e f o
   body_ahead base out words heap_end literals n (instruction.Fix members ∷ is) rest e f o =
       let g = and_parts (members_few count members) (list_all (labels_few count) is) f in
       away 7 (omega arith) true _ ∙ places_ahead 0 members _ ∙ records_ahead 0 members g.0 _
-      ∙ body_ahead base out words heap_end literals (n + 12) is rest e g.1 o
-  body_ahead base out words heap_end literals n (instruction.Store p ∷ is) rest e f o = body_ahead base out words heap_end literals
-      (n + 12) is rest e f o
-  body_ahead base out words heap_end literals n (instruction.Copy p q ∷ is) rest e f o = body_ahead base out words heap_end literals
-      (n + 12) is rest e f o
+      ∙ body_ahead base out words heap_end literals (n + labels_needed (instruction.Fix members)) is rest e g.1 o
+  body_ahead base out words heap_end literals n (instruction.Store p ∷ is) rest e f o =
+      body_ahead base out words heap_end literals (n + labels_needed (instruction.Store p)) is rest e f o
+  body_ahead base out words heap_end literals n (instruction.Copy p q ∷ is) rest e f o =
+      body_ahead base out words heap_end literals (n + labels_needed (instruction.Copy p q)) is rest e f o
   body_ahead base out words heap_end literals n (instruction.Pass j q ∷ is) rest e f o = second_ahead n q _
-      ∙ body_ahead base out words heap_end literals (n + 12) is rest e f o
+      ∙ body_ahead base out words heap_end literals (n + labels_needed (instruction.Pass j q)) is rest e f o
   body_ahead base out words heap_end literals n (instruction.Call spread count ∷ is) rest e f o =
-      near_to own n _ _ (first_in n (labels_in (body_code base out words heap_end literals (n + 12) is rest)))
-      ∙ body_ahead base out words heap_end literals (n + 12) is rest e f o
-  body_ahead base out words heap_end literals n (instruction.Tail spread count ∷ is) rest e f o = body_ahead base out words
-      heap_end literals (n + 12) is rest e f o
-  body_ahead base out words heap_end literals n (instruction.Return ∷ is) rest e f o = body_ahead base out words heap_end literals
-      (n + 12) is rest e f o
-  body_ahead base out words heap_end literals n (instruction.Label l ∷ is) rest e f o = body_ahead base out words heap_end literals
-      (n + 12) is rest e f o
-  body_ahead base out words heap_end literals n (instruction.Mark m ∷ is) rest e f o = body_ahead base out words heap_end literals
-      (n + 12) is rest e f o
+      near_to own n _ _ (first_in n (labels_in (body_code base out words heap_end literals
+      (n + labels_needed (instruction.Call spread count)) is rest)))
+      ∙ body_ahead base out words heap_end literals (n + labels_needed (instruction.Call spread count)) is rest e f o
+  body_ahead base out words heap_end literals n (instruction.Tail spread count ∷ is) rest e f o =
+      body_ahead base out words heap_end literals (n + labels_needed (instruction.Tail spread count)) is rest e f o
+  body_ahead base out words heap_end literals n (instruction.Return ∷ is) rest e f o =
+      body_ahead base out words heap_end literals (n + labels_needed instruction.Return) is rest e f o
+  body_ahead base out words heap_end literals n (instruction.Label l ∷ is) rest e f o =
+      body_ahead base out words heap_end literals (n + labels_needed (instruction.Label l)) is rest e f o
+  body_ahead base out words heap_end literals n (instruction.Mark m ∷ is) rest e f o =
+      body_ahead base out words heap_end literals (n + labels_needed (instruction.Mark m)) is rest e f o
 
   passed_ahead : (q : Option Entry) (out : ℕ) (rest : List Item) → is_among (labels_in rest) out ≡ true
       → jumps_ahead own (passed_code q out rest) ≡ jumps_ahead own rest

@@ -24,6 +24,7 @@ use Rattle.sch_control.specs.declared.operation.Operation.TheVariants as operati
 use Rattle.sch_asm.specs.declared.item.Item.{Item}
 use Rattle.sch_asm.specs.Items.{is_among, labels_in}
 use Rattle.sch_asm.proofs.Tables.{repeats}
+use Rattle.sch_select.specs.Select.{operand_needs, operation_needs}
 use Rattle.sch_primitives.specs.OperandCode.{atom_code, unary_code, binary_code, read_code, operand_code, second_code}
 use Rattle.sch_operations.specs.CellCode.{source_code}
 use Rattle.sch_operations.specs.ClosureCode.{fields_code, closure_bytes, places_code, records_code, group_code}
@@ -93,12 +94,15 @@ wider a b c d ls low high p = record {
   above = λ y h. p.above y (omega (arith, h, high));
 }
 
-pub one_label : (n : ℕ) → Block n (n + 4) (n ∷ [])
+pub one_label : (n : ℕ) → Block n (n + 1) (n ∷ [])
 one_label n = record {
   distinct = refl;
   below = λ y h. neither (n == y) false (ne_eqb n y (λ e. omega (arith, e, h))) refl;
   above = λ y h. neither (n == y) false (ne_eqb n y (λ e. omega (arith, e, h))) refl;
 }
+
+one_of_four : (n : ℕ) → Block n (n + 4) (n ∷ [])
+one_of_four n = wider n (n + 4) n (n + 1) _ (omega arith) (omega arith) (one_label n)
 
 modulo_block : (n : ℕ) → Block n (n + 4) ((n + 1) ∷ ((n + 2) ∷ (n ∷ [])))
 modulo_block n = record {
@@ -156,10 +160,10 @@ either_block a b true xs ys p q = p
 either_block a b false xs ys p q = q
 
 unary_block : (n : ℕ) (which : Primitive) → Block n (n + 4) (unary_labels n which)
-unary_block n which = either_block n (n + 4) (has_test which) (n ∷ []) [] (one_label n) (no_labels n (n + 4))
+unary_block n which = either_block n (n + 4) (has_test which) (n ∷ []) [] (one_of_four n) (no_labels n (n + 4))
 
 binary_block : (n : ℕ) (which : Primitive) → Block n (n + 4) (binary_labels n which)
-binary_block n which = either_block n (n + 4) (has_one_label which) (n ∷ []) _ (one_label n)
+binary_block n which = either_block n (n + 4) (has_one_label which) (n ∷ []) _ (one_of_four n)
     (either_block n (n + 4) (is_modulo which) ((n + 1) ∷ ((n + 2) ∷ (n ∷ []))) [] (modulo_block n)
     (no_labels n (n + 4)))
 
@@ -218,9 +222,13 @@ pub second_labelled : (n : ℕ) (o : Operand Place) → Labelled (second_code n 
 second_labelled n (operand.Atom a) rest = atom_labelled 1 a rest
 second_labelled n (operand.Read site which atoms) rest = read_labelled n which atoms _
 
-pub operand_block : (n : ℕ) (o : Operand Place) → Block n (n + 4) (operand_labels n o)
-operand_block n (operand.Atom a) = no_labels n (n + 4)
+pub operand_block : (n : ℕ) (o : Operand Place) → Block n (n + operand_needs o) (operand_labels n o)
+operand_block n (operand.Atom a) = no_labels n _
 operand_block n (operand.Read site which atoms) = read_block n which atoms
+
+operand_of_four : (n : ℕ) (o : Operand Place) → Block n (n + 4) (operand_labels n o)
+operand_of_four n (operand.Atom a) = no_labels n (n + 4)
+operand_of_four n (operand.Read site which atoms) = read_block n which atoms
 
 index_labelled : (o : Operand Place) → Labelled (index_operand o) []
 index_labelled (operand.Atom a) rest = atom_labelled 1 a rest
@@ -239,7 +247,7 @@ three_labelled n a b c rest =
 
 three_block : (n : ℕ) (a c : Operand Place) → Block n (n + 4 + 4) (three_labels n a c)
 three_block n a c = blocks n (n + 4) (n + 4) (n + 4 + 4) _ _ (omega arith) (omega arith) (omega arith)
-    (operand_block n c) (operand_block (n + 4) a)
+    (operand_of_four n c) (operand_of_four (n + 4) a)
 
 source_labelled : (r : ℕ) (x : Source Place) → Labelled (source_code r x) []
 source_labelled r (source.Atom a) rest = atom_labelled r a rest
@@ -297,21 +305,20 @@ operation_labelled heap_end literals n (operation.CellSet x o) rest = operand_la
     ∙ ap (λ l. operand_labels n o ++ l) (source_labelled 1 x _)
 operation_labelled heap_end literals n (operation.MakeClosure c) rest = fields_labelled 8 c.fields _
 
-pub operation_block : (n : ℕ) (o : Operation Place) → Block n (n + 12) (operation_labels n o)
-operation_block n (operation.Operand o) = wider n (n + 12) n (n + 4) _ (omega arith) (omega arith) (operand_block n o)
+pub operation_block : (n : ℕ) (o : Operation Place) → Block n (n + operation_needs o) (operation_labels n o)
+operation_block n (operation.Operand o) = operand_block n o
 operation_block n (operation.Prim site which []) = no_labels n (n + 12)
 operation_block n (operation.Prim site which (o ∷ [])) = wider n (n + 12) n (n + 8 + 4) _ (omega arith) (omega arith)
-    (blocks n (n + 4) (n + 8) (n + 8 + 4) _ _ (omega arith) (omega arith) (omega arith) (operand_block n o)
+    (blocks n (n + 4) (n + 8) (n + 8 + 4) _ _ (omega arith) (omega arith) (omega arith) (operand_of_four n o)
     (unary_block (n + 8) which))
 operation_block n (operation.Prim site which (o ∷ (q ∷ []))) =
     wider n (n + 12) n (n + 8 + 4) _ (omega arith) (omega arith)
-    (blocks n (n + 4) (n + 4) (n + 8 + 4) _ _ (omega arith) (omega arith) (omega arith) (operand_block n o)
+    (blocks n (n + 4) (n + 4) (n + 8 + 4) _ _ (omega arith) (omega arith) (omega arith) (operand_of_four n o)
     (blocks (n + 4) (n + 4 + 4) (n + 8) (n + 8 + 4) _ _ (omega arith) (omega arith) (omega arith)
-    (operand_block (n + 4) q) (binary_block (n + 8) which)))
+    (operand_of_four (n + 4) q) (binary_block (n + 8) which)))
 operation_block n (operation.Prim site which (o ∷ (q ∷ (r ∷ [])))) = wider n (n + 12) n (n + 4 + 4) _ (omega arith)
     (omega arith) (three_block n o r)
 operation_block n (operation.Prim site which (o ∷ (q ∷ (r ∷ (s ∷ operands))))) = no_labels n (n + 12)
-operation_block n (operation.CellSet x o) = wider n (n + 12) n (n + 4) _ (omega arith) (omega arith) (operand_block n o)
-operation_block n (operation.SetGlobal g o) = wider n (n + 12) n (n + 4) _ (omega arith) (omega arith)
-    (operand_block n o)
-operation_block n _ = no_labels n (n + 12)
+operation_block n (operation.CellSet x o) = operand_block n o
+operation_block n (operation.SetGlobal g o) = operand_block n o
+operation_block n _ = no_labels n _

@@ -27,7 +27,7 @@ use Rattle.sch_operations.specs.CellCode.{source_code}
 use Rattle.sch_operations.specs.ClosureCode.{fields_code, closure_bytes, places_code, records_code}
 use Rattle.sch_primitives.specs.PrimitiveCode.{pair_or_binary, ternary_code, index_operand}
 use Rattle.sch_operations.specs.OperationCode.{operation_code}
-use Rattle.sch_select.specs.Select.{instruction_code, body_code}
+use Rattle.sch_select.specs.Select.{labels_needed, instruction_code, body_code}
 use Rattle.sch_places.specs.ItemMarks.{kind_of}
 use Rattle.sch_select.specs.Program.{passed_code, entry_code, forms_code, labels_end, own_label, program_code}
 use Rattle.sch_statics.specs.Data.{heap_of}
@@ -116,10 +116,11 @@ operation_unmarked heap_end literals n (operation.MakeClosure c) rest = fields_u
 body_kinds : (base out words heap_end literals n : ℕ) (is : List Instruction) (rest : List Item)
     → kinds_in (body_code base out words heap_end literals n is rest) ≡ kinds_among is ++ kinds_in rest
 body_kinds base out words heap_end literals n [] rest = refl
-body_kinds base out words heap_end literals n (i ∷ is) rest = by i (body_kinds base out words heap_end literals (n + 12) is rest)
+body_kinds base out words heap_end literals n (i ∷ is) rest =
+    by i (body_kinds base out words heap_end literals (n + labels_needed i) is rest)
   where
     next : List Item
-    next = body_code base out words heap_end literals (n + 12) is rest
+    next = body_code base out words heap_end literals (n + labels_needed i) is rest
 
     by : (i : Instruction) → kinds_in next ≡ kinds_among is ++ kinds_in rest
         → kinds_in (instruction_code base out words heap_end literals n i next) ≡ kinds_among (i ∷ is) ++ kinds_in rest

@@ -50,7 +50,7 @@ use Rattle.sch_operations.specs.CellCode.{source_code}
 use Rattle.sch_operations.specs.ClosureCode.{fields_code, record_code, closure_bytes, places_code, records_code}
 use Rattle.sch_primitives.specs.OperandCode.{atom_code, unary_code, binary_code, read_code, operand_code, second_code}
 use Rattle.sch_operations.specs.OperationCode.{operation_code}
-use Rattle.sch_select.specs.Select.{body_code}
+use Rattle.sch_select.specs.Select.{labels_needed, body_code}
 use Rattle.sch_statics.specs.Data.{heap_of, names_of, closures_of, objects_unit, static_count, program_words}
 use Rattle.sch_statics.specs.Data.{word_list, global_words, padding, closure_words}
 use Rattle.sch_places.specs.StaticBytes.{static_bytes}
@@ -85,32 +85,41 @@ right_in (x ∷ xs) ys y e = ap (λ b. (x == y) || b) (right_in xs ys y e) ∙ o
 pub label_in : (base n l : ℕ) (instructions : List Instruction) → has l (frames.labels_in instructions) ≡ true
     → is_among (body_labels base n instructions) (base + l) ≡ true
 label_in base n l [] e = absurd (let bad : false ≡ true = e in cc)
-label_in base n l (Label k ∷ instructions) e = by (nat_eq l k) refl e (label_in base (n + 12) l instructions)
+label_in base n l (Label k ∷ instructions) e =
+    by (nat_eq l k) refl e (label_in base (n + labels_needed (Label k)) l instructions)
   where
     by : (b : Bool) → nat_eq l k ≡ b → (b || has l (frames.labels_in instructions)) ≡ true
-        → (has l (frames.labels_in instructions) ≡ true → is_among (body_labels base (n + 12) instructions) (base + l)
-        ≡ true) → is_among ((base + k) ∷ body_labels base (n + 12) instructions) (base + l) ≡ true
+        → (has l (frames.labels_in instructions) ≡ true → is_among
+        (body_labels base (n + labels_needed (Label k)) instructions) (base + l)
+        ≡ true) → is_among ((base + k) ∷ body_labels base (n + labels_needed (Label k)) instructions) (base + l) ≡
+        true
     by true q e rec = let same : l ≡ k = eqb-true l k q in ap
-        (λ b. b || is_among (body_labels base (n + 12) instructions) (base + l))
+        (λ b. b || is_among (body_labels base (n + labels_needed (Label k)) instructions) (base + l))
         (eq-eqb (base + k) (base + l) (omega (arith, same)))
-    by false q e rec = later_in (base + k) (base + l) (body_labels base (n + 12) instructions) (rec e)
-label_in base n l (Do o ∷ instructions) e = right_in (operation_labels n o) (body_labels base (n + 12) instructions)
-    (base + l) (label_in base (n + 12) l instructions e)
-label_in base n l (Store q ∷ instructions) e = label_in base (n + 12) l instructions e
-label_in base n l (Copy to from ∷ instructions) e = label_in base (n + 12) l instructions e
-label_in base n l (Load q o ∷ instructions) e = right_in (operand_labels n o) (body_labels base (n + 12) instructions)
-    (base + l) (label_in base (n + 12) l instructions e)
-label_in base n l (Pass j o ∷ instructions) e = right_in (operand_labels n o) (body_labels base (n + 12) instructions)
-    (base + l) (label_in base (n + 12) l instructions e)
-label_in base n l (Fix members ∷ instructions) e = label_in base (n + 12) l instructions e
+    by false q e rec =
+        later_in (base + k) (base + l) (body_labels base (n + labels_needed (Label k)) instructions) (rec e)
+label_in base n l (Do o ∷ instructions) e =
+    right_in (operation_labels n o) (body_labels base (n + labels_needed (Do o)) instructions)
+    (base + l) (label_in base (n + labels_needed (Do o)) l instructions e)
+label_in base n l (Store q ∷ instructions) e = label_in base (n + labels_needed (Store q)) l instructions e
+label_in base n l (Copy to from ∷ instructions) e = label_in base (n + labels_needed (Copy to from)) l instructions e
+label_in base n l (Load q o ∷ instructions) e =
+    right_in (operand_labels n o) (body_labels base (n + labels_needed (Load q o)) instructions)
+    (base + l) (label_in base (n + labels_needed (Load q o)) l instructions e)
+label_in base n l (Pass j o ∷ instructions) e =
+    right_in (operand_labels n o) (body_labels base (n + labels_needed (Pass j o)) instructions)
+    (base + l) (label_in base (n + labels_needed (Pass j o)) l instructions e)
+label_in base n l (Fix members ∷ instructions) e = label_in base (n + labels_needed (Fix members)) l instructions e
 label_in base n l (Call spread count ∷ instructions) e = later_in n (base + l)
-    (body_labels base (n + 12) instructions) (label_in base (n + 12) l instructions e)
-label_in base n l (Tail spread count ∷ instructions) e = label_in base (n + 12) l instructions e
-label_in base n l (Return ∷ instructions) e = label_in base (n + 12) l instructions e
-label_in base n l (Mark m ∷ instructions) e = label_in base (n + 12) l instructions e
-label_in base n l (End ∷ instructions) e = label_in base (n + 12) l instructions e
-label_in base n l (IfFalse j ∷ instructions) e = label_in base (n + 12) l instructions e
-label_in base n l (Jump j ∷ instructions) e = label_in base (n + 12) l instructions e
+    (body_labels base (n + labels_needed (Call spread count)) instructions)
+    (label_in base (n + labels_needed (Call spread count)) l instructions e)
+label_in base n l (Tail spread count ∷ instructions) e =
+    label_in base (n + labels_needed (Tail spread count)) l instructions e
+label_in base n l (Return ∷ instructions) e = label_in base (n + labels_needed Return) l instructions e
+label_in base n l (Mark m ∷ instructions) e = label_in base (n + labels_needed (Mark m)) l instructions e
+label_in base n l (End ∷ instructions) e = label_in base (n + labels_needed End) l instructions e
+label_in base n l (IfFalse j ∷ instructions) e = label_in base (n + labels_needed (IfFalse j)) l instructions e
+label_in base n l (Jump j ∷ instructions) e = label_in base (n + labels_needed (Jump j)) l instructions e
 
 -- All these labels stand in the program.
 module _ (all : List ℕ) where
@@ -263,44 +272,56 @@ module _ (all : List ℕ) where
       body_uses n [] e f h rest = refl
       body_uses n (IfFalse l ∷ instructions) e f h rest =
           let p = and_parts (has l (frames.labels_in instructions)) (jumps_ahead instructions) e in
-          one (base + l) (uses_in (body_code base out words heap_end literals (n + 12) instructions rest))
-          (h (base + l) (label_in base (n + 12) l instructions p.0)) ∙ body_uses (n + 12) instructions p.1 f h rest
+          one (base + l) (uses_in (body_code base out words heap_end literals (n + labels_needed (IfFalse l))
+          instructions rest))
+          (h (base + l) (label_in base (n + labels_needed (IfFalse l)) l instructions p.0)) ∙ body_uses
+          (n + labels_needed (IfFalse l)) instructions p.1 f h rest
       body_uses n (Jump l ∷ instructions) e f h rest =
           let p = and_parts (has l (frames.labels_in instructions)) (jumps_ahead instructions) e in
-          one (base + l) (uses_in (body_code base out words heap_end literals (n + 12) instructions rest))
-          (h (base + l) (label_in base (n + 12) l instructions p.0)) ∙ body_uses (n + 12) instructions p.1 f h rest
+          one (base + l) (uses_in (body_code base out words heap_end literals (n + labels_needed (Jump l))
+          instructions rest))
+          (h (base + l) (label_in base (n + labels_needed (Jump l)) l instructions p.0)) ∙ body_uses
+          (n + labels_needed (Jump l)) instructions p.1 f h rest
       body_uses n (End ∷ instructions) e f h rest = one out
-          (uses_in (body_code base out words heap_end literals (n + 12) instructions rest)) out_in
-          ∙ body_uses (n + 12) instructions e f h rest
-      body_uses n (Label l ∷ instructions) e f h rest = body_uses (n + 12) instructions e f
-          (among_right ((base + l) ∷ []) (body_labels base (n + 12) instructions) h) rest
+          (uses_in (body_code base out words heap_end literals (n + labels_needed End) instructions rest)) out_in
+          ∙ body_uses (n + labels_needed End) instructions e f h rest
+      body_uses n (Label l ∷ instructions) e f h rest = body_uses (n + labels_needed (Label l)) instructions e f
+          (among_right ((base + l) ∷ []) (body_labels base (n + labels_needed (Label l)) instructions) h) rest
       body_uses n (Do o ∷ instructions) e f h rest =
           operation_uses n o (and_parts (operation_few count o) (list_all (labels_few count) instructions) f).0
-          (among_left (operation_labels n o) (body_labels base (n + 12) instructions) h)
-          (body_code base out words heap_end literals (n + 12) instructions rest)
-          ∙ body_uses (n + 12) instructions e (and_parts (operation_few count o)
+          (among_left (operation_labels n o) (body_labels base (n + labels_needed (Do o)) instructions) h)
+          (body_code base out words heap_end literals (n + labels_needed (Do o)) instructions rest)
+          ∙ body_uses (n + labels_needed (Do o)) instructions e (and_parts (operation_few count o)
           (list_all (labels_few count) instructions) f).1 (among_right (operation_labels n o)
-          (body_labels base (n + 12) instructions) h) rest
-      body_uses n (Store q ∷ instructions) e f h rest = body_uses (n + 12) instructions e f h rest
-      body_uses n (Copy to from ∷ instructions) e f h rest = body_uses (n + 12) instructions e f h rest
+          (body_labels base (n + labels_needed (Do o)) instructions) h) rest
+      body_uses n (Store q ∷ instructions) e f h rest =
+          body_uses (n + labels_needed (Store q)) instructions e f h rest
+      body_uses n (Copy to from ∷ instructions) e f h rest =
+          body_uses (n + labels_needed (Copy to from)) instructions e f h rest
       body_uses n (Load q o ∷ instructions) e f h rest =
-          second_uses n o (among_left (operand_labels n o) (body_labels base (n + 12) instructions) h) _
-          ∙ body_uses (n + 12) instructions e f (among_right (operand_labels n o)
-          (body_labels base (n + 12) instructions) h) rest
+          second_uses n o (among_left (operand_labels n o) (body_labels base (n + labels_needed (Load q o))
+          instructions) h) _
+          ∙ body_uses (n + labels_needed (Load q o)) instructions e f (among_right (operand_labels n o)
+          (body_labels base (n + labels_needed (Load q o)) instructions) h) rest
       body_uses n (Pass j o ∷ instructions) e f h rest =
-          second_uses n o (among_left (operand_labels n o) (body_labels base (n + 12) instructions) h) _
-          ∙ body_uses (n + 12) instructions e f (among_right (operand_labels n o)
-          (body_labels base (n + 12) instructions) h) rest
+          second_uses n o (among_left (operand_labels n o) (body_labels base (n + labels_needed (Pass j o))
+          instructions) h) _
+          ∙ body_uses (n + labels_needed (Pass j o)) instructions e f (among_right (operand_labels n o)
+          (body_labels base (n + labels_needed (Pass j o)) instructions) h) rest
       body_uses n (Fix members ∷ instructions) e f h rest =
           let p = and_parts (members_few count members) (list_all (labels_few count) instructions) f in
-          places_uses 0 members _ ∙ records_uses 0 members p.0 _ ∙ body_uses (n + 12) instructions e p.1 h rest
+          places_uses 0 members _ ∙ records_uses 0 members p.0 _ ∙ body_uses (n + labels_needed (Fix members))
+          instructions e p.1 h rest
       body_uses n (Call spread count ∷ instructions) e f h rest =
-          one n (uses_in (body_code base out words heap_end literals (n + 12) instructions rest))
-          (h n (first_in n (body_labels base (n + 12) instructions)))
-          ∙ body_uses (n + 12) instructions e f (among_right (n ∷ []) (body_labels base (n + 12) instructions) h) rest
-      body_uses n (Tail spread count ∷ instructions) e f h rest = body_uses (n + 12) instructions e f h rest
-      body_uses n (Return ∷ instructions) e f h rest = body_uses (n + 12) instructions e f h rest
-      body_uses n (Mark m ∷ instructions) e f h rest = body_uses (n + 12) instructions e f h rest
+          one n (uses_in (body_code base out words heap_end literals (n + labels_needed (Call spread count))
+          instructions rest))
+          (h n (first_in n (body_labels base (n + labels_needed (Call spread count)) instructions)))
+          ∙ body_uses (n + labels_needed (Call spread count)) instructions e f (among_right (n ∷ [])
+          (body_labels base (n + labels_needed (Call spread count)) instructions) h) rest
+      body_uses n (Tail spread count ∷ instructions) e f h rest =
+          body_uses (n + labels_needed (Tail spread count)) instructions e f h rest
+      body_uses n (Return ∷ instructions) e f h rest = body_uses (n + labels_needed Return) instructions e f h rest
+      body_uses n (Mark m ∷ instructions) e f h rest = body_uses (n + labels_needed (Mark m)) instructions e f h rest
 
     passed_uses : (o : Option Entry) (out : ℕ) → is_among all out ≡ true → Uses (passed_code o out)
     passed_uses None out e rest = refl

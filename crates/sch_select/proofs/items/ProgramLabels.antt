@@ -25,7 +25,7 @@ use Rattle.sch_asm.specs.Items.{IsEachOnce, is_among, labels_in}
 use Rattle.sch_asm.proofs.Tables.{each_once, repeats}
 use Rattle.sch_select.proofs.items.RestItems.{count_labels, count_labelled}
 use Rattle.sch_places.specs.Addresses.{body_label}
-use Rattle.sch_select.specs.Select.{instruction_code, body_code}
+use Rattle.sch_select.specs.Select.{all_labels_needed, labels_needed, instruction_code, body_code}
 use Rattle.sch_select.specs.Program.{passed_code, entry_code, form_code, forms_code, labels_end, own_label}
 use Rattle.sch_select.specs.Program.{program_code}
 use Rattle.sch_own_routines.specs.OwnCode.{own_code}
@@ -70,7 +70,7 @@ module _ (base : ℕ) where
 
   abbrev pub body_labels : ℕ → List Instruction → List ℕ
   body_labels n [] = []
-  body_labels n (i ∷ instructions) = instruction_labels n i ++ body_labels (n + 12) instructions
+  body_labels n (i ∷ instructions) = instruction_labels n i ++ body_labels (n + labels_needed i) instructions
 
   module _ (out words heap_end literals : ℕ) where
     instruction_labelled : (n : ℕ) (i : Instruction) → Labelled (instruction_code base out words heap_end literals n i)
@@ -85,36 +85,45 @@ module _ (base : ℕ) where
         → Labelled (body_code base out words heap_end literals n instructions) (body_labels n instructions)
     body_labelled n [] rest = refl
     body_labelled n (i ∷ instructions) rest =
-        instruction_labelled n i (body_code base out words heap_end literals (n + 12) instructions rest)
-        ∙ ap (λ l. instruction_labels n i ++ l) (body_labelled (n + 12) instructions rest)
-        ∙ sym (append_assoc (instruction_labels n i) (body_labels (n + 12) instructions) (labels_in rest))
+        instruction_labelled n i (body_code base out words heap_end literals (n + labels_needed i) instructions rest)
+        ∙ ap (λ l. instruction_labels n i ++ l) (body_labelled (n + labels_needed i) instructions rest)
+        ∙ sym (append_assoc (instruction_labels n i) (body_labels (n + labels_needed i) instructions)
+        (labels_in rest))
 
   absent : (y n : ℕ) (instructions : List Instruction) → y < n
       → ((l : ℕ) → has l (frames.labels_in instructions) ≡ true → y ≢ base + l)
       → is_among (body_labels n instructions) y ≡ false
   absent y n [] lt h = refl
   absent y n (Label l ∷ instructions) lt h = neither (base + l == y)
-      (is_among (body_labels (n + 12) instructions) y) (ne_eqb (base + l) y
+      (is_among (body_labels (n + labels_needed (Label l)) instructions) y) (ne_eqb (base + l) y
       (λ e. h l (ap (λ b. b || has l (frames.labels_in instructions)) (eq-eqb l l refl)) (sym e)))
-      (absent y (n + 12) instructions (omega (arith, lt))
+      (absent y (n + labels_needed (Label l)) instructions (omega (arith, lt))
       (λ k e. h k (ap (λ b. nat_eq k l || b) e ∙ or-true (nat_eq k l))))
-  absent y n (Do o ∷ instructions) lt h = among_append (operation_labels n o) (body_labels (n + 12) instructions) y
-      ((operation_block n o).below y lt) (absent y (n + 12) instructions (omega (arith, lt)) h)
-  absent y n (Store q ∷ instructions) lt h = absent y (n + 12) instructions (omega (arith, lt)) h
-  absent y n (Copy to from ∷ instructions) lt h = absent y (n + 12) instructions (omega (arith, lt)) h
-  absent y n (Load q o ∷ instructions) lt h = among_append (operand_labels n o) (body_labels (n + 12) instructions) y
-      ((operand_block n o).below y lt) (absent y (n + 12) instructions (omega (arith, lt)) h)
-  absent y n (Pass j o ∷ instructions) lt h = among_append (operand_labels n o) (body_labels (n + 12) instructions) y
-      ((operand_block n o).below y lt) (absent y (n + 12) instructions (omega (arith, lt)) h)
-  absent y n (Fix members ∷ instructions) lt h = absent y (n + 12) instructions (omega (arith, lt)) h
-  absent y n (Call spread count ∷ instructions) lt h = among_append (n ∷ []) (body_labels (n + 12) instructions) y
-      ((one_label n).below y lt) (absent y (n + 12) instructions (omega (arith, lt)) h)
-  absent y n (Tail spread count ∷ instructions) lt h = absent y (n + 12) instructions (omega (arith, lt)) h
-  absent y n (Return ∷ instructions) lt h = absent y (n + 12) instructions (omega (arith, lt)) h
-  absent y n (End ∷ instructions) lt h = absent y (n + 12) instructions (omega (arith, lt)) h
-  absent y n (IfFalse j ∷ instructions) lt h = absent y (n + 12) instructions (omega (arith, lt)) h
-  absent y n (Jump j ∷ instructions) lt h = absent y (n + 12) instructions (omega (arith, lt)) h
-  absent y n (Mark m ∷ instructions) lt h = absent y (n + 12) instructions (omega (arith, lt)) h
+  absent y n (Do o ∷ instructions) lt h =
+      among_append (operation_labels n o) (body_labels (n + labels_needed (Do o)) instructions) y
+      ((operation_block n o).below y lt) (absent y (n + labels_needed (Do o)) instructions (omega (arith, lt)) h)
+  absent y n (Store q ∷ instructions) lt h = absent y (n + labels_needed (Store q)) instructions (omega (arith, lt)) h
+  absent y n (Copy to from ∷ instructions) lt h =
+      absent y (n + labels_needed (Copy to from)) instructions (omega (arith, lt)) h
+  absent y n (Load q o ∷ instructions) lt h =
+      among_append (operand_labels n o) (body_labels (n + labels_needed (Load q o)) instructions) y
+      ((operand_block n o).below y lt) (absent y (n + labels_needed (Load q o)) instructions (omega (arith, lt)) h)
+  absent y n (Pass j o ∷ instructions) lt h =
+      among_append (operand_labels n o) (body_labels (n + labels_needed (Pass j o)) instructions) y
+      ((operand_block n o).below y lt) (absent y (n + labels_needed (Pass j o)) instructions (omega (arith, lt)) h)
+  absent y n (Fix members ∷ instructions) lt h =
+      absent y (n + labels_needed (Fix members)) instructions (omega (arith, lt)) h
+  absent y n (Call spread count ∷ instructions) lt h =
+      among_append (n ∷ []) (body_labels (n + labels_needed (Call spread count)) instructions) y
+      ((one_label n).below y lt) (absent y (n + labels_needed (Call spread count)) instructions (omega (arith, lt)) h)
+  absent y n (Tail spread count ∷ instructions) lt h =
+      absent y (n + labels_needed (Tail spread count)) instructions (omega (arith, lt)) h
+  absent y n (Return ∷ instructions) lt h = absent y (n + labels_needed Return) instructions (omega (arith, lt)) h
+  absent y n (End ∷ instructions) lt h = absent y (n + labels_needed End) instructions (omega (arith, lt)) h
+  absent y n (IfFalse j ∷ instructions) lt h =
+      absent y (n + labels_needed (IfFalse j)) instructions (omega (arith, lt)) h
+  absent y n (Jump j ∷ instructions) lt h = absent y (n + labels_needed (Jump j)) instructions (omega (arith, lt)) h
+  absent y n (Mark m ∷ instructions) lt h = absent y (n + labels_needed (Mark m)) instructions (omega (arith, lt)) h
 
   module _ (labels : ℕ) where
     local_small : (ls : List ℕ) (l : ℕ) → list_all (λ l. nat_lt l labels) ls ≡ true → has l ls ≡ true → l < labels
@@ -129,42 +138,53 @@ module _ (base : ℕ) where
 
     beyond : (y n : ℕ) (instructions : List Instruction)
         → list_all (λ l. nat_lt l labels) (frames.labels_in instructions) ≡ true → base + labels ≤ n
-        → n + 12 * length instructions ≤ y → is_among (body_labels n instructions) y ≡ false
+        → n + all_labels_needed instructions ≤ y → is_among (body_labels n instructions) y ≡ false
     beyond y n [] e le far = refl
     beyond y n (Label l ∷ instructions) e le far =
         let p = and_parts (nat_lt l labels) (list_all (λ l. nat_lt l labels) (frames.labels_in instructions)) e in
         let lt = ltb-true l labels p.0 in
-        neither (base + l == y) (is_among (body_labels (n + 12) instructions) y)
+        neither (base + l == y) (is_among (body_labels (n + labels_needed (Label l)) instructions) y)
         (ne_eqb (base + l) y (λ q. omega (arith, q, lt, le, far)))
-        (beyond y (n + 12) instructions p.1 (omega (arith, le)) (omega (arith, far)))
+        (beyond y (n + labels_needed (Label l)) instructions p.1 (omega (arith, le)) (omega (arith, far)))
     beyond y n (Do o ∷ instructions) e le far = among_append (operation_labels n o)
-        (body_labels (n + 12) instructions) y ((operation_block n o).above y (omega (arith, far)))
-        (beyond y (n + 12) instructions e (omega (arith, le)) (omega (arith, far)))
-    beyond y n (Store q ∷ instructions) e le far = beyond y (n + 12) instructions e (omega (arith, le))
+        (body_labels (n + labels_needed (Do o)) instructions) y ((operation_block n o).above y (omega (arith, far)))
+        (beyond y (n + labels_needed (Do o)) instructions e (omega (arith, le)) (omega (arith, far)))
+    beyond y n (Store q ∷ instructions) e le far =
+        beyond y (n + labels_needed (Store q)) instructions e (omega (arith, le))
         (omega (arith, far))
-    beyond y n (Copy to from ∷ instructions) e le far = beyond y (n + 12) instructions e (omega (arith, le))
+    beyond y n (Copy to from ∷ instructions) e le far =
+        beyond y (n + labels_needed (Copy to from)) instructions e (omega (arith, le))
         (omega (arith, far))
     beyond y n (Load q o ∷ instructions) e le far = among_append (operand_labels n o)
-        (body_labels (n + 12) instructions) y ((operand_block n o).above y (omega (arith, far)))
-        (beyond y (n + 12) instructions e (omega (arith, le)) (omega (arith, far)))
+        (body_labels (n + labels_needed (Load q o)) instructions) y ((operand_block n o).above y (omega (arith, far)))
+        (beyond y (n + labels_needed (Load q o)) instructions e (omega (arith, le)) (omega (arith, far)))
     beyond y n (Pass j o ∷ instructions) e le far = among_append (operand_labels n o)
-        (body_labels (n + 12) instructions) y ((operand_block n o).above y (omega (arith, far)))
-        (beyond y (n + 12) instructions e (omega (arith, le)) (omega (arith, far)))
-    beyond y n (Fix members ∷ instructions) e le far = beyond y (n + 12) instructions e (omega (arith, le))
+        (body_labels (n + labels_needed (Pass j o)) instructions) y ((operand_block n o).above y (omega (arith, far)))
+        (beyond y (n + labels_needed (Pass j o)) instructions e (omega (arith, le)) (omega (arith, far)))
+    beyond y n (Fix members ∷ instructions) e le far =
+        beyond y (n + labels_needed (Fix members)) instructions e (omega (arith, le))
         (omega (arith, far))
-    beyond y n (Call spread count ∷ instructions) e le far = among_append (n ∷ []) (body_labels (n + 12) instructions)
-        y ((one_label n).above y (omega (arith, far))) (beyond y (n + 12) instructions e (omega (arith, le))
+    beyond y n (Call spread count ∷ instructions) e le far =
+        among_append (n ∷ []) (body_labels (n + labels_needed (Call spread count)) instructions)
+        y ((one_label n).above y (omega (arith, far)))
+        (beyond y (n + labels_needed (Call spread count)) instructions e (omega (arith, le))
         (omega (arith, far)))
-    beyond y n (Tail spread count ∷ instructions) e le far = beyond y (n + 12) instructions e (omega (arith, le))
+    beyond y n (Tail spread count ∷ instructions) e le far =
+        beyond y (n + labels_needed (Tail spread count)) instructions e (omega (arith, le))
         (omega (arith, far))
-    beyond y n (Return ∷ instructions) e le far = beyond y (n + 12) instructions e (omega (arith, le))
+    beyond y n (Return ∷ instructions) e le far =
+        beyond y (n + labels_needed Return) instructions e (omega (arith, le))
         (omega (arith, far))
-    beyond y n (End ∷ instructions) e le far = beyond y (n + 12) instructions e (omega (arith, le)) (omega (arith, far))
-    beyond y n (IfFalse j ∷ instructions) e le far = beyond y (n + 12) instructions e (omega (arith, le))
+    beyond y n (End ∷ instructions) e le far =
+        beyond y (n + labels_needed End) instructions e (omega (arith, le)) (omega (arith, far))
+    beyond y n (IfFalse j ∷ instructions) e le far =
+        beyond y (n + labels_needed (IfFalse j)) instructions e (omega (arith, le))
         (omega (arith, far))
-    beyond y n (Jump j ∷ instructions) e le far = beyond y (n + 12) instructions e (omega (arith, le))
+    beyond y n (Jump j ∷ instructions) e le far =
+        beyond y (n + labels_needed (Jump j)) instructions e (omega (arith, le))
         (omega (arith, far))
-    beyond y n (Mark m ∷ instructions) e le far = beyond y (n + 12) instructions e (omega (arith, le))
+    beyond y n (Mark m ∷ instructions) e le far =
+        beyond y (n + labels_needed (Mark m)) instructions e (omega (arith, le))
         (omega (arith, far))
 
     different : (n : ℕ) (instructions : List Instruction)
@@ -177,57 +197,71 @@ module _ (base : ℕ) where
         let q = and_parts (not (has l (frames.labels_in instructions)))
         (without_repeats (frames.labels_in instructions)) d in
         let lt = ltb-true l labels p.0 in
-        neither (is_among (body_labels (n + 12) instructions) (base + l))
-        (repeats (body_labels (n + 12) instructions))
-        (absent (base + l) (n + 12) instructions (omega (arith, lt, le))
+        neither (is_among (body_labels (n + labels_needed (Label l)) instructions) (base + l))
+        (repeats (body_labels (n + labels_needed (Label l)) instructions))
+        (absent (base + l) (n + labels_needed (Label l)) instructions (omega (arith, lt, le))
         (λ k h s. let same : k ≡ l = omega (arith, s) in absurd
         (both (has l (frames.labels_in instructions)) q.0 (ap (λ k. has k (frames.labels_in instructions))
         (sym same) ∙ h))))
-        (different (n + 12) instructions p.1 q.1 (omega (arith, le)))
+        (different (n + labels_needed (Label l)) instructions p.1 q.1 (omega (arith, le)))
       where
         both : (b : Bool) → not b ≡ true → b ≡ true → ⊥
         both true e f = let bad : false ≡ true = e in cc
         both false e f = let bad : false ≡ true = f in cc
     different n (Do o ∷ instructions) e d le =
-        distinct_append (operation_labels n o) (body_labels (n + 12) instructions) (operation_block n o).distinct
-        (different (n + 12) instructions e d (omega (arith, le)))
-        (apart_by (operation_labels n o) (body_labels (n + 12) instructions)
+        distinct_append (operation_labels n o) (body_labels (n + labels_needed (Do o)) instructions)
+        (operation_block n o).distinct
+        (different (n + labels_needed (Do o)) instructions e d (omega (arith, le)))
+        (apart_by (operation_labels n o) (body_labels (n + labels_needed (Do o)) instructions)
         (λ x h. let hi = high_end (operation_block n o) x h in let lo = low_end (operation_block n o) x h in
-        absent x (n + 12) instructions hi (λ l k s. let small = local_small (frames.labels_in instructions) l e k in
+        absent x (n + labels_needed (Do o)) instructions hi
+        (λ l k s. let small = local_small (frames.labels_in instructions) l e k in
         omega (arith, s, lo, le, small))))
-    different n (Store q ∷ instructions) e d le = different (n + 12) instructions e d (omega (arith, le))
-    different n (Copy to from ∷ instructions) e d le = different (n + 12) instructions e d (omega (arith, le))
+    different n (Store q ∷ instructions) e d le =
+        different (n + labels_needed (Store q)) instructions e d (omega (arith, le))
+    different n (Copy to from ∷ instructions) e d le =
+        different (n + labels_needed (Copy to from)) instructions e d (omega (arith, le))
     different n (Load q o ∷ instructions) e d le =
-        distinct_append (operand_labels n o) (body_labels (n + 12) instructions) (operand_block n o).distinct
-        (different (n + 12) instructions e d (omega (arith, le)))
-        (apart_by (operand_labels n o) (body_labels (n + 12) instructions)
+        distinct_append (operand_labels n o) (body_labels (n + labels_needed (Load q o)) instructions)
+        (operand_block n o).distinct
+        (different (n + labels_needed (Load q o)) instructions e d (omega (arith, le)))
+        (apart_by (operand_labels n o) (body_labels (n + labels_needed (Load q o)) instructions)
         (λ x h. let hi = high_end (operand_block n o) x h in let lo = low_end (operand_block n o) x h in
-        absent x (n + 12) instructions (omega (arith, hi)) (λ l k s. let small = local_small
+        absent x (n + labels_needed (Load q o)) instructions (omega (arith, hi)) (λ l k s. let small = local_small
         (frames.labels_in instructions) l e k in omega (arith, s, lo, le, small))))
     different n (Pass j o ∷ instructions) e d le =
-        distinct_append (operand_labels n o) (body_labels (n + 12) instructions) (operand_block n o).distinct
-        (different (n + 12) instructions e d (omega (arith, le)))
-        (apart_by (operand_labels n o) (body_labels (n + 12) instructions)
+        distinct_append (operand_labels n o) (body_labels (n + labels_needed (Pass j o)) instructions)
+        (operand_block n o).distinct
+        (different (n + labels_needed (Pass j o)) instructions e d (omega (arith, le)))
+        (apart_by (operand_labels n o) (body_labels (n + labels_needed (Pass j o)) instructions)
         (λ x h. let hi = high_end (operand_block n o) x h in let lo = low_end (operand_block n o) x h in
-        absent x (n + 12) instructions (omega (arith, hi)) (λ l k s. let small = local_small
+        absent x (n + labels_needed (Pass j o)) instructions (omega (arith, hi)) (λ l k s. let small = local_small
         (frames.labels_in instructions) l e k in omega (arith, s, lo, le, small))))
-    different n (Fix members ∷ instructions) e d le = different (n + 12) instructions e d (omega (arith, le))
+    different n (Fix members ∷ instructions) e d le =
+        different (n + labels_needed (Fix members)) instructions e d (omega (arith, le))
     different n (Call spread count ∷ instructions) e d le =
-        distinct_append (n ∷ []) (body_labels (n + 12) instructions) (one_label n).distinct
-        (different (n + 12) instructions e d (omega (arith, le)))
-        (apart_by (n ∷ []) (body_labels (n + 12) instructions)
+        distinct_append (n ∷ []) (body_labels (n + labels_needed (Call spread count)) instructions)
+        (one_label n).distinct
+        (different (n + labels_needed (Call spread count)) instructions e d (omega (arith, le)))
+        (apart_by (n ∷ []) (body_labels (n + labels_needed (Call spread count)) instructions)
         (λ x h. let hi = high_end (one_label n) x h in let lo = low_end (one_label n) x h in
-        absent x (n + 12) instructions (omega (arith, hi)) (λ l k s. let small = local_small
+        absent x (n + labels_needed (Call spread count)) instructions (omega (arith, hi))
+        (λ l k s. let small = local_small
         (frames.labels_in instructions) l e k in omega (arith, s, lo, le, small))))
-    different n (Tail spread count ∷ instructions) e d le = different (n + 12) instructions e d (omega (arith, le))
-    different n (Return ∷ instructions) e d le = different (n + 12) instructions e d (omega (arith, le))
-    different n (End ∷ instructions) e d le = different (n + 12) instructions e d (omega (arith, le))
-    different n (IfFalse j ∷ instructions) e d le = different (n + 12) instructions e d (omega (arith, le))
-    different n (Jump j ∷ instructions) e d le = different (n + 12) instructions e d (omega (arith, le))
-    different n (Mark m ∷ instructions) e d le = different (n + 12) instructions e d (omega (arith, le))
+    different n (Tail spread count ∷ instructions) e d le =
+        different (n + labels_needed (Tail spread count)) instructions e d (omega (arith, le))
+    different n (Return ∷ instructions) e d le =
+        different (n + labels_needed Return) instructions e d (omega (arith, le))
+    different n (End ∷ instructions) e d le = different (n + labels_needed End) instructions e d (omega (arith, le))
+    different n (IfFalse j ∷ instructions) e d le =
+        different (n + labels_needed (IfFalse j)) instructions e d (omega (arith, le))
+    different n (Jump j ∷ instructions) e d le =
+        different (n + labels_needed (Jump j)) instructions e d (omega (arith, le))
+    different n (Mark m ∷ instructions) e d le =
+        different (n + labels_needed (Mark m)) instructions e d (omega (arith, le))
 
     pub body_block : (n : ℕ) (instructions : List Instruction) → forward labels instructions ≡ true
-        → base + labels ≤ n → Block base (n + 12 * length instructions) (body_labels n instructions)
+        → base + labels ≤ n → Block base (n + all_labels_needed instructions) (body_labels n instructions)
     body_block n instructions e le =
         let p = and_parts (list_all (λ l. nat_lt l labels) (frames.labels_in instructions))
         (without_repeats (frames.labels_in instructions) && jumps_ahead instructions) e in

@@ -38,7 +38,7 @@ use Rattle.sch_primitives.specs.OperandCode.{atom_code, unary_code, binary_code,
 use Rattle.sch_operations.specs.CellCode.{source_code}
 use Rattle.sch_operations.specs.ClosureCode.{fields_code, record_code, closure_bytes, places_code, records_code}
 use Rattle.sch_operations.specs.OperationCode.{operation_code}
-use Rattle.sch_select.specs.Select.{instruction_code, body_code}
+use Rattle.sch_select.specs.Select.{labels_needed, instruction_code, body_code}
 use Rattle.sch_select.specs.Program.{passed_code, entry_code, forms_code, labels_end, program_code, own_label}
 use Rattle.sch_statics.specs.Data.{heap_of}
 use Rattle.sch_select.proofs.items.ProgramLabels.{last_code}
@@ -170,10 +170,11 @@ module _ (words globals symbols literals heap_end : ℕ) where
   body_arrives base out n (i ∷ instructions) b following e m =
       let p = and_parts (instruction_selected words globals symbols literals i)
       (list_all (instruction_selected words globals symbols literals) instructions) e in
-      by i p.0 m (λ b m. body_arrives base out (n + 12) instructions b following p.1 m)
+      by i p.0 m (λ b m. body_arrives base out (n + labels_needed i) instructions b following p.1 m)
     where
       rest : List Item
-      rest = body_code base out words heap_end literals (n + 12) instructions (item.Label out ∷ following)
+      rest = body_code base out words heap_end literals (n + labels_needed i) instructions
+          (item.Label out ∷ following)
 
       by : (i : Instruction) → instruction_selected words globals symbols literals i ≡ true → marks_settled b (i ∷ instructions) ≡ true
           → ((b : Bool) → marks_settled b instructions ≡ true → marks_arrive b rest ≡ marks_arrive false following)

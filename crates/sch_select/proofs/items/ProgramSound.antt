@@ -47,7 +47,7 @@ use Rattle.sch_places.specs.Addresses.{part_operand, global_address, place_opera
 use Rattle.sch_operations.specs.ClosureCode.{fields_code, record_code, closure_bytes, group_bytes, places_code}
 use Rattle.sch_operations.specs.ClosureCode.{records_code, group_code}
 use Rattle.sch_operations.specs.OperationCode.{operation_code}
-use Rattle.sch_select.specs.Select.{instruction_code, body_code}
+use Rattle.sch_select.specs.Select.{labels_needed, instruction_code, body_code}
 use Rattle.sch_primitives.specs.PrimitiveCode.{pair_or_binary, ternary_code, index_operand}
 use Rattle.sch_select.specs.Program.{passed_code, entry_code, forms_code, labels_end, program_code, own_label}
 use Rattle.sch_statics.specs.Data.{heap_of}
@@ -366,8 +366,9 @@ module _ (words globals symbols literals heap_end : ℕ) (narrow : words ≤ 204
   body_valid base out n (i ∷ instructions) e rest =
       let p = and_parts (instruction_selected words globals symbols literals i)
       (list_all (instruction_selected words globals symbols literals) instructions) e in
-      instruction_valid base out n i p.0 (body_code base out words heap_end literals (n + 12) instructions rest)
-      ∙ body_valid base out (n + 12) instructions p.1 rest
+      instruction_valid base out n i p.0 (body_code base out words heap_end literals (n + labels_needed i)
+      instructions rest)
+      ∙ body_valid base out (n + labels_needed i) instructions p.1 rest
 
   passed_valid : (o : Option Entry) (out : ℕ) → Valid (passed_code o out)
   passed_valid None out rest = refl

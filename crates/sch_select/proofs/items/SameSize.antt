@@ -29,7 +29,7 @@ use Rattle.sch_operations.specs.CellCode.{source_code}
 use Rattle.sch_operations.specs.OperationCode.{operation_code}
 use Rattle.sch_statics.specs.Data.{heap_of}
 use Rattle.sch_select.specs.Program.{count_code, entry_code, forms_code, labels_end, own_label, passed_code, program_code}
-use Rattle.sch_select.specs.Select.{body_code, instruction_code}
+use Rattle.sch_select.specs.Select.{labels_needed, body_code, instruction_code}
 use Rattle.sch_select.proofs.items.RestItems.{entry_appends, passed_appends}
 use Rattle.sch_select.proofs.items.AppendedItems.{Appends, instruction_appends, operand_appends, second_appends, source_appends, then_appends}
 
@@ -72,11 +72,11 @@ module _ (heap_end other literals : ℕ) where
     body_same n [] rest more e = e
     body_same n (i ∷ is) rest more e =
         let a = size_behind (instruction_code base out words heap_end literals n i) (instruction_appends base out words heap_end literals n i)
-        (body_code base out words heap_end literals (n + 12) is rest) in
+        (body_code base out words heap_end literals (n + labels_needed i) is rest) in
         let b = size_behind (instruction_code base out words other literals n i) (instruction_appends base out words other literals n i)
-        (body_code base out words other literals (n + 12) is more) in
+        (body_code base out words other literals (n + labels_needed i) is more) in
         let c = instruction_same n i in
-        let d = body_same (n + 12) is rest more e in
+        let d = body_same (n + labels_needed i) is rest more e in
         omega (arith, a, b, c, d)
 
   forms_same : (words label n : ℕ) (cs : List Code) (rest more : List Item) → text_size rest ≡ text_size more

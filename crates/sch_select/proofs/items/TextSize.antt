@@ -41,7 +41,7 @@ use Rattle.sch_places.specs.Addresses.{place_operand, global_address, stop_label
 use Rattle.sch_primitives.specs.OperandCode.{atom_code, unary_code, binary_code, read_code, operand_code, second_code}
 use Rattle.sch_primitives.specs.PrimitiveCode.{primitive_code, pair_or_binary, ternary_code, index_operand}
 use Rattle.sch_operations.specs.OperationCode.{operation_code}
-use Rattle.sch_select.specs.Select.{instruction_code, body_code}
+use Rattle.sch_select.specs.Select.{labels_needed, instruction_code, body_code}
 use Rattle.sch_operations.specs.CellCode.{source_code, check_cell, cell_operand}
 use Rattle.sch_primitives.specs.ObjectCode.{check_heap, part_code}
 use Rattle.sch_operations.specs.ClosureCode.{fields_code, record_code, closure_bytes, group_bytes, places_code}
@@ -308,8 +308,9 @@ body_adds : (base out words heap_end literals n : ℕ) (is : List Instruction) (
     rest
 body_adds base out words heap_end literals n [] rest = omega arith
 body_adds base out words heap_end literals n (i ∷ is) rest =
-    let h = instruction_adds base out words heap_end literals n i (body_code base out words heap_end literals (n + 12) is rest) in
-    let k = body_adds base out words heap_end literals (n + 12) is rest in
+    let h = instruction_adds base out words heap_end literals n i
+    (body_code base out words heap_end literals (n + labels_needed i) is rest) in
+    let k = body_adds base out words heap_end literals (n + labels_needed i) is rest in
     let g = grouped_first i is in
     omega (arith, h, k, g)
 

@@ -38,7 +38,7 @@ use Rattle.sch_heap.specs.Encoded.{IsWord}
 use Rattle.sch_frames.specs.Covered.{may_stand}
 use Rattle.sch_places.specs.ItemMarks.{kind_of}
 use Rattle.sch_places.specs.Addresses.{place_operand}
-use Rattle.sch_select.specs.Select.{instruction_code, body_code}
+use Rattle.sch_select.specs.Select.{labels_needed, instruction_code, body_code}
 use Rattle.sch_heap.proofs.Encodings.{fits, false_tested}
 use Rattle.sch_places.proofs.Straight.{kept_set, moved_to}
 use Rattle.sch_places.proofs.Places.{Plan, Activation, Holds, held_value, loaded, written, handed}
@@ -388,8 +388,9 @@ module _ (plan : Plan) (body_steps : ℕ) (laid : Laid plan body_steps) (act : A
       let checks' = and_parts (may_stand (not act.entered) i)
       (list_all (may_stand (not act.entered)) instructions) e' in
       instruction_sim n i (execute_each callee act.left instructions) (body_cost instructions)
-      (body_code base out words stack literals (n + 12) instructions rest)
-      (body_sim (n + 12) instructions rest checks.1 checks'.1) parts before waiting f w x checks.0 checks'.0 h p g
+      (body_code base out words stack literals (n + labels_needed i) instructions rest)
+      (body_sim (n + labels_needed i) instructions rest checks.1 checks'.1) parts before waiting f w x checks.0
+      checks'.0 h p g
       a m
   body_sim n (i ∷ instructions) rest e e' (Some l) parts before waiting f w x h p g a m =
       let checks = and_parts (instruction_selected words globals (length symbols) literals i)
@@ -397,5 +398,5 @@ module _ (plan : Plan) (body_steps : ℕ) (laid : Laid plan body_steps) (act : A
       let checks' = and_parts (may_stand (not act.entered) i)
       (list_all (may_stand (not act.entered)) instructions) e' in
       passed_over n i (execute_each callee act.left instructions) (body_cost instructions)
-      (body_code base out words stack literals (n + 12) instructions rest)
-      (body_sim (n + 12) instructions rest checks.1 checks'.1) l parts before waiting f w x h p g a m
+      (body_code base out words stack literals (n + labels_needed i) instructions rest)
+      (body_sim (n + labels_needed i) instructions rest checks.1 checks'.1) l parts before waiting f w x h p g a m

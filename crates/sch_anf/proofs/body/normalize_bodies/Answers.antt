@@ -18,7 +18,7 @@ loop-i-init c =
     let es = trees_of_list items in
     let same = c.as_slice-items.ensures in
     record {
-      made = rw c.new-all.ensures (ap (λ ts. normal_bodies starts 0 bodies ts starts) (sym es));
+      made = rw (c.from_vec-all.ensures ∙ c.in_ok-with_capacity.ensures.items) (ap (λ ts. normal_bodies starts 0 bodies ts starts) (sym es));
       valid = subst (λ ts. list_all code_valid (normal_bodies starts 0 bodies ts starts) ≡ true) (sym (ap trees_of same) ∙ es) c.requires.valid;
       ascends = c.requires.ascends;
       bodies_fit = c.requires.bodies;

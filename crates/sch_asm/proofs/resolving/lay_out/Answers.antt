@@ -1,5 +1,5 @@
 -- The table that is filled is that of the items.
-use Rattle.std.proofs.Common.{◌≡◌, ℕ, ◌+◌, ◌≤◌, ◌++◌, List, length, refl, sym, ap, ◌∙◌, subst, arith}
+use Rattle.std.proofs.Common.{◌≡◌, ℕ, ◌+◌, ◌-◌, ◌≤◌, ◌++◌, List, length, refl, sym, ap, ◌∙◌, subst, arith}
 use Rattle.std.specs.Prelude.{replicate}
 use Rattle.std.proofs.Math.ListN.{length-replicate}
 use Rattle.sch_asm.specs.declared.assembly.Word.{Word}
@@ -7,7 +7,7 @@ use Rattle.sch_asm.specs.declared.item.Item.{Item}
 use Rattle.sch_asm.specs.Items.{AreKnown, AreOwn, AreRoutines, IsEachOnce, labels_in}
 use Rattle.sch_asm.specs.Codes.{text_size}
 use Rattle.sch_asm.specs.Layout.{IsLaidOut, StandAt, StandBelow, UseBelow, WordsBelow, label_bound, placed_from}
-use Rattle.sch_asm.proofs.Tables.{Below, apart_append, apart_by, below_placed, below_zeros, bound_up, placed_append, placed_length, own_high, routines_low, size_append, stand_append, stand_at, stand_below, use_append, uses_known}
+use Rattle.sch_asm.proofs.Tables.{Below, apart_append, apart_by, below_placed, below_zeros, bound_up, placed_append, placed_length, own_high, routines_low, size_append, size_bound, stand_append, stand_at, stand_below, use_append, uses_known}
 use Rattle.sch_asm.proofs.resolving.lay_out.Goals as goal
 
 -- a table with room for all labels of two lists
@@ -57,36 +57,73 @@ laid_out xs ys ws rs t n z f own routines once once' known known' =
       words_use = subst (λ k. WordsBelow k ws) (sym size) u.1;
     }
 
+room : (xs ys first second : List Item) (r n : ℕ) → first ≡ xs → second ≡ ys → r ≡ label_bound 0 first → n ≡ label_bound r second → n ≡ label_bound (label_bound 0 xs) ys
+room xs ys first second r n e1 e2 e3 e4 = e4 ∙ ap (label_bound r) e2 ∙ ap (λ b. label_bound b ys) (e3 ∙ ap (label_bound 0) e1)
+
+-- the bytes of two lists
+size_is : (xs ys first second : List Item) (behind end : ℕ) → first ≡ xs → second ≡ ys → behind ≡ 0x400000 + text_size first → end ≡ behind + text_size second → end - 0x400000 ≡ text_size (xs ++ ys)
+size_is xs ys first second behind end e1 e2 e3 e4 =
+    let s = size_append xs ys in let l = ap text_size e1 in let m = ap text_size e2 in omega (arith, s, l, m, e3, e4)
+
 pub place_labels-behind-requires-clause-below : goal.place_labels-behind-requires-clause-below
 place_labels-behind-requires-clause-below c =
-    in_table c.args.a.now.items c.as_slice.result.now c.args.labels _ c.in_ok-places.places.items c.in_ok-places.ensures refl c.as_slice.ensures
-    (own_below c.args.a.now.items c.args.routines.now.items c.args.labels c.requires.labels)
+    let xs = c.args.a.now.items in
+    let ys = c.args.routines.now.items in
+    let n = c.label_bound-bound.result in
+    let r = room xs ys c.as_slice-own.result.now c.as_slice-others.result.now c.label_bound.result n c.as_slice-own.ensures c.as_slice-others.ensures c.label_bound.ensures c.label_bound-bound.ensures in
+    in_table xs c.as_slice-own.result.now n _ c.in_ok-places.places.items c.in_ok-places.ensures refl c.as_slice-own.ensures (own_below xs ys n r)
 
-pub place_labels-behind-requires-clause-short : goal.place_labels-behind-requires-clause-short
-place_labels-behind-requires-clause-short c =
-    let s = size_append c.args.a.now.items c.args.routines.now.items in let l = ap text_size c.as_slice.ensures in omega (arith, s, l, c.requires.small)
+pub place_labels-behind-requires-clause-few : goal.place_labels-behind-requires-clause-few
+place_labels-behind-requires-clause-few c = let s = size_bound c.as_slice-own.result.now in omega (arith, s, c.item_count.ensures)
 
-pub place_labels-requires-clause-below : goal.place_labels-requires-clause-below
-place_labels-requires-clause-below c =
-    in_table c.args.routines.now.items c.as_slice-2.result.now c.args.labels _ c.in_ok-places.places.items c.in_ok-places.ensures c.place_labels-behind.ensures.size c.as_slice-2.ensures
-    (others_below c.args.a.now.items c.args.routines.now.items c.args.labels c.requires.labels)
+pub place_labels-end-requires-clause-below : goal.place_labels-end-requires-clause-below
+place_labels-end-requires-clause-below c =
+    let xs = c.args.a.now.items in
+    let ys = c.args.routines.now.items in
+    let n = c.label_bound-bound.result in
+    let r = room xs ys c.as_slice-own.result.now c.as_slice-others.result.now c.label_bound.result n c.as_slice-own.ensures c.as_slice-others.ensures c.label_bound.ensures c.label_bound-bound.ensures in
+    in_table ys c.as_slice-others.result.now n _ c.in_ok-places.places.items c.in_ok-places.ensures c.place_labels-behind.ensures.size c.as_slice-others.ensures (others_below xs ys n r)
 
-pub place_labels-requires-clause-short : goal.place_labels-requires-clause-short
-place_labels-requires-clause-short c =
-    let s = size_append c.args.a.now.items c.args.routines.now.items in
-    let l = ap text_size c.as_slice.ensures in
-    let m = ap text_size c.as_slice-2.ensures in
-    omega (arith, s, l, m, c.place_labels-behind.ensures.end, c.requires.small)
+pub place_labels-end-requires-clause-few : goal.place_labels-end-requires-clause-few
+place_labels-end-requires-clause-few c =
+    let s = size_bound c.as_slice-own.result.now in
+    let t = size_bound c.as_slice-others.result.now in
+    omega (arith, s, t, c.item_count.ensures, c.place_labels-behind.ensures.end)
+
+pub returns-then-bytes-gt-MAX_TEXT_SIZE-clause-too_large : goal.returns-then-bytes-gt-MAX_TEXT_SIZE-clause-too_large
+returns-then-bytes-gt-MAX_TEXT_SIZE-clause-too_large c = (
+  size_is c.args.a.now.items c.args.routines.now.items c.as_slice-own.result.now c.as_slice-others.result.now c.place_labels-behind.result c.place_labels-end.result c.as_slice-own.ensures c.as_slice-others.ensures
+      c.place_labels-behind.ensures.end c.place_labels-end.ensures.end,
+  c.if-bytes-gt-MAX_TEXT_SIZE.true,
+)
 
 pub invariant_of-result : goal.invariant_of-result
 invariant_of-result c =
-    let f = filled c.args.a.now.items c.args.routines.now.items c.as_slice.result.now c.as_slice-2.result.now c.in_ok-places.places.items c.place_labels-behind.new.places.items c.place_labels.new.places.items
-    c.place_labels-behind.result c.args.labels c.in_ok-places.ensures c.as_slice.ensures c.as_slice-2.ensures c.place_labels-behind.ensures.places c.place_labels-behind.ensures.end c.place_labels.ensures.places c.requires.labels c.requires.small in
-    record { low = low_by c.args.a.now.items c.args.routines.now.items c.place_labels.new.places.items c.args.labels f }
+    let xs = c.args.a.now.items in
+    let ys = c.args.routines.now.items in
+    let n = c.label_bound-bound.result in
+    let r = room xs ys c.as_slice-own.result.now c.as_slice-others.result.now c.label_bound.result n c.as_slice-own.ensures c.as_slice-others.ensures c.label_bound.ensures c.label_bound-bound.ensures in
+    let size = size_is xs ys c.as_slice-own.result.now c.as_slice-others.result.now c.place_labels-behind.result c.place_labels-end.result c.as_slice-own.ensures c.as_slice-others.ensures c.place_labels-behind.ensures.end c.place_labels-end.ensures.end in
+    let few = c.if-bytes-gt-MAX_TEXT_SIZE.false in
+    let f = filled xs ys c.as_slice-own.result.now c.as_slice-others.result.now c.in_ok-places.places.items c.place_labels-behind.new.places.items c.place_labels-end.new.places.items c.place_labels-behind.result n
+    c.in_ok-places.ensures c.as_slice-own.ensures c.as_slice-others.ensures (c.place_labels-behind.ensures.places (omega (arith, few, c.place_labels-end.ensures.end))) c.place_labels-behind.ensures.end
+    (c.place_labels-end.ensures.places (omega (arith, few))) r (omega (arith, size, few)) in
+    record { low = low_by xs ys c.place_labels-end.new.places.items n f }
 
-pub returns : goal.returns
-returns c =
-    let f = filled c.args.a.now.items c.args.routines.now.items c.as_slice.result.now c.as_slice-2.result.now c.in_ok-places.places.items c.place_labels-behind.new.places.items c.place_labels.new.places.items
-    c.place_labels-behind.result c.args.labels c.in_ok-places.ensures c.as_slice.ensures c.as_slice-2.ensures c.place_labels-behind.ensures.places c.place_labels-behind.ensures.end c.place_labels.ensures.places c.requires.labels c.requires.small in
-    laid_out c.args.a.now.items c.args.routines.now.items c.args.a.now.words c.args.routines.now.words c.place_labels.new.places.items c.args.labels c.args.routines.now.zeros f c.requires.own c.requires.routines
-    c.args.a.now.once c.args.routines.now.once c.args.a.now.known c.args.routines.now.known
+pub returns-clause-places : goal.returns-clause-places
+returns-clause-places c =
+    let xs = c.args.a.now.items in
+    let ys = c.args.routines.now.items in
+    let n = c.label_bound-bound.result in
+    let r = room xs ys c.as_slice-own.result.now c.as_slice-others.result.now c.label_bound.result n c.as_slice-own.ensures c.as_slice-others.ensures c.label_bound.ensures c.label_bound-bound.ensures in
+    let size = size_is xs ys c.as_slice-own.result.now c.as_slice-others.result.now c.place_labels-behind.result c.place_labels-end.result c.as_slice-own.ensures c.as_slice-others.ensures c.place_labels-behind.ensures.end c.place_labels-end.ensures.end in
+    let few = c.if-bytes-gt-MAX_TEXT_SIZE.false in
+    let f = filled xs ys c.as_slice-own.result.now c.as_slice-others.result.now c.in_ok-places.places.items c.place_labels-behind.new.places.items c.place_labels-end.new.places.items c.place_labels-behind.result n
+    c.in_ok-places.ensures c.as_slice-own.ensures c.as_slice-others.ensures (c.place_labels-behind.ensures.places (omega (arith, few, c.place_labels-end.ensures.end))) c.place_labels-behind.ensures.end
+    (c.place_labels-end.ensures.places (omega (arith, few))) r (omega (arith, size, few)) in
+    laid_out xs ys c.args.a.now.words c.args.routines.now.words c.place_labels-end.new.places.items n c.args.routines.now.zeros f c.requires.own c.requires.routines c.args.a.now.once c.args.routines.now.once c.args.a.now.known c.args.routines.now.known
+
+pub returns-clause-bytes : goal.returns-clause-bytes
+returns-clause-bytes c =
+    size_is c.args.a.now.items c.args.routines.now.items c.as_slice-own.result.now c.as_slice-others.result.now c.place_labels-behind.result c.place_labels-end.result c.as_slice-own.ensures c.as_slice-others.ensures
+    c.place_labels-behind.ensures.end c.place_labels-end.ensures.end

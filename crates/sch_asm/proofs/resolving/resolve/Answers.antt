@@ -15,11 +15,6 @@ use Rattle.sch_asm.proofs.Emitted.{codes, emitted_append, emitted_size, emitted_
 use Rattle.sch_asm.proofs.resolving.resolve.Goals as goal
 use Rattle.sch_asm.proofs.Words.{data_length}
 
--- ---- sizes
-
-size_is : (xs ys first second : List Item) (bytes : ℕ) → first ≡ xs → second ≡ ys → bytes ≡ text_size (first ++ second) → bytes ≡ text_size (xs ++ ys)
-size_is xs ys first second bytes e f g = g ∙ ap (λ l. text_size (l ++ second)) e ∙ ap (λ l. text_size (xs ++ l)) f
-
 -- ---- the table
 
 small_place : (places : List ℕ) → Below 1073741824 places → (l : ℕ) → slice_index places l < 2147483648
@@ -66,47 +61,40 @@ resolved is ws code marks words places w =
 
 -- ---- the goals
 
-pub returns-then-extent-gt-MAX_TEXT_SIZE-clause-too_large : goal.returns-then-extent-gt-MAX_TEXT_SIZE-clause-too_large
-returns-then-extent-gt-MAX_TEXT_SIZE-clause-too_large c =
-    (size_is c.args.a.now.items c.args.routines.now.items c.as_slice.result.now c.as_slice-2.result.now c.extent_of-extent.result.bytes c.as_slice.ensures c.as_slice-2.ensures c.extent_of-extent.ensures.bytes, c.if-extent-gt-MAX_TEXT_SIZE.true)
-
 pub emit-requires-clause-uses : goal.emit-requires-clause-uses
 emit-requires-clause-uses c =
-    subst (UseBelow (length c.in_ok-layout.layout.places.items)) (sym c.as_slice-3.ensures) (use_front c.args.a.now.items c.args.routines.now.items (length c.in_ok-layout.layout.places.items) c.in_ok-layout.ensures.uses)
+    subst (UseBelow (length c.in_ok-layout.layout.places.items)) (sym c.as_slice.ensures) (use_front c.args.a.now.items c.args.routines.now.items (length c.in_ok-layout.layout.places.items) c.in_ok-layout.ensures.places.uses)
 
 pub emit-requires-clause-short : goal.emit-requires-clause-short
 emit-requires-clause-short c =
-    let size = size_is c.args.a.now.items c.args.routines.now.items c.as_slice.result.now c.as_slice-2.result.now c.extent_of-extent.result.bytes c.as_slice.ensures c.as_slice-2.ensures c.extent_of-extent.ensures.bytes in
     let s = size_append c.args.a.now.items c.args.routines.now.items in
-    let l = ap text_size c.as_slice-3.ensures in
-    omega (arith, size, s, l, c.if-extent-gt-MAX_TEXT_SIZE.false)
+    let l = ap text_size c.as_slice.ensures in
+    omega (arith, c.in_ok-layout.ensures.bytes, c.in_ok-layout.ensures.fits, s, l)
 
 pub emit-requires-2-clause-uses : goal.emit-requires-2-clause-uses
 emit-requires-2-clause-uses c =
-    subst (UseBelow (length c.in_ok-layout.layout.places.items)) (sym c.as_slice-4.ensures) (use_back c.args.a.now.items c.args.routines.now.items (length c.in_ok-layout.layout.places.items) c.in_ok-layout.ensures.uses)
+    subst (UseBelow (length c.in_ok-layout.layout.places.items)) (sym c.as_slice-2.ensures) (use_back c.args.a.now.items c.args.routines.now.items (length c.in_ok-layout.layout.places.items) c.in_ok-layout.ensures.places.uses)
 
 pub emit-requires-2-clause-short : goal.emit-requires-2-clause-short
 emit-requires-2-clause-short c =
-    let size = size_is c.args.a.now.items c.args.routines.now.items c.as_slice.result.now c.as_slice-2.result.now c.extent_of-extent.result.bytes c.as_slice.ensures c.as_slice-2.ensures c.extent_of-extent.ensures.bytes in
     let s = size_append c.args.a.now.items c.args.routines.now.items in
-    let l = ap text_size c.as_slice-3.ensures in
-    let m = ap text_size c.as_slice-4.ensures in
-    omega (arith, size, s, l, m, c.in_ok-behind.ensures.end, c.if-extent-gt-MAX_TEXT_SIZE.false)
+    let l = ap text_size c.as_slice.ensures in
+    let m = ap text_size c.as_slice-2.ensures in
+    omega (arith, c.in_ok-layout.ensures.bytes, c.in_ok-layout.ensures.fits, s, l, m, c.in_ok-behind.ensures.end)
 
 pub returns : goal.returns
 returns c =
     let xs = c.args.a.now.items in
     let ys = c.args.routines.now.items in
-    let size = size_is xs ys c.as_slice.result.now c.as_slice-2.result.now c.extent_of-extent.result.bytes c.as_slice.ensures c.as_slice-2.ensures c.extent_of-extent.ensures.bytes in
     let place = slice_index c.in_ok-layout.layout.places.items in
     let w : Written (xs ++ ys) c.args.a.now.words c.emit-2.new.code c.emit-2.new.marks c.in_ok-words.words c.in_ok-layout.layout.places.items = record {
-      laid = c.in_ok-layout.ensures;
+      laid = c.in_ok-layout.ensures.places;
       small = c.in_ok-layout.layout.low;
       sound = sound_append xs ys c.args.a.now.sound c.args.routines.now.sound;
-      fits = omega (arith, size, c.if-extent-gt-MAX_TEXT_SIZE.false);
-      code_is = both_code place xs ys c.as_slice-3.result.now c.as_slice-4.result.now c.in_ok-behind.behind c.in_ok-code.code c.emit.new.code c.emit-2.new.code c.in_ok-code.ensures c.as_slice-3.ensures c.as_slice-4.ensures c.in_ok-behind.ensures.end c.in_ok-behind.ensures.code c.in_ok-emit.ensures.code;
-      marks_is = both_marks xs ys c.as_slice-3.result.now c.as_slice-4.result.now c.in_ok-behind.behind c.new-marks.result c.emit.new.marks c.emit-2.new.marks c.new-marks.ensures c.as_slice-3.ensures c.as_slice-4.ensures c.in_ok-behind.ensures.end c.in_ok-behind.ensures.marks c.in_ok-emit.ensures.marks;
-      words_are = c.in_ok-words.ensures ∙ ap (flat_map (bytes_of place)) c.as_slice-5.ensures;
+      fits = omega (arith, c.in_ok-layout.ensures.bytes, c.in_ok-layout.ensures.fits);
+      code_is = both_code place xs ys c.as_slice.result.now c.as_slice-2.result.now c.in_ok-behind.behind c.in_ok-code.code c.emit.new.code c.emit-2.new.code c.in_ok-code.ensures c.as_slice.ensures c.as_slice-2.ensures c.in_ok-behind.ensures.end c.in_ok-behind.ensures.code c.in_ok-emit.ensures.code;
+      marks_is = both_marks xs ys c.as_slice.result.now c.as_slice-2.result.now c.in_ok-behind.behind c.new-marks.result c.emit.new.marks c.emit-2.new.marks c.new-marks.ensures c.as_slice.ensures c.as_slice-2.ensures c.in_ok-behind.ensures.end c.in_ok-behind.ensures.marks c.in_ok-emit.ensures.marks;
+      words_are = c.in_ok-words.ensures ∙ ap (flat_map (bytes_of place)) c.as_slice-3.ensures;
     } in
     let r = resolved (xs ++ ys) c.args.a.now.words c.emit-2.new.code c.emit-2.new.marks c.in_ok-words.words c.in_ok-layout.layout.places.items w in
     let e = r.2 in

@@ -14,7 +14,7 @@ close_each-loop-e-init t c =
     let es = sym (trees_of_list items) in
     let n = length c.args.bodies.now.items in
     record {
-      made = rw c.new-all.ensures (ap (λ es. closed_each es c.args.own.now n) es);
+      made = rw (c.from_vec-all.ensures ∙ c.in_ok-with_capacity.ensures.items) (ap (λ es. closed_each es c.args.own.now n) es);
       bodies = ap (λ es. with_bodies_each es (map body c.args.bodies.now.items)) es;
       count = ap (λ es. n + procedures_each es) es;
       stand = each_start items c.args.es.now c.args.fields.now n c.as_slice-e-items.ensures c.requires.stand;
@@ -59,7 +59,7 @@ close_lambdas-loop-l-init t c =
     let ls = sym (lambdas_of_list items) in
     let n = length c.args.bodies.now.items in
     record {
-      made = rw c.new-all.ensures (ap (λ ls. made_each ls c.args.own.now n) ls);
+      made = rw (c.from_vec-all.ensures ∙ c.in_ok-with_capacity.ensures.items) (ap (λ ls. made_each ls c.args.own.now n) ls);
       bodies = ap (λ ls. with_bodies_lambdas ls (map body c.args.bodies.now.items)) ls;
       count = ap (λ ls. n + procedures_lambdas ls) ls;
       stand = lambdas_start items c.args.ls.now c.args.fields.now n c.as_slice-l-items.ensures c.requires.stand;

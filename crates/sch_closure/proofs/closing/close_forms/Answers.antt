@@ -12,7 +12,7 @@ loop-e-init c =
     let es = sym (trees_of_list items) in
     let n = length c.args.bodies.now.items in
     record {
-      made = rw c.new-all.ensures (ap (λ es. closed_each es [] n) es);
+      made = rw (c.from_vec-all.ensures ∙ c.in_ok-with_capacity.ensures.items) (ap (λ es. closed_each es [] n) es);
       bodies = ap (λ es. with_bodies_each es (map body c.args.bodies.now.items)) es;
       count = ap (λ es. n + procedures_each es) es;
       stand = each_start items c.args.es.now c.args.fields.now n c.as_slice-e-items.ensures c.requires.stand;
@@ -27,7 +27,7 @@ loop-e-preserved c =
     let p = c.in_ok-close_expression.ensures in
     let n = length c.loop-e.bodies.items in
     let m = length c.close_expression.new.bodies.items in
-    let k : c.len.result ≡ n = omega (arith, c.len.ensures) in
+    let k : c.len-in-loop-e.result ≡ n = omega (arith, c.len-in-loop-e.ensures) in
     record {
       made = rw c.in_ok-push-2.ensures.ok (each_made items c.loop-e.e-index e n m c.loop-e-test.true c.e-item.is p.count [] c.loop-e.all c.in_ok-close_expression.field-0 _ p.made i.made);
       bodies = each_bodies items c.loop-e.e-index e n m c.loop-e-test.true c.e-item.is p.count (map body c.loop-e.bodies.items) (map body c.close_expression.new.bodies.items) _ p.bodies i.bodies;

@@ -6,6 +6,11 @@ use Rattle.sch_elf.proofs.FileOfImage.{need-le, headers_end, whole}
 use Rattle.sch_elf.proofs.WrittenStands.{image_stands}
 use Rattle.sch_elf.proofs.write.write_image.Goals as goal
 
+pub room-requires-clause-room : goal.room-requires-clause-room
+room-requires-clause-room c =
+    let same : need c.as_slice-segments.result.now ≡ need c.args.image.now.segments = ap need c.as_slice-segments.ensures in
+    omega (arith, same, need-le c.args.image.now.segments, c.args.image.now.laid_out.few, c.args.image.now.laid_out.total)
+
 pub put_program_headers-requires-clause-room : goal.put_program_headers-requires-clause-room
 put_program_headers-requires-clause-room c =
     let same : need c.as_slice-segments.result.now ≡ need c.args.image.now.segments = ap need c.as_slice-segments.ensures in

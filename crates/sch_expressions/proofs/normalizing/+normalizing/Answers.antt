@@ -36,7 +36,7 @@ normalize_operands-loop-e-init t c =
     let items = c.as_slice-e-items.result.now in
     let es = sym (trees_of_list items) in
     record {
-      operands = rw c.new-all.ensures (ap (λ ts. operands_at (scope_of v.bound.items) ts v.next) es);
+      operands = rw (c.from_vec-all.ensures ∙ c.in_ok-with_capacity.ensures.items) (ap (λ ts. operands_at (scope_of v.bound.items) ts v.next) es);
       steps = λ body. ap (λ ts. after c.args.steps.now.items (with_operands c.args.starts.now ts (scope_of v.bound.items) v.next body)) es;
       few = ap (λ ts. v.next + operands_bind ts) es;
       labels = subst (λ ts. LabelsFitEach (length c.args.starts.now) ts) (trees_of_list items)
@@ -50,7 +50,7 @@ normalize_inits-loop-e-init t c =
     let items = c.as_slice-e-items.result.now in
     let es = sym (trees_of_list items) in
     record {
-      numbers = rw c.new-all.ensures (ap (λ ts. init_numbers ts v.next) es);
+      numbers = rw (c.from_vec-all.ensures ∙ c.in_ok-with_capacity.ensures.items) (ap (λ ts. init_numbers ts v.next) es);
       steps = λ body. ap (λ ts. after c.args.steps.now.items (with_inits c.args.starts.now ts (scope_of v.bound.items) v.next body)) es;
       few = ap (λ ts. v.next + inits_bind ts) es;
       labels = subst (λ ts. LabelsFitEach (length c.args.starts.now) ts) (trees_of_list items)
@@ -76,7 +76,7 @@ normalize_parts-loop-i-init t c =
     let items = c.as_slice-items.result.now in
     let es = sym (trees_of_list items) in
     record {
-      parts = ap (λ ss. after ss (normal_parts c.args.starts.now c.args.tail (left items) (scope_of v.bound.items) v.next)) c.new-steps.ensures.items
+      parts = ap (λ ss. after ss (normal_parts c.args.starts.now c.args.tail (left items) (scope_of v.bound.items) v.next)) c.in_ok-steps.ensures.items
           ∙ ap (λ ts. normal_parts c.args.starts.now c.args.tail ts (scope_of v.bound.items) v.next) es;
       few = ap (λ ts. v.next + binds_parts ts) es;
       labels = subst (λ ts. LabelsFitEach (length c.args.starts.now) ts) (trees_of_list items)

@@ -9,7 +9,7 @@ use Rattle.sch_operands.proofs.operands.atoms_of.Goals as goal
 pub loop-e-init : goal.loop-e-init
 loop-e-init c =
     let scope = scope_of c.args.v.now.bound.items in
-    rw c.new-all.ensures (ap (atoms_of scope) (sym (trees_of_list c.as_slice-e-items.result.now)))
+    rw (c.from_vec-all.ensures ∙ c.in_ok-with_capacity.ensures.items) (ap (atoms_of scope) (sym (trees_of_list c.as_slice-e-items.result.now)))
 
 pub loop-e-preserved : goal.loop-e-preserved
 loop-e-preserved c =

@@ -9,7 +9,7 @@ use Rattle.sch_word.proofs.facts.Lists.{map_length}
 
 pub loop-m-init : goal.loop-m-init
 loop-m-init c = record {
-  members = rw c.new-all.ensures refl;
+  members = rw (c.from_vec-all.ensures ∙ c.in_ok-with_capacity.ensures.items) refl;
   labels = subst (λ ms. LabelsOfMade (length c.args.starts.now) (map made ms)) (sym c.as_slice-m-items.ensures) c.requires.labels;
   at = omega arith;
 }

@@ -1,6 +1,6 @@
-use Rattle.std.proofs.Common.{◌≡◌, ◌++◌, ◌+◌, ◌*◌, List, drop}
+use Rattle.std.proofs.Common.{◌≡◌, ◌++◌, ◌+◌, List, drop}
 use Rattle.sch_asm.specs.declared.item.Item.{Item}
-use Rattle.sch_select.specs.Select.{body_code}
+use Rattle.sch_select.specs.Select.{all_labels_needed, body_code}
 use Rattle.sch_select.proofs.body_items.body.Given as goal
 
 abbrev pub invariant-loop-i : goal.invariant-loop-i
@@ -8,5 +8,5 @@ invariant-loop-i l = record {
   items : (rest : List Item) → l.out ++ body_code l.labels.base l.labels.end l.labels.words l.labels.heap_end l.labels.literals l.next
       (drop l.i-index l.instructions) rest ≡ l.initial.out ++ body_code l.labels.base l.labels.end l.labels.words
       l.labels.heap_end l.labels.literals l.n l.instructions rest;
-  next : l.next ≡ l.n + 12 * l.i-index;
+  next : l.next + all_labels_needed (drop l.i-index l.instructions) ≡ l.n + all_labels_needed l.instructions;
 }

@@ -8,4 +8,4 @@ use Rattle.sch_sketch.proofs.small.and_texts.Goals as goal
 
 pub returns : goal.returns
 returns c = c.node-made.ensures ∙ ap (λ ks. words.node (kind_of c.args.kind) c.args.at ks)
-    (made_after c.push.new.self c.add_texts.new.parts c.new-parts.result c.args.first (table.texts (data_of c.args.items.now)) c.new-parts.ensures c.in_ok-push.ensures.ok c.in_ok-add_texts.ensures)
+    (made_after c.push.new.self c.add_texts.new.parts c.in_ok-parts.parts c.args.first (table.texts (data_of c.args.items.now)) c.in_ok-parts.ensures c.in_ok-push.ensures.ok c.in_ok-add_texts.ensures)

@@ -8,4 +8,4 @@ use Rattle.sch_sketch.proofs.small.texts_and.Goals as goal
 
 pub returns : goal.returns
 returns c = c.node-made.ensures ∙ ap (λ ks. words.node (kind_of c.args.kind) c.args.at ks)
-    (made_and c.add_texts.new.parts c.push.new.self c.new-parts.result c.args.last (table.texts (data_of c.args.items.now)) c.new-parts.ensures c.in_ok-add_texts.ensures c.in_ok-push.ensures.ok)
+    (made_and c.add_texts.new.parts c.push.new.self c.in_ok-parts.parts c.args.last (table.texts (data_of c.args.items.now)) c.in_ok-parts.ensures c.in_ok-add_texts.ensures c.in_ok-push.ensures.ok)

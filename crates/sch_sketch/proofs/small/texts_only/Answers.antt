@@ -7,4 +7,4 @@ use Rattle.sch_sketch.proofs.PartLists.{made_all}
 use Rattle.sch_sketch.proofs.small.texts_only.Goals as goal
 
 pub returns : goal.returns
-returns c = c.node-made.ensures ∙ ap (λ ks. words.node (kind_of c.args.kind) c.args.at ks) (made_all c.add_texts.new.parts c.new-parts.result (table.texts (data_of c.args.items.now)) c.new-parts.ensures c.in_ok-add_texts.ensures)
+returns c = c.node-made.ensures ∙ ap (λ ks. words.node (kind_of c.args.kind) c.args.at ks) (made_all c.add_texts.new.parts c.in_ok-parts.parts (table.texts (data_of c.args.items.now)) c.in_ok-parts.ensures c.in_ok-add_texts.ensures)

@@ -13,14 +13,14 @@ use Rattle.sch_layout.proofs.layouts.LayoutSize.{slots_size, slots_work, labels_
 use Rattle.sch_layout.proofs.layouts.LayoutWork.{slots_done}
 use Rattle.sch_layout.proofs.layouts.SettledSlots.{slots_covered}
 use Rattle.sch_layout.proofs.layouts.SlotsFrame.{slots_placed, slots_does, slots_forward, slots_room, slots_shaped, unbound}
-use Rattle.sch_slots.proofs.WholeLayout.{layout_written}
+use Rattle.sch_slots.proofs.WholeLayout.{labels_restored, layout_written}
 use Rattle.sch_slots.proofs.slots.frame_slots.Goals as goal
 
 pub invariant_of-result : goal.invariant_of-result
 invariant_of-result c =
     let b = c.args.b.now in
-    let i : c.in_ok-out.out.instructions ≡ slots_layout (control.code_of c.args.b.now) = layout_written (control.code_of c.args.b.now) (unbound (control.code_of c.args.b.now) c.args.b.now.scoped c.args.b.now.numbered) _ _ c.room_for-room.ensures.base c.in_ok-out.ensures.instructions in
-    let l = c.in_ok-out.ensures.labels in
+    let i : c.in_ok-out.out.instructions ≡ slots_layout (control.code_of c.args.b.now) = layout_written c.args.b.now (unbound (control.code_of c.args.b.now) c.args.b.now.scoped c.args.b.now.numbered) _ _ _ c.room_for-room.ensures.base c.saved_round-round.ensures c.in_ok-out.ensures.instructions in
+    let l = c.in_ok-out.ensures.labels ∙ labels_restored c.args.b.now c.saved_round-round.result.now in
     let words = c.room_for-room.ensures.words in
     record {
       placed = rw (i, words) (slots_placed (control.code_of b) b.scoped b.numbered b.shaped);
@@ -30,8 +30,8 @@ invariant_of-result c =
 
 pub returns-clause-made : goal.returns-clause-made
 returns-clause-made c =
-    let i : c.in_ok-out.out.instructions ≡ slots_layout (control.code_of c.args.b.now) = layout_written (control.code_of c.args.b.now) (unbound (control.code_of c.args.b.now) c.args.b.now.scoped c.args.b.now.numbered) _ _ c.room_for-room.ensures.base c.in_ok-out.ensures.instructions in
-    rw (i, c.in_ok-out.ensures.labels, c.room_for-room.ensures.words) refl
+    let i : c.in_ok-out.out.instructions ≡ slots_layout (control.code_of c.args.b.now) = layout_written c.args.b.now (unbound (control.code_of c.args.b.now) c.args.b.now.scoped c.args.b.now.numbered) _ _ _ c.room_for-room.ensures.base c.saved_round-round.ensures c.in_ok-out.ensures.instructions in
+    rw (i, c.in_ok-out.ensures.labels, labels_restored c.args.b.now c.saved_round-round.result.now, c.room_for-room.ensures.words) refl
 
 pub returns-clause-same : goal.returns-clause-same
 returns-clause-same c =
@@ -57,16 +57,16 @@ returns-clause-frame_words c =
 
 pub returns-clause-size : goal.returns-clause-size
 returns-clause-size c =
-    let i : c.in_ok-out.out.instructions ≡ slots_layout (control.code_of c.args.b.now) = layout_written (control.code_of c.args.b.now) (unbound (control.code_of c.args.b.now) c.args.b.now.scoped c.args.b.now.numbered) _ _ c.room_for-room.ensures.base c.in_ok-out.ensures.instructions in
+    let i : c.in_ok-out.out.instructions ≡ slots_layout (control.code_of c.args.b.now) = layout_written c.args.b.now (unbound (control.code_of c.args.b.now) c.args.b.now.scoped c.args.b.now.numbered) _ _ _ c.room_for-room.ensures.base c.saved_round-round.ensures c.in_ok-out.ensures.instructions in
     rw i (slots_size (control.code_of c.args.b.now) (unbound (control.code_of c.args.b.now) c.args.b.now.scoped c.args.b.now.numbered))
 
 pub returns-clause-work : goal.returns-clause-work
 returns-clause-work c =
-    let i : c.in_ok-out.out.instructions ≡ slots_layout (control.code_of c.args.b.now) = layout_written (control.code_of c.args.b.now) (unbound (control.code_of c.args.b.now) c.args.b.now.scoped c.args.b.now.numbered) _ _ c.room_for-room.ensures.base c.in_ok-out.ensures.instructions in
+    let i : c.in_ok-out.out.instructions ≡ slots_layout (control.code_of c.args.b.now) = layout_written c.args.b.now (unbound (control.code_of c.args.b.now) c.args.b.now.scoped c.args.b.now.numbered) _ _ _ c.room_for-room.ensures.base c.saved_round-round.ensures c.in_ok-out.ensures.instructions in
     rw i (slots_work (control.code_of c.args.b.now) (unbound (control.code_of c.args.b.now) c.args.b.now.scoped c.args.b.now.numbered))
 
 pub returns-clause-all_work : goal.returns-clause-all_work
 returns-clause-all_work c = subst (λ f. code_work f ≤ work.code_work (control.code_of c.args.b.now)) (sym (returns-clause-made c)) (slots_done (control.code_of c.args.b.now) (unbound (control.code_of c.args.b.now) c.args.b.now.scoped c.args.b.now.numbered))
 
 pub returns-clause-labels : goal.returns-clause-labels
-returns-clause-labels c = rw c.in_ok-out.ensures.labels (labels_size (expression c.args.b.now.exp))
+returns-clause-labels c = rw (c.in_ok-out.ensures.labels, labels_restored c.args.b.now c.saved_round-round.result.now) (labels_size (expression c.args.b.now.exp))

@@ -25,7 +25,7 @@ returns-clause-read c =
     let own' = names_of c.adds_assigned.new.own in
     let f = c.read_forms.new.fault in
     let es = drafts_of c.in_ok-drafts.drafts in
-    let listed : ks ≡ sketches_of items = c.in_ok-add_forms.ensures.sketches ∙ ap (λ l. sketches_at l ++ map form_sketch (forms_in items)) c.new-forms.ensures in
+    let listed : ks ≡ sketches_of items = c.in_ok-add_forms.ensures.sketches ∙ ap (λ l. sketches_at l ++ map form_sketch (forms_in items)) (c.from_vec-forms.ensures ∙ c.in_ok-room.ensures.items) in
     let bound = c.in_ok-globals.ensures.bound ∙ ap (λ l. firsts (firsts [] seen) (defined_by_each (sketches_at l))) c.as_slice-2.ensures in
     let own = c.in_ok-globals.ensures.own ∙ ap (λ l. firsts [] (defined_by_each (sketches_at l))) c.as_slice-2.ensures in
     let internal = c.in_ok-globals.ensures.internal in
@@ -46,5 +46,5 @@ returns-clause-read c =
 pub returns-clause-places : goal.returns-clause-places
 returns-clause-places c =
     let items = data_of c.args.items.now in
-    let listed : places_at c.add_forms.new.forms ≡ form_places items = c.in_ok-add_forms.ensures.places ∙ ap (λ l. places_at l ++ map offset (forms_in items)) c.new-forms.ensures in
+    let listed : places_at c.add_forms.new.forms ≡ form_places items = c.in_ok-add_forms.ensures.places ∙ ap (λ l. places_at l ++ map offset (forms_in items)) (c.from_vec-forms.ensures ∙ c.in_ok-room.ensures.items) in
     c.in_ok-places.ensures ∙ ap places_at c.as_slice.ensures ∙ listed

@@ -1,23 +1,51 @@
-use Rattle.std.proofs.Common.{ap}
+use Rattle.std.proofs.Common.{◌∙◌, refl, arith}
 use Rattle.std.proofs.lemmas.Result.{on_ok_weaker}
-use Rattle.sch_control.specs.View.{expression}
-use Rattle.sch_layout.specs.OwnSlots.{saved_round}
-use Rattle.sch_writer.proofs.WholeLayout.{branch_written}
+use Rattle.sch_writer.proofs.WholeLayout.{labels_same}
 use Rattle.sch_writer.proofs.body_layout.+lay.Goals as goal
 
-pub returns-in_ok-lay-in-If-3-clause-instructions : goal.returns-in_ok-lay-in-If-3-clause-instructions
-returns-in_ok-lay-in-If-3-clause-instructions g t c =
+pub lay-returns-in_ok-write_store-in-Bind-clause-labels : goal.lay-returns-in_ok-write_store-in-Bind-clause-labels
+lay-returns-in_ok-write_store-in-Bind-clause-labels g t c =
+    let a = labels_same (g.R.Restores.lists c.args.around.now.allocation.now.restores) _ _ c.deref.ensures in
+    let b = labels_same (g.R.Restores.lists c.args.around.now.allocation.now.restores) _ _ c.deref-in-Bind.ensures in
+    on_ok_weaker c.lay-in-Bind.result
+    (λ h. rw c.in-Bind.is (omega (arith, h, a, b, c.in_ok-lay-in-Bind.ensures.labels, c.in_ok-write_store-in-Bind.ensures.labels))) c.lay-in-Bind.ensures.labels
+
+pub lay-returns-in_ok-lay-in-Seq-clause-labels : goal.lay-returns-in_ok-lay-in-Seq-clause-labels
+lay-returns-in_ok-lay-in-Seq-clause-labels g t c =
+    let a = labels_same (g.R.Restores.lists c.args.around.now.allocation.now.restores) _ _ c.deref-in-Seq.ensures in
+    let b = labels_same (g.R.Restores.lists c.args.around.now.allocation.now.restores) _ _ c.deref-in-Seq-2.ensures in
+    on_ok_weaker c.lay-in-Seq-2.result (λ h. rw c.in-Seq.is (omega (arith, h, a, b, c.in_ok-lay-in-Seq.ensures.labels))) c.lay-in-Seq-2.ensures.labels
+
+pub lay-returns-in_ok-lay-in-If-3-clause-labels : goal.lay-returns-in_ok-lay-in-If-3-clause-labels
+lay-returns-in_ok-lay-in-If-3-clause-labels g t c =
+    let first = labels_same (g.R.Restores.lists c.args.around.now.allocation.now.restores) _ _ c.deref-in-If.ensures in
+    let second = labels_same (g.R.Restores.lists c.args.around.now.allocation.now.restores) _ _ c.deref-in-If-2.ensures in
+    let third = labels_same (g.R.Restores.lists c.args.around.now.allocation.now.restores) _ _ c.deref-in-If-3.ensures in
     on_ok_weaker c.write_label.result
-    (λ h. rw c.in-If.is (branch_written (g.P.VariablePlaces.plan c.args.body.now.places) (saved_round c.args.body.now.entered)
-    (expression c.deref-in-If.result.now) (expression c.deref-in-If-2.result.now) (expression c.deref-in-If-3.result.now)
-    (expression c.in-If.a.value) (expression c.in-If.b.value) (expression c.in-If.c.value)
-    (ap expression c.deref-in-If.ensures) (ap expression c.deref-in-If-2.ensures) (ap expression c.deref-in-If-3.ensures)
-    c.args.out.now.labels c.new_label.new.out.labels c.new_label-in-If.new.out.labels c.in_ok-no-in-If.no c.in_ok-end-in-If.end
-    c.lay-in-If.new.out.labels c.lay-in-If-2.new.out.labels c.write_else.new.out.labels c.args.test
-    c.args.out.now.instructions c.new_label.new.out.instructions c.new_label-in-If.new.out.instructions c.lay-in-If.new.out.instructions c.lay-in-If-2.new.out.instructions
-    c.write_else.new.out.instructions c.lay-in-If-3.new.out.instructions c.write_label.new.out.instructions
-    c.in_ok-no-in-If.ensures.number c.in_ok-no-in-If.ensures.labels c.in_ok-no-in-If.ensures.instructions
-    c.in_ok-end-in-If.ensures.number c.in_ok-end-in-If.ensures.labels c.in_ok-end-in-If.ensures.instructions
-    c.in_ok-lay-in-If.ensures.instructions c.in_ok-lay-in-If.ensures.labels c.in_ok-lay-in-If-2.ensures.instructions c.in_ok-lay-in-If-2.ensures.labels
-    c.in_ok-write_else-in-If.ensures.instructions c.in_ok-write_else-in-If.ensures.labels c.in_ok-lay-in-If-3.ensures.instructions h))
-    c.write_label.ensures.instructions
+    (λ h. rw c.in-If.is (omega (
+      arith,
+      h,
+      first,
+      second,
+      third,
+      c.in_ok-no-in-If.ensures.labels,
+      c.in_ok-end-in-If.ensures.labels,
+      c.in_ok-lay-in-If.ensures.labels,
+      c.in_ok-lay-in-If-2.ensures.labels,
+      c.in_ok-write_else-in-If.ensures.labels,
+      c.in_ok-lay-in-If-3.ensures.labels,
+    ))) c.write_label.ensures.labels
+
+pub lay-returns-in_ok-write_group-in-Fix-clause-labels : goal.lay-returns-in_ok-write_group-in-Fix-clause-labels
+lay-returns-in_ok-write_group-in-Fix-clause-labels g t c =
+    let e = labels_same (g.R.Restores.lists c.args.around.now.allocation.now.restores) _ _ c.deref-in-Fix.ensures in
+    on_ok_weaker c.lay-in-Fix.result (λ h. rw c.in-Fix.is (omega (arith, h, e, c.in_ok-write_group-in-Fix.ensures.labels))) c.lay-in-Fix.ensures.labels
+
+pub lay-returns-in-Save-clause-labels : goal.lay-returns-in-Save-clause-labels
+lay-returns-in-Save-clause-labels g t c =
+    let e = labels_same (g.R.Restores.lists c.args.around.now.allocation.now.restores) _ _ c.deref-in-Save.ensures in
+    on_ok_weaker c.lay_region.result (λ h. rw c.in-Save.is (omega (arith, h, e))) c.lay_region.ensures.labels
+
+pub lay_region-returns-clause-instructions : goal.lay_region-returns-clause-instructions
+lay_region-returns-clause-instructions g t c =
+    on_ok_weaker c.lay.result (λ h rest. h rest ∙ (c.in_ok-write_heads.ensures.instructions _ ∙ rw c.in_ok-write_heads.ensures.labels refl)) c.lay.ensures.instructions

@@ -1,5 +1,6 @@
-use Rattle.std.proofs.Common.{◌∷◌, [], ◌++◌, refl, ap, ◌∙◌, arith}
-use Rattle.sch_code.proofs.Spelled.{few, pushed, text_more}
+use Rattle.std.proofs.Common.{◌≡◌, ◌+◌, ◌∷◌, [], ◌++◌, take, refl, ap, ◌∙◌, arith}
+use Rattle.sch_insn.specs.Spelling.{spelling}
+use Rattle.sch_code.proofs.Spelled.{few, front_kept, pushed, text_more}
 use Rattle.sch_code.proofs.text.Text.push.Goals as goal
 
 pub overflow_add-self : goal.overflow_add-self
@@ -11,11 +12,15 @@ overflow_add-self c =
 
 pub invariant_of-self-2 : goal.invariant_of-self-2
 invariant_of-self-2 c =
-    text_more c.self.inside.bytes.items c.extend_from_slice.new.self.items c.self.inside.count _ c.args.i c.self.invariant c.requires.valid
-    (c.in_ok-extend_from_slice.ensures.items ∙ ap (λ l. c.self.inside.bytes.items ++ l) (c.bytes.ensures.all ∙ c.encode.ensures.spelled)) refl
+    let old = c.self.inside.bytes.items in
+    let kept : c.truncate.new.self.items ≡ old ++ spelling c.args.i = front_kept old c.whole.result.now _ (spelling c.args.i) c.truncate.new.self.items _ c.encode-size.result c.whole.ensures c.encode-size.ensures.spelled c.encode-size.ensures.length (omega (arith, c.len.ensures, c.self.inside.bytes.ok.0))
+    (c.truncate.ensures.items ∙ ap (take (c.len.result + c.encode-size.result)) c.in_ok-extend_from_slice.ensures.items) in
+    text_more old c.truncate.new.self.items c.self.inside.count _ c.args.i c.self.invariant c.requires.valid kept refl
 
-pub returns : goal.returns
-returns c =
-    pushed c.self.inside.bytes.items c.extend_from_slice.new.self.items c.self.inside.count c.args.i c.self.invariant c.requires.valid
-    (c.in_ok-extend_from_slice.ensures.items ∙ ap (λ l. c.self.inside.bytes.items ++ l) (c.bytes.ensures.all ∙ c.encode.ensures.spelled))
+pub returns-clause-ok : goal.returns-clause-ok
+returns-clause-ok c =
+    let old = c.self.inside.bytes.items in
+    let kept : c.truncate.new.self.items ≡ old ++ spelling c.args.i = front_kept old c.whole.result.now _ (spelling c.args.i) c.truncate.new.self.items _ c.encode-size.result c.whole.ensures c.encode-size.ensures.spelled c.encode-size.ensures.length (omega (arith, c.len.ensures, c.self.inside.bytes.ok.0))
+    (c.truncate.ensures.items ∙ ap (take (c.len.result + c.encode-size.result)) c.in_ok-extend_from_slice.ensures.items) in
+    pushed old c.truncate.new.self.items c.self.inside.count c.args.i c.self.invariant c.requires.valid kept
     ∙ ap (λ l. l ++ c.args.i ∷ []) c.self.view_is

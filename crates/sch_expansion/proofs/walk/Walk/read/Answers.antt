@@ -1,15 +1,15 @@
-use Rattle.std.proofs.Common.{[], arith}
+use Rattle.std.proofs.Common.{[], arith, refl}
 use Rattle.std.proofs.lemmas.List.{reverse-append}
 use Rattle.sch_names.specs.NamesView.{globals_of}
 use Rattle.sch_sketch.specs.declared.sketch.Position.TheVariants.{Value}
 use Rattle.sch_sketch.specs.SketchView.{sketch_of}
 use Rattle.sch_expansion.specs.WalkStack.{Task}
-use Rattle.sch_expansion.proofs.walk.read.Goals as goal
+use Rattle.sch_expansion.proofs.walk.Walk.read.Goals as goal
 
 pub loop-next-init : goal.loop-next-init
 loop-next-init c = λ m e r.
-    let r' = rw c.new-2.ensures at r in
-    rw c.new.ensures r'
+    let r' = rw c.forget.ensures.scope at r in
+    rw c.forget.ensures.stack r'
 
 pub returns-in-None : goal.returns-in-None
 returns-in-None c =
@@ -24,7 +24,7 @@ loop-next-preserved c =
     let h = rw c.in-Up.is at c.loop-next.invariant in
     let p = rw c.in-Some.is at c.pop.ensures in
     let q = rw (p, reverse-append) at h in
-    c.in_ok-next-in-Some.ensures.ready k _ q
+    c.in_ok-next-in-Some.ensures.ready k refl q
 
 pub loop-next-smaller : goal.loop-next-smaller
 loop-next-smaller c =

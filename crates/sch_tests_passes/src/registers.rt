@@ -1,0 +1,245 @@
+//! A body with variables in registers, laid out with a region and with what each call restores.
+
+ghost use Rattle.std.specs.Prelude.{◌≡◌, ◌+◌, IfOk};
+ghost use Rattle.sch_word.specs.declared.place.Place.TheVariants.{Slot};
+
+use sch_control::{Application, Atom, Entry, Exp, MarkKind, Operand, Operation};
+use sch_frames::Instruction;
+use sch_word::{Const, List, Mem, Place};
+use sch_writer::{Allocation, Restores, VariablePlaces, write_body};
+use std::alloc::Global;
+use std::test::Fail;
+
+fn slot_behind(x: u32, base: u32) -> Result<Place, Mem>
+    ensures { IfOk result (λ p. p ≡ Slot (x + base)) }
+{
+    match x.checked_add(base) {
+        Some(j) => Ok(Place::Slot(j)),
+        None => Err(Mem),
+    }
+}
+
+// The return address, variable 2 and variable 3 live in R15, RBX and R14, which calls use, and each other variable in a slot
+// behind slot 20. Each of the three is saved in a slot behind slot 10, under a mark. Operands are set aside from slot 1 on.
+#[derive(Drop)]
+struct Places;
+
+impl VariablePlaces for Places {
+    ghost use Rattle.std.specs.Prelude.{◌+◌, cond, nat_eq, true};
+    ghost use Rattle.sch_word.specs.declared.place.Place.TheVariants.{Reg, Slot};
+
+    ghost plan = { λ s. record {
+      place = λ x. cond (nat_eq x 0) (Reg 15) (cond (nat_eq x 2) (Reg 3) (cond (nat_eq x 3) (Reg 14) (Slot (x + 20))));
+      home = λ x. Slot (x + 10);
+      is_marked = λ x. true;
+      aside = 1;
+    } };
+
+    fn place(&self, x: u32) -> Result<Place, Mem> {
+        match x {
+            0 => Ok(Place::Reg(15)),
+            2 => Ok(Place::Reg(3)),
+            3 => Ok(Place::Reg(14)),
+            _ => slot_behind(x, 20),
+        }
+    }
+
+    fn home(&self, x: u32) -> Result<Place, Mem> {
+        slot_behind(x, 10)
+    }
+
+    fn is_marked(&self, _x: u32) -> bool {
+        true
+    }
+
+    fn aside(&self) -> u32 {
+        1
+    }
+}
+
+// A call has the list of what is restored behind it.
+#[derive(Drop)]
+struct Listed;
+
+impl Restores<List<u32>> for Listed {
+    ghost lists = { λ s call. call };
+
+    fn after<'a>(&'a self, call: &'a List<u32>) -> &'a [u32] {
+        call.as_slice()
+    }
+}
+
+fn numbers(alloc: Global, xs: &[u32]) -> Result<List<u32>, Mem> {
+    let mut made = List::new(alloc);
+    for x in xs {
+        made.push(*x)?;
+    }
+    Ok(made)
+}
+
+fn variable(x: u32) -> Operand<u32> {
+    Operand::Atom(Atom::Variable(x))
+}
+
+fn value(o: Operand<u32>) -> Exp<List<u32>> {
+    Exp::Do(Operation::Operand(o))
+}
+
+// The call of a variable with these variables, at a site, after which some are restored.
+fn call(
+    alloc: Global,
+    site: u32,
+    operator: u32,
+    operands: &[u32],
+    restored: &[u32],
+) -> Result<Exp<List<u32>>, Mem> {
+    let mut list = List::new(alloc);
+    for x in operands {
+        list.push(variable(*x))?;
+    }
+    let a = Application {
+        site,
+        spread: false,
+        operator: variable(operator),
+        operands: list,
+    };
+    Ok(Exp::Call(a, numbers(alloc, restored)?))
+}
+
+fn in_turn(
+    alloc: Global,
+    first: Exp<List<u32>>,
+    rest: Exp<List<u32>>,
+) -> Result<Exp<List<u32>>, Mem> {
+    let first = Box::new(alloc, first)?;
+    let rest = Box::new(alloc, rest)?;
+    Ok(Exp::Seq(first, rest))
+}
+
+// Variable 3 is a character in the rest.
+fn with_letter(alloc: Global, rest: Exp<List<u32>>) -> Result<Exp<List<u32>>, Mem> {
+    let letter = value(Operand::Atom(Atom::Constant(Const::Character(97))));
+    let letter = Box::new(alloc, letter)?;
+    let rest = Box::new(alloc, rest)?;
+    Ok(Exp::Bind(3, letter, rest))
+}
+
+// Calls 2 with 3, restores 3 and 0, and returns 3.
+fn calls_the_argument(alloc: Global) -> Result<Exp<List<u32>>, Mem> {
+    let last = Exp::Return(Box::new(alloc, value(variable(3)))?);
+    let second = call(alloc, 1, 2, &[3], &[3, 0])?;
+    in_turn(alloc, second, last)
+}
+
+// Calls itself, restores 2 and 0, and goes on with variable 3.
+fn calls_itself(alloc: Global) -> Result<Exp<List<u32>>, Mem> {
+    let rest = with_letter(alloc, calls_the_argument(alloc)?)?;
+    let first = call(alloc, 0, 1, &[], &[2, 0])?;
+    in_turn(alloc, first, rest)
+}
+
+// The variables 1, 2 and 3 are in a region: 1 lives in a slot, 2 is saved at the head, and 3 where it is bound.
+fn in_region(alloc: Global) -> Result<Exp<List<u32>>, Mem> {
+    let saves = numbers(alloc, &[3, 1, 2])?;
+    let e = Box::new(alloc, calls_itself(alloc)?)?;
+    Ok(Exp::Save(saves, e))
+}
+
+// A register by its number, and a slot by its number behind 100.
+fn number(p: Place) -> u32 {
+    match p {
+        Place::Reg(r) => r as u32,
+        Place::Slot(j) => j.saturating_add(100),
+    }
+}
+
+fn held(o: &Operand<Place>) -> u32 {
+    match o {
+        Operand::Atom(Atom::Variable(p)) => number(*p),
+        Operand::Atom(Atom::Constant(Const::Character(c))) => *c as u32,
+        _ => 0,
+    }
+}
+
+// An instruction as a letter with numbers.
+fn seen(i: &Instruction) -> (u8, u32, u32) {
+    match i {
+        Instruction::Do(Operation::Operand(o)) => (b'd', held(o), 0),
+        Instruction::Store(p) => (b's', number(*p), 0),
+        Instruction::Copy(to, from) => (b'c', number(*to), number(*from)),
+        Instruction::Load(to, o) => (b'l', number(*to), held(o)),
+        Instruction::Call(_, count) => (b'k', *count, 0),
+        Instruction::Return => (b'r', 0, 0),
+        Instruction::Mark(MarkKind::Save(x)) => (b'S', *x, 0),
+        Instruction::Mark(MarkKind::Restore(x)) => (b'R', *x, 0),
+        Instruction::Mark(MarkKind::Call(site)) => (b'K', *site, 0),
+        Instruction::Mark(MarkKind::Return) => (b'E', 0, 0),
+        _ => (b'?', 0, 0),
+    }
+}
+
+const LINK: u32 = 15;
+
+const RBX: u32 = 3;
+
+const R14: u32 = 14;
+
+const SLOT: u32 = 100;
+
+// The closure is brought into its slot, and RBX has the argument already; the return address is saved round the body, and
+// then what stands at the head of the region.
+const EXPECTED: [(u8, u32, u32); 28] = [
+    (b'c', SLOT + 21, R14),
+    (b'S', 0, 0),
+    (b'c', SLOT + 10, LINK),
+    (b'S', 2, 0),
+    (b'c', SLOT + 12, RBX),
+    // The first call.
+    (b'l', R14, SLOT + 21),
+    (b'K', 0, 0),
+    (b'k', 0, 0),
+    (b'R', 2, 0),
+    (b'c', RBX, SLOT + 12),
+    (b'R', 0, 0),
+    (b'c', LINK, SLOT + 10),
+    // Variable 3 is bound, and saved there.
+    (b'd', 97, 0),
+    (b's', R14, 0),
+    (b'S', 3, 0),
+    (b'c', SLOT + 13, R14),
+    // The second call.
+    (b'l', SLOT + 1, R14),
+    (b'l', R14, RBX),
+    (b'c', RBX, SLOT + 1),
+    (b'K', 1, 0),
+    (b'k', 1, 0),
+    (b'R', 3, 0),
+    (b'c', R14, SLOT + 13),
+    (b'R', 0, 0),
+    (b'c', LINK, SLOT + 10),
+    // The end.
+    (b'd', R14, 0),
+    (b'E', 0, 0),
+    (b'r', 0, 0),
+];
+
+#[test]
+fn saves_and_restores(rt: HostRuntime) -> Result<(), Fail> {
+    let alloc = rt.alloc();
+    let allocation = Allocation {
+        places: Places,
+        restores: Listed,
+    };
+    let entry = Entry {
+        formals: 1,
+        rest: false,
+        fields: 0,
+    };
+    let out = write_body(alloc, &allocation, &[0], Some(entry), &in_region(alloc)?)?;
+    let mut all = List::new(alloc);
+    for i in out.instructions.as_slice() {
+        all.push(seen(i))?;
+    }
+    assert!(rt; all.as_slice() == EXPECTED.as_slice());
+    Ok(())
+}
