@@ -1,6 +1,5 @@
 -- What is needed to make the bodies of a program, and the turns of the loops that make them.
-use Rattle.std.proofs.Common.{◌≡◌, ℕ, zero, suc, ◌+◌, ◌-◌, ◌<◌, ◌≤◌, ◌^◌, true, false, List, [], ◌∷◌, ◌++◌, length, map}
-use Rattle.std.proofs.Common.{take, drop, get_or, Option, Some, None, refl, sym, ap, ◌∙◌, subst, arith, add-one, append_assoc, append-nil, drop-drop}
+use Rattle.std.proofs.Common.{◌≡◌, ℕ, zero, suc, ◌+◌, ◌-◌, ◌<◌, ◌≤◌, ◌^◌, true, false, List, [], ◌∷◌, ◌++◌, length, map, take, drop, get_or, Option, Some, None, refl, sym, ap, ◌∙◌, subst, arith, add-one, append_assoc, append-nil, drop-drop}
 use Rattle.std.specs.Prelude.{slice_get, nat_le, ◌&&◌, codes}
 use Rattle.std.specs.List.{list_all}
 use Rattle.std.specs.List.Sorted.{IsNonDecreasing}
@@ -10,8 +9,7 @@ use Rattle.std.proofs.lemmas.List.Folds.{list_all-append}
 use Rattle.sch_word.proofs.Walking.{next_is, next_left}
 use Rattle.sch_flat.specs.declared.tree.Exp.{Exp}
 use Rattle.sch_flat.specs.declared.tree.Body as flat_body
-use Rattle.sch_flat.specs.Tree.{Tree, Trees, Made, Body, constant, literal, variable, global, set_global, define, branch, sequence}
-use Rattle.sch_flat.specs.Tree.{bind, make_closure, fix_closures, call, operation, new_cells, cell_get, cell_set, no_trees, and_tree, count}
+use Rattle.sch_flat.specs.Tree.{Tree, Trees, Made, Body, constant, literal, variable, global, set_global, define, branch, sequence, bind, make_closure, fix_closures, call, operation, new_cells, cell_get, cell_set, no_trees, and_tree, count}
 use Rattle.sch_flat.specs.Valid.{ascending, scoped, scoped_each, body_scoped, has_fields, is_made, is_known, is_content, all_new, cell_variables, cells_scope}
 use Rattle.sch_flat.specs.View.{tree, body}
 use Rattle.sch_word.specs.trees.Bindings.{numbers, scope_with, with_variables}
@@ -20,10 +18,10 @@ use Rattle.sch_control.specs.declared.body.Body as control_body
 use Rattle.sch_control.specs.SourceView.{code_of, codes_of}
 use Rattle.sch_control.specs.Tree.{Code, Expression, end}
 use Rattle.sch_control.specs.Valid.{code_valid, in_scope_whole, numbered, ended, shaped_whole, fields_known, max_body_variables}
-use Rattle.sch_normal.specs.LabelsFit.{LabelsOfMade, LabelsFit, LabelsFitEach, LabelsOfBodies}
-use Rattle.sch_normal.specs.Normal.{Scope, binds, normal, procedure_code, form_code, normal_bodies}
-use Rattle.sch_normal.proofs.runs.Bodies.{ascending_last}
-use Rattle.sch_normal.proofs.Items.{left}
+use Rattle.sch_anf_laws.specs.LabelsFit.{LabelsOfMade, LabelsFit, LabelsFitEach, LabelsOfBodies}
+use Rattle.sch_anf_laws.specs.Normal.{Scope, binds, normal, procedure_code, form_code, normal_bodies}
+use Rattle.sch_anf_laws.proofs.runs.Bodies.{ascending_last}
+use Rattle.sch_anf_laws.proofs.Items.{left}
 
 -- ## Valid bodies
 

@@ -16,10 +16,10 @@ use Rattle.sch_flat.specs.View.{body, trees_of}
 use Rattle.sch_control.specs.declared.body.Body as control_body
 use Rattle.sch_control.specs.SourceView.{source_of, codes_of}
 use Rattle.sch_control.specs.Valid.{code_valid}
-use Rattle.sch_normal.specs.LabelsFit.{LabelsFitEach, LabelsOfBodies}
-use Rattle.sch_normal.specs.Normal.{new_label, normal_bodies, normal_source, bound_parts}
+use Rattle.sch_anf_laws.specs.LabelsFit.{LabelsFitEach, LabelsOfBodies}
+use Rattle.sch_anf_laws.specs.Normal.{new_label, normal_bodies, normal_source, bound_parts}
 use Rattle.sch_anf.proofs.CodeLists.{sorted, label_fits, labels_fit_each, labels_fit_bodies}
-use Rattle.sch_normal.proofs.valid.ValidProgram.{bodies_valid}
+use Rattle.sch_anf_laws.proofs.valid.ValidProgram.{bodies_valid}
 
 -- ## What the walk is given
 

@@ -8,14 +8,14 @@ ghost use Rattle.sch_flat.specs.Valid.{ascending};
 ghost use Rattle.sch_flat.specs.View.{body, tree, trees_of};
 ghost use Rattle.sch_control.specs.SourceView.{code_of, codes_of};
 ghost use Rattle.sch_control.specs.Valid.{code_valid};
-ghost use Rattle.sch_normal.specs.LabelsFit.{LabelsFit, LabelsFitEach, LabelsOfBodies};
-ghost use Rattle.sch_normal.specs.Normal.{form_code, normal_bodies, procedure_code};
+ghost use Rattle.sch_anf_laws.specs.LabelsFit.{LabelsFit, LabelsFitEach, LabelsOfBodies};
+ghost use Rattle.sch_anf_laws.specs.Normal.{form_code, normal_bodies, procedure_code};
 
+use crate::normalizing::normalize_expression;
+use crate::variables::Variables;
 use sch_control as control;
 use sch_control::Entry;
-use sch_expressions::normalize_expression;
 use sch_flat::{Body, Exp};
-use sch_operands::Variables;
 use sch_word::{List, Mem};
 use std::alloc::Global;
 

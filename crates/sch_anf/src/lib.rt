@@ -5,25 +5,32 @@ ghost use Rattle.std.specs.Prelude.{◌≡◌, ◌≤◌, ◌+◌, ◌^◌, leng
 ghost use Rattle.sch_word.specs.values.StaticsView.{statics};
 ghost use Rattle.sch_control.specs.Fits.{table_fits};
 ghost use Rattle.sch_control.specs.ProgramView as control;
+ghost use Rattle.sch_control.specs.Sizes.{dropped_of, tests_of};
 ghost use Rattle.sch_control.specs.Work.{codes_work};
 ghost use Rattle.sch_flat.specs.Measures as measures;
+ghost use Rattle.sch_flat.specs.Measures.{weight};
 ghost use Rattle.sch_flat.specs.ProgramView.{source};
-ghost use Rattle.sch_normal.specs.Counted.{BindNoMore};
-ghost use Rattle.sch_normal.specs.Dropped.{dropped_of};
-ghost use Rattle.sch_normal.specs.Kept.{SameCalls, StaysCovered};
-ghost use Rattle.sch_normal.specs.Normal.{normal_source};
-ghost use Rattle.sch_normal.specs.SameRun.{SameRun};
-ghost use Rattle.sch_orders.specs.Table.{given_table};
-ghost use Rattle.sch_normal.specs.Tests.{tests_of};
-ghost use Rattle.sch_normal.specs.Weight.{weight};
+ghost use Rattle.sch_anf_laws.specs.Counted.{BindNoMore};
+ghost use Rattle.sch_anf_laws.specs.Kept.{SameCalls, StaysCovered};
+ghost use Rattle.sch_anf_laws.specs.Normal.{normal_source};
+ghost use Rattle.sch_anf_laws.specs.SameRun.{SameRun};
+ghost use Rattle.sch_control.specs.OrderTable.{given_table};
 
+mod after;
 mod body;
+mod normalizing;
+mod operands;
+mod reading;
+mod simple;
+mod sites;
+mod steps;
+mod variables;
 
 use crate::body::normalize_bodies;
+use crate::operands::new_labels;
+use crate::sites::bound_parts;
 use sch_control::ControlProgram;
 use sch_flat::{Body, FlatProgram};
-use sch_operands::new_labels;
-use sch_simple::bound_parts;
 use sch_word::{List, Mem};
 use std::alloc::Global;
 

@@ -14,7 +14,7 @@ use Rattle.sch_insn.specs.Step.{Progress, Runs, fetch, fetched, perform, moved, 
 use Rattle.sch_insn.proofs.Paths.{leads_step}
 use Rattle.sch_asm.specs.declared.item.Item.{Item}
 use Rattle.sch_asm.specs.declared.item.Item.TheVariants.{Jump, JumpIf, LoadLabel, LoadWord, StoreWord}
-use Rattle.sch_asm.specs.declared.item.MarkKind.{MarkKind}
+use Rattle.sch_word.specs.declared.mark.MarkKind.{MarkKind}
 use Rattle.sch_asm.specs.Stands.{Setting, Found, Stands, GoesTo, BranchesTo}
 use Rattle.sch_asm.specs.Data.{data_at, word_in, with_word, Inside}
 use Rattle.sch_asm.specs.Views.{View, full, Leads}

@@ -13,7 +13,7 @@ use Rattle.sch_asm.specs.declared.error.AsmError.TheVariants.{TextTooLarge}
 use Rattle.sch_asm.specs.declared.item.Item.{Item}
 use Rattle.sch_asm.specs.declared.item.Item.TheVariants.{Label, Plain, Jump, JumpIf, LoadLabel, LoadWord, Mark}
 use Rattle.sch_asm.specs.declared.item.Mark as mark
-use Rattle.sch_asm.specs.declared.item.MarkKind.TheVariants.{Enter, Save}
+use Rattle.sch_word.specs.declared.mark.MarkKind.TheVariants.{Enter, Save}
 use Rattle.sch_asm.specs.declared.routine.Routine.TheVariants.{End, Stop, Put, PutFixnum, FillWords, FillBytes}
 use Rattle.sch_asm.specs.Routines.{label_of}
 use Rattle.sch_asm.specs.Items.{IsPlain, is_routine, labels_in, marks_arrive, uses_in, word_uses}

@@ -11,7 +11,7 @@ use Rattle.sch_insn.proofs.SegmentContents.{has_all, spelling_some}
 use Rattle.sch_asm.specs.declared.item.Item.{Item}
 use Rattle.sch_asm.specs.declared.item.Item.TheVariants.{Label, Plain, Jump, JumpIf, LoadLabel, LoadWord, StoreWord, Mark}
 use Rattle.sch_asm.specs.declared.item.Mark as mark
-use Rattle.sch_asm.specs.declared.item.MarkKind.{MarkKind}
+use Rattle.sch_word.specs.declared.mark.MarkKind.{MarkKind}
 use Rattle.sch_asm.specs.Items.{marks_arrive}
 use Rattle.sch_asm.specs.Codes.{Codes}
 use Rattle.sch_asm.specs.Stands.{Setting, Stands, marks_at}

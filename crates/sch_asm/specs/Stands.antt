@@ -10,7 +10,7 @@ use Rattle.sch_insn.specs.Step.{fetch}
 use Rattle.sch_asm.specs.declared.item.Item.{Item}
 use Rattle.sch_asm.specs.declared.item.Item.TheVariants.{Label, Plain, Jump, JumpIf, LoadLabel, LoadWord, StoreWord, Mark}
 use Rattle.sch_asm.specs.declared.item.Mark as mark
-use Rattle.sch_asm.specs.declared.item.MarkKind.{MarkKind}
+use Rattle.sch_word.specs.declared.mark.MarkKind.{MarkKind}
 
 -- The marks of an address, in their order.
 abbrev pub marks_at : List mark.Mark → ℕ → List MarkKind

@@ -6,7 +6,7 @@ use Rattle.sch_word.specs.declared.answer.Answer.{Answer}
 use Rattle.sch_insn.specs.declared.state.Flags.{Flags}
 use Rattle.sch_insn.specs.Machine.{State}
 use Rattle.sch_insn.specs.Path as path
-use Rattle.sch_asm.specs.declared.item.MarkKind.{MarkKind}
+use Rattle.sch_word.specs.declared.mark.MarkKind.{MarkKind}
 use Rattle.sch_asm.specs.Stands.{Setting}
 use Rattle.sch_asm.specs.Data.{data_at}
 

@@ -1,21 +1,7 @@
 //! The items of a text.
 
 use sch_insn::Insn;
-
-/// What a mark says of the instruction behind it. `Enter` has the number of its body; `Save`, `Restore`
-/// and `Spill` that of a variable; `Call` and `Tail` that of a site of the program.
-#[derive(Clone, Copy)]
-pub enum MarkKind {
-    Enter(u32),
-    Save(u32),
-    Restore(u32),
-    Spill(u32),
-    Temp,
-    Argument,
-    Call(u32),
-    Return,
-    Tail(u32),
-}
+use sch_word::MarkKind;
 
 /// A mark of the instruction at an address.
 #[derive(Clone, Copy)]

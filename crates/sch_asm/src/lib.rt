@@ -10,6 +10,6 @@ mod routine;
 
 pub use assembly::{Asm, Word};
 pub use error::AsmError;
-pub use item::{Item, Mark, MarkKind};
+pub use item::{Item, Mark};
 pub use resolving::{Resolved, resolve};
 pub use routine::Routine;

@@ -2,9 +2,9 @@
 use Rattle.std.proofs.Common.{◌≡◌, true, false, [], ◌∷◌, refl}
 use Rattle.sch_cells.specs.Tree.{variable, set_variable}
 use Rattle.sch_cells.specs.Examples.{function, program, assigned_formal, assigned_formal_boxed, unset_init, unset_init_boxed, recursive_inits, recursive_inits_boxed, even_odd, nested_lambdas}
+use Rattle.sch_cells.specs.Measures.{weight}
 use Rattle.sch_assign.specs.Celled.{celled_in, celled_of}
 use Rattle.sch_assign.specs.Converted.{converted_source}
-use Rattle.sch_assign.specs.Weight.{weight}
 
 -- a formal that is assigned gets a cell with its value
 assigned : converted_source (celled_in assigned_formal) 1 assigned_formal ≡ assigned_formal_boxed

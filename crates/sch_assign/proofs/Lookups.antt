@@ -11,6 +11,7 @@ use Rattle.sch_cells.specs.Variables.{assigns, cells_of}
 use Rattle.sch_cells.specs.Tree.{Tree}
 use Rattle.sch_cells.specs.BoxedMeaning.{with_cells, contents}
 use Rattle.sch_assign.specs.Converted.{and_cell, cells_for, Agree, AllAre, Low}
+use Rattle.sch_word.proofs.facts.NumberSets.{in_more}
 use Rattle.sch_word.proofs.facts.NumberTests.{differ, same as self}
 
 -- y is none of the m from x on
@@ -46,13 +47,6 @@ in_outside x (suc m) y S h i =
     let d : nat_eq y x ≡ false = apart_first x m y h in
     let j : (nat_eq y x || has y S) ≡ true = in_outside (suc x) m y (x ∷ S) (apart_next x m y h) i in
     rw d at j
-
-pub in_more : (y x : ℕ) (S : List ℕ) → has y S ≡ true → has y (x ∷ S) ≡ true
-in_more y x S h = go (nat_eq y x)
-  where
-    go : (b : Bool) → (b || has y S) ≡ true
-    go true = refl
-    go false = h
 
 pub in_deeper : (x m y : ℕ) (S : List ℕ) → has y S ≡ true → has y (scope_with x m S) ≡ true
 in_deeper x zero y S h = h

@@ -1,4 +1,4 @@
--- How many expressions there are, and what loops have made and have left.
+-- What loops have made and have left.
 use Rattle.std.proofs.Common.{◌≡◌, ℕ, zero, suc, ◌+◌, ◌-◌, ◌<◌, ◌≤◌, Bool, true, false, List, [], ◌∷◌, ◌++◌, length, map, drop, take, get_or, None, refl, sym, ap, ◌∙◌, subst, arith, add-one, append_assoc}
 use Rattle.std.specs.Prelude.{slice_set}
 use Rattle.std.proofs.lemmas.List.{get_or_default, get_or-set_other, length-set, take-set, take_more_set}
@@ -10,17 +10,10 @@ use Rattle.sch_cells.specs.Tree.{Tree, Trees, Lambdas, cell_set, variable, and_t
 use Rattle.sch_cells.specs.View.{tree, trees_of, lambdas_of, function}
 use Rattle.sch_cells.proofs.Rows.{trees_of_list, lambdas_of_list}
 use Rattle.sch_word.specs.trees.Walk.{onto}
-use Rattle.sch_word.proofs.Walking.{next_item, next_left, end_items}
+use Rattle.sch_word.proofs.Walking.{end_items, next_item, next_left, onto_more}
 use Rattle.sch_assign.specs.Converted.{Low, and_cell, cells_for, empty_cells, filling, converted, converted_each, converted_lambdas}
 use Rattle.sch_assign.specs.InRange.{InRange, EachInRange, LambdasInRange}
 use Rattle.sch_assign.specs.Table.{group_marked, each_marked, lambdas_marked}
-
-length_of : (es : List Exp) → count (trees (map tree es)) ≡ length es
-length_of [] = refl
-length_of (e ∷ es) = ap suc (length_of es)
-
-pub count_is : (es : List Exp) → count (trees_of es) ≡ length es
-count_is es = ap count (trees_of_list es) ∙ length_of es
 
 -- ## Groups of variables, from a place on
 
@@ -79,10 +72,6 @@ onto_lambdas (q ∷ qs) = ap (and_then_lambda q) (onto_lambdas qs)
 lambdas_onto : (qs : List Lambda) → lambdas_of qs ≡ onto and_then_lambda qs no_lambdas
 lambdas_onto qs = lambdas_of_list qs ∙ onto_lambdas qs
 
-onto_last : {B Q : Type 0} (cons : B → Q → Q) (bs : List B) (b : B) (rest : Q) → onto cons (bs ++ b ∷ []) rest ≡ onto cons bs (cons b rest)
-onto_last cons [] b rest = refl
-onto_last cons (a ∷ bs) b rest = ap (cons a) (onto_last cons bs b rest)
-
 -- what is left of a list, as trees
 abbrev pub left : List Exp → Trees
 left es = trees (map tree es)
@@ -96,13 +85,13 @@ fill_step n all q r x m i e l h g =
     let s : x + (i + 1) ≡ suc (x + i) = omega arith in
     let p : m - i ≡ suc (m - (i + 1)) = omega (arith, l) in
     let k = rw p at g in
-    rw (s, onto_last and_then all q (filling n (suc (x + i)) (m - (i + 1)) e), h) k
+    rw (s, onto_more and_then all q (filling n (suc (x + i)) (m - (i + 1)) e), h) k
 
 pub fill_end : (n : ℕ) (all : List Exp) (q : Exp) (r : Trees) (x m i : ℕ) → m ≤ i → onto and_then all (filling n (x + i) (m - i) (tree q)) ≡ r → trees_of (all ++ q ∷ []) ≡ r
 fill_end n all q r x m i l g =
     let p : m - i ≡ 0 = omega (arith, l) in
     let k : onto and_then all (and_tree (tree q) no_trees) ≡ r = rw p at g in
-    trees_onto (all ++ q ∷ []) ∙ onto_last and_then all q no_trees ∙ k
+    trees_onto (all ++ q ∷ []) ∙ onto_more and_then all q no_trees ∙ k
 
 -- ## A loop that takes the item at a place out of a list, and puts what is made of it there
 

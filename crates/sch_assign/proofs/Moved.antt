@@ -5,6 +5,7 @@ use Rattle.sch_cells.specs.declared.tree.NewCell.{NewCell}
 use Rattle.sch_cells.specs.Tree.{Tree}
 use Rattle.sch_word.specs.trees.Bindings.{remove, without}
 use Rattle.sch_cells.specs.Variables.{without_each, cells_bound, cells_used, free}
+use Rattle.sch_cells.proofs.Without.{without_each_none, without_none}
 use Rattle.sch_assign.specs.Converted.{and_cell, cells_for, wrapped, Low}
 use Rattle.sch_assign.proofs.Lookups.{Apart, apart_next, apart_first, Where, inside, outside, where_is}
 use Rattle.sch_word.proofs.facts.NumberTests.{same}
@@ -23,14 +24,6 @@ without_in x (suc m) zero zs l =
     let q : x + 0 ≡ x = omega arith in
     rw q (ap (remove x) (without_out (suc x) m x zs (record { at = λ i k e. omega (arith, k, e) })) ∙ rw (same x) refl)
 without_in x (suc m) (suc i) zs l = let q : x + suc i ≡ suc x + i = omega arith in rw q (ap (remove x) (without_in (suc x) m i zs (omega (arith, l))))
-
-without_nil : (x m : ℕ) → without x m [] ≡ []
-without_nil x zero = refl
-without_nil x (suc m) = ap (remove x) (without_nil (suc x) m)
-
-each_nil : (ys : List ℕ) → without_each ys [] ≡ []
-each_nil [] = refl
-each_nil (y ∷ ys) = ap (remove y) (each_nil ys)
 
 pub record Inside (x m y : ℕ) : Type 0 where
   pub i : ℕ
@@ -107,7 +100,7 @@ module _ (has_cell : ℕ → Bool) (n : ℕ) where
 
   -- a group and its cells taken away, from the moved variables
   pub group_moved : (x m : ℕ) (F : List ℕ) → Low n x m → Under F n → without x m (without_each (keys x m) (map moved F)) ≡ map moved (without x m F)
-  group_moved x m [] few u = ap (without x m) (each_nil (keys x m)) ∙ without_nil x m ∙ ap (map moved) (sym (without_nil x m))
+  group_moved x m [] few u = ap (without x m) (without_each_none (keys x m)) ∙ without_none x m ∙ ap (map moved) (sym (without_none x m))
   group_moved x m (z ∷ F) few u = go (where_is x m z) (has_cell z) refl (group_moved x m F few u.1)
     where
       go : Where x m z → (b : Bool) → has_cell z ≡ b → without x m (without_each (keys x m) (map moved F)) ≡ map moved (without x m F) →

@@ -2,4 +2,3 @@ pub mod Celled
 pub mod Converted
 pub mod InRange
 pub mod Table
-pub mod Weight

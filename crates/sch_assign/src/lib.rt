@@ -6,7 +6,7 @@ ghost use Rattle.sch_word.specs.runs.Runs.{SameRuns};
 ghost use Rattle.sch_word.specs.values.StaticsView.{statics};
 ghost use Rattle.sch_cells.specs.Bodies.{bodies_of};
 ghost use Rattle.sch_cells.specs.BoxedMeaning as boxed;
-ghost use Rattle.sch_cells.specs.Measures.{call_sites_of, dropped_of, program_size, sites_of, tests_of};
+ghost use Rattle.sch_cells.specs.Measures.{call_sites_of, dropped_of, program_size, sites_of, tests_of, weight};
 ghost use Rattle.sch_cells.specs.ProgramView.{source};
 ghost use Rattle.sch_cells.specs.Covered.{is_covered_program};
 ghost use Rattle.sch_cells.specs.Tree.{count_lambdas};
@@ -15,7 +15,6 @@ ghost use Rattle.sch_cells.specs.Valid.{bound_of};
 ghost use Rattle.sch_assign.specs.Celled.{celled_in, celled_of};
 ghost use Rattle.sch_assign.specs.Converted.{converted_source};
 ghost use Rattle.sch_assign.specs.Table.{table};
-ghost use Rattle.sch_assign.specs.Weight.{weight};
 
 mod conversion;
 mod marking;

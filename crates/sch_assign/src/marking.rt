@@ -11,7 +11,7 @@ use sch_cells::{Exp, Lambda};
 use sch_word::List;
 
 /// How many expressions there are.
-#[tactic(auto, using(crate::proofs::Loops::count_is))]
+#[tactic(auto, using(sch_cells::proofs::Rows::count_is))]
 pub(crate) fn count(es: &List<Exp>) -> usize
     ensures { result ≡ plain.count (trees_of es.now) }
 {

@@ -1,15 +1,15 @@
 pub mod Bodies
 pub mod BoxedMeaning
 pub mod Clear
+pub mod Covered
 pub mod Examples
 pub mod Measures
 pub mod Procedures
 pub mod ProgramView
+pub mod Recursive
 pub mod SourceView
 pub mod Tree
 pub mod UnboxedMeaning
 pub mod Valid
 pub mod Variables
 pub mod View
-pub mod Covered
-pub mod Recursive

@@ -3,6 +3,7 @@ use Rattle.std.specs.Prelude.{ℕ, ◌+◌, max, Bool, true, ◌&&◌, List, [],
 use Rattle.sch_cells.specs.Tree.{Tree, Trees, Lambdas, Source, constant, literal, variable, global, set_variable, set_global, define, branch, sequence, bind, fix, letrec, lambda, call, operation, new_cells, cell_get, cell_set, no_trees, and_tree, no_lambdas, and_lambda, count, count_lambdas}
 use Rattle.sch_word.specs.trees.Shape as shapes
 use Rattle.sch_word.specs.trees.Shape.{Shape, site_of, call_site_of, tests_in, dropped_in, size_of, procedures_size}
+use Rattle.sch_word.specs.trees.NodeWeights.{procedures_weight, weight_of}
 use Rattle.sch_cells.specs.Bodies.{procedure, procedures}
 
 -- A measure of nodes over a whole tree: `here` at each node, the outer before the inner, in the order
@@ -96,6 +97,11 @@ dropped_of p = over_source 0 (λ a b. a + b) (λ e. dropped_in (shape e)) p
 -- all nodes, formals, variables bound, procedures with their free variables, and forms
 abbrev pub program_size : Source → ℕ
 program_size p = procedures_size (procedures p.library) + count p.forms + over_source 0 (λ a b. a + b) (λ e. size_of (shape e)) p
+
+-- How much work there is at most in the bodies of the language Control that are made of a program: what its library's
+-- procedures and its nodes weigh, and one for the end of each form.
+abbrev pub weight : Source → ℕ
+weight p = procedures_weight (procedures p.library) + count p.forms + over_source 0 (λ a b. a + b) (λ e. weight_of (shape e)) p
 
 -- a test of every node
 abbrev pub every : (Tree → Bool) → Source → Bool

@@ -1,6 +1,6 @@
 //! Expressions of the cell language.
 
-use sch_word::{Bytes, Const, List, Prim};
+use sch_word::{Bytes, Const, List, Primitive};
 
 /// An expression of the cell language, in which each variable has one number in the whole program.
 ///
@@ -49,7 +49,7 @@ pub enum Exp {
         operator: Box<Exp>,
         operands: List<Exp>,
     },
-    Prim(u32, Prim, List<Exp>),
+    Prim(u32, Primitive, List<Exp>),
     /// New cells, each in a variable of its own, and the body.
     NewCells(List<NewCell>, Box<Exp>),
     /// What the cell in a variable holds.

@@ -19,7 +19,7 @@ use Rattle.sch_core.specs.Libraries.{IsLibraryError}
 use Rattle.sch_core.specs.Programs.{IsProgramOf}
 use Rattle.sch_core.proofs.DataLaws.{never_both, one_error, one_program}
 use Rattle.sch_core.proofs.items.LibraryLaws as definitions
-use Rattle.sch_numbers.specs.Programs.{Definition}
+use Rattle.sch_link_tables.specs.Programs.{Definition}
 use Rattle.sch_select.specs.Program.{frames_bytes, max_stack}
 use Rattle.sch_driver.specs.Causes.{IsLibraryText, IsLibraryErrorOf, IsReadErrorOf, IsStackTooLarge, IsTextTooLarge, Means, frame_words_of, max_source_size, text_bytes_of}
 use Rattle.sch_driver.specs.Compiled.{IsCompiled}

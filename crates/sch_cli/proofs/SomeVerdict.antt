@@ -15,7 +15,7 @@ use Rattle.sch_core.specs.declared.error.CoreError.{CoreError}
 use Rattle.sch_core.specs.declared.error.CoreError.TheVariants as core
 use Rattle.sch_core.proofs.DataLaws.{program_or_error}
 use Rattle.sch_core.proofs.items.LibraryLaws.{library_or_error}
-use Rattle.sch_numbers.specs.Programs.{Definition}
+use Rattle.sch_link_tables.specs.Programs.{Definition}
 use Rattle.sch_driver.specs.Causes.{IsErrorOf, IsLibraryText, IsReadErrorOf, max_source_size}
 use Rattle.sch_driver.specs.declared.error.CompileError.TheVariants as compiling
 use Rattle.sch_driver.specs.declared.error.Part.{Part}

@@ -18,7 +18,7 @@ pub fn build(alloc: Global, text: &[u8], limits: Limits) -> Result<Bytes, Failur
     ensures refused { IfErr result (IsRefused text.now limits.depth) }
 {
     let compiled = compile(alloc, text, limits)?;
-    Ok(compiled.image)
+    Ok(compiled.file)
 }
 
 /// The image that this file stands for.

@@ -1,6 +1,6 @@
 -- The turns of the loops that make flat trees.
 use Rattle.std.proofs.Common.{◌≡◌, ℕ, zero, suc, ◌+◌, ◌<◌, ◌≤◌, Bool, List, [], ◌∷◌, ◌++◌, length, map, drop, get_or, refl, sym, ap, ◌∙◌, subst, arith, add-one, append_assoc, append-nil}
-use Rattle.std.specs.Prelude.{nat_eq, slice_get, slice_set, Option, Some, None}
+use Rattle.std.specs.Prelude.{nat_eq, slice_get, slice_set, Some}
 use Rattle.std.proofs.lemmas.List.{drop_all, get_or_default}
 use Rattle.std.proofs.lemmas.Bool.{eq-eqb}
 use Rattle.sch_word.specs.trees.Walk.{onto}
@@ -19,14 +19,14 @@ use Rattle.sch_flat.specs.Tree as flat
 use Rattle.sch_flat.specs.Tree.{and_tree, no_trees}
 use Rattle.sch_flat.specs.View as view
 use Rattle.sch_flat.proofs.Rows as rows
-use Rattle.sch_closed.specs.Closed as closing
-use Rattle.sch_closed.specs.Closed.{place_from, place, fields_of, procedures, procedures_each, procedures_lambdas, captured, closed, closed_each, made, made_each, starts}
-use Rattle.sch_closed.specs.Fresh.{EachStands, LambdasStand}
+use Rattle.sch_closure.specs.Closed as closing
+use Rattle.sch_closure.specs.Closed.{place_from, place, fields_of, procedures, procedures_each, procedures_lambdas, captured, closed, closed_each, made, made_each, starts}
+use Rattle.sch_closure.specs.Fresh.{EachStands, LambdasStand}
 use Rattle.sch_closure.specs.Walked.{with_bodies, with_bodies_each, with_bodies_lambdas}
-use Rattle.sch_free.proofs.Loops.{left, left_lambdas}
+use Rattle.sch_closure.proofs.Loops.{left, left_lambdas}
 use Rattle.sch_closure.proofs.Walks.{body_set}
 use Rattle.sch_word.proofs.facts.NumberTests.{differ}
-use Rattle.sch_word.proofs.facts.Lists.{map_length}
+use Rattle.sch_word.proofs.facts.Lists.{map_length, some_same}
 
 -- ## Places
 
@@ -143,16 +143,9 @@ map_set f [] i v = refl
 map_set f (x ∷ xs) zero v = refl
 map_set f (x ∷ xs) (suc i) v = ap (λ l. f x ∷ l) (map_set f xs i v)
 
-abbrev some_or : {A : Type 0} → Option A → A → A
-some_or (Some x) other = x
-some_or None other = other
-
 pub here_is : {A : Type 0} (xs : List A) (i : ℕ) (x v : A) → slice_get xs i ≡ Some v → x ≡ get_or xs i x → x ≡ v
 here_is [] i x v h e = absurd (cc)
 here_is (y ∷ xs) zero x v h e = e ∙ some_same h
-  where
-    some_same : Some y ≡ Some v → y ≡ v
-    some_same p = ap (λ o. some_or o y) p
 here_is (y ∷ xs) (suc i) x v h e = here_is xs i x v h e
 
 pub made_body : (name name' : List ℕ) (x m : ℕ) (r : Bool) (e : Tree) (n k : ℕ) (inside : List ℕ) (code : flat.Tree) → name' ≡ name → inside ≡ fields_of x m e → k ≡ suc n → code ≡ closed e inside k

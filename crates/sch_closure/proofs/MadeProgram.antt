@@ -2,19 +2,18 @@
 use Rattle.std.proofs.Common.{◌≡◌, ℕ, suc, ◌+◌, ◌<◌, ◌≤◌, List, [], ◌++◌, length, map, refl, sym, ap, ◌∙◌, arith, length-append}
 use Rattle.sch_word.specs.declared.statics.Statics as declared
 use Rattle.sch_word.specs.values.StaticsView.{statics}
-use Rattle.sch_cells.specs.Tree.{Source, Tree, Trees, Lambdas, constant, literal, variable, global, set_variable, set_global, define, branch, sequence}
-use Rattle.sch_cells.specs.Tree.{bind, fix, letrec, lambda, call, operation, new_cells, cell_get, cell_set, no_trees, and_tree, no_lambdas, and_lambda}
+use Rattle.sch_cells.specs.Tree.{Source, Tree, Trees, Lambdas, constant, literal, variable, global, set_variable, set_global, define, branch, sequence, bind, fix, letrec, lambda, call, operation, new_cells, cell_get, cell_set, no_trees, and_tree, no_lambdas, and_lambda}
 use Rattle.sch_cells.specs.Bodies as bodies
 use Rattle.sch_flat.specs.declared.tree.Exp as to
 use Rattle.sch_flat.specs.declared.tree.Made as to_made
 use Rattle.sch_flat.specs.declared.tree.Body as to_body
 use Rattle.sch_flat.specs.SourceView.{source_of}
 use Rattle.sch_flat.specs.View as view
-use Rattle.sch_closed.specs.Closed.{procedures, procedures_each, procedures_lambdas, body_of, all_of_each, all_of_lambdas, closed_source, labels, starts, made_each, closed_each}
+use Rattle.sch_closure.specs.Closed.{procedures, procedures_each, procedures_lambdas, body_of, all_of_each, all_of_lambdas, closed_source, labels, starts, made_each, closed_each}
 use Rattle.sch_closure.specs.Walked.{with_bodies_each, with_bodies_lambdas}
 use Rattle.sch_closure.proofs.Walks.{each_bodies, lambdas_bodies}
 use Rattle.sch_closure.proofs.MadeLists.{labels_made}
-use Rattle.sch_closed.proofs.Standing.{size_lambdas}
+use Rattle.sch_closure.proofs.Standing.{size_lambdas}
 use Rattle.sch_word.proofs.facts.Lists.{map_length}
 
 pub library_bodies : (p : Source) (bs : List to_body.Body) → map view.body bs ≡ with_bodies_lambdas p.library [] → map view.body bs ≡ all_of_lambdas body_of p.library 0

@@ -1,12 +1,11 @@
 -- The bodies that the walk makes are those that stand in the definitions.
 use Rattle.std.proofs.Common.{◌≡◌, ℕ, suc, ◌+◌, List, [], ◌∷◌, ◌++◌, length, refl, sym, ap, ◌∙◌, arith, append_assoc, append-nil, length-append}
 use Rattle.std.specs.Prelude.{slice_set}
-use Rattle.sch_cells.specs.Tree.{Tree, Trees, Lambdas, constant, literal, variable, global, set_variable, set_global, define, branch, sequence, bind}
-use Rattle.sch_cells.specs.Tree.{fix, letrec, lambda, call, operation, new_cells, cell_get, cell_set, no_trees, and_tree, no_lambdas, and_lambda}
+use Rattle.sch_cells.specs.Tree.{Tree, Trees, Lambdas, constant, literal, variable, global, set_variable, set_global, define, branch, sequence, bind, fix, letrec, lambda, call, operation, new_cells, cell_get, cell_set, no_trees, and_tree, no_lambdas, and_lambda}
 use Rattle.sch_flat.specs.Tree.{Body}
-use Rattle.sch_closed.specs.Closed.{procedures, procedures_each, procedures_lambdas, body_of, all_procedures, all_of_each, all_of_lambdas}
+use Rattle.sch_closure.specs.Closed.{procedures, procedures_each, procedures_lambdas, body_of, all_procedures, all_of_each, all_of_lambdas}
 use Rattle.sch_closure.specs.Walked.{with_bodies, with_bodies_each, with_bodies_lambdas}
-use Rattle.sch_closed.proofs.Standing.{size, size_each, size_lambdas}
+use Rattle.sch_closure.proofs.Standing.{size, size_each, size_lambdas}
 
 -- What is made of one part and then of another, after what was made before.
 both : (d xs : List Body) (ys : ℕ → List Body) (k : ℕ) (d' d'' : List Body) → d' ≡ d ++ xs → length xs ≡ k → d'' ≡ d' ++ ys (length d') → d'' ≡ d ++ (xs ++ ys (length d + k))

@@ -1,9 +1,8 @@
 -- What the walk over a tree adds to the bodies that it has made before, from the beginning of the text on.
 use Rattle.std.specs.Prelude.{List, [], ◌∷◌, ◌++◌, length}
-use Rattle.sch_cells.specs.Tree.{Tree, Trees, Lambdas, constant, literal, variable, global, set_variable, set_global, define, branch, sequence, bind}
-use Rattle.sch_cells.specs.Tree.{fix, letrec, lambda, call, operation, new_cells, cell_get, cell_set, no_trees, and_tree, no_lambdas, and_lambda}
+use Rattle.sch_cells.specs.Tree.{Tree, Trees, Lambdas, constant, literal, variable, global, set_variable, set_global, define, branch, sequence, bind, fix, letrec, lambda, call, operation, new_cells, cell_get, cell_set, no_trees, and_tree, no_lambdas, and_lambda}
 use Rattle.sch_flat.specs.Tree.{Body}
-use Rattle.sch_closed.specs.Closed.{body_of}
+use Rattle.sch_closure.specs.Closed.{body_of}
 
 -- the bodies of the procedures in a tree, after those made, of which there are as many as the first label
 abbrev mutual

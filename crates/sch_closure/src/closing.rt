@@ -4,8 +4,8 @@ ghost use Rattle.std.specs.Prelude.{◌≡◌, ◌+◌, ◌<◌, ◌^◌, ℕ, L
 ghost use Rattle.sch_cells.specs.View.{tree, trees_of, lambdas_of};
 ghost use Rattle.sch_cells.specs.Tree as plain;
 ghost use Rattle.sch_flat.specs.View as view;
-ghost use Rattle.sch_closed.specs.Closed.{place, placed, procedures, procedures_each, procedures_lambdas, fields_of, captured, closed, closed_each, made, made_each, starts};
-ghost use Rattle.sch_closed.specs.Fresh.{Stands, EachStands, LambdasStand};
+ghost use Rattle.sch_closure.specs.Closed.{place, placed, procedures, procedures_each, procedures_lambdas, fields_of, captured, closed, closed_each, made, made_each, starts};
+ghost use Rattle.sch_closure.specs.Fresh.{Stands, EachStands, LambdasStand};
 ghost use Rattle.sch_closure.specs.Walked.{with_bodies, with_bodies_each, with_bodies_lambdas};
 
 use sch_cells::{Exp, Lambda};

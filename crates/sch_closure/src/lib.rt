@@ -7,7 +7,7 @@ ghost use Rattle.sch_word.specs.values.StaticsView.{statics};
 ghost use Rattle.sch_cells.specs.Bodies.{bodies_of};
 ghost use Rattle.sch_cells.specs.BoxedMeaning.{run};
 ghost use Rattle.sch_cells.specs.ProgramView.{source};
-ghost use Rattle.sch_cells.specs.Measures.{call_sites_of, dropped_of, program_size, sites_of, tests_of};
+ghost use Rattle.sch_cells.specs.Measures.{call_sites_of, dropped_of, program_size, sites_of, tests_of, weight};
 ghost use Rattle.sch_cells.specs.Covered.{is_covered_program};
 ghost use Rattle.sch_cells.specs.Tree.{count_lambdas};
 ghost use Rattle.sch_cells.specs.View.{trees_of as trees};
@@ -16,15 +16,16 @@ ghost use Rattle.sch_flat.specs.ProgramView as view;
 ghost use Rattle.sch_flat.specs.Run as meaning;
 ghost use Rattle.sch_flat.specs.Covered as covered;
 ghost use Rattle.sch_flat.specs.View.{body, made, trees_of};
-ghost use Rattle.sch_closed.specs.Closed.{closed_source};
-ghost use Rattle.sch_closed.specs.Kept.{SameItems, flat_forms, forms_in, procedure_of, procedures_in, weight_after, weight_before};
+ghost use Rattle.sch_closure.specs.Closed.{closed_source};
+ghost use Rattle.sch_closure.specs.Kept.{SameItems, flat_forms, forms_in, procedure_of, procedures_in};
 
 mod closing;
+mod gathering;
 
 use crate::closing::{close_forms, close_lambdas};
+use crate::gathering::find_fields;
 use sch_cells::{Boxed, CellProgram};
 use sch_flat::{FlatProgram, Made};
-use sch_free::find_fields;
 use sch_word::{List, Mem};
 use std::alloc::Global;
 
@@ -55,7 +56,7 @@ pub fn close(alloc: Global, p: &CellProgram<Boxed>) -> Result<FlatProgram, Mem>
     ensures forms { IfOk result (λ q. flat_forms (trees_of q.forms) ≡ forms_in (trees p.now.forms)) }
     ensures size { IfOk result (λ q. measures.program_size (view.source q) ≡ program_size (source p.now)) }
     // It weighs what `p` does.
-    ensures weight { IfOk result (λ q. weight_after (view.source q) ≡ weight_before (source p.now)) }
+    ensures weight { IfOk result (λ q. measures.weight (view.source q) ≡ weight (source p.now)) }
     ensures covered { IfOk result (λ q. IsTrue (is_covered_program (source p.now)) → IsTrue (covered.is_covered_program (view.source q))) }
 {
     close_program(alloc, p)

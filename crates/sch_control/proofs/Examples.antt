@@ -9,7 +9,7 @@ use Rattle.sch_word.specs.values.Literals.{no_literals}
 use Rattle.sch_word.specs.values.Values.{fixnum, boolean, procedure}
 use Rattle.sch_word.specs.runs.Computation.{gives}
 use Rattle.sch_word.specs.runs.Runs.{Run, End, ended, going, starting_store, starting_state}
-use Rattle.sch_control.specs.declared.mark.MarkKind.TheVariants.{Save, Restore, Call, Return}
+use Rattle.sch_word.specs.declared.mark.MarkKind.TheVariants.{Save, Restore, Call, Return}
 use Rattle.sch_control.specs.declared.operation.Atom.TheVariants.{Constant, Variable}
 use Rattle.sch_control.specs.declared.operation.Operand.{Operand}
 use Rattle.sch_control.specs.declared.operation.Operand.TheVariants as operand

@@ -3,3 +3,7 @@ mod ReadingExamples
 mod ValidExamples
 mod CoveredExamples
 mod WorkExamples
+pub mod FittingTable
+pub mod OrderLists
+pub mod PlainMarks
+pub mod OrderExamples

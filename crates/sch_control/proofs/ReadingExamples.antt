@@ -4,8 +4,8 @@ use Rattle.std.specs.Prelude.{not, nat_eq, ◌||◌, cond}
 use Rattle.sch_word.specs.declared.primitive.Primitive.TheVariants.{IsNull}
 use Rattle.sch_word.specs.values.Values.{Value, procedure}
 use Rattle.sch_word.specs.runs.Computation.{gives}
-use Rattle.sch_control.specs.declared.mark.MarkKind.{MarkKind}
-use Rattle.sch_control.specs.declared.mark.MarkKind.TheVariants.{Enter, Save, Restore, Spill, Temp, Argument, Call, Return, Tail}
+use Rattle.sch_word.specs.declared.mark.MarkKind.{MarkKind}
+use Rattle.sch_word.specs.declared.mark.MarkKind.TheVariants.{Enter, Save, Restore, Spill, Temp, Argument, Call, Return, Tail}
 use Rattle.sch_control.specs.declared.operation.Operation.TheVariants as operation
 use Rattle.sch_control.specs.Tree.{Expression, perform, bind, branch, fix, call, tail_call, return, save}
 use Rattle.sch_control.specs.Meaning.{Result, Reading, do_body, entry_environment}

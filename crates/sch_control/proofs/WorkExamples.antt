@@ -1,12 +1,10 @@
--- Worked rows of how much there is to do in bodies, and of what nodes add to it.
-use Rattle.std.proofs.Common.{◌≡◌, ◌+◌, refl, false, [], ◌∷◌, map}
-use Rattle.sch_word.specs.declared.constant.Const.TheVariants.{Nil}
-use Rattle.sch_word.specs.declared.primitive.Primitive.TheVariants.{Add}
-use Rattle.sch_word.specs.trees.Shape.{Made, Procedure, constant, literal, variable, global, set_variable, set_global, define, branch, sequence, bind, fix, letrec, lambda, call, operation, new_cells, cell_get, cell_set, field, make_closure, fix_closures}
-use Rattle.sch_control.specs.Sizes.{most_variables}
-use Rattle.sch_control.specs.NodeWeights.{weight_of}
+-- Worked rows of what is counted of bodies.
+use Rattle.std.proofs.Common.{◌≡◌, ◌+◌, refl, true, false, [], ◌∷◌, map}
+use Rattle.sch_control.specs.declared.operation.Operation.TheVariants as operation
+use Rattle.sch_control.specs.Sizes.{bind_within, dropped_in, dropped_of, most_variables, tests_in, tests_of}
+use Rattle.sch_control.specs.Tree as tree
 use Rattle.sch_control.specs.Work.{code_work, codes_work, expression_work}
-use Rattle.sch_control.proofs.Examples.{around, looping, taking}
+use Rattle.sch_control.proofs.Examples.{around, looping, number, shown, taking}
 
 -- a form with a group of two closures of one field each (5), a call of one operand (9) that is bound (1) and shown (3);
 -- and two procedures of one formal (4), each with a branch (3) over 3, 3 and 14
@@ -27,20 +25,35 @@ most_row = refl
 none_row : most_variables [] ≡ 0
 none_row = refl
 
--- ## Weights
+-- the form has five variables and its procedure four, the return address and the closure among them
+within_row : bind_within taking.bodies (3 ∷ 2 ∷ []) ≡ true
+within_row = refl
 
-abbrev of_two : Procedure
-of_two = record { name = []; formals = 2; rest = false; free = 3; variables = 2 }
+too_few_row : bind_within taking.bodies (2 ∷ 2 ∷ []) ≡ false
+too_few_row = refl
 
-abbrev made : Made
-made = record { label = 0; fields = 3 }
+one_more_row : bind_within taking.bodies (3 ∷ 2 ∷ 0 ∷ []) ≡ false
+one_more_row = refl
 
-plain_weights : map weight_of (constant Nil ∷ literal 0 ∷ variable ∷ field ∷ global 0 ∷ set_variable ∷ set_global 0 ∷ define 0 ∷ branch ∷ cell_get ∷ cell_set ∷ []) ≡ 2 ∷ 2 ∷ 2 ∷ 2 ∷ 1 ∷ 2 ∷ 3
-    ∷ 3 ∷ 4 ∷ 2 ∷ 4 ∷ []
-plain_weights = refl
+-- ## Tests and dropped atoms
 
-counted_weights : map weight_of (sequence 0 0 ∷ sequence 1 0 ∷ sequence 3 1 ∷ bind 0 2 ∷ letrec 0 2 ∷ call 0 2 false ∷ operation 0 Add 2 ∷ new_cells 2 ∷ []) ≡ 2 ∷ 0 ∷ 2 ∷ 2 ∷ 2 ∷ 16 ∷ 5 ∷ 6 ∷ []
-counted_weights = refl
+-- each procedure has one test, and the form none
+tests_row : tests_of looping.bodies ≡ 2
+tests_row = refl
 
-procedure_weights : map weight_of (lambda of_two ∷ fix 2 (of_two ∷ of_two ∷ []) ∷ make_closure made ∷ fix_closures 2 (made ∷ made ∷ []) ∷ []) ≡ 10 ∷ 21 ∷ 4 ∷ 9 ∷ []
-procedure_weights = refl
+abbrev one : tree.Expression
+one = tree.perform (operation.Operand (number 1))
+
+abbrev field_read : tree.Expression
+field_read = tree.perform (operation.Field 1 0)
+
+-- (if (if 1 1 1) 1 (if 1 1 1)), with a field for one of the atoms
+nested_tests : tests_in (tree.branch (tree.branch one one one) field_read (tree.branch one one one)) ≡ 3
+nested_tests = refl
+
+-- 1 and a field are dropped where they stand before a last part; what is shown is not
+dropped_row : dropped_in (tree.sequence one (tree.sequence (shown 0 (number 2)) (tree.sequence field_read one))) ≡ 2
+dropped_row = refl
+
+none_dropped : dropped_of taking.bodies ≡ 0
+none_dropped = refl

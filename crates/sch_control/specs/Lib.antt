@@ -3,8 +3,8 @@ pub mod Covered
 pub mod CoveredOperands
 pub mod Fits
 pub mod Meaning
-pub mod NodeWeights
 pub mod Operations
+pub mod OrderTable
 pub mod ProgramView
 pub mod Run
 pub mod Sizes

@@ -6,8 +6,8 @@ use Rattle.sch_word.specs.trees.NumberSets.{has, unless}
 use Rattle.sch_word.specs.values.Checked.{Checked, passes, refused, exhausted, unreachable}
 use Rattle.sch_word.specs.runs.Computation.{unreached, Outcome, gives, stops, spent, State, in_store, procedures_from, Entry, checked_call}
 use Rattle.sch_word.specs.runs.Charges.{charge_each}
-use Rattle.sch_control.specs.declared.mark.MarkKind.{MarkKind}
-use Rattle.sch_control.specs.declared.mark.MarkKind.TheVariants.{Save, Restore, Spill, Call, Return, Tail}
+use Rattle.sch_word.specs.declared.mark.MarkKind.{MarkKind}
+use Rattle.sch_word.specs.declared.mark.MarkKind.TheVariants.{Save, Restore, Spill, Call, Return, Tail}
 use Rattle.sch_control.specs.declared.operation.Member.{Member}
 use Rattle.sch_control.specs.Tree.{Expression, perform, bind, sequence, branch, fix, call, tail_call, return, end, save}
 use Rattle.sch_control.specs.Operations.{Procedure, Ending, part_values, operate, member_bytes, members_made, with_procedures}

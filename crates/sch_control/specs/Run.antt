@@ -5,7 +5,7 @@ use Rattle.sch_word.specs.values.Values.{Value, unspecified}
 use Rattle.sch_word.specs.runs.Computation.{gives, spent, in_store, take_entry}
 use Rattle.sch_word.specs.runs.Charges.{fit}
 use Rattle.sch_word.specs.runs.Runs.{Run, Statics, seen_in, starting_store, starting_state}
-use Rattle.sch_control.specs.declared.mark.MarkKind.TheVariants.{Enter}
+use Rattle.sch_word.specs.declared.mark.MarkKind.TheVariants.{Enter}
 use Rattle.sch_control.specs.declared.body.Entry.{Entry}
 use Rattle.sch_control.specs.Tree.{Code, Source}
 use Rattle.sch_control.specs.Operations.{Procedure}

@@ -1,5 +1,6 @@
--- Sizes of expressions: how much there is to do; and how many variables bodies have.
-use Rattle.std.specs.Prelude.{ℕ, suc, ◌+◌, max, List, [], ◌∷◌, length}
+-- What is counted of expressions: how much there is to do, how many tests there are, and how many atoms are dropped;
+-- and how many variables bodies have.
+use Rattle.std.specs.Prelude.{ℕ, suc, ◌+◌, Bool, true, false, ◌&&◌, cond, max, nat_le, List, [], ◌∷◌, length}
 use Rattle.sch_control.specs.declared.operation.Operand.{Operand}
 use Rattle.sch_control.specs.declared.operation.Operand.TheVariants as operand
 use Rattle.sch_control.specs.declared.operation.Operation.{Operation}
@@ -39,7 +40,54 @@ abbrev pub expressions_size : List Code → ℕ
 expressions_size [] = 0
 expressions_size (c ∷ codes) = expression_size c.expression + expressions_size codes
 
+-- ## Tests
+
+abbrev pub tests_in : Expression → ℕ
+tests_in (bind x a b) = tests_in a + tests_in b
+tests_in (sequence a b) = tests_in a + tests_in b
+tests_in (branch a b c) = suc (tests_in a + (tests_in b + tests_in c))
+tests_in (fix members e) = tests_in e
+tests_in (return e) = tests_in e
+tests_in (end e) = tests_in e
+tests_in (save saves e) = tests_in e
+tests_in _ = 0
+
+abbrev pub tests_of : List Code → ℕ
+tests_of [] = 0
+tests_of (c ∷ codes) = tests_in c.expression + tests_of codes
+
+-- ## Dropped atoms
+
+-- an atom, or a field of the closure, which is a variable too
+abbrev pub is_bare_atom : Expression → Bool
+is_bare_atom (perform (operation.Operand (operand.Atom a))) = true
+is_bare_atom (perform (operation.Field v k)) = true
+is_bare_atom _ = false
+
+-- how many parts of sequences before the last are atoms
+abbrev pub dropped_in : Expression → ℕ
+dropped_in (bind x a b) = dropped_in a + dropped_in b
+dropped_in (sequence a b) = cond (is_bare_atom a) 1 0 + (dropped_in a + dropped_in b)
+dropped_in (branch a b c) = dropped_in a + (dropped_in b + dropped_in c)
+dropped_in (fix members e) = dropped_in e
+dropped_in (return e) = dropped_in e
+dropped_in (end e) = dropped_in e
+dropped_in (save saves e) = dropped_in e
+dropped_in _ = 0
+
+abbrev pub dropped_of : List Code → ℕ
+dropped_of [] = 0
+dropped_of (c ∷ codes) = dropped_in c.expression + dropped_of codes
+
+-- ## Variables
+
 -- the most variables of a body, with its return address and its closure, and 0 where there is no body
 abbrev pub most_variables : List Code → ℕ
 most_variables [] = 0
 most_variables (c ∷ codes) = max c.variables (most_variables codes)
+
+-- as many bodies as numbers, each with no more variables than its number beside the return address and the closure
+abbrev pub bind_within : List Code → List ℕ → Bool
+bind_within [] [] = true
+bind_within (c ∷ codes) (n ∷ ns) = nat_le c.variables (2 + n) && bind_within codes ns
+bind_within _ _ = false

@@ -3,13 +3,14 @@
 #![tactic(auto)]
 
 mod body;
-mod mark;
 mod operation;
+mod order_table;
 mod program;
+mod program_orders;
 mod tree;
 
 pub use body::{Body, Entry};
-pub use mark::MarkKind;
 pub use operation::{Application, Atom, Closure, Member, Operand, Operation, Source};
 pub use program::ControlProgram;
+pub use program_orders::{a_table_that_fits_is_an_order_table, given_orders};
 pub use tree::Exp;

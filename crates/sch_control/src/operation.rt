@@ -1,7 +1,7 @@
 //! What needs no control: values, and what is done with them. `V` says where a value stands: a variable of
 //! a body by its number, or a place of a frame.
 
-use sch_word::{Const, List, Prim};
+use sch_word::{Const, List, Primitive};
 
 /// A value that takes no work.
 #[derive(Clone, Copy)]
@@ -17,7 +17,7 @@ pub enum Atom<V> {
 #[derive(Drop)]
 pub enum Operand<V> {
     Atom(Atom<V>),
-    Read(u32, Prim, List<Atom<V>>),
+    Read(u32, Primitive, List<Atom<V>>),
 }
 
 /// What a closure captures, or a cell that is read or set: an atom, or a field of the closure that stands
@@ -47,7 +47,7 @@ pub struct Member<V> {
 pub enum Operation<V> {
     Operand(Operand<V>),
     /// A primitive, at its site.
-    Prim(u32, Prim, List<Operand<V>>),
+    Prim(u32, Primitive, List<Operand<V>>),
     Global(u32),
     SetGlobal(u32, Operand<V>),
     /// A field of the closure that stands in `V`.

@@ -4,11 +4,11 @@ use Rattle.std.proofs.lemmas.Bool.{and_from, lt-ltb}
 use Rattle.std.proofs.lemmas.List.{map-append, append_assoc}
 use Rattle.std.specs.Borrow.{Bor}
 use Rattle.sch_word.specs.values.Values.{are_bytes}
-use Rattle.sch_numbers.specs.Programs.{is_hidden, seen}
+use Rattle.sch_link_tables.specs.Programs.{is_hidden, seen}
 use Rattle.sch_toplevel.specs.Views.{given}
 use Rattle.sch_word.proofs.facts.Lists.{next_left}
-use Rattle.sch_keeping.specs.Definitions.{definitions_of}
-use Rattle.sch_keeping.specs.declared.definition.Definition.{Definition}
+use Rattle.sch_link_program.specs.Definitions.{definitions_of}
+use Rattle.sch_link_program.specs.declared.definition.Definition.{Definition}
 
 pub bytes_known : (xs : List ℕ) → ((i : ℕ) → get_or xs i 0 < 256) → are_bytes xs ≡ true
 bytes_known [] h = refl

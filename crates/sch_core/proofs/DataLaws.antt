@@ -6,12 +6,13 @@ use Rattle.sch_read.specs.Grammar.{Data}
 use Rattle.sch_sketch.specs.Draft.{Drafts}
 use Rattle.sch_sketch.specs.declared.fault.Fault.{Fault}
 use Rattle.sch_sketch.specs.declared.fault.Fault.TheVariants as fault
-use Rattle.sch_numbers.specs.Programs.{Definition, seen, program_of}
+use Rattle.sch_link_tables.specs.Programs.{Definition, seen, program_of}
 use Rattle.sch_toplevel.specs.Forms.{own_names, form_places}
 use Rattle.sch_toplevel.specs.Texts.{TextExpands, IsFaultOf, IsRead}
 use Rattle.sch_toplevel.proofs.TextLaws.{text_read, text_made, text_fault, names_one, text_one, text_clean, text_fault_one}
 use Rattle.sch_core.specs.Answer.{IsErrorFor, IsErrorIn}
-use Rattle.sch_core.specs.Programs.{IsProgramOf, ExceedsAt, excess, at_place, first_excess}
+use Rattle.sch_core.specs.Programs.{IsProgramOf, ExceedsAt}
+use Rattle.sch_core.specs.Excess.{excess, at_place, first_excess}
 use Rattle.sch_core.specs.declared.error.CoreError.{CoreError}
 use Rattle.sch_core.specs.declared.error.CoreError.TheVariants as errors
 use Rattle.sch_core.specs.declared.error.Kind.{Kind}

@@ -8,7 +8,7 @@ use Rattle.sch_sketch.specs.Draft.{Draft}
 use Rattle.sch_sketch.specs.Sketch.{text}
 use Rattle.sch_expansion.specs.Expands.{Expands}
 use Rattle.sch_expansion.specs.Faults.{HasFault}
-use Rattle.sch_core.specs.Laws.{NoFault, FaultOrDraft}
+use Rattle.sch_core.specs.ExpansionLaws.{NoFault, FaultOrDraft}
 use Rattle.sch_expansion.specs.Reads.{Reads}
 use Rattle.sch_expansion.proofs.Best.{none_some}
 use Rattle.sch_expansion.proofs.Readings.{clean, read_best, read_made, is_read}

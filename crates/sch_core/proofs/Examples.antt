@@ -5,9 +5,9 @@ use Rattle.sch_lang.specs.Tree.{constant, lambda, no_expressions, and_expression
 use Rattle.sch_core.specs.declared.error.Kind.{Kind}
 use Rattle.sch_core.specs.declared.error.Kind.TheVariants.{Variables}
 use Rattle.sch_sketch.specs.Draft as draft
-use Rattle.sch_numbers.specs.Programs.{Definition}
-use Rattle.sch_core.specs.Libraries.{first_definition_excess}
-use Rattle.sch_core.specs.Programs.{excess, first_excess}
+use Rattle.sch_link_tables.specs.Programs.{Definition}
+use Rattle.sch_core.specs.Excess.{first_definition_excess}
+use Rattle.sch_core.specs.Excess.{excess, first_excess}
 
 most_variables : excess 1000 (constant Nil) ≡ None
 most_variables = refl

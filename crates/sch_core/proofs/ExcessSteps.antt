@@ -4,9 +4,9 @@ use Rattle.std.proofs.lemmas.List.{drop_all}
 use Rattle.sch_lang.specs.declared.tree.Exp.{Exp}
 use Rattle.sch_lang.specs.Tree.{no_expressions}
 use Rattle.sch_lang.specs.View.{expression}
-use Rattle.sch_limits.proofs.Lists.{left, next_expression, no_expression}
+use Rattle.sch_variable_counts.proofs.ListsLeft.{left, next_expression, no_expression}
 use Rattle.sch_core.specs.declared.error.Kind.{Kind}
-use Rattle.sch_core.specs.Programs.{excess, first_excess}
+use Rattle.sch_core.specs.Excess.{excess, first_excess}
 
 no_place : (places : List ℕ) → first_excess places no_expressions ≡ None
 no_place [] = refl

@@ -1,11 +1,15 @@
 pub mod Bytes
 pub mod Nesting
 pub mod ExcessSteps
-pub mod Numberless
-pub mod TextSizes
-pub mod ValidTexts
-pub mod Answering
+pub mod ExcessWithoutNumbers
+pub mod texts
 pub mod DatumLaws
 pub mod DataLaws
 pub mod items
 mod Examples
+pub mod drafts
+pub mod sizes
+pub mod notions
+pub mod numbered
+pub mod programs
+mod ValidityExamples

@@ -7,7 +7,7 @@ use Rattle.sch_read.specs.Grammar.{Data, none, cons}
 use Rattle.sch_read.specs.Levels.{depth, depths}
 use Rattle.sch_read.specs.Text.{max_nesting}
 use Rattle.sch_read.specs.Views.{tree_of, data_of}
-use Rattle.sch_validity.specs.Sizes.{datum_in_range, data_in_range, AllQuotable}
+use Rattle.sch_core.specs.Quotable.{datum_in_range, data_in_range, AllQuotable}
 use Rattle.sch_word.proofs.facts.Lists.{next_left}
 
 module _ (items : List code.Datum) (i : ℕ) (d : code.Datum) (l : i < length items) (e : d ≡ get_or items i d) where

@@ -3,7 +3,7 @@ use Rattle.std.specs.Prelude.{◌≡◌, List}
 use Rattle.sch_read.specs.Grammar.{Data}
 use Rattle.sch_sketch.specs.declared.fault.Fault.{Fault}
 use Rattle.sch_sketch.specs.declared.fault.Fault.TheVariants as fault
-use Rattle.sch_numbers.specs.Programs.{Definition, seen}
+use Rattle.sch_link_tables.specs.Programs.{Definition, seen}
 use Rattle.sch_toplevel.specs.Texts.{IsFaultOf}
 use Rattle.sch_core.specs.declared.error.CoreError.{CoreError}
 use Rattle.sch_core.specs.declared.error.CoreError.TheVariants as errors

@@ -1,5 +1,11 @@
-pub mod Programs
 pub mod Answer
-pub mod Laws
+pub mod Excess
+pub mod ExpansionLaws
 pub mod Libraries
-pub mod SoundLibraries
+pub mod LibraryDefinitions
+pub mod Programs
+pub mod Quotable
+pub mod SizesOfStatics
+pub mod SoundDrafts
+pub mod TextForms
+pub mod ValidityLaws

@@ -1,32 +1,17 @@
 -- The definitions that the items of a library stand for, and why they have none.
-use Rattle.std.specs.Prelude.{◌≡◌, ◌≤◌, ℕ, List, [], ◌∷◌, Option, Some, None}
+use Rattle.std.specs.Prelude.{◌≡◌, ◌≤◌, ℕ, List, [], Some, None}
 use Rattle.sch_read.specs.Grammar.{Data}
 use Rattle.sch_sketch.specs.declared.fault.Fault.{Fault}
 use Rattle.sch_sketch.specs.Draft.{Draft}
 use Rattle.sch_expansion.specs.FaultOrder.{rank}
-use Rattle.sch_numbers.specs.Numbered.{numbered}
-use Rattle.sch_numbers.specs.Programs.{Definition}
+use Rattle.sch_link_tables.specs.Programs.{Definition}
 use Rattle.sch_toplevel.specs.Items.{item_places, ItemsExpand, ItemHasFault, ItemsRead}
 use Rattle.sch_core.specs.declared.error.CoreError.{CoreError}
 use Rattle.sch_core.specs.declared.error.CoreError.TheVariants as errors
 use Rattle.sch_core.specs.declared.error.Kind.{Kind}
 use Rattle.sch_core.specs.declared.error.Kind.TheVariants as kinds
 use Rattle.sch_core.specs.Answer.{IsErrorFor}
-use Rattle.sch_core.specs.Programs.{excess, at_place}
-
--- what the procedure of a definition has too much of; the numbers of its globals, sites and literals are all one
-abbrev pub definition_excess : Definition → Option Kind
-definition_excess d = excess d.formals (numbered [] [] [] None d.body 0 0)
-
--- no procedure has too much of anything
-abbrev pub AreFew : List Definition → Type 0
-AreFew [] = Unit {0}
-AreFew (d ∷ ds) = (definition_excess d ≡ None) × AreFew ds
-
--- the first definition that has too much of something, and its place
-abbrev pub first_definition_excess : (places : List ℕ) → List Definition → Option (Kind × ℕ)
-first_definition_excess (at ∷ places) (d ∷ ds) = at_place at (definition_excess d) (first_definition_excess places ds)
-first_definition_excess _ _ = None
+use Rattle.sch_core.specs.Excess.{first_definition_excess}
 
 -- the definitions of items without a fault, none of which has too much of anything
 pub record IsLibraryOf (items : Data) (ds : List Definition) : Type 0 where

@@ -2,25 +2,26 @@
 
 ghost use Rattle.std.specs.Prelude.{◌≡◌, ◌≤◌, ◌*◌, Some, map, IfOk, IfErr, MatchResult, List as Listed};
 ghost use Rattle.sch_names.specs.ScopeView.{one_name, given_names};
-ghost use Rattle.sch_numbers.specs.Programs as words;
-ghost use Rattle.sch_numbers.specs.Programs.{names_of_each};
-ghost use Rattle.sch_keeping.specs.Definitions.{definition_of, definitions_of};
-ghost use Rattle.sch_linking.specs.Size.{size_of_definitions};
+ghost use Rattle.sch_link_tables.specs.Programs as words;
+ghost use Rattle.sch_link_tables.specs.Programs.{names_of_each};
+ghost use Rattle.sch_link_program.specs.Definitions.{definition_of, definitions_of};
+ghost use Rattle.sch_link_program.specs.Size.{size_of_definitions};
 ghost use Rattle.sch_read.specs.Valid.{max_weight, weights};
 ghost use Rattle.sch_read.specs.Views.{data_of};
 ghost use Rattle.sch_sketch.specs.DraftView.{draft_of};
-ghost use Rattle.sch_validity.specs.Library.{procedure_of};
-ghost use Rattle.sch_core.specs.Libraries.{IsLibraryOf, IsLibraryError, definition_excess, first_definition_excess};
+ghost use Rattle.sch_core.specs.LibraryDefinitions.{procedure_of};
+ghost use Rattle.sch_core.specs.Libraries.{IsLibraryOf, IsLibraryError};
+ghost use Rattle.sch_core.specs.Excess.{definition_excess, first_definition_excess};
 ghost use Rattle.sch_toplevel.specs.Items.{item_places};
 
 use crate::error::{CoreError, Kind, error_of};
 use crate::libraries::Library;
 use crate::limits::excess;
 use crate::quotable::are_quotable;
-use sch_keeping::Definition;
+use sch_link_drafts::{Numbers, number};
+use sch_link_program::Definition;
+use sch_link_tables::{Output, number_of_32};
 use sch_names::{Name, Names};
-use sch_numbering::{Numbers, number};
-use sch_numbers::{Output, number_of_32};
 use sch_read::Datum;
 use sch_sketch::Draft;
 use sch_toplevel::{Items, read_items};

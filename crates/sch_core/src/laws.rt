@@ -2,11 +2,11 @@
 
 ghost use Rattle.std.specs.Prelude.{◌≡◌, ◌≢◌, ◌⊎◌, List};
 ghost use Rattle.sch_lang.specs.Tree.{Source};
-ghost use Rattle.sch_numbers.specs.Programs.{Definition};
+ghost use Rattle.sch_link_tables.specs.Programs.{Definition};
 ghost use Rattle.sch_read.specs.Grammar.{Data};
 ghost use Rattle.sch_core.specs.declared.error.CoreError.{CoreError as TheError};
 ghost use Rattle.sch_core.specs.Answer.{IsErrorIn};
-ghost use Rattle.sch_core.specs.Laws.{AtMostOne, NoFault, FaultOrDraft};
+ghost use Rattle.sch_core.specs.ExpansionLaws.{AtMostOne, NoFault, FaultOrDraft};
 ghost use Rattle.sch_core.specs.Programs.{IsProgramOf};
 
 use crate::error::CoreError;

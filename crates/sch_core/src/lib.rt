@@ -9,6 +9,7 @@ mod libraries;
 mod library_laws;
 mod limits;
 mod quotable;
+mod validity;
 
 pub use definitions::library;
 pub use error::{CoreError, Kind};
@@ -20,4 +21,8 @@ pub use laws::{
 pub use libraries::Library;
 pub use library_laws::{
     items_have_a_library_or_an_error, items_have_one_error, items_have_one_library,
+};
+pub use validity::{
+    constants_are_of_data, items_are_definitions, program_of_text_is_not_large,
+    program_of_text_is_valid,
 };

@@ -1,12 +1,12 @@
 //! Libraries.
 
 ghost use Rattle.std.specs.Prelude.{◌≡◌, [], IfOk};
-ghost use Rattle.sch_keeping.specs.Definitions.{definitions_of};
-ghost use Rattle.sch_numbers.specs.Programs.{seen};
-ghost use Rattle.sch_core.specs.SoundLibraries.{IsSoundLibrary};
+ghost use Rattle.sch_link_program.specs.Definitions.{definitions_of};
+ghost use Rattle.sch_link_tables.specs.Programs.{seen};
+ghost use Rattle.sch_core.specs.LibraryDefinitions.{IsSoundLibrary};
 ghost use Rattle.sch_toplevel.specs.Views.{given};
 
-use sch_keeping::{Definition, is_hidden};
+use sch_link_program::{Definition, is_hidden};
 use sch_word::{List, Mem};
 use std::alloc::Global;
 

@@ -1,7 +1,7 @@
 //! Laws of libraries, as contracts of functions that do nothing.
 
 ghost use Rattle.std.specs.Prelude.{◌≡◌, ◌≢◌, ◌⊎◌, List};
-ghost use Rattle.sch_numbers.specs.Programs.{Definition};
+ghost use Rattle.sch_link_tables.specs.Programs.{Definition};
 ghost use Rattle.sch_read.specs.Grammar.{Data};
 ghost use Rattle.sch_core.specs.declared.error.CoreError.{CoreError as TheError};
 ghost use Rattle.sch_core.specs.Libraries.{IsLibraryOf, IsLibraryError};

@@ -2,11 +2,11 @@
 
 ghost use Rattle.std.specs.Prelude.{◌≡◌, map, option_map, IfOk};
 ghost use Rattle.sch_lang.specs.View.{expression, expressions_of};
-ghost use Rattle.sch_core.specs.Programs.{excess, first_excess};
+ghost use Rattle.sch_core.specs.Excess.{excess, first_excess};
 
 use crate::error::Kind;
 use sch_lang::Exp;
-use sch_limits::{has_few_free, has_few_variables};
+use sch_variable_counts::{has_few_free, has_few_variables};
 use sch_word::Mem;
 use std::alloc::Global;
 

@@ -6,7 +6,7 @@ ghost use Rattle.sch_word.specs.values.Fixnum.{is_fixnum};
 ghost use Rattle.sch_word.specs.values.Values.{is_byte, are_bytes};
 ghost use Rattle.sch_read.specs.Levels.{depth, depths};
 ghost use Rattle.sch_read.specs.Views.{tree_of, data_of, atom_of};
-ghost use Rattle.sch_validity.specs.Sizes.{atom_in_range, datum_in_range, data_in_range, AllQuotable};
+ghost use Rattle.sch_core.specs.Quotable.{atom_in_range, datum_in_range, data_in_range, AllQuotable};
 
 use sch_read::{Atom, Datum, MAX_NESTING, Node};
 use sch_word::Fix;

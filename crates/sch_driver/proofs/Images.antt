@@ -38,7 +38,7 @@ use Rattle.sch_frames.specs.Does.{Follows, SameRuns}
 use Rattle.sch_frames.specs.Run as frames_run
 use Rattle.sch_frames.specs.Tree as frames
 use Rattle.sch_runtime.specs.Code.{routine_items}
-use Rattle.sch_statics.specs.Data.{heap_of}
+use Rattle.sch_select_data.specs.Data.{heap_of}
 use Rattle.sch_select.specs.Ends.{EndsWithin}
 use Rattle.sch_layout.specs.OwnSlots.{slots_code}
 use Rattle.sch_frames.specs.Run.{entries_of}

@@ -3,7 +3,7 @@ use Rattle.std.proofs.Common.{◌≡◌, ℕ, List, sym, subst}
 use Rattle.sch_read.specs.Grammar.{Data}
 use Rattle.sch_read.specs.Text.{Spells}
 use Rattle.sch_read.proofs.texts.TextAnswers.{spells_one}
-use Rattle.sch_numbers.specs.Programs.{Definition}
+use Rattle.sch_link_tables.specs.Programs.{Definition}
 use Rattle.sch_core.specs.Libraries.{IsLibraryOf}
 use Rattle.sch_core.specs.Programs.{IsProgramOf}
 use Rattle.sch_core.proofs.DataLaws.{one_program}

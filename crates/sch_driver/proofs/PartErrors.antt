@@ -4,7 +4,7 @@ use Rattle.sch_read.specs.Grammar.{Data}
 use Rattle.sch_read.specs.Text.{Spells}
 use Rattle.sch_read.specs.declared.error.ReadError.{ReadError}
 use Rattle.sch_read.specs.declared.error.ReadError.TheVariants as read
-use Rattle.sch_numbers.specs.Programs.{Definition}
+use Rattle.sch_link_tables.specs.Programs.{Definition}
 use Rattle.sch_core.specs.declared.error.CoreError.{CoreError}
 use Rattle.sch_core.specs.declared.error.CoreError.TheVariants as core
 use Rattle.sch_driver.specs.declared.error.Part.{Part}

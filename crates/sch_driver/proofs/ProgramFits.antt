@@ -13,10 +13,8 @@ use Rattle.sch_control.specs.Fits.{table_fits}
 use Rattle.sch_control.specs.ProgramView.{source}
 use Rattle.sch_control.specs.SourceView.{codes_of}
 use Rattle.sch_control.specs.Valid.{code_valid, sites_of_each}
-use Rattle.sch_normal.specs.Counted.{bind_within}
-use Rattle.sch_normal.specs.Dropped.{dropped_of}
-use Rattle.sch_normal.specs.Tests.{tests_of}
-use Rattle.sch_orders.specs.Table.{given_table}
+use Rattle.sch_control.specs.Sizes.{bind_within, dropped_of, tests_of}
+use Rattle.sch_control.specs.OrderTable.{given_table}
 use Rattle.sch_passes.specs.Chain.{RunsAs, control_of}
 use Rattle.sch_driver.specs.FitsProgram.{FitsProgram}
 

@@ -18,7 +18,7 @@ use Rattle.sch_control.specs.Tree.{Source}
 use Rattle.sch_control.specs.Run.{run}
 use Rattle.sch_layout.specs.LayoutSizes.{most_words}
 use Rattle.sch_frames.specs.Valid.{max_words}
-use Rattle.sch_statics.specs.Data.{heap_of}
+use Rattle.sch_select_data.specs.Data.{heap_of}
 use Rattle.sch_select.specs.Ends.{EndsWithin}
 use Rattle.sch_select.specs.Program.{frames_bytes, max_stack, stack_bytes}
 use Rattle.sch_driver.specs.Causes.{text_base}

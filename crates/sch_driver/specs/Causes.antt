@@ -14,7 +14,7 @@ use Rattle.sch_core.specs.declared.error.CoreError.{CoreError}
 use Rattle.sch_core.specs.declared.error.CoreError.TheVariants as core
 use Rattle.sch_core.specs.Libraries.{IsLibraryOf, IsLibraryError}
 use Rattle.sch_core.specs.Programs.{IsProgramOf}
-use Rattle.sch_numbers.specs.Programs.{Definition}
+use Rattle.sch_link_tables.specs.Programs.{Definition}
 use Rattle.sch_control.specs.Tree as control
 use Rattle.sch_layout.specs.LayoutSizes.{most_words}
 use Rattle.sch_frames.specs.Valid.{max_words}

@@ -11,8 +11,8 @@ use Rattle.sch_control.specs.Tree as control
 use Rattle.sch_frames.specs.Valid.{max_words}
 use Rattle.sch_layout.specs.OwnSlots.{slots_code}
 use Rattle.sch_layout.specs.LayoutSizes.{most_words}
-use Rattle.sch_orders.specs.Table.{given_table}
-use Rattle.sch_statics.specs.Data.{heap_of}
+use Rattle.sch_control.specs.OrderTable.{given_table}
+use Rattle.sch_select_data.specs.Data.{heap_of}
 use Rattle.sch_select.specs.Ends.{EndsWithin}
 use Rattle.sch_select.specs.Program.{frames_bytes, max_stack, stack_bytes}
 use Rattle.sch_select.specs.Sizes.{kinds_of}

@@ -3,7 +3,7 @@ use Rattle.std.specs.Prelude.{◌≡◌, ℕ, List}
 use Rattle.sch_read.specs.Answer as reading
 use Rattle.sch_read.specs.Grammar.{Data}
 use Rattle.sch_read.specs.declared.error.ReadError.{ReadError}
-use Rattle.sch_numbers.specs.Programs.{Definition}
+use Rattle.sch_link_tables.specs.Programs.{Definition}
 use Rattle.sch_core.specs.Answer as expanding
 use Rattle.sch_core.specs.Libraries.{IsLibraryError}
 use Rattle.sch_core.specs.declared.error.CoreError.{CoreError}

@@ -62,7 +62,8 @@ pub(crate) fn assemble(
     ensures marks { IfOk result (λ a. map (λ m. m.kind) a.marks ≡ kinds_of 0 (map slots_code (source p).bodies)) }
     ensures refused { IfErr result (IsUnfit (source p) limits.depth) }
 {
-    // Taken before the frames, so that it lies below them on the heap, and what is above can be given back.
+    // The names outlive the bodies and the frames. Their room is taken first, so that it lies below these on the heap: what
+    // is let go then lies in one piece at its end, and the passes behind take their memory from it again.
     let room = room_for_names(alloc, &p)?;
     let frames = frame_program(alloc, &p)?;
     let bodies = names_of(room, p)?;

@@ -17,8 +17,8 @@ use crate::reading::read_program;
 pub use error::{CompileError, Part};
 pub use laws::a_text_has_one_meaning;
 pub use listing::{Compiled, Cycle, Listing};
+use sch_control::given_orders;
 use sch_elf::write_image;
-use sch_orders::given_orders;
 use sch_passes::control_program;
 use sch_prelude::library_text;
 use sch_word::{Limits, List};
@@ -33,7 +33,7 @@ pub const MAX_SOURCE_SIZE: u64 = 1 << 20;
 /// An error has its cause in the text, or in that of the library, or is out of memory. No pass is quadratic in the text.
 pub fn compile(alloc: Global, text: &[u8], limits: Limits) -> Result<Compiled, CompileError>
     requires short { length text.now ≤ max_source_size }
-    ensures compiled { IfOk result (λ c. IsCompiled library_text text.now limits.heap limits.depth c.image c.listing) }
+    ensures compiled { IfOk result (λ c. IsCompiled library_text text.now limits.heap limits.depth c.file c.listing) }
     ensures refused { IfErr result (IsErrorOf library_text text.now limits.depth) }
 {
     let program = read_program(alloc, library_text(), text)?;
@@ -43,7 +43,7 @@ pub fn compile(alloc: Global, text: &[u8], limits: Limits) -> Result<Compiled, C
     let assembled = assemble(alloc, control, limits)?;
     let file = write_image(alloc, &assembled.image)?;
     Ok(Compiled {
-        image: file,
+        file,
         listing: Listing {
             bodies: assembled.bodies,
             orders,

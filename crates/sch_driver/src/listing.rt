@@ -41,7 +41,8 @@ pub struct Listing {
 /// The file of a compiled program, and its listing.
 #[derive(Drop)]
 pub struct Compiled {
-    pub image: Bytes,
+    /// The bytes of the file: an ELF-64 executable for x86-64.
+    pub file: Bytes,
     pub listing: Listing,
 }
 

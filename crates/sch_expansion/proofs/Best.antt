@@ -1,6 +1,7 @@
 -- The fault that is found is the least.
 use Rattle.std.proofs.Common.{◌≡◌, ◌⊎◌, inl, inr, ◌≤◌, Bool, true, false, cond, Option, Some, None, nat_le, refl, sym, ◌∙◌, arith}
 use Rattle.std.proofs.lemmas.Bool.{leb-true, leb-false}
+use Rattle.sch_word.proofs.facts.Lists.{some_same}
 use Rattle.sch_sketch.specs.declared.fault.Fault.{Fault}
 use Rattle.sch_expansion.specs.FaultOrder.{rank, reported}
 
@@ -36,18 +37,15 @@ best_by to back p = record {
   kept = p.kept;
 }
 
-pub some_is : {A : Type 0} {a b : A} → Some a ≡ Some b → a ≡ b
-some_is e = cc
-
 pub none_some : {f : Fault} → None ≡ Some f → ⊥
 none_some e = cc
 
 reported_by : (f g : Fault) (t : Bool) → nat_le (rank g) (rank f) ≡ t → Best (λ h. h ≡ f) (Some g) (cond t (Some g) (Some f))
-reported_by f g true e = record { from = λ h i. inl i; below = λ h i. record { fault = g; is = refl; below = rw i (leb-true _ _ e) }; kept = λ h i. record { fault = g; is = refl; below = rw (some_is i) (omega arith) } }
-reported_by f g false e = record { from = λ h i. inr (sym (some_is i)); below = λ h i. record { fault = f; is = refl; below = rw i (omega arith) }; kept = λ h i. record { fault = f; is = refl; below = rw (sym (some_is i)) (omega (arith, leb-false _ _ e)) } }
+reported_by f g true e = record { from = λ h i. inl i; below = λ h i. record { fault = g; is = refl; below = rw i (leb-true _ _ e) }; kept = λ h i. record { fault = g; is = refl; below = rw (some_same i) (omega arith) } }
+reported_by f g false e = record { from = λ h i. inr (sym (some_same i)); below = λ h i. record { fault = f; is = refl; below = rw i (omega arith) }; kept = λ h i. record { fault = f; is = refl; below = rw (sym (some_same i)) (omega (arith, leb-false _ _ e)) } }
 
 pub one_new : (f : Fault) (a : Option Fault) → Best (λ h. h ≡ f) a (reported f a)
-one_new f None = record { from = λ h i. inr (sym (some_is i)); below = λ h i. record { fault = f; is = refl; below = rw i (omega arith) }; kept = λ h i. absurd (none_some i) }
+one_new f None = record { from = λ h i. inr (sym (some_same i)); below = λ h i. record { fault = f; is = refl; below = rw i (omega arith) }; kept = λ h i. absurd (none_some i) }
 one_new f (Some g) = reported_by f g _ refl
 
 -- no fault so far

@@ -8,9 +8,9 @@ use Rattle.sch_sketch.specs.declared.fault.Fault.TheVariants.{Operands, Core}
 use Rattle.sch_sketch.specs.declared.sketch.Position.{Position}
 use Rattle.sch_sketch.specs.Draft.{Draft, Drafts, no_drafts, and_draft}
 use Rattle.sch_sketch.specs.Measure.{sketch_measure, sketches_measure}
-use Rattle.sch_table.specs.Outline.{outline_datum, outline}
+use Rattle.sch_expansion.specs.Outline.{outline_datum, outline}
 use Rattle.sch_sketch.specs.Sketch.{Kind, Sketch, Sketches, text, rest, wrong, leaf, node, limited, no_sketch, and_sketch, how_many_parts, is_end, scope_in, position_in, width, assemble, nothing}
-use Rattle.sch_table.proofs.Falls.{datum_falls, rest_falls}
+use Rattle.sch_expansion.proofs.Falls.{datum_falls, rest_falls}
 use Rattle.sch_expansion.specs.FaultOrder.{reported, all_reported}
 use Rattle.sch_expansion.specs.Expands.{IsLevel, AreFew, Expands, PartsExpand}
 use Rattle.sch_expansion.specs.Expands as ex

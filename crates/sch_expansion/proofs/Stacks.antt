@@ -12,10 +12,10 @@ use Rattle.sch_sketch.specs.declared.sketch.Row.{Row}
 use Rattle.sch_sketch.specs.declared.sketch.Sketch as code_sketch
 use Rattle.sch_sketch.specs.Draft.{Draft, Drafts, drafts, no_drafts, and_draft}
 use Rattle.sch_sketch.specs.Measure.{sketch_measure, sketches_measure}
-use Rattle.sch_table.specs.Outline.{outline_datum, outline}
+use Rattle.sch_expansion.specs.Outline.{outline_datum, outline}
 use Rattle.sch_sketch.specs.Sketch.{Kind, Sketch, Sketches, text, rest, wrong, leaf, node, limited, and_sketch, how_many_parts, is_end, scope_in, position_in, width, assemble, nothing}
 use Rattle.sch_sketch.specs.SketchView.{kind_of, sketch_of, sketches_of}
-use Rattle.sch_table.proofs.Falls.{datum_falls, rest_falls}
+use Rattle.sch_expansion.proofs.Falls.{datum_falls, rest_falls}
 use Rattle.sch_sketch.proofs.SmallMeasures.{leaf_some}
 use Rattle.sch_sketch.specs.declared.draft.Draft as code_draft
 use Rattle.sch_expansion.specs.declared.walk.Open.{Open}

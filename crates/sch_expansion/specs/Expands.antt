@@ -9,7 +9,7 @@ use Rattle.sch_names.specs.Scope.{Scope, Globals}
 use Rattle.sch_sketch.specs.declared.sketch.Position.{Position}
 use Rattle.sch_sketch.specs.declared.sketch.Row.{Row}
 use Rattle.sch_sketch.specs.Draft.{Draft, Drafts, no_drafts, and_draft}
-use Rattle.sch_table.specs.Outline.{outline_datum, outline}
+use Rattle.sch_expansion.specs.Outline.{outline_datum, outline}
 use Rattle.sch_sketch.specs.Sketch.{Kind, Sketch, Sketches, text, rest, leaf, node, limited, no_sketch, and_sketch, how_many_parts, is_end, scope_in, position_in, width, assemble}
 
 -- a level within the limit, and as many operands or bindings as a form may have

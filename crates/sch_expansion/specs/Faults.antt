@@ -8,7 +8,7 @@ use Rattle.sch_sketch.specs.declared.fault.Fault.TheVariants.{Operands, Core}
 use Rattle.sch_sketch.specs.declared.sketch.Position.{Position}
 use Rattle.sch_sketch.specs.declared.sketch.Row.{Row}
 use Rattle.sch_sketch.specs.Draft.{Draft}
-use Rattle.sch_table.specs.Outline.{outline_datum, outline}
+use Rattle.sch_expansion.specs.Outline.{outline_datum, outline}
 use Rattle.sch_sketch.specs.Sketch.{Kind, Sketch, Sketches, text, rest, wrong, leaf, node, limited, and_sketch, how_many_parts, is_end, scope_in, position_in, width}
 use Rattle.sch_expansion.specs.Expands.{IsLevel}
 

@@ -4,3 +4,4 @@ pub mod Faults
 pub mod Reads
 pub mod Following
 pub mod WalkStack
+pub mod Outline

@@ -9,7 +9,7 @@ use Rattle.sch_sketch.specs.declared.fault.Fault.TheVariants.{Operands, Core}
 use Rattle.sch_sketch.specs.declared.sketch.Position.{Position}
 use Rattle.sch_sketch.specs.declared.sketch.Row.{Row}
 use Rattle.sch_sketch.specs.Draft.{Draft, Drafts, no_drafts, and_draft}
-use Rattle.sch_table.specs.Outline.{outline_datum, outline}
+use Rattle.sch_expansion.specs.Outline.{outline_datum, outline}
 use Rattle.sch_sketch.specs.Sketch.{Kind, Sketch, Sketches, text, rest, wrong, leaf, node, limited, no_sketch, and_sketch, how_many_parts, is_end, scope_in, position_in, width, assemble, nothing}
 use Rattle.sch_expansion.specs.FaultOrder.{reported, all_reported}
 use Rattle.sch_expansion.specs.Expands.{IsLevel}

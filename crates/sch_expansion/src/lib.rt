@@ -2,8 +2,9 @@
 #![tactic(auto)]
 
 mod fault_order;
+mod nodes;
 mod reports;
+mod table;
 mod walk;
 
-pub use fault_order::report;
 pub use walk::{Walk, read};

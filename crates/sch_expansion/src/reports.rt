@@ -12,8 +12,10 @@ use sch_sketch::{Fault, Wrong};
 use sch_word::{List, Mem};
 use std::alloc::Global;
 
+/// The most levels of expressions.
 const MAX_LEVELS: u32 = 2000;
 
+/// The most operands, formals or bindings of one form.
 const MAX_OPERANDS: usize = 200;
 
 /// The next level, where this one lies within the limit.

@@ -12,11 +12,11 @@ ghost use Rattle.sch_sketch.specs.DraftView.{draft_of, drafts_of};
 ghost use Rattle.sch_expansion.specs.Reads.{Reads};
 ghost use Rattle.sch_expansion.specs.WalkStack.{Task, Holds, Goes, PartsWanted, Ready, open_left, stack_left, next_left};
 
+use crate::nodes::{assemble, draft_of_leaf, enter, nothing, position_in, width};
 use crate::reports::{deeper, report_deep, report_level, report_operands, report_wrong};
+use crate::table::{Rest, outline, outline_datum};
 use sch_names::{Globals, Scope};
-use sch_nodes::{assemble, draft_of_leaf, enter, nothing, position_in, width};
 use sch_sketch::{Draft, Fault, Kind, Position, Sketch};
-use sch_table::{Rest, outline, outline_datum};
 use sch_word::{List, Mem};
 use std::alloc::Global;
 

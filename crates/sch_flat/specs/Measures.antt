@@ -1,7 +1,8 @@
 -- What is counted over flat trees.
-use Rattle.std.specs.Prelude.{ℕ, ◌+◌, max, Bool, true, false, List, [], ◌∷◌, ◌++◌, length}
+use Rattle.std.specs.Prelude.{ℕ, ◌+◌, max, Bool, true, false, cond, List, [], ◌∷◌, ◌++◌, length, map}
 use Rattle.sch_word.specs.trees.Shape as shapes
 use Rattle.sch_word.specs.trees.Shape.{Shape}
+use Rattle.sch_word.specs.trees.NodeWeights.{all_entered, weight_of}
 use Rattle.sch_flat.specs.Tree.{Variable, bound, free, Made, Tree, Trees, Body, Source, constant, literal, variable, global, set_global, define, branch, sequence, bind, make_closure, fix_closures, call, operation, new_cells, cell_get, cell_set, no_trees, and_tree, count}
 
 -- ## Shapes
@@ -12,15 +13,11 @@ is_atom (literal n) = true
 is_atom (variable v) = true
 is_atom _ = false
 
-abbrev pub one_if : Bool → ℕ
-one_if true = 1
-one_if false = 0
-
 -- the atoms among the parts of a sequence, but for the last part
 abbrev pub dropped : Trees → ℕ
 dropped no_trees = 0
 dropped (and_tree e no_trees) = 0
-dropped (and_tree e (and_tree e' es)) = one_if (is_atom e) + dropped (and_tree e' es)
+dropped (and_tree e (and_tree e' es)) = cond (is_atom e) 1 0 + dropped (and_tree e' es)
 
 abbrev pub made_shape : Made → shapes.Made
 made_shape m = record { label = m.label; fields = length m.fields }
@@ -111,6 +108,16 @@ bodies_size (b ∷ bs) = 1 + b.formals + b.fields + bodies_size bs
 -- all nodes, formals, variables bound, bodies with the fields of their records, and forms of a program
 abbrev pub program_size : Source → ℕ
 program_size p = bodies_size p.bodies + count p.forms + over_source 0 (λ a b. a + b) shapes.size_of p
+
+-- ## Work
+
+abbrev pub bodies_weight : List Body → ℕ
+bodies_weight bs = all_entered (map (λ b. b.formals) bs)
+
+-- How much work there is at most in the bodies of the language Control that are made of a program: what its bodies and
+-- nodes weigh, and one for the end of each form.
+abbrev pub weight : Source → ℕ
+weight p = bodies_weight p.bodies + count p.forms + over_source 0 (λ a b. a + b) weight_of p
 
 -- ## The variables of a body
 

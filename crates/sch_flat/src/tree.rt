@@ -1,6 +1,6 @@
 //! Expressions of flat closures, with their variables and records.
 
-use sch_word::{Bytes, Const, List, Prim};
+use sch_word::{Bytes, Const, List, Primitive};
 
 /// A variable that is used in a body.
 #[derive(Clone, Copy)]
@@ -60,7 +60,7 @@ pub enum Exp {
         operator: Box<Exp>,
         operands: List<Exp>,
     },
-    Prim(u32, Prim, List<Exp>),
+    Prim(u32, Primitive, List<Exp>),
     /// New cells, each in a variable of its own, and the body.
     NewCells(List<NewCell>, Box<Exp>),
     /// What the cell in a variable holds.

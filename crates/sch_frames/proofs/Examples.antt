@@ -9,7 +9,7 @@ use Rattle.sch_word.specs.declared.primitive.Primitive.TheVariants.{Put}
 use Rattle.sch_word.specs.trees.Covered.{are_literals_covered}
 use Rattle.sch_word.specs.values.Literals.{no_literals}
 use Rattle.sch_word.specs.runs.Runs.{Run, ended, going}
-use Rattle.sch_control.specs.declared.mark.MarkKind.TheVariants as mark
+use Rattle.sch_word.specs.declared.mark.MarkKind.TheVariants as mark
 use Rattle.sch_control.specs.declared.operation.Atom.TheVariants.{Constant, Literal, Variable}
 use Rattle.sch_control.specs.declared.operation.Member.{Member}
 use Rattle.sch_control.specs.declared.operation.Operand.{Operand}

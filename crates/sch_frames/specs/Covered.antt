@@ -1,10 +1,9 @@
 -- Which programs are covered, with what they keep to beside; and how bodies begin.
+use Rattle.sch_word.specs.runs.Activations.{is_enter}
 use Rattle.std.specs.Prelude.{Bool, true, false, ◌&&◌, not, nat_le, nat_lt, List, [], ◌∷◌, length}
 use Rattle.std.specs.List.{list_all}
 use Rattle.sch_word.specs.declared.place.Place.{Place}
 use Rattle.sch_word.specs.trees.Shape.{max_free_variables, max_library}
-use Rattle.sch_control.specs.declared.mark.MarkKind.{MarkKind}
-use Rattle.sch_control.specs.declared.mark.MarkKind.TheVariants.{Enter}
 use Rattle.sch_control.specs.declared.operation.Closure.{Closure}
 use Rattle.sch_control.specs.declared.operation.Member.{Member}
 use Rattle.sch_control.specs.declared.operation.Operation.{Operation}
@@ -67,10 +66,6 @@ may_stand ends End = ends
 may_stand ends _ = true
 
 -- ## Marks of entries: none stands among instructions, since that of a body stands in front of it
-
-abbrev pub is_enter : MarkKind → Bool
-is_enter (Enter label) = true
-is_enter _ = false
 
 abbrev pub plain_instruction : Instruction → Bool
 plain_instruction (Mark m) = not (is_enter m)

@@ -2,6 +2,8 @@
 use Rattle.std.specs.Prelude.{ℕ, zero, suc, Bool, true, false, cond, nat_eq, List, [], ◌∷◌, length, Option, Some, None, slice_get}
 use Rattle.sch_word.specs.declared.place.Place.{Place}
 use Rattle.sch_word.specs.declared.place.Place.TheVariants.{Reg, Slot}
+use Rattle.sch_word.specs.declared.registers.TheConstants.{CLOSURE_REGISTER, LINK_REGISTER}
+use Rattle.sch_word.specs.values.Registers.{argument_registers}
 use Rattle.sch_word.specs.values.Values.{Value, unspecified, is_true}
 use Rattle.sch_word.specs.runs.Computation.{gives, in_store, procedures_from}
 use Rattle.sch_word.specs.runs.Charges.{charge_each}
@@ -31,22 +33,16 @@ same_place (Reg a) (Reg b) = nat_eq a b
 same_place (Slot a) (Slot b) = nat_eq a b
 same_place _ _ = false
 
--- the register of the closure and of the return address
+-- where the closure and the return address of an activation arrive: R14 and R15
 abbrev pub closure_register : Place
-closure_register = Reg 14
+closure_register = Reg CLOSURE_REGISTER
 
 abbrev pub link_register : Place
-link_register = Reg 15
+link_register = Reg LINK_REGISTER
 
--- where the operand with k before it is handed over, if that is in a register: RBX, R8, R9, R10, RSI, RDI
+-- where the operand with k before it is handed over, if that is in a register
 abbrev pub argument_register : ℕ → Option ℕ
-argument_register zero = Some 3
-argument_register (suc zero) = Some 8
-argument_register (suc (suc zero)) = Some 9
-argument_register (suc (suc (suc zero))) = Some 10
-argument_register (suc (suc (suc (suc zero)))) = Some 6
-argument_register (suc (suc (suc (suc (suc zero))))) = Some 7
-argument_register (suc (suc (suc (suc (suc (suc k)))))) = None
+argument_register k = slice_get argument_registers k
 
 -- the slot for an operand that is handed over in none
 abbrev pub argument_slot : ℕ → ℕ
@@ -164,17 +160,14 @@ module _ (callee : Callee) (depth : ℕ) where
 
 -- ## Bodies
 
+-- what a register has that may be one for an operand, from the one for the operand with k before it on
+abbrev pub arrived_in : List ℕ → (k : ℕ) → List Value → ℕ → Cell
+arrived_in [] k vs r = Junk
+arrived_in (q ∷ registers) k vs r = cond (nat_eq r q) (cell_of (slice_get vs k)) (arrived_in registers (suc k) vs r)
+
 -- what the places hold where a procedure is entered
 abbrev pub entry_places : Value → List Value → Place → Cell
-entry_places self vs (Reg r) =
-    cond (nat_eq r 15) Link
-    (cond (nat_eq r 14) (Is self)
-    (cond (nat_eq r 3) (cell_of (slice_get vs 0))
-    (cond (nat_eq r 8) (cell_of (slice_get vs 1))
-    (cond (nat_eq r 9) (cell_of (slice_get vs 2))
-    (cond (nat_eq r 10) (cell_of (slice_get vs 3))
-    (cond (nat_eq r 6) (cell_of (slice_get vs 4))
-    (cond (nat_eq r 7) (cell_of (slice_get vs 5)) Junk)))))))
+entry_places self vs (Reg r) = cond (nat_eq r LINK_REGISTER) Link (cond (nat_eq r CLOSURE_REGISTER) (Is self) (arrived_in argument_registers 0 vs r))
 entry_places self vs (Slot j) = cell_of (slice_get vs (suc (suc (suc (suc (suc (suc j)))))))
 
 -- the frame in which a body begins

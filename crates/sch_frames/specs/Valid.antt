@@ -5,6 +5,7 @@ use Rattle.sch_word.specs.declared.place.Place.{Place}
 use Rattle.sch_word.specs.declared.place.Place.TheVariants.{Reg, Slot}
 use Rattle.sch_word.specs.values.Literals.{count_literals}
 use Rattle.sch_word.specs.trees.NumberSets.{has}
+use Rattle.sch_word.specs.values.Registers.{argument_registers, body_registers}
 use Rattle.sch_word.specs.runs.Runs.{statics_valid, statics_in_range}
 use Rattle.sch_word.specs.trees.Shape.{max_operands}
 use Rattle.sch_control.specs.declared.body.Entry.{Entry}
@@ -23,13 +24,8 @@ use Rattle.sch_frames.specs.Run.{entries_of}
 abbrev pub max_words : ℕ
 max_words = 2048
 
--- how many operands are handed over in registers
-abbrev pub argument_registers : ℕ
-argument_registers = 6
-
--- the registers of variables, R14 and R15
 abbrev pub is_register : ℕ → Bool
-is_register r = has r (3 ∷ 6 ∷ 7 ∷ 8 ∷ 9 ∷ 10 ∷ 14 ∷ 15 ∷ [])
+is_register r = has r body_registers
 
 module _ (words : ℕ) where
   abbrev pub is_place : Place → Bool
@@ -46,7 +42,7 @@ module _ (words : ℕ) where
 
   -- n operands are in registers or in slots of a frame
   abbrev pub handed_over : ℕ → Bool
-  handed_over count = nat_le count (argument_registers + words)
+  handed_over count = nat_le count (length argument_registers + words)
 
   abbrev pub instruction_placed : Instruction → Bool
   instruction_placed (Do o) = list_all is_atom (operation_atoms o)

@@ -3,8 +3,8 @@
 ghost use Rattle.std.specs.Prelude.{◌≡◌};
 ghost use Rattle.sch_frames.specs.Sizes.{spreads};
 
-use sch_control::{MarkKind, Member, Operand, Operation};
-use sch_word::{List, Place};
+use sch_control::{Member, Operand, Operation};
+use sch_word::{List, MarkKind, Place};
 
 /// An instruction of a body. There is one accumulator beside the places. The operator of a call stands in
 /// R14, its operands in RBX, R8, R9, R10, RSI and RDI, in this order, and behind these in slots: of the frame

@@ -1,6 +1,7 @@
 -- Spellings are a prefix code.
 use Rattle.std.specs.Prelude.{ℤ}
 use Rattle.std.proofs.Common.{◌≡◌, ℕ, zero, suc, ◌≤◌, ◌%◌, List, [], ◌∷◌, ◌++◌, length, take, Bool, true, false, cond, ◌==◌, Some, sym, ap, ◌∙◌, arith, length-append, append-nil}
+use Rattle.sch_word.proofs.facts.Lists.{length_none}
 use Rattle.sch_insn.specs.declared.insn.Arg.{Arg}
 use Rattle.sch_insn.specs.declared.insn.Arg.TheVariants.{Reg, Base, Base32, Rip}
 use Rattle.sch_insn.specs.declared.insn.Insn.{Insn}
@@ -29,10 +30,6 @@ one_instruction i j xs a b =
     let pair : one ≡ other = cc in
     ap (λ p. p.0) pair
 
-none_left : (rest : List ℕ) → length rest ≡ 0 → rest ≡ []
-none_left [] e = cc
-none_left (x ∷ xs) e = absurd (omega arith)
-
 pub no_proper_prefix : (i j : Insn) (xs rest : List ℕ) → Spells i xs → Spells j (xs ++ rest) → rest ≡ []
 no_proper_prefix i j xs rest a b =
     let one : Insn × ℕ = (i, length xs) in
@@ -40,7 +37,7 @@ no_proper_prefix i j xs rest a b =
     let both : Some one ≡ Some other = sym (read i xs rest a) ∙ alone j (xs ++ rest) b in
     let pair : one ≡ other = cc in
     let size : length xs ≡ length (xs ++ rest) = ap (λ p. p.1) pair in
-    none_left rest (omega (arith, size, length-append xs rest))
+    length_none rest (omega (arith, size, length-append xs rest))
 
 abbrev index_bytes : Bool → List ℕ
 index_bytes t = cond t (36 ∷ []) []

@@ -9,7 +9,7 @@ use Rattle.std.proofs.lemmas.Int.{of_z-to_z}
 use Rattle.std.proofs.Math.Facts.{sfits_to_z}
 use Rattle.std.proofs.lemmas.Bool.{eqb-true, eqb-false}
 use Rattle.std.proofs.lemmas.Bool.Decides.{nat_tests}
-use Rattle.sch_word.proofs.facts.Booleans.{and_parts}
+use Rattle.sch_word.proofs.facts.Booleans.{and_parts, not_true}
 use Rattle.sch_insn.specs.declared.insn.Arg.{Arg}
 use Rattle.sch_insn.specs.declared.insn.Arg.TheVariants.{Reg, Base, Base32, Rip}
 use Rattle.sch_insn.specs.declared.insn.Insn.{Insn}
@@ -408,8 +408,8 @@ escaped_back (x ∷ bs) h =
     let t = and_parts ((x / 16 == 8) && not (x == 138)) (not (x == 139)) e in
     let s = and_parts (x / 16 == 8) (not (x == 138)) t.0 in
     let o = eqb-true (x / 16) 8 s.0 in
-    let n1 = not_was (x == 138) s.1 in
-    let n2 = not_was (x == 139) t.1 in
+    let n1 = not_true (x == 138) s.1 in
+    let n2 = not_true (x == 139) t.1 in
     let a = eqb-false x 138 n1 in
     let b = eqb-false x 139 n2 in
     let x1 : x ≡ 128 + x % 16 = omega arith in
@@ -419,10 +419,6 @@ escaped_back (x ∷ bs) h =
       is = ((omega arith, omega arith, omega arith), num.fits);
     })))
     (λ _. nothing)))
-  where
-    not_was : (t : Bool) → not t ≡ true → t ≡ false
-    not_was true e = absurd cc
-    not_was false e = refl
 
 pub decode_back : (bs : List ℕ) → Bytes bs → OnAnswer (Spelt bs) (decode bs)
 decode_back [] h = nothing

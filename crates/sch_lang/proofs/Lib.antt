@@ -1,6 +1,7 @@
 pub mod BodyCounts
 pub mod CoveredPrograms
 pub mod Environments
+pub mod ListViews
 mod Loop
 pub mod Measured
 pub mod MoreEntries
@@ -9,4 +10,4 @@ pub mod OwnOrders
 pub mod Scopes
 pub mod SitesInOrder
 pub mod SpentComputations
-pub mod worked
+mod worked

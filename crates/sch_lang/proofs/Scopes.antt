@@ -4,8 +4,8 @@ use Rattle.std.specs.Prelude.{IsTrue, ◌&&◌, nat_lt}
 use Rattle.std.proofs.lemmas.Bool.{ltb-true}
 use Rattle.sch_word.proofs.Shaped.{parts, both_true}
 use Rattle.sch_lang.specs.Tree.{Expression, Expressions, Lambdas, constant, literal, local, global, set_local, set_global, define, branch, sequence, bind, fix, letrec, lambda, call, operation, no_expressions, and_expression, no_lambdas, and_lambda, count, count_lambdas, Source}
-use Rattle.sch_lang.specs.Valid.{in_scope, each_in_scope, lambdas_in_scope, in_range}
-use Rattle.sch_lang.specs.InScope.{InScope, EachInScope, LambdasInScope, IsClosed}
+use Rattle.sch_lang.specs.Valid.{in_range}
+use Rattle.sch_lang.specs.InScope.{in_scope, each_in_scope, lambdas_in_scope, InScope, EachInScope, LambdasInScope, IsClosed}
 
 mutual
   pub scope_is : (e : Expression) (n : ℕ) → IsTrue (in_scope e n) → InScope e n
@@ -19,7 +19,7 @@ mutual
   scope_is (branch a b c) n h =
       let p = parts (in_scope a n) (in_scope b n && in_scope c n) h in
       let q = parts (in_scope b n) (in_scope c n) p.1 in
-      (scope_is a n p.0, scope_is b n q.0, scope_is c n q.1)
+      (scope_is a n p.0, (scope_is b n q.0, scope_is c n q.1))
   scope_is (sequence es) n h = each_scope_is es n h
   scope_is (bind site es e) n h =
       let p = parts (each_in_scope es n) (in_scope e (n + count es)) h in (each_scope_is es n p.0, scope_is e (n + count es) p.1)
@@ -63,7 +63,7 @@ mutual
   is_scope (set_local k e) n h = both_true (lt-ltb k n h.0) (is_scope e n h.1)
   is_scope (set_global g e) n h = is_scope e n h
   is_scope (define g e) n h = is_scope e n h
-  is_scope (branch a b c) n h = both_true (is_scope a n h.0) (both_true (is_scope b n h.1) (is_scope c n h.2))
+  is_scope (branch a b c) n h = both_true (is_scope a n h.0) (both_true (is_scope b n h.1.0) (is_scope c n h.1.1))
   is_scope (sequence es) n h = is_scope_each es n h
   is_scope (bind site es e) n h = both_true (is_scope_each es n h.0) (is_scope e (n + count es) h.1)
   is_scope (fix ls e) n h = both_true (is_scope_lambdas ls (n + count_lambdas ls) h.0) (is_scope e (n + count_lambdas ls) h.1)

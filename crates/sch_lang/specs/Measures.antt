@@ -208,6 +208,10 @@ shape (operation site which es) = shapes.operation site which (count es)
 
 -- ## Sizes
 
+-- a count of the shapes of a program's nodes, in all
+abbrev pub total : (Shape → ℕ) → Source → ℕ
+total amount p = over_source 0 (λ a b. a + b) (λ e. amount (shape e)) p
+
 -- a node, the variables that it binds, and for each lambda one, its formals and its free variables
 abbrev pub node_size : Expression → ℕ
 node_size e = size_of (shape e)
@@ -218,7 +222,7 @@ program_size p = procedures_size (procedures p.library) + count p.forms + over_s
 
 -- how many variables a program binds
 abbrev pub variables_bound : Source → ℕ
-variables_bound p = formals_in (procedures p.library) + over_source 0 (λ a b. a + b) (λ e. bound_in (shape e)) p
+variables_bound p = formals_in (procedures p.library) + total bound_in p
 
 -- a node and the variables that it binds
 abbrev pub node_and_bound : Expression → ℕ
@@ -247,8 +251,8 @@ call_sites_of p = over_source [] (λ a b. a ++ b) (λ e. call_site_of (shape e))
 
 -- how many If nodes
 abbrev pub tests_of : Source → ℕ
-tests_of p = over_source 0 (λ a b. a + b) (λ e. tests_in (shape e)) p
+tests_of = total tests_in
 
 -- how many atoms sequences drop
 abbrev pub dropped_of : Source → ℕ
-dropped_of p = over_source 0 (λ a b. a + b) (λ e. dropped_in (shape e)) p
+dropped_of = total dropped_in

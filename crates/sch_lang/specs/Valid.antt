@@ -6,36 +6,10 @@ use Rattle.sch_word.specs.trees.Shape as shapes
 use Rattle.sch_word.specs.trees.Shape.{max_levels, max_variables, names_known, constant_in_range, well_formed, fits, procedures_fit}
 use Rattle.sch_lang.specs.Tree.{Expression, Expressions, Lambdas, constant, literal, local, global, set_local, set_global, define, branch, sequence, bind, fix, letrec, lambda, call, operation, no_expressions, and_expression, no_lambdas, and_lambda, count, count_lambdas, Source}
 use Rattle.sch_lang.specs.Variables.{assigns, assigns_lambdas}
+use Rattle.sch_lang.specs.InScope.{each_in_scope, lambdas_in_scope}
 use Rattle.sch_lang.specs.Measures.{over_source, levels_each, levels_lambdas, variables, procedures, shape, sites_of}
 
 -- ## Numbers in range
-
--- each local variable is one of the n in scope
-abbrev mutual
-  pub in_scope : Expression → ℕ → Bool
-  in_scope (constant c) bound = true
-  in_scope (literal n) bound = true
-  in_scope (local k) bound = nat_lt k bound
-  in_scope (global g) bound = true
-  in_scope (set_local k e) bound = nat_lt k bound && in_scope e bound
-  in_scope (set_global g e) bound = in_scope e bound
-  in_scope (define g e) bound = in_scope e bound
-  in_scope (branch a b c) bound = in_scope a bound && (in_scope b bound && in_scope c bound)
-  in_scope (sequence es) bound = each_in_scope es bound
-  in_scope (bind site es e) bound = each_in_scope es bound && in_scope e (bound + count es)
-  in_scope (fix ls e) bound = lambdas_in_scope ls (bound + count_lambdas ls) && in_scope e (bound + count_lambdas ls)
-  in_scope (letrec site es e) bound = each_in_scope es (bound + count es) && in_scope e (bound + count es)
-  in_scope (lambda name formals rest e) bound = in_scope e (bound + formals)
-  in_scope (call site f es) bound = in_scope f bound && each_in_scope es bound
-  in_scope (operation site which es) bound = each_in_scope es bound
-
-  pub each_in_scope : Expressions → ℕ → Bool
-  each_in_scope no_expressions bound = true
-  each_in_scope (and_expression e es) bound = in_scope e bound && each_in_scope es bound
-
-  pub lambdas_in_scope : Lambdas → ℕ → Bool
-  lambdas_in_scope no_lambdas bound = true
-  lambdas_in_scope (and_lambda name formals rest e ls) bound = in_scope e (bound + formals) && lambdas_in_scope ls bound
 
 -- the symbol, literal or global that a node names is among those of the program
 abbrev pub named_here : (symbols literals globals : ℕ) → Expression → Bool

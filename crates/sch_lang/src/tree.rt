@@ -1,6 +1,6 @@
 //! Expressions of the core language.
 
-use sch_word::{Bytes, Const, List, Prim};
+use sch_word::{Bytes, Const, List, Primitive};
 
 /// An expression of the core language (R5RS 4.1, with `let` and `letrec` of 4.2.2).
 ///
@@ -31,7 +31,7 @@ pub enum Exp {
     Lambda(Box<Lambda>),
     /// The operator and the operands.
     Call(u32, Box<Exp>, List<Exp>),
-    Prim(u32, Prim, List<Exp>),
+    Prim(u32, Primitive, List<Exp>),
 }
 
 /// A procedure of the text (R5RS 4.1.4).

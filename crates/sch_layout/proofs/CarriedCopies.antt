@@ -1,7 +1,7 @@
 -- What holds of instructions and of one more copy, under its mark or not, holds of what is saved or restored in front.
 use Rattle.std.proofs.Common.{◌≡◌, ℕ, List, [], ◌∷◌, Bool, true, false, cond, refl}
 use Rattle.sch_word.specs.declared.place.Place.{Place}
-use Rattle.sch_control.specs.declared.mark.MarkKind.{MarkKind}
+use Rattle.sch_word.specs.declared.mark.MarkKind.{MarkKind}
 use Rattle.sch_frames.specs.declared.instruction.Instruction.{Instruction}
 use Rattle.sch_frames.specs.declared.instruction.Instruction.TheVariants.{Copy, Mark}
 use Rattle.sch_layout.specs.BodyLayout.{Plan, is_slot, copied, carried}

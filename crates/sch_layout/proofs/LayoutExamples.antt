@@ -12,8 +12,8 @@ use Rattle.sch_word.specs.trees.Covered.{are_literals_covered, are_lists_covered
 use Rattle.sch_word.specs.runs.Computation.{gives}
 use Rattle.sch_word.specs.runs.Runs.{Run, ended, going}
 use Rattle.sch_word.specs.values.Values.{Value, procedure, unspecified}
-use Rattle.sch_control.specs.declared.mark.MarkKind.{MarkKind}
-use Rattle.sch_control.specs.declared.mark.MarkKind.TheVariants as mark
+use Rattle.sch_word.specs.declared.mark.MarkKind.{MarkKind}
+use Rattle.sch_word.specs.declared.mark.MarkKind.TheVariants as mark
 use Rattle.sch_control.specs.declared.operation.Atom.TheVariants.{Constant, Literal, Variable}
 use Rattle.sch_control.specs.declared.operation.Operand.{Operand}
 use Rattle.sch_control.specs.declared.operation.Operand.TheVariants as operand

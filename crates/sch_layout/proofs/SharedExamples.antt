@@ -9,8 +9,8 @@ use Rattle.sch_word.specs.declared.primitive.Primitive.TheVariants.{Subtract}
 use Rattle.sch_word.specs.values.Values.{Value, constant_value}
 use Rattle.sch_word.specs.runs.Computation.{State}
 use Rattle.sch_control.specs.declared.body.Entry.{Entry}
-use Rattle.sch_control.specs.declared.mark.MarkKind.{MarkKind}
-use Rattle.sch_control.specs.declared.mark.MarkKind.TheVariants as mark
+use Rattle.sch_word.specs.declared.mark.MarkKind.{MarkKind}
+use Rattle.sch_word.specs.declared.mark.MarkKind.TheVariants as mark
 use Rattle.sch_control.specs.declared.operation.Member.{Member}
 use Rattle.sch_control.specs.declared.operation.Operation.TheVariants as operation
 use Rattle.sch_control.specs.Meaning.{Callee, Environment, do_body, falls_off, no_region, nothing}

@@ -4,8 +4,8 @@ use Rattle.std.specs.Prelude.{◌≡◌, ℕ, zero, suc, ◌+◌, Bool, true, fa
 use Rattle.sch_word.specs.declared.place.Place.{Place}
 use Rattle.sch_word.specs.declared.place.Place.TheVariants.{Reg, Slot}
 use Rattle.sch_control.specs.declared.body.Entry.{Entry}
-use Rattle.sch_control.specs.declared.mark.MarkKind.{MarkKind}
-use Rattle.sch_control.specs.declared.mark.MarkKind.TheVariants as mark
+use Rattle.sch_word.specs.declared.mark.MarkKind.{MarkKind}
+use Rattle.sch_word.specs.declared.mark.MarkKind.TheVariants as mark
 use Rattle.sch_control.specs.declared.operation.Atom.{Atom}
 use Rattle.sch_control.specs.declared.operation.Atom.TheVariants.{Constant, Literal, Variable}
 use Rattle.sch_control.specs.declared.operation.Operand.{Operand}

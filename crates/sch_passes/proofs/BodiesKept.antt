@@ -12,10 +12,11 @@ use Rattle.sch_flat.specs.Measures.{body_variables, variables}
 use Rattle.sch_control.specs.Tree as control
 use Rattle.sch_control.specs.Sizes.{most_variables}
 use Rattle.sch_lang.specs.Bodies.{largest}
-use Rattle.sch_closed.specs.Closed.{closed_source}
-use Rattle.sch_closed.specs.Kept.{procedure_of, procedures_in, flat_forms, forms_in}
-use Rattle.sch_normal.specs.Counted.{in_order, form_variables, bind_within, BindNoMore}
-use Rattle.sch_normal.specs.Normal.{normal_bodies, normal_source, procedure_code, form_code}
+use Rattle.sch_closure.specs.Closed.{closed_source}
+use Rattle.sch_closure.specs.Kept.{procedure_of, procedures_in, flat_forms, forms_in}
+use Rattle.sch_control.specs.Sizes.{bind_within}
+use Rattle.sch_anf_laws.specs.Counted.{in_order, form_variables, BindNoMore}
+use Rattle.sch_anf_laws.specs.Normal.{normal_bodies, normal_source, procedure_code, form_code}
 use Rattle.sch_passes.proofs.BodyOrder.{bodies_in_order, map_in_order}
 
 -- the procedures and forms of a flat program, in the order of the bodies that are made of them

@@ -6,7 +6,7 @@ use Rattle.sch_lang.specs.Run as from
 use Rattle.sch_flat.specs.Tree as flat
 use Rattle.sch_flat.specs.Run as flat_run
 use Rattle.sch_control.specs.Tree as control
-use Rattle.sch_normal.specs.SameRun.{SameRun}
+use Rattle.sch_anf_laws.specs.SameRun.{SameRun}
 use Rattle.sch_passes.specs.Chain.{RunsAs}
 
 pub runs_as : (p : lang.Source) (a b : Runs) (f : flat.Source) (q : control.Source) → SameRuns (from.run p) a → SameRuns a b → SameRuns b (flat_run.run f) → SameRun f q

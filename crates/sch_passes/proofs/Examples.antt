@@ -11,7 +11,7 @@ use Rattle.sch_lang.specs.Valid.{is_valid}
 use Rattle.sch_control.specs.declared.operation.Operation.TheVariants as operation
 use Rattle.sch_control.specs.Tree.{Expression, perform, bind, end}
 use Rattle.sch_control.specs.Sizes as sizes
-use Rattle.sch_orders.specs.Table.{given_table}
+use Rattle.sch_control.specs.OrderTable.{given_table}
 use Rattle.sch_passes.specs.Chain.{control_of}
 
 -- a library with (define (f x) (lambda (y) (x (car y)))), and three forms: (define make (lambda (n) (set! n 1) (lambda () n))),

@@ -7,7 +7,7 @@ use Rattle.sch_lang.specs.declared.tree.Exp.{Exp}
 use Rattle.sch_lang.specs.declared.tree.Lambda.{Lambda}
 use Rattle.sch_lang.specs.Tree.{Expressions, Lambdas, expressions, lambdas}
 use Rattle.sch_lang.specs.View.{expression, expressions_of, function, lambdas_of}
-use Rattle.sch_lang.proofs.worked.Rows.{expressions_of_list, lambdas_of_list}
+use Rattle.sch_lang.proofs.ListViews.{expressions_of_list, lambdas_of_list}
 use Rattle.sch_passes.specs.Walkable.{max_parts, most_parts, most_parts_each, most_parts_in_turn, body_fits, lambda_bodies_fit, inner_bodies_fit, inner_bodies_fit_each, inner_bodies_fit_lambdas}
 
 max_fits : (a b n : ℕ) → nat_le (max a b) n ≡ (nat_le a n && nat_le b n)

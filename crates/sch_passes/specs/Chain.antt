@@ -10,8 +10,8 @@ use Rattle.sch_cells.specs.Tree as cells
 use Rattle.sch_rename.specs.Made.{renamed_source}
 use Rattle.sch_assign.specs.Celled.{celled_in}
 use Rattle.sch_assign.specs.Converted.{converted_source}
-use Rattle.sch_closed.specs.Closed.{closed_source}
-use Rattle.sch_normal.specs.Normal.{normal_source}
+use Rattle.sch_closure.specs.Closed.{closed_source}
+use Rattle.sch_anf_laws.specs.Normal.{normal_source}
 
 -- each variable that is assigned or belongs to a Rec gets a cell
 abbrev pub with_cells : cells.Source → cells.Source

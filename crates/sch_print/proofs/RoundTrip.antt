@@ -5,7 +5,7 @@ pub mod IntegerTexts
 use Rattle.std.proofs.Common.{◌≡◌, ◌≢◌, ◌+◌, ◌≤◌, ℕ, zero, suc, List, [], ◌∷◌, ◌++◌, length, refl, sym, ◌∙◌, ap, subst, arith, append_assoc, length-append}
 use Rattle.std.specs.Prelude.{codes}
 use Rattle.std.proofs.lemmas.List.{append-nil}
-use Rattle.sch_lexemes.specs.Lexeme.{is_empty, is_lexeme, IsLongest}
+use Rattle.sch_read.specs.Lexer.Lexeme.{is_empty, is_lexeme, IsLongest}
 use Rattle.sch_read.specs.Grammar.{Token, Open, Close, Dot, Plain, parenthesis, hash_parenthesis, Atom, boolean, integer, character, text, symbol, Datum, Data, atom, list, dotted, vector, none, cons, one, with_tail, ReadsOne, ReadsMany, plain, listed, with_dot, elements, end, more}
 use Rattle.sch_read.specs.Lexer.Cut.{Cuts, nothing, lexeme}
 use Rattle.sch_read.specs.Text.{max_nesting, Spells}

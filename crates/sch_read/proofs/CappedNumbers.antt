@@ -1,11 +1,11 @@
 -- A number that is capped at the greatest of 64 bits has the token of the whole number: the cap is no fixnum.
-use Rattle.std.proofs.Common.{◌≡◌, ℕ, ◌+◌, ◌-◌, ◌*◌, ◌^◌, ◌<◌, ◌≤◌, ◌⊎◌, inl, inr, min, arith, sym, ◌∙◌, ap, Bool, true, false, List}
+use Rattle.std.proofs.Common.{◌≡◌, ℕ, ◌-◌, ◌^◌, ◌<◌, ◌≤◌, ◌⊎◌, inl, inr, min, arith, sym, ◌∙◌, ap, Bool, true, false, List}
 use Rattle.std.specs.Prelude.{ℤ, pos, neg_ℤ, cond, if◌then◌else◌}
 use Rattle.std.specs.Str.Parse.{digits_value, starts_with_minus, without_leading_sign, signed_digits_value}
 use Rattle.std.proofs.lemmas.Bool.{cases_lt}
 use Rattle.std.proofs.lemmas.Bool.Decides.{nat_tests}
 use Rattle.sch_read.specs.Grammar.{Plain, Huge, Bad, bad_number, integer}
-use Rattle.sch_lexemes.specs.Numerals.{are_digits}
+use Rattle.sch_read.specs.Lexer.Numerals.{are_digits}
 use Rattle.sch_read.specs.Lexer.Token.{integer_at, number_at}
 use Rattle.sch_word.specs.values.Fixnum.{is_fixnum}
 

@@ -9,3 +9,4 @@ pub mod Weights
 pub mod Validity
 pub mod ReleaseEffort
 pub mod texts
+pub mod CappedDigits

@@ -4,8 +4,8 @@ use Rattle.std.specs.Prelude.{◌==◌, ◌&&◌, ◌||◌, not, if◌then◌els
 use Rattle.std.specs.List.{list_all}
 use Rattle.std.proofs.lemmas.List.{append-nil}
 use Rattle.sch_read.specs.Grammar.{Token}
-use Rattle.sch_lexemes.specs.Letters.{is_delimiter, is_word_byte}
-use Rattle.sch_lexemes.specs.Lexeme.{is_empty, is_string_rest, is_escape_rest, is_character_rest, is_hash_rest, is_lexeme, IsLongest}
+use Rattle.sch_read.specs.Lexer.Letters.{is_delimiter, is_word_byte}
+use Rattle.sch_read.specs.Lexer.Lexeme.{is_empty, is_string_rest, is_escape_rest, is_character_rest, is_hash_rest, is_lexeme, IsLongest}
 use Rattle.sch_read.specs.Lexer.Token.{token_at}
 use Rattle.sch_read.specs.Lexer.Cut.{Cuts, nothing, lexeme}
 use Rattle.sch_read.specs.Lexer.Scan.{scan}

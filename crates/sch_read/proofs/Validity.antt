@@ -6,15 +6,15 @@ use Rattle.std.proofs.lemmas.Bool.{cases_lt}
 use Rattle.std.proofs.lemmas.Bool.Decides.{nat_tests}
 use Rattle.std.specs.Char.{to_ascii_lowercase, is_ascii_alphabetic}
 use Rattle.std.specs.Str.{bytes_eq}
-use Rattle.sch_lexemes.specs.Letters.{folded, is_initial, is_subsequent}
+use Rattle.sch_read.specs.Lexer.Letters.{folded, is_initial, is_subsequent}
 use Rattle.std.proofs.lemmas.Slice.Eq.{bytes_eq-Decides}
 use Rattle.std.specs.Str.Parse.{without_leading_sign, signed_digits_value}
 use Rattle.std.proofs.Common.{length}
 use Rattle.sch_word.proofs.facts.Booleans.{and_parts, and_of, or_left}
-use Rattle.sch_lexemes.specs.Letters.{is_white}
-use Rattle.sch_lexemes.specs.Lexeme.{is_empty}
-use Rattle.sch_lexemes.specs.Numerals.{is_number_like, are_digits, base_of, numeral_of}
-use Rattle.sch_lexemes.specs.Identifiers.{is_identifier}
+use Rattle.sch_read.specs.Lexer.Letters.{is_white}
+use Rattle.sch_read.specs.Lexer.Lexeme.{is_empty}
+use Rattle.sch_read.specs.Lexer.Numerals.{is_number_like, are_digits, base_of, numeral_of}
+use Rattle.sch_read.specs.Lexer.Identifiers.{is_identifier}
 use Rattle.sch_read.specs.Lexer.Token.{token_at, word_at, name_at, number_at, integer_at, character_at, string_at, string_of, Content, Whole, Unended, NoEscape, content, is_character}
 use Rattle.sch_word.specs.values.Fixnum.{is_fixnum}
 use Rattle.sch_read.specs.Grammar.{Token, Open, Close, Dot, Plain, Huge, Bad, parenthesis, hash_parenthesis, quote_mark, bad_token, bad_number, boolean, integer, character, symbol, Datum, Data, atom, list, dotted, vector, none, cons, join, with_tail, ReadsOne, ReadsMany, plain, listed, with_dot, elements, quotes, end, more}
@@ -37,9 +37,6 @@ lower-twice c = grind (arith, nat_tests)
 pub or-parts : (a b : Bool) → a || b ≡ true → (a ≡ true) ⊎ (b ≡ true)
 or-parts true b h = inl refl
 or-parts false b h = inr h
-
-pub same-bytes : (xs ys : List ℕ) → bytes_eq xs ys ≡ true → xs ≡ ys
-same-bytes xs ys e = (bytes_eq-Decides xs ys).0 e
 
 initial-lower : (c : ℕ) → is_initial c ≡ true → is_initial (to_ascii_lowercase c) ≡ true
 initial-lower c h = go (lower-cases c)
@@ -69,11 +66,11 @@ peculiar-folded : (w : List ℕ) → bytes_eq w (codes "+") || (bytes_eq w (code
 peculiar-folded w h = go (or-parts (bytes_eq w (codes "+")) _ h)
   where
     last : (bytes_eq w (codes "-") ≡ true) ⊎ (bytes_eq w (codes "...") ≡ true) → is_identifier (folded w) ≡ true
-    last (inl e) = ap (λ v. is_identifier (folded v)) (same-bytes w (codes "-") e)
-    last (inr e) = ap (λ v. is_identifier (folded v)) (same-bytes w (codes "...") e)
+    last (inl e) = ap (λ v. is_identifier (folded v)) ((bytes_eq-Decides w (codes "-")).0 e)
+    last (inr e) = ap (λ v. is_identifier (folded v)) ((bytes_eq-Decides w (codes "...")).0 e)
 
     go : (bytes_eq w (codes "+") ≡ true) ⊎ (bytes_eq w (codes "-") || bytes_eq w (codes "...") ≡ true) → is_identifier (folded w) ≡ true
-    go (inl e) = ap (λ v. is_identifier (folded v)) (same-bytes w (codes "+") e)
+    go (inl e) = ap (λ v. is_identifier (folded v)) ((bytes_eq-Decides w (codes "+")).0 e)
     go (inr e) = last (or-parts (bytes_eq w (codes "-")) _ e)
 
 -- an identifier in lower case is one

@@ -3,14 +3,14 @@ use Rattle.std.proofs.Common.{◌≡◌, ◌≤◌, ◌+◌, ◌*◌, ℕ, suc, 
 use Rattle.std.specs.Prelude.{◌==◌, ◌||◌, if◌then◌else◌, drop, codes}
 use Rattle.std.specs.Str.{bytes_eq}
 use Rattle.sch_read.specs.Grammar.{Token, Open, Close, Dot, Plain, Huge, Bad, parenthesis, hash_parenthesis, quote_mark, bad_token, bad_number, boolean, integer, character, symbol, Datum, Data, atom, list, dotted, vector, none, cons, join, with_tail, ReadsOne, ReadsMany, plain, listed, with_dot, elements, quotes, end, more}
-use Rattle.sch_lexemes.specs.Letters.{folded, is_white}
-use Rattle.sch_lexemes.specs.Numerals.{is_number_like, are_digits, base_of, numeral_of}
-use Rattle.sch_lexemes.specs.Identifiers.{is_identifier}
-use Rattle.sch_lexemes.specs.Letters.{escaped, is_escape}
+use Rattle.sch_read.specs.Lexer.Letters.{folded, is_white}
+use Rattle.sch_read.specs.Lexer.Numerals.{is_number_like, are_digits, base_of, numeral_of}
+use Rattle.sch_read.specs.Lexer.Identifiers.{is_identifier}
+use Rattle.sch_read.specs.Lexer.Letters.{escaped, is_escape}
 use Rattle.sch_read.specs.Lexer.Token.{token_at, word_at, name_at, number_at, integer_at, character_at, string_at, string_of, Content, Whole, Unended, NoEscape, with_byte, content, escape_content, is_character}
 use Rattle.sch_word.specs.values.Fixnum.{is_fixnum}
 use Rattle.std.specs.Str.Parse.{without_leading_sign, signed_digits_value}
-use Rattle.sch_lexemes.specs.Lexeme.{is_empty}
+use Rattle.sch_read.specs.Lexer.Lexeme.{is_empty}
 use Rattle.sch_read.specs.Lexer.Cut.{Cuts, nothing, lexeme}
 use Rattle.sch_read.specs.Text.{max_nesting, Spells}
 use Rattle.sch_read.specs.Valid.{bytes_in, weight, weights}

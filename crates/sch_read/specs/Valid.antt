@@ -1,8 +1,8 @@
 -- Valid data, and their weight.
 use Rattle.std.specs.Prelude.{◌≡◌, ◌≢◌, ◌+◌, ℕ, ◌*◌, true, length}
 use Rattle.sch_read.specs.Grammar.{Atom, boolean, integer, character, text, symbol, Datum, Data, atom, list, dotted, vector, none, cons}
-use Rattle.sch_lexemes.specs.Letters.{folded}
-use Rattle.sch_lexemes.specs.Identifiers.{is_identifier}
+use Rattle.sch_read.specs.Lexer.Letters.{folded}
+use Rattle.sch_read.specs.Lexer.Identifiers.{is_identifier}
 
 -- a symbol is an identifier in lower case
 abbrev pub IsValidAtom : Atom → Type 0

@@ -3,15 +3,17 @@
 ghost use Rattle.std.specs.Prelude.{◌≡◌, ℕ, ◌+◌, ◌<◌, ◌^◌, IfOk, drop, length};
 ghost use Rattle.std.specs.Char.{to_ascii_lowercase};
 ghost use Rattle.std.specs.Str.{bytes_eq};
-ghost use Rattle.sch_lexemes.specs.Letters.{folded};
+ghost use Rattle.sch_read.specs.Lexer.Letters.{folded};
 ghost use Rattle.sch_read.specs.Lexer.Token as tokens;
 ghost use Rattle.sch_read.specs.Lexer.TokenView.{token_of, tokens_of};
 
 use crate::datum::Atom;
-use crate::numeral::number_token;
+use crate::identifier::is_identifier;
+use crate::integer_token::number_token;
+use crate::letters::is_white;
+use crate::numeral::{byte_at, is_number_like};
 use crate::strings::string_token;
 use crate::token::{Flaw, Opener, Placed, Token};
-use sch_lexemes::{byte_at, is_identifier, is_number_like, is_white};
 use sch_word::{Bytes, List, Mem};
 use std::alloc::Global;
 

@@ -1,9 +1,13 @@
-//! The reader: the bytes of a text to its data.
+//! The reader: the bytes of a text to its lexemes, and these to its data.
 #![tactic(auto)]
 
 mod datum;
 mod error;
+mod identifier;
+mod integer_token;
 mod laws;
+mod letters;
+mod lexeme;
 mod lexer;
 mod numeral;
 mod parser;

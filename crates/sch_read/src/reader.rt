@@ -15,10 +15,10 @@ ghost use Rattle.sch_read.specs.Lexer.PartialLexeme.{IsMet, left};
 
 use crate::datum::Datum;
 use crate::error::ReadError;
+use crate::lexeme::{Stage, begin, next};
 use crate::lexer::token;
 use crate::parser::{Frame, Parser};
 use crate::token::Placed;
-use sch_lexemes::{Stage, begin, next};
 use sch_word::List;
 use std::alloc::Global;
 

@@ -1,13 +1,13 @@
-//! The token of a string.
+//! The token of a string, and the escapes in it.
 
 ghost use Rattle.std.specs.Prelude.{◌≡◌, ◌+◌, ◌<◌, ◌^◌, IfOk, IsTrue, MatchOption, length, false, true};
+ghost use Rattle.sch_read.specs.Lexer.Letters.{is_escape, escaped};
 ghost use Rattle.sch_read.specs.Lexer.Token.{string_at};
 ghost use Rattle.sch_read.specs.Grammar.{Bad, bad_string};
 ghost use Rattle.sch_read.specs.Lexer.TokenView.{placed_of};
 
 use crate::datum::Atom;
 use crate::token::{Flaw, Placed, Token};
-use sch_lexemes::escaped_byte;
 use sch_word::{List, Mem};
 use std::alloc::Global;
 
@@ -38,6 +38,19 @@ pub(crate) fn string_token(alloc: Global, at: u32, rest: &[u8]) -> Result<Placed
         }
     }
     Ok(bad_string(at))
+}
+
+/// The byte that an escape means, by the byte after its backslash.
+fn escaped_byte(b: u8) -> Option<u8>
+    ensures { MatchOption result (is_escape b ≡ false) (λ byte. (is_escape b ≡ true) × (byte ≡ escaped b)) }
+{
+    match b {
+        b'"' => Some(b'"'),
+        b'\\' => Some(b'\\'),
+        b'n' => Some(b'\n'),
+        b't' => Some(b'\t'),
+        _ => None,
+    }
 }
 
 fn bad_string(at: u32) -> Placed

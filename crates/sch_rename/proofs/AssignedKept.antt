@@ -33,8 +33,8 @@ mutual
   assigns_kept (set_global g e) s x j f i l = assigns_kept e s x j f i l
   assigns_kept (define g e) s x j f i l = assigns_kept e s x j f i l
   assigns_kept (branch a b c) s x j f i l =
-      or_same (assigns_kept a s x j f i.0 l) (or_same (assigns_kept b s (x + binds a) j (falls_more s x _ (omega arith) f) i.1 l)
-      (assigns_kept c s (x + binds a + binds b) j (falls_more s x _ (omega arith) f) i.2 l))
+      or_same (assigns_kept a s x j f i.0 l) (or_same (assigns_kept b s (x + binds a) j (falls_more s x _ (omega arith) f) i.1.0 l)
+      (assigns_kept c s (x + binds a + binds b) j (falls_more s x _ (omega arith) f) i.1.1 l))
   assigns_kept (sequence es) s x j f i l = each_kept es s x j f i l
   assigns_kept (bind site es e) s x j f i l =
       let m = count es in

@@ -8,6 +8,7 @@ use Rattle.sch_lang.specs.Meaning.{onto}
 use Rattle.sch_lang.proofs.Environments.{onto_more}
 use Rattle.sch_lang.specs.Measures.{variables, variables_each, variables_operands, variables_parts, onto_assigned, onto_all, bound_count, three_each, counts_nothing, one_unless, procedure, procedures}
 use Rattle.sch_lang.specs.Bodies.{form, bodies, bodies_each, bodies_lambdas, bodies_forms, bodies_of}
+use Rattle.sch_word.proofs.facts.Lists.{append_same, cons_same}
 use Rattle.sch_cells.specs.Bodies as to
 use Rattle.sch_rename.specs.Made.{binds, binds_each, binds_lambdas, renamed, renamed_each, renamed_lambdas, renamed_source}
 use Rattle.sch_lang.specs.InScope.{InScope, EachInScope, LambdasInScope, IsClosed}
@@ -110,7 +111,7 @@ mutual
   variables_kept (set_global g e) s x f i h = rw (nothing_kept e s x i h, variables_kept e s x f i h) refl
   variables_kept (define g e) s x f i h = rw (nothing_kept e s x i h, variables_kept e s x f i h) refl
   variables_kept (branch a b c) s x f i h =
-      rw (variables_kept a s x f i.0 h, variables_kept b s (x + binds a) (falls_more s x _ (omega arith) f) i.1 h, variables_kept c s (x + binds a + binds b) (falls_more s x _ (omega arith) f) i.2 h) refl
+      rw (variables_kept a s x f i.0 h, variables_kept b s (x + binds a) (falls_more s x _ (omega arith) f) i.1.0 h, variables_kept c s (x + binds a + binds b) (falls_more s x _ (omega arith) f) i.1.1 h) refl
   variables_kept (sequence es) s x f i h = parts_kept es s x f i h
   variables_kept (bind site es e) s x f i h =
       let m = count es in
@@ -176,12 +177,6 @@ form_variables_kept e x i = variables_kept e [] x tt i fits_nothing
 
 -- ## The bodies, in the order of a listing
 
-both : {A : Type 0} {a a' b b' : List A} → a ≡ a' → b ≡ b' → a ++ b ≡ a' ++ b'
-both p q = rw (p, q) refl
-
-first_then : {A : Type 0} {a a' : A} {b b' : List A} → a ≡ a' → b ≡ b' → a ∷ b ≡ a' ∷ b'
-first_then p q = rw (p, q) refl
-
 mutual
   bodies_kept : (e : Expression) (s : List ℕ) (x : ℕ) → Falls s x → InScope e (length s) → to.bodies (renamed e s x) ≡ bodies e
   bodies_kept (constant c) s x f i = refl
@@ -192,42 +187,42 @@ mutual
   bodies_kept (set_global g e) s x f i = bodies_kept e s x f i
   bodies_kept (define g e) s x f i = bodies_kept e s x f i
   bodies_kept (branch a b c) s x f i =
-      both (bodies_kept a s x f i.0) (both (bodies_kept b s _ (falls_more s x _ (omega arith) f) i.1) (bodies_kept c s _ (falls_more s x _ (omega arith) f) i.2))
+      append_same (bodies_kept a s x f i.0) (append_same (bodies_kept b s _ (falls_more s x _ (omega arith) f) i.1.0) (bodies_kept c s _ (falls_more s x _ (omega arith) f) i.1.1))
   bodies_kept (sequence es) s x f i = each_bodies es s x f i
   bodies_kept (bind site es e) s x f i =
       let m = count es in
-      both (each_bodies es s (x + m) (falls_more s x _ (omega arith) f) i.0)
+      append_same (each_bodies es s (x + m) (falls_more s x _ (omega arith) f) i.0)
       (bodies_kept e (scope_with x m s) _ (falls_more _ (x + m) _ (omega arith) (falls_with x m s f)) (inside x m s (InScope e) i.1))
   bodies_kept (fix ls e) s x f i =
       let m = count_lambdas ls in
-      both (lambdas_bodies ls (scope_with x m s) (x + m) (falls_with x m s f) (inside x m s (LambdasInScope ls) i.0))
+      append_same (lambdas_bodies ls (scope_with x m s) (x + m) (falls_with x m s f) (inside x m s (LambdasInScope ls) i.0))
       (bodies_kept e (scope_with x m s) _ (falls_more _ (x + m) _ (omega arith) (falls_with x m s f)) (inside x m s (InScope e) i.1))
   bodies_kept (letrec site es e) s x f i =
       let m = count es in
-      both (each_bodies es (scope_with x m s) (x + m) (falls_with x m s f) (inside x m s (EachInScope es) i.0))
+      append_same (each_bodies es (scope_with x m s) (x + m) (falls_with x m s f) (inside x m s (EachInScope es) i.0))
       (bodies_kept e (scope_with x m s) _ (falls_more _ (x + m) _ (omega arith) (falls_with x m s f)) (inside x m s (InScope e) i.1))
   bodies_kept (lambda name m rest e) s x f i =
-      first_then (procedure_kept name m rest e s x f i) (bodies_kept e (scope_with x m s) (x + m) (falls_with x m s f) (inside x m s (InScope e) i))
-  bodies_kept (call site g es) s x f i = both (bodies_kept g s x f i.0) (each_bodies es s _ (falls_more s x _ (omega arith) f) i.1)
+      cons_same (procedure_kept name m rest e s x f i) (bodies_kept e (scope_with x m s) (x + m) (falls_with x m s f) (inside x m s (InScope e) i))
+  bodies_kept (call site g es) s x f i = append_same (bodies_kept g s x f i.0) (each_bodies es s _ (falls_more s x _ (omega arith) f) i.1)
   bodies_kept (operation site which es) s x f i = each_bodies es s x f i
 
   each_bodies : (es : Expressions) (s : List ℕ) (x : ℕ) → Falls s x → EachInScope es (length s) → to.bodies_each (renamed_each es s x) ≡ bodies_each es
   each_bodies no_expressions s x f i = refl
-  each_bodies (and_expression e es) s x f i = both (bodies_kept e s x f i.0) (each_bodies es s _ (falls_more s x _ (omega arith) f) i.1)
+  each_bodies (and_expression e es) s x f i = append_same (bodies_kept e s x f i.0) (each_bodies es s _ (falls_more s x _ (omega arith) f) i.1)
 
   lambdas_bodies : (ls : Lambdas) (s : List ℕ) (x : ℕ) → Falls s x → LambdasInScope ls (length s) → to.bodies_lambdas (renamed_lambdas ls s x) ≡ bodies_lambdas ls
   lambdas_bodies no_lambdas s x f i = refl
   lambdas_bodies (and_lambda name m rest e ls) s x f i =
-      first_then (procedure_kept name m rest e s x f i.0)
-      (both (bodies_kept e (scope_with x m s) (x + m) (falls_with x m s f) (inside x m s (InScope e) i.0)) (lambdas_bodies ls s _ (falls_more s x _ (omega arith) f) i.1))
+      cons_same (procedure_kept name m rest e s x f i.0)
+      (append_same (bodies_kept e (scope_with x m s) (x + m) (falls_with x m s f) (inside x m s (InScope e) i.0)) (lambdas_bodies ls s _ (falls_more s x _ (omega arith) f) i.1))
 
 form_kept : (e : Expression) (x : ℕ) → InScope e 0 → to.form (renamed e [] x) ≡ form e
 form_kept e x i = rw (form_variables_kept e x i) refl
 
 forms_bodies : (es : Expressions) (x : ℕ) → EachInScope es 0 → to.bodies_forms (renamed_each es [] x) ≡ bodies_forms es
 forms_bodies no_expressions x i = refl
-forms_bodies (and_expression e es) x i = first_then (form_kept e x i.0) (both (bodies_kept e [] x tt i.0) (forms_bodies es (x + binds e) i.1))
+forms_bodies (and_expression e es) x i = cons_same (form_kept e x i.0) (append_same (bodies_kept e [] x tt i.0) (forms_bodies es (x + binds e) i.1))
 
 -- a program has the same bodies, each with its name, its formals, its free variables and its count
 pub program_bodies : (p : Source) → IsClosed p → to.bodies_of (renamed_source p) ≡ bodies_of p
-program_bodies p c = both (lambdas_bodies p.library [] 0 tt c.library) (forms_bodies p.forms _ c.forms)
+program_bodies p c = append_same (lambdas_bodies p.library [] 0 tt c.library) (forms_bodies p.forms _ c.forms)

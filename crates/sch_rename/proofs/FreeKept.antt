@@ -18,7 +18,7 @@ mutual
   free_under (set_local k e) n i = union_under (k ∷ []) (free e) n (i.0, tt) (free_under e n i.1)
   free_under (set_global g e) n i = free_under e n i
   free_under (define g e) n i = free_under e n i
-  free_under (branch a b c) n i = union_under (free a) _ n (free_under a n i.0) (union_under (free b) (free c) n (free_under b n i.1) (free_under c n i.2))
+  free_under (branch a b c) n i = union_under (free a) _ n (free_under a n i.0) (union_under (free b) (free c) n (free_under b n i.1.0) (free_under c n i.1.1))
   free_under (sequence es) n i = each_under es n i
   free_under (bind site es e) n i = union_under (free_each es) _ n (each_under es n i.0) (outside_under (count es) (free e) n (free_under e (n + count es) i.1))
   free_under (fix ls e) n i =
@@ -59,8 +59,8 @@ mutual
   free_kept (set_global g e) s x f i = free_kept e s x f i
   free_kept (define g e) s x f i = free_kept e s x f i
   free_kept (branch a b c) s x f i =
-      both s x (free a) _ f (free_under a _ i.0) (union_under (free b) (free c) _ (free_under b _ i.1) (free_under c _ i.2)) (free_kept a s x f i.0)
-      (both s x (free b) (free c) f (free_under b _ i.1) (free_under c _ i.2) (free_kept b s (x + binds a) (falls_more s x _ (omega arith) f) i.1) (free_kept c s (x + binds a + binds b) (falls_more s x _ (omega arith) f) i.2))
+      both s x (free a) _ f (free_under a _ i.0) (union_under (free b) (free c) _ (free_under b _ i.1.0) (free_under c _ i.1.1)) (free_kept a s x f i.0)
+      (both s x (free b) (free c) f (free_under b _ i.1.0) (free_under c _ i.1.1) (free_kept b s (x + binds a) (falls_more s x _ (omega arith) f) i.1.0) (free_kept c s (x + binds a + binds b) (falls_more s x _ (omega arith) f) i.1.1))
   free_kept (sequence es) s x f i = each_kept es s x f i
   free_kept (bind site es e) s x f i =
       let m = count es in

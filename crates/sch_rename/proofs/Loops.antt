@@ -1,11 +1,11 @@
--- How many expressions and lambdas there are, and what loops over them have made and have left.
+-- What loops over expressions and lambdas have made and have left.
 use Rattle.std.proofs.Common.{◌≡◌, ℕ, zero, suc, ◌+◌, ◌-◌, ◌<◌, ◌≤◌, List, [], ◌∷◌, ◌++◌, length, map, reverse, drop, get_or, refl, ap, ◌∙◌, sym, subst, arith, add-one}
 use Rattle.std.proofs.lemmas.List.{get_or-reverse, reverse-append}
 use Rattle.sch_lang.specs.declared.tree.Exp.{Exp}
 use Rattle.sch_lang.specs.declared.tree.Lambda.{Lambda}
 use Rattle.sch_lang.specs.Tree.{Expressions, Lambdas, Source, expressions, lambdas, count, count_lambdas}
 use Rattle.sch_lang.specs.View.{expression, expressions_of, lambdas_of, function}
-use Rattle.sch_lang.proofs.worked.Rows.{expressions_of_list, lambdas_of_list}
+use Rattle.sch_lang.proofs.ListViews.{expressions_of_list, lambdas_of_list}
 use Rattle.sch_word.specs.declared.statics.Statics as declared
 use Rattle.sch_word.specs.values.StaticsView.{statics}
 use Rattle.sch_cells.specs.SourceView.{source_of}
@@ -20,20 +20,6 @@ use Rattle.sch_lang.specs.InScope.{EachInScope, LambdasInScope}
 use Rattle.sch_word.specs.trees.Bindings.{scope_with}
 use Rattle.sch_word.specs.trees.Walk.{onto}
 use Rattle.sch_word.proofs.Walking.{next_made, next_count, next_left, end_made}
-
-length_of : (es : List Exp) → count (expressions (map expression es)) ≡ length es
-length_of [] = refl
-length_of (e ∷ es) = ap suc (length_of es)
-
-pub count_is : (es : List Exp) → count (expressions_of es) ≡ length es
-count_is es = ap count (expressions_of_list es) ∙ length_of es
-
-length_of_lambdas : (ls : List Lambda) → count_lambdas (lambdas (map function ls)) ≡ length ls
-length_of_lambdas [] = refl
-length_of_lambdas (l ∷ ls) = ap suc (length_of_lambdas ls)
-
-pub count_lambdas_is : (ls : List Lambda) → count_lambdas (lambdas_of ls) ≡ length ls
-count_lambdas_is ls = ap count_lambdas (lambdas_of_list ls) ∙ length_of_lambdas ls
 
 number_at_is : (s : List ℕ) (k : ℕ) → number_at s k ≡ get_or s k 0
 number_at_is [] k = refl

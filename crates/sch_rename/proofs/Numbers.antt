@@ -98,7 +98,7 @@ mutual
   named_closed (set_local k e) s x i = both_true (number_in s k i.0) (named_closed e s x i.1)
   named_closed (set_global g e) s x i = named_closed e s x i
   named_closed (define g e) s x i = named_closed e s x i
-  named_closed (branch a b c) s x i = both_true (named_closed a s _ i.0) (both_true (named_closed b s _ i.1) (named_closed c s _ i.2))
+  named_closed (branch a b c) s x i = both_true (named_closed a s _ i.0) (both_true (named_closed b s _ i.1.0) (named_closed c s _ i.1.1))
   named_closed (sequence es) s x i = each_closed es s x i
   named_closed (bind site es e) s x i =
       rw (counts es s (x + count es)) (both_true (each_closed es s _ i.0) (named_closed e _ _ (inside x (count es) s (InScope e) i.1)))

@@ -91,8 +91,8 @@ module _ (orders : Orders) (enter : from.Enter) (enter' : to.Enter)
     evaluate_same (branch a b c) s x depth tail f i h =
         similar_then (same_store Becomes) (evaluate_same a s x depth false f i.0 h)
         (λ _ _ v. similar_either (same_store Becomes) (is_true v)
-        (evaluate_same b s (x + binds a) depth tail (falls_more s x _ (omega arith) f) i.1 h)
-        (evaluate_same c s (x + binds a + binds b) depth tail (falls_more s x _ (omega arith) f) i.2 h))
+        (evaluate_same b s (x + binds a) depth tail (falls_more s x _ (omega arith) f) i.1.0 h)
+        (evaluate_same c s (x + binds a + binds b) depth tail (falls_more s x _ (omega arith) f) i.1.1 h))
     evaluate_same (sequence es) s x depth tail f i h = similar_in_turn (same_store Becomes) unspecified (parts_same es s x depth tail f i h)
     evaluate_same (bind site es e) s x {environment} depth tail f i h =
         let m = count es in

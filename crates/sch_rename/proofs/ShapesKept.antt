@@ -29,7 +29,7 @@ module _ {A : Type 0} {R : A → A → Type 0} {nothing : A} {join : A → A →
     over_kept (define g e) s x f i = joins.joined _ _ _ _ (node (define g e) s x f i) (over_kept e s x f i)
     over_kept (branch a b c) s x f i =
         joins.joined _ _ _ _ (node (branch a b c) s x f i) (joins.joined _ _ _ _ (over_kept a s x f i.0)
-        (joins.joined _ _ _ _ (over_kept b s _ (falls_more s x _ (omega arith) f) i.1) (over_kept c s _ (falls_more s x _ (omega arith) f) i.2)))
+        (joins.joined _ _ _ _ (over_kept b s _ (falls_more s x _ (omega arith) f) i.1.0) (over_kept c s _ (falls_more s x _ (omega arith) f) i.1.1)))
     over_kept (sequence es) s x f i = joins.joined _ _ _ _ (node (sequence es) s x f i) (each_kept es s x f i)
     over_kept (bind site es e) s x f i =
         let m = count es in

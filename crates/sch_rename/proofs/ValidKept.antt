@@ -14,6 +14,7 @@ use Rattle.sch_cells.specs.Measures as to
 use Rattle.sch_cells.specs.Valid as to_valid
 use Rattle.sch_rename.specs.Made.{binds, binds_each, binds_lambdas, renamed, renamed_each, renamed_lambdas, renamed_source}
 use Rattle.sch_lang.specs.InScope.{InScope, EachInScope, LambdasInScope, IsClosed}
+use Rattle.sch_lang.specs.InScope as source_scope
 use Rattle.sch_rename.proofs.Scopes.{Falls, falls_more, falls_with}
 use Rattle.sch_rename.proofs.FreeKept.{counts_lambdas}
 use Rattle.sch_rename.proofs.AssignedKept.{first_assigned, first_assigned_lambdas}
@@ -101,7 +102,7 @@ module _ (p : Source) (c : IsClosed p) where
   names : IsTrue (valid.in_range p) → IsTrue (to.every (λ e. names_known (length p.statics.symbols) (count_literals p.statics.literals) (length p.statics.globals) (to.shape e)) (renamed_source p))
   names in_range =
       measure_kept true (λ a b. a && b) (names_known (length p.statics.symbols) (count_literals p.statics.literals) (length p.statics.globals)) p c
-      ∙ (parts (valid.each_in_scope p.forms 0) _ (parts (valid.lambdas_in_scope p.library 0) _ in_range).1).1
+      ∙ (parts (source_scope.each_in_scope p.forms 0) _ (parts (source_scope.lambdas_in_scope p.library 0) _ in_range).1).1
 
   pub formed_kept : IsTrue (valid.in_range p) → IsTrue (valid.shaped p) → IsTrue (to_valid.formed false (renamed_source p))
   formed_kept in_range h =

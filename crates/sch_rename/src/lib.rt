@@ -5,7 +5,7 @@ ghost use Rattle.std.specs.Prelude.{◌≡◌, ◌+◌, ◌<◌, ◌^◌, ◌-�
 ghost use Rattle.sch_word.specs.runs.Runs.{SameRuns};
 ghost use Rattle.sch_word.specs.values.StaticsView.{statics, statics_of};
 ghost use Rattle.sch_lang.specs.Bodies.{bodies_of};
-ghost use Rattle.sch_lang.specs.Measures.{call_sites_of, dropped_of, over_source, program_size, shape, sites_of, tests_of, variables_bound};
+ghost use Rattle.sch_lang.specs.Measures.{call_sites_of, dropped_of, program_size, sites_of, tests_of, total, variables_bound};
 ghost use Rattle.sch_lang.specs.ProgramView.{source};
 ghost use Rattle.sch_lang.specs.Run.{run};
 ghost use Rattle.sch_lang.specs.Covered.{is_covered_program};
@@ -54,7 +54,7 @@ pub fn rename(alloc: Global, p: &Program) -> Result<CellProgram<Unboxed>, Mem>
     ensures bodies { IfOk result (λ q. bodies.bodies_of (view.source q) ≡ bodies_of (source p.now)) }
     ensures size { IfOk result (λ q. measures.program_size (view.source q) ≡ program_size (source p.now)) }
     // As many variables belong to a Rec.
-    ensures recursive { IfOk result (λ q. recursive_of (view.source q) ≡ over_source 0 (λ a b. a + b) (λ e. recursive_in (shape e)) (source p.now)) }
+    ensures recursive { IfOk result (λ q. recursive_of (view.source q) ≡ total recursive_in (source p.now)) }
     ensures covered { IfOk result (λ q. covered.is_covered_program (view.source q) ≡ is_covered_program (source p.now)) }
 {
     rename_program(alloc, p)

@@ -23,7 +23,7 @@ fn number_of(scope: &[u32], k: u32) -> u32
 }
 
 // How many expressions there are.
-#[tactic(auto, using(crate::proofs::Loops::count_is))]
+#[tactic(auto, using(sch_lang::proofs::ListViews::count_is))]
 fn count(es: &List<Exp>) -> u32
     requires { source.count (expressions_of es.now) < 2 ^ 32 }
     ensures { result ≡ source.count (expressions_of es.now) }
@@ -32,7 +32,7 @@ fn count(es: &List<Exp>) -> u32
 }
 
 // How many lambdas there are.
-#[tactic(auto, using(crate::proofs::Loops::count_lambdas_is))]
+#[tactic(auto, using(sch_lang::proofs::ListViews::count_lambdas_is))]
 fn count_lambdas(ls: &List<Lambda>) -> u32
     requires { source.count_lambdas (lambdas_of ls.now) < 2 ^ 32 }
     ensures { result ≡ source.count_lambdas (lambdas_of ls.now) }

@@ -3,7 +3,7 @@ use Rattle.std.specs.Prelude.{ℕ, Bool, true, ◌&&◌, ◌||◌, nat_lt, List,
 use Rattle.sch_asm.specs.declared.item.Item.{Item}
 use Rattle.sch_asm.specs.declared.item.Item.TheVariants.{Jump, JumpIf, LoadLabel}
 use Rattle.sch_asm.specs.Items.{is_among, labels_in}
-use Rattle.sch_places.specs.Addresses.{first_label}
+use Rattle.sch_select_memory.specs.Addresses.{first_label}
 
 -- a label is below the first, or stands behind
 abbrev pub goes_ahead : (first label : ℕ) → (behind : List Item) → Bool

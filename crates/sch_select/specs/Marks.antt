@@ -4,7 +4,6 @@ use Rattle.std.specs.List.{count_by, flat_map}
 use Rattle.sch_word.specs.declared.answer.Answer.{Answer}
 use Rattle.sch_word.specs.values.Memory.{Segment}
 use Rattle.sch_word.specs.runs.Computation.{gives, stops, spent}
-use Rattle.sch_control.specs.declared.mark.MarkKind as control
 use Rattle.sch_control.specs.Meaning.{Result}
 use Rattle.sch_control.specs.declared.body.Entry.{Entry}
 use Rattle.sch_control.specs.Run.{entry_at, outcome_of, starting_world}
@@ -12,16 +11,15 @@ use Rattle.sch_frames.specs.Tree.{Code, Source}
 use Rattle.sch_frames.specs.Run.{bodies_of, entries_of}
 use Rattle.sch_insn.specs.Behaves.{Given, exit_of, start}
 use Rattle.sch_insn.specs.Path.{traced}
-use Rattle.sch_asm.specs.declared.item.MarkKind.{MarkKind}
-use Rattle.sch_asm.specs.declared.item.MarkKind.TheVariants as item_mark
+use Rattle.sch_word.specs.declared.mark.MarkKind.{MarkKind}
+use Rattle.sch_word.specs.declared.mark.MarkKind.TheVariants as item_mark
 use Rattle.sch_frames.specs.Valid.{is_entered}
 use Rattle.sch_word.specs.runs.Runs.{Run}
-use Rattle.sch_activations.specs.Activations.{activations}
-use Rattle.sch_activations.specs.Ways.{AreWays}
-use Rattle.sch_places.specs.ItemMarks.{kind_of}
+use Rattle.sch_word.specs.runs.Activations.{activations}
+use Rattle.sch_frames.specs.Ways.{AreWays}
 
 -- what a result has passed
-abbrev pub marks_of : Result → Option (List control.MarkKind)
+abbrev pub marks_of : Result → Option (List MarkKind)
 marks_of None = None
 marks_of (Some (gives v w)) = Some w.marks
 marks_of (Some (stops why w)) = Some w.marks
@@ -29,7 +27,7 @@ marks_of (Some (spent w)) = Some w.marks
 
 -- the marks that a run passes, with limits of heap and depth, against the answers of a kernel and with at most a
 -- number of procedure entries; none where the program is wrong
-abbrev pub marks_passed : Source → (heap depth : ℕ) → List Answer → (entries : ℕ) → Option (List control.MarkKind)
+abbrev pub marks_passed : Source → (heap depth : ℕ) → List Answer → (entries : ℕ) → Option (List MarkKind)
 marks_passed p heap depth answers entries =
     marks_of (outcome_of (entries_of p.bodies) (bodies_of p.bodies) depth entries
     (starting_world p.statics p.library heap answers entries))
@@ -45,14 +43,14 @@ pub record IsBeginning {E : Type 0} (xs ys : List E) : Type 0 where
 -- of its address begins. In m steps it passes no more than the run with m entries does, and where it has exited it
 -- has passed all of them.
 pub record PassesMarks (entry : ℕ) (segments : List Segment) (marks_at : ℕ → List MarkKind)
-    (passed : List Answer → (entries : ℕ) → Option (List control.MarkKind)) : Type 0 where
-  pub along : (g : Given) (answers : List Answer) (m : ℕ) (marks : List control.MarkKind)
+    (passed : List Answer → (entries : ℕ) → Option (List MarkKind)) : Type 0 where
+  pub along : (g : Given) (answers : List Answer) (m : ℕ) (marks : List MarkKind)
       → passed answers m ≡ Some marks
-      → IsBeginning (flat_map marks_at (traced m (start entry segments g answers)).trace) (map kind_of marks)
-  pub all : (g : Given) (answers : List Answer) (m : ℕ) (marks : List control.MarkKind) → passed answers m ≡ Some marks
+      → IsBeginning (flat_map marks_at (traced m (start entry segments g answers)).trace) marks
+  pub all : (g : Given) (answers : List Answer) (m : ℕ) (marks : List MarkKind) → passed answers m ≡ Some marks
       → (status : ℕ) (output : List ℕ) → exit_of (traced m (start entry segments g answers)).progress ≡ Some
       (status, output)
-      → flat_map marks_at (traced m (start entry segments g answers)).trace ≡ map kind_of marks
+      → flat_map marks_at (traced m (start entry segments g answers)).trace ≡ marks
 
 -- ## Entries
 
@@ -78,5 +76,5 @@ pub record CountsEntries (entry : ℕ) (segments : List Segment) (marks_at : ℕ
 -- Whatever a machine has passed in m steps, the own marks of each activation that has ended by a return or a tail call
 -- are, in order, those on one way through its body.
 pub record TakesWays (entry : ℕ) (segments : List Segment) (marks_at : ℕ → List MarkKind) (bodies : List Code) : Type 0 where
-  pub ways : (g : Given) (answers : List Answer) (m : ℕ) → (passed : List control.MarkKind)
-      × ((flat_map marks_at (traced m (start entry segments g answers)).trace ≡ map kind_of passed) × AreWays bodies (activations passed).ended)
+  pub ways : (g : Given) (answers : List Answer) (m : ℕ)
+      → AreWays bodies (activations (flat_map marks_at (traced m (start entry segments g answers)).trace)).ended

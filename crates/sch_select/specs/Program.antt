@@ -9,14 +9,14 @@ use Rattle.sch_insn.specs.declared.insn.Insn.TheVariants.{MovWord}
 use Rattle.sch_insn.specs.declared.register.TheConstants.{RBP, R12, R13}
 use Rattle.sch_asm.specs.declared.item.Item.{Item}
 use Rattle.sch_asm.specs.declared.item.Item.TheVariants as item
-use Rattle.sch_asm.specs.declared.item.MarkKind.TheVariants.{Enter}
+use Rattle.sch_word.specs.declared.mark.MarkKind.TheVariants.{Enter}
 use Rattle.sch_asm.specs.declared.routine.Routine.TheVariants as routine
 use Rattle.sch_asm.specs.Routines.{label_of}
-use Rattle.sch_places.specs.Addresses.{body_label}
-use Rattle.sch_own_routines.specs.OwnCode.{own_code}
-use Rattle.sch_own_routines.specs.RestCode.{rest_entry}
-use Rattle.sch_operations.specs.CallCode.{check_count}
-use Rattle.sch_statics.specs.Data.{heap_of}
+use Rattle.sch_select_memory.specs.Addresses.{body_label}
+use Rattle.sch_select_memory.specs.OwnCode.{own_code}
+use Rattle.sch_select_memory.specs.RestCode.{rest_entry}
+use Rattle.sch_select_operations.specs.CallCode.{check_count}
+use Rattle.sch_select_data.specs.Data.{heap_of}
 use Rattle.sch_select.specs.Select.{all_labels_needed, body_code}
 
 -- ## The bodies, in their order

@@ -16,13 +16,12 @@ use Rattle.sch_insn.specs.declared.insn.Insn.TheVariants.{MovTo, MovFrom, CmpNum
 use Rattle.sch_insn.specs.declared.register.TheConstants.{RAX, RCX, R15}
 use Rattle.sch_asm.specs.declared.item.Item.{Item}
 use Rattle.sch_asm.specs.declared.item.Item.TheVariants.{Label, Plain, Jump, JumpIf, Mark}
-use Rattle.sch_heap.specs.Encoded.{false_word}
-use Rattle.sch_places.specs.Addresses.{place_operand}
-use Rattle.sch_places.specs.ItemMarks.{kind_of}
-use Rattle.sch_primitives.specs.OperandCode.{second_code}
-use Rattle.sch_operations.specs.ClosureCode.{group_code}
-use Rattle.sch_operations.specs.OperationCode.{operation_code}
-use Rattle.sch_operations.specs.CallCode.{call_code, tail_code}
+use Rattle.sch_select_memory.specs.Encoded.{false_word}
+use Rattle.sch_select_memory.specs.Addresses.{place_operand}
+use Rattle.sch_select_operations.specs.OperandCode.{second_code}
+use Rattle.sch_select_operations.specs.ClosureCode.{group_code}
+use Rattle.sch_select_operations.specs.OperationCode.{operation_code}
+use Rattle.sch_select_operations.specs.CallCode.{call_code, tail_code}
 
 -- ## How many labels of its own an instruction needs at most
 
@@ -74,7 +73,7 @@ module _ (base out words heap_end literals : ℕ) where
       (JumpIf E (base + l) ∷ rest)
   instruction_code n (instruction.Jump l) rest = Jump (base + l) ∷ rest
   instruction_code n (instruction.Label l) rest = Label (base + l) ∷ rest
-  instruction_code n (instruction.Mark m) rest = Mark (kind_of m) ∷ rest
+  instruction_code n (instruction.Mark m) rest = Mark m ∷ rest
 
   -- each instruction has the labels that it needs, from n on
   abbrev pub body_code : (n : ℕ) → List Instruction → List Item → List Item

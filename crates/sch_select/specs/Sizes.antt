@@ -6,9 +6,8 @@ use Rattle.sch_frames.specs.Sizes.{closures_in, program_size}
 use Rattle.sch_frames.specs.Tree.{Code, Source}
 use Rattle.sch_asm.specs.declared.item.Item.{Item}
 use Rattle.sch_asm.specs.declared.item.Item.TheVariants as item
-use Rattle.sch_asm.specs.declared.item.MarkKind.{MarkKind}
-use Rattle.sch_asm.specs.declared.item.MarkKind.TheVariants.{Enter}
-use Rattle.sch_places.specs.ItemMarks.{kind_of}
+use Rattle.sch_word.specs.declared.mark.MarkKind.{MarkKind}
+use Rattle.sch_word.specs.declared.mark.MarkKind.TheVariants.{Enter}
 
 -- ## Steps
 
@@ -38,7 +37,7 @@ kinds_in (_ ∷ is) = kinds_in is
 -- the marks that stand among instructions, as items have them
 abbrev pub kinds_among : List Instruction → List MarkKind
 kinds_among [] = []
-kinds_among (Mark m ∷ instructions) = kind_of m ∷ kinds_among instructions
+kinds_among (Mark m ∷ instructions) = m ∷ kinds_among instructions
 kinds_among (_ ∷ instructions) = kinds_among instructions
 
 -- the marks of bodies: for each that of its entry, with its number, and then those among its instructions

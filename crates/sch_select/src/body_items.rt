@@ -6,37 +6,19 @@ ghost use Rattle.sch_frames.specs.declared.instruction.Instruction.TheVariants.{
 ghost use Rattle.sch_frames.specs.SourceView.{codes_of, code_of};
 ghost use Rattle.sch_select.specs.Select.{all_labels_needed, labels_needed, operand_needs, operation_needs};
 ghost use Rattle.sch_select.specs.Select.{body_code, instruction_code};
-ghost use Rattle.sch_places.specs.ItemMarks.{kind_of};
 ghost use Rattle.sch_select.specs.Program.{count_code, entry_code, form_code, forms_code, labels_end, passed_code};
 
-use sch_asm::{Item, MarkKind};
-use sch_control::{Entry, MarkKind as ControlMark, Operand, Operation};
+use sch_asm::Item;
+use sch_control::{Entry, Operand, Operation};
 use sch_frames::{FrameBody, Instruction};
 use sch_insn::condition::E;
 use sch_insn::register::{R15, RAX, RCX};
 use sch_insn::{Arg, Insn};
-use sch_operations::{call, check_count, group, operation, tail_call};
-use sch_own_routines::enter_rest;
-use sch_places::addresses::{above, body_label, place_operand};
-use sch_primitives::second;
-use sch_word::{List, Mem, Place};
-
-/// A mark of a body as a mark of an item.
-fn kind_of(mark: ControlMark) -> MarkKind
-    ensures { result ≡ kind_of mark }
-{
-    match mark {
-        ControlMark::Enter(label) => MarkKind::Enter(label),
-        ControlMark::Save(x) => MarkKind::Save(x),
-        ControlMark::Restore(x) => MarkKind::Restore(x),
-        ControlMark::Spill(x) => MarkKind::Spill(x),
-        ControlMark::Temp => MarkKind::Temp,
-        ControlMark::Argument => MarkKind::Argument,
-        ControlMark::Call(site) => MarkKind::Call(site),
-        ControlMark::Return => MarkKind::Return,
-        ControlMark::Tail(site) => MarkKind::Tail(site),
-    }
-}
+use sch_select_memory::addresses::{body_label, place_operand};
+use sch_select_memory::enter_rest;
+use sch_select_memory::word::FALSE;
+use sch_select_operations::{call, check_count, group, operation, second, tail_call};
+use sch_word::{List, MarkKind, Mem, Place, add_numbers};
 
 /// Where the labels of a body are, its own from `base` on, and `end` behind it; how many words a frame has; where
 /// the heap ends; and how many literals there are.
@@ -81,26 +63,26 @@ fn instruction(out: &mut List<Item>, labels: Labels, n: u32, i: &Instruction) ->
         }
         Instruction::Copy(to, from) => copy(out, *to, *from),
         Instruction::Load(p, o) => load(out, n, *p, o),
-        Instruction::Pass(k, o) => load(out, n, Place::Slot(above(labels.words, *k)?), o),
+        Instruction::Pass(k, o) => load(out, n, Place::Slot(add_numbers(labels.words, *k)?), o),
         Instruction::Fix(members) => group(out, labels.heap_end, members.as_slice()),
         Instruction::Call(_, count) => call(out, labels.words, n, *count),
         Instruction::Tail(_, count) => tail_call(out, *count),
         Instruction::Return => out.push(Item::Plain(Insn::JumpTo(Arg::Reg(R15)))),
         Instruction::End => out.push(Item::Jump(labels.end)),
         Instruction::IfFalse(l) => {
-            let label = above(labels.base, *l)?;
-            out.push(Item::Plain(Insn::CmpNumber(Arg::Reg(RAX), 6)))?;
+            let label = add_numbers(labels.base, *l)?;
+            out.push(Item::Plain(Insn::CmpNumber(Arg::Reg(RAX), FALSE)))?;
             out.push(Item::JumpIf(E, label))
         }
         Instruction::Jump(l) => {
-            let label = above(labels.base, *l)?;
+            let label = add_numbers(labels.base, *l)?;
             out.push(Item::Jump(label))
         }
         Instruction::Label(l) => {
-            let label = above(labels.base, *l)?;
+            let label = add_numbers(labels.base, *l)?;
             out.push(Item::Label(label))
         }
-        Instruction::Mark(mark) => out.push(Item::Mark(kind_of(*mark))),
+        Instruction::Mark(mark) => out.push(Item::Mark(*mark)),
     }
 }
 
@@ -152,7 +134,7 @@ fn body(
     let mut next = n;
     for i in instructions {
         instruction(out, labels, next, i)?;
-        next = above(next, labels_needed(i))?;
+        next = add_numbers(next, labels_needed(i))?;
     }
     Ok(next)
 }
@@ -202,9 +184,9 @@ fn form(out: &mut List<Item>, frames: Frames, label: u32, n: u32, b: &FrameBody)
         ≡ out.old ++ form_code frames.words frames.heap_end frames.literals label n (code_of b.now) rest) }
     ensures next { IfOk result (λ m. m ≡ labels_end n (code_of b.now)) }
 {
-    let end = above(n, b.labels)?;
-    let list = above(end, 1)?;
-    let first = above(end, 2)?;
+    let end = add_numbers(n, b.labels)?;
+    let list = add_numbers(end, 1)?;
+    let first = add_numbers(end, 2)?;
     let labels = Labels {
         base: n,
         end,
@@ -236,7 +218,7 @@ pub(crate) fn forms(
     let mut label = 0;
     for b in bodies {
         next = form(out, frames, label, next, b)?;
-        label = above(label, 1)?;
+        label = add_numbers(label, 1)?;
     }
     Ok(())
 }

@@ -11,12 +11,13 @@ ghost use Rattle.sch_frames.specs.Covered.{is_covered_program};
 ghost use Rattle.sch_frames.specs.ProgramView.{source};
 ghost use Rattle.sch_frames.specs.Sizes.{closures_in, program_size};
 ghost use Rattle.sch_frames.specs.SourceView.{codes_of};
+ghost use Rattle.sch_frames.specs.Valid.{max_words};
 ghost use Rattle.sch_select.specs.Follows.{EndsFrames, EntersFrames, FollowsFrames, PassesFrames, TakesFrames};
 ghost use Rattle.sch_select.specs.Jumps.{jumps_ahead};
-ghost use Rattle.sch_statics.specs.Data.{heap_of, max_heap_address};
+ghost use Rattle.sch_select_data.specs.Data.{heap_of, max_heap_address};
 ghost use Rattle.sch_select.specs.Program.{frames_bytes, laid_code, max_data, max_stack, own_label, program_code, program_zeros, forms_code};
 ghost use Rattle.sch_select.specs.Program.{stack_bytes};
-ghost use Rattle.sch_own_routines.specs.OwnCode.{own_code};
+ghost use Rattle.sch_select_memory.specs.OwnCode.{own_code};
 ghost use Rattle.sch_select.specs.Sizes.{instructions_in, kinds_in, kinds_of};
 
 use crate::body_items::{Frames, forms};
@@ -24,10 +25,9 @@ use sch_asm::{Asm, Item, Routine};
 use sch_frames::{FrameBody, FrameProgram};
 use sch_insn::Insn;
 use sch_insn::register::{R12, R13, RBP};
-use sch_literals::literal_words;
-use sch_own_routines::own_routines;
-use sch_places::addresses::body_label;
-use sch_statics::{lay_out, words_of};
+use sch_select_data::{lay_out, literal_words, words_of};
+use sch_select_memory::addresses::body_label;
+use sch_select_memory::own_routines;
 use sch_word::{Limits, List, Mem};
 use std::alloc::Global;
 
@@ -36,10 +36,10 @@ const MAX_HEAP_ADDRESS: u64 = 0x3FFF_FFF0;
 
 /// The bytes of the stack.
 fn stack_of(words: u32, depth: u64) -> u64
-    requires words { words ≤ 2048 }
+    requires words { words ≤ max_words }
     requires fits { frames_bytes words depth ≤ max_stack }
     ensures bytes { result ≡ stack_bytes words depth }
-    ensures few { result ≤ max_stack + 16384 }
+    ensures few { result ≤ max_stack + 8 * max_words }
 {
     let frame = 8 * words as u64;
     frame * depth + 2 * frame

@@ -1,5 +1,5 @@
 -- Sketches that are made one after the other.
-use Rattle.std.proofs.Common.{◌≡◌, ◌<◌, ◌+◌, ℕ, suc, List, [], ◌∷◌, ◌++◌, length, drop, get_or, refl, sym, ap, ◌∙◌, add-one, drop-cons}
+use Rattle.std.proofs.Common.{◌≡◌, ◌<◌, ◌+◌, ℕ, List, [], ◌∷◌, ◌++◌, length, drop, get_or, refl, sym, ap, ◌∙◌, add-one}
 use Rattle.sch_word.proofs.facts.Lists.{next_left}
 use Rattle.sch_read.specs.declared.datum.Datum.{Datum}
 use Rattle.sch_read.specs.Views.{tree_of, data_of}

@@ -1,4 +1,5 @@
 pub mod Draft
+pub mod DraftMeasures
 pub mod DraftView
 pub mod Sketch
 pub mod SketchView
@@ -6,3 +7,9 @@ pub mod Small
 pub mod FreeWords
 pub mod Measure
 pub mod Soundness
+pub mod Optional
+pub mod Distinct
+pub mod Formals
+pub mod Definitions
+pub mod BodyHeads
+pub mod Groups

@@ -5,7 +5,7 @@ ghost use Rattle.sch_frames.specs.Valid.{is_entered};
 ghost use Rattle.sch_layout.specs.OwnSlots.{own_slots, saved_round};
 
 use sch_control::Entry;
-use sch_word::{Mem, Place};
+use sch_word::{Mem, Place, add_numbers};
 use sch_writer::{LINK, Restores, VariablePlaces};
 
 /// Each variable is in a slot of its own behind the one at the base, but for the return address: this is in R15, and is
@@ -22,10 +22,7 @@ impl VariablePlaces for OwnSlots {
         if x == 0 {
             return Ok(LINK);
         }
-        match self.base.checked_add(x) {
-            Some(slot) => Ok(Place::Slot(slot)),
-            None => Err(Mem),
-        }
+        Ok(Place::Slot(add_numbers(self.base, x)?))
     }
 
     fn home(&self, _x: u32) -> Result<Place, Mem> {

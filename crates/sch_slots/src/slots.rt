@@ -4,6 +4,7 @@ ghost use Rattle.std.specs.Prelude.{◌≡◌, ◌≤◌, ◌+◌, ◌*◌, ◌-
 ghost use Rattle.sch_word.specs.trees.Shape.{max_operands};
 ghost use Rattle.sch_control.specs.Covered as control_covered;
 ghost use Rattle.sch_control.specs.SourceView as control;
+ghost use Rattle.sch_control.specs.Valid.{max_body_variables};
 ghost use Rattle.sch_control.specs.View.{expression};
 ghost use Rattle.sch_control.specs.Sizes.{expression_size};
 ghost use Rattle.sch_control.specs.Work as control_work;
@@ -19,7 +20,7 @@ ghost use Rattle.sch_layout.specs.LayoutSizes.{call_parts, entry_size, nodes};
 use crate::own_slots::{EachCall, OwnSlots, saved_round};
 use sch_control::{Body, Entry, Exp};
 use sch_frames::FrameBody;
-use sch_word::Mem;
+use sch_word::{ARGUMENT_REGISTERS, Mem};
 use sch_writer::{Allocation, write_body};
 use std::alloc::Global;
 
@@ -69,13 +70,13 @@ struct Room {
 
 /// The room for variables, where a call has at most this many operands.
 fn room_with(entry: Option<Entry>, variables: u32, most: u32) -> Room
-    requires formals { formals_of entry ≤ 200 }
-    requires variables { variables ≤ 1002 }
-    requires most { most ≤ 200 }
+    requires formals { formals_of entry ≤ max_operands }
+    requires variables { variables ≤ max_body_variables }
+    requires most { most ≤ max_operands }
     ensures base { result.places.base ≡ max (formals_of entry - 6) most }
     ensures words { result.words ≡ max (formals_of entry - 6) most + variables }
 {
-    let arriving = formals_of(entry).saturating_sub(6);
+    let arriving = formals_of(entry).saturating_sub(ARGUMENT_REGISTERS.len() as u32);
     let base = larger(arriving as usize, most as usize) as u32;
     Room {
         places: OwnSlots { base },

@@ -1,6 +1,7 @@
 -- The kernel's rows at a state without spare words.
 use Rattle.std.proofs.Common.{◌≡◌, ◌≢◌, ℕ, zero, suc, ◌<◌, List, [], ◌∷◌, ◌++◌, length, take, Bool, true, false, cond, Some, None, refl, sym, ap, ◌∙◌, subst, arith, append-nil, ◌%◌, ◌==◌, ◌&&◌}
 use Rattle.std.proofs.lemmas.Bool.{eqb-true, ne_eqb}
+use Rattle.sch_word.proofs.facts.Lists.{take_whole}
 use Rattle.sch_word.specs.declared.answer.Answer.{Answer}
 use Rattle.sch_word.specs.declared.answer.Answer.TheVariants.{Took, Failed}
 use Rattle.sch_word.proofs.facts.Booleans.{and_left}
@@ -46,17 +47,13 @@ pub shut : (c : Core) (next n : ℕ) (b : List ℕ) (k : List Answer) → c.regi
 shut c next zero b k e some f = absurd (omega (arith, some))
 shut c next (suc n) b k e some f = ap (write_row (state_of c b k) next) e ∙ ap (piece_written (state_of c b k) next (suc n)) f
 
-take-length : (xs : List ℕ) → take (length xs) xs ≡ xs
-take-length [] = refl
-take-length (x ∷ xs) = ap (λ l. x ∷ l) (take-length xs)
-
 after : (c : Core) (next : ℕ) (b : List ℕ) (piece : List ℕ) (a : Answer) (x y : List Answer) → AnswersNext (length piece) a x y
     → answered (state_of c b x) next piece x ≡ state_of (written_core c next (rax_of a)) (b ++ taken a piece) y
 unfolding written_core
 after c next b piece a [] y h =
     subst (λ z. answered (state_of c b []) next piece [] ≡ state_of (written_core c next (rax_of a)) (b ++ taken a piece) z) (sym h.1)
     (subst (λ z. answered (state_of c b []) next piece [] ≡ state_of (written_core c next (rax_of z)) (b ++ taken z piece) []) (sym h.0)
-    (ap (λ l. state_of (written_core c next (length piece)) (b ++ l) []) (sym (take-length piece))))
+    (ap (λ l. state_of (written_core c next (length piece)) (b ++ l) []) (sym (take_whole piece))))
 after c next b piece a (Took k ∷ rest) y h =
     subst (λ z. answered (state_of c b (Took k ∷ rest)) next piece (Took k ∷ rest) ≡ state_of (written_core c next (rax_of a)) (b ++ taken a piece) z) (sym h.1)
     (subst (λ z. answered (state_of c b (Took k ∷ rest)) next piece (Took k ∷ rest) ≡ state_of (written_core c next (rax_of z)) (b ++ taken z piece) rest) (sym h.0) refl)

@@ -9,3 +9,5 @@ mod cells;
 mod program;
 #[cfg(test)]
 mod straight;
+#[cfg(test)]
+mod words;

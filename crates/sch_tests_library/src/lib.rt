@@ -4,6 +4,8 @@
 #[cfg(test)]
 mod examples;
 #[cfg(test)]
+mod generator;
+#[cfg(test)]
 mod library;
 #[cfg(test)]
 mod objects;

@@ -13,7 +13,7 @@ use Rattle.sch_lang.specs.SourceView.{source_of}
 use Rattle.sch_lang.specs.Tree.{Expression, Source, no_expressions, and_expression, no_lambdas, and_lambda, expressions, lambdas}
 use Rattle.sch_lang.specs.Valid.{is_valid, in_range, constants_in_range, shaped, within_limits, sites_once, statics_known}
 use Rattle.sch_lang.specs.View.{expression, expressions_of, function, lambdas_of}
-use Rattle.sch_lang.proofs.worked.Rows.{expressions_of_list, lambdas_of_list}
+use Rattle.sch_lang.proofs.ListViews.{expressions_of_list, lambdas_of_list}
 
 pub one_expression : (es was : List Exp) (e : Exp) → was ≡ [] → es ≡ was ++ e ∷ [] → expressions_of es ≡ and_expression (expression e) no_expressions
 one_expression es was e p q = expressions_of_list es ∙ ap (λ l. expressions (map expression l)) (q ∙ ap (λ l. l ++ e ∷ []) p)

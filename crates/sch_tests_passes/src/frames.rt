@@ -5,7 +5,7 @@ ghost use Rattle.std.specs.Prelude.{◌≡◌, IfOk};
 use sch_control::{Atom, Body, ControlProgram, Exp, Operand, Operation};
 use sch_frames::FrameProgram;
 use sch_slots::frame_slots;
-use sch_word::{Const, List, Mem, Prim, Statics};
+use sch_word::{Const, List, Mem, Primitive, Statics};
 use std::alloc::Global;
 use std::test::Fail;
 
@@ -15,7 +15,7 @@ fn shown(alloc: Global) -> Result<Body, Mem>
 {
     let mut operands = List::new(alloc);
     operands.push(Operand::Atom(Atom::Constant(Const::Character(97))))?;
-    let exp = Exp::End(Box::new(alloc, Exp::Do(Operation::Prim(0, Prim::Put, operands)))?);
+    let exp = Exp::End(Box::new(alloc, Exp::Do(Operation::Prim(0, Primitive::Put, operands)))?);
     Ok(Body {
         name: List::new(alloc),
         entry: None,

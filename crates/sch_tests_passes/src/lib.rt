@@ -11,6 +11,8 @@ mod frames;
 #[cfg(test)]
 mod library;
 #[cfg(test)]
+mod moves;
+#[cfg(test)]
 mod operand_order;
 #[cfg(test)]
 mod reader;
@@ -18,3 +20,5 @@ mod reader;
 mod registers;
 #[cfg(test)]
 mod selection;
+#[cfg(test)]
+mod sets;

@@ -8,7 +8,7 @@ ghost use Rattle.sch_lang.specs.View.{expression, expressions_of};
 use crate::closures::{lambda, normalized_form, one, set_local};
 use sch_control::{Atom, Exp as Control, Operand, Operation};
 use sch_lang::Exp;
-use sch_word::{Const, Fix, List, Mem, Prim};
+use sch_word::{Const, Fix, List, Mem, Primitive};
 use std::alloc::Global;
 use std::test::Fail;
 
@@ -42,13 +42,13 @@ fn number(n: u8) -> Result<Exp, Mem>
     }
 }
 
-fn over_one(alloc: Global, site: u32, which: Prim, a: Exp) -> Result<Exp, Mem>
+fn over_one(alloc: Global, site: u32, which: Primitive, a: Exp) -> Result<Exp, Mem>
     ensures { IfOk result (λ e. expression e ≡ tree.operation site which (tree.expressions (expression a ∷ []))) }
 {
     Ok(Exp::Prim(site, which, one(alloc, a)?))
 }
 
-fn over_two(alloc: Global, site: u32, which: Prim, a: Exp, b: Exp) -> Result<Exp, Mem>
+fn over_two(alloc: Global, site: u32, which: Primitive, a: Exp, b: Exp) -> Result<Exp, Mem>
     ensures { IfOk result (λ e. expression e ≡ tree.operation site which (tree.expressions (expression a ∷ expression b ∷ []))) }
 {
     Ok(Exp::Prim(site, which, two(alloc, a, b)?))
@@ -167,10 +167,10 @@ fn are_operands(operands: &[Operand<u32>]) -> bool {
 #[test]
 fn binds_each_operand_whole(rt: HostRuntime) -> Result<(), Fail> {
     let alloc = rt.alloc();
-    let car = over_one(alloc, 2, Prim::Car, Exp::Local(0))?;
-    let sum = over_two(alloc, 1, Prim::Add, Exp::Local(1), car)?;
+    let car = over_one(alloc, 2, Primitive::Car, Exp::Local(0))?;
+    let sum = over_two(alloc, 1, Primitive::Add, Exp::Local(1), car)?;
     let set = set_local(alloc, 1, number(20)?)?;
-    let set_car = over_two(alloc, 3, Prim::SetCar, Exp::Local(0), number(5)?)?;
+    let set_car = over_two(alloc, 3, Primitive::SetCar, Exp::Local(0), number(5)?)?;
     let second = in_turn(alloc, set, set_car, number(0)?)?;
     let body = call(alloc, 0, Exp::Local(2), sum, second)?;
     let inner = lambda(alloc, 2, false, body)?;

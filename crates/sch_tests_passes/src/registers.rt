@@ -3,9 +3,9 @@
 ghost use Rattle.std.specs.Prelude.{◌≡◌, ◌+◌, IfOk};
 ghost use Rattle.sch_word.specs.declared.place.Place.TheVariants.{Slot};
 
-use sch_control::{Application, Atom, Entry, Exp, MarkKind, Operand, Operation};
+use sch_control::{Application, Atom, Entry, Exp, Operand, Operation};
 use sch_frames::Instruction;
-use sch_word::{Const, List, Mem, Place};
+use sch_word::{Const, List, MarkKind, Mem, Place};
 use sch_writer::{Allocation, Restores, VariablePlaces, write_body};
 use std::alloc::Global;
 use std::test::Fail;

@@ -13,7 +13,7 @@ ghost use Rattle.sch_frames.specs.ProgramView.{source};
 use sch_control::{Atom, Operand, Operation};
 use sch_frames::{FrameBody, FrameProgram, Instruction};
 use sch_select::select;
-use sch_word::{Const, Limits, List, Mem, Prim, Statics};
+use sch_word::{Const, Limits, List, Mem, Primitive, Statics};
 use std::alloc::Global;
 use std::test::Fail;
 
@@ -28,7 +28,7 @@ fn shown(alloc: Global) -> Result<FrameBody, Mem>
     let mut operands = List::new(alloc);
     operands.push(Operand::Atom(Atom::Constant(Const::Character(97))))?;
     let mut instructions = List::new(alloc);
-    instructions.push(Instruction::Do(Operation::Prim(0, Prim::Put, operands)))?;
+    instructions.push(Instruction::Do(Operation::Prim(0, Primitive::Put, operands)))?;
     instructions.push(Instruction::End)?;
     Ok(FrameBody {
         entry: None,

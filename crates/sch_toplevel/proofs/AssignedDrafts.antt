@@ -2,8 +2,8 @@
 use Rattle.std.proofs.Common.{◌≡◌, ℕ, Bool, List, ap, ◌∙◌}
 use Rattle.sch_names.specs.NamesView.{with_name}
 use Rattle.sch_sketch.specs.Draft.{Names, Draft, Drafts, set_global, branch, bind, letrec, call}
-use Rattle.sch_numbers.specs.Named.{firsts}
-use Rattle.sch_numbers.proofs.NameSteps.{then_named, three_named}
+use Rattle.sch_link_tables.specs.Named.{firsts}
+use Rattle.sch_link_tables.proofs.NameSteps.{then_named, three_named}
 use Rattle.sch_toplevel.specs.Assigned.{assigned_in, assigned_in_each}
 
 module _ (n0 : List (List ℕ)) {d : Draft} {n1 n2 : List (List ℕ)} where

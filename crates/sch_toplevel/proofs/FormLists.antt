@@ -5,8 +5,8 @@ use Rattle.sch_word.proofs.facts.Lists.{next_left}
 use Rattle.sch_read.specs.declared.datum.Datum as code
 use Rattle.sch_read.specs.Grammar.{Datum}
 use Rattle.sch_read.specs.Views.{tree_of, data_of}
-use Rattle.sch_numbers.specs.Named.{firsts}
-use Rattle.sch_numbers.proofs.NameSteps.{firsts_append}
+use Rattle.sch_link_tables.specs.Named.{firsts}
+use Rattle.sch_link_tables.proofs.NameSteps.{firsts_append}
 use Rattle.sch_toplevel.specs.declared.forms.Form.{Form}
 use Rattle.sch_toplevel.specs.FormView.{place_at, places_at, sketch_at, sketches_at}
 use Rattle.sch_toplevel.specs.Forms.{forms_of, forms_in, defined_by, defined_by_each}

@@ -2,6 +2,7 @@
 use Rattle.std.proofs.Common.{◌≡◌, inl, inr, ◌≤◌, ℕ, Bool, true, false, List, [], Option, Some, None, refl, sym, ap, ◌∙◌, subst}
 use Rattle.sch_read.specs.Grammar.{Data}
 use Rattle.sch_word.proofs.facts.Booleans.{false_true}
+use Rattle.sch_word.proofs.facts.Lists.{some_same}
 use Rattle.sch_names.specs.Scope.{Globals}
 use Rattle.sch_sketch.specs.declared.fault.Fault.{Fault}
 use Rattle.sch_sketch.specs.declared.sketch.Position.TheVariants.{Value}
@@ -14,7 +15,7 @@ use Rattle.sch_expansion.specs.Faults.{HasFault, PartHasFault}
 use Rattle.sch_expansion.specs.Faults as no
 use Rattle.sch_expansion.specs.Reads.{Reads, PartsRead}
 use Rattle.sch_expansion.specs.Reads as re
-use Rattle.sch_expansion.proofs.Best.{some_is, none_some}
+use Rattle.sch_expansion.proofs.Best.{none_some}
 use Rattle.sch_expansion.proofs.Readings.{unique, clean, one_fault, one_draft, read_best, read_made, is_read}
 use Rattle.sch_toplevel.specs.Assigned.{assigned_in_each}
 use Rattle.sch_toplevel.specs.Forms.{sketches_of, own_names, text_globals}
@@ -70,7 +71,7 @@ module _ (g : Globals) (items : Data) where
   fault_there f a = elim ((read_best g (read g items a)).from f refl) [ inl i ↦ absurd (none_some i) | inr i ↦ part_faulty g i ]
 
   pub fault_least : {es : Drafts} (f : Fault) → FormsRead g items (Some f) es → (h : Fault) → FormHasFault g items h → rank f ≤ rank h
-  fault_least f a h i = let m = (read_best g (read g items a)).below h (faulty g items i) in subst (λ k. rank k ≤ rank h) (sym (some_is m.is)) m.below
+  fault_least f a h i = let m = (read_best g (read g items a)).below h (faulty g items i) in subst (λ k. rank k ≤ rank h) (sym (some_same m.is)) m.below
 
   pub forms_read : (o : Option Fault) × (es : Drafts) × FormsRead g items o es
   forms_read = let r = is_read g 0 [] Value (whole items) None in let p = parts_read g r.reads in (r.after, p.0, p.1)
@@ -121,5 +122,5 @@ module _ (seen : List (List ℕ)) (items : Data) where
 
   pub text_fault_one : {f h : Fault} → IsFaultOf seen items f → IsFaultOf seen items h → f ≡ h
   text_fault_one {f} {h} p q =
-      some_is (reading_one (text_globals seen items q.names) items
+      some_same (reading_one (text_globals seen items q.names) items
       (subst (λ n. FormsRead (text_globals seen items n) items (Some f) p.drafts) (assigns_one p.assigns q.assigns) p.first) q.first).0

@@ -9,8 +9,8 @@ use Rattle.sch_sketch.specs.declared.sketch.Position.TheVariants.{Value}
 use Rattle.sch_sketch.specs.Draft.{Drafts}
 use Rattle.sch_sketch.specs.Sketch.{Sketch, sketches, sequencing}
 use Rattle.sch_expansion.specs.Reads.{PartsRead}
-use Rattle.sch_numbers.specs.Named.{firsts}
-use Rattle.sch_numbers.proofs.NameSteps.{firsts_append}
+use Rattle.sch_link_tables.specs.Named.{firsts}
+use Rattle.sch_link_tables.proofs.NameSteps.{firsts_append}
 use Rattle.sch_toplevel.specs.Assigned.{assigned_in_each}
 use Rattle.sch_toplevel.specs.Forms.{sketches_of, defined_by_each, own_names, text_globals}
 use Rattle.sch_toplevel.specs.Texts.{FormsRead, IsRead}

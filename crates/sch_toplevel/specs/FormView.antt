@@ -5,7 +5,7 @@ use Rattle.sch_read.specs.Parts.{offset}
 use Rattle.sch_read.specs.Valid.{weight, weights}
 use Rattle.sch_read.specs.Views.{tree_of, data_of}
 use Rattle.sch_sketch.specs.Sketch.{Sketch, text}
-use Rattle.sch_definitions.specs.Assignments.{row_define}
+use Rattle.sch_form_bodies.specs.Assignments.{row_define}
 use Rattle.sch_toplevel.specs.declared.forms.Form.{Form}
 use Rattle.sch_toplevel.specs.declared.forms.Form.TheVariants.{Definition, Expression}
 use Rattle.sch_toplevel.specs.declared.forms.TopLevel.{TopLevel}

@@ -8,9 +8,9 @@ use Rattle.sch_names.specs.declared.keyword.Keyword.TheVariants.{Begin}
 use Rattle.sch_names.specs.Words.{keyword_of}
 use Rattle.sch_names.specs.Scope.{Globals}
 use Rattle.sch_sketch.specs.Sketch.{Sketch, text, node, defining}
-use Rattle.sch_definitions.specs.Definitions.{is_define_word}
-use Rattle.sch_definitions.specs.Assignments.{row_define}
-use Rattle.sch_numbers.specs.Named.{firsts}
+use Rattle.sch_sketch.specs.Definitions.{is_define_word}
+use Rattle.sch_form_bodies.specs.Assignments.{row_define}
+use Rattle.sch_link_tables.specs.Named.{firsts}
 
 abbrev pub is_begin_word : Option Keyword → Bool
 is_begin_word (Some Begin) = true

@@ -14,7 +14,7 @@ use Rattle.sch_sketch.specs.Sketch.{Sketch, rest, wrong, node, defining}
 use Rattle.sch_expansion.specs.Expands.{Expands}
 use Rattle.sch_expansion.specs.Faults.{HasFault}
 use Rattle.sch_expansion.specs.Reads.{Reads}
-use Rattle.sch_numbers.specs.Programs.{Definition}
+use Rattle.sch_link_tables.specs.Programs.{Definition}
 use Rattle.sch_toplevel.specs.Forms.{form_sketch}
 
 -- ## One item, behind those that define these names

@@ -6,7 +6,7 @@ use Rattle.sch_names.specs.Scope.{Globals}
 use Rattle.sch_sketch.specs.declared.fault.Fault.{Fault}
 use Rattle.sch_sketch.specs.declared.sketch.Position.TheVariants.{Value}
 use Rattle.sch_sketch.specs.Draft.{Drafts}
-use Rattle.sch_sketch.specs.Sketch.{sketches, sequencing}
+use Rattle.sch_sketch.specs.Sketch.{Sketch, sketches, sequencing}
 use Rattle.sch_expansion.specs.FaultOrder.{rank}
 use Rattle.sch_expansion.specs.Expands.{PartsExpand}
 use Rattle.sch_expansion.specs.Faults.{PartHasFault}
@@ -14,9 +14,13 @@ use Rattle.sch_expansion.specs.Reads.{PartsRead}
 use Rattle.sch_toplevel.specs.Forms.{sketches_of, own_names, text_globals}
 use Rattle.sch_toplevel.specs.Assigned.{assigned_in_each}
 
+-- sketches stand for drafts as the parts of a sequence at the outermost level do, in no scope
+abbrev pub SketchesExpand : Globals → List Sketch → Drafts → Type 0
+SketchesExpand globals ks es = PartsExpand globals sequencing true 1 [] Value (sketches ks) es
+
 -- the forms of a text, in order, stand for drafts
 abbrev pub FormsExpand : Globals → Data → Drafts → Type 0
-FormsExpand globals items es = PartsExpand globals sequencing true 1 [] Value (sketches (sketches_of items)) es
+FormsExpand globals items = SketchesExpand globals (sketches_of items)
 
 -- some form has a fault
 abbrev pub FormHasFault : Globals → Data → Fault → Type 0

@@ -3,7 +3,7 @@
 ghost use Rattle.std.specs.Prelude.{◌≡◌, OnOk};
 ghost use Rattle.sch_names.specs.NamesView.{names_of};
 ghost use Rattle.sch_sketch.specs.DraftView.{draft_of, drafts_of};
-ghost use Rattle.sch_numbers.specs.Named.{firsts};
+ghost use Rattle.sch_link_tables.specs.Named.{firsts};
 ghost use Rattle.sch_toplevel.specs.Assigned.{assigned_in, assigned_in_each};
 
 use sch_names::Names;

@@ -6,11 +6,11 @@ ghost use Rattle.sch_read.specs.Views.{tree_of, data_of};
 ghost use Rattle.sch_names.specs.Words.{keyword_of};
 ghost use Rattle.sch_names.specs.NamesView.{names_of};
 ghost use Rattle.sch_sketch.specs.SketchView.{sketch_of};
-ghost use Rattle.sch_numbers.specs.Named.{firsts};
+ghost use Rattle.sch_link_tables.specs.Named.{firsts};
 ghost use Rattle.sch_toplevel.specs.Forms.{forms_of, forms_in, form_sketch, defined_by, defined_by_each};
 ghost use Rattle.sch_toplevel.specs.FormView.{place_at, places_at, sketch_at, sketches_at, IsTopLevel};
 
-use sch_definitions::row_define;
+use sch_form_bodies::row_define;
 use sch_names::{Globals, Keyword, Names, keyword_of};
 use sch_read::Datum;
 use sch_sketch::{Kind, Sketch, text};

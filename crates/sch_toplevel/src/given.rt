@@ -2,7 +2,7 @@
 
 ghost use Rattle.std.specs.Prelude.{◌≡◌, map, OnOk};
 ghost use Rattle.sch_names.specs.NamesView.{names_of};
-ghost use Rattle.sch_numbers.specs.Named.{firsts};
+ghost use Rattle.sch_link_tables.specs.Named.{firsts};
 ghost use Rattle.sch_toplevel.specs.Views.{given};
 
 use sch_names::Names;

@@ -13,8 +13,8 @@ ghost use Rattle.sch_expansion.specs.Reads.{Reads};
 ghost use Rattle.sch_toplevel.specs.Items.{is_method, item_name, item_sketch, with_item, name_in, names_by, procedure_in, item_names, ItemsRead};
 
 use crate::forms::{Form, TopLevel, top_level};
-use sch_definitions::row_define;
 use sch_expansion::read;
+use sch_form_bodies::row_define;
 use sch_names::{Globals, Name, Names};
 use sch_read::Datum;
 use sch_sketch::{Draft, Fault, Kind, Row, Sketch, alone, bad};

@@ -7,7 +7,7 @@ ghost use Rattle.sch_sketch.specs.declared.sketch.Position.TheVariants.{Value};
 ghost use Rattle.sch_sketch.specs.DraftView.{drafts_of};
 ghost use Rattle.sch_sketch.specs.Sketch.{sketches, sequencing};
 ghost use Rattle.sch_expansion.specs.Reads.{PartsRead};
-ghost use Rattle.sch_numbers.specs.Named.{firsts};
+ghost use Rattle.sch_link_tables.specs.Named.{firsts};
 ghost use Rattle.sch_toplevel.specs.Assigned.{assigned_in_each};
 ghost use Rattle.sch_toplevel.specs.Forms.{defined_by_each, form_places};
 ghost use Rattle.sch_toplevel.specs.FormView.{sketches_at};

@@ -4,7 +4,7 @@ use Rattle.std.proofs.Common.{◌≡◌, ℕ, suc, ◌+◌, ◌<◌, ◌≤◌, 
 use Rattle.std.proofs.lemmas.List.{drop_all}
 use Rattle.sch_word.specs.trees.Walk.{onto}
 
-onto_more : {B Q : Type 0} (cons : B → Q → Q) (bs : List B) (b : B) (rest : Q) → onto cons (bs ++ b ∷ []) rest ≡ onto cons bs (cons b rest)
+pub onto_more : {B Q : Type 0} (cons : B → Q → Q) (bs : List B) (b : B) (rest : Q) → onto cons (bs ++ b ∷ []) rest ≡ onto cons bs (cons b rest)
 onto_more cons [] b rest = refl
 onto_more cons (a ∷ bs) b rest = ap (cons a) (onto_more cons bs b rest)
 

@@ -1,4 +1,3 @@
 pub mod Fixnums
 pub mod LiteralObjects
 pub mod StopStatus
-pub mod TagsApart

@@ -3,3 +3,5 @@ pub mod LiteralRows
 mod PrimitiveExamples
 mod CoveredRows
 mod TypeRows
+mod WeightRows
+mod RegisterRows

@@ -8,3 +8,4 @@ pub mod ProgramLayout
 pub mod Runs
 pub mod Stops
 pub mod Store
+pub mod Activations

@@ -5,3 +5,5 @@ pub mod NumberSets
 pub mod Shape
 pub mod Covered
 pub mod Walk
+pub mod NodeWeights
+pub mod Assigned

@@ -7,6 +7,6 @@ pub mod Memory
 pub mod PrimitiveRows
 pub mod Primitives
 pub mod Put
+pub mod Registers
 pub mod StaticsView
-pub mod Tags
 pub mod Values

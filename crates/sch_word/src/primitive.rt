@@ -51,9 +51,6 @@ pub enum Primitive {
     SymbolRef,
 }
 
-/// The short name of the same type.
-pub type Prim = Primitive;
-
 impl Primitive {
     /// The name of the primitive in a program's text, in ASCII.
     pub fn name(self) -> &'static str

@@ -6,7 +6,7 @@ ghost use Rattle.sch_control.specs.Tree.{save};
 ghost use Rattle.sch_control.specs.Valid.{member_variables};
 ghost use Rattle.sch_control.specs.View.{expression_with};
 ghost use Rattle.sch_control.specs.declared.operation.Operation.TheVariants as operation;
-ghost use Rattle.sch_control.specs.declared.mark.MarkKind.TheVariants as mark;
+ghost use Rattle.sch_word.specs.declared.mark.MarkKind.TheVariants as mark;
 ghost use Rattle.sch_frames.specs.declared.instruction.Instruction.TheVariants.{Do, Store, Fix, Return, End, Jump, Label, Mark};
 ghost use Rattle.sch_frames.specs.Meaning.{same_place};
 ghost use Rattle.sch_layout.specs.BodyLayout.{arrived, arrivals, entering, brought, operation_at, members_at, leave, labels, lay, stored, Writes};
@@ -19,9 +19,9 @@ use crate::operand_places::{members_at, operation_at};
 use crate::regions::Regions;
 use crate::saves::{write_bound, write_heads, write_members, write_saves};
 use crate::variable_places::VariablePlaces;
-use sch_control::{Entry, Exp, MarkKind, Member, Operation};
+use sch_control::{Entry, Exp, Member, Operation};
 use sch_frames::Instruction;
-use sch_word::{Mem, Place};
+use sch_word::{MarkKind, Mem, Place, add_numbers};
 use std::alloc::Global;
 
 // What is written between the parts of an expression stands in functions of its own, which are not put into the walk over
@@ -244,10 +244,10 @@ fn enter<P: VariablePlaces>(places: &P, entry: Option<Entry>, out: &mut Writer) 
 {
     match entry {
         None => Ok(()),
-        Some(e) => match e.formals.checked_add(1) {
-            Some(count) => arrive(places, count, out),
-            None => Err(Mem),
-        },
+        Some(e) => {
+            let count = add_numbers(e.formals, 1)?;
+            arrive(places, count, out)
+        }
     }
 }
 

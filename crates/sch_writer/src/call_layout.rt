@@ -1,7 +1,7 @@
 //! Calls: operands are set aside, each in a slot of its own, and then handed over; and what is restored behind them.
 
-ghost use Rattle.std.specs.Prelude.{◌≡◌, ◌+◌, ◌∷◌, [], false, length, true, IfOk, OnOk};
-ghost use Rattle.sch_control.specs.declared.mark.MarkKind.TheVariants as mark;
+ghost use Rattle.std.specs.Prelude.{◌≡◌, ◌∷◌, [], false, length, true, IfOk, OnOk};
+ghost use Rattle.sch_word.specs.declared.mark.MarkKind.TheVariants as mark;
 ghost use Rattle.sch_frames.specs.Meaning.{argument_register, argument_slot, closure_register, link_register};
 ghost use Rattle.sch_frames.specs.declared.instruction.Instruction.TheVariants.{Call, Mark, Tail};
 ghost use Rattle.sch_layout.specs.BodyLayout.{arrival, hand_over, handed, leave, loaded, prepared, set_aside, Writes};
@@ -11,37 +11,31 @@ use crate::instructions::{Writer, leave, put};
 use crate::operand_places::operand_at;
 use crate::saves::write_restores;
 use crate::variable_places::VariablePlaces;
-use sch_control::{Application, Atom, MarkKind, Operand};
+use sch_control::{Application, Atom, Operand};
 use sch_frames::Instruction;
-use sch_word::{Mem, Place};
+use sch_word::{
+    ARGUMENT_REGISTERS, CLOSURE_REGISTER, LINK_REGISTER, MarkKind, Mem, Place, add_numbers,
+};
 use std::alloc::Global;
 
-/// Where the return address of an activation is: R15.
-pub const LINK: Place = Place::Reg(15);
+/// Where the return address of an activation is.
+pub const LINK: Place = Place::Reg(LINK_REGISTER);
 
-/// Where the closure of an activation is as it is entered: R14.
-pub(crate) const CLOSURE: Place = Place::Reg(14);
+/// Where the closure of an activation is as it is entered.
+pub(crate) const CLOSURE: Place = Place::Reg(CLOSURE_REGISTER);
 
-/// The register of an operand by the number of those before it: RBX, R8, R9, R10, RSI or RDI.
+/// The register of an operand, by the number of those before it.
 fn argument_register(k: u32) -> Option<u8>
     ensures { result ≡ argument_register k }
 {
-    match k {
-        0 => Some(3),
-        1 => Some(8),
-        2 => Some(9),
-        3 => Some(10),
-        4 => Some(6),
-        5 => Some(7),
-        _ => None,
-    }
+    ARGUMENT_REGISTERS.get(k as usize).copied()
 }
 
 /// The slot of an operand that has no register.
 fn argument_slot(k: u32) -> u32
     ensures { result ≡ argument_slot k }
 {
-    k.saturating_sub(6)
+    k.saturating_sub(ARGUMENT_REGISTERS.len() as u32)
 }
 
 /// Where an argument arrives.
@@ -78,16 +72,6 @@ fn short(n: usize) -> Result<u32, Mem>
     }
 }
 
-/// The next slot.
-fn following(slot: u32) -> Result<u32, Mem>
-    ensures { IfOk result (λ n. n ≡ slot + 1) }
-{
-    match slot.checked_add(1) {
-        Some(n) => Ok(n),
-        None => Err(Mem),
-    }
-}
-
 /// Each operand is loaded into a slot of its own.
 fn set_aside<P: VariablePlaces>(
     alloc: Global,
@@ -105,7 +89,7 @@ fn set_aside<P: VariablePlaces>(
             out,
             Instruction::Load(Place::Slot(next), operand_at(alloc, places, o)?),
         )?;
-        next = following(next)?;
+        next = add_numbers(next, 1)?;
     }
     Ok(())
 }
@@ -118,7 +102,7 @@ fn hand_over(tail: bool, aside: u32, count: u32, out: &mut Writer) -> Result<(),
     let mut next = aside;
     for k in 0..count {
         put(out, handed(tail, k, Place::Slot(next)))?;
-        next = following(next)?;
+        next = add_numbers(next, 1)?;
     }
     Ok(())
 }

@@ -4,7 +4,7 @@ ghost use Rattle.std.specs.Prelude.{◌≡◌, ◌++◌, ◌+◌, ◌∷◌, [],
 ghost use Rattle.sch_layout.specs.BodyLayout.{leave, Writes};
 
 use sch_frames::Instruction;
-use sch_word::{List, Mem};
+use sch_word::{List, Mem, add_numbers};
 use std::alloc::Global;
 
 /// For how many instructions there is room at first. A form that calls a procedure with an operand has as many.
@@ -36,13 +36,8 @@ pub(crate) fn new_label(out: &mut Writer) -> Result<u32, Mem>
     ensures instructions { out.new.instructions ≡ out.old.instructions }
 {
     let label = out.labels;
-    match label.checked_add(1) {
-        Some(next) => {
-            out.labels = next;
-            Ok(label)
-        }
-        None => Err(Mem),
-    }
+    out.labels = add_numbers(label, 1)?;
+    Ok(label)
 }
 
 /// One instruction more.

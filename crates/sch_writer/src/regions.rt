@@ -7,24 +7,13 @@ ghost use Rattle.sch_control.specs.View.{expression_with};
 ghost use Rattle.sch_writer.specs.Regions.{inside};
 
 use sch_control::{Exp, Member};
+use sch_word::is_in;
 
 /// The regions round an expression: none, or the variables that the innermost one saves, within the others.
 #[derive(Clone, Copy)]
 pub(crate) enum Regions<'a> {
     Nowhere,
     Within(&'a [u32], &'a Regions<'a>),
-}
-
-/// Whether a variable is one of some.
-fn is_in(x: u32, xs: &[u32]) -> bool
-    ensures { result ≡ has x xs.now }
-{
-    for y in xs {
-        if x == *y {
-            return true;
-        }
-    }
-    false
 }
 
 /// Whether a region saves a variable.

@@ -11,9 +11,9 @@ use crate::allocation::{Around, Restores};
 use crate::instructions::{Writer, put};
 use crate::regions::{Regions, binds, is_inside};
 use crate::variable_places::VariablePlaces;
-use sch_control::{Exp, MarkKind, Member};
+use sch_control::{Exp, Member};
 use sch_frames::Instruction;
-use sch_word::{Mem, Place};
+use sch_word::{MarkKind, Mem, Place};
 
 /// A copy, under its mark where that is wanted.
 fn copied(

@@ -3,9 +3,9 @@ use Rattle.std.specs.List.Sorted.{IsNonDecreasing}
 use Rattle.sch_flat.specs.ProgramView.{source}
 use Rattle.sch_flat.specs.View.{body, trees_of}
 use Rattle.sch_control.specs.Valid.{all_known, bound_known, library_known, sites_once, statics_known}
-use Rattle.sch_normal.specs.Normal.{new_label, normal_bodies}
+use Rattle.sch_anf_laws.specs.Normal.{new_label, normal_bodies}
 use Rattle.sch_anf.proofs.ProgramMade.{Given, few_bodies, given, library_fits, made_program}
-use Rattle.sch_normal.proofs.valid.ValidProgram as valid
+use Rattle.sch_anf_laws.proofs.valid.ValidProgram as valid
 use Rattle.sch_anf.proofs.normal_program.Goals as goal
 
 pub normalize_bodies-requires : goal.normalize_bodies-requires

@@ -3,23 +3,23 @@ use Rattle.sch_word.proofs.WhenOk.{if_ok}
 use Rattle.sch_flat.specs.ProgramView.{source}
 use Rattle.sch_control.specs.Fits.{table_fits}
 use Rattle.sch_control.specs.Work.{codes_work}
-use Rattle.sch_normal.specs.Kept.{SameCalls, StaysCovered}
-use Rattle.sch_normal.specs.Normal.{normal_source}
-use Rattle.sch_normal.specs.SameRun.{SameRun}
-use Rattle.sch_orders.specs.Table.{given_table}
-use Rattle.sch_normal.specs.Tests.{tests_of}
-use Rattle.sch_normal.proofs.kept.CallsKept.{program_calls}
-use Rattle.sch_normal.proofs.runs.Program.{normal_runs}
-use Rattle.sch_normal.proofs.kept.CoveredKept.{program_covered}
-use Rattle.sch_normal.specs.Counted.{BindNoMore}
-use Rattle.sch_normal.specs.Dropped.{dropped_of}
-use Rattle.sch_normal.specs.Weight.{weight}
-use Rattle.sch_normal.proofs.kept.BindNoMore.{program_binds}
-use Rattle.sch_normal.proofs.kept.DroppedKept.{program_dropped}
-use Rattle.sch_normal.proofs.kept.WorkKept.{program_weight}
-use Rattle.sch_orders.proofs.Table.{given_table_fits}
-use Rattle.sch_normal.proofs.kept.TestsKept.{program_tests}
-use Rattle.sch_normal.proofs.valid.ValidProgram.{bound_known}
+use Rattle.sch_anf_laws.specs.Kept.{SameCalls, StaysCovered}
+use Rattle.sch_anf_laws.specs.Normal.{normal_source}
+use Rattle.sch_anf_laws.specs.SameRun.{SameRun}
+use Rattle.sch_control.specs.OrderTable.{given_table}
+use Rattle.sch_control.specs.Sizes.{tests_of}
+use Rattle.sch_anf_laws.proofs.kept.CallsKept.{program_calls}
+use Rattle.sch_anf_laws.proofs.runs.Program.{normal_runs}
+use Rattle.sch_anf_laws.proofs.kept.CoveredKept.{program_covered}
+use Rattle.sch_anf_laws.specs.Counted.{BindNoMore}
+use Rattle.sch_control.specs.Sizes.{dropped_of}
+use Rattle.sch_flat.specs.Measures.{weight}
+use Rattle.sch_anf_laws.proofs.kept.BindNoMore.{program_binds}
+use Rattle.sch_anf_laws.proofs.kept.DroppedKept.{program_dropped}
+use Rattle.sch_anf_laws.proofs.kept.WorkKept.{program_weight}
+use Rattle.sch_control.proofs.FittingTable.{given_table_fits}
+use Rattle.sch_anf_laws.proofs.kept.TestsKept.{program_tests}
+use Rattle.sch_anf_laws.proofs.valid.ValidProgram.{bound_known}
 use Rattle.sch_anf.proofs.normalize.Goals as goal
 
 pub returns-clause-runs : goal.returns-clause-runs

@@ -5,7 +5,7 @@ use Rattle.sch_word.specs.runs.Runs.{SameRuns}
 use Rattle.sch_cells.specs.Covered.{is_covered_program}
 use Rattle.sch_cells.specs.Bodies.{bodies_of}
 use Rattle.sch_cells.specs.BoxedMeaning as boxed
-use Rattle.sch_cells.specs.Measures.{call_sites_of, dropped_of, program_size, sites_of, tests_of}
+use Rattle.sch_cells.specs.Measures.{call_sites_of, dropped_of, program_size, sites_of, tests_of, weight}
 use Rattle.sch_cells.specs.ProgramView.{source}
 use Rattle.sch_cells.specs.UnboxedMeaning as unboxed
 use Rattle.sch_cells.specs.Valid.{bound_of}
@@ -21,7 +21,6 @@ use Rattle.sch_assign.proofs.Same.{runs_alike}
 use Rattle.sch_assign.proofs.kept.MeasuresKept.{calls_kept, tests_kept, dropped_kept}
 use Rattle.sch_assign.proofs.kept.SizeKept.{program_size_kept}
 use Rattle.sch_assign.proofs.kept.WeightKept.{program_weight}
-use Rattle.sch_assign.specs.Weight.{weight}
 use Rattle.sch_assign.proofs.kept.ValidKept.{sites_kept}
 use Rattle.sch_assign.proofs.convert_assign.Goals as goal
 

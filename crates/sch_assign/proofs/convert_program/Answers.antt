@@ -1,4 +1,4 @@
-use Rattle.std.proofs.Common.{◌∙◌, true, refl, sym, subst}
+use Rattle.std.proofs.Common.{true, refl, sym, subst}
 use Rattle.std.specs.Prelude.{IsTrue}
 use Rattle.sch_cells.specs.ProgramView.{source}
 use Rattle.sch_cells.specs.Valid.{scoped, formed, constants_in_range, within_limits, sited, statics_known}

@@ -1,9 +1,11 @@
 -- Each body of what is made of a program has the name, the formals, the free variables and the count of
 -- variables that it had.
-use Rattle.std.proofs.Common.{◌≡◌, ℕ, zero, suc, ◌+◌, ◌<◌, Bool, true, false, List, [], ◌∷◌, ◌++◌, length, Some, refl, sym, ap, ◌∙◌, arith}
+use Rattle.std.proofs.Common.{◌≡◌, ℕ, zero, suc, ◌+◌, ◌<◌, Bool, true, false, List, [], ◌∷◌, length, Some, refl, sym, ap, ◌∙◌, arith}
 use Rattle.std.specs.Prelude.{not, slice_get, nat_eq}
 use Rattle.std.proofs.lemmas.List.{append-nil}
 use Rattle.sch_word.proofs.facts.Booleans.{neither}
+use Rattle.sch_word.proofs.facts.Lists.{append_same, cons_same}
+use Rattle.sch_cells.proofs.Unassigned.{all_unassigned, bound_count_unassigned}
 use Rattle.sch_word.specs.trees.Bindings.{Bindings, bound_to, with_variables, scope_with}
 use Rattle.sch_cells.specs.declared.tree.NewCell.{NewCell}
 use Rattle.sch_cells.specs.Tree.{Tree, Trees, Lambdas, Source, constant, literal, variable, global, set_variable, set_global, define, branch, sequence, bind, fix, letrec, lambda, call, operation, new_cells, cell_get, cell_set, no_trees, and_tree, no_lambdas, and_lambda, count, count_lambdas}
@@ -62,14 +64,6 @@ module _ (has_cell : ℕ → Bool) (n : ℕ) where
     none_assigned_lambdas (and_lambda name x m rest e ls) y =
         neither (assigns (wrapped (cells_for has_cell n x m) (converted has_cell n e)) y) (assigns_lambdas (converted_lambdas has_cell n ls) y)
         (wrapped_assigns (cells_for has_cell n x m) (converted has_cell n e) y ∙ none_assigned e y) (none_assigned_lambdas ls y)
-
-  count_none : (x m : ℕ) (e : Tree) → ((y : ℕ) → assigns e y ≡ false) → bound_count x m e ≡ m
-  count_none x zero e h = refl
-  count_none x (suc m) e h = let k = count_none (suc x) m e h in rw (h x) (omega (arith, k))
-
-  unassigned_none : (x m : ℕ) (e : Tree) → ((y : ℕ) → assigns e y ≡ false) → unassigned x m e ≡ all_same m true
-  unassigned_none x zero e h = refl
-  unassigned_none x (suc m) e h = rw (h x, unassigned_none (suc x) m e h) refl
 
   -- a variable counts twice where it gets a cell, and is then one variable and one cell
   count_agrees : (x m : ℕ) (e : Tree) → Agree has_cell n x m e → bound_count x m e ≡ m + length (cells_for has_cell n x m)
@@ -239,8 +233,8 @@ module _ (has_cell : ℕ → Bool) (n : ℕ) where
       let none : (y : ℕ) → assigns (wrapped (cells_for has_cell n x m) (converted has_cell n e)) y ≡ false = λ y. wrapped_assigns (cells_for has_cell n x m) (converted has_cell n e) y ∙ none_assigned e y in
       let k = count_agrees x m e agree in
       rw (
-        unassigned_none x m (wrapped (cells_for has_cell n x m) (converted has_cell n e)) none,
-        count_none x m (wrapped (cells_for has_cell n x m) (converted has_cell n e)) none,
+        all_unassigned x m (wrapped (cells_for has_cell n x m) (converted has_cell n e)) none,
+        bound_count_unassigned x m (wrapped (cells_for has_cell n x m) (converted has_cell n e)) none,
         wrapped_variables (cells_for has_cell n x m) (converted has_cell n e) (with_variables x (all_same m true) once'),
         h,
       ) (omega (arith, k))
@@ -299,7 +293,7 @@ module _ (has_cell : ℕ → Bool) (n : ℕ) where
         let ke = variables_kept e T o1 v r.3 low hv in
         let kf = filling_variables x m (converted has_cell n e) v (λ i l. inside_variables x i (all_same m true) u (let j = all_same_length m true in omega (arith, l, j)) ∙ all_same_get m i true l) in
         let kt = three m in
-        rw (count_same has_cell n es, empty_length x m, unassigned_none x m Q none, count_none x m Q none, kf, ks, ke) (omega (arith, kt))
+        rw (count_same has_cell n es, empty_length x m, all_unassigned x m Q none, bound_count_unassigned x m Q none, kf, ks, ke) (omega (arith, kt))
     variables_kept (lambda name x m rest e) S o o' r g h = refl
     variables_kept (call site spread f es) S o o' r g h = rw (nothing_kept f S o o' r.0 g h, variables_kept f S o o' r.0 g h, operands_kept es S o o' r.1 g h) refl
     variables_kept (operation site which es) S o o' r g h = operands_kept es S o o' r g h
@@ -339,12 +333,6 @@ module _ (has_cell : ℕ → Bool) (n : ℕ) where
   pub form_variables : (e : Tree) → Right has_cell n e [] → variables (converted has_cell n e) [] ≡ variables e []
   form_variables e r = variables_kept e [] [] [] r (record { at = λ y i. absurd (cc) }) counts_nil
 
-  both : {B : Type 0} {a a' b b' : List B} → a ≡ a' → b ≡ b' → a ++ b ≡ a' ++ b'
-  both p q = rw (p, q) refl
-
-  first_then : {B : Type 0} {a a' : B} {b b' : List B} → a ≡ a' → b ≡ b' → a ∷ b ≡ a' ∷ b'
-  first_then p q = rw (p, q) refl
-
   wrapped_bodies : (cs : List NewCell) (e : Tree) → bodies (wrapped cs e) ≡ bodies e
   wrapped_bodies [] e = refl
   wrapped_bodies (c ∷ cs) e = refl
@@ -366,22 +354,22 @@ module _ (has_cell : ℕ → Bool) (n : ℕ) where
     bodies_kept (set_variable x e) S r g = bodies_kept e S r.2 g
     bodies_kept (set_global k e) S r g = bodies_kept e S r g
     bodies_kept (define k e) S r g = bodies_kept e S r g
-    bodies_kept (branch a b c) S r g = both (bodies_kept a S r.0 g) (both (bodies_kept b S r.1 g) (bodies_kept c S r.2 g))
+    bodies_kept (branch a b c) S r g = append_same (bodies_kept a S r.0 g) (append_same (bodies_kept b S r.1 g) (bodies_kept c S r.2 g))
     bodies_kept (sequence es) S r g = each_bodies es S r g
     bodies_kept (bind site x es e) S r g =
         let m = count es in
-        both (each_bodies es S r.0 g) (wrapped_bodies (cells_for has_cell n x m) (converted has_cell n e) ∙ bodies_kept e (scope_with x m S) r.3 (low_with has_cell n x m S r.2 g))
+        append_same (each_bodies es S r.0 g) (wrapped_bodies (cells_for has_cell n x m) (converted has_cell n e) ∙ bodies_kept e (scope_with x m S) r.3 (low_with has_cell n x m S r.2 g))
     bodies_kept (fix x ls e) S r g =
         let m = count_lambdas ls in
         let low = low_with has_cell n x m S r.1 g in
-        both (lambdas_bodies ls (scope_with x m S) r.2 low) (bodies_kept e (scope_with x m S) r.3 low)
+        append_same (lambdas_bodies ls (scope_with x m S) r.2 low) (bodies_kept e (scope_with x m S) r.3 low)
     bodies_kept (letrec site x es e) S r g =
         let m = count es in
         let low = low_with has_cell n x m S r.1 g in
-        both (each_bodies es (scope_with x m S) r.2 low) (filling_bodies x m (converted has_cell n e) ∙ bodies_kept e (scope_with x m S) r.3 low)
+        append_same (each_bodies es (scope_with x m S) r.2 low) (filling_bodies x m (converted has_cell n e) ∙ bodies_kept e (scope_with x m S) r.3 low)
     bodies_kept (lambda name x m rest e) S r g =
-        first_then (procedure_kept name x m rest e S r.0 r.1 r.2 g) (wrapped_bodies (cells_for has_cell n x m) (converted has_cell n e) ∙ bodies_kept e (scope_with x m S) r.2 (low_with has_cell n x m S r.1 g))
-    bodies_kept (call site spread f es) S r g = both (bodies_kept f S r.0 g) (each_bodies es S r.1 g)
+        cons_same (procedure_kept name x m rest e S r.0 r.1 r.2 g) (wrapped_bodies (cells_for has_cell n x m) (converted has_cell n e) ∙ bodies_kept e (scope_with x m S) r.2 (low_with has_cell n x m S r.1 g))
+    bodies_kept (call site spread f es) S r g = append_same (bodies_kept f S r.0 g) (each_bodies es S r.1 g)
     bodies_kept (operation site which es) S r g = each_bodies es S r g
     bodies_kept (new_cells cs e) S r g = absurd r
     bodies_kept (cell_get x) S r g = absurd r
@@ -389,21 +377,21 @@ module _ (has_cell : ℕ → Bool) (n : ℕ) where
 
     each_bodies : (es : Trees) (S : List ℕ) → RightEach has_cell n es S → AllLow has_cell n S → bodies_each (converted_each has_cell n es) ≡ bodies_each es
     each_bodies no_trees S r g = refl
-    each_bodies (and_tree e es) S r g = both (bodies_kept e S r.0 g) (each_bodies es S r.1 g)
+    each_bodies (and_tree e es) S r g = append_same (bodies_kept e S r.0 g) (each_bodies es S r.1 g)
 
     lambdas_bodies : (ls : Lambdas) (S : List ℕ) → RightLambdas has_cell n ls S → AllLow has_cell n S → bodies_lambdas (converted_lambdas has_cell n ls) ≡ bodies_lambdas ls
     lambdas_bodies no_lambdas S r g = refl
     lambdas_bodies (and_lambda name x m rest e ls) S r g =
-        first_then (procedure_kept name x m rest e S r.0.0 r.0.1 r.0.2 g)
-        (both (wrapped_bodies (cells_for has_cell n x m) (converted has_cell n e) ∙ bodies_kept e (scope_with x m S) r.0.2 (low_with has_cell n x m S r.0.1 g)) (lambdas_bodies ls S r.1 g))
+        cons_same (procedure_kept name x m rest e S r.0.0 r.0.1 r.0.2 g)
+        (append_same (wrapped_bodies (cells_for has_cell n x m) (converted has_cell n e) ∙ bodies_kept e (scope_with x m S) r.0.2 (low_with has_cell n x m S r.0.1 g)) (lambdas_bodies ls S r.1 g))
 
   pub nothing_low : AllLow has_cell n []
   nothing_low = record { at = λ y i. absurd (cc) }
 
   forms_bodies : (es : Trees) → RightEach has_cell n es [] → bodies_forms (converted_each has_cell n es) ≡ bodies_forms es
   forms_bodies no_trees r = refl
-  forms_bodies (and_tree e es) r = first_then (rw (form_variables e r.0) refl) (both (bodies_kept e [] r.0 nothing_low) (forms_bodies es r.1))
+  forms_bodies (and_tree e es) r = cons_same (rw (form_variables e r.0) refl) (append_same (bodies_kept e [] r.0 nothing_low) (forms_bodies es r.1))
 
   -- a program has the same bodies
   pub program_bodies : (p : Source) → IsRight has_cell n p → bodies_of (converted_source has_cell n p) ≡ bodies_of p
-  program_bodies p r = both (lambdas_bodies p.library [] r.library nothing_low) (forms_bodies p.forms r.forms)
+  program_bodies p r = append_same (lambdas_bodies p.library [] r.library nothing_low) (forms_bodies p.forms r.forms)

@@ -1,6 +1,6 @@
 -- Covered code stays covered.
-use Rattle.std.proofs.Common.{◌≡◌, ℕ, Bool, true, false, refl}
-use Rattle.std.specs.Prelude.{IsTrue, ◌&&◌, nat_le}
+use Rattle.std.proofs.Common.{ℕ, Bool, refl}
+use Rattle.std.specs.Prelude.{IsTrue, nat_le}
 use Rattle.sch_word.specs.trees.Shape.{Shape, max_library}
 use Rattle.sch_word.specs.trees.Covered.{is_covered_node}
 use Rattle.sch_word.proofs.Shaped.{Implies, implies_joins, parts, both_true}

@@ -15,64 +15,33 @@ use Rattle.sch_assign.specs.Converted.{and_cell, cells_for, empty_cells, filling
 use Rattle.sch_assign.proofs.Lookups.{all_first, all_next, low_first, low_next}
 use Rattle.sch_assign.proofs.kept.FreeMoved.{count_same, count_lambdas_same}
 use Rattle.sch_assign.proofs.ConversionIsRight.{IsRight, below_has}
-use Rattle.sch_word.proofs.facts.NumberTests.{differ, same_test}
+use Rattle.sch_word.proofs.facts.Occurrences.{has_times, one, one_alike, one_other, one_same, times, times_append, times_cons, times_has, times_none}
 
--- ## How many times a number stands in a list
-
-abbrev one_if : Bool → ℕ
-one_if true = 1
-one_if false = 0
-
-abbrev times : ℕ → List ℕ → ℕ
-times z [] = 0
-times z (x ∷ xs) = one_if (nat_eq z x) + times z xs
-
-times_append : (z : ℕ) (xs ys : List ℕ) → times z (xs ++ ys) ≡ times z xs + times z ys
-times_append z [] ys = omega arith
-times_append z (x ∷ xs) ys = let h = times_append z xs ys in omega (arith, h)
+-- ## How often a number stands in a list
 
 times_three : (z : ℕ) (xs ys zs : List ℕ) → times z (xs ++ (ys ++ zs)) ≡ times z xs + (times z ys + times z zs)
 times_three z xs ys zs = times_append z xs (ys ++ zs) ∙ ap (λ k. times z xs + k) (times_append z ys zs)
-
-there : (z : ℕ) (xs : List ℕ) → In z xs → 1 ≤ times z xs
-there z [] i = absurd (cc)
-there z (x ∷ xs) i = go (nat_eq z x) refl (there z xs)
-  where
-    go : (b : Bool) → nat_eq z x ≡ b → (In z xs → 1 ≤ times z xs) → 1 ≤ one_if b + times z xs
-    go true e k = omega arith
-    go false e k = let j : (false || has z xs) ≡ true = rw e at i in let l = k j in omega (arith, l)
-
-not_there : (z : ℕ) (xs : List ℕ) → has z xs ≡ false → times z xs ≡ 0
-not_there z [] h = refl
-not_there z (x ∷ xs) h = go (nat_eq z x) refl (not_there z xs)
-  where
-    go : (b : Bool) → nat_eq z x ≡ b → (has z xs ≡ false → times z xs ≡ 0) → one_if b + times z xs ≡ 0
-    go true e k = absurd (let j : (true || has z xs) ≡ false = rw e at h in cc)
-    go false e k = let j : (false || has z xs) ≡ false = rw e at h in let l = k j in omega (arith, l)
-
-in_times : (z : ℕ) (xs : List ℕ) → 1 ≤ times z xs → In z xs
-in_times z xs l = go (has z xs) refl
-  where
-    go : (b : Bool) → has z xs ≡ b → b ≡ true
-    go true e = refl
-    go false e = absurd (let n = not_there z xs e in omega (arith, n, l))
 
 distinct_times : (z : ℕ) (xs : List ℕ) → IsTrue (distinct xs) → times z xs ≤ 1
 distinct_times z [] d = omega arith
 distinct_times z (x ∷ xs) d =
     let p = parts (not (has x xs)) (distinct xs) d in
-    go (nat_eq z x) refl (not_true (has x xs) p.0) (distinct_times z xs p.1)
+    go (nat_eq x z) refl (not_true (has x xs) p.0) (distinct_times z xs p.1)
   where
-    go : (b : Bool) → nat_eq z x ≡ b → has x xs ≡ false → times z xs ≤ 1 → one_if b + times z xs ≤ 1
-    go true e h k = let q : z ≡ x = eqb-true z x e in let n : times z xs ≡ 0 = not_there z xs (rw q h) in omega (arith, n)
-    go false e h k = omega (arith, k)
+    go : (b : Bool) → nat_eq x z ≡ b → has x xs ≡ false → times z xs ≤ 1 → times z (x ∷ xs) ≤ 1
+    go true e h k =
+        let q : x ≡ z = eqb-true x z e in
+        let n : times z xs ≡ 0 = times_none z xs (rw (← q) h) in
+        let o = ap (one z) q in
+        omega (arith, n, o, one_same z, times_cons z x xs)
+    go false e h k = let o : one z x ≡ 0 = rw e refl in omega (arith, k, o, times_cons z x xs)
 
 times_distinct : (xs : List ℕ) → ((z : ℕ) → times z xs ≤ 1) → IsTrue (distinct xs)
 times_distinct [] h = refl
-times_distinct (x ∷ xs) h = both_true (ap not (go (has x xs) refl)) (times_distinct xs (λ z. let k = h z in omega (arith, k)))
+times_distinct (x ∷ xs) h = both_true (ap not (go (has x xs) refl)) (times_distinct xs (λ z. let k = h z in omega (arith, k, times_cons z x xs)))
   where
     go : (b : Bool) → has x xs ≡ b → b ≡ false
-    go true e = absurd (let t = there x xs e in let k : one_if (nat_eq x x) + times x xs ≤ 1 = h x in let s : nat_eq x x ≡ true = eq-eqb x x refl in let k' : 1 + times x xs ≤ 1 = rw s at k in omega (arith, t, k'))
+    go true e = absurd (let t = times_has x xs e in let k = h x in omega (arith, t, k, times_cons x x xs, one_same x))
     go false e = refl
 
 below_all : (k : ℕ) (xs : List ℕ) → ((z : ℕ) → In z xs → z < k) → IsTrue (below k xs)
@@ -96,24 +65,26 @@ module _ (has_cell : ℕ → Bool) (n : ℕ) where
   keys_high x (suc m) z l = go (has_cell x) (keys_high (suc x) m z l)
     where
       go : (b : Bool) → times z (cells_bound (cells_for has_cell n (suc x) m)) ≡ 0 → times z (cells_bound (and_cell n b x (cells_for has_cell n (suc x) m))) ≡ 0
-      go true k = let t : nat_eq z (x + n) ≡ false = differ z (x + n) (λ e. omega (arith, e, l)) in rw t (omega (arith, k))
+      go true k = omega (arith, k, times_cons z (x + n) (cells_bound (cells_for has_cell n (suc x) m)), one_other z (x + n) (λ e. omega (arith, e, l)))
       go false k = k
 
   numbers_low : (x m z : ℕ) → Low n x m → n ≤ z → times z (numbers x m) ≡ 0
   numbers_low x zero z low l = refl
   numbers_low x (suc m) z low l =
       let f : x < n = low_first has_cell n x m low in
-      let t : nat_eq z x ≡ false = differ z x (λ e. omega (arith, e, l, f)) in
       let k = numbers_low (suc x) m z (low_next has_cell n x m low) l in
-      rw t (omega (arith, k))
+      omega (arith, k, times_cons z x (numbers (suc x) m), one_other z x (λ e. omega (arith, e, l, f)))
 
   keys_few : (x m z o : ℕ) → z ≡ o + n → times z (cells_bound (cells_for has_cell n x m)) ≤ times o (numbers x m)
   keys_few x zero z o e = omega arith
   keys_few x (suc m) z o e = go (has_cell x) (keys_few (suc x) m z o e)
     where
-      go : (b : Bool) → times z (cells_bound (cells_for has_cell n (suc x) m)) ≤ times o (numbers (suc x) m) → times z (cells_bound (and_cell n b x (cells_for has_cell n (suc x) m))) ≤ one_if (nat_eq o x) + times o (numbers (suc x) m)
-      go true k = let t : nat_eq z (x + n) ≡ nat_eq o x = same_test z (x + n) o x (λ q. omega (arith, q, e)) (λ q. omega (arith, q, e)) in rw t (omega (arith, k))
-      go false k = omega (arith, k)
+      go : (b : Bool) → times z (cells_bound (cells_for has_cell n (suc x) m)) ≤ times o (numbers (suc x) m)
+          → times z (cells_bound (and_cell n b x (cells_for has_cell n (suc x) m))) ≤ times o (x ∷ numbers (suc x) m)
+      go true k =
+          let t : one z (x + n) ≡ one o x = one_alike z (x + n) o x (λ q. omega (arith, q, e)) (λ q. omega (arith, q, e)) in
+          omega (arith, k, t, times_cons z (x + n) (cells_bound (cells_for has_cell n (suc x) m)), times_cons o x (numbers (suc x) m))
+      go false k = omega (arith, k, times_cons o x (numbers (suc x) m))
 
   group_once : (x m z o : ℕ) → Low n x m → Origin n z o → times z (numbers x m) + times z (cells_bound (cells_for has_cell n x m)) ≤ times o (numbers x m)
   group_once x m z o low (itself l e) = let k = keys_high x m z l in subst (λ o. times z (numbers x m) + times z (cells_bound (cells_for has_cell n x m)) ≤ times o (numbers x m)) e (omega (arith, k))
@@ -254,8 +225,8 @@ module _ (has_cell : ℕ → Bool) (n : ℕ) where
       below_all (n + n) (bound_of (converted_source has_cell n p)) (λ z i.
       let f = origin z in
       let k = whole_once z f.o f.is p r in
-      let t = there z (bound_of (converted_source has_cell n p)) i in
-      let l = below_has n f.o (bound_of p) b (in_times f.o (bound_of p) (omega (arith, k, t))) in
+      let t = times_has z (bound_of (converted_source has_cell n p)) i in
+      let l = below_has n f.o (bound_of p) b (has_times f.o (bound_of p) (omega (arith, k, t))) in
       low z f.o f.is l)
     where
       low : (z o : ℕ) → Origin n z o → o < n → z < n + n

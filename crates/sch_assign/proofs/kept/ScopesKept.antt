@@ -9,7 +9,8 @@ use Rattle.sch_cells.specs.Tree.{Tree, Trees, Lambdas, Source, constant, literal
 use Rattle.sch_cells.specs.Variables.{scope_of, cells_bound, cells_used, all_in, closed, closed_each, closed_lambdas}
 use Rattle.sch_cells.specs.Clear.{In}
 use Rattle.sch_assign.specs.Converted.{and_cell, cells_for, empty_cells, filling, reading, wrapped, converted, converted_each, converted_lambdas, AllAre, Right, RightEach, RightLambdas}
-use Rattle.sch_assign.proofs.Lookups.{Where, inside, outside, where_is, in_outside, in_more, in_deeper, in_group}
+use Rattle.sch_assign.proofs.Lookups.{Where, inside, outside, where_is, in_outside, in_deeper, in_group}
+use Rattle.sch_word.proofs.facts.NumberSets.{in_more}
 use Rattle.sch_assign.proofs.Moved.{AllInside, used_inside}
 use Rattle.sch_assign.proofs.kept.FreeMoved.{count_same, count_lambdas_same, keys_have, empty_used}
 use Rattle.sch_assign.proofs.ConversionIsRight.{IsRight}

@@ -3,13 +3,12 @@ use Rattle.std.proofs.Common.{◌≡◌, ℕ, zero, suc, ◌+◌, ◌*◌, ◌�
 use Rattle.sch_word.specs.trees.Bindings.{scope_with}
 use Rattle.sch_word.specs.trees.Shape as shapes
 use Rattle.sch_word.specs.trees.Shape.{size_of, procedures_size}
-use Rattle.sch_control.specs.NodeWeights.{free_of, procedures_weight, weight_of}
+use Rattle.sch_word.specs.trees.NodeWeights.{free_of, procedures_weight, weight_of}
 use Rattle.sch_cells.specs.declared.tree.NewCell.{NewCell}
 use Rattle.sch_cells.specs.Tree.{Tree, Trees, Lambdas, Source, constant, literal, variable, global, set_variable, set_global, define, branch, sequence, bind, fix, letrec, lambda, call, operation, new_cells, cell_get, cell_set, no_trees, and_tree, no_lambdas, and_lambda, count, count_lambdas}
 use Rattle.sch_cells.specs.Bodies.{procedures}
-use Rattle.sch_cells.specs.Measures.{over, over_each, over_lambdas, shape, dropped_parts, program_size}
+use Rattle.sch_cells.specs.Measures.{over, over_each, over_lambdas, shape, dropped_parts, program_size, weight}
 use Rattle.sch_assign.specs.Converted.{cells_for, filling, reading, wrapped, converted, converted_each, converted_lambdas, converted_source, Right, RightEach, RightLambdas}
-use Rattle.sch_assign.specs.Weight.{weight}
 use Rattle.sch_assign.proofs.kept.FreeMoved.{AllLow, count_lambdas_same, count_same, low_with}
 use Rattle.sch_assign.proofs.ConversionIsRight.{IsRight}
 use Rattle.sch_assign.proofs.kept.BodiesKept.{procedure_kept, procedures_kept, nothing_low, empty_length}

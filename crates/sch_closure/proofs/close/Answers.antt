@@ -6,12 +6,12 @@ use Rattle.sch_cells.specs.BoxedMeaning.{run}
 use Rattle.sch_cells.specs.ProgramView.{source}
 use Rattle.sch_cells.specs.Measures as from
 use Rattle.sch_flat.specs.Covered.{is_covered_program}
-use Rattle.sch_flat.specs.Measures.{sites_of, call_sites_of, tests_of, dropped_of, program_size}
+use Rattle.sch_flat.specs.Measures.{sites_of, call_sites_of, tests_of, dropped_of, program_size, weight}
 use Rattle.sch_flat.specs.Run as meaning
-use Rattle.sch_closed.specs.Kept.{SameItems, flat_forms, procedure_of, weight_after}
-use Rattle.sch_closed.proofs.kept.CoveredKept.{covered_kept, labels_length}
-use Rattle.sch_closed.proofs.kept.ValidKept.{Given, same_runs, clears, fresh_library, fresh_forms}
-use Rattle.sch_closed.proofs.kept.ProgramKept.{weight_kept, sites_kept, calls_kept, tests_kept, dropped_kept, bodies_kept, forms_kept, size_kept}
+use Rattle.sch_closure.specs.Kept.{SameItems, flat_forms, procedure_of}
+use Rattle.sch_closure.proofs.kept.CoveredKept.{covered_kept, labels_length}
+use Rattle.sch_closure.proofs.kept.ValidKept.{Given, same_runs, clears, fresh_library, fresh_forms}
+use Rattle.sch_closure.proofs.kept.ProgramKept.{weight_kept, sites_kept, calls_kept, tests_kept, dropped_kept, bodies_kept, forms_kept, size_kept}
 use Rattle.sch_closure.proofs.close.Goals as goal
 
 pub returns-clause-runs : goal.returns-clause-runs
@@ -79,7 +79,7 @@ returns-clause-weight c =
     let p = source c.args.p.now in
     let v = c.args.p.now in
     let g : Given p = record { scoped = v.scoped; formed = v.formed; limited = v.limited } in
-    if_ok c.close_program.result _ _ c.close_program.ensures (λ q made. ap weight_after made ∙ weight_kept p (fresh_library p g) (fresh_forms p g))
+    if_ok c.close_program.result _ _ c.close_program.ensures (λ q made. ap weight made ∙ weight_kept p (fresh_library p g) (fresh_forms p g))
 
 pub returns-clause-covered : goal.returns-clause-covered
 returns-clause-covered c =

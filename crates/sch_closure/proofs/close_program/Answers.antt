@@ -2,11 +2,11 @@ use Rattle.std.proofs.Common.{◌≡◌, ◌^◌, ◌-◌, [], length, map, ap, 
 use Rattle.sch_cells.specs.ProgramView.{source}
 use Rattle.sch_flat.specs.View.{body, made}
 use Rattle.sch_flat.specs.Valid.{constants_in_range, is_closed, is_formed, within_levels, in_order, sited, statics_known}
-use Rattle.sch_closed.specs.Closed.{captured, procedures_lambdas, made_each}
+use Rattle.sch_closure.specs.Closed.{captured, procedures_lambdas, made_each}
 use Rattle.sch_closure.specs.Walked.{with_bodies_lambdas}
-use Rattle.sch_closed.proofs.Standing.{stands_library, stands_forms}
+use Rattle.sch_closure.proofs.Standing.{stands_library, stands_forms}
 use Rattle.sch_closure.proofs.MadeProgram.{made_program, library_length, few_procedures}
-use Rattle.sch_closed.proofs.kept.ValidKept.{Given, short, closed_kept, formed_kept, constants_kept, nested_kept, ordered_kept, sited_kept, ready_kept}
+use Rattle.sch_closure.proofs.kept.ValidKept.{Given, short, closed_kept, formed_kept, constants_kept, nested_kept, ordered_kept, sited_kept, ready_kept}
 use Rattle.sch_closure.proofs.close_program.Goals as goal
 
 pub close_lambdas-requires-clause-short : goal.close_lambdas-requires-clause-short

@@ -9,14 +9,14 @@ use Rattle.sch_names.specs.ScopeView.{one_name, given_names}
 use Rattle.sch_sketch.specs.declared.draft.Draft as drafts
 use Rattle.sch_sketch.specs.Draft.{Draft}
 use Rattle.sch_sketch.specs.DraftView.{draft_of}
-use Rattle.sch_numbers.specs.Programs.{names_of_each}
-use Rattle.sch_keeping.specs.declared.definition.Definition as code
-use Rattle.sch_keeping.specs.Definitions.{definition_of, definitions_of}
-use Rattle.sch_validity.specs.Library.{procedure_of}
+use Rattle.sch_link_tables.specs.Programs.{names_of_each}
+use Rattle.sch_link_program.specs.declared.definition.Definition as code
+use Rattle.sch_link_program.specs.Definitions.{definition_of, definitions_of}
+use Rattle.sch_core.specs.LibraryDefinitions.{procedure_of}
 use Rattle.sch_toplevel.specs.Items.{item_places}
 use Rattle.sch_word.proofs.facts.Lists.{next_left}
 use Rattle.sch_core.specs.declared.error.Kind.{Kind}
-use Rattle.sch_core.specs.Libraries.{definition_excess, first_definition_excess}
+use Rattle.sch_core.specs.Excess.{definition_excess, first_definition_excess}
 
 -- ## Definitions of names and drafts
 

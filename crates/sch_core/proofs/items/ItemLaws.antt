@@ -9,13 +9,13 @@ use Rattle.sch_expansion.specs.Expands.{Expands}
 use Rattle.sch_expansion.specs.Reads.{Reads}
 use Rattle.sch_expansion.proofs.Best.{Best, none_new, and_then, none_before}
 use Rattle.sch_expansion.proofs.Readings.{unique, clean, one_fault, read_best, read_made, is_read}
-use Rattle.sch_numbers.specs.Programs.{Definition, names_of_each}
-use Rattle.sch_validity.specs.Library.{procedure_of}
+use Rattle.sch_link_tables.specs.Programs.{Definition, names_of_each}
+use Rattle.sch_core.specs.LibraryDefinitions.{procedure_of}
 use Rattle.sch_toplevel.specs.Forms.{form_sketch}
 use Rattle.sch_toplevel.specs.Items.{behind, names_by, item_globals, procedure_in, item_names, ItemsExpand, ItemHasFault, ItemsRead}
 use Rattle.sch_core.proofs.DataLaws.{some_some}
 use Rattle.sch_core.proofs.items.ItemShapes.{defines, shaped}
-use Rattle.sch_validity.proofs.drafts.Soundness.{procedure}
+use Rattle.sch_core.proofs.drafts.Soundness.{procedure}
 
 head_is : {A : Type 0} {x y : A} {xs ys : List A} → x ∷ xs ≡ y ∷ ys → x ≡ y
 head_is e = cc

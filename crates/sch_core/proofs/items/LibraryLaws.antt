@@ -5,11 +5,12 @@ use Rattle.sch_sketch.specs.declared.fault.Fault.{Fault}
 use Rattle.sch_sketch.specs.declared.fault.Fault.TheVariants as fault
 use Rattle.sch_sketch.specs.Draft.{Draft}
 use Rattle.sch_expansion.specs.FaultOrder.{rank}
-use Rattle.sch_numbers.specs.Programs.{Definition, names_of_each}
-use Rattle.sch_validity.specs.Library.{procedure_of}
+use Rattle.sch_link_tables.specs.Programs.{Definition, names_of_each}
+use Rattle.sch_core.specs.LibraryDefinitions.{procedure_of}
 use Rattle.sch_toplevel.specs.Items.{item_places, item_names, ItemsExpand, ItemsRead}
 use Rattle.sch_core.specs.Answer.{IsErrorFor}
-use Rattle.sch_core.specs.Libraries.{definition_excess, first_definition_excess, IsLibraryOf, LibraryExceedsAt, IsLibraryFault, IsLibraryError}
+use Rattle.sch_core.specs.Excess.{definition_excess, first_definition_excess}
+use Rattle.sch_core.specs.Libraries.{IsLibraryOf, LibraryExceedsAt, IsLibraryFault, IsLibraryError}
 use Rattle.sch_core.specs.declared.error.CoreError.{CoreError}
 use Rattle.sch_core.specs.declared.error.CoreError.TheVariants as errors
 use Rattle.sch_core.specs.declared.error.Kind.{Kind}

@@ -9,22 +9,25 @@ use Rattle.sch_names.specs.Scope.{is_among}
 use Rattle.sch_sketch.specs.declared.sketch.Position.TheVariants.{Value}
 use Rattle.sch_sketch.proofs.SmallMeasures.{data_weigh}
 use Rattle.sch_expansion.specs.Expands.{Expands}
-use Rattle.sch_numbers.specs.Programs.{Definition}
-use Rattle.sch_linking.specs.Size.{size, size_of_definitions}
-use Rattle.sch_validity.specs.Forms.{ItemExpands}
-use Rattle.sch_validity.specs.Library.{procedure_of, procedures_of_each, IsDefinition, AreDefinitions, AreOrdered}
-use Rattle.sch_validity.specs.Sizes.{AllQuotable, IsQuotable, statics_in, statics_in_each}
-use Rattle.sch_validity.proofs.programs.Items.{item_is_definition, item_constants, item_ordered, item_statics}
-use Rattle.sch_validity.proofs.programs.Starts.{among_append, among_cons}
+use Rattle.sch_link_tables.specs.Programs.{Definition}
+use Rattle.sch_sketch.specs.DraftMeasures.{size}
+use Rattle.sch_link_program.specs.Size.{size_of_definitions}
+use Rattle.sch_core.specs.TextForms.{ItemExpands}
+use Rattle.sch_core.specs.LibraryDefinitions.{procedure_of, procedures_of_each, IsDefinition, AreDefinitions, AreOrdered}
+use Rattle.sch_core.specs.Quotable.{AllQuotable, IsQuotable}
+use Rattle.sch_core.specs.SizesOfStatics.{statics_in, statics_in_each}
+use Rattle.sch_core.proofs.programs.ItemDefinitions.{item_is_definition, item_constants, item_ordered, item_statics}
+use Rattle.sch_link_program.proofs.NameSets.{among_append}
+use Rattle.sch_core.proofs.programs.Starts.{among_cons}
 use Rattle.sch_toplevel.specs.Forms.{form_sketch}
 use Rattle.sch_toplevel.specs.Items.{behind, with_item, name_in, names_by, item_globals, procedure_in, item_places, ItemsExpand}
-use Rattle.sch_core.specs.Libraries.{AreFew, definition_excess, first_definition_excess}
-use Rattle.sch_core.specs.SoundLibraries.{IsSoundLibrary}
+use Rattle.sch_core.specs.Excess.{AreFew, definition_excess, first_definition_excess}
+use Rattle.sch_core.specs.LibraryDefinitions.{IsSoundLibrary}
 use Rattle.sch_core.proofs.items.ItemShapes.{shaped}
 use Rattle.sch_word.proofs.facts.Booleans.{and_parts}
 use Rattle.sch_core.proofs.Nesting.{all_quotable}
-use Rattle.sch_core.proofs.TextSizes.{sized}
-use Rattle.sch_core.proofs.ValidTexts.{some_left, either_there, place_none}
+use Rattle.sch_core.proofs.texts.TextSizes.{sized}
+use Rattle.sch_core.proofs.texts.ValidTexts.{some_left, either_there, place_none}
 
 -- ## What follows the word of an item
 

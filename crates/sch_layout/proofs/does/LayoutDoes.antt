@@ -13,8 +13,8 @@ use Rattle.sch_word.specs.runs.Charges.{charge_each, procedure_bytes}
 use Rattle.sch_word.specs.runs.Computation.{gives, stops, spent, State, in_store, procedures_from}
 use Rattle.sch_word.specs.trees.NumberSets.{has}
 use Rattle.sch_word.proofs.facts.Booleans.{false_true, neither, not_left, not_right, or_left, or_right}
-use Rattle.sch_control.specs.declared.mark.MarkKind.{MarkKind}
-use Rattle.sch_control.specs.declared.mark.MarkKind.TheVariants as mark
+use Rattle.sch_word.specs.declared.mark.MarkKind.{MarkKind}
+use Rattle.sch_word.specs.declared.mark.MarkKind.TheVariants as mark
 use Rattle.sch_control.specs.declared.operation.Application.{Application}
 use Rattle.sch_control.specs.declared.operation.Atom.TheVariants.{Constant, Literal, Variable}
 use Rattle.sch_control.specs.declared.operation.Operand.TheVariants as operand

@@ -2,6 +2,7 @@
 use Rattle.std.proofs.Common.{◌≡◌, ◌≢◌, ℕ, zero, suc, ◌+◌, ◌<◌, ◌≤◌, List, [], ◌∷◌, length, Option, Some, None, Bool, true, false, cond, refl, sym, ap, ◌∙◌, subst, arith, ◌⊎◌, inl, inr}
 use Rattle.std.specs.Prelude.{nat_eq, slice_get}
 use Rattle.std.proofs.lemmas.Bool.{ne_eqb, cases_eq}
+use Rattle.sch_word.specs.declared.registers.TheConstants.{CLOSURE_REGISTER, LINK_REGISTER}
 use Rattle.sch_word.specs.declared.place.Place.{Place}
 use Rattle.sch_word.specs.declared.place.Place.TheVariants.{Reg, Slot}
 use Rattle.sch_word.specs.values.Values.{Value}
@@ -86,11 +87,11 @@ each_register P a b c d e f (suc (suc (suc (suc (suc (suc k)))))) r h = absurd c
 operand_of : (k r : ℕ) → argument_register k ≡ Some r → operand_in r ≡ k
 operand_of = each_register (λ k r. operand_in r ≡ k) refl refl refl refl refl refl
 
-not_closure : (k r : ℕ) → argument_register k ≡ Some r → nat_eq 14 r ≡ false
-not_closure = each_register (λ k r. nat_eq 14 r ≡ false) refl refl refl refl refl refl
+not_closure : (k r : ℕ) → argument_register k ≡ Some r → nat_eq CLOSURE_REGISTER r ≡ false
+not_closure = each_register (λ k r. nat_eq CLOSURE_REGISTER r ≡ false) refl refl refl refl refl refl
 
-not_link : (k r : ℕ) → argument_register k ≡ Some r → nat_eq 15 r ≡ false
-not_link = each_register (λ k r. nat_eq 15 r ≡ false) refl refl refl refl refl refl
+not_link : (k r : ℕ) → argument_register k ≡ Some r → nat_eq LINK_REGISTER r ≡ false
+not_link = each_register (λ k r. nat_eq LINK_REGISTER r ≡ false) refl refl refl refl refl refl
 
 -- two operands arrive apart
 arrivals_apart : (k m : ℕ) → k ≢ m → same_place (arrival k) (arrival m) ≡ false

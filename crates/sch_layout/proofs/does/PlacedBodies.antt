@@ -4,7 +4,7 @@ use Rattle.std.proofs.Common.{◌≡◌, ℕ, List, [], length, Option, None}
 use Rattle.sch_word.specs.values.Values.{Value}
 use Rattle.sch_word.specs.runs.Computation.{State}
 use Rattle.sch_control.specs.declared.body.Entry.{Entry}
-use Rattle.sch_control.specs.declared.mark.MarkKind.{MarkKind}
+use Rattle.sch_word.specs.declared.mark.MarkKind.{MarkKind}
 use Rattle.sch_control.specs.Meaning.{Callee, do_body, falls_off, no_region, nothing}
 use Rattle.sch_control.specs.Operations.{Procedure}
 use Rattle.sch_control.specs.Run as control_run

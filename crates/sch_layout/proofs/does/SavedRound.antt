@@ -9,8 +9,8 @@ use Rattle.sch_word.specs.values.Values.{Value, is_true}
 use Rattle.sch_word.specs.runs.Charges.{charge_each}
 use Rattle.sch_word.specs.runs.Computation.{in_store, procedures_from}
 use Rattle.sch_word.proofs.facts.Booleans.{and_parts, neither, not_left, not_right}
-use Rattle.sch_control.specs.declared.mark.MarkKind.{MarkKind}
-use Rattle.sch_control.specs.declared.mark.MarkKind.TheVariants as mark
+use Rattle.sch_word.specs.declared.mark.MarkKind.{MarkKind}
+use Rattle.sch_word.specs.declared.mark.MarkKind.TheVariants as mark
 use Rattle.sch_control.specs.declared.operation.Member.{Member}
 use Rattle.sch_control.specs.Meaning.{World, Result, Environment, Then, Callee, plain, marked, marked_if, with_value, on_outcome, on_ending, on_return, either, put, put_if, put_each, put_inside, after_call, among, binds, heads, no_region, nothing, with_region, save_each, mark_each, mark_bound, mark_members, call_in, evaluate}
 use Rattle.sch_control.specs.Operations.{part_values, operate, member_bytes, members_made, with_procedures}

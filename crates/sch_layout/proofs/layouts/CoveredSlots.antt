@@ -13,7 +13,7 @@ use Rattle.sch_control.specs.declared.operation.Source.TheVariants as source
 use Rattle.sch_control.specs.declared.operation.Member.{Member}
 use Rattle.sch_control.specs.declared.operation.Operation.{Operation}
 use Rattle.sch_control.specs.declared.operation.Operation.TheVariants as operation
-use Rattle.sch_control.specs.declared.mark.MarkKind.TheVariants as mark
+use Rattle.sch_word.specs.declared.mark.MarkKind.TheVariants as mark
 use Rattle.sch_control.specs.Covered.{is_covered, is_covered_source, is_covered_member, is_covered_operation}
 use Rattle.sch_control.specs.CoveredOperands.{is_covered_operand}
 use Rattle.sch_control.specs.Meaning.{heads, no_region, with_region}

@@ -7,7 +7,7 @@ use Rattle.std.proofs.lemmas.Bool.{and_parts, and_from, le-leb, lt-ltb}
 use Rattle.std.proofs.lemmas.List.Folds.{list_all-append}
 use Rattle.sch_word.specs.declared.place.Place.{Place}
 use Rattle.sch_word.specs.declared.place.Place.TheVariants.{Reg, Slot}
-use Rattle.sch_control.specs.declared.mark.MarkKind.TheVariants as mark
+use Rattle.sch_word.specs.declared.mark.MarkKind.TheVariants as mark
 use Rattle.sch_control.specs.declared.operation.Atom.{Atom}
 use Rattle.sch_control.specs.declared.operation.Atom.TheVariants.{Constant, Literal, Variable}
 use Rattle.sch_control.specs.declared.operation.Operand.{Operand}

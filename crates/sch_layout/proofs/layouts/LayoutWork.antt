@@ -4,7 +4,7 @@ use Rattle.std.proofs.lemmas.List.{length-map}
 use Rattle.sch_word.specs.declared.place.Place.{Place}
 use Rattle.sch_word.specs.declared.place.Place.TheVariants.{Slot}
 use Rattle.sch_control.specs.declared.body.Entry.{Entry}
-use Rattle.sch_control.specs.declared.mark.MarkKind.TheVariants as mark
+use Rattle.sch_word.specs.declared.mark.MarkKind.TheVariants as mark
 use Rattle.sch_control.specs.declared.operation.Operand.{Operand}
 use Rattle.sch_control.specs.declared.operation.Application.{Application}
 use Rattle.sch_control.specs.Sizes.{operand_size}

@@ -4,7 +4,7 @@ use Rattle.std.specs.Prelude.{filter, nat_eq, ◌||◌}
 use Rattle.std.proofs.lemmas.Bool.{eq-eqb, ne_eqb}
 use Rattle.sch_word.specs.trees.NumberSets.{has, unless}
 use Rattle.sch_word.proofs.facts.Booleans.{false_true, or_left, or_right}
-use Rattle.sch_control.specs.declared.mark.MarkKind.TheVariants as mark
+use Rattle.sch_word.specs.declared.mark.MarkKind.TheVariants as mark
 use Rattle.sch_control.specs.declared.operation.Member.{Member}
 use Rattle.sch_control.specs.Meaning.{among, binds, heads, no_region, with_region}
 use Rattle.sch_control.specs.Tree as control

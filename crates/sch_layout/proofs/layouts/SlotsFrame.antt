@@ -34,12 +34,12 @@ slot_placed : (base n words x : ℕ) → base + n ≤ words → Within n x → i
 slot_placed base n words zero le h = absurd h.0
 slot_placed base n words (suc x) le h = lt-ltb (base + suc x) words (omega (arith, le, h.1))
 
-formals_most : (entry : Option Entry) → entry_shaped entry ≡ true → formals_of entry ≤ 200
+formals_most : (entry : Option Entry) → entry_shaped entry ≡ true → formals_of entry ≤ max_operands
 formals_most None h = omega arith
 formals_most (Some e) h = leb-true _ _ (and_parts _ _ h).0
 
--- no call has more than 200 operands
-pub operands_most : (e : Expression) → expression_shaped e ≡ true → most_operands e ≤ 200
+-- no call has more operands than it may have
+pub operands_most : (e : Expression) → expression_shaped e ≡ true → most_operands e ≤ max_operands
 operands_most (perform o) h = omega arith
 operands_most (bind x a b) h = let parts = and_parts _ _ h in max-le (operands_most a parts.0) (operands_most b parts.1)
 operands_most (sequence a b) h = let parts = and_parts _ _ h in max-le (operands_most a parts.0) (operands_most b parts.1)

@@ -14,10 +14,10 @@ use Rattle.sch_cells.specs.BoxedMeaning as boxed
 use Rattle.sch_cells.specs.UnboxedMeaning as unboxed
 use Rattle.sch_flat.specs.ProgramView as flat
 use Rattle.sch_control.specs.ProgramView as control
-use Rattle.sch_closed.specs.Closed.{closed_source}
-use Rattle.sch_normal.specs.Normal.{new_label, normal_source}
+use Rattle.sch_closure.specs.Closed.{closed_source}
+use Rattle.sch_anf_laws.specs.Normal.{new_label, normal_source}
 use Rattle.sch_passes.specs.Chain.{control_of, with_cells}
-use Rattle.sch_rename.proofs.Loops.{count_lambdas_is}
+use Rattle.sch_lang.proofs.ListViews.{count_lambdas_is}
 use Rattle.sch_passes.proofs.BodiesKept.{each_within, flat_order, names_kept, variables_kept}
 use Rattle.sch_passes.proofs.Chain.{runs_as}
 use Rattle.sch_passes.proofs.control_program.Goals as goal

@@ -4,12 +4,12 @@ use Rattle.std.specs.Prelude.{◌==◌, ◌||◌, ◌&&◌, not, if◌then◌els
 use Rattle.std.specs.List.{list_all}
 use Rattle.std.proofs.lemmas.Bool.Decides.{nat_tests}
 use Rattle.std.specs.Char.{is_ascii_alphabetic, is_ascii_digit}
-use Rattle.sch_lexemes.specs.Letters.{is_one_of, is_white, is_delimiter, is_word_byte, is_initial, is_subsequent}
-use Rattle.sch_lexemes.specs.Lexeme.{is_lexeme, IsLongest}
+use Rattle.sch_read.specs.Lexer.Letters.{is_one_of, is_white, is_delimiter, is_word_byte, is_initial, is_subsequent}
+use Rattle.sch_read.specs.Lexer.Lexeme.{is_lexeme, IsLongest}
 use Rattle.sch_read.specs.Grammar.{Plain, Atom}
 use Rattle.sch_read.specs.Lexer.Token.{token_at, word_at}
 use Rattle.sch_read.proofs.Longest.{end-longest, byte-longest}
-use Rattle.sch_word.proofs.facts.Booleans.{and_parts}
+use Rattle.sch_word.proofs.facts.Booleans.{and_parts, neither, not_left, not_right, not_true}
 use Rattle.sch_read.proofs.Validity.{or-parts}
 
 -- the rest begins with a delimiter, if at all
@@ -63,21 +63,12 @@ word-subsequent b h = go (or-parts (is_initial b) _ h)
     go (inl e) = (and_parts (is_word_byte b) _ (and_parts (is_plain b) _ (name-initial b e)).0).0
     go (inr e) = last (or-parts (is_ascii_digit b) _ e)
 
-pub not-parts : (b : Bool) → not b ≡ true → b ≡ false
-not-parts true h = cc
-not-parts false h = refl
-
 pub or-none : (a b : Bool) → a || b ≡ false → (a ≡ false) × (b ≡ false)
-or-none true b h = cc
-or-none false b h = (refl, h)
+or-none a b h = (not_left a b h, not_right a b h)
 
 and-false : (a b : Bool) → b ≡ false → a && b ≡ false
 and-false true b h = h
 and-false false b h = refl
-
-pub is-false : (t : Bool) → (t ≡ true → ⊥) → t ≡ false
-is-false true h = absurd (h refl)
-is-false false h = refl
 
 all-ends : (ps : List ℕ) (b : ℕ) → is_delimiter b ≡ true → list_all is_word_byte (ps ++ b ∷ []) ≡ false
 all-ends [] b h = ap (λ t. not t && true) h
@@ -111,30 +102,26 @@ pub no-mark : (b : ℕ) → is_plain b ≡ true → IsNoMark b
 no-mark b h =
     let p = and_parts (is_word_byte b) _ h in
     let q = and_parts (not (b == 39)) (not (b == 35)) p.1 in
-    let d = not-parts (is_delimiter b) p.0 in
+    let d = not_true (is_delimiter b) p.0 in
     let o1 = or-none (is_white b) _ d in
     let o2 = or-none (b == 40) _ o1.1 in
     let o3 = or-none (b == 41) _ o2.1 in
     let o4 = or-none (b == 34) (b == 59) o3.1 in
-    record { white = o1.0; opening = o2.0; closing = o3.0; quote = o4.0; semicolon = o4.1; single = not-parts (b == 39) q.0; hash = not-parts (b == 35) q.1; delimiter = d }
+    record { white = o1.0; opening = o2.0; closing = o3.0; quote = o4.0; semicolon = o4.1; single = not_true (b == 39) q.0; hash = not_true (b == 35) q.1; delimiter = d }
 
 pub skip : {A : Type 0} (t : Bool) (x y : A) → t ≡ false → (if t then x else y) ≡ y
 skip true x y h = cc
 skip false x y h = refl
 
-pub both-false : (a b : Bool) → a ≡ false → b ≡ false → a || b ≡ false
-both-false true b h k = h
-both-false false b h k = k
-
 plain-lexeme : (b : ℕ) (bs : List ℕ) → is_plain b ≡ true → is_lexeme (b ∷ bs) ≡ list_all is_word_byte bs
 plain-lexeme b bs h =
     let m = no-mark b h in
-    skip (b == 59) _ _ m.semicolon ∙ skip (b == 34) _ _ m.quote ∙ skip (b == 35) _ _ m.hash ∙ skip (is_delimiter b || b == 39) _ _ (both-false (is_delimiter b) (b == 39) m.delimiter m.single)
+    skip (b == 59) _ _ m.semicolon ∙ skip (b == 34) _ _ m.quote ∙ skip (b == 35) _ _ m.hash ∙ skip (is_delimiter b || b == 39) _ _ (neither (is_delimiter b) (b == 39) m.delimiter m.single)
 
 plain-token : (at b : ℕ) (bs : List ℕ) → is_plain b ≡ true → token_at at (b ∷ bs) ≡ word_at at (b ∷ bs) ∷ []
 plain-token at b bs h =
     let m = no-mark b h in
-    skip (is_white b || b == 59) _ _ (both-false (is_white b) (b == 59) m.white m.semicolon) ∙ skip (b == 40) _ _ m.opening ∙ skip (b == 41) _ _ m.closing ∙ skip (b == 39) _ _ m.single
+    skip (is_white b || b == 59) _ _ (neither (is_white b) (b == 59) m.white m.semicolon) ∙ skip (b == 40) _ _ m.opening ∙ skip (b == 41) _ _ m.closing ∙ skip (b == 39) _ _ m.single
     ∙ skip (b == 34) _ _ m.quote
 
 pub word-atom : (b : ℕ) (bs : List ℕ) (a : Atom) → is_plain b ≡ true → list_all is_word_byte bs ≡ true → ((at : ℕ) → word_at at (b ∷ bs) ≡ Plain at a) → IsAtomText a (b ∷ bs)

@@ -7,9 +7,9 @@ use Rattle.std.specs.Str.{bytes_eq}
 use Rattle.std.specs.Str.Parse.{AllDigits, digits_value, without_leading_sign, signed_digits_value}
 use Rattle.std.proofs.lemmas.Fmt.{decimal_is_IsNumeral}
 use Rattle.std.proofs.lemmas.Bool.Decides.{nat_tests}
-use Rattle.sch_lexemes.specs.Letters.{is_one_of, is_word_byte}
+use Rattle.sch_read.specs.Lexer.Letters.{is_one_of, is_word_byte}
 use Rattle.sch_read.specs.Grammar.{integer}
-use Rattle.sch_lexemes.specs.Numerals.{are_digits, numeral_of, is_number_like, has_base}
+use Rattle.sch_read.specs.Lexer.Numerals.{are_digits, numeral_of, is_number_like, has_base}
 use Rattle.sch_read.specs.Lexer.Token.{word_at, number_at, integer_at, is_character}
 use Rattle.sch_word.specs.values.Fixnum.{is_fixnum}
 use Rattle.sch_print.specs.Printed.{atom_text}

@@ -4,17 +4,18 @@ use Rattle.std.specs.Prelude.{◌==◌, ◌||◌, ◌&&◌, not, if◌then◌els
 use Rattle.std.specs.List.{list_all}
 use Rattle.std.specs.Char.{is_ascii_digit, to_ascii_lowercase}
 use Rattle.std.specs.Str.{bytes_eq}
-use Rattle.sch_lexemes.specs.Letters.{folded, is_one_of, is_word_byte, is_initial, is_subsequent}
-use Rattle.sch_lexemes.specs.Lexeme.{is_string_rest, is_lexeme}
+use Rattle.sch_read.specs.Lexer.Letters.{folded, is_one_of, is_word_byte, is_initial, is_subsequent}
+use Rattle.sch_read.specs.Lexer.Lexeme.{is_string_rest, is_lexeme}
 use Rattle.sch_read.specs.Grammar.{Plain, boolean, character, text, symbol}
-use Rattle.sch_lexemes.specs.Numerals.{is_number_like, has_base}
-use Rattle.sch_lexemes.specs.Identifiers.{is_identifier}
-use Rattle.sch_lexemes.specs.Letters.{is_escape, escaped}
+use Rattle.sch_read.specs.Lexer.Numerals.{is_number_like, has_base}
+use Rattle.sch_read.specs.Lexer.Identifiers.{is_identifier}
+use Rattle.sch_read.specs.Lexer.Letters.{is_escape, escaped}
 use Rattle.sch_read.specs.Lexer.Token.{word_at, is_character, Whole, with_byte, content, string_of}
 use Rattle.sch_print.specs.Printed.{atom_text, escaped_text}
-use Rattle.sch_word.proofs.facts.Booleans.{and_parts}
-use Rattle.sch_read.proofs.Validity.{or-parts, same-bytes}
-use Rattle.sch_print.proofs.RoundTrip.AtomTexts.{IsAtomText, is_plain, begins_name, name-initial, word-subsequent, not-parts, is-false, both-false, skip, tail-atom, word-atom, no-mark, or-none}
+use Rattle.std.proofs.lemmas.Slice.Eq.{bytes_eq-Decides}
+use Rattle.sch_word.proofs.facts.Booleans.{and_parts, neither, never_true, not_true}
+use Rattle.sch_read.proofs.Validity.{or-parts}
+use Rattle.sch_print.proofs.RoundTrip.AtomTexts.{IsAtomText, is_plain, begins_name, name-initial, word-subsequent, skip, tail-atom, word-atom, no-mark, or-none}
 
 pub boolean-text : (b : Bool) → IsAtomText (boolean b) (atom_text (boolean b))
 boolean-text true = tail-atom (codes "#t") [] (boolean true) (λ bs. refl) refl (λ at. refl)
@@ -49,8 +50,8 @@ same-self c h = let holds = eq-eqb c c refl in cc
 
 -- the word begins with another byte than the text
 pub other-start : (b c : ℕ) (bs cs : List ℕ) → (b == c) ≡ false → bytes_eq (b ∷ bs) (c ∷ cs) ≡ false
-other-start b c bs cs h = is-false (bytes_eq (b ∷ bs) (c ∷ cs)) (λ e.
-    let same = same-bytes (b ∷ bs) (c ∷ cs) e in
+other-start b c bs cs h = never_true (bytes_eq (b ∷ bs) (c ∷ cs)) (λ e.
+    let same = (bytes_eq-Decides (b ∷ bs) (c ∷ cs)).0 e in
     let first : b ≡ c = cc in
     let P : ℕ → Type 0 = λ v. (v == c) ≡ false in
     same-self c (subst P first h))
@@ -60,16 +61,16 @@ taken true x y h = refl
 taken false x y h = cc
 
 no-dot : (b : ℕ) (bs : List ℕ) → is_one_of (codes "+-.") b ≡ false → bytes_eq (b ∷ bs) (codes ".") ≡ false
-no-dot b bs h = is-false (bytes_eq (b ∷ bs) (codes ".")) (λ e.
-    let same = same-bytes (b ∷ bs) (codes ".") e in
+no-dot b bs h = never_true (bytes_eq (b ∷ bs) (codes ".")) (λ e.
+    let same = (bytes_eq-Decides (b ∷ bs) (codes ".")).0 e in
     let first : b ≡ 46 = cc in
     let P : ℕ → Type 0 = λ v. is_one_of (codes "+-.") v ≡ false in
     let none : true ≡ false = subst P first h in cc)
 
 no-number : (b : ℕ) (bs : List ℕ) → (b == 35) ≡ false → is_ascii_digit b ≡ false → is_one_of (codes "+-.") b ≡ false → is_number_like (b ∷ bs) ≡ false
 no-number b bs hash digit sign =
-    both-false (has_base (b ∷ bs)) _ (ap (λ t. t && is_one_of (codes "bodx") (to_ascii_lowercase (slice_index (b ∷ bs) 1))) hash)
-    (both-false (is_ascii_digit b) _ digit (ap (λ t. t && is_ascii_digit (slice_index (b ∷ bs) 1)) sign))
+    neither (has_base (b ∷ bs)) _ (ap (λ t. t && is_one_of (codes "bodx") (to_ascii_lowercase (slice_index (b ∷ bs) 1))) hash)
+    (neither (is_ascii_digit b) _ digit (ap (λ t. t && is_ascii_digit (slice_index (b ∷ bs) 1)) sign))
 
 start-name : (at b : ℕ) (bs : List ℕ) → begins_name b ≡ true → is_identifier (b ∷ bs) ≡ true → folded (b ∷ bs) ≡ b ∷ bs → word_at at (b ∷ bs) ≡ Plain at (symbol (b ∷ bs))
 start-name at b bs h is low =
@@ -77,8 +78,8 @@ start-name at b bs h is low =
     let p = and_parts (is_plain b) _ h in
     let m = no-mark b p.0 in
     let q = and_parts (not (is_ascii_digit b)) (not (is_one_of (codes "+-.") b)) p.1 in
-    let digit = not-parts (is_ascii_digit b) q.0 in
-    let sign = not-parts (is_one_of (codes "+-.") b) q.1 in
+    let digit = not_true (is_ascii_digit b) q.0 in
+    let sign = not_true (is_one_of (codes "+-.") b) q.1 in
     skip (bytes_eq w (codes "#(")) _ _ (other-start b 35 bs (40 ∷ []) m.hash)
     ∙ skip (is_character w) _ _ (ap (λ t. t && slice_index w 1 == 92) m.hash)
     ∙ skip (is_number_like w) _ _ (no-number b bs m.hash digit sign)
@@ -92,11 +93,11 @@ peculiar-text : (w : List ℕ) → bytes_eq w (codes "+") || (bytes_eq w (codes 
 peculiar-text w h = go (or-parts (bytes_eq w (codes "+")) _ h)
   where
     last : (bytes_eq w (codes "-") ≡ true) ⊎ (bytes_eq w (codes "...") ≡ true) → IsAtomText (symbol w) w
-    last (inl e) = let Q : List ℕ → Type 0 = λ v. IsAtomText (symbol v) v in subst Q (sym (same-bytes w (codes "-") e)) (word-atom 45 [] (symbol (codes "-")) refl refl (λ at. refl))
-    last (inr e) = let Q : List ℕ → Type 0 = λ v. IsAtomText (symbol v) v in subst Q (sym (same-bytes w (codes "...") e)) (word-atom 46 (codes "..") (symbol (codes "...")) refl refl (λ at. refl))
+    last (inl e) = let Q : List ℕ → Type 0 = λ v. IsAtomText (symbol v) v in subst Q (sym ((bytes_eq-Decides w (codes "-")).0 e)) (word-atom 45 [] (symbol (codes "-")) refl refl (λ at. refl))
+    last (inr e) = let Q : List ℕ → Type 0 = λ v. IsAtomText (symbol v) v in subst Q (sym ((bytes_eq-Decides w (codes "...")).0 e)) (word-atom 46 (codes "..") (symbol (codes "...")) refl refl (λ at. refl))
 
     go : (bytes_eq w (codes "+") ≡ true) ⊎ (bytes_eq w (codes "-") || bytes_eq w (codes "...") ≡ true) → IsAtomText (symbol w) w
-    go (inl e) = let Q : List ℕ → Type 0 = λ v. IsAtomText (symbol v) v in subst Q (sym (same-bytes w (codes "+") e)) (word-atom 43 [] (symbol (codes "+")) refl refl (λ at. refl))
+    go (inl e) = let Q : List ℕ → Type 0 = λ v. IsAtomText (symbol v) v in subst Q (sym ((bytes_eq-Decides w (codes "+")).0 e)) (word-atom 43 [] (symbol (codes "+")) refl refl (λ at. refl))
     go (inr e) = last (or-parts (bytes_eq w (codes "-")) _ e)
 
 pub symbol-text : (w : List ℕ) → is_identifier w ≡ true → folded w ≡ w → IsAtomText (symbol w) (atom_text (symbol w))

@@ -4,13 +4,13 @@ use Rattle.std.specs.Prelude.{slice_range, Some, None, if◌then◌else◌}
 use Rattle.std.proofs.lemmas.Grind.{common_steps}
 use Rattle.std.proofs.lemmas.List.{take_more, append-nil}
 use Rattle.sch_read.specs.Grammar.{Token}
-use Rattle.sch_lexemes.specs.Lexeme.{is_lexeme}
+use Rattle.sch_read.specs.Lexer.Lexeme.{is_lexeme}
 use Rattle.sch_read.specs.Lexer.Token.{token_at}
 use Rattle.sch_read.specs.Lexer.Scan.{scan}
-use Rattle.sch_lexemes.specs.Stages.{can_follow, GoesOn, IsAtStage}
+use Rattle.sch_read.specs.Lexer.Stages.{can_follow, GoesOn, IsAtStage}
 use Rattle.sch_read.specs.Lexer.PartialLexeme.{IsMet, left}
 use Rattle.sch_read.specs.declared.reader.Lexeme.{Lexeme}
-use Rattle.sch_lexemes.specs.declared.lexeme.Stage.{Stage}
+use Rattle.sch_read.specs.declared.lexeme.Stage.{Stage}
 
 drop_next : (s : List ℕ) (i : ℕ) → i < length s → drop i s ≡ get_or s i 0 ∷ drop (i + 1) s
 drop_next s i h = rw (add-one, drop-cons s i 0) refl

@@ -1,6 +1,6 @@
 -- How a text is cut into tokens: by the longest match (R5RS 2, 7.1.1).
 use Rattle.std.specs.Prelude.{◌≡◌, ◌+◌, ◌++◌, ℕ, true, List, [], length}
-use Rattle.sch_lexemes.specs.Lexeme.{is_lexeme, IsLongest}
+use Rattle.sch_read.specs.Lexer.Lexeme.{is_lexeme, IsLongest}
 use Rattle.sch_read.specs.Lexer.Token.{token_at}
 use Rattle.sch_read.specs.Grammar.{Token}
 

@@ -2,7 +2,7 @@
 use Rattle.std.specs.Prelude.{◌≤◌, ℕ, List, drop, slice_range}
 use Rattle.sch_read.specs.Grammar.{Token}
 use Rattle.sch_read.specs.Lexer.Scan.{scan}
-use Rattle.sch_lexemes.specs.Stages.{IsAtStage}
+use Rattle.sch_read.specs.Lexer.Stages.{IsAtStage}
 use Rattle.sch_read.specs.declared.reader.Lexeme.{Lexeme}
 
 -- the lexeme was met up to an index

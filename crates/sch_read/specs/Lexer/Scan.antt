@@ -2,7 +2,7 @@
 -- cites this; it is proved to be the longest match.
 use Rattle.std.specs.Prelude.{◌+◌, ◌++◌, ℕ, List, [], ◌∷◌, if◌then◌else◌, length}
 use Rattle.sch_read.specs.Grammar.{Token}
-use Rattle.sch_lexemes.specs.Lexeme.{is_lexeme}
+use Rattle.sch_read.specs.Lexer.Lexeme.{is_lexeme}
 use Rattle.sch_read.specs.Lexer.Token.{token_at}
 
 -- the tokens from a lexeme on, of which a first part was met

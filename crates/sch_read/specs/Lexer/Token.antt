@@ -3,10 +3,10 @@ use Rattle.std.specs.Prelude.{◌==◌, ◌||◌, ◌&&◌, ◌+◌, ℕ, ℤ, B
 use Rattle.std.specs.Str.{bytes_eq}
 use Rattle.std.specs.Str.Parse.{without_leading_sign, signed_digits_value}
 use Rattle.sch_word.specs.values.Fixnum.{is_fixnum}
-use Rattle.sch_lexemes.specs.Letters.{is_white, folded, is_escape, escaped}
-use Rattle.sch_lexemes.specs.Lexeme.{is_empty}
-use Rattle.sch_lexemes.specs.Numerals.{is_number_like, base_of, numeral_of, are_digits}
-use Rattle.sch_lexemes.specs.Identifiers.{is_identifier}
+use Rattle.sch_read.specs.Lexer.Letters.{is_white, folded, is_escape, escaped}
+use Rattle.sch_read.specs.Lexer.Lexeme.{is_empty}
+use Rattle.sch_read.specs.Lexer.Numerals.{is_number_like, base_of, numeral_of, are_digits}
+use Rattle.sch_read.specs.Lexer.Identifiers.{is_identifier}
 use Rattle.sch_read.specs.Grammar.{Token, Open, Close, Dot, Plain, Huge, Bad, parenthesis, hash_parenthesis, quote_mark, bad_token, bad_number, bad_string, boolean, integer, character, text, symbol}
 
 abbrev pub integer_at : ℕ → ℤ → Token

@@ -22,19 +22,19 @@ use Rattle.sch_insn.specs.declared.insn.Insn.TheVariants.{MovTo, MovFrom, MovNum
 use Rattle.sch_insn.specs.declared.condition.TheConstants.{E}
 use Rattle.sch_asm.specs.declared.item.Item.{Item}
 use Rattle.sch_asm.specs.declared.item.Item.TheVariants as item
-use Rattle.sch_asm.specs.declared.item.MarkKind.{MarkKind}
+use Rattle.sch_word.specs.declared.mark.MarkKind.{MarkKind}
 use Rattle.sch_asm.specs.Stands.{Setting, Stands}
-use Rattle.sch_places.specs.Addresses.{stop_label, body_label, place_operand, part_operand, global_address}
-use Rattle.sch_operations.specs.CellCode.{source_code, check_cell, cell_operand}
-use Rattle.sch_primitives.specs.ObjectCode.{check_heap, part_code}
-use Rattle.sch_operations.specs.ClosureCode.{fields_code, record_code, closure_bytes, group_bytes, places_code}
-use Rattle.sch_operations.specs.ClosureCode.{records_code, group_code}
-use Rattle.sch_primitives.specs.OperandCode.{atom_code, unary_code, binary_code, read_code, operand_code, second_code}
-use Rattle.sch_primitives.specs.PrimitiveCode.{primitive_code, pair_or_binary, index_operand, three_code}
-use Rattle.sch_primitives.specs.PrimitiveCode.{ternary_code}
-use Rattle.sch_operations.specs.OperationCode.{operation_code}
+use Rattle.sch_select_memory.specs.Addresses.{stop_label, body_label, place_operand, part_operand, global_address}
+use Rattle.sch_select_operations.specs.CellCode.{source_code, check_cell, cell_operand}
+use Rattle.sch_select_operations.specs.ObjectCode.{check_heap, part_code}
+use Rattle.sch_select_operations.specs.ClosureCode.{fields_code, record_code, closure_bytes, group_bytes, places_code}
+use Rattle.sch_select_operations.specs.ClosureCode.{records_code, group_code}
+use Rattle.sch_select_operations.specs.OperandCode.{atom_code, unary_code, binary_code, read_code, operand_code, second_code}
+use Rattle.sch_select_operations.specs.PrimitiveCode.{primitive_code, pair_or_binary, index_operand, three_code}
+use Rattle.sch_select_operations.specs.PrimitiveCode.{ternary_code}
+use Rattle.sch_select_operations.specs.OperationCode.{operation_code}
 use Rattle.sch_select.specs.Select.{labels_needed, instruction_code, body_code}
-use Rattle.sch_heap.specs.Encoded.{unspecified_word, unset_word}
+use Rattle.sch_select_memory.specs.Encoded.{unspecified_word, unset_word}
 use Rattle.std.specs.Prelude.{pos}
 
 -- what comes behind is appended

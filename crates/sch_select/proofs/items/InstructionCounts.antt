@@ -39,27 +39,27 @@ use Rattle.sch_insn.specs.declared.insn.Arg.TheVariants.{Reg}
 use Rattle.sch_insn.specs.declared.insn.Insn.TheVariants.{AddNumber, CmpNumber, MovFrom, MovNumber, MovTo}
 use Rattle.sch_asm.specs.declared.item.Item.{Item}
 use Rattle.sch_asm.specs.declared.item.Item.TheVariants as item
-use Rattle.sch_asm.specs.declared.item.MarkKind.TheVariants.{Enter}
+use Rattle.sch_word.specs.declared.mark.MarkKind.TheVariants.{Enter}
 use Rattle.sch_select.proofs.items.RestItems.{count_keeps}
-use Rattle.sch_places.specs.Addresses.{place_operand, global_address, stop_label, body_label, part_operand}
-use Rattle.sch_primitives.specs.OperandCode.{atom_code, unary_code, binary_code, read_code, operand_code, second_code}
-use Rattle.sch_primitives.specs.PrimitiveCode.{pair_or_binary, ternary_code, index_operand, primitive_code}
-use Rattle.sch_operations.specs.OperationCode.{operation_code}
+use Rattle.sch_select_memory.specs.Addresses.{place_operand, global_address, stop_label, body_label, part_operand}
+use Rattle.sch_select_operations.specs.OperandCode.{atom_code, unary_code, binary_code, read_code, operand_code, second_code}
+use Rattle.sch_select_operations.specs.PrimitiveCode.{pair_or_binary, ternary_code, index_operand, primitive_code}
+use Rattle.sch_select_operations.specs.OperationCode.{operation_code}
 use Rattle.sch_select.specs.Select.{labels_needed, instruction_code, body_code}
-use Rattle.sch_operations.specs.CellCode.{source_code, check_cell, cell_operand}
-use Rattle.sch_primitives.specs.ObjectCode.{check_heap, part_code}
-use Rattle.sch_operations.specs.ClosureCode.{fields_code, closure_bytes, group_bytes, places_code, records_code}
-use Rattle.sch_operations.specs.ClosureCode.{group_code}
+use Rattle.sch_select_operations.specs.CellCode.{source_code, check_cell, cell_operand}
+use Rattle.sch_select_operations.specs.ObjectCode.{check_heap, part_code}
+use Rattle.sch_select_operations.specs.ClosureCode.{fields_code, closure_bytes, group_bytes, places_code, records_code}
+use Rattle.sch_select_operations.specs.ClosureCode.{group_code}
 use Rattle.sch_select.specs.Program.{passed_code, entry_code, forms_code, labels_end, own_label, program_code}
-use Rattle.sch_statics.specs.Data.{heap_of}
+use Rattle.sch_select_data.specs.Data.{heap_of}
 use Rattle.sch_select.specs.Sizes.{instructions_in}
 use Rattle.sch_select.proofs.items.ProgramLabels.{last_code}
 use Rattle.sch_select.proofs.items.TextSize.{sources_counts}
 use Rattle.sch_select.proofs.items.Sound.{impossible}
-use Rattle.sch_primitives.proofs.simulation.SelectedPrograms.{atom_selected, read_selected, operand_selected}
-use Rattle.sch_primitives.proofs.simulation.SelectedPrograms.{primitive_selected, operation_selected, source_selected}
-use Rattle.sch_primitives.proofs.simulation.SelectedPrograms.{instruction_selected, three_selected, form_selected, selects}
-use Rattle.sch_primitives.proofs.simulation.SelectedPrograms.{takes}
+use Rattle.sch_select_operations.proofs.simulation.SelectedPrograms.{atom_selected, read_selected, operand_selected}
+use Rattle.sch_select_operations.proofs.simulation.SelectedPrograms.{primitive_selected, operation_selected, source_selected}
+use Rattle.sch_select_operations.proofs.simulation.SelectedPrograms.{instruction_selected, three_selected, form_selected, selects}
+use Rattle.sch_select_operations.proofs.simulation.SelectedPrograms.{takes}
 
 -- ## Atoms and primitives
 

@@ -38,21 +38,21 @@ use Rattle.sch_frames.specs.Valid as frames
 use Rattle.sch_frames.specs.Valid.{forward}
 use Rattle.sch_asm.specs.declared.item.Item.{Item}
 use Rattle.sch_asm.specs.declared.item.Item.TheVariants as item
-use Rattle.sch_asm.specs.declared.item.MarkKind.TheVariants.{Enter}
+use Rattle.sch_word.specs.declared.mark.MarkKind.TheVariants.{Enter}
 use Rattle.sch_asm.specs.Items.{is_among, labels_in}
 use Rattle.sch_select.proofs.items.RestItems.{count_behind, count_ahead}
-use Rattle.sch_places.specs.Addresses.{first_label, body_label, string_label, vector_label}
-use Rattle.sch_primitives.specs.OperandCode.{atom_code, unary_code, binary_code, read_code, operand_code, second_code}
-use Rattle.sch_operations.specs.CellCode.{source_code}
-use Rattle.sch_operations.specs.ClosureCode.{fields_code, closure_bytes, places_code, record_code, records_code}
-use Rattle.sch_primitives.specs.PrimitiveCode.{pair_or_binary, ternary_code, index_operand}
-use Rattle.sch_operations.specs.OperationCode.{operation_code}
+use Rattle.sch_select_memory.specs.Addresses.{first_label, body_label, string_label, vector_label}
+use Rattle.sch_select_operations.specs.OperandCode.{atom_code, unary_code, binary_code, read_code, operand_code, second_code}
+use Rattle.sch_select_operations.specs.CellCode.{source_code}
+use Rattle.sch_select_operations.specs.ClosureCode.{fields_code, closure_bytes, places_code, record_code, records_code}
+use Rattle.sch_select_operations.specs.PrimitiveCode.{pair_or_binary, ternary_code, index_operand}
+use Rattle.sch_select_operations.specs.OperationCode.{operation_code}
 use Rattle.sch_select.specs.Select.{labels_needed, body_code}
 use Rattle.sch_select.specs.Program.{passed_code, entry_code, forms_code, labels_end, own_label, program_code}
-use Rattle.sch_own_routines.specs.OwnCode.{own_code}
-use Rattle.sch_statics.specs.Data.{heap_of}
+use Rattle.sch_select_memory.specs.OwnCode.{own_code}
+use Rattle.sch_select_data.specs.Data.{heap_of}
 use Rattle.sch_select.specs.Jumps.{goes_ahead, jumps_ahead}
-use Rattle.sch_primitives.proofs.simulation.SelectedPrograms.{members_few, operation_few, labels_few}
+use Rattle.sch_select_operations.proofs.simulation.SelectedPrograms.{members_few, operation_few, labels_few}
 use Rattle.sch_select.proofs.items.ProgramLabels.{body_labels, body_labelled}
 use Rattle.sch_select.proofs.items.ProgramKnown.{first_in, later_in, left_in, right_in, label_in}
 use Rattle.sch_select.proofs.items.Sound.{in_front}

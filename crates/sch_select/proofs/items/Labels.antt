@@ -25,11 +25,11 @@ use Rattle.sch_asm.specs.declared.item.Item.{Item}
 use Rattle.sch_asm.specs.Items.{is_among, labels_in}
 use Rattle.sch_asm.proofs.Tables.{repeats}
 use Rattle.sch_select.specs.Select.{operand_needs, operation_needs}
-use Rattle.sch_primitives.specs.OperandCode.{atom_code, unary_code, binary_code, read_code, operand_code, second_code}
-use Rattle.sch_operations.specs.CellCode.{source_code}
-use Rattle.sch_operations.specs.ClosureCode.{fields_code, closure_bytes, places_code, records_code, group_code}
-use Rattle.sch_operations.specs.OperationCode.{operation_code}
-use Rattle.sch_primitives.specs.PrimitiveCode.{pair_or_binary, ternary_code, index_operand, three_code}
+use Rattle.sch_select_operations.specs.OperandCode.{atom_code, unary_code, binary_code, read_code, operand_code, second_code}
+use Rattle.sch_select_operations.specs.CellCode.{source_code}
+use Rattle.sch_select_operations.specs.ClosureCode.{fields_code, closure_bytes, places_code, records_code, group_code}
+use Rattle.sch_select_operations.specs.OperationCode.{operation_code}
+use Rattle.sch_select_operations.specs.PrimitiveCode.{pair_or_binary, ternary_code, index_operand, three_code}
 
 -- ---- lists whose elements are all different, in a range
 

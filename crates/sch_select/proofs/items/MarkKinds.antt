@@ -20,17 +20,16 @@ use Rattle.sch_frames.specs.Tree.{Code}
 use Rattle.sch_frames.specs.Tree as tree
 use Rattle.sch_asm.specs.declared.item.Item.{Item}
 use Rattle.sch_asm.specs.declared.item.Item.TheVariants as item
-use Rattle.sch_asm.specs.declared.item.MarkKind.TheVariants.{Enter}
+use Rattle.sch_word.specs.declared.mark.MarkKind.TheVariants.{Enter}
 use Rattle.sch_select.proofs.items.RestItems.{count_unmarked}
-use Rattle.sch_primitives.specs.OperandCode.{atom_code, unary_code, binary_code, read_code, operand_code, second_code}
-use Rattle.sch_operations.specs.CellCode.{source_code}
-use Rattle.sch_operations.specs.ClosureCode.{fields_code, closure_bytes, places_code, records_code}
-use Rattle.sch_primitives.specs.PrimitiveCode.{pair_or_binary, ternary_code, index_operand}
-use Rattle.sch_operations.specs.OperationCode.{operation_code}
+use Rattle.sch_select_operations.specs.OperandCode.{atom_code, unary_code, binary_code, read_code, operand_code, second_code}
+use Rattle.sch_select_operations.specs.CellCode.{source_code}
+use Rattle.sch_select_operations.specs.ClosureCode.{fields_code, closure_bytes, places_code, records_code}
+use Rattle.sch_select_operations.specs.PrimitiveCode.{pair_or_binary, ternary_code, index_operand}
+use Rattle.sch_select_operations.specs.OperationCode.{operation_code}
 use Rattle.sch_select.specs.Select.{labels_needed, instruction_code, body_code}
-use Rattle.sch_places.specs.ItemMarks.{kind_of}
 use Rattle.sch_select.specs.Program.{passed_code, entry_code, forms_code, labels_end, own_label, program_code}
-use Rattle.sch_statics.specs.Data.{heap_of}
+use Rattle.sch_select_data.specs.Data.{heap_of}
 use Rattle.sch_select.specs.Sizes.{kinds_among, kinds_in, kinds_of}
 
 -- what comes in front of other items has no marks
@@ -128,7 +127,7 @@ body_kinds base out words heap_end literals n (i ∷ is) rest =
     by (instruction.Load p o) h = second_unmarked n o _ ∙ h
     by (instruction.Pass k o) h = second_unmarked n o _ ∙ h
     by (instruction.Fix members) h = places_unmarked 0 members _ ∙ records_unmarked 0 members _ ∙ h
-    by (instruction.Mark m) h = ap (λ kinds. kind_of m ∷ kinds) h
+    by (instruction.Mark m) h = ap (λ kinds. m ∷ kinds) h
     by (instruction.Store p) h = h
     by _ h = h
 

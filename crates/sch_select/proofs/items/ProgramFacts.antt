@@ -17,8 +17,8 @@ use Rattle.sch_frames.specs.Tree.{Source}
 use Rattle.sch_frames.specs.Valid.{forward, max_words}
 use Rattle.sch_asm.specs.declared.item.Item.{Item}
 use Rattle.sch_asm.specs.Items.{AreOwn, is_among, labels_in}
-use Rattle.sch_statics.specs.Data.{heap_of, max_heap_address}
-use Rattle.sch_statics.proofs.StaticSizes.{literals_few, names_few}
+use Rattle.sch_select_data.specs.Data.{heap_of, max_heap_address}
+use Rattle.sch_select_data.proofs.StaticSizes.{literals_few, names_few}
 use Rattle.sch_select.specs.Program.{laid_code, program_code, program_zeros, max_data, max_stack, own_label}
 use Rattle.sch_select.specs.Program.{stack_bytes}
 use Rattle.sch_select.proofs.items.ProgramLabels.{labels_low, forms_labels, forms_labelled, last_code}

@@ -42,21 +42,21 @@ use Rattle.sch_asm.specs.declared.item.Item.TheVariants as item
 use Rattle.sch_asm.specs.Items.{AreKnown, is_among, is_routine, labels_in, uses_in, word_uses}
 use Rattle.sch_select.specs.Program.{count_code, passed_code, entry_code, form_code, forms_code, labels_end}
 use Rattle.sch_select.specs.Program.{own_label, program_code}
-use Rattle.sch_own_routines.specs.RestCode.{list_code, list_label}
+use Rattle.sch_select_memory.specs.RestCode.{list_code, list_label}
 use Rattle.sch_select.proofs.items.RestItems.{count_labels}
-use Rattle.sch_primitives.specs.PrimitiveCode.{pair_or_binary, ternary_code, index_operand}
-use Rattle.sch_places.specs.Addresses.{vector_label, string_label, put_label, body_label}
-use Rattle.sch_operations.specs.CellCode.{source_code}
-use Rattle.sch_operations.specs.ClosureCode.{fields_code, record_code, closure_bytes, places_code, records_code}
-use Rattle.sch_primitives.specs.OperandCode.{atom_code, unary_code, binary_code, read_code, operand_code, second_code}
-use Rattle.sch_operations.specs.OperationCode.{operation_code}
+use Rattle.sch_select_operations.specs.PrimitiveCode.{pair_or_binary, ternary_code, index_operand}
+use Rattle.sch_select_memory.specs.Addresses.{vector_label, string_label, put_label, body_label}
+use Rattle.sch_select_operations.specs.CellCode.{source_code}
+use Rattle.sch_select_operations.specs.ClosureCode.{fields_code, record_code, closure_bytes, places_code, records_code}
+use Rattle.sch_select_operations.specs.OperandCode.{atom_code, unary_code, binary_code, read_code, operand_code, second_code}
+use Rattle.sch_select_operations.specs.OperationCode.{operation_code}
 use Rattle.sch_select.specs.Select.{labels_needed, body_code}
-use Rattle.sch_statics.specs.Data.{heap_of, names_of, closures_of, objects_unit, static_count, program_words}
-use Rattle.sch_statics.specs.Data.{word_list, global_words, padding, closure_words}
-use Rattle.sch_places.specs.StaticBytes.{static_bytes}
-use Rattle.sch_statics.specs.NameWords.{symbol_words}
-use Rattle.sch_literals.specs.PlacedWords.{placed_values, placed_each}
-use Rattle.sch_primitives.proofs.simulation.SelectedPrograms.{members_few, operation_few, labels_few}
+use Rattle.sch_select_data.specs.Data.{heap_of, names_of, closures_of, objects_unit, static_count, program_words}
+use Rattle.sch_select_data.specs.Data.{word_list, global_words, padding, closure_words}
+use Rattle.sch_select_memory.specs.StaticBytes.{static_bytes}
+use Rattle.sch_select_data.specs.NameWords.{symbol_words}
+use Rattle.sch_select_data.specs.PlacedWords.{placed_values, placed_each}
+use Rattle.sch_select_operations.proofs.simulation.SelectedPrograms.{members_few, operation_few, labels_few}
 use Rattle.sch_select.proofs.items.Labels.{unary_labels, binary_labels, read_labels, operand_labels, operation_labels}
 use Rattle.sch_select.proofs.items.ProgramLabels.{inner_labels, entry_labels, body_labels, own_labels, form_labels}
 use Rattle.sch_select.proofs.items.ProgramLabels.{forms_labels, forms_labelled, last_code}

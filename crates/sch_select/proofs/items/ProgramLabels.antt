@@ -24,12 +24,12 @@ use Rattle.sch_asm.specs.Routines.{label_of}
 use Rattle.sch_asm.specs.Items.{IsEachOnce, is_among, labels_in}
 use Rattle.sch_asm.proofs.Tables.{each_once, repeats}
 use Rattle.sch_select.proofs.items.RestItems.{count_labels, count_labelled}
-use Rattle.sch_places.specs.Addresses.{body_label}
+use Rattle.sch_select_memory.specs.Addresses.{body_label}
 use Rattle.sch_select.specs.Select.{all_labels_needed, labels_needed, instruction_code, body_code}
 use Rattle.sch_select.specs.Program.{passed_code, entry_code, form_code, forms_code, labels_end, own_label}
 use Rattle.sch_select.specs.Program.{program_code}
-use Rattle.sch_own_routines.specs.OwnCode.{own_code}
-use Rattle.sch_statics.specs.Data.{heap_of}
+use Rattle.sch_select_memory.specs.OwnCode.{own_code}
+use Rattle.sch_select_data.specs.Data.{heap_of}
 use Rattle.sch_word.proofs.facts.Booleans.{neither}
 use Rattle.sch_select.proofs.items.Labels.{one_label, Block, Apart, Labelled, among_append}
 use Rattle.sch_select.proofs.items.Labels.{distinct_append, operand_labels, second_labelled, operand_block}

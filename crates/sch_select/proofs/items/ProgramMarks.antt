@@ -32,21 +32,21 @@ use Rattle.sch_asm.specs.declared.item.Item.{Item}
 use Rattle.sch_asm.specs.declared.item.Item.TheVariants as item
 use Rattle.sch_asm.specs.Items.{marks_arrive}
 use Rattle.sch_select.proofs.items.RestItems.{count_quiet}
-use Rattle.sch_primitives.specs.PrimitiveCode.{pair_or_binary, ternary_code, index_operand}
-use Rattle.sch_places.specs.Addresses.{place_operand}
-use Rattle.sch_primitives.specs.OperandCode.{atom_code, unary_code, binary_code, read_code, operand_code, second_code}
-use Rattle.sch_operations.specs.CellCode.{source_code}
-use Rattle.sch_operations.specs.ClosureCode.{fields_code, record_code, closure_bytes, places_code, records_code}
-use Rattle.sch_operations.specs.OperationCode.{operation_code}
+use Rattle.sch_select_operations.specs.PrimitiveCode.{pair_or_binary, ternary_code, index_operand}
+use Rattle.sch_select_memory.specs.Addresses.{place_operand}
+use Rattle.sch_select_operations.specs.OperandCode.{atom_code, unary_code, binary_code, read_code, operand_code, second_code}
+use Rattle.sch_select_operations.specs.CellCode.{source_code}
+use Rattle.sch_select_operations.specs.ClosureCode.{fields_code, record_code, closure_bytes, places_code, records_code}
+use Rattle.sch_select_operations.specs.OperationCode.{operation_code}
 use Rattle.sch_select.specs.Select.{labels_needed, instruction_code, body_code}
 use Rattle.sch_select.specs.Program.{passed_code, entry_code, forms_code, labels_end, program_code, own_label}
-use Rattle.sch_statics.specs.Data.{heap_of}
+use Rattle.sch_select_data.specs.Data.{heap_of}
 use Rattle.sch_select.proofs.items.ProgramLabels.{last_code}
 use Rattle.sch_select.proofs.items.Sound.{in_front, impossible}
-use Rattle.sch_primitives.proofs.simulation.SelectedPrograms.{atom_selected, read_selected, operand_selected, source_selected}
-use Rattle.sch_primitives.proofs.simulation.SelectedPrograms.{closure_selected, members_selected, operation_selected}
-use Rattle.sch_primitives.proofs.simulation.SelectedPrograms.{three_selected, instruction_selected, form_selected, selects}
-use Rattle.sch_primitives.proofs.simulation.SelectedPrograms.{takes}
+use Rattle.sch_select_operations.proofs.simulation.SelectedPrograms.{atom_selected, read_selected, operand_selected, source_selected}
+use Rattle.sch_select_operations.proofs.simulation.SelectedPrograms.{closure_selected, members_selected, operation_selected}
+use Rattle.sch_select_operations.proofs.simulation.SelectedPrograms.{three_selected, instruction_selected, form_selected, selects}
+use Rattle.sch_select_operations.proofs.simulation.SelectedPrograms.{takes}
 use Rattle.sch_frames.specs.Covered.{marks_settled}
 use Rattle.sch_control.specs.Valid.{only_reads}
 
@@ -189,7 +189,7 @@ module _ (words globals symbols literals heap_end : ℕ) where
       by (Call spread count) e m rec = rec false m
       by (Tail spread count) e m rec = rec false m
       by (Fix members) e m rec =
-          let p = and_parts (nat_le (length members) 200) (members_selected words globals symbols literals members) e in
+          let p = and_parts (nat_le (length members) max_operands) (members_selected words globals symbols literals members) e in
           places_quiet 0 members _ ∙ records_quiet 0 members p.1 _ ∙ rec false m
       by Return e m rec = rec false m
       by End e m rec = rec false m

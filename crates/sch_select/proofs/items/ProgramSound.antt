@@ -5,6 +5,7 @@ use Rattle.std.specs.Prelude.{ℤ, pos, negsuc, ◌≤ℤ◌, ◌*ℤ◌, int_le
 use Rattle.std.specs.List.{list_all}
 use Rattle.std.proofs.lemmas.Bool.{and_parts, and_from, leb-true, ltb-true, lt-ltb, le-leb, ne_eqb, cases_lt}
 use Rattle.std.proofs.lemmas.Int.{ints}
+use Rattle.sch_select_memory.proofs.heap.Comparisons.{is_at_most}
 use Rattle.sch_word.specs.declared.constant.Const.{Const}
 use Rattle.sch_word.specs.declared.constant.Const.TheVariants.{Fixnum, Character, Boolean, Nil, Unspecified, Symbol}
 use Rattle.sch_word.specs.values.Literals.{constant_known, count_literals}
@@ -38,38 +39,31 @@ use Rattle.sch_frames.specs.Valid.{formals_of, handed_over, is_place, is_registe
 use Rattle.sch_asm.specs.declared.item.Item.{Item}
 use Rattle.sch_asm.specs.declared.item.Item.TheVariants as item
 use Rattle.sch_asm.specs.Items.{AreItems}
-use Rattle.sch_heap.specs.Encoded.{constant_number}
+use Rattle.sch_select_memory.specs.Encoded.{constant_number}
 use Rattle.sch_select.proofs.items.RestItems.{count_valid}
-use Rattle.sch_primitives.specs.OperandCode.{atom_code, unary_code, binary_code, read_code, operand_code, second_code}
-use Rattle.sch_operations.specs.CellCode.{source_code}
-use Rattle.sch_primitives.specs.ObjectCode.{check_heap, part_code}
-use Rattle.sch_places.specs.Addresses.{part_operand, global_address, place_operand, literal_address}
-use Rattle.sch_operations.specs.ClosureCode.{fields_code, record_code, closure_bytes, group_bytes, places_code}
-use Rattle.sch_operations.specs.ClosureCode.{records_code, group_code}
-use Rattle.sch_operations.specs.OperationCode.{operation_code}
+use Rattle.sch_select_operations.specs.OperandCode.{atom_code, unary_code, binary_code, read_code, operand_code, second_code}
+use Rattle.sch_select_operations.specs.CellCode.{source_code}
+use Rattle.sch_select_operations.specs.ObjectCode.{check_heap, part_code}
+use Rattle.sch_select_memory.specs.Addresses.{part_operand, global_address, place_operand, literal_address}
+use Rattle.sch_select_operations.specs.ClosureCode.{fields_code, record_code, closure_bytes, group_bytes, places_code}
+use Rattle.sch_select_operations.specs.ClosureCode.{records_code, group_code}
+use Rattle.sch_select_operations.specs.OperationCode.{operation_code}
 use Rattle.sch_select.specs.Select.{labels_needed, instruction_code, body_code}
-use Rattle.sch_primitives.specs.PrimitiveCode.{pair_or_binary, ternary_code, index_operand}
+use Rattle.sch_select_operations.specs.PrimitiveCode.{pair_or_binary, ternary_code, index_operand}
 use Rattle.sch_select.specs.Program.{passed_code, entry_code, forms_code, labels_end, program_code, own_label}
-use Rattle.sch_statics.specs.Data.{heap_of}
+use Rattle.sch_select_data.specs.Data.{heap_of}
 use Rattle.sch_select.proofs.items.ProgramLabels.{last_code}
 use Rattle.sch_select.proofs.items.Sound.{items_valid, arg_valid, fits_32, fits_64, items_say, in_front, fits_short}
-use Rattle.sch_primitives.proofs.simulation.SelectedPrograms.{atom_selected, read_selected, operand_selected, source_selected}
-use Rattle.sch_primitives.proofs.simulation.SelectedPrograms.{closure_selected, members_selected, operation_selected}
-use Rattle.sch_primitives.proofs.simulation.SelectedPrograms.{three_selected, instruction_selected, form_selected, selects}
-use Rattle.sch_primitives.proofs.simulation.SelectedPrograms.{takes}
+use Rattle.sch_select_operations.proofs.simulation.SelectedPrograms.{atom_selected, read_selected, operand_selected, source_selected}
+use Rattle.sch_select_operations.proofs.simulation.SelectedPrograms.{closure_selected, members_selected, operation_selected}
+use Rattle.sch_select_operations.proofs.simulation.SelectedPrograms.{three_selected, instruction_selected, form_selected, selects}
+use Rattle.sch_select_operations.proofs.simulation.SelectedPrograms.{takes}
 use Rattle.sch_frames.specs.Covered.{marks_settled}
 use Rattle.sch_control.specs.Valid.{only_reads}
 
 fits_word : (n : ℤ) → negsuc 9223372036854775807 ≤ℤ n → n ≤ℤ pos 9223372036854775807 → fits_64 n ≡ true
 fits_word n a b = and_from (int_le (negsuc 9223372036854775807) n) (int_le n (pos 9223372036854775807))
-    (at_most (negsuc 9223372036854775807) n a) (at_most n (pos 9223372036854775807) b)
-  where
-    at_most : (a b : ℤ) → a ≤ℤ b → int_le a b ≡ true
-    at_most a b h = by (int_le a b) refl
-      where
-        by : (t : Bool) → int_le a b ≡ t → t ≡ true
-        by true e = refl
-        by false e = absurd (omega (arith, ints))
+    (is_at_most (negsuc 9223372036854775807) n a) (is_at_most n (pos 9223372036854775807) b)
 
 constant_fits : (symbols : ℕ) (c : Const) → symbols ≤ 29360128 → constant_known symbols c ≡ true → is_constant c ≡ true
     → fits_64 (constant_number c) ≡ true
@@ -265,10 +259,10 @@ module _ (words globals symbols literals heap_end : ℕ) (narrow : words ≤ 204
       record_valid offset m.closure (omega (arith, lt)) q.0 _
       ∙ records_valid (offset + closure_bytes m.closure) members (omega (arith, lt, b)) q.1 rest
 
-  group_valid : (members : List (Member Place)) → nat_le (length members) 200 ≡ true
+  group_valid : (members : List (Member Place)) → nat_le (length members) max_operands ≡ true
       → members_selected words globals symbols literals members ≡ true → Valid (group_code heap_end members)
   group_valid members few e rest =
-      let n = leb-true (length members) 200 few in
+      let n = leb-true (length members) max_operands few in
       let s = group_small members e in
       heap_valid (group_bytes members) (omega (arith, n, s))
       (places_code 0 members (records_code 0 members (item.Plain
@@ -350,7 +344,7 @@ module _ (words globals symbols literals heap_end : ℕ) (narrow : words ≤ 204
       let p = and_parts (not spread) (nat_le count max_operands && handed_over words count) e in
       let small = leb-true count max_operands (and_parts (nat_le count max_operands) (handed_over words count) p.1).0 in
       in_front (fits_32 (pos count)) (items_valid rest) (fits_short count (omega (arith, small)))
-  instruction_valid base out n (Fix members) e rest = let p = and_parts (nat_le (length members) 200)
+  instruction_valid base out n (Fix members) e rest = let p = and_parts (nat_le (length members) max_operands)
       (members_selected words globals symbols literals members) e in group_valid members p.0 p.1 rest
   instruction_valid base out n Return e rest = refl
   instruction_valid base out n End e rest = refl

@@ -4,6 +4,7 @@ use Rattle.std.proofs.Common.{refl, ap, ◌∙◌, arith, ◌==◌, ◌&&◌, �
 use Rattle.std.specs.Prelude.{pos, nat_lt}
 use Rattle.std.proofs.lemmas.Bool.{ltb-true, lt-ltb, le-leb}
 use Rattle.std.proofs.Math.Bool.{or-true}
+use Rattle.sch_word.specs.trees.Shape.{max_operands}
 use Rattle.sch_control.specs.declared.body.Entry.{Entry}
 use Rattle.sch_insn.proofs.PrefixCode.{spelling_short}
 use Rattle.sch_insn.specs.declared.insn.Arg.TheVariants.{Reg}
@@ -14,8 +15,8 @@ use Rattle.sch_asm.specs.Codes.{text_size}
 use Rattle.sch_asm.specs.Items.{is_among, labels_in, marks_arrive}
 use Rattle.sch_select.specs.Jumps.{jumps_ahead, goes_ahead}
 use Rattle.sch_select.specs.Program.{count_code, entry_code, passed_code}
-use Rattle.sch_own_routines.specs.RestCode.{list_code, list_label, check_enough}
-use Rattle.sch_places.specs.Addresses.{first_label}
+use Rattle.sch_select_memory.specs.RestCode.{list_code, list_label, check_enough}
+use Rattle.sch_select_memory.specs.Addresses.{first_label}
 use Rattle.sch_select.specs.Sizes.{instructions_in, kinds_in}
 use Rattle.sch_select.proofs.items.Sound.{items_valid, fits_32, in_front, fits_short}
 
@@ -142,13 +143,13 @@ count_ahead own true formals n rest = list_ahead own (nat_lt (formals - 1) 6) (f
 
 -- ---- immediates
 
-list_valid : (b : Bool) (required n : ℕ) → required ≤ 200 → (rest : List Item)
+list_valid : (b : Bool) (required n : ℕ) → required ≤ max_operands → (rest : List Item)
     → items_valid (list_code b required n rest) ≡ items_valid rest
 list_valid true required n le rest = refl
 list_valid false required n le rest = in_front (fits_32 (pos (8 * (required - 6)))) (items_valid rest)
     (fits_short (8 * (required - 6)) (omega (arith, le)))
 
-pub count_valid : (b : Bool) (formals n : ℕ) → formals ≤ 200 → (rest : List Item)
+pub count_valid : (b : Bool) (formals n : ℕ) → formals ≤ max_operands → (rest : List Item)
     → items_valid (count_code b formals n rest) ≡ items_valid rest
 count_valid false formals n le rest = in_front (fits_32 (pos formals)) (items_valid rest)
     (fits_short formals (omega (arith, le)))

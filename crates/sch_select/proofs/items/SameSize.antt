@@ -15,19 +15,19 @@ use Rattle.sch_frames.specs.Tree.{Code}
 use Rattle.sch_frames.specs.Tree as tree
 use Rattle.sch_asm.specs.declared.item.Item.{Item}
 use Rattle.sch_asm.specs.declared.item.Item.TheVariants as item
-use Rattle.sch_asm.specs.declared.item.MarkKind.TheVariants.{Enter}
+use Rattle.sch_word.specs.declared.mark.MarkKind.TheVariants.{Enter}
 use Rattle.sch_asm.specs.declared.routine.Routine.TheVariants as routine
 use Rattle.sch_asm.specs.Codes.{text_size}
 use Rattle.sch_asm.specs.Routines.{label_of}
 use Rattle.sch_asm.proofs.Tables.{size_append}
-use Rattle.sch_places.specs.Addresses.{body_label}
-use Rattle.sch_own_routines.specs.OwnCode.{own_code}
-use Rattle.sch_own_routines.specs.RestCode.{check_enough, list_code}
-use Rattle.sch_primitives.specs.OperandCode.{operand_code, second_code}
-use Rattle.sch_primitives.specs.PrimitiveCode.{pair_or_binary, primitive_code}
-use Rattle.sch_operations.specs.CellCode.{source_code}
-use Rattle.sch_operations.specs.OperationCode.{operation_code}
-use Rattle.sch_statics.specs.Data.{heap_of}
+use Rattle.sch_select_memory.specs.Addresses.{body_label}
+use Rattle.sch_select_memory.specs.OwnCode.{own_code}
+use Rattle.sch_select_memory.specs.RestCode.{check_enough, list_code}
+use Rattle.sch_select_operations.specs.OperandCode.{operand_code, second_code}
+use Rattle.sch_select_operations.specs.PrimitiveCode.{pair_or_binary, primitive_code}
+use Rattle.sch_select_operations.specs.CellCode.{source_code}
+use Rattle.sch_select_operations.specs.OperationCode.{operation_code}
+use Rattle.sch_select_data.specs.Data.{heap_of}
 use Rattle.sch_select.specs.Program.{count_code, entry_code, forms_code, labels_end, own_label, passed_code, program_code}
 use Rattle.sch_select.specs.Select.{labels_needed, body_code, instruction_code}
 use Rattle.sch_select.proofs.items.RestItems.{entry_appends, passed_appends}

@@ -3,6 +3,7 @@ use Rattle.std.proofs.Common.{◌≡◌, ◌≢◌, ℕ, ◌<◌, ◌≤◌, Lis
 use Rattle.std.specs.Int.{w32, w64}
 use Rattle.std.specs.Prelude.{ℤ, pos, negsuc, int_le, not, nat_lt, nat_le, FitsSigned}
 use Rattle.std.proofs.lemmas.Bool.{and_parts, ltb-true, leb-true, eqb-false, le-leb}
+use Rattle.sch_word.proofs.facts.Booleans.{not_true}
 use Rattle.sch_insn.specs.declared.insn.Arg.{Arg}
 use Rattle.sch_insn.specs.declared.insn.Arg.TheVariants.{Reg, Base, Base32, Rip}
 use Rattle.sch_insn.specs.declared.insn.Insn.{Insn}
@@ -141,11 +142,7 @@ insn_says (insn.JumpTo m) e = arg_says m e
 insn_says _ e = absurd (let bad : false ≡ true = e in cc)
 
 differs : (c k : ℕ) → not (c == k) ≡ true → c ≢ k
-differs c k e = eqb-false c k (flip (c == k) e)
-  where
-    flip : (b : Bool) → not b ≡ true → b ≡ false
-    flip true e = absurd (let bad : false ≡ true = e in cc)
-    flip false e = refl
+differs c k e = eqb-false c k (not_true (c == k) e)
 
 item_says : (i : Item) → item_valid i ≡ true → IsItem i
 item_says (item.Label l) e = tt

@@ -29,26 +29,26 @@ use Rattle.sch_frames.specs.Tree as tree
 use Rattle.sch_insn.specs.declared.insn.Arg.TheVariants.{Reg, Base32}
 use Rattle.sch_insn.specs.declared.insn.Insn.TheVariants.{MovTo, MovFrom, MovNumber, MovWord, AddNumber, SubNumber, CmpNumber, JumpTo}
 use Rattle.sch_insn.specs.declared.condition.TheConstants.{E}
-use Rattle.sch_asm.specs.declared.item.MarkKind.TheVariants.{Enter}
+use Rattle.sch_word.specs.declared.mark.MarkKind.TheVariants.{Enter}
 use Rattle.sch_insn.specs.Spelling.{spelling}
 use Rattle.sch_insn.proofs.PrefixCode.{spelling_short}
 use Rattle.sch_asm.specs.declared.item.Item.{Item}
 use Rattle.sch_asm.specs.declared.item.Item.TheVariants as item
 use Rattle.sch_asm.specs.Codes.{text_size}
-use Rattle.sch_heap.specs.Encoded.{constant_number}
+use Rattle.sch_select_memory.specs.Encoded.{constant_number}
 use Rattle.sch_select.proofs.items.RestItems.{count_adds}
-use Rattle.sch_places.specs.Addresses.{place_operand, global_address, stop_label, body_label, part_operand}
-use Rattle.sch_primitives.specs.OperandCode.{atom_code, unary_code, binary_code, read_code, operand_code, second_code}
-use Rattle.sch_primitives.specs.PrimitiveCode.{primitive_code, pair_or_binary, ternary_code, index_operand}
-use Rattle.sch_operations.specs.OperationCode.{operation_code}
+use Rattle.sch_select_memory.specs.Addresses.{place_operand, global_address, stop_label, body_label, part_operand}
+use Rattle.sch_select_operations.specs.OperandCode.{atom_code, unary_code, binary_code, read_code, operand_code, second_code}
+use Rattle.sch_select_operations.specs.PrimitiveCode.{primitive_code, pair_or_binary, ternary_code, index_operand}
+use Rattle.sch_select_operations.specs.OperationCode.{operation_code}
 use Rattle.sch_select.specs.Select.{labels_needed, instruction_code, body_code}
-use Rattle.sch_operations.specs.CellCode.{source_code, check_cell, cell_operand}
-use Rattle.sch_primitives.specs.ObjectCode.{check_heap, part_code}
-use Rattle.sch_operations.specs.ClosureCode.{fields_code, record_code, closure_bytes, group_bytes, places_code}
-use Rattle.sch_operations.specs.ClosureCode.{records_code, group_code}
-use Rattle.sch_operations.specs.CallCode.{check_depth, check_operator, enter_code, call_code, tail_code}
+use Rattle.sch_select_operations.specs.CellCode.{source_code, check_cell, cell_operand}
+use Rattle.sch_select_operations.specs.ObjectCode.{check_heap, part_code}
+use Rattle.sch_select_operations.specs.ClosureCode.{fields_code, record_code, closure_bytes, group_bytes, places_code}
+use Rattle.sch_select_operations.specs.ClosureCode.{records_code, group_code}
+use Rattle.sch_select_operations.specs.CallCode.{check_depth, check_operator, enter_code, call_code, tail_code}
 use Rattle.sch_select.specs.Program.{passed_code, entry_code, forms_code, labels_end, own_label, program_code}
-use Rattle.sch_statics.specs.Data.{heap_of}
+use Rattle.sch_select_data.specs.Data.{heap_of}
 use Rattle.sch_select.proofs.items.ProgramLabels.{last_code}
 use Rattle.sch_word.specs.declared.stop.Stop.TheVariants.{Unset}
 

@@ -6,7 +6,6 @@ use Rattle.std.specs.Prelude.{pos, not, nat_eq, nat_le, nat_lt}
 use Rattle.std.specs.List.{list_all}
 use Rattle.std.proofs.lemmas.Bool.{and_parts, eqb-true, leb-true, ltb-true}
 use Rattle.sch_word.specs.values.Values.{Value, is_true}
-use Rattle.sch_control.specs.declared.mark.MarkKind as control
 use Rattle.sch_word.specs.runs.Computation.{gives}
 use Rattle.sch_control.specs.Operations.{operand_value}
 use Rattle.sch_control.specs.Meaning.{World, Result, Callee, with_value, either, marked}
@@ -27,37 +26,31 @@ use Rattle.sch_insn.proofs.Conditions.{compared_e}
 use Rattle.sch_insn.proofs.Paths.{leads_here, leads_on}
 use Rattle.sch_asm.specs.declared.item.Item.{Item}
 use Rattle.sch_asm.specs.declared.item.Item.TheVariants as item
-use Rattle.sch_asm.specs.declared.item.MarkKind.{MarkKind}
+use Rattle.sch_word.specs.declared.mark.MarkKind.{MarkKind}
 use Rattle.sch_asm.specs.Stands.{Stands}
 use Rattle.sch_asm.specs.Data.{word_in}
 use Rattle.sch_asm.specs.Effects.{is_scratch}
 use Rattle.sch_asm.specs.Views.{View, Leads, full}
 use Rattle.sch_asm.proofs.EachItem.{goes, branches, jumps}
-use Rattle.sch_heap.specs.Parts.{Parts}
-use Rattle.sch_heap.specs.Encoded.{IsWord}
+use Rattle.sch_select_memory.specs.Parts.{Parts}
+use Rattle.sch_select_memory.specs.Encoded.{IsWord}
 use Rattle.sch_frames.specs.Covered.{may_stand}
-use Rattle.sch_places.specs.ItemMarks.{kind_of}
-use Rattle.sch_places.specs.Addresses.{place_operand}
+use Rattle.sch_select_memory.specs.Addresses.{place_operand}
 use Rattle.sch_select.specs.Select.{labels_needed, instruction_code, body_code}
-use Rattle.sch_heap.proofs.Encodings.{fits, false_tested}
-use Rattle.sch_places.proofs.Straight.{kept_set, moved_to}
-use Rattle.sch_places.proofs.Places.{Plan, Activation, Holds, held_value, loaded, written, handed}
-use Rattle.sch_places.proofs.Places.{places_kept}
+use Rattle.sch_select_memory.proofs.heap.Encodings.{fits, false_tested}
+use Rattle.sch_select_memory.proofs.Straight.{kept_set, moved_to}
+use Rattle.sch_select_memory.proofs.Places.{Plan, Activation, Holds, held_value, loaded, written, handed}
+use Rattle.sch_select_memory.proofs.Places.{places_kept}
 use Rattle.sch_select.proofs.items.AppendedItems.{instruction_appends, Behind, behind}
-use Rattle.sch_own_routines.proofs.simulation.Outcomes.{Laid}
-use Rattle.sch_primitives.proofs.simulation.Operations.{Std, FrameOf, StoreOf, SimOf, onward, none_waits}
-use Rattle.sch_own_routines.proofs.simulation.ProcedureEntries.{Enters}
-use Rattle.sch_operations.proofs.simulation.Calls.{call_sim, tail_sim}
-use Rattle.sch_operations.proofs.simulation.EachOperation.{operation_cost, operation_sim}
-use Rattle.sch_operations.proofs.simulation.Closures.{group_sim}
-use Rattle.sch_operations.proofs.simulation.Records.{records_cost}
-use Rattle.sch_primitives.proofs.simulation.Operands.{ReadsSecond, second_here}
-use Rattle.sch_primitives.proofs.simulation.SelectedPrograms.{instruction_selected, operand_selected, members_selected}
-
-pub map_one : (ms : List control.MarkKind) (m : control.MarkKind)
-    → map kind_of (ms ++ m ∷ []) ≡ map kind_of ms ++ kind_of m ∷ []
-map_one [] m = refl
-map_one (k ∷ ms) m = ap (λ l. kind_of k ∷ l) (map_one ms m)
+use Rattle.sch_select_memory.proofs.simulation.Outcomes.{Laid}
+use Rattle.sch_select_operations.proofs.simulation.Operations.{Std, FrameOf, StoreOf, SimOf, onward, none_waits}
+use Rattle.sch_select_memory.proofs.simulation.ProcedureEntries.{Enters}
+use Rattle.sch_select_operations.proofs.simulation.Calls.{call_sim, tail_sim}
+use Rattle.sch_select_operations.proofs.simulation.EachOperation.{operation_cost, operation_sim}
+use Rattle.sch_select_operations.proofs.simulation.Closures.{group_sim}
+use Rattle.sch_select_operations.proofs.simulation.Records.{records_cost}
+use Rattle.sch_select_operations.proofs.simulation.Operands.{ReadsSecond, second_here}
+use Rattle.sch_select_operations.proofs.simulation.SelectedPrograms.{instruction_selected, operand_selected, members_selected}
 
 -- how many steps an instruction takes at most
 abbrev pub instruction_cost : Instruction → ℕ
@@ -98,7 +91,7 @@ module _ (plan : Plan) (body_steps : ℕ) (laid : Laid plan body_steps) (act : A
   abbrev pub Cont : More → ℕ → List Item → Type 0
   Cont k c rest = (look : Option ℕ) (parts : Parts) (before waiting : List MarkKind) (f : Frame) (w : World)
       (x : View) → At look waiting x rest → In parts f w x → Kept parts w x
-      → Holds act.back parts f.accumulator (x.registers 0) → map kind_of w.marks ≡ before ++ waiting
+      → Holds act.back parts f.accumulator (x.registers 0) → w.marks ≡ before ++ waiting
       → Owed parts before w x c (k look f w)
 
   not_entered : not act.entered ≡ true → act.entered ≡ false
@@ -132,7 +125,7 @@ module _ (plan : Plan) (body_steps : ℕ) (laid : Laid plan body_steps) (act : A
       → (parts : Parts) (before waiting : List MarkKind) (f : Frame) (w : World) (x : View)
       → instruction_selected words globals (length symbols) literals i ≡ true → may_stand (not act.entered) i ≡ true
       → Here waiting x.place (instruction_code base out words stack literals n i rest) → In parts f w x → Kept parts w x
-      → Holds act.back parts f.accumulator (x.registers 0) → map kind_of w.marks ≡ before ++ waiting
+      → Holds act.back parts f.accumulator (x.registers 0) → w.marks ≡ before ++ waiting
       → Owed parts before w x (instruction_cost i + c) (execute callee act.left i k f w)
   instruction_sim n (Do o) k c rest K parts before waiting f w x e e' h p g a m =
       operation_sim plan body_steps laid act (k None) c rest
@@ -144,7 +137,7 @@ module _ (plan : Plan) (body_steps : ℕ) (laid : Laid plan body_steps) (act : A
       go_on parts before waiting w x u.y 1 1 c (250 + c) _ u.leads u.below (omega arith)
       (K None parts (before ++ waiting) [] (with_place f q f.accumulator) w u.y u.ahead u.places_at
       (u.world parts w.state g) (subst (Holds act.back parts f.accumulator) (sym u.accumulator) a)
-      (none_waits (map kind_of w.marks) before waiting m))
+      (none_waits w.marks before waiting m))
   instruction_sim n (Copy to from) k c rest K parts before waiting f w x e e' h p g a m =
       let checks = and_parts (is_place words to) (is_place words from) e in
       let l = loaded plan act parts w.state.store.charged f.places f.outgoing from 1 x waiting
@@ -157,7 +150,7 @@ module _ (plan : Plan) (body_steps : ℕ) (laid : Laid plan body_steps) (act : A
       (omega arith)
       (K None parts (before ++ waiting) [] (with_place f to (f.places from)) w u.y u.ahead u.places_at
       (u.world parts w.state g) (subst (Holds act.back parts f.accumulator) (sym u.accumulator) a)
-      (none_waits (map kind_of w.marks) before waiting m))
+      (none_waits w.marks before waiting m))
   instruction_sim n End k c rest K parts before waiting f w x e e' h p g a m = record {
     y = record x { place = setting.place_of out };
     events = waiting;
@@ -201,14 +194,14 @@ module _ (plan : Plan) (body_steps : ℕ) (laid : Laid plan body_steps) (act : A
               (leads_on setting.marks first (branches setting y E (base + l) rest [] false h.2 t))
               (λ q lo hi. refl) (omega arith)
               (K None parts (before ++ waiting) [] f w (record y { place = y.place + h.2.0 }) h.2.4 p g a
-              (none_waits (map kind_of w.marks) before waiting m))
+              (none_waits w.marks before waiting m))
           arm false t =
               go_on parts before waiting w x (record y { place = setting.place_of (base + l) }) 2 2 c (250 + c) _
               (leads_on setting.marks first (branches setting y E (base + l) rest [] true h.2 t))
               (λ q lo hi. refl) (omega arith)
               (K (Some l) parts (before ++ waiting) [] f w (record y { place = setting.place_of (base + l) })
               (refl, refl, record { place = y.place + h.2.0; waiting = []; stands = h.2.4 }) p g a
-              (none_waits (map kind_of w.marks) before waiting m))
+              (none_waits w.marks before waiting m))
 
       by : (o : Option Value) → value_in f.accumulator ≡ o
           → Owed parts before w x (250 + c) (with_value o (λ v. either (is_true v) (k None f w) (k (Some l) f w)))
@@ -219,14 +212,14 @@ module _ (plan : Plan) (body_steps : ℕ) (laid : Laid plan body_steps) (act : A
       (jumps setting x (base + l) rest waiting h) (λ q lo hi. refl) (omega arith)
       (K (Some l) parts (before ++ waiting) [] f w (record x { place = setting.place_of (base + l) })
       (refl, refl, record { place = x.place + h.0; waiting = []; stands = h.4 }) p g a
-      (none_waits (map kind_of w.marks) before waiting m))
+      (none_waits w.marks before waiting m))
   instruction_sim n (Label l) k c rest K parts before waiting f w x e e' h p g a m =
       more parts before w x c (0 + c) _ (omega arith) (K None parts before [] f w x h.2 p g a
       (m ∙ ap (λ v. before ++ v) h.0))
   instruction_sim n (Mark k') k c rest K parts before waiting f w x e e' h p g a m =
       more parts before w x c (0 + c) _ (omega arith)
-      (K None parts before (waiting ++ kind_of k' ∷ []) f (marked k' w) x h p g a
-      (map_one w.marks k' ∙ ap (λ l. l ++ kind_of k' ∷ []) m ∙ append_assoc before waiting (kind_of k' ∷ [])))
+      (K None parts before (waiting ++ k' ∷ []) f (marked k' w) x h p g a
+      (ap (λ l. l ++ k' ∷ []) m ∙ append_assoc before waiting (k' ∷ [])))
   instruction_sim n (Load q o) k c rest K parts before waiting f w x e e' h p g a m = by
       (operand_value (held f) w.state.store o) (second_here plan act parts n o w.state.store.charged f w.state x
       waiting (item.Plain (MovTo (place_operand q) 1) ∷ rest) checks.1 p g h)
@@ -247,7 +240,7 @@ module _ (plan : Plan) (body_steps : ℕ) (laid : Laid plan body_steps) (act : A
           (leads_on setting.marks s.leads u.leads) u.below (let b = s.few in omega (arith, b))
           (K None parts (before ++ waiting) [] (with_place f q (Is v)) w u.y u.ahead u.places_at
           (u.world parts w.state g) (subst (Holds act.back parts f.accumulator) (sym (u.accumulator ∙ s.first)) a)
-          (none_waits (map kind_of w.marks) before waiting m))
+          (none_waits w.marks before waiting m))
   instruction_sim n (Pass j o) k c rest K parts before waiting f w x e e' h p g a m = by
       (operand_value (held f) w.state.store o) (second_here plan act parts n o w.state.store.charged f w.state x
       waiting (item.Plain (MovTo (place_operand (Slot (words + j))) 1) ∷ rest) checks.1 p g h)
@@ -268,7 +261,7 @@ module _ (plan : Plan) (body_steps : ℕ) (laid : Laid plan body_steps) (act : A
           (leads_on setting.marks s.leads u.leads) u.below (let b = s.few in omega (arith, b))
           (K None parts (before ++ waiting) [] (with_outgoing f j v) w u.y u.ahead u.places_at
           (u.world parts w.state g) (subst (Holds act.back parts f.accumulator) (sym (u.accumulator ∙ s.first)) a)
-          (none_waits (map kind_of w.marks) before waiting m))
+          (none_waits w.marks before waiting m))
   instruction_sim n (Call true count) k c rest K parts before waiting f w x e e' h p g a m = absurd
       (let bad : false ≡ true = e in cc)
   instruction_sim n (Call false count) k c rest K parts before waiting f w x e e' h p g a m =
@@ -282,7 +275,7 @@ module _ (plan : Plan) (body_steps : ℕ) (laid : Laid plan body_steps) (act : A
       (λ parts before waiting f w x h p g a m. K None parts before waiting f w x h p g a m) parts before waiting f
       w x p g m count (few_operands count e) h
   instruction_sim n (Fix members) k c rest K parts before waiting f w x e e' h p g a m =
-      let checks = and_parts (nat_le (length members) 200) (members_selected words globals
+      let checks = and_parts (nat_le (length members) max_operands) (members_selected words globals
       (length symbols) literals members) e in
       group_sim plan body_steps laid act (k None) c rest (λ parts before waiting f w x h p g a m. K None parts before
       waiting f w x h p g a m) parts before waiting f w x p g m members checks.0 checks.1 a h
@@ -330,7 +323,7 @@ module _ (plan : Plan) (body_steps : ℕ) (laid : Laid plan body_steps) (act : A
       → (l : ℕ) (parts : Parts) (before waiting : List MarkKind) (f : Frame) (w : World) (x : View)
       → At (Some l) waiting x (instruction_code base out words stack literals n i rest) → In parts f w x
       → Kept parts w x
-      → Holds act.back parts f.accumulator (x.registers 0) → map kind_of w.marks ≡ before ++ waiting
+      → Holds act.back parts f.accumulator (x.registers 0) → w.marks ≡ before ++ waiting
       → Owed parts before w x (instruction_cost i + c) (k (sought l i) f w)
   passed_over n (Label j) k c rest K l parts before waiting f w x h p g a m = by (nat_eq j l) refl
     where

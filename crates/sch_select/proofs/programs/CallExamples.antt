@@ -17,7 +17,7 @@ use Rattle.sch_control.specs.declared.operation.Source.TheVariants as source
 use Rattle.sch_frames.specs.declared.instruction.Instruction.{Instruction}
 use Rattle.sch_frames.specs.declared.instruction.Instruction.TheVariants.{Do, Store, Copy, Load, Pass, Call, Tail, Mark}
 use Rattle.sch_frames.specs.declared.instruction.Instruction.TheVariants.{Return, End as Ended, IfFalse, Jump, Label, Mark}
-use Rattle.sch_control.specs.declared.mark.MarkKind.TheVariants as mark
+use Rattle.sch_word.specs.declared.mark.MarkKind.TheVariants as mark
 use Rattle.sch_frames.specs.Run.{entries_of, run}
 use Rattle.sch_frames.specs.Tree.{Code, Source}
 use Rattle.sch_insn.specs.Behaves.{exit_of, start, zeros}
@@ -28,17 +28,15 @@ use Rattle.sch_insn.specs.declared.condition.TheConstants.{NE}
 use Rattle.sch_insn.specs.declared.insn.Arg.TheVariants as register
 use Rattle.sch_insn.specs.declared.insn.Insn.TheVariants.{CmpNumber, JumpTo}
 use Rattle.sch_asm.specs.declared.item.Item.TheVariants as item
-use Rattle.sch_asm.specs.declared.item.MarkKind.TheVariants as item_mark
 use Rattle.sch_asm.specs.Codes.{bytes_of}
 use Rattle.sch_asm.specs.Data.{data_at}
 use Rattle.sch_asm.specs.Views.{text_at}
 use Rattle.sch_runtime.specs.Code.{routine_items}
 use Rattle.sch_frames.specs.Covered.{is_covered_program}
 use Rattle.sch_select.specs.Marks.{enters_procedure, marks_passed}
-use Rattle.sch_statics.specs.Data.{program_words}
+use Rattle.sch_select_data.specs.Data.{program_words}
 use Rattle.sch_select.specs.Program.{form_code, frames_bytes, program_code, program_zeros, stack_bytes}
-use Rattle.sch_places.specs.Addresses.{body_label, stop_label}
-use Rattle.sch_places.specs.ItemMarks.{kind_of}
+use Rattle.sch_select_memory.specs.Addresses.{body_label, stop_label}
 use Rattle.sch_frames.specs.Sizes.{closures_in, instructions_size}
 use Rattle.sch_select.specs.Sizes.{instructions_in, kinds_in, kinds_of, steps_bound}
 use Rattle.sch_select.proofs.programs.Examples.{text_of, number}
@@ -194,10 +192,10 @@ marks :
     (marks_passed with_marks 16 1 [] 5 ≡ Some (mark.Enter 0 ∷ mark.Call 3 ∷ mark.Enter 1 ∷ mark.Return ∷ []))
     × (marks_passed with_marks 16 1 [] 0 ≡ Some (mark.Enter 0 ∷ mark.Call 3 ∷ []))
     × (marks_passed with_marks 16 0 [] 5 ≡ Some (mark.Enter 0 ∷ mark.Call 3 ∷ []))
-    × (enters_procedure (entries_of with_marks.bodies) (kind_of (mark.Enter 1)) ≡ true)
-    × (enters_procedure (entries_of with_marks.bodies) (kind_of (mark.Enter 0)) ≡ false)
+    × (enters_procedure (entries_of with_marks.bodies) (mark.Enter 1) ≡ true)
+    × (enters_procedure (entries_of with_marks.bodies) (mark.Enter 0) ≡ false)
     × (is_covered_program with_marks ≡ true)
-    × (kinds_of 0 with_marks.bodies ≡ item_mark.Enter 0 ∷ item_mark.Call 3 ∷ item_mark.Enter 1 ∷ item_mark.Return ∷ [])
+    × (kinds_of 0 with_marks.bodies ≡ mark.Enter 0 ∷ mark.Call 3 ∷ mark.Enter 1 ∷ mark.Return ∷ [])
     × (kinds_in (program_code with_marks 16 1) ≡ kinds_of 0 with_marks.bodies)
 marks = (refl, refl, refl, refl, refl, refl, refl, refl)
 
@@ -206,7 +204,7 @@ abbrev returning : Code
 returning = record { entry = Some (record { formals = 2; rest = false; fields = 0 }); words = 3; labels = 0; instructions = Return ∷ [] }
 
 entered : form_code 3 0 0 1 2000 returning [] ≡
-    item.Jump 2000 ∷ item.Label (body_label 1) ∷ item.Plain (CmpNumber (register.Reg 0) (pos 2)) ∷ item.JumpIf NE (stop_label WrongCount) ∷ item.Mark (item_mark.Enter 1) ∷ item.Plain (JumpTo (register.Reg 15)) ∷ item.Label 2000 ∷ []
+    item.Jump 2000 ∷ item.Label (body_label 1) ∷ item.Plain (CmpNumber (register.Reg 0) (pos 2)) ∷ item.JumpIf NE (stop_label WrongCount) ∷ item.Mark (mark.Enter 1) ∷ item.Plain (JumpTo (register.Reg 15)) ∷ item.Label 2000 ∷ []
 entered = refl
 
 -- with the body there are three units for one instruction

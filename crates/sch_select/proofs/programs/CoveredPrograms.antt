@@ -26,11 +26,11 @@ use Rattle.sch_control.specs.declared.operation.Member.{Member}
 use Rattle.sch_control.specs.declared.operation.Operation.{Operation}
 use Rattle.sch_frames.specs.Tree.{Code}
 use Rattle.sch_frames.specs.Run.{entries_of}
-use Rattle.sch_primitives.proofs.simulation.SelectedPrograms.{takes, atom_selected, read_selected, operand_selected}
-use Rattle.sch_primitives.proofs.simulation.SelectedPrograms.{source_selected, closure_selected, members_selected}
-use Rattle.sch_primitives.proofs.simulation.SelectedPrograms.{primitive_selected, operation_selected, instruction_selected}
-use Rattle.sch_primitives.proofs.simulation.SelectedPrograms.{form_selected, entry_selected, members_few, operation_few}
-use Rattle.sch_primitives.proofs.simulation.SelectedPrograms.{labels_few, selects}
+use Rattle.sch_select_operations.proofs.simulation.SelectedPrograms.{takes, atom_selected, read_selected, operand_selected}
+use Rattle.sch_select_operations.proofs.simulation.SelectedPrograms.{source_selected, closure_selected, members_selected}
+use Rattle.sch_select_operations.proofs.simulation.SelectedPrograms.{primitive_selected, operation_selected, instruction_selected}
+use Rattle.sch_select_operations.proofs.simulation.SelectedPrograms.{form_selected, entry_selected, members_few, operation_few}
+use Rattle.sch_select_operations.proofs.simulation.SelectedPrograms.{labels_few, selects}
 use Rattle.sch_control.specs.Covered.{is_covered_source, is_covered_closure, is_covered_member, is_covered_operation}
 use Rattle.sch_frames.specs.Covered.{is_covered_code, is_covered_instruction, is_covered_program, marks_settled}
 use Rattle.sch_frames.specs.Covered.{closure_low, instruction_low, member_low, operation_low, source_low}
@@ -298,9 +298,9 @@ module _ (w words : ℕ) (names : Names) (narrow : w ≤ words) where
   instruction_taken (Tail spread count) s l p h k = call_taken spread count s p h
   instruction_taken (Fix members) s l p h k =
       let p' = and_parts (are_members w members) (list_all (is_atom w) (member_atoms members)) p in
-      let h' = and_parts (nat_le (length members) 200) (members_shaped members) h in
+      let h' = and_parts (nat_le (length members) max_operands) (members_shaped members) h in
       let k' = and_parts (atoms_known names (member_atoms members)) (members_known names.entries members) k in
-      and_from (nat_le (length members) 200) (members_selected words names.globals names.symbols names.literals members) h'.0
+      and_from (nat_le (length members) max_operands) (members_selected words names.globals names.symbols names.literals members) h'.0
       (members_taken members s l h'.1 p'.0 p'.1 k'.0)
   instruction_taken Return s l p h k = refl
   instruction_taken End s l p h k = refl

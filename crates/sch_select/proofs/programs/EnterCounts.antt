@@ -13,42 +13,40 @@ use Rattle.sch_word.specs.runs.Runs.{Run, ended, going, run_with}
 use Rattle.sch_word.specs.runs.Computation.{gives, stops, spent}
 use Rattle.sch_word.specs.values.Memory.{Segment}
 use Rattle.sch_control.specs.declared.body.Entry.{Entry}
-use Rattle.sch_control.specs.declared.mark.MarkKind as control
-use Rattle.sch_control.specs.declared.mark.MarkKind.TheVariants as mark
+use Rattle.sch_word.specs.declared.mark.MarkKind.TheVariants as mark
 use Rattle.sch_control.specs.Meaning.{World, Result, marked, on_return}
 use Rattle.sch_control.specs.Run.{do_forms, entry_at, known_entry, outcome_of, seen_of, starting_world}
 use Rattle.sch_frames.specs.Valid.{is_entered}
-use Rattle.sch_frames.specs.Covered.{is_enter, is_covered_code}
+use Rattle.sch_frames.specs.Covered.{is_covered_code}
+use Rattle.sch_word.specs.runs.Activations.{is_enter}
 use Rattle.sch_frames.specs.Run.{bodies_of, entries_of}
 use Rattle.sch_frames.specs.Tree.{Code, Source}
 use Rattle.sch_insn.specs.Behaves.{FollowsRuns, exit_of, start}
 use Rattle.sch_insn.specs.Path.{traced}
 use Rattle.sch_insn.proofs.Paths.{traced_progress}
-use Rattle.sch_asm.specs.declared.item.MarkKind.{MarkKind}
+use Rattle.sch_word.specs.declared.mark.MarkKind.{MarkKind}
 use Rattle.sch_select.specs.Follows.{AreRuns}
 use Rattle.sch_select.specs.Marks.{CountsEntries, PassesMarks, enters_body, enters_procedure, marks_of, marks_passed}
-use Rattle.sch_places.specs.ItemMarks.{kind_of}
 use Rattle.sch_select.proofs.programs.EnterMarks.{Kept, Stays, callee_of, form_kept}
-use Rattle.sch_select.proofs.programs.Bodies.{map_one}
 
 -- ---- counts of marks
 
 abbrev pub counted : (MarkKind → Bool) → World → ℕ
-counted f w = count_by f (map kind_of w.marks)
+counted f w = count_by f w.marks
 
-one_more : (f : MarkKind → Bool) (m : control.MarkKind) (w : World) → counted f (marked m w) ≡ counted f w + cond (f (kind_of m)) 1 0
+one_more : (f : MarkKind → Bool) (m : MarkKind) (w : World) → counted f (marked m w) ≡ counted f w + cond (f m) 1 0
 one_more f m w =
-    ap (count_by f) (map_one w.marks m) ∙ sum_by-append (λ x. cond (f x) 1 0) (map kind_of w.marks) (kind_of m ∷ []) ∙ omega arith
+    sum_by-append (λ x. cond (f x) 1 0) w.marks (m ∷ []) ∙ omega arith
 
-counted_as : (f : MarkKind → Bool) (m : control.MarkKind) (w : World) (b : Bool) → f (kind_of m) ≡ b → counted f (marked m w) ≡ counted f w + cond b 1 0
+counted_as : (f : MarkKind → Bool) (m : MarkKind) (w : World) (b : Bool) → f m ≡ b → counted f (marked m w) ≡ counted f w + cond b 1 0
 counted_as f m w b e = one_more f m w ∙ ap (λ b. counted f w + cond b 1 0) e
 
-no_procedure : (entries : List (Option Entry)) (m : control.MarkKind) → is_enter m ≡ false → enters_procedure entries (kind_of m) ≡ false
+no_procedure : (entries : List (Option Entry)) (m : MarkKind) → is_enter m ≡ false → enters_procedure entries m ≡ false
 no_procedure entries (mark.Enter label) e = absurd (let bad : true ≡ false = e in cc)
 no_procedure entries (mark.Save x) e = refl
 no_procedure entries _ e = refl
 
-no_body : (label : ℕ) (m : control.MarkKind) → is_enter m ≡ false → enters_body label (kind_of m) ≡ false
+no_body : (label : ℕ) (m : MarkKind) → is_enter m ≡ false → enters_body label m ≡ false
 no_body label (mark.Enter l) e = absurd (let bad : true ≡ false = e in cc)
 no_body label (mark.Save x) e = refl
 no_body label _ e = refl
@@ -196,7 +194,7 @@ module _ (p : Source) (heap depth : ℕ) (covered : list_all is_covered_code p.b
 
   procedures_by : (answers : List Answer) (m : ℕ) (events : List MarkKind) (result : Result) (r : Run)
       → Done p.bodies covered (λ k. Paid p.bodies covered m) (λ k. paid_stays p.bodies covered m) (λ label w e q. paid_form p.bodies covered m label w e q) (λ label w e i q. q) (0 + length (entries_of p.bodies)) result
-      → seen_of answers m result ≡ Some r → ((marks : List control.MarkKind) → marks_of result ≡ Some marks → events ≡ map kind_of marks) → count_by (enters_procedure (entries_of p.bodies)) events ≡ r.entries
+      → seen_of answers m result ≡ Some r → ((marks : List MarkKind) → marks_of result ≡ Some marks → events ≡ marks) → count_by (enters_procedure (entries_of p.bodies)) events ≡ r.entries
   procedures_by answers m events None r paid e h = absurd (let bad : None ≡ Some r = e in cc)
   procedures_by answers m events (Some (gives v w)) r paid e h =
       let f : Some (run_with (ended 0) answers m w.state.store) ≡ Some r = e in
@@ -216,7 +214,7 @@ module _ (p : Source) (heap depth : ℕ) (covered : list_all is_covered_code p.b
   module _ (l : ℕ) (is : slice_get (entries_of p.bodies) l ≡ Some None) where
     forms_by : (answers : List Answer) (m : ℕ) (events : List MarkKind) (result : Result) (r : Run)
         → Done p.bodies covered (Once p.bodies covered l is) (once_stays p.bodies covered l is) (once_form p.bodies covered l is) (once_other p.bodies covered l is) (0 + length (entries_of p.bodies)) result
-        → seen_of answers m result ≡ Some r → r.end ≡ ended 0 → ((marks : List control.MarkKind) → marks_of result ≡ Some marks → events ≡ map kind_of marks) → count_by (enters_body l) events ≡ 1
+        → seen_of answers m result ≡ Some r → r.end ≡ ended 0 → ((marks : List MarkKind) → marks_of result ≡ Some marks → events ≡ marks) → count_by (enters_body l) events ≡ 1
     forms_by answers m events None r once e i h = absurd (let bad : None ≡ Some r = e in cc)
     forms_by answers m events (Some (gives v w)) r once e i h =
         let lt = slice_get_within (entries_of p.bodies) l None is in

@@ -3,6 +3,7 @@ use Rattle.std.proofs.Common.{◌≡◌, ℕ, zero, suc, List, [], ◌∷◌, �
 use Rattle.std.specs.Prelude.{not, slice_get}
 use Rattle.std.specs.List.{list_all}
 use Rattle.std.proofs.lemmas.Bool.{and_parts}
+use Rattle.sch_word.proofs.facts.Booleans.{not_true}
 use Rattle.sch_word.specs.declared.place.Place.{Place}
 use Rattle.sch_word.specs.declared.place.Place.TheVariants.{Slot}
 use Rattle.sch_word.specs.values.Checked.{Checked, passes, refused, exhausted, unreachable}
@@ -13,8 +14,8 @@ use Rattle.sch_word.specs.runs.Store.{Store}
 use Rattle.sch_word.specs.runs.Computation.{Outcome, State, Action, gives, stops, spent, in_store, with_rest, on_value, checked_call, taken, set_or_stop, read_cell, write_cell, with_rest, procedures_from}
 use Rattle.sch_word.proofs.Steady.{Steady, outcome_with, steady_charge, steady_charge_each, steady_fit, steady_primitive, steady_read_global, steady_write_global}
 use Rattle.sch_control.specs.declared.body.Entry.{Entry}
-use Rattle.sch_control.specs.declared.mark.MarkKind.{MarkKind}
-use Rattle.sch_control.specs.declared.mark.MarkKind.TheVariants.{Enter}
+use Rattle.sch_word.specs.declared.mark.MarkKind.{MarkKind}
+use Rattle.sch_word.specs.declared.mark.MarkKind.TheVariants.{Enter}
 use Rattle.sch_control.specs.declared.operation.Operation.{Operation}
 use Rattle.sch_control.specs.declared.operation.Operation.TheVariants as operation
 use Rattle.sch_control.specs.Operations.{Procedure, Ending, field, member_bytes, members_made, new_cell, operand_value, operand_values, operate, source_value, source_values, with_cell, with_procedures, with_some}
@@ -25,7 +26,8 @@ use Rattle.sch_frames.specs.declared.instruction.Instruction.TheVariants.{Do, St
 use Rattle.sch_frames.specs.Meaning.{Cell, Is, Link, Junk, Frame, More, beginning, execute, execute_each, held, if_link, link_register, parts, sought, value_in, with_members}
 use Rattle.sch_frames.specs.Run.{bodies_of, do_known, entries_of}
 use Rattle.sch_frames.specs.Tree.{Code}
-use Rattle.sch_frames.specs.Covered.{is_enter, is_covered_code, plain_instruction}
+use Rattle.sch_frames.specs.Covered.{is_covered_code, plain_instruction}
+use Rattle.sch_word.specs.runs.Activations.{is_enter}
 use Rattle.sch_select.proofs.programs.FreeCodes.{code_parts}
 use Rattle.sch_select.proofs.programs.Procedures.{each_at}
 
@@ -184,11 +186,7 @@ module _ (codes : List Code) (covered : list_all is_covered_code codes ≡ true)
     instruction_kept (IfFalse l) e next h f w p = value_kept (value_in f.accumulator) _ (λ v. either_kept (is_true v) (next None f w) (next (Some l) f w) (h None f w p) (h (Some l) f w p))
     instruction_kept (Jump l) e next h f w p = h (Some l) f w p
     instruction_kept (Label l) e next h f w p = h None f w p
-    instruction_kept (Mark m) e next h f w p = h None f _ (stays.mark w m (no_enter (is_enter m) e) p)
-      where
-        no_enter : (b : Bool) → not b ≡ true → b ≡ false
-        no_enter false q = refl
-        no_enter true q = absurd (let bad : false ≡ true = q in cc)
+    instruction_kept (Mark m) e next h f w p = h None f _ (stays.mark w m (not_true (is_enter m) e) p)
 
     body_kept : (is : List Instruction) → list_all plain_instruction is ≡ true → (look : Option ℕ) (f : Frame) (w : World) → P w → Kept (execute_each callee depth is look f w)
     body_kept [] e look f w p = tt

@@ -32,7 +32,7 @@ use Rattle.sch_asm.specs.Data.{data_at}
 use Rattle.sch_asm.specs.Layout.{emitted_from, placed_from}
 use Rattle.sch_asm.specs.Views.{text_at}
 use Rattle.sch_runtime.specs.Code.{routine_items}
-use Rattle.sch_statics.specs.Data.{program_words}
+use Rattle.sch_select_data.specs.Data.{program_words}
 use Rattle.sch_select.specs.Program.{program_code, program_zeros}
 
 -- a program of one form, with one global

@@ -9,7 +9,6 @@ use Rattle.sch_word.specs.runs.Store.{Store}
 use Rattle.sch_word.specs.runs.Stops.{status_of}
 use Rattle.sch_word.specs.runs.Computation.{gives, stops, spent}
 use Rattle.sch_control.specs.declared.body.Entry.{Entry}
-use Rattle.sch_control.specs.declared.mark.MarkKind.TheVariants as control
 use Rattle.sch_control.specs.Meaning.{World, Result, Callee, marked, on_return}
 use Rattle.sch_control.specs.Run.{do_forms}
 use Rattle.sch_word.specs.trees.Shape.{max_operands}
@@ -20,26 +19,25 @@ use Rattle.sch_frames.specs.Run.{bodies_of, entries_of, do_known}
 use Rattle.sch_insn.proofs.Paths.{leads_then, leads_on}
 use Rattle.sch_asm.specs.declared.item.Item.{Item}
 use Rattle.sch_asm.specs.declared.item.Item.TheVariants as item
-use Rattle.sch_asm.specs.declared.item.MarkKind.{MarkKind}
-use Rattle.sch_asm.specs.declared.item.MarkKind.TheVariants.{Enter}
+use Rattle.sch_word.specs.declared.mark.MarkKind.{MarkKind}
+use Rattle.sch_word.specs.declared.mark.MarkKind.TheVariants.{Enter}
 use Rattle.sch_asm.specs.declared.routine.Routine.TheVariants as routine
 use Rattle.sch_asm.specs.Routines.{label_of}
 use Rattle.sch_asm.specs.Stands.{Stands}
 use Rattle.sch_asm.specs.Views.{View, Leads}
 use Rattle.sch_asm.proofs.EachItem.{jumps}
-use Rattle.sch_heap.specs.Parts.{Parts}
+use Rattle.sch_select_memory.specs.Parts.{Parts}
 use Rattle.sch_control.specs.CoveredOperands.{is_form}
 use Rattle.sch_frames.specs.Covered.{is_covered_code, may_stand}
 use Rattle.sch_select.proofs.programs.FreeCodes.{code_parts}
-use Rattle.sch_places.specs.ItemMarks.{kind_of}
-use Rattle.sch_places.specs.Addresses.{body_label}
+use Rattle.sch_select_memory.specs.Addresses.{body_label}
 use Rattle.sch_select.specs.Program.{passed_code, count_code, entry_code, form_code, forms_code, labels_end}
-use Rattle.sch_places.proofs.Places.{Plan, Room, Activation, StoreAt, PlacesAt}
-use Rattle.sch_own_routines.proofs.simulation.ProcedureEntries.{Enters}
+use Rattle.sch_select_memory.proofs.Places.{Plan, Room, Activation, StoreAt, PlacesAt}
+use Rattle.sch_select_memory.proofs.simulation.ProcedureEntries.{Enters}
 use Rattle.sch_select.proofs.programs.StandingBodies.{count_past, after_body, entered_code}
-use Rattle.sch_own_routines.proofs.simulation.Outcomes.{Ends, Goes_on, Sim, Laid, ends_after, paid}
-use Rattle.sch_select.proofs.programs.Bodies.{body_cost, body_sim, map_one}
-use Rattle.sch_primitives.proofs.simulation.SelectedPrograms.{form_selected, instruction_selected}
+use Rattle.sch_select_memory.proofs.simulation.Outcomes.{Ends, Goes_on, Sim, Laid, ends_after, paid}
+use Rattle.sch_select.proofs.programs.Bodies.{body_cost, body_sim}
+use Rattle.sch_select_operations.proofs.simulation.SelectedPrograms.{form_selected, instruction_selected}
 
 -- how many steps forms take at most
 abbrev pub forms_cost : List Code → ℕ
@@ -103,13 +101,13 @@ module _ (plan : Plan) (body_steps : ℕ) (laid : Laid plan body_steps) (depth :
   -- what is owed for some forms, wherever the machine comes to them
   abbrev Rest : List Code → ℕ → List Item → Type 0
   Rest cs label code = (before : List MarkKind) (w : World) (x : View) → Stands setting [] x.place code → Ready w x
-      → map kind_of w.marks ≡ before → Owed before w.state.store x (forms_cost cs)
+      → w.marks ≡ before → Owed before w.state.store x (forms_cost cs)
       (do_forms (entries_of cs) label (bodies_of all) callee depth w)
 
   one_form : (c : Code) (cs : List Code) (label n : ℕ) (following : List Item) → form_selected words globals (length symbols) literals c ≡ true
       → is_covered_code c ≡ true → slice_get all label ≡ Some c → Rest cs (suc label) following
       → (before : List MarkKind) (w : World) (x : View) → Stands setting [] x.place
-      (form_code words stack literals label n c following) → Ready w x → map kind_of w.marks ≡ before
+      (form_code words stack literals label n c following) → Ready w x → w.marks ≡ before
       → Owed before w.state.store x (suc (body_cost c.instructions) + forms_cost cs)
       (do_forms (c.entry ∷ entries_of cs) label (bodies_of all) callee depth w)
   one_form c cs label n following e e' at rec before w x h r m = by c.entry refl h
@@ -118,7 +116,7 @@ module _ (plan : Plan) (body_steps : ℕ) (laid : Laid plan body_steps) (depth :
       out = n + c.labels
 
       entered : World
-      entered = marked (control.Enter label) w
+      entered = marked (Enter label) w
 
       act : Activation plan
       act = record {
@@ -150,7 +148,7 @@ module _ (plan : Plan) (body_steps : ℕ) (laid : Laid plan body_steps) (depth :
           c.instructions (item.Label out ∷ following) (and_parts (nat_le (formals_of c.entry) max_operands)
           (list_all (instruction_selected words globals (length symbols) literals) c.instructions) e).1 (form_stands c i e')
           None r.parts before (Enter label ∷ []) (beginning None unspecified []) entered x h here r.world tt
-          (map_one w.marks (control.Enter label) ∙ ap (λ l. l ++ Enter label ∷ []) m)
+          (ap (λ l. l ++ Enter label ∷ []) m)
 
       goes_on : Stands setting [] (setting.place_of out) following → (res : Result)
           → Sim plan body_steps act r.parts before w.state.store x (body_cost c.instructions) res
@@ -228,7 +226,7 @@ module _ (plan : Plan) (body_steps : ℕ) (laid : Laid plan body_steps) (depth :
   pub forms_sim : (cs : List Code) (label n : ℕ) (behind_all : List Item)
       → list_all (form_selected words globals (length symbols) literals) cs ≡ true → list_all is_covered_code cs ≡ true → Are label cs
       → (before : List MarkKind) (w : World) (x : View) → Stands setting [] x.place
-      (forms_code words stack literals label n cs (rest_code behind_all)) → Ready w x → map kind_of w.marks ≡ before
+      (forms_code words stack literals label n cs (rest_code behind_all)) → Ready w x → w.marks ≡ before
       → Owed before w.state.store x (forms_cost cs) (do_forms (entries_of cs) label (bodies_of all) callee depth w)
   forms_sim [] label n behind_all e e' at before w x h r m =
       let y : View = record x { place = setting.place_of (label_of routine.End) } in

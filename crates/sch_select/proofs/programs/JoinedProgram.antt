@@ -16,7 +16,7 @@ use Rattle.sch_asm.specs.declared.assembly.Word.{Word}
 use Rattle.sch_asm.specs.declared.item.Item.{Item}
 use Rattle.sch_asm.specs.declared.item.Item.TheVariants as item
 use Rattle.sch_asm.specs.declared.item.Mark as mark
-use Rattle.sch_asm.specs.declared.item.MarkKind.TheVariants.{Enter}
+use Rattle.sch_word.specs.declared.mark.MarkKind.TheVariants.{Enter}
 use Rattle.sch_asm.specs.Codes.{AreResolved, bytes_of}
 use Rattle.sch_asm.specs.Data.{data_at}
 use Rattle.sch_asm.specs.Effects.{AreEffective}
@@ -26,37 +26,37 @@ use Rattle.sch_asm.specs.Views.{text_at}
 use Rattle.sch_asm.proofs.Joined.{joined}
 use Rattle.sch_asm.proofs.Standing.{setting_of, stands_front}
 use Rattle.sch_select.proofs.items.RestItems.{entry_appends, passed_appends}
-use Rattle.sch_own_routines.specs.RestCode.{rest_routine}
-use Rattle.sch_places.specs.Addresses.{put_label, vector_label, string_label, body_label}
+use Rattle.sch_select_memory.specs.RestCode.{rest_routine}
+use Rattle.sch_select_memory.specs.Addresses.{put_label, vector_label, string_label, body_label}
 use Rattle.sch_select.specs.Select.{body_code}
-use Rattle.sch_statics.specs.NameWords.{symbol_words, symbols_count}
-use Rattle.sch_statics.specs.Data.{program_words, names_of, closures_of, heap_of, max_heap_address}
-use Rattle.sch_places.specs.StaticBytes.{static_bytes}
+use Rattle.sch_select_data.specs.NameWords.{symbol_words, symbols_count}
+use Rattle.sch_select_data.specs.Data.{program_words, names_of, closures_of, heap_of, max_heap_address}
+use Rattle.sch_select_memory.specs.StaticBytes.{static_bytes}
 use Rattle.sch_select.specs.Program.{own_label, passed_code, entry_code, forms_code, form_code, labels_end}
 use Rattle.sch_select.specs.Program.{program_code, program_zeros, max_stack, stack_bytes}
-use Rattle.sch_own_routines.specs.OwnCode.{own_code}
-use Rattle.sch_own_routines.specs.PutCode.{put_value_code}
-use Rattle.sch_own_routines.specs.MakeCode.{make_vector_code, make_string_code}
+use Rattle.sch_select_memory.specs.OwnCode.{own_code}
+use Rattle.sch_select_memory.specs.PutCode.{put_value_code}
+use Rattle.sch_select_memory.specs.MakeCode.{make_vector_code, make_string_code}
 use Rattle.sch_word.specs.values.Values.{are_bytes}
 use Rattle.sch_word.specs.values.Literals.{count_literals, literals_known, literals_in_range}
-use Rattle.sch_literals.proofs.WordBytes.{word_bytes, word_bytes_length}
+use Rattle.sch_select_data.proofs.literals.WordBytes.{word_bytes, word_bytes_length}
 use Rattle.sch_word.specs.runs.ProgramLayout.{max_text_size}
 use Rattle.sch_asm.specs.Stands.{marks_at}
 use Rattle.sch_select.specs.Ends.{EndsWithin}
 use Rattle.sch_select.specs.Sizes.{steps_bound}
 use Rattle.sch_select.specs.Marks.{PassesMarks, marks_passed}
 use Rattle.sch_select.specs.Follows.{AreRuns, EndsFrames, EntersFrames, FollowsFrames, PassesFrames}
-use Rattle.sch_places.proofs.Places.{Plan, Room}
+use Rattle.sch_select_memory.proofs.Places.{Plan, Room}
 use Rattle.sch_select.proofs.items.AppendedItems.{Appends, then_appends, body_appends, behind}
-use Rattle.sch_own_routines.proofs.simulation.Outcomes.{Laid}
+use Rattle.sch_select_memory.proofs.simulation.Outcomes.{Laid}
 use Rattle.sch_select.proofs.programs.Procedures.{bodies_cost}
 use Rattle.sch_select.proofs.items.ProgramLabels.{last_code}
-use Rattle.sch_statics.proofs.SymbolNames.{are_named, symbol_words_count}
-use Rattle.sch_statics.proofs.StartData.{parts_at_start, bytes_count, texts_there, table_there, literals_there}
-use Rattle.sch_statics.proofs.StartData.{globals_there, names_there, ends_at, contents_there, new_there}
+use Rattle.sch_select_data.proofs.SymbolNames.{are_named, symbol_words_count}
+use Rattle.sch_select_data.proofs.StartData.{parts_at_start, bytes_count, texts_there, table_there, literals_there}
+use Rattle.sch_select_data.proofs.StartData.{globals_there, names_there, ends_at, contents_there, new_there}
 use Rattle.sch_select.proofs.programs.EnterCounts.{counts_entries}
 use Rattle.sch_select.proofs.programs.Whole.{Starts, program_ends, program_follows, program_passes}
-use Rattle.sch_primitives.proofs.simulation.SelectedPrograms.{form_selected, entry_selected, selects}
+use Rattle.sch_select_operations.proofs.simulation.SelectedPrograms.{form_selected, entry_selected, selects}
 use Rattle.sch_frames.specs.Covered.{is_covered_code, marks_settled}
 
 -- what items, with the words and the zeros of data, do of a program

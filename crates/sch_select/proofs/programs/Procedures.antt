@@ -14,7 +14,6 @@ use Rattle.sch_word.specs.runs.Store.{Store}
 use Rattle.sch_word.specs.runs.Stops.{status_of}
 use Rattle.sch_word.specs.runs.Computation.{Outcome, State, gives, stops, spent, in_store, require, take_entry, taken, with_rest}
 use Rattle.sch_control.specs.declared.body.Entry.{Entry}
-use Rattle.sch_control.specs.declared.mark.MarkKind.TheVariants as control
 use Rattle.sch_control.specs.Operations.{Procedure}
 use Rattle.sch_control.specs.Meaning.{World, Result, Callee, marked, on_outcome}
 use Rattle.sch_control.specs.Run.{enter, enter_body, entry_at}
@@ -31,31 +30,30 @@ use Rattle.sch_insn.proofs.Conditions.{compared_ne}
 use Rattle.sch_insn.proofs.Paths.{leads_here, leads_on}
 use Rattle.sch_asm.specs.declared.item.Item.{Item}
 use Rattle.sch_asm.specs.declared.item.Item.TheVariants as item
-use Rattle.sch_asm.specs.declared.item.MarkKind.{MarkKind}
-use Rattle.sch_asm.specs.declared.item.MarkKind.TheVariants.{Enter}
+use Rattle.sch_word.specs.declared.mark.MarkKind.{MarkKind}
+use Rattle.sch_word.specs.declared.mark.MarkKind.TheVariants.{Enter}
 use Rattle.sch_asm.specs.Stands.{Stands}
 use Rattle.sch_asm.specs.Data.{word_in}
 use Rattle.sch_asm.specs.Views.{View, Leads, full}
 use Rattle.sch_asm.proofs.EachItem.{goes, branches}
-use Rattle.sch_heap.specs.Parts.{Parts}
-use Rattle.sch_heap.specs.Encoded.{Words}
+use Rattle.sch_select_memory.specs.Parts.{Parts}
+use Rattle.sch_select_memory.specs.Encoded.{Words}
 use Rattle.sch_frames.specs.Covered.{is_covered_code, may_stand}
 use Rattle.sch_select.proofs.programs.FreeCodes.{IsFree, code_parts}
 use Rattle.sch_select.specs.Program.{count_code}
-use Rattle.sch_own_routines.specs.RestCode.{rest_entry}
-use Rattle.sch_places.specs.ItemMarks.{kind_of}
+use Rattle.sch_select_memory.specs.RestCode.{rest_entry}
 use Rattle.sch_select.specs.Select.{body_code}
-use Rattle.sch_operations.specs.CallCode.{check_count}
-use Rattle.sch_places.specs.Addresses.{stop_label}
-use Rattle.sch_places.proofs.Straight.{Halts}
-use Rattle.sch_places.proofs.Places.{Plan, code_of, Activation, StoreAt, PlacesAt}
-use Rattle.sch_own_routines.proofs.simulation.Outcomes.{Ends, Goes_on, Lands, Sim, Laid, after, ends_after}
-use Rattle.sch_own_routines.proofs.simulation.Outcomes.{goes_on_after, stops_here, paid}
-use Rattle.sch_own_routines.proofs.simulation.ProcedureEntries.{Enters}
-use Rattle.sch_select.proofs.programs.Bodies.{body_cost, body_sim, map_one}
-use Rattle.sch_own_routines.proofs.lists.RestLoop.{changed}
-use Rattle.sch_own_routines.proofs.lists.Rests.{Fits, fitted}
-use Rattle.sch_primitives.proofs.simulation.SelectedPrograms.{form_selected, entry_selected, instruction_selected}
+use Rattle.sch_select_operations.specs.CallCode.{check_count}
+use Rattle.sch_select_memory.specs.Addresses.{stop_label}
+use Rattle.sch_select_memory.proofs.Straight.{Halts}
+use Rattle.sch_select_memory.proofs.Places.{Plan, code_of, Activation, StoreAt, PlacesAt}
+use Rattle.sch_select_memory.proofs.simulation.Outcomes.{Ends, Goes_on, Lands, Sim, Laid, after, ends_after}
+use Rattle.sch_select_memory.proofs.simulation.Outcomes.{goes_on_after, stops_here, paid}
+use Rattle.sch_select_memory.proofs.simulation.ProcedureEntries.{Enters}
+use Rattle.sch_select.proofs.programs.Bodies.{body_cost, body_sim}
+use Rattle.sch_select_memory.proofs.lists.RestLoop.{changed}
+use Rattle.sch_select_memory.proofs.lists.Rests.{Fits, fitted}
+use Rattle.sch_select_operations.proofs.simulation.SelectedPrograms.{form_selected, entry_selected, instruction_selected}
 
 -- ---- bodies by their labels
 
@@ -178,7 +176,7 @@ module _ (plan : Plan) (body_steps : ℕ) (laid : Laid plan body_steps) where
     callee n = enter (entry_at (entries_of codes)) (bodies_of codes) n
 
     no_entries : (before : List MarkKind) (w : World) (x : View) → x.output ≡ w.state.store.output
-        → map kind_of w.marks ≡ before → w.state.store.entries ≡ 0 → Goes_on plan body_steps before w.state.store x w
+        → w.marks ≡ before → w.state.store.entries ≡ 0 → Goes_on plan body_steps before w.state.store x w
     no_entries before w x printed m none = record {
       last = x;
       events = [];
@@ -198,7 +196,7 @@ module _ (plan : Plan) (body_steps : ℕ) (laid : Laid plan body_steps) where
         (at : x.place ≡ code_of plan p.label) (counted : x.registers 0 ≡ length vs) (small : length vs < 2 ^ 31)
         (many : length vs ≤ 6 + words)
         (places_at : PlacesAt plan act parts w.state.store.charged (entry_places self vs) (λ k. Junk) x.registers
-        x.bytes) (g : StoreAt plan parts w.state x.bytes x.output x.answers) (m : map kind_of w.marks ≡ before) where
+        x.bytes) (g : StoreAt plan parts w.state x.bytes x.output x.answers) (m : w.marks ≡ before) where
       abbrev t : Store
       t = w.state.store
 
@@ -208,7 +206,7 @@ module _ (plan : Plan) (body_steps : ℕ) (laid : Laid plan body_steps) where
       -- what follows once the arguments fit
       abbrev entering : ℕ → List Value → World → Result
       entering label arguments w = on_outcome w.marks (in_store take_entry w.state)
-          (λ _ w. bodies_of codes label (callee n) act.left self arguments (marked (control.Enter label) w))
+          (λ _ w. bodies_of codes label (callee n) act.left self arguments (marked (Enter label) w))
 
       module _ (c : Code) (e : Entry) (is : slice_get codes p.label ≡ Some c) (entry_of : c.entry ≡ Some e) where
         abbrev b : BodyAt plan p.label c e
@@ -233,7 +231,7 @@ module _ (plan : Plan) (body_steps : ℕ) (laid : Laid plan body_steps) where
             (list_all (instruction_selected words globals (length symbols) literals) c.instructions)
             (each_at (form_selected words globals (length symbols) literals) codes p.label c selected is)
 
-        formals_few : e.formals ≤ 200
+        formals_few : e.formals ≤ max_operands
         formals_few = leb-true e.formals max_operands (subst (λ o. nat_le (formals_of o) max_operands ≡ true) entry_of
             checks.0)
 
@@ -248,14 +246,14 @@ module _ (plan : Plan) (body_steps : ℕ) (laid : Laid plan body_steps) where
             (first : PlacesAt plan act parts' u0.state.store.charged (entry_places self us) (λ k. Junk) y.registers
             y.bytes) (g' : StoreAt plan parts' u0.state y.bytes y.output y.answers)
             (entries_are : u0.state.store.entries ≡ t.entries) (printed : u0.state.store.output ≡ t.output)
-            (m' : map kind_of u0.marks ≡ before) (st : Stands setting [] y.place body)
+            (m' : u0.marks ≡ before) (st : Stands setting [] y.place body)
             (cost : b' + paid plan body_steps u0.state.store ≤ 40 + paid plan body_steps t) where
           module _ (left : ℕ) (left_is : t.entries ≡ suc left) where
             abbrev u : World
             u = record u0 { state = record u0.state { store = record u0.state.store { entries = left } } }
 
             abbrev v : World
-            v = marked (control.Enter p.label) u
+            v = marked (Enter p.label) u
 
             inside_at : PlacesAt plan (inside act n nested_is) parts' u0.state.store.charged (entry_places self us)
                 (λ k. Junk) y.registers y.bytes
@@ -277,7 +275,7 @@ module _ (plan : Plan) (body_steps : ℕ) (laid : Laid plan body_steps) where
                 (subst (λ o. list_all (may_stand (is_form o)) c.instructions ≡ true) entry_of kept.stands))
                 None parts' before (Enter p.label ∷ []) (beginning (Some e) self us) v y st inside_at
                 (store_taken parts' u0.state left y.bytes y.output y.answers g') tt
-                (map_one u0.marks (control.Enter p.label) ∙ ap (λ l. l ++ Enter p.label ∷ []) m')
+                (ap (λ l. l ++ Enter p.label ∷ []) m')
 
             enters_body : Owed (bodies_of codes p.label (callee n) act.left self us v)
             enters_body =
@@ -294,7 +292,7 @@ module _ (plan : Plan) (body_steps : ℕ) (laid : Laid plan body_steps) where
 
           by_entries : (k : ℕ) → u0.state.store.entries ≡ k
               → Owed (on_outcome u0.marks (with_rest u0.state.cells u0.state.procedures (taken k u0.state.store))
-              (λ _ w. bodies_of codes p.label (callee n) act.left self us (marked (control.Enter p.label) w)))
+              (λ _ w. bodies_of codes p.label (callee n) act.left self us (marked (Enter p.label) w)))
           by_entries zero z = λ few. record {
             last = x;
             events = [];

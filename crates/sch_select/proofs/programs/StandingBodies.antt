@@ -5,14 +5,14 @@ use Rattle.sch_control.specs.declared.body.Entry.{Entry}
 use Rattle.sch_frames.specs.Tree.{Code}
 use Rattle.sch_asm.specs.declared.item.Item.{Item}
 use Rattle.sch_asm.specs.declared.item.Item.TheVariants as item
-use Rattle.sch_asm.specs.declared.item.MarkKind.TheVariants.{Enter}
+use Rattle.sch_word.specs.declared.mark.MarkKind.TheVariants.{Enter}
 use Rattle.sch_asm.specs.Stands.{Setting, Stands}
-use Rattle.sch_own_routines.specs.RestCode.{list_code}
-use Rattle.sch_places.specs.Addresses.{body_label}
+use Rattle.sch_select_memory.specs.RestCode.{list_code}
+use Rattle.sch_select_memory.specs.Addresses.{body_label}
 use Rattle.sch_select.specs.Select.{body_code}
 use Rattle.sch_select.specs.Program.{passed_code, count_code, entry_code, forms_code, labels_end}
 use Rattle.sch_select.proofs.items.AppendedItems.{body_appends, behind}
-use Rattle.sch_places.proofs.Places.{Plan, code_of}
+use Rattle.sch_select_memory.proofs.Places.{Plan, code_of}
 use Rattle.sch_select.proofs.programs.Procedures.{BodyAt}
 
 -- what stands behind the check of a procedure's operands

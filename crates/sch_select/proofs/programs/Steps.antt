@@ -13,9 +13,9 @@ use Rattle.sch_frames.specs.Sizes.{closures_in, codes_size, grouped, instruction
 use Rattle.sch_frames.specs.Tree.{Code, Source}
 use Rattle.sch_select.specs.Sizes.{steps_bound}
 use Rattle.sch_select.proofs.programs.Bodies.{body_cost, instruction_cost}
-use Rattle.sch_operations.proofs.simulation.EachOperation.{operation_cost}
+use Rattle.sch_select_operations.proofs.simulation.EachOperation.{operation_cost}
 use Rattle.sch_select.proofs.programs.Procedures.{bodies_cost}
-use Rattle.sch_operations.proofs.simulation.Records.{records_cost}
+use Rattle.sch_select_operations.proofs.simulation.Records.{records_cost}
 use Rattle.sch_select.proofs.programs.Forms.{forms_cost}
 use Rattle.sch_select.proofs.items.TextSize.{grouped_first, sources_counts}
 

@@ -32,26 +32,25 @@ use Rattle.sch_asm.specs.Stands.{Stands}
 use Rattle.sch_asm.specs.Data.{data_at, word_in}
 use Rattle.sch_asm.specs.Views.{View, Leads, full}
 use Rattle.sch_asm.proofs.EachItem.{goes}
-use Rattle.sch_heap.specs.Parts.{Parts, end_of}
-use Rattle.sch_heap.specs.Encoded.{IsWord, IsHeld}
-use Rattle.sch_heap.specs.Heap.{HeapAt, AreNew}
-use Rattle.sch_places.specs.Addresses.{table_address, literal_address, global_address, names_address}
+use Rattle.sch_select_memory.specs.Parts.{Parts, end_of}
+use Rattle.sch_select_memory.specs.Encoded.{IsWord, IsHeld}
+use Rattle.sch_select_memory.specs.Heap.{HeapAt, AreNew}
+use Rattle.sch_select_memory.specs.Addresses.{table_address, literal_address, global_address, names_address}
 use Rattle.sch_select.specs.Program.{own_label, forms_code}
-use Rattle.sch_control.specs.declared.mark.MarkKind as control
-use Rattle.sch_places.specs.ItemMarks.{kind_of}
+use Rattle.sch_word.specs.declared.mark.MarkKind.{MarkKind}
 use Rattle.sch_select.specs.Ends.{EndsWithin}
 use Rattle.sch_select.specs.Sizes.{steps_bound}
 use Rattle.sch_select.proofs.programs.Steps.{steps_within}
 use Rattle.sch_select.specs.Marks.{PassesMarks, marks_of, marks_passed}
 use Rattle.sch_select.specs.Follows.{AreRuns}
 use Rattle.sch_select.proofs.programs.PathEvents.{Passes, traces}
-use Rattle.sch_places.proofs.Places.{Plan, code_of, Room, StoreAt}
-use Rattle.sch_own_routines.proofs.simulation.Outcomes.{Ends, Laid}
-use Rattle.sch_own_routines.proofs.simulation.ProcedureEntries.{Enters}
+use Rattle.sch_select_memory.proofs.Places.{Plan, code_of, Room, StoreAt}
+use Rattle.sch_select_memory.proofs.simulation.Outcomes.{Ends, Laid}
+use Rattle.sch_select_memory.proofs.simulation.ProcedureEntries.{Enters}
 use Rattle.sch_select.proofs.programs.Procedures.{BodyAt, bodies_cost, enter_sim}
 use Rattle.sch_select.proofs.programs.StandingBodies.{bodies_stand}
 use Rattle.sch_select.proofs.programs.Forms.{Owed, forms_sim, forms_cost}
-use Rattle.sch_primitives.proofs.simulation.SelectedPrograms.{form_selected, entry_selected}
+use Rattle.sch_select_operations.proofs.simulation.SelectedPrograms.{form_selected, entry_selected}
 
 -- ---- globals, when a program starts
 
@@ -163,7 +162,7 @@ module _ (plan : Plan) (body_steps : ℕ) (laid : Laid plan body_steps) (depth :
 
   -- from a result to the marks that are passed
   marks_exit : (t : Store) (x z : View) (c status : ℕ) (w : World) (n : ℕ) → Leads setting 3 3 [] x z
-      → Ends plan body_steps [] t z c status w → Passes setting.marks (full setting x) n (map kind_of w.marks)
+      → Ends plan body_steps [] t z c status w → Passes setting.marks (full setting x) n w.marks
   marks_exit t x z c status w n p e =
       let q = leads_then setting.marks p e.leads in
       record {
@@ -178,21 +177,21 @@ module _ (plan : Plan) (body_steps : ℕ) (laid : Laid plan body_steps) (depth :
       }
 
   marks_does : (p : Source) (n : ℕ) (callee : Callee) (enters : Enters plan body_steps callee n)
-      (t : Store) (x z : View) (c : ℕ) (result : Result) (marks : List control.MarkKind) → t.entries ≡ n
+      (t : Store) (x z : View) (c : ℕ) (result : Result) (marks : List MarkKind) → t.entries ≡ n
       → Leads setting 3 3 [] x z → Owed plan body_steps laid depth room n p.bodies callee enters [] t z c result
-      → marks_of result ≡ Some marks → Passes setting.marks (full setting x) n (map kind_of marks)
+      → marks_of result ≡ Some marks → Passes setting.marks (full setting x) n marks
   marks_does p n callee enters t x z c None marks e l s h = absurd (let bad : None ≡ Some marks = h in cc)
   marks_does p n callee enters t x z c (Some (gives v w)) marks e l s h =
       let i : Some w.marks ≡ Some marks = h in let same : w.marks ≡ marks = cc in
-      subst (λ m. Passes setting.marks (full setting x) n (map kind_of m)) same (marks_exit t x z c 0 w n l s)
+      subst (λ m. Passes setting.marks (full setting x) n m) same (marks_exit t x z c 0 w n l s)
   marks_does p n callee enters t x z c (Some (stops why w)) marks e l s h =
       let i : Some w.marks ≡ Some marks = h in let same : w.marks ≡ marks = cc in
-      subst (λ m. Passes setting.marks (full setting x) n (map kind_of m)) same
+      subst (λ m. Passes setting.marks (full setting x) n m) same
       (marks_exit t x z c (status_of why) w n l s)
   marks_does p n callee enters t x z c (Some (spent w)) marks e l s h =
       let i : Some w.marks ≡ Some marks = h in let same : w.marks ≡ marks = cc in
       let q = leads_then setting.marks l s.leads in
-      subst (λ m. Passes setting.marks (full setting x) n (map kind_of m)) same
+      subst (λ m. Passes setting.marks (full setting x) n m) same
       (record {
         way = q.way;
         last = full setting s.last;
@@ -327,15 +326,15 @@ module _ (plan : Plan) (body_steps : ℕ) (laid : Laid plan body_steps) (depth :
     pub program_passes : PassesMarks 0x400000 (setting.text ∷ data_at bytes ∷ []) setting.marks
         (marks_passed p limit depth)
     program_passes = record {
-      along = λ g answers m marks e. (traces setting.marks (full setting (first g answers)) m (map kind_of marks)
+      along = λ g answers m marks e. (traces setting.marks (full setting (first g answers)) m marks
           (passes g answers m marks e)).begins;
       all = λ g answers m marks e status output x. (traces setting.marks (full setting (first g answers)) m
-          (map kind_of marks) (passes g answers m marks e)).all status output x;
+          marks (passes g answers m marks e)).all status output x;
     }
       where
-        passes : (g : Given) (answers : List Answer) (m : ℕ) (marks : List control.MarkKind)
+        passes : (g : Given) (answers : List Answer) (m : ℕ) (marks : List MarkKind)
             → marks_passed p limit depth answers m ≡ Some marks
-            → Passes setting.marks (full setting (first g answers)) m (map kind_of marks)
+            → Passes setting.marks (full setting (first g answers)) m marks
         passes g answers m marks e =
             marks_does p m (callee m) (enters m) (starting_store p.statics limit answers m) (first g answers)
             (ready g answers) (forms_cost p.bodies) (outcome answers m) marks refl (gets_ready g answers)

@@ -72,3 +72,7 @@ not_true false h = refl
 
 pub false_true : {b : Bool} → b ≡ true → b ≡ false → ⊥
 false_true h k = absurd (cc)
+
+pub never_true : (b : Bool) → (b ≡ true → ⊥) → b ≡ false
+never_true true n = absurd (n refl)
+never_true false n = refl

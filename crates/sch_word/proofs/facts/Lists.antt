@@ -1,7 +1,7 @@
 -- Lists: what is left of one and what is taken, and an item that is set.
 use Rattle.std.proofs.Common.{◌≡◌, ℕ, zero, suc, ◌+◌, ◌-◌, ◌<◌, ◌≤◌, List, [], ◌∷◌, ◌++◌, length, map, reverse, drop, take, get_or, Some, refl, sym, ap, ◌∙◌, subst, arith, drop-cons}
 use Rattle.std.specs.Prelude.{slice_get, slice_set}
-use Rattle.std.proofs.lemmas.List.{reverse-append}
+use Rattle.std.proofs.lemmas.List.{reverse-append, length-append}
 use Rattle.std.proofs.Math.Seq.{take-suc}
 
 pub next_left : {A : Type 0} (xs : List A) (i : ℕ) (x : A) → i < length xs → x ≡ get_or xs i x → drop i xs ≡ x ∷ drop (suc i) xs
@@ -33,6 +33,34 @@ set_elsewhere (x ∷ xs) zero zero v n = absurd (n refl)
 set_elsewhere (x ∷ xs) zero (suc k) v n = refl
 set_elsewhere (x ∷ xs) (suc i) zero v n = refl
 set_elsewhere (x ∷ xs) (suc i) (suc k) v n = set_elsewhere xs i k v (λ e. n (ap suc e))
+
+-- ## Equal parts
+
+pub cons_same : {A : Type 0} {x y : A} {xs ys : List A} → x ≡ y → xs ≡ ys → x ∷ xs ≡ y ∷ ys
+cons_same p q = rw (p, q) refl
+
+pub append_same : {A : Type 0} {xs ys more less : List A} → xs ≡ ys → more ≡ less → xs ++ more ≡ ys ++ less
+append_same p q = rw (p, q) refl
+
+pub length_joined : {A : Type 0} (xs ys : List A) {a b : ℕ} → length xs ≡ a → length ys ≡ b → length (xs ++ ys) ≡ a + b
+length_joined xs ys p q = omega (arith, length-append xs ys, p, q)
+
+pub get_seam : {A : Type 0} (before rest : List A) (x : A) → slice_get (before ++ x ∷ rest) (length before) ≡ Some x
+get_seam [] rest x = refl
+get_seam (y ∷ before) rest x = get_seam before rest x
+
+pub some_same : {A : Type 0} {x y : A} → Some x ≡ Some y → x ≡ y
+some_same e = cc
+
+pub take_whole : {A : Type 0} (xs : List A) → take (length xs) xs ≡ xs
+take_whole [] = refl
+take_whole (x ∷ xs) = ap (λ l. x ∷ l) (take_whole xs)
+
+pub length_none : {A : Type 0} (xs : List A) → length xs ≡ 0 → xs ≡ []
+length_none [] e = refl
+length_none (x ∷ xs) e = absurd (omega (arith, e))
+
+-- ## Loops
 
 -- a turn from the last to the first, for anything that is found of a list with its last item before what was found
 module _ {A R : Type 0} (F : List A → R → R) (one : A → R → R) (last : (ps : List A) (a : A) (r : R) → F (ps ++ a ∷ []) r ≡ F ps (one a r)) where

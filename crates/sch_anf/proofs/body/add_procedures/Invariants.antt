@@ -3,8 +3,8 @@ use Rattle.std.specs.List.{list_all}
 use Rattle.sch_flat.specs.View.{body}
 use Rattle.sch_control.specs.SourceView.{codes_of}
 use Rattle.sch_control.specs.Valid.{code_valid}
-use Rattle.sch_normal.specs.LabelsFit.{LabelsOfBodies}
-use Rattle.sch_normal.specs.Normal.{procedure_code}
+use Rattle.sch_anf_laws.specs.LabelsFit.{LabelsOfBodies}
+use Rattle.sch_anf_laws.specs.Normal.{procedure_code}
 use Rattle.sch_anf.proofs.body.add_procedures.Given as goal
 
 abbrev pub invariant-loop-b : goal.invariant-loop-b

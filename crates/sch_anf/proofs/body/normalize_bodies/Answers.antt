@@ -1,12 +1,11 @@
 use Rattle.std.proofs.Common.{◌≡◌, ◌<◌, ◌∙◌, true, length, map, get_or, refl, ap, sym, subst, arith}
 use Rattle.std.specs.List.{list_all}
 use Rattle.sch_flat.specs.View.{body, trees_of}
-use Rattle.sch_flat.proofs.Rows.{trees_of_list}
+use Rattle.sch_flat.proofs.Rows.{count_is, trees_of_list}
 use Rattle.sch_control.specs.Valid.{code_valid}
-use Rattle.sch_normal.specs.LabelsFit.{LabelsFitEach}
-use Rattle.sch_normal.specs.Normal.{normal_bodies}
-use Rattle.sch_expressions.proofs.Loops.{labels_next}
-use Rattle.sch_simple.proofs.PlacedLists.{count_is}
+use Rattle.sch_anf_laws.specs.LabelsFit.{LabelsFitEach}
+use Rattle.sch_anf_laws.specs.Normal.{normal_bodies}
+use Rattle.sch_anf.proofs.PartSteps.{labels_next}
 use Rattle.sch_anf.proofs.CodeLists.{ascends_next, forms_valid, forms_made, forms_labels, between_labels, between_valid}
 use Rattle.sch_anf.proofs.body.normalize_bodies.Goals as goal
 

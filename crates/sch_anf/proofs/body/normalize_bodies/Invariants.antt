@@ -4,9 +4,9 @@ use Rattle.sch_flat.specs.Valid.{ascending}
 use Rattle.sch_flat.specs.View.{body, trees_of}
 use Rattle.sch_control.specs.SourceView.{codes_of}
 use Rattle.sch_control.specs.Valid.{code_valid}
-use Rattle.sch_normal.specs.LabelsFit.{LabelsFitEach, LabelsOfBodies}
-use Rattle.sch_normal.specs.Normal.{normal_bodies}
-use Rattle.sch_normal.proofs.Items.{left}
+use Rattle.sch_anf_laws.specs.LabelsFit.{LabelsFitEach, LabelsOfBodies}
+use Rattle.sch_anf_laws.specs.Normal.{normal_bodies}
+use Rattle.sch_anf_laws.proofs.Items.{left}
 use Rattle.sch_anf.proofs.body.normalize_bodies.Given as goal
 
 abbrev pub invariant-loop-i : goal.invariant-loop-i

@@ -2,8 +2,8 @@ use Rattle.std.proofs.Common.{◌∙◌, IsTrue, ap, sym, subst}
 use Rattle.sch_flat.specs.View.{tree}
 use Rattle.sch_control.specs.Valid.{in_scope_whole, numbered, ended, shaped_whole, fields_known}
 use Rattle.sch_control.specs.View.{expression}
-use Rattle.sch_normal.specs.Normal.{form_code}
-use Rattle.sch_operands.specs.ScopeTable.{scope_of}
+use Rattle.sch_anf_laws.specs.Normal.{form_code}
+use Rattle.sch_anf.specs.ScopeTable.{scope_of}
 use Rattle.sch_anf.proofs.CodeLists.{promises, form_is}
 use Rattle.sch_anf.proofs.body.normalize_form.Goals as goal
 

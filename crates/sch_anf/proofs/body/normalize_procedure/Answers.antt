@@ -3,8 +3,8 @@ use Rattle.sch_word.specs.trees.Bindings.{numbers, with_variables}
 use Rattle.sch_flat.specs.View.{body}
 use Rattle.sch_control.specs.Valid.{in_scope_whole, numbered, ended, shaped_whole, fields_known}
 use Rattle.sch_control.specs.View.{expression}
-use Rattle.sch_normal.specs.Normal.{procedure_code}
-use Rattle.sch_operands.specs.ScopeTable.{scope_of}
+use Rattle.sch_anf_laws.specs.Normal.{procedure_code}
+use Rattle.sch_anf.specs.ScopeTable.{scope_of}
 use Rattle.sch_anf.proofs.CodeLists.{promises, procedure_is}
 use Rattle.sch_anf.proofs.body.normalize_procedure.Goals as goal
 

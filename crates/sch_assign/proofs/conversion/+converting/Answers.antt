@@ -1,8 +1,6 @@
 use denote.Param.Weighed.{at_most, most}
 use Rattle.std.proofs.lemmas.List.{take_all}
 use Rattle.std.proofs.Common.{◌∙◌, ◌≡◌, ◌<◌, ◌≤◌, length, get_or, take, ap, arith, refl, sym, subst}
-use Rattle.sch_cells.specs.declared.tree.Exp.{Exp}
-use Rattle.sch_cells.specs.declared.tree.Lambda.{Lambda}
 use Rattle.sch_cells.specs.View.{trees_of, lambdas_of}
 use Rattle.sch_cells.proofs.tree.Exp.TheLaws.{the_size}
 use Rattle.sch_cells.proofs.tree.Lambda.TheLaws as lambda

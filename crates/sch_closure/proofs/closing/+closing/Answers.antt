@@ -2,10 +2,9 @@ use Rattle.std.proofs.Common.{◌≡◌, ◌∷◌, [], ◌+◌, length, map, ap
 use Rattle.sch_cells.specs.View.{tree}
 use Rattle.sch_cells.proofs.Rows.{trees_of_list, lambdas_of_list}
 use Rattle.sch_flat.specs.View.{body}
-use Rattle.sch_closed.specs.Closed.{procedures_each, procedures_lambdas, closed_each, made_each, body_of, fields_of}
+use Rattle.sch_closure.specs.Closed.{procedures_each, procedures_lambdas, closed_each, made_each, body_of, fields_of}
 use Rattle.sch_closure.specs.Walked.{with_bodies_each, with_bodies_lambdas}
-use Rattle.sch_closure.proofs.MadeLists.{each_made, each_bodies, each_count, each_start, each_stand, each_end, lambdas_made, lambdas_bodies}
-use Rattle.sch_closure.proofs.MadeLists.{lambdas_count, lambdas_start, lambdas_stand, lambdas_end, here_is, made_body, body_made}
+use Rattle.sch_closure.proofs.MadeLists.{each_made, each_bodies, each_count, each_start, each_stand, each_end, lambdas_made, lambdas_bodies, lambdas_count, lambdas_start, lambdas_stand, lambdas_end, here_is, made_body, body_made}
 use Rattle.sch_closure.proofs.closing.+closing.Goals as goal
 
 pub close_each-loop-e-init : goal.close_each-loop-e-init

@@ -1,7 +1,7 @@
 use Rattle.std.proofs.Common.{◌≡◌, ◌∷◌, ◌++◌, ◌+◌, [], arith, length, map, ap, ◌∙◌, sym}
 use Rattle.sch_cells.proofs.Rows.{trees_of_list}
 use Rattle.sch_flat.specs.View.{body}
-use Rattle.sch_closed.specs.Closed.{procedures_each, closed_each, starts}
+use Rattle.sch_closure.specs.Closed.{procedures_each, closed_each, starts}
 use Rattle.sch_closure.specs.Walked.{with_bodies_each}
 use Rattle.sch_closure.proofs.MadeLists.{each_made, each_bodies, each_count, each_start, each_stand, each_starts, each_end}
 use Rattle.sch_closure.proofs.closing.close_forms.Goals as goal

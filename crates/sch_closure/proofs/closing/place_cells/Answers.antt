@@ -1,6 +1,6 @@
 use Rattle.std.proofs.Common.{None}
 use Rattle.sch_flat.specs.View.{new_cell}
-use Rattle.sch_closed.specs.Closed.{placed}
+use Rattle.sch_closure.specs.Closed.{placed}
 use Rattle.sch_closure.proofs.MadeLists.{mapped_next, mapped_end}
 use Rattle.sch_closure.proofs.closing.place_cells.Goals as goal
 

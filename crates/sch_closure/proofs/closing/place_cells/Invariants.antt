@@ -1,6 +1,6 @@
 use Rattle.std.proofs.Common.{◌≡◌, ◌++◌, drop, map}
 use Rattle.sch_flat.specs.View.{new_cell}
-use Rattle.sch_closed.specs.Closed.{placed}
+use Rattle.sch_closure.specs.Closed.{placed}
 use Rattle.sch_closure.proofs.closing.place_cells.Given as goal
 
 abbrev pub invariant-loop-c : goal.invariant-loop-c

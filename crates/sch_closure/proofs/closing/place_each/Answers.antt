@@ -1,5 +1,5 @@
 use Rattle.sch_flat.specs.View.{used}
-use Rattle.sch_closed.specs.Closed.{place}
+use Rattle.sch_closure.specs.Closed.{place}
 use Rattle.sch_closure.proofs.MadeLists.{mapped_next, mapped_end}
 use Rattle.sch_closure.proofs.closing.place_each.Goals as goal
 

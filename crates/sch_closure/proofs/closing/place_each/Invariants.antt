@@ -1,6 +1,6 @@
 use Rattle.std.proofs.Common.{◌≡◌, ◌++◌, drop, map}
 use Rattle.sch_flat.specs.View.{used}
-use Rattle.sch_closed.specs.Closed.{place}
+use Rattle.sch_closure.specs.Closed.{place}
 use Rattle.sch_closure.proofs.closing.place_each.Given as goal
 
 abbrev pub invariant-loop-x : goal.invariant-loop-x

@@ -1,5 +1,5 @@
 use Rattle.std.proofs.Common.{◌≡◌, drop}
-use Rattle.sch_closed.specs.Closed.{place_from, place}
+use Rattle.sch_closure.specs.Closed.{place_from, place}
 use Rattle.sch_closure.proofs.closing.place_variable.Given as goal
 
 abbrev pub invariant-loop-k : goal.invariant-loop-k

@@ -1,8 +1,8 @@
 use Rattle.std.proofs.Common.{◌≡◌, drop}
 use Rattle.sch_read.specs.Views.{data_of}
-use Rattle.sch_keeping.specs.Definitions.{definitions_of}
+use Rattle.sch_link_program.specs.Definitions.{definitions_of}
 use Rattle.sch_toplevel.specs.Items.{item_places}
-use Rattle.sch_core.specs.Libraries.{first_definition_excess}
+use Rattle.sch_core.specs.Excess.{first_definition_excess}
 use Rattle.sch_core.proofs.definitions.first_definition_excess.Given as goal
 
 abbrev pub invariant-loop-i : goal.invariant-loop-i

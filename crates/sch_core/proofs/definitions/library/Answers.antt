@@ -1,9 +1,9 @@
 use Rattle.std.proofs.Common.{[], ap, sym, ◌∙◌, rules}
 use Rattle.sch_read.specs.Views.{data_of}
 use Rattle.sch_names.specs.ScopeView.{given_names}
-use Rattle.sch_keeping.specs.Definitions.{definitions_of}
+use Rattle.sch_link_program.specs.Definitions.{definitions_of}
 use Rattle.sch_toplevel.specs.Items.{item_places}
-use Rattle.sch_core.specs.Libraries.{first_definition_excess}
+use Rattle.sch_core.specs.Excess.{first_definition_excess}
 use Rattle.sch_core.proofs.items.LibraryLaws.{faulty_error, excessive_error, definitions_counted, never_both, one_library, fault_found, expands, excess_found, library_found}
 use Rattle.sch_core.proofs.items.SoundItems.{items_size, sound_library}
 use Rattle.sch_core.proofs.definitions.library.Goals as goal

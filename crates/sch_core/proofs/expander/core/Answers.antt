@@ -7,14 +7,14 @@ use Rattle.sch_lang.specs.View.{expressions_of}
 use Rattle.sch_read.specs.Views.{data_of}
 use Rattle.sch_names.specs.NamesView.{names_of}
 use Rattle.sch_sketch.specs.DraftView.{drafts_of}
-use Rattle.sch_numbers.specs.Programs.{seen, program_of}
-use Rattle.sch_keeping.specs.Definitions.{definitions_of}
-use Rattle.sch_linking.specs.PartsView.{parts_of}
-use Rattle.sch_linking.specs.Ranged.{IsValidOnceRanged, trees_in_range}
+use Rattle.sch_link_tables.specs.Programs.{seen, program_of}
+use Rattle.sch_link_program.specs.Definitions.{definitions_of}
+use Rattle.sch_link_program.specs.PartsView.{parts_of}
+use Rattle.sch_link_program.specs.Ranged.{IsValidOnceRanged, trees_in_range}
 use Rattle.sch_toplevel.specs.Views.{given}
-use Rattle.sch_core.specs.Programs.{first_excess}
+use Rattle.sch_core.specs.Excess.{first_excess}
 use Rattle.sch_toplevel.specs.Forms.{form_places}
-use Rattle.sch_core.proofs.Answering.{faulty, exceeding, found, valid_once, small, places_are}
+use Rattle.sch_core.proofs.texts.ProgramOfText.{faulty, exceeding, found, valid_once, small, places_are}
 use Rattle.sch_core.proofs.DataLaws.{faulty_error, excessive_error, first_counted, never_both, one_program, err_only}
 use Rattle.sch_core.proofs.expander.core.Goals as goal
 

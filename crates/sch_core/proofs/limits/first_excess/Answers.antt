@@ -1,6 +1,6 @@
 use Rattle.std.proofs.Common.{ap, refl, sym, ◌∙◌}
-use Rattle.sch_limits.proofs.Lists.{whole}
-use Rattle.sch_core.specs.Programs.{first_excess}
+use Rattle.sch_variable_counts.proofs.ListsLeft.{whole}
+use Rattle.sch_core.specs.Excess.{first_excess}
 use Rattle.sch_core.proofs.ExcessSteps.{excess_here, excess_later, excess_end}
 use Rattle.sch_core.proofs.limits.first_excess.Goals as goal
 

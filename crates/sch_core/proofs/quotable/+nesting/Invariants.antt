@@ -1,7 +1,7 @@
 use Rattle.std.proofs.Common.{◌≡◌, ◌≤◌, ◌+◌, ◌*◌, true, drop}
 use Rattle.sch_read.specs.Levels.{depths}
 use Rattle.sch_read.specs.Views.{data_of}
-use Rattle.sch_validity.specs.Sizes.{data_in_range}
+use Rattle.sch_core.specs.Quotable.{data_in_range}
 use Rattle.sch_core.proofs.quotable.+nesting.Given as goal
 
 abbrev pub invariant-nest_within-loop-d : goal.invariant-nest_within-loop-d

@@ -1,7 +1,7 @@
 use Rattle.std.proofs.Common.{ℕ, sym, subst}
 use Rattle.sch_read.specs.Text.{Spells}
 use Rattle.sch_read.specs.Views.{data_of}
-use Rattle.sch_keeping.specs.Definitions.{definitions_of}
+use Rattle.sch_link_program.specs.Definitions.{definitions_of}
 use Rattle.sch_core.specs.Programs.{IsProgramOf}
 use Rattle.sch_lang.specs.ProgramView.{source}
 use Rattle.sch_driver.specs.Causes.{IsErrorOf, IsLibraryText}

@@ -1,7 +1,6 @@
 use Rattle.std.proofs.Common.{sym, ap, ◌∙◌}
 use Rattle.sch_lang.specs.View.{expressions_of, lambdas_of}
-use Rattle.sch_passes.proofs.Room.{each_has_room, turns_have_room, lambdas_have_room, each_whole, turns_whole, lambdas_whole}
-use Rattle.sch_passes.proofs.Room.{each_goes_on, each_stops, turn_goes_on, turn_stops, none_left, lambdas_go_on, lambdas_stop}
+use Rattle.sch_passes.proofs.Room.{each_has_room, turns_have_room, lambdas_have_room, each_whole, turns_whole, lambdas_whole, each_goes_on, each_stops, turn_goes_on, turn_stops, none_left, lambdas_go_on, lambdas_stop}
 use Rattle.sch_passes.proofs.walkable.+parts.Goals as goal
 use Rattle.sch_passes.proofs.walkable.+parts.Goals.{has_room_in_turn-then-left-eq0-via-then-left-eq0, has_room_in_turn-then-left-eq0-via-else-left-eq0+then-not-has_room}
 

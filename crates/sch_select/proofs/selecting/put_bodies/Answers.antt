@@ -4,7 +4,7 @@ use Rattle.sch_frames.specs.SourceView.{codes_of}
 use Rattle.sch_asm.specs.declared.item.Item.{Item}
 use Rattle.sch_asm.specs.declared.item.Item.TheVariants as item
 use Rattle.sch_select.specs.Program.{forms_code}
-use Rattle.sch_own_routines.specs.OwnCode.{own_code}
+use Rattle.sch_select_memory.specs.OwnCode.{own_code}
 use Rattle.sch_select.proofs.selecting.put_bodies.Goals as goal
 
 -- the bodies, the jump behind them and the program's own routines, one behind the other

@@ -9,20 +9,20 @@ use Rattle.sch_asm.specs.Items.{AreItems, AreKnown, AreOwn, IsEachOnce, labels_i
 use Rattle.sch_asm.specs.Codes.{text_size}
 use Rattle.sch_frames.specs.ProgramView.{source}
 use Rattle.sch_frames.specs.Sizes.{closures_in, program_size}
-use Rattle.sch_literals.proofs.PlacedLiterals.{placed_objects, placed_literals}
-use Rattle.sch_literals.proofs.Rows.{count_rows}
-use Rattle.sch_statics.specs.Data.{static_count, objects_unit, names_of, closures_of, heap_of, max_heap_address}
-use Rattle.sch_statics.specs.Data.{data_words, program_words}
+use Rattle.sch_select_data.proofs.literals.PlacedLiterals.{placed_objects, placed_literals}
+use Rattle.sch_select_data.proofs.literals.Rows.{count_rows}
+use Rattle.sch_select_data.specs.Data.{static_count, objects_unit, names_of, closures_of, heap_of, max_heap_address}
+use Rattle.sch_select_data.specs.Data.{data_words, program_words}
 use Rattle.sch_select.specs.Program.{max_data, max_stack, program_code, program_zeros, own_label, stack_bytes}
-use Rattle.sch_places.specs.Addresses.{names_address}
+use Rattle.sch_select_memory.specs.Addresses.{names_address}
 use Rattle.sch_select.specs.Sizes.{instructions_in, kinds_in, kinds_of}
 use Rattle.sch_select.proofs.programs.CoveredPrograms.{codes_free, entries_selected, globals_known, labels_known}
 use Rattle.sch_select.proofs.programs.CoveredPrograms.{covered_selected, texts_are, literals_are, literals_named}
 use Rattle.sch_select.proofs.programs.CoveredPrograms.{procedures_known}
 use Rattle.sch_select.proofs.programs.OwnWays.{takes_frames}
 use Rattle.sch_select.proofs.programs.JoinedProgram.{IsSelected, program_selected}
-use Rattle.sch_statics.proofs.StartData.{words_end}
-use Rattle.sch_statics.proofs.StaticSizes.{made_few, made_heap, names_below}
+use Rattle.sch_select_data.proofs.StartData.{words_end}
+use Rattle.sch_select_data.proofs.StaticSizes.{made_few, made_heap, names_below}
 use Rattle.sch_select.proofs.items.ProgramFacts.{all_forward, bodies_count, data_end, program_own, statics_few}
 use Rattle.sch_select.proofs.items.ProgramFacts.{statics_small, symbols_few, whole_items, words_few}
 use Rattle.sch_select.proofs.items.ProgramKnown.{program_known}

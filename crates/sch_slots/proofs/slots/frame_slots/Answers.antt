@@ -1,4 +1,5 @@
 use Rattle.std.proofs.Common.{◌≡◌, ◌≤◌, ◌+◌, ◌∙◌, ap, refl, subst, sym, arith}
+use Rattle.sch_word.specs.trees.Shape.{max_operands}
 use Rattle.sch_control.specs.SourceView as control
 use Rattle.sch_control.specs.View.{expression}
 use Rattle.sch_control.specs.Work as work
@@ -52,7 +53,7 @@ returns-clause-covered c h =
 pub returns-clause-frame_words : goal.returns-clause-frame_words
 returns-clause-frame_words c =
     let words = c.room_for-room.ensures.words in
-    let few : slots_words (control.code_of c.args.b.now) ≤ 200 + c.args.b.now.variables = slots_room (control.code_of c.args.b.now) c.args.b.now.shaped in
+    let few : slots_words (control.code_of c.args.b.now) ≤ max_operands + c.args.b.now.variables = slots_room (control.code_of c.args.b.now) c.args.b.now.shaped in
     omega (arith, words, few)
 
 pub returns-clause-size : goal.returns-clause-size

@@ -1,7 +1,7 @@
 use Rattle.std.proofs.Common.{ap, refl}
-use Rattle.sch_numbers.proofs.DraftViews.{branch_view, bind_view, letrec_view, call_view}
-use Rattle.sch_numbers.proofs.DraftLists.{next_draft}
-use Rattle.sch_numbers.proofs.NameSteps.{next_named}
+use Rattle.sch_link_tables.proofs.DraftViews.{branch_view, bind_view, letrec_view, call_view}
+use Rattle.sch_link_tables.proofs.DraftLists.{next_draft}
+use Rattle.sch_link_tables.proofs.NameSteps.{next_named}
 use Rattle.sch_toplevel.specs.Assigned.{assigned_in, assigned_in_each}
 use Rattle.sch_toplevel.proofs.AssignedDrafts.{branch_assigned, bind_assigned, letrec_assigned, call_assigned}
 use Rattle.sch_toplevel.proofs.assigned.+assigning.Goals as goal

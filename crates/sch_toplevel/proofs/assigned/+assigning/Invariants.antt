@@ -1,7 +1,7 @@
 use Rattle.std.proofs.Common.{◌≡◌, drop}
 use Rattle.sch_names.specs.NamesView.{names_of}
 use Rattle.sch_sketch.specs.DraftView.{drafts_of}
-use Rattle.sch_numbers.specs.Named.{firsts}
+use Rattle.sch_link_tables.specs.Named.{firsts}
 use Rattle.sch_toplevel.specs.Assigned.{assigned_in_each}
 use Rattle.sch_toplevel.proofs.assigned.+assigning.Given as goal
 

@@ -1,6 +1,6 @@
 use Rattle.std.proofs.Common.{arith}
 use Rattle.sch_read.specs.Parts.{offset}
-use Rattle.sch_definitions.proofs.DefinitionSteps.{lighter}
+use Rattle.sch_sketch.proofs.DefinitionSteps.{lighter}
 use Rattle.sch_toplevel.specs.Forms.{form_sketch}
 use Rattle.sch_toplevel.proofs.FormLists.{next_forms}
 use Rattle.sch_toplevel.proofs.forms.+adding.Goals as goal

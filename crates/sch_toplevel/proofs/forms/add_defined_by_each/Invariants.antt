@@ -1,6 +1,6 @@
 use Rattle.std.proofs.Common.{◌≡◌, drop}
 use Rattle.sch_names.specs.NamesView.{names_of}
-use Rattle.sch_numbers.specs.Named.{firsts}
+use Rattle.sch_link_tables.specs.Named.{firsts}
 use Rattle.sch_toplevel.specs.FormView.{sketches_at}
 use Rattle.sch_toplevel.specs.Forms.{defined_by_each}
 use Rattle.sch_toplevel.proofs.forms.add_defined_by_each.Given as goal

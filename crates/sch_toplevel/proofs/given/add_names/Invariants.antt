@@ -1,6 +1,6 @@
 use Rattle.std.proofs.Common.{◌≡◌, drop}
 use Rattle.sch_names.specs.NamesView.{names_of}
-use Rattle.sch_numbers.specs.Named.{firsts}
+use Rattle.sch_link_tables.specs.Named.{firsts}
 use Rattle.sch_toplevel.specs.Views.{given}
 use Rattle.sch_toplevel.proofs.given.add_names.Given as goal
 

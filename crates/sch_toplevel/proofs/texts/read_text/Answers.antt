@@ -6,7 +6,7 @@ use Rattle.sch_sketch.specs.declared.sketch.Position.TheVariants.{Value}
 use Rattle.sch_sketch.specs.DraftView.{drafts_of}
 use Rattle.sch_sketch.specs.Sketch.{sketches, sequencing}
 use Rattle.sch_expansion.specs.Reads.{PartsRead}
-use Rattle.sch_numbers.specs.Named.{firsts}
+use Rattle.sch_link_tables.specs.Named.{firsts}
 use Rattle.sch_toplevel.specs.Assigned.{assigned_in_each}
 use Rattle.sch_toplevel.specs.Forms.{form_places, forms_in, form_sketch, sketches_of, defined_by_each}
 use Rattle.sch_toplevel.specs.FormView.{places_at, sketches_at}

@@ -2,7 +2,7 @@ use Rattle.std.proofs.Common.{ap, sym, ◌∙◌, reverse}
 use Rattle.std.proofs.lemmas.Result.{IfOk-weaker}
 use Rattle.sch_read.specs.Views.{tree_of, data_of}
 use Rattle.sch_names.specs.NamesView.{globals_of}
-use Rattle.sch_table.specs.Outline.{outline_datum, outline}
+use Rattle.sch_expansion.specs.Outline.{outline_datum, outline}
 use Rattle.sch_sketch.specs.Sketch.{width}
 use Rattle.sch_sketch.specs.SketchView.{sketch_of, kind_of}
 use Rattle.sch_expansion.proofs.Stacks.{node_wanted, at_datum, at_rest, at_wrong, at_leaf, at_limited, at_deep, how_many_is, smaller_datum, smaller_rest, smaller_wrong, smaller_leaf, smaller_limited, smaller_deep, smaller_node, smaller_opened}

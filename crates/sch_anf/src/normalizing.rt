@@ -1,0 +1,290 @@
+//! Expressions in which every operand is simple: what is not is bound before.
+
+ghost use Rattle.std.specs.Prelude.{◌≡◌, ◌+◌, ◌<◌, ◌^◌, suc, cond, length, IfOk, OnOk};
+ghost use Rattle.std.specs.List.Sorted.{IsNonDecreasing};
+ghost use Rattle.sch_flat.specs.View.{tree, trees_of};
+ghost use Rattle.sch_control.specs.View.{expression};
+ghost use Rattle.sch_anf_laws.specs.LabelsFit.{LabelsFit, LabelsFitEach};
+ghost use Rattle.sch_anf_laws.specs.Normal.{binds, binds_parts, init_numbers, inits_bind, normal, normal_parts, operand_at, operand_binds, operands_at, operands_bind, with_inits, with_operands};
+ghost use Rattle.sch_anf_laws.specs.Normal as specs;
+ghost use Rattle.sch_anf.specs.ScopeTable.{scope_of};
+ghost use Rattle.sch_anf.specs.Steps.{Adds};
+ghost use Rattle.sch_anf.specs.Round.{bound_before, dropped_before, part_before};
+
+use crate::after::{Kind, apply_after, branch_of, call_after, fill_after, group_of, set_after};
+use crate::operands::{members_of, simple_operand, source_of};
+use crate::reading::{make_cells, make_closure, read_atom, read_cell, read_global, read_variable};
+use crate::simple::{is_simple, needs_variable};
+use crate::steps::{Step, put_after};
+use crate::variables::Variables;
+use sch_control as control;
+use sch_control::{Atom, Operand};
+use sch_flat::Exp;
+use sch_word::{Const, List, Mem};
+use std::alloc::Global;
+
+/// The expression in which every operand is simple.
+#[cycle(normalizing)]
+pub fn normalize_expression(
+    alloc: Global,
+    starts: &[u32],
+    e: &Exp,
+    tail: bool,
+    v: &mut Variables,
+) -> Result<Box<control::Exp<()>>, Mem>
+    requires sorted { IsNonDecreasing starts.now }
+    requires labels { LabelsFit (length starts.now) (tree e.now) }
+    requires few { v.old.next + binds (tree e.now) < 2 ^ 32 }
+    ensures made { IfOk result (λ q. expression q.value ≡ normal starts.now tail (tree e.now) (scope_of v.old.bound.items) v.old.next) }
+    ensures next { OnOk result (v.new.next ≡ v.old.next + binds (tree e.now)) }
+    ensures scope { OnOk result (v.new.bound.items ≡ v.old.bound.items) }
+{
+    match e {
+        Exp::Constant(c) => read_atom(alloc, tail, Atom::Constant(*c)),
+        Exp::Literal(k) => read_atom(alloc, tail, Atom::Literal(*k)),
+        Exp::Var(x) => read_variable(alloc, tail, *x, v),
+        Exp::Global(g) => read_global(alloc, tail, *g),
+        Exp::SetGlobal(g, value) | Exp::Define(g, value) => {
+            let mut steps = Vec::new(alloc);
+            let value = normalize_part(alloc, starts, value, v, &mut steps)?;
+            set_after(alloc, tail, steps, *g, value)
+        }
+        Exp::If(test, yes, no) => {
+            let test = normalize_expression(alloc, starts, test, false, v)?;
+            let yes = normalize_expression(alloc, starts, yes, tail, v)?;
+            let no = normalize_expression(alloc, starts, no, tail, v)?;
+            branch_of(alloc, test, yes, no)
+        }
+        Exp::Seq(parts) => normalize_parts(alloc, starts, parts, tail, v),
+        Exp::Let {
+            site: _,
+            first,
+            inits,
+            body,
+        } => {
+            let mut steps = Vec::with_capacity(alloc, inits.len())?;
+            let numbers = normalize_inits(alloc, starts, inits, v, &mut steps)?;
+            let depth = v.depth();
+            v.bind_each(*first, &numbers)?;
+            let body = normalize_expression(alloc, starts, body, tail, v)?;
+            v.release(depth);
+            put_after(alloc, steps, body)
+        }
+        Exp::MakeClosure(m) => make_closure(alloc, starts, tail, m, v),
+        Exp::FixClosures {
+            first,
+            closures,
+            body,
+        } => {
+            let number = v.next;
+            let depth = v.depth();
+            v.bind_closures(*first, closures)?;
+            let members = members_of(alloc, starts, closures, number, v)?;
+            let body = normalize_expression(alloc, starts, body, tail, v)?;
+            v.release(depth);
+            group_of(alloc, members, body)
+        }
+        Exp::Call {
+            site,
+            spread,
+            operator,
+            operands,
+        } => {
+            let mut steps = Vec::new(alloc);
+            let operands = normalize_operands(alloc, starts, operands, v, &mut steps)?;
+            let operator = normalize_part(alloc, starts, operator, v, &mut steps)?;
+            let kind = Kind {
+                site: *site,
+                spread: *spread,
+                tail,
+            };
+            call_after(alloc, steps, kind, operator, operands)
+        }
+        Exp::Prim(site, which, operands) => {
+            let mut steps = Vec::new(alloc);
+            let operands = normalize_operands(alloc, starts, operands, v, &mut steps)?;
+            apply_after(alloc, tail, steps, (*site, *which), operands)
+        }
+        Exp::NewCells(cells, body) => {
+            let steps = make_cells(alloc, cells, v)?;
+            let depth = v.depth();
+            v.bind_cells(cells)?;
+            let body = normalize_expression(alloc, starts, body, tail, v)?;
+            v.release(depth);
+            put_after(alloc, steps, body)
+        }
+        Exp::CellGet(x) => read_cell(alloc, tail, *x, v),
+        Exp::CellSet(x, value) => {
+            let cell = source_of(*x, v);
+            let mut steps = Vec::new(alloc);
+            let value = normalize_part(alloc, starts, value, v, &mut steps)?;
+            fill_after(alloc, tail, steps, cell, value)
+        }
+    }
+}
+
+// A part that is bound to a new variable.
+#[cycle(normalizing)]
+#[inline(never)]
+fn normalize_bound(
+    alloc: Global,
+    starts: &[u32],
+    e: &Exp,
+    v: &mut Variables,
+    steps: &mut Vec<Step>,
+) -> Result<u32, Mem>
+    requires sorted { IsNonDecreasing starts.now }
+    requires labels { LabelsFit (length starts.now) (tree e.now) }
+    requires few { v.old.next + suc (binds (tree e.now)) < 2 ^ 32 }
+    ensures number { IfOk result (λ x. x ≡ v.old.next) }
+    ensures steps { OnOk result (Adds steps.old.items steps.new.items
+        (bound_before starts.now (tree e.now) (scope_of v.old.bound.items) v.old.next)) }
+    ensures next { OnOk result (v.new.next ≡ v.old.next + suc (binds (tree e.now))) }
+    ensures scope { OnOk result (v.new.bound.items ≡ v.old.bound.items) }
+{
+    let number = v.fresh();
+    let value = normalize_expression(alloc, starts, e, false, v)?;
+    steps.push(Step {
+        variable: Some(number),
+        value,
+    })?;
+    Ok(number)
+}
+
+// The operand for a part. A part that is not simple is bound to a new variable.
+#[cycle(normalizing)]
+#[inline(never)]
+fn normalize_part(
+    alloc: Global,
+    starts: &[u32],
+    e: &Exp,
+    v: &mut Variables,
+    steps: &mut Vec<Step>,
+) -> Result<Operand<u32>, Mem>
+    requires sorted { IsNonDecreasing starts.now }
+    requires labels { LabelsFit (length starts.now) (tree e.now) }
+    requires few { v.old.next + operand_binds (tree e.now) < 2 ^ 32 }
+    ensures operand { IfOk result (λ o. o ≡ operand_at (scope_of v.old.bound.items) (tree e.now) v.old.next) }
+    ensures steps { OnOk result (Adds steps.old.items steps.new.items
+        (part_before starts.now (tree e.now) (scope_of v.old.bound.items) v.old.next)) }
+    ensures next { OnOk result (v.new.next ≡ v.old.next + operand_binds (tree e.now)) }
+    ensures scope { OnOk result (v.new.bound.items ≡ v.old.bound.items) }
+{
+    if is_simple(e) {
+        return simple_operand(alloc, e, v);
+    }
+    let number = normalize_bound(alloc, starts, e, v, steps)?;
+    Ok(Operand::Atom(Atom::Variable(number)))
+}
+
+// The operands for some parts, from left to right.
+#[cycle(normalizing)]
+#[inline(never)]
+fn normalize_operands(
+    alloc: Global,
+    starts: &[u32],
+    es: &List<Exp>,
+    v: &mut Variables,
+    steps: &mut Vec<Step>,
+) -> Result<List<Operand<u32>>, Mem>
+    requires sorted { IsNonDecreasing starts.now }
+    requires labels { LabelsFitEach (length starts.now) (trees_of es.now) }
+    requires few { v.old.next + operands_bind (trees_of es.now) < 2 ^ 32 }
+    ensures operands { IfOk result (λ all. all ≡ operands_at (scope_of v.old.bound.items) (trees_of es.now) v.old.next) }
+    ensures steps { OnOk result (Adds steps.old.items steps.new.items
+        (with_operands starts.now (trees_of es.now) (scope_of v.old.bound.items) v.old.next)) }
+    ensures next { OnOk result (v.new.next ≡ v.old.next + operands_bind (trees_of es.now)) }
+    ensures scope { OnOk result (v.new.bound.items ≡ v.old.bound.items) }
+{
+    let mut all = List::from_vec(Vec::with_capacity(alloc, es.len())?);
+    for e in es.as_slice() {
+        all.push(normalize_part(alloc, starts, e, v, steps)?)?;
+    }
+    Ok(all)
+}
+
+// The variables to which inits are bound, from left to right.
+#[cycle(normalizing)]
+#[inline(never)]
+fn normalize_inits(
+    alloc: Global,
+    starts: &[u32],
+    es: &List<Exp>,
+    v: &mut Variables,
+    steps: &mut Vec<Step>,
+) -> Result<List<u32>, Mem>
+    requires sorted { IsNonDecreasing starts.now }
+    requires labels { LabelsFitEach (length starts.now) (trees_of es.now) }
+    requires few { v.old.next + inits_bind (trees_of es.now) < 2 ^ 32 }
+    ensures numbers { IfOk result (λ all. all ≡ init_numbers (trees_of es.now) v.old.next) }
+    ensures steps { OnOk result (Adds steps.old.items steps.new.items
+        (with_inits starts.now (trees_of es.now) (scope_of v.old.bound.items) v.old.next)) }
+    ensures next { OnOk result (v.new.next ≡ v.old.next + inits_bind (trees_of es.now)) }
+    ensures scope { OnOk result (v.new.bound.items ≡ v.old.bound.items) }
+{
+    let mut all = List::from_vec(Vec::with_capacity(alloc, es.len())?);
+    for e in es.as_slice() {
+        all.push(normalize_bound(alloc, starts, e, v, steps)?)?;
+    }
+    Ok(all)
+}
+
+// A part of a sequence before the last, which is bound where it needs a variable.
+#[cycle(normalizing)]
+#[inline(never)]
+fn normalize_dropped(
+    alloc: Global,
+    starts: &[u32],
+    e: &Exp,
+    v: &mut Variables,
+    steps: &mut Vec<Step>,
+) -> Result<(), Mem>
+    requires sorted { IsNonDecreasing starts.now }
+    requires labels { LabelsFit (length starts.now) (tree e.now) }
+    requires few { v.old.next + cond (specs.needs_variable (tree e.now)) (suc (binds (tree e.now))) (binds (tree e.now)) < 2 ^ 32 }
+    ensures steps { OnOk result (Adds steps.old.items steps.new.items
+        (dropped_before starts.now (tree e.now) (scope_of v.old.bound.items) v.old.next)) }
+    ensures next { OnOk result (v.new.next ≡ v.old.next + cond (specs.needs_variable (tree e.now)) (suc (binds (tree e.now))) (binds (tree e.now))) }
+    ensures scope { OnOk result (v.new.bound.items ≡ v.old.bound.items) }
+{
+    if needs_variable(e) {
+        normalize_bound(alloc, starts, e, v, steps)?;
+        return Ok(());
+    }
+    let value = normalize_expression(alloc, starts, e, false, v)?;
+    steps.push(Step {
+        variable: None,
+        value,
+    })?;
+    Ok(())
+}
+
+// The parts of a sequence. The last is in the context of the whole.
+#[cycle(normalizing)]
+#[inline(never)]
+fn normalize_parts(
+    alloc: Global,
+    starts: &[u32],
+    es: &List<Exp>,
+    tail: bool,
+    v: &mut Variables,
+) -> Result<Box<control::Exp<()>>, Mem>
+    requires sorted { IsNonDecreasing starts.now }
+    requires labels { LabelsFitEach (length starts.now) (trees_of es.now) }
+    requires few { v.old.next + binds_parts (trees_of es.now) < 2 ^ 32 }
+    ensures made { IfOk result (λ q. expression q.value ≡ normal_parts starts.now tail (trees_of es.now) (scope_of v.old.bound.items) v.old.next) }
+    ensures next { OnOk result (v.new.next ≡ v.old.next + binds_parts (trees_of es.now)) }
+    ensures scope { OnOk result (v.new.bound.items ≡ v.old.bound.items) }
+{
+    let items = es.as_slice();
+    let count = items.len();
+    if count == 0 {
+        return read_atom(alloc, tail, Atom::Constant(Const::Unspecified));
+    }
+    let mut steps = Vec::with_capacity(alloc, count - 1)?;
+    for i in 0..count - 1 {
+        normalize_dropped(alloc, starts, &items[i], v, &mut steps)?;
+    }
+    let last = normalize_expression(alloc, starts, &items[count - 1], tail, v)?;
+    put_after(alloc, steps, last)
+}

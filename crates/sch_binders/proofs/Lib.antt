@@ -1,5 +1,0 @@
-pub mod BindingLists
-pub mod NamedLets
-pub mod RowsFall
-pub mod SoundRows
-mod Examples

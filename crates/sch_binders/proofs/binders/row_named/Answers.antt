@@ -1,7 +1,0 @@
-use Rattle.sch_binders.proofs.NamedLets.{named_made}
-use Rattle.sch_binders.proofs.binders.row_named.Goals as goal
-
-pub returns-clause-made : goal.returns-clause-made
-returns-clause-made c =
-    let g = rw c.in-Some-2.is at c.in_ok-names.ensures.form in
-    named_made c.args.scope.now c.args.at c.args.f.now c.in-Some.ensures c.in-Some-items.ensures g.0 g.1 c.in_ok-operator.ensures c.in_ok-made.ensures

@@ -1,0 +1,105 @@
+-- The procedures of a library are those of its drafts, and those that are kept are as sound as all of them.
+use Rattle.std.proofs.Common.{◌≡◌, ◌≤◌, ◌+◌, ◌++◌, ℕ, suc, Bool, true, false, List, [], ◌∷◌, length, Some, None, refl, ap, arith}
+use Rattle.sch_word.specs.trees.Shape.{max_levels}
+use Rattle.sch_lang.specs.Tree.{and_lambda, count_lambdas}
+use Rattle.sch_names.specs.Scope.{is_among}
+use Rattle.sch_sketch.specs.Draft.{Names}
+use Rattle.sch_link_tables.specs.Constants.{HaveConstants}
+use Rattle.sch_link_tables.specs.Named.{library_global, globals_in, globals_in_each, symbols_in, symbols_in_each}
+use Rattle.sch_link_tables.specs.Numbered.{procedures_of, numbered, numbered_each}
+use Rattle.sch_link_tables.specs.Programs.{Definition, with_definition, kept, globals_of_each, symbols_of_each, quotes_of_each, names_of_each, widths_of_definitions, procedures}
+use Rattle.sch_link_tables.specs.Quoted.{quotes_in, quotes_in_each}
+use Rattle.sch_link_tables.specs.Sites.{widths, widths_of_each}
+use Rattle.sch_core.specs.SoundDrafts.{AreProcedures, AreSound, levels_each}
+use Rattle.sch_core.specs.LibraryDefinitions.{procedures_of_each, AreDefinitions}
+use Rattle.sch_sketch.specs.DraftMeasures.{size_each}
+use Rattle.sch_core.specs.SizesOfStatics.{statics_in_each}
+use Rattle.sch_core.specs.Quotable.{AreQuotable, AreBytes}
+use Rattle.sch_core.proofs.sizes.StaticsOfPrograms.{bytes_append, quotable_append}
+
+abbrev pub given : List Definition → Names
+given [] = []
+given (d ∷ ds) = Some d.name ∷ given ds
+
+-- ## As drafts
+
+pub procedures_are : (globals symbols : List (List ℕ)) (ds : List Definition) (s l : ℕ) →
+    procedures globals symbols ds s l ≡ procedures_of (numbered_each [] globals symbols (given ds) (procedures_of_each ds) s l)
+procedures_are globals symbols [] s l = refl
+procedures_are globals symbols (d ∷ ds) s l =
+    ap (λ ls. and_lambda d.name d.formals d.rest (numbered [] globals symbols None d.body s l) ls)
+    (procedures_are globals symbols ds (s + length (widths d.body)) (l + length (quotes_in d.body)))
+
+pub widths_are : (ds : List Definition) → widths_of_each (procedures_of_each ds) ≡ widths_of_definitions ds
+widths_are [] = refl
+widths_are (d ∷ ds) = ap (λ l. widths d.body ++ l) (widths_are ds)
+
+pub quotes_are : (ds : List Definition) → quotes_in_each (procedures_of_each ds) ≡ quotes_of_each ds
+quotes_are [] = refl
+quotes_are (d ∷ ds) = ap (λ l. quotes_in d.body ++ l) (quotes_are ds)
+
+pub globals_are : (ds : List Definition) → globals_in_each [] (procedures_of_each ds) ≡ globals_of_each ds
+globals_are [] = refl
+globals_are (d ∷ ds) = ap (λ l. globals_in [] d.body ++ l) (globals_are ds)
+
+pub symbols_are : (ds : List Definition) → symbols_in_each (procedures_of_each ds) ≡ symbols_of_each ds
+symbols_are [] = refl
+symbols_are (d ∷ ds) = ap (λ l. symbols_in d.body ++ l) (symbols_are ds)
+
+pub all_procedures : (ds : List Definition) → AreProcedures (procedures_of_each ds)
+all_procedures [] = tt
+all_procedures (d ∷ ds) = (tt, all_procedures ds)
+
+pub count_definitions : (globals symbols : List (List ℕ)) (ds : List Definition) (s l : ℕ) → count_lambdas (procedures globals symbols ds s l) ≡ length (names_of_each ds)
+count_definitions globals symbols [] s l = refl
+count_definitions globals symbols (d ∷ ds) s l = ap suc (count_definitions globals symbols ds _ _)
+
+-- ## What is known of each
+
+pub sound_definitions : (ds : List Definition) → AreDefinitions ds → AreSound 0 (procedures_of_each ds)
+sound_definitions [] h = tt
+sound_definitions (d ∷ ds) h = (h.0.0, sound_definitions ds h.1)
+
+pub level_definitions : (ds : List Definition) → AreDefinitions ds → levels_each (procedures_of_each ds) ≤ max_levels
+level_definitions [] h = omega arith
+level_definitions (d ∷ ds) h = omega (arith, h.0.1, level_definitions ds h.1)
+
+pub constant_definitions : (ds : List Definition) → AreDefinitions ds → HaveConstants (procedures_of_each ds)
+constant_definitions [] h = tt
+constant_definitions (d ∷ ds) h = (h.0.2, constant_definitions ds h.1)
+
+pub quotable_definitions : (ds : List Definition) → AreDefinitions ds → AreQuotable (quotes_of_each ds)
+quotable_definitions [] h = tt
+quotable_definitions (d ∷ ds) h = quotable_append (quotes_in d.body) _ h.0.3.0 (quotable_definitions ds h.1)
+
+pub bytes_definitions : (ds : List Definition) → AreDefinitions ds → AreBytes (symbols_of_each ds)
+bytes_definitions [] h = tt
+bytes_definitions (d ∷ ds) h = bytes_append (symbols_in d.body) _ h.0.3.1 (bytes_definitions ds h.1)
+
+-- ## Those that are kept
+
+with_sound : (b : Bool) (d : Definition) (ds : List Definition) → AreDefinitions (d ∷ ds) → AreDefinitions (with_definition b d ds)
+with_sound true d ds h = h
+with_sound false d ds h = h.1
+
+pub kept_sound : (ds : List Definition) (named : List (List ℕ)) → AreDefinitions ds → AreDefinitions (kept ds named)
+kept_sound [] named h = tt
+kept_sound (d ∷ ds) named h = with_sound _ d (kept ds named) (h.0, kept_sound ds named h.1)
+
+with_nodes : (b : Bool) (d : Definition) (ds : List Definition) → size_each (procedures_of_each (with_definition b d ds)) ≤ size_each (procedures_of_each (d ∷ ds))
+with_nodes true d ds = omega arith
+with_nodes false d ds = omega arith
+
+pub kept_nodes : (ds : List Definition) (named : List (List ℕ)) → size_each (procedures_of_each (kept ds named)) ≤ size_each (procedures_of_each ds)
+kept_nodes [] named = omega arith
+kept_nodes (d ∷ ds) named =
+    omega (arith, with_nodes (is_among (library_global d.name) (named ++ globals_of_each (kept ds named))) d (kept ds named), kept_nodes ds named)
+
+with_statics : (b : Bool) (d : Definition) (ds : List Definition) → statics_in_each (procedures_of_each (with_definition b d ds)) ≤ statics_in_each (procedures_of_each (d ∷ ds))
+with_statics true d ds = omega arith
+with_statics false d ds = omega arith
+
+pub kept_statics : (ds : List Definition) (named : List (List ℕ)) → statics_in_each (procedures_of_each (kept ds named)) ≤ statics_in_each (procedures_of_each ds)
+kept_statics [] named = omega arith
+kept_statics (d ∷ ds) named =
+    omega (arith, with_statics (is_among (library_global d.name) (named ++ globals_of_each (kept ds named))) d (kept ds named), kept_statics ds named)

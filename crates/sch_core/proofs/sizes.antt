@@ -1,0 +1,6 @@
+pub mod NodesOfDrafts
+pub mod StaticsOfPrograms
+pub mod StaticsOfDrafts
+pub mod StaticsOfRows
+pub mod StaticsOfSketches
+pub mod ReadDepths

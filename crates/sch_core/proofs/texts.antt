@@ -1,0 +1,3 @@
+pub mod ProgramOfText
+pub mod TextSizes
+pub mod ValidTexts

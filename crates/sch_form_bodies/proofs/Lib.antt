@@ -1,0 +1,6 @@
+pub mod DefinitionsFall
+pub mod SoundDefinitions
+pub mod BodiesFall
+pub mod SoundBodies
+mod DefinitionExamples
+mod BodyExamples

@@ -1,0 +1,4 @@
+pub mod DrawnBody
+pub mod Draws
+pub mod GeneratedText
+pub mod Pieces

@@ -1,9 +1,0 @@
-pub mod HowMany
-pub mod Lists
-pub mod Views
-pub mod Marks
-pub mod MarkSteps
-pub mod FreeLists
-pub mod FreeFound
-pub mod Counted
-pub mod Taken

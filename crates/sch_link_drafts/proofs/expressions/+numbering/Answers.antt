@@ -1,0 +1,146 @@
+use Rattle.std.proofs.Common.{length, map, ap, ◌∙◌, ◌+◌}
+use Rattle.sch_word.specs.values.LiteralView.{literal}
+use Rattle.sch_names.specs.NamesView.{names_of}
+use Rattle.sch_names.specs.ScopeView.{given_names, one_name}
+use Rattle.sch_sketch.specs.DraftView.{draft_of}
+use Rattle.sch_link_tables.specs.Quoted.{literal_of, quotes_in}
+use Rattle.sch_link_tables.proofs.DraftViews.{branch_view, bind_view, letrec_view, call_view, operation_view}
+use Rattle.sch_link_tables.proofs.DraftLists.{width_is}
+use Rattle.sch_link_drafts.proofs.NumberSteps.{sites_more, literals_more, branch_made, bind_made, letrec_made, call_made, operation_made, branch_sites, bind_sites, letrec_sites, call_sites, operation_sites, branch_literals, bind_literals, letrec_literals, call_literals, next_numbered, end_numbered, next_sites, next_literals, next_constants, end_constants, group_is, unless_is, name_is}
+use Rattle.sch_link_drafts.proofs.expressions.+numbering.Goals as goal
+
+pub number-returns-in_ok-number_branch-in-If-clause-made : goal.number-returns-in_ok-number_branch-in-If-clause-made
+number-returns-in_ok-number_branch-in-If-clause-made t c = c.in_ok-number_branch-in-If.ensures.made _
+
+pub number-returns-in_ok-number_let-in-Let-clause-made : goal.number-returns-in_ok-number_let-in-Let-clause-made
+number-returns-in_ok-number_let-in-Let-clause-made t c = c.in_ok-number_let-in-Let.ensures.made _
+
+pub number-returns-in_ok-number_letrec-in-Letrec-clause-made : goal.number-returns-in_ok-number_letrec-in-Letrec-clause-made
+number-returns-in_ok-number_letrec-in-Letrec-clause-made t c = c.in_ok-number_letrec-in-Letrec.ensures.made _
+
+pub number-returns-in_ok-number_call-in-Call-clause-made : goal.number-returns-in_ok-number_call-in-Call-clause-made
+number-returns-in_ok-number_call-in-Call-clause-made t c = c.in_ok-number_call-in-Call.ensures.made _
+
+pub number_branch-returns-clause-made : goal.number_branch-returns-clause-made
+number_branch-returns-clause-made t c = λ v.
+    let f = literal_of (names_of c.args.tables.now.symbols.now) in
+    let out = c.args.out.now in
+    let out1 = c.number.new.out in
+    let out2 = c.number-2.new.out in
+    let a = c.in_ok-a.ensures in
+    let b = c.in_ok-b.ensures in
+    branch_made (names_of c.args.tables.now.own.now) (names_of c.args.tables.now.globals.now) (names_of c.args.tables.now.symbols.now) v (length out.sites) (length out.literals) (length out1.sites) (length out1.literals) (length out2.sites) (length out2.literals)
+    (branch_view _ _ _ c.in-If.is c.deref.ensures c.deref-2.ensures c.deref-3.ensures) c.in_ok-made.ensures a.made (sites_more out.sites _ a.sites) (literals_more f out.literals out1.literals _ a.literals) b.made (sites_more out1.sites _ b.sites) (literals_more f out1.literals out2.literals _ b.literals)
+    c.in_ok-c.ensures.made
+
+pub number_branch-returns-clause-sites : goal.number_branch-returns-clause-sites
+number_branch-returns-clause-sites t c =
+    branch_sites c.args.out.now.sites (branch_view _ _ _ c.in-If.is c.deref.ensures c.deref-2.ensures c.deref-3.ensures) c.in_ok-a.ensures.sites c.in_ok-b.ensures.sites c.in_ok-c.ensures.sites
+
+pub number_branch-returns-clause-literals : goal.number_branch-returns-clause-literals
+number_branch-returns-clause-literals t c =
+    branch_literals (literal_of (names_of c.args.tables.now.symbols.now)) (map literal c.args.out.now.literals) (branch_view _ _ _ c.in-If.is c.deref.ensures c.deref-2.ensures c.deref-3.ensures)
+    c.in_ok-a.ensures.literals c.in_ok-b.ensures.literals c.in_ok-c.ensures.literals
+
+pub number_let-returns-clause-made : goal.number_let-returns-clause-made
+number_let-returns-clause-made t c = λ v.
+    let f = literal_of (names_of c.args.tables.now.symbols.now) in
+    let out = c.args.out.now in
+    let out1 = c.new_site.new.out in
+    let out2 = c.number_each.new.out in
+    let site = c.in_ok-site.ensures in
+    let inits = c.in_ok-inits.ensures in
+    bind_made (names_of c.args.tables.now.own.now) (names_of c.args.tables.now.globals.now) (names_of c.args.tables.now.symbols.now) v (length out.sites) (length out.literals) c.in_ok-site.site (length out1.sites) (length out1.literals) (length out2.sites) (length out2.literals)
+    (bind_view _ _ _ c.in-Let.is c.as_slice.ensures c.as_slice-2.ensures c.deref.ensures) c.in_ok-made.ensures site.number (sites_more out.sites _ site.sites) (ap length site.literals) inits.made (sites_more out1.sites _ inits.sites)
+    (literals_more f out1.literals out2.literals _ inits.literals) c.in_ok-body.ensures.made
+
+pub number_let-returns-clause-sites : goal.number_let-returns-clause-sites
+number_let-returns-clause-sites t c =
+    bind_sites c.args.out.now.sites (bind_view _ _ _ c.in-Let.is c.as_slice.ensures c.as_slice-2.ensures c.deref.ensures) (width_is _ c.len.ensures c.as_slice-2.ensures)
+    c.in_ok-site.ensures.sites c.in_ok-inits.ensures.sites c.in_ok-body.ensures.sites
+
+pub number_let-returns-clause-literals : goal.number_let-returns-clause-literals
+number_let-returns-clause-literals t c =
+    bind_literals (literal_of (names_of c.args.tables.now.symbols.now)) (map literal c.args.out.now.literals) (bind_view _ _ _ c.in-Let.is c.as_slice.ensures c.as_slice-2.ensures c.deref.ensures)
+    (ap (map literal) c.in_ok-site.ensures.literals) c.in_ok-inits.ensures.literals c.in_ok-body.ensures.literals
+
+pub number_letrec-returns-clause-made : goal.number_letrec-returns-clause-made
+number_letrec-returns-clause-made t c = λ v.
+    let f = literal_of (names_of c.args.tables.now.symbols.now) in
+    let out = c.args.out.now in
+    let out1 = c.site_unless.new.out in
+    let out2 = c.number_each.new.out in
+    let site = c.in_ok-site.ensures in
+    let inits = c.in_ok-inits.ensures in
+    letrec_made (names_of c.args.tables.now.own.now) (names_of c.args.tables.now.globals.now) (names_of c.args.tables.now.symbols.now) v (length out.sites) (length out.literals) c.in_ok-site.site (length out1.sites) (length out1.literals) (length out2.sites) (length out2.literals)
+    (letrec_view _ _ _ _ c.in-Letrec.is c.as_slice-2.ensures c.as_slice-3.ensures c.deref-2.ensures) c.in_ok-made.ensures
+    (group_is _ c.in_ok-group.ensures c.as_slice.ensures c.as_slice-3.ensures c.deref.ensures c.deref-2.ensures)
+    site.number (sites_more out.sites _ (unless_is _ out.sites (width_is _ c.len.ensures c.as_slice-3.ensures) site.sites)) (ap length site.literals) inits.made (sites_more out1.sites _ inits.sites) (literals_more f out1.literals out2.literals _ inits.literals) c.in_ok-body.ensures.made
+
+pub number_letrec-returns-clause-sites : goal.number_letrec-returns-clause-sites
+number_letrec-returns-clause-sites t c =
+    letrec_sites c.args.out.now.sites (letrec_view _ _ _ _ c.in-Letrec.is c.as_slice-2.ensures c.as_slice-3.ensures c.deref-2.ensures)
+    (group_is _ c.in_ok-group.ensures c.as_slice.ensures c.as_slice-3.ensures c.deref.ensures c.deref-2.ensures)
+    (width_is _ c.len.ensures c.as_slice-3.ensures) c.in_ok-site.ensures.sites c.in_ok-inits.ensures.sites c.in_ok-body.ensures.sites
+
+pub number_letrec-returns-clause-literals : goal.number_letrec-returns-clause-literals
+number_letrec-returns-clause-literals t c =
+    letrec_literals (literal_of (names_of c.args.tables.now.symbols.now)) (map literal c.args.out.now.literals) (letrec_view _ _ _ _ c.in-Letrec.is c.as_slice-2.ensures c.as_slice-3.ensures c.deref-2.ensures)
+    (ap (map literal) c.in_ok-site.ensures.literals) c.in_ok-inits.ensures.literals c.in_ok-body.ensures.literals
+
+pub number_call-returns-clause-made : goal.number_call-returns-clause-made
+number_call-returns-clause-made t c = λ v.
+    let f = literal_of (names_of c.args.tables.now.symbols.now) in
+    let out = c.args.out.now in
+    let out1 = c.call_site.new.out in
+    let out2 = c.number.new.out in
+    let site = c.in_ok-site.ensures in
+    let operator = c.in_ok-operator.ensures in
+    call_made (names_of c.args.tables.now.own.now) (names_of c.args.tables.now.globals.now) (names_of c.args.tables.now.symbols.now) v (length out.sites) (length out.literals) c.in_ok-site.site (length out1.sites) (length out1.literals) (length out2.sites) (length out2.literals)
+    (call_view _ _ c.in-Call.is c.deref.ensures c.as_slice.ensures) c.in_ok-made.ensures site.number (sites_more out.sites _ site.sites) (ap length site.literals) operator.made (sites_more out1.sites _ operator.sites)
+    (literals_more f out1.literals out2.literals _ operator.literals) c.in_ok-operands.ensures.made
+
+pub number_call-returns-clause-sites : goal.number_call-returns-clause-sites
+number_call-returns-clause-sites t c =
+    call_sites c.args.out.now.sites (call_view _ _ c.in-Call.is c.deref.ensures c.as_slice.ensures) (width_is _ c.len.ensures c.as_slice.ensures)
+    c.in_ok-site.ensures.sites c.in_ok-operator.ensures.sites c.in_ok-operands.ensures.sites
+
+pub number_call-returns-clause-literals : goal.number_call-returns-clause-literals
+number_call-returns-clause-literals t c =
+    call_literals (literal_of (names_of c.args.tables.now.symbols.now)) (map literal c.args.out.now.literals) (call_view _ _ c.in-Call.is c.deref.ensures c.as_slice.ensures)
+    (ap (map literal) c.in_ok-site.ensures.literals) c.in_ok-operator.ensures.literals c.in_ok-operands.ensures.literals
+
+pub number-returns-in_ok-operands-in-Prim-clause-made : goal.number-returns-in_ok-operands-in-Prim-clause-made
+number-returns-in_ok-operands-in-Prim-clause-made t c =
+    let out = c.args.out.now in
+    let out1 = c.new_site.new.out in
+    let site = c.in_ok-site-in-Prim.ensures in
+    operation_made (names_of c.args.tables.now.own.now) (names_of c.args.tables.now.globals.now) (names_of c.args.tables.now.symbols.now) _ (length out.sites) (length out.literals) c.in_ok-site-in-Prim.site (length out1.sites) (length out1.literals)
+    (operation_view _ _ c.in-Prim.is c.as_slice-in-Prim.ensures) c.operation.ensures site.number (sites_more out.sites _ site.sites) (ap length site.literals) c.in_ok-operands-in-Prim.ensures.made
+
+pub number-returns-in_ok-operands-in-Prim-clause-sites : goal.number-returns-in_ok-operands-in-Prim-clause-sites
+number-returns-in_ok-operands-in-Prim-clause-sites t c =
+    operation_sites c.args.out.now.sites (operation_view _ _ c.in-Prim.is c.as_slice-in-Prim.ensures) (width_is _ c.len.ensures c.as_slice-in-Prim.ensures) c.in_ok-site-in-Prim.ensures.sites c.in_ok-operands-in-Prim.ensures.sites
+
+pub number_each-loop-e-preserved : goal.number_each-loop-e-preserved
+number_each-loop-e-preserved t c =
+    let f = literal_of (names_of c.args.tables.now.symbols.now) in
+    let es = c.args.es.now in
+    let i = c.loop-e.e-index in
+    let e = c.e-item.result in
+    let out = c.loop-e.out in
+    let made = c.in_ok-made.ensures in
+    record {
+      place = c.in_ok-next.ensures ∙ ap (λ n. n + 1) c.loop-e.invariant.place;
+      made = rw c.in_ok-push.ensures.ok (next_numbered (names_of c.args.tables.now.own.now) (names_of c.args.tables.now.globals.now) (names_of c.args.tables.now.symbols.now) (given_names c.args.names.now) es i (one_name c.name_at-v.result) e c.loop-e.all c.in_ok-made.made (length out.sites) (length out.literals) _ _ _ c.loop-e-test.true c.e-item.is (name_is c.args.names.now c.name_at-v.ensures c.loop-e.invariant.place) made.made (sites_more out.sites _ made.sites) (literals_more f out.literals _ (quotes_in (draft_of e)) made.literals) c.loop-e.invariant.made);
+      sites = next_sites es i e out.sites _ _ c.loop-e-test.true c.e-item.is made.sites c.loop-e.invariant.sites;
+      literals = next_literals f es i e (map literal out.literals) _ _ c.loop-e-test.true c.e-item.is made.literals c.loop-e.invariant.literals;
+      constants = next_constants es i e c.loop-e-test.true c.e-item.is made.constants c.loop-e.invariant.constants;
+    }
+
+pub number_each-returns-clause-made : goal.number_each-returns-clause-made
+number_each-returns-clause-made t c =
+    end_numbered (names_of c.args.tables.now.own.now) (names_of c.args.tables.now.globals.now) (names_of c.args.tables.now.symbols.now) _ c.args.es.now c.loop-e.e-index c.loop-e.all _ _ _ c.loop-e-test.false c.loop-e.invariant.made
+
+pub number_each-returns-clause-constants : goal.number_each-returns-clause-constants
+number_each-returns-clause-constants t c = end_constants c.args.es.now c.loop-e.e-index c.loop-e-test.false c.loop-e.invariant.constants

@@ -1,0 +1,59 @@
+//! What the globals of a program hold at the start.
+
+ghost use Rattle.std.specs.Prelude.{◌≡◌, IfOk};
+ghost use Rattle.sch_names.specs.NamesView.{names_of, number_of};
+ghost use Rattle.sch_link_tables.specs.Programs as words;
+ghost use Rattle.sch_link_tables.specs.Programs.{names_of_each};
+ghost use Rattle.sch_link_program.specs.Definitions.{definitions_of};
+
+use crate::definition::Definition;
+use sch_link_tables::number_of_32;
+use sch_names::Names;
+use sch_word::{Bytes, List, Mem, add_counts};
+use std::alloc::Global;
+
+/// The number of the procedure of this name: how many there are before it.
+fn procedure_number(definitions: &[Definition<'_>], x: &[u8]) -> Result<u32, Mem>
+    ensures { IfOk result (λ n. n ≡ number_of x.now (names_of_each (definitions_of definitions.now))) }
+{
+    let mut n = 0;
+    for d in definitions {
+        if x == d.name {
+            return number_of_32(n);
+        }
+        let next = add_counts(n, 1)?;
+        n = next;
+    }
+    number_of_32(n)
+}
+
+/// What a global holds at the start: the library's procedure of its name, if it is the library's or holds it.
+fn start_of(definitions: &[Definition<'_>], held: &Names, global: &[u8]) -> Result<Option<u32>, Mem>
+    ensures { IfOk result (λ start. start ≡ words.starts_with (definitions_of definitions.now) (names_of held.now) global.now) }
+{
+    let [mark, x @ ..] = global else {
+        return Ok(None);
+    };
+    if *mark == 0 && !held.contains(x) {
+        return Ok(None);
+    }
+    let n = procedure_number(definitions, x)?;
+    Ok(Some(n))
+}
+
+/// What each global holds at the start.
+pub fn starts(
+    alloc: Global,
+    definitions: &[Definition<'_>],
+    held: &Names,
+    globals: &[Bytes],
+) -> Result<List<Option<u32>>, Mem>
+    ensures { IfOk result (λ all. all ≡ words.starts (definitions_of definitions.now) (names_of held.now) globals.now) }
+{
+    let mut all = List::new(alloc);
+    for global in globals {
+        let start = start_of(definitions, held, global.as_slice())?;
+        all.push(start)?;
+    }
+    Ok(all)
+}

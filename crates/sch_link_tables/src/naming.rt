@@ -1,0 +1,132 @@
+//! The globals and the symbols that drafts name.
+
+ghost use Rattle.std.specs.Prelude.{◌≡◌, OnOk};
+ghost use Rattle.sch_read.specs.Views.{tree_of, data_of};
+ghost use Rattle.sch_names.specs.NamesView.{names_of, with_name};
+ghost use Rattle.sch_sketch.specs.DraftView.{draft_of, drafts_of};
+ghost use Rattle.sch_link_tables.specs.Listed.{IsListed, AreListed};
+ghost use Rattle.sch_link_tables.specs.Named.{firsts, global_of, globals_in, globals_in_each, symbols_in, symbols_in_each, symbols_of_datum, symbols_of_data};
+
+use crate::tables::{Table, Tables, write_global};
+use sch_names::Names;
+use sch_read::{Atom, Datum, Node};
+use sch_sketch::Draft;
+use sch_word::Mem;
+use std::alloc::Global;
+
+/// Adds the symbols in a datum.
+#[cycle(spelling)]
+#[tactic(auto, using(crate::proofs::NameSteps::then_named))]
+fn name_datum(alloc: Global, d: &Datum, symbols: &mut Table) -> Result<(), Mem>
+    ensures names { OnOk result (names_of symbols.new.names ≡ firsts (names_of symbols.old.names) (symbols_of_datum (tree_of d.now))) }
+    ensures listed { OnOk result (IsListed symbols.old → IsListed symbols.new) }
+{
+    match &d.node {
+        Node::Atom(Atom::Symbol(x)) => symbols.insert(alloc, x.as_slice()),
+        Node::Atom(_) => Ok(()),
+        Node::List(items, None) => name_data(alloc, items.as_slice(), symbols),
+        Node::List(items, Some(last)) => {
+            name_data(alloc, items.as_slice(), symbols)?;
+            name_datum(alloc, last, symbols)?;
+            Ok(())
+        }
+        Node::Vector(items) => name_data(alloc, items.as_slice(), symbols),
+    }
+}
+
+/// Adds the symbols in data.
+#[cycle(spelling)]
+fn name_data(alloc: Global, items: &[Datum], symbols: &mut Table) -> Result<(), Mem>
+    ensures names { OnOk result (names_of symbols.new.names ≡ firsts (names_of symbols.old.names) (symbols_of_data (data_of items.now))) }
+    ensures listed { OnOk result (IsListed symbols.old → IsListed symbols.new) }
+{
+    for d in items {
+        name_datum(alloc, d, symbols)?;
+    }
+    Ok(())
+}
+
+/// Adds a global.
+fn name_global(alloc: Global, own: &Names, x: &[u8], tables: &mut Tables) -> Result<(), Mem>
+    ensures globals { OnOk result (names_of tables.new.globals.names
+        ≡ with_name (global_of (names_of own.now) x.now) (names_of tables.old.globals.names)) }
+    ensures symbols { OnOk result (tables.new.symbols ≡ tables.old.symbols) }
+    ensures listed { OnOk result (IsListed tables.old.globals → IsListed tables.new.globals) }
+{
+    write_global(own, x, &mut tables.key)?;
+    tables.globals.insert(alloc, tables.key.as_slice())?;
+    Ok(())
+}
+
+/// Adds the globals and the symbols that a draft names, in a text that has these globals of its own.
+#[cycle(naming)]
+pub fn name_draft(alloc: Global, own: &Names, e: &Draft<'_>, tables: &mut Tables) -> Result<(), Mem>
+    ensures globals { OnOk result (names_of tables.new.globals.names
+        ≡ firsts (names_of tables.old.globals.names) (globals_in (names_of own.now) (draft_of e.now))) }
+    ensures symbols { OnOk result (names_of tables.new.symbols.names
+        ≡ firsts (names_of tables.old.symbols.names) (symbols_in (draft_of e.now))) }
+    ensures listed { OnOk result (AreListed tables.old → AreListed tables.new) }
+{
+    match e {
+        Draft::Constant(_) => Ok(()),
+        Draft::Symbol(x) => tables.symbols.insert(alloc, x),
+        Draft::Literal(d) => name_datum(alloc, d, &mut tables.symbols),
+        Draft::Local(_) => Ok(()),
+        Draft::Global(x) => name_global(alloc, own, x, tables),
+        Draft::SetLocal(_, e) => name_draft(alloc, own, e, tables),
+        Draft::SetGlobal(x, e) => {
+            name_global(alloc, own, x, tables)?;
+            name_draft(alloc, own, e, tables)?;
+            Ok(())
+        }
+        Draft::Define(x, e) => {
+            name_global(alloc, own, x, tables)?;
+            name_draft(alloc, own, e, tables)?;
+            Ok(())
+        }
+        Draft::If(a, b, c) => {
+            name_draft(alloc, own, a, tables)?;
+            name_draft(alloc, own, b, tables)?;
+            name_draft(alloc, own, c, tables)?;
+            Ok(())
+        }
+        Draft::Seq(es) => name_each(alloc, own, es.as_slice(), tables),
+        Draft::Let(_, es, e) => {
+            name_each(alloc, own, es.as_slice(), tables)?;
+            name_draft(alloc, own, e, tables)?;
+            Ok(())
+        }
+        Draft::Letrec(_, _, es, e) => {
+            name_each(alloc, own, es.as_slice(), tables)?;
+            name_draft(alloc, own, e, tables)?;
+            Ok(())
+        }
+        Draft::Lambda(_, _, e) => name_draft(alloc, own, e, tables),
+        Draft::Call(f, es) => {
+            name_draft(alloc, own, f, tables)?;
+            name_each(alloc, own, es.as_slice(), tables)?;
+            Ok(())
+        }
+        Draft::Prim(_, es) => name_each(alloc, own, es.as_slice(), tables),
+    }
+}
+
+/// Adds the globals and the symbols that drafts name.
+#[cycle(naming)]
+pub fn name_each(
+    alloc: Global,
+    own: &Names,
+    es: &[Draft<'_>],
+    tables: &mut Tables,
+) -> Result<(), Mem>
+    ensures globals { OnOk result (names_of tables.new.globals.names
+        ≡ firsts (names_of tables.old.globals.names) (globals_in_each (names_of own.now) (drafts_of es.now))) }
+    ensures symbols { OnOk result (names_of tables.new.symbols.names
+        ≡ firsts (names_of tables.old.symbols.names) (symbols_in_each (drafts_of es.now))) }
+    ensures listed { OnOk result (AreListed tables.old → AreListed tables.new) }
+{
+    for e in es {
+        name_draft(alloc, own, e, tables)?;
+    }
+    Ok(())
+}

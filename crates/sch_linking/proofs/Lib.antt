@@ -1,5 +1,0 @@
-pub mod ProgramSize
-pub mod ProgramConstants
-pub mod ProgramMade
-pub mod DefinitionSteps
-mod Examples

@@ -1,3 +1,0 @@
-pub mod PartsView
-pub mod Ranged
-pub mod Size

@@ -1,3 +1,0 @@
-pub mod ObjectParts
-pub mod ObjectWords
-pub mod PlacedWords

@@ -1,4 +1,0 @@
-pub mod LoopSteps
-pub mod RowsFall
-pub mod SoundRows
-mod Examples

@@ -1,6 +1,0 @@
-//! From drafts to expressions: the walk that numbers a draft.
-#![tactic(auto)]
-
-mod expressions;
-
-pub use expressions::{Numbers, number, number_each};

@@ -1,8 +1,0 @@
-use Rattle.std.proofs.Common.{◌≡◌, drop}
-use Rattle.sch_limits.specs.Walked.{marked}
-use Rattle.sch_sketch.specs.DraftView.{drafts_of}
-use Rattle.sch_numbers.specs.Assigned.{assigns_each}
-use Rattle.sch_numbers.proofs.assigned.+marking.Given as goal
-
-abbrev pub invariant-mark_each-loop-e : goal.invariant-mark_each-loop-e
-invariant-mark_each-loop-e l = marked (assigns_each (drafts_of (drop l.e-index l.es))) l.from l.marks ≡ marked (assigns_each (drafts_of l.es)) l.from l.initial.marks

@@ -1,2 +1,0 @@
-pub mod ScopeTables
-pub mod Lists

@@ -1,6 +1,0 @@
-use Rattle.std.proofs.Common.{◌≡◌, ◌++◌, drop, map}
-use Rattle.sch_normal.specs.Normal.{new_label}
-use Rattle.sch_operands.proofs.operands.new_labels.Given as goal
-
-abbrev pub invariant-loop-label : goal.invariant-loop-label
-invariant-loop-label l = record { made : l.all ++ map (new_label l.starts) (drop l.label-index l.labels) ≡ map (new_label l.starts) l.labels }

@@ -1,9 +1,0 @@
-use Rattle.std.proofs.Common.{◌∙◌, sym}
-use Rattle.std.proofs.lemmas.Simd.{map-map}
-use Rattle.sch_flat.specs.View.{used}
-use Rattle.sch_normal.specs.Normal.{source_of}
-use Rattle.sch_operands.specs.ScopeTable.{scope_of}
-use Rattle.sch_operands.proofs.operands.sources_of.Goals as goal
-
-pub returns : goal.returns
-returns c = c.from_vec.ensures ∙ c.in_ok-all.ensures ∙ sym (map-map (source_of (scope_of c.args.v.now.bound.items)) used c.args.xs.now)

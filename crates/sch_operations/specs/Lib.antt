@@ -1,4 +1,0 @@
-pub mod CellCode
-pub mod ClosureCode
-pub mod OperationCode
-pub mod CallCode

@@ -1,2 +1,0 @@
-pub mod simulation
-pub mod lists

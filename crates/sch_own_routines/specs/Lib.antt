@@ -1,4 +1,0 @@
-pub mod PutCode
-pub mod MakeCode
-pub mod RestCode
-pub mod OwnCode

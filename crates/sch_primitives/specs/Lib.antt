@@ -1,4 +1,0 @@
-pub mod ArithmeticCode
-pub mod ObjectCode
-pub mod OperandCode
-pub mod PrimitiveCode

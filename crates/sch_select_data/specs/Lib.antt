@@ -1,0 +1,5 @@
+pub mod NameWords
+pub mod Data
+pub mod ObjectParts
+pub mod ObjectWords
+pub mod PlacedWords

@@ -1,0 +1,10 @@
+pub mod heap
+pub mod Straight
+pub mod Places
+pub mod HeapWrites
+pub mod Changes
+pub mod StoredNames
+pub mod simulation
+pub mod lists
+mod RegisterNames
+mod WordRows

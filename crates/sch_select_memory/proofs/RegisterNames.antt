@@ -1,0 +1,34 @@
+-- What compiled code uses each register for, in the names of the instructions (Intel SDM, volume 2, section 3.1.1.1).
+use Rattle.std.proofs.Common.{◌≡◌, ℕ, List, [], ◌∷◌, refl, sym, ap}
+use Rattle.std.specs.Prelude.{◌||◌, ◌==◌}
+use Rattle.sch_word.specs.declared.registers.TheConstants.{CLOSURE_REGISTER, DEPTH_REGISTER, FRAME_REGISTER, HEAP_REGISTER, LINK_REGISTER, SCRATCH_REGISTERS}
+use Rattle.sch_word.specs.trees.NumberSets.{has}
+use Rattle.sch_word.specs.values.Registers.{argument_registers}
+use Rattle.sch_word.proofs.facts.Booleans.{or_false}
+use Rattle.sch_insn.specs.declared.register.TheConstants.{RAX, RCX, RDX, RBX, RBP, RSI, RDI, R8, R9, R10, R11, R12, R13, R14, R15}
+use Rattle.sch_asm.specs.Effects.{is_scratch}
+
+arguments_are : argument_registers ≡ RBX ∷ R8 ∷ R9 ∷ R10 ∷ RSI ∷ RDI ∷ []
+arguments_are = refl
+
+frame_is : FRAME_REGISTER ≡ RBP
+frame_is = refl
+
+heap_is : HEAP_REGISTER ≡ R12
+heap_is = refl
+
+depth_is : DEPTH_REGISTER ≡ R13
+depth_is = refl
+
+closure_is : CLOSURE_REGISTER ≡ R14
+closure_is = refl
+
+link_is : LINK_REGISTER ≡ R15
+link_is = refl
+
+scratch_are : SCRATCH_REGISTERS ≡ RAX ∷ RCX ∷ RDX ∷ R11 ∷ []
+scratch_are = refl
+
+-- routines may overwrite what an instruction of a body may
+scratch_of_routines : (r : ℕ) → has r SCRATCH_REGISTERS ≡ is_scratch r
+scratch_of_routines r = ap (λ b. (r == RAX) || ((r == RCX) || ((r == RDX) || b))) (or_false (r == R11))

@@ -1,0 +1,11 @@
+pub mod Parts
+pub mod Encoded
+pub mod Heap
+pub mod Addresses
+pub mod StaticBytes
+pub mod Names
+pub mod Checks
+pub mod PutCode
+pub mod MakeCode
+pub mod RestCode
+pub mod OwnCode

@@ -1,0 +1,40 @@
+//! The routine that makes vectors.
+
+ghost use Rattle.std.specs.Prelude.{◌≡◌, ◌++◌, OnOk, List};
+ghost use Rattle.sch_asm.specs.declared.item.Item.{Item};
+ghost use Rattle.sch_select_memory.specs.MakeCode.{make_vector_code};
+
+use crate::addresses::{immediate, stop};
+use crate::value_words::word::{FIXNUM_SHIFT, TAG_MASK};
+use sch_asm::{Item, Routine};
+use sch_insn::condition::{A, L, NE};
+use sch_insn::register::{R12, RAX, RDX};
+use sch_insn::{Arg, Insn};
+use sch_word::{List, Mem, Stop};
+
+/// The routine that makes a vector, but for its tag. It returns through R11.
+pub(crate) fn vector_routine(out: &mut List<Item>, heap_end: u32) -> Result<(), Mem>
+    ensures { OnOk result ((rest : List Item) → out.new ++ rest ≡ out.old ++ make_vector_code heap_end rest) }
+{
+    let end = immediate(heap_end)?;
+    out.extend_from_slice(&[
+        Item::Plain(Insn::MovTo(Arg::Reg(RDX), RAX)),
+        Item::Plain(Insn::AndNumber(Arg::Reg(RDX), TAG_MASK)),
+        Item::JumpIf(NE, stop(Stop::WrongType)),
+        Item::Plain(Insn::CmpNumber(Arg::Reg(RAX), 0)),
+        Item::JumpIf(L, stop(Stop::OutOfRange)),
+        Item::Plain(Insn::MovTo(Arg::Reg(RDX), RAX)),
+        Item::Plain(Insn::AddNumber(Arg::Reg(RDX), 23)),
+        Item::Plain(Insn::Shr(Arg::Reg(RDX), 4)),
+        Item::Plain(Insn::Shl(Arg::Reg(RDX), 4)),
+        Item::Plain(Insn::AddTo(Arg::Reg(RDX), R12)),
+        Item::Plain(Insn::CmpNumber(Arg::Reg(RDX), end)),
+        Item::JumpIf(A, stop(Stop::HeapLimit)),
+        Item::Plain(Insn::MovTo(Arg::Base32(R12, 0), RAX)),
+        Item::Plain(Insn::MovTo(Arg::Reg(RDX), RAX)),
+        Item::Plain(Insn::Shr(Arg::Reg(RDX), FIXNUM_SHIFT)),
+        Item::Plain(Insn::MovTo(Arg::Reg(RAX), R12)),
+        Item::Plain(Insn::AddNumber(Arg::Reg(RAX), 8)),
+        Item::Jump(Routine::FillWords.label()),
+    ])
+}

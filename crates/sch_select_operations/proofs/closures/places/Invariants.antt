@@ -1,0 +1,10 @@
+use Rattle.std.proofs.Common.{◌≡◌, ◌++◌, List, drop}
+use Rattle.sch_asm.specs.declared.item.Item.{Item}
+use Rattle.sch_select_operations.specs.ClosureCode.{places_code}
+use Rattle.sch_select_operations.proofs.closures.places.Given as goal
+
+abbrev pub invariant-loop-m : goal.invariant-loop-m
+invariant-loop-m l = record {
+  items : (rest : List Item) → l.out ++ places_code l.next (drop l.m-index l.members) rest ≡ l.initial.out ++
+      places_code l.offset l.members rest;
+}

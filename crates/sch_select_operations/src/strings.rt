@@ -1,0 +1,139 @@
+//! The items of strings and of the names of symbols.
+
+ghost use Rattle.std.specs.Prelude.{◌≡◌, ◌++◌, OnOk, List};
+ghost use Rattle.sch_asm.specs.declared.item.Item.{Item};
+ghost use Rattle.sch_select_memory.specs.Encoded.{string_tag};
+ghost use Rattle.sch_select_operations.specs.ObjectCode.{length_code, string_code, string_ref_code, string_set_code, symbol_length_code};
+ghost use Rattle.sch_select_operations.specs.ObjectCode.{symbol_ref_code};
+ghost use Rattle.sch_select_memory.specs.Checks.{string_length};
+
+use sch_asm::Item;
+use sch_insn::condition::{AE, NE};
+use sch_insn::register::{R11, R12, RAX, RCX, RDX};
+use sch_insn::{Arg, Insn};
+use sch_select_memory::addresses::{STRING_LABEL, TABLE_ADDRESS, stop};
+use sch_select_memory::word::{
+    BYTE_MASK, CHARACTER, CHARACTER_SHIFT, FIXNUM_SHIFT, STRING, SYMBOL, TAG_MASK, UNSPECIFIED,
+};
+use sch_word::{List, Mem, Stop};
+
+/// The length of the string in RAX.
+pub(crate) fn string_length(out: &mut List<Item>) -> Result<(), Mem>
+    ensures { OnOk result ((rest : List Item) → out.new ++ rest ≡ out.old ++ length_code string_tag string_length rest) }
+{
+    out.extend_from_slice(&[
+        Item::Plain(Insn::MovTo(Arg::Reg(RDX), RAX)),
+        Item::Plain(Insn::AndNumber(Arg::Reg(RDX), TAG_MASK)),
+        Item::Plain(Insn::CmpNumber(Arg::Reg(RDX), STRING)),
+        Item::JumpIf(NE, stop(Stop::WrongType)),
+        Item::Plain(Insn::MovFrom(RAX, Arg::Base32(RAX, -3))),
+    ])
+}
+
+/// The character of the string in RAX at the index in RCX.
+pub(crate) fn string_ref(out: &mut List<Item>) -> Result<(), Mem>
+    ensures { OnOk result ((rest : List Item) → out.new ++ rest ≡ out.old ++ string_ref_code rest) }
+{
+    out.extend_from_slice(&[
+        Item::Plain(Insn::MovTo(Arg::Reg(RDX), RAX)),
+        Item::Plain(Insn::AndNumber(Arg::Reg(RDX), TAG_MASK)),
+        Item::Plain(Insn::CmpNumber(Arg::Reg(RDX), STRING)),
+        Item::JumpIf(NE, stop(Stop::WrongType)),
+        Item::Plain(Insn::MovTo(Arg::Reg(RDX), RCX)),
+        Item::Plain(Insn::AndNumber(Arg::Reg(RDX), TAG_MASK)),
+        Item::JumpIf(NE, stop(Stop::WrongType)),
+        Item::Plain(Insn::CmpFrom(RCX, Arg::Base32(RAX, -3))),
+        Item::JumpIf(AE, stop(Stop::OutOfRange)),
+        Item::Plain(Insn::Shr(Arg::Reg(RCX), FIXNUM_SHIFT)),
+        Item::Plain(Insn::AddTo(Arg::Reg(RAX), RCX)),
+        Item::Plain(Insn::LoadByte(RAX, Arg::Base32(RAX, 5))),
+        Item::Plain(Insn::Shl(Arg::Reg(RAX), CHARACTER_SHIFT)),
+        Item::Plain(Insn::AddNumber(Arg::Reg(RAX), CHARACTER)),
+    ])
+}
+
+/// The character of the string in RAX at the index in RCX becomes R11.
+pub(crate) fn set_string(out: &mut List<Item>) -> Result<(), Mem>
+    ensures { OnOk result ((rest : List Item) → out.new ++ rest ≡ out.old ++ string_set_code rest) }
+{
+    out.extend_from_slice(&[
+        Item::Plain(Insn::MovTo(Arg::Reg(RDX), RAX)),
+        Item::Plain(Insn::AndNumber(Arg::Reg(RDX), TAG_MASK)),
+        Item::Plain(Insn::CmpNumber(Arg::Reg(RDX), STRING)),
+        Item::JumpIf(NE, stop(Stop::WrongType)),
+        Item::Plain(Insn::MovTo(Arg::Reg(RDX), RCX)),
+        Item::Plain(Insn::AndNumber(Arg::Reg(RDX), TAG_MASK)),
+        Item::JumpIf(NE, stop(Stop::WrongType)),
+        Item::Plain(Insn::MovTo(Arg::Reg(RDX), R11)),
+        Item::Plain(Insn::AndNumber(Arg::Reg(RDX), BYTE_MASK)),
+        Item::Plain(Insn::CmpNumber(Arg::Reg(RDX), CHARACTER)),
+        Item::JumpIf(NE, stop(Stop::WrongType)),
+        Item::Plain(Insn::CmpFrom(RCX, Arg::Base32(RAX, -3))),
+        Item::JumpIf(AE, stop(Stop::OutOfRange)),
+        Item::Plain(Insn::Shr(Arg::Reg(RCX), FIXNUM_SHIFT)),
+        Item::Plain(Insn::AddTo(Arg::Reg(RAX), RCX)),
+        Item::Plain(Insn::Shr(Arg::Reg(R11), CHARACTER_SHIFT)),
+        Item::Plain(Insn::StoreByte(Arg::Base32(RAX, 5), R11)),
+        Item::Plain(Insn::MovNumber(Arg::Reg(RAX), UNSPECIFIED)),
+    ])
+}
+
+/// The length of the name of the symbol in RAX.
+pub(crate) fn symbol_length(out: &mut List<Item>) -> Result<(), Mem>
+    ensures { OnOk result ((rest : List Item) → out.new ++ rest ≡ out.old ++ symbol_length_code rest) }
+{
+    out.extend_from_slice(&[
+        Item::Plain(Insn::MovTo(Arg::Reg(RDX), RAX)),
+        Item::Plain(Insn::AndNumber(Arg::Reg(RDX), TAG_MASK)),
+        Item::Plain(Insn::CmpNumber(Arg::Reg(RDX), SYMBOL)),
+        Item::JumpIf(NE, stop(Stop::WrongType)),
+        Item::LoadWord(RDX, TABLE_ADDRESS),
+        Item::Plain(Insn::AddTo(Arg::Reg(RAX), RDX)),
+        Item::Plain(Insn::MovFrom(RAX, Arg::Base32(RAX, -5))),
+        Item::Plain(Insn::MovFrom(RAX, Arg::Base32(RAX, 0))),
+    ])
+}
+
+/// The character of the name of the symbol in RAX at the index in RCX.
+pub(crate) fn symbol_ref(out: &mut List<Item>) -> Result<(), Mem>
+    ensures { OnOk result ((rest : List Item) → out.new ++ rest ≡ out.old ++ symbol_ref_code rest) }
+{
+    out.extend_from_slice(&[
+        Item::Plain(Insn::MovTo(Arg::Reg(RDX), RAX)),
+        Item::Plain(Insn::AndNumber(Arg::Reg(RDX), TAG_MASK)),
+        Item::Plain(Insn::CmpNumber(Arg::Reg(RDX), SYMBOL)),
+        Item::JumpIf(NE, stop(Stop::WrongType)),
+        Item::LoadWord(RDX, TABLE_ADDRESS),
+        Item::Plain(Insn::AddTo(Arg::Reg(RAX), RDX)),
+        Item::Plain(Insn::MovFrom(RAX, Arg::Base32(RAX, -5))),
+        Item::Plain(Insn::MovTo(Arg::Reg(RDX), RCX)),
+        Item::Plain(Insn::AndNumber(Arg::Reg(RDX), TAG_MASK)),
+        Item::JumpIf(NE, stop(Stop::WrongType)),
+        Item::Plain(Insn::CmpFrom(RCX, Arg::Base32(RAX, 0))),
+        Item::JumpIf(AE, stop(Stop::OutOfRange)),
+        Item::Plain(Insn::Shr(Arg::Reg(RCX), FIXNUM_SHIFT)),
+        Item::Plain(Insn::AddTo(Arg::Reg(RAX), RCX)),
+        Item::Plain(Insn::LoadByte(RAX, Arg::Base32(RAX, 8))),
+        Item::Plain(Insn::Shl(Arg::Reg(RAX), CHARACTER_SHIFT)),
+        Item::Plain(Insn::AddNumber(Arg::Reg(RAX), CHARACTER)),
+    ])
+}
+
+/// A new string, with its length in RAX and its characters in RCX. The label is its own.
+pub(crate) fn make_string(out: &mut List<Item>, n: u32) -> Result<(), Mem>
+    ensures { OnOk result ((rest : List Item) → out.new ++ rest ≡ out.old ++ string_code n rest) }
+{
+    out.extend_from_slice(&[
+        Item::LoadLabel(R11, n),
+        Item::Jump(STRING_LABEL),
+        Item::Label(n),
+        Item::Plain(Insn::MovFrom(RDX, Arg::Base32(R12, 0))),
+        Item::Plain(Insn::Shr(Arg::Reg(RDX), FIXNUM_SHIFT)),
+        Item::Plain(Insn::AddNumber(Arg::Reg(RDX), 23)),
+        Item::Plain(Insn::Shr(Arg::Reg(RDX), 4)),
+        Item::Plain(Insn::Shl(Arg::Reg(RDX), 4)),
+        Item::Plain(Insn::MovTo(Arg::Reg(RAX), R12)),
+        Item::Plain(Insn::AddNumber(Arg::Reg(RAX), STRING)),
+        Item::Plain(Insn::AddTo(Arg::Reg(R12), RDX)),
+    ])
+}

@@ -1,0 +1,84 @@
+//! The items of vectors.
+
+ghost use Rattle.std.specs.Prelude.{◌≡◌, ◌++◌, OnOk, List};
+ghost use Rattle.sch_asm.specs.declared.item.Item.{Item};
+ghost use Rattle.sch_select_memory.specs.Encoded.{vector_tag};
+ghost use Rattle.sch_select_operations.specs.ObjectCode.{length_code, vector_code, vector_length, vector_ref_code, vector_set_code};
+
+use sch_asm::Item;
+use sch_insn::condition::{AE, NE};
+use sch_insn::register::{R11, R12, RAX, RCX, RDX};
+use sch_insn::{Arg, Insn};
+use sch_select_memory::addresses::{VECTOR_LABEL, stop};
+use sch_select_memory::word::{TAG_MASK, UNSPECIFIED, VECTOR};
+use sch_word::{List, Mem, Stop};
+
+/// The length of the vector in RAX.
+pub(crate) fn vector_length(out: &mut List<Item>) -> Result<(), Mem>
+    ensures { OnOk result ((rest : List Item) → out.new ++ rest ≡ out.old ++ length_code vector_tag vector_length rest) }
+{
+    out.extend_from_slice(&[
+        Item::Plain(Insn::MovTo(Arg::Reg(RDX), RAX)),
+        Item::Plain(Insn::AndNumber(Arg::Reg(RDX), TAG_MASK)),
+        Item::Plain(Insn::CmpNumber(Arg::Reg(RDX), VECTOR)),
+        Item::JumpIf(NE, stop(Stop::WrongType)),
+        Item::Plain(Insn::MovFrom(RAX, Arg::Base32(RAX, -2))),
+    ])
+}
+
+/// The element of the vector in RAX at the index in RCX.
+pub(crate) fn vector_ref(out: &mut List<Item>) -> Result<(), Mem>
+    ensures { OnOk result ((rest : List Item) → out.new ++ rest ≡ out.old ++ vector_ref_code rest) }
+{
+    out.extend_from_slice(&[
+        Item::Plain(Insn::MovTo(Arg::Reg(RDX), RAX)),
+        Item::Plain(Insn::AndNumber(Arg::Reg(RDX), TAG_MASK)),
+        Item::Plain(Insn::CmpNumber(Arg::Reg(RDX), VECTOR)),
+        Item::JumpIf(NE, stop(Stop::WrongType)),
+        Item::Plain(Insn::MovTo(Arg::Reg(RDX), RCX)),
+        Item::Plain(Insn::AndNumber(Arg::Reg(RDX), TAG_MASK)),
+        Item::JumpIf(NE, stop(Stop::WrongType)),
+        Item::Plain(Insn::CmpFrom(RCX, Arg::Base32(RAX, -2))),
+        Item::JumpIf(AE, stop(Stop::OutOfRange)),
+        Item::Plain(Insn::AddTo(Arg::Reg(RAX), RCX)),
+        Item::Plain(Insn::MovFrom(RAX, Arg::Base32(RAX, 6))),
+    ])
+}
+
+/// The element of the vector in RAX at the index in RCX becomes R11.
+pub(crate) fn set_vector(out: &mut List<Item>) -> Result<(), Mem>
+    ensures { OnOk result ((rest : List Item) → out.new ++ rest ≡ out.old ++ vector_set_code rest) }
+{
+    out.extend_from_slice(&[
+        Item::Plain(Insn::MovTo(Arg::Reg(RDX), RAX)),
+        Item::Plain(Insn::AndNumber(Arg::Reg(RDX), TAG_MASK)),
+        Item::Plain(Insn::CmpNumber(Arg::Reg(RDX), VECTOR)),
+        Item::JumpIf(NE, stop(Stop::WrongType)),
+        Item::Plain(Insn::MovTo(Arg::Reg(RDX), RCX)),
+        Item::Plain(Insn::AndNumber(Arg::Reg(RDX), TAG_MASK)),
+        Item::JumpIf(NE, stop(Stop::WrongType)),
+        Item::Plain(Insn::CmpFrom(RCX, Arg::Base32(RAX, -2))),
+        Item::JumpIf(AE, stop(Stop::OutOfRange)),
+        Item::Plain(Insn::AddTo(Arg::Reg(RAX), RCX)),
+        Item::Plain(Insn::MovTo(Arg::Base32(RAX, 6), R11)),
+        Item::Plain(Insn::MovNumber(Arg::Reg(RAX), UNSPECIFIED)),
+    ])
+}
+
+/// A new vector, with its length in RAX and its elements in RCX. The label is its own.
+pub(crate) fn make_vector(out: &mut List<Item>, n: u32) -> Result<(), Mem>
+    ensures { OnOk result ((rest : List Item) → out.new ++ rest ≡ out.old ++ vector_code n rest) }
+{
+    out.extend_from_slice(&[
+        Item::LoadLabel(R11, n),
+        Item::Jump(VECTOR_LABEL),
+        Item::Label(n),
+        Item::Plain(Insn::MovFrom(RDX, Arg::Base32(R12, 0))),
+        Item::Plain(Insn::AddNumber(Arg::Reg(RDX), 23)),
+        Item::Plain(Insn::Shr(Arg::Reg(RDX), 4)),
+        Item::Plain(Insn::Shl(Arg::Reg(RDX), 4)),
+        Item::Plain(Insn::MovTo(Arg::Reg(RAX), R12)),
+        Item::Plain(Insn::AddNumber(Arg::Reg(RAX), VECTOR)),
+        Item::Plain(Insn::AddTo(Arg::Reg(R12), RDX)),
+    ])
+}

@@ -1,0 +1,3 @@
+pub mod WordSets
+pub mod Membership
+mod Examples

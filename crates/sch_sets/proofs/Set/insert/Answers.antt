@@ -1,0 +1,9 @@
+use Rattle.std.proofs.Common.{arith, length, ◌/◌, ◌<◌, ap, ◌∙◌}
+use Rattle.std.specs.FinSet as fin
+use Rattle.sch_sets.proofs.WordSets.{numbers_in-insert}
+use Rattle.sch_sets.proofs.Set.insert.Goals as goal
+
+pub returns : goal.returns
+returns g c =
+    let within : c.args.v / 64 < length c.self.inside.words = omega arith in
+    numbers_in-insert c.self.inside.words c.args.v within ∙ ap (λ s. fin.insert s c.args.v) c.self.view_is

@@ -1,0 +1,11 @@
+use Rattle.std.proofs.Common.{◌≡◌, ◌<◌, ◌-◌, ◌^◌, ℕ, length, get_or}
+use Rattle.std.specs.Prelude.{bit_and}
+use Rattle.sch_sets.proofs.Set.minus.Given as goal
+
+abbrev pub invariant-words : goal.invariant-words
+invariant-words g l = record {
+  size : length l.words ≡ g.row.N;
+  fits : (j : ℕ) → j < l.i → get_or l.other-inside.words j 0 < 2 ^ 64;
+  written : (j : ℕ) → j < l.i
+      → get_or l.words j 0 ≡ bit_and (get_or l.self-inside.words j 0) (2 ^ 64 - 1 - get_or l.other-inside.words j 0);
+}

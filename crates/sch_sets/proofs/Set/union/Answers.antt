@@ -1,0 +1,18 @@
+use Rattle.std.proofs.Common.{arith, get_or}
+use Rattle.std.proofs.Math.ListN.{length-set}
+use Rattle.std.specs.Prelude.{bit_or}
+use Rattle.sch_sets.proofs.WordSets.{numbers_in-union, word_written}
+use Rattle.sch_sets.proofs.Set.union.Goals as goal
+
+pub returns : goal.returns
+returns g c =
+    rw (← c.self.view_is, ← c.other.view_is)
+    (numbers_in-union g.row.N _ _ _ (omega arith) (omega arith) (omega arith) (λ j h. c.words.invariant.written j (omega arith)))
+
+pub words-preserved : goal.words-preserved
+words-preserved g c = record {
+  size = simp length-set (omega arith);
+  written =
+      word_written (λ j. bit_or (get_or c.self.inside.words j 0) (get_or c.other.inside.words j 0)) c.words.words c.words.i (omega arith)
+      c.words.invariant.written;
+}

@@ -1,0 +1,302 @@
+-- Where arguments are plain places and none can go straight, all stand in cycles.
+use Rattle.std.proofs.Common.{◌≡◌, ◌≢◌, ℕ, zero, suc, ◌+◌, ◌-◌, ◌<◌, ◌≤◌, Bool, true, false, cond, List, [], ◌∷◌, ◌++◌, length, map, refl, ap, sym, ◌∙◌, arith, inl, inr, ◌⊎◌, get_or}
+use Rattle.std.specs.Prelude.{◌&&◌, not, nat_eq, nat_lt}
+use Rattle.std.proofs.lemmas.Bool.{cases_eq, eq-eqb, ne_eqb, cases_Bool}
+use Rattle.std.proofs.lemmas.Bool.Decides.{nat_tests}
+use Rattle.std.proofs.lemmas.List.{length-map, get_or-map}
+use Rattle.std.proofs.Math.Bool.{or-true}
+use Rattle.sch_word.specs.trees.Bindings.{numbers}
+use Rattle.sch_word.specs.declared.place.Place.{Place}
+use Rattle.sch_word.proofs.facts.NumberSets.{numbers_length}
+use Rattle.sch_shuffle.specs.declared.choice.Choice.{Choice}
+use Rattle.sch_shuffle.specs.declared.choice.Choice.TheVariants.{Direct, Aside}
+use Rattle.sch_shuffle.specs.Tree.{Tree, place, fixed, literal, read, uses}
+use Rattle.sch_shuffle.specs.Assignment.{operand_at, place_at, AreDistinct, temps}
+use Rattle.sch_shuffle.specs.Plans.{Act, AreAtoms, IsAtom}
+use Rattle.sch_shuffle.specs.Greedy.{uses_target, needed, next_of, is_in, without, chosen, choices, all_choices, evaluations, onwards, acts, made}
+use Rattle.sch_shuffle.specs.GreedySteps.{IsMostUsed}
+use Rattle.sch_shuffle.specs.CycleSearch.{successor, ring, is_ring, all_rings}
+use Rattle.sch_shuffle.proofs.WaitingArguments.{Rising, AllBelow, Once, members, below_in, length_without, rising_numbers, below_numbers, next_of_in, choice_once, choice_members, rising_without, below_without, not_above, rising_rest}
+use Rattle.sch_shuffle.proofs.MovesAssign.{same_from}
+use Rattle.sch_shuffle.proofs.Paths.{walk, ring_walk}
+use Rattle.sch_shuffle.proofs.GreedyMoves.{chosen_most}
+use Rattle.sch_shuffle.proofs.ExactCycles.{length_le, few, successor_is, ring_is, rings_complete}
+use Rattle.sch_shuffle.proofs.AtLeastRings.{asides, temps_asides, in_at_index}
+
+pub rising_once : (ws : List ℕ) → Rising ws → Once ws
+rising_once [] r = tt
+rising_once (w ∷ ws) r = (not_above w ws r, rising_once ws (rising_rest w ws r))
+
+-- an atom that uses a place is that place
+used_atom : (x : Tree) (p : Place) → IsAtom x → uses x p ≡ true → x ≡ place p
+used_atom (place q) p a h = ap place (same_from q p h)
+used_atom (fixed n) p a h = absurd (cc)
+used_atom (literal k) p a h = absurd (cc)
+used_atom (read primitive xs) p a h = absurd a
+
+-- who needs the target of j
+needed_some : (W : ℕ → ℕ → Bool) (js : List ℕ) (j : ℕ) → 0 < needed W js j → (i : ℕ) × (is_in i js ≡ true) × (i ≢ j) × (W i j ≡ true)
+needed_some W [] j h = absurd (omega (arith, h))
+needed_some W (i ∷ js) j h = go (cases_Bool (nat_eq i j)) (cases_Bool (W i j)) (needed_some W js j)
+  where
+    more : (0 < needed W js j → (x : ℕ) × (is_in x js ≡ true) × (x ≢ j) × (W x j ≡ true)) → 0 < needed W js j
+        → (x : ℕ) × (is_in x (i ∷ js) ≡ true) × (x ≢ j) × (W x j ≡ true)
+    more rest h = let f = rest h in (f.0, rw f.1 (or-true (nat_eq i f.0)), f.2, f.3)
+
+    go : ((nat_eq i j ≡ true) ⊎ (nat_eq i j ≡ false)) → ((W i j ≡ true) ⊎ (W i j ≡ false))
+        → (0 < needed W js j → (x : ℕ) × (is_in x js ≡ true) × (x ≢ j) × (W x j ≡ true)) → (x : ℕ) × (is_in x (i ∷ js) ≡ true) × (x ≢ j) × (W x j ≡ true)
+    go (inl same) w rest = more rest (rw same at h)
+    go (inr other) (inl yes_) rest =
+        (i, (let t = eq-eqb i i refl in rw t refl), (λ e. let t = eq-eqb i j e in let both : true ≡ false = sym t ∙ other in cc), yes_)
+    go (inr other) (inr no_) rest = more rest (rw (other, no_) at h)
+
+needed_none : (W : ℕ → ℕ → Bool) (js : List ℕ) (j : ℕ) → ((i : ℕ) → is_in i js ≡ true → W i j ≡ true → ⊥) → needed W js j ≡ 0
+needed_none W [] j h = refl
+needed_none W (i ∷ js) j h =
+    let off : W i j ≡ false = elim (cases_Bool (W i j)) [ inl y ↦ absurd (h i (let t = eq-eqb i i refl in rw t refl) y) | inr no_ ↦ no_ ] in
+    let rest = needed_none W js j (λ x e. h x (rw e (or-true (nat_eq i x)))) in
+    rw off (go (nat_eq i j) rest)
+  where
+    go : (b : Bool) → needed W js j ≡ 0 → cond (not b && false) (suc (needed W js j)) (needed W js j) ≡ 0
+    go true h = h
+    go false h = h
+
+needed_one : (W : ℕ → ℕ → Bool) (js : List ℕ) (j : ℕ) → Once js → ((i x : ℕ) → is_in i js ≡ true → is_in x js ≡ true → W i j ≡ true → W x j ≡ true → i ≡ x) → needed W js j ≤ 1
+needed_one W [] j o h = omega arith
+needed_one W (i ∷ js) j o h =
+    let rest = needed_one W js j o.1 (λ a b x y. h a b (rw x (or-true (nat_eq i a))) (rw y (or-true (nat_eq i b)))) in
+    elim (cases_Bool (W i j)) [
+      | inr no_ ↦ rw no_ (still (nat_eq i j) rest)
+      | inl yes_ ↦
+          let none : needed W js j ≡ 0 = needed_none W js j (λ x e w.
+          let same : i ≡ x = h i x (let t = eq-eqb i i refl in rw t refl) (rw e (or-true (nat_eq i x))) yes_ w in
+          let bad : is_in i js ≡ true = ap (λ c. is_in c js) same ∙ e in let both : true ≡ false = sym bad ∙ o.0 in cc) in
+          rw yes_ (once (nat_eq i j) none)
+    ]
+  where
+    still : (b : Bool) → needed W js j ≤ 1 → cond (not b && false) (suc (needed W js j)) (needed W js j) ≤ 1
+    still true h = h
+    still false h = h
+
+    once : (b : Bool) → needed W js j ≡ 0 → cond (not b && true) (suc (needed W js j)) (needed W js j) ≤ 1
+    once true h = omega (arith, h)
+    once false h = omega (arith, h)
+
+-- Where each of ws is reached by S from another of ws, S is one to one on ws.
+module _ (S : ℕ → ℕ) (ws : List ℕ) where
+  reaching : (js : List ℕ) → Once js → ((j : ℕ) → is_in j js ≡ true → (i : ℕ) × (is_in i ws ≡ true) × (i ≢ j) × (S i ≡ j))
+      → (qs : List ℕ) × (length qs ≡ length js) × Once qs × ((i : ℕ) → is_in i qs ≡ true → (is_in i ws ≡ true) × (is_in (S i) js ≡ true) × (i ≢ S i))
+      × ((i x : ℕ) → is_in i qs ≡ true → is_in x qs ≡ true → S i ≡ S x → i ≡ x)
+  reaching [] o each = ([], refl, tt, (λ i e. absurd (cc)), (λ i x e. absurd (cc)))
+  reaching (j ∷ js) o each =
+      let f = each j (let t = eq-eqb j j refl in rw t refl) in
+      let q : ℕ = f.0 in
+      let at : S q ≡ j = f.3 in
+      let rest = reaching js o.1 (λ i e. each i (rw e (or-true (nat_eq j i)))) in
+      let far : (x : ℕ) → is_in x rest.0 ≡ true → S q ≢ S x =
+      λ x e same. let inside = (rest.3 x e).1 in let bad : is_in j js ≡ true = ap (λ c. is_in c js) (sym at ∙ same) ∙ inside in let both : true ≡ false = sym bad ∙ o.0 in cc in (
+        q ∷ rest.0,
+        ap suc rest.1,
+        (elim (cases_Bool (is_in q rest.0)) [ inl there ↦ absurd (far q there refl) | inr not_ ↦ not_ ], rest.2),
+        λ i e. elim (cases_eq q i) [
+          | inl same ↦ rw (← same) (f.1, (let t = eq-eqb j (S q) (sym at) in rw t refl), (λ x. f.2 (x ∙ at)))
+          | inr other ↦ let no_ = ne_eqb q i other in let r = rest.3 i (rw no_ at e) in (r.0, rw r.1 (or-true (nat_eq j (S i))), r.2)
+        ],
+        λ i x a b e. elim (cases_eq q i) [
+          | inl same ↦ elim (cases_eq q x) [
+            | inl same' ↦ sym same ∙ same'
+            | inr other' ↦ let no_ = ne_eqb q x other' in absurd (far x (rw no_ at b) (ap S same ∙ e))
+          ]
+          | inr other ↦ let no_ = ne_eqb q i other in elim (cases_eq q x) [
+            | inl same' ↦ absurd (far i (rw no_ at a) (ap S same' ∙ sym e))
+            | inr other' ↦ let no_' = ne_eqb q x other' in rest.4 i x (rw no_ at a) (rw no_' at b) e
+          ]
+        ],
+      )
+
+  pub turning : Once ws → ((j : ℕ) → is_in j ws ≡ true → (i : ℕ) × (is_in i ws ≡ true) × (i ≢ j) × (S i ≡ j))
+      → ((i : ℕ) → is_in i ws ≡ true → (is_in (S i) ws ≡ true) × (i ≢ S i))
+      × ((i x : ℕ) → is_in i ws ≡ true → is_in x ws ≡ true → S i ≡ S x → i ≡ x)
+  turning o each =
+      let r = reaching ws o each in
+      let all : (i : ℕ) → is_in i ws ≡ true → is_in i r.0 ≡ true =
+      λ i e. elim (cases_Bool (is_in i r.0)) [
+        | inl there ↦ there
+        | inr not_ ↦
+            let big = length_le (i ∷ r.0) ws (not_, r.2) (λ j h. elim (cases_eq i j) [
+              | inl same ↦ ap (λ c. is_in c ws) (sym same) ∙ e
+              | inr other ↦ let no_ = ne_eqb i j other in (r.3 j (rw no_ at h)).0
+            ]) in
+            let z = r.1 in absurd (omega (arith, big, z))
+      ] in
+      (λ i e. let f = r.3 i (all i e) in (f.1, f.2), λ i x a b e. r.4 i x (all i a) (all x b) e)
+
+  -- the walk from the least of ws comes back
+  comes_back : (n k : ℕ) → ((j : ℕ) → is_in j ws ≡ true → j < n) → ((j : ℕ) → is_in j ws ≡ true → k ≤ j)
+      → ((i : ℕ) → is_in i ws ≡ true → (is_in (S i) ws ≡ true) × (i ≢ S i))
+      → ((i x : ℕ) → is_in i ws ≡ true → is_in x ws ≡ true → S i ≡ S x → i ≡ x)
+      → (steps : ℕ) (done seen : List ℕ) (at : ℕ) → is_in at ws ≡ true → Once (at ∷ seen) → ((j : ℕ) → is_in j seen ≡ true → is_in j ws ≡ true)
+      → ((y : ℕ) → is_in y (at ∷ seen) ≡ true → (y ≡ k) ⊎ ((x : ℕ) × (is_in x seen ≡ true) × (S x ≡ y))) → length seen + steps ≡ n
+      → suc (length done) ≤ length (walk S n k steps done at)
+  comes_back n k small least closed one zero done seen at here once old from len =
+      let f = few n (at ∷ seen) once (λ j e. elim (cases_eq at j) [
+        | inl same ↦ small j (ap (λ c. is_in c ws) (sym same) ∙ here)
+        | inr other ↦ let no_ = ne_eqb at j other in small j (old j (rw no_ at e))
+      ]) in absurd (omega (arith, f, len))
+  comes_back n k small least closed one (suc steps) done seen at here once old from len =
+      let next = (closed at here).0 in
+      elim (cases_eq (S at) k) [
+        | inl home ↦ let yes_ = eq-eqb (S at) k home in rw yes_ (let e = longer done in omega (arith, e))
+        | inr away ↦
+            let no_ = ne_eqb (S at) k away in
+            let low = least (S at) next in
+            let high = small (S at) next in
+            let a : nat_lt k (S at) ≡ true = grind (arith, nat_tests, low, away) in
+            let b : nat_lt (S at) n ≡ true = grind (arith, nat_tests, high) in
+            let fresh : is_in (S at) (at ∷ seen) ≡ false = elim (cases_Bool (is_in (S at) (at ∷ seen))) [
+              | inr not_ ↦ not_
+              | inl there ↦ elim (from (S at) there) [
+                | inl home ↦ absurd (away home)
+                | inr w ↦
+                    let same : w.0 ≡ at = one w.0 at (old w.0 w.1) here w.2 in
+                    let bad : is_in at seen ≡ true = ap (λ c. is_in c seen) (sym same) ∙ w.1 in
+                    absurd (let both : true ≡ false = sym bad ∙ once.0 in cc)
+              ]
+            ] in
+            let rest = comes_back n k small least closed one steps (done ++ at ∷ []) (at ∷ seen) (S at) next (fresh, once)
+            (λ j e. elim (cases_eq at j) [ inl same ↦ ap (λ c. is_in c ws) (sym same) ∙ here | inr other ↦ let off = ne_eqb at j other in old j (rw off at e) ])
+            (λ y e. elim (cases_eq (S at) y) [
+              | inl same ↦ inr (at, (let t = eq-eqb at at refl in rw t refl), same)
+              | inr other ↦
+                  let off = ne_eqb (S at) y other in
+                  elim (from y (rw off at e)) [ inl home ↦ inl home | inr w ↦ inr (w.0, rw w.1 (or-true (nat_eq at w.0)), w.2) ]
+            ]) (omega (arith, len)) in
+            let e = longer done in rw (no_, a, b) (omega (arith, rest, e))
+      ]
+    where
+      longer : (xs : List ℕ) → length (xs ++ at ∷ []) ≡ suc (length xs)
+      longer [] = refl
+      longer (x ∷ xs) = ap suc (longer xs)
+
+module _ (args : List Tree) (targets free : List Place) (l : length targets ≡ length args) (apart : AreDistinct targets) (atoms : AreAtoms args) where
+  abbrev n : ℕ
+  n = length targets
+
+  abbrev S : ℕ → ℕ
+  S = successor args targets
+
+  abbrev W : ℕ → ℕ → Bool
+  W = uses_target args targets
+
+  stands : (i j : ℕ) → i < n → j < n → W i j ≡ true → S i ≡ j
+  stands i j a b h = successor_is args targets l apart i j b (used_atom (operand_at args i) (place_at targets j) (atoms i (omega (arith, a, l))) h)
+
+  -- the one that is set aside is the least of a ring
+  stuck_ring : (ws : List ℕ) (k : ℕ) → Rising ws → AllBelow n ws → IsMostUsed W ws k → is_ring (ring S n k) ≡ true
+  stuck_ring ws k rising below most =
+      let small : (j : ℕ) → is_in j ws ≡ true → j < n = below_in n ws below in
+      let once = rising_once ws rising in
+      let t = turning S ws once (λ j e. let f = needed_some W ws j (most.stuck j e) in (f.0, f.1, f.2, stands f.0 j (small f.0 f.1) (small j e) f.3)) in
+      let closed : (i : ℕ) → is_in i ws ≡ true → (is_in (S i) ws ≡ true) × (i ≢ S i) = t.0 in
+      let one : (i x : ℕ) → is_in i ws ≡ true → is_in x ws ≡ true → S i ≡ S x → i ≡ x = t.1 in
+      let single : (j : ℕ) → is_in j ws ≡ true → needed W ws j ≡ 1 =
+      λ j e.
+      let low = most.stuck j e in
+      let high = needed_one W ws j once (λ i x a b u v. one i x a b (stands i j (small i a) (small j e) u ∙ sym (stands x j (small x b) (small j e) v))) in
+      omega (arith, low, high) in
+      let least : (j : ℕ) → is_in j ws ≡ true → k ≤ j = λ j e. most.least j e (single j e ∙ sym (single k most.waits)) in
+      let kn = small k most.waits in
+      let next = (closed k most.waits).0 in
+      let away : S k ≢ k = λ e. (closed k most.waits).1 (sym e) in
+      let no_ = ne_eqb (S k) k away in
+      let low = least (S k) next in
+      let high = small (S k) next in
+      let a : nat_lt k (S k) ≡ true = grind (arith, nat_tests, low, away) in
+      let b : nat_lt (S k) n ≡ true = grind (arith, nat_tests, high) in
+      let e : n ≡ suc (n - 1) = omega (arith, kn) in
+      let fresh : is_in (S k) (k ∷ []) ≡ false = let off = ne_eqb k (S k) (λ x. away (sym x)) in rw off refl in
+      let back = comes_back S ws n k small least closed one (n - 1) (k ∷ []) (k ∷ []) (S k) next (fresh, (refl, tt))
+      (λ j h. elim (cases_eq k j) [ inl same ↦ ap (λ c. is_in c ws) (sym same) ∙ most.waits | inr other ↦ let off = ne_eqb k j other in absurd (let bad : false ≡ true = rw off at h in cc) ])
+      (λ y h. elim (cases_eq (S k) y) [
+        | inl same ↦ inr (k, (let q = eq-eqb k k refl in rw q refl), same)
+        | inr other ↦
+            let off = ne_eqb (S k) y other in
+            let rest : is_in y (k ∷ []) ≡ true = rw off at h in
+            elim (cases_eq k y) [ inl same ↦ inl (sym same) | inr ne ↦ let no' = ne_eqb k y ne in absurd (let bad : false ≡ true = rw no' at rest in cc) ]
+      ]) (omega (arith, kn)) in
+      let whole : ring S n k ≡ walk S n k (n - 1) (k ∷ []) (S k) = ring_walk S n k kn ∙ ap (λ c. walk S n k c [] k) e ∙ rw (no_, a, b) refl in
+      ap is_ring whole ∙ grind (arith, nat_tests, back)
+
+  abbrev asides_in : List Choice → List ℕ
+  asides_in [] = []
+  asides_in (Direct k ∷ cs) = asides_in cs
+  asides_in (Aside k ∷ cs) = k ∷ asides_in cs
+
+  asides_in_members : (cs : List Choice) (j : ℕ) → is_in j (asides_in cs) ≡ true → is_in j (members cs) ≡ true
+  asides_in_members [] j e = e
+  asides_in_members (Direct k ∷ cs) j e = let r = asides_in_members cs j e in rw r (or-true (nat_eq k j))
+  asides_in_members (Aside k ∷ cs) j e =
+      elim (cases_eq k j) [
+        | inl same ↦ let yes_ = eq-eqb k j same in rw yes_ refl
+        | inr other ↦ let no_ = ne_eqb k j other in rw no_ (asides_in_members cs j (rw no_ at e))
+      ]
+
+  asides_in_once : (cs : List Choice) → Once (members cs) → Once (asides_in cs)
+  asides_in_once [] o = tt
+  asides_in_once (Direct k ∷ cs) o = asides_in_once cs o.1
+  asides_in_once (Aside k ∷ cs) o = (
+    elim (cases_Bool (is_in k (asides_in cs))) [ inl there ↦ let bad = asides_in_members cs k there in absurd (let both : true ≡ false = sym bad ∙ o.0 in cc) | inr not_ ↦ not_ ],
+    asides_in_once cs o.1,
+  )
+
+  aside_starts_ring_once : (k r : ℕ) (cs : List Choice) → ((r' : ℕ) → r ≡ suc r' → is_ring (ring S n k) ≡ true) → ((j : ℕ) → is_in j (asides_in cs) ≡ true → is_ring (ring S n j) ≡ true)
+      → (j : ℕ) → is_in j (asides_in (chosen r k ∷ cs)) ≡ true → is_ring (ring S n j) ≡ true
+  aside_starts_ring_once k zero cs here rest j e = rest j e
+  aside_starts_ring_once k (suc r) cs here rest j e =
+      elim (cases_eq k j) [ inl same ↦ ap (λ c. is_ring (ring S n c)) (sym same) ∙ here r refl | inr other ↦ let no_ = ne_eqb k j other in rest j (rw no_ at e) ]
+
+  aside_starts_ring : (c : ℕ) (ws : List ℕ) → length ws ≡ c → Rising ws → AllBelow n ws → (j : ℕ) → is_in j (asides_in (choices W c ws)) ≡ true → is_ring (ring S n j) ≡ true
+  aside_starts_ring zero ws e rising below = λ j h. absurd (cc)
+  aside_starts_ring (suc c) ws e rising below =
+      let k : ℕ = next_of (needed W ws) ws in
+      let inside : is_in k ws ≡ true = next_of_in (needed W ws) ws (omega (arith, e)) in
+      let less = length_without k ws inside in
+      aside_starts_ring_once k (needed W ws k) (choices W c (without k ws))
+      (λ r f. stuck_ring ws k rising below (chosen_most W ws r rising (omega (arith, e)) f))
+      (aside_starts_ring c (without k ws) (omega (arith, less, e)) (rising_without k ws rising) (below_without n k ws below))
+
+  asides_evaluations : (u : ℕ) (cs : List Choice) (tail : List Act) → asides tail ≡ [] → asides (evaluations free u cs ++ tail) ≡ asides_in cs
+  asides_evaluations u [] tail e = e
+  asides_evaluations u (Direct k ∷ cs) tail e = asides_evaluations u cs tail e
+  asides_evaluations u (Aside k ∷ cs) tail e = ap (λ js. k ∷ js) (asides_evaluations (suc u) cs tail e)
+
+  asides_onwards : (u : ℕ) (cs : List Choice) → asides (onwards free u cs) ≡ []
+  asides_onwards u [] = refl
+  asides_onwards u (Direct k ∷ cs) = asides_onwards u cs
+  asides_onwards u (Aside k ∷ cs) = asides_onwards (suc u) cs
+
+  pub at_most : temps (made args targets free) ≤ length (all_rings args targets)
+  at_most =
+      let cs : List Choice = all_choices args targets in
+      let rs : List (List ℕ) = all_rings args targets in
+      let count_ = temps_asides args targets (acts free cs) in
+      let who : asides (acts free cs) ≡ asides_in cs = asides_evaluations 0 cs (onwards free 0 cs) (asides_onwards 0 cs) in
+      let once = asides_in_once cs (choice_once W (length args) (numbers 0 (length args)) (numbers_length 0 (length args)) (rising_numbers (length args) 0)) in
+      let below : AllBelow n (numbers 0 (length args)) = below_numbers (length args) 0 n (omega (arith, l)) in
+      let each = aside_starts_ring (length args) (numbers 0 (length args)) (numbers_length 0 (length args)) (rising_numbers (length args) 0) below in
+      let starts : List ℕ = map (λ r. get_or r 0 0) rs in
+      let f = length_le (asides_in cs) starts once (λ j e.
+      let is = each j e in
+      let inside : is_in j (numbers 0 n) ≡ true =
+      rw l (sym (choice_in j) ∙ asides_in_members cs j e) in
+      let w = rings_complete args targets l apart (numbers 0 n) j inside is in
+      let jn = below_in n (numbers 0 n) (below_numbers n 0 n (omega arith)) j inside in
+      let head = (ring_is args targets l apart j jn is).1 in
+      in_at_index starts w.0 j (let z = w.1 in let len = length-map rs (λ r. get_or r 0 0) in omega (arith, z, len))
+      (get_or-map (λ r. get_or r 0 0) rs w.0 [] 0 w.1 ∙ ap (λ r. get_or r 0 0) w.2 ∙ head)) in
+      let len = length-map rs (λ r. get_or r 0 0) in
+      let who_len = ap length who in
+      omega (arith, f, len, who_len, count_)
+    where
+      choice_in : (j : ℕ) → is_in j (members (all_choices args targets)) ≡ is_in j (numbers 0 (length args))
+      choice_in j = choice_members W (length args) (numbers 0 (length args)) (numbers_length 0 (length args)) j

@@ -1,0 +1,15 @@
+pub mod OperandRows
+pub mod WaitingArguments
+pub mod MovesAssign
+pub mod GreedyMoves
+pub mod PlanOfChoices
+pub mod ArgumentOrder
+pub mod Paths
+pub mod WalkTurns
+pub mod ExactCycles
+pub mod RingNeedsTemporary
+pub mod AtLeastRings
+pub mod AtMostRings
+pub mod Promises
+pub mod Examples
+pub mod LongCycle

@@ -1,0 +1,398 @@
+-- Rising lists of numbers, and how many of them need a target.
+use Rattle.std.proofs.Common.{◌≡◌, ◌≢◌, ℕ, zero, suc, ◌+◌, ◌-◌, ◌<◌, ◌≤◌, Bool, true, false, cond, List, [], ◌∷◌, ◌++◌, length, refl, ap, sym, ◌∙◌, arith, add-one, inl, inr, get_or}
+use Rattle.std.specs.Prelude.{◌&&◌, not, nat_eq}
+use Rattle.std.specs.List.{remove}
+use Rattle.std.proofs.lemmas.List.{append_assoc, get_or_read}
+use Rattle.std.proofs.lemmas.Bool.{cases_eq, eq-eqb, ne_eqb}
+use Rattle.std.proofs.Math.Bool.{or-true}
+use Rattle.sch_word.specs.trees.Bindings.{numbers}
+use Rattle.sch_shuffle.specs.declared.choice.Choice.{Choice}
+use Rattle.sch_shuffle.specs.Tree.{Tree}
+use Rattle.sch_shuffle.specs.Greedy.{needed, goes_before, next, next_of, is_in, without, chosen, choices, number_of, AreBelow, uses_target, all_choices}
+use Rattle.sch_word.specs.declared.place.Place.{Place}
+use Rattle.sch_word.proofs.facts.NumberSets.{numbers_length}
+
+-- ## Rising lists
+
+abbrev pub Above : ℕ → List ℕ → Type 0
+Above b [] = Unit {0}
+Above b (j ∷ js) = (b < j) × Above j js
+
+abbrev pub Rising : List ℕ → Type 0
+Rising [] = Unit {0}
+Rising (j ∷ js) = Above j js
+
+abbrev pub AllBelow : ℕ → List ℕ → Type 0
+AllBelow n [] = Unit {0}
+AllBelow n (j ∷ js) = (j < n) × AllBelow n js
+
+pub above_lower : (a b : ℕ) (js : List ℕ) → a < b → Above b js → Above a js
+above_lower a b [] h k = tt
+above_lower a b (j ∷ js) h k = (omega (arith, h, k.0), k.1)
+
+pub is_above : (b : ℕ) (js : List ℕ) → Above b js → (j : ℕ) → is_in j js ≡ true → b < j
+is_above b [] h j e = absurd (cc)
+is_above b (i ∷ js) h j e =
+    elim (cases_eq i j) [
+      | inl same ↦ omega (arith, same, h.0)
+      | inr other ↦
+          let rest : is_in j js ≡ true = let no_ = ne_eqb i j other in rw no_ at e in
+          let k = is_above i js h.1 j rest in omega (arith, k, h.0)
+    ]
+
+pub not_above : (b : ℕ) (js : List ℕ) → Above b js → is_in b js ≡ false
+not_above b js h =
+    let go : (t : Bool) → is_in b js ≡ t → is_in b js ≡ false =
+    λ t. elim t as (λ t. is_in b js ≡ t → is_in b js ≡ false) [
+      | true ↦ λ e. absurd (let k = is_above b js h b e in omega arith)
+      | false ↦ λ e. e
+    ] in
+    go (is_in b js) refl
+
+pub below_in : (n : ℕ) (js : List ℕ) → AllBelow n js → (j : ℕ) → is_in j js ≡ true → j < n
+below_in n [] h j e = absurd (cc)
+below_in n (i ∷ js) h j e =
+    elim (cases_eq i j) [
+      | inl same ↦ omega (arith, same, h.0)
+      | inr other ↦ below_in n js h.1 j (let no_ = ne_eqb i j other in rw no_ at e)
+    ]
+
+above_without : (b k : ℕ) (js : List ℕ) → Above b js → Above b (without k js)
+above_without b k [] h = tt
+above_without b k (j ∷ js) h =
+    elim (cases_eq j k) [
+      | inl same ↦ let yes_ = eq-eqb j k same in rw yes_ (above_lower b j js h.0 h.1)
+      | inr other ↦ let no_ = ne_eqb j k other in rw no_ (h.0, above_without j k js h.1)
+    ]
+
+pub rising_rest : (j : ℕ) (js : List ℕ) → Above j js → Rising js
+rising_rest j [] h = tt
+rising_rest j (i ∷ js) h = h.1
+
+pub rising_without : (k : ℕ) (js : List ℕ) → Rising js → Rising (without k js)
+rising_without k [] h = tt
+rising_without k (j ∷ js) h =
+    elim (cases_eq j k) [
+      | inl same ↦ let yes_ = eq-eqb j k same in rw yes_ (rising_rest j js h)
+      | inr other ↦ let no_ = ne_eqb j k other in rw no_ (above_without j k js h)
+    ]
+
+pub below_without : (n k : ℕ) (js : List ℕ) → AllBelow n js → AllBelow n (without k js)
+below_without n k [] h = tt
+below_without n k (j ∷ js) h =
+    elim (cases_eq j k) [
+      | inl same ↦ let yes_ = eq-eqb j k same in rw yes_ h.1
+      | inr other ↦ let no_ = ne_eqb j k other in rw no_ (h.0, below_without n k js h.1)
+    ]
+
+above_at : (b : ℕ) (ws : List ℕ) (at : ℕ) → Above b ws → at < length ws → b < get_or ws at 0
+above_at b [] at h lt = absurd (omega (arith, lt))
+above_at b (w ∷ ws) zero h lt = h.0
+above_at b (w ∷ ws) (suc at) h lt = let k = above_at w ws at h.1 (omega (arith, lt)) in omega (arith, k, h.0)
+
+pub in_at : (ws : List ℕ) (at : ℕ) → at < length ws → is_in (get_or ws at 0) ws ≡ true
+in_at [] at lt = absurd (omega (arith, lt))
+in_at (w ∷ ws) zero lt = let yes_ = eq-eqb w w refl in rw yes_ refl
+in_at (w ∷ ws) (suc at) lt = let rest = in_at ws at (omega (arith, lt)) in rw rest (or-true (nat_eq w (get_or ws at 0)))
+
+pub remove_without : (ws : List ℕ) (at : ℕ) → Rising ws → at < length ws → remove ws at ≡ without (get_or ws at 0) ws
+remove_without [] at h lt = absurd (omega (arith, lt))
+remove_without (w ∷ ws) zero h lt = let yes_ = eq-eqb w w refl in rw yes_ refl
+remove_without (w ∷ ws) (suc at) h lt =
+    let lower = above_at w ws at h (omega (arith, lt)) in
+    let no_ = ne_eqb w (get_or ws at 0) (λ e. omega (arith, lower, e)) in
+    rw no_ (ap (λ xs. w ∷ xs) (remove_without ws at (rising_rest w ws h) (omega (arith, lt))))
+
+pub length_without : (k : ℕ) (ws : List ℕ) → is_in k ws ≡ true → length (without k ws) + 1 ≡ length ws
+length_without k [] e = absurd (cc)
+length_without k (w ∷ ws) e =
+    elim (cases_eq w k) [
+      | inl same ↦ let yes_ = eq-eqb w k same in rw yes_ (omega arith)
+      | inr other ↦
+          let no_ = ne_eqb w k other in
+          let rest : is_in k ws ≡ true = rw no_ at e in
+          let h = length_without k ws rest in rw no_ (omega (arith, h))
+    ]
+
+pub without_other : (j k : ℕ) (ws : List ℕ) → j ≢ k → is_in j (without k ws) ≡ is_in j ws
+without_other j k [] h = refl
+without_other j k (w ∷ ws) h =
+    elim (cases_eq w k) [
+      | inl same ↦
+          let yes_ = eq-eqb w k same in
+          let off = ne_eqb w j (λ e. h (sym e ∙ same)) in rw (yes_, off) refl
+      | inr other ↦
+          let no_ = ne_eqb w k other in
+          let rest = without_other j k ws h in rw (no_, rest) refl
+    ]
+
+pub without_gone : (k : ℕ) (ws : List ℕ) → Rising ws → is_in k (without k ws) ≡ false
+without_gone k [] h = refl
+without_gone k (w ∷ ws) h =
+    elim (cases_eq w k) [
+      | inl same ↦ let yes_ = eq-eqb w k same in rw yes_ (rw (← same) (not_above w ws h))
+      | inr other ↦
+          let no_ = ne_eqb w k other in
+          rw (no_, no_) (without_gone k ws (rising_rest w ws h))
+    ]
+
+-- ## Numbers from one on
+
+pub numbers_next : (n j : ℕ) → j < n → numbers j (n - j) ≡ j ∷ numbers (j + 1) (n - (j + 1))
+numbers_next n j lt = let e : n - j ≡ suc (n - (j + 1)) = omega (arith, lt) in rw (e, add-one) refl
+
+pub numbers_push : (xs : List ℕ) (n j : ℕ) → j < n → (xs ++ j ∷ []) ++ numbers (j + 1) (n - (j + 1)) ≡ xs ++ numbers j (n - j)
+numbers_push xs n j lt = append_assoc xs (j ∷ []) (numbers (j + 1) (n - (j + 1))) ∙ ap (λ ys. xs ++ ys) (sym (numbers_next n j lt))
+
+above_numbers : (n b k : ℕ) → b < k → Above b (numbers k n)
+above_numbers zero b k h = tt
+above_numbers (suc n) b k h = (h, above_numbers n k (suc k) (omega arith))
+
+pub rising_numbers : (n k : ℕ) → Rising (numbers k n)
+rising_numbers zero k = tt
+rising_numbers (suc n) k = above_numbers n k (suc k) (omega arith)
+
+pub below_numbers : (n k m : ℕ) → k + n ≤ m → AllBelow m (numbers k n)
+below_numbers zero k m h = tt
+below_numbers (suc n) k m h = (omega (arith, h), below_numbers n (suc k) m (omega (arith, h)))
+
+pub in_numbers : (n k j : ℕ) → k ≤ j → j < k + n → is_in j (numbers k n) ≡ true
+in_numbers zero k j h l = absurd (omega (arith, h, l))
+in_numbers (suc n) k j h l =
+    elim (cases_eq k j) [
+      | inl same ↦ let yes_ = eq-eqb k j same in rw yes_ refl
+      | inr other ↦ let no_ = ne_eqb k j other in rw no_ (in_numbers n (suc k) j (omega (arith, h, other)) (omega (arith, l)))
+    ]
+
+-- ## Needs
+
+pub needed_without : (W : ℕ → ℕ → Bool) (js : List ℕ) (k t : ℕ) → is_in k js ≡ true
+    → needed W js t ≡ cond (not (nat_eq k t) && W k t) 1 0 + needed W (without k js) t
+needed_without W [] k t e = absurd (cc)
+needed_without W (j ∷ js) k t e =
+    elim (cases_eq j k) [
+      | inl same ↦ let yes_ = eq-eqb j k same in rw (yes_, same) (counted (not (nat_eq k t) && W k t) (needed W js t))
+      | inr other ↦
+          let no_ = ne_eqb j k other in
+          let rest : is_in k js ≡ true = rw no_ at e in
+          let h = needed_without W js k t rest in
+          rw no_ (one_more (not (nat_eq j t) && W j t) (needed W js t) (cond (not (nat_eq k t) && W k t) 1 0) (needed W (without k js) t) h)
+    ]
+  where
+    counted : (b : Bool) (n : ℕ) → cond b (suc n) n ≡ cond b 1 0 + n
+    counted true n = omega arith
+    counted false n = omega arith
+
+    one_more : (b : Bool) (x y z : ℕ) → x ≡ y + z → cond b (suc x) x ≡ y + cond b (suc z) z
+    one_more true x y z h = omega (arith, h)
+    one_more false x y z h = h
+
+pub needed_step : (W : ℕ → ℕ → Bool) (n j k count : ℕ) (b : Bool) → j < n → b ≡ (not (nat_eq j k) && W j k)
+    → cond b (count + 1) count + needed W (numbers (j + 1) (n - (j + 1))) k ≡ count + needed W (numbers j (n - j)) k
+needed_step W n j k count b lt is =
+    let nn = numbers_next n j lt in rw (nn, ← is) (go b)
+  where
+    go : (b : Bool) → cond b (count + 1) count + needed W (numbers (j + 1) (n - (j + 1))) k
+        ≡ count + cond b (suc (needed W (numbers (j + 1) (n - (j + 1))) k)) (needed W (numbers (j + 1) (n - (j + 1))) k)
+    go true = omega arith
+    go false = refl
+
+-- ## The next one
+
+pub next_in : (f : ℕ → ℕ) (b : ℕ) (ks : List ℕ) → is_in (next f b ks) (b ∷ ks) ≡ true
+next_in f b [] = let yes_ = eq-eqb b b refl in rw yes_ refl
+next_in f b (k ∷ ks) = go (goes_before (f k) (f b)) (ahead (next f k ks) (next_in f k ks)) (later (next f b ks) (next_in f b ks))
+  where
+    later : (r : ℕ) → is_in r (b ∷ ks) ≡ true → is_in r (b ∷ (k ∷ ks)) ≡ true
+    later r h = elim (cases_eq b r) [
+      | inl same ↦ let yes_ = eq-eqb b r same in rw yes_ refl
+      | inr other ↦ let no_ = ne_eqb b r other in let rest : is_in r ks ≡ true = rw no_ at h in rw (no_, rest) (or-true (nat_eq k r))
+    ]
+
+    ahead : (r : ℕ) → is_in r (k ∷ ks) ≡ true → is_in r (b ∷ (k ∷ ks)) ≡ true
+    ahead r h = rw h (or-true (nat_eq b r))
+
+    go : (t : Bool) → is_in (next f k ks) (b ∷ (k ∷ ks)) ≡ true → is_in (next f b ks) (b ∷ (k ∷ ks)) ≡ true
+        → is_in (next f (cond t k b) ks) (b ∷ (k ∷ ks)) ≡ true
+    go true x y = x
+    go false x y = y
+
+pub next_of_in : (f : ℕ → ℕ) (ws : List ℕ) → 0 < length ws → is_in (next_of f ws) ws ≡ true
+next_of_in f [] h = absurd (omega (arith, h))
+next_of_in f (w ∷ ws) h = next_in f w ws
+
+next_same : (f g : ℕ → ℕ) (b : ℕ) (ks : List ℕ) → f b ≡ g b → ((j : ℕ) → is_in j ks ≡ true → f j ≡ g j) → next f b ks ≡ next g b ks
+next_same f g b [] h each = refl
+next_same f g b (k ∷ ks) h each =
+    let at_k : f k ≡ g k = each k (let yes_ = eq-eqb k k refl in rw yes_ refl) in
+    let later : (j : ℕ) → is_in j ks ≡ true → f j ≡ g j = λ j e. each j (rw e (or-true (nat_eq k j))) in
+    rw (h, at_k) (go (goes_before (g k) (g b)) (next_same f g k ks at_k later) (next_same f g b ks h later))
+  where
+    go : (t : Bool) → next f k ks ≡ next g k ks → next f b ks ≡ next g b ks → next f (cond t k b) ks ≡ next g (cond t k b) ks
+    go true x y = x
+    go false x y = y
+
+pub next_of_same : (f g : ℕ → ℕ) (ws : List ℕ) → ((j : ℕ) → is_in j ws ≡ true → f j ≡ g j) → next_of f ws ≡ next_of g ws
+next_of_same f g [] each = refl
+next_of_same f g (w ∷ ws) each =
+    next_same f g w ws (each w (let yes_ = eq-eqb w w refl in rw yes_ refl)) (λ j e. each j (rw e (or-true (nat_eq w j))))
+
+-- one turn of the loop
+pub turn : (W : ℕ → ℕ → Bool) (n turns : ℕ) (ws : List ℕ) (users : ℕ → ℕ) (k : ℕ) (all whole : List Choice) → turns < n → 0 < length ws
+    → ((j : ℕ) → is_in j ws ≡ true → users j ≡ needed W ws j) → k ≡ next_of users ws → all ++ choices W (n - turns) ws ≡ whole
+    → (all ++ chosen (users k) k ∷ []) ++ choices W (n - (turns + 1)) (without k ws) ≡ whole
+turn W n turns ws users k all whole lt some each is before =
+    let same : next_of (needed W ws) ws ≡ k = sym (next_of_same users (needed W ws) ws each) ∙ sym is in
+    let inside : is_in k ws ≡ true = rw is (next_of_in users ws some) in
+    let e : n - turns ≡ suc (n - (turns + 1)) = omega (arith, lt) in
+    let first : choices W (n - turns) ws ≡ chosen (users k) k ∷ choices W (n - (turns + 1)) (without k ws) = rw (e, same, each k inside) refl in
+    append_assoc all (chosen (users k) k ∷ []) (choices W (n - (turns + 1)) (without k ws)) ∙ ap (λ ys. all ++ ys) (sym first) ∙ before
+
+-- ## All choices
+
+pub length_choices : (W : ℕ → ℕ → Bool) (n : ℕ) (ws : List ℕ) → length (choices W n ws) ≡ n
+length_choices W zero ws = refl
+length_choices W (suc n) ws = ap suc (length_choices W n _)
+
+pub number_chosen : (r k : ℕ) → number_of (chosen r k) ≡ k
+number_chosen zero k = refl
+number_chosen (suc r) k = refl
+
+pub choices_below : (W : ℕ → ℕ → Bool) (n m : ℕ) (ws : List ℕ) → length ws ≡ n → AllBelow m ws → AreBelow m (choices W n ws)
+choices_below W zero m ws e h i lt = absurd (omega (arith, lt))
+choices_below W (suc n) m ws e h zero lt =
+    let b = below_in m ws h (next_of (needed W ws) ws) (next_of_in (needed W ws) ws (omega (arith, e))) in rw number_chosen b
+choices_below W (suc n) m ws e h (suc i) lt =
+    let k : ℕ = next_of (needed W ws) ws in
+    let less = length_without k ws (next_of_in (needed W ws) ws (omega (arith, e))) in
+    choices_below W n m (without k ws) (omega (arith, less, e)) (below_without m k ws h) i (omega (arith, lt))
+
+pub all_choices_length : (args : List Tree) (targets : List Place) → length (all_choices args targets) ≡ length args
+all_choices_length args targets = length_choices (uses_target args targets) (length args) (numbers 0 (length args))
+
+pub all_choices_below : (args : List Tree) (targets : List Place) → AreBelow (length args) (all_choices args targets)
+all_choices_below args targets =
+    choices_below (uses_target args targets) (length args) (length args) (numbers 0 (length args)) (numbers_length 0 (length args))
+    (below_numbers (length args) 0 (length args) (omega arith))
+
+pub below_same : (n m : ℕ) (xs ys : List Choice) → xs ≡ ys → n ≡ m → AreBelow n ys → AreBelow m xs
+below_same n m xs ys e f h i lt = let l : i < length ys = rw (← e) lt in let k = h i l in rw (e, ← f) k
+
+pub first_waiting : (n : ℕ) (ws : List ℕ) → ws ≡ numbers 0 n → (length ws + 0 ≡ n) × Rising ws × AllBelow n ws
+first_waiting n ws e =
+    let l = numbers_length 0 n in
+    let r = rising_numbers n 0 in
+    let b = below_numbers n 0 n (omega arith) in
+    rw e (omega (arith, l), r, b)
+
+pub first_choices : (args : List Tree) (targets : List Place) (all : List Choice) (ws : List ℕ) (n : ℕ) → all ≡ [] → ws ≡ numbers 0 n → length args ≡ n
+    → all ++ choices (uses_target args targets) (n - 0) ws ≡ all_choices args targets
+first_choices args targets all ws n none first same = let z : n - 0 ≡ n = omega arith in rw (none, first, z, ← same) refl
+
+-- what stands at a place among the waiting ones
+pub standing : (n : ℕ) (ws : List ℕ) (at : ℕ) → AllBelow n ws → at < length ws → get_or ws at 0 < n
+standing n ws at below lt = below_in n ws below (get_or ws at 0) (in_at ws at lt)
+
+-- the counts after one argument less
+pub released : (W : ℕ → ℕ → Bool) (ws : List ℕ) (k j : ℕ) (old new : ℕ) → is_in k ws ≡ true → old ≡ needed W ws j
+    → new ≡ old - cond (not (nat_eq k j) && W k j) 1 0 → new ≡ needed W (without k ws) j
+released W ws k j old new inside before is =
+    let h = needed_without W ws k j inside in
+    let c : ℕ = cond (not (nat_eq k j) && W k j) 1 0 in
+    less old new c (needed W (without k ws) j) (before ∙ h) is
+  where
+    less : (old new c rest : ℕ) → old ≡ c + rest → new ≡ old - c → new ≡ rest
+    less old new c rest e f = omega (arith, e, f)
+
+-- the argument that is taken from among the waiting ones
+pub taken : (ws slice : List ℕ) (at k : ℕ) → at < length slice → slice ≡ ws → k ≡ get_or ws at k → (at < length ws) × (k ≡ get_or ws at 0)
+taken ws slice at k lt e value =
+    let l : at < length ws = rw (← e) lt in (l, get_or_read ws at k l value 0)
+
+-- What the loop keeps, over one turn.
+abbrev pub Kept : List Tree → List Place → ℕ → ℕ → List ℕ → List ℕ → List Choice → Type 0
+Kept args targets n turns ws users all =
+    (length ws + turns ≡ n) × Rising ws × AllBelow n ws × (length users ≡ n)
+    × ((k : ℕ) → k < n → get_or users k 0 ≡ needed (uses_target args targets) ws k)
+    × (all ++ choices (uses_target args targets) (n - turns) ws ≡ all_choices args targets)
+
+pub kept : (args : List Tree) (targets : List Place) (n turns : ℕ) (ws ws' users users' : List ℕ) (all all' : List Choice) (at k : ℕ)
+    → turns < n → Kept args targets n turns ws users all → at < length ws → k ≡ get_or ws at 0 → get_or ws at 0 ≡ next_of (λ j. get_or users j 0) ws
+    → ws' ≡ remove ws at → all' ≡ all ++ chosen (get_or users k 0) k ∷ [] → length users' ≡ length users
+    → ((j : ℕ) → j < length users → get_or users' j 0 ≡ get_or users j 0 - cond (not (nat_eq k j) && uses_target args targets k j) 1 0)
+    → Kept args targets n (turns + 1) ws' users' all'
+kept args targets n turns ws ws' users users' all all' at k lt inv within is next removed pushed same each =
+    let W = uses_target args targets in
+    let rising : Rising ws = inv.1 in
+    let rest : ws' ≡ without k ws = removed ∙ remove_without ws at rising within ∙ ap (λ j. without j ws) (sym is) in
+    let inside : is_in k ws ≡ true = ap (λ j. is_in j ws) is ∙ in_at ws at within in
+    let shorter = length_without k ws inside in
+    let l : length ws' ≡ length (without k ws) = ap length rest in
+    let r : Rising ws' = rw rest (rising_without k ws rising) in
+    let b : AllBelow n ws' = rw rest (below_without n k ws inv.2) in
+    let counts : (j : ℕ) → j < n → get_or users' j 0 ≡ needed W ws' j =
+    λ j h. released W ws k j (get_or users j 0) (get_or users' j 0) inside (inv.4 j h) (each j (omega (arith, h, inv.3))) ∙ ap (λ xs. needed W xs j) (sym rest) in
+    let t = turn W n turns ws (λ j. get_or users j 0) k all (all_choices args targets) lt (omega (arith, within)) (λ j e. inv.4 j (below_in n ws inv.2 j e)) (is ∙ next) inv.5 in
+    (omega (arith, inv.0, shorter, l), r, b, omega (arith, same, inv.3), counts, rw (pushed, rest) t)
+
+-- ## Who is chosen
+
+abbrev pub members : List Choice → List ℕ
+members [] = []
+members (c ∷ cs) = number_of c ∷ members cs
+
+abbrev pub Once : List ℕ → Type 0
+Once [] = Unit {0}
+Once (j ∷ js) = (is_in j js ≡ false) × Once js
+
+pub not_in : (i j : ℕ) (js : List ℕ) → is_in j (i ∷ js) ≡ false → (i ≢ j) × (is_in j js ≡ false)
+not_in i j js e = go (nat_eq i j) refl
+  where
+    go : (b : Bool) → nat_eq i j ≡ b → (i ≢ j) × (is_in j js ≡ false)
+    go true h = absurd (cc)
+    go false h = (λ same. absurd (let t = eq-eqb i j same in cc), rw h at e)
+
+pub choice_members : (W : ℕ → ℕ → Bool) (n : ℕ) (ws : List ℕ) → length ws ≡ n → (j : ℕ) → is_in j (members (choices W n ws)) ≡ is_in j ws
+choice_members W zero [] e j = refl
+choice_members W zero (w ∷ ws) e j = absurd (omega (arith, e))
+choice_members W (suc n) ws e j =
+    let k : ℕ = next_of (needed W ws) ws in
+    let inside : is_in k ws ≡ true = next_of_in (needed W ws) ws (omega (arith, e)) in
+    let less = length_without k ws inside in
+    let rest = choice_members W n (without k ws) (omega (arith, less, e)) j in
+    elim (cases_eq k j) [
+      | inl same ↦ let yes_ = eq-eqb k j same in let there : is_in j ws ≡ true = rw (← same) inside in rw (number_chosen, yes_) (sym there)
+      | inr other ↦
+          let no_ = ne_eqb k j other in
+          rw (number_chosen, no_) (rest ∙ without_other j k ws (λ h. other (sym h)))
+    ]
+
+pub choice_once : (W : ℕ → ℕ → Bool) (n : ℕ) (ws : List ℕ) → length ws ≡ n → Rising ws → Once (members (choices W n ws))
+choice_once W zero ws e r = tt
+choice_once W (suc n) ws e r =
+    let k : ℕ = next_of (needed W ws) ws in
+    let inside : is_in k ws ≡ true = next_of_in (needed W ws) ws (omega (arith, e)) in
+    let less = length_without k ws inside in
+    let l : length (without k ws) ≡ n = omega (arith, less, e) in
+    let gone : is_in k (members (choices W n (without k ws))) ≡ false = choice_members W n (without k ws) l k ∙ without_gone k ws r in
+    (rw number_chosen gone, choice_once W n (without k ws) l (rising_without k ws r))
+
+-- a target that no other needs is used by no other
+pub clear : (W : ℕ → ℕ → Bool) (ws : List ℕ) (k : ℕ) → needed W ws k ≡ 0 → (j : ℕ) → is_in j ws ≡ true → j ≢ k → W j k ≡ false
+clear W [] k none j e ne = absurd (cc)
+clear W (w ∷ ws) k none j e ne = go (not (nat_eq w k) && W w k) refl none (λ none rest. clear W ws k none j rest ne)
+  where
+    go : (b : Bool) → (not (nat_eq w k) && W w k) ≡ b → cond b (suc (needed W ws k)) (needed W ws k) ≡ 0
+        → (needed W ws k ≡ 0 → is_in j ws ≡ true → W j k ≡ false) → W j k ≡ false
+    go true h none more = absurd (omega (arith, none))
+    go false h none more =
+        elim (cases_eq w j) [
+          | inl same ↦
+              let no_ = ne_eqb w k (λ x. ne (sym same ∙ x)) in
+              let here : W w k ≡ false = rw no_ at h in rw (← same) here
+          | inr other ↦ let no_ = ne_eqb w j other in more none (rw no_ at e)
+        ]
+
+pub all_below : (n : ℕ) (js : List ℕ) → ((j : ℕ) → is_in j js ≡ true → j < n) → AllBelow n js
+all_below n [] h = tt
+all_below n (j ∷ js) h = (h j (let yes_ = eq-eqb j j refl in rw yes_ refl), all_below n js (λ i e. h i (rw e (or-true (nat_eq j i)))))

@@ -1,0 +1,9 @@
+pub mod Tree
+pub mod View
+pub mod Meaning
+pub mod Assignment
+pub mod Plans
+pub mod Greedy
+pub mod GreedySteps
+pub mod Cycles
+pub mod CycleSearch

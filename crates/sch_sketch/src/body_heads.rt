@@ -1,0 +1,69 @@
+//! The definitions at the head of a body, and whether data are a body (R5RS 5.2.2).
+
+ghost use Rattle.std.specs.Prelude.{◌≡◌, ◌++◌, ◌-◌, length, drop, IfOk, OnOk};
+ghost use Rattle.sch_read.specs.Views.{data_of};
+ghost use Rattle.sch_names.specs.Scope.{onto};
+ghost use Rattle.sch_names.specs.ScopeView.{given_names};
+ghost use Rattle.sch_sketch.specs.Sketch as words;
+ghost use Rattle.sch_sketch.specs.SketchView.{ahead};
+ghost use Rattle.sch_sketch.specs.BodyHeads as table;
+
+use crate::definitions::{add_definition, are_definitions, is_definition};
+use crate::distinct::are_distinct;
+use crate::sketch::Sketch;
+use sch_names::{Name, Scope};
+use sch_read::Datum;
+use sch_word::{List, Mem};
+use std::alloc::Global;
+
+/// Adds the definitions at the head of a body, and gives what follows them.
+pub fn add_head<'a>(
+    alloc: Global,
+    scope: &Scope,
+    items: &'a [Datum],
+    names: &mut List<Name<'a>>,
+    parts: &mut List<Sketch<'a>>,
+) -> Result<&'a [Datum], Mem>
+    ensures names { OnOk result (given_names names.new ≡ given_names names.old ++ table.body_names scope.now (data_of items.now)) }
+    ensures parts { OnOk result ((ks : words.Sketches) → ahead parts.new ks ≡ ahead parts.old (table.body_inits scope.now (data_of items.now) ks)) }
+    ensures rest { IfOk result (λ es. data_of es.now ≡ table.expressions scope.now (data_of items.now)) }
+{
+    for i in 0..items.len() {
+        if !is_definition(scope, &items[i]) {
+            return Ok(&items[i..]);
+        }
+        add_definition(alloc, &items[i], names, parts)?;
+    }
+    Ok(&[])
+}
+
+/// Whether data of this scope are a body.
+fn is_body_here(alloc: Global, scope: &Scope, items: &[Datum]) -> Result<bool, Mem>
+    ensures { IfOk result (λ b. b ≡ table.is_body scope.now (data_of items.now)) }
+{
+    if are_definitions(scope, items) {
+        return Ok(false);
+    }
+    let mut names = List::new(alloc);
+    let mut parts = List::new(alloc);
+    add_head(alloc, scope, items, &mut names, &mut parts)?;
+    let distinct = are_distinct(alloc, names.as_slice())?;
+    Ok(distinct)
+}
+
+/// Whether data are a body inside these variables.
+pub fn is_body(
+    alloc: Global,
+    scope: &mut Scope,
+    names: &[Name<'_>],
+    items: &[Datum],
+) -> Result<bool, Mem>
+    ensures is { IfOk result (λ b. b ≡ table.is_body (onto (given_names names.now) scope.old) (data_of items.now)) }
+    ensures scope { OnOk result (scope.new ≡ scope.old) }
+{
+    let depth = scope.depth();
+    scope.bind_all(alloc, names)?;
+    let is = is_body_here(alloc, scope, items)?;
+    scope.leave(depth);
+    Ok(is)
+}

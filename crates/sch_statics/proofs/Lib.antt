@@ -1,6 +1,0 @@
-pub mod Pieces
-pub mod SymbolNames
-pub mod StartData
-pub mod StaticSizes
-pub mod TextSteps
-mod DataExamples

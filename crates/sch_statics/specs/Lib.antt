@@ -1,2 +1,0 @@
-pub mod NameWords
-pub mod Data

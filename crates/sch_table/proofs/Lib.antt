@@ -1,4 +1,0 @@
-pub mod Falls
-pub mod SoundRows
-pub mod Procedures
-mod Examples

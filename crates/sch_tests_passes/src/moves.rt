@@ -1,0 +1,65 @@
+//! Moves of some calls.
+
+use sch_shuffle::{Move, Moves, Operand, shuffle};
+use sch_word::{List, Mem, Place};
+use std::alloc::Global;
+
+const RAX: Place = Place::Reg(0);
+
+const RCX: Place = Place::Reg(1);
+
+const RBX: Place = Place::Reg(3);
+
+const R8: Place = Place::Reg(8);
+
+const R9: Place = Place::Reg(9);
+
+// What is no register.
+const OTHER: u8 = 99;
+
+fn register(place: Place) -> u8 {
+    match place {
+        Place::Reg(r) => r,
+        Place::Slot(_) => OTHER,
+    }
+}
+
+fn seen(m: &Move) -> (u8, u8, u32, bool) {
+    let from = match &m.from {
+        Operand::Place(p) => register(*p),
+        Operand::Fixed(_) => OTHER,
+        Operand::Literal(_) => OTHER,
+        Operand::Read(_, _) => OTHER,
+    };
+    (from, register(m.to), m.argument, m.temp)
+}
+
+fn seen_list(alloc: Global, moves: &Moves) -> Result<List<(u8, u8, u32, bool)>, Mem> {
+    let mut all = List::new(alloc);
+    for m in moves.list.as_slice() {
+        all.push(seen(m))?;
+    }
+    Ok(all)
+}
+
+/// r8 and rbx to rbx and r8: one goes by rax.
+#[test]
+fn a_swap(rt: HostRuntime) -> Result<(), Mem> {
+    let args = [Operand::Place(R8), Operand::Place(RBX)];
+    let moves = shuffle(rt.alloc(), &args, &[RBX, R8], &[RAX, RCX])?;
+    let all = seen_list(rt.alloc(), &moves)?;
+    assert!(rt; all.as_slice() == [(8, 0, 0, true), (3, 8, 1, false), (0, 3, 0, false)].as_slice());
+    assert_eq!(rt; moves.cycles.len(), 1);
+    Ok(())
+}
+
+/// r8 and r9 to rbx and r8: none needs a temporary.
+#[test]
+fn a_chain(rt: HostRuntime) -> Result<(), Mem> {
+    let args = [Operand::Place(R8), Operand::Place(R9)];
+    let moves = shuffle(rt.alloc(), &args, &[RBX, R8], &[RAX, RCX])?;
+    let all = seen_list(rt.alloc(), &moves)?;
+    assert!(rt; all.as_slice() == [(8, 3, 0, false), (9, 8, 1, false)].as_slice());
+    assert!(rt; moves.cycles.is_empty());
+    Ok(())
+}

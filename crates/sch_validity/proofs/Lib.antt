@@ -1,6 +1,0 @@
-pub mod drafts
-pub mod sizes
-pub mod notions
-pub mod numbered
-pub mod programs
-mod Examples

@@ -1,0 +1,4 @@
+pub mod GivenTexts
+pub mod PlainReading
+pub mod SimpleCommand
+pub mod View
