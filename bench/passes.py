@@ -1,8 +1,8 @@
 #!/usr/bin/env python3
-"""Compiles the deepest texts that are accepted, and shows that behind the expander 4 MiB of stack are enough.
+"""Compiles the deepest texts that are accepted, and shows that behind the expander 4.5 MiB of stack are enough.
 
 Run by hand, after the program was built, where there is gdb:  bench/passes.py
-Where the whole program is killed on 4 MiB, since the expander's numbering takes more, a part of the stack 4 MiB below the
+Where the whole program is killed on 4.5 MiB, since the expander's numbering takes more, a part of the stack 4.5 MiB below the
 passes is taken away as they begin, so that what goes deeper is killed. The end is 1 where a text is not compiled.
 """
 import os
@@ -12,7 +12,7 @@ import tempfile
 
 import deep
 
-STACK = 4 << 20
+STACK = 9 << 19
 COMMANDS = [
     "set breakpoint pending on",
     "break sch_passes::control_program",
@@ -48,7 +48,7 @@ def main():
     with tempfile.TemporaryDirectory() as folder:
         well = [passes(name, lambda spare: deep.nest("1", spare, *form), folder) for name, form in deep.NESTS.items()]
         well += [passes("chain of " + name, lambda spare: deep.chain(spare, *form), folder) for name, form in deep.CHAINS.items()]
-    print(f"{well.count(True)} of {len(well)} compiled with {STACK >> 20} MiB of stack behind the expander")
+    print(f"{well.count(True)} of {len(well)} compiled with {STACK / (1 << 20)} MiB of stack behind the expander")
     sys.exit(0 if all(well) else 1)
 
 

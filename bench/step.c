@@ -104,7 +104,6 @@ static const uint8_t *operand(const Machine *m, const uint8_t *p, const uint8_t 
     *reg = ((*p >> 3) & 7) + ((rex >> 2) & 1) * 8;
     p++, *rip = 0, o->is_register = mod == 3, o->number = low + high;
     if (mod == 3) return p;
-    if (mod == 1) return NULL;
     if (mod == 0 && low == 5) {
         int32_t d;
         if (high || end - p < 4) return NULL;
@@ -117,6 +116,10 @@ static const uint8_t *operand(const Machine *m, const uint8_t *p, const uint8_t 
         p++;
     }
     o->address = m->regs[o->number];
+    if (mod == 1) {
+        if (p >= end) return NULL;
+        o->address += (uint64_t)(int64_t)(int8_t)*p++;
+    }
     if (mod == 2) {
         int32_t d;
         if (end - p < 4) return NULL;
@@ -188,6 +191,10 @@ static End step(Machine *m) {
             if (end - p < 4) return STUCK;
             memcpy(&d, p, 4), p += 4;
             return m->at = NEXT + (uint64_t)(int64_t)d, RAN;
+        case 0xeb:
+            if (p >= end) return STUCK;
+            d = (int8_t)*p++;
+            return m->at = NEXT + (uint64_t)(int64_t)d, RAN;
         case 0x0f:
             if (p >= end) return STUCK;
             op = *p++;
@@ -202,7 +209,11 @@ static End step(Machine *m) {
             if (which < 0) return STUCK;
             return m->at = NEXT + (which ? (uint64_t)(int64_t)d : 0), RAN;
         }
-        return STUCK;
+        if ((op & 0xf0) != 0x70 || p >= end) return STUCK;
+        d = (int8_t)*p++;
+        which = condition(m, op & 15);
+        if (which < 0) return STUCK;
+        return m->at = NEXT + (which ? (uint64_t)(int64_t)d : 0), RAN;
     }
     if (!(rex & 8)) {
         OPERAND(0);
@@ -254,8 +265,12 @@ static End step(Machine *m) {
         if (!put(m, &o, (uint64_t)(int64_t)d)) return STUCK;
         DONE;
     case 0x81:
-        OPERAND(4);
-        memcpy(&d, p, 4), p += 4;
+    case 0x83:
+        OPERAND(op == 0x81 ? 4 : 1);
+        if (op == 0x81)
+            memcpy(&d, p, 4), p += 4;
+        else
+            d = (int8_t)*p++;
         if (!get(m, &o, &v) || !operate(m, reg, v, (uint64_t)(int64_t)d, &r)) return STUCK;
         if (reg != 7 && !put(m, &o, r)) return STUCK;
         DONE;

@@ -31,6 +31,11 @@ def memory(reg, base, displacement):
     return bytes([0x80 | (reg & 7) << 3 | base & 7]) + i32(displacement)
 
 
+def memory8(reg, base, displacement):
+    """The same with a displacement of 8 bits."""
+    return bytes([0x40 | (reg & 7) << 3 | base & 7]) + struct.pack("<b", displacement)
+
+
 def wide(opcode, reg, rm, operand):
     return bytes([0x48 | (reg >> 3) << 2 | rm >> 3, *opcode]) + operand
 
@@ -47,6 +52,14 @@ def number(which, rm_, n):
     return wide([0x81], which, rm_, register(which, rm_)) + i32(n)
 
 
+def rm8(opcode, reg, base, displacement):
+    return wide([opcode], reg, base, memory8(reg, base, displacement))
+
+
+def number8(which, rm_, n):
+    return wide([0x83], which, rm_, register(which, rm_)) + struct.pack("<b", n)
+
+
 LOOPS = {
     "registers": [
         rr(0x01, RCX, RAX), rr(0x31, RAX, RBX), rm(0x8D, RDX, RBX, 8), rr(0x89, RDX, RSI),
@@ -56,6 +69,10 @@ LOOPS = {
         rm(0x8B, RAX, RBP, 8), rm(0x01, RAX, RBP, 16), rm(0x89, RCX, RBP, 0), rm(0x3B, RAX, RBP, 24),
         wide([0x0F, 0xB6], RBX, RBP, memory(RBX, RBP, 3)), bytes([0x40, 0x88]) + memory(RBX, RBP, 40),
         wide([0x81], 5, RBP, memory(5, RBP, 48)) + i32(3), wide([0xC7], 0, RBP, memory(0, RBP, 56)) + i32(9),
+    ],
+    "byte forms": [
+        rm8(0x8B, RAX, RBP, 8), rm8(0x01, RAX, RBP, 16), rm8(0x8D, RDX, RBP, -8), number8(7, RBX, 100),
+        b"\x75\x00", number8(0, R9, -7), wide([0x83], 5, RBP, memory8(5, RBP, 24)) + b"\x03", b"\xeb\x00",
     ],
     "all forms": [
         rr(0x89, RCX, RAX), b"\x48\x99", number(1, RSI, 5), wide([0xF7], 7, RSI, register(7, RSI)),

@@ -6,11 +6,12 @@ use Rattle.sch_word.proofs.Walking.{next_is, next_left}
 use Rattle.sch_flat.specs.declared.tree.Exp.{Exp}
 use Rattle.sch_flat.specs.Tree.{Tree, Trees, and_tree}
 use Rattle.sch_flat.specs.View.{tree, trees_of}
+use Rattle.sch_control.specs.Sizes.{is_bare_atom}
 use Rattle.sch_control.specs.Tree as to
 use Rattle.sch_control.specs.Tree.{Expression}
 use Rattle.sch_anf.specs.declared.steps.Step.{Step}
 use Rattle.sch_anf_laws.specs.LabelsFit.{LabelsFit, LabelsFitEach}
-use Rattle.sch_anf_laws.specs.Normal.{Scope, needs_variable, binds, binds_parts, normal, normal_parts}
+use Rattle.sch_anf_laws.specs.Normal.{Scope, ends_in_call, unless_atom, binds, binds_parts, normal, normal_parts}
 use Rattle.sch_anf.specs.Steps.{after, Adds}
 use Rattle.sch_anf.specs.Round.{bound_before, dropped_before}
 use Rattle.sch_anf_laws.proofs.Items.{left}
@@ -22,10 +23,14 @@ pub bound_is : (starts : List ℕ) (e : Tree) (x n next : ℕ) (scope scope' : S
     → (body : Expression) → to.bind x value body ≡ bound_before starts e scope n body
 bound_is starts e x n next scope scope' value p q r h body = rw (h, p, q, r) refl
 
--- a part whose value is dropped
-pub dropped_is : (starts : List ℕ) (e : Tree) (n : ℕ) (scope : Scope) (value : Expression) → needs_variable e ≡ false → value ≡ normal starts false e scope n → (body : Expression)
-    → to.sequence value body ≡ dropped_before starts e scope n body
-dropped_is starts e n scope value p h body = rw (h, p) refl
+module _ (starts : List ℕ) (e : Tree) (n : ℕ) (scope : Scope) (value : Expression) (p : ends_in_call e ≡ false) (h : value ≡ normal starts false e scope n) where
+  -- a part whose value is dropped
+  pub dropped_is : is_bare_atom value ≡ false → (body : Expression) → to.sequence value body ≡ dropped_before starts e scope n body
+  dropped_is i body = let j = rw h at i in rw (p, j, h) refl
+
+  -- a part of which only an atom is left
+  pub atom_is : is_bare_atom value ≡ true → (body : Expression) → body ≡ dropped_before starts e scope n body
+  atom_is i body = let j = rw h at i in rw (p, j) refl
 
 -- ## A sequence
 
@@ -36,17 +41,17 @@ module _ (items : List Exp) (i : ℕ) (e : Exp) (l : i < length items) (is : e �
 
 -- how many variables a part before the last binds
 abbrev pub dropped_binds : Tree → ℕ
-dropped_binds e = cond (needs_variable e) (suc (binds e)) (binds e)
+dropped_binds e = cond (ends_in_call e) (suc (binds e)) (binds e)
 
 module _ (starts : List ℕ) (tail : Bool) (scope : Scope) where
   parts_unfold : (e e' : Tree) (es : Trees) (n : ℕ) → normal_parts starts tail (and_tree e (and_tree e' es)) scope n
       ≡ dropped_before starts e scope n (normal_parts starts tail (and_tree e' es) scope (n + dropped_binds e))
-  parts_unfold e e' es n = go (needs_variable e)
+  parts_unfold e e' es n = go (ends_in_call e)
     where
       go : (b : Bool) → cond b (to.bind n (normal starts false e scope (suc n)) (normal_parts starts tail (and_tree e' es) scope (suc n + binds e)))
-          (to.sequence (normal starts false e scope n) (normal_parts starts tail (and_tree e' es) scope (n + binds e)))
+          (unless_atom (normal starts false e scope n) (normal_parts starts tail (and_tree e' es) scope (n + binds e)))
           ≡ cond b (to.bind n (normal starts false e scope (suc n)) (normal_parts starts tail (and_tree e' es) scope (n + cond b (suc (binds e)) (binds e))))
-          (to.sequence (normal starts false e scope n) (normal_parts starts tail (and_tree e' es) scope (n + cond b (suc (binds e)) (binds e))))
+          (unless_atom (normal starts false e scope n) (normal_parts starts tail (and_tree e' es) scope (n + cond b (suc (binds e)) (binds e))))
       go true = let p : suc n + binds e ≡ n + suc (binds e) = omega arith in ap (λ m. to.bind n (normal starts false e scope (suc n)) (normal_parts starts tail (and_tree e' es) scope m)) p
       go false = refl
 

@@ -59,8 +59,8 @@ pub fn normalize(alloc: Global, p: &FlatProgram) -> Result<ControlProgram, Mem>
     ensures calls { IfOk result (λ q. SameCalls (source p.now) (control.source q)) }
     // Of covered code it makes covered code.
     ensures covered { IfOk result (λ q. StaysCovered (source p.now) (control.source q)) }
-    // It drops as many atoms.
-    ensures dropped { IfOk result (λ q. dropped_of (control.source q).bodies ≡ measures.dropped_of (source p.now)) }
+    // It drops no atom: a part before the last of which only an atom is left, leaves nothing.
+    ensures dropped { IfOk result (λ q. dropped_of (control.source q).bodies ≡ 0) }
     // No body has more variables than its flat body may need.
     ensures variables { IfOk result (λ q. BindNoMore (source p.now) (control.source q)) }
     // There is no more work in what it makes than `p` weighs.

@@ -14,7 +14,7 @@ ghost use Rattle.sch_anf.specs.Round.{bound_before, dropped_before, part_before}
 use crate::after::{Kind, apply_after, branch_of, call_after, fill_after, group_of, set_after};
 use crate::operands::{members_of, simple_operand, source_of};
 use crate::reading::{make_cells, make_closure, read_atom, read_cell, read_global, read_variable};
-use crate::simple::{is_simple, needs_variable};
+use crate::simple::{ends_in_call, is_bare_atom, is_simple};
 use crate::steps::{Step, put_after};
 use crate::variables::Variables;
 use sch_control as control;
@@ -229,7 +229,8 @@ fn normalize_inits(
     Ok(all)
 }
 
-// A part of a sequence before the last, which is bound where it needs a variable.
+// A part of a sequence before the last. It is bound where its value may be that of a call, and leaves nothing where only
+// an atom is left of it.
 #[cycle(normalizing)]
 #[inline(never)]
 fn normalize_dropped(
@@ -241,17 +242,20 @@ fn normalize_dropped(
 ) -> Result<(), Mem>
     requires sorted { IsNonDecreasing starts.now }
     requires labels { LabelsFit (length starts.now) (tree e.now) }
-    requires few { v.old.next + cond (specs.needs_variable (tree e.now)) (suc (binds (tree e.now))) (binds (tree e.now)) < 2 ^ 32 }
+    requires few { v.old.next + cond (specs.ends_in_call (tree e.now)) (suc (binds (tree e.now))) (binds (tree e.now)) < 2 ^ 32 }
     ensures steps { OnOk result (Adds steps.old.items steps.new.items
         (dropped_before starts.now (tree e.now) (scope_of v.old.bound.items) v.old.next)) }
-    ensures next { OnOk result (v.new.next ≡ v.old.next + cond (specs.needs_variable (tree e.now)) (suc (binds (tree e.now))) (binds (tree e.now))) }
+    ensures next { OnOk result (v.new.next ≡ v.old.next + cond (specs.ends_in_call (tree e.now)) (suc (binds (tree e.now))) (binds (tree e.now))) }
     ensures scope { OnOk result (v.new.bound.items ≡ v.old.bound.items) }
 {
-    if needs_variable(e) {
+    if ends_in_call(e) {
         normalize_bound(alloc, starts, e, v, steps)?;
         return Ok(());
     }
     let value = normalize_expression(alloc, starts, e, false, v)?;
+    if is_bare_atom(&value) {
+        return Ok(());
+    }
     steps.push(Step {
         variable: None,
         value,

@@ -1,11 +1,14 @@
-//! Parts that need no variable of their own.
+//! Parts that need no variable of their own, or that leave nothing.
 
 ghost use Rattle.std.specs.Prelude.{◌≡◌};
-ghost use Rattle.sch_flat.specs.Measures as measures;
 ghost use Rattle.sch_flat.specs.View.{tree, trees_of};
+ghost use Rattle.sch_control.specs.Sizes as sizes;
 ghost use Rattle.sch_control.specs.Valid as valid;
+ghost use Rattle.sch_control.specs.View.{expression};
 ghost use Rattle.sch_anf_laws.specs.Normal as normal;
 
+use sch_control as control;
+use sch_control::{Operand, Operation};
 use sch_flat::{Exp, Variable};
 use sch_word::{List, Primitive};
 
@@ -60,9 +63,9 @@ pub fn is_simple(e: &Exp) -> bool
     }
 }
 
-// Whether the value of an expression may be that of a call.
+/// Whether the value of an expression may be that of a call.
 #[cycle(ends)]
-fn ends_in_call(e: &Exp) -> bool
+pub fn ends_in_call(e: &Exp) -> bool
     ensures { result ≡ normal.ends_in_call (tree e.now) }
 {
     match e {
@@ -102,53 +105,12 @@ fn last_in_call(es: &List<Exp>) -> bool
     ends_in_call(&items[count - 1])
 }
 
-// Whether nothing but a constant, a literal or a variable is left of an expression.
-#[cycle(left)]
-fn only_atom(e: &Exp) -> bool
-    ensures { result ≡ normal.only_atom (tree e.now) }
+/// Whether an expression of the language Control is an atom, or a field of the closure.
+pub fn is_bare_atom(e: &control::Exp<()>) -> bool
+    ensures { result ≡ sizes.is_bare_atom (expression e.now) }
 {
-    match e {
-        Exp::Constant(_) | Exp::Literal(_) | Exp::Var(_) => true,
-        Exp::Seq(parts) => only_atom_parts(parts),
-        Exp::Let {
-            site: _,
-            first: _,
-            inits,
-            body,
-        } => are_none(inits) && only_atom(body),
-        Exp::NewCells(cells, body) => cells.len() == 0 && only_atom(body),
-        _ => false,
-    }
-}
-
-#[cycle(left)]
-fn only_atom_parts(es: &List<Exp>) -> bool
-    ensures { result ≡ normal.only_atom_parts (trees_of es.now) }
-{
-    match es.as_slice() {
-        [] => true,
-        [e] => only_atom(e),
-        _ => false,
-    }
-}
-
-fn are_none(es: &List<Exp>) -> bool
-    ensures { result ≡ normal.are_none (trees_of es.now) }
-{
-    es.len() == 0
-}
-
-// Whether an expression is a constant, a literal or a variable.
-fn is_leaf(e: &Exp) -> bool
-    ensures { result ≡ measures.is_atom (tree e.now) }
-{
-    matches!(e, Exp::Constant(_) | Exp::Literal(_) | Exp::Var(_))
-}
-
-/// Whether a part of a sequence before the last is bound: its value may be that of a call, or it is no atom and only
-/// an atom is left of it.
-pub fn needs_variable(e: &Exp) -> bool
-    ensures { result ≡ normal.needs_variable (tree e.now) }
-{
-    ends_in_call(e) || (only_atom(e) && !is_leaf(e))
+    matches!(
+        e,
+        control::Exp::Do(Operation::Operand(Operand::Atom(_)) | Operation::Field(_, _))
+    )
 }

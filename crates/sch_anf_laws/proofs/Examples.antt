@@ -22,7 +22,6 @@ use Rattle.sch_control.specs.Sizes.{expression_size, expressions_size}
 use Rattle.sch_control.specs.Work.{code_work}
 use Rattle.sch_anf_laws.specs.Counted.{most_variables}
 use Rattle.sch_control.specs.Sizes.{bind_within}
-use Rattle.sch_control.specs.Sizes.{dropped_in}
 use Rattle.sch_flat.specs.Measures.{weight}
 use Rattle.sch_control.specs.Valid.{is_valid, code_valid}
 use Rattle.sch_anf_laws.specs.Normal.{normal, normal_source, new_label}
@@ -62,19 +61,22 @@ read_normal : normal [] true (operation 0 Cons (trees (operation 1 IsPair (trees
     to.bind 3 (to.perform (does.Field 1 0)) (to.return (to.perform (does.Prim 0 Cons (operand.Read 1 IsPair (atom.Variable 2 ∷ []) ∷ held 3 ∷ []))))
 read_normal = refl
 
--- a call whose value is dropped is bound, and a constant is not
+-- a call whose value is dropped is bound, and a constant leaves nothing
 dropped_normal : normal [] false (sequence (trees (number 1 ∷ call 0 false (global 0) (trees []) ∷ number 2 ∷ []))) [] 2 ≡
-    to.sequence (to.perform (does.Operand (fixed 1)))
-    (to.bind 2 (to.bind 3 (to.perform (does.Global 0)) (to.call (record { site = 0; spread = false; operator = held 3; operands = [] }) [])) (to.perform (does.Operand (fixed 2))))
+    to.bind 2 (to.bind 3 (to.perform (does.Global 0)) (to.call (record { site = 0; spread = false; operator = held 3; operands = [] }) [])) (to.perform (does.Operand (fixed 2)))
 dropped_normal = refl
 
--- (begin (begin 1) 2): nothing but an atom is left of the first part, so it is bound
-wrapped_normal : normal [] false (sequence (trees (sequence (trees (number 1 ∷ [])) ∷ number 2 ∷ []))) [] 2 ≡ to.bind 2 (to.perform (does.Operand (fixed 1))) (to.perform (does.Operand (fixed 2)))
+-- (begin x 0) for a global x, which may stop: it is done, and its value is dropped
+read_dropped : normal [] false (sequence (trees (global 0 ∷ number 0 ∷ []))) [] 2 ≡ to.sequence (to.perform (does.Global 0)) (to.perform (does.Operand (fixed 0)))
+read_dropped = refl
+
+-- (begin (begin 1 2) 3): only an atom is left of the first part, which leaves nothing
+wrapped_normal : normal [] false (sequence (trees (sequence (trees (number 1 ∷ number 2 ∷ [])) ∷ number 3 ∷ []))) [] 2 ≡ to.perform (does.Operand (fixed 3))
 wrapped_normal = refl
 
--- (begin 1 x 2) drops two atoms, a field among them
-two_dropped : dropped_in (normal [] false (sequence (trees (number 1 ∷ variable (flat.free 0) ∷ number 2 ∷ []))) [] 2) ≡ 2
-two_dropped = refl
+-- (begin 1 x 2 x) for a field x of the closure: the last part is not dropped
+last_kept : normal [] true (sequence (trees (number 1 ∷ variable (flat.free 0) ∷ number 2 ∷ variable (flat.free 0) ∷ []))) [] 2 ≡ to.return (to.perform (does.Field 1 0))
+last_kept = refl
 
 -- an assignment of a cell in one of a cell is done, bound, and names cell and value
 nested_sets : expression_size (normal [] false (cell_set (flat.bound 0) (cell_set (flat.bound 0) (number 1))) ((0, 2) ∷ []) 3) ≡ 7

@@ -3,3 +3,4 @@ pub mod valid
 pub mod kept
 pub mod Examples
 pub mod Items
+pub mod DroppedAtoms

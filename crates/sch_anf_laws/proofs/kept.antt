@@ -1,6 +1,6 @@
 pub mod CallsKept
 pub mod TestsKept
-pub mod DroppedKept
+pub mod NoneDropped
 pub mod BindNoMore
 pub mod CoveredKept
 pub mod WorkKept

@@ -1,10 +1,8 @@
 -- What normalizing makes of a flat tree: an expression of the language Control.
-use Rattle.std.specs.Prelude.{ℕ, suc, ◌+◌, ◌-◌, Bool, true, false, ◌&&◌, ◌||◌, not, cond, nat_le, List, [], ◌∷◌, ◌++◌, length, map, take, drop, Option, Some, None, codes}
+use Rattle.std.specs.Prelude.{ℕ, suc, ◌+◌, ◌-◌, Bool, true, false, ◌&&◌, ◌||◌, cond, nat_le, List, [], ◌∷◌, ◌++◌, length, map, take, drop, Option, Some, None, codes}
 use Rattle.sch_word.specs.declared.constant.Const.TheVariants.{Unspecified}
 use Rattle.sch_word.specs.trees.Bindings.{Bindings, bound_to, numbers, with_variables}
 use Rattle.sch_word.specs.runs.Orders.{order_or_none}
-use Rattle.sch_word.specs.trees.Covered.{is_empty}
-use Rattle.sch_flat.specs.Measures.{is_atom as is_leaf}
 use Rattle.sch_flat.specs.Tree as from
 use Rattle.sch_flat.specs.Tree.{Tree, Trees, Variable, bound, free, Made, NewCell, constant, literal, variable, global, set_global, define, branch, sequence, make_closure, fix_closures, call, operation, new_cells, cell_get, cell_set, no_trees, and_tree}
 use Rattle.sch_control.specs.declared.operation.Atom.{Atom}
@@ -18,6 +16,7 @@ use Rattle.sch_control.specs.declared.operation.Member.{Member}
 use Rattle.sch_control.specs.declared.operation.Operation.{Operation}
 use Rattle.sch_control.specs.declared.operation.Operation.TheVariants as does
 use Rattle.sch_control.specs.declared.operation.Application.{Application}
+use Rattle.sch_control.specs.Sizes.{is_bare_atom}
 use Rattle.sch_control.specs.Valid.{only_reads}
 use Rattle.sch_control.specs.Tree as to
 use Rattle.sch_control.specs.Tree.{Expression}
@@ -92,30 +91,10 @@ abbrev mutual
   last_in_call (and_tree e no_trees) = ends_in_call e
   last_in_call (and_tree e (and_tree e' es)) = last_in_call (and_tree e' es)
 
--- whether nothing but a constant, a literal or a variable is left of a tree
-abbrev pub are_none : Trees → Bool
-are_none no_trees = true
-are_none (and_tree e es) = false
-
-abbrev mutual
-  pub only_atom : Tree → Bool
-  only_atom (constant c) = true
-  only_atom (literal k) = true
-  only_atom (variable v) = true
-  only_atom (sequence es) = only_atom_parts es
-  only_atom (from.bind site first es e) = are_none es && only_atom e
-  only_atom (new_cells cs e) = is_empty cs && only_atom e
-  only_atom _ = false
-
-  pub only_atom_parts : Trees → Bool
-  only_atom_parts no_trees = true
-  only_atom_parts (and_tree e no_trees) = only_atom e
-  only_atom_parts (and_tree e (and_tree e' es)) = false
-
--- A part of a sequence before the last is bound where its value may be that of a call, and where it is no atom and
--- only an atom is left of it. So no atom is dropped that the sequence itself does not drop.
-abbrev pub needs_variable : Tree → Bool
-needs_variable e = ends_in_call e || (only_atom e && not (is_leaf e))
+-- A part of a sequence before the last, round what follows. Where only an atom is left of it, it leaves nothing, since
+-- to read an atom does nothing.
+abbrev pub unless_atom : (first rest : Expression) → Expression
+unless_atom first rest = cond (is_bare_atom first) rest (to.sequence first rest)
 
 -- ## How many variables are bound
 
@@ -142,11 +121,11 @@ abbrev mutual
   binds (cell_get v) = 0
   binds (cell_set v e) = part_binds (is_simple e) (binds e)
 
-  -- a part of a sequence before the last is bound where it needs a variable
+  -- a part of a sequence before the last is bound where its value may be that of a call
   pub binds_parts : Trees → ℕ
   binds_parts no_trees = 0
   binds_parts (and_tree e no_trees) = binds e
-  binds_parts (and_tree e (and_tree e' es)) = cond (needs_variable e) (suc (binds e)) (binds e) + binds_parts (and_tree e' es)
+  binds_parts (and_tree e (and_tree e' es)) = cond (ends_in_call e) (suc (binds e)) (binds e) + binds_parts (and_tree e' es)
 
   pub operands_bind : Trees → ℕ
   operands_bind no_trees = 0
@@ -260,14 +239,14 @@ module _ (starts : List ℕ) where
     normal tail (cell_set v e) scope n = bound_unless (is_simple e) n (normal false e scope (suc n)) (finished tail (to.perform (does.CellSet (source_of scope v) (operand_at scope e n))))
 
     -- The parts of a sequence, of which the last is in the sequence's own context. No call stands where its value
-    -- is dropped.
+    -- is dropped, and no atom.
     pub normal_parts : (tail : Bool) → Trees → Scope → (n : ℕ) → Expression
     normal_parts tail no_trees scope n = finished tail (to.perform (does.Operand (operand.Atom (atom.Constant Unspecified))))
     normal_parts tail (and_tree e no_trees) scope n = normal tail e scope n
     normal_parts tail (and_tree e (and_tree e' es)) scope n =
-        cond (needs_variable e)
+        cond (ends_in_call e)
         (to.bind n (normal false e scope (suc n)) (normal_parts tail (and_tree e' es) scope (suc n + binds e)))
-        (to.sequence (normal false e scope n) (normal_parts tail (and_tree e' es) scope (n + binds e)))
+        (unless_atom (normal false e scope n) (normal_parts tail (and_tree e' es) scope (n + binds e)))
 
     -- the parts that are not simple are bound from left to right
     pub with_operands : Trees → Scope → (n : ℕ) → Expression → Expression

@@ -4,7 +4,7 @@ use Rattle.std.specs.Prelude.{Result, Ok, ℤ}
 use Rattle.std.specs.Int.{w64, to_le_bytes}
 use Rattle.sch_word.specs.values.Memory.{Segment}
 use Rattle.sch_insn.specs.declared.insn.Arg.{Arg}
-use Rattle.sch_insn.specs.declared.insn.Arg.TheVariants.{Reg, Base, Base32, Rip}
+use Rattle.sch_insn.specs.declared.insn.Arg.TheVariants.{Reg, Base, Base8, Base32, Rip}
 use Rattle.sch_insn.specs.declared.insn.Insn.{Insn}
 use Rattle.sch_insn.specs.declared.insn.Insn.TheVariants as insn
 use Rattle.sch_insn.specs.declared.state.StuckCause.{StuckCause}
@@ -47,6 +47,7 @@ module _ (setting : Setting) where
   abbrev pub Names : View → ℕ → Arg → ℕ → Type 0
   Names x next (Reg r) a = ⊥
   Names x next (Base b) a = x.registers b ≡ a
+  Names x next (Base8 b d) a = add64 (x.registers b) (word d) ≡ a
   Names x next (Base32 b d) a = add64 (x.registers b) (word d) ≡ a
   Names x next (Rip d) a = add64 next (word d) ≡ a
 
@@ -62,6 +63,7 @@ module _ (setting : Setting) where
   load_performs : (x : View) (r next a : ℕ) (m : Arg) → Names x next m a → Inside (length x.bytes) a → perform (insn.MovFrom r m) next (full setting x) ≡ Runs (full setting (word_loaded x r next a))
   load_performs x r next a (Reg b) e h = absurd e
   load_performs x r next a (Base b) e h = read_by x r next a _ e h
+  load_performs x r next a (Base8 b d) e h = read_by x r next a _ e h
   load_performs x r next a (Base32 b d) e h = read_by x r next a _ e h
   load_performs x r next a (Rip d) e h = read_by x r next a _ e h
 
@@ -80,6 +82,7 @@ module _ (setting : Setting) where
   store_performs : (x : View) (r next a : ℕ) (m : Arg) → Names x next m a → Inside (length x.bytes) a → perform (insn.MovTo m r) next (full setting x) ≡ Runs (full setting (word_stored x (x.registers r) next a))
   store_performs x r next a (Reg b) e h = absurd e
   store_performs x r next a (Base b) e h = write_by x (x.registers r) next a _ e h
+  store_performs x r next a (Base8 b d) e h = write_by x (x.registers r) next a _ e h
   store_performs x r next a (Base32 b d) e h = write_by x (x.registers r) next a _ e h
   store_performs x r next a (Rip d) e h = write_by x (x.registers r) next a _ e h
 
@@ -89,6 +92,7 @@ module _ (setting : Setting) where
   number_performs : (x : View) (v : ℤ) (next a : ℕ) (m : Arg) → Names x next m a → Inside (length x.bytes) a → perform (insn.MovNumber m v) next (full setting x) ≡ Runs (full setting (word_stored x (word v) next a))
   number_performs x v next a (Reg b) e h = absurd e
   number_performs x v next a (Base b) e h = write_by x (word v) next a _ e h
+  number_performs x v next a (Base8 b d) e h = write_by x (word v) next a _ e h
   number_performs x v next a (Base32 b d) e h = write_by x (word v) next a _ e h
   number_performs x v next a (Rip d) e h = write_by x (word v) next a _ e h
 
@@ -104,6 +108,7 @@ module _ (setting : Setting) where
   load_byte_performs : (x : View) (r next a : ℕ) (m : Arg) → Names x next m a → 0x10000000 ≤ a → a < 0x10000000 + length x.bytes → perform (insn.LoadByte r m) next (full setting x) ≡ Runs (full setting (byte_loaded x r next a))
   load_byte_performs x r next a (Reg b) e low high = absurd e
   load_byte_performs x r next a (Base b) e low high = byte_read_by x r next a _ e low high
+  load_byte_performs x r next a (Base8 b d) e low high = byte_read_by x r next a _ e low high
   load_byte_performs x r next a (Base32 b d) e low high = byte_read_by x r next a _ e low high
   load_byte_performs x r next a (Rip d) e low high = byte_read_by x r next a _ e low high
 
@@ -119,6 +124,7 @@ module _ (setting : Setting) where
   store_byte_performs : (x : View) (r next a : ℕ) (m : Arg) → Names x next m a → 0x10000000 ≤ a → a < 0x10000000 + length x.bytes → perform (insn.StoreByte m r) next (full setting x) ≡ Runs (full setting (byte_stored x (x.registers r % 256) next a))
   store_byte_performs x r next a (Reg b) e low high = absurd e
   store_byte_performs x r next a (Base b) e low high = byte_written_by x (x.registers r % 256) next a _ e low high
+  store_byte_performs x r next a (Base8 b d) e low high = byte_written_by x (x.registers r % 256) next a _ e low high
   store_byte_performs x r next a (Base32 b d) e low high = byte_written_by x (x.registers r % 256) next a _ e low high
   store_byte_performs x r next a (Rip d) e low high = byte_written_by x (x.registers r % 256) next a _ e low high
 

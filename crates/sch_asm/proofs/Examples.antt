@@ -59,8 +59,9 @@ arriving :
 arriving = (refl, refl, refl, refl)
 
 -- an instruction that names its own place is not plain
-not_plain : (IsPlain (insn.MovTo (Rip (pos 0)) RAX) → ⊥) × (IsPlain (insn.Jump (pos 0)) → ⊥) × (IsPlain (insn.JumpIf L (pos 0)) → ⊥)
-not_plain = (λ h. h, λ h. h, λ h. h)
+not_plain : (IsPlain (insn.MovTo (Rip (pos 0)) RAX) → ⊥) × (IsPlain (insn.AddNumber8 (Rip (pos 0)) (pos 1)) → ⊥) × (IsPlain (insn.Jump (pos 0)) → ⊥) × (IsPlain (insn.Jump8 (pos 0)) → ⊥)
+    × (IsPlain (insn.JumpIf L (pos 0)) → ⊥) × (IsPlain (insn.JumpIf8 L (pos 0)) → ⊥)
+not_plain = (λ h. h, λ h. h, λ h. h, λ h. h, λ h. h, λ h. h)
 
 -- ---- words and errors
 

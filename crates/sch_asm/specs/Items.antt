@@ -47,6 +47,12 @@ IsPlain (insn.AndNumber m n) = IsFree m
 IsPlain (insn.SubNumber m n) = IsFree m
 IsPlain (insn.XorNumber m n) = IsFree m
 IsPlain (insn.CmpNumber m n) = IsFree m
+IsPlain (insn.AddNumber8 m n) = IsFree m
+IsPlain (insn.OrNumber8 m n) = IsFree m
+IsPlain (insn.AndNumber8 m n) = IsFree m
+IsPlain (insn.SubNumber8 m n) = IsFree m
+IsPlain (insn.XorNumber8 m n) = IsFree m
+IsPlain (insn.CmpNumber8 m n) = IsFree m
 IsPlain (insn.TestTo m r) = IsFree m
 IsPlain (insn.Imul r m) = IsFree m
 IsPlain (insn.Neg m) = IsFree m
@@ -56,8 +62,10 @@ IsPlain (insn.Shl m k) = IsFree m
 IsPlain (insn.Shr m k) = IsFree m
 IsPlain (insn.Sar m k) = IsFree m
 IsPlain (insn.Jump d) = ⊥
+IsPlain (insn.Jump8 d) = ⊥
 IsPlain (insn.JumpTo m) = IsFree m
 IsPlain (insn.JumpIf c d) = ⊥
+IsPlain (insn.JumpIf8 c d) = ⊥
 IsPlain insn.Syscall = Unit {0}
 
 -- The addresses of data words: from that of the data on, and eight bytes below 2^31.

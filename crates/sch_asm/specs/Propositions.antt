@@ -2,7 +2,7 @@
 use Rattle.std.specs.Prelude.{List, [], ◌∷◌}
 use Rattle.std.proofs.Props.{props}
 use Rattle.sch_insn.specs.declared.insn.Arg.{Arg}
-use Rattle.sch_insn.specs.declared.insn.Arg.TheVariants.{Reg, Base, Base32, Rip}
+use Rattle.sch_insn.specs.declared.insn.Arg.TheVariants.{Reg, Base, Base8, Base32, Rip}
 use Rattle.sch_insn.specs.declared.insn.Insn.{Insn}
 use Rattle.sch_insn.specs.declared.insn.Insn.TheVariants as insn
 use Rattle.sch_insn.specs.Spelling.{IsValid, IsArg}
@@ -13,6 +13,7 @@ use Rattle.sch_asm.specs.Items.{IsFree, IsPlain, IsItem, AreItems}
 IsArg-prop : (m : Arg) → IsProp (IsArg m)
 IsArg-prop (Reg r) = hlevel props
 IsArg-prop (Base b) = hlevel props
+IsArg-prop (Base8 b d) = hlevel props
 IsArg-prop (Base32 b d) = hlevel props
 IsArg-prop (Rip d) = hlevel props
 
@@ -46,6 +47,12 @@ IsValid-prop (insn.AndNumber m n) = hlevel (props, IsArg-prop)
 IsValid-prop (insn.SubNumber m n) = hlevel (props, IsArg-prop)
 IsValid-prop (insn.XorNumber m n) = hlevel (props, IsArg-prop)
 IsValid-prop (insn.CmpNumber m n) = hlevel (props, IsArg-prop)
+IsValid-prop (insn.AddNumber8 m n) = hlevel (props, IsArg-prop)
+IsValid-prop (insn.OrNumber8 m n) = hlevel (props, IsArg-prop)
+IsValid-prop (insn.AndNumber8 m n) = hlevel (props, IsArg-prop)
+IsValid-prop (insn.SubNumber8 m n) = hlevel (props, IsArg-prop)
+IsValid-prop (insn.XorNumber8 m n) = hlevel (props, IsArg-prop)
+IsValid-prop (insn.CmpNumber8 m n) = hlevel (props, IsArg-prop)
 IsValid-prop (insn.TestTo m r) = hlevel (props, IsArg-prop)
 IsValid-prop (insn.Imul r m) = hlevel (props, IsArg-prop)
 IsValid-prop (insn.Neg m) = hlevel (props, IsArg-prop)
@@ -55,8 +62,10 @@ IsValid-prop (insn.Shl m k) = hlevel (props, IsArg-prop)
 IsValid-prop (insn.Shr m k) = hlevel (props, IsArg-prop)
 IsValid-prop (insn.Sar m k) = hlevel (props, IsArg-prop)
 IsValid-prop (insn.Jump d) = hlevel (props, IsArg-prop)
+IsValid-prop (insn.Jump8 d) = hlevel (props, IsArg-prop)
 IsValid-prop (insn.JumpTo m) = hlevel (props, IsArg-prop)
 IsValid-prop (insn.JumpIf c d) = hlevel (props, IsArg-prop)
+IsValid-prop (insn.JumpIf8 c d) = hlevel (props, IsArg-prop)
 IsValid-prop insn.Syscall = hlevel (props, IsArg-prop)
 
 IsPlain-prop : (i : Insn) → IsProp (IsPlain i)
@@ -85,6 +94,12 @@ IsPlain-prop (insn.AndNumber m n) = hlevel (props, IsFree-prop)
 IsPlain-prop (insn.SubNumber m n) = hlevel (props, IsFree-prop)
 IsPlain-prop (insn.XorNumber m n) = hlevel (props, IsFree-prop)
 IsPlain-prop (insn.CmpNumber m n) = hlevel (props, IsFree-prop)
+IsPlain-prop (insn.AddNumber8 m n) = hlevel (props, IsFree-prop)
+IsPlain-prop (insn.OrNumber8 m n) = hlevel (props, IsFree-prop)
+IsPlain-prop (insn.AndNumber8 m n) = hlevel (props, IsFree-prop)
+IsPlain-prop (insn.SubNumber8 m n) = hlevel (props, IsFree-prop)
+IsPlain-prop (insn.XorNumber8 m n) = hlevel (props, IsFree-prop)
+IsPlain-prop (insn.CmpNumber8 m n) = hlevel (props, IsFree-prop)
 IsPlain-prop (insn.TestTo m r) = hlevel (props, IsFree-prop)
 IsPlain-prop (insn.Imul r m) = hlevel (props, IsFree-prop)
 IsPlain-prop (insn.Neg m) = hlevel (props, IsFree-prop)
@@ -94,8 +109,10 @@ IsPlain-prop (insn.Shl m k) = hlevel (props, IsFree-prop)
 IsPlain-prop (insn.Shr m k) = hlevel (props, IsFree-prop)
 IsPlain-prop (insn.Sar m k) = hlevel (props, IsFree-prop)
 IsPlain-prop (insn.Jump d) = hlevel (props, IsFree-prop)
+IsPlain-prop (insn.Jump8 d) = hlevel (props, IsFree-prop)
 IsPlain-prop (insn.JumpTo m) = hlevel (props, IsFree-prop)
 IsPlain-prop (insn.JumpIf c d) = hlevel (props, IsFree-prop)
+IsPlain-prop (insn.JumpIf8 c d) = hlevel (props, IsFree-prop)
 IsPlain-prop insn.Syscall = hlevel (props, IsFree-prop)
 
 IsItem-prop : (i : Item) → IsProp (IsItem i)

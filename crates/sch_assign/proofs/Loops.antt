@@ -1,7 +1,6 @@
 -- What loops have made and have left.
-use Rattle.std.proofs.Common.{◌≡◌, ℕ, zero, suc, ◌+◌, ◌-◌, ◌<◌, ◌≤◌, Bool, true, false, List, [], ◌∷◌, ◌++◌, length, map, drop, take, get_or, None, refl, sym, ap, ◌∙◌, subst, arith, add-one, append_assoc}
+use Rattle.std.proofs.Common.{◌≡◌, ℕ, zero, suc, ◌+◌, ◌-◌, ◌<◌, ◌≤◌, Bool, true, false, List, [], ◌∷◌, ◌++◌, length, map, drop, get_or, None, refl, sym, ap, ◌∙◌, subst, arith, add-one, append_assoc}
 use Rattle.std.specs.Prelude.{slice_set}
-use Rattle.std.proofs.lemmas.List.{get_or_default, get_or-set_other, length-set, take-set, take_more_set}
 use Rattle.sch_cells.specs.declared.tree.Exp.{Exp}
 use Rattle.sch_cells.specs.declared.tree.Lambda.{Lambda}
 use Rattle.sch_cells.specs.declared.tree.NewCell.{NewCell}
@@ -11,8 +10,8 @@ use Rattle.sch_cells.specs.View.{tree, trees_of, lambdas_of, function}
 use Rattle.sch_cells.proofs.Rows.{trees_of_list, lambdas_of_list}
 use Rattle.sch_word.specs.trees.Walk.{onto}
 use Rattle.sch_word.proofs.Walking.{end_items, next_item, next_left, onto_more}
-use Rattle.sch_assign.specs.Converted.{Low, and_cell, cells_for, empty_cells, filling, converted, converted_each, converted_lambdas}
-use Rattle.sch_assign.specs.InRange.{InRange, EachInRange, LambdasInRange}
+use Rattle.sch_assign.specs.Converted.{and_cell, cells_for, empty_cells, filling, converted, converted_each, converted_lambdas}
+use Rattle.sch_assign.specs.InRange.{EachInRange, LambdasInRange}
 use Rattle.sch_assign.specs.Table.{group_marked, each_marked, lambdas_marked}
 
 -- ## Groups of variables, from a place on
@@ -93,38 +92,10 @@ fill_end n all q r x m i l g =
     let k : onto and_then all (and_tree (tree q) no_trees) ≡ r = rw p at g in
     trees_onto (all ++ q ∷ []) ∙ onto_more and_then all q no_trees ∙ k
 
--- ## A loop that takes the item at a place out of a list, and puts what is made of it there
-
--- from a place on the items are those of the beginning
-abbrev pub Unvisited : {A : Type 0} → (items initial : List A) (i : ℕ) → Type 0
-Unvisited {A} items initial i = (length items ≡ length initial) × ((k : ℕ) (d : A) → i ≤ k → get_or items k d ≡ get_or initial k d)
-
-module _ {A : Type 0} (items initial : List A) (i : ℕ) where
-  pub within_initial : Unvisited items initial i → i < length items → i < length initial
-  within_initial u l = subst (λ m. i < m) u.0 l
-
-  pub unvisited_item : (none e : A) → Unvisited items initial i → i < length items → e ≡ get_or items i none → e ≡ get_or initial i e
-  unvisited_item none e u l is = is ∙ get_or_default items i none e l ∙ u.1 i e (omega arith)
-
-  pub unvisited_next : (none q : A) → Unvisited items initial i → Unvisited (slice_set (slice_set items i none) i q) initial (i + 1)
-  unvisited_next none q u = (
-    length-set (slice_set items i none) i q ∙ (length-set items i none ∙ u.0),
-    λ k d m. get_or-set_other (slice_set items i none) i k q d (omega (arith, m)) ∙ (get_or-set_other items i k none d (omega (arith, m)) ∙ u.1 k d (omega (arith, m))),
-  )
-
-taken : {A : Type 0} (items : List A) (i : ℕ) (none q : A) → i < length items → take (i + 1) (slice_set (slice_set items i none) i q) ≡ take i items ++ q ∷ []
-taken items i none q l = take_more_set (slice_set items i none) i q (subst (λ m. i < m) (sym (length-set items i none)) l) ∙ ap (λ done. done ++ q ∷ []) (take-set items i none)
-
 module _ (has_cell : ℕ → Bool) (n : ℕ) where
   module _ (items : List Exp) (i : ℕ) (all : List Exp) (e q : Exp) (whole : Trees) (l : i < length items) (is : e ≡ get_or items i e) where
     pub each_made : tree q ≡ converted has_cell n (tree e) → onto and_then all (converted_each has_cell n (left (drop i items))) ≡ whole → onto and_then (all ++ q ∷ []) (converted_each has_cell n (left (drop (i + 1) items))) ≡ whole
     each_made h k = next_item items i and_then (λ es. converted_each has_cell n (left es)) all e q whole l is (rw h refl) k
-
-  -- the item at a place is taken out, and what is made of it is put there
-  pub each_placed : (items initial new : List Exp) (i : ℕ) (none e q : Exp) (whole : Trees) → Unvisited items initial i → i < length items → e ≡ get_or initial i e → new ≡ slice_set (slice_set items i none) i q
-      → tree q ≡ converted has_cell n (tree e) → onto and_then (take i items) (converted_each has_cell n (left (drop i initial))) ≡ whole → onto and_then (take (i + 1) new) (converted_each has_cell n (left (drop (i + 1) initial))) ≡ whole
-  each_placed items initial new i none e q whole u l is put h k =
-      rw (put, taken items i none q l) (each_made initial i (take i items) e q whole (within_initial items initial i u l) is h k)
 
   pub each_start : (items : List Exp) (all : List Exp) → all ≡ [] → onto and_then all (converted_each has_cell n (left items)) ≡ converted_each has_cell n (trees_of items)
   each_start items all h = rw h (ap (converted_each has_cell n) (sym (trees_of_list items)))
@@ -142,12 +113,6 @@ module _ (has_cell : ℕ → Bool) (n : ℕ) where
         onto and_then_lambda (all ++ q ∷ []) (converted_lambdas has_cell n (left_lambdas (drop (i + 1) items))) ≡ whole
     lambdas_made h k = next_item items i and_then_lambda (λ es. converted_lambdas has_cell n (left_lambdas es)) all e q whole l is (ap (λ t. onto_lambda t (converted_lambdas has_cell n (left_lambdas (drop (suc i) items)))) (sym h)) k
 
-  pub lambdas_placed : (items initial new : List Lambda) (i : ℕ) (none e q : Lambda) (whole : Lambdas) → Unvisited items initial i → i < length items → e ≡ get_or initial i e → new ≡ slice_set (slice_set items i none) i q
-      → plain.lambda q.name q.first q.formals q.rest (tree q.body) ≡ converted has_cell n (plain.lambda e.name e.first e.formals e.rest (tree e.body))
-      → onto and_then_lambda (take i items) (converted_lambdas has_cell n (left_lambdas (drop i initial))) ≡ whole → onto and_then_lambda (take (i + 1) new) (converted_lambdas has_cell n (left_lambdas (drop (i + 1) initial))) ≡ whole
-  lambdas_placed items initial new i none e q whole u l is put h k =
-      rw (put, taken items i none q l) (lambdas_made initial i (take i items) e q whole (within_initial items initial i u l) is h k)
-
   pub lambdas_start : (items : List Lambda) (all : List Lambda) → all ≡ [] → onto and_then_lambda all (converted_lambdas has_cell n (left_lambdas items)) ≡ converted_lambdas has_cell n (lambdas_of items)
   lambdas_start items all h = rw h (ap (converted_lambdas has_cell n) (sym (lambdas_of_list items)))
 
@@ -163,12 +128,6 @@ module _ (n : ℕ) where
 
   pub within_lambdas_start : (items es : List Lambda) → items ≡ es → LambdasInRange n (lambdas_of es) → LambdasInRange n (left_lambdas items)
   within_lambdas_start items es h i = subst (LambdasInRange n) (lambdas_of_list items) (subst (λ l. LambdasInRange n (lambdas_of l)) (sym h) i)
-
-  pub within_item : (items : List Exp) (i : ℕ) (e : Exp) → i < length items → e ≡ get_or items i e → EachInRange n (left (drop i items)) → InRange n (tree e)
-  within_item items i e l is k = (next_left items i (λ es. EachInRange n (left es)) e l is k).0
-
-  pub within_lambdas_item : (items : List Lambda) (i : ℕ) (e : Lambda) → i < length items → e ≡ get_or items i e → LambdasInRange n (left_lambdas (drop i items)) → Low n e.first e.formals × InRange n (tree e.body)
-  within_lambdas_item items i e l is k = (next_left items i (λ es. LambdasInRange n (left_lambdas es)) e l is k).0
 
   pub within_next : (items : List Exp) (i : ℕ) (e : Exp) → i < length items → e ≡ get_or items i e → EachInRange n (left (drop i items)) → EachInRange n (left (drop (i + 1) items))
   within_next items i e l is k = rw add-one (next_left items i (λ es. EachInRange n (left es)) e l is k).1

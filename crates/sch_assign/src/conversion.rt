@@ -9,9 +9,8 @@ ghost use Rattle.sch_assign.specs.Table.{table};
 
 use crate::marking::{count, variable_at};
 use sch_cells::{Exp, Lambda, NewCell};
-use sch_word::{Const, List, Mem};
+use sch_word::{List, Mem};
 use std::alloc::Global;
-use std::mem;
 
 // Whether a variable gets a cell.
 fn gets_cell(celled: &[bool], x: u32) -> bool
@@ -105,23 +104,6 @@ fn wrap_body(alloc: Global, cs: List<NewCell>, e: Exp) -> Result<Exp, Mem>
     Ok(Exp::NewCells(cs, Box::new(alloc, e)?))
 }
 
-// What stands in the place of an expression while that is converted.
-fn no_expression() -> Exp {
-    Exp::Constant(Const::Unspecified)
-}
-
-// The same for a lambda.
-#[inline(never)]
-fn no_lambda(alloc: Global) -> Lambda {
-    Lambda {
-        name: List::new(alloc),
-        first: 0,
-        formals: 0,
-        rest: false,
-        body: no_expression(),
-    }
-}
-
 // A variable's value goes into its cell.
 #[inline(never)]
 fn fill_one(alloc: Global, n: u32, x: u32) -> Result<Exp, Mem>
@@ -169,35 +151,35 @@ fn recursive(
     Ok(Exp::NewCells(cs, Box::new(alloc, inner)?))
 }
 
-/// The expression with cells for the variables of the table. Its nodes are moved, and not copied.
+/// The expression with cells for the variables of the table.
 #[cycle(converting)]
-fn convert(alloc: Global, celled: &[bool], n: u32, e: Exp) -> Result<Exp, Mem>
-    requires within { InRange n (tree e) }
+fn convert(alloc: Global, celled: &[bool], n: u32, e: &Exp) -> Result<Exp, Mem>
+    requires within { InRange n (tree e.now) }
     requires few { n + n < 2 ^ 32 }
-    ensures { IfOk result (λ q. tree q ≡ converted (table celled.now) n (tree e)) }
+    ensures { IfOk result (λ q. tree q ≡ converted (table celled.now) n (tree e.now)) }
 {
     match e {
-        Exp::Constant(c) => Ok(Exp::Constant(c)),
-        Exp::Literal(k) => Ok(Exp::Literal(k)),
+        Exp::Constant(c) => Ok(Exp::Constant(*c)),
+        Exp::Literal(k) => Ok(Exp::Literal(*k)),
         Exp::Var(x) => {
-            if gets_cell(celled, x) {
-                Ok(Exp::CellGet(x + n))
+            if gets_cell(celled, *x) {
+                Ok(Exp::CellGet(*x + n))
             } else {
-                Ok(Exp::Var(x))
+                Ok(Exp::Var(*x))
             }
         }
-        Exp::Global(g) => Ok(Exp::Global(g)),
+        Exp::Global(g) => Ok(Exp::Global(*g)),
         Exp::SetVar(x, value) => {
             let value = convert_boxed(alloc, celled, n, value)?;
-            Ok(Exp::CellSet(x + n, value))
+            Ok(Exp::CellSet(*x + n, value))
         }
         Exp::SetGlobal(g, value) => {
             let value = convert_boxed(alloc, celled, n, value)?;
-            Ok(Exp::SetGlobal(g, value))
+            Ok(Exp::SetGlobal(*g, value))
         }
         Exp::Define(g, value) => {
             let value = convert_boxed(alloc, celled, n, value)?;
-            Ok(Exp::Define(g, value))
+            Ok(Exp::Define(*g, value))
         }
         Exp::If(test, yes, no) => {
             let test = convert_boxed(alloc, celled, n, test)?;
@@ -215,13 +197,13 @@ fn convert(alloc: Global, celled: &[bool], n: u32, e: Exp) -> Result<Exp, Mem>
             inits,
             body,
         } => {
-            let cs = cells(alloc, celled, n, first, count(&inits))?;
+            let cs = cells(alloc, celled, n, *first, count(inits))?;
             let inits = convert_each(alloc, celled, n, inits)?;
             let body = convert_boxed(alloc, celled, n, body)?;
             let body = wrap(alloc, cs, body)?;
             Ok(Exp::Let {
-                site,
-                first,
+                site: *site,
+                first: *first,
                 inits,
                 body,
             })
@@ -234,7 +216,7 @@ fn convert(alloc: Global, celled: &[bool], n: u32, e: Exp) -> Result<Exp, Mem>
             let lambdas = convert_lambdas(alloc, celled, n, lambdas)?;
             let body = convert_boxed(alloc, celled, n, body)?;
             Ok(Exp::Fix {
-                first,
+                first: *first,
                 lambdas,
                 body,
             })
@@ -245,16 +227,16 @@ fn convert(alloc: Global, celled: &[bool], n: u32, e: Exp) -> Result<Exp, Mem>
             inits,
             body,
         } => {
-            let count = count(&inits);
-            let cs = no_values(alloc, n, first, count)?;
+            let count = count(inits);
+            let cs = no_values(alloc, n, *first, count)?;
             let inits = convert_each(alloc, celled, n, inits)?;
-            let body = convert_boxed(alloc, celled, n, body)?;
-            let parts = fill(alloc, n, first, count, Box::into_inner(body))?;
-            recursive(alloc, cs, site, first, inits, parts)
+            let body = convert(alloc, celled, n, body)?;
+            let parts = fill(alloc, n, *first, count, body)?;
+            recursive(alloc, cs, *site, *first, inits, parts)
         }
         Exp::Lambda(l) => {
-            let l = convert_procedure(alloc, celled, n, l)?;
-            Ok(Exp::Lambda(l))
+            let l = convert_lambda(alloc, celled, n, l)?;
+            Ok(Exp::Lambda(Box::new(alloc, l)?))
         }
         Exp::Call {
             site,
@@ -265,15 +247,15 @@ fn convert(alloc: Global, celled: &[bool], n: u32, e: Exp) -> Result<Exp, Mem>
             let operator = convert_boxed(alloc, celled, n, operator)?;
             let operands = convert_each(alloc, celled, n, operands)?;
             Ok(Exp::Call {
-                site,
-                spread,
+                site: *site,
+                spread: *spread,
                 operator,
                 operands,
             })
         }
         Exp::Prim(site, which, operands) => {
             let operands = convert_each(alloc, celled, n, operands)?;
-            Ok(Exp::Prim(site, which, operands))
+            Ok(Exp::Prim(*site, *which, operands))
         }
         Exp::NewCells(_, _) | Exp::CellGet(_) | Exp::CellSet(_, _) => unreachable!(),
     }
@@ -282,15 +264,13 @@ fn convert(alloc: Global, celled: &[bool], n: u32, e: Exp) -> Result<Exp, Mem>
 // The same on the heap. As a function of its own it keeps the frames of the walk small.
 #[cycle(converting)]
 #[inline(never)]
-fn convert_boxed(alloc: Global, celled: &[bool], n: u32, e: Box<Exp>) -> Result<Box<Exp>, Mem>
-    requires within { InRange n (tree e.value) }
+fn convert_boxed(alloc: Global, celled: &[bool], n: u32, e: &Exp) -> Result<Box<Exp>, Mem>
+    requires within { InRange n (tree e.now) }
     requires few { n + n < 2 ^ 32 }
-    ensures { IfOk result (λ q. tree q.value ≡ converted (table celled.now) n (tree e.value)) }
+    ensures { IfOk result (λ q. tree q.value ≡ converted (table celled.now) n (tree e.now)) }
 {
-    let mut place = e;
-    let e = mem::replace(&mut *place, no_expression());
-    *place = convert(alloc, celled, n, e)?;
-    Ok(place)
+    let e = convert(alloc, celled, n, e)?;
+    Ok(Box::new(alloc, e)?)
 }
 
 /// The same for each of some expressions.
@@ -300,58 +280,39 @@ pub(crate) fn convert_each(
     alloc: Global,
     celled: &[bool],
     n: u32,
-    es: List<Exp>,
+    es: &List<Exp>,
 ) -> Result<List<Exp>, Mem>
-    requires within { EachInRange n (trees_of es) }
+    requires within { EachInRange n (trees_of es.now) }
     requires few { n + n < 2 ^ 32 }
-    ensures { IfOk result (λ qs. trees_of qs ≡ converted_each (table celled.now) n (trees_of es)) }
+    ensures { IfOk result (λ qs. trees_of qs ≡ converted_each (table celled.now) n (trees_of es.now)) }
 {
-    let mut items = es.into_vec();
-    for i in 0..items.len() {
-        let e = mem::replace(&mut items[i], no_expression());
-        items[i] = convert(alloc, celled, n, e)?;
+    let mut all = List::from_vec(Vec::with_capacity(alloc, es.len())?);
+    for e in es.as_slice() {
+        all.push(convert(alloc, celled, n, e)?)?;
     }
-    Ok(List::from_vec(items))
+    Ok(all)
 }
 
 #[cycle(converting)]
 #[inline(never)]
-fn convert_lambda(alloc: Global, celled: &[bool], n: u32, l: Lambda) -> Result<Lambda, Mem>
-    requires low { Low n l.first l.formals }
-    requires within { InRange n (tree l.body) }
+fn convert_lambda(alloc: Global, celled: &[bool], n: u32, l: &Lambda) -> Result<Lambda, Mem>
+    requires low { Low n l.now.first l.now.formals }
+    requires within { InRange n (tree l.now.body) }
     requires few { n + n < 2 ^ 32 }
     ensures { IfOk result (λ q. plain.lambda q.name q.first q.formals q.rest (tree q.body) ≡
-        converted (table celled.now) n (plain.lambda l.name l.first l.formals l.rest (tree l.body))) }
+        converted (table celled.now) n (plain.lambda l.now.name l.now.first l.now.formals l.now.rest (tree l.now.body))) }
 {
     let cs = cells(alloc, celled, n, l.first, l.formals as usize)?;
-    let body = convert(alloc, celled, n, l.body)?;
+    let body = convert(alloc, celled, n, &l.body)?;
     let body = wrap_body(alloc, cs, body)?;
+    let name = List::from_slice(alloc, l.name.as_slice())?;
     Ok(Lambda {
-        name: l.name,
+        name,
         first: l.first,
         formals: l.formals,
         rest: l.rest,
         body,
     })
-}
-
-// The same on the heap.
-#[cycle(converting)]
-#[inline(never)]
-fn convert_procedure(
-    alloc: Global,
-    celled: &[bool],
-    n: u32,
-    l: Box<Lambda>,
-) -> Result<Box<Lambda>, Mem>
-    requires low { Low n l.value.first l.value.formals }
-    requires within { InRange n (tree l.value.body) }
-    requires few { n + n < 2 ^ 32 }
-    ensures { IfOk result (λ q. plain.lambda q.value.name q.value.first q.value.formals q.value.rest (tree q.value.body) ≡
-        converted (table celled.now) n (plain.lambda l.value.name l.value.first l.value.formals l.value.rest (tree l.value.body))) }
-{
-    let l = convert_lambda(alloc, celled, n, Box::into_inner(l))?;
-    Ok(Box::new(alloc, l)?)
 }
 
 /// The same for each of some lambdas.
@@ -361,16 +322,15 @@ pub(crate) fn convert_lambdas(
     alloc: Global,
     celled: &[bool],
     n: u32,
-    ls: List<Lambda>,
+    ls: &List<Lambda>,
 ) -> Result<List<Lambda>, Mem>
-    requires within { LambdasInRange n (lambdas_of ls) }
+    requires within { LambdasInRange n (lambdas_of ls.now) }
     requires few { n + n < 2 ^ 32 }
-    ensures { IfOk result (λ qs. lambdas_of qs ≡ converted_lambdas (table celled.now) n (lambdas_of ls)) }
+    ensures { IfOk result (λ qs. lambdas_of qs ≡ converted_lambdas (table celled.now) n (lambdas_of ls.now)) }
 {
-    let mut items = ls.into_vec();
-    for i in 0..items.len() {
-        let l = mem::replace(&mut items[i], no_lambda(alloc));
-        items[i] = convert_lambda(alloc, celled, n, l)?;
+    let mut all = List::from_vec(Vec::with_capacity(alloc, ls.len())?);
+    for l in ls.as_slice() {
+        all.push(convert_lambda(alloc, celled, n, l)?)?;
     }
-    Ok(List::from_vec(items))
+    Ok(all)
 }

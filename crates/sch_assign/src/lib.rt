@@ -22,7 +22,7 @@ mod marking;
 use crate::conversion::{convert_each, convert_lambdas};
 use crate::marking::{mark_each, mark_lambdas};
 use sch_cells::{Boxed, CellProgram, Unboxed};
-use sch_word::Mem;
+use sch_word::{List, Mem};
 use std::alloc::Global;
 use std::marker::PhantomData;
 
@@ -32,33 +32,33 @@ use std::marker::PhantomData;
 /// `(lambda (x) (set! x 1) x)` -> a new cell c with the value of x, 1 into c, and what c holds.
 ///
 /// It takes time in proportion to the size of `p` and stack in proportion to its levels.
-pub fn convert_assign(alloc: Global, p: CellProgram<Unboxed>) -> Result<CellProgram<Boxed>, Mem>
-    requires few { p.variables + p.variables < 2 ^ 32 - 2 ^ 10 }
+pub fn convert_assign(alloc: Global, p: &CellProgram<Unboxed>) -> Result<CellProgram<Boxed>, Mem>
+    requires few { p.now.variables + p.now.variables < 2 ^ 32 - 2 ^ 10 }
     // What converting is defined to make, with a cell for each variable that is assigned or belongs to a Rec.
-    ensures made { IfOk result (λ q. source q ≡ converted_source (celled_in (source p)) p.variables (source p)) }
+    ensures made { IfOk result (λ q. source q ≡ converted_source (celled_in (source p.now)) p.now.variables (source p.now)) }
     // Under every order table, limits, answers of a kernel and number of entries it runs as `p` does.
-    ensures runs { IfOk result (λ q. SameRuns (unboxed.run (source p)) (boxed.run (source q))) }
+    ensures runs { IfOk result (λ q. SameRuns (unboxed.run (source p.now)) (boxed.run (source q))) }
     // As many procedures of the library, in the same order.
-    ensures library { IfOk result (λ q. count_lambdas (source q).library ≡ count_lambdas (source p).library) }
-    ensures statics { IfOk result (λ q. statics q.statics ≡ statics p.statics) }
+    ensures library { IfOk result (λ q. count_lambdas (source q).library ≡ count_lambdas (source p.now).library) }
+    ensures statics { IfOk result (λ q. statics q.statics ≡ statics p.now.statics) }
     // The cell of a variable has its number, with as many added as the numbers of `p` are below.
-    ensures variables { IfOk result (λ q. q.variables ≡ p.variables + p.variables) }
+    ensures variables { IfOk result (λ q. q.variables ≡ p.now.variables + p.now.variables) }
     // There is one variable more for each that is assigned or belongs to a Rec.
-    ensures bound { IfOk result (λ q. length (bound_of (source q)) ≡ length (bound_of (source p)) + celled_of (source p)) }
+    ensures bound { IfOk result (λ q. length (bound_of (source q)) ≡ length (bound_of (source p.now)) + celled_of (source p.now)) }
     // The sites that are listed, and those of the nodes, in the order of the text.
-    ensures listed { IfOk result (λ q. q.sites ≡ p.sites) }
-    ensures sites { IfOk result (λ q. sites_of (source q) ≡ sites_of (source p)) }
-    ensures calls { IfOk result (λ q. call_sites_of (source q) ≡ call_sites_of (source p)) }
-    ensures tests { IfOk result (λ q. tests_of (source q) ≡ tests_of (source p)) }
-    ensures dropped { IfOk result (λ q. dropped_of (source q) ≤ dropped_of (source p)) }
+    ensures listed { IfOk result (λ q. q.sites ≡ p.now.sites) }
+    ensures sites { IfOk result (λ q. sites_of (source q) ≡ sites_of (source p.now)) }
+    ensures calls { IfOk result (λ q. call_sites_of (source q) ≡ call_sites_of (source p.now)) }
+    ensures tests { IfOk result (λ q. tests_of (source q) ≡ tests_of (source p.now)) }
+    ensures dropped { IfOk result (λ q. dropped_of (source q) ≤ dropped_of (source p.now)) }
     // Each body has its name, its formals, its free variables and its count of variables.
-    ensures bodies { IfOk result (λ q. bodies_of (source q) ≡ bodies_of (source p)) }
-    ensures size { IfOk result (λ q. program_size (source q) ≤ 4 * program_size (source p)) }
+    ensures bodies { IfOk result (λ q. bodies_of (source q) ≡ bodies_of (source p.now)) }
+    ensures size { IfOk result (λ q. program_size (source q) ≤ 4 * program_size (source p.now)) }
     // There is at most seven times as much work in what is made of it in the language Control as the size of `p`.
-    ensures weight { IfOk result (λ q. weight (source q) ≤ 7 * program_size (source p)) }
-    ensures covered { IfOk result (λ q. IsTrue (is_covered_program (source p)) → IsTrue (is_covered_program (source q))) }
+    ensures weight { IfOk result (λ q. weight (source q) ≤ 7 * program_size (source p.now)) }
+    ensures covered { IfOk result (λ q. IsTrue (is_covered_program (source p.now)) → IsTrue (is_covered_program (source q))) }
 {
-    let celled = celled_variables(alloc, &p)?;
+    let celled = celled_variables(alloc, p)?;
     convert_program(alloc, p, celled.as_slice())
 }
 
@@ -81,29 +81,23 @@ fn celled_variables(alloc: Global, p: &CellProgram<Unboxed>) -> Result<Vec<bool>
 
 fn convert_program(
     alloc: Global,
-    p: CellProgram<Unboxed>,
+    p: &CellProgram<Unboxed>,
     celled: &[bool],
 ) -> Result<CellProgram<Boxed>, Mem>
-    requires few { p.variables + p.variables < 2 ^ 32 }
-    requires celled { (y : ℕ) → table celled.now y ≡ celled_in (source p) y }
-    ensures { IfOk result (λ q. source q ≡ converted_source (table celled.now) p.variables (source p)) }
+    requires few { p.now.variables + p.now.variables < 2 ^ 32 }
+    requires celled { (y : ℕ) → table celled.now y ≡ celled_in (source p.now) y }
+    ensures { IfOk result (λ q. source q ≡ converted_source (table celled.now) p.now.variables (source p.now)) }
 {
-    let CellProgram {
-        statics,
-        library,
-        forms,
-        sites,
-        variables,
-        ..
-    } = p;
-    let library = convert_lambdas(alloc, celled, variables, library)?;
-    let forms = convert_each(alloc, celled, variables, forms)?;
+    let library = convert_lambdas(alloc, celled, p.variables, &p.library)?;
+    let forms = convert_each(alloc, celled, p.variables, &p.forms)?;
+    let statics = p.statics.copy(alloc)?;
+    let sites = List::from_slice(alloc, p.sites.as_slice())?;
     Ok(CellProgram {
         statics,
         library,
         forms,
         sites,
-        variables: variables + variables,
+        variables: p.variables + p.variables,
         form: PhantomData,
     })
 }

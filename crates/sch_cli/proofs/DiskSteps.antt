@@ -8,7 +8,7 @@ use Rattle.sch_driver.specs.Causes.{max_source_size}
 use Rattle.sch_cli.specs.Builds.{IsFileOf}
 use Rattle.sch_cli.specs.Compiles.{Compiles, WroteProgram, written, not_read, not_written, refused, no_memory}
 use Rattle.sch_cli.specs.Files.{IsUnread, HasRead}
-use Rattle.sch_cli.specs.Seen.{DiskChange, DiskState, StreamChange, TookNothing, SameFiles, FilesChange, FileIs, HadCalls, DiskFailed}
+use Rattle.sch_cli.specs.Seen.{DiskChange, DiskState, StreamChange, TookNothing, SameFiles, FilesChange, FileIs, HadAtMostCalls, HadCalls, DiskFailed}
 use Rattle.sch_cli.specs.Steps as runs
 use Rattle.sch_cli.specs.Steps.{RunsSource, StepsImage, max_image_file_size}
 use Rattle.sch_cli.specs.declared.failure.Failure.{Failure}
@@ -33,13 +33,17 @@ pub failed_with : {A : Type 0} (answer : Result A Failure) (why : Failure) → I
 failed_with (Ok x) why h = absurd h
 failed_with (Err e) why h = ap Err h
 
+-- one call is at most one
+pub at_most_one : (disk : DiskChange) → HadCalls 1 disk → HadAtMostCalls 1 disk
+at_most_one disk calls few = let one = calls few in (omega (arith, one), omega (arith, one))
+
 -- ---- a source that was not read
 
 pub unread_compiles : (source target : List ℕ) (heap depth : ℕ) (disk : DiskChange) (why : Failure) → IsUnread source max_source_size why disk → SameFiles disk → HadCalls 1 disk
     → Compiles source target heap depth disk (Err why)
 unread_compiles source target heap depth disk failure.ReadFailed h same calls = not_read h same calls
 unread_compiles source target heap depth disk failure.TooLong h same calls = refused failure.TooLong h same calls
-unread_compiles source target heap depth disk failure.Memory h same calls = no_memory same calls
+unread_compiles source target heap depth disk failure.Memory h same calls = no_memory same (at_most_one disk calls)
 unread_compiles source target heap depth disk _ h same calls = absurd h
 
 pub took_nothing : (told : Option (List ℕ)) → Tells told told (λ before after. after ≡ before)

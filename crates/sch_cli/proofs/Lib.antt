@@ -6,4 +6,5 @@ pub mod OneStatus
 pub mod SomeVerdict
 pub mod ProgramRuns
 pub mod LineParts
-pub mod OptionWords
+pub mod AdmittedWords
+pub mod UnreadWords

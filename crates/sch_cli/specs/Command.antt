@@ -1,11 +1,13 @@
--- The words that are a command.
+-- The words that are a command: read as one simple command, they give texts that the table of verbs admits.
 use Rattle.std.specs.Prelude.{ℕ, ◌^◌, ◌%◌, nat_le, List, [], ◌∷◌, length, codes, Bool, true, false, not, ◌&&◌, ◌||◌, ◌==◌, Option, Some, None, if◌then◌else◌}
 use Rattle.std.specs.Str.{bytes_eq}
 use Rattle.std.specs.Char.{is_ascii_digit}
 use Rattle.std.specs.List.{list_all}
-use Rattle.std.specs.Option.{is_some, option_and_then, unwrap_or}
+use Rattle.std.specs.Option.{is_some, option_and_then, option_map}
 use Rattle.std.specs.Str.Parse.{digits_value}
 use Rattle.sch_word.specs.declared.limits.TheConstants.{MIN_HEAP, MAX_HEAP, MIN_DEPTH, MAX_DEPTH}
+use Rattle.sch_words.specs.GivenTexts.{Text, Texts}
+use Rattle.sch_words.specs.PlainReading.{plain_reading}
 
 -- ---- what is taken where the words give nothing
 
@@ -28,107 +30,82 @@ pub data Command : Type 0 where
   run : (source : List ℕ) → (heap depth steps : ℕ) → Command
   step : (image : List ℕ) → (steps : ℕ) → Command
 
--- a word that is not empty, and no option: it does not begin with `-`, but may be `-` itself
-abbrev pub is_name : List ℕ → Bool
+-- ---- names
+
+abbrev pub is_name : Text → Bool
 is_name [] = false
-is_name (byte ∷ []) = true
-is_name (byte ∷ next ∷ bytes) = not (byte == 45)
+is_name (byte ∷ bytes) = true
 
--- two different names
-abbrev pub are_names : List ℕ → List ℕ → Bool
-are_names source target = is_name source && is_name target && not (bytes_eq source target)
+-- the name, where there is no second one
+abbrev pub only_name : Texts → Option Text
+only_name given = if is_some given.second then None
+    else option_and_then (λ name. if is_name name then Some name else None) given.name
 
--- ---- options
+-- both names, where they differ
+abbrev pub both_names : Texts → Option (Text × Text)
+both_names given = option_and_then (λ name. option_and_then (λ second.
+    if is_name name && is_name second && not (bytes_eq name second) then Some (name, second) else None) given.second) given.name
 
--- what the options give, each where it is there
-pub record Options : Type 0 where
-  pub heap : Option ℕ
-  pub depth : Option ℕ
-  pub steps : Option ℕ
-
-abbrev pub no_options : Options
-no_options = record { heap = None; depth = None; steps = None }
+-- ---- numbers
 
 -- the most digits of a number
 abbrev pub max_digits : ℕ
 max_digits = 19
 
 -- decimal digits, at least one
-abbrev pub is_number : List ℕ → Bool
+abbrev pub is_number : Text → Bool
 is_number digits = nat_le 1 (length digits) && nat_le (length digits) max_digits && list_all is_ascii_digit digits
 
--- these options with one more, which is a word and a number, and may be given once
-abbrev pub with_option : (option digits : List ℕ) → Options → Option Options
-with_option option digits given =
-    let n = digits_value 10 digits in
-    if not (is_number digits) then None
-    else if bytes_eq option (codes "--heap") && not (is_some given.heap) then Some (record given { heap = Some n })
-    else if bytes_eq option (codes "--depth") && not (is_some given.depth) then Some (record given { depth = Some n })
-    else if bytes_eq option (codes "--steps") && not (is_some given.steps) then Some (record given { steps = Some n })
-    else None
-
--- these options with those in what follows, in any order
-abbrev pub with_options : Options → List (List ℕ) → Option Options
-with_options given [] = Some given
-with_options given (option ∷ digits ∷ rest) = option_and_then (λ more. with_options more rest) (with_option option digits given)
-with_options given (word ∷ []) = None
-
-abbrev pub options_in : List (List ℕ) → Option Options
-options_in words = with_options no_options words
+-- the number that an option gives, or another where the option is not there
+abbrev pub number_or : ℕ → Option Text → Option ℕ
+number_or other None = Some other
+number_or other (Some digits) = if is_number digits then Some (digits_value 10 digits) else None
 
 -- the most steps
 abbrev pub max_steps : ℕ
 max_steps = 10 ^ 18
 
+abbrev pub steps_of : Texts → Option ℕ
+steps_of given = option_and_then (λ steps. if nat_le steps max_steps then Some steps else None) (number_or default_steps given.steps)
+
 -- limits that are admitted
 abbrev pub are_limits : (heap depth : ℕ) → Bool
 are_limits heap depth = nat_le MIN_HEAP heap && nat_le heap MAX_HEAP && heap % 16 == 0 && nat_le MIN_DEPTH depth && nat_le depth MAX_DEPTH
 
--- ---- the verbs, with the options that they take
+-- a heap and a depth
+abbrev pub limits_of : Texts → Option (ℕ × ℕ)
+limits_of given = option_and_then (λ heap. option_and_then (λ depth.
+    if are_limits heap depth then Some (heap, depth) else None) (number_or default_depth given.depth)) (number_or default_heap given.heap)
 
--- a command under the limits that are given, where they are admitted
-abbrev pub with_limits : Options → ((heap depth : ℕ) → Command) → Option Command
-with_limits given make =
-    let heap = unwrap_or given.heap default_heap in
-    let depth = unwrap_or given.depth default_depth in
-    if are_limits heap depth then Some (make heap depth) else None
+-- ---- the table of verbs, with the names and options that they take; no verb takes a listing
 
--- a command with a number of steps, where it is admitted
-abbrev pub with_steps : (steps : ℕ) → Option Command → Option Command
-with_steps steps made = if nat_le steps max_steps then made else None
+abbrev pub compile_of : Texts → Option Command
+compile_of given = if is_some given.steps then None
+    else option_and_then (λ names. option_map (λ limits. compile names.0 names.1 limits.0 limits.1) (limits_of given)) (both_names given)
 
-abbrev pub compile_of : (source target : List ℕ) → Options → Option Command
-compile_of source target given =
-    if is_some given.steps then None else with_limits given (compile source target)
+abbrev pub run_of : Texts → Option Command
+run_of given = option_and_then (λ source. option_and_then (λ steps.
+    option_map (λ limits. run source limits.0 limits.1 steps) (limits_of given)) (steps_of given)) (only_name given)
 
-abbrev pub run_of : (source : List ℕ) → Options → Option Command
-run_of source given =
-    let steps = unwrap_or given.steps default_steps in
-    with_steps steps (with_limits given (λ heap depth. run source heap depth steps))
+abbrev pub step_of : Texts → Option Command
+step_of given = if is_some given.heap || is_some given.depth then None
+    else option_and_then (λ image. option_map (λ steps. step image steps) (steps_of given)) (only_name given)
 
-abbrev pub step_of : (image : List ℕ) → Options → Option Command
-step_of image given =
-    let steps = unwrap_or given.steps default_steps in
-    if is_some given.heap || is_some given.depth then None else with_steps steps (Some (step image steps))
-
--- what follows the word `compile`, and what follows a verb with one name
-abbrev pub compile_in : (source : List ℕ) → List (List ℕ) → Option Command
-compile_in source (target ∷ options) =
-    if are_names source target then option_and_then (compile_of source target) (options_in options) else None
-compile_in source [] = None
-
-abbrev pub with_one_name : (name : List ℕ) → (options : List (List ℕ)) → (List ℕ → Options → Option Command) → Option Command
-with_one_name name options verb_of = if is_name name then option_and_then (verb_of name) (options_in options) else None
-
--- The command of the words: `compile NAME NAME2 [--heap N] [--depth N]`, `run NAME [--heap N] [--depth N] [--steps N]`
--- or `step NAME [--steps N]`.
-abbrev pub command : List (List ℕ) → Option Command
-command (verb ∷ name ∷ rest) =
-    if bytes_eq verb (codes "compile") then compile_in name rest
-    else if bytes_eq verb (codes "run") then with_one_name name rest run_of
-    else if bytes_eq verb (codes "step") then with_one_name name rest step_of
+abbrev pub verb_of : Text → Texts → Option Command
+verb_of verb given =
+    if bytes_eq verb (codes "compile") then compile_of given
+    else if bytes_eq verb (codes "run") then run_of given
+    else if bytes_eq verb (codes "step") then step_of given
     else None
-command _ = None
+
+-- The command of texts: `compile NAME NAME2 [--heap N] [--depth N]`, `run NAME [--heap N] [--depth N] [--steps N]` or
+-- `step NAME [--steps N]`.
+abbrev pub admitted : Texts → Option Command
+admitted given = if is_some given.listing then None else option_and_then (λ verb. verb_of verb given) given.verb
+
+-- the command of words
+abbrev pub command : (words : List Text) → Option Command
+command words = option_and_then admitted (plain_reading words)
 
 -- what holds of the names, limits and steps of a verb, where the words are its command
 abbrev pub IfCompile : Option Command → ((source target : List ℕ) → (heap depth : ℕ) → Type 0) → Type 0

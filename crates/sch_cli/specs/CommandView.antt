@@ -1,11 +1,7 @@
--- A command and options of the code as those of the definitions.
+-- A command of the code as one of the definitions.
 use Rattle.sch_cli.specs.Command as commands
 use Rattle.sch_cli.specs.declared.command.Command.{Command}
 use Rattle.sch_cli.specs.declared.command.Command.TheVariants.{Compile, Run, Step}
-use Rattle.sch_cli.specs.declared.command.Options.{Options}
-
-abbrev pub options_of : Options → commands.Options
-options_of given = record { heap = given.heap; depth = given.depth; steps = given.steps }
 
 abbrev pub command_of : Command → commands.Command
 command_of (Compile source target limits) = commands.compile source.now target.now limits.heap limits.depth

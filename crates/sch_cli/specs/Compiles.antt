@@ -6,7 +6,7 @@ use Rattle.sch_cli.specs.Builds.{IsFileOf}
 use Rattle.sch_cli.specs.Failures.{failure_line, failure_status}
 use Rattle.sch_cli.specs.Messages.{Says}
 use Rattle.sch_cli.specs.Refusals.{IsRefused}
-use Rattle.sch_cli.specs.Seen.{DiskChange, StreamChange, FilesChange, SameFiles, FileIs, HadCalls, DiskFailed}
+use Rattle.sch_cli.specs.Seen.{DiskChange, StreamChange, FilesChange, SameFiles, FileIs, HadAtMostCalls, HadCalls, DiskFailed}
 use Rattle.sch_cli.specs.Statuses.{status_number}
 use Rattle.sch_cli.specs.declared.failure.Failure.{Failure}
 use Rattle.sch_cli.specs.declared.failure.Failure.TheVariants.{ReadFailed, WriteFailed, Memory}
@@ -31,7 +31,8 @@ pub data Compiles (source target : List ℕ) (heap depth : ℕ) (disk : DiskChan
       Compiles source target heap depth disk (Err WriteFailed)
   refused : (failure : Failure) → FileIs disk source (λ text. IsRefused text depth failure) → SameFiles disk → HadCalls 1 disk →
       Compiles source target heap depth disk (Err failure)
-  no_memory : SameFiles disk → HadCalls 1 disk → Compiles source target heap depth disk (Err Memory)
+  -- the words were not read, or the source was not, or nothing was made of it
+  no_memory : SameFiles disk → HadAtMostCalls 1 disk → Compiles source target heap depth disk (Err Memory)
 
 abbrev pub compile_status : Result ⊤ Failure → Status
 compile_status (Ok done) = Done

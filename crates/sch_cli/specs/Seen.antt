@@ -1,5 +1,5 @@
 -- What is seen of the disk and of a stream, before a call and after it.
-use Rattle.std.specs.Prelude.{◌≡◌, ◌<◌, ◌+◌, ◌^◌, ℕ, List, Option, IsSomeAnd}
+use Rattle.std.specs.Prelude.{◌≡◌, ◌<◌, ◌≤◌, ◌+◌, ◌^◌, ℕ, List, Option, IsSomeAnd}
 use Rattle.std.specs.FinMap.{get}
 use Rattle.sch_word.specs.declared.answer.Answer.{Answer}
 use Rattle.sch_io.specs.Counters.{Rose}
@@ -39,6 +39,11 @@ FileIs disk name IsSo = FilesChange disk (λ before _. IsSomeAnd (get before nam
 -- The disk had `count` calls, as far as its counter can tell: that stands at 2^64 - 1 once it is there.
 abbrev pub HadCalls : (count : ℕ) → DiskChange → Type 0
 HadCalls count disk = disk.before.calls + count < 2 ^ 64 → disk.after.calls ≡ disk.before.calls + count
+
+-- The disk had at most `count` calls, as far as its counter can tell.
+abbrev pub HadAtMostCalls : (count : ℕ) → DiskChange → Type 0
+HadAtMostCalls count disk = disk.before.calls + count < 2 ^ 64
+    → (disk.before.calls ≤ disk.after.calls) × (disk.after.calls ≤ disk.before.calls + count)
 
 abbrev pub DiskFailed : DiskChange → Type 0
 DiskFailed disk = Rose disk.before.faults disk.after.faults

@@ -1,5 +1,5 @@
 -- How the verbs `run` and `step` end, each by its cause.
-use Rattle.std.specs.Prelude.{◌≡◌, ◌≤◌, ◌<◌, ℕ, List, length, Result, Ok, Err}
+use Rattle.std.specs.Prelude.{◌≡◌, ◌≢◌, ◌≤◌, ◌<◌, ℕ, List, length, Result, Ok, Err}
 use Rattle.sch_word.specs.declared.answer.Answer.{Answer}
 use Rattle.sch_word.specs.declared.stop.Stop.TheVariants.{OutputFailed}
 use Rattle.sch_word.specs.runs.Runs.{Run, ended}
@@ -21,7 +21,7 @@ use Rattle.sch_cli.specs.Executes.{Executes}
 use Rattle.sch_cli.specs.Failures.{failure_line, failure_status}
 use Rattle.sch_cli.specs.Messages.{Says, end_line}
 use Rattle.sch_cli.specs.Refusals.{IsRefused}
-use Rattle.sch_cli.specs.Seen.{DiskChange, StreamChange, SameFiles, FileIs, HadCalls, DiskFailed, TookNothing, StreamFailed}
+use Rattle.sch_cli.specs.Seen.{DiskChange, StreamChange, SameFiles, FileIs, HadAtMostCalls, HadCalls, DiskFailed, TookNothing, StreamFailed}
 use Rattle.sch_cli.specs.Statuses.{end_status, status_number}
 
 -- the most bytes of an image's file: 128 MiB
@@ -89,12 +89,13 @@ run_line name (Ok end) = end_line name end
 run_line name (Err failure) = failure_line name failure
 
 -- How a verb ends that reads one file and runs it: with the status, the line, the disk and the standard
--- output of one answer. One call of the disk is made, and no file changes.
+-- output of one answer. One call of the disk is made, or at most one where there was no memory. No file changes.
 pub record EndsRun (name : List ℕ) (status : ℕ) (disk : DiskChange) (err : StreamChange)
     (Did : Result RunEnd Failure → Type 0) : Type 0 where
   pub answer : Result RunEnd Failure
   pub status_is : status ≡ status_number (run_status answer)
   pub says : Says (run_line name answer) err
   pub unchanged : SameFiles disk
-  pub calls : HadCalls 1 disk
+  pub calls : answer ≢ Err Memory → HadCalls 1 disk
+  pub few_calls : HadAtMostCalls 1 disk
   pub did : Did answer

@@ -1,14 +1,17 @@
 //! Reads the words of a command.
 
-ghost use Rattle.std.specs.Prelude.{◌≡◌, List, ℕ, map, Some, None, IfSome, is_some, string_bytes, if◌then◌else◌, nat_le};
+ghost use Rattle.std.specs.Prelude.{◌≡◌, List, ℕ, IfOk, map, Some, None, IfSome, is_some, string_bytes, if◌then◌else◌};
 ghost use Rattle.std.specs.Char.{is_ascii_digit};
 ghost use Rattle.std.specs.List.{list_all};
-ghost use Rattle.std.specs.Option.{option_map, unwrap_or};
+ghost use Rattle.std.specs.Option.{option_map};
 ghost use Rattle.std.specs.Str.Parse.{digits_value};
-ghost use Rattle.sch_cli.specs.Command.{are_limits, are_names, command, compile_in, default_depth, default_heap, default_steps, is_name, is_number, max_steps, with_one_name, options_in, run_of, step_of, with_option, with_options};
-ghost use Rattle.sch_cli.specs.CommandView.{command_of, options_of};
+ghost use Rattle.sch_words.specs.View.{texts_of};
+ghost use Rattle.sch_cli.specs.Command.{admitted, both_names, command, compile_of, is_number, limits_of, number_or, only_name, run_of, step_of, steps_of};
+ghost use Rattle.sch_cli.specs.CommandView.{command_of};
 
-use sch_word::Limits;
+use sch_word::{Limits, Mem};
+use sch_words::{Words, read_words};
+use std::alloc::Global;
 
 /// A command: the names are those in the words.
 #[derive(Clone, Copy)]
@@ -33,14 +36,6 @@ pub struct SourceRun<'a> {
     pub steps: u64,
 }
 
-/// What the options give, each where it is there.
-#[derive(Clone, Copy)]
-pub struct Options {
-    pub heap: Option<u64>,
-    pub depth: Option<u64>,
-    pub steps: Option<u64>,
-}
-
 /// The steps where the words give none.
 const DEFAULT_STEPS: u64 = 1_000_000_000;
 
@@ -54,187 +49,126 @@ const MAX_STEPS: u64 = 1_000_000_000_000_000_000;
 
 const MAX_DIGITS: usize = 19;
 
-/// The command that the words are, if they are one.
-pub fn read_words<'a>(words: &'a [String]) -> Option<Command<'a>>
-    ensures { command (map string_bytes words.now) ≡ option_map command_of result }
+/// The command that the words are, if they are one. The only error is out of memory.
+pub fn read_command<'a>(alloc: Global, words: &'a [String]) -> Result<Option<Command<'a>>, Mem>
+    ensures { IfOk result (λ read. command (map string_bytes words.now) ≡ option_map command_of read) }
 {
-    let [verb, name, rest @ ..] = words else {
+    match read_words(alloc, words)? {
+        Some(given) => Ok(admit(given)),
+        None => Ok(None),
+    }
+}
+
+// The command of these texts. No verb takes a listing.
+fn admit<'a>(given: Words<'a>) -> Option<Command<'a>>
+    ensures { admitted (texts_of given.entry) ≡ option_map command_of result }
+{
+    if given.listing.is_some() {
         return None;
-    };
-    if verb.as_str() == "compile" {
-        return read_compile(name, rest);
     }
-    if verb.as_str() == "run" {
-        return read_run(name, rest);
+    let verb = given.verb?;
+    if verb == "compile" {
+        return admit_compile(given);
     }
-    if verb.as_str() == "step" {
-        return read_step(name, rest);
+    if verb == "run" {
+        return admit_run(given);
+    }
+    if verb == "step" {
+        return admit_step(given);
     }
     None
 }
 
-fn read_compile<'a>(source: &'a String, rest: &'a [String]) -> Option<Command<'a>>
-    ensures { compile_in (string_bytes source.now) (map string_bytes rest.now) ≡ option_map command_of result }
+fn admit_compile<'a>(given: Words<'a>) -> Option<Command<'a>>
+    ensures { compile_of (texts_of given.entry) ≡ option_map command_of result }
 {
-    let [target, words @ ..] = rest else {
-        return None;
-    };
-    if !are_admitted(source.as_str(), target.as_str()) {
-        return None;
-    }
-    let Some(given) = read_options(words) else {
-        return None;
-    };
     if given.steps.is_some() {
         return None;
     }
-    let Some(limits) = given.limits() else {
-        return None;
-    };
+    let (source, target) = both_names(given)?;
+    let limits = limits_of(given)?;
     Some(Command::Compile {
-        source: source.as_str(),
-        target: target.as_str(),
+        source,
+        target,
         limits,
     })
 }
 
-// Whether the words are two different names.
-fn are_admitted(source: &str, target: &str) -> bool
-    ensures { result ≡ are_names source.now target.now }
+fn admit_run<'a>(given: Words<'a>) -> Option<Command<'a>>
+    ensures { run_of (texts_of given.entry) ≡ option_map command_of result }
 {
-    is_name(source) && is_name(target) && source != target
-}
-
-// Whether a word is not empty and no option.
-fn is_name(word: &str) -> bool
-    ensures { result ≡ is_name word.now }
-{
-    match word.as_bytes() {
-        [] => false,
-        [_] => true,
-        [first, ..] => *first != b'-',
-    }
-}
-
-fn read_run<'a>(source: &'a String, rest: &'a [String]) -> Option<Command<'a>>
-    ensures { with_one_name (string_bytes source.now) (map string_bytes rest.now) run_of ≡ option_map command_of result }
-{
-    if !is_name(source.as_str()) {
-        return None;
-    }
-    let Some(given) = read_options(rest) else {
-        return None;
-    };
-    let Some(steps) = given.steps() else {
-        return None;
-    };
-    let Some(limits) = given.limits() else {
-        return None;
-    };
+    let source = only_name(given)?;
+    let steps = steps_of(given)?;
+    let limits = limits_of(given)?;
     Some(Command::Run(SourceRun {
-        source: source.as_str(),
+        source,
         limits,
         steps,
     }))
 }
 
-fn read_step<'a>(image: &'a String, rest: &'a [String]) -> Option<Command<'a>>
-    ensures { with_one_name (string_bytes image.now) (map string_bytes rest.now) step_of ≡ option_map command_of result }
+fn admit_step<'a>(given: Words<'a>) -> Option<Command<'a>>
+    ensures { step_of (texts_of given.entry) ≡ option_map command_of result }
 {
-    if !is_name(image.as_str()) {
-        return None;
-    }
-    let Some(given) = read_options(rest) else {
-        return None;
-    };
     if given.heap.is_some() || given.depth.is_some() {
         return None;
     }
-    let Some(steps) = given.steps() else {
-        return None;
-    };
-    Some(Command::Step {
-        image: image.as_str(),
-        steps,
-    })
+    let image = only_name(given)?;
+    let steps = steps_of(given)?;
+    Some(Command::Step { image, steps })
 }
 
-// The options in the words after the names.
-fn read_options(words: &[String]) -> Option<Options>
-    ensures { option_map options_of result ≡ options_in (map string_bytes words.now) }
+// The name, where there is no second one.
+fn only_name<'a>(given: Words<'a>) -> Option<&'a str>
+    ensures { only_name (texts_of given.entry) ≡ option_map (λ name. name.now) result }
 {
-    let none = Options {
-        heap: None,
-        depth: None,
-        steps: None,
-    };
-    none.with_each(words)
+    if given.second.is_some() {
+        return None;
+    }
+    let name = given.name?;
+    if name.is_empty() { None } else { Some(name) }
 }
 
-impl Options {
-    /// These options with those in the words, each of which may be given once.
-    fn with_each(self, words: &[String]) -> Option<Options>
-        ensures { option_map options_of result ≡ with_options (options_of self) (map string_bytes words.now) }
-    {
-        match words {
-            [] => Some(self),
-            [option, digits, rest @ ..] => match self.with(option.as_str(), digits.as_str()) {
-                Some(more) => more.with_each(rest),
-                None => None,
-            },
-            _ => None,
-        }
+// Both names, where they differ.
+fn both_names<'a>(given: Words<'a>) -> Option<(&'a str, &'a str)>
+    ensures { both_names (texts_of given.entry) ≡ option_map (λ names. (names.0.now, names.1.now)) result }
+{
+    let name = given.name?;
+    let second = given.second?;
+    if name.is_empty() || second.is_empty() || name == second {
+        return None;
     }
+    Some((name, second))
+}
 
-    /// These options with one more, which may be given once.
-    fn with(self, option: &str, digits: &str) -> Option<Options>
-        ensures { option_map options_of result ≡ with_option option.now digits.now (options_of self) }
-    {
-        let Some(number) = read_number(digits) else {
-            return None;
-        };
-        if option == "--heap" && self.heap.is_none() {
-            return Some(Options {
-                heap: Some(number),
-                ..self
-            });
-        }
-        if option == "--depth" && self.depth.is_none() {
-            return Some(Options {
-                depth: Some(number),
-                ..self
-            });
-        }
-        if option == "--steps" && self.steps.is_none() {
-            return Some(Options {
-                steps: Some(number),
-                ..self
-            });
-        }
+// The limits of a program, if they are admitted.
+fn limits_of(given: Words) -> Option<Limits>
+    ensures { limits_of (texts_of given.entry) ≡ option_map (λ limits. (limits.heap, limits.depth)) result }
+{
+    let heap = number_or(DEFAULT_HEAP, given.heap)?;
+    let depth = number_or(DEFAULT_DEPTH, given.depth)?;
+    Limits::new(heap, depth)
+}
+
+// The steps, if there are not too many.
+fn steps_of(given: Words) -> Option<u64>
+    ensures { steps_of (texts_of given.entry) ≡ result }
+{
+    let steps = number_or(DEFAULT_STEPS, given.steps)?;
+    if steps <= MAX_STEPS {
+        Some(steps)
+    } else {
         None
     }
+}
 
-    /// The limits of a program, if they are admitted.
-    fn limits(self) -> Option<Limits>
-        ensures admitted { is_some result ≡ are_limits (unwrap_or self.heap default_heap) (unwrap_or self.depth default_depth) }
-        ensures value { IfSome result (λ limits. (limits.heap ≡ unwrap_or self.heap default_heap) × (limits.depth ≡ unwrap_or self.depth default_depth)) }
-    {
-        Limits::new(
-            self.heap.unwrap_or(DEFAULT_HEAP),
-            self.depth.unwrap_or(DEFAULT_DEPTH),
-        )
-    }
-
-    /// The steps, if there are not too many.
-    fn steps(self) -> Option<u64>
-        ensures { result ≡ (let steps = unwrap_or self.steps default_steps in if nat_le steps max_steps then Some steps else None) }
-    {
-        let steps = self.steps.unwrap_or(DEFAULT_STEPS);
-        if steps <= MAX_STEPS {
-            Some(steps)
-        } else {
-            None
-        }
+// The number that an option gives, or another where the option is not there.
+fn number_or(other: u64, given: Option<&str>) -> Option<u64>
+    ensures { number_or other (option_map (λ digits. digits.now) given.entry) ≡ result }
+{
+    match given {
+        Some(digits) => read_number(digits),
+        None => Some(other),
     }
 }
 

@@ -3,7 +3,7 @@
 ghost use Rattle.std.specs.Prelude.{◌≡◌, ◌≤◌, IfErr, IfOk, OnErr, OnOk};
 ghost use Rattle.sch_io.specs.Files.{Replaces, Spoils};
 ghost use Rattle.sch_cli.specs.Files.{HasRead, IsUnread};
-ghost use Rattle.sch_cli.specs.Seen.{DiskFailed, FilesChange, HadCalls, SameFiles, disk_change};
+ghost use Rattle.sch_cli.specs.Seen.{DiskFailed, FilesChange, HadAtMostCalls, HadCalls, SameFiles, disk_change};
 
 use crate::failure::Failure;
 use sch_io::{Disk, DiskRead};
@@ -22,6 +22,7 @@ pub fn read_file<D: Disk>(
     ensures faults { D.faults disk.old ≤ D.faults disk.new }
     ensures unchanged { SameFiles (disk_change D.files D.faults D.calls disk.old disk.new) }
     ensures calls { HadCalls 1 (disk_change D.files D.faults D.calls disk.old disk.new) }
+    ensures few_calls { HadAtMostCalls 1 (disk_change D.files D.faults D.calls disk.old disk.new) }
 {
     match disk.read(alloc, name, limit) {
         Ok(bytes) => Ok(bytes),

@@ -1,9 +1,10 @@
 //! The one call that the program makes, with what it promises.
 #![tactic(auto)]
 
-ghost use Rattle.std.specs.Prelude.{◌≡◌, ◌≢◌, ◌⊎◌, None, map, string_bytes, if◌then◌else◌, ◌==◌};
+ghost use Rattle.std.specs.Prelude.{◌≡◌, ◌≢◌, ◌⊎◌, None, Some, map, string_bytes, if◌then◌else◌, ◌==◌};
 ghost use Rattle.std.specs.IoError.{error_kind};
 ghost use Rattle.sch_cli.specs.Command.{IfCompile, IfRun, IfStep, command};
+ghost use Rattle.sch_cli.specs.CommandView.{command_of};
 ghost use Rattle.sch_cli.specs.Compiles.{EndsCompile};
 ghost use Rattle.sch_cli.specs.Messages.{Says, out_of_memory_line, usage_line};
 ghost use Rattle.sch_cli.specs.Seen.{disk_change, stream_change};
@@ -20,12 +21,13 @@ mod message;
 mod run;
 mod status;
 
-use command::{Command, read_words};
+use command::{Command, read_command};
 use compile::{compile, report_compile};
 pub use laws::a_source_has_one_status;
 use message::{say, say_out_of_memory};
 use run::{report_run, run_source, step_image};
 use sch_io::{Disk, Outlet};
+use sch_word::Mem;
 use status::Status;
 use std::alloc::Global;
 use std::io::{Error, ErrorKind};
@@ -56,10 +58,16 @@ pub fn schc<D: Disk, O: Outlet, E: Outlet>(
 ) -> u8
     // 1 comes exactly where the words are no command, and then nothing is touched.
     ensures usage { result ≡ 1 → command (map string_bytes words.now) ≡ None }
-    ensures command { result ≢ 1 → command (map string_bytes words.now) ≢ None }
+    ensures command { result ≢ 1 → result ≢ 10 → command (map string_bytes words.now) ≢ None }
     ensures usage_line { result ≡ 1 → Says usage_line (stream_change E.bytes E.left E.faults err.old err.new) }
     ensures disk_at_1 { result ≡ 1 → disk.new ≡ disk.old }
     ensures out_at_1 { result ≡ 1 → out.new ≡ out.old }
+
+    // Where there is no memory to read such words it is 10, and nothing is touched either.
+    ensures memory_line { command (map string_bytes words.now) ≡ None → result ≡ 10 →
+        Says out_of_memory_line (stream_change E.bytes E.left E.faults err.old err.new) }
+    ensures disk_at_none { command (map string_bytes words.now) ≡ None → disk.new ≡ disk.old }
+    ensures out_at_none { command (map string_bytes words.now) ≡ None → out.new ≡ out.old }
 
     // Compiling ends by its causes, with the line that says the cause, and writes nothing on `out`.
     ensures compile { IfCompile (command (map string_bytes words.now)) (λ source target heap depth.
@@ -77,31 +85,72 @@ pub fn schc<D: Disk, O: Outlet, E: Outlet>(
         (StepsImage image steps (disk_change D.files D.faults D.calls disk.old disk.new)
         (stream_change O.bytes O.left O.faults out.old out.new))) }
 {
-    let status = match read_words(words) {
-        Some(
-            Command::Compile {
-                source,
-                target,
-                limits,
-            },
-        ) => {
+    match read_command(alloc, words) {
+        Ok(Some(command)) => perform(alloc, command, disk, out, err),
+        Ok(None) => report_usage(err),
+        Err(Mem) => report_no_memory(err),
+    }
+}
+
+// Does what a command asks for, and answers the exit status.
+fn perform<D: Disk, O: Outlet, E: Outlet>(
+    alloc: Global,
+    command: Command,
+    disk: &mut D,
+    out: &mut O,
+    err: &mut E,
+) -> u8
+    ensures no_usage { result ≢ 1 }
+    ensures compile { IfCompile (Some (command_of command.entry)) (λ source target heap depth.
+        EndsCompile source target heap depth result (disk_change D.files D.faults D.calls disk.old disk.new)
+        (stream_change E.bytes E.left E.faults err.old err.new)) }
+    ensures compile_out { IfCompile (Some (command_of command.entry)) (λ source target heap depth. out.new ≡ out.old) }
+    ensures run { IfRun (Some (command_of command.entry)) (λ source heap depth steps. EndsRun source result
+        (disk_change D.files D.faults D.calls disk.old disk.new) (stream_change E.bytes E.left E.faults err.old err.new)
+        (RunsSource source heap depth steps (disk_change D.files D.faults D.calls disk.old disk.new)
+        (stream_change O.bytes O.left O.faults out.old out.new))) }
+    ensures step { IfStep (Some (command_of command.entry)) (λ image steps. EndsRun image result
+        (disk_change D.files D.faults D.calls disk.old disk.new) (stream_change E.bytes E.left E.faults err.old err.new)
+        (StepsImage image steps (disk_change D.files D.faults D.calls disk.old disk.new)
+        (stream_change O.bytes O.left O.faults out.old out.new))) }
+{
+    let status = match command {
+        Command::Compile {
+            source,
+            target,
+            limits,
+        } => {
             let answer = compile(alloc, source, target, limits, disk);
             report_compile(err, source, target, &answer)
         }
-        Some(Command::Run(wanted)) => {
+        Command::Run(wanted) => {
             let answer = run_source(alloc, wanted, disk, out);
             report_run(err, wanted.source, &answer)
         }
-        Some(Command::Step { image, steps }) => {
+        Command::Step { image, steps } => {
             let answer = step_image(alloc, image, steps, disk, out);
             report_run(err, image, &answer)
         }
-        None => {
-            say(err, USAGE, "\n");
-            Status::Usage
-        }
     };
     status.number()
+}
+
+// The answer to words that are no command: 1.
+fn report_usage<E: Outlet>(err: &mut E) -> u8
+    ensures status { result ≡ 1 }
+    ensures line { Says usage_line (stream_change E.bytes E.left E.faults err.old err.new) }
+{
+    say(err, USAGE, "\n");
+    Status::Usage.number()
+}
+
+// The answer where there was no memory for the words: 10.
+fn report_no_memory<E: Outlet>(err: &mut E) -> u8
+    ensures status { result ≡ 10 }
+    ensures line { Says out_of_memory_line (stream_change E.bytes E.left E.faults err.old err.new) }
+{
+    say_out_of_memory(err);
+    Status::OutOfMemory.number()
 }
 
 /// Answers for words that could not be taken from the host: 10 where there was no memory for them, and
@@ -113,9 +162,7 @@ pub fn report_words<E: Outlet>(error: &Error, err: &mut E) -> u8
     ensures line { Says (if result == 1 then usage_line else out_of_memory_line) (stream_change E.bytes E.left E.faults err.old err.new) }
 {
     if error.kind() == ErrorKind::OutOfMemory {
-        say_out_of_memory(err);
-        return Status::OutOfMemory.number();
+        return report_no_memory(err);
     }
-    say(err, USAGE, "\n");
-    Status::Usage.number()
+    report_usage(err)
 }

@@ -2,7 +2,7 @@
 
 ghost use Rattle.std.specs.Prelude.{◌≡◌, ◌≢◌};
 ghost use Rattle.sch_cli.specs.Messages.{Says};
-ghost use Rattle.sch_cli.specs.Seen.{HadCalls, SameFiles, disk_change, stream_change};
+ghost use Rattle.sch_cli.specs.Seen.{HadAtMostCalls, HadCalls, SameFiles, disk_change, stream_change};
 ghost use Rattle.sch_cli.specs.Statuses.{status_number};
 ghost use Rattle.sch_cli.specs.Steps.{RunsSource, StepsImage, run_line, run_status};
 
@@ -31,6 +31,7 @@ pub fn run_source<D: Disk, O: Outlet>(
 ) -> Result<RunEnd, Failure>
     ensures unchanged { SameFiles (disk_change D.files D.faults D.calls disk.old disk.new) }
     ensures calls { HadCalls 1 (disk_change D.files D.faults D.calls disk.old disk.new) }
+    ensures few_calls { HadAtMostCalls 1 (disk_change D.files D.faults D.calls disk.old disk.new) }
     ensures ran { RunsSource wanted.entry.source.now wanted.entry.limits.heap wanted.entry.limits.depth wanted.entry.steps
         (disk_change D.files D.faults D.calls disk.old disk.new) (stream_change O.bytes O.left O.faults out.old out.new) result }
 {
@@ -50,6 +51,7 @@ pub fn step_image<D: Disk, O: Outlet>(
 ) -> Result<RunEnd, Failure>
     ensures unchanged { SameFiles (disk_change D.files D.faults D.calls disk.old disk.new) }
     ensures calls { HadCalls 1 (disk_change D.files D.faults D.calls disk.old disk.new) }
+    ensures few_calls { HadAtMostCalls 1 (disk_change D.files D.faults D.calls disk.old disk.new) }
     ensures stepped { StepsImage name.now steps (disk_change D.files D.faults D.calls disk.old disk.new)
         (stream_change O.bytes O.left O.faults out.old out.new) result }
 {

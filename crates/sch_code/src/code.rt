@@ -1,7 +1,7 @@
 //! A buffer for the bytes of one instruction.
 
 ghost use Rattle.std.specs.Prelude.{◌≡◌, ℕ, ◌+◌, ◌<◌, ◌≤◌, List, [], ◌∷◌, ◌++◌, length, take};
-ghost use Rattle.sch_insn.specs.Spelling.{four_bytes, eight_bytes};
+ghost use Rattle.sch_insn.specs.Spelling.{one_byte, four_bytes, eight_bytes};
 
 use std::marker::Model;
 
@@ -59,6 +59,14 @@ impl Code {
     {
         self.bytes[self.len] = byte;
         self.len += 1;
+    }
+
+    /// One byte.
+    pub(crate) fn put_i8(&mut self, number: i8)
+        requires { length self.old < 16 }
+        ensures { self.new ≡ self.old ++ one_byte number }
+    {
+        self.put(number.cast_unsigned());
     }
 
     fn put_all(&mut self, bytes: &[u8])

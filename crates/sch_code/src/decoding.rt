@@ -3,7 +3,7 @@
 ghost use Rattle.std.specs.Prelude.{◌≡◌, ◌≢◌, ◌+◌, ◌++◌, ◌<◌, ◌≤◌, ℕ, List, length, take, drop, IfSome, Some, None};
 ghost use Rattle.sch_insn.specs.declared.insn.Insn.{Insn};
 ghost use Rattle.sch_insn.specs.Spelling.{in_memory as in_memory_of, spelling, IsValid};
-ghost use Rattle.sch_insn.specs.Decode.{number_of_4, number_of_8, count_of, sib_size, arg_of, operand_of, wide_of, narrow_of, long_of, whole_word_of, rexed_of};
+ghost use Rattle.sch_insn.specs.Decode.{number_of_1, number_of_4, number_of_8, count_of, sib_size, arg_of, operand_of, wide_of, narrow_of, long_of, whole_word_of, rexed_of};
 ghost use Rattle.sch_insn.specs.Decode.{escaped_of, is_jump_if as is_jump_if_of, decode as decode_of};
 
 use sch_insn::{Arg, Insn};
@@ -55,6 +55,8 @@ fn read(bytes: &[u8]) -> Option<(Insn, usize)>
     }
     rows! { first, &bytes[1..], 1; {
         0xE9 => Insn::Jump(d), d = number + 4;
+        0xEB => Insn::Jump8(d), d = number_of_1 + 1;
+        _ if is_jump_if(7, first) => Insn::JumpIf8(first % 16, d), d = number_of_1 + 1;
     } }
 }
 
@@ -70,15 +72,16 @@ fn escaped(bytes: &[u8]) -> Option<(Insn, usize)>
     let op = bytes[0];
     rows! { op, &bytes[1..], 2; {
         0x05 => Insn::Syscall;
-        _ if is_jump_if(op) => Insn::JumpIf(op % 16, d), d = number + 4;
+        _ if is_jump_if(8, op) => Insn::JumpIf(op % 16, d), d = number + 4;
     } }
 }
 
-/// 80 to 8F, but 8A and 8B.
-fn is_jump_if(op: u8) -> bool
-    ensures { result ≡ is_jump_if_of op }
+/// Whether an opcode is a jump with a condition: its high half is this one, and its low half is the
+/// number of a condition.
+fn is_jump_if(high: u8, op: u8) -> bool
+    ensures { result ≡ is_jump_if_of high op }
 {
-    op / 16 == 8 && op != 0x8A && op != 0x8B
+    op / 16 == high && op % 16 != 10 && op % 16 != 11
 }
 
 /// What stands after REX with the bits W, R and B.
@@ -176,6 +179,12 @@ fn wide(op: u8, r: u8, m: Arg, size: usize, bytes: &[u8]) -> Option<(Insn, usize
         0x81 if r == 5 => Insn::SubNumber(m, n), n = number + 4;
         0x81 if r == 6 => Insn::XorNumber(m, n), n = number + 4;
         0x81 if r == 7 => Insn::CmpNumber(m, n), n = number + 4;
+        0x83 if r == 0 => Insn::AddNumber8(m, n), n = number_of_1 + 1;
+        0x83 if r == 1 => Insn::OrNumber8(m, n), n = number_of_1 + 1;
+        0x83 if r == 4 => Insn::AndNumber8(m, n), n = number_of_1 + 1;
+        0x83 if r == 5 => Insn::SubNumber8(m, n), n = number_of_1 + 1;
+        0x83 if r == 6 => Insn::XorNumber8(m, n), n = number_of_1 + 1;
+        0x83 if r == 7 => Insn::CmpNumber8(m, n), n = number_of_1 + 1;
         0x85 => Insn::TestTo(m, r);
         0x89 => Insn::MovTo(m, r);
         0x8B => Insn::MovFrom(r, m);
@@ -230,7 +239,9 @@ fn arg(mode: u8, high: u8, low: u8, bytes: &[u8]) -> Option<(Arg, usize)>
         return Some((Arg::Base32(register, displacement), size + 4));
     }
     if mode == 1 {
-        return None;
+        let size = sib(low, bytes)?;
+        let displacement = number_of_1(&bytes[size..])?;
+        return Some((Arg::Base8(register, displacement), size + 1));
     }
     if low == 5 {
         if high != 0 {
@@ -256,6 +267,18 @@ fn sib(low: u8, bytes: &[u8]) -> Option<usize>
         return None;
     }
     Some(1)
+}
+
+/// One byte as a number.
+#[inline(always)]
+fn number_of_1(bytes: &[u8]) -> Option<i8>
+    ensures within { IfSome result (λ n. 1 ≤ length bytes.now) }
+    ensures value { result ≡ number_of_1 bytes.now }
+{
+    if bytes.is_empty() {
+        return None;
+    }
+    Some(bytes[0].cast_signed())
 }
 
 /// Four bytes as a number.

@@ -35,6 +35,15 @@ pub fn encode(i: &Insn, to: &mut Code) -> usize
     ensures length { result ≡ length (spelling i.now) }
 {
     to.clear();
+    put_spelling(i, to);
+    to.bytes().len()
+}
+
+fn put_spelling(i: &Insn, to: &mut Code)
+    requires valid { IsValid i.now }
+    requires empty { to.old ≡ [] }
+    ensures { to.new ≡ spelling i.now }
+{
     rows! { *i, to; {
         Insn::MovTo(m, r) => put_wide 0x89, r, m;
         Insn::MovFrom(r, m) => put_wide 0x8B, r, m;
@@ -60,6 +69,12 @@ pub fn encode(i: &Insn, to: &mut Code) -> usize
         Insn::SubNumber(m, n) => put_wide 0x81, 5, m, put_i32 n;
         Insn::XorNumber(m, n) => put_wide 0x81, 6, m, put_i32 n;
         Insn::CmpNumber(m, n) => put_wide 0x81, 7, m, put_i32 n;
+        Insn::AddNumber8(m, n) => put_wide 0x83, 0, m, put_i8 n;
+        Insn::OrNumber8(m, n) => put_wide 0x83, 1, m, put_i8 n;
+        Insn::AndNumber8(m, n) => put_wide 0x83, 4, m, put_i8 n;
+        Insn::SubNumber8(m, n) => put_wide 0x83, 5, m, put_i8 n;
+        Insn::XorNumber8(m, n) => put_wide 0x83, 6, m, put_i8 n;
+        Insn::CmpNumber8(m, n) => put_wide 0x83, 7, m, put_i8 n;
         Insn::TestTo(m, r) => put_wide 0x85, r, m;
         Insn::Imul(r, m) => put_long 0xAF, r, m;
         Insn::Neg(m) => put_wide 0xF7, 3, m;
@@ -72,10 +87,11 @@ pub fn encode(i: &Insn, to: &mut Code) -> usize
         Insn::MovWord(r, n) => 0x48 + r / 8, 0xB8 + r % 8=> put_i64 n;
         Insn::Cqo => 0x48, 0x99;
         Insn::Jump(d) => 0xE9 => put_i32 d;
+        Insn::Jump8(d) => 0xEB => put_i8 d;
         Insn::JumpIf(c, d) => 0x0F, 0x80 + c => put_i32 d;
+        Insn::JumpIf8(c, d) => 0x70 + c => put_i8 d;
         Insn::Syscall => 0x0F, 0x05;
     } }
-    to.bytes().len()
 }
 
 /// REX with W, one byte of opcode, the operand.
@@ -126,7 +142,7 @@ fn put_rex(to: &mut Code, w: u8, r: u8, m: Arg)
     ensures { to.new ≡ rex w r m ∷ [] }
 {
     let high = match m {
-        Arg::Reg(b) | Arg::Base(b) | Arg::Base32(b, _) => b / 8,
+        Arg::Reg(b) | Arg::Base(b) | Arg::Base8(b, _) | Arg::Base32(b, _) => b / 8,
         Arg::Rip(_) => 0,
     };
     to.put(0x40 + 8 * w + 4 * (r / 8) + high);
@@ -146,6 +162,11 @@ fn put_operand(to: &mut Code, r: u8, m: Arg)
         Arg::Base(b) => {
             to.put(reg + b % 8);
             put_sib(to, b);
+        }
+        Arg::Base8(b, d) => {
+            to.put(0x40 + reg + b % 8);
+            put_sib(to, b);
+            to.put_i8(d);
         }
         Arg::Base32(b, d) => {
             to.put(0x80 + reg + b % 8);

@@ -7,3 +7,6 @@ pub mod FittingTable
 pub mod OrderLists
 pub mod PlainMarks
 pub mod OrderExamples
+mod FlowExamples
+pub mod ExactSets
+pub mod NumberLists

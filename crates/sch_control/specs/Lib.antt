@@ -13,3 +13,4 @@ pub mod Tree
 pub mod Valid
 pub mod View
 pub mod Work
+pub mod flow

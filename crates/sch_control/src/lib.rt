@@ -3,14 +3,26 @@
 #![tactic(auto)]
 
 mod body;
+mod copies;
+mod live_body;
 mod operation;
 mod order_table;
 mod program;
 mod program_orders;
+mod restored_body;
+mod restoring;
+mod saved_body;
+mod set_lists;
 mod tree;
 
 pub use body::{Body, Entry};
+pub use copies::{copy_application, copy_members, copy_operation};
+pub use live_body::LiveBody;
 pub use operation::{Application, Atom, Closure, Member, Operand, Operation, Source};
 pub use program::ControlProgram;
 pub use program_orders::{a_table_that_fits_is_an_order_table, given_orders};
-pub use tree::Exp;
+pub use restored_body::RestoredBody;
+pub use restoring::Restoring;
+pub use saved_body::SavedBody;
+pub use set_lists::{members_of, with_all};
+pub use tree::{Exp, boxed};

@@ -1,7 +1,10 @@
 //! Expressions of a body.
 
+ghost use Rattle.std.specs.Prelude.{◌≡◌, IfOk};
+
 use crate::operation::{Application, Member, Operation};
-use sch_word::List;
+use sch_word::{List, Mem};
+use std::alloc::Global;
 
 /// An expression of a body. `C` is what is said of each call.
 ///
@@ -27,4 +30,11 @@ pub enum Exp<C: Drop> {
     End(Box<Exp<C>>),
     /// A region: each of the variables is saved at its head or, where it is bound inside, as it is bound.
     Save(List<u32>, Box<Exp<C>>),
+}
+
+/// An expression on the heap.
+pub fn boxed<C: Drop>(alloc: Global, e: Exp<C>) -> Result<Box<Exp<C>>, Mem>
+    ensures { IfOk result (λ made. made.value ≡ e) }
+{
+    Ok(Box::new(alloc, e)?)
 }

@@ -24,22 +24,22 @@ use std::alloc::Global;
 
 /// The program of a text that uses a library, or why it has none: the least place, and there the first cause.
 /// Data of more than 1,000 levels of lists are out of memory.
-pub fn core(alloc: Global, library: Library<'_>, items: &[Datum]) -> Result<Program, CoreError>
+pub fn core(alloc: Global, library: &Library<'_>, items: &[Datum]) -> Result<Program, CoreError>
     requires light { weights (data_of items.now) ≤ max_weight }
-    ensures found { IfOk result (λ p. IsProgramOf (definitions_of library.entry.definitions) (data_of items.now) (source p)) }
+    ensures found { IfOk result (λ p. IsProgramOf (definitions_of library.now.definitions) (data_of items.now) (source p)) }
     ensures size { IfOk result (λ p. nodes_and_bound (source p)
-        ≤ 16 * weights (data_of items.now) + size_of_definitions (definitions_of library.entry.definitions)) }
+        ≤ 16 * weights (data_of items.now) + size_of_definitions (definitions_of library.now.definitions)) }
     // Each form has a place.
     ensures places { IfOk result (λ p. length (form_places (data_of items.now)) ≡ count (source p).forms) }
-    ensures only { (p : Source) → IsProgramOf (definitions_of library.entry.definitions) (data_of items.now) p →
+    ensures only { (p : Source) → IsProgramOf (definitions_of library.now.definitions) (data_of items.now) p →
         MatchResult result (λ q. source q ≡ p) (λ e. e ≡ CoreError.Memory) }
-    ensures fault { IfErr result (IsErrorIn (definitions_of library.entry.definitions) (data_of items.now)) }
+    ensures fault { IfErr result (IsErrorIn (definitions_of library.now.definitions) (data_of items.now)) }
 {
     if !are_quotable(items) {
         return Err(CoreError::Memory);
     }
-    let Library { definitions } = library;
-    let seen = seen_names(alloc, definitions.as_slice())?;
+    let definitions = library.definitions.as_slice();
+    let seen = seen_names(alloc, definitions)?;
     let Text {
         own,
         drafts,

@@ -42,12 +42,12 @@ use Rattle.sch_select_data.specs.Data.{heap_of}
 use Rattle.sch_select.specs.Ends.{EndsWithin}
 use Rattle.sch_layout.specs.OwnSlots.{slots_code}
 use Rattle.sch_frames.specs.Run.{entries_of}
-use Rattle.sch_frames.specs.Sizes.{closures_in, program_size, program_work}
+use Rattle.sch_frames.specs.Sizes.{program_copies, program_work}
 use Rattle.sch_layout.specs.LayoutSizes.{most_words}
 use Rattle.sch_select.specs.Follows.{AreRuns, EndsFrames, EntersFrames, FollowsFrames, PassesFrames, TakesFrames}
 use Rattle.sch_select.specs.Marks.{CountsEntries, PassesMarks, TakesWays, marks_passed}
 use Rattle.sch_select.specs.Program.{frames_bytes, max_stack, program_code, program_zeros}
-use Rattle.sch_select.specs.Sizes.{instructions_in, steps_bound}
+use Rattle.sch_select.specs.Sizes.{instructions_in, steps_bound, steps_size}
 use Rattle.sch_lang.specs.Bodies as bodies
 use Rattle.sch_lang.specs.Measures as core
 use Rattle.sch_lang.specs.Tree as lang
@@ -122,7 +122,7 @@ pub record AreSelected (f : frames.Source) (heap depth : ℕ) (a : Asm) : Type 0
   pub enters : EntersFrames f heap depth a.items a.words a.zeros
   pub takes : TakesFrames f heap depth a.items a.words a.zeros
   pub stand : IsTrue (all_marks_stand f.bodies)
-  pub units : program_size f + (closures_in f.bodies + length f.bodies) ≤ 3 * instructions_in a.items
+  pub units : steps_size f ≤ 3 * instructions_in a.items
   pub zeros : a.zeros ≡ program_zeros f heap depth
   pub items : a.items ≡ program_code f heap depth
   pub words_end : data_address + 8 * length a.words ≡ heap_of f
@@ -156,7 +156,7 @@ assembled p f heap depth a routines code marks words text zeros image instructio
       ends = λ runs are.
           in_image (λ entry segments. EndsWithin entry segments runs (steps_of instructions)) (flat_map spelling code) words a.zeros image lies'
           (ends_later text_address (text_at (flat_map spelling code) ∷ data_at (words ++ replicate a.zeros 0) ∷ []) runs (steps_bound f) (steps_of instructions)
-          (λ entries answers charged. steps_fit (program_size f + (closures_in f.bodies + length f.bodies)) (instructions_in a.items) instructions entries answers charged selected.units many)
+          (λ entries answers charged. steps_fit (steps_size f) (instructions_in a.items) instructions entries answers charged selected.units many)
           (selected.ends.ends routines.items code marks words effective a.marked routines.marked resolved valid short runs (run runs are)));
       marked = λ runs are.
           subst (λ g. IsMarked image code marks g heap depth runs) is_framed
@@ -179,9 +179,9 @@ assembled p f heap depth a routines code marks words text zeros image instructio
 -- ## What is too large
 
 -- the text of a program's items and of the routines, by the work in its bodies
-pub text_within : (f : frames.Source) (a routines : List Item) (work : ℕ) → text_size a ≤ 2048 + 64 * (program_size f + closures_in f.bodies) → program_work f ≤ work
-    → text_size routines ≤ 1024 → text_size (a ++ routines) ≤ 65536 + 64 * work
-text_within f a routines work text done short = let e = size_append a routines in omega (arith, e, text, done, short)
+pub text_within : (f : frames.Source) (a routines : List Item) (work : ℕ) → text_size a ≤ 2048 + (64 * program_work f + 8 * program_copies f) → program_work f ≤ work → program_copies f ≤ work
+    → text_size routines ≤ 1024 → text_size (a ++ routines) ≤ 65536 + 72 * work
+text_within f a routines work text done few short = let e = size_append a routines in omega (arith, e, text, done, few, short)
 
 pub unfit : (p : control.Source) (words depth n : ℕ) (error : AsmError) → IsFrameSize p words → frames_bytes words depth ≤ max_stack → n ≡ framed_size p → n ≤ assembled_bound p → IsTooLarge n error
     → IsUnfit p depth (of_assembly error)

@@ -27,20 +27,21 @@ use Rattle.sch_driver.specs.Headline.{HasProgramLayout}
 use Rattle.sch_driver.specs.declared.error.CompileError.{CompileError}
 use Rattle.sch_driver.specs.declared.error.CompileError.TheVariants.{TextTooLarge, StackTooLarge, Memory}
 
--- the most bytes of the text, by the work in the control program
+-- the most bytes of the text, by the work in the control program: 64 for each unit of it, and 8 for a copy, of which there are no
+-- more than units
 abbrev pub assembled_bound : Source → ℕ
-assembled_bound p = text_base + 64 * codes_work p.bodies
+assembled_bound p = text_base + 72 * codes_work p.bodies
 
 -- The most steps that a machine takes for a run that has ended: 768 for each instruction of its text, once for each
 -- procedure entry of the run and once more, 10 for each answer that the run used, and 8 for each byte that it charged.
 abbrev pub steps_of : (instructions entries answers charged : ℕ) → ℕ
 steps_of instructions entries answers charged = 768 * instructions * suc entries + 10 * answers + 8 * charged
 
--- The words of the largest frame: a slot for each variable, and for each of the most operands or formals.
+-- The words of the largest frame: slots for the variables and for the formals past the sixth, and for the arguments of a call.
 pub record IsFrameSize (p : Source) (words : ℕ) : Type 0 where
   pub largest : words ≡ most_words p.bodies
   pub few : words ≤ max_words
-  pub bound : words ≤ max_operands + most_variables p.bodies
+  pub bound : words ≤ max_operands + 2 * most_variables p.bodies
 
 -- The image is laid out as a program's, with this number of instructions. Its words end where the heap begins, and behind
 -- them it has room for the heap and for frames of this number of words at this depth. Where the control program is never

@@ -1,6 +1,6 @@
 //! Reads and expands a text with a library.
 
-ghost use Rattle.std.specs.Prelude.{◌≤◌, ◌*◌, ℕ, length, IfOk, IfErr, IsTrue};
+ghost use Rattle.std.specs.Prelude.{◌≤◌, ◌*◌, ℕ, length, IfOk, IfErr};
 ghost use Rattle.sch_lang.specs.Measures.{nodes_and_bound};
 ghost use Rattle.sch_lang.specs.ProgramView.{source};
 ghost use Rattle.sch_read.specs.Text.{Spells};
@@ -10,14 +10,12 @@ ghost use Rattle.sch_link_program.specs.Definitions.{definitions_of};
 ghost use Rattle.sch_link_program.specs.Size.{size_of_definitions};
 ghost use Rattle.sch_core.specs.Libraries.{IsLibraryOf};
 ghost use Rattle.sch_core.specs.Programs.{IsProgramOf};
-ghost use Rattle.sch_passes.specs.Walkable.{is_walkable};
 ghost use Rattle.sch_driver.specs.Causes.{IsErrorOf, Means, max_source_size};
 ghost use Rattle.sch_driver.specs.PartErrors.{FailsToRead, FailsToDefine, FailsToExpand};
 
 use crate::error::{CompileError, Part, of_expanding, of_reading};
 use sch_core::{Library, core, library};
 use sch_lang::Program;
-use sch_passes::is_walkable;
 use sch_read::{Datum, read_all};
 use sch_word::List;
 use std::alloc::Global;
@@ -49,12 +47,12 @@ fn expand_library<'a>(alloc: Global, items: &'a [Datum]) -> Result<Library<'a>, 
 }
 
 /// The core program of a text with a library.
-fn expand(alloc: Global, library: Library<'_>, items: &[Datum]) -> Result<Program, CompileError>
+fn expand(alloc: Global, library: &Library<'_>, items: &[Datum]) -> Result<Program, CompileError>
     requires light { weights (data_of items.now) ≤ max_weight }
-    requires small { size_of_definitions (definitions_of library.definitions) ≤ 16 * max_weight }
-    ensures found { IfOk result (λ p. IsProgramOf (definitions_of library.entry.definitions) (data_of items.now) (source p)) }
+    requires small { size_of_definitions (definitions_of library.now.definitions) ≤ 16 * max_weight }
+    ensures found { IfOk result (λ p. IsProgramOf (definitions_of library.now.definitions) (data_of items.now) (source p)) }
     ensures size { IfOk result (λ p. nodes_and_bound (source p) ≤ 32 * max_weight) }
-    ensures refused { IfErr result (FailsToExpand (definitions_of library.entry.definitions) (data_of items.now)) }
+    ensures refused { IfErr result (FailsToExpand (definitions_of library.now.definitions) (data_of items.now)) }
 {
     match core(alloc, library, items) {
         Ok(p) => Ok(p),
@@ -63,7 +61,6 @@ fn expand(alloc: Global, library: Library<'_>, items: &[Datum]) -> Result<Progra
 }
 
 /// The core program of a text with a library's text.
-/// A body in which 10,000 parts of sequences or more stand before one place is out of memory.
 pub(crate) fn read_program(
     alloc: Global,
     library: &[u8],
@@ -73,15 +70,11 @@ pub(crate) fn read_program(
     requires short { length text.now ≤ max_source_size }
     ensures means { IfOk result (λ p. Means library.now text.now (source p)) }
     ensures size { IfOk result (λ p. nodes_and_bound (source p) ≤ 32 * max_weight) }
-    ensures walkable { IfOk result (λ p. IsTrue (is_walkable (source p))) }
     ensures refused { IfErr result (λ e. (depth : ℕ) → IsErrorOf library.now text.now depth e) }
 {
     let definitions = read_part(alloc, Part::Library, library)?;
     let known = expand_library(alloc, definitions.as_slice())?;
     let items = read_part(alloc, Part::User, text)?;
-    let program = expand(alloc, known, items.as_slice())?;
-    if !is_walkable(&program) {
-        return Err(CompileError::Memory);
-    }
+    let program = expand(alloc, &known, items.as_slice())?;
     Ok(program)
 }

@@ -12,10 +12,10 @@ use Rattle.sch_control.specs.declared.operation.Atom.TheVariants.{Constant, Vari
 use Rattle.sch_control.specs.declared.operation.Operand.TheVariants as operand
 use Rattle.sch_control.specs.declared.operation.Operation.TheVariants as operation
 use Rattle.sch_frames.specs.declared.instruction.Instruction.{Instruction}
-use Rattle.sch_frames.specs.declared.instruction.Instruction.TheVariants.{Do, Call, IfFalse, Jump, Label, Load, Mark, Return, Tail}
+use Rattle.sch_frames.specs.declared.instruction.Instruction.TheVariants.{Do, Call, IfFalse, Jump, Label, Mark, Return, Tail}
 use Rattle.sch_frames.specs.Meaning.{Frame, Is, Junk, Link, beginning}
 use Rattle.sch_word.specs.runs.Activations.{activations}
-use Rattle.sch_frames.specs.Standing.{marks_stand}
+use Rattle.sch_frames.specs.Standing.{Other, marks_stand}
 use Rattle.sch_frames.specs.Ways.{way}
 
 -- ---- which marks are whose
@@ -133,14 +133,14 @@ no_last_operand s [] h = h
 no_last_operand s (n ∷ marks) h = let e : None ≡ Some h.1.1.0 = h.1.1.1.0 in cc
 
 -- no way loads what is not there
-no_load : (s : State Procedure) (marks : List MarkKind) → way (Load (Slot 0) (operand.Atom (Variable (Slot 3))) ∷ (Mark mark.Return ∷ (Return ∷ []))) None entered s marks → ⊥
-no_load s marks h = let e : None ≡ Some h.0 = h.1.0 in cc
+no_load : (s : State Procedure) (marks : List MarkKind) → way (Do (operation.Operand (operand.Atom (Variable (Slot 3)))) ∷ (Mark mark.Return ∷ (Return ∷ []))) None entered s marks → ⊥
+no_load s marks h = let e : None ≡ Some (gives h.0 h.1.0) = h.1.1.0 in cc
 
-both_stand : marks_stand None (Mark (mark.Call 1) ∷ (Call false 0 ∷ (Mark (mark.Tail 2) ∷ (Tail false 0 ∷ [])))) ≡ true
+both_stand : marks_stand Other (Mark (mark.Call 1) ∷ (Call false 0 ∷ (Mark (mark.Tail 2) ∷ (Tail false 0 ∷ [])))) ≡ true
 both_stand = refl
 
-call_alone : marks_stand None (Call false 0 ∷ (Mark mark.Return ∷ (Return ∷ []))) ≡ false
+call_alone : marks_stand Other (Call false 0 ∷ (Mark mark.Return ∷ (Return ∷ []))) ≡ false
 call_alone = refl
 
-other_between : marks_stand None (Mark mark.Return ∷ (Label 0 ∷ (Return ∷ []))) ≡ false
+other_between : marks_stand Other (Mark mark.Return ∷ (Label 0 ∷ (Return ∷ []))) ≡ false
 other_between = refl

@@ -18,12 +18,13 @@ use Rattle.sch_control.specs.declared.operation.Source.TheVariants as source
 use Rattle.sch_control.specs.declared.operation.Operation.TheVariants as operation
 use Rattle.sch_control.proofs.Examples.{number, held_in, seen}
 use Rattle.sch_frames.specs.declared.instruction.Instruction.{Instruction}
-use Rattle.sch_frames.specs.declared.instruction.Instruction.TheVariants.{Do, Store, Copy, Load, Pass, Fix, Call, Tail, Return, End, IfFalse, Jump, Label, Mark}
+use Rattle.sch_frames.specs.declared.instruction.Instruction.TheVariants.{Do, Store, Copy, Pass, Fix, Call, Tail, Return, End, IfFalse, Jump, Label, Mark}
 use Rattle.sch_frames.specs.Covered.{begins, is_covered_code, is_covered_instruction, is_covered_program, plain_instruction}
 use Rattle.sch_frames.specs.Run.{run}
-use Rattle.sch_frames.specs.Sizes.{frame_words, grouped, instructions_size, jumped, largest_frame, program_size}
+use Rattle.sch_frames.specs.Sizes.{copies_of, frame_words, grouped, instructions_size, jumped, largest_frame, program_copies, program_size}
+use Rattle.sch_frames.specs.Standing.{Other, marks_stand}
 use Rattle.sch_frames.specs.Tree.{Code, Source}
-use Rattle.sch_frames.specs.Valid.{code_valid, is_valid, placed, forward}
+use Rattle.sch_frames.specs.Valid.{code_valid, instruction_placed, is_valid, placed, forward}
 
 -- ## Words for the rows
 
@@ -54,14 +55,18 @@ seventh = lambda 7 1 1 1
     (Do (operation.Operand (held_in (Slot 0))) ∷ IfFalse 0 ∷ Mark mark.Return ∷ Return
     ∷ Label 0 ∷ Do (operation.Field (Reg 14) 0) ∷ Mark mark.Return ∷ Return ∷ [])
 
+abbrev load : Place → Operand Place → List Instruction → List Instruction
+load p o rest = Do (operation.Operand o) ∷ Store p ∷ rest
+
 abbrev load_six : List Instruction → List Instruction
-load_six rest = Load (Reg 3) (number 1) ∷ Load (Reg 8) (number 2) ∷ Load (Reg 9) (number 3) ∷ Load (Reg 10) (number 4) ∷ Load (Reg 6) (number 5) ∷ Load (Reg 7) (number 6) ∷ rest
+load_six rest =
+    load (Reg 3) (number 1) (load (Reg 8) (number 2) (load (Reg 9) (number 3) (load (Reg 10) (number 4) (load (Reg 6) (number 5) (load (Reg 7) (number 6) rest)))))
 
 -- the closure is kept in a slot, and what `last` has is shown of the first register of a variable
 abbrev calling : Operand Place → Instruction → Source
 calling passed last = program []
     (form 1 0 (Do (operation.MakeClosure (record { label = 1; fields = source.Atom (Constant (Boolean true)) ∷ [] })) ∷ Store (Slot 0) ∷ Copy (Reg 14) (Slot 0)
-    ∷ load_six (Pass 0 passed ∷ Mark (mark.Call 0) ∷ Call false 7 ∷ last ∷ Do (operation.Prim 1 Put (held_in (Reg 3) ∷ [])) ∷ End ∷ []))
+    ∷ load_six (Do (operation.Operand passed) ∷ Pass 0 ∷ Mark (mark.Call 0) ∷ Call false 7 ∷ last ∷ Do (operation.Prim 1 Put (held_in (Reg 3) ∷ [])) ∷ End ∷ []))
     ∷ seventh ∷ []) 1
 
 calling_runs : runs (calling (operand.Atom (Constant (Boolean false))) (Store (Reg 3))) 1 1 ≡ seen (codes "#t") 1 16 (ended 0)
@@ -86,7 +91,7 @@ abbrev tail_calling : Source
 tail_calling = program []
     (form 1 0 (Do (operation.MakeClosure (record { label = 1; fields = [] })) ∷ Store (Slot 0) ∷ Copy (Reg 14) (Slot 0) ∷ Mark (mark.Call 0) ∷ Call false 0
     ∷ Store (Reg 3) ∷ Do (operation.Prim 1 Put (held_in (Reg 3) ∷ [])) ∷ End ∷ [])
-    ∷ lambda 0 0 1 0 (Do (operation.MakeClosure (record { label = 2; fields = [] })) ∷ Store (Reg 14) ∷ Load (Reg 3) (operand.Atom (Constant (Boolean false))) ∷ Mark (mark.Tail 2) ∷ Tail false 1 ∷ [])
+    ∷ lambda 0 0 1 0 (Do (operation.MakeClosure (record { label = 2; fields = [] })) ∷ Store (Reg 14) ∷ load (Reg 3) (operand.Atom (Constant (Boolean false))) (Mark (mark.Tail 2) ∷ Tail false 1 ∷ []))
     ∷ lambda 1 0 1 0 (Do (operation.Operand (held_in (Reg 3))) ∷ Mark mark.Return ∷ Return ∷ [])
     ∷ []) 1
 
@@ -102,7 +107,7 @@ link_lost = refl
 abbrev group : Source
 group = program []
     (form 2 0 (Fix (record { at = Slot 0; closure = record { label = 1; fields = source.Atom (Variable (Slot 1)) ∷ [] } }
-    ∷ record { at = Slot 1; closure = record { label = 2; fields = source.Atom (Variable (Slot 0)) ∷ [] } } ∷ [])
+    ∷ record { at = Slot 1; closure = record { label = 2; fields = source.Atom (Variable (Slot 0)) ∷ [] } } ∷ []) (5 ∷ 6 ∷ [])
     ∷ Copy (Reg 14) (Slot 0) ∷ Call false 0 ∷ Store (Reg 3) ∷ Do (operation.Prim 0 Put (held_in (Reg 3) ∷ [])) ∷ End ∷ [])
     ∷ lambda 0 1 1 0 (Do (operation.Field (Reg 14) 0) ∷ Store (Reg 14) ∷ Tail false 0 ∷ [])
     ∷ lambda 0 1 1 0 (Do (operation.Operand (operand.Atom (Constant (Boolean true)))) ∷ Return ∷ [])
@@ -134,7 +139,7 @@ counted_rows = (refl, refl, refl, refl, refl)
 past_frame : placed None 1 (Store (Slot 1) ∷ []) ≡ false
 past_frame = refl
 
-passed_past_frame : placed None 1 (Pass 1 (number 1) ∷ []) ≡ false
+passed_past_frame : placed None 1 (Pass 1 ∷ []) ≡ false
 passed_past_frame = refl
 
 no_register : placed None 1 (Store (Reg 12) ∷ []) ≡ false
@@ -165,32 +170,60 @@ covered_rows = (refl, refl, refl, refl, refl)
 
 -- a list is spread, an operand is a literal
 instruction_rows :
-    (map is_covered_instruction (Load (Slot 0) (operand.Atom (Literal 0)) ∷ Pass 0 (operand.Atom (Literal 0)) ∷ Call true 1 ∷ Tail true 1 ∷ []) ≡ are_literals_covered ∷ are_literals_covered
-    ∷ false ∷ false ∷ [])
-    × (map is_covered_instruction (Load (Slot 0) (number 0) ∷ Pass 0 (number 0) ∷ Call false 1 ∷ Tail false 1 ∷ []) ≡ true ∷ true ∷ true ∷ true ∷ [])
+    (map is_covered_instruction (Do (operation.Operand (operand.Atom (Literal 0))) ∷ Call true 1 ∷ Tail true 1 ∷ []) ≡ are_literals_covered ∷ false ∷ false ∷ [])
+    × (map is_covered_instruction (Do (operation.Operand (number 0)) ∷ Pass 0 ∷ Call false 1 ∷ Tail false 1 ∷ []) ≡ true ∷ true ∷ true ∷ true ∷ [])
 instruction_rows = (refl, refl)
 
 -- a form ends only in its own body, and the mark of a call has the call behind it, with no label between
 settled_rows :
-    (map is_covered_code (form 2 1 (Copy (Slot 0) (Slot 1) ∷ End ∷ []) ∷ lambda 0 0 2 1 (Copy (Slot 0) (Slot 1) ∷ End ∷ []) ∷ []) ≡ true ∷ false ∷ [])
-    × (map is_covered_code (lambda 0 0 2 1 (Copy (Slot 0) (Slot 1) ∷ Mark (mark.Tail 0) ∷ Tail false 0 ∷ [])
-    ∷ lambda 0 0 2 1 (Copy (Slot 0) (Slot 1) ∷ Mark (mark.Tail 0) ∷ Label 0 ∷ Tail false 0 ∷ []) ∷ []) ≡ true ∷ false ∷ [])
+    (map is_covered_code (form 2 1 (Copy (Reg 3) (Slot 1) ∷ End ∷ []) ∷ lambda 0 0 2 1 (Copy (Reg 3) (Slot 1) ∷ End ∷ []) ∷ []) ≡ true ∷ false ∷ [])
+    × (map is_covered_code (lambda 0 0 2 1 (Copy (Reg 3) (Slot 1) ∷ Mark (mark.Tail 0) ∷ Tail false 0 ∷ [])
+    ∷ lambda 0 0 2 1 (Copy (Reg 3) (Slot 1) ∷ Mark (mark.Tail 0) ∷ Label 0 ∷ Tail false 0 ∷ []) ∷ []) ≡ true ∷ false ∷ [])
 settled_rows = (refl, refl)
 
 -- no mark of an entry stands among instructions
 plain_rows :
     (map plain_instruction (Mark (mark.Enter 0) ∷ Mark (mark.Call 0) ∷ Mark (mark.Tail 0) ∷ Mark mark.Return ∷ Return ∷ []) ≡ false ∷ true ∷ true ∷ true ∷ true ∷ [])
-    × (map is_covered_code (lambda 0 0 2 1 (Copy (Slot 0) (Slot 1) ∷ Mark mark.Return ∷ Return ∷ []) ∷ lambda 0 0 2 1 (Copy (Slot 0) (Slot 1) ∷ Mark (mark.Enter 0) ∷ Return ∷ []) ∷ [])
+    × (map is_covered_code (lambda 0 0 2 1 (Copy (Reg 3) (Slot 1) ∷ Mark mark.Return ∷ Return ∷ []) ∷ lambda 0 0 2 1 (Copy (Reg 3) (Slot 1) ∷ Mark (mark.Enter 0) ∷ Return ∷ []) ∷ [])
     ≡ true ∷ false ∷ [])
 plain_rows = (refl, refl)
 
--- a label or a mark is nothing that is done
+-- a label or a mark is nothing that is done, but a body may begin with marks
 begins_rows :
     (begins [] ≡ false)
     × (begins (Label 0 ∷ Return ∷ []) ≡ false)
-    × (begins (Mark mark.Return ∷ Return ∷ []) ≡ false)
-    × (begins (Copy (Slot 0) (Reg 15) ∷ []) ≡ true)
-begins_rows = (refl, refl, refl, refl)
+    × (begins (Mark (mark.Save 0) ∷ []) ≡ false)
+    × (begins (Mark (mark.Save 0) ∷ Label 0 ∷ Copy (Slot 0) (Reg 15) ∷ []) ≡ false)
+    × (begins (Mark (mark.Save 0) ∷ Copy (Slot 0) (Reg 15) ∷ []) ≡ true)
+begins_rows = (refl, refl, refl, refl, refl)
+
+-- ## Marks
+
+-- a write of a slot stands behind its mark, and a write of a register behind none but that of a value that is set aside
+store_rows :
+    (map (marks_stand Other)
+    ((Mark (mark.Spill 2) ∷ Store (Slot 0) ∷ []) ∷ (Mark (mark.Save 2) ∷ Copy (Slot 0) (Reg 3) ∷ []) ∷ (Mark mark.Argument ∷ Pass 0 ∷ []) ∷ (Mark mark.Temp ∷ Store (Reg 3) ∷ []) ∷ (Store (Reg 3) ∷ []) ∷ [])
+    ≡ true ∷ true ∷ true ∷ true ∷ true ∷ [])
+    × (map (marks_stand Other)
+    ((Store (Slot 0) ∷ []) ∷ (Copy (Slot 0) (Reg 3) ∷ []) ∷ (Pass 0 ∷ []) ∷ (Mark (mark.Spill 2) ∷ Store (Reg 3) ∷ []) ∷ (Mark (mark.Save 2) ∷ Copy (Reg 3) (Slot 0) ∷ []) ∷ [])
+    ≡ false ∷ false ∷ false ∷ false ∷ false ∷ [])
+store_rows = (refl, refl)
+
+-- one mark alone stands at a write, a call or a return, with nothing between
+single_rows :
+    map (marks_stand Other)
+    ((Mark (mark.Spill 2) ∷ Mark (mark.Save 2) ∷ Store (Slot 0) ∷ []) ∷ (Mark (mark.Spill 2) ∷ []) ∷ (Mark (mark.Spill 2) ∷ Label 0 ∷ Store (Slot 0) ∷ []) ∷ (Return ∷ []) ∷ (Mark mark.Return ∷ End ∷ []) ∷ [])
+    ≡ false ∷ false ∷ false ∷ false ∷ false ∷ []
+single_rows = refl
+
+-- a restore loads from a slot, directly behind a call or another restore
+restore_rows :
+    map (marks_stand Other)
+    ((Mark (mark.Call 0) ∷ Call false 0 ∷ Mark (mark.Restore 2) ∷ Copy (Reg 3) (Slot 0) ∷ Mark (mark.Restore 3) ∷ Copy (Reg 8) (Slot 1) ∷ [])
+    ∷ (Mark (mark.Call 0) ∷ Call false 0 ∷ Store (Reg 9) ∷ Mark (mark.Restore 2) ∷ Copy (Reg 3) (Slot 0) ∷ [])
+    ∷ (Mark (mark.Restore 2) ∷ Copy (Reg 3) (Slot 0) ∷ []) ∷ (Mark (mark.Call 0) ∷ Call false 0 ∷ Mark (mark.Restore 2) ∷ Copy (Reg 3) (Reg 8) ∷ []) ∷ [])
+    ≡ true ∷ false ∷ false ∷ false ∷ []
+restore_rows = refl
 
 -- ## Sizes
 
@@ -200,9 +233,25 @@ size_rows :
     × (map jumped (seventh.entry ∷ None ∷ []) ≡ 1 ∷ 0 ∷ [])
 size_rows = (refl, refl, refl)
 
+-- copies are counted apart
+abbrev copying : List Instruction
+copying = Copy (Reg 3) (Reg 8) ∷ Mark (mark.Spill 2) ∷ Store (Slot 0) ∷ Mark mark.Argument ∷ Pass 0 ∷ shows
+
+copies_rows :
+    (instructions_size copying ≡ 3)
+    × (copies_of copying ≡ 3)
+    × (program_copies (program [] (form 2 0 copying ∷ (form 2 1 (Label 0 ∷ copying) ∷ [])) 2) ≡ 6)
+copies_rows = (refl, refl, refl)
+
 abbrev member : Member Place
 member = record { at = Slot 2; closure = record { label = 1; fields = [] } }
 
 -- a group of two, a call, which is no tail call, and a group of one
-grouped_row : grouped (Fix (member ∷ member ∷ []) ∷ Call false 0 ∷ Tail false 0 ∷ Fix (member ∷ []) ∷ []) ≡ 4
+grouped_row : grouped (Fix (member ∷ member ∷ []) (1 ∷ 2 ∷ []) ∷ Call false 0 ∷ Tail false 0 ∷ Fix (member ∷ []) (3 ∷ []) ∷ []) ≡ 4
 grouped_row = refl
+
+-- a group names what it spills, once for each member that comes into a slot
+spilled_rows :
+    (map (instruction_placed 3) (Fix (member ∷ member ∷ []) (1 ∷ 2 ∷ []) ∷ Fix (member ∷ []) [] ∷ []) ≡ true ∷ false ∷ [])
+    × (map (instruction_placed 3) (Copy (Slot 1) (Slot 0) ∷ Copy (Slot 1) (Reg 3) ∷ Copy (Reg 3) (Slot 1) ∷ Copy (Reg 3) (Reg 8) ∷ []) ≡ false ∷ true ∷ true ∷ true ∷ [])
+spilled_rows = (refl, refl)

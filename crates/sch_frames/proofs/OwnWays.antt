@@ -1,5 +1,5 @@
 -- The own marks of each activation that has ended are those on one way through its body.
-use Rattle.std.proofs.Common.{◌≡◌, ℕ, zero, suc, ◌+◌, arith, List, [], ◌∷◌, ◌++◌, length, Bool, true, false, cond, Option, Some, None, refl, sym, ap, subst, ◌∙◌, append_assoc}
+use Rattle.std.proofs.Common.{◌≡◌, ℕ, zero, suc, ◌+◌, arith, List, [], ◌∷◌, ◌++◌, length, Bool, true, false, cond, Option, Some, None, refl, sym, ap, subst, ◌∙◌, append_assoc, append-nil, map}
 use Rattle.std.specs.Prelude.{nat_eq, slice_get}
 use Rattle.std.specs.List.{list_all}
 use Rattle.std.proofs.lemmas.Bool.{and_parts}
@@ -16,17 +16,17 @@ use Rattle.sch_word.specs.declared.mark.MarkKind.{MarkKind}
 use Rattle.sch_word.specs.declared.mark.MarkKind.TheVariants as mark
 use Rattle.sch_control.specs.CoveredOperands.{is_form}
 use Rattle.sch_control.specs.Meaning.{Callee, Result, World, call_in, either, entered as into, marked, on_checked, on_ending, on_outcome, on_return, with_value}
-use Rattle.sch_control.specs.Operations.{Ending, Procedure, member_bytes, members_made, operand_value, operate, with_procedures}
+use Rattle.sch_control.specs.Operations.{Ending, Procedure, member_bytes, members_made, operate, with_procedures}
 use Rattle.sch_control.specs.Run.{do_forms, enter, enter_body, entry_at, known_entry, outcome_of, starting_world}
 use Rattle.sch_frames.specs.declared.instruction.Instruction.{Instruction}
-use Rattle.sch_frames.specs.declared.instruction.Instruction.TheVariants.{Do, Store as Put, Copy, Load, Pass, Fix, Call, Tail, Return, End, IfFalse, Jump, Label, Mark}
+use Rattle.sch_frames.specs.declared.instruction.Instruction.TheVariants.{Do, Store as Put, Copy, Pass, Fix, Call, Tail, Return, End, IfFalse, Jump, Label, Mark}
 use Rattle.sch_frames.specs.Meaning.{Cell, Frame, Is, Junk, Link, after_call, beginning, execute, execute_each, held, if_link, link_register, parts, sought, value_in, with_members}
 use Rattle.sch_frames.specs.Run.{bodies_of, do_known, entries_of}
 use Rattle.sch_frames.specs.Tree.{Code, Source}
 use Rattle.sch_frames.specs.Valid.{formals_of}
 use Rattle.sch_frames.specs.Covered.{is_covered_code}
-use Rattle.sch_frames.specs.Standing.{all_marks_stand, belongs, code_marks_stand, waiting}
-use Rattle.sch_frames.proofs.MarksAndEnds.{code_stands, marks_stand, stands_alone}
+use Rattle.sch_frames.specs.Standing.{all_marks_stand, code_marks_stand}
+use Rattle.sch_frames.proofs.MarksAndEnds.{belongs, code_stands, marks_stand, stands_alone, waiting}
 use Rattle.sch_frames.specs.Ways.{IsWay, way}
 use Rattle.sch_frames.proofs.Turns.{Back, Level, On, Sound, called, entered, one_own, returned, tail_called, told_sound}
 
@@ -153,6 +153,16 @@ module _ (codes : List Code) where
       one_before : (before : List MarkKind) (m : MarkKind) (marks : List MarkKind) → Whole (before ++ m ∷ marks) → Whole ((before ++ m ∷ []) ++ marks)
       one_before before m marks = subst Whole (sym (append_assoc before (m ∷ []) marks))
 
+      -- the marks of the members of a group that are stored
+      spilled_own : (xs : List ℕ) (before marks : List MarkKind) → On codes (mark.Enter label ∷ before) suspended marks
+          → On codes (mark.Enter label ∷ (before ++ map mark.Spill xs)) suspended (marks ++ map mark.Spill xs)
+      spilled_own [] before marks t =
+          subst (λ b. On codes (mark.Enter label ∷ b) suspended (marks ++ [])) (sym (append-nil before)) (subst (λ m. On codes (mark.Enter label ∷ before) suspended m) (sym (append-nil marks)) t)
+      spilled_own (x ∷ xs) before marks t =
+          subst (λ b. On codes (mark.Enter label ∷ b) suspended (marks ++ (mark.Spill x ∷ map mark.Spill xs))) (append_assoc before (mark.Spill x ∷ []) (map mark.Spill xs))
+          (subst (λ m. On codes (mark.Enter label ∷ ((before ++ mark.Spill x ∷ []) ++ map mark.Spill xs)) suspended m) (append_assoc marks (mark.Spill x ∷ []) (map mark.Spill xs))
+          (spilled_own xs (before ++ mark.Spill x ∷ []) (marks ++ mark.Spill x ∷ []) (one_own codes (mark.Spill x) false refl refl t)))
+
       module _ (rest : List Instruction) (goes : Goes rest) where
         marked_goes : (m : MarkKind) → stands_alone (is_form code.entry) (Mark m) ≡ true → marks_stand (is_form code.entry) (waiting (Mark m)) rest ≡ true
             → (f : Frame) (w : World) (before : List MarkKind)
@@ -192,14 +202,12 @@ module _ (codes : List Code) where
             (λ v s e. goes None h None _ _ before (λ marks y. leads marks (v, (s, (e, y)))) mine)
         done (Put p) a h f w before leads mine = goes None h None _ w before leads mine
         done (Copy to from) a h f w before leads mine = goes None h None _ w before leads mine
-        done (Load p o) a h f w before leads mine =
-            valued P (operand_value (held f) w.state.store o) _ (λ v e. goes None h None _ w before (λ marks y. leads marks (v, (e, y))) mine)
-        done (Pass k o) a h f w before leads mine =
-            valued P (operand_value (held f) w.state.store o) _ (λ v e. goes None h None _ w before (λ marks y. leads marks (v, (e, y))) mine)
-        done (Fix members) a h f w before leads mine =
+        done (Pass k) a h f w before leads mine = goes None h None _ w before leads mine
+        done (Fix members spills) a h f w before leads mine =
             outcome P w.marks (told_sound codes mine) (in_store (charge_each (member_bytes members)) w.state) _
             (λ x s e. let inner = with_members f members (procedures_from (length s.procedures) (length members)) in
-            valued P (with_procedures s (members_made (held inner) s members)) _ (λ t q. goes None h None inner _ before (λ marks y. leads marks (x, (s, (e, (t, (q, y)))))) mine))
+            valued P (with_procedures s (members_made (held inner) s members)) _ (λ t q. goes None h None inner _ (before ++ map mark.Spill spills)
+            (λ marks y. subst Whole (sym (append_assoc before (map mark.Spill spills) marks)) (leads (map mark.Spill spills ++ marks) (x, (s, (e, (t, (q, (marks, (refl, y))))))))) (spilled_own spills before w.marks mine)))
         done (Call spread count) a h f w before leads mine = absurd (let bad : false ≡ true = a in cc)
         done (Tail spread count) a h f w before leads mine = absurd (let bad : false ≡ true = a in cc)
         done Return a h f w before leads mine = absurd (let bad : false ≡ true = a in cc)

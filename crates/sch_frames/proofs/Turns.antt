@@ -8,8 +8,7 @@ use Rattle.sch_frames.specs.declared.instruction.Instruction.TheVariants.{Mark}
 use Rattle.sch_word.specs.runs.Activations.{is_enter}
 use Rattle.sch_frames.specs.Tree.{Code}
 use Rattle.sch_word.specs.runs.Activations.{Activations, activations, after, none_yet, pass, resumed, settled, with_mark}
-use Rattle.sch_frames.proofs.MarksAndEnds.{stands_alone}
-use Rattle.sch_frames.specs.Standing.{waiting}
+use Rattle.sch_frames.proofs.MarksAndEnds.{stands_alone, waiting}
 use Rattle.sch_frames.specs.Ways.{AreWays, IsWay}
 
 after_both : (a : Activations) (first more : List MarkKind) → after a (first ++ more) ≡ after (after a first) more

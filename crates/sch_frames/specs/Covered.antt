@@ -11,17 +11,15 @@ use Rattle.sch_control.specs.declared.operation.Operation.TheVariants as operati
 use Rattle.sch_control.specs.declared.operation.Source.{Source as Captured}
 use Rattle.sch_control.specs.declared.operation.Source.TheVariants as captured
 use Rattle.sch_control.specs.Covered.{is_covered_member, is_covered_operation, has_covered_formals}
-use Rattle.sch_control.specs.CoveredOperands.{is_form, is_covered_operand}
+use Rattle.sch_control.specs.CoveredOperands.{is_form}
 use Rattle.sch_frames.specs.declared.instruction.Instruction.{Instruction}
-use Rattle.sch_frames.specs.declared.instruction.Instruction.TheVariants.{Do, Load, Pass, Fix, Call, Tail, End, Label, Mark}
+use Rattle.sch_frames.specs.declared.instruction.Instruction.TheVariants.{Do, Fix, Call, Tail, End, Label, Mark}
 use Rattle.sch_frames.specs.Tree.{Code, Source}
 
 -- its operations and operands are covered, and no list is spread
 abbrev pub is_covered_instruction : Instruction → Bool
 is_covered_instruction (Do o) = is_covered_operation o
-is_covered_instruction (Load p o) = is_covered_operand o
-is_covered_instruction (Pass k o) = is_covered_operand o
-is_covered_instruction (Fix members) = list_all is_covered_member members
+is_covered_instruction (Fix members spills) = list_all is_covered_member members
 is_covered_instruction (Call spread count) = not spread
 is_covered_instruction (Tail spread count) = not spread
 is_covered_instruction _ = true
@@ -48,7 +46,7 @@ operation_low _ = true
 
 abbrev pub instruction_low : Instruction → Bool
 instruction_low (Do o) = operation_low o
-instruction_low (Fix members) = list_all member_low members
+instruction_low (Fix members spills) = list_all member_low members
 instruction_low _ = true
 
 -- ## Marks: each has an instruction behind it, and no label between. One may wait for the first instruction.
@@ -86,11 +84,12 @@ is_covered_code c =
 abbrev pub is_covered_program : Source → Bool
 is_covered_program p = nat_le (length p.library) max_library && list_all is_covered_code p.bodies
 
--- Something is done first, so that the mark of a body has its instruction behind it, and no label between.
+-- Behind the marks with which it begins something is done, so that the mark of a body has its instruction behind it, and no
+-- label between.
 abbrev pub begins : List Instruction → Bool
 begins [] = false
 begins (Label l ∷ instructions) = false
-begins (Mark m ∷ instructions) = false
+begins (Mark m ∷ instructions) = begins instructions
 begins (i ∷ instructions) = true
 
 abbrev pub code_begins : Code → Bool

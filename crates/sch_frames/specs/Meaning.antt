@@ -1,7 +1,8 @@
 -- What a body does: its instructions in their order, over the places of a frame.
-use Rattle.std.specs.Prelude.{ℕ, zero, suc, Bool, true, false, cond, nat_eq, List, [], ◌∷◌, length, Option, Some, None, slice_get}
+use Rattle.std.specs.Prelude.{ℕ, zero, suc, Bool, true, false, cond, nat_eq, List, [], ◌∷◌, ◌++◌, length, map, Option, Some, None, slice_get}
 use Rattle.sch_word.specs.declared.place.Place.{Place}
 use Rattle.sch_word.specs.declared.place.Place.TheVariants.{Reg, Slot}
+use Rattle.sch_word.specs.declared.mark.MarkKind.TheVariants.{Spill}
 use Rattle.sch_word.specs.declared.registers.TheConstants.{CLOSURE_REGISTER, LINK_REGISTER}
 use Rattle.sch_word.specs.values.Registers.{argument_registers}
 use Rattle.sch_word.specs.values.Values.{Value, unspecified, is_true}
@@ -9,10 +10,10 @@ use Rattle.sch_word.specs.runs.Computation.{gives, in_store, procedures_from}
 use Rattle.sch_word.specs.runs.Charges.{charge_each}
 use Rattle.sch_control.specs.declared.body.Entry.{Entry}
 use Rattle.sch_control.specs.declared.operation.Member.{Member}
-use Rattle.sch_control.specs.Operations.{operand_value, operate, and_value, member_bytes, members_made, with_procedures}
+use Rattle.sch_control.specs.Operations.{operate, and_value, member_bytes, members_made, with_procedures}
 use Rattle.sch_control.specs.Meaning.{World, Result, Callee, marked, with_value, on_outcome, on_ending, on_return, either, call_in}
 use Rattle.sch_frames.specs.declared.instruction.Instruction.{Instruction}
-use Rattle.sch_frames.specs.declared.instruction.Instruction.TheVariants.{Do, Store, Copy, Load, Pass, Fix, Call, Tail, Return, End, IfFalse, Jump, Label, Mark}
+use Rattle.sch_frames.specs.declared.instruction.Instruction.TheVariants.{Do, Store, Copy, Pass, Fix, Call, Tail, Return, End, IfFalse, Jump, Label, Mark}
 
 -- What a place holds: a value; where the activation returns; or any word, which nobody may read.
 pub data Cell : Type 0 where
@@ -32,6 +33,10 @@ abbrev pub same_place : Place → Place → Bool
 same_place (Reg a) (Reg b) = nat_eq a b
 same_place (Slot a) (Slot b) = nat_eq a b
 same_place _ _ = false
+
+abbrev pub is_slot : Place → Bool
+is_slot (Reg r) = false
+is_slot (Slot j) = true
 
 -- where the closure and the return address of an activation arrive: R14 and R15
 abbrev pub closure_register : Place
@@ -70,8 +75,8 @@ set places p c q = cond (same_place q p) c (places q)
 abbrev pub with_place : Frame → Place → Cell → Frame
 with_place f p c = record f { places = set f.places p c }
 
-abbrev pub with_outgoing : Frame → ℕ → Value → Frame
-with_outgoing f k v = record f { outgoing = λ j. cond (nat_eq j k) (Is v) (f.outgoing j) }
+abbrev pub with_outgoing : Frame → ℕ → Cell → Frame
+with_outgoing f k c = record f { outgoing = λ j. cond (nat_eq j k) c (f.outgoing j) }
 
 -- each member of a group has its value
 abbrev pub with_members : Frame → List (Member Place) → List Value → Frame
@@ -127,13 +132,12 @@ module _ (callee : Callee) (depth : ℕ) where
   execute (Do o) next f w = on_ending w.marks (operate (held f) o w.state) (λ v w. next None (record f { accumulator = Is v }) w)
   execute (Store p) next f w = next None (with_place f p f.accumulator) w
   execute (Copy to from) next f w = next None (with_place f to (f.places from)) w
-  execute (Load p o) next f w = with_value (operand_value (held f) w.state.store o) (λ v. next None (with_place f p (Is v)) w)
-  execute (Pass k o) next f w = with_value (operand_value (held f) w.state.store o) (λ v. next None (with_outgoing f k v) w)
-  execute (Fix members) next f w =
+  execute (Pass k) next f w = next None (with_outgoing f k f.accumulator) w
+  execute (Fix members spills) next f w =
       on_outcome w.marks (in_store (charge_each (member_bytes members)) w.state)
       (λ _ w. let inner = with_members f members (procedures_from (length w.state.procedures) (length members)) in
       with_value (with_procedures w.state (members_made (held inner) w.state members))
-      (λ s. next None inner (record { state = s; marks = w.marks })))
+      (λ s. next None inner (record { state = s; marks = w.marks ++ map Spill spills })))
   execute (Call spread count) next f w =
       with_value (parts f.places f.outgoing count)
       (λ vs. on_return (call_in callee spread false depth vs w) (λ v w. next None (after_call f v) w))

@@ -3,9 +3,9 @@ use Rattle.std.specs.Prelude.{ℕ, suc, ◌+◌, max, Bool, false, cond, List, [
 use Rattle.std.specs.List.{list_any}
 use Rattle.sch_control.specs.declared.body.Entry.{Entry}
 use Rattle.sch_control.specs.AtomsAndSites.{member_atoms}
-use Rattle.sch_control.specs.Sizes.{operand_size, operation_size}
+use Rattle.sch_control.specs.Sizes.{operation_size}
 use Rattle.sch_frames.specs.declared.instruction.Instruction.{Instruction}
-use Rattle.sch_frames.specs.declared.instruction.Instruction.TheVariants.{Do, Load, Pass, Fix, Call, Tail, Label, Mark}
+use Rattle.sch_frames.specs.declared.instruction.Instruction.TheVariants.{Do, Store, Copy, Pass, Fix, Call, Tail, Label, Mark}
 use Rattle.sch_frames.specs.Tree.{Code, Source}
 
 -- ## Frames
@@ -34,12 +34,14 @@ frame_words codes = cond (list_any code_spreads codes) (max (largest_frame codes
 
 -- ## Instructions
 
--- One for each instruction, with what its operation has. Labels and marks are nothing that is done.
+-- One for each instruction, with what its operation has. Labels and marks are nothing that is done, and copies are
+-- counted apart.
 abbrev pub instruction_size : Instruction → ℕ
 instruction_size (Do o) = suc (operation_size o)
-instruction_size (Load p o) = suc (operand_size o)
-instruction_size (Pass k o) = suc (operand_size o)
-instruction_size (Fix members) = suc (length (member_atoms members))
+instruction_size (Store p) = 0
+instruction_size (Copy to from) = 0
+instruction_size (Pass k) = 0
+instruction_size (Fix members spills) = suc (length (member_atoms members))
 instruction_size (Label l) = 0
 instruction_size (Mark m) = 0
 instruction_size _ = 1
@@ -61,7 +63,7 @@ program_size p = codes_size p.bodies
 -- the closures that groups make, and the calls that are no tail calls
 abbrev pub grouped : List Instruction → ℕ
 grouped [] = 0
-grouped (Fix members ∷ instructions) = length members + grouped instructions
+grouped (Fix members spills ∷ instructions) = length members + grouped instructions
 grouped (Call spread count ∷ instructions) = suc (grouped instructions)
 grouped (_ ∷ instructions) = grouped instructions
 
@@ -82,3 +84,23 @@ code_work c = instructions_size c.instructions + grouped c.instructions + jumped
 -- the same of all bodies of a program
 abbrev pub program_work : Source → ℕ
 program_work p = program_size p + closures_in p.bodies
+
+-- ## Copies
+
+-- the instructions that copy one word and do no more, between the accumulator, a register and a slot
+abbrev pub instruction_copies : Instruction → ℕ
+instruction_copies (Store p) = 1
+instruction_copies (Copy to from) = 1
+instruction_copies (Pass k) = 1
+instruction_copies _ = 0
+
+abbrev pub copies_of : List Instruction → ℕ
+copies_of [] = 0
+copies_of (i ∷ instructions) = instruction_copies i + copies_of instructions
+
+abbrev pub codes_copies : List Code → ℕ
+codes_copies [] = 0
+codes_copies (c ∷ codes) = copies_of c.instructions + codes_copies codes
+
+abbrev pub program_copies : Source → ℕ
+program_copies p = codes_copies p.bodies

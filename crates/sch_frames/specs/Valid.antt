@@ -1,5 +1,5 @@
 -- Which programs are valid.
-use Rattle.std.specs.Prelude.{ℕ, ◌+◌, Bool, true, false, ◌&&◌, ◌||◌, not, nat_lt, nat_le, List, [], ◌∷◌, length, Option, Some, None}
+use Rattle.std.specs.Prelude.{ℕ, suc, ◌+◌, nat_eq, cond, Bool, true, false, ◌&&◌, ◌||◌, not, nat_lt, nat_le, List, [], ◌∷◌, length, Option, Some, None}
 use Rattle.std.specs.List.{list_all}
 use Rattle.sch_word.specs.declared.place.Place.{Place}
 use Rattle.sch_word.specs.declared.place.Place.TheVariants.{Reg, Slot}
@@ -12,10 +12,11 @@ use Rattle.sch_control.specs.declared.body.Entry.{Entry}
 use Rattle.sch_control.specs.declared.operation.Atom.{Atom}
 use Rattle.sch_control.specs.declared.operation.Atom.TheVariants.{Variable}
 use Rattle.sch_control.specs.declared.operation.Member.{Member}
-use Rattle.sch_control.specs.AtomsAndSites.{operand_atoms, operation_atoms, member_atoms}
-use Rattle.sch_control.specs.Valid.{without_repeats, operand_shaped, operation_shaped, group_shaped, entry_shaped, atoms_known, operation_known, group_known, Names, without_fields}
+use Rattle.sch_control.specs.AtomsAndSites.{operation_atoms, member_atoms}
+use Rattle.sch_control.specs.Valid.{without_repeats, operation_shaped, group_shaped, entry_shaped, operation_known, group_known, Names, without_fields}
 use Rattle.sch_frames.specs.declared.instruction.Instruction.{Instruction}
-use Rattle.sch_frames.specs.declared.instruction.Instruction.TheVariants.{Do, Store, Copy, Load, Pass, Fix, Call, Tail, IfFalse, Jump, Label}
+use Rattle.sch_frames.specs.declared.instruction.Instruction.TheVariants.{Do, Store, Copy, Pass, Fix, Call, Tail, IfFalse, Jump, Label}
+use Rattle.sch_frames.specs.Meaning.{is_slot}
 use Rattle.sch_frames.specs.Tree.{Code, Source}
 use Rattle.sch_frames.specs.Run.{entries_of}
 
@@ -26,6 +27,11 @@ max_words = 2048
 
 abbrev pub is_register : ℕ → Bool
 is_register r = has r body_registers
+
+-- how many members of a group come into slots
+abbrev pub in_slots : List (Member Place) → ℕ
+in_slots [] = 0
+in_slots (m ∷ members) = cond (is_slot m.at) (suc (in_slots members)) (in_slots members)
 
 module _ (words : ℕ) where
   abbrev pub is_place : Place → Bool
@@ -47,10 +53,9 @@ module _ (words : ℕ) where
   abbrev pub instruction_placed : Instruction → Bool
   instruction_placed (Do o) = list_all is_atom (operation_atoms o)
   instruction_placed (Store p) = is_place p
-  instruction_placed (Copy to from) = is_place to && is_place from
-  instruction_placed (Load p o) = is_place p && list_all is_atom (operand_atoms o)
-  instruction_placed (Pass k o) = nat_lt k words && list_all is_atom (operand_atoms o)
-  instruction_placed (Fix members) = are_members members && list_all is_atom (member_atoms members)
+  instruction_placed (Copy to from) = not (is_slot to && is_slot from) && (is_place to && is_place from)
+  instruction_placed (Pass k) = nat_lt k words
+  instruction_placed (Fix members spills) = nat_eq (length spills) (in_slots members) && (are_members members && list_all is_atom (member_atoms members))
   instruction_placed (Call spread count) = handed_over count
   instruction_placed (Tail spread count) = handed_over count
   instruction_placed _ = true
@@ -94,9 +99,7 @@ call_shaped spread count = nat_le count max_operands && (not spread || nat_le 1 
 
 abbrev pub instruction_shaped : Instruction → Bool
 instruction_shaped (Do o) = operation_shaped o
-instruction_shaped (Load p o) = operand_shaped o
-instruction_shaped (Pass k o) = operand_shaped o
-instruction_shaped (Fix members) = group_shaped members
+instruction_shaped (Fix members spills) = group_shaped members
 instruction_shaped (Call spread count) = call_shaped spread count
 instruction_shaped (Tail spread count) = call_shaped spread count
 instruction_shaped _ = true
@@ -120,9 +123,7 @@ names_of p = record {
 
 abbrev pub instruction_known : Names → Instruction → Bool
 instruction_known names (Do o) = operation_known names o
-instruction_known names (Load p o) = atoms_known names (operand_atoms o)
-instruction_known names (Pass k o) = atoms_known names (operand_atoms o)
-instruction_known names (Fix members) = group_known names members
+instruction_known names (Fix members spills) = group_known names members
 instruction_known names _ = true
 
 abbrev pub all_known : Source → Bool

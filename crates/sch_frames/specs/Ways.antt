@@ -1,5 +1,5 @@
 -- The ways through a body, and the marks on them.
-use Rattle.std.specs.Prelude.{◌≡◌, ℕ, Bool, false, cond, List, [], ◌∷◌, length, Option, Some, None, slice_get}
+use Rattle.std.specs.Prelude.{◌≡◌, ℕ, Bool, false, cond, List, [], ◌∷◌, ◌++◌, length, map, Option, Some, None, slice_get}
 use Rattle.sch_word.specs.declared.place.Place.{Place}
 use Rattle.sch_word.specs.declared.place.Place.TheVariants.{Slot}
 use Rattle.sch_word.specs.values.Values.{Value, is_true}
@@ -7,11 +7,11 @@ use Rattle.sch_word.specs.runs.Charges.{charge_each}
 use Rattle.sch_word.specs.values.Checked.{passes}
 use Rattle.sch_word.specs.runs.Computation.{gives, State, in_store, procedures_from, checked_call, Entry as Entered}
 use Rattle.sch_word.specs.declared.mark.MarkKind.{MarkKind}
-use Rattle.sch_word.specs.declared.mark.MarkKind.TheVariants.{Enter}
+use Rattle.sch_word.specs.declared.mark.MarkKind.TheVariants.{Enter, Spill}
 use Rattle.sch_control.specs.declared.operation.Member.{Member}
-use Rattle.sch_control.specs.Operations.{Procedure, member_bytes, members_made, operand_value, operate, with_procedures}
+use Rattle.sch_control.specs.Operations.{Procedure, member_bytes, members_made, operate, with_procedures}
 use Rattle.sch_frames.specs.declared.instruction.Instruction.{Instruction}
-use Rattle.sch_frames.specs.declared.instruction.Instruction.TheVariants.{Do, Store as Put, Copy, Load, Pass, Fix, Call, Tail, Return, End, IfFalse, Jump, Label, Mark}
+use Rattle.sch_frames.specs.declared.instruction.Instruction.TheVariants.{Do, Store as Put, Copy, Pass, Fix, Call, Tail, Return, End, IfFalse, Jump, Label, Mark}
 use Rattle.sch_frames.specs.Meaning.{Frame, Is, Link, after_call, beginning, held, link_register, parts, sought, value_in, with_members, with_outgoing, with_place}
 use Rattle.sch_frames.specs.Tree.{Code}
 use Rattle.sch_frames.specs.Valid.{formals_of}
@@ -20,11 +20,11 @@ use Rattle.sch_frames.specs.Valid.{formals_of}
 abbrev pub Onward : Type 1
 Onward = Option ℕ → Frame → State Procedure → List MarkKind → Type 0
 
--- the procedures of a group are made, once they are charged
-abbrev pub group : List (Member Place) → Onward → Frame → State Procedure → List MarkKind → Type 0
-group members next f s marks =
+-- the procedures of a group are made, once they are charged, and stored
+abbrev pub group : List (Member Place) → (spills : List ℕ) → Onward → Frame → State Procedure → List MarkKind → Type 0
+group members spills next f s marks =
     let inner = with_members f members (procedures_from (length s.procedures) (length members)) in
-    (t : State Procedure) × ((with_procedures s (members_made (held inner) s members) ≡ Some t) × next None inner t marks)
+    (t : State Procedure) × ((with_procedures s (members_made (held inner) s members) ≡ Some t) × ((rest : List MarkKind) × ((marks ≡ map Spill spills ++ rest) × next None inner t rest)))
 
 -- a call of these operator and operands enters a procedure, at some depth
 abbrev pub goes_through : (spread : Bool) → List Value → State Procedure → Type 0
@@ -36,9 +36,8 @@ abbrev pub step : Instruction → Onward → Frame → State Procedure → List 
 step (Do o) next f s marks = (v : Value) × ((t : State Procedure) × ((operate (held f) o s ≡ Some (gives v t)) × next None (record f { accumulator = Is v }) t marks))
 step (Put p) next f s marks = next None (with_place f p f.accumulator) s marks
 step (Copy to from) next f s marks = next None (with_place f to (f.places from)) s marks
-step (Load p o) next f s marks = (v : Value) × ((operand_value (held f) s.store o ≡ Some v) × next None (with_place f p (Is v)) s marks)
-step (Pass k o) next f s marks = (v : Value) × ((operand_value (held f) s.store o ≡ Some v) × next None (with_outgoing f k v) s marks)
-step (Fix members) next f s marks = (v : Value) × ((t : State Procedure) × ((in_store (charge_each (member_bytes members)) s ≡ gives v t) × group members next f t marks))
+step (Pass k) next f s marks = next None (with_outgoing f k f.accumulator) s marks
+step (Fix members spills) next f s marks = (v : Value) × ((t : State Procedure) × ((in_store (charge_each (member_bytes members)) s ≡ gives v t) × group members spills next f t marks))
 step (Call spread count) next f s marks =
     (vs : List Value) × ((parts f.places f.outgoing count ≡ Some vs) × (goes_through spread vs s × ((v : Value) × ((t : State Procedure) × next None (after_call f v) t marks))))
 step (Tail spread count) next f s marks = (f.places link_register ≡ Link) × ((vs : List Value) × ((parts f.places (λ j. f.places (Slot j)) count ≡ Some vs) × (marks ≡ [])))

@@ -3,7 +3,7 @@
 ghost use Rattle.std.specs.Prelude.{◌≡◌};
 ghost use Rattle.sch_frames.specs.Sizes.{spreads};
 
-use sch_control::{Member, Operand, Operation};
+use sch_control::{Member, Operation};
 use sch_word::{List, MarkKind, Place};
 
 /// An instruction of a body. There is one accumulator beside the places. The operator of a call stands in
@@ -16,14 +16,13 @@ pub enum Instruction {
     Do(Operation<Place>),
     /// What the accumulator holds into a place.
     Store(Place),
-    /// What the second place holds into the first.
+    /// What the second place holds into the first. At least one of them is a register.
     Copy(Place, Place),
-    /// The operand's value into a place.
-    Load(Place, Operand<Place>),
-    /// The operand's value into a slot of the frame that the next call opens.
-    Pass(u32, Operand<Place>),
-    /// A group of closures that know one another, each into its place.
-    Fix(List<Member<Place>>),
+    /// What the accumulator holds into a slot of the frame that the next call opens.
+    Pass(u32),
+    /// A group of closures that know one another, each into its place; and for each of them that comes into a
+    /// slot, in their order, the variable that lives there, under whose mark it is stored.
+    Fix(List<Member<Place>>, List<u32>),
     /// A call: whether its last operand is a list whose elements are operands, and how many operands it has.
     /// Afterwards the accumulator holds the value, the slots hold what they held, and the registers nothing
     /// that may be read.

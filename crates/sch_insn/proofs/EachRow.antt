@@ -4,9 +4,9 @@
 use Rattle.std.proofs.Common.{◌≡◌, ℕ, [], ◌∷◌, ◌++◌, Bool, true, false, cond, ◌==◌, Option, Some, None, refl}
 use Rattle.std.specs.Prelude.{pos, negsuc, Result, Ok}
 use Rattle.std.specs.Int.{w64, to_le_bytes}
-use Rattle.sch_insn.specs.declared.insn.Arg.TheVariants.{Reg, Base, Base32}
+use Rattle.sch_insn.specs.declared.insn.Arg.TheVariants.{Reg, Base, Base8, Base32}
 use Rattle.sch_insn.specs.declared.insn.Insn.{Insn}
-use Rattle.sch_insn.specs.declared.insn.Insn.TheVariants.{MovTo, MovFrom, MovNumber, MovWord, StoreByte, LoadByte, Lea, AddTo, OrTo, AndTo, SubTo, XorTo, CmpTo, AddFrom, OrFrom, AndFrom, SubFrom, XorFrom, CmpFrom, AddNumber, OrNumber, AndNumber, SubNumber, XorNumber, CmpNumber, TestTo, Imul, Neg, Idiv, Cqo, Shl, Shr, Sar, Jump, JumpTo, JumpIf}
+use Rattle.sch_insn.specs.declared.insn.Insn.TheVariants.{MovTo, MovFrom, MovNumber, MovWord, StoreByte, LoadByte, Lea, AddTo, OrTo, AndTo, SubTo, XorTo, CmpTo, AddFrom, OrFrom, AndFrom, SubFrom, XorFrom, CmpFrom, AddNumber, OrNumber, AndNumber, SubNumber, XorNumber, CmpNumber, AddNumber8, OrNumber8, AndNumber8, SubNumber8, XorNumber8, CmpNumber8, TestTo, Imul, Neg, Idiv, Cqo, Shl, Shr, Sar, Jump, Jump8, JumpTo, JumpIf, JumpIf8}
 use Rattle.sch_insn.specs.declared.state.Flags.{Flags}
 use Rattle.sch_insn.specs.declared.state.StuckCause.{StuckCause}
 use Rattle.sch_insn.specs.declared.register.TheConstants.{RAX, RCX, RDX, RBX}
@@ -142,6 +142,25 @@ each_row = (
   refl,
 )
 
+-- Displacements and numbers of one byte.
+short_rows :
+    (after (MovFrom RAX (Base8 RBX (pos 8))) ≡ left 0x123456789ABCDEF 0xFFFFFFFB 3 0x8070605040302010 (flags false true false true))
+    × (after (Lea RAX (Base8 RBX (pos 0x7F))) ≡ left 0x1000007F 0xFFFFFFFB 3 0x8070605040302010 (flags false true false true))
+    × (after (Lea RAX (Base8 RBX (negsuc 0x7F))) ≡ left 0xFFFFF80 0xFFFFFFFB 3 0x8070605040302010 (flags false true false true))
+    × (after (LoadByte RAX (Base8 RBX (pos 7))) ≡ left 0x80 0xFFFFFFFB 3 0x8070605040302010 (flags false true false true))
+    × (after (StoreByte (Base8 RBX (pos 1)) RAX) ≡ left 0xF123456789ABCDEF 0xFFFFFFFB 3 0x807060504030EF10 (flags false true false true))
+    × (after (Imul RAX (Base8 RBX (pos 8))) ≡ left 0xECA5E20890F2A521 0xFFFFFFFB 3 0x8070605040302010 (half_flags true))
+    × (after (AddNumber8 (Base RBX) (negsuc 0x7F)) ≡ left 0xF123456789ABCDEF 0xFFFFFFFB 3 0x8070605040301F90 (flags false true false true))
+    × (after (AddNumber8 (Reg RDX) (pos 0x7F)) ≡ left 0xF123456789ABCDEF 0xFFFFFFFB 0x82 0x8070605040302010 (flags false false false false))
+    × (after (OrNumber8 (Base RBX) (negsuc 0xF)) ≡ left 0xF123456789ABCDEF 0xFFFFFFFB 3 0xFFFFFFFFFFFFFFF0 (flags false true false false))
+    × (after (AndNumber8 (Base RBX) (pos 0x7F)) ≡ left 0xF123456789ABCDEF 0xFFFFFFFB 3 0x10 (flags false false false false))
+    × (after (AndNumber8 (Reg RAX) (negsuc 7)) ≡ left 0xF123456789ABCDE8 0xFFFFFFFB 3 0x8070605040302010 (flags false true false false))
+    × (after (SubNumber8 (Base RBX) (negsuc 0x7F)) ≡ left 0xF123456789ABCDEF 0xFFFFFFFB 3 0x8070605040302090 (flags false true false true))
+    × (after (XorNumber8 (Base RBX) (negsuc 0)) ≡ left 0xF123456789ABCDEF 0xFFFFFFFB 3 0x7F8F9FAFBFCFDFEF (flags false false false false))
+    × (after (CmpNumber8 (Base RBX) (negsuc 0x7F)) ≡ left 0xF123456789ABCDEF 0xFFFFFFFB 3 0x8070605040302010 (flags false true false true))
+    × (after (CmpNumber8 (Reg RDX) (pos 3)) ≡ left 0xF123456789ABCDEF 0xFFFFFFFB 3 0x8070605040302010 (flags false false true false))
+short_rows = (refl, refl, refl, refl, refl, refl, refl, refl, refl, refl, refl, refl, refl, refl, refl)
+
 -- Both words of memory.
 abbrev words_of : Progress → Option (Result ℕ StuckCause × Result ℕ StuckCause)
 words_of (Runs s) = Some (word_at s.core.segments 0x10000000, word_at s.core.segments 0x10000008)
@@ -155,7 +174,8 @@ words first second = Some (Ok first, Ok second)
 stored_words :
     (words_of (perform (MovTo (Base32 RBX (pos 8)) RAX) 0x400007 before) ≡ words 0x8070605040302010 0xF123456789ABCDEF)
     × (words_of (perform (MovTo (Base32 RBX (pos 4)) RAX) 0x400007 before) ≡ words 0x89ABCDEF40302010 0x1234567F1234567)
-stored_words = (refl, refl)
+    × (words_of (perform (MovTo (Base8 RBX (pos 4)) RAX) 0x400007 before) ≡ words 0x89ABCDEF40302010 0x1234567F1234567)
+stored_words = (refl, refl, refl)
 
 jumps :
     (after (Jump (pos 0x10)) ≡ goes_to 0x400017)
@@ -166,5 +186,10 @@ jumps :
     × (after (JumpIf NE (pos 0x10)) ≡ goes_to 0x400017)
     × (after (JumpIf B (pos 0x10)) ≡ goes_to 0x400017)
     × (after (JumpIf AE (pos 0x10)) ≡ goes_to 0x400007)
+    × (after (Jump8 (pos 0x7F)) ≡ goes_to 0x400086)
+    × (after (Jump8 (negsuc 0x7F)) ≡ goes_to 0x3FFF87)
+    × (after (JumpIf8 NE (pos 0x7F)) ≡ goes_to 0x400086)
+    × (after (JumpIf8 B (negsuc 0x7F)) ≡ goes_to 0x3FFF87)
+    × (after (JumpIf8 AE (negsuc 0x7F)) ≡ goes_to 0x400007)
 unfolding test_of
-jumps = (refl, refl, refl, refl, refl, refl, refl, refl)
+jumps = (refl, refl, refl, refl, refl, refl, refl, refl, refl, refl, refl, refl, refl)

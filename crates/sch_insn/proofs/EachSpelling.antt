@@ -1,11 +1,11 @@
 -- The spellings that GNU as 2.40 gives for instructions of every form, with registers and operands of every
 -- kind, and bytes that are no instruction of the table.
-use Rattle.std.proofs.Common.{◌≡◌, ℕ, [], ◌∷◌, Option, None, refl}
+use Rattle.std.proofs.Common.{◌≡◌, ℕ, [], ◌∷◌, Option, Some, None, refl}
 use Rattle.std.specs.Prelude.{pos, negsuc}
-use Rattle.sch_insn.specs.declared.insn.Arg.TheVariants.{Reg, Base, Base32, Rip}
+use Rattle.sch_insn.specs.declared.insn.Arg.TheVariants.{Reg, Base, Base8, Base32, Rip}
 use Rattle.sch_insn.specs.declared.insn.Insn.{Insn}
-use Rattle.sch_insn.specs.declared.insn.Insn.TheVariants.{AddFrom, AddNumber, AddTo, AndFrom, AndNumber, AndTo, CmpFrom, CmpNumber, CmpTo, Cqo, Idiv, Imul, Jump, JumpIf, JumpTo, Lea, LoadByte, MovFrom, MovNumber, MovTo, MovWord, Neg, OrFrom, OrNumber, OrTo, Sar, Shl, Shr, StoreByte, SubFrom, SubNumber, SubTo, Syscall, TestTo, XorFrom, XorNumber, XorTo}
-use Rattle.sch_insn.specs.declared.register.TheConstants.{RAX, RCX, RBX, RSP, RBP, RSI, RDI, R9, R12, R13, R15}
+use Rattle.sch_insn.specs.declared.insn.Insn.TheVariants.{AddFrom, AddNumber, AddNumber8, AddTo, AndFrom, AndNumber, AndNumber8, AndTo, CmpFrom, CmpNumber, CmpNumber8, CmpTo, Cqo, Idiv, Imul, Jump, Jump8, JumpIf, JumpIf8, JumpTo, Lea, LoadByte, MovFrom, MovNumber, MovTo, MovWord, Neg, OrFrom, OrNumber, OrNumber8, OrTo, Sar, Shl, Shr, StoreByte, SubFrom, SubNumber, SubNumber8, SubTo, Syscall, TestTo, XorFrom, XorNumber, XorNumber8, XorTo}
+use Rattle.sch_insn.specs.declared.register.TheConstants.{RAX, RCX, RBX, RSP, RBP, RSI, RDI, R8, R9, R12, R13, R15}
 use Rattle.sch_insn.specs.declared.condition.TheConstants.{O, NO, B, AE, E, NE, BE, A, S, NS, L, GE, LE, G}
 use Rattle.sch_insn.specs.Spelling.{spelling}
 use Rattle.sch_insn.specs.Decode.{operand_of, wide_of, narrow_of, long_of, rexed_of, escaped_of, decode}
@@ -100,20 +100,98 @@ spelled_also :
     × (spelling (JumpIf G (pos 3005)) ≡ 0x0F ∷ 0x8F ∷ 0xBD ∷ 0x0B ∷ 0x00 ∷ 0x00 ∷ [])
 spelled_also = (refl, refl, refl, refl, refl, refl, refl, refl, refl, refl, refl, refl, refl, refl, refl, refl, refl, refl, refl, refl, refl)
 
+-- Displacements and numbers of one byte, from -128 to 127.
+short_operands :
+    (spelling (MovTo (Base8 RBP (pos 8)) RBX) ≡ 0x48 ∷ 0x89 ∷ 0x5D ∷ 0x08 ∷ [])
+    × (spelling (MovFrom R9 (Base8 R12 (pos 16))) ≡ 0x4D ∷ 0x8B ∷ 0x4C ∷ 0x24 ∷ 0x10 ∷ [])
+    × (spelling (MovFrom RAX (Base8 R13 (negsuc 7))) ≡ 0x49 ∷ 0x8B ∷ 0x45 ∷ 0xF8 ∷ [])
+    × (spelling (MovFrom R13 (Base8 RSP (negsuc 127))) ≡ 0x4C ∷ 0x8B ∷ 0x6C ∷ 0x24 ∷ 0x80 ∷ [])
+    × (spelling (MovNumber (Base8 RBP (pos 0)) (negsuc 0)) ≡ 0x48 ∷ 0xC7 ∷ 0x45 ∷ 0x00 ∷ 0xFF ∷ 0xFF ∷ 0xFF ∷ 0xFF ∷ [])
+    × (spelling (Lea R12 (Base8 RBP (pos 127))) ≡ 0x4C ∷ 0x8D ∷ 0x65 ∷ 0x7F ∷ [])
+    × (spelling (Lea RSP (Base8 R13 (negsuc 127))) ≡ 0x49 ∷ 0x8D ∷ 0x65 ∷ 0x80 ∷ [])
+    × (spelling (StoreByte (Base8 RBX (pos 3)) RAX) ≡ 0x40 ∷ 0x88 ∷ 0x43 ∷ 0x03 ∷ [])
+    × (spelling (StoreByte (Base8 R12 (pos 127)) R13) ≡ 0x45 ∷ 0x88 ∷ 0x6C ∷ 0x24 ∷ 0x7F ∷ [])
+    × (spelling (LoadByte RAX (Base8 RBX (pos 3))) ≡ 0x48 ∷ 0x0F ∷ 0xB6 ∷ 0x43 ∷ 0x03 ∷ [])
+    × (spelling (AddTo (Base8 R13 (negsuc 127)) R15) ≡ 0x4D ∷ 0x01 ∷ 0x7D ∷ 0x80 ∷ [])
+    × (spelling (SubTo (Base8 RSP (pos 16)) RAX) ≡ 0x48 ∷ 0x29 ∷ 0x44 ∷ 0x24 ∷ 0x10 ∷ [])
+    × (spelling (XorTo (Base8 RBP (pos 8)) RDI) ≡ 0x48 ∷ 0x31 ∷ 0x7D ∷ 0x08 ∷ [])
+    × (spelling (TestTo (Base8 R13 (pos 8)) R13) ≡ 0x4D ∷ 0x85 ∷ 0x6D ∷ 0x08 ∷ [])
+    × (spelling (CmpFrom RDI (Base8 R12 (negsuc 0))) ≡ 0x49 ∷ 0x3B ∷ 0x7C ∷ 0x24 ∷ 0xFF ∷ [])
+    × (spelling (Imul R9 (Base8 R13 (pos 127))) ≡ 0x4D ∷ 0x0F ∷ 0xAF ∷ 0x4D ∷ 0x7F ∷ [])
+    × (spelling (Neg (Base8 RSP (negsuc 7))) ≡ 0x48 ∷ 0xF7 ∷ 0x5C ∷ 0x24 ∷ 0xF8 ∷ [])
+    × (spelling (Idiv (Base8 RBP (negsuc 7))) ≡ 0x48 ∷ 0xF7 ∷ 0x7D ∷ 0xF8 ∷ [])
+    × (spelling (Sar (Base8 R12 (pos 16)) 3) ≡ 0x49 ∷ 0xC1 ∷ 0x7C ∷ 0x24 ∷ 0x10 ∷ 0x03 ∷ [])
+    × (spelling (JumpTo (Base8 RBX (pos 8))) ≡ 0x40 ∷ 0xFF ∷ 0x63 ∷ 0x08 ∷ [])
+    × (spelling (JumpTo (Base8 R12 (negsuc 7))) ≡ 0x41 ∷ 0xFF ∷ 0x64 ∷ 0x24 ∷ 0xF8 ∷ [])
+    × (spelling (AddNumber8 (Reg R8) (pos 1)) ≡ 0x49 ∷ 0x83 ∷ 0xC0 ∷ 0x01 ∷ [])
+    × (spelling (AddNumber8 (Rip (pos 256)) (pos 127)) ≡ 0x48 ∷ 0x83 ∷ 0x05 ∷ 0x00 ∷ 0x01 ∷ 0x00 ∷ 0x00 ∷ 0x7F ∷ [])
+    × (spelling (OrNumber8 (Base RSP) (negsuc 127)) ≡ 0x48 ∷ 0x83 ∷ 0x0C ∷ 0x24 ∷ 0x80 ∷ [])
+    × (spelling (AndNumber8 (Reg RAX) (negsuc 7)) ≡ 0x48 ∷ 0x83 ∷ 0xE0 ∷ 0xF8 ∷ [])
+    × (spelling (SubNumber8 (Base8 RBP (pos 16)) (negsuc 0)) ≡ 0x48 ∷ 0x83 ∷ 0x6D ∷ 0x10 ∷ 0xFF ∷ [])
+    × (spelling (SubNumber8 (Reg R13) (pos 127)) ≡ 0x49 ∷ 0x83 ∷ 0xED ∷ 0x7F ∷ [])
+    × (spelling (XorNumber8 (Base8 R12 (negsuc 127)) (pos 127)) ≡ 0x49 ∷ 0x83 ∷ 0x74 ∷ 0x24 ∷ 0x80 ∷ 0x7F ∷ [])
+    × (spelling (CmpNumber8 (Reg RAX) (pos 7)) ≡ 0x48 ∷ 0x83 ∷ 0xF8 ∷ 0x07 ∷ [])
+    × (spelling (CmpNumber8 (Base8 RBP (negsuc 7)) (negsuc 127)) ≡ 0x48 ∷ 0x83 ∷ 0x7D ∷ 0xF8 ∷ 0x80 ∷ [])
+short_operands = (refl, refl, refl, refl, refl, refl, refl, refl, refl, refl, refl, refl, refl, refl, refl, refl, refl, refl, refl, refl, refl, refl, refl, refl, refl, refl, refl, refl, refl, refl)
+
+short_jumps :
+    (spelling (Jump8 (negsuc 1)) ≡ 0xEB ∷ 0xFE ∷ [])
+    × (spelling (Jump8 (pos 127)) ≡ 0xEB ∷ 0x7F ∷ [])
+    × (spelling (Jump8 (negsuc 127)) ≡ 0xEB ∷ 0x80 ∷ [])
+    × (spelling (JumpIf8 O (pos 127)) ≡ 0x70 ∷ 0x7F ∷ [])
+    × (spelling (JumpIf8 NO (negsuc 127)) ≡ 0x71 ∷ 0x80 ∷ [])
+    × (spelling (JumpIf8 B (pos 0)) ≡ 0x72 ∷ 0x00 ∷ [])
+    × (spelling (JumpIf8 AE (negsuc 0)) ≡ 0x73 ∷ 0xFF ∷ [])
+    × (spelling (JumpIf8 E (pos 16)) ≡ 0x74 ∷ 0x10 ∷ [])
+    × (spelling (JumpIf8 NE (negsuc 15)) ≡ 0x75 ∷ 0xF0 ∷ [])
+    × (spelling (JumpIf8 BE (pos 1)) ≡ 0x76 ∷ 0x01 ∷ [])
+    × (spelling (JumpIf8 A (pos 2)) ≡ 0x77 ∷ 0x02 ∷ [])
+    × (spelling (JumpIf8 S (pos 3)) ≡ 0x78 ∷ 0x03 ∷ [])
+    × (spelling (JumpIf8 NS (pos 4)) ≡ 0x79 ∷ 0x04 ∷ [])
+    × (spelling (JumpIf8 L (pos 5)) ≡ 0x7C ∷ 0x05 ∷ [])
+    × (spelling (JumpIf8 GE (pos 6)) ≡ 0x7D ∷ 0x06 ∷ [])
+    × (spelling (JumpIf8 LE (pos 7)) ≡ 0x7E ∷ 0x07 ∷ [])
+    × (spelling (JumpIf8 G (pos 8)) ≡ 0x7F ∷ 0x08 ∷ [])
+short_jumps = (refl, refl, refl, refl, refl, refl, refl, refl, refl, refl, refl, refl, refl, refl, refl, refl, refl)
+
+abbrev read : Insn → ℕ → Option (Insn × ℕ)
+read i n = Some (i, n)
+
+-- A number in one byte and in four: two instructions, each read as itself.
+both_read :
+    (decode (0x48 ∷ 0x83 ∷ 0xF8 ∷ 0x80 ∷ []) ≡ read (CmpNumber8 (Reg RAX) (negsuc 127)) 4)
+    × (decode (0x48 ∷ 0x81 ∷ 0xF8 ∷ 0x80 ∷ 0xFF ∷ 0xFF ∷ 0xFF ∷ []) ≡ read (CmpNumber (Reg RAX) (negsuc 127)) 7)
+    × (decode (0x4D ∷ 0x8B ∷ 0x4C ∷ 0x24 ∷ 0xF8 ∷ 0xFF ∷ 0xFF ∷ 0xFF ∷ []) ≡ read (MovFrom R9 (Base8 R12 (negsuc 7))) 5)
+    × (decode (0x4D ∷ 0x8B ∷ 0x8C ∷ 0x24 ∷ 0xF8 ∷ 0xFF ∷ 0xFF ∷ 0xFF ∷ []) ≡ read (MovFrom R9 (Base32 R12 (negsuc 7))) 8)
+    × (decode (0xEB ∷ 0x80 ∷ 0xFF ∷ 0xFF ∷ 0xFF ∷ []) ≡ read (Jump8 (negsuc 127)) 2)
+    × (decode (0xE9 ∷ 0x80 ∷ 0xFF ∷ 0xFF ∷ 0xFF ∷ []) ≡ read (Jump (negsuc 127)) 5)
+    × (decode (0x7C ∷ 0x7F ∷ []) ≡ read (JumpIf8 L (pos 127)) 2)
+    × (decode (0x0F ∷ 0x8C ∷ 0x7F ∷ 0x00 ∷ 0x00 ∷ 0x00 ∷ []) ≡ read (JumpIf L (pos 127)) 6)
+unfolding operand_of wide_of narrow_of long_of rexed_of escaped_of
+both_read = (refl, refl, refl, refl, refl, refl, refl, refl)
+
 abbrev none : Option (Insn × ℕ)
 none = None
 
--- `ret`; a jump to rax without REX; a base with a needless SIB; REX with X; a call of the kernel with REX; a
--- shift by 64; a jump on parity; a number that is cut short; no bytes.
+-- `ret`; a jump to rax without REX; a base with a needless SIB, without a displacement and with one of one byte;
+-- REX with X; a call of the kernel with REX; a shift by 64; `adc` of a number of one byte; jumps on parity; a
+-- number, a displacement and a jump that are cut short; no bytes.
 not_read :
     (decode (0xC3 ∷ []) ≡ none)
     × (decode (0xFF ∷ 0xE0 ∷ []) ≡ none)
     × (decode (0x48 ∷ 0x89 ∷ 0x04 ∷ 0x23 ∷ []) ≡ none)
+    × (decode (0x48 ∷ 0x89 ∷ 0x44 ∷ 0x23 ∷ 0x08 ∷ []) ≡ none)
     × (decode (0x4A ∷ 0x89 ∷ 0x03 ∷ []) ≡ none)
     × (decode (0x40 ∷ 0x0F ∷ 0x05 ∷ []) ≡ none)
     × (decode (0x48 ∷ 0xC1 ∷ 0xE0 ∷ 0x40 ∷ []) ≡ none)
+    × (decode (0x48 ∷ 0x83 ∷ 0xD0 ∷ 0x01 ∷ []) ≡ none)
     × (decode (0x0F ∷ 0x8A ∷ 0x00 ∷ 0x00 ∷ 0x00 ∷ 0x00 ∷ []) ≡ none)
+    × (decode (0x7A ∷ 0x00 ∷ []) ≡ none)
+    × (decode (0x7B ∷ 0x00 ∷ []) ≡ none)
     × (decode (0x48 ∷ 0xC7 ∷ 0xC0 ∷ 0x3C ∷ 0x00 ∷ 0x00 ∷ []) ≡ none)
+    × (decode (0x48 ∷ 0x83 ∷ 0xC0 ∷ []) ≡ none)
+    × (decode (0x48 ∷ 0x89 ∷ 0x5D ∷ []) ≡ none)
+    × (decode (0xEB ∷ []) ≡ none)
     × (decode [] ≡ none)
 unfolding operand_of wide_of narrow_of long_of rexed_of escaped_of
-not_read = (refl, refl, refl, refl, refl, refl, refl, refl, refl)
+not_read = (refl, refl, refl, refl, refl, refl, refl, refl, refl, refl, refl, refl, refl, refl, refl, refl)

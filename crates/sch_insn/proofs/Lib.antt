@@ -9,6 +9,7 @@ pub mod OutputGrows
 pub mod Clauses
 pub mod SegmentContents
 pub mod Conditions
+pub mod ShortForms
 mod Rows
 mod EachRow
 mod EachSpelling

@@ -1,12 +1,11 @@
 -- Spellings are a prefix code.
-use Rattle.std.specs.Prelude.{ℤ}
 use Rattle.std.proofs.Common.{◌≡◌, ℕ, zero, suc, ◌≤◌, ◌%◌, List, [], ◌∷◌, ◌++◌, length, take, Bool, true, false, cond, ◌==◌, Some, sym, ap, ◌∙◌, arith, length-append, append-nil}
 use Rattle.sch_word.proofs.facts.Lists.{length_none}
 use Rattle.sch_insn.specs.declared.insn.Arg.{Arg}
-use Rattle.sch_insn.specs.declared.insn.Arg.TheVariants.{Reg, Base, Base32, Rip}
+use Rattle.sch_insn.specs.declared.insn.Arg.TheVariants.{Reg, Base, Base8, Base32, Rip}
 use Rattle.sch_insn.specs.declared.insn.Insn.{Insn}
-use Rattle.sch_insn.specs.declared.insn.Insn.TheVariants.{MovTo, MovFrom, MovNumber, MovWord, StoreByte, LoadByte, Lea, AddTo, OrTo, AndTo, SubTo, XorTo, CmpTo, AddFrom, OrFrom, AndFrom, SubFrom, XorFrom, CmpFrom, AddNumber, OrNumber, AndNumber, SubNumber, XorNumber, CmpNumber, TestTo, Imul, Neg, Idiv, Cqo, Shl, Shr, Sar, Jump, JumpTo, JumpIf, Syscall}
-use Rattle.sch_insn.specs.Spelling.{four_bytes, wide, sib, operand, spelling, Spells, AreBytes}
+use Rattle.sch_insn.specs.declared.insn.Insn.TheVariants.{MovTo, MovFrom, MovNumber, MovWord, StoreByte, LoadByte, Lea, AddTo, OrTo, AndTo, SubTo, XorTo, CmpTo, AddFrom, OrFrom, AndFrom, SubFrom, XorFrom, CmpFrom, AddNumber, OrNumber, AndNumber, SubNumber, XorNumber, CmpNumber, AddNumber8, OrNumber8, AndNumber8, SubNumber8, XorNumber8, CmpNumber8, TestTo, Imul, Neg, Idiv, Cqo, Shl, Shr, Sar, Jump, Jump8, JumpTo, JumpIf, JumpIf8, Syscall}
+use Rattle.sch_insn.specs.Spelling.{one_byte, four_bytes, wide, sib, operand, spelling, Spells, AreBytes}
 use Rattle.sch_insn.specs.Decode.{decode}
 use Rattle.sch_insn.proofs.Reading.{decode_spelling}
 use Rattle.sch_insn.proofs.ReadingsAreSpelled.{Bytes, decode_back}
@@ -49,19 +48,17 @@ one_or_none false = omega arith
 operand_short : (m : Arg) (r : ℕ) → length (operand r m) ≤ 6
 operand_short (Reg b) r = omega arith
 operand_short (Base b) r = omega (arith, one_or_none (b % 8 == 4))
+operand_short (Base8 b d) r = omega (arith, one_or_none (b % 8 == 4), length-append (sib b) (one_byte d))
 operand_short (Base32 b d) r = omega (arith, one_or_none (b % 8 == 4), length-append (sib b) (four_bytes d))
 operand_short (Rip d) r = omega arith
 
-number_short : (op d : ℕ) (m : Arg) (n : ℤ) → length (wide op d m ++ four_bytes n) ≤ 15
-number_short op d m n = omega (arith, operand_short m d, length-append (wide op d m) (four_bytes n))
-
-count_short : (d k : ℕ) (m : Arg) → length (wide 193 d m ++ k ∷ []) ≤ 15
-count_short d k m = omega (arith, operand_short m d, length-append (wide 193 d m) (k ∷ []))
+ended_short : (op d : ℕ) (m : Arg) (tail : List ℕ) → length tail ≤ 4 → length (wide op d m ++ tail) ≤ 15
+ended_short op d m tail h = omega (arith, h, operand_short m d, length-append (wide op d m) tail)
 
 pub spelling_short : (i : Insn) → length (spelling i) ≤ 15
 spelling_short (MovTo m r) = omega (arith, operand_short m r)
 spelling_short (MovFrom r m) = omega (arith, operand_short m r)
-spelling_short (MovNumber m n) = number_short 199 0 m n
+spelling_short (MovNumber m n) = ended_short 199 0 m (four_bytes n) (omega arith)
 spelling_short (MovWord r n) = omega arith
 spelling_short (StoreByte m r) = omega (arith, operand_short m r)
 spelling_short (LoadByte r m) = omega (arith, operand_short m r)
@@ -78,23 +75,31 @@ spelling_short (AndFrom r m) = omega (arith, operand_short m r)
 spelling_short (SubFrom r m) = omega (arith, operand_short m r)
 spelling_short (XorFrom r m) = omega (arith, operand_short m r)
 spelling_short (CmpFrom r m) = omega (arith, operand_short m r)
-spelling_short (AddNumber m n) = number_short 129 0 m n
-spelling_short (OrNumber m n) = number_short 129 1 m n
-spelling_short (AndNumber m n) = number_short 129 4 m n
-spelling_short (SubNumber m n) = number_short 129 5 m n
-spelling_short (XorNumber m n) = number_short 129 6 m n
-spelling_short (CmpNumber m n) = number_short 129 7 m n
+spelling_short (AddNumber m n) = ended_short 129 0 m (four_bytes n) (omega arith)
+spelling_short (OrNumber m n) = ended_short 129 1 m (four_bytes n) (omega arith)
+spelling_short (AndNumber m n) = ended_short 129 4 m (four_bytes n) (omega arith)
+spelling_short (SubNumber m n) = ended_short 129 5 m (four_bytes n) (omega arith)
+spelling_short (XorNumber m n) = ended_short 129 6 m (four_bytes n) (omega arith)
+spelling_short (CmpNumber m n) = ended_short 129 7 m (four_bytes n) (omega arith)
+spelling_short (AddNumber8 m n) = ended_short 131 0 m (one_byte n) (omega arith)
+spelling_short (OrNumber8 m n) = ended_short 131 1 m (one_byte n) (omega arith)
+spelling_short (AndNumber8 m n) = ended_short 131 4 m (one_byte n) (omega arith)
+spelling_short (SubNumber8 m n) = ended_short 131 5 m (one_byte n) (omega arith)
+spelling_short (XorNumber8 m n) = ended_short 131 6 m (one_byte n) (omega arith)
+spelling_short (CmpNumber8 m n) = ended_short 131 7 m (one_byte n) (omega arith)
 spelling_short (TestTo m r) = omega (arith, operand_short m r)
 spelling_short (Imul r m) = omega (arith, operand_short m r)
 spelling_short (Neg m) = omega (arith, operand_short m 3)
 spelling_short (Idiv m) = omega (arith, operand_short m 7)
 spelling_short Cqo = omega arith
-spelling_short (Shl m k) = count_short 4 k m
-spelling_short (Shr m k) = count_short 5 k m
-spelling_short (Sar m k) = count_short 7 k m
+spelling_short (Shl m k) = ended_short 193 4 m (k ∷ []) (omega arith)
+spelling_short (Shr m k) = ended_short 193 5 m (k ∷ []) (omega arith)
+spelling_short (Sar m k) = ended_short 193 7 m (k ∷ []) (omega arith)
 spelling_short (Jump d) = omega arith
+spelling_short (Jump8 d) = omega arith
 spelling_short (JumpTo m) = omega (arith, operand_short m 4)
 spelling_short (JumpIf c d) = omega arith
+spelling_short (JumpIf8 c d) = omega arith
 spelling_short Syscall = omega arith
 
 pub spells_short : (i : Insn) (xs : List ℕ) → Spells i xs → length xs ≤ 15

@@ -1,7 +1,7 @@
 -- What is spelled is read back: `decode` of a spelling, whatever follows it, is its instruction.
 use Rattle.std.proofs.Common.{◌≡◌, ◌≢◌, ℕ, suc, ◌+◌, ◌*◌, ◌/◌, ◌%◌, ◌^◌, ◌<◌, ◌≤◌, List, [], ◌∷◌, ◌++◌, length, drop, Bool, true, false, cond, Option, Some, None, refl, sym, ap, ◌∙◌, arith, append_assoc, length-append, nat_lt, ◌==◌, ◌&&◌}
 use Rattle.std.specs.Prelude.{ℤ, not, slice_index}
-use Rattle.std.specs.Int.{w32, w64, cast_signed, cast_unsigned, from_le_bytes}
+use Rattle.std.specs.Int.{w8, w32, w64, cast_signed, cast_unsigned, from_le_bytes}
 use Rattle.std.specs.Int.RustNames.{FitsSigned}
 use Rattle.std.proofs.lemmas.List.{drop_at}
 use Rattle.std.proofs.lemmas.Nat.{from_le_bytes-to_le_bytes_4, from_le_bytes-to_le_bytes_8}
@@ -9,11 +9,11 @@ use Rattle.std.proofs.lemmas.Int.{to_z-of_z, ints}
 use Rattle.std.proofs.lemmas.Bool.{ne_eqb, eq-eqb}
 use Rattle.std.proofs.lemmas.Bool.Decides.{nat_tests}
 use Rattle.sch_insn.specs.declared.insn.Arg.{Arg}
-use Rattle.sch_insn.specs.declared.insn.Arg.TheVariants.{Reg, Base, Base32, Rip}
+use Rattle.sch_insn.specs.declared.insn.Arg.TheVariants.{Reg, Base, Base8, Base32, Rip}
 use Rattle.sch_insn.specs.declared.insn.Insn.{Insn}
-use Rattle.sch_insn.specs.declared.insn.Insn.TheVariants.{MovTo, MovFrom, MovNumber, MovWord, StoreByte, LoadByte, Lea, AddTo, OrTo, AndTo, SubTo, XorTo, CmpTo, AddFrom, OrFrom, AndFrom, SubFrom, XorFrom, CmpFrom, AddNumber, OrNumber, AndNumber, SubNumber, XorNumber, CmpNumber, TestTo, Imul, Neg, Idiv, Cqo, Shl, Shr, Sar, Jump, JumpTo, JumpIf, Syscall}
-use Rattle.sch_insn.specs.Spelling.{four_bytes, eight_bytes, high_bit, modrm, sib, operand, wide, spelling, IsArg, in_memory, IsValid}
-use Rattle.sch_insn.specs.Decode.{when_some, number_of_4, number_of_8, sib_size, arg_of, operand_of, count_of, wide_of, narrow_of, long_of, whole_word_of, full_of, rexed_of, escaped_of, decode}
+use Rattle.sch_insn.specs.declared.insn.Insn.TheVariants.{MovTo, MovFrom, MovNumber, MovWord, StoreByte, LoadByte, Lea, AddTo, OrTo, AndTo, SubTo, XorTo, CmpTo, AddFrom, OrFrom, AndFrom, SubFrom, XorFrom, CmpFrom, AddNumber, OrNumber, AndNumber, SubNumber, XorNumber, CmpNumber, AddNumber8, OrNumber8, AndNumber8, SubNumber8, XorNumber8, CmpNumber8, TestTo, Imul, Neg, Idiv, Cqo, Shl, Shr, Sar, Jump, Jump8, JumpTo, JumpIf, JumpIf8, Syscall}
+use Rattle.sch_insn.specs.Spelling.{one_byte, four_bytes, eight_bytes, high_bit, modrm, sib, operand, wide, spelling, IsArg, in_memory, IsCondition, IsValid}
+use Rattle.sch_insn.specs.Decode.{when_some, number_of_1, number_of_4, number_of_8, sib_size, arg_of, operand_of, count_of, wide_of, narrow_of, long_of, whole_word_of, full_of, rexed_of, is_jump_if, escaped_of, decode}
 use Rattle.sch_insn.proofs.Lists.{drop_1}
 
 -- Tests of numbers, as `decode` makes them.
@@ -29,6 +29,13 @@ word_of_4 d fits = omega (arith, ints)
 
 word_of_8 : (d : ℤ) → FitsSigned w64 d → cast_unsigned w64 d < 2 ^ 64
 word_of_8 d fits = omega (arith, ints)
+
+number_of_1_read : (d : ℤ) (rest : List ℕ) → FitsSigned w8 d → number_of_1 (one_byte d ++ rest) ≡ Some d
+number_of_1_read d rest fits =
+    let n = cast_unsigned w8 d in
+    let none : Option ℤ = None in
+    ap (λ b. cond b none (Some (cast_signed w8 n))) (some_bytes n rest)
+    ∙ ap (λ z. Some z) (to_z-of_z w8 d fits)
 
 number_of_4_read : (d : ℤ) (rest : List ℕ) → FitsSigned w32 d → number_of_4 (four_bytes d ++ rest) ≡ Some d
 number_of_4_read d rest fits =
@@ -104,6 +111,18 @@ operand_read (Base b) r rest h =
     ∙ ap (λ o. when_some (when_some o (λ n. Some (Base (8 * (b / 8) + b % 8), n))) (with_operand r)) (sib_read b rest)
     ∙ ap (λ n. Some (r, Base n, length (sib b) + 1)) (register_again b)
     ∙ ap (λ n. Some (r, Base b, n)) (plus_1 (length (sib b)))
+operand_read (Base8 b d) r rest h =
+    let bs = sib b ++ (one_byte d ++ rest) in
+    let near : ℕ → List ℕ → Option (Arg × ℕ) = λ n more. when_some (number_of_1 more) (λ d. Some (Base8 (8 * (b / 8) + b % 8) d, n + 1)) in
+    let k = length (sib b) in
+    let size : k + 1 + 1 ≡ length (operand r (Base8 b d)) = omega (arith, length-append (sib b) (one_byte d)) in
+    ap (λ l. operand_of (r / 8) (b / 8) (modrm 1 r b ∷ l)) (append_assoc (sib b) (one_byte d) rest)
+    ∙ parts_read 1 r b (b / 8) bs
+    ∙ ap (λ o. when_some (when_some o (λ n. near n (drop n bs))) (with_operand r)) (sib_read b (one_byte d ++ rest))
+    ∙ ap (λ more. when_some (near k more) (with_operand r)) (drop_at (sib b) (one_byte d ++ rest) k refl)
+    ∙ ap (λ o. when_some (when_some o (λ d. Some (Base8 (8 * (b / 8) + b % 8) d, k + 1))) (with_operand r)) (number_of_1_read d rest h.1)
+    ∙ ap (λ n. Some (r, Base8 n d, k + 1 + 1)) (register_again b)
+    ∙ ap (λ n. Some (r, Base8 b d, n)) size
 operand_read (Base32 b d) r rest h =
     let bs = sib b ++ (four_bytes d ++ rest) in
     let far : ℕ → List ℕ → Option (Arg × ℕ) = λ n more. when_some (number_of_4 more) (λ d. Some (Base32 (8 * (b / 8) + b % 8) d, n + 4)) in
@@ -123,6 +142,7 @@ operand_read (Rip d) r rest h =
 high_below : (m : Arg) → IsArg m → high_bit m < 2
 high_below (Reg b) h = omega arith
 high_below (Base b) h = omega (arith, h.0)
+high_below (Base8 b d) h = omega (arith, h.0)
 high_below (Base32 b d) h = omega (arith, h.0)
 high_below (Rip d) h = omega arith
 
@@ -175,14 +195,14 @@ plus_2 n = omega arith
 plus_3 : (n : ℕ) → n + 3 ≡ suc (suc (suc n))
 plus_3 n = omega arith
 
--- A form that ends with a number of four bytes, and one that ends with a count.
-numbered : (i : Insn) (op d : ℕ) (m : Arg) (n : ℤ) (rest : List ℕ) → spelling i ≡ wide op d m ++ four_bytes n → (op / 8 == 23) ≡ false → (op == 153) ≡ false → (op == 15) ≡ false → d < 16 → IsArg m
-    → FitsSigned w32 n → wide_of op d m (length (operand d m) + 2) (four_bytes n ++ rest) ≡ Some (i, length (operand d m) + 2 + 4) → decode (spelling i ++ rest) ≡ Some (i, length (spelling i))
-numbered i op d m n rest s e1 e2 e3 low h fits go =
-    let size : length (operand d m) + 2 + 4 ≡ length (wide op d m ++ four_bytes n) = omega (arith, length-append (wide op d m) (four_bytes n)) in
+-- A form that ends with a number or a count.
+ended : (i : Insn) (op d : ℕ) (m : Arg) (tail rest : List ℕ) → spelling i ≡ wide op d m ++ tail → (op / 8 == 23) ≡ false → (op == 153) ≡ false → (op == 15) ≡ false → d < 16 → IsArg m
+    → wide_of op d m (length (operand d m) + 2) (tail ++ rest) ≡ Some (i, length (operand d m) + 2 + length tail) → decode (spelling i ++ rest) ≡ Some (i, length (spelling i))
+ended i op d m tail rest s e1 e2 e3 low h go =
+    let size : length (operand d m) + 2 + length tail ≡ length (wide op d m ++ tail) = omega (arith, length-append (wide op d m) tail) in
     ap (λ l. decode (l ++ rest)) s
-    ∙ ap decode (append_assoc (wide op d m) (four_bytes n) rest)
-    ∙ wide_read op m d (four_bytes n ++ rest) e1 e2 e3 h low
+    ∙ ap decode (append_assoc (wide op d m) tail rest)
+    ∙ wide_read op m d (tail ++ rest) e1 e2 e3 h low
     ∙ go
     ∙ sized i (size ∙ ap length (sym s))
 
@@ -195,22 +215,24 @@ count_read k rest h =
     ap (λ b. cond b none (cond (nat_lt 63 k) none (Some k))) (some_bytes k rest)
     ∙ ap (λ b. cond b none (Some k)) (not_above_63 k h)
 
-counted : (i : Insn) (d : ℕ) (m : Arg) (k : ℕ) (rest : List ℕ) → spelling i ≡ wide 193 d m ++ k ∷ [] → d < 16 → IsArg m
-    → wide_of 193 d m (length (operand d m) + 2) (k ∷ rest) ≡ Some (i, length (operand d m) + 2 + 1) → decode (spelling i ++ rest) ≡ Some (i, length (spelling i))
-counted i d m k rest s low h go =
-    let size : length (operand d m) + 2 + 1 ≡ length (wide 193 d m ++ k ∷ []) = omega (arith, length-append (wide 193 d m) (k ∷ [])) in
-    ap (λ l. decode (l ++ rest)) s
-    ∙ ap decode (append_assoc (wide 193 d m) (k ∷ []) rest)
-    ∙ wide_read 193 m d (k ∷ rest) refl refl refl h low
-    ∙ go
-    ∙ sized i (size ∙ ap length (sym s))
-
 -- What begins with 0F.
 escape_read : (x : ℕ) (bs : List ℕ) → decode (15 ∷ x ∷ bs) ≡ escaped_of (x ∷ bs)
 escape_read x bs = let none : Option (Insn × ℕ) = None in ap (λ b. cond b none (escaped_of (x ∷ bs))) (some_bytes 15 (x ∷ bs))
 
-jump_op : (c : ℕ) → c < 16 → c ≢ 10 → c ≢ 11 → (((128 + c) / 16 == 8) && not (128 + c == 138) && not (128 + c == 139)) ≡ true
-jump_op c h a b = grind (arith, nat_tests)
+-- The opcode of a jump with a condition, and where it stands alone.
+jump_op : (high c : ℕ) → IsCondition c → is_jump_if high (16 * high + c) ≡ true
+jump_op high c h =
+    let top : (16 * high + c) / 16 ≡ high = omega (arith, h.0) in
+    let low : (16 * high + c) % 16 ≡ c = omega (arith, h.0) in
+    ap (λ n. (n == high) && not ((16 * high + c) % 16 == 10) && not ((16 * high + c) % 16 == 11)) top
+    ∙ ap (λ n. (high == high) && not (n == 10) && not (n == 11)) low
+    ∙ ap (λ t. t && not (c == 10) && not (c == 11)) (eq-eqb high high refl)
+    ∙ ap (λ t. not t && not (c == 11)) (ne_eqb c 10 h.1)
+    ∙ ap (λ t. not t) (ne_eqb c 11 h.2)
+
+seventh_branch : {A : Type 0} (a b c d e f g : Bool) (t u v w x y z : A) → a ≡ false → b ≡ false → d ≡ false → e ≡ false → f ≡ false → g ≡ true
+    → cond a t (cond (b && c) u (cond d v (cond e w (cond f x (cond g y z))))) ≡ y
+seventh_branch a b c d e f g t u v w x y z p q r s k l = rw (p, q, r, s, k, l) refl
 
 -- The law, one case for each form.
 pub decode_spelling : (i : Insn) (rest : List ℕ) → IsValid i → decode (spelling i ++ rest) ≡ Some (i, length (spelling i))
@@ -232,23 +254,35 @@ decode_spelling (CmpFrom r m) rest h = wide_read 59 m r rest refl refl refl h.0 
 decode_spelling (MovFrom r m) rest h = wide_read 139 m r rest refl refl refl h.0 h.1 ∙ sized (MovFrom r m) (plus_2 (length (operand r m)))
 decode_spelling (Lea r m) rest h = wide_read 141 m r rest refl refl refl h.0 h.1 ∙ ap (λ b. cond b (Some (Lea r m, length (operand r m) + 2)) None) h.2
     ∙ sized (Lea r m) (plus_2 (length (operand r m)))
-decode_spelling (AddNumber m n) rest h = numbered (AddNumber m n) 129 0 m n rest refl refl refl refl (omega arith) h.0 h.1
+decode_spelling (AddNumber m n) rest h = ended (AddNumber m n) 129 0 m (four_bytes n) rest refl refl refl refl (omega arith) h.0
     (ap (λ o. when_some o (λ n. Some (AddNumber m n, length (operand 0 m) + 2 + 4))) (number_of_4_read n rest h.1))
-decode_spelling (OrNumber m n) rest h = numbered (OrNumber m n) 129 1 m n rest refl refl refl refl (omega arith) h.0 h.1
+decode_spelling (OrNumber m n) rest h = ended (OrNumber m n) 129 1 m (four_bytes n) rest refl refl refl refl (omega arith) h.0
     (ap (λ o. when_some o (λ n. Some (OrNumber m n, length (operand 1 m) + 2 + 4))) (number_of_4_read n rest h.1))
-decode_spelling (AndNumber m n) rest h = numbered (AndNumber m n) 129 4 m n rest refl refl refl refl (omega arith) h.0 h.1
+decode_spelling (AndNumber m n) rest h = ended (AndNumber m n) 129 4 m (four_bytes n) rest refl refl refl refl (omega arith) h.0
     (ap (λ o. when_some o (λ n. Some (AndNumber m n, length (operand 4 m) + 2 + 4))) (number_of_4_read n rest h.1))
-decode_spelling (SubNumber m n) rest h = numbered (SubNumber m n) 129 5 m n rest refl refl refl refl (omega arith) h.0 h.1
+decode_spelling (SubNumber m n) rest h = ended (SubNumber m n) 129 5 m (four_bytes n) rest refl refl refl refl (omega arith) h.0
     (ap (λ o. when_some o (λ n. Some (SubNumber m n, length (operand 5 m) + 2 + 4))) (number_of_4_read n rest h.1))
-decode_spelling (XorNumber m n) rest h = numbered (XorNumber m n) 129 6 m n rest refl refl refl refl (omega arith) h.0 h.1
+decode_spelling (XorNumber m n) rest h = ended (XorNumber m n) 129 6 m (four_bytes n) rest refl refl refl refl (omega arith) h.0
     (ap (λ o. when_some o (λ n. Some (XorNumber m n, length (operand 6 m) + 2 + 4))) (number_of_4_read n rest h.1))
-decode_spelling (CmpNumber m n) rest h = numbered (CmpNumber m n) 129 7 m n rest refl refl refl refl (omega arith) h.0 h.1
+decode_spelling (CmpNumber m n) rest h = ended (CmpNumber m n) 129 7 m (four_bytes n) rest refl refl refl refl (omega arith) h.0
     (ap (λ o. when_some o (λ n. Some (CmpNumber m n, length (operand 7 m) + 2 + 4))) (number_of_4_read n rest h.1))
-decode_spelling (MovNumber m n) rest h = numbered (MovNumber m n) 199 0 m n rest refl refl refl refl (omega arith) h.0 h.1
+decode_spelling (AddNumber8 m n) rest h = ended (AddNumber8 m n) 131 0 m (one_byte n) rest refl refl refl refl (omega arith) h.0
+    (ap (λ o. when_some o (λ n. Some (AddNumber8 m n, length (operand 0 m) + 2 + 1))) (number_of_1_read n rest h.1))
+decode_spelling (OrNumber8 m n) rest h = ended (OrNumber8 m n) 131 1 m (one_byte n) rest refl refl refl refl (omega arith) h.0
+    (ap (λ o. when_some o (λ n. Some (OrNumber8 m n, length (operand 1 m) + 2 + 1))) (number_of_1_read n rest h.1))
+decode_spelling (AndNumber8 m n) rest h = ended (AndNumber8 m n) 131 4 m (one_byte n) rest refl refl refl refl (omega arith) h.0
+    (ap (λ o. when_some o (λ n. Some (AndNumber8 m n, length (operand 4 m) + 2 + 1))) (number_of_1_read n rest h.1))
+decode_spelling (SubNumber8 m n) rest h = ended (SubNumber8 m n) 131 5 m (one_byte n) rest refl refl refl refl (omega arith) h.0
+    (ap (λ o. when_some o (λ n. Some (SubNumber8 m n, length (operand 5 m) + 2 + 1))) (number_of_1_read n rest h.1))
+decode_spelling (XorNumber8 m n) rest h = ended (XorNumber8 m n) 131 6 m (one_byte n) rest refl refl refl refl (omega arith) h.0
+    (ap (λ o. when_some o (λ n. Some (XorNumber8 m n, length (operand 6 m) + 2 + 1))) (number_of_1_read n rest h.1))
+decode_spelling (CmpNumber8 m n) rest h = ended (CmpNumber8 m n) 131 7 m (one_byte n) rest refl refl refl refl (omega arith) h.0
+    (ap (λ o. when_some o (λ n. Some (CmpNumber8 m n, length (operand 7 m) + 2 + 1))) (number_of_1_read n rest h.1))
+decode_spelling (MovNumber m n) rest h = ended (MovNumber m n) 199 0 m (four_bytes n) rest refl refl refl refl (omega arith) h.0
     (ap (λ o. when_some o (λ n. Some (MovNumber m n, length (operand 0 m) + 2 + 4))) (number_of_4_read n rest h.1))
-decode_spelling (Shl m k) rest h = counted (Shl m k) 4 m k rest refl (omega arith) h.0 (ap (λ o. when_some o (λ n. Some (Shl m n, length (operand 4 m) + 2 + 1))) (count_read k rest h.1))
-decode_spelling (Shr m k) rest h = counted (Shr m k) 5 m k rest refl (omega arith) h.0 (ap (λ o. when_some o (λ n. Some (Shr m n, length (operand 5 m) + 2 + 1))) (count_read k rest h.1))
-decode_spelling (Sar m k) rest h = counted (Sar m k) 7 m k rest refl (omega arith) h.0 (ap (λ o. when_some o (λ n. Some (Sar m n, length (operand 7 m) + 2 + 1))) (count_read k rest h.1))
+decode_spelling (Shl m k) rest h = ended (Shl m k) 193 4 m (k ∷ []) rest refl refl refl refl (omega arith) h.0 (ap (λ o. when_some o (λ n. Some (Shl m n, length (operand 4 m) + 2 + 1))) (count_read k rest h.1))
+decode_spelling (Shr m k) rest h = ended (Shr m k) 193 5 m (k ∷ []) rest refl refl refl refl (omega arith) h.0 (ap (λ o. when_some o (λ n. Some (Shr m n, length (operand 5 m) + 2 + 1))) (count_read k rest h.1))
+decode_spelling (Sar m k) rest h = ended (Sar m k) 193 7 m (k ∷ []) rest refl refl refl refl (omega arith) h.0 (ap (λ o. when_some o (λ n. Some (Sar m n, length (operand 7 m) + 2 + 1))) (count_read k rest h.1))
 decode_spelling (Neg m) rest h = wide_read 247 m 3 rest refl refl refl h (omega arith) ∙ sized (Neg m) (plus_2 (length (operand 3 m)))
 decode_spelling (Idiv m) rest h = wide_read 247 m 7 rest refl refl refl h (omega arith) ∙ sized (Idiv m) (plus_2 (length (operand 7 m)))
 decode_spelling (Imul r m) rest h =
@@ -301,6 +335,10 @@ decode_spelling (Jump d) rest h =
     let none : Option (Insn × ℕ) = None in
     ap (λ b. cond b none (when_some (number_of_4 (four_bytes d ++ rest)) (λ d. Some (Jump d, 1 + 4)))) (some_bytes 233 (four_bytes d ++ rest))
     ∙ ap (λ o. when_some o (λ d. Some (Jump d, 1 + 4))) (number_of_4_read d rest h)
+decode_spelling (Jump8 d) rest h =
+    let none : Option (Insn × ℕ) = None in
+    ap (λ b. cond b none (when_some (number_of_1 (one_byte d ++ rest)) (λ d. Some (Jump8 d, 1 + 1)))) (some_bytes 235 (one_byte d ++ rest))
+    ∙ ap (λ o. when_some o (λ d. Some (Jump8 d, 1 + 1))) (number_of_1_read d rest h)
 decode_spelling (JumpIf c d) rest h =
     let none : Option (Insn × ℕ) = None in
     let x = 128 + c in
@@ -308,13 +346,24 @@ decode_spelling (JumpIf c d) rest h =
     let five : x ≢ 5 = omega arith in
     let same : x % 16 ≡ c = omega (arith, h.0.0) in
     let jump : Option (Insn × ℕ) = when_some (number_of_4 bs) (λ d. Some (JumpIf (x % 16) d, 2 + 4)) in
-    let test = (x / 16 == 8) && not (x == 138) && not (x == 139) in
     escape_read x bs
-    ∙ ap (λ b. cond b none (cond (x == 5) (Some (Syscall, 2)) (cond test jump none))) (some_bytes x bs)
-    ∙ ap (λ b. cond b (Some (Syscall, 2)) (cond test jump none)) (ne_eqb x 5 five)
-    ∙ ap (λ b. cond b jump none) (jump_op c h.0.0 h.0.1 h.0.2)
+    ∙ ap (λ b. cond b none (cond (x == 5) (Some (Syscall, 2)) (cond (is_jump_if 8 x) jump none))) (some_bytes x bs)
+    ∙ ap (λ b. cond b (Some (Syscall, 2)) (cond (is_jump_if 8 x) jump none)) (ne_eqb x 5 five)
+    ∙ ap (λ b. cond b jump none) (jump_op 8 c h.0)
     ∙ ap (λ o. when_some o (λ d. Some (JumpIf (x % 16) d, 2 + 4))) (number_of_4_read d rest h.1)
     ∙ ap (λ k. Some (JumpIf k d, 6)) same
+decode_spelling (JumpIf8 c d) rest h =
+    let x = 112 + c in
+    let bs = one_byte d ++ rest in
+    let same : x % 16 ≡ c = omega (arith, h.0.0) in
+    let rex : x / 16 ≢ 4 = omega (arith, h.0.0) in
+    let escape : x ≢ 15 = omega arith in
+    let long : x ≢ 233 = omega (arith, h.0.0) in
+    let short : x ≢ 235 = omega (arith, h.0.0) in
+    seventh_branch (nat_lt (length (x ∷ bs)) 1) (x / 16 == 4) (x / 2 % 2 == 0) (x == 15) (x == 233) (x == 235) (is_jump_if 7 x) _ _ _ _ _ _ _
+    (some_bytes x bs) (ne_eqb (x / 16) 4 rex) (ne_eqb x 15 escape) (ne_eqb x 233 long) (ne_eqb x 235 short) (jump_op 7 c h.0)
+    ∙ ap (λ o. when_some o (λ d. Some (JumpIf8 (x % 16) d, 1 + 1))) (number_of_1_read d rest h.1)
+    ∙ ap (λ k. Some (JumpIf8 k d, 2)) same
 decode_spelling Syscall rest h =
     let none : Option (Insn × ℕ) = None in
     escape_read 5 rest ∙ ap (λ b. cond b none (Some (Syscall, 2))) (some_bytes 5 rest)

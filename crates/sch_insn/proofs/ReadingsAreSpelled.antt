@@ -1,7 +1,7 @@
 -- What is read was spelled so: where `decode` answers, the bytes begin with the spelling of its answer.
-use Rattle.std.proofs.Common.{◌≡◌, ℕ, zero, suc, ◌+◌, ◌*◌, ◌/◌, ◌%◌, ◌^◌, ◌<◌, ◌≤◌, List, [], ◌∷◌, ◌++◌, length, take, drop, get_or, Bool, true, false, cond, Some, None, refl, sym, ap, ◌∙◌, subst, arith, length-drop, append-nil, nat_lt, ◌==◌, ◌&&◌, lit<}
+use Rattle.std.proofs.Common.{◌≡◌, ℕ, zero, suc, ◌+◌, ◌*◌, ◌/◌, ◌%◌, ◌^◌, ◌<◌, ◌≤◌, List, [], ◌∷◌, ◌++◌, length, take, drop, get_or, Bool, true, false, cond, Option, Some, None, refl, sym, ap, ◌∙◌, subst, arith, length-drop, append-nil, nat_lt, ◌==◌, ◌&&◌, lit<}
 use Rattle.std.specs.Prelude.{ℤ, not}
-use Rattle.std.specs.Int.{w32, w64, cast_signed, to_le_bytes, from_le_bytes}
+use Rattle.std.specs.Int.{w8, w32, w64, cast_signed, to_le_bytes, from_le_bytes}
 use Rattle.std.specs.Int.RustNames.{FitsSigned}
 use Rattle.std.proofs.lemmas.List.{get_or-drop}
 use Rattle.std.proofs.lemmas.Nat.{le_bytes_4, le_bytes_8}
@@ -11,11 +11,11 @@ use Rattle.std.proofs.lemmas.Bool.{eqb-true, eqb-false}
 use Rattle.std.proofs.lemmas.Bool.Decides.{nat_tests}
 use Rattle.sch_word.proofs.facts.Booleans.{and_parts, not_true}
 use Rattle.sch_insn.specs.declared.insn.Arg.{Arg}
-use Rattle.sch_insn.specs.declared.insn.Arg.TheVariants.{Reg, Base, Base32, Rip}
+use Rattle.sch_insn.specs.declared.insn.Arg.TheVariants.{Reg, Base, Base8, Base32, Rip}
 use Rattle.sch_insn.specs.declared.insn.Insn.{Insn}
-use Rattle.sch_insn.specs.declared.insn.Insn.TheVariants.{MovTo, MovFrom, MovNumber, MovWord, StoreByte, LoadByte, Lea, AddTo, OrTo, AndTo, SubTo, XorTo, CmpTo, AddFrom, OrFrom, AndFrom, SubFrom, XorFrom, CmpFrom, AddNumber, OrNumber, AndNumber, SubNumber, XorNumber, CmpNumber, TestTo, Imul, Neg, Idiv, Cqo, Shl, Shr, Sar, Jump, JumpTo, JumpIf, Syscall}
-use Rattle.sch_insn.specs.Spelling.{four_bytes, eight_bytes, high_bit, rex, wide, modrm, sib, operand, IsArg, in_memory, spelling, IsValid}
-use Rattle.sch_insn.specs.Decode.{when_some, number_of_4, number_of_8, sib_size, arg_of, operand_of, with_number, with_count, wide_of, narrow_of, long_of, full_of, rexed_of, escaped_of, decode}
+use Rattle.sch_insn.specs.declared.insn.Insn.TheVariants.{MovTo, MovFrom, MovNumber, MovWord, StoreByte, LoadByte, Lea, AddTo, OrTo, AndTo, SubTo, XorTo, CmpTo, AddFrom, OrFrom, AndFrom, SubFrom, XorFrom, CmpFrom, AddNumber, OrNumber, AndNumber, SubNumber, XorNumber, CmpNumber, AddNumber8, OrNumber8, AndNumber8, SubNumber8, XorNumber8, CmpNumber8, TestTo, Imul, Neg, Idiv, Cqo, Shl, Shr, Sar, Jump, Jump8, JumpTo, JumpIf, JumpIf8, Syscall}
+use Rattle.sch_insn.specs.Spelling.{one_byte, four_bytes, eight_bytes, high_bit, rex, wide, modrm, sib, operand, IsArg, in_memory, spelling, IsCondition, IsValid}
+use Rattle.sch_insn.specs.Decode.{when_some, number_of_1, number_of_4, number_of_8, sib_size, arg_of, operand_of, with_count, wide_of, narrow_of, long_of, full_of, rexed_of, is_jump_if, escaped_of, decode}
 use Rattle.sch_insn.proofs.Lists.{take_1, take_2, take_3, drop_1, take-add}
 use Rattle.sch_insn.proofs.OnAnswer.{OnAnswer, nothing, gives, branch, sequence}
 
@@ -44,19 +44,32 @@ small8 a b c d e f g k ha hb hc hd he hf hg hk (suc (suc zero)) = hc
 small8 a b c d e f g k ha hb hc hd he hf hg hk (suc (suc (suc zero))) = hd
 small8 a b c d e f g k ha hb hc hd he hf hg hk (suc (suc (suc (suc i)))) = small4 e f g k he hf hg hk i
 
--- Four bytes are those of the number.
-record Number (bs : List ℕ) (d : ℤ) : Type 0 where
-  pub long : 4 ≤ length bs
-  pub same : take 4 bs ≡ four_bytes d
-  pub fits : FitsSigned w32 d
+-- The first bytes, `size` many, are those of the number.
+record Number (size : ℕ) (bytes_of : ℤ → List ℕ) (Fits : ℤ → Type 0) (bs : List ℕ) (d : ℤ) : Type 0 where
+  pub long : size ≤ length bs
+  pub same : take size bs ≡ bytes_of d
+  pub fits : Fits d
 
--- Eight bytes are those of the number.
-record NumberOf8 (bs : List ℕ) (d : ℤ) : Type 0 where
-  pub long : 8 ≤ length bs
-  pub same : take 8 bs ≡ eight_bytes d
-  pub fits : FitsSigned w64 d
+abbrev NumberOf1 : List ℕ → ℤ → Type 0
+NumberOf1 = Number 1 one_byte (FitsSigned w8)
 
-number_of_4_back : (bs : List ℕ) → Bytes bs → OnAnswer (Number bs) (number_of_4 bs)
+abbrev NumberOf4 : List ℕ → ℤ → Type 0
+NumberOf4 = Number 4 four_bytes (FitsSigned w32)
+
+abbrev NumberOf8 : List ℕ → ℤ → Type 0
+NumberOf8 = Number 8 eight_bytes (FitsSigned w64)
+
+number_of_1_back : (bs : List ℕ) → Bytes bs → OnAnswer (NumberOf1 bs) (number_of_1 bs)
+number_of_1_back [] h = nothing
+number_of_1_back (x ∷ bs) h =
+    let low : x < 2 ^ 8 = h 0 in
+    branch (nat_lt (length (x ∷ bs)) 1) (λ _. nothing) (λ _. gives (cast_signed w8 x) (record {
+      long = omega arith;
+      same = ap (λ y. y ∷ []) (sym (of_z-to_z w8 x low));
+      fits = sfits_to_z (record { fits = low });
+    }))
+
+number_of_4_back : (bs : List ℕ) → Bytes bs → OnAnswer (NumberOf4 bs) (number_of_4 bs)
 number_of_4_back [] h = nothing
 number_of_4_back (a ∷ []) h = nothing
 number_of_4_back (a ∷ b ∷ []) h = nothing
@@ -136,7 +149,23 @@ arg_back mode high low bs hm hh hl h =
       is = (bb, num.fits);
       high = hi;
     }))))
-    (λ e2. branch (mode == 1) (λ _. nothing) (λ e1.
+    (λ e2. branch (mode == 1)
+    (λ e. let m1 = eqb-true mode 1 e in
+    sequence (sib_size low bs) (λ n en. sequence (number_of_1 (drop n bs)) (λ d ed.
+    let s = (sib_back low bs).by n en in
+    let num = (number_of_1_back (drop n bs) (dropped n bs h)).by d ed in
+    let len = length-drop n bs in
+    let in1 = s.within in
+    let in2 = num.long in
+    let bytes : take (n + 1) bs ≡ sib b ++ one_byte d =
+    take-add n 1 bs ∙ ap (λ l. l ++ take 1 (drop n bs)) s.same ∙ ap (λ l. cond (low == 4) (36 ∷ []) [] ++ l) num.same ∙ ap (λ z. cond (z == 4) (36 ∷ []) [] ++ one_byte d) lo in
+    gives (Base8 b d, n + 1) (record {
+      within = omega arith;
+      same = λ r. let first : 64 * mode + 8 * (r % 8) + low ≡ modrm 1 r b = omega arith in ap (λ x. x ∷ take (n + 1) bs) first ∙ ap (λ l. modrm 1 r b ∷ l) bytes;
+      is = (bb, num.fits);
+      high = hi;
+    }))))
+    (λ e1.
     let n3 = eqb-false mode 3 e3 in let n2 = eqb-false mode 2 e2 in let n1 = eqb-false mode 1 e1 in
     let m0 : mode ≡ 0 = omega arith in
     branch (low == 5)
@@ -213,15 +242,16 @@ plain i o op r k m bs e v t = gives (i, k) (record {
 digit : (i : Insn) (o d op r k : ℕ) (m : Arg) (bs : List ℕ) → spelling i ≡ wide o d m → IsValid i → ((op == o) ≡ true) × ((r == d) ≡ true) → OnAnswer (Form op r m k bs) (Some (i, k))
 digit i o d op r k m bs e v t = plain i o op r k m bs (e ∙ ap (λ n. wide o n m) (sym (eqb-true r d t.1))) v t.0
 
-numbered : (form : ℤ → Insn) (o d op r k : ℕ) (m : Arg) (bs : List ℕ) → ((n : ℤ) → spelling (form n) ≡ wide o d m ++ four_bytes n) → ((n : ℤ) → FitsSigned w32 n → IsValid (form n)) → Bytes bs
-    → ((op == o) ≡ true) × ((r == d) ≡ true) → OnAnswer (Form op r m k bs) (with_number form k bs)
-numbered form o d op r k m bs e v h t = sequence (number_of_4 bs) (λ n en.
-    let num = (number_of_4_back bs h).by n en in
-    gives (form n, k + 4) (record {
-      size = 4;
+numbered : (size : ℕ) (bytes_of : ℤ → List ℕ) (Fits : ℤ → Type 0) (form : ℤ → Insn) (o d op r k : ℕ) (m : Arg) (bs : List ℕ) (read : Option ℤ) → OnAnswer (Number size bytes_of Fits bs) read
+    → ((n : ℤ) → spelling (form n) ≡ wide o d m ++ bytes_of n) → ((n : ℤ) → Fits n → IsValid (form n)) → ((op == o) ≡ true) × ((r == d) ≡ true)
+    → OnAnswer (Form op r m k bs) (when_some read (λ n. Some (form n, k + size)))
+numbered size bytes_of Fits form o d op r k m bs read back e v t = sequence read (λ n en.
+    let num = back.by n en in
+    gives (form n, k + size) (record {
+      size = size;
       total = refl;
       within = num.long;
-      same = e n ∙ ap (λ x. wide x d m ++ four_bytes n) (sym (eqb-true op o t.0)) ∙ ap (λ x. wide op x m ++ four_bytes n) (sym (eqb-true r d t.1)) ∙ ap (λ l. wide op r m ++ l) (sym num.same);
+      same = e n ∙ ap (λ x. wide x d m ++ bytes_of n) (sym (eqb-true op o t.0)) ∙ ap (λ x. wide op x m ++ bytes_of n) (sym (eqb-true r d t.1)) ∙ ap (λ l. wide op r m ++ l) (sym num.same);
       is = v n num.fits;
     }))
 
@@ -248,6 +278,10 @@ counted form o d op r k m (x ∷ bs) e v t = count (nat_lt (length (x ∷ bs)) 1
 wide_back : (op r : ℕ) (m : Arg) (k : ℕ) (bs : List ℕ) → IsArg m → r < 16 → Bytes bs → OnAnswer (Form op r m k bs) (wide_of op r m k bs)
 unfolding wide_of
 wide_back op r m k bs hm hr h =
+    let one = number_of_1 bs in
+    let one_back = number_of_1_back bs h in
+    let four = number_of_4 bs in
+    let four_back = number_of_4_back bs h in
     branch (op == 1) (λ e. plain (AddTo m r) 1 op r k m bs refl (hm, hr) e) (λ _.
     branch (op == 3) (λ e. plain (AddFrom r m) 3 op r k m bs refl (hm, hr) e) (λ _.
     branch (op == 9) (λ e. plain (OrTo m r) 9 op r k m bs refl (hm, hr) e) (λ _.
@@ -260,12 +294,18 @@ wide_back op r m k bs hm hr h =
     branch (op == 51) (λ e. plain (XorFrom r m) 51 op r k m bs refl (hm, hr) e) (λ _.
     branch (op == 57) (λ e. plain (CmpTo m r) 57 op r k m bs refl (hm, hr) e) (λ _.
     branch (op == 59) (λ e. plain (CmpFrom r m) 59 op r k m bs refl (hm, hr) e) (λ _.
-    branch ((op == 129) && (r == 0)) (λ e. numbered (AddNumber m) 129 0 op r k m bs (λ n. refl) (λ n fits. (hm, fits)) h (and_parts (op == 129) (r == 0) e)) (λ _.
-    branch ((op == 129) && (r == 1)) (λ e. numbered (OrNumber m) 129 1 op r k m bs (λ n. refl) (λ n fits. (hm, fits)) h (and_parts (op == 129) (r == 1) e)) (λ _.
-    branch ((op == 129) && (r == 4)) (λ e. numbered (AndNumber m) 129 4 op r k m bs (λ n. refl) (λ n fits. (hm, fits)) h (and_parts (op == 129) (r == 4) e)) (λ _.
-    branch ((op == 129) && (r == 5)) (λ e. numbered (SubNumber m) 129 5 op r k m bs (λ n. refl) (λ n fits. (hm, fits)) h (and_parts (op == 129) (r == 5) e)) (λ _.
-    branch ((op == 129) && (r == 6)) (λ e. numbered (XorNumber m) 129 6 op r k m bs (λ n. refl) (λ n fits. (hm, fits)) h (and_parts (op == 129) (r == 6) e)) (λ _.
-    branch ((op == 129) && (r == 7)) (λ e. numbered (CmpNumber m) 129 7 op r k m bs (λ n. refl) (λ n fits. (hm, fits)) h (and_parts (op == 129) (r == 7) e)) (λ _.
+    branch ((op == 129) && (r == 0)) (λ e. numbered 4 four_bytes (FitsSigned w32) (AddNumber m) 129 0 op r k m bs four four_back (λ n. refl) (λ n fits. (hm, fits)) (and_parts (op == 129) (r == 0) e)) (λ _.
+    branch ((op == 129) && (r == 1)) (λ e. numbered 4 four_bytes (FitsSigned w32) (OrNumber m) 129 1 op r k m bs four four_back (λ n. refl) (λ n fits. (hm, fits)) (and_parts (op == 129) (r == 1) e)) (λ _.
+    branch ((op == 129) && (r == 4)) (λ e. numbered 4 four_bytes (FitsSigned w32) (AndNumber m) 129 4 op r k m bs four four_back (λ n. refl) (λ n fits. (hm, fits)) (and_parts (op == 129) (r == 4) e)) (λ _.
+    branch ((op == 129) && (r == 5)) (λ e. numbered 4 four_bytes (FitsSigned w32) (SubNumber m) 129 5 op r k m bs four four_back (λ n. refl) (λ n fits. (hm, fits)) (and_parts (op == 129) (r == 5) e)) (λ _.
+    branch ((op == 129) && (r == 6)) (λ e. numbered 4 four_bytes (FitsSigned w32) (XorNumber m) 129 6 op r k m bs four four_back (λ n. refl) (λ n fits. (hm, fits)) (and_parts (op == 129) (r == 6) e)) (λ _.
+    branch ((op == 129) && (r == 7)) (λ e. numbered 4 four_bytes (FitsSigned w32) (CmpNumber m) 129 7 op r k m bs four four_back (λ n. refl) (λ n fits. (hm, fits)) (and_parts (op == 129) (r == 7) e)) (λ _.
+    branch ((op == 131) && (r == 0)) (λ e. numbered 1 one_byte (FitsSigned w8) (AddNumber8 m) 131 0 op r k m bs one one_back (λ n. refl) (λ n fits. (hm, fits)) (and_parts (op == 131) (r == 0) e)) (λ _.
+    branch ((op == 131) && (r == 1)) (λ e. numbered 1 one_byte (FitsSigned w8) (OrNumber8 m) 131 1 op r k m bs one one_back (λ n. refl) (λ n fits. (hm, fits)) (and_parts (op == 131) (r == 1) e)) (λ _.
+    branch ((op == 131) && (r == 4)) (λ e. numbered 1 one_byte (FitsSigned w8) (AndNumber8 m) 131 4 op r k m bs one one_back (λ n. refl) (λ n fits. (hm, fits)) (and_parts (op == 131) (r == 4) e)) (λ _.
+    branch ((op == 131) && (r == 5)) (λ e. numbered 1 one_byte (FitsSigned w8) (SubNumber8 m) 131 5 op r k m bs one one_back (λ n. refl) (λ n fits. (hm, fits)) (and_parts (op == 131) (r == 5) e)) (λ _.
+    branch ((op == 131) && (r == 6)) (λ e. numbered 1 one_byte (FitsSigned w8) (XorNumber8 m) 131 6 op r k m bs one one_back (λ n. refl) (λ n fits. (hm, fits)) (and_parts (op == 131) (r == 6) e)) (λ _.
+    branch ((op == 131) && (r == 7)) (λ e. numbered 1 one_byte (FitsSigned w8) (CmpNumber8 m) 131 7 op r k m bs one one_back (λ n. refl) (λ n fits. (hm, fits)) (and_parts (op == 131) (r == 7) e)) (λ _.
     branch (op == 133) (λ e. plain (TestTo m r) 133 op r k m bs refl (hm, hr) e) (λ _.
     branch (op == 137) (λ e. plain (MovTo m r) 137 op r k m bs refl (hm, hr) e) (λ _.
     branch (op == 139) (λ e. plain (MovFrom r m) 139 op r k m bs refl (hm, hr) e) (λ _.
@@ -273,10 +313,10 @@ wide_back op r m k bs hm hr h =
     branch ((op == 193) && (r == 4)) (λ e. counted (Shl m) 193 4 op r k m bs (λ n. refl) (λ n small. (hm, small)) (and_parts (op == 193) (r == 4) e)) (λ _.
     branch ((op == 193) && (r == 5)) (λ e. counted (Shr m) 193 5 op r k m bs (λ n. refl) (λ n small. (hm, small)) (and_parts (op == 193) (r == 5) e)) (λ _.
     branch ((op == 193) && (r == 7)) (λ e. counted (Sar m) 193 7 op r k m bs (λ n. refl) (λ n small. (hm, small)) (and_parts (op == 193) (r == 7) e)) (λ _.
-    branch ((op == 199) && (r == 0)) (λ e. numbered (MovNumber m) 199 0 op r k m bs (λ n. refl) (λ n fits. (hm, fits)) h (and_parts (op == 199) (r == 0) e)) (λ _.
+    branch ((op == 199) && (r == 0)) (λ e. numbered 4 four_bytes (FitsSigned w32) (MovNumber m) 199 0 op r k m bs four four_back (λ n. refl) (λ n fits. (hm, fits)) (and_parts (op == 199) (r == 0) e)) (λ _.
     branch ((op == 247) && (r == 3)) (λ e. digit (Neg m) 247 3 op r k m bs refl hm (and_parts (op == 247) (r == 3) e)) (λ _.
     branch ((op == 247) && (r == 7)) (λ e. digit (Idiv m) 247 7 op r k m bs refl hm (and_parts (op == 247) (r == 7) e)) (λ _.
-    nothing))))))))))))))))))))))))))))
+    nothing))))))))))))))))))))))))))))))))))
 
 -- ---- whole instructions
 -- The first bytes are the spelling of an instruction that there is.
@@ -394,6 +434,16 @@ rexed_back w r b (op ∷ bs) hw hr hb h =
           };
     })))))))
 
+-- The opcode of a jump with a condition has the condition's number.
+jump_op_back : (high op : ℕ) → is_jump_if high op ≡ true → (op ≡ 16 * high + op % 16) × IsCondition (op % 16)
+jump_op_back high op e =
+    let t = and_parts ((op / 16 == high) && not (op % 16 == 10)) (not (op % 16 == 11)) e in
+    let s = and_parts (op / 16 == high) (not (op % 16 == 10)) t.0 in
+    let top = eqb-true (op / 16) high s.0 in
+    let whole : op ≡ 16 * high + op % 16 = omega arith in
+    let small : op % 16 < 16 = omega arith in
+    (whole, (small, eqb-false (op % 16) 10 (not_true (op % 16 == 10) s.1), eqb-false (op % 16) 11 (not_true (op % 16 == 11) t.1)))
+
 escaped_back : (bs : List ℕ) → Bytes bs → OnAnswer (Spelt (15 ∷ bs)) (escaped_of bs)
 unfolding escaped_of
 escaped_back [] h = nothing
@@ -401,22 +451,15 @@ escaped_back (x ∷ bs) h =
     let all = behind x bs h in
     branch (nat_lt (length (x ∷ bs)) 1) (λ _. nothing) (λ _. branch (x == 5)
     (λ e. gives (Syscall, 2) (record { within = omega arith; same = ap (λ z. 15 ∷ z ∷ []) (eqb-true x 5 e); is = tt }))
-    (λ _. branch ((x / 16 == 8) && not (x == 138) && not (x == 139))
+    (λ _. branch (is_jump_if 8 x)
     (λ e. sequence (number_of_4 bs) (λ d ed.
     let num = (number_of_4_back bs all).by d ed in
     let in1 = num.long in
-    let t = and_parts ((x / 16 == 8) && not (x == 138)) (not (x == 139)) e in
-    let s = and_parts (x / 16 == 8) (not (x == 138)) t.0 in
-    let o = eqb-true (x / 16) 8 s.0 in
-    let n1 = not_true (x == 138) s.1 in
-    let n2 = not_true (x == 139) t.1 in
-    let a = eqb-false x 138 n1 in
-    let b = eqb-false x 139 n2 in
-    let x1 : x ≡ 128 + x % 16 = omega arith in
+    let jump = jump_op_back 8 x e in
     gives (JumpIf (x % 16) d, 2 + 4) (record {
       within = omega arith;
-      same = ap (λ z. 15 ∷ z ∷ take 4 bs) x1 ∙ ap (λ l. 15 ∷ (128 + x % 16) ∷ l) num.same;
-      is = ((omega arith, omega arith, omega arith), num.fits);
+      same = ap (λ z. 15 ∷ z ∷ take 4 bs) jump.0 ∙ ap (λ l. 15 ∷ (128 + x % 16) ∷ l) num.same;
+      is = (jump.1, num.fits);
     })))
     (λ _. nothing)))
 
@@ -438,4 +481,15 @@ decode_back (x ∷ bs) h =
     let num = (number_of_4_back bs all).by d ed in
     let in1 = num.long in
     gives (Jump d, 1 + 4) (record { within = omega arith; same = ap (λ z. z ∷ take 4 bs) (eqb-true x 233 e) ∙ ap (λ l. 233 ∷ l) num.same; is = num.fits })))
-    (λ _. nothing))))
+    (λ _. branch (x == 235)
+    (λ e. sequence (number_of_1 bs) (λ d ed.
+    let num = (number_of_1_back bs all).by d ed in
+    let in1 = num.long in
+    gives (Jump8 d, 1 + 1) (record { within = omega arith; same = ap (λ z. z ∷ take 1 bs) (eqb-true x 235 e) ∙ ap (λ l. 235 ∷ l) num.same; is = num.fits })))
+    (λ _. branch (is_jump_if 7 x)
+    (λ e. sequence (number_of_1 bs) (λ d ed.
+    let num = (number_of_1_back bs all).by d ed in
+    let in1 = num.long in
+    let jump = jump_op_back 7 x e in
+    gives (JumpIf8 (x % 16) d, 1 + 1) (record { within = omega arith; same = ap (λ z. z ∷ take 1 bs) jump.0 ∙ ap (λ l. (112 + x % 16) ∷ l) num.same; is = (jump.1, num.fits) })))
+    (λ _. nothing))))))

@@ -6,7 +6,7 @@ use Rattle.std.proofs.lemmas.List.{drop-append-le, drop-drop}
 use Rattle.std.proofs.Math.Seq.{drop-append_seam, take-append_seam, drop-append-add}
 use Rattle.sch_word.specs.values.Memory.{Segment}
 use Rattle.sch_insn.specs.declared.insn.Insn.{Insn}
-use Rattle.sch_insn.specs.declared.insn.Insn.TheVariants.{MovTo, MovFrom, MovNumber, MovWord, StoreByte, LoadByte, Lea, AddTo, OrTo, AndTo, SubTo, XorTo, CmpTo, AddFrom, OrFrom, AndFrom, SubFrom, XorFrom, CmpFrom, AddNumber, OrNumber, AndNumber, SubNumber, XorNumber, CmpNumber, TestTo, Imul, Neg, Idiv, Cqo, Shl, Shr, Sar, Jump, JumpTo, JumpIf, Syscall}
+use Rattle.sch_insn.specs.declared.insn.Insn.TheVariants.{MovTo, MovFrom, MovNumber, MovWord, StoreByte, LoadByte, Lea, AddTo, OrTo, AndTo, SubTo, XorTo, CmpTo, AddFrom, OrFrom, AndFrom, SubFrom, XorFrom, CmpFrom, AddNumber, OrNumber, AndNumber, SubNumber, XorNumber, CmpNumber, AddNumber8, OrNumber8, AndNumber8, SubNumber8, XorNumber8, CmpNumber8, TestTo, Imul, Neg, Idiv, Cqo, Shl, Shr, Sar, Jump, Jump8, JumpTo, JumpIf, JumpIf8, Syscall}
 use Rattle.sch_insn.specs.declared.register.TheConstants.{RDX, RSI}
 use Rattle.sch_insn.specs.Spelling.{spelling, AllValid}
 use Rattle.sch_insn.specs.Decode.{decode, when_some}
@@ -75,6 +75,12 @@ spelling_some (AndNumber m n) = omega arith
 spelling_some (SubNumber m n) = omega arith
 spelling_some (XorNumber m n) = omega arith
 spelling_some (CmpNumber m n) = omega arith
+spelling_some (AddNumber8 m n) = omega arith
+spelling_some (OrNumber8 m n) = omega arith
+spelling_some (AndNumber8 m n) = omega arith
+spelling_some (SubNumber8 m n) = omega arith
+spelling_some (XorNumber8 m n) = omega arith
+spelling_some (CmpNumber8 m n) = omega arith
 spelling_some (TestTo m r) = omega arith
 spelling_some (Imul r m) = omega arith
 spelling_some (Neg m) = omega arith
@@ -84,8 +90,10 @@ spelling_some (Shl m k) = omega arith
 spelling_some (Shr m k) = omega arith
 spelling_some (Sar m k) = omega arith
 spelling_some (Jump d) = omega arith
+spelling_some (Jump8 d) = omega arith
 spelling_some (JumpTo m) = omega arith
 spelling_some (JumpIf c d) = omega arith
+spelling_some (JumpIf8 c d) = omega arith
 spelling_some Syscall = omega arith
 
 -- The instructions whose spellings stand in an executable segment behind some bytes of it.

@@ -1,19 +1,23 @@
 -- Reading an instruction: the instruction that a list of bytes begins with, and how many bytes it
 -- takes. The laws of `spelling` say that this is its inverse.
 use Rattle.std.specs.Prelude.{Bool, ℕ, ◌+◌, ◌*◌, ◌/◌, ◌%◌, List, length, drop, ◌&&◌, not, nat_lt, ◌==◌, Option, Some, None, ℤ, if◌then◌else◌, slice_index}
-use Rattle.std.specs.Int.{w32, w64, cast_signed, from_le_bytes}
+use Rattle.std.specs.Int.{w8, w32, w64, cast_signed, from_le_bytes}
 use Rattle.sch_insn.specs.declared.insn.Arg.{Arg}
-use Rattle.sch_insn.specs.declared.insn.Arg.TheVariants.{Reg, Base, Base32, Rip}
+use Rattle.sch_insn.specs.declared.insn.Arg.TheVariants.{Reg, Base, Base8, Base32, Rip}
 use Rattle.sch_insn.specs.declared.insn.Insn.{Insn}
 use Rattle.sch_insn.specs.declared.insn.Insn.TheVariants.{MovTo, MovFrom, MovNumber, MovWord, StoreByte, LoadByte, Lea, AddTo, OrTo, AndTo, SubTo, XorTo, CmpTo}
 use Rattle.sch_insn.specs.declared.insn.Insn.TheVariants.{AddFrom, OrFrom, AndFrom, SubFrom, XorFrom, CmpFrom, AddNumber, OrNumber, AndNumber, SubNumber}
-use Rattle.sch_insn.specs.declared.insn.Insn.TheVariants.{XorNumber, CmpNumber, TestTo, Imul, Neg, Idiv, Cqo, Shl, Shr, Sar, Jump, JumpTo, JumpIf, Syscall}
+use Rattle.sch_insn.specs.declared.insn.Insn.TheVariants.{XorNumber, CmpNumber, AddNumber8, OrNumber8, AndNumber8, SubNumber8, XorNumber8, CmpNumber8}
+use Rattle.sch_insn.specs.declared.insn.Insn.TheVariants.{TestTo, Imul, Neg, Idiv, Cqo, Shl, Shr, Sar, Jump, Jump8, JumpTo, JumpIf, JumpIf8, Syscall}
 use Rattle.sch_insn.specs.Spelling.{in_memory}
 
 -- What follows from a value, where there is one.
 abbrev pub when_some : {A B : Type 0} → Option A → (A → Option B) → Option B
 when_some None f = None
 when_some (Some x) f = f x
+
+abbrev pub number_of_1 : List ℕ → Option ℤ
+number_of_1 bs = if nat_lt (length bs) 1 then None else Some (cast_signed w8 (slice_index bs 0))
 
 abbrev pub number_of_4 : List ℕ → Option ℤ
 number_of_4 bs = if nat_lt (length bs) 4 then None else Some (cast_signed w32 (from_le_bytes w32 bs))
@@ -32,7 +36,7 @@ abbrev pub arg_of : ℕ → ℕ → ℕ → List ℕ → Option (Arg × ℕ)
 arg_of mode b low bs =
     if mode == 3 then Some (Reg (8 * b + low), 0)
     else if mode == 2 then when_some (sib_size low bs) (λ n. when_some (number_of_4 (drop n bs)) (λ d. Some (Base32 (8 * b + low) d, n + 4)))
-    else if mode == 1 then None
+    else if mode == 1 then when_some (sib_size low bs) (λ n. when_some (number_of_1 (drop n bs)) (λ d. Some (Base8 (8 * b + low) d, n + 1)))
     else if low == 5 then (if b == 0 then when_some (number_of_4 bs) (λ d. Some (Rip d, 4)) else None)
     else when_some (sib_size low bs) (λ n. Some (Base (8 * b + low), n))
 
@@ -47,9 +51,12 @@ operand_of r b bs =
 abbrev pub count_of : List ℕ → Option ℕ
 count_of bs = if nat_lt (length bs) 1 then None else if nat_lt 63 (slice_index bs 0) then None else Some (slice_index bs 0)
 
--- A form that ends with a number of four bytes, or with a count, behind k bytes.
+-- A form that ends with a number of four bytes or of one, or with a count, behind k bytes.
 abbrev pub with_number : (ℤ → Insn) → ℕ → List ℕ → Option (Insn × ℕ)
 with_number form k bs = when_some (number_of_4 bs) (λ n. Some (form n, k + 4))
+
+abbrev pub with_number_8 : (ℤ → Insn) → ℕ → List ℕ → Option (Insn × ℕ)
+with_number_8 form k bs = when_some (number_of_1 bs) (λ n. Some (form n, k + 1))
 
 abbrev pub with_count : (ℕ → Insn) → ℕ → List ℕ → Option (Insn × ℕ)
 with_count form k bs = when_some (count_of bs) (λ n. Some (form n, k + 1))
@@ -75,6 +82,12 @@ wide_of op r m k bs =
     else if (op == 0x81) && (r == 5) then with_number (SubNumber m) k bs
     else if (op == 0x81) && (r == 6) then with_number (XorNumber m) k bs
     else if (op == 0x81) && (r == 7) then with_number (CmpNumber m) k bs
+    else if (op == 0x83) && (r == 0) then with_number_8 (AddNumber8 m) k bs
+    else if (op == 0x83) && (r == 1) then with_number_8 (OrNumber8 m) k bs
+    else if (op == 0x83) && (r == 4) then with_number_8 (AndNumber8 m) k bs
+    else if (op == 0x83) && (r == 5) then with_number_8 (SubNumber8 m) k bs
+    else if (op == 0x83) && (r == 6) then with_number_8 (XorNumber8 m) k bs
+    else if (op == 0x83) && (r == 7) then with_number_8 (CmpNumber8 m) k bs
     else if op == 0x85 then Some (TestTo m r, k)
     else if op == 0x89 then Some (MovTo m r, k)
     else if op == 0x8B then Some (MovFrom r m, k)
@@ -123,16 +136,17 @@ rexed_of w r b bs =
     else if w == 0 then narrow_of (slice_index bs 0) r b (drop 1 bs)
     else full_of r b bs
 
--- Whether a byte after 0F is the opcode of a jump with a condition: 80 to 8F, but 8A and 8B.
-abbrev pub is_jump_if : ℕ → Bool
-is_jump_if op = (op / 16 == 8) && not (op == 0x8A) && not (op == 0x8B)
+-- Whether a byte is the opcode of a jump with a condition, in whose low half the condition's number stands:
+-- with the high half 8 behind 0F, and with 7 alone.
+abbrev pub is_jump_if : ℕ → ℕ → Bool
+is_jump_if high op = (op / 16 == high) && not (op % 16 == 10) && not (op % 16 == 11)
 
 -- What stands after a first byte 0F.
 unfoldable pub escaped_of : List ℕ → Option (Insn × ℕ)
 escaped_of bs =
     if nat_lt (length bs) 1 then None
     else if slice_index bs 0 == 0x05 then Some (Syscall, 2)
-    else if is_jump_if (slice_index bs 0) then with_number (JumpIf (slice_index bs 0 % 16)) 2 (drop 1 bs)
+    else if is_jump_if 8 (slice_index bs 0) then with_number (JumpIf (slice_index bs 0 % 16)) 2 (drop 1 bs)
     else None
 
 abbrev pub decode : List ℕ → Option (Insn × ℕ)
@@ -141,4 +155,6 @@ decode bs =
     else if (slice_index bs 0 / 16 == 4) && (slice_index bs 0 / 2 % 2 == 0) then rexed_of (slice_index bs 0 / 8 % 2) (slice_index bs 0 / 4 % 2) (slice_index bs 0 % 2) (drop 1 bs)
     else if slice_index bs 0 == 0x0F then escaped_of (drop 1 bs)
     else if slice_index bs 0 == 0xE9 then with_number Jump 1 (drop 1 bs)
+    else if slice_index bs 0 == 0xEB then with_number_8 Jump8 1 (drop 1 bs)
+    else if is_jump_if 7 (slice_index bs 0) then with_number_8 (JumpIf8 (slice_index bs 0 % 16)) 1 (drop 1 bs)
     else None

@@ -7,7 +7,7 @@ use Rattle.std.specs.Int.{w64, cast_unsigned, to_le_bytes, from_le_bytes}
 use Rattle.sch_word.specs.values.Memory.{Segment}
 use Rattle.sch_word.specs.declared.answer.Answer.{Answer}
 use Rattle.sch_insn.specs.declared.insn.Arg.{Arg}
-use Rattle.sch_insn.specs.declared.insn.Arg.TheVariants.{Reg, Base, Base32, Rip}
+use Rattle.sch_insn.specs.declared.insn.Arg.TheVariants.{Reg, Base, Base8, Base32, Rip}
 use Rattle.sch_insn.specs.declared.state.Flags.{Flags}
 use Rattle.sch_insn.specs.declared.state.Regs.{Regs}
 use Rattle.sch_insn.specs.declared.state.StuckCause.{StuckCause}
@@ -140,6 +140,7 @@ write_bytes c a ys = when_ok (or_access a (stored c.segments a ys)) (λ gs. Ok (
 abbrev pub address_of : Core → Arg → ℕ
 address_of c (Reg r) = 0
 address_of c (Base b) = c.registers b
+address_of c (Base8 b d) = add64 (c.registers b) (word d)
 address_of c (Base32 b d) = add64 (c.registers b) (word d)
 address_of c (Rip d) = add64 c.place (word d)
 

@@ -2,15 +2,19 @@
 -- Source: Intel SDM, volume 2: section 2.1 (ModR/M and SIB), 2.2.1 (REX prefixes), and the opcode
 -- column of each mnemonic's page.
 use Rattle.std.specs.Prelude.{◌≡◌, ◌≢◌, ℕ, ◌+◌, ◌*◌, ◌/◌, ◌%◌, ◌<◌, List, [], ◌∷◌, ◌++◌, Bool, true, false, cond, ◌==◌, ℤ, FitsSigned, All}
-use Rattle.std.specs.Int.{w32, w64, cast_unsigned, to_le_bytes}
+use Rattle.std.specs.Int.{w8, w32, w64, cast_unsigned, to_le_bytes}
 use Rattle.sch_insn.specs.declared.insn.Arg.{Arg}
-use Rattle.sch_insn.specs.declared.insn.Arg.TheVariants.{Reg, Base, Base32, Rip}
+use Rattle.sch_insn.specs.declared.insn.Arg.TheVariants.{Reg, Base, Base8, Base32, Rip}
 use Rattle.sch_insn.specs.declared.insn.Insn.{Insn}
 use Rattle.sch_insn.specs.declared.insn.Insn.TheVariants.{MovTo, MovFrom, MovNumber, MovWord, StoreByte, LoadByte, Lea, AddTo, OrTo, AndTo, SubTo, XorTo, CmpTo}
 use Rattle.sch_insn.specs.declared.insn.Insn.TheVariants.{AddFrom, OrFrom, AndFrom, SubFrom, XorFrom, CmpFrom, AddNumber, OrNumber, AndNumber, SubNumber}
-use Rattle.sch_insn.specs.declared.insn.Insn.TheVariants.{XorNumber, CmpNumber, TestTo, Imul, Neg, Idiv, Cqo, Shl, Shr, Sar, Jump, JumpTo, JumpIf, Syscall}
+use Rattle.sch_insn.specs.declared.insn.Insn.TheVariants.{XorNumber, CmpNumber, AddNumber8, OrNumber8, AndNumber8, SubNumber8, XorNumber8, CmpNumber8}
+use Rattle.sch_insn.specs.declared.insn.Insn.TheVariants.{TestTo, Imul, Neg, Idiv, Cqo, Shl, Shr, Sar, Jump, Jump8, JumpTo, JumpIf, JumpIf8, Syscall}
 
--- A signed number in four bytes and in eight, the lowest byte first.
+-- A signed number in one byte, in four and in eight, the lowest byte first.
+abbrev pub one_byte : ℤ → List ℕ
+one_byte n = cast_unsigned w8 n ∷ []
+
 abbrev pub four_bytes : ℤ → List ℕ
 four_bytes n = to_le_bytes w32 (cast_unsigned w32 n)
 
@@ -21,6 +25,7 @@ eight_bytes n = to_le_bytes w64 (cast_unsigned w64 n)
 abbrev pub high_bit : Arg → ℕ
 high_bit (Reg r) = r / 8
 high_bit (Base b) = b / 8
+high_bit (Base8 b d) = b / 8
 high_bit (Base32 b d) = b / 8
 high_bit (Rip d) = 0
 
@@ -36,10 +41,11 @@ modrm mode r b = 0x40 * mode + 8 * (r % 8) + b % 8
 abbrev pub sib : ℕ → List ℕ
 sib b = cond (b % 8 == 4) (0x24 ∷ []) []
 
--- ModRM and what follows it. A row for the mode 01, with a displacement of one byte, would stand here.
+-- ModRM and what follows it.
 abbrev pub operand : ℕ → Arg → List ℕ
 operand r (Reg b) = modrm 3 r b ∷ []
 operand r (Base b) = modrm 0 r b ∷ sib b
+operand r (Base8 b d) = modrm 1 r b ∷ (sib b ++ one_byte d)
 operand r (Base32 b d) = modrm 2 r b ∷ (sib b ++ four_bytes d)
 operand r (Rip d) = modrm 0 r 5 ∷ four_bytes d
 
@@ -73,6 +79,12 @@ spelling (AndNumber m n) = wide 0x81 4 m ++ four_bytes n
 spelling (SubNumber m n) = wide 0x81 5 m ++ four_bytes n
 spelling (XorNumber m n) = wide 0x81 6 m ++ four_bytes n
 spelling (CmpNumber m n) = wide 0x81 7 m ++ four_bytes n
+spelling (AddNumber8 m n) = wide 0x83 0 m ++ one_byte n
+spelling (OrNumber8 m n) = wide 0x83 1 m ++ one_byte n
+spelling (AndNumber8 m n) = wide 0x83 4 m ++ one_byte n
+spelling (SubNumber8 m n) = wide 0x83 5 m ++ one_byte n
+spelling (XorNumber8 m n) = wide 0x83 6 m ++ one_byte n
+spelling (CmpNumber8 m n) = wide 0x83 7 m ++ one_byte n
 spelling (TestTo m r) = wide 0x85 r m
 spelling (Imul r m) = rex 1 r m ∷ 0x0F ∷ 0xAF ∷ operand r m
 spelling (Neg m) = wide 0xF7 3 m
@@ -82,20 +94,24 @@ spelling (Shl m k) = wide 0xC1 4 m ++ k ∷ []
 spelling (Shr m k) = wide 0xC1 5 m ++ k ∷ []
 spelling (Sar m k) = wide 0xC1 7 m ++ k ∷ []
 spelling (Jump d) = 0xE9 ∷ four_bytes d
+spelling (Jump8 d) = 0xEB ∷ one_byte d
 spelling (JumpTo m) = rex 0 4 m ∷ 0xFF ∷ operand 4 m
 spelling (JumpIf c d) = 0x0F ∷ (0x80 + c) ∷ four_bytes d
+spelling (JumpIf8 c d) = (0x70 + c) ∷ one_byte d
 spelling Syscall = 0x0F ∷ 0x05 ∷ []
 
 -- The operands that there are. With the mode 00 the low bits 101 would mean an address from rip.
 abbrev pub IsArg : Arg → Type 0
 IsArg (Reg r) = r < 16
 IsArg (Base b) = (b < 16) × (b % 8 ≢ 5)
+IsArg (Base8 b d) = (b < 16) × FitsSigned w8 d
 IsArg (Base32 b d) = (b < 16) × FitsSigned w32 d
 IsArg (Rip d) = FitsSigned w32 d
 
 abbrev pub in_memory : Arg → Bool
 in_memory (Reg r) = false
 in_memory (Base b) = true
+in_memory (Base8 b d) = true
 in_memory (Base32 b d) = true
 in_memory (Rip d) = true
 
@@ -131,6 +147,12 @@ IsValid (AndNumber m n) = IsArg m × FitsSigned w32 n
 IsValid (SubNumber m n) = IsArg m × FitsSigned w32 n
 IsValid (XorNumber m n) = IsArg m × FitsSigned w32 n
 IsValid (CmpNumber m n) = IsArg m × FitsSigned w32 n
+IsValid (AddNumber8 m n) = IsArg m × FitsSigned w8 n
+IsValid (OrNumber8 m n) = IsArg m × FitsSigned w8 n
+IsValid (AndNumber8 m n) = IsArg m × FitsSigned w8 n
+IsValid (SubNumber8 m n) = IsArg m × FitsSigned w8 n
+IsValid (XorNumber8 m n) = IsArg m × FitsSigned w8 n
+IsValid (CmpNumber8 m n) = IsArg m × FitsSigned w8 n
 IsValid (TestTo m r) = IsArg m × (r < 16)
 IsValid (Imul r m) = IsArg m × (r < 16)
 IsValid (Neg m) = IsArg m
@@ -140,8 +162,10 @@ IsValid (Shl m k) = IsArg m × (k < 64)
 IsValid (Shr m k) = IsArg m × (k < 64)
 IsValid (Sar m k) = IsArg m × (k < 64)
 IsValid (Jump d) = FitsSigned w32 d
+IsValid (Jump8 d) = FitsSigned w8 d
 IsValid (JumpTo m) = IsArg m
 IsValid (JumpIf c d) = IsCondition c × FitsSigned w32 d
+IsValid (JumpIf8 c d) = IsCondition c × FitsSigned w8 d
 IsValid Syscall = Unit {0}
 
 -- All these instructions are valid.

@@ -10,7 +10,8 @@ use Rattle.sch_insn.specs.declared.insn.Arg.{Arg}
 use Rattle.sch_insn.specs.declared.insn.Insn.{Insn}
 use Rattle.sch_insn.specs.declared.insn.Insn.TheVariants.{MovTo, MovFrom, MovNumber, MovWord, StoreByte, LoadByte, Lea, AddTo, OrTo, AndTo, SubTo, XorTo, CmpTo}
 use Rattle.sch_insn.specs.declared.insn.Insn.TheVariants.{AddFrom, OrFrom, AndFrom, SubFrom, XorFrom, CmpFrom, AddNumber, OrNumber, AndNumber, SubNumber}
-use Rattle.sch_insn.specs.declared.insn.Insn.TheVariants.{XorNumber, CmpNumber, TestTo, Imul, Neg, Idiv, Cqo, Shl, Shr, Sar, Jump, JumpTo, JumpIf, Syscall}
+use Rattle.sch_insn.specs.declared.insn.Insn.TheVariants.{XorNumber, CmpNumber, AddNumber8, OrNumber8, AndNumber8, SubNumber8, XorNumber8, CmpNumber8}
+use Rattle.sch_insn.specs.declared.insn.Insn.TheVariants.{TestTo, Imul, Neg, Idiv, Cqo, Shl, Shr, Sar, Jump, Jump8, JumpTo, JumpIf, JumpIf8, Syscall}
 use Rattle.sch_insn.specs.declared.state.StuckCause.{StuckCause}
 use Rattle.sch_insn.specs.declared.register.TheConstants.{RAX, RCX, RDX, RSI, RDI, R11}
 use Rattle.sch_insn.specs.declared.state.StuckCause.TheVariants.{Fetch, Flag, Divide, Kernel}
@@ -145,6 +146,12 @@ row (AndNumber m n) = Acts (λ c. change c m (λ v. bits_of (bit_and v (word n))
 row (SubNumber m n) = Acts (λ c. change c m (λ v. difference_of v (word n)))
 row (XorNumber m n) = Acts (λ c. change c m (λ v. bits_of (bit_xor v (word n))))
 row (CmpNumber m n) = Acts (λ c. compare c m (λ v. difference_of v (word n)))
+row (AddNumber8 m n) = Acts (λ c. change c m (λ v. sum_of v (word n)))
+row (OrNumber8 m n) = Acts (λ c. change c m (λ v. bits_of (bit_or v (word n))))
+row (AndNumber8 m n) = Acts (λ c. change c m (λ v. bits_of (bit_and v (word n))))
+row (SubNumber8 m n) = Acts (λ c. change c m (λ v. difference_of v (word n)))
+row (XorNumber8 m n) = Acts (λ c. change c m (λ v. bits_of (bit_xor v (word n))))
+row (CmpNumber8 m n) = Acts (λ c. compare c m (λ v. difference_of v (word n)))
 row (TestTo m r) = Acts (λ c. compare c m (λ v. bits_of (bit_and v (c.registers r))))
 row (Imul r m) = Acts (λ c. gather c r m (λ v. product_of (c.registers r) v))
 row (Neg m) = Acts (λ c. change c m (λ v. difference_of 0 v))
@@ -154,8 +161,10 @@ row (Shl m k) = Acts (λ c. change c m (λ v. shifted (v * 2 ^ k % 2 ^ 64)))
 row (Shr m k) = Acts (λ c. change c m (λ v. shifted (v / 2 ^ k)))
 row (Sar m k) = Acts (λ c. change c m (λ v. shifted (shift_right_signed v k)))
 row (Jump d) = Acts (λ c. Ok (with_place (add64 c.place (word d)) c))
+row (Jump8 d) = Acts (λ c. Ok (with_place (add64 c.place (word d)) c))
 row (JumpTo m) = Acts (λ c. when_ok (load c m) (λ v. Ok (with_place v c)))
 row (JumpIf n d) = Acts (λ c. jump_if c d (condition c.flags n))
+row (JumpIf8 n d) = Acts (λ c. jump_if c d (condition c.flags n))
 row Syscall = Calls kernel
 
 -- ---- steps

@@ -15,7 +15,9 @@ pub enum Arg {
     Reg(u8),
     /// The memory at a register's word. The low bits of the register's number are not 101.
     Base(u8),
-    /// The memory at a register's word plus a displacement.
+    /// The memory at a register's word plus a displacement of one byte.
+    Base8(u8, i8),
+    /// The memory at a register's word plus a displacement of four bytes.
     Base32(u8, i32),
     /// The memory at the address of the next instruction plus a displacement.
     Rip(i32),
@@ -23,7 +25,9 @@ pub enum Arg {
 
 /// An instruction: one variant for each form of the table, so that each has one spelling. In a name
 /// `To` stands where the operand comes first and the register second, `From` where the register
-/// comes first, and `Number` where the second is a sign-extended number.
+/// comes first, `Number` where the second is a sign-extended number of four bytes, and `Number8`
+/// where it has one byte. The same number in one byte and in four makes two instructions, which do
+/// the same.
 ///
 /// Source: Intel SDM, volume 2, the pages of the mnemonics.
 #[derive(Clone, Copy)]
@@ -55,6 +59,12 @@ pub enum Insn {
     SubNumber(Arg, i32),
     XorNumber(Arg, i32),
     CmpNumber(Arg, i32),
+    AddNumber8(Arg, i8),
+    OrNumber8(Arg, i8),
+    AndNumber8(Arg, i8),
+    SubNumber8(Arg, i8),
+    XorNumber8(Arg, i8),
+    CmpNumber8(Arg, i8),
     TestTo(Arg, u8),
     Imul(u8, Arg),
     Neg(Arg),
@@ -64,12 +74,16 @@ pub enum Insn {
     Shl(Arg, u8),
     Shr(Arg, u8),
     Sar(Arg, u8),
-    /// Jumps by a displacement from the address of the next instruction.
+    /// Jumps by a displacement of four bytes from the address of the next instruction.
     Jump(i32),
+    /// Jumps by a displacement of one byte from there.
+    Jump8(i8),
     /// Jumps to the address in the operand.
     JumpTo(Arg),
-    /// Jumps by a displacement where the condition of this number holds.
+    /// Jumps by a displacement of four bytes where the condition of this number holds.
     JumpIf(u8, i32),
+    /// Jumps by a displacement of one byte where it holds.
+    JumpIf8(u8, i8),
     Syscall,
 }
 
@@ -82,6 +96,7 @@ impl Arg {
         match self {
             Arg::Reg(_) => 1,
             Arg::Base(b) => 1 + sib_length(b),
+            Arg::Base8(b, _) => 2 + sib_length(b),
             Arg::Base32(b, _) => 5 + sib_length(b),
             Arg::Rip(_) => 5,
         }
@@ -111,7 +126,13 @@ impl Insn {
             | Insn::SubNumber(m, _)
             | Insn::XorNumber(m, _)
             | Insn::CmpNumber(m, _) => 6 + m.length(),
-            Insn::Shl(m, _)
+            Insn::AddNumber8(m, _)
+            | Insn::OrNumber8(m, _)
+            | Insn::AndNumber8(m, _)
+            | Insn::SubNumber8(m, _)
+            | Insn::XorNumber8(m, _)
+            | Insn::CmpNumber8(m, _)
+            | Insn::Shl(m, _)
             | Insn::Shr(m, _)
             | Insn::Sar(m, _)
             | Insn::LoadByte(_, m)
@@ -136,7 +157,7 @@ impl Insn {
             | Insn::TestTo(m, _) => 2 + m.length(),
             Insn::Jump(_) => 5,
             Insn::JumpIf(_, _) => 6,
-            Insn::Cqo | Insn::Syscall => 2,
+            Insn::Jump8(_) | Insn::JumpIf8(_, _) | Insn::Cqo | Insn::Syscall => 2,
         }
     }
 }

@@ -1,6 +1,7 @@
 pub mod Answers
 pub mod Counters
 pub mod Files
+pub mod Firm
 pub mod InMemory
 pub mod OnHost
 pub mod Puts

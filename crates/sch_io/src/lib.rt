@@ -4,6 +4,7 @@
 
 mod counter;
 mod disk;
+mod firm_disk;
 mod host_disk;
 mod host_outlet;
 mod mem_disk;
@@ -13,6 +14,7 @@ mod outlet;
 mod put;
 
 pub use disk::{Disk, DiskRead, Failed};
+pub use firm_disk::FirmDisk;
 pub use host_disk::HostDisk;
 pub use host_outlet::StdOutlet;
 pub use mem_disk::MemDisk;

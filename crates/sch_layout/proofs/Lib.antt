@@ -1,10 +1,16 @@
+mod Asides
 pub mod CarriedCopies
 pub mod does
 pub mod EntryCopies
-pub mod layouts
 mod LayoutExamples
 mod LayoutWorkExamples
-pub mod LoopTurns
+pub mod layouts
+pub mod marks
+mod MarkExamples
+mod MoveExamples
+pub mod MovesHave
+pub mod OwnPlaced
 mod PlacedExamples
 pub mod SavedTree
 mod SharedExamples
+mod Tables

@@ -3,7 +3,7 @@ use Rattle.std.proofs.Common.{◌≡◌, ℕ, List, refl}
 use Rattle.sch_control.specs.Tree.{Expression, perform, bind, sequence, branch, fix, call, tail_call, return, end, save}
 use Rattle.sch_layout.specs.BodyLayout.{labels}
 use Rattle.sch_layout.specs.OwnSlots.{most_operands, restoring}
-use Rattle.sch_layout.proofs.does.PlacesAgree.{Uses}
+use Rattle.sch_layout.specs.Laws.{Uses}
 
 module _ (xs : List ℕ) where
   pub restoring_labels : (e : Expression) → labels (restoring xs e) ≡ labels e

@@ -1,8 +1,8 @@
-pub mod ApartPlaces
+pub mod CallsReady
 pub mod EntryStores
 pub mod LabelsPassed
 pub mod LayoutDoes
-pub mod OperandsMove
+pub mod MovesDo
 pub mod OperationsFollow
 pub mod PlacedBodies
 pub mod PlacesAgree

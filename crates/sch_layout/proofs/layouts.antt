@@ -3,9 +3,12 @@ pub mod InstructionTests
 pub mod LabelsOnce
 pub mod LayoutSize
 pub mod LayoutWork
-pub mod MarksStand
+pub mod MovesSize
 pub mod OperandsKept
+pub mod OwnMoves
+pub mod OwnTakes
 pub mod RegionStores
 pub mod SettledSlots
 pub mod SlotsFrame
+pub mod SlotsStand
 pub mod VariablesUsed

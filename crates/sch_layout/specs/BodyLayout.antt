@@ -1,6 +1,7 @@
 -- The layout of an expression: its tree in order, as instructions. What follows is an argument, so nothing is
--- appended. Each variable has a place, and one that lives in a register has a home, in which it is saved.
-use Rattle.std.specs.Prelude.{◌≡◌, ℕ, zero, suc, ◌+◌, Bool, true, false, cond, List, [], ◌∷◌, ◌++◌, length, Option, Some, None, filter, map}
+-- appended. Each variable has a place, and one that lives in a register has a home, in which it is saved. The arguments of
+-- a call are brought where it takes them by moves from outside.
+use Rattle.std.specs.Prelude.{◌≡◌, ℕ, zero, suc, ◌+◌, ◌-◌, nat_lt, Bool, true, false, cond, List, [], ◌∷◌, ◌++◌, length, Option, Some, None, filter, map}
 use Rattle.sch_word.specs.declared.place.Place.{Place}
 use Rattle.sch_word.specs.declared.place.Place.TheVariants.{Reg, Slot}
 use Rattle.sch_control.specs.declared.body.Entry.{Entry}
@@ -21,8 +22,9 @@ use Rattle.sch_control.specs.Meaning.{Reading, heads, with_region}
 use Rattle.sch_control.specs.Tree.{Expression, perform, bind, sequence, branch, fix, call, tail_call, return, end, save}
 use Rattle.sch_control.specs.Valid.{member_variables}
 use Rattle.sch_frames.specs.declared.instruction.Instruction.{Instruction}
-use Rattle.sch_frames.specs.declared.instruction.Instruction.TheVariants.{Do, Store, Copy, Load, Pass, Fix, Call, Tail, Return, End, IfFalse, Jump, Label, Mark}
-use Rattle.sch_frames.specs.Meaning.{argument_register, argument_slot, closure_register, link_register, same_place}
+use Rattle.sch_frames.specs.declared.instruction.Instruction.TheVariants.{Do, Store, Copy, Pass, Fix, Call, Tail, Return, End, IfFalse, Jump, Label, Mark}
+use Rattle.sch_layout.specs.Moves.{Move}
+use Rattle.sch_frames.specs.Meaning.{argument_register, argument_slot, closure_register, link_register, is_slot, same_place}
 
 -- ## Labels
 
@@ -92,10 +94,9 @@ module _ (place : ℕ → Place) where
   abbrev pub members_at : List (Member ℕ) → List (Member Place)
   members_at = map member_at
 
-  -- each operand of a call has a slot of its own, from one slot on
-  abbrev pub set_aside : (slot : ℕ) → List (Operand ℕ) → List Instruction → List Instruction
-  set_aside slot [] rest = rest
-  set_aside slot (o ∷ operands) rest = Load (Slot slot) (operand_at o) ∷ set_aside (suc slot) operands rest
+  -- the operator of a call and its operands, which are its arguments 0, 1 and on
+  abbrev pub arguments_at : Application ℕ → List (Operand Place)
+  arguments_at a = operands_at (a.operator ∷ a.operands)
 
 -- ## Calls
 
@@ -107,41 +108,26 @@ in_either None j = Slot j
 abbrev pub arrival : ℕ → Place
 arrival k = in_either (argument_register k) (argument_slot k)
 
--- what a place holds is passed on in a register, or in a slot of the frame that the call opens
-abbrev pub passed : Option ℕ → ℕ → Place → Instruction
-passed (Some r) j p = Copy (Reg r) p
-passed None j p = Pass j (operand.Atom (Variable p))
-
--- What a place holds is handed over as the operand with k before it. A tail call hands over where the own
--- arguments have arrived.
-abbrev pub handed : (tail : Bool) → (k : ℕ) → Place → Instruction
-handed true k p = Copy (arrival k) p
-handed false k p = passed (argument_register k) (argument_slot k) p
-
--- The operands that are set aside, from one on, which is in this slot, and the next in the next. A tail call hands each
--- over in a register, or in a slot before those of the operands that wait.
-abbrev pub hand_over : (tail : Bool) → (from slot count : ℕ) → List Instruction → List Instruction
-hand_over tail from slot zero rest = rest
-hand_over tail from slot (suc count) rest = handed tail from (Slot slot) ∷ hand_over tail (suc from) (suc slot) count rest
+-- where argument k of a call is wanted: the operator, and then operands; the slots of the next frame begin at a limit
+abbrev pub target : (tail : Bool) → (limit : ℕ) → ℕ → Place
+target tail limit zero = closure_register
+target true limit (suc k) = arrival k
+target false limit (suc k) = in_either (argument_register k) (limit + argument_slot k)
 
 -- ## Saves and restores
 
--- Where each variable lives; where one that lives in a register is saved; whose saves and restores leave marks; and the
--- slot in which the first operand of a call is set aside, with those of the others behind it.
+-- Where each variable lives; where one that lives in a register is saved; from which slot on a place is one of the frame that a
+-- call opens, any number that is no less than the size of the frame; and the moves of a call or a tail call.
 pub record Plan : Type 0 where
   pub place : ℕ → Place
   pub home : ℕ → Place
-  pub is_marked : ℕ → Bool
-  pub aside : ℕ
+  pub limit : ℕ
+  pub moves : (tail : Bool) → Application ℕ → List Move
 
-abbrev pub is_slot : Place → Bool
-is_slot (Reg r) = false
-is_slot (Slot j) = true
-
--- a copy, under a mark of its own where that is wanted
-abbrev pub copied : (is_marked : Bool) → MarkKind → (to from : Place) → List Instruction → List Instruction
-copied true m to from rest = Mark m ∷ (Copy to from ∷ rest)
-copied false m to from rest = Copy to from ∷ rest
+-- an instruction, perhaps behind a mark of its own
+abbrev pub under : Option MarkKind → Instruction → List Instruction → List Instruction
+under None i rest = i ∷ rest
+under (Some m) i rest = Mark m ∷ (i ∷ rest)
 
 -- ## Entries
 
@@ -151,38 +137,72 @@ arrived zero = link_register
 arrived (suc zero) = closure_register
 arrived (suc (suc k)) = arrival k
 
--- what stands in its place already is not copied
-abbrev pub brought : (to from : Place) → List Instruction → List Instruction
-brought to from rest = cond (same_place to from) rest (Copy to from ∷ rest)
-
 module _ (plan : Plan) where
+  -- a variable that lives in a slot is stored there under its mark
+  abbrev pub spill : ℕ → Option MarkKind
+  spill x = cond (is_slot (plan.place x)) (Some (mark.Spill x)) None
+
+  -- what stands in its place already is not copied
+  abbrev pub brought : ℕ → List Instruction → List Instruction
+  brought x rest = cond (same_place (plan.place x) (arrived x)) rest (under (spill x) (Copy (plan.place x) (arrived x)) rest)
+
   -- a number of variables from one on come into their places, one after the other
   abbrev pub arrivals : (from count : ℕ) → List Instruction → List Instruction
   arrivals from zero rest = rest
-  arrivals from (suc count) rest = brought (plan.place from) (arrived from) (arrivals (suc from) count rest)
+  arrivals from (suc count) rest = brought from (arrivals (suc from) count rest)
 
   -- a procedure brings its closure and then its arguments into their places
   abbrev pub entering : Option Entry → List Instruction → List Instruction
   entering None rest = rest
   entering (Some e) rest = arrivals 1 (suc e.formals) rest
 
+-- ## Moves
+
+-- under which mark a move writes
+abbrev pub move_mark : Move → Option MarkKind
+move_mark m = cond m.temp (Some mark.Temp) (cond (is_slot m.to) (Some mark.Argument) None)
+
+module _ (limit : ℕ) where
+  -- what the accumulator holds is written to a place of the own frame, or to a slot of the next one
+  abbrev pub writing : Place → Instruction
+  writing (Reg r) = Store (Reg r)
+  writing (Slot j) = cond (nat_lt j limit) (Store (Slot j)) (Pass (j - limit))
+
+  -- into a register, or from a register into the own frame, one instruction does
+  abbrev pub is_direct : (to from : Place) → Bool
+  is_direct (Reg r) from = true
+  is_direct (Slot j) (Reg r) = nat_lt j limit
+  is_direct (Slot j) (Slot i) = false
+
+  -- what stands in its target already is not moved
+  abbrev pub move_into : (to : Place) → Option MarkKind → Operand Place → List Instruction → List Instruction
+  move_into to m (operand.Atom (Variable p)) rest =
+      cond (same_place to p) rest
+      (cond (is_direct to p) (under m (Copy to p) rest) (Do (operation.Operand (operand.Atom (Variable p))) ∷ under m (writing to) rest))
+  move_into to m o rest = Do (operation.Operand o) ∷ under m (writing to) rest
+
+  abbrev pub move_all : List Move → List Instruction → List Instruction
+  move_all [] rest = rest
+  move_all (m ∷ moves) rest = move_into m.to (move_mark m) m.from (move_all moves rest)
+
 -- ## Expressions
 
 module _ (plan : Plan) where
-  -- How an expression is read that is laid out so: a call keeps what lives in slots. No binding is marked.
-  abbrev pub placed_reading : Reading
-  placed_reading = record {
+  -- How an expression is read that is laid out so: a call keeps what lives in slots. The reading leaves no marks but those of
+  -- calls and returns; those of a layout are known by its paths.
+  abbrev pub unmarked_reading : Reading
+  unmarked_reading = record {
     keeps = λ x. is_slot (plan.place x);
     spills = λ x. false;
-    is_marked = λ x. cond (is_slot (plan.place x)) false (plan.is_marked x);
+    is_marked = λ x. false;
     moves = λ site. [];
   }
 
-  -- each of some variables that lives in a register is copied; what lives in a slot stays there
+  -- each of some variables that lives in a register is copied under its mark; what lives in a slot stays there
   abbrev pub carried : (kind : ℕ → MarkKind) → (to from : ℕ → Place) → List ℕ → List Instruction → List Instruction
   carried kind to from [] rest = rest
   carried kind to from (x ∷ xs) rest =
-      cond (is_slot (plan.place x)) (carried kind to from xs rest) (copied (plan.is_marked x) (kind x) (to x) (from x) (carried kind to from xs rest))
+      cond (is_slot (plan.place x)) (carried kind to from xs rest) (Mark (kind x) ∷ (Copy (to x) (from x) ∷ carried kind to from xs rest))
 
   -- what is saved goes home, and what is restored comes from there
   abbrev pub stored : List ℕ → List Instruction → List Instruction
@@ -191,29 +211,26 @@ module _ (plan : Plan) where
   abbrev pub loaded : List ℕ → List Instruction → List Instruction
   loaded xs rest = carried mark.Restore plan.place plan.home xs rest
 
-  -- The operands and the operator's closure stand where a call takes them. All operands are read before a register is
-  -- written, so a variable may live in any that calls use.
-  abbrev pub prepared : (tail : Bool) → Application ℕ → List Instruction → List Instruction
-  prepared tail a rest =
-      set_aside plan.place plan.aside a.operands
-      (Load closure_register (operand_at plan.place a.operator) ∷ hand_over tail 0 plan.aside (length a.operands) rest)
-
   -- The instructions of an expression, whose labels are numbered from n on, and then the rest. `inside` has the variables
   -- of the regions round it. A region stores at its head what it does not bind, and the others where they are bound.
   abbrev pub lay : Expression → (inside : ℕ → Bool) → (n : ℕ) → (test : Option ℕ) → List Instruction → List Instruction
   lay (perform o) inside n test rest = Do (operation_at plan.place o) ∷ leave test rest
   lay (bind x a b) inside n test rest =
-      lay a inside n None (Store (plan.place x) ∷ stored (filter inside (x ∷ [])) (lay b inside (n + labels a) test rest))
+      lay a inside n None (under (spill plan x) (Store (plan.place x))
+      (stored (filter inside (x ∷ [])) (lay b inside (n + labels a) test rest)))
   lay (sequence a b) inside n test rest = lay a inside n None (lay b inside (n + labels a) test rest)
   lay (branch a b c) inside n test rest =
       lay a inside (suc (suc n)) (Some n)
       (lay b inside (suc (suc (n + labels a))) test
       (Jump (suc n) ∷ (Label n ∷ lay c inside (suc (suc (n + labels a + labels b))) test (Label (suc n) ∷ rest))))
   lay (fix members e) inside n test rest =
-      Fix (members_at plan.place members) ∷ stored (filter inside (member_variables members)) (lay e inside n test rest)
+      Fix (members_at plan.place members) (filter (λ x. is_slot (plan.place x)) (member_variables members))
+      ∷ stored (filter inside (member_variables members)) (lay e inside n test rest)
   lay (call a restores) inside n test rest =
-      prepared false a (Mark (mark.Call a.site) ∷ (Call a.spread (length a.operands) ∷ loaded restores (leave test rest)))
-  lay (tail_call a) inside n test rest = prepared true a (Mark (mark.Tail a.site) ∷ (Tail a.spread (length a.operands) ∷ rest))
+      move_all plan.limit (plan.moves false a)
+      (Mark (mark.Call a.site) ∷ (Call a.spread (length a.operands) ∷ loaded restores (leave test rest)))
+  lay (tail_call a) inside n test rest =
+      move_all plan.limit (plan.moves true a) (Mark (mark.Tail a.site) ∷ (Tail a.spread (length a.operands) ∷ rest))
   lay (return e) inside n test rest = lay e inside n None (Mark mark.Return ∷ (Return ∷ rest))
   lay (end e) inside n test rest = lay e inside n None (End ∷ rest)
   lay (save saves e) inside n test rest = stored (heads e saves) (lay e (with_region saves inside) n test rest)

@@ -1,5 +1,9 @@
+pub mod Asides
 pub mod BodyLayout
 pub mod LayoutSizes
-pub mod Live
+pub mod Laws
+pub mod Moves
+pub mod OwnMarks
 pub mod OwnSlots
+pub mod PathMarks
 pub mod SharedPlaces

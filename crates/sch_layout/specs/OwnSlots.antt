@@ -1,25 +1,42 @@
--- The layout of a body with a slot for each variable: the layout of a tree in which the return address is saved.
-use Rattle.std.specs.Prelude.{ℕ, zero, suc, ◌+◌, ◌-◌, max, Bool, true, false, List, [], ◌∷◌, length, None}
+-- The layout of a body with a slot for each variable but the return address, which is saved round it.
+use Rattle.std.specs.Prelude.{◌≡◌, ℕ, zero, suc, ◌+◌, ◌-◌, ◌<◌, ◌≤◌, max, Bool, true, false, ◌&&◌, cond, nat_le, nat_lt, List, [], ◌∷◌, length, Option, None}
 use Rattle.sch_word.specs.declared.place.Place.{Place}
 use Rattle.sch_word.specs.declared.place.Place.TheVariants.{Slot}
-use Rattle.sch_control.specs.Meaning.{no_region}
+use Rattle.sch_word.specs.trees.NumberSets.{has}
+use Rattle.sch_control.specs.declared.body.Entry.{Entry}
+use Rattle.sch_control.specs.Meaning.{heads, no_region}
 use Rattle.sch_control.specs.Tree as control
 use Rattle.sch_control.specs.Tree.{Expression, perform, bind, sequence, branch, fix, call, tail_call, return, end, save}
 use Rattle.sch_frames.specs.declared.instruction.Instruction.{Instruction}
 use Rattle.sch_frames.specs.Meaning.{link_register}
 use Rattle.sch_frames.specs.Tree.{Code}
-use Rattle.sch_frames.specs.Valid.{formals_of, is_entered}
+use Rattle.sch_frames.specs.Valid.{formals_of, is_entered, max_words}
+use Rattle.sch_layout.specs.Asides.{aside_moves}
 use Rattle.sch_layout.specs.BodyLayout.{Plan, entering, labels, lay}
+use Rattle.sch_layout.specs.Laws.{EntersSlots, Uses}
+use Rattle.sch_layout.specs.SharedPlaces.{PlacedBody, entered_with}
 
--- R15 for the return address, and for each other variable a slot of its own from a base on
-abbrev pub own_slot : (base : ℕ) → ℕ → Place
-own_slot base zero = link_register
-own_slot base (suc x) = Slot (base + suc x)
+-- ## Places
 
--- Only the return address lives in a register, and its home is the slot at the base; nothing leaves marks; operands are
--- set aside from the first slot on.
-abbrev pub own_slots : (base : ℕ) → Plan
-own_slots base = record { place = own_slot base; home = λ x. Slot base; is_marked = λ x. false; aside = 0 }
+-- a formal past the sixth, which arrives in a slot
+abbrev pub is_late : (formals : ℕ) → ℕ → Bool
+is_late formals x = nat_le 8 x && nat_lt x (2 + formals)
+
+-- R15 for the return address; the slot in which it arrives for a late formal; and for each other variable a slot of its
+-- own behind a base
+abbrev pub own_place : (formals base : ℕ) → ℕ → Place
+own_place formals base zero = link_register
+own_place formals base (suc x) = cond (is_late formals (suc x)) (Slot (suc x - 8)) (Slot (base + suc x))
+
+-- Only the return address lives in a register; its home is the slot at the base. Of a number of variables all live before
+-- the slots in which arguments are set aside.
+abbrev pub own_slots : (formals base number limit : ℕ) → Plan
+own_slots formals base number limit = record {
+  place = own_place formals base;
+  home = λ x. Slot base;
+  limit = limit;
+  moves = aside_moves (base + number) (own_place formals base) limit;
+}
 
 -- ## What is saved
 
@@ -60,17 +77,17 @@ most_operands (return e) = most_operands e
 most_operands (end e) = most_operands e
 most_operands (save saves e) = most_operands e
 
--- The slots in which arguments arrive, operands are set aside and tail calls hand them over, which are those before
--- the base: an argument has been stored elsewhere before an operand is set aside.
+-- the slots in which late formals arrive are those before the base
 abbrev pub slots_base : control.Code → ℕ
-slots_base c = max (formals_of c.entry - 6) (most_operands c.expression)
+slots_base c = formals_of c.entry - 6
 
 abbrev pub slots_for : control.Code → Plan
-slots_for c = own_slots (slots_base c)
+slots_for c = own_slots (formals_of c.entry) (slots_base c) c.variables max_words
 
--- the size of the frame, which has a slot for each variable behind these
+-- The size of the frame: behind the base it has a slot for each variable, and behind these one for the operator of a call and
+-- for each of its operands.
 abbrev pub slots_words : control.Code → ℕ
-slots_words c = slots_base c + c.variables
+slots_words c = slots_base c + c.variables + suc (most_operands c.expression)
 
 -- how a body is laid out, with a slot for each variable
 abbrev pub slots_layout : control.Code → List Instruction
@@ -78,3 +95,25 @@ slots_layout c = entering (slots_for c) c.entry (lay (slots_for c) (saved_tree (
 
 abbrev pub slots_code : control.Code → Code
 slots_code c = record { entry = c.entry; words = slots_words c; labels = labels c.expression; instructions = slots_layout c }
+
+-- ## The law: every tree is placed so, where the slots are enough
+
+-- each variable that is saved is below a number
+abbrev pub SavesLow : ℕ → Expression → Type 0
+SavesLow n (perform o) = Unit {0}
+SavesLow n (bind x a b) = SavesLow n a × SavesLow n b
+SavesLow n (sequence a b) = SavesLow n a × SavesLow n b
+SavesLow n (branch a b c) = SavesLow n a × (SavesLow n b × SavesLow n c)
+SavesLow n (fix members e) = SavesLow n e
+SavesLow n (call a restores) = Unit {0}
+SavesLow n (tail_call a) = Unit {0}
+SavesLow n (return e) = SavesLow n e
+SavesLow n (end e) = SavesLow n e
+SavesLow n (save saves e) = ((x : ℕ) → has x (heads e saves) ≡ true → x < n) × SavesLow n e
+
+abbrev pub OwnSlotsPlaced : Type 0
+OwnSlotsPlaced =
+    (entry : Option Entry) (e : Expression) (base number limit : ℕ) → Uses (λ x. x < number) e → SavesLow number e → 0 < number
+    → formals_of entry ≤ 6 + base → base + number + most_operands e < limit
+    → PlacedBody (own_slots (formals_of entry) base number limit) entry e
+    × EntersSlots (own_slots (formals_of entry) base number limit) (entered_with entry)

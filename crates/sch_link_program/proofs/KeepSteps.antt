@@ -1,7 +1,7 @@
 -- The steps of the loops that choose what is kept of a library, over plain values.
-use Rattle.std.proofs.Common.{◌≡◌, ◌<◌, ◌≤◌, ◌+◌, ℕ, zero, suc, Bool, true, false, cond, not, ◌||◌, ◌&&◌, List, [], ◌∷◌, ◌++◌, length, drop, get_or, map, reverse, refl, sym, ap, subst, ◌∙◌, arith, add-one, append_assoc, append-nil, Option}
+use Rattle.std.proofs.Common.{◌≡◌, ◌<◌, ◌≤◌, ◌+◌, ◌-◌, ℕ, zero, suc, Bool, true, false, cond, not, ◌||◌, ◌&&◌, List, [], ◌∷◌, ◌++◌, length, take, drop, get_or, map, reverse, refl, sym, ap, subst, ◌∙◌, arith, add-one, append_assoc, append-nil, Option}
 use Rattle.std.proofs.Math.Bool.{and-false, or-false, or_assoc}
-use Rattle.std.proofs.lemmas.List.{reverse-append, drop_all}
+use Rattle.std.proofs.lemmas.List.{map-append, reverse-append, take-append-drop, drop_all}
 use Rattle.std.proofs.lemmas.Slice.Eq.{bytes_eq-Decides}
 use Rattle.std.specs.Str.{bytes_eq}
 use Rattle.sch_names.specs.Scope.{is_among}
@@ -11,7 +11,8 @@ use Rattle.sch_word.proofs.facts.Lists.{next_left}
 use Rattle.sch_link_tables.specs.Programs.{Definition, kept, with_definition, globals_of_each, seen, is_hidden, held, names_of_each, starts, starts_with}
 use Rattle.sch_sketch.specs.DraftView.{draft_of}
 use Rattle.sch_link_program.specs.declared.definition.Definition as code
-use Rattle.sch_link_program.specs.Definitions.{definition_of, definitions_of}
+use Rattle.sch_link_program.specs.declared.definition.KeptDefinition.{KeptDefinition}
+use Rattle.sch_link_program.specs.Definitions.{definition_of, definitions_of, kept_of, kept_definitions}
 use Rattle.sch_link_program.proofs.NameSets.{or_three, or_four, among_append, among_with, among_firsts, among_held}
 
 -- ## Names that are held
@@ -75,6 +76,17 @@ module _ (first hs : List (List ℕ)) (ds : List Definition) (d : Definition) (t
         ∙ ap (λ a. is_among x first || a) (sym (among_append x (globals_in [] d.body) g))
         )
 
+-- a list is what stands before its last, and that
+pub last_apart : {A : Type 0} (xs : List A) (x : A) → 1 ≤ length xs → x ≡ get_or xs (length xs - 1) x → xs ≡ take (length xs - 1) xs ++ x ∷ []
+last_apart xs x l e =
+    let i = length xs - 1 in
+    let n : suc i ≡ length xs = omega (arith, l) in
+    sym (take-append-drop i xs) ∙ ap (λ r. take i xs ++ r) (next_left xs i x (omega (arith, n)) e ∙ ap (λ r. x ∷ r) (drop_all (suc i) xs (omega (arith, n))))
+
+pub none_below : {A : Type 0} (xs : List A) → length xs < 1 → xs ≡ []
+none_below [] l = refl
+none_below (x ∷ xs) l = absurd (omega (arith, l))
+
 -- the last of those that are left, and those that have been looked at
 pub definition_before : (ds left others : List code.Definition) (d : code.Definition) → left ++ drop (length left) ds ≡ ds → left ≡ others ++ d ∷ [] → drop (length others) ds ≡ d ∷ drop (length left) ds
 definition_before ds left others d whole is =
@@ -89,8 +101,14 @@ pub still_whole : (ds left others : List code.Definition) (d : code.Definition) 
 still_whole ds left others d whole is =
     ap (λ l. others ++ l) (definition_before ds left others d whole is) ∙ sym (append_assoc others (d ∷ []) (drop (length left) ds)) ∙ ap (λ l. l ++ drop (length left) ds) (sym is) ∙ whole
 
-pub one_more_kept : (all : List code.Definition) (d : code.Definition) → definitions_of (reverse (all ++ d ∷ [])) ≡ definition_of d ∷ definitions_of (reverse all)
-one_more_kept all d = rw (reverse-append all (d ∷ [])) refl
+reversed : {A B : Type 0} (f : A → B) (xs : List A) → map f (reverse xs) ≡ reverse (map f xs)
+reversed f [] = refl
+reversed f (x ∷ xs) =
+    ap (map f) (reverse-append (x ∷ []) xs) ∙ map-append f (reverse xs) (x ∷ []) ∙ ap (λ l. l ++ f x ∷ []) (reversed f xs) ∙ sym (reverse-append (f x ∷ []) (map f xs))
+
+-- what is kept is listed from its last definition on
+abbrev from_last : List KeptDefinition → List Definition
+from_last all = reverse (kept_definitions all)
 
 -- names behind others, and some more of them
 more_among : (x : List ℕ) (first w g : List (List ℕ)) → is_among x (first ++ firsts w g) ≡ (is_among x (first ++ w) || is_among x g)
@@ -115,12 +133,12 @@ module _ (first hs w : List (List ℕ)) (ds left others : List code.Definition) 
       added : b ≡ true → definition_of d ∷ kept (definitions_of (drop (length left) ds)) (first ++ map library_global hs) ≡ kept (definitions_of (drop (length others) ds)) (first ++ map library_global hs)
       added n = sym (kept_now e ∙ ap (λ b. with_definition b (definition_of d) (kept (definitions_of (drop (length left) ds)) (first ++ map library_global hs))) n)
 
-      pub step_list : (all all' : List code.Definition) → all' ≡ cond b (all ++ d ∷ []) all → definitions_of (reverse all) ≡ kept (definitions_of (drop (length left) ds)) (first ++ map library_global hs) →
-          definitions_of (reverse all') ≡ kept (definitions_of (drop (length others) ds)) (first ++ map library_global hs)
+      pub step_list : (all all' : List KeptDefinition) → kept_definitions all' ≡ cond b (kept_definitions all ++ definition_of d ∷ []) (kept_definitions all) →
+          from_last all ≡ kept (definitions_of (drop (length left) ds)) (first ++ map library_global hs) → from_last all' ≡ kept (definitions_of (drop (length others) ds)) (first ++ map library_global hs)
       step_list all all' h k = rw h (go b refl)
         where
-          go : (c : Bool) → b ≡ c → definitions_of (reverse (cond c (all ++ d ∷ []) all)) ≡ kept (definitions_of (drop (length others) ds)) (first ++ map library_global hs)
-          go true n = one_more_kept all d ∙ ap (λ l. definition_of d ∷ l) k ∙ added n
+          go : (c : Bool) → b ≡ c → reverse (cond c (kept_definitions all ++ definition_of d ∷ []) (kept_definitions all)) ≡ kept (definitions_of (drop (length others) ds)) (first ++ map library_global hs)
+          go true n = reverse-append (kept_definitions all) (definition_of d ∷ []) ∙ ap (λ l. definition_of d ∷ l) k ∙ added n
           go false n = k ∙ skipped n
 
       pub step_names : (w' : List (List ℕ)) → w' ≡ cond b (firsts w (globals_in [] (draft_of d.body))) w →
@@ -143,27 +161,27 @@ pub begin_names : (first hs w : List (List ℕ)) (ds : List code.Definition) →
     (x : List ℕ) → is_among x (first ++ w) ≡ (is_among x first || is_among x (globals_of_each (kept (definitions_of (drop (length ds) ds)) (first ++ map library_global hs))))
 begin_names first hs w ds z x = rw (none_looked ds, z) (among_append x first [])
 
-pub begin_list : (first hs : List (List ℕ)) (ds all : List code.Definition) → all ≡ [] → definitions_of (reverse all) ≡ kept (definitions_of (drop (length ds) ds)) (first ++ map library_global hs)
+pub begin_list : (first hs : List (List ℕ)) (ds : List code.Definition) (all : List KeptDefinition) → all ≡ [] → from_last all ≡ kept (definitions_of (drop (length ds) ds)) (first ++ map library_global hs)
 begin_list first hs ds all h = rw (none_looked ds, h) refl
 
-pub all_looked : (first hs : List (List ℕ)) (ds left all result : List code.Definition) → left ≡ [] → definitions_of (reverse all) ≡ kept (definitions_of (drop (length left) ds)) (first ++ map library_global hs) → result ≡ reverse all →
-    definitions_of result ≡ kept (definitions_of ds) (first ++ map library_global hs)
-all_looked first hs ds left all result z k h = ap definitions_of h ∙ k ∙ rw z refl
+pub all_looked : (first hs : List (List ℕ)) (ds left : List code.Definition) (all result : List KeptDefinition) → left ≡ [] → from_last all ≡ kept (definitions_of (drop (length left) ds)) (first ++ map library_global hs) → result ≡ reverse all →
+    kept_definitions result ≡ kept (definitions_of ds) (first ++ map library_global hs)
+all_looked first hs ds left all result z k h = ap kept_definitions h ∙ reversed kept_of all ∙ k ∙ rw z refl
 
 -- ## The number of a procedure
 
-pub next_number : (x : List ℕ) (ds : List code.Definition) (i : ℕ) (d : code.Definition) → i < length ds → d ≡ get_or ds i d →
-    number_of x (names_of_each (definitions_of (drop i ds))) ≡ cond (bytes_eq x d.name.now) zero (suc (number_of x (names_of_each (definitions_of (drop (suc i) ds)))))
+pub next_number : (x : List ℕ) (ds : List KeptDefinition) (i : ℕ) (d : KeptDefinition) → i < length ds → d ≡ get_or ds i d →
+    number_of x (names_of_each (kept_definitions (drop i ds))) ≡ cond (bytes_eq x d.name.now) zero (suc (number_of x (names_of_each (kept_definitions (drop (suc i) ds)))))
 next_number x ds i d l h =
-    ap (λ a. number_of x (names_of_each (definitions_of a))) (next_left ds i d l h)
+    ap (λ a. number_of x (names_of_each (kept_definitions a))) (next_left ds i d l h)
 
-module _ (x : List ℕ) (ds : List code.Definition) (i n r : ℕ) (before : n + number_of x (names_of_each (definitions_of (drop i ds))) ≡ r) where
-  module _ (d : code.Definition) (here : i < length ds) (is : d ≡ get_or ds i d) where
+module _ (x : List ℕ) (ds : List KeptDefinition) (i n r : ℕ) (before : n + number_of x (names_of_each (kept_definitions (drop i ds))) ≡ r) where
+  module _ (d : KeptDefinition) (here : i < length ds) (is : d ≡ get_or ds i d) where
     pub found_place : bytes_eq x d.name.now ≡ true → n ≡ r
     found_place h = let k = rw (next_number x ds i d here is, h) at before in omega (arith, k)
 
-    pub next_place : bytes_eq x d.name.now ≡ false → (n' : ℕ) → n' ≡ n + 1 → n' + number_of x (names_of_each (definitions_of (drop (i + 1) ds))) ≡ r
-    next_place h n' e = let k = rw (next_number x ds i d here is, h) at before in rw (add-one, e) (one_further n (number_of x (names_of_each (definitions_of (drop (suc i) ds)))) ∙ k)
+    pub next_place : bytes_eq x d.name.now ≡ false → (n' : ℕ) → n' ≡ n + 1 → n' + number_of x (names_of_each (kept_definitions (drop (i + 1) ds))) ≡ r
+    next_place h n' e = let k = rw (next_number x ds i d here is, h) at before in rw (add-one, e) (one_further n (number_of x (names_of_each (kept_definitions (drop (suc i) ds)))) ∙ k)
       where
         one_further : (n m : ℕ) → n + 1 + m ≡ n + suc m
         one_further n m = omega arith

@@ -13,3 +13,12 @@ pub struct Definition<'a> {
     pub rest: bool,
     pub body: Draft<'a>,
 }
+
+/// A definition of a library that a text keeps: the library has it still.
+#[derive(Clone, Copy, Drop)]
+pub struct KeptDefinition<'a, 'b> {
+    pub name: &'a [u8],
+    pub formals: usize,
+    pub rest: bool,
+    pub body: &'b Draft<'a>,
+}

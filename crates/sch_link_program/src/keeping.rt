@@ -4,10 +4,10 @@ ghost use Rattle.std.specs.Prelude.{◌≡◌, ◌++◌, ◌∷◌, [], ◌&&◌
 ghost use Rattle.sch_names.specs.Scope.{is_among};
 ghost use Rattle.sch_names.specs.NamesView.{names_of, with_name};
 ghost use Rattle.sch_link_tables.specs.Programs as words;
-ghost use Rattle.sch_link_program.specs.Definitions.{definition_of, definitions_of};
+ghost use Rattle.sch_link_program.specs.Definitions.{definition_of, definitions_of, kept_definitions};
 ghost use Rattle.sch_link_program.specs.Wanted.{asked_for, is_wanted, wanted_with};
 
-use crate::definition::Definition;
+use crate::definition::{Definition, KeptDefinition};
 use sch_link_tables::{Tables, global_key, name_draft};
 use sch_names::Names;
 use sch_word::{List, Mem};
@@ -74,40 +74,46 @@ fn is_named(alloc: Global, x: &[u8], asked: &Asked<'_>, wanted: &Names) -> Resul
 }
 
 /// Keeps a definition, if it is named or held. Then what it names is wanted too.
-fn keep<'a>(
+fn keep<'a, 'b>(
     alloc: Global,
-    d: Definition<'a>,
+    d: &'b Definition<'a>,
     asked: &Asked<'_>,
     wanted: &mut Tables,
-    all: &mut List<Definition<'a>>,
+    all: &mut List<KeptDefinition<'a, 'b>>,
 ) -> Result<(), Mem>
-    ensures list { OnOk result (all.new
-        ≡ cond (is_wanted asked.now (names_of wanted.old.globals.names) d.entry.name.now) (all.old ++ d.entry ∷ []) all.old) }
+    ensures list { OnOk result (kept_definitions all.new
+        ≡ cond (is_wanted asked.now (names_of wanted.old.globals.names) d.now.name.now) (kept_definitions all.old ++ definition_of d.now ∷ []) (kept_definitions all.old)) }
     ensures names { OnOk result (names_of wanted.new.globals.names
-        ≡ wanted_with asked.now (names_of wanted.old.globals.names) (definition_of d.entry)) }
+        ≡ wanted_with asked.now (names_of wanted.old.globals.names) (definition_of d.now)) }
 {
     if is_named(alloc, d.name, asked, &wanted.globals.names)? {
         let none = Names::new(alloc);
         name_draft(alloc, &none, &d.body, wanted)?;
-        all.push(d)?;
+        all.push(KeptDefinition {
+            name: d.name,
+            formals: d.formals,
+            rest: d.rest,
+            body: &d.body,
+        })?;
     }
     Ok(())
 }
 
 /// The definitions that are kept, in the order of the library: those that are named or held, and those that
 /// a later kept one names.
-pub fn kept<'a>(
+pub fn kept<'a, 'b>(
     alloc: Global,
-    definitions: List<Definition<'a>>,
+    definitions: &'b [Definition<'a>],
     asked: &Asked<'_>,
-) -> Result<List<Definition<'a>>, Mem>
-    ensures { IfOk result (λ ds. definitions_of ds ≡ words.kept (definitions_of definitions.entry) (asked_for asked.now)) }
+) -> Result<List<KeptDefinition<'a, 'b>>, Mem>
+    ensures { IfOk result (λ ds. kept_definitions ds ≡ words.kept (definitions_of definitions.now) (asked_for asked.now)) }
 {
     let mut left = definitions;
     let mut all = List::new(alloc);
     let mut wanted = Tables::new(alloc);
-    while let Some(d) = left.pop() {
+    while let [before @ .., d] = left {
         keep(alloc, d, asked, &mut wanted, &mut all)?;
+        left = before;
     }
     let mut items = all.into_vec();
     items.reverse();

@@ -13,11 +13,11 @@ ghost use Rattle.sch_link_tables.specs.Sites.{widths};
 ghost use Rattle.sch_link_tables.specs.Numbered.{numbered};
 ghost use Rattle.sch_link_tables.specs.Programs as words;
 ghost use Rattle.sch_link_tables.specs.Programs.{globals_of_each, symbols_of_each, quotes_of_each, widths_of_definitions, program_of};
-ghost use Rattle.sch_link_program.specs.Definitions.{definitions_of};
+ghost use Rattle.sch_link_program.specs.Definitions.{definitions_of, kept_definitions};
 ghost use Rattle.sch_link_program.specs.PartsView.{parts_of};
 ghost use Rattle.sch_link_program.specs.Ranged.{trees_in_range, BodiesHaveConstants};
 
-use crate::definition::Definition;
+use crate::definition::{Definition, KeptDefinition};
 use crate::keeping::{Asked, held, kept};
 use crate::parts::Parts;
 use crate::starting::starts;
@@ -32,18 +32,18 @@ use std::alloc::Global;
 /// Adds the globals and the symbols that definitions name.
 fn name_definitions(
     alloc: Global,
-    definitions: &[Definition<'_>],
+    definitions: &[KeptDefinition<'_, '_>],
     tables: &mut Tables,
 ) -> Result<(), Mem>
     ensures globals { OnOk result (names_of tables.new.globals.names
-        ≡ firsts (names_of tables.old.globals.names) (globals_of_each (definitions_of definitions.now))) }
+        ≡ firsts (names_of tables.old.globals.names) (globals_of_each (kept_definitions definitions.now))) }
     ensures symbols { OnOk result (names_of tables.new.symbols.names
-        ≡ firsts (names_of tables.old.symbols.names) (symbols_of_each (definitions_of definitions.now))) }
+        ≡ firsts (names_of tables.old.symbols.names) (symbols_of_each (kept_definitions definitions.now))) }
     ensures listed { OnOk result (AreListed tables.old → AreListed tables.new) }
 {
     let none = Names::new(alloc);
     for d in definitions {
-        name_draft(alloc, &none, &d.body, tables)?;
+        name_draft(alloc, &none, d.body, tables)?;
     }
     Ok(())
 }
@@ -52,17 +52,17 @@ fn name_definitions(
 fn number_definition(
     alloc: Global,
     tables: &Tables,
-    d: &Definition<'_>,
+    d: &KeptDefinition<'_, '_>,
     out: &mut Output,
 ) -> Result<Lambda, Mem>
     ensures made { IfOk result (λ l. expression l.body
         ≡ numbered [] (names_of tables.now.globals.names) (names_of tables.now.symbols.names)
-        None (draft_of d.now.body) (length out.old.sites) (length out.old.literals)) }
+        None (draft_of d.now.body.now) (length out.old.sites) (length out.old.literals)) }
     ensures head { IfOk result (λ l. (l.name ≡ d.now.name.now) × (l.formals ≡ d.now.formals) × (l.rest ≡ d.now.rest)) }
-    ensures sites { OnOk result (out.new.sites ≡ out.old.sites ++ widths (draft_of d.now.body)) }
+    ensures sites { OnOk result (out.new.sites ≡ out.old.sites ++ widths (draft_of d.now.body.now)) }
     ensures literals { OnOk result (map literal out.new.literals
-        ≡ map literal out.old.literals ++ map (literal_of (names_of tables.now.symbols.names)) (quotes_in (draft_of d.now.body))) }
-    ensures constants { OnOk result (HasConstants (draft_of d.now.body)) }
+        ≡ map literal out.old.literals ++ map (literal_of (names_of tables.now.symbols.names)) (quotes_in (draft_of d.now.body.now))) }
+    ensures constants { OnOk result (HasConstants (draft_of d.now.body.now)) }
 {
     let none = Names::new(alloc);
     let numbers = Numbers {
@@ -70,7 +70,7 @@ fn number_definition(
         globals: &tables.globals.names,
         symbols: &tables.symbols.names,
     };
-    let body = number(alloc, &numbers, None, &d.body, out)?;
+    let body = number(alloc, &numbers, None, d.body, out)?;
     let name = List::from_slice(alloc, d.name)?;
     let formals = number_of_32(d.formals)?;
     Ok(Lambda {
@@ -85,16 +85,16 @@ fn number_definition(
 fn number_definitions(
     alloc: Global,
     tables: &Tables,
-    definitions: &[Definition<'_>],
+    definitions: &[KeptDefinition<'_, '_>],
     out: &mut Output,
 ) -> Result<List<Lambda>, Mem>
     ensures made { IfOk result (λ ls. lambdas_of ls
         ≡ words.procedures (names_of tables.now.globals.names) (names_of tables.now.symbols.names)
-        (definitions_of definitions.now) (length out.old.sites) (length out.old.literals)) }
-    ensures sites { OnOk result (out.new.sites ≡ out.old.sites ++ widths_of_definitions (definitions_of definitions.now)) }
+        (kept_definitions definitions.now) (length out.old.sites) (length out.old.literals)) }
+    ensures sites { OnOk result (out.new.sites ≡ out.old.sites ++ widths_of_definitions (kept_definitions definitions.now)) }
     ensures literals { OnOk result (map literal out.new.literals
-        ≡ map literal out.old.literals ++ map (literal_of (names_of tables.now.symbols.names)) (quotes_of_each (definitions_of definitions.now))) }
-    ensures constants { OnOk result (BodiesHaveConstants (definitions_of definitions.now)) }
+        ≡ map literal out.old.literals ++ map (literal_of (names_of tables.now.symbols.names)) (quotes_of_each (kept_definitions definitions.now))) }
+    ensures constants { OnOk result (BodiesHaveConstants (kept_definitions definitions.now)) }
 {
     let mut all = List::new(alloc);
     for d in definitions {
@@ -147,14 +147,14 @@ struct Own<'a> {
 /// The parts of the program of kept definitions and of the forms of a text.
 fn program_with(
     alloc: Global,
-    definitions: &[Definition<'_>],
+    definitions: &[KeptDefinition<'_, '_>],
     own: &Own<'_>,
     forms: &[Draft<'_>],
 ) -> Result<Parts, Mem>
     requires globals { own.now.named.now.globals.list ≡ firsts [] (globals_in_each (names_of own.now.names.now) (drafts_of forms.now)) }
     requires symbols { own.now.named.now.symbols.list ≡ firsts [] (symbols_in_each (drafts_of forms.now)) }
     ensures made { IfOk result (λ p. parts_of p
-        ≡ words.program_with (definitions_of definitions.now) (names_of own.now.names.now) (names_of own.now.held.now) (drafts_of forms.now)) }
+        ≡ words.program_with (kept_definitions definitions.now) (names_of own.now.names.now) (names_of own.now.held.now) (drafts_of forms.now)) }
     ensures ranged { IfOk result (λ p. IsTrue (trees_in_range (parts_of p))) }
 {
     let mut tables = Tables::new(alloc);
@@ -188,16 +188,16 @@ fn program_with(
 /// that it needs are kept. The constants in its trees are in range by their types.
 pub fn assemble(
     alloc: Global,
-    definitions: List<Definition<'_>>,
+    definitions: &[Definition<'_>],
     own: &Names,
     forms: &[Draft<'_>],
 ) -> Result<Parts, Mem>
-    ensures made { IfOk result (λ p. parts_of p ≡ program_of (definitions_of definitions.entry) (names_of own.now) (drafts_of forms.now)) }
+    ensures made { IfOk result (λ p. parts_of p ≡ program_of (definitions_of definitions.now) (names_of own.now) (drafts_of forms.now)) }
     ensures ranged { IfOk result (λ p. IsTrue (trees_in_range (parts_of p))) }
 {
     let mut named = Tables::new(alloc);
     name_each(alloc, own, forms, &mut named)?;
-    let held = held(alloc, definitions.as_slice(), own)?;
+    let held = held(alloc, definitions, own)?;
     let asked = Asked {
         named: &named.globals.names,
         held: &held,

@@ -4,17 +4,17 @@ ghost use Rattle.std.specs.Prelude.{◌≡◌, IfOk};
 ghost use Rattle.sch_names.specs.NamesView.{names_of, number_of};
 ghost use Rattle.sch_link_tables.specs.Programs as words;
 ghost use Rattle.sch_link_tables.specs.Programs.{names_of_each};
-ghost use Rattle.sch_link_program.specs.Definitions.{definitions_of};
+ghost use Rattle.sch_link_program.specs.Definitions.{kept_definitions};
 
-use crate::definition::Definition;
+use crate::definition::KeptDefinition;
 use sch_link_tables::number_of_32;
 use sch_names::Names;
 use sch_word::{Bytes, List, Mem, add_counts};
 use std::alloc::Global;
 
 /// The number of the procedure of this name: how many there are before it.
-fn procedure_number(definitions: &[Definition<'_>], x: &[u8]) -> Result<u32, Mem>
-    ensures { IfOk result (λ n. n ≡ number_of x.now (names_of_each (definitions_of definitions.now))) }
+fn procedure_number(definitions: &[KeptDefinition<'_, '_>], x: &[u8]) -> Result<u32, Mem>
+    ensures { IfOk result (λ n. n ≡ number_of x.now (names_of_each (kept_definitions definitions.now))) }
 {
     let mut n = 0;
     for d in definitions {
@@ -28,8 +28,12 @@ fn procedure_number(definitions: &[Definition<'_>], x: &[u8]) -> Result<u32, Mem
 }
 
 /// What a global holds at the start: the library's procedure of its name, if it is the library's or holds it.
-fn start_of(definitions: &[Definition<'_>], held: &Names, global: &[u8]) -> Result<Option<u32>, Mem>
-    ensures { IfOk result (λ start. start ≡ words.starts_with (definitions_of definitions.now) (names_of held.now) global.now) }
+fn start_of(
+    definitions: &[KeptDefinition<'_, '_>],
+    held: &Names,
+    global: &[u8],
+) -> Result<Option<u32>, Mem>
+    ensures { IfOk result (λ start. start ≡ words.starts_with (kept_definitions definitions.now) (names_of held.now) global.now) }
 {
     let [mark, x @ ..] = global else {
         return Ok(None);
@@ -44,11 +48,11 @@ fn start_of(definitions: &[Definition<'_>], held: &Names, global: &[u8]) -> Resu
 /// What each global holds at the start.
 pub fn starts(
     alloc: Global,
-    definitions: &[Definition<'_>],
+    definitions: &[KeptDefinition<'_, '_>],
     held: &Names,
     globals: &[Bytes],
 ) -> Result<List<Option<u32>>, Mem>
-    ensures { IfOk result (λ all. all ≡ words.starts (definitions_of definitions.now) (names_of held.now) globals.now) }
+    ensures { IfOk result (λ all. all ≡ words.starts (kept_definitions definitions.now) (names_of held.now) globals.now) }
 {
     let mut all = List::new(alloc);
     for global in globals {

@@ -2,5 +2,3 @@ mod BodiesKept
 mod BodyOrder
 mod Chain
 mod Examples
-mod Room
-mod RoomExamples

@@ -1,5 +1,4 @@
-//! From a core program to a control program: the passes between them one after the other, and which programs have
-//! stack for them.
+//! From a core program to a control program: the passes between them one after the other.
 #![tactic(auto)]
 
 ghost use Rattle.std.specs.List.{count_by};
@@ -19,8 +18,6 @@ ghost use Rattle.sch_lang.specs.Tree.{count_lambdas};
 ghost use Rattle.sch_control.specs.OrderTable.{given_table};
 ghost use Rattle.sch_passes.specs.Chain.{RunsAs, control_of};
 
-mod walkable;
-
 use sch_anf::normalize;
 use sch_assign::convert_assign;
 use sch_closure::close;
@@ -29,7 +26,6 @@ use sch_lang::Program;
 use sch_rename::rename;
 use sch_word::Mem;
 use std::alloc::Global;
-pub use walkable::is_walkable;
 
 /// The most procedures of a library.
 const MAX_LIBRARY: usize = 1_048_576;
@@ -74,7 +70,8 @@ pub fn control_program(alloc: Global, p: &Program) -> Result<ControlProgram, Mem
         return Err(Mem);
     }
     let renamed = rename(alloc, p)?;
-    let converted = convert_assign(alloc, renamed)?;
+    let converted = convert_assign(alloc, &renamed)?;
+    drop(renamed);
     let flat = close(alloc, &converted)?;
     drop(converted);
     let control = normalize(alloc, &flat)?;

@@ -10,6 +10,9 @@ pub mod ProgramKnown
 pub mod TextSize
 pub mod SameSize
 pub mod ProgramFacts
+pub mod BareItems
 pub mod MarkKinds
+pub mod ProgramStores
+pub mod StoreExamples
 pub mod InstructionCounts
 pub mod JumpsAhead

@@ -1,5 +1,5 @@
 -- The marks that the run of a frame program passes, and those that its machine passes.
-use Rattle.std.specs.Prelude.{◌≡◌, ℕ, Bool, false, nat_eq, slice_get, List, ◌++◌, map, Option, Some, None}
+use Rattle.std.specs.Prelude.{◌≡◌, ℕ, Bool, false, nat_eq, slice_get, List, ◌++◌, Option, Some, None}
 use Rattle.std.specs.List.{count_by, flat_map}
 use Rattle.sch_word.specs.declared.answer.Answer.{Answer}
 use Rattle.sch_word.specs.values.Memory.{Segment}

@@ -12,13 +12,13 @@ use Rattle.sch_frames.specs.declared.instruction.Instruction.{Instruction}
 use Rattle.sch_frames.specs.declared.instruction.Instruction.TheVariants as instruction
 use Rattle.sch_insn.specs.declared.condition.TheConstants.{E}
 use Rattle.sch_insn.specs.declared.insn.Arg.TheVariants.{Reg}
+use Rattle.sch_insn.specs.declared.insn.Insn.{Insn}
 use Rattle.sch_insn.specs.declared.insn.Insn.TheVariants.{MovTo, MovFrom, CmpNumber, JumpTo}
-use Rattle.sch_insn.specs.declared.register.TheConstants.{RAX, RCX, R15}
+use Rattle.sch_insn.specs.declared.register.TheConstants.{RAX, R15}
 use Rattle.sch_asm.specs.declared.item.Item.{Item}
 use Rattle.sch_asm.specs.declared.item.Item.TheVariants.{Label, Plain, Jump, JumpIf, Mark}
 use Rattle.sch_select_memory.specs.Encoded.{false_word}
 use Rattle.sch_select_memory.specs.Addresses.{place_operand}
-use Rattle.sch_select_operations.specs.OperandCode.{second_code}
 use Rattle.sch_select_operations.specs.ClosureCode.{group_code}
 use Rattle.sch_select_operations.specs.OperationCode.{operation_code}
 use Rattle.sch_select_operations.specs.CallCode.{call_code, tail_code}
@@ -41,8 +41,6 @@ operation_needs _ = 0
 -- a call has the one at which the procedure returns
 abbrev pub labels_needed : Instruction → ℕ
 labels_needed (instruction.Do o) = operation_needs o
-labels_needed (instruction.Load p o) = operand_needs o
-labels_needed (instruction.Pass k o) = operand_needs o
 labels_needed (instruction.Call spread count) = 1
 labels_needed _ = 0
 
@@ -53,18 +51,22 @@ all_labels_needed (i ∷ instructions) = labels_needed i + all_labels_needed ins
 
 -- ## The items
 
+-- One `mov` from a place to another. One of the two is a register: of two slots, which no body copies, RAX would have
+-- the one.
+abbrev pub copy_insn : (to from : Place) → Insn
+copy_insn to (place.Reg r) = MovTo (place_operand to) r
+copy_insn (place.Reg r) from = MovFrom r (place_operand from)
+copy_insn (place.Slot j) from = MovFrom RAX (place_operand from)
+
 -- The labels of a body are numbered from `base` on, and `out` stands behind it. A frame has this number of words, the
 -- heap ends there, and the program has this number of literals.
 module _ (base out words heap_end literals : ℕ) where
   abbrev pub instruction_code : (n : ℕ) → Instruction → List Item → List Item
   instruction_code n (instruction.Do o) rest = operation_code heap_end literals n o rest
   instruction_code n (instruction.Store p) rest = Plain (MovTo (place_operand p) RAX) ∷ rest
-  instruction_code n (instruction.Copy to from) rest =
-      Plain (MovFrom RCX (place_operand from)) ∷ (Plain (MovTo (place_operand to) RCX) ∷ rest)
-  instruction_code n (instruction.Load p o) rest = second_code n o (Plain (MovTo (place_operand p) RCX) ∷ rest)
-  instruction_code n (instruction.Pass k o) rest = second_code n o
-      (Plain (MovTo (place_operand (place.Slot (words + k))) RCX) ∷ rest)
-  instruction_code n (instruction.Fix members) rest = group_code heap_end members rest
+  instruction_code n (instruction.Copy to from) rest = Plain (copy_insn to from) ∷ rest
+  instruction_code n (instruction.Pass k) rest = Plain (MovTo (place_operand (place.Slot (words + k))) RAX) ∷ rest
+  instruction_code n (instruction.Fix members spills) rest = group_code heap_end members spills rest
   instruction_code n (instruction.Call spread count) rest = call_code words n count rest
   instruction_code n (instruction.Tail spread count) rest = tail_code count rest
   instruction_code n instruction.Return rest = Plain (JumpTo (Reg R15)) ∷ rest

@@ -1,23 +1,26 @@
 //! The items of bodies.
 
-ghost use Rattle.std.specs.Prelude.{◌≡◌, ◌+◌, ◌++◌, IfOk, OnOk, List};
+ghost use Rattle.std.specs.Prelude.{◌≡◌, ◌+◌, ◌^◌, ◌<◌, ◌≤◌, ◌++◌, ◌∷◌, IfOk, OnOk, List};
+ghost use Rattle.sch_frames.specs.Valid.{max_words};
 ghost use Rattle.sch_asm.specs.declared.item.Item.{Item};
-ghost use Rattle.sch_frames.specs.declared.instruction.Instruction.TheVariants.{Copy, Load};
+ghost use Rattle.sch_asm.specs.declared.item.Item.TheVariants.{Plain};
+ghost use Rattle.sch_insn.specs.declared.insn.Insn.TheVariants.{MovTo};
 ghost use Rattle.sch_frames.specs.SourceView.{codes_of, code_of};
 ghost use Rattle.sch_select.specs.Select.{all_labels_needed, labels_needed, operand_needs, operation_needs};
-ghost use Rattle.sch_select.specs.Select.{body_code, instruction_code};
+ghost use Rattle.sch_select.specs.Select.{body_code, copy_insn, instruction_code};
+ghost use Rattle.sch_select_memory.specs.Addresses.{place_operand};
 ghost use Rattle.sch_select.specs.Program.{count_code, entry_code, form_code, forms_code, labels_end, passed_code};
 
 use sch_asm::Item;
 use sch_control::{Entry, Operand, Operation};
 use sch_frames::{FrameBody, Instruction};
 use sch_insn::condition::E;
-use sch_insn::register::{R15, RAX, RCX};
+use sch_insn::register::{R15, RAX};
 use sch_insn::{Arg, Insn};
 use sch_select_memory::addresses::{body_label, place_operand};
 use sch_select_memory::enter_rest;
 use sch_select_memory::word::FALSE;
-use sch_select_operations::{call, check_count, group, operation, second, tail_call};
+use sch_select_operations::{call, check_count, group, operation, tail_call};
 use sch_word::{List, MarkKind, Mem, Place, add_numbers};
 
 /// Where the labels of a body are, its own from `base` on, and `end` behind it; how many words a frame has; where
@@ -31,40 +34,40 @@ struct Labels {
     literals: u32,
 }
 
-/// What a place has into another one.
-fn copy(out: &mut List<Item>, to: Place, from: Place) -> Result<(), Mem>
-    ensures { OnOk result ((rest : List Item) → out.new ++ rest ≡ out.old ++ instruction_code 0 0 0 0 0 0 (Copy to from) rest) }
+/// What a place has into another one: one `mov`, since one of the two is a register. No body copies from slot to slot.
+fn copy(to: Place, from: Place) -> Result<Insn, Mem>
+    ensures { IfOk result (λ i. i ≡ copy_insn to from) }
 {
-    let to = place_operand(to)?;
-    let from = place_operand(from)?;
-    out.push(Item::Plain(Insn::MovFrom(RCX, from)))?;
-    out.push(Item::Plain(Insn::MovTo(to, RCX)))
+    match (to, from) {
+        (to, Place::Reg(r)) => Ok(Insn::MovTo(place_operand(to)?, r)),
+        (Place::Reg(r), from) => Ok(Insn::MovFrom(r, place_operand(from)?)),
+        (Place::Slot(_), from) => Ok(Insn::MovFrom(RAX, place_operand(from)?)),
+    }
 }
 
-/// An operand into a place.
-fn load(out: &mut List<Item>, n: u32, p: Place, o: &Operand<Place>) -> Result<(), Mem>
-    ensures { OnOk result ((rest : List Item) → out.new ++ rest ≡ out.old ++ instruction_code 0 0 0 0 0 n (Load p o.now) rest) }
+/// What RAX has into a place.
+fn store(out: &mut List<Item>, p: Place) -> Result<(), Mem>
+    ensures { OnOk result ((rest : List Item) → out.new ++ rest ≡ out.old ++ Plain (MovTo (place_operand p) RAX) ∷ rest) }
 {
     let place = place_operand(p)?;
-    second(out, n, o)?;
-    out.push(Item::Plain(Insn::MovTo(place, RCX)))
+    out.push(Item::Plain(Insn::MovTo(place, RAX)))
 }
 
 /// One instruction, whose own labels are from n on.
 fn instruction(out: &mut List<Item>, labels: Labels, n: u32, i: &Instruction) -> Result<(), Mem>
+    requires words { labels.words ≤ max_words }
+    requires low { labels.heap_end < 2 ^ 31 }
     ensures { OnOk result ((rest : List Item) → out.new ++ rest
         ≡ out.old ++ instruction_code labels.base labels.end labels.words labels.heap_end labels.literals n i.now rest) }
 {
     match i {
         Instruction::Do(o) => operation(out, labels.heap_end, labels.literals, n, o),
-        Instruction::Store(p) => {
-            let place = place_operand(*p)?;
-            out.push(Item::Plain(Insn::MovTo(place, RAX)))
+        Instruction::Store(p) => store(out, *p),
+        Instruction::Copy(to, from) => out.push(Item::Plain(copy(*to, *from)?)),
+        Instruction::Pass(k) => store(out, Place::Slot(add_numbers(labels.words, *k)?)),
+        Instruction::Fix(members, spills) => {
+            group(out, labels.heap_end, members.as_slice(), spills.as_slice())
         }
-        Instruction::Copy(to, from) => copy(out, *to, *from),
-        Instruction::Load(p, o) => load(out, n, *p, o),
-        Instruction::Pass(k, o) => load(out, n, Place::Slot(add_numbers(labels.words, *k)?), o),
-        Instruction::Fix(members) => group(out, labels.heap_end, members.as_slice()),
         Instruction::Call(_, count) => call(out, labels.words, n, *count),
         Instruction::Tail(_, count) => tail_call(out, *count),
         Instruction::Return => out.push(Item::Plain(Insn::JumpTo(Arg::Reg(R15)))),
@@ -114,7 +117,6 @@ fn labels_needed(i: &Instruction) -> u32
 {
     match i {
         Instruction::Do(o) => operation_needs(o),
-        Instruction::Load(_, o) | Instruction::Pass(_, o) => operand_needs(o),
         Instruction::Call(..) => 1,
         _ => 0,
     }
@@ -127,6 +129,8 @@ fn body(
     n: u32,
     instructions: &[Instruction],
 ) -> Result<u32, Mem>
+    requires words { labels.words ≤ max_words }
+    requires low { labels.heap_end < 2 ^ 31 }
     ensures items { OnOk result ((rest : List Item) → out.new ++ rest
         ≡ out.old ++ body_code labels.base labels.end labels.words labels.heap_end labels.literals n instructions.now rest) }
     ensures next { IfOk result (λ m. m ≡ n + all_labels_needed instructions.now) }
@@ -180,6 +184,8 @@ fn check_entry(out: &mut List<Item>, entry: &Option<Entry>, n: u32) -> Result<()
 
 /// The body of a label, with labels of its own from n on, and the number behind these.
 fn form(out: &mut List<Item>, frames: Frames, label: u32, n: u32, b: &FrameBody) -> Result<u32, Mem>
+    requires words { frames.words ≤ max_words }
+    requires low { frames.heap_end < 2 ^ 31 }
     ensures items { OnOk result ((rest : List Item) → out.new ++ rest
         ≡ out.old ++ form_code frames.words frames.heap_end frames.literals label n (code_of b.now) rest) }
     ensures next { IfOk result (λ m. m ≡ labels_end n (code_of b.now)) }
@@ -211,6 +217,8 @@ pub(crate) fn forms(
     n: u32,
     bodies: &[FrameBody],
 ) -> Result<(), Mem>
+    requires words { frames.words ≤ max_words }
+    requires low { frames.heap_end < 2 ^ 31 }
     ensures { OnOk result ((rest : List Item) → out.new ++ rest
         ≡ out.old ++ forms_code frames.words frames.heap_end frames.literals 0 n (codes_of bodies.now) rest) }
 {

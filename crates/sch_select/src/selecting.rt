@@ -9,8 +9,9 @@ ghost use Rattle.sch_asm.specs.declared.routine.Routine.TheVariants as routine;
 ghost use Rattle.sch_asm.specs.declared.item.Item.TheVariants as item;
 ghost use Rattle.sch_frames.specs.Covered.{is_covered_program};
 ghost use Rattle.sch_frames.specs.ProgramView.{source};
-ghost use Rattle.sch_frames.specs.Sizes.{closures_in, program_size};
+ghost use Rattle.sch_frames.specs.Sizes.{program_copies, program_work};
 ghost use Rattle.sch_frames.specs.SourceView.{codes_of};
+ghost use Rattle.sch_frames.specs.Standing.{all_marks_stand};
 ghost use Rattle.sch_frames.specs.Valid.{max_words};
 ghost use Rattle.sch_select.specs.Follows.{EndsFrames, EntersFrames, FollowsFrames, PassesFrames, TakesFrames};
 ghost use Rattle.sch_select.specs.Jumps.{jumps_ahead};
@@ -18,7 +19,8 @@ ghost use Rattle.sch_select_data.specs.Data.{heap_of, max_heap_address};
 ghost use Rattle.sch_select.specs.Program.{frames_bytes, laid_code, max_data, max_stack, own_label, program_code, program_zeros, forms_code};
 ghost use Rattle.sch_select.specs.Program.{stack_bytes};
 ghost use Rattle.sch_select_memory.specs.OwnCode.{own_code};
-ghost use Rattle.sch_select.specs.Sizes.{instructions_in, kinds_in, kinds_of};
+ghost use Rattle.sch_select.specs.MarkedStores.{stores_marked};
+ghost use Rattle.sch_select.specs.Sizes.{instructions_in, kinds_in, kinds_of, steps_size};
 
 use crate::body_items::{Frames, forms};
 use sch_asm::{Asm, Item, Routine};
@@ -76,6 +78,8 @@ fn put_bodies(
     n: u32,
     bodies: &[FrameBody],
 ) -> Result<(), Mem>
+    requires words { frames.words ≤ max_words }
+    requires low { frames.heap_end < 2 ^ 31 }
     ensures { OnOk result (items.new ≡ items.old ++ forms_code frames.words frames.heap_end frames.literals 0 n
         (codes_of bodies.now) (item.Jump (label_of routine.End) ∷ own_code frames.heap_end)) }
 {
@@ -87,6 +91,7 @@ fn put_bodies(
 /// The items of a program whose heap and stack begin so.
 fn items_of(alloc: Global, p: &FrameProgram, ends: Ends) -> Result<List<Item>, Mem>
     requires heap { ends.heap < 2 ^ 31 }
+    requires stack { ends.stack < 2 ^ 31 }
     requires depth { ends.depth ≤ MAX_DEPTH }
     ensures { IfOk result (λ items. items ≡ laid_code p.now.words ends.stack (length p.now.statics.literals) ends.heap
         ends.depth (length p.now.bodies) (codes_of p.now.bodies)) }
@@ -133,12 +138,13 @@ pub fn select(alloc: Global, p: &FrameProgram, limits: Limits) -> Result<Asm, Me
     ensures items { IfOk result (λ a. a.items ≡ program_code (source p.now) limits.heap limits.depth) }
     ensures takes { IfOk result (λ a. TakesFrames (source p.now) limits.heap limits.depth a.items a.words a.zeros) }
     ensures own { IfOk result (λ a. AreOwn a.items) }
-    ensures text { IfOk result (λ a. text_size a.items ≤ 2048 + 64 * (program_size (source p.now) + closures_in (source p.now).bodies)) }
+    ensures text { IfOk result (λ a. text_size a.items ≤ 2048 + (64 * program_work (source p.now) + 8 * program_copies (source p.now))) }
     // What the bound of steps counts has no more than three units for each instruction.
-    ensures instructions { IfOk result (λ a.
-        program_size (source p.now) + (closures_in (source p.now).bodies + length (source p.now).bodies) ≤ 3 * instructions_in a.items) }
+    ensures instructions { IfOk result (λ a. steps_size (source p.now) ≤ 3 * instructions_in a.items) }
     ensures ahead { IfOk result (λ a. IsTrue (jumps_ahead (own_label (source p.now)) a.items)) }
     ensures marks { IfOk result (λ a. kinds_in a.items ≡ kinds_of 0 (source p.now).bodies) }
+    // Where each mark of a body stands at its instruction, each write of a word of a frame stands behind one.
+    ensures stores { IfOk result (λ a. IsTrue (all_marks_stand (source p.now).bodies) → IsTrue (stores_marked None a.items)) }
     // The words end where the heap begins.
     ensures words { IfOk result (λ a. 0x10000000 + 8 * length a.words ≡ heap_of (source p.now)) }
     ensures low { IfOk result (λ a. heap_of (source p.now) ≤ max_heap_address) }

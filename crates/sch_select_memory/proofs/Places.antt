@@ -1,5 +1,5 @@
 -- Where the values of an activation and of a store are in the machine, and what loads and stores of them do.
-use Rattle.std.proofs.Common.{◌≡◌, ℕ, zero, suc, ◌+◌, ◌-◌, ◌*◌, ◌^◌, ◌<◌, ◌≤◌, List, [], ◌∷◌, length, take, drop, Bool, true, false}
+use Rattle.std.proofs.Common.{◌≡◌, ℕ, ◌+◌, ◌-◌, ◌*◌, ◌^◌, ◌<◌, ◌≤◌, List, [], ◌∷◌, length, take, drop, Bool, true, false}
 use Rattle.std.proofs.Common.{cond, Option, Some, refl, sym, ap, ◌∙◌, subst, arith, ◌==◌, ⊎_elim, inl, inr, ◌⊎◌}
 use Rattle.std.specs.Prelude.{pos, nat_eq, slice_get}
 use Rattle.std.proofs.lemmas.Bool.{ne_eqb, ltb-true, eqb-true, eqb-false, cases_lt}
@@ -82,6 +82,12 @@ code_of plan label = plan.setting.place_of (body_label label)
 -- registers of variables are none of the others
 pub not_register : (r k : ℕ) → is_register r ≡ true → is_register k ≡ false → (r == k) ≡ false
 not_register r k e f = ne_eqb r k (λ same. let bad : true ≡ false = sym e ∙ ap is_register same ∙ f in absurd cc)
+
+-- so they stay where the register of a variable is set
+pub other_register : (registers : ℕ → ℕ) (q k v : ℕ) → is_register q ≡ true → is_register k ≡ false
+    → set_register registers q v k ≡ registers k
+other_register registers q k v e i = ap (λ b. cond b v (registers k))
+    (ne_eqb k q (λ same. let bad : true ≡ false = sym e ∙ ap is_register (sym same) ∙ i in absurd cc))
 
 pub no_scratch : (r : ℕ) → is_register r ≡ true → is_scratch r ≡ false
 no_scratch r e = rw (
@@ -386,6 +392,20 @@ module _ (plan : Plan) where
               (omega (arith, lo, hl, sl)) (inl (omega (arith, hi)));
         }
 
+    -- a register of a variable is filled
+    pub register_filled : (parts : Parts) (charged : ℕ) (places : Place → Cell) (outgoing : ℕ → Cell) (q : ℕ) (c : Cell)
+        (v : ℕ) (registers : ℕ → ℕ) (bytes : List ℕ) → is_register q ≡ true → Holds act.back parts c v
+        → PlacesAt parts charged places outgoing registers bytes
+        → PlacesAt parts charged (set places (Reg q) c) outgoing (set_register registers q v) bytes
+    register_filled parts charged places outgoing q c v registers bytes e h f = record {
+      frame = other_register registers q 5 v e refl ∙ f.frame;
+      depth = other_register registers q 13 v e refl ∙ f.depth;
+      free = other_register registers q 12 v e refl ∙ f.free;
+      register = λ k i. either_holds parts (k == q) c (places (Reg k)) v (registers k) h (f.register k i);
+      slot = f.slot;
+      next = f.next;
+    }
+
     pub written : (parts : Parts) (charged : ℕ) (places : Place → Cell) (outgoing : ℕ → Cell) (p : Place) (c : Cell)
         (r : ℕ) (x : View) (waiting : List MarkKind) (rest : List Item) → is_place words p ≡ true
         → Holds act.back parts c (x.registers r) → PlacesAt parts charged places outgoing x.registers x.bytes
@@ -397,24 +417,12 @@ module _ (plan : Plan) where
           y = y;
           leads = goes setting x y (MovTo (arg.Reg q) r) st.0 waiting st.1 refl;
           ahead = st.2;
-          places_at = record {
-            frame = other 5 refl ∙ f.frame;
-            depth = other 13 refl ∙ f.depth;
-            free = other 12 refl ∙ f.free;
-            register = λ k i. either_holds parts (k == q) c (places (Reg k)) (x.registers r) (x.registers k) h
-                (f.register k i);
-            slot = f.slot;
-            next = f.next;
-          };
+          places_at = register_filled parts charged places outgoing q c (x.registers r) x.registers x.bytes e h f;
           world = λ ps s at. at;
           size = refl;
-          accumulator = other 0 refl;
+          accumulator = other_register x.registers q 0 (x.registers r) e refl;
           below = λ a lo hi. refl;
         }
-      where
-        other : (k : ℕ) → is_register k ≡ false → set_register x.registers q (x.registers r) k ≡ x.registers k
-        other k i = ap (λ b. cond b (x.registers r) (x.registers k))
-            (ne_eqb k q (λ same. let bad : true ≡ false = sym e ∙ ap is_register (sym same) ∙ i in absurd cc))
     written parts charged places outgoing (Slot j) c r x waiting rest e h f z st =
         let lt = ltb-true j words e in
         word_written parts charged places (set places (Slot j) c) outgoing outgoing j r x waiting rest

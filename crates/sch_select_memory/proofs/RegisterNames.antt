@@ -1,5 +1,5 @@
 -- What compiled code uses each register for, in the names of the instructions (Intel SDM, volume 2, section 3.1.1.1).
-use Rattle.std.proofs.Common.{◌≡◌, ℕ, List, [], ◌∷◌, refl, sym, ap}
+use Rattle.std.proofs.Common.{◌≡◌, ℕ, [], ◌∷◌, refl, ap}
 use Rattle.std.specs.Prelude.{◌||◌, ◌==◌}
 use Rattle.sch_word.specs.declared.registers.TheConstants.{CLOSURE_REGISTER, DEPTH_REGISTER, FRAME_REGISTER, HEAP_REGISTER, LINK_REGISTER, SCRATCH_REGISTERS}
 use Rattle.sch_word.specs.trees.NumberSets.{has}

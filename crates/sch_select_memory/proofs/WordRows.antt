@@ -1,5 +1,5 @@
 -- Words of values tell their kinds apart, and the range of fixnums is what their words leave.
-use Rattle.std.proofs.Common.{◌≡◌, ℕ, ◌+◌, ◌-◌, ◌*◌, ◌^◌, ◌%◌, List, [], ◌∷◌, map, pos, refl}
+use Rattle.std.proofs.Common.{◌≡◌, ℕ, ◌-◌, ◌^◌, List, [], ◌∷◌, map, pos, refl}
 use Rattle.std.specs.Prelude.{bit_and, ◌+ℤ◌, neg_ℤ}
 use Rattle.sch_word.specs.declared.fix.TheConstants.{FIXNUM_MIN, FIXNUM_MAX}
 use Rattle.sch_select_memory.specs.Encoded.{boolean_mask, byte_mask, cell_tag, character_tag, false_word, fixnum_shift, fixnum_tag, nil_word, pair_tag}

@@ -1,5 +1,5 @@
 -- The bytes of characters and the texts of constants, which are in the data of every program.
-use Rattle.std.specs.Prelude.{ℕ, zero, suc, ◌+◌, List, [], ◌∷◌, ◌++◌, codes}
+use Rattle.std.specs.Prelude.{ℕ, zero, suc, List, [], ◌∷◌, ◌++◌, codes}
 
 -- numbers one after the other
 abbrev pub ascending : (first count : ℕ) → List ℕ

@@ -1,6 +1,7 @@
 //! Labels, addresses and immediates.
 
-ghost use Rattle.std.specs.Prelude.{◌≡◌, ◌*◌, IfOk, pos};
+ghost use Rattle.std.specs.Prelude.{◌≡◌, ◌*◌, ◌^◌, ◌<◌, ◌≤◌, IfOk, pos};
+ghost use Rattle.sch_frames.specs.Valid.{max_words};
 ghost use Rattle.sch_select_memory.specs.Addresses.{body_label, global_address, literal_address, part_operand, place_operand, stop_label};
 
 use sch_asm::Routine;
@@ -55,6 +56,22 @@ pub fn immediate(n: u32) -> Result<i32, Mem>
     } else {
         Err(Mem)
     }
+}
+
+/// A number below 2^31 as an immediate.
+pub fn low_immediate(n: u32) -> i32
+    requires { n < 2 ^ 31 }
+    ensures { result ≡ pos n }
+{
+    n as i32
+}
+
+/// The bytes of the words of a frame, as an immediate.
+pub fn frame_bytes(words: u32) -> i32
+    requires { words ≤ max_words }
+    ensures { result ≡ pos (8 * words) }
+{
+    8 * words as i32
 }
 
 /// The bytes of a number of words, as an immediate or a displacement. More than `MAX_WORDS` are out of memory.

@@ -1,10 +1,10 @@
 //! The routine that makes vectors.
 
-ghost use Rattle.std.specs.Prelude.{◌≡◌, ◌++◌, OnOk, List};
+ghost use Rattle.std.specs.Prelude.{◌≡◌, ◌^◌, ◌<◌, ◌++◌, OnOk, List};
 ghost use Rattle.sch_asm.specs.declared.item.Item.{Item};
 ghost use Rattle.sch_select_memory.specs.MakeCode.{make_vector_code};
 
-use crate::addresses::{immediate, stop};
+use crate::addresses::{low_immediate, stop};
 use crate::value_words::word::{FIXNUM_SHIFT, TAG_MASK};
 use sch_asm::{Item, Routine};
 use sch_insn::condition::{A, L, NE};
@@ -14,9 +14,10 @@ use sch_word::{List, Mem, Stop};
 
 /// The routine that makes a vector, but for its tag. It returns through R11.
 pub(crate) fn vector_routine(out: &mut List<Item>, heap_end: u32) -> Result<(), Mem>
+    requires { heap_end < 2 ^ 31 }
     ensures { OnOk result ((rest : List Item) → out.new ++ rest ≡ out.old ++ make_vector_code heap_end rest) }
 {
-    let end = immediate(heap_end)?;
+    let end = low_immediate(heap_end);
     out.extend_from_slice(&[
         Item::Plain(Insn::MovTo(Arg::Reg(RDX), RAX)),
         Item::Plain(Insn::AndNumber(Arg::Reg(RDX), TAG_MASK)),

@@ -1,13 +1,13 @@
 //! The items of procedures with a rest variable, and the routine that makes the list of the operands left over.
 
-ghost use Rattle.std.specs.Prelude.{◌≡◌, ◌≤◌, ◌++◌, ◌∷◌, OnOk, List, nat_lt};
+ghost use Rattle.std.specs.Prelude.{◌≡◌, ◌^◌, ◌<◌, ◌≤◌, ◌++◌, ◌∷◌, OnOk, List, nat_lt};
 ghost use Rattle.sch_word.specs.values.Registers.{argument_registers};
 ghost use Rattle.sch_asm.specs.declared.item.Item.{Item};
 ghost use Rattle.sch_asm.specs.declared.item.Item.TheVariants as item;
 ghost use Rattle.sch_select_memory.specs.RestCode.{check_enough, check_pairs, first_code, first_slot_code, firsts_code, later_registers};
 ghost use Rattle.sch_select_memory.specs.RestCode.{list_code, list_label, more_code, registers_code, rest_entry, rest_routine, slots_code};
 
-use crate::addresses::{bytes_of_words, immediate, stop};
+use crate::addresses::{bytes_of_words, immediate, low_immediate, stop};
 use crate::value_words::word::{NIL, PAIR};
 use sch_asm::Item;
 use sch_insn::condition::{A, B, E, NE};
@@ -30,11 +30,12 @@ const DONE_LABEL: u32 = 1081;
 
 /// A way into the routine: the heap has a pair for each operand that is left.
 fn check_list(out: &mut List<Item>, m: u32, heap_end: u32) -> Result<(), Mem>
+    requires low { heap_end < 2 ^ 31 }
     requires few { m ≤ 6 }
     ensures { OnOk result ((rest : List Item) → out.new ++ rest
         ≡ out.old ++ item.Label (list_label m) ∷ check_pairs heap_end rest) }
 {
-    let end = immediate(heap_end)?;
+    let end = low_immediate(heap_end);
     out.extend_from_slice(&[
         Item::Label(LIST_LABEL + m),
         Item::Plain(Insn::MovTo(Arg::Reg(RDX), RAX)),
@@ -66,6 +67,7 @@ fn first_register(out: &mut List<Item>, m: u32, r: u8) -> Result<(), Mem>
 
 /// The same, with the room of the heap looked at.
 fn first_list(out: &mut List<Item>, heap_end: u32, m: u32, r: u8) -> Result<(), Mem>
+    requires low { heap_end < 2 ^ 31 }
     requires few { m ≤ 5 }
     ensures { OnOk result ((rest : List Item) → out.new ++ rest
         ≡ out.old ++ item.Label (list_label m) ∷ check_pairs heap_end (first_code m r rest)) }
@@ -76,6 +78,7 @@ fn first_list(out: &mut List<Item>, heap_end: u32, m: u32, r: u8) -> Result<(), 
 
 /// The six ways into the routine with the first operand in a register.
 fn first_lists(out: &mut List<Item>, heap_end: u32) -> Result<(), Mem>
+    requires { heap_end < 2 ^ 31 }
     ensures { OnOk result ((rest : List Item) → out.new ++ rest ≡ out.old ++ firsts_code heap_end 0 argument_registers rest) }
 {
     first_list(out, heap_end, 0, RBX)?;
@@ -162,6 +165,7 @@ fn slots(out: &mut List<Item>) -> Result<(), Mem>
 
 /// The routine that makes the list of the operands that are left over. It returns through R11.
 pub(crate) fn rest_routine(out: &mut List<Item>, heap_end: u32) -> Result<(), Mem>
+    requires { heap_end < 2 ^ 31 }
     ensures { OnOk result ((rest : List Item) → out.new ++ rest ≡ out.old ++ rest_routine heap_end rest) }
 {
     first_lists(out, heap_end)?;

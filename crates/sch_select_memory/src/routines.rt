@@ -1,6 +1,6 @@
 //! The program's own routines.
 
-ghost use Rattle.std.specs.Prelude.{◌≡◌, ◌++◌, ◌∷◌, OnOk};
+ghost use Rattle.std.specs.Prelude.{◌≡◌, ◌^◌, ◌<◌, ◌++◌, ◌∷◌, OnOk};
 ghost use Rattle.sch_asm.specs.declared.item.Item.TheVariants as item;
 ghost use Rattle.sch_select_memory.specs.PutCode.{immediate_put, objects_put, put_value_code, texts_code};
 ghost use Rattle.sch_select_memory.specs.OwnCode.{own_code};
@@ -147,6 +147,7 @@ fn put_routine(items: &mut List<Item>) -> Result<(), Mem>
 
 /// The program's own routines.
 pub fn own_routines(items: &mut List<Item>, heap_end: u32) -> Result<(), Mem>
+    requires { heap_end < 2 ^ 31 }
     ensures { OnOk result (items.new ≡ items.old ++ own_code heap_end) }
 {
     put_routine(items)?;

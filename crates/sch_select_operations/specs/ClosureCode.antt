@@ -1,6 +1,8 @@
 -- Closures, and groups of closures that know one another.
 use Rattle.std.specs.Prelude.{ℕ, ◌+◌, List, [], ◌∷◌, length, pos}
+use Rattle.sch_word.specs.declared.mark.MarkKind.TheVariants.{Spill}
 use Rattle.sch_word.specs.declared.place.Place.{Place}
+use Rattle.sch_word.specs.declared.place.Place.TheVariants as place
 use Rattle.sch_word.specs.runs.Charges.{procedure_bytes}
 use Rattle.sch_control.specs.declared.operation.Source.{Source}
 use Rattle.sch_control.specs.declared.operation.Closure.{Closure}
@@ -9,7 +11,7 @@ use Rattle.sch_insn.specs.declared.insn.Arg.TheVariants.{Reg}
 use Rattle.sch_insn.specs.declared.insn.Insn.TheVariants.{MovTo, AddNumber}
 use Rattle.sch_insn.specs.declared.register.TheConstants.{RCX, R12}
 use Rattle.sch_asm.specs.declared.item.Item.{Item}
-use Rattle.sch_asm.specs.declared.item.Item.TheVariants.{Plain, LoadLabel}
+use Rattle.sch_asm.specs.declared.item.Item.TheVariants.{Plain, LoadLabel, Mark}
 use Rattle.sch_select_memory.specs.Encoded.{procedure_tag}
 use Rattle.sch_select_memory.specs.Addresses.{body_label, place_operand, part_operand}
 use Rattle.sch_select_operations.specs.ObjectCode.{check_heap, part_code}
@@ -41,18 +43,29 @@ abbrev pub group_bytes : List (Member Place) → ℕ
 group_bytes [] = 0
 group_bytes (m ∷ members) = closure_bytes m.closure + group_bytes members
 
-abbrev pub places_code : (offset : ℕ) → List (Member Place) → List Item → List Item
-places_code offset [] rest = rest
-places_code offset (m ∷ members) rest =
+-- What is stored in a slot stands behind the mark of the first of the spilled variables, and what a register gets behind none.
+abbrev pub spill_code : Place → (spills : List ℕ) → List Item → List Item
+spill_code (place.Slot j) (x ∷ spills) rest = Mark (Spill x) ∷ rest
+spill_code p spills rest = rest
+
+-- the spilled variables whose marks are to come
+abbrev pub spills_behind : Place → (spills : List ℕ) → List ℕ
+spills_behind (place.Slot j) (x ∷ spills) = spills
+spills_behind p spills = spills
+
+abbrev pub places_code : (offset : ℕ) → List (Member Place) → (spills : List ℕ) → List Item → List Item
+places_code offset [] spills rest = rest
+places_code offset (m ∷ members) spills rest =
     Plain (MovTo (Reg RCX) R12) ∷ (Plain (AddNumber (Reg RCX) (pos (offset + procedure_tag)))
-    ∷ (Plain (MovTo (place_operand m.at) RCX) ∷ places_code (offset + closure_bytes m.closure) members rest))
+    ∷ spill_code m.at spills (Plain (MovTo (place_operand m.at) RCX)
+    ∷ places_code (offset + closure_bytes m.closure) members (spills_behind m.at spills) rest))
 
 abbrev pub records_code : (offset : ℕ) → List (Member Place) → List Item → List Item
 records_code offset [] rest = rest
 records_code offset (m ∷ members) rest = record_code offset m.closure
     (records_code (offset + closure_bytes m.closure) members rest)
 
-abbrev pub group_code : (heap_end : ℕ) → List (Member Place) → List Item → List Item
-group_code heap_end members rest =
-    check_heap heap_end (group_bytes members) (places_code 0 members (records_code 0 members
+abbrev pub group_code : (heap_end : ℕ) → List (Member Place) → (spills : List ℕ) → List Item → List Item
+group_code heap_end members spills rest =
+    check_heap heap_end (group_bytes members) (places_code 0 members spills (records_code 0 members
     (Plain (AddNumber (Reg R12) (pos (group_bytes members))) ∷ rest)))

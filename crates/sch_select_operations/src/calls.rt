@@ -1,15 +1,16 @@
 //! The items of calls.
 
-ghost use Rattle.std.specs.Prelude.{◌≡◌, ◌++◌, OnOk, List};
+ghost use Rattle.std.specs.Prelude.{◌≡◌, ◌≤◌, ◌++◌, OnOk, List};
 ghost use Rattle.sch_asm.specs.declared.item.Item.{Item};
 ghost use Rattle.sch_select_operations.specs.CallCode.{call_code, check_count, check_depth, check_operator, close_code, enter_code, open_code};
 ghost use Rattle.sch_select_operations.specs.CallCode.{tail_code};
+ghost use Rattle.sch_frames.specs.Valid.{max_words};
 
 use sch_asm::Item;
 use sch_insn::condition::{E, NE};
 use sch_insn::register::{R13, R14, R15, RAX, RBP, RCX, RDX};
 use sch_insn::{Arg, Insn};
-use sch_select_memory::addresses::{bytes_of_words, immediate, stop};
+use sch_select_memory::addresses::{frame_bytes, immediate, stop};
 use sch_select_memory::word::{PROCEDURE, TAG_MASK};
 use sch_word::{List, Mem, Stop};
 
@@ -49,9 +50,10 @@ fn enter(out: &mut List<Item>, count: u32) -> Result<(), Mem>
 
 /// A frame is opened behind the own one.
 fn open(out: &mut List<Item>, words: u32, n: u32) -> Result<(), Mem>
+    requires { words ≤ max_words }
     ensures { OnOk result ((rest : List Item) → out.new ++ rest ≡ out.old ++ open_code words n rest) }
 {
-    let bytes = bytes_of_words(words)?;
+    let bytes = frame_bytes(words);
     out.extend_from_slice(&[
         Item::Plain(Insn::SubNumber(Arg::Reg(R13), 1)),
         Item::Plain(Insn::AddNumber(Arg::Reg(RBP), bytes)),
@@ -61,9 +63,10 @@ fn open(out: &mut List<Item>, words: u32, n: u32) -> Result<(), Mem>
 
 /// It is closed where the procedure returns.
 fn close(out: &mut List<Item>, words: u32, n: u32) -> Result<(), Mem>
+    requires { words ≤ max_words }
     ensures { OnOk result ((rest : List Item) → out.new ++ rest ≡ out.old ++ close_code words n rest) }
 {
-    let bytes = bytes_of_words(words)?;
+    let bytes = frame_bytes(words);
     out.extend_from_slice(&[
         Item::Label(n),
         Item::Plain(Insn::SubNumber(Arg::Reg(RBP), bytes)),
@@ -73,6 +76,7 @@ fn close(out: &mut List<Item>, words: u32, n: u32) -> Result<(), Mem>
 
 /// The procedure in R14 is entered in a frame of its own.
 fn enter_frame(out: &mut List<Item>, words: u32, n: u32, count: u32) -> Result<(), Mem>
+    requires { words ≤ max_words }
     ensures { OnOk result ((rest : List Item) → out.new ++ rest ≡ out.old ++ open_code words n (enter_code count rest)) }
 {
     open(out, words, n)?;
@@ -89,6 +93,7 @@ fn check_call(out: &mut List<Item>) -> Result<(), Mem>
 
 /// A call that is no tail call, with a frame of its own. The procedure returns to the label n.
 pub fn call(out: &mut List<Item>, words: u32, n: u32, count: u32) -> Result<(), Mem>
+    requires { words ≤ max_words }
     ensures { OnOk result ((rest : List Item) → out.new ++ rest ≡ out.old ++ call_code words n count rest) }
 {
     check_call(out)?;

@@ -1,6 +1,6 @@
 //! The items of what closures capture, and of cells.
 
-ghost use Rattle.std.specs.Prelude.{◌≡◌, ◌+◌, ◌*◌, ◌++◌, IfOk, OnOk, List, pos};
+ghost use Rattle.std.specs.Prelude.{◌≡◌, ◌^◌, ◌<◌, ◌+◌, ◌*◌, ◌++◌, IfOk, OnOk, List, pos};
 ghost use Rattle.sch_asm.specs.declared.item.Item.{Item};
 ghost use Rattle.sch_insn.specs.declared.insn.Arg.TheVariants.{Base32};
 ghost use Rattle.sch_select_operations.specs.CellCode.{cell_operand, check_cell, new_cell_code, read_cell_code, source_code, unset_cell_code};
@@ -95,6 +95,7 @@ pub(crate) fn write_cell(out: &mut List<Item>) -> Result<(), Mem>
 
 /// A new cell, which has what RAX has.
 pub(crate) fn new_cell(out: &mut List<Item>, heap_end: u32) -> Result<(), Mem>
+    requires { heap_end < 2 ^ 31 }
     ensures { OnOk result ((rest : List Item) → out.new ++ rest ≡ out.old ++ new_cell_code heap_end rest) }
 {
     check_heap(out, heap_end, CELL_BYTES)?;
@@ -104,6 +105,7 @@ pub(crate) fn new_cell(out: &mut List<Item>, heap_end: u32) -> Result<(), Mem>
 
 /// A new cell that is unset.
 pub(crate) fn unset_cell(out: &mut List<Item>, heap_end: u32) -> Result<(), Mem>
+    requires { heap_end < 2 ^ 31 }
     ensures { OnOk result ((rest : List Item) → out.new ++ rest ≡ out.old ++ unset_cell_code heap_end rest) }
 {
     check_heap(out, heap_end, CELL_BYTES)?;

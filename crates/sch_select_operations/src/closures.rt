@@ -1,9 +1,9 @@
 //! The items of closures and of groups.
 
-ghost use Rattle.std.specs.Prelude.{◌≡◌, ◌+◌, ◌*◌, ◌++◌, IfOk, OnOk, List};
+ghost use Rattle.std.specs.Prelude.{◌≡◌, ◌^◌, ◌<◌, ◌+◌, ◌*◌, ◌++◌, IfOk, OnOk, List};
 ghost use Rattle.sch_asm.specs.declared.item.Item.{Item};
 ghost use Rattle.sch_select_operations.specs.ClosureCode.{closure_bytes, closure_code, fields_code, group_bytes, group_code, places_code};
-ghost use Rattle.sch_select_operations.specs.ClosureCode.{record_code, records_code};
+ghost use Rattle.sch_select_operations.specs.ClosureCode.{record_code, records_code, spill_code, spills_behind};
 
 use crate::cells::source;
 use crate::pairs::{check_heap, part};
@@ -13,7 +13,7 @@ use sch_insn::register::{R12, RCX};
 use sch_insn::{Arg, Insn};
 use sch_select_memory::addresses::{MAX_WORDS, body_label, immediate, part_operand, place_operand};
 use sch_select_memory::word::PROCEDURE;
-use sch_word::{List, Mem, Place, add_numbers};
+use sch_word::{List, MarkKind, Mem, Place, add_numbers};
 
 /// The low three bits of a procedure's word.
 const PROCEDURE_TAG: u32 = PROCEDURE as u32;
@@ -59,6 +59,7 @@ fn record(out: &mut List<Item>, offset: u32, c: &Closure<Place>) -> Result<(), M
 
 /// A new closure.
 pub(crate) fn closure(out: &mut List<Item>, heap_end: u32, c: &Closure<Place>) -> Result<(), Mem>
+    requires { heap_end < 2 ^ 31 }
     ensures { OnOk result ((rest : List Item) → out.new ++ rest ≡ out.old ++ closure_code heap_end c.now rest) }
 {
     let bytes = closure_bytes(c)?;
@@ -78,19 +79,42 @@ fn group_bytes(members: &[Member<Place>]) -> Result<u32, Mem>
     Ok(bytes)
 }
 
-/// The words of a group's closures into their places, whose records are from an offset on.
-fn places(out: &mut List<Item>, offset: u32, members: &[Member<Place>]) -> Result<(), Mem>
-    ensures { OnOk result ((rest : List Item) → out.new ++ rest ≡ out.old ++ places_code offset members.now rest) }
+/// The mark of what is stored in a place, where that is a slot: it has the first of the spilled variables. Those whose marks
+/// are to come are answered.
+fn spill<'a>(out: &mut List<Item>, p: Place, spills: &'a [u32]) -> Result<&'a [u32], Mem>
+    ensures items { OnOk result ((rest : List Item) → out.new ++ rest ≡ out.old ++ spill_code p spills.now rest) }
+    ensures behind { IfOk result (λ behind. behind.now ≡ spills_behind p spills.now) }
+{
+    match (p, spills) {
+        (Place::Slot(_), [x, behind @ ..]) => {
+            out.push(Item::Mark(MarkKind::Spill(*x)))?;
+            Ok(behind)
+        }
+        _ => Ok(spills),
+    }
+}
+
+/// The words of a group's closures into their places, whose records are from an offset on. What is stored in a slot stands
+/// behind the mark of a spilled variable.
+fn places(
+    out: &mut List<Item>,
+    offset: u32,
+    members: &[Member<Place>],
+    spills: &[u32],
+) -> Result<(), Mem>
+    ensures { OnOk result ((rest : List Item) → out.new ++ rest ≡ out.old ++ places_code offset members.now spills.now rest) }
 {
     let mut next = offset;
+    let mut spilled = spills;
     for m in members {
         let word = immediate(add_numbers(next, PROCEDURE_TAG)?)?;
         let place = place_operand(m.at)?;
         out.extend_from_slice(&[
             Item::Plain(Insn::MovTo(Arg::Reg(RCX), R12)),
             Item::Plain(Insn::AddNumber(Arg::Reg(RCX), word)),
-            Item::Plain(Insn::MovTo(place, RCX)),
         ])?;
+        spilled = spill(out, m.at, spilled)?;
+        out.push(Item::Plain(Insn::MovTo(place, RCX)))?;
         next = add_numbers(next, closure_bytes(&m.closure)?)?;
     }
     Ok(())
@@ -109,13 +133,19 @@ fn records(out: &mut List<Item>, offset: u32, members: &[Member<Place>]) -> Resu
 }
 
 /// A group of closures that know one another: all are charged, each has its word in its place, and then each
-/// has its record.
-pub fn group(out: &mut List<Item>, heap_end: u32, members: &[Member<Place>]) -> Result<(), Mem>
-    ensures { OnOk result ((rest : List Item) → out.new ++ rest ≡ out.old ++ group_code heap_end members.now rest) }
+/// has its record. What is stored in a slot stands behind the mark of the spilled variable that lives there.
+pub fn group(
+    out: &mut List<Item>,
+    heap_end: u32,
+    members: &[Member<Place>],
+    spills: &[u32],
+) -> Result<(), Mem>
+    requires { heap_end < 2 ^ 31 }
+    ensures { OnOk result ((rest : List Item) → out.new ++ rest ≡ out.old ++ group_code heap_end members.now spills.now rest) }
 {
     let bytes = group_bytes(members)?;
     check_heap(out, heap_end, bytes)?;
-    places(out, 0, members)?;
+    places(out, 0, members, spills)?;
     records(out, 0, members)?;
     let bytes = immediate(bytes)?;
     out.push(Item::Plain(Insn::AddNumber(Arg::Reg(R12), bytes)))

@@ -15,5 +15,4 @@ mod vectors;
 
 pub use calls::{call, check_count, tail_call};
 pub use closures::group;
-pub use operands::{operand, second};
 pub use operations::operation;

@@ -27,7 +27,7 @@ use sch_select_memory::word::{
 use sch_word::{List, Mem, Place, Primitive};
 
 /// An atom into a register.
-pub fn atom(out: &mut List<Item>, register: u8, a: &Atom<Place>) -> Result<(), Mem>
+pub(crate) fn atom(out: &mut List<Item>, register: u8, a: &Atom<Place>) -> Result<(), Mem>
     ensures { OnOk result ((rest : List Item) → out.new ++ rest ≡ out.old ++ atom_code register a.now rest) }
 {
     match a {
@@ -128,7 +128,7 @@ fn read(out: &mut List<Item>, n: u32, which: Primitive, atoms: &[Atom<Place>]) -
 }
 
 /// An operand into RAX.
-pub fn operand(out: &mut List<Item>, n: u32, o: &Operand<Place>) -> Result<(), Mem>
+pub(crate) fn operand(out: &mut List<Item>, n: u32, o: &Operand<Place>) -> Result<(), Mem>
     ensures { OnOk result ((rest : List Item) → out.new ++ rest ≡ out.old ++ operand_code n o.now rest) }
 {
     match o {
@@ -138,7 +138,7 @@ pub fn operand(out: &mut List<Item>, n: u32, o: &Operand<Place>) -> Result<(), M
 }
 
 /// A second operand into RCX, while RAX keeps the first.
-pub fn second(out: &mut List<Item>, n: u32, o: &Operand<Place>) -> Result<(), Mem>
+pub(crate) fn second(out: &mut List<Item>, n: u32, o: &Operand<Place>) -> Result<(), Mem>
     ensures { OnOk result ((rest : List Item) → out.new ++ rest ≡ out.old ++ second_code n o.now rest) }
 {
     match o {

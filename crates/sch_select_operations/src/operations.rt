@@ -1,6 +1,6 @@
 //! The items of operations.
 
-ghost use Rattle.std.specs.Prelude.{◌≡◌, ◌++◌, OnOk, List};
+ghost use Rattle.std.specs.Prelude.{◌≡◌, ◌^◌, ◌<◌, ◌++◌, OnOk, List};
 ghost use Rattle.sch_asm.specs.declared.item.Item.{Item};
 ghost use Rattle.sch_select_operations.specs.OperationCode.{operation_code};
 
@@ -22,6 +22,7 @@ pub fn operation(
     n: u32,
     o: &Operation<Place>,
 ) -> Result<(), Mem>
+    requires { heap_end < 2 ^ 31 }
     ensures { OnOk result ((rest : List Item) → out.new ++ rest ≡ out.old ++ operation_code heap_end literals n o.now rest) }
 {
     match o {

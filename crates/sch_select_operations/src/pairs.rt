@@ -1,6 +1,6 @@
 //! The items of pairs, and what makes a part of the heap.
 
-ghost use Rattle.std.specs.Prelude.{◌≡◌, ◌++◌, OnOk, List};
+ghost use Rattle.std.specs.Prelude.{◌≡◌, ◌^◌, ◌<◌, ◌++◌, OnOk, List};
 ghost use Rattle.sch_asm.specs.declared.item.Item.{Item};
 ghost use Rattle.sch_select_operations.specs.ObjectCode.{check_heap, pair_code, part_code, part_of_pair, set_part_of_pair};
 
@@ -8,7 +8,7 @@ use sch_asm::Item;
 use sch_insn::condition::{A, NE};
 use sch_insn::register::{R12, RAX, RCX, RDX};
 use sch_insn::{Arg, Insn};
-use sch_select_memory::addresses::{immediate, stop};
+use sch_select_memory::addresses::{immediate, low_immediate, stop};
 use sch_select_memory::word::{PAIR, TAG_MASK, UNSPECIFIED};
 use sch_word::{List, Mem, Stop};
 
@@ -20,10 +20,11 @@ pub(crate) const CDR: Arg = Arg::Base32(RAX, 7);
 
 /// The heap has this number of bytes left, or stop 71.
 pub fn check_heap(out: &mut List<Item>, heap_end: u32, bytes: u32) -> Result<(), Mem>
+    requires { heap_end < 2 ^ 31 }
     ensures { OnOk result ((rest : List Item) → out.new ++ rest ≡ out.old ++ check_heap heap_end bytes rest) }
 {
     let bytes = immediate(bytes)?;
-    let end = immediate(heap_end)?;
+    let end = low_immediate(heap_end);
     out.extend_from_slice(&[
         Item::Plain(Insn::MovTo(Arg::Reg(RDX), R12)),
         Item::Plain(Insn::AddNumber(Arg::Reg(RDX), bytes)),
@@ -74,6 +75,7 @@ pub(crate) fn set_part_of_pair(out: &mut List<Item>, to: Arg) -> Result<(), Mem>
 
 /// A new pair of RAX and RCX.
 pub(crate) fn pair(out: &mut List<Item>, heap_end: u32) -> Result<(), Mem>
+    requires { heap_end < 2 ^ 31 }
     ensures { OnOk result ((rest : List Item) → out.new ++ rest ≡ out.old ++ pair_code heap_end rest) }
 {
     check_heap(out, heap_end, 16)?;

@@ -15,13 +15,13 @@ use Rattle.sch_control.specs.Work.{codes_work}
 use Rattle.sch_frames.specs.declared.frame_body.FrameBody.{FrameBody}
 use Rattle.sch_frames.specs.Does.{FramesOf}
 use Rattle.sch_frames.specs.Covered.{code_begins, is_covered_code}
-use Rattle.sch_frames.specs.Sizes.{closures_in, code_work, codes_size, instructions_size, largest_frame, spread_words}
+use Rattle.sch_frames.specs.Sizes.{closures_in, code_work, codes_copies, codes_size, copies_of, instructions_size, largest_frame, spread_words}
 use Rattle.sch_frames.specs.SourceView.{code_of, codes_of}
 use Rattle.sch_frames.proofs.LargestFrame.{covered_words, words_most}
 use Rattle.sch_layout.specs.OwnSlots.{slots_code, slots_layout, slots_words}
 use Rattle.sch_layout.specs.LayoutSizes.{call_parts, calls_parts, entries_size, entry_size, most_words}
 use Rattle.sch_layout.proofs.layouts.LayoutSize.{slots_work}
-use Rattle.sch_layout.proofs.layouts.LayoutWork.{slots_done}
+use Rattle.sch_layout.proofs.layouts.LayoutWork.{slots_copies, slots_done}
 use Rattle.sch_layout.proofs.layouts.CoveredSlots.{slots_begin}
 use Rattle.sch_layout.proofs.layouts.SettledSlots.{slots_covered}
 use Rattle.sch_layout.proofs.layouts.SlotsFrame.{slots_does, slots_room, unbound}
@@ -54,7 +54,7 @@ made_next bodies i b lt is made next f e h g =
 
 pub all_do : (bodies : List Body) → FramesOf (control.codes_of bodies) (map slots_code (control.codes_of bodies))
 all_do [] = tt
-all_do (b ∷ bodies) = (slots_does (control.code_of b) b.scoped b.numbered b.ended, all_do bodies)
+all_do (b ∷ bodies) = (slots_does (control.code_of b) b.scoped b.numbered b.ended b.shaped, all_do bodies)
 
 pub all_begin : (cs : List tree.Code) → list_all code_begins (map slots_code cs) ≡ true
 all_begin [] = refl
@@ -84,20 +84,28 @@ all_work (b ∷ bodies) =
     let more = all_work bodies in
     omega (arith, here, more)
 
--- no frame has more words beside its variables than a call may have operands
-slots_within : (bodies : List Body) → largest_frame (map slots_code (control.codes_of bodies)) ≤ max_operands + most_variables (control.codes_of bodies)
+pub all_copies : (bodies : List Body) → codes_copies (map slots_code (control.codes_of bodies)) ≤ codes_work (control.codes_of bodies)
+all_copies [] = omega arith
+all_copies (b ∷ bodies) =
+    let c = control.code_of b in
+    let here : copies_of (slots_layout c) ≤ work.code_work c = slots_copies c (unbound c b.scoped b.numbered) in
+    let more = all_copies bodies in
+    omega (arith, here, more)
+
+-- no frame has more words beside twice its variables than a call may have operands
+slots_within : (bodies : List Body) → largest_frame (map slots_code (control.codes_of bodies)) ≤ max_operands + 2 * most_variables (control.codes_of bodies)
 slots_within [] = omega arith
 slots_within (b ∷ bodies) =
-    let here : slots_words (control.code_of b) ≤ max_operands + b.variables = slots_room (control.code_of b) b.shaped in
-    let more : largest_frame (map slots_code (control.codes_of bodies)) ≤ max_operands + most_variables (control.codes_of bodies) = slots_within bodies in
+    let here : slots_words (control.code_of b) ≤ 2 * b.variables + max_operands = slots_room (control.code_of b) b.numbered b.shaped in
+    let more : largest_frame (map slots_code (control.codes_of bodies)) ≤ max_operands + 2 * most_variables (control.codes_of bodies) = slots_within bodies in
     let left = le-max_left b.variables (most_variables (control.codes_of bodies)) in
     let right = le-max_right b.variables (most_variables (control.codes_of bodies)) in
     max-le (omega (arith, here, left)) (omega (arith, more, right))
 
-pub words_within : (bodies : List Body) → most_words (control.codes_of bodies) ≤ max spread_words (max_operands + most_variables (control.codes_of bodies))
+pub words_within : (bodies : List Body) → most_words (control.codes_of bodies) ≤ max spread_words (max_operands + 2 * most_variables (control.codes_of bodies))
 words_within bodies = words_most (map slots_code (control.codes_of bodies)) _ (slots_within bodies)
 
 pub covered_within : (bodies : List Body) → list_all control_covered.is_covered_code (control.codes_of bodies) ≡ true
-    → most_words (control.codes_of bodies) ≤ max_operands + most_variables (control.codes_of bodies)
+    → most_words (control.codes_of bodies) ≤ max_operands + 2 * most_variables (control.codes_of bodies)
 covered_within bodies h =
-    subst (λ n. n ≤ max_operands + most_variables (control.codes_of bodies)) (sym (covered_words (map slots_code (control.codes_of bodies)) (all_covered bodies h))) (slots_within bodies)
+    subst (λ n. n ≤ max_operands + 2 * most_variables (control.codes_of bodies)) (sym (covered_words (map slots_code (control.codes_of bodies)) (all_covered bodies h))) (slots_within bodies)

@@ -1,2 +1,3 @@
+mod AsideTurns
 mod FrameBodies
 mod WholeLayout

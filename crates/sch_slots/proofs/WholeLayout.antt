@@ -1,18 +1,18 @@
 -- What is written with the room that a body needs, and with its return address saved and restored, is its layout.
-use Rattle.std.proofs.Common.{◌≡◌, ℕ, true, false, List, [], None, refl, sym, ◌∙◌}
+use Rattle.std.proofs.Common.{◌≡◌, ℕ, true, List, [], None, refl, ap, ◌∙◌}
 use Rattle.std.proofs.lemmas.Bool.{and_parts}
 use Rattle.sch_control.specs.declared.body.Body.{Body}
 use Rattle.sch_control.specs.declared.tree.Exp.{Exp, Do, Bind', Seq', If', Fix', Call, TailCall, Return', End', Save'}
-use Rattle.sch_control.specs.Meaning.{binds, no_region}
+use Rattle.sch_control.specs.Meaning.{no_region}
 use Rattle.sch_control.specs.SourceView.{code_of}
+use Rattle.sch_control.specs.Tree.{save}
 use Rattle.sch_control.specs.Valid.{is_bare}
 use Rattle.sch_control.specs.View.{expression, expression_with}
 use Rattle.sch_frames.specs.declared.instruction.Instruction.{Instruction}
 use Rattle.sch_frames.specs.Valid.{is_entered}
-use Rattle.sch_layout.specs.BodyLayout.{entering, labels, lay, stored}
-use Rattle.sch_layout.specs.OwnSlots.{own_slots, restoring, saved_round, slots_base, slots_layout}
+use Rattle.sch_layout.specs.BodyLayout.{Plan, entering, labels, lay}
+use Rattle.sch_layout.specs.OwnSlots.{restoring, saved_round, slots_for, slots_layout}
 use Rattle.sch_layout.proofs.SavedTree.{restoring_labels}
-use Rattle.sch_layout.proofs.layouts.RegionStores.{slots_written}
 
 -- where there is no region, a tree whose calls restore the same is the tree that restores it after each call
 pub restored_alike : (xs : List ℕ) (e : Exp (Unit {0})) → is_bare (expression e) ≡ true → expression_with (λ call. xs) e ≡ restoring xs (expression e)
@@ -33,8 +33,12 @@ restored_alike xs (Save' saves p e) h = absurd (cc)
 pub labels_restored : (b : Body) (xs : List ℕ) → labels (expression_with (λ call. xs) b.exp) ≡ labels (expression b.exp)
 labels_restored b xs = rw (restored_alike xs b.exp (and_parts _ _ b.ended).0) (restoring_labels xs (expression b.exp))
 
-pub layout_written : (b : Body) → binds 0 (expression b.exp) ≡ false → (instructions : List Instruction) (base : ℕ) (xs : List ℕ) → base ≡ slots_base (code_of b) → xs ≡ saved_round (is_entered b.entry)
-    → instructions ≡ entering (own_slots base) b.entry (stored (own_slots base) xs (lay (own_slots base) (expression_with (λ call. xs) b.exp) no_region 0 None []))
+pub layout_written : (b : Body) (instructions : List Instruction) (plan : Plan) (xs : List ℕ) → plan ≡ slots_for (code_of b) → xs ≡ saved_round (is_entered b.entry)
+    → instructions ≡ entering plan b.entry (lay plan (save xs (expression_with (λ call. xs) b.exp)) no_region 0 None [])
     → instructions ≡ slots_layout (code_of b)
-layout_written b u instructions base xs r s i =
-    (rw (restored_alike xs b.exp (and_parts _ _ b.ended).0, r, s) at i) ∙ sym (slots_written (code_of b) u)
+layout_written b instructions plan xs p s i =
+    let round = saved_round (is_entered b.entry) in
+    i
+    ∙ (ap (λ plan. entering plan b.entry (lay plan (save xs (expression_with (λ call. xs) b.exp)) no_region 0 None [])) p
+    ∙ (ap (λ xs. entering (slots_for (code_of b)) b.entry (lay (slots_for (code_of b)) (save xs (expression_with (λ call. xs) b.exp)) no_region 0 None [])) s
+    ∙ ap (λ e. entering (slots_for (code_of b)) b.entry (lay (slots_for (code_of b)) (save round e) no_region 0 None [])) (restored_alike round b.exp (and_parts _ _ b.ended).0)))

@@ -131,6 +131,7 @@ impl Processor {
         match *m {
             Arg::Reg(_) => 0,
             Arg::Base(b) => self.reg(b),
+            Arg::Base8(b, d) => self.reg(b).wrapping_add(word_of(d as i32)),
             Arg::Base32(b, d) => self.reg(b).wrapping_add(word_of(d)),
             Arg::Rip(d) => next.wrapping_add(word_of(d)),
         }

@@ -63,6 +63,12 @@ impl Processor {
             Insn::SubNumber(m, n) => sub_to(m, word_of(*n));
             Insn::XorNumber(m, n) => xor_to(m, word_of(*n));
             Insn::CmpNumber(m, n) => cmp_to(m, word_of(*n));
+            Insn::AddNumber8(m, n) => add_to(m, word_of(*n as i32));
+            Insn::OrNumber8(m, n) => or_to(m, word_of(*n as i32));
+            Insn::AndNumber8(m, n) => and_to(m, word_of(*n as i32));
+            Insn::SubNumber8(m, n) => sub_to(m, word_of(*n as i32));
+            Insn::XorNumber8(m, n) => xor_to(m, word_of(*n as i32));
+            Insn::CmpNumber8(m, n) => cmp_to(m, word_of(*n as i32));
             Insn::TestTo(m, r) => test_to(m, self.reg(*r));
             Insn::Imul(r, m) => imul(*r, m);
             Insn::Neg(m) => neg(m);
@@ -72,8 +78,10 @@ impl Processor {
             Insn::Shr(m, k) => shr(m, *k);
             Insn::Sar(m, k) => sar(m, *k);
             Insn::JumpIf(c, d) => jump_if(*c, *d);
+            Insn::JumpIf8(c, d) => jump_if(*c, *d as i32);
         } {
             Insn::Jump(d) => Ok(next.wrapping_add(word_of(*d)));
+            Insn::Jump8(d) => Ok(next.wrapping_add(word_of(*d as i32)));
             Insn::JumpTo(m) => self.load(m, next);
             // never reached: `perform` answers the call of the kernel
             Insn::Syscall => Err(StuckCause::Kernel(self.reg(RAX)));

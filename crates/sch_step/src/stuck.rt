@@ -78,6 +78,11 @@ impl Processor {
             | Insn::AndNumber(m, _)
             | Insn::SubNumber(m, _)
             | Insn::XorNumber(m, _)
+            | Insn::AddNumber8(m, _)
+            | Insn::OrNumber8(m, _)
+            | Insn::AndNumber8(m, _)
+            | Insn::SubNumber8(m, _)
+            | Insn::XorNumber8(m, _)
             | Insn::Neg(m)
             | Insn::Shl(m, _)
             | Insn::Shr(m, _)
@@ -91,6 +96,7 @@ impl Processor {
             Insn::XorFrom(_, m) => self.unreadable(m, next),
             Insn::CmpFrom(_, m) => self.unreadable(m, next),
             Insn::CmpNumber(m, _) => self.unreadable(m, next),
+            Insn::CmpNumber8(m, _) => self.unreadable(m, next),
             Insn::TestTo(m, _) => self.unreadable(m, next),
             Insn::Imul(_, m) => self.unreadable(m, next),
             Insn::JumpTo(m) => self.unreadable(m, next),
@@ -98,13 +104,14 @@ impl Processor {
                 Ok(v) => divided(self.reg(RDX), self.reg(RAX), v).err(),
                 Err(cause) => Some(cause),
             },
-            Insn::JumpIf(c, _) => match self.flags.condition(*c) {
+            Insn::JumpIf(c, _) | Insn::JumpIf8(c, _) => match self.flags.condition(*c) {
                 Some(_) => None,
                 None => Some(StuckCause::Flag),
             },
             // never reached: `stuck_cause_at` answers the call of the kernel
             Insn::Syscall => Some(StuckCause::Kernel(self.reg(RAX))),
-            Insn::MovWord(_, _) | Insn::Lea(_, _) | Insn::Cqo | Insn::Jump(_) => None,
+            Insn::MovWord(_, _) | Insn::Lea(_, _) | Insn::Cqo | Insn::Jump(_) | Insn::Jump8(_) =>
+                None,
         }
     }
 }

@@ -185,8 +185,9 @@ fn program_has_its_header(rt: HostRuntime) -> Result<(), Fail> {
 
 #[test]
 fn words_that_are_no_command(rt: HostRuntime) -> Result<(), Fail> {
-    let commands: [&[&str]; 29] = [
+    let commands: [&[&str]; 35] = [
         &[],
+        &["--help"],
         &["compile"],
         &["compile", "a"],
         &["compile", "a", "a"],
@@ -194,6 +195,9 @@ fn words_that_are_no_command(rt: HostRuntime) -> Result<(), Fail> {
         &["compile", "a", ""],
         &["compile", "a", "b", "c"],
         &["compile", "a", "--listing"],
+        &["compile", "a", "b", "--listing", "c"],
+        &["run", "a", "--listing=c"],
+        &["step", "--listing", "c", "a"],
         &["run", "--steps"],
         &["step", "-a"],
         &["run"],
@@ -205,7 +209,9 @@ fn words_that_are_no_command(rt: HostRuntime) -> Result<(), Fail> {
         &["compile", "a", "b", "--heap", "1073741840"],
         &["compile", "a", "b", "--steps", "1"],
         &["run", "a", "--heap", "4096", "--heap", "4096"],
-        &["run", "--heap", "4096", "a"],
+        &["run", "a", "--heap", "4096", "--heap=4096"],
+        &["run", "--heap", "a"],
+        &["run", "a", "--", "--heap=4096"],
         &["step", "a", "--heap", "4096"],
         &["run", "a", "--steps", "1000000000000000001"],
         &["run", "a", "--steps", "1x"],
@@ -231,12 +237,12 @@ fn words_that_are_no_command(rt: HostRuntime) -> Result<(), Fail> {
 #[test]
 fn words_with_options(rt: HostRuntime) -> Result<(), Fail> {
     let commands: [(&[&str], u8); 7] = [
-        (&["run", "a", "--heap", "4096"], 0),
+        (&["run", "--heap=4096", "a"], 0),
         (&["run", "a", "--heap", "0000000000000004096"], 0),
-        (&["run", "a", "--steps", "0", "--heap", "8192"], 9),
-        (&["run", "a", "--heap", "8192", "--steps", "0"], 9),
+        (&["--steps", "0", "run", "a", "--heap", "8192"], 9),
+        (&["run", "--heap=8192", "--steps=0", "--", "a"], 9),
         (&["compile", "a", "b", "--heap", "1073741824"], 0),
-        (&["compile", "a", "b", "--depth", "10000000"], 0),
+        (&["compile", "a", "--depth", "10000000", "b"], 0),
         (
             &["run", "a", "--steps", "0", "--depth", "1", "--heap", "8192"],
             9,
@@ -318,6 +324,20 @@ fn a_source_of_the_greatest_length(rt: HostRuntime) -> Result<(), Fail> {
     assert_eq!(rt; outcome.status, 7);
     assert_eq!(rt; outcome.said.as_slice(), b"a: limit file\n".as_slice());
     assert!(rt; outcome.target.is_none());
+    Ok(())
+}
+
+// Constants and variables whose values are dropped: a body has as many as its text has room for.
+#[test]
+fn a_body_of_many_parts(rt: HostRuntime) -> Result<(), Fail> {
+    let mut source = Vec::from_slice(rt.alloc(), b"(define (f x)")?;
+    for _ in 0..10_000 {
+        source.extend_from_slice(b" 1 x")?;
+    }
+    source.extend_from_slice(b" 7)(display (f 0))")?;
+    let ending = perform(rt.alloc(), &["run", "a"], source.as_slice(), &[])?;
+    assert_eq!(rt; ending.status, 0);
+    assert_eq!(rt; ending.printed.as_slice(), b"7".as_slice());
     Ok(())
 }
 

@@ -1,7 +1,7 @@
 //! Disks and outlets: that calls succeed, and what the host's files and streams do.
 
 use sch_io::{
-    Disk, DiskRead, Failed, HostDisk, MemDisk, MemOutlet, NullOutlet, StdOutlet, put_all,
+    Disk, DiskRead, Failed, FirmDisk, HostDisk, MemDisk, MemOutlet, NullOutlet, StdOutlet, put_all,
 };
 use sch_word::{Answer, Bytes};
 use std::fs;
@@ -20,6 +20,19 @@ fn a_disk_in_memory_is_read_and_written(rt: HostRuntime) -> Result<(), Fail> {
     assert_eq!(rt; disk.read(alloc, "a", 3)?.as_slice(), b"xyz".as_slice());
     assert!(rt; disk.write("b", b"1234").is_ok());
     assert_eq!(rt; disk.read(alloc, "b", 4)?.as_slice(), b"1234".as_slice());
+    Ok(())
+}
+
+// A name that is not there is read as the empty file, and a file without room is dropped.
+#[test]
+fn a_firm_disk_never_fails(rt: HostRuntime) -> Result<(), Fail> {
+    let alloc = rt.alloc();
+    let mut disk = FirmDisk::new(alloc, &[], 5)?;
+    assert!(rt; disk.write("a", b"1234").is_ok());
+    assert_eq!(rt; disk.read(alloc, "a", 4)?.as_slice(), b"1234".as_slice());
+    assert!(rt; matches!(disk.read(alloc, "a", 3), Err(DiskRead::TooLarge)));
+    assert!(rt; disk.write("b", b"").is_ok());
+    assert_eq!(rt; disk.read(alloc, "b", 4)?.as_slice(), b"".as_slice());
     Ok(())
 }
 

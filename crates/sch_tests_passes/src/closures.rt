@@ -117,7 +117,7 @@ fn converted_form(alloc: Global, form: Exp, sites: &[u32]) -> Result<CellProgram
     ensures { IfOk result (λ q. bodies.bodies_of (view.source q) ≡ bodies_of (program 0 sites.now (expression form ∷ []))) }
 {
     let p = renamed_form(alloc, form, sites)?;
-    convert_assign(alloc, p)
+    convert_assign(alloc, &p)
 }
 
 // The same with flat closures.

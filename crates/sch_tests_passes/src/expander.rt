@@ -21,7 +21,7 @@ fn program_of(alloc: Global, text: &[u8]) -> Result<Program, CoreError> {
         return Err(CoreError::Memory);
     }
     match read_all(alloc, text) {
-        Ok(items) => core(alloc, Library::empty(alloc), items.as_slice()),
+        Ok(items) => core(alloc, &Library::empty(alloc), items.as_slice()),
         Err(_) => Err(CoreError::Memory),
     }
 }
@@ -212,7 +212,7 @@ fn in_beginnings(alloc: Global, levels: u32) -> Result<Datum, Mem>
 fn is_walked(alloc: Global, levels: u32) -> Result<bool, Mem> {
     let mut items = List::new(alloc);
     items.push(in_beginnings(alloc, levels.min(1_000_000))?)?;
-    match core(alloc, Library::empty(alloc), items.as_slice()) {
+    match core(alloc, &Library::empty(alloc), items.as_slice()) {
         Err(CoreError::BadForm(0)) => Ok(true),
         _ => Ok(false),
     }

@@ -19,6 +19,8 @@ mod reader;
 #[cfg(test)]
 mod registers;
 #[cfg(test)]
+mod saves;
+#[cfg(test)]
 mod selection;
 #[cfg(test)]
 mod sets;

@@ -36,7 +36,7 @@ fn program_with(alloc: Global, definitions: &[u8], text: &[u8]) -> Result<Progra
         return Err(CoreError::Memory);
     };
     let made = library(alloc, items.as_slice())?;
-    core(alloc, made, forms.as_slice())
+    core(alloc, &made, forms.as_slice())
 }
 
 #[test]

@@ -1,12 +1,16 @@
-//! A body with variables in registers, laid out with a region and with what each call restores.
+//! A body with variables in registers, laid out with a region, with moves of its calls and with what each call restores.
 
-ghost use Rattle.std.specs.Prelude.{◌≡◌, ◌+◌, IfOk};
-ghost use Rattle.sch_word.specs.declared.place.Place.TheVariants.{Slot};
+ghost use Rattle.std.specs.Prelude.{◌≡◌, ◌+◌, ◌∷◌, [], false, true, IfOk};
+ghost use Rattle.sch_control.specs.declared.operation.Atom.TheVariants as atom;
+ghost use Rattle.sch_control.specs.declared.operation.Operand.TheVariants as operand;
+ghost use Rattle.sch_word.specs.declared.constant.Const.TheVariants.{Character};
+ghost use Rattle.sch_word.specs.declared.place.Place.TheVariants.{Reg, Slot};
+ghost use Rattle.sch_writer.specs.View.{moves_of};
 
 use sch_control::{Application, Atom, Entry, Exp, Operand, Operation};
 use sch_frames::Instruction;
 use sch_word::{Const, List, MarkKind, Mem, Place};
-use sch_writer::{Allocation, Restores, VariablePlaces, write_body};
+use sch_writer::{Allocation, Move, Restores, VariablePlaces, write_body};
 use std::alloc::Global;
 use std::test::Fail;
 
@@ -19,20 +23,79 @@ fn slot_behind(x: u32, base: u32) -> Result<Place, Mem>
     }
 }
 
+// A character goes to the first slot of the next frame, and the operator to R14.
+fn first_moves(alloc: Global) -> Result<List<Move>, Mem>
+    ensures { IfOk result (λ moves. moves_of moves
+        ≡ record { argument = 1; from = operand.Atom (atom.Constant (Character 98)); to = Slot 50; temp = false }
+        ∷ record { argument = 0; from = operand.Atom (atom.Variable (Slot 21)); to = Reg 14; temp = false } ∷ []) }
+{
+    let mut moves = List::new(alloc);
+    moves.push(Move {
+        argument: 1,
+        from: Operand::Atom(Atom::Constant(Const::Character(98))),
+        to: Place::Slot(50),
+        is_temporary: false,
+    })?;
+    moves.push(Move {
+        argument: 0,
+        from: Operand::Atom(Atom::Variable(Place::Slot(21))),
+        to: Place::Reg(14),
+        is_temporary: false,
+    })?;
+    Ok(moves)
+}
+
+// The operand, in R14, is set aside in slot 1, and goes on to RBX behind the operator, which was there.
+fn second_moves(alloc: Global) -> Result<List<Move>, Mem>
+    ensures { IfOk result (λ moves. moves_of moves
+        ≡ record { argument = 1; from = operand.Atom (atom.Variable (Reg 14)); to = Slot 1; temp = true }
+        ∷ record { argument = 0; from = operand.Atom (atom.Variable (Reg 3)); to = Reg 14; temp = false }
+        ∷ record { argument = 1; from = operand.Atom (atom.Variable (Slot 1)); to = Reg 3; temp = false } ∷ []) }
+{
+    let mut moves = List::new(alloc);
+    moves.push(Move {
+        argument: 1,
+        from: Operand::Atom(Atom::Variable(Place::Reg(14))),
+        to: Place::Slot(1),
+        is_temporary: true,
+    })?;
+    moves.push(Move {
+        argument: 0,
+        from: Operand::Atom(Atom::Variable(Place::Reg(3))),
+        to: Place::Reg(14),
+        is_temporary: false,
+    })?;
+    moves.push(Move {
+        argument: 1,
+        from: Operand::Atom(Atom::Variable(Place::Slot(1))),
+        to: Place::Reg(3),
+        is_temporary: false,
+    })?;
+    Ok(moves)
+}
+
 // The return address, variable 2 and variable 3 live in R15, RBX and R14, which calls use, and each other variable in a slot
-// behind slot 20. Each of the three is saved in a slot behind slot 10, under a mark. Operands are set aside from slot 1 on.
+// behind slot 20. Each of the three is saved in a slot behind slot 10. The slots from 50 on are those of the next frame.
 #[derive(Drop)]
 struct Places;
 
 impl VariablePlaces for Places {
-    ghost use Rattle.std.specs.Prelude.{◌+◌, cond, nat_eq, true};
+    ghost use Rattle.std.specs.Prelude.{◌+◌, ◌∷◌, [], cond, false, nat_eq, true};
+    ghost use Rattle.sch_control.specs.declared.operation.Atom.TheVariants as atom;
+    ghost use Rattle.sch_control.specs.declared.operation.Operand.TheVariants as operand;
+    ghost use Rattle.sch_word.specs.declared.constant.Const.TheVariants.{Character};
     ghost use Rattle.sch_word.specs.declared.place.Place.TheVariants.{Reg, Slot};
 
     ghost plan = { λ s. record {
       place = λ x. cond (nat_eq x 0) (Reg 15) (cond (nat_eq x 2) (Reg 3) (cond (nat_eq x 3) (Reg 14) (Slot (x + 20))));
       home = λ x. Slot (x + 10);
-      is_marked = λ x. true;
-      aside = 1;
+      limit = 50;
+      moves = λ tail a. cond (nat_eq a.site 0)
+          (record { argument = 1; from = operand.Atom (atom.Constant (Character 98)); to = Slot 50; temp = false }
+          ∷ record { argument = 0; from = operand.Atom (atom.Variable (Slot 21)); to = Reg 14; temp = false } ∷ [])
+          (record { argument = 1; from = operand.Atom (atom.Variable (Reg 14)); to = Slot 1; temp = true }
+          ∷ record { argument = 0; from = operand.Atom (atom.Variable (Reg 3)); to = Reg 14; temp = false }
+          ∷ record { argument = 1; from = operand.Atom (atom.Variable (Slot 1)); to = Reg 3; temp = false } ∷ []);
     } };
 
     fn place(&self, x: u32) -> Result<Place, Mem> {
@@ -48,12 +111,15 @@ impl VariablePlaces for Places {
         slot_behind(x, 10)
     }
 
-    fn is_marked(&self, _x: u32) -> bool {
-        true
+    fn limit(&self) -> u32 {
+        50
     }
 
-    fn aside(&self) -> u32 {
-        1
+    fn moves(&self, alloc: Global, _tail: bool, a: &Application<u32>) -> Result<List<Move>, Mem> {
+        if a.site == 0 {
+            return first_moves(alloc);
+        }
+        second_moves(alloc)
     }
 }
 
@@ -131,16 +197,16 @@ fn calls_the_argument(alloc: Global) -> Result<Exp<List<u32>>, Mem> {
     in_turn(alloc, second, last)
 }
 
-// Calls itself, restores 2 and 0, and goes on with variable 3.
+// Calls itself with a variable, restores 2 and 0, and goes on with variable 3.
 fn calls_itself(alloc: Global) -> Result<Exp<List<u32>>, Mem> {
     let rest = with_letter(alloc, calls_the_argument(alloc)?)?;
-    let first = call(alloc, 0, 1, &[], &[2, 0])?;
+    let first = call(alloc, 0, 1, &[2], &[2, 0])?;
     in_turn(alloc, first, rest)
 }
 
-// The variables 1, 2 and 3 are in a region: 1 lives in a slot, 2 is saved at the head, and 3 where it is bound.
+// All variables are in a region: 1 lives in a slot, 0 and 2 are saved at the head, and 3 where it is bound.
 fn in_region(alloc: Global) -> Result<Exp<List<u32>>, Mem> {
-    let saves = numbers(alloc, &[3, 1, 2])?;
+    let saves = numbers(alloc, &[0, 3, 1, 2])?;
     let e = Box::new(alloc, calls_itself(alloc)?)?;
     Ok(Exp::Save(saves, e))
 }
@@ -167,11 +233,14 @@ fn seen(i: &Instruction) -> (u8, u32, u32) {
         Instruction::Do(Operation::Operand(o)) => (b'd', held(o), 0),
         Instruction::Store(p) => (b's', number(*p), 0),
         Instruction::Copy(to, from) => (b'c', number(*to), number(*from)),
-        Instruction::Load(to, o) => (b'l', number(*to), held(o)),
+        Instruction::Pass(k) => (b'p', *k, 0),
         Instruction::Call(_, count) => (b'k', *count, 0),
         Instruction::Return => (b'r', 0, 0),
         Instruction::Mark(MarkKind::Save(x)) => (b'S', *x, 0),
         Instruction::Mark(MarkKind::Restore(x)) => (b'R', *x, 0),
+        Instruction::Mark(MarkKind::Spill(x)) => (b'P', *x, 0),
+        Instruction::Mark(MarkKind::Temp) => (b'T', 0, 0),
+        Instruction::Mark(MarkKind::Argument) => (b'A', 0, 0),
         Instruction::Mark(MarkKind::Call(site)) => (b'K', *site, 0),
         Instruction::Mark(MarkKind::Return) => (b'E', 0, 0),
         _ => (b'?', 0, 0),
@@ -186,18 +255,21 @@ const R14: u32 = 14;
 
 const SLOT: u32 = 100;
 
-// The closure is brought into its slot, and RBX has the argument already; the return address is saved round the body, and
-// then what stands at the head of the region.
-const EXPECTED: [(u8, u32, u32); 28] = [
+// The closure is stored in its slot, and RBX has the argument already; then what stands at the head of the region is saved.
+const EXPECTED: [(u8, u32, u32); 33] = [
+    (b'P', 1, 0),
     (b'c', SLOT + 21, R14),
     (b'S', 0, 0),
     (b'c', SLOT + 10, LINK),
     (b'S', 2, 0),
     (b'c', SLOT + 12, RBX),
     // The first call.
-    (b'l', R14, SLOT + 21),
+    (b'd', 98, 0),
+    (b'A', 0, 0),
+    (b'p', 0, 0),
+    (b'c', R14, SLOT + 21),
     (b'K', 0, 0),
-    (b'k', 0, 0),
+    (b'k', 1, 0),
     (b'R', 2, 0),
     (b'c', RBX, SLOT + 12),
     (b'R', 0, 0),
@@ -208,8 +280,9 @@ const EXPECTED: [(u8, u32, u32); 28] = [
     (b'S', 3, 0),
     (b'c', SLOT + 13, R14),
     // The second call.
-    (b'l', SLOT + 1, R14),
-    (b'l', R14, RBX),
+    (b'T', 0, 0),
+    (b'c', SLOT + 1, R14),
+    (b'c', R14, RBX),
     (b'c', RBX, SLOT + 1),
     (b'K', 1, 0),
     (b'k', 1, 0),
@@ -235,7 +308,7 @@ fn saves_and_restores(rt: HostRuntime) -> Result<(), Fail> {
         rest: false,
         fields: 0,
     };
-    let out = write_body(alloc, &allocation, &[0], Some(entry), &in_region(alloc)?)?;
+    let out = write_body(alloc, &allocation, Some(entry), &in_region(alloc)?)?;
     let mut all = List::new(alloc);
     for i in out.instructions.as_slice() {
         all.push(seen(i))?;

@@ -1,27 +1,27 @@
 //! The layout of a body: its tree in order, as instructions.
 
-ghost use Rattle.std.specs.Prelude.{◌≡◌, ◌+◌, ◌∷◌, [], filter, IfOk, OnOk, None};
+ghost use Rattle.std.specs.Prelude.{◌≡◌, ◌+◌, ◌∷◌, [], cond, filter, IfOk, OnOk, None, Some};
 ghost use Rattle.sch_control.specs.Meaning.{no_region};
 ghost use Rattle.sch_control.specs.Tree.{save};
 ghost use Rattle.sch_control.specs.Valid.{member_variables};
 ghost use Rattle.sch_control.specs.View.{expression_with};
-ghost use Rattle.sch_control.specs.declared.operation.Operation.TheVariants as operation;
 ghost use Rattle.sch_word.specs.declared.mark.MarkKind.TheVariants as mark;
 ghost use Rattle.sch_frames.specs.declared.instruction.Instruction.TheVariants.{Do, Store, Fix, Return, End, Jump, Label, Mark};
-ghost use Rattle.sch_frames.specs.Meaning.{same_place};
-ghost use Rattle.sch_layout.specs.BodyLayout.{arrived, arrivals, entering, brought, operation_at, members_at, leave, labels, lay, stored, Writes};
+ghost use Rattle.sch_frames.specs.Meaning.{is_slot};
+ghost use Rattle.sch_layout.specs.BodyLayout.{arrived, arrivals, entering, brought, operation_at, members_at, leave, labels, lay, spill, stored, under, Writes};
 ghost use Rattle.sch_writer.specs.Regions.{inside};
 
 use crate::allocation::{Allocation, Around, Restores};
 use crate::call_layout::{CLOSURE, LINK, arrival, write_call, write_tail_call};
-use crate::instructions::{Writer, leave, new_label, new_writer, put};
+use crate::instructions::{Writer, leave, new_label, new_writer, put, put_under};
+use crate::moves::same_place;
 use crate::operand_places::{members_at, operation_at};
 use crate::regions::Regions;
-use crate::saves::{write_bound, write_heads, write_members, write_saves};
+use crate::saves::{write_bound, write_heads, write_members};
 use crate::variable_places::VariablePlaces;
 use sch_control::{Entry, Exp, Member, Operation};
 use sch_frames::Instruction;
-use sch_word::{MarkKind, Mem, Place, add_numbers};
+use sch_word::{List, MarkKind, Mem, Place, add_numbers};
 use std::alloc::Global;
 
 // What is written between the parts of an expression stands in functions of its own, which are not put into the walk over
@@ -44,6 +44,33 @@ fn write_operation<P: VariablePlaces>(
     Ok(())
 }
 
+/// Under which mark a variable is stored in its place, if that is a slot.
+fn spilled(place: Place, x: u32) -> Option<MarkKind>
+    ensures { result ≡ cond (is_slot place) (Some (mark.Spill x)) None }
+{
+    match place {
+        Place::Reg(_) => None,
+        Place::Slot(_) => Some(MarkKind::Spill(x)),
+    }
+}
+
+/// The members of a group that live in slots.
+fn spilled_members<P: VariablePlaces>(
+    alloc: Global,
+    places: &P,
+    members: &[Member<u32>],
+) -> Result<List<u32>, Mem>
+    ensures { IfOk result (λ xs. xs ≡ filter (λ x. is_slot ((P.plan places.now).place x)) (member_variables members.now)) }
+{
+    let mut xs = List::new(alloc);
+    for m in members {
+        if let Place::Slot(_) = places.place(m.at)? {
+            xs.push(m.at)?;
+        }
+    }
+    Ok(xs)
+}
+
 #[inline(never)]
 fn write_store<P: VariablePlaces, R>(
     around: &Around<'_, P, R>,
@@ -51,12 +78,13 @@ fn write_store<P: VariablePlaces, R>(
     out: &mut Writer,
 ) -> Result<(), Mem>
     ensures instructions { OnOk result (Writes out.old.instructions out.new.instructions
-        (λ rest. Store ((P.plan around.now.allocation.now.places).place x)
-        ∷ stored (P.plan around.now.allocation.now.places) (filter (inside around.now.regions) (x ∷ [])) rest)) }
+        (λ rest. under (spill (P.plan around.now.allocation.now.places) x) (Store ((P.plan around.now.allocation.now.places).place x))
+        (stored (P.plan around.now.allocation.now.places) (filter (inside around.now.regions) (x ∷ [])) rest))) }
     ensures labels { OnOk result (out.new.labels ≡ out.old.labels) }
 {
     let places = &around.allocation.places;
-    put(out, Instruction::Store(places.place(x)?))?;
+    let place = places.place(x)?;
+    put_under(out, spilled(place, x), Instruction::Store(place))?;
     write_bound(places, &around.regions, x, out)
 }
 
@@ -68,14 +96,14 @@ fn write_group<P: VariablePlaces, R>(
 ) -> Result<(), Mem>
     ensures instructions { OnOk result (Writes out.old.instructions out.new.instructions
         (λ rest. Fix (members_at (P.plan around.now.allocation.now.places).place members.now)
+        (filter (λ x. is_slot ((P.plan around.now.allocation.now.places).place x)) (member_variables members.now))
         ∷ stored (P.plan around.now.allocation.now.places) (filter (inside around.now.regions) (member_variables members.now)) rest)) }
     ensures labels { OnOk result (out.new.labels ≡ out.old.labels) }
 {
     let places = &around.allocation.places;
-    put(
-        out,
-        Instruction::Fix(members_at(around.alloc, places, members)?),
-    )?;
+    let spills = spilled_members(around.alloc, places, members)?;
+    let members_at = members_at(around.alloc, places, members)?;
+    put(out, Instruction::Fix(members_at, spills))?;
     write_members(places, &around.regions, members, out)
 }
 
@@ -204,25 +232,17 @@ fn arrived(x: u32) -> Place
     }
 }
 
-fn same_place(a: Place, b: Place) -> bool
-    ensures { result ≡ same_place a b }
-{
-    match (a, b) {
-        (Place::Reg(a), Place::Reg(b)) => a == b,
-        (Place::Slot(a), Place::Slot(b)) => a == b,
-        _ => false,
-    }
-}
-
-/// What stands in its place already is not copied.
-fn bring(to: Place, from: Place, out: &mut Writer) -> Result<(), Mem>
-    ensures instructions { OnOk result (Writes out.old.instructions out.new.instructions (brought to from)) }
+/// A variable comes from where it arrives into its place. What stands there already is not copied.
+fn bring<P: VariablePlaces>(places: &P, x: u32, out: &mut Writer) -> Result<(), Mem>
+    ensures instructions { OnOk result (Writes out.old.instructions out.new.instructions (brought (P.plan places.now) x)) }
     ensures labels { OnOk result (out.new.labels ≡ out.old.labels) }
 {
-    if !same_place(to, from) {
-        put(out, Instruction::Copy(to, from))?;
+    let to = places.place(x)?;
+    let from = arrived(x);
+    if same_place(to, from) {
+        return Ok(());
     }
-    Ok(())
+    put_under(out, spilled(to, x), Instruction::Copy(to, from))
 }
 
 /// A number of variables from the closure on come into their places.
@@ -231,8 +251,7 @@ fn arrive<P: VariablePlaces>(places: &P, count: u32, out: &mut Writer) -> Result
     ensures labels { OnOk result (out.new.labels ≡ out.old.labels) }
 {
     for k in 0..count {
-        let x = k + 1;
-        bring(places.place(x)?, arrived(x), out)?;
+        bring(places, k + 1, out)?;
     }
     Ok(())
 }
@@ -251,22 +270,34 @@ fn enter<P: VariablePlaces>(places: &P, entry: Option<Entry>, out: &mut Writer) 
     }
 }
 
-/// The instructions of a body by its allocation: what it is entered by, what is saved round it (`round`), and its
-/// expression, with the regions that it has. What is saved round it is in no region: where the expression binds such a
-/// variable, it is not saved again. What is past the numbers of 32 bits is out of memory.
+/// The instructions of a body by its allocation: what it is entered by, and its expression, with the regions that it has.
+/// What is past the numbers of 32 bits is out of memory.
 ///
 /// Time and memory are linear in what is read and written, but that for each variable of a region the expression of this
 /// is walked once more, to see whether it is bound there, and the regions round a binding are gone through.
 pub fn write_body<C: Drop, P: VariablePlaces, R: Restores<C>>(
     alloc: Global,
     allocation: &Allocation<P, R>,
-    round: &[u32],
     entry: Option<Entry>,
     e: &Exp<C>,
 ) -> Result<Writer, Mem>
-    ensures instructions { IfOk result (λ out. out.instructions
-        ≡ entering (P.plan allocation.now.places) entry (stored (P.plan allocation.now.places) round.now
-        (lay (P.plan allocation.now.places) (expression_with (R.lists allocation.now.restores) e.now) no_region 0 None []))) }
+    ensures instructions { IfOk result (λ out. out.instructions ≡ entering (P.plan allocation.now.places) entry
+        (lay (P.plan allocation.now.places) (expression_with (R.lists allocation.now.restores) e.now) no_region 0 None [])) }
+    ensures labels { IfOk result (λ out. out.labels ≡ labels (expression_with (R.lists allocation.now.restores) e.now)) }
+{
+    write_region_body(alloc, allocation, &[], entry, e)
+}
+
+/// The instructions of a body whose expression is one region, as those of any other body.
+pub fn write_region_body<C: Drop, P: VariablePlaces, R: Restores<C>>(
+    alloc: Global,
+    allocation: &Allocation<P, R>,
+    saves: &[u32],
+    entry: Option<Entry>,
+    e: &Exp<C>,
+) -> Result<Writer, Mem>
+    ensures instructions { IfOk result (λ out. out.instructions ≡ entering (P.plan allocation.now.places) entry
+        (lay (P.plan allocation.now.places) (save saves.now (expression_with (R.lists allocation.now.restores) e.now)) no_region 0 None [])) }
     ensures labels { IfOk result (λ out. out.labels ≡ labels (expression_with (R.lists allocation.now.restores) e.now)) }
 {
     let around = Around {
@@ -276,7 +307,6 @@ pub fn write_body<C: Drop, P: VariablePlaces, R: Restores<C>>(
     };
     let mut out = new_writer(alloc)?;
     enter(&allocation.places, entry, &mut out)?;
-    write_saves(&allocation.places, round, &mut out)?;
-    lay(&around, e, None, &mut out)?;
+    lay_region(&around, saves, e, None, &mut out)?;
     Ok(out)
 }

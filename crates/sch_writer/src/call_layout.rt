@@ -1,17 +1,17 @@
-//! Calls: operands are set aside, each in a slot of its own, and then handed over; and what is restored behind them.
+//! Calls: their moves, the call itself, and what is restored behind it.
 
-ghost use Rattle.std.specs.Prelude.{◌≡◌, ◌∷◌, [], false, length, true, IfOk, OnOk};
+ghost use Rattle.std.specs.Prelude.{◌≡◌, ◌∷◌, suc, false, length, true, IfOk, OnOk};
 ghost use Rattle.sch_word.specs.declared.mark.MarkKind.TheVariants as mark;
-ghost use Rattle.sch_frames.specs.Meaning.{argument_register, argument_slot, closure_register, link_register};
+ghost use Rattle.sch_frames.specs.Meaning.{argument_register, argument_slot};
 ghost use Rattle.sch_frames.specs.declared.instruction.Instruction.TheVariants.{Call, Mark, Tail};
-ghost use Rattle.sch_layout.specs.BodyLayout.{arrival, hand_over, handed, leave, loaded, prepared, set_aside, Writes};
+ghost use Rattle.sch_layout.specs.BodyLayout.{arrival, leave, loaded, move_all, target, Writes};
 
 use crate::allocation::{Around, Restores};
 use crate::instructions::{Writer, leave, put};
-use crate::operand_places::operand_at;
+use crate::moves::write_moves;
 use crate::saves::write_restores;
 use crate::variable_places::VariablePlaces;
-use sch_control::{Application, Atom, Operand};
+use sch_control::Application;
 use sch_frames::Instruction;
 use sch_word::{
     ARGUMENT_REGISTERS, CLOSURE_REGISTER, LINK_REGISTER, MarkKind, Mem, Place, add_numbers,
@@ -48,18 +48,28 @@ pub(crate) fn arrival(k: u32) -> Place
     }
 }
 
-/// What a place holds is handed over as an operand: of a tail call in the own frame, of another call in the
-/// frame that it opens.
-fn handed(tail: bool, k: u32, from: Place) -> Instruction
-    ensures { result ≡ handed tail k from }
+/// Where an operand of a call is wanted, by the number of those before it.
+fn operand_target(tail: bool, limit: u32, k: u32) -> Result<Place, Mem>
+    ensures { IfOk result (λ p. p ≡ target tail limit (suc k)) }
 {
     if tail {
-        return Instruction::Copy(arrival(k), from);
+        return Ok(arrival(k));
     }
     match argument_register(k) {
-        Some(r) => Instruction::Copy(Place::Reg(r), from),
-        None => Instruction::Pass(argument_slot(k), Operand::Atom(Atom::Variable(from))),
+        Some(r) => Ok(Place::Reg(r)),
+        None => Ok(Place::Slot(add_numbers(limit, argument_slot(k))?)),
     }
+}
+
+/// Where an argument of a call is wanted: the operator, argument 0, in R14; an operand in its register, or in a slot: in a
+/// tail call in one of the own frame, and else in one of the frame that the call opens, whose slots begin at a limit.
+pub fn target(tail: bool, limit: u32, argument: u32) -> Result<Place, Mem>
+    ensures { IfOk result (λ p. p ≡ target tail limit argument) }
+{
+    if argument == 0 {
+        return Ok(CLOSURE);
+    }
+    operand_target(tail, limit, argument - 1)
 }
 
 /// A number of 32 bits; one past them is out of memory.
@@ -72,42 +82,7 @@ fn short(n: usize) -> Result<u32, Mem>
     }
 }
 
-/// Each operand is loaded into a slot of its own.
-fn set_aside<P: VariablePlaces>(
-    alloc: Global,
-    places: &P,
-    operands: &[Operand<u32>],
-    out: &mut Writer,
-) -> Result<(), Mem>
-    ensures instructions { OnOk result (Writes out.old.instructions out.new.instructions
-        (set_aside (P.plan places.now).place (P.plan places.now).aside operands.now)) }
-    ensures labels { OnOk result (out.new.labels ≡ out.old.labels) }
-{
-    let mut next = places.aside();
-    for o in operands {
-        put(
-            out,
-            Instruction::Load(Place::Slot(next), operand_at(alloc, places, o)?),
-        )?;
-        next = add_numbers(next, 1)?;
-    }
-    Ok(())
-}
-
-/// The operands that are set aside from a slot on are handed over, the first before the others.
-fn hand_over(tail: bool, aside: u32, count: u32, out: &mut Writer) -> Result<(), Mem>
-    ensures instructions { OnOk result (Writes out.old.instructions out.new.instructions (hand_over tail 0 aside count)) }
-    ensures labels { OnOk result (out.new.labels ≡ out.old.labels) }
-{
-    let mut next = aside;
-    for k in 0..count {
-        put(out, handed(tail, k, Place::Slot(next)))?;
-        next = add_numbers(next, 1)?;
-    }
-    Ok(())
-}
-
-/// The operands and the operator's closure stand where a call takes them.
+/// The moves of a call, and how many operands it has.
 fn prepare<P: VariablePlaces>(
     alloc: Global,
     places: &P,
@@ -116,22 +91,18 @@ fn prepare<P: VariablePlaces>(
     out: &mut Writer,
 ) -> Result<u32, Mem>
     ensures instructions { OnOk result (Writes out.old.instructions out.new.instructions
-        (prepared (P.plan places.now) tail a.now)) }
+        (move_all (P.plan places.now).limit ((P.plan places.now).moves tail a.now))) }
     ensures labels { OnOk result (out.new.labels ≡ out.old.labels) }
     ensures count { IfOk result (λ n. n ≡ length a.now.operands) }
 {
-    let operands = a.operands.as_slice();
-    let count = short(operands.len())?;
-    let operator = operand_at(alloc, places, &a.operator)?;
-    set_aside(alloc, places, operands, out)?;
-    put(out, Instruction::Load(CLOSURE, operator))?;
-    hand_over(tail, places.aside(), count, out)?;
+    let count = short(a.operands.len())?;
+    let moves = places.moves(alloc, tail, a)?;
+    write_moves(places.limit(), moves, out)?;
     Ok(count)
 }
 
-/// A call, whose value is left in the accumulator, or tested, and goes on behind the label where it is `#f`. Each operand
-/// is loaded into a slot of its own, then the operator into R14, and the operands are handed over from their slots. What
-/// the call has says what is restored behind it. 2^32 operands or more are out of memory.
+/// A call, whose value is left in the accumulator, or tested, and goes on behind the label where it is `#f`. Its moves come
+/// first. What the call has says what is restored behind it. 2^32 operands or more are out of memory.
 #[inline(never)]
 pub(crate) fn write_call<C, P: VariablePlaces, R: Restores<C>>(
     around: &Around<'_, P, R>,
@@ -141,7 +112,7 @@ pub(crate) fn write_call<C, P: VariablePlaces, R: Restores<C>>(
     out: &mut Writer,
 ) -> Result<(), Mem>
     ensures instructions { OnOk result (Writes out.old.instructions out.new.instructions
-        (λ rest. prepared (P.plan around.now.allocation.now.places) false a.now
+        (λ rest. move_all (P.plan around.now.allocation.now.places).limit ((P.plan around.now.allocation.now.places).moves false a.now)
         (Mark (mark.Call a.now.site) ∷ (Call a.now.spread (length a.now.operands)
         ∷ loaded (P.plan around.now.allocation.now.places) (R.lists around.now.allocation.now.restores call.now) (leave test rest))))) }
     ensures labels { OnOk result (out.new.labels ≡ out.old.labels) }
@@ -155,7 +126,7 @@ pub(crate) fn write_call<C, P: VariablePlaces, R: Restores<C>>(
     Ok(())
 }
 
-/// A tail call, prepared as a call is, whose operands go where those of the body itself arrive.
+/// A tail call, behind its moves.
 #[inline(never)]
 pub(crate) fn write_tail_call<P: VariablePlaces>(
     alloc: Global,
@@ -164,7 +135,7 @@ pub(crate) fn write_tail_call<P: VariablePlaces>(
     out: &mut Writer,
 ) -> Result<(), Mem>
     ensures instructions { OnOk result (Writes out.old.instructions out.new.instructions
-        (λ rest. prepared (P.plan places.now) true a.now
+        (λ rest. move_all (P.plan places.now).limit ((P.plan places.now).moves true a.now)
         (Mark (mark.Tail a.now.site) ∷ (Tail a.now.spread (length a.now.operands) ∷ rest)))) }
     ensures labels { OnOk result (out.new.labels ≡ out.old.labels) }
 {

@@ -1,10 +1,10 @@
 //! Instructions as they are written.
 
 ghost use Rattle.std.specs.Prelude.{◌≡◌, ◌++◌, ◌+◌, ◌∷◌, [], IfOk, OnOk};
-ghost use Rattle.sch_layout.specs.BodyLayout.{leave, Writes};
+ghost use Rattle.sch_layout.specs.BodyLayout.{leave, under, Writes};
 
 use sch_frames::Instruction;
-use sch_word::{List, Mem, add_numbers};
+use sch_word::{List, MarkKind, Mem, add_numbers};
 use std::alloc::Global;
 
 /// For how many instructions there is room at first. A form that calls a procedure with an operand has as many.
@@ -47,6 +47,17 @@ pub(crate) fn put(out: &mut Writer, i: Instruction) -> Result<(), Mem>
 {
     out.instructions.push(i)?;
     Ok(())
+}
+
+/// One instruction more, under a mark of its own where there is one.
+pub(crate) fn put_under(out: &mut Writer, mark: Option<MarkKind>, i: Instruction) -> Result<(), Mem>
+    ensures instructions { OnOk result (Writes out.old.instructions out.new.instructions (under mark i)) }
+    ensures labels { out.new.labels ≡ out.old.labels }
+{
+    if let Some(m) = mark {
+        put(out, Instruction::Mark(m))?;
+    }
+    put(out, i)
 }
 
 /// A value is left in the accumulator, or tested, and goes on behind the label where it is `#f`.

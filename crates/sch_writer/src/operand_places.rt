@@ -33,7 +33,7 @@ fn atoms_at<P: VariablePlaces>(
 }
 
 /// An operand that reads the places of variables.
-pub(crate) fn operand_at<P: VariablePlaces>(
+pub fn operand_at<P: VariablePlaces>(
     alloc: Global,
     places: &P,
     o: &Operand<u32>,

@@ -4,7 +4,8 @@ ghost use Rattle.std.specs.Prelude.{◌≡◌, ◌∷◌, [], cond, filter, OnOk
 ghost use Rattle.sch_control.specs.Meaning.{heads};
 ghost use Rattle.sch_control.specs.Valid.{member_variables};
 ghost use Rattle.sch_control.specs.View.{expression_with};
-ghost use Rattle.sch_layout.specs.BodyLayout.{copied, loaded, stored, Writes};
+ghost use Rattle.sch_frames.specs.declared.instruction.Instruction.TheVariants.{Copy, Mark};
+ghost use Rattle.sch_layout.specs.BodyLayout.{loaded, stored, Writes};
 ghost use Rattle.sch_writer.specs.Regions.{inside};
 
 use crate::allocation::{Around, Restores};
@@ -15,20 +16,12 @@ use sch_control::{Exp, Member};
 use sch_frames::Instruction;
 use sch_word::{MarkKind, Mem, Place};
 
-/// A copy, under its mark where that is wanted.
-fn copied(
-    is_marked: bool,
-    mark: MarkKind,
-    to: Place,
-    from: Place,
-    out: &mut Writer,
-) -> Result<(), Mem>
-    ensures instructions { OnOk result (Writes out.old.instructions out.new.instructions (copied is_marked mark to from)) }
+/// A copy under its mark.
+fn copied(mark: MarkKind, to: Place, from: Place, out: &mut Writer) -> Result<(), Mem>
+    ensures instructions { OnOk result (Writes out.old.instructions out.new.instructions (λ rest. Mark mark ∷ (Copy to from ∷ rest))) }
     ensures labels { OnOk result (out.new.labels ≡ out.old.labels) }
 {
-    if is_marked {
-        put(out, Instruction::Mark(mark))?;
-    }
+    put(out, Instruction::Mark(mark))?;
     put(out, Instruction::Copy(to, from))?;
     Ok(())
 }
@@ -42,13 +35,7 @@ fn save<P: VariablePlaces>(places: &P, x: u32, out: &mut Writer) -> Result<(), M
         Place::Slot(_) => Ok(()),
         Place::Reg(r) => {
             let to = places.home(x)?;
-            copied(
-                places.is_marked(x),
-                MarkKind::Save(x),
-                to,
-                Place::Reg(r),
-                out,
-            )
+            copied(MarkKind::Save(x), to, Place::Reg(r), out)
         }
     }
 }
@@ -62,30 +49,9 @@ fn restore<P: VariablePlaces>(places: &P, x: u32, out: &mut Writer) -> Result<()
         Place::Slot(_) => Ok(()),
         Place::Reg(r) => {
             let from = places.home(x)?;
-            copied(
-                places.is_marked(x),
-                MarkKind::Restore(x),
-                Place::Reg(r),
-                from,
-                out,
-            )
+            copied(MarkKind::Restore(x), Place::Reg(r), from, out)
         }
     }
-}
-
-/// Each of some variables is saved.
-pub(crate) fn write_saves<P: VariablePlaces>(
-    places: &P,
-    xs: &[u32],
-    out: &mut Writer,
-) -> Result<(), Mem>
-    ensures instructions { OnOk result (Writes out.old.instructions out.new.instructions (stored (P.plan places.now) xs.now)) }
-    ensures labels { OnOk result (out.new.labels ≡ out.old.labels) }
-{
-    for x in xs {
-        save(places, *x, out)?;
-    }
-    Ok(())
 }
 
 /// Each of some variables is restored.

@@ -15,7 +15,7 @@ use Rattle.sch_anf_laws.specs.Counted.{BindNoMore}
 use Rattle.sch_control.specs.Sizes.{dropped_of}
 use Rattle.sch_flat.specs.Measures.{weight}
 use Rattle.sch_anf_laws.proofs.kept.BindNoMore.{program_binds}
-use Rattle.sch_anf_laws.proofs.kept.DroppedKept.{program_dropped}
+use Rattle.sch_anf_laws.proofs.kept.NoneDropped.{program_drops_none}
 use Rattle.sch_anf_laws.proofs.kept.WorkKept.{program_weight}
 use Rattle.sch_control.proofs.FittingTable.{given_table_fits}
 use Rattle.sch_anf_laws.proofs.kept.TestsKept.{program_tests}
@@ -52,7 +52,7 @@ returns-clause-covered c =
     if_ok c.normal_program.result _ _ c.normal_program.ensures (λ q made. subst (λ s. StaysCovered (source c.args.p.now) s) (sym made) (program_covered (source c.args.p.now)))
 
 pub returns-clause-dropped : goal.returns-clause-dropped
-returns-clause-dropped c = if_ok c.normal_program.result _ _ c.normal_program.ensures (λ q made. ap (λ s. dropped_of s.bodies) made ∙ program_dropped (source c.args.p.now))
+returns-clause-dropped c = if_ok c.normal_program.result _ _ c.normal_program.ensures (λ q made. ap (λ s. dropped_of s.bodies) made ∙ program_drops_none (source c.args.p.now))
 
 pub returns-clause-variables : goal.returns-clause-variables
 returns-clause-variables c =

@@ -18,7 +18,8 @@ use Rattle.sch_control.specs.declared.operation.Operand.TheVariants as operand
 use Rattle.sch_control.specs.declared.operation.Operation.TheVariants as does
 use Rattle.sch_control.specs.Tree as tree
 use Rattle.sch_control.specs.Tree.{Expression, Code}
-use Rattle.sch_anf_laws.specs.Normal.{Scope, is_simple, atom_of, atoms_of, simple_operand, source_of, needs_variable, part_binds, binds, operands_bind, inits_bind, init_numbers, numbers_for, operand_at, operands_at, members_of, cell_operation, cells_scope, finished, called, bound_unless, normal, normal_parts, with_new_cells, with_operands, with_inits, procedure_code, form_code, normal_bodies, normal_source, new_label}
+use Rattle.sch_anf_laws.specs.Normal.{Scope, is_simple, atom_of, atoms_of, simple_operand, source_of, unless_atom, ends_in_call, part_binds, binds, operands_bind, inits_bind, init_numbers, numbers_for, operand_at, operands_at, members_of, cell_operation, cells_scope, finished, called, bound_unless, normal, normal_parts, with_new_cells, with_operands, with_inits, procedure_code, form_code, normal_bodies, normal_source, new_label}
+use Rattle.sch_anf_laws.proofs.DroppedAtoms.{dropped_as}
 
 -- ## Operands
 
@@ -166,15 +167,16 @@ module _ (starts : List ℕ) where
     parts_covered tail (and_tree e (and_tree e' es)) scope n h =
         let here = and_left (from.is_covered e) (from.are_covered (and_tree e' es)) h in
         let rest = and_right (from.is_covered e) (from.are_covered (and_tree e' es)) h in
-        go (needs_variable e) (covered_kept false e scope n here) (covered_kept false e scope (suc n) here) (parts_covered tail (and_tree e' es) scope (suc n + binds e) rest)
+        go (ends_in_call e) (covered_kept false e scope n here) (covered_kept false e scope (suc n) here) (parts_covered tail (and_tree e' es) scope (suc n + binds e) rest)
         (parts_covered tail (and_tree e' es) scope (n + binds e) rest)
       where
         go : (b : Bool) → is_covered (normal starts false e scope n) ≡ true → is_covered (normal starts false e scope (suc n)) ≡ true
             → is_covered (normal_parts starts tail (and_tree e' es) scope (suc n + binds e)) ≡ true → is_covered (normal_parts starts tail (and_tree e' es) scope (n + binds e)) ≡ true
             → is_covered (cond b (tree.bind n (normal starts false e scope (suc n)) (normal_parts starts tail (and_tree e' es) scope (suc n + binds e)))
-            (tree.sequence (normal starts false e scope n) (normal_parts starts tail (and_tree e' es) scope (n + binds e)))) ≡ true
+            (unless_atom (normal starts false e scope n) (normal_parts starts tail (and_tree e' es) scope (n + binds e)))) ≡ true
         go true x y z w = and_of (is_covered (normal starts false e scope (suc n))) (is_covered (normal_parts starts tail (and_tree e' es) scope (suc n + binds e))) y z
-        go false x y z w = and_of (is_covered (normal starts false e scope n)) (is_covered (normal_parts starts tail (and_tree e' es) scope (n + binds e))) x w
+        go false x y z w =
+            dropped_as (λ z. is_covered z ≡ true) (normal starts false e scope n) (normal_parts starts tail (and_tree e' es) scope (n + binds e)) (λ i. and_of (is_covered (normal starts false e scope n)) (is_covered (normal_parts starts tail (and_tree e' es) scope (n + binds e))) x w) (λ i. w)
 
     each_covered : (es : Trees) (scope : Scope) (n : ℕ) (body : Expression) → from.are_covered es ≡ true → is_covered body ≡ true → is_covered (with_operands starts es scope n body) ≡ true
     each_covered no_trees scope n body h k = k

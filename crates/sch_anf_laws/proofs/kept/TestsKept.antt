@@ -13,9 +13,10 @@ use Rattle.sch_control.specs.declared.operation.Application.{Application}
 use Rattle.sch_control.specs.Tree as tree
 use Rattle.sch_control.specs.Tree.{Expression, Code}
 use Rattle.sch_control.specs.Valid.{only_reads}
-use Rattle.sch_anf_laws.specs.Normal.{Scope, is_atom, are_atoms, is_simple, needs_variable, part_binds, binds, operands_bind, inits_bind, init_numbers, finished, called, bound_unless, normal, normal_parts, with_operands, with_inits, with_new_cells, procedure_code, form_code, normal_bodies, normal_source}
+use Rattle.sch_anf_laws.specs.Normal.{Scope, is_atom, are_atoms, is_simple, unless_atom, ends_in_call, part_binds, binds, operands_bind, inits_bind, init_numbers, finished, called, bound_unless, normal, normal_parts, with_operands, with_inits, with_new_cells, procedure_code, form_code, normal_bodies, normal_source}
 use Rattle.sch_anf_laws.specs.Normal as normal
 use Rattle.sch_control.specs.Sizes.{tests_in, tests_of}
+use Rattle.sch_anf_laws.proofs.DroppedAtoms.{dropped_as, of_atom}
 
 abbrev flat_tests : Tree → ℕ
 flat_tests = over 0 (λ x y. x + y) shapes.tests_in
@@ -103,14 +104,18 @@ module _ (starts : List ℕ) where
     parts_kept : (tail : Bool) (es : Trees) (scope : Scope) (n : ℕ) → tests_in (normal_parts starts tail es scope n) ≡ flat_tests_each es
     parts_kept tail no_trees scope n = finished_none tail _
     parts_kept tail (and_tree e no_trees) scope n = let h = tests_kept tail e scope n in omega (arith, h)
-    parts_kept tail (and_tree e (and_tree e' es)) scope n = go (needs_variable e) (λ m. tests_kept false e scope m) (λ m. parts_kept tail (and_tree e' es) scope m)
+    parts_kept tail (and_tree e (and_tree e' es)) scope n = go (ends_in_call e) (λ m. tests_kept false e scope m) (λ m. parts_kept tail (and_tree e' es) scope m)
       where
         go : (b : Bool) → ((m : ℕ) → tests_in (normal starts false e scope m) ≡ flat_tests e)
             → ((m : ℕ) → tests_in (normal_parts starts tail (and_tree e' es) scope m) ≡ flat_tests_each (and_tree e' es))
             → tests_in (cond b (tree.bind n (normal starts false e scope (suc n)) (normal_parts starts tail (and_tree e' es) scope (suc n + binds e)))
-            (tree.sequence (normal starts false e scope n) (normal_parts starts tail (and_tree e' es) scope (n + binds e)))) ≡ flat_tests_each (and_tree e (and_tree e' es))
+            (unless_atom (normal starts false e scope n) (normal_parts starts tail (and_tree e' es) scope (n + binds e)))) ≡ flat_tests_each (and_tree e (and_tree e' es))
         go true p q = ap (λ m. m + tests_in (normal_parts starts tail (and_tree e' es) scope (suc n + binds e))) (p (suc n)) ∙ ap (λ m. flat_tests e + m) (q (suc n + binds e))
-        go false p q = ap (λ m. m + tests_in (normal_parts starts tail (and_tree e' es) scope (n + binds e))) (p n) ∙ ap (λ m. flat_tests e + m) (q (n + binds e))
+        go false p q =
+            let here = p n in
+            let more = q (n + binds e) in
+            dropped_as (λ z. tests_in z ≡ flat_tests_each (and_tree e (and_tree e' es))) (normal starts false e scope n) (normal_parts starts tail (and_tree e' es) scope (n + binds e))
+            (λ i. omega (arith, here, more)) (λ i. let none = of_atom tests_in 0 (λ a. refl) (λ v k. refl) (normal starts false e scope n) i in omega (arith, none, here, more))
 
     operands_kept : (es : Trees) (scope : Scope) (n : ℕ) (body : Expression) → tests_in (with_operands starts es scope n body) ≡ flat_tests_each es + tests_in body
     operands_kept no_trees scope n body = omega arith

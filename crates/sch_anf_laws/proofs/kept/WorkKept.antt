@@ -19,8 +19,9 @@ use Rattle.sch_control.specs.Tree as to
 use Rattle.sch_control.specs.Tree.{Expression, Code}
 use Rattle.sch_word.specs.trees.NodeWeights.{weight_of, fields_of}
 use Rattle.sch_control.specs.Work.{codes_work, expression_work, operands_work}
-use Rattle.sch_anf_laws.specs.Normal.{Scope, number_of, source_of, are_atoms, init_numbers, inits_bind, is_simple, simple_operand, atoms_of, binds, operand_binds, operands_bind, operand_at, operands_at, needs_variable, bound_unless, closure_of, members_of, numbers_for, cell_operation, cells_scope, finished, called, normal, normal_parts, with_operands, with_inits, with_new_cells, procedure_code, form_code, normal_bodies, normal_source}
+use Rattle.sch_anf_laws.specs.Normal.{Scope, number_of, source_of, are_atoms, init_numbers, inits_bind, is_simple, simple_operand, atoms_of, binds, operand_binds, operands_bind, operand_at, operands_at, unless_atom, ends_in_call, bound_unless, closure_of, members_of, numbers_for, cell_operation, cells_scope, finished, called, normal, normal_parts, with_operands, with_inits, with_new_cells, procedure_code, form_code, normal_bodies, normal_source}
 use Rattle.sch_flat.specs.Measures.{bodies_weight, weight}
+use Rattle.sch_anf_laws.proofs.DroppedAtoms.{dropped_as}
 
 abbrev size : Tree → ℕ
 size = over 0 (λ a b. a + b) weight_of
@@ -56,9 +57,9 @@ part_size false s n value body m g h = omega (arith, h)
 
 -- a part of a sequence, with what follows
 step_size : (b : Bool) (n : ℕ) (a a' rest rest' : Expression) (k m : ℕ) → expression_work a ≤ k → expression_work a' ≤ k → expression_work rest ≤ m → expression_work rest' ≤ m →
-    expression_work (cond b (to.bind n a rest) (to.sequence a' rest')) ≤ suc (k + m)
+    expression_work (cond b (to.bind n a rest) (unless_atom a' rest')) ≤ suc (k + m)
 step_size true n a a' rest rest' k m g g' h h' = omega (arith, g, h)
-step_size false n a a' rest rest' k m g g' h h' = omega (arith, g', h')
+step_size false n a a' rest rest' k m g g' h h' = dropped_as (λ z. expression_work z ≤ suc (k + m)) a' rest' (λ i. omega (arith, g', h')) (λ i. omega (arith, h'))
 
 -- ## What ends a body
 
@@ -192,7 +193,7 @@ module _ (starts : List ℕ) where
         let q = parts_size tail (and_tree e' es) scope (n + binds e) in
         let a = normal_size false e scope (suc n) in
         let b = normal_size false e scope n in
-        let s = step_size (needs_variable e) n (normal starts false e scope (suc n)) (normal starts false e scope n) x y (size e) (count es + sizes (and_tree e' es) + returned tail)
+        let s = step_size (ends_in_call e) n (normal starts false e scope (suc n)) (normal starts false e scope n) x y (size e) (count es + sizes (and_tree e' es) + returned tail)
         (omega (arith, a)) (omega (arith, b)) (omega (arith, p)) (omega (arith, q)) in
         omega (arith, s)
 

@@ -35,16 +35,18 @@ use Rattle.sch_control.specs.Tree.{Expression}
 use Rattle.sch_control.specs.Tree as tree
 use Rattle.sch_control.specs.Operations.{Procedure, operand_value, operand_values, part_values, source_value, source_values, operate, members_made, member_bytes, with_procedures}
 use Rattle.sch_control.specs.Operations as operations
+use Rattle.sch_control.specs.Sizes.{is_bare_atom}
 use Rattle.sch_control.specs.Meaning as to
 use Rattle.sch_control.specs.Meaning.{World, Result, Then, Callee, plain, no_region, marked, with_value, on_outcome, on_return, call_in, put, put_each, put_inside, mark_members}
 use Rattle.sch_control.proofs.PlainMarks.{members_unmarked, none_saved}
-use Rattle.sch_anf_laws.specs.Normal.{Scope, number_of, source_of, is_simple, simple_operand, operand_at, operands_at, operand_binds, part_binds, operands_bind, inits_bind, init_numbers, numbers_for, binds, needs_variable, finished, called, bound_unless, normal, normal_parts, with_operands, with_inits, with_new_cells, cell_operation, closure_of, members_of, bound_places, operator_place}
+use Rattle.sch_anf_laws.specs.Normal.{Scope, number_of, source_of, is_simple, simple_operand, operand_at, operands_at, operand_binds, part_binds, operands_bind, inits_bind, init_numbers, numbers_for, binds, unless_atom, ends_in_call, finished, called, bound_unless, normal, normal_parts, with_operands, with_inits, with_new_cells, cell_operation, closure_of, members_of, bound_places, operator_place}
 use Rattle.sch_anf_laws.specs.Normal as normal
 use Rattle.sch_anf_laws.proofs.runs.Bodies.{get_left}
 use Rattle.sch_anf_laws.proofs.runs.Orders.{Parts}
 use Rattle.sch_anf_laws.proofs.runs.Worlds.{Setting, Reached, Same, SameEnter, image, images, state_of, world_of, is_procedure_of, reached_self, reached_on, reached_store, same_after, same_action, same_call}
 use Rattle.sch_anf_laws.proofs.runs.Fine.{Fine, FineEach, simples, operands_rest, call_rest, inits_order}
 use Rattle.sch_anf_laws.proofs.runs.Agree.{Below, below_self, below_on, below_put, put_same, Held, filled_below, Agrees, agrees_below, agrees_push, agrees_with, push, source_given, simple_given, Filled, part_given, parts_given}
+use Rattle.sch_anf_laws.proofs.DroppedAtoms.{dropped_as}
 
 found : {A : Type 0} (cs before more : List A) (c : A) (place : ℕ) → place ≡ length before → cs ≡ before ++ c ∷ more → slice_get cs place ≡ Some c
 found cs before more c place p e = rw (e, p) (get_seam before more c)
@@ -706,6 +708,33 @@ module _ (a : Setting) (start : State Closure) (fields : ℕ) (enter : from.Ente
           (agrees_below a start fields names scope n (n + binds x + binds y) h environment after (omega arith) b w) q
           (goes_on tail n (n + binds x + binds y) environment after saved k next w.two (omega arith) b g)
 
+  -- where nothing is wrong, an atom before other parts does nothing
+  never : (o : Outcome (State Closure) Value) → Same a start o None → ⊥
+  never (gives v s) h = absurd (let e = h.1 in cc)
+  never (stops why s) h = absurd (let e = h.1 in cc)
+  never (spent s) h = absurd (let e = h.1 in cc)
+
+  atom_left : (first : Expression) → is_bare_atom first ≡ true → (rest : Expression) (environment saved : to.Environment) (s : State Closure) (marks : List MarkKind) (next : Then)
+      (o : Outcome (State Closure) Value)
+      → Same a start o (result (tree.sequence first rest) environment saved (world s marks) next) → Same a start o (result rest environment saved (world s marks) next)
+  atom_left (tree.perform (does.Operand (operand.Atom x))) i rest environment saved s marks next o h =
+      read (operations.atom_value environment s.store x) h
+    where
+      read : (v : Option Value)
+          → Same a start o (to.on_ending marks (operations.with_some v (λ v. Some (gives v (state_of a.starts s)))) (λ v w. result rest environment saved w next))
+          → Same a start o (result rest environment saved (world s marks) next)
+      read None h = absurd (never o h)
+      read (Some v) h = h
+  atom_left (tree.perform (does.Field v k)) i rest environment saved s marks next o h =
+      read (operations.field (environment v) k (images a.starts s.procedures)) h
+    where
+      read : (v : Option Value)
+          → Same a start o (to.on_ending marks (operations.with_some v (λ v. Some (gives v (state_of a.starts s)))) (λ v w. result rest environment saved w next))
+          → Same a start o (result rest environment saved (world s marks) next)
+      read None h = absurd (never o h)
+      read (Some v) h = h
+  atom_left _ i rest environment saved s marks next o h = absurd (cc)
+
   -- a part of a sequence before the last, which is bound or not
   either_part : (bound : Bool) (e : Tree) → Claim e → (es : Trees) (e' : Tree) (tail : Bool) (names : List ℕ) (scope : Scope) (n : ℕ) (h : from.Environment) (environment saved : to.Environment)
       (s : State Closure) (marks : List MarkKind) (k : Next Value) (next : Then)
@@ -715,19 +744,24 @@ module _ (a : Setting) (start : State Closure) (fields : ℕ) (enter : from.Ente
       (result (normal_parts a.starts tail (and_tree e' es) scope last) after saved (world t m) next))
       → Same a start (on_value (value e h false s) (λ u t. on_value (in_turn (from.parts a.orders enter (and_tree e' es) h depth tail) u t) k))
       (result (cond bound (tree.bind n (normal a.starts false e scope (suc n)) (normal_parts a.starts tail (and_tree e' es) scope (suc n + binds e)))
-      (tree.sequence (normal a.starts false e scope n) (normal_parts a.starts tail (and_tree e' es) scope (n + binds e)))) environment saved (world s marks) next)
+      (unless_atom (normal a.starts false e scope n) (normal_parts a.starts tail (and_tree e' es) scope (n + binds e)))) environment saved (world s marks) next)
   either_part true e claim es e' tail names scope n h environment saved s marks k next fine w r more =
       bound_same e claim names scope n h environment saved s marks (λ u t. on_value (in_turn (from.parts a.orders enter (and_tree e' es) h depth tail) u t) k)
       (normal_parts a.starts tail (and_tree e' es) scope (suc n + binds e)) next fine w r
       (λ u t after m q b x. more u t after m (suc n + binds e) q b (omega arith))
   either_part false e claim es e' tail names scope n h environment saved s marks k next fine w r more =
-      claim false names scope n h environment saved s marks (λ u t. on_value (in_turn (from.parts a.orders enter (and_tree e' es) h depth tail) u t) k)
-      (λ u environment saved w. result (normal_parts a.starts tail (and_tree e' es) scope (n + binds e)) environment saved w next) fine w r
+      let first = normal a.starts false e scope n in
+      let rest = normal_parts a.starts tail (and_tree e' es) scope (n + binds e) in
+      let goes = λ (u : Value) (t : State Closure). on_value (in_turn (from.parts a.orders enter (and_tree e' es) h depth tail) u t) k in
+      let done : Same a start (on_value (value e h false s) goes) (result (tree.sequence first rest) environment saved (world s marks) next) =
+      claim false names scope n h environment saved s marks goes (λ u environment saved w. result rest environment saved w next) fine w r
       (record {
         follows = λ u t after m q b. more u t after m (n + binds e) q b (omega arith);
         whole = λ e. absurd (cc);
         link = λ e. absurd (cc);
-      })
+      }) in
+      dropped_as (λ z. Same a start (on_value (value e h false s) goes) (result z environment saved (world s marks) next)) first rest (λ i. done)
+      (λ i. atom_left first i rest environment saved s marks next (on_value (value e h false s) goes) done)
 
   -- a sequence without a part has the unspecified value
   abbrev Started : Trees → Value → Type 0
@@ -744,7 +778,7 @@ module _ (a : Setting) (start : State Closure) (fields : ℕ) (enter : from.Ente
       same_after a start (value e h tail s) (in_turn []) k _ (claims.0 tail names scope n h environment saved s marks k next fine.0 w r g)
   parts_same (and_tree e (and_tree e' es)) claims tail names scope n h environment saved s marks v k next i fine w r g =
       same_after a start (value e h false s) (in_turn (from.parts a.orders enter (and_tree e' es) h depth tail)) k _
-      (either_part (needs_variable e) e claims.0 es e' tail names scope n h environment saved s marks k next fine.0 w r
+      (either_part (ends_in_call e) e claims.0 es e' tail names scope n h environment saved s marks k next fine.0 w r
       (λ u t after m last q b l. parts_same (and_tree e' es) claims.1 tail names scope last h after saved t m u k next tt fine.1
       (agrees_below a start fields names scope n last h environment after l b w) q (goes_on tail n last environment after saved k next w.two l b g)))
 

@@ -8,7 +8,8 @@ use Rattle.sch_control.specs.declared.operation.Application.{Application}
 use Rattle.sch_control.specs.Tree as tree
 use Rattle.sch_control.specs.Tree.{Expression}
 use Rattle.sch_control.specs.Valid.{Position, value, no_call, procedure_end, form_end, positioned, is_bare}
-use Rattle.sch_anf_laws.specs.Normal.{Scope, is_simple, ends_in_call, last_in_call, needs_variable, part_binds, binds, operands_bind, inits_bind, finished, called, bound_unless, normal, normal_parts, with_operands, with_inits, with_new_cells, cell_operation}
+use Rattle.sch_anf_laws.specs.Normal.{Scope, is_simple, ends_in_call, last_in_call, unless_atom, part_binds, binds, operands_bind, inits_bind, finished, called, bound_unless, normal, normal_parts, with_operands, with_inits, with_new_cells, cell_operation}
+use Rattle.sch_anf_laws.proofs.DroppedAtoms.{dropped_as}
 
 -- where a tree may stand that may be a call, or not
 abbrev Allowed : (tail call : Bool) → Position → Type 0
@@ -42,10 +43,10 @@ right_allowed false false y no_call h = h
 right_allowed false x y procedure_end h = absurd h
 right_allowed false x y form_end h = absurd h
 
--- what needs no variable makes no call
-calm : (x y : Bool) → (x || y) ≡ false → Allowed false x no_call
-calm true y h = absurd (cc)
-calm false y h = tt
+-- what makes no call may stand where none may
+calm : (x : Bool) → x ≡ false → Allowed false x no_call
+calm true h = absurd (cc)
+calm false h = tt
 
 finished_placed : (tail : Bool) (o : Operation ℕ) (at : Position) → Allowed tail false at → Placed (finished tail (tree.perform o)) at
 finished_placed true o procedure_end h = (refl, refl)
@@ -108,14 +109,17 @@ module _ (starts : List ℕ) where
     placed_parts tail no_trees scope n at h = finished_placed tail _ at h
     placed_parts tail (and_tree e no_trees) scope n at h = placed tail e scope n at h
     placed_parts tail (and_tree e (and_tree e' es)) scope n at h =
-        go (needs_variable e) refl (λ i. placed false e scope n no_call (calm (ends_in_call e) _ i)) (placed false e scope (suc n) value tt) (λ m. placed_parts tail (and_tree e' es) scope m at h)
+        go (ends_in_call e) refl (λ i. placed false e scope n no_call (calm (ends_in_call e) i)) (placed false e scope (suc n) value tt) (λ m. placed_parts tail (and_tree e' es) scope m at h)
       where
-        go : (b : Bool) → needs_variable e ≡ b → (needs_variable e ≡ false → Placed (normal starts false e scope n) no_call) → Placed (normal starts false e scope (suc n)) value
+        go : (b : Bool) → ends_in_call e ≡ b → (ends_in_call e ≡ false → Placed (normal starts false e scope n) no_call) → Placed (normal starts false e scope (suc n)) value
             → ((m : ℕ) → Placed (normal_parts starts tail (and_tree e' es) scope m) at)
             → Placed (cond b (tree.bind n (normal starts false e scope (suc n)) (normal_parts starts tail (and_tree e' es) scope (suc n + binds e)))
-            (tree.sequence (normal starts false e scope n) (normal_parts starts tail (and_tree e' es) scope (n + binds e)))) at
+            (unless_atom (normal starts false e scope n) (normal_parts starts tail (and_tree e' es) scope (n + binds e)))) at
         go true i p q more = bind_placed n (normal starts false e scope (suc n)) (normal_parts starts tail (and_tree e' es) scope (suc n + binds e)) at q (more (suc n + binds e))
-        go false i p q more = let a = p i in let b = more (n + binds e) in (rw (a.0, b.0) refl, rw (a.1, b.1) refl)
+        go false i p q more =
+            let a = p i in
+            let b = more (n + binds e) in
+            dropped_as (λ z. Placed z at) (normal starts false e scope n) (normal_parts starts tail (and_tree e' es) scope (n + binds e)) (λ _. (rw (a.0, b.0) refl, rw (a.1, b.1) refl)) (λ _. b)
 
     placed_operands : (es : Trees) (scope : Scope) (n : ℕ) (body : Expression) (at : Position) → Placed body at → Placed (with_operands starts es scope n body) at
     placed_operands no_trees scope n body at h = h

@@ -11,7 +11,8 @@ use Rattle.sch_flat.specs.Measures.{one_unless_simple, variables, variables_each
 use Rattle.sch_control.specs.Tree as tree
 use Rattle.sch_control.specs.Tree.{Expression}
 use Rattle.sch_control.specs.Valid.{bound_in, member_variables, without_repeats}
-use Rattle.sch_anf_laws.specs.Normal.{Scope, is_simple, needs_variable, part_binds, binds, binds_parts, operands_bind, inits_bind, finished, called, bound_unless, normal, normal_parts, with_operands, with_inits, with_new_cells, members_of}
+use Rattle.sch_anf_laws.specs.Normal.{Scope, is_simple, unless_atom, ends_in_call, part_binds, binds, binds_parts, operands_bind, inits_bind, finished, called, bound_unless, normal, normal_parts, with_operands, with_inits, with_new_cells, members_of}
+use Rattle.sch_anf_laws.proofs.DroppedAtoms.{dropped_as, of_atom}
 
 -- ## Numbers in a row
 
@@ -22,6 +23,10 @@ split : (n a b : ℕ) → numbers n (a + b) ≡ numbers n a ++ numbers (n + a) b
 split n zero b = renumber n (n + 0) (0 + b) b (omega arith) (omega arith)
 split n (suc a) b =
     renumber n n (suc a + b) (suc (a + b)) refl (omega arith) ∙ ap (λ l. n ∷ l) (split (suc n) a b ∙ ap (λ l. numbers (suc n) a ++ l) (renumber (suc n + a) (n + suc a) b b (omega arith) refl))
+
+no_numbers : (n m : ℕ) → [] ≡ numbers n m → m ≡ 0
+no_numbers n zero h = refl
+no_numbers n (suc m) h = absurd (cc)
 
 -- two rows that follow each other
 joined : (n a b c : ℕ) (xs ys : List ℕ) → xs ≡ numbers n a → ys ≡ numbers (n + a) b → c ≡ a + b → xs ++ ys ≡ numbers n c
@@ -89,17 +94,21 @@ module _ (starts : List ℕ) where
     bound_parts tail no_trees scope n = finished_bound tail _
     bound_parts tail (and_tree e no_trees) scope n = bound tail e scope n
     bound_parts tail (and_tree e (and_tree e' es)) scope n =
-        go (needs_variable e) (bound false e scope n) (bound false e scope (suc n)) (λ m. bound_parts tail (and_tree e' es) scope m)
+        go (ends_in_call e) (bound false e scope n) (bound false e scope (suc n)) (λ m. bound_parts tail (and_tree e' es) scope m)
       where
         go : (b : Bool) → bound_in (normal starts false e scope n) ≡ numbers n (binds e) → bound_in (normal starts false e scope (suc n)) ≡ numbers (suc n) (binds e)
             → ((m : ℕ) → bound_in (normal_parts starts tail (and_tree e' es) scope m) ≡ numbers m (binds_parts (and_tree e' es)))
             → bound_in (cond b (tree.bind n (normal starts false e scope (suc n)) (normal_parts starts tail (and_tree e' es) scope (suc n + binds e)))
-            (tree.sequence (normal starts false e scope n) (normal_parts starts tail (and_tree e' es) scope (n + binds e))))
+            (unless_atom (normal starts false e scope n) (normal_parts starts tail (and_tree e' es) scope (n + binds e))))
             ≡ numbers n (cond b (suc (binds e)) (binds e) + binds_parts (and_tree e' es))
         go true p q more =
             ap (λ l. n ∷ l) (joined (suc n) (binds e) (binds_parts (and_tree e' es)) (binds e + binds_parts (and_tree e' es)) _ _ q (more (suc n + binds e)) refl)
             ∙ renumber n n (suc (binds e + binds_parts (and_tree e' es))) (suc (binds e) + binds_parts (and_tree e' es)) refl (omega arith)
-        go false p q more = joined n (binds e) (binds_parts (and_tree e' es)) _ _ _ p (more (n + binds e)) refl
+        go false p q more =
+            dropped_as (λ z. bound_in z ≡ numbers n (binds e + binds_parts (and_tree e' es))) (normal starts false e scope n) (normal_parts starts tail (and_tree e' es) scope (n + binds e))
+            (λ i. joined n (binds e) (binds_parts (and_tree e' es)) _ _ _ p (more (n + binds e)) refl)
+            (λ i. let none = no_numbers n (binds e) (sym (of_atom bound_in [] (λ a. refl) (λ v k. refl) (normal starts false e scope n) i) ∙ p) in
+            more (n + binds e) ∙ renumber (n + binds e) n (binds_parts (and_tree e' es)) (binds e + binds_parts (and_tree e' es)) (omega (arith, none)) (omega (arith, none)))
 
     bound_operands : (es : Trees) (scope : Scope) (n m : ℕ) (body : Expression) → bound_in body ≡ numbers (n + operands_bind es) m
         → bound_in (with_operands starts es scope n body) ≡ numbers n (operands_bind es + m)
@@ -143,13 +152,13 @@ part_few (new_cells cs e) h = omega (arith, h)
 part_few (cell_get v) h = omega (arith, h)
 part_few (cell_set v e) h = omega (arith, h)
 
-dropped_few : (e : Tree) → binds e ≤ variables e → cond (needs_variable e) (suc (binds e)) (binds e) ≤ one_unless_simple e + variables e
+dropped_few : (e : Tree) → binds e ≤ variables e → cond (ends_in_call e) (suc (binds e)) (binds e) ≤ one_unless_simple e + variables e
 dropped_few (constant c) h = omega arith
 dropped_few (literal k) h = omega arith
 dropped_few (variable v) h = omega arith
-dropped_few e h = go e (needs_variable e) refl h
+dropped_few e h = go e (ends_in_call e) refl h
   where
-    go : (e : Tree) (b : Bool) → needs_variable e ≡ b → binds e ≤ variables e → cond b (suc (binds e)) (binds e) ≤ one_unless_simple e + variables e
+    go : (e : Tree) (b : Bool) → ends_in_call e ≡ b → binds e ≤ variables e → cond b (suc (binds e)) (binds e) ≤ one_unless_simple e + variables e
     go e false i h = omega (arith, h)
     go (constant c) true i h = absurd (cc)
     go (literal k) true i h = absurd (cc)

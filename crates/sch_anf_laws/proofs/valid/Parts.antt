@@ -30,8 +30,9 @@ use Rattle.sch_control.specs.AtomsAndSites.{operand_atoms, operands_atoms, sourc
 use Rattle.sch_control.specs.Tree as tree
 use Rattle.sch_control.specs.Tree.{Expression}
 use Rattle.sch_control.specs.Valid.{Tests, each_part, only_reads, operand_shaped, operands_shaped, closure_shaped, members_shaped, operation_shaped, application_shaped, group_shaped, source_field, closure_fields, operation_field, group_fields, Names, atom_known, enters, closure_known, members_known, atoms_known, operation_known, application_known, group_known}
-use Rattle.sch_anf_laws.specs.Normal.{Scope, number_of, source_of, is_atom, are_atoms, is_simple, atom_of, atoms_of, simple_operand, operand_at, operands_at, operand_binds, needs_variable, part_binds, binds, operands_bind, inits_bind, init_numbers, numbers_for, new_label, finished, called, bound_unless, normal, normal_parts, with_operands, with_inits, with_new_cells, cell_operation, closure_of, members_of}
+use Rattle.sch_anf_laws.specs.Normal.{Scope, number_of, source_of, is_atom, are_atoms, is_simple, atom_of, atoms_of, simple_operand, operand_at, operands_at, operand_binds, unless_atom, ends_in_call, part_binds, binds, operands_bind, inits_bind, init_numbers, numbers_for, new_label, finished, called, bound_unless, normal, normal_parts, with_operands, with_inits, with_new_cells, cell_operation, closure_of, members_of}
 use Rattle.sch_anf_laws.specs.Normal as normal
+use Rattle.sch_anf_laws.proofs.DroppedAtoms.{dropped_as}
 
 -- ## Joined tests
 
@@ -423,16 +424,17 @@ module _ (starts : List ℕ) (bodies : List Body) (names : Names)
     pass_parts no_trees tail known scope n s h = simple_operation tail (op.Atom (atom.Constant Unspecified)) (refl, refl)
     pass_parts (and_tree e no_trees) tail known scope n s h = all_pass e tail known scope n (and_left (scoped bodies e known fields) true s) (and_left (good e) true h)
     pass_parts (and_tree e (and_tree e' es)) tail known scope n s h =
-        go (needs_variable e) (λ m. all_pass e false known scope m (and_left (scoped bodies e known fields) (scoped_each bodies (and_tree e' es) known fields) s)
+        go (ends_in_call e) (λ m. all_pass e false known scope m (and_left (scoped bodies e known fields) (scoped_each bodies (and_tree e' es) known fields) s)
         (and_left (good e) (good_each (and_tree e' es)) h))
         (λ m. pass_parts (and_tree e' es) tail known scope m (and_right (scoped bodies e known fields) (scoped_each bodies (and_tree e' es) known fields) s)
         (and_right (good e) (good_each (and_tree e' es)) h))
       where
         go : (b : Bool) → ((m : ℕ) → passes (normal starts false e scope m)) → ((m : ℕ) → passes (normal_parts starts tail (and_tree e' es) scope m))
             → passes (cond b (tree.bind n (normal starts false e scope (suc n)) (normal_parts starts tail (and_tree e' es) scope (suc n + binds e)))
-            (tree.sequence (normal starts false e scope n) (normal_parts starts tail (and_tree e' es) scope (n + binds e))))
+            (unless_atom (normal starts false e scope n) (normal_parts starts tail (and_tree e' es) scope (n + binds e))))
         go true p q = rw (p (suc n), q (suc n + binds e)) refl
-        go false p q = rw (p n, q (n + binds e)) refl
+        go false p q =
+            dropped_as (λ z. passes z) (normal starts false e scope n) (normal_parts starts tail (and_tree e' es) scope (n + binds e)) (λ i. rw (p n, q (n + binds e)) refl) (λ i. q (n + binds e))
 
     pass_operands : (es : Trees) (known : List ℕ) (scope : Scope) (n : ℕ) (body : Expression) → scoped_each bodies es known fields ≡ true → good_each es ≡ true → passes body
         → passes (with_operands starts es scope n body)

@@ -20,8 +20,9 @@ use Rattle.sch_control.specs.AtomsAndSites.{operand_atoms, operands_atoms, sourc
 use Rattle.sch_control.specs.Tree as tree
 use Rattle.sch_control.specs.Tree.{Expression}
 use Rattle.sch_control.specs.Valid.{with_variable, with_members, in_scope_atom, in_scope_atoms, in_scope, only_reads}
-use Rattle.sch_anf_laws.specs.Normal.{Scope, number_of, source_of, is_atom, are_atoms, is_simple, atom_of, atoms_of, simple_operand, operand_at, operands_at, operand_binds, needs_variable, part_binds, binds, operands_bind, inits_bind, init_numbers, numbers_for, finished, called, bound_unless, normal, normal_parts, with_operands, with_inits, with_new_cells, cell_operation, closure_of, members_of}
+use Rattle.sch_anf_laws.specs.Normal.{Scope, number_of, source_of, is_atom, are_atoms, is_simple, atom_of, atoms_of, simple_operand, operand_at, operands_at, operand_binds, unless_atom, ends_in_call, part_binds, binds, operands_bind, inits_bind, init_numbers, numbers_for, finished, called, bound_unless, normal, normal_parts, with_operands, with_inits, with_new_cells, cell_operation, closure_of, members_of}
 use Rattle.sch_anf_laws.specs.Normal as normal
+use Rattle.sch_anf_laws.proofs.DroppedAtoms.{dropped_as}
 
 -- one set of variables is in another
 record Wider (inner outer : ℕ → Bool) : Type 0 where
@@ -259,7 +260,7 @@ module _ (starts : List ℕ) (bodies : List Body) (fields : ℕ) where
     in_scope_parts no_trees tail names scope n s f h = finished_scoped tail _ s refl
     in_scope_parts (and_tree e no_trees) tail names scope n s f h = in_scope_all e tail names scope n s (and_left (scoped bodies e names fields) true f) h
     in_scope_parts (and_tree e (and_tree e' es)) tail names scope n s f h =
-        go (needs_variable e) (in_scope_all e false names scope n s here h) (in_scope_all e false names scope (suc n) s here h)
+        go (ends_in_call e) (in_scope_all e false names scope n s here h) (in_scope_all e false names scope (suc n) s here h)
         (λ m t w. in_scope_parts (and_tree e' es) tail names scope m t (and_right (scoped bodies e names fields) (scoped_each bodies (and_tree e' es) names fields) f)
         (inside_wider names scope s t w h))
       where
@@ -269,9 +270,11 @@ module _ (starts : List ℕ) (bodies : List Body) (fields : ℕ) where
         go : (b : Bool) → in_scope (normal starts false e scope n) s ≡ true → in_scope (normal starts false e scope (suc n)) s ≡ true
             → ((m : ℕ) (t : ℕ → Bool) → Wider s t → in_scope (normal_parts starts tail (and_tree e' es) scope m) t ≡ true)
             → in_scope (cond b (tree.bind n (normal starts false e scope (suc n)) (normal_parts starts tail (and_tree e' es) scope (suc n + binds e)))
-            (tree.sequence (normal starts false e scope n) (normal_parts starts tail (and_tree e' es) scope (n + binds e)))) s ≡ true
+            (unless_atom (normal starts false e scope n) (normal_parts starts tail (and_tree e' es) scope (n + binds e)))) s ≡ true
         go true p q more = rw (q, more (suc n + binds e) (with_variable n s) (with_more n s)) refl
-        go false p q more = rw (p, more (n + binds e) s (wider_self s)) refl
+        go false p q more =
+            dropped_as (λ z. in_scope z s ≡ true) (normal starts false e scope n) (normal_parts starts tail (and_tree e' es) scope (n + binds e))
+            (λ i. rw (p, more (n + binds e) s (wider_self s)) refl) (λ i. more (n + binds e) s (wider_self s))
 
     in_scope_operands : (es : Trees) (names : List ℕ) (scope : Scope) (n : ℕ) (s : ℕ → Bool) (body : Expression) → scoped_each bodies es names fields ≡ true → Inside names scope s
         → ((t : ℕ → Bool) → Wider s t → FilledIn t es n → in_scope body t ≡ true) → in_scope (with_operands starts es scope n body) s ≡ true

@@ -16,11 +16,12 @@ use Rattle.sch_control.specs.Tree.{Expression}
 use Rattle.sch_control.specs.Valid as to
 use Rattle.sch_word.specs.trees.Bindings.{with_variables}
 use Rattle.sch_control.specs.Valid.{only_reads}
-use Rattle.sch_anf_laws.specs.Normal.{Scope, init_numbers, source_of, is_atom, are_atoms, is_simple, atoms_of, simple_operand, operand_at, operands_at, operand_binds, needs_variable, part_binds, binds, operands_bind, inits_bind, finished, called, bound_unless, normal, normal_parts, with_operands, with_inits, with_new_cells, cell_operation}
+use Rattle.sch_anf_laws.specs.Normal.{Scope, init_numbers, source_of, is_atom, are_atoms, is_simple, atoms_of, simple_operand, operand_at, operands_at, operand_binds, unless_atom, ends_in_call, part_binds, binds, operands_bind, inits_bind, finished, called, bound_unless, normal, normal_parts, with_operands, with_inits, with_new_cells, cell_operation}
 use Rattle.sch_word.specs.trees.Shape as shapes
 use Rattle.sch_word.specs.trees.Shape.{Shape}
 use Rattle.sch_word.proofs.facts.Booleans.{and_left, and_right}
 use Rattle.sch_flat.specs.Measures.{over, over_each}
+use Rattle.sch_anf_laws.proofs.DroppedAtoms.{dropped_as, of_atom}
 
 -- the site of a call or a primitive, with its width
 abbrev pub call_row_of : Shape → List (ℕ × ℕ)
@@ -201,20 +202,23 @@ module _ (starts : List ℕ) (f : ℕ × ℕ → ℕ) where
     kept_parts tail no_trees scope n = finished_sites tail (does.Operand (op.Atom (atom.Constant Unspecified)))
     kept_parts tail (and_tree e no_trees) scope n = let p = kept tail e scope n in omega (arith, p, both (sites_in e) [])
     kept_parts tail (and_tree e (and_tree e' es)) scope n =
-        go (needs_variable e) (λ m. kept false e scope m) (λ m. kept_parts tail (and_tree e' es) scope m)
+        go (ends_in_call e) (λ m. kept false e scope m) (λ m. kept_parts tail (and_tree e' es) scope m)
       where
         go : (b : Bool) → ((m : ℕ) → made (normal starts false e scope m) ≡ total (sites_in e))
             → ((m : ℕ) → made (normal_parts starts tail (and_tree e' es) scope m) ≡ total (sites_in_each (and_tree e' es)))
             → made (cond b (tree.bind n (normal starts false e scope (suc n)) (normal_parts starts tail (and_tree e' es) scope (suc n + binds e)))
-            (tree.sequence (normal starts false e scope n) (normal_parts starts tail (and_tree e' es) scope (n + binds e)))) ≡ total (sites_in_each (and_tree e (and_tree e' es)))
+            (unless_atom (normal starts false e scope n) (normal_parts starts tail (and_tree e' es) scope (n + binds e)))) ≡ total (sites_in_each (and_tree e (and_tree e' es)))
         go true p q =
             both (to.sites_of (normal starts false e scope (suc n))) (to.sites_of (normal_parts starts tail (and_tree e' es) scope (suc n + binds e)))
             ∙ (ap (λ m. m + made (normal_parts starts tail (and_tree e' es) scope (suc n + binds e))) (p (suc n))
             ∙ (ap (λ m. total (sites_in e) + m) (q (suc n + binds e)) ∙ sym (both (sites_in e) (sites_in_each (and_tree e' es)))))
         go false p q =
-            both (to.sites_of (normal starts false e scope n)) (to.sites_of (normal_parts starts tail (and_tree e' es) scope (n + binds e)))
-            ∙ (ap (λ m. m + made (normal_parts starts tail (and_tree e' es) scope (n + binds e))) (p n)
-            ∙ (ap (λ m. total (sites_in e) + m) (q (n + binds e)) ∙ sym (both (sites_in e) (sites_in_each (and_tree e' es)))))
+            let here = p n in
+            let more = q (n + binds e) in
+            let parts = both (sites_in e) (sites_in_each (and_tree e' es)) in
+            dropped_as (λ z. made z ≡ total (sites_in_each (and_tree e (and_tree e' es)))) (normal starts false e scope n) (normal_parts starts tail (and_tree e' es) scope (n + binds e))
+            (λ i. let two = both (to.sites_of (normal starts false e scope n)) (to.sites_of (normal_parts starts tail (and_tree e' es) scope (n + binds e))) in omega (arith, two, here, more, parts))
+            (λ i. let none = of_atom made (total []) (λ a. refl) (λ v k. refl) (normal starts false e scope n) i in omega (arith, none, here, more, parts, both [] []))
 
     kept_operands : (es : Trees) (scope : Scope) (n : ℕ) (body : Expression) → made (with_operands starts es scope n body) ≡ bound_sites es + made body
     kept_operands no_trees scope n body = omega arith

@@ -26,18 +26,18 @@ use Rattle.sch_assign.proofs.convert_assign.Goals as goal
 
 pub returns-clause-made : goal.returns-clause-made
 returns-clause-made c =
-    let v = c.args.p in
+    let v = c.args.p.now in
     let same = λ (y : ℕ). ap (λ bs. table bs y) c.as_slice.ensures.value ∙ c.in_ok-celled.ensures y in
     if_ok c.convert_program.result _ _ c.convert_program.ensures (λ q made. made ∙ ap (λ f. converted_source f v.variables (source v)) (fun_ext same))
 
 pub returns-clause-library : goal.returns-clause-library
 returns-clause-library c =
-    let v = c.args.p in
+    let v = c.args.p.now in
     if_ok c.convert_program.result _ _ c.convert_program.ensures (λ q made. ap (λ s. count_lambdas s.library) made ∙ count_lambdas_same (table c.as_slice.result.now) v.variables (source v).library)
 
 pub returns-clause-runs : goal.returns-clause-runs
 returns-clause-runs c =
-    let v = c.args.p in
+    let v = c.args.p.now in
     let has_cell = table c.as_slice.result.now in
     let same = λ (y : ℕ). ap (λ bs. table bs y) c.as_slice.ensures.value ∙ c.in_ok-celled.ensures y in
     let r = program_right has_cell (source v) same v.scoped v.formed in
@@ -45,7 +45,7 @@ returns-clause-runs c =
 
 pub returns-clause-bound : goal.returns-clause-bound
 returns-clause-bound c =
-    let v = c.args.p in
+    let v = c.args.p.now in
     let has_cell = table c.as_slice.result.now in
     let same = λ (y : ℕ). ap (λ bs. table bs y) c.as_slice.ensures.value ∙ c.in_ok-celled.ensures y in
     let r = program_right has_cell (source v) same v.scoped v.formed in
@@ -53,7 +53,7 @@ returns-clause-bound c =
 
 pub returns-clause-sites : goal.returns-clause-sites
 returns-clause-sites c =
-    let v = c.args.p in
+    let v = c.args.p.now in
     let has_cell = table c.as_slice.result.now in
     let same = λ (y : ℕ). ap (λ bs. table bs y) c.as_slice.ensures.value ∙ c.in_ok-celled.ensures y in
     let r = program_right has_cell (source v) same v.scoped v.formed in
@@ -61,7 +61,7 @@ returns-clause-sites c =
 
 pub returns-clause-calls : goal.returns-clause-calls
 returns-clause-calls c =
-    let v = c.args.p in
+    let v = c.args.p.now in
     let has_cell = table c.as_slice.result.now in
     let same = λ (y : ℕ). ap (λ bs. table bs y) c.as_slice.ensures.value ∙ c.in_ok-celled.ensures y in
     let r = program_right has_cell (source v) same v.scoped v.formed in
@@ -69,7 +69,7 @@ returns-clause-calls c =
 
 pub returns-clause-tests : goal.returns-clause-tests
 returns-clause-tests c =
-    let v = c.args.p in
+    let v = c.args.p.now in
     let has_cell = table c.as_slice.result.now in
     let same = λ (y : ℕ). ap (λ bs. table bs y) c.as_slice.ensures.value ∙ c.in_ok-celled.ensures y in
     let r = program_right has_cell (source v) same v.scoped v.formed in
@@ -77,7 +77,7 @@ returns-clause-tests c =
 
 pub returns-clause-dropped : goal.returns-clause-dropped
 returns-clause-dropped c =
-    let v = c.args.p in
+    let v = c.args.p.now in
     let has_cell = table c.as_slice.result.now in
     let same = λ (y : ℕ). ap (λ bs. table bs y) c.as_slice.ensures.value ∙ c.in_ok-celled.ensures y in
     let r = program_right has_cell (source v) same v.scoped v.formed in
@@ -85,7 +85,7 @@ returns-clause-dropped c =
 
 pub returns-clause-bodies : goal.returns-clause-bodies
 returns-clause-bodies c =
-    let v = c.args.p in
+    let v = c.args.p.now in
     let has_cell = table c.as_slice.result.now in
     let same = λ (y : ℕ). ap (λ bs. table bs y) c.as_slice.ensures.value ∙ c.in_ok-celled.ensures y in
     let r = program_right has_cell (source v) same v.scoped v.formed in
@@ -93,7 +93,7 @@ returns-clause-bodies c =
 
 pub returns-clause-size : goal.returns-clause-size
 returns-clause-size c =
-    let v = c.args.p in
+    let v = c.args.p.now in
     let has_cell = table c.as_slice.result.now in
     let same = λ (y : ℕ). ap (λ bs. table bs y) c.as_slice.ensures.value ∙ c.in_ok-celled.ensures y in
     let r = program_right has_cell (source v) same v.scoped v.formed in
@@ -101,7 +101,7 @@ returns-clause-size c =
 
 pub returns-clause-weight : goal.returns-clause-weight
 returns-clause-weight c =
-    let v = c.args.p in
+    let v = c.args.p.now in
     let has_cell = table c.as_slice.result.now in
     let same = λ (y : ℕ). ap (λ bs. table bs y) c.as_slice.ensures.value ∙ c.in_ok-celled.ensures y in
     let r = program_right has_cell (source v) same v.scoped v.formed in
@@ -110,7 +110,7 @@ returns-clause-weight c =
 
 pub returns-clause-covered : goal.returns-clause-covered
 returns-clause-covered c =
-    let v = c.args.p in
+    let v = c.args.p.now in
     let has_cell = table c.as_slice.result.now in
     let same = λ (y : ℕ). ap (λ bs. table bs y) c.as_slice.ensures.value ∙ c.in_ok-celled.ensures y in
     let r = program_right has_cell (source v) same v.scoped v.formed in

@@ -1,4 +1,4 @@
-use Rattle.std.proofs.Common.{true, refl, sym, subst}
+use Rattle.std.proofs.Common.{true, refl, sym, subst, ◌∙◌}
 use Rattle.std.specs.Prelude.{IsTrue}
 use Rattle.sch_cells.specs.ProgramView.{source}
 use Rattle.sch_cells.specs.Valid.{scoped, formed, constants_in_range, within_limits, sited, statics_known}
@@ -9,19 +9,19 @@ use Rattle.sch_assign.proofs.kept.ValidKept.{scoped_kept, formed_kept, words_kep
 use Rattle.sch_assign.proofs.convert_program.Goals as goal
 
 pub convert_lambdas-requires-clause-within : goal.convert_lambdas-requires-clause-within
-convert_lambdas-requires-clause-within c = let v = c.args.p in (in_range (source v) v.variables refl v.scoped v.formed).library
+convert_lambdas-requires-clause-within c = let v = c.args.p.now in (in_range (source v) v.variables refl v.scoped v.formed).library
 
 pub convert_each-requires-clause-within : goal.convert_each-requires-clause-within
-convert_each-requires-clause-within c = let v = c.args.p in (in_range (source v) v.variables refl v.scoped v.formed).forms
+convert_each-requires-clause-within c = let v = c.args.p.now in (in_range (source v) v.variables refl v.scoped v.formed).forms
 
 pub invariant_of-result : goal.invariant_of-result
 invariant_of-result c =
-    let v = c.args.p in
+    let v = c.args.p.now in
     let p = source v in
     let has_cell = table c.args.celled.now in
     let n = v.variables in
     let r = program_right has_cell p c.requires.celled v.scoped v.formed in
-    let made = made_program has_cell p v.statics c.in_ok-library.library c.in_ok-forms.forms v.sites _ refl c.in_ok-library.ensures c.in_ok-forms.ensures refl refl in
+    let made = made_program has_cell p c.in_ok-statics.statics c.in_ok-library.library c.in_ok-forms.forms c.in_ok-sites.sites _ refl c.in_ok-library.ensures c.in_ok-forms.ensures c.in_ok-statics.ensures (c.in_ok-sites.ensures ∙ c.as_slice.ensures) in
     record {
       scoped = subst (λ q. IsTrue (scoped q)) (sym made) (scoped_kept has_cell n p r refl v.scoped);
       formed = subst (λ q. IsTrue (formed true q)) (sym made) (formed_kept has_cell n p r v.formed);
@@ -33,5 +33,5 @@ invariant_of-result c =
 
 pub returns : goal.returns
 returns c =
-    let v = c.args.p in
-    made_program (table c.args.celled.now) (source v) v.statics c.in_ok-library.library c.in_ok-forms.forms v.sites _ refl c.in_ok-library.ensures c.in_ok-forms.ensures refl refl
+    let v = c.args.p.now in
+    made_program (table c.args.celled.now) (source v) c.in_ok-statics.statics c.in_ok-library.library c.in_ok-forms.forms c.in_ok-sites.sites _ refl c.in_ok-library.ensures c.in_ok-forms.ensures c.in_ok-statics.ensures (c.in_ok-sites.ensures ∙ c.as_slice.ensures)

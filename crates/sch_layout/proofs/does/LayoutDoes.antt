@@ -2,7 +2,7 @@
 -- nothing in registers. What this asks of a plan is `Homes`, once, and `Placed` of the expression: where a variable is
 -- written lives no other that is live then, and so two variables may share a place that are never live together. A
 -- variable may live in a register that calls use, and a formal may stay in the slot where it arrives.
-use Rattle.std.proofs.Common.{◌≡◌, ℕ, zero, suc, ◌+◌, ◌<◌, List, [], ◌∷◌, ◌++◌, length, Option, Some, None, Bool, true, false, cond, refl, sym, ap, ◌∙◌, subst, arith, ◌⊎◌, inl, inr}
+use Rattle.std.proofs.Common.{◌≡◌, ℕ, zero, suc, ◌+◌, ◌<◌, ◌≤◌, List, [], ◌∷◌, ◌++◌, length, Option, Some, None, Bool, true, false, cond, refl, sym, ap, ◌∙◌, subst, arith, ◌⊎◌, inl, inr, map}
 use Rattle.std.specs.Bool.{MatchBool}
 use Rattle.std.specs.Prelude.{◌≢◌, filter, nat_eq, ◌||◌}
 use Rattle.std.proofs.lemmas.Bool.{eq-eqb, eqb-true, ne_eqb}
@@ -24,21 +24,24 @@ use Rattle.sch_control.specs.declared.operation.Member.{Member}
 use Rattle.sch_control.specs.declared.operation.Source.{Source}
 use Rattle.sch_control.specs.Meaning as control
 use Rattle.sch_control.specs.Meaning.{World, Result, Environment, Then, Callee, Reading, marked, marked_if, with_value, on_outcome, on_return, either, put, put_if, put_each, put_inside, heads, with_region, save_each, on_ending, mark_each, mark_bound, mark_members, call_in, evaluate}
-use Rattle.sch_control.specs.Operations.{Procedure, Ending, and_value, operand_value, operand_values, operate, member_bytes, members_made, with_procedures}
+use Rattle.sch_control.specs.Operations.{Procedure, Ending, operand_values, operate, member_bytes, members_made, with_procedures}
 use Rattle.sch_control.specs.AtomsAndSites.{operation_atoms, application_atoms, member_atoms}
 use Rattle.sch_control.specs.Tree.{Expression, perform, bind, sequence, branch, fix, call, tail_call, return, end, save}
 use Rattle.sch_control.specs.Valid.{member_variables}
 use Rattle.sch_frames.specs.declared.instruction.Instruction.{Instruction}
-use Rattle.sch_frames.specs.declared.instruction.Instruction.TheVariants.{Fix, Call, Tail, Return, Jump, Label, Mark}
+use Rattle.sch_frames.specs.declared.instruction.Instruction.TheVariants.{Store, Copy, Fix, Call, Tail, Return, Jump, Label, Mark}
 use Rattle.sch_frames.specs.Does.{Follows, unmarked, EndsAs, world, CalleesFollow}
-use Rattle.sch_frames.specs.Meaning.{Is, Frame, link_register, argument_register, argument_slot, value_in, held, with_place, with_members, argument_in, parts, after_call, if_link, execute_each}
+use Rattle.sch_frames.specs.Meaning.{Is, Frame, link_register, is_slot, value_in, held, with_place, with_members, parts, after_call, if_link, execute_each}
 use Rattle.sch_frames.proofs.EndsAlike.{onto_end, with_value_ends, on_outcome_ends, on_return_ends, call_in_ends, with_procedures_follow, either_ends}
-use Rattle.sch_layout.specs.BodyLayout.{Plan, sources_at, members_at, operation_at, in_either, is_slot, placed_reading, copied, stored, loaded, prepared, leave, labels, lay}
-use Rattle.sch_layout.specs.Live.{Mentions, Perhaps, AfterValue, Across, Live, Grouped, Later}
-use Rattle.sch_layout.specs.SharedPlaces.{EachHas, OutsideSlots, Homes, Alone, RoomFor, Placed}
-use Rattle.sch_layout.proofs.does.PlacesAgree.{MembersUse, Uses, Behind, Lives, atoms_live, Agrees, agrees_as, agrees_on, agrees_left, found, bound, members_bound, one_stored, slot_stored, meant, reloaded_one, one_loaded, slot_loaded}
-use Rattle.sch_layout.proofs.does.OperandsMove.{Values, values_are, values_length, aside_other, below_length, parts_are, outgoing_view, moved_out, SlotsOf, call_moves, own_view, moved_in, LinkOf, tail_moves, put_aside, prepared_does}
-use Rattle.sch_layout.proofs.does.OperationsFollow.{AtomsHave, operate_follows, members_follow}
+use Rattle.sch_layout.specs.BodyLayout.{Plan, sources_at, members_at, operation_at, spill, unmarked_reading, stored, loaded, leave, labels, lay}
+use Rattle.sch_layout.specs.Laws.{AtomsHave, Behind, MembersUse, Uses}
+use Rattle.sch_control.specs.flow.Live.{Mentions, Perhaps, AfterValue, Across, Later}
+use Rattle.sch_control.specs.flow.LiveOrSaved.{LiveOrSaved, Grouped}
+use Rattle.sch_layout.specs.SharedPlaces.{EachHas, Homes, Alone, Brings, FreeInCall, FreeInTail, Placed}
+use Rattle.sch_layout.proofs.does.PlacesAgree.{Lives, atoms_live, Agrees, agrees_as, agrees_on, agrees_left, found, bound, members_bound, one_stored, slot_stored, meant, reloaded_one, one_loaded, slot_loaded}
+use Rattle.sch_layout.proofs.does.CallsReady.{Values, values_are, values_length, call_parts, tail_parts, brings_do, call_leaves, tail_leaves}
+use Rattle.sch_layout.proofs.does.MovesDo.{under_does}
+use Rattle.sch_layout.proofs.does.OperationsFollow.{operate_follows, members_follow}
 use Rattle.sch_layout.proofs.does.LabelsPassed.{past, past_label}
 
 -- ## Groups in their places
@@ -196,12 +199,12 @@ each_filtered P test (x ∷ xs) h = by (test x) (each_filtered P test xs h.1) wh
   by true more = (h.0, more)
   by false more = more
 
-module _ (plan : Plan) (room : ℕ) (homes : Homes plan room) (callee callee' : Callee) (follow : CalleesFollow callee callee') (depth : ℕ) where
+module _ (plan : Plan) (homes : Homes plan) (callee callee' : Callee) (follow : CalleesFollow callee callee') (depth : ℕ) where
   abbrev run : List Instruction → Option ℕ → Frame → World → Result
   run is seeking f w = execute_each callee' depth is seeking f w
 
   abbrev does : Expression → (inside : ℕ → Bool) → Environment → Environment → World → Then → Result
-  does e inside environment saved w next = evaluate (placed_reading plan) callee depth e inside environment saved w next
+  does e inside environment saved w next = evaluate (unmarked_reading plan) callee depth e inside environment saved w next
 
   -- what is done with a value in the accumulator: what follows, or the label of a test that fails is sought
   abbrev go_on : Option ℕ → Value → List Instruction → Frame → World → Result
@@ -265,11 +268,11 @@ module _ (plan : Plan) (room : ℕ) (homes : Homes plan room) (callee callee' : 
         ∙ ap (λ c. unmarked (with_value (value_in c) (λ v. Some (gives v (marked mark.Return (world s marks')))))) e
 
   -- a group of procedures, with its charges and how many it has
-  abbrev group : List (Member Place) → (bytes : List ℕ) → (count : ℕ) → List Instruction → Frame → State Procedure → List MarkKind → Result
-  group members bytes count rest f s marks =
+  abbrev group : List (Member Place) → (spills : List ℕ) → (bytes : List ℕ) → (count : ℕ) → List Instruction → Frame → State Procedure → List MarkKind → Result
+  group members spills bytes count rest f s marks =
       on_outcome marks (in_store (charge_each bytes) s)
       (λ _ w. let inner = with_members f members (procedures_from (length w.state.procedures) count) in
-      with_value (with_procedures w.state (members_made (held inner) w.state members)) (λ s. run rest None inner (record { state = s; marks = w.marks })))
+      with_value (with_procedures w.state (members_made (held inner) w.state members)) (λ s. run rest None inner (record { state = s; marks = w.marks ++ map mark.Spill spills })))
 
   -- ## Saves and restores
 
@@ -277,13 +280,11 @@ module _ (plan : Plan) (room : ℕ) (homes : Homes plan room) (callee callee' : 
   one_stored_does : (live : ℕ → Type 0) (x : ℕ) → live x → (environment saved : Environment) (f : Frame) (s : State Procedure) (marks' : List MarkKind) (more : List Instruction) (r : Result)
       → Agrees plan live environment saved f.places
       → ((g : Frame) (marks' : List MarkKind) → Agrees plan live environment (λ z. cond (nat_eq z x) (environment z) (saved z)) g.places → g.accumulator ≡ f.accumulator → EndsAs r (run more None g (world s marks')))
-      → EndsAs r (run (cond (is_slot (plan.place x)) more (copied (plan.is_marked x) (mark.Save x) (plan.home x) (plan.place x) more)) None f (world s marks'))
-  one_stored_does live x l environment saved f s marks' more r a go = by (is_slot (plan.place x)) refl (plan.is_marked x) where
-    by : (t : Bool) → is_slot (plan.place x) ≡ t → (is_marked : Bool)
-        → EndsAs r (run (cond t more (copied is_marked (mark.Save x) (plan.home x) (plan.place x) more)) None f (world s marks'))
-    by true i is_marked = go f marks' (slot_stored plan room homes live a x i) refl
-    by false i true = go (with_place f (plan.home x) (f.places (plan.place x))) (marks' ++ mark.Save x ∷ []) (one_stored plan room homes live a x l i) refl
-    by false i false = go (with_place f (plan.home x) (f.places (plan.place x))) marks' (one_stored plan room homes live a x l i) refl
+      → EndsAs r (run (cond (is_slot (plan.place x)) more (Mark (mark.Save x) ∷ (Copy (plan.home x) (plan.place x) ∷ more))) None f (world s marks'))
+  one_stored_does live x l environment saved f s marks' more r a go = by (is_slot (plan.place x)) refl where
+    by : (t : Bool) → is_slot (plan.place x) ≡ t → EndsAs r (run (cond t more (Mark (mark.Save x) ∷ (Copy (plan.home x) (plan.place x) ∷ more))) None f (world s marks'))
+    by true i = go f marks' (slot_stored plan homes live a x i) refl
+    by false i = go (with_place f (plan.home x) (f.places (plan.place x))) (marks' ++ mark.Save x ∷ []) (one_stored plan homes live a x l i) refl
 
   -- some live variables are
   stored_does : (live : ℕ → Type 0) (xs : List ℕ) → EachHas live xs → (environment saved : Environment) (f : Frame) (s : State Procedure) (marks' : List MarkKind) (rest : List Instruction) (r : Result)
@@ -303,14 +304,12 @@ module _ (plan : Plan) (room : ℕ) (homes : Homes plan room) (callee callee' : 
   -- one variable is loaded from its home, and more is done
   one_loaded_does : (live : ℕ → Type 0) (y : ℕ) → Alone plan live y → (environment saved : Environment) (f : Frame) (s : State Procedure) (marks' : List MarkKind) (more : List Instruction) (r : Result)
       → Agrees plan live environment saved f.places
-      → ((g : Frame) (marks' : List MarkKind) → Agrees plan live (reloaded_one plan room homes y environment saved) saved g.places → g.accumulator ≡ f.accumulator → EndsAs r (run more None g (world s marks')))
-      → EndsAs r (run (cond (is_slot (plan.place y)) more (copied (plan.is_marked y) (mark.Restore y) (plan.place y) (plan.home y) more)) None f (world s marks'))
-  one_loaded_does live y free environment saved f s marks' more r a go = by (is_slot (plan.place y)) refl (plan.is_marked y) where
-    by : (t : Bool) → is_slot (plan.place y) ≡ t → (is_marked : Bool)
-        → EndsAs r (run (cond t more (copied is_marked (mark.Restore y) (plan.place y) (plan.home y) more)) None f (world s marks'))
-    by true i is_marked = go f marks' (slot_loaded plan room homes live a y i) refl
-    by false i true = go (with_place f (plan.place y) (f.places (plan.home y))) (marks' ++ mark.Restore y ∷ []) (one_loaded plan room homes live a y free i) refl
-    by false i false = go (with_place f (plan.place y) (f.places (plan.home y))) marks' (one_loaded plan room homes live a y free i) refl
+      → ((g : Frame) (marks' : List MarkKind) → Agrees plan live (reloaded_one plan homes y environment saved) saved g.places → g.accumulator ≡ f.accumulator → EndsAs r (run more None g (world s marks')))
+      → EndsAs r (run (cond (is_slot (plan.place y)) more (Mark (mark.Restore y) ∷ (Copy (plan.place y) (plan.home y) ∷ more))) None f (world s marks'))
+  one_loaded_does live y free environment saved f s marks' more r a go = by (is_slot (plan.place y)) refl where
+    by : (t : Bool) → is_slot (plan.place y) ≡ t → EndsAs r (run (cond t more (Mark (mark.Restore y) ∷ (Copy (plan.place y) (plan.home y) ∷ more))) None f (world s marks'))
+    by true i = go f marks' (slot_loaded plan homes live a y i) refl
+    by false i = go (with_place f (plan.place y) (f.places (plan.home y))) (marks' ++ mark.Restore y ∷ []) (one_loaded plan homes live a y free i) refl
 
   -- some variables are
   loaded_does : (live : ℕ → Type 0) (xs : List ℕ) → EachHas (Alone plan live) xs → (environment saved : Environment) (f : Frame) (s : State Procedure) (marks' : List MarkKind) (rest : List Instruction) (r : Result)
@@ -323,11 +322,15 @@ module _ (plan : Plan) (room : ℕ) (homes : Homes plan room) (callee callee' : 
     none false o = refl
   loaded_does live (y ∷ ys) free environment saved f s marks' rest r a go =
       one_loaded_does live y free.0 environment saved f s marks' (loaded plan ys rest) r a
-      (λ g marks' a e. loaded_does live ys free.1 (reloaded_one plan room homes y environment saved) saved g s marks' rest r a
+      (λ g marks' a e. loaded_does live ys free.1 (reloaded_one plan homes y environment saved) saved g s marks' rest r a
       (λ g' marks' a' e'. go g' marks' (agrees_as plan (λ x. one_more (is_slot (plan.place x)) (nat_eq x y) (has x ys) (environment x) (saved x)) (λ x. refl) a') (e' ∙ e))) where
         one_more : (t q b : Bool) (e u : Option Value) → cond t e (cond (q || b) u e) ≡ cond t (cond t e (cond q u e)) (cond b u (cond t e (cond q u e)))
         one_more true q b e u = refl
         one_more false q b e u = saved_more q b u e
+
+  -- the members that live in slots
+  abbrev slotted : List (Member ℕ) → List ℕ
+  slotted members = filter (λ x. is_slot (plan.place x)) (member_variables members)
 
   same_group : (members : List (Member ℕ)) (e : Expression) (inside : ℕ → Bool) (live : ℕ → Type 0) → MembersUse Behind members → AtomsHave Behind (member_atoms members)
       → EachHas (Alone plan (Grouped inside members live)) (member_variables members) → (rest : List Instruction) (next : Then)
@@ -335,168 +338,149 @@ module _ (plan : Plan) (room : ℕ) (homes : Homes plan room) (callee callee' : 
       → EndsAs (does e inside environment saved (world s marks) next) (run rest None f (world s marks')))
       → (environment saved : Environment) (f : Frame) (s : State Procedure) (marks marks' : List MarkKind)
       → Agrees plan (λ x. (has x (member_variables members) ≡ false) × (Mentions x (member_atoms members) ⊎ live x)) environment saved f.places
-      → EndsAs (does (fix members e) inside environment saved (world s marks) next) (run (Fix (members_at plan.place members) ∷ stored plan (filter inside (member_variables members)) rest) None f (world s marks'))
+      → EndsAs (does (fix members e) inside environment saved (world s marks) next) (run (Fix (members_at plan.place members) (slotted members) ∷ stored plan (filter inside (member_variables members)) rest) None f (world s marks'))
   same_group members e inside live u h free rest next go environment saved f s marks marks' r =
       let whole = stored plan (filter inside (member_variables members)) rest in
-      onto_end (does (fix members e) inside environment saved (world s marks) next) (group (members_at plan.place members) (member_bytes members) (length members) whole f s marks') _
-      (ap (λ bytes. group (members_at plan.place members) bytes (length (members_at plan.place members)) whole f s marks') (bytes_kept plan.place members)
-      ∙ ap (λ n. group (members_at plan.place members) (member_bytes members) n whole f s marks') (length_members plan.place members))
+      onto_end (does (fix members e) inside environment saved (world s marks) next) (group (members_at plan.place members) (slotted members) (member_bytes members) (length members) whole f s marks') _
+      (ap (λ bytes. group (members_at plan.place members) (slotted members) bytes (length (members_at plan.place members)) whole f s marks') (bytes_kept plan.place members)
+      ∙ ap (λ n. group (members_at plan.place members) (slotted members) (member_bytes members) n whole f s marks') (length_members plan.place members))
       (on_outcome_ends marks marks' (in_store (charge_each (member_bytes members)) s) _ _
       (λ _ s. let vs = procedures_from (length s.procedures) (length members) in
       let inner = put_each environment members vs in
       let g = with_members f (members_at plan.place members) vs in
       let r' : Agrees plan (Grouped inside members live) (put_each environment members vs) saved (with_members f (members_at plan.place members) vs).places =
-      members_bound plan room homes (Grouped inside members live) members vs (procedures_length (length members) _) environment saved f u free (agrees_on plan (λ x l. (l.0, not_bound (filtered_none inside (member_variables members) x l.0) l.1)) r) in
+      members_bound plan homes (Grouped inside members live) members vs (procedures_length (length members) _) environment saved f u free (agrees_on plan (λ x l. (l.0, not_bound (filtered_none inside (member_variables members) x l.0) l.1)) r) in
       with_value_ends (with_procedures s (members_made inner s members))
       (with_procedures s (members_made (held g) s (members_at plan.place members))) _ _
       (with_procedures_follow s _ _ (members_follow plan.place (Lives (Grouped inside members live)) inner (held g) (found plan (Grouped inside members live) g r') s members
       (atoms_live (Grouped inside members live) (member_atoms members) h (λ x l. inr (inl l)))))
       (λ s. stored_does (Grouped inside members live) (filter inside (member_variables members))
-      (each_of (Grouped inside members live) (filter inside (member_variables members)) (λ x l. inl l)) inner saved g s marks' rest _ r'
-      (λ g' marks' a e'. at_state (λ w. does e inside inner (put_inside inside saved members vs) w next) _ (mark_members (placed_reading plan) inside members (world s marks)) s
-      (members_noted (placed_reading plan) inside members (world s marks))
+      (each_of (Grouped inside members live) (filter inside (member_variables members)) (λ x l. inl l)) inner saved g s (marks' ++ map mark.Spill (slotted members)) rest _ r'
+      (λ g' marks' a e'. at_state (λ w. does e inside inner (put_inside inside saved members vs) w next) _ (mark_members (unmarked_reading plan) inside members (world s marks)) s
+      (members_noted (unmarked_reading plan) inside members (world s marks))
       (λ marks. go inner (put_inside inside saved members vs) g' s
       (agrees_on plan (λ x l. inr (inr l)) (agrees_as plan (λ z. refl) (λ z. group_saved inside members vs environment saved z (procedures_length (length members) _)) a)) marks marks')))))
 
   -- ## Calls
 
-  argument_out : (o : Option ℕ) (j : ℕ) (f : Frame) → argument_in f.places f.outgoing o j ≡ value_in (outgoing_view f (in_either o j))
-  argument_out (Some r) j f = refl
-  argument_out None j f = refl
-
-  argument_own : (o : Option ℕ) (j : ℕ) (f : Frame) → argument_in f.places (λ i. f.places (Slot i)) o j ≡ value_in (f.places (in_either o j))
-  argument_own (Some r) j f = refl
-  argument_own None j f = refl
-
   -- behind a call, in a frame whose slots are those before it
-  returned : (L : Later) (test : Option ℕ) (rest : List Instruction) (next : Then) → Next L test rest next → (a : Application ℕ) (restores : List ℕ) → RoomFor plan room (λ x. Perhaps (L x)) a
-      → EachHas (Alone plan (λ x. Perhaps (L x))) restores → (environment saved : Environment) (f g : Frame) → Agrees plan (λ x. Perhaps (L x)) environment saved f.places
-      → ((j : ℕ) → OutsideSlots plan.aside (plan.aside + length a.operands) (Slot j) → g.places (Slot j) ≡ f.places (Slot j)) → (v : Value) (s : State Procedure) (marks marks' : List MarkKind)
-      → EndsAs (next v (control.after_call (placed_reading plan).keeps restores environment saved) saved (mark_each (placed_reading plan) mark.Restore restores (world s marks)))
+  returned : (L : Later) (test : Option ℕ) (rest : List Instruction) (next : Then) → Next L test rest next → (restores : List ℕ) → EachHas (Alone plan (λ x. Perhaps (L x))) restores → (environment saved : Environment) (f g : Frame) → Agrees plan (λ x. Perhaps (L x)) environment saved f.places
+      → ((x : ℕ) → Perhaps (L x) → is_slot (plan.place x) ≡ true → g.places (plan.place x) ≡ f.places (plan.place x))
+      → ((x : ℕ) → is_slot (plan.place x) ≡ false → g.places (plan.home x) ≡ f.places (plan.home x)) → (v : Value) (s : State Procedure) (marks marks' : List MarkKind)
+      → EndsAs (next v (control.after_call (unmarked_reading plan).keeps restores environment saved) saved (mark_each (unmarked_reading plan) mark.Restore restores (world s marks)))
       (run (loaded plan restores (leave test rest)) None (after_call g v) (world s marks'))
-  returned L test rest next h a restores fits free environment saved f g r same_slots v s marks marks' =
+  returned L test rest next h restores free environment saved f g r same_slots same_homes v s marks marks' =
       loaded_does (λ x. Perhaps (L x)) restores free (λ x. cond (is_slot (plan.place x)) (environment x) None) saved (after_call g v) s marks' (leave test rest) _
-      (agrees_left plan room homes (λ x. Perhaps (L x)) (plan.aside + length a.operands) fits.0 fits.1 f.places g.places r same_slots)
-      (λ g' marks' a e. at_state (λ w. next v (control.after_call (placed_reading plan).keeps restores environment saved) saved w) _ (mark_each (placed_reading plan) mark.Restore restores (world s marks)) s
-      (each_noted (placed_reading plan) mark.Restore restores (world s marks))
-      (λ marks. onto_end (next v (control.after_call (placed_reading plan).keeps restores environment saved) saved (world s marks)) _ _ (leaving test rest g' (world s marks') v e)
-      (h v (control.after_call (placed_reading plan).keeps restores environment saved) saved g' s marks marks'
+      (agrees_left plan homes (λ x. Perhaps (L x)) f.places g.places r same_slots same_homes)
+      (λ g' marks' a e. at_state (λ w. next v (control.after_call (unmarked_reading plan).keeps restores environment saved) saved w) _ (mark_each (unmarked_reading plan) mark.Restore restores (world s marks)) s
+      (each_noted (unmarked_reading plan) mark.Restore restores (world s marks))
+      (λ marks. onto_end (next v (control.after_call (unmarked_reading plan).keeps restores environment saved) saved (world s marks)) _ _ (leaving test rest g' (world s marks') v e)
+      (h v (control.after_call (unmarked_reading plan).keeps restores environment saved) saved g' s marks marks'
       (agrees_on plan (λ x l. perhaps (L x) (is_true v) l) (agrees_as plan (λ x. left (is_slot (plan.place x)) (has x restores) (environment x) (saved x)) (λ x. refl) a)) e))) where
         left : (t b : Bool) (e u : Option Value) → cond t e (cond b u None) ≡ cond t (cond t e None) (cond b u (cond t e None))
         left true b e u = refl
         left false b e u = refl
 
-  same_call : (a : Application ℕ) (restores : List ℕ) (inside : ℕ → Bool) (L : Later) → AtomsHave Behind (application_atoms a) → Placed plan room (call a restores) inside L → (n : ℕ) (test : Option ℕ) (rest : List Instruction)
-      → (environment saved : Environment) (f : Frame) (s : State Procedure) (marks marks' : List MarkKind) (next : Then) → Agrees plan (λ x. Live x (call a restores) (L x)) environment saved f.places → Next L test rest next
+  same_call : (a : Application ℕ) (restores : List ℕ) (inside : ℕ → Bool) (L : Later) → AtomsHave Behind (application_atoms a) → Placed plan (call a restores) inside L → (n : ℕ) (test : Option ℕ) (rest : List Instruction)
+      → (environment saved : Environment) (f : Frame) (s : State Procedure) (marks marks' : List MarkKind) (next : Then) → Agrees plan (λ x. LiveOrSaved x (call a restores) (L x)) environment saved f.places → Next L test rest next
       → EndsAs (does (call a restores) inside environment saved (world s marks) next) (run (lay plan (call a restores) inside n test rest) None f (world s marks'))
-  same_call a restores inside L u p n test rest environment saved f s marks marks' next r h =
-      by (operand_value environment s.store a.operator) refl (operand_values environment s.store a.operands) refl where
-        by : (x : Option Value) → operand_value environment s.store a.operator ≡ x → (ys : Option (List Value)) → operand_values environment s.store a.operands ≡ ys
-            → EndsAs (with_value (and_value x ys)
-            (λ vs. on_return (call_in callee a.spread false depth vs (marked (mark.Call a.site) (world s marks)))
-            (λ v w. next v (control.after_call (placed_reading plan).keeps restores environment saved) saved (mark_each (placed_reading plan) mark.Restore restores w))))
-            (run (prepared plan false a (Mark (mark.Call a.site) ∷ (Call a.spread (length a.operands) ∷ loaded plan restores (leave test rest)))) None f (world s marks'))
-        by None ex ys ey = tt
-        by (Some operator) ex None ey = tt
-        by (Some operator) ex (Some vs) ey =
-            let values : Values environment s.store a.operands vs = values_are environment s.store a.operands vs ey in
-            let l : length vs ≡ length a.operands = values_length environment s.store a.operands vs values in
-            let f0 : Frame = put_aside plan.aside operator vs f in
-            let moves = call_moves plan room homes callee' depth f0 in
-            prepared_does plan room homes callee' depth false (length a.operands) outgoing_view moved_out (SlotsOf f0) moves operator vs l
-            (λ x. Mentions x (application_atoms a) ⊎ Perhaps (L x)) a environment saved f (world s marks') _ _ refl p.0 r (atoms_live _ (application_atoms a) u (λ x l. inl l)) ex values (λ j. refl)
-            (λ g ready. onto_end _ (with_value (Some (operator ∷ vs)) (λ vs. on_return (call_in callee' a.spread false depth vs (world s (marks' ++ mark.Call a.site ∷ [])))
-            (λ v w. run (loaded plan restores (leave test rest)) None (after_call g v) w))) _
-            (ap (λ o. with_value o (λ vs. on_return (call_in callee' a.spread false depth vs (world s (marks' ++ mark.Call a.site ∷ [])))
-            (λ v w. run (loaded plan restores (leave test rest)) None (after_call g v) w)))
-            (parts_are operator vs (length a.operands) g.places g.outgoing l ready.closure
-            (λ k v e. argument_out (argument_register k) (argument_slot k) g ∙ ap value_in (ready.ready k v (subst (λ m. k < m) l (below_length vs k v e)) e))))
-            (on_return_ends (call_in callee a.spread false depth (operator ∷ vs) (world s (marks ++ mark.Call a.site ∷ []))) (call_in callee' a.spread false depth (operator ∷ vs) (world s (marks' ++ mark.Call a.site ∷ []))) _ _
-            (call_in_ends callee callee' follow a.spread false depth (operator ∷ vs) s (marks ++ mark.Call a.site ∷ []) (marks' ++ mark.Call a.site ∷ []))
-            (λ v s marks marks'. returned L test rest next h a restores (p.0.0, λ x l. p.0.1 x (inr l)) p.1 environment saved f g (agrees_on plan (λ x l. inr l) r)
-            (λ j clear. ready.kept j ∙ aside_other vs plan.aside f (Slot j) (λ k low below. clear k low (omega (arith, l, below)))) v s marks marks')))
+  same_call a restores inside L u p n test rest environment saved f s marks marks' next r h = by (operand_values environment s.store (a.operator ∷ a.operands)) refl where
+    by : (ys : Option (List Value)) → operand_values environment s.store (a.operator ∷ a.operands) ≡ ys
+        → EndsAs (with_value ys
+        (λ vs. on_return (call_in callee a.spread false depth vs (marked (mark.Call a.site) (world s marks)))
+        (λ v w. next v (control.after_call (unmarked_reading plan).keeps restores environment saved) saved (mark_each (unmarked_reading plan) mark.Restore restores w))))
+        (run (lay plan (call a restores) inside n test rest) None f (world s marks'))
+    by None e = tt
+    by (Some vs) e =
+        let values : Values environment s.store (a.operator ∷ a.operands) vs = values_are environment s.store (a.operator ∷ a.operands) vs e in
+        brings_do plan callee' depth s false (FreeInCall plan (λ x. Perhaps (L x))) a p.0 (λ x. Mentions x (application_atoms a) ⊎ Perhaps (L x)) environment saved f r u (λ x l. inl l) vs values
+        (Mark (mark.Call a.site) ∷ (Call a.spread (length a.operands) ∷ loaded plan restores (leave test rest))) _
+        (λ g marks' there kept. onto_end _ _ _
+        (ap (λ o. with_value o (λ vs. on_return (call_in callee' a.spread false depth vs (world s (marks' ++ mark.Call a.site ∷ [])))
+        (λ v w. run (loaded plan restores (leave test rest)) None (after_call g v) w)))
+        (call_parts plan.limit vs (length a.operands) g (values_length environment s.store (a.operator ∷ a.operands) vs values) there))
+        (on_return_ends (call_in callee a.spread false depth vs (world s (marks ++ mark.Call a.site ∷ []))) (call_in callee' a.spread false depth vs (world s (marks' ++ mark.Call a.site ∷ []))) _ _
+        (call_in_ends callee callee' follow a.spread false depth vs s (marks ++ mark.Call a.site ∷ []) (marks' ++ mark.Call a.site ∷ []))
+        (λ v s marks marks'. returned L test rest next h restores p.1.1 environment saved f g (agrees_on plan (λ x l. inr l) r)
+        (λ x l t. kept (plan.place x) (call_leaves plan (λ x. Perhaps (L x)) a p.0 (plan.place x) t (p.1.0 x l) (λ q free. free.0 x l t)))
+        (λ x t. kept (plan.home x) (call_leaves plan (λ x. Perhaps (L x)) a p.0 (plan.home x) (homes.home x t).in_slot (homes.home x t).own (λ q free. free.1 x t))) v s marks marks'))) marks'
 
-  same_tail : (a : Application ℕ) (inside : ℕ → Bool) → AtomsHave Behind (application_atoms a) → RoomFor plan room (λ x. Mentions x (application_atoms a)) a → (n : ℕ) (test : Option ℕ) (rest : List Instruction)
+  same_tail : (a : Application ℕ) (inside : ℕ → Bool) → AtomsHave Behind (application_atoms a) → Brings plan true (FreeInTail plan) a → length a.operands ≤ 6 + plan.limit → (n : ℕ) (test : Option ℕ) (rest : List Instruction)
       → (environment saved : Environment) (f : Frame) (s : State Procedure) (marks marks' : List MarkKind) (next : Then)
       → Agrees plan (λ x. (x ≡ 0) ⊎ Mentions x (application_atoms a)) environment saved f.places
       → EndsAs (does (tail_call a) inside environment saved (world s marks) next) (run (lay plan (tail_call a) inside n test rest) None f (world s marks'))
-  same_tail a inside u fits n test rest environment saved f s marks marks' next r =
-      by (environment 0) refl (operand_value environment s.store a.operator) refl (operand_values environment s.store a.operands) refl where
-        by : (o : Option Value) → environment 0 ≡ o → (x : Option Value) → operand_value environment s.store a.operator ≡ x → (ys : Option (List Value)) → operand_values environment s.store a.operands ≡ ys
-            → EndsAs (with_value o (λ link. with_value (and_value x ys) (λ vs. call_in callee a.spread true depth vs (marked (mark.Tail a.site) (world s marks)))))
-            (run (prepared plan true a (Mark (mark.Tail a.site) ∷ (Tail a.spread (length a.operands) ∷ rest))) None f (world s marks'))
-        by None eo x ex ys ey = tt
-        by (Some back) eo None ex ys ey = tt
-        by (Some back) eo (Some operator) ex None ey = tt
-        by (Some back) eo (Some operator) ex (Some vs) ey =
-            let values : Values environment s.store a.operands vs = values_are environment s.store a.operands vs ey in
-            let l : length vs ≡ length a.operands = values_length environment s.store a.operands vs values in
-            let f0 : Frame = put_aside plan.aside operator vs f in
-            let moves = tail_moves plan room homes callee' depth f0 in
-            prepared_does plan room homes callee' depth true (length a.operands) own_view moved_in (LinkOf f0) moves operator vs l
-            (λ x. Mentions x (application_atoms a)) a environment saved f (world s marks') _ _ refl fits (agrees_on plan (λ x l. inr l) r) (atoms_live _ (application_atoms a) u (λ x l. l)) ex values refl
-            (λ g ready. onto_end _ (call_in callee' a.spread true depth (operator ∷ vs) (world s (marks' ++ mark.Tail a.site ∷ []))) _
-            (ap (λ c. if_link c (with_value (parts g.places (λ j. g.places (Slot j)) (length a.operands)) (λ vs. call_in callee' a.spread true depth vs (world s (marks' ++ mark.Tail a.site ∷ [])))))
-            (ready.kept ∙ (aside_other vs plan.aside f link_register tt ∙ (ap f.places (sym homes.link) ∙ r.here 0 back (inl refl) eo)))
-            ∙ ap (λ o. with_value o (λ vs. call_in callee' a.spread true depth vs (world s (marks' ++ mark.Tail a.site ∷ []))))
-            (parts_are operator vs (length a.operands) g.places (λ j. g.places (Slot j)) l ready.closure
-            (λ k v e. argument_own (argument_register k) (argument_slot k) g ∙ ap value_in (ready.ready k v (subst (λ m. k < m) l (below_length vs k v e)) e))))
-            (call_in_ends callee callee' follow a.spread true depth (operator ∷ vs) s (marks ++ mark.Tail a.site ∷ []) (marks' ++ mark.Tail a.site ∷ [])))
+  same_tail a inside u b few n test rest environment saved f s marks marks' next r = by (environment 0) refl (operand_values environment s.store (a.operator ∷ a.operands)) refl where
+    by : (o : Option Value) → environment 0 ≡ o → (ys : Option (List Value)) → operand_values environment s.store (a.operator ∷ a.operands) ≡ ys
+        → EndsAs (with_value o (λ link. with_value ys (λ vs. call_in callee a.spread true depth vs (marked (mark.Tail a.site) (world s marks)))))
+        (run (lay plan (tail_call a) inside n test rest) None f (world s marks'))
+    by None eo ys e = tt
+    by (Some back) eo None e = tt
+    by (Some back) eo (Some vs) e =
+        let values : Values environment s.store (a.operator ∷ a.operands) vs = values_are environment s.store (a.operator ∷ a.operands) vs e in
+        brings_do plan callee' depth s true (FreeInTail plan) a b (λ x. (x ≡ 0) ⊎ Mentions x (application_atoms a)) environment saved f r u (λ x l. inr l) vs values
+        (Mark (mark.Tail a.site) ∷ (Tail a.spread (length a.operands) ∷ rest)) _
+        (λ g marks' there kept. onto_end _ (call_in callee' a.spread true depth vs (world s (marks' ++ mark.Tail a.site ∷ []))) _
+        (ap (λ c. if_link c (with_value (parts g.places (λ j. g.places (Slot j)) (length a.operands)) (λ vs. call_in callee' a.spread true depth vs (world s (marks' ++ mark.Tail a.site ∷ [])))))
+        (kept link_register (tail_leaves plan a b) ∙ (ap f.places (sym homes.link) ∙ r.here 0 back (inl refl) eo))
+        ∙ ap (λ o. with_value o (λ vs. call_in callee' a.spread true depth vs (world s (marks' ++ mark.Tail a.site ∷ []))))
+        (tail_parts plan.limit vs (length a.operands) g (values_length environment s.store (a.operator ∷ a.operands) vs values) few there))
+        (call_in_ends callee callee' follow a.spread true depth vs s (marks ++ mark.Tail a.site ∷ []) (marks' ++ mark.Tail a.site ∷ []))) marks'
 
   -- A variable that is bound is stored where it is inside a region, and so for a moment it is live beside what is live then.
   abbrev WithIt : ℕ → (live : ℕ → Type 0) → ℕ → Type 0
   WithIt x live z = (z ≡ x) ⊎ live z
 
-  pub same : (e : Expression) (inside : ℕ → Bool) (L : Later) → Uses Behind e → Placed plan room e inside L → (n : ℕ) (test : Option ℕ) (rest : List Instruction) → Below test n
-      → (environment saved : Environment) (f : Frame) (s : State Procedure) (marks marks' : List MarkKind) (next : Then) → Agrees plan (λ x. Live x e (L x)) environment saved f.places → Next L test rest next
+  pub same : (e : Expression) (inside : ℕ → Bool) (L : Later) → Uses Behind e → Placed plan e inside L → (n : ℕ) (test : Option ℕ) (rest : List Instruction) → Below test n
+      → (environment saved : Environment) (f : Frame) (s : State Procedure) (marks marks' : List MarkKind) (next : Then) → Agrees plan (λ x. LiveOrSaved x e (L x)) environment saved f.places → Next L test rest next
       → EndsAs (does e inside environment saved (world s marks) next) (run (lay plan e inside n test rest) None f (world s marks'))
   same (perform o) inside L u p n test rest below environment saved f s marks marks' next r h =
       given_ends marks marks' (operate environment o s) (operate (held f) (operation_at plan.place o) s) _ _
-      (operate_follows plan.place (Lives (λ x. Live x (perform o) (L x))) environment (held f) (found plan (λ x. Live x (perform o) (L x)) f r) o s (atoms_live _ (operation_atoms o) u (λ x l. inl l)))
+      (operate_follows plan.place (Lives (λ x. LiveOrSaved x (perform o) (L x))) environment (held f) (found plan (λ x. LiveOrSaved x (perform o) (L x)) f r) o s (atoms_live _ (operation_atoms o) u (λ x l. inl l)))
       (λ v s' e. onto_end (next v environment saved (world s' marks)) _ _ (leaving test rest (record f { accumulator = Is v }) (world s' marks') v refl)
       (h v environment saved (record f { accumulator = Is v }) s' marks marks' (agrees_on plan (λ x l. inr (after_value o (L x) environment s s' v e l)) r) refl))
   same (bind x a b) inside L u p n test rest below environment saved f s marks marks' next r h =
-      same a inside (λ z t. Across x z (Live z b (L z))) u.1.0 p.1.0 n None _ tt environment saved f s marks marks' _ r
+      same a inside (λ z t. Across x z (LiveOrSaved z b (L z))) u.1.0 p.1.0 n None _ tt environment saved f s marks marks' _ r
       (λ v environment saved f s marks marks' r e.
-      stored_does (WithIt x (λ z. Live z b (L z))) (filter inside (x ∷ [])) (each_filtered (WithIt x (λ z. Live z b (L z))) inside (x ∷ []) (inl refl, tt))
+      under_does plan.limit callee' depth s (spill plan x) (Store (plan.place x)) _ f _
+      (λ marks'. stored_does (WithIt x (λ z. LiveOrSaved z b (L z))) (filter inside (x ∷ [])) (each_filtered (WithIt x (λ z. LiveOrSaved z b (L z))) inside (x ∷ []) (inl refl, tt))
       (put environment x v) saved (with_place f (plan.place x) f.accumulator) s marks' _ _
-      (bound plan room homes (WithIt x (λ z. Live z b (L z))) x (agrees_on plan (λ z l. (l.0, not_itself l.0 l.1)) r) (λ z l i. p.0 z (not_itself i l) i) v f.accumulator (e ∙ is_meant x v u.0))
-      (λ g marks' a' e'. at_state (λ w. does b inside (put environment x v) (put_if (inside x) saved x v) w next) _ (mark_bound (placed_reading plan) inside x (world s marks)) s
-      (bound_noted (placed_reading plan) inside x (world s marks))
+      (bound plan homes (WithIt x (λ z. LiveOrSaved z b (L z))) x (agrees_on plan (λ z l. (l.0, not_itself l.0 l.1)) r) (λ z l i. p.0 z (not_itself i l) i) v f.accumulator (e ∙ is_meant x v u.0))
+      (λ g marks' a' e'. at_state (λ w. does b inside (put environment x v) (put_if (inside x) saved x v) w next) _ (mark_bound (unmarked_reading plan) inside x (world s marks)) s
+      (bound_noted (unmarked_reading plan) inside x (world s marks))
       (λ marks. same b inside L u.1.1 p.1.1 (n + labels a) test rest (below_up test n (n + labels a) (omega arith) below)
       (put environment x v) (put_if (inside x) saved x v) g s marks marks' next
-      (agrees_on plan (λ z l. inr l) (agrees_as plan (λ z. refl) (one_saved inside environment saved x v) a')) h))) where
+      (agrees_on plan (λ z l. inr l) (agrees_as plan (λ z. refl) (one_saved inside environment saved x v) a')) h))) marks') where
         is_meant : (x : ℕ) (v : Value) → Behind x → Is v ≡ meant x v
         is_meant zero v b = absurd b
         is_meant (suc x) v b = refl
   same (sequence a b) inside L u p n test rest below environment saved f s marks marks' next r h =
-      same a inside (λ x t. Live x b (L x)) u.0 p.0 n None _ tt environment saved f s marks marks' _ r
+      same a inside (λ x t. LiveOrSaved x b (L x)) u.0 p.0 n None _ tt environment saved f s marks marks' _ r
       (λ v environment saved f s marks marks' r e. same b inside L u.1 p.1 (n + labels a) test rest (below_up test n (n + labels a) (omega arith) below)
       environment saved f s marks marks' next r h)
   same (branch a b d) inside L u p n test rest below environment saved f s marks marks' next r h =
-      same a inside (λ x t. MatchBool t (Live x b (L x)) (Live x d (L x))) u.0 p.0 (suc (suc n)) (Some n) _ (omega arith) environment saved f s marks marks' _ r
+      same a inside (λ x t. MatchBool t (LiveOrSaved x b (L x)) (LiveOrSaved x d (L x))) u.0 p.0 (suc (suc n)) (Some n) _ (omega arith) environment saved f s marks marks' _ r
       (λ v environment saved f s marks marks' r e. either_ends (is_true v) _ _ _ _
       (λ t. same b inside L u.1.0 p.1.0 (suc (suc (n + labels a))) test _ (below_up test n _ (omega arith) below) environment saved f s marks marks' next
-      (agrees_on plan (λ x l. subst (λ z. MatchBool z (Live x b (L x)) (Live x d (L x))) (sym t) l) r)
+      (agrees_on plan (λ x l. subst (λ z. MatchBool z (LiveOrSaved x b (L x)) (LiveOrSaved x d (L x))) (sym t) l) r)
       (λ v environment saved f s marks marks' r e. onto_end (next v environment saved (world s marks)) _ _
       (joined d inside n (suc (suc (n + labels a + labels b))) test rest v f (world s marks') (omega arith) below) (h v environment saved f s marks marks' r e)))
       (λ t. onto_end (does d inside environment saved (world s marks) next) _ _
       (past callee' depth plan b inside (suc (suc (n + labels a))) test _ n f (world s marks') (omega arith)
       ∙ ap (λ z. run (lay plan d inside (suc (suc (n + labels a + labels b))) test (Label (suc n) ∷ rest)) (cond z None (Some n)) f (world s marks')) (eq-eqb n n refl))
       (same d inside L u.1.1 p.1.1 (suc (suc (n + labels a + labels b))) test _ (below_up test n _ (omega arith) below) environment saved f s marks marks' next
-      (agrees_on plan (λ x l. subst (λ z. MatchBool z (Live x b (L x)) (Live x d (L x))) (sym t) l) r)
+      (agrees_on plan (λ x l. subst (λ z. MatchBool z (LiveOrSaved x b (L x)) (LiveOrSaved x d (L x))) (sym t) l) r)
       (λ v environment saved f s marks marks' r e. onto_end (next v environment saved (world s marks)) _ _ (ended n test rest v f (world s marks') below) (h v environment saved f s marks marks' r e)))))
   same (fix members e) inside L u p n test rest below environment saved f s marks marks' next r h =
-      same_group members e inside (λ x. Live x e (L x)) u.0 u.1.0 p.0 (lay plan e inside n test rest) next
+      same_group members e inside (λ x. LiveOrSaved x e (L x)) u.0 u.1.0 p.0 (lay plan e inside n test rest) next
       (λ environment saved f s r marks marks'. same e inside L u.1.1 p.1 n test rest below environment saved f s marks marks' next r h) environment saved f s marks marks' r
   same (call a restores) inside L u p n test rest below environment saved f s marks marks' next r h = same_call a restores inside L u p n test rest environment saved f s marks marks' next r h
-  same (tail_call a) inside L u p n test rest below environment saved f s marks marks' next r h = same_tail a inside u p n test rest environment saved f s marks marks' next r
+  same (tail_call a) inside L u p n test rest below environment saved f s marks marks' next r h = same_tail a inside u p.0 p.1 n test rest environment saved f s marks marks' next r
   same (return e) inside L u p n test rest below environment saved f s marks marks' next r h =
       same e inside (λ x t. x ≡ 0) u p n None _ tt environment saved f s marks marks' _ r (λ v environment saved f s marks marks' r i. same_return environment saved rest f s marks marks' v r i)
   same (end e) inside L u p n test rest below environment saved f s marks marks' next r h =
       same e inside (λ x t. ⊥) u p n None _ tt environment saved f s marks marks' _ r (λ v environment saved f s marks marks' r i. refl)
   same (save saves e) inside L u p n test rest below environment saved f s marks marks' next r h =
-      stored_does (λ x. Live x (save saves e) (L x)) (heads e saves) (each_of (λ x. Live x (save saves e) (L x)) (heads e saves) (λ x l. inl l)) environment saved f s marks' _ _ r
+      stored_does (λ x. LiveOrSaved x (save saves e) (L x)) (heads e saves) (each_of (λ x. LiveOrSaved x (save saves e) (L x)) (heads e saves) (λ x l. inl l)) environment saved f s marks' _ _ r
       (λ g marks' a i. at_state (λ w. does e (with_region saves inside) environment (save_each (heads e saves) environment saved) w next) _
-      (mark_each (placed_reading plan) mark.Save (heads e saves) (world s marks)) s (each_noted (placed_reading plan) mark.Save (heads e saves) (world s marks))
+      (mark_each (unmarked_reading plan) mark.Save (heads e saves) (world s marks)) s (each_noted (unmarked_reading plan) mark.Save (heads e saves) (world s marks))
       (λ marks. same e (with_region saves inside) L u p n test rest below environment (save_each (heads e saves) environment saved) g s marks marks' next (agrees_on plan (λ x l. inr l) a) h))

@@ -17,17 +17,8 @@ use Rattle.sch_control.specs.Operations.{Procedure, atom_value, atom_values, ope
 use Rattle.sch_control.specs.AtomsAndSites.{operand_atoms, operands_atoms, source_atom, source_atoms, operation_atoms, member_atoms}
 use Rattle.sch_frames.specs.Does.{Follows}
 use Rattle.sch_frames.proofs.EndsAlike.{follows_same, onto, and_value_follows, read_follows, with_some_follows}
+use Rattle.sch_layout.specs.Laws.{AtomHas, AtomsHave}
 use Rattle.sch_layout.specs.BodyLayout.{atom_at, atoms_at, operand_at, operands_at, operation_at, source_at, sources_at, members_at}
-
--- each variable among atoms has a property
-abbrev pub AtomHas : (ℕ → Type 0) → Atom ℕ → Type 0
-AtomHas P (Constant c) = Unit {0}
-AtomHas P (Literal n) = Unit {0}
-AtomHas P (Variable x) = P x
-
-abbrev pub AtomsHave : (ℕ → Type 0) → List (Atom ℕ) → Type 0
-AtomsHave P [] = Unit {0}
-AtomsHave P (a ∷ atoms) = AtomHas P a × AtomsHave P atoms
 
 pub have_left : (P : ℕ → Type 0) (xs ys : List (Atom ℕ)) → AtomsHave P (xs ++ ys) → AtomsHave P xs
 have_left P [] ys h = tt

@@ -1,5 +1,5 @@
 -- What a body's places hold: the values of its live variables, and where it returns; and the same of what is saved.
-use Rattle.std.proofs.Common.{◌≡◌, ◌≢◌, ℕ, zero, suc, ◌<◌, ◌≤◌, List, [], ◌∷◌, length, Option, Some, None, Bool, true, false, cond, refl, sym, ap, ◌∙◌, subst, arith}
+use Rattle.std.proofs.Common.{◌≡◌, ◌≢◌, ℕ, zero, suc, List, [], ◌∷◌, length, Option, Some, None, Bool, true, false, cond, refl, sym, ap, ◌∙◌, subst, arith}
 use Rattle.std.specs.Prelude.{nat_eq}
 use Rattle.std.proofs.lemmas.Bool.{eqb-true, eqb-false, eq-eqb, ne_eqb}
 use Rattle.sch_word.specs.declared.place.Place.{Place}
@@ -11,45 +11,14 @@ use Rattle.sch_control.specs.declared.operation.Atom.{Atom}
 use Rattle.sch_control.specs.declared.operation.Atom.TheVariants.{Constant, Literal, Variable}
 use Rattle.sch_control.specs.declared.operation.Member.{Member}
 use Rattle.sch_control.specs.Meaning.{Environment, put, put_each}
-use Rattle.sch_control.specs.AtomsAndSites.{operation_atoms, application_atoms, member_atoms}
-use Rattle.sch_control.specs.Tree.{Expression, perform, bind, sequence, branch, fix, call, tail_call, return, end, save}
 use Rattle.sch_control.specs.Valid.{member_variables}
 use Rattle.sch_frames.specs.Does.{Follows}
-use Rattle.sch_frames.specs.Meaning.{Cell, Is, Link, Junk, Frame, value_in, held, same_place, set, with_place, with_members, kept}
+use Rattle.sch_frames.specs.Meaning.{Cell, Is, Link, Junk, Frame, value_in, held, is_slot, same_place, set, with_place, with_members, kept}
 use Rattle.sch_frames.proofs.FramePlaces.{set_other, set_self}
-use Rattle.sch_layout.specs.BodyLayout.{Plan, is_slot, members_at}
-use Rattle.sch_layout.specs.Live.{Mentions, Across}
-use Rattle.sch_layout.specs.SharedPlaces.{EachHas, OutsideSlots, Homes, Alone}
-use Rattle.sch_layout.proofs.does.OperationsFollow.{AtomsHave}
-
--- ## Variables that an expression uses
-
--- each variable to which a group is bound has a property
-abbrev pub MembersUse : (ℕ → Type 0) → List (Member ℕ) → Type 0
-MembersUse P [] = Unit {0}
-MembersUse P (m ∷ members) = P m.at × MembersUse P members
-
--- each variable that an expression reads or binds has a property
-abbrev pub Uses : (ℕ → Type 0) → Expression → Type 0
-Uses P (perform o) = AtomsHave P (operation_atoms o)
-Uses P (bind x a b) = P x × (Uses P a × Uses P b)
-Uses P (sequence a b) = Uses P a × Uses P b
-Uses P (branch a b c) = Uses P a × (Uses P b × Uses P c)
-Uses P (fix members e) = MembersUse P members × (AtomsHave P (member_atoms members) × Uses P e)
-Uses P (call a restores) = AtomsHave P (application_atoms a)
-Uses P (tail_call a) = AtomsHave P (application_atoms a)
-Uses P (return e) = Uses P e
-Uses P (end e) = Uses P e
-Uses P (save saves e) = Uses P e
-
--- a variable behind the return address
-abbrev pub Behind : ℕ → Type 0
-Behind zero = ⊥
-Behind (suc x) = Unit {0}
-
--- behind the return address, and below a number
-abbrev pub Within : ℕ → ℕ → Type 0
-Within n x = Behind x × (x < n)
+use Rattle.sch_layout.specs.BodyLayout.{Plan, members_at}
+use Rattle.sch_control.specs.flow.Live.{Mentions, Across}
+use Rattle.sch_layout.specs.SharedPlaces.{EachHas, Homes, Alone}
+use Rattle.sch_layout.specs.Laws.{AtomsHave, Behind, MembersUse}
 
 -- a variable behind the return address that is live
 abbrev pub Lives : (live : ℕ → Type 0) → ℕ → Type 0
@@ -80,16 +49,6 @@ flipped (Reg a) (Reg b) e = ne_eqb b a (λ i. eqb-false a b e (sym i))
 flipped (Slot a) (Slot b) e = ne_eqb b a (λ i. eqb-false a b e (sym i))
 flipped (Reg a) (Slot b) e = refl
 flipped (Slot a) (Reg b) e = refl
-
--- what is clear of some slots is clear of fewer
-pub clear_before : (first room before : ℕ) (p : Place) → before ≤ room → OutsideSlots first room p → OutsideSlots first before p
-clear_before first room before (Reg r) le c = tt
-clear_before first room before (Slot j) le c = λ k low lt. c k low (omega (arith, lt, le))
-
--- and is none of them
-pub in_room : (first room slot : ℕ) (p : Place) → OutsideSlots first room p → first ≤ slot → slot < room → same_place p (Slot slot) ≡ false
-in_room first room slot (Reg r) c low lt = refl
-in_room first room slot (Slot j) c low lt = ne_eqb j slot (c slot low lt)
 
 pub none_some : {A : Type 0} (v : Value) → None ≡ Some v → A
 none_some v e = absurd (cc)
@@ -126,15 +85,7 @@ module _ (plan : Plan) where
     by None e = tt
     by (Some v) e = ap value_in (r.here (suc x) v b.1 e)
 
-module _ (plan : Plan) (room : ℕ) (homes : Homes plan room) where
-  -- what is kept in places but some slots of what is set aside is kept
-  pub agrees_kept : (live : ℕ → Type 0) (before : ℕ) → before ≤ room → ((x : ℕ) → live x → OutsideSlots plan.aside before (plan.place x)) → {environment saved : Environment} (places places' : Place → Cell)
-      → Agrees plan live environment saved places → ((p : Place) → OutsideSlots plan.aside before p → places' p ≡ places p) → Agrees plan live environment saved places'
-  agrees_kept live before le clear places places' r k = record {
-    here = λ x v l h. k (plan.place x) (clear x l) ∙ r.here x v l h;
-    home = λ x v s h. k (plan.home x) (clear_before plan.aside room before (plan.home x) le (homes.home x s).clear) ∙ r.home x v s h;
-  }
-
+module _ (plan : Plan) (homes : Homes plan) where
   -- after a variable is bound and its place holds the value
   pub bound : (live : ℕ → Type 0) {environment saved : Environment} {places : Place → Cell} (x : ℕ) → Agrees plan (λ y. Across x y (live y)) environment saved places → Alone plan live x
       → (v : Value) (c : Cell) → c ≡ meant x v → Agrees plan live (put environment x v) saved (set places (plan.place x) c)
@@ -220,22 +171,19 @@ module _ (plan : Plan) (room : ℕ) (homes : Homes plan room) where
     by x v l false true e i h = absurd (false_true s (subst (λ z. is_slot (plan.place z) ≡ false) (eqb-true x y i) e))
     by x v l false false e i h = r.here x v l h
 
-  -- after a call, in a frame whose slots are those before it but where operands were set aside: what lives in slots
-  pub agrees_left : (live : ℕ → Type 0) (before : ℕ) → before ≤ room → ((x : ℕ) → live x → OutsideSlots plan.aside before (plan.place x)) → {environment saved : Environment} (places places' : Place → Cell)
-      → Agrees plan live environment saved places → ((j : ℕ) → OutsideSlots plan.aside before (Slot j) → places' (Slot j) ≡ places (Slot j))
+  -- after a call, in a frame where the slots of what is live and those of what is saved hold what they held
+  pub agrees_left : (live : ℕ → Type 0) {environment saved : Environment} (places places' : Place → Cell) → Agrees plan live environment saved places
+      → ((x : ℕ) → live x → is_slot (plan.place x) ≡ true → places' (plan.place x) ≡ places (plan.place x))
+      → ((x : ℕ) → is_slot (plan.place x) ≡ false → places' (plan.home x) ≡ places (plan.home x))
       → Agrees plan live (λ x. cond (is_slot (plan.place x)) (environment x) None) saved (kept places')
-  agrees_left live before le clear {environment} {saved} places places' r k = record {
-    here = λ x v l h. by (plan.place x) (clear x l) (environment x) v h ∙ r.here x v l (in_slot (is_slot (plan.place x)) (environment x) v h);
-    home = λ x v s h. slot (plan.home x) (homes.home x s).in_slot (clear_before plan.aside room before (plan.home x) le (homes.home x s).clear) ∙ r.home x v s h;
+  agrees_left live {environment} {saved} places places' r k j = record {
+    here = λ x v l h. by x v l (is_slot (plan.place x)) refl h;
+    home = λ x v s h. slot (plan.home x) (homes.home x s).in_slot ∙ j x s ∙ r.home x v s h;
   } where
-    in_slot : (t : Bool) (o : Option Value) (v : Value) → cond t o None ≡ Some v → o ≡ Some v
-    in_slot true o v h = h
-    in_slot false o v h = none_some v h
+    slot : (p : Place) → is_slot p ≡ true → kept places' p ≡ places' p
+    slot (Reg r) s = absurd (cc)
+    slot (Slot j) s = refl
 
-    by : (p : Place) → OutsideSlots plan.aside before p → (o : Option Value) (v : Value) → cond (is_slot p) o None ≡ Some v → kept places' p ≡ places p
-    by (Reg r) b o v h = none_some v h
-    by (Slot j) b o v h = k j b
-
-    slot : (p : Place) → is_slot p ≡ true → OutsideSlots plan.aside before p → kept places' p ≡ places p
-    slot (Reg r) s b = absurd (cc)
-    slot (Slot j) s b = k j b
+    by : (x : ℕ) (v : Value) → live x → (t : Bool) → is_slot (plan.place x) ≡ t → cond t (environment x) None ≡ Some v → kept places' (plan.place x) ≡ meant x v
+    by x v l true s h = slot (plan.place x) s ∙ k x l s ∙ r.here x v l h
+    by x v l false s h = none_some v h

@@ -16,9 +16,10 @@ use Rattle.sch_control.specs.Meaning.{World, Result, Environment, Then, Callee, 
 use Rattle.sch_control.specs.Operations.{part_values, operate, member_bytes, members_made, with_procedures}
 use Rattle.sch_control.specs.Tree.{Expression, perform, bind, sequence, branch, fix, call, tail_call, return, end, save}
 use Rattle.sch_control.specs.Valid.{is_bare}
-use Rattle.sch_layout.specs.BodyLayout.{placed_reading}
-use Rattle.sch_layout.specs.OwnSlots.{own_slots, restoring, saved_round, saved_tree}
-use Rattle.sch_layout.proofs.does.PlacesAgree.{MembersUse, Uses, Behind}
+use Rattle.sch_frames.specs.Meaning.{is_slot}
+use Rattle.sch_layout.specs.BodyLayout.{Plan, unmarked_reading}
+use Rattle.sch_layout.specs.Laws.{Behind, MembersUse, Uses}
+use Rattle.sch_layout.specs.OwnSlots.{restoring, saved_round, saved_tree}
 
 -- continuations with the same answers are the same
 same_continuation : {A B C : Type 0} {f g : A → B → C} → ((x : A) (y : B) → f x y ≡ g x y) → f ≡ g
@@ -68,24 +69,20 @@ plain_unnoted : (members : List (Member ℕ)) (w : World) → mark_members plain
 plain_unnoted [] w = refl
 plain_unnoted (m ∷ members) w = plain_unnoted members w
 
-module _ (base : ℕ) where
-  unnoted : (x : ℕ) → (placed_reading (own_slots base)).is_marked x ≡ false
-  unnoted zero = refl
-  unnoted (suc x) = refl
-
-  each_unnoted : (kind : ℕ → MarkKind) (xs : List ℕ) (w : World) → mark_each (placed_reading (own_slots base)) kind xs w ≡ w
+module _ (plan : Plan) where
+  each_unnoted : (kind : ℕ → MarkKind) (xs : List ℕ) (w : World) → mark_each (unmarked_reading plan) kind xs w ≡ w
   each_unnoted kind [] w = refl
-  each_unnoted kind (x ∷ xs) w = ap (λ b. mark_each (placed_reading (own_slots base)) kind xs (marked_if b (kind x) w)) (unnoted x) ∙ each_unnoted kind xs w
+  each_unnoted kind (x ∷ xs) w = each_unnoted kind xs w
 
-  bound_unnoted : (inside : ℕ → Bool) (x : ℕ) (w : World) → mark_bound (placed_reading (own_slots base)) inside x w ≡ w
-  bound_unnoted inside x w = ap (λ b. marked_if (cond (inside x) b false) (mark.Save x) w) (unnoted x) ∙ none (inside x) where
+  bound_unnoted : (inside : ℕ → Bool) (x : ℕ) (w : World) → mark_bound (unmarked_reading plan) inside x w ≡ w
+  bound_unnoted inside x w = none (inside x) where
     none : (b : Bool) → marked_if (cond b false false) (mark.Save x) w ≡ w
     none true = refl
     none false = refl
 
-  members_unnoted : (inside : ℕ → Bool) (members : List (Member ℕ)) (w : World) → mark_members (placed_reading (own_slots base)) inside members w ≡ w
+  members_unnoted : (inside : ℕ → Bool) (members : List (Member ℕ)) (w : World) → mark_members (unmarked_reading plan) inside members w ≡ w
   members_unnoted inside [] w = refl
-  members_unnoted inside (m ∷ members) w = ap (mark_members (placed_reading (own_slots base)) inside members) (bound_unnoted inside m.at w) ∙ members_unnoted inside members w
+  members_unnoted inside (m ∷ members) w = ap (mark_members (unmarked_reading plan) inside members) (bound_unnoted inside m.at w) ∙ members_unnoted inside members w
 
 -- ## What is bound leaves the return address
 
@@ -110,23 +107,23 @@ inside_zero inside (m ∷ members) (v ∷ vs) saved h =
 
 -- ## Expressions
 
-module _ (base : ℕ) (xs : List ℕ) (callee : Callee) (depth : ℕ) where
+module _ (plan : Plan) (link : is_slot (plan.place 0) ≡ false) (slots : (x : ℕ) → is_slot (plan.place (suc x)) ≡ true) (xs : List ℕ) (callee : Callee) (depth : ℕ) where
   abbrev plainly : Expression → Environment → Environment → World → Then → Result
   plainly e environment saved w next = evaluate plain callee depth e no_region environment saved w next
 
   abbrev restored : Expression → (inside : ℕ → Bool) → Environment → Environment → World → Then → Result
-  restored e inside environment saved w next = evaluate (placed_reading (own_slots base)) callee depth (restoring xs e) inside environment saved w next
+  restored e inside environment saved w next = evaluate (unmarked_reading plan) callee depth (restoring xs e) inside environment saved w next
 
   -- the return address is what is saved of it, if it is restored, and else there is none
   abbrev Held : Environment → Environment → Type 0
   Held environment saved = cond (has 0 xs) (saved 0) None ≡ environment 0
 
   -- so a call leaves what there was
-  left : (environment saved : Environment) → Held environment saved → after_call (placed_reading (own_slots base)).keeps xs environment saved ≡ environment
+  left : (environment saved : Environment) → Held environment saved → after_call (unmarked_reading plan).keeps xs environment saved ≡ environment
   left environment saved h = fun_ext by where
-    by : (x : ℕ) → after_call (placed_reading (own_slots base)).keeps xs environment saved x ≡ environment x
-    by zero = h
-    by (suc x) = refl
+    by : (x : ℕ) → after_call (unmarked_reading plan).keeps xs environment saved x ≡ environment x
+    by zero = ap (λ t. cond t (environment 0) (cond (has 0 xs) (saved 0) None)) link ∙ h
+    by (suc x) = ap (λ t. cond t (environment (suc x)) (cond (has (suc x) xs) (saved (suc x)) None)) (slots x)
 
   put_held : (environment saved : Environment) (b : Bool) (x : ℕ) (v : Value) → nat_eq 0 x ≡ false → Held environment saved → Held (put environment x v) (put_if b saved x v)
   put_held environment saved b x v e h = ap (λ o. cond (has 0 xs) o None) (put_if_zero b saved x v e) ∙ (h ∙ sym (put_zero environment x v e))
@@ -146,7 +143,7 @@ module _ (base : ℕ) (xs : List ℕ) (callee : Callee) (depth : ℕ) where
       does_restored a parts.0 (not_left (binds 0 a) _ free) inside environment saved saved' w _ _ held
       (λ v environment saved saved' w held.
       does_restored b parts.1 (not_right (binds 0 a) _ free) inside (put environment x v) saved (put_if (inside x) saved' x v) w next next' (put_held environment saved' (inside x) x v (not_left (nat_eq 0 x) _ u) held) h
-      ∙ ap (λ w. restored b inside (put environment x v) (put_if (inside x) saved' x v) w next') (sym (bound_unnoted base inside x w)))
+      ∙ ap (λ w. restored b inside (put environment x v) (put_if (inside x) saved' x v) w next') (sym (bound_unnoted plan inside x w)))
   does_restored (sequence a b) c u inside environment saved saved' w next next' held h =
       let parts = and_parts (is_bare a) _ c in
       does_restored a parts.0 (not_left (binds 0 a) _ u) inside environment saved saved' w _ _ held
@@ -168,13 +165,13 @@ module _ (base : ℕ) (xs : List ℕ) (callee : Callee) (depth : ℕ) where
       ap (λ t. plainly e inner (put_inside no_region saved members vs) t next) (plain_unnoted members (record { state = s; marks = w.marks }))
       ∙ (does_restored e c (not_right (among 0 members) _ u) inside inner (put_inside no_region saved members vs) (put_inside inside saved' members vs) (record { state = s; marks = w.marks }) next next'
       (group_held environment saved' inside members vs group held) h
-      ∙ ap (λ t. restored e inside inner (put_inside inside saved' members vs) t next') (sym (members_unnoted base inside members (record { state = s; marks = w.marks }))))))))
+      ∙ ap (λ t. restored e inside inner (put_inside inside saved' members vs) t next') (sym (members_unnoted plan inside members (record { state = s; marks = w.marks }))))))))
   does_restored (call a []) c u inside environment saved saved' w next next' held h =
       ap (with_value (part_values environment w.state.store a)) (fun_ext (λ vs.
       ap (on_return (call_in callee a.spread false depth vs (marked (mark.Call a.site) w))) (same_continuation (λ v w.
       h v environment saved saved' w held
-      ∙ (ap (λ t. next' v environment saved' t) (sym (each_unnoted base mark.Restore xs w))
-      ∙ ap (λ t. next' v t saved' (mark_each (placed_reading (own_slots base)) mark.Restore xs w)) (sym (left environment saved' held)))))))
+      ∙ (ap (λ t. next' v environment saved' t) (sym (each_unnoted plan mark.Restore xs w))
+      ∙ ap (λ t. next' v t saved' (mark_each (unmarked_reading plan) mark.Restore xs w)) (sym (left environment saved' held)))))))
   does_restored (call a (x ∷ restores)) c u inside environment saved saved' w next next' held h = absurd (cc)
   does_restored (tail_call a) c u inside environment saved saved' w next next' held h = refl
   does_restored (return e) c u inside environment saved saved' w next next' held h =
@@ -186,17 +183,17 @@ module _ (base : ℕ) (xs : List ℕ) (callee : Callee) (depth : ℕ) where
 -- ## Bodies
 
 -- a procedure has its return address saved round it; a form has none
-pub does_saved : (base : ℕ) (entered : Bool) (callee : Callee) (depth : ℕ) (e : Expression) → is_bare e ≡ true → binds 0 e ≡ false → (environment : Environment) → (entered ≡ false → environment 0 ≡ None)
+pub does_saved : (plan : Plan) → is_slot (plan.place 0) ≡ false → ((x : ℕ) → is_slot (plan.place (suc x)) ≡ true) → (entered : Bool) (callee : Callee) (depth : ℕ) (e : Expression) → is_bare e ≡ true → binds 0 e ≡ false → (environment : Environment) → (entered ≡ false → environment 0 ≡ None)
     → (w : World) (next : Then) → ((v : Value) (environment saved saved' : Environment) (w : World) → next v environment saved w ≡ next v environment saved' w)
     → evaluate plain callee depth e no_region environment nothing w next
-    ≡ evaluate (placed_reading (own_slots base)) callee depth (saved_tree entered e) no_region environment nothing w next
-does_saved base entered callee depth e c u environment without w next alike =
+    ≡ evaluate (unmarked_reading plan) callee depth (saved_tree entered e) no_region environment nothing w next
+does_saved plan link slots entered callee depth e c u environment without w next alike =
     let saved = save_each (heads (restoring (saved_round entered) e) (saved_round entered)) environment nothing in
-    does_restored base (saved_round entered) callee depth e c u (with_region (saved_round entered) no_region) environment nothing saved w next next
+    does_restored plan link slots (saved_round entered) callee depth e c u (with_region (saved_round entered) no_region) environment nothing saved w next next
     (held entered without) (λ v environment saved saved' w h. alike v environment saved saved' w)
-    ∙ ap (λ t. restored base (saved_round entered) callee depth e (with_region (saved_round entered) no_region) environment saved t next)
-    (sym (each_unnoted base mark.Save (heads (restoring (saved_round entered) e) (saved_round entered)) w)) where
+    ∙ ap (λ t. restored plan link slots (saved_round entered) callee depth e (with_region (saved_round entered) no_region) environment saved t next)
+    (sym (each_unnoted plan mark.Save (heads (restoring (saved_round entered) e) (saved_round entered)) w)) where
       held : (entered : Bool) → (entered ≡ false → environment 0 ≡ None)
-          → Held base (saved_round entered) callee depth environment (save_each (heads (restoring (saved_round entered) e) (saved_round entered)) environment nothing)
+          → Held plan link slots (saved_round entered) callee depth environment (save_each (heads (restoring (saved_round entered) e) (saved_round entered)) environment nothing)
       held true without = ap (λ b. save_each (unless b 0 []) environment nothing 0) (binds_restoring (0 ∷ []) 0 e ∙ u)
       held false without = sym (without refl)

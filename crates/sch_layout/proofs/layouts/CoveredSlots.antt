@@ -1,10 +1,11 @@
--- The layout of covered code is covered, and each layout begins with what is done.
-use Rattle.std.proofs.Common.{◌≡◌, ◌+◌, ℕ, suc, List, [], ◌∷◌, length, Option, Some, None, Bool, true, false, cond, refl, ap, ◌∙◌}
+-- The layout of covered code is covered, and each layout begins with what is done, perhaps under its mark.
+use Rattle.std.proofs.Common.{◌≡◌, ℕ, suc, List, [], ◌∷◌, Option, Some, None, Bool, true, false, refl, ap, ◌∙◌}
 use Rattle.std.specs.Prelude.{◌&&◌}
 use Rattle.std.specs.List.{list_all}
-use Rattle.std.proofs.lemmas.Bool.{and_parts, and_from}
+use Rattle.std.proofs.lemmas.Bool.{and_parts}
+use Rattle.sch_word.specs.declared.mark.MarkKind.{MarkKind}
+use Rattle.sch_word.specs.declared.mark.MarkKind.TheVariants as mark
 use Rattle.sch_word.specs.declared.place.Place.{Place}
-use Rattle.sch_word.specs.declared.place.Place.TheVariants.{Slot}
 use Rattle.sch_word.specs.trees.Covered.{is_covered_primitive}
 use Rattle.sch_control.specs.declared.operation.Application.{Application}
 use Rattle.sch_control.specs.declared.operation.Operand.{Operand}
@@ -13,29 +14,29 @@ use Rattle.sch_control.specs.declared.operation.Source.TheVariants as source
 use Rattle.sch_control.specs.declared.operation.Member.{Member}
 use Rattle.sch_control.specs.declared.operation.Operation.{Operation}
 use Rattle.sch_control.specs.declared.operation.Operation.TheVariants as operation
-use Rattle.sch_word.specs.declared.mark.MarkKind.TheVariants as mark
 use Rattle.sch_control.specs.Covered.{is_covered, is_covered_source, is_covered_member, is_covered_operation}
 use Rattle.sch_control.specs.CoveredOperands.{is_covered_operand}
 use Rattle.sch_control.specs.Meaning.{heads, no_region, with_region}
 use Rattle.sch_control.specs.Tree as control
 use Rattle.sch_control.specs.Tree.{Expression, perform, bind, sequence, branch, fix, call, tail_call, return, end, save}
 use Rattle.sch_frames.specs.declared.instruction.Instruction.{Instruction}
-use Rattle.sch_frames.specs.declared.instruction.Instruction.TheVariants.{Load}
-use Rattle.sch_frames.specs.Meaning.{closure_register}
-use Rattle.sch_frames.specs.Valid.{is_entered}
+use Rattle.sch_frames.specs.declared.instruction.Instruction.TheVariants.{Copy}
 use Rattle.sch_frames.specs.Covered.{is_covered_instruction, begins, code_begins}
-use Rattle.sch_layout.specs.BodyLayout.{Plan, copied, is_slot, operand_at, source_at, sources_at, members_at, operation_at, set_aside, hand_over, prepared, stored, lay}
-use Rattle.sch_layout.specs.OwnSlots.{saved_tree, slots_for, slots_layout, slots_code}
-use Rattle.sch_layout.proofs.EntryCopies.{entering_has}
-use Rattle.sch_layout.proofs.does.EntryStores.{entering_passes}
-use Rattle.sch_layout.proofs.layouts.InstructionTests.{Steers, Leads, Passes, Loads, Unplaced, handed_passes, prepared_passes, tree_passes, unplaced_carries}
+use Rattle.sch_frames.specs.Valid.{formals_of, is_entered, max_words}
+use Rattle.sch_layout.specs.BodyLayout.{Plan, arrived, move_all, operand_at, source_at, sources_at, members_at, operation_at, stored, under, lay}
+use Rattle.sch_layout.specs.OwnSlots.{saved_tree, slots_base, slots_for, slots_layout, slots_code}
+use Rattle.sch_layout.proofs.CarriedCopies.{carried_has}
+use Rattle.sch_layout.proofs.EntryCopies.{entering_has, spill_has}
+use Rattle.sch_layout.proofs.MovesHave.{each_move, moves_have}
+use Rattle.sch_layout.proofs.layouts.InstructionTests.{Given, Passes, Steers, Takes, Unplaced, entering_passes, moves_pass, tree_passes, unplaced_carries}
+use Rattle.sch_layout.proofs.layouts.OwnTakes.{own_takes}
 use Rattle.sch_layout.proofs.layouts.OperandsKept.{atom_kept, operand_kept, operands_kept}
 
-covered_steers : Steers is_covered_instruction
-covered_steers = record { if_false = λ l. refl; jump = λ l. refl; label = λ l. refl; return_mark = refl; return = refl }
+pub covered_steers : Steers is_covered_instruction
+covered_steers = record { if_false = λ l. refl; jump = λ l. refl; label = λ l. refl; return = refl; marks = λ m e. refl }
 
 covered_unplaced : Unplaced is_covered_instruction
-covered_unplaced = record { copies = λ to from. refl; saves = λ x. refl; restores = λ x. refl; passes = λ j p. refl }
+covered_unplaced = record { copies = λ to from. refl; stores = λ to. refl; passes = λ k. refl; variables = λ p. refl }
 
 module _ (place : ℕ → Place) where
   source_covered : (c : Source ℕ) → is_covered_source (source_at place c) ≡ is_covered_source c
@@ -63,19 +64,12 @@ module _ (place : ℕ → Place) where
   operation_covered (operation.CellSet c o) = ap (λ b. b && is_covered_operand (operand_at place o)) (source_covered c) ∙ ap (λ b. is_covered_source c && b) (operand_kept place o)
   operation_covered (operation.MakeClosure c) = sources_covered c.fields
 
-module _ (plan : Plan) where
-  loads_covered : (operands : List (Operand ℕ)) (slot : ℕ) → list_all is_covered_operand operands ≡ true → Loads plan is_covered_instruction covered_steers slot operands
-  loads_covered [] slot h = tt
-  loads_covered (o ∷ operands) slot h = let parts = and_parts _ _ h in (operand_kept plan.place o ∙ parts.0, loads_covered operands (suc slot) parts.1)
+module _ (plan : Plan) (takes : Takes plan) where
+  given_covered : (operands : List (Operand ℕ)) → list_all is_covered_operand operands ≡ true → Given plan takes is_covered_instruction covered_steers covered_unplaced operands
+  given_covered [] h = tt
+  given_covered (o ∷ operands) h = let parts = and_parts _ _ h in (operand_kept plan.place o ∙ parts.0, given_covered operands parts.1)
 
-  prepared_covered : (tail : Bool) (a : Application ℕ) → (is_covered_operand a.operator && list_all is_covered_operand a.operands) ≡ true
-      → Leads plan is_covered_instruction covered_steers (prepared plan tail a)
-  prepared_covered tail a h =
-      let parts = and_parts _ _ h in
-      prepared_passes plan is_covered_instruction covered_steers tail a (operand_kept plan.place a.operator ∙ parts.0) (loads_covered a.operands plan.aside parts.1)
-      (λ k lt. handed_passes is_covered_instruction covered_unplaced tail k (Slot (plan.aside + k)))
-
-  parts_covered : (e : Expression) → is_covered e ≡ true → Passes plan is_covered_instruction covered_steers e
+  pub parts_covered : (e : Expression) → is_covered e ≡ true → Passes plan is_covered_instruction covered_steers e
   parts_covered (perform o) c = operation_covered plan.place o ∙ c
   parts_covered (bind x a b) c = let parts = and_parts _ _ c in (refl, (parts_covered a parts.0, parts_covered b parts.1))
   parts_covered (sequence a b) c = let parts = and_parts _ _ c in (parts_covered a parts.0, parts_covered b parts.1)
@@ -88,43 +82,43 @@ module _ (plan : Plan) where
   parts_covered (end e) c = (refl, parts_covered e c)
   parts_covered (call a restores) c =
       let parts = and_parts _ _ c in
-      λ rest i. prepared_covered false a parts.1 _ (and_from _ _ parts.0 i)
-  parts_covered (tail_call a) c = let parts = and_parts _ _ c in λ rest i. prepared_covered true a parts.1 _ (and_from _ _ parts.0 i)
+      (moves_pass plan takes is_covered_instruction covered_steers covered_unplaced false a (given_covered (a.operator ∷ a.operands) parts.1), parts.0)
+  parts_covered (tail_call a) c =
+      let parts = and_parts _ _ c in
+      (moves_pass plan takes is_covered_instruction covered_steers covered_unplaced true a (given_covered (a.operator ∷ a.operands) parts.1), parts.0)
   parts_covered (save saves e) c = parts_covered e c
 
-  -- where no mark is marked, what is stored begins with a copy
-  stored_begins : ((x : ℕ) → plan.is_marked x ≡ false) → (xs : List ℕ) (rest : List Instruction) → begins rest ≡ true → begins (stored plan xs rest) ≡ true
-  stored_begins none [] rest h = h
-  stored_begins none (x ∷ xs) rest h = one (is_slot (plan.place x)) (plan.is_marked x) (none x) (stored_begins none xs rest h) where
-    one : (t b : Bool) → b ≡ false → begins (stored plan xs rest) ≡ true → begins (cond t (stored plan xs rest) (copied b (mark.Save x) (plan.home x) (plan.place x) (stored plan xs rest))) ≡ true
-    one true b e h = h
-    one false true e h = absurd (cc)
-    one false false e h = refl
+module _ (plan : Plan) where
+  -- what is stored begins with a copy under its mark
+  stored_begins : (xs : List ℕ) (rest : List Instruction) → begins rest ≡ true → begins (stored plan xs rest) ≡ true
+  stored_begins = carried_has plan (λ is. begins is ≡ true) mark.Save plan.home plan.place (λ x i rest h. refl)
 
-  -- what is set aside, and then the operator, are loaded
-  prepared_begins : (tail : Bool) (a : Application ℕ) (rest : List Instruction) → begins (prepared plan tail a rest) ≡ true
-  prepared_begins tail a rest = loads a.operands where
-    loads : (operands : List (Operand ℕ)) → begins (set_aside plan.place plan.aside operands (Load closure_register (operand_at plan.place a.operator) ∷ hand_over tail 0 plan.aside (length a.operands) rest)) ≡ true
-    loads [] = refl
-    loads (o ∷ operands) = refl
+  moves_begin : (tail : Bool) (a : Application ℕ) (rest : List Instruction) → begins rest ≡ true → begins (move_all plan.limit (plan.moves tail a) rest) ≡ true
+  moves_begin tail a rest h = moves_have plan.limit (λ is. begins is ≡ true) (λ o to. Unit {0}) (λ p to good d m e is h. copied p to m is) (λ o to good m e is h. refl) (plan.moves tail a) (each_move _ (λ m. tt) (plan.moves tail a)) rest h where
+    copied : (p to : Place) (m : Option MarkKind) (is : List Instruction) → begins (under m (Copy to p) is) ≡ true
+    copied p to None is = refl
+    copied p to (Some m) is = refl
 
-  lay_begins : ((x : ℕ) → plan.is_marked x ≡ false) → (e : Expression) (inside : ℕ → Bool) (n : ℕ) (test : Option ℕ) (rest : List Instruction) → begins (lay plan e inside n test rest) ≡ true
-  lay_begins none (perform o) inside n test rest = refl
-  lay_begins none (bind x a b) inside n test rest = lay_begins none a inside n None _
-  lay_begins none (sequence a b) inside n test rest = lay_begins none a inside n None _
-  lay_begins none (branch a b d) inside n test rest = lay_begins none a inside (suc (suc n)) (Some n) _
-  lay_begins none (fix members e) inside n test rest = refl
-  lay_begins none (return e) inside n test rest = lay_begins none e inside n None _
-  lay_begins none (end e) inside n test rest = lay_begins none e inside n None _
-  lay_begins none (call a restores) inside n test rest = prepared_begins false a _
-  lay_begins none (tail_call a) inside n test rest = prepared_begins true a _
-  lay_begins none (save saves e) inside n test rest = stored_begins none (heads e saves) _ (lay_begins none e (with_region saves inside) n test rest)
+  lay_begins : (e : Expression) (inside : ℕ → Bool) (n : ℕ) (test : Option ℕ) (rest : List Instruction) → begins (lay plan e inside n test rest) ≡ true
+  lay_begins (perform o) inside n test rest = refl
+  lay_begins (bind x a b) inside n test rest = lay_begins a inside n None _
+  lay_begins (sequence a b) inside n test rest = lay_begins a inside n None _
+  lay_begins (branch a b d) inside n test rest = lay_begins a inside (suc (suc n)) (Some n) _
+  lay_begins (fix members e) inside n test rest = refl
+  lay_begins (return e) inside n test rest = lay_begins e inside n None _
+  lay_begins (end e) inside n test rest = lay_begins e inside n None _
+  lay_begins (call a restores) inside n test rest = moves_begin false a _ refl
+  lay_begins (tail_call a) inside n test rest = moves_begin true a _ refl
+  lay_begins (save saves e) inside n test rest = stored_begins (heads e saves) _ (lay_begins e (with_region saves inside) n test rest)
 
 pub layout_covered : (c : control.Code) → is_covered c.expression ≡ true → list_all is_covered_instruction (slots_layout c) ≡ true
 layout_covered c h =
-    entering_passes is_covered_instruction (λ to from. refl) (slots_for c) c.entry _
+    entering_passes (slots_for c) is_covered_instruction covered_steers c.entry (λ x lt e. refl) _
     (tree_passes (slots_for c) is_covered_instruction covered_steers (unplaced_carries (slots_for c) is_covered_instruction covered_steers covered_unplaced)
-    (is_entered c.entry) c.expression (parts_covered (slots_for c) c.expression h))
+    (is_entered c.entry) c.expression (parts_covered (slots_for c) (own_takes (formals_of c.entry) (slots_base c) c.variables max_words) c.expression h))
 
 pub slots_begin : (c : control.Code) → code_begins (slots_code c) ≡ true
-slots_begin c = entering_has (slots_for c) (λ is. begins is ≡ true) c.entry (λ x lt rest h. refl) _ (lay_begins (slots_for c) (λ x. refl) (saved_tree (is_entered c.entry) c.expression) no_region 0 None [])
+slots_begin c =
+    let plan = slots_for c in
+    entering_has plan (λ is. begins is ≡ true) c.entry (λ x lt e rest h. spill_has (λ m. begins (under m (Copy (plan.place x) (arrived x)) rest) ≡ true) plan x refl refl) _
+    (lay_begins plan (saved_tree (is_entered c.entry) c.expression) no_region 0 None [])

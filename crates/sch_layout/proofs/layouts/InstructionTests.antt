@@ -1,13 +1,16 @@
 -- Tests that each instruction of a layout passes.
-use Rattle.std.proofs.Common.{◌≡◌, ℕ, zero, suc, ◌+◌, ◌<◌, ◌≤◌, List, [], ◌∷◌, ◌++◌, length, Option, Some, None, Bool, true, false, ◌&&◌, refl, sym, ap, ◌∙◌, subst, arith}
-use Rattle.std.specs.Prelude.{filter, max}
+use Rattle.std.proofs.Common.{◌≡◌, ℕ, zero, suc, ◌+◌, ◌-◌, ◌<◌, ◌≤◌, List, [], ◌∷◌, ◌++◌, length, Option, Some, None, Bool, true, false, cond, ◌&&◌, refl, sym, ap, ◌∙◌, subst, arith, ◌⊎◌, inl, inr}
+use Rattle.std.specs.Prelude.{filter, max, nat_lt, not, slice_get}
 use Rattle.std.specs.List.{list_all}
 use Rattle.std.proofs.Math.Nat.{le-max_left, le-max_right}
-use Rattle.std.proofs.lemmas.Bool.{and_parts, and_from, le-leb, lt-ltb}
+use Rattle.std.proofs.lemmas.Bool.{and_parts, and_from, eq-eqb, le-leb, le-ltb, lt-ltb}
 use Rattle.std.proofs.lemmas.List.Folds.{list_all-append}
 use Rattle.sch_word.specs.declared.place.Place.{Place}
 use Rattle.sch_word.specs.declared.place.Place.TheVariants.{Reg, Slot}
+use Rattle.sch_word.specs.declared.mark.MarkKind.{MarkKind}
 use Rattle.sch_word.specs.declared.mark.MarkKind.TheVariants as mark
+use Rattle.sch_word.specs.runs.Activations.{is_enter}
+use Rattle.sch_control.specs.declared.body.Entry.{Entry}
 use Rattle.sch_control.specs.declared.operation.Atom.{Atom}
 use Rattle.sch_control.specs.declared.operation.Atom.TheVariants.{Constant, Literal, Variable}
 use Rattle.sch_control.specs.declared.operation.Operand.{Operand}
@@ -23,32 +26,43 @@ use Rattle.sch_control.specs.Meaning.{heads, no_region, with_region}
 use Rattle.sch_control.specs.Tree.{Expression, perform, bind, sequence, branch, fix, call, tail_call, return, end, save}
 use Rattle.sch_control.specs.Valid.{member_variables, operand_shaped, operands_shaped, operation_shaped, members_shaped, group_shaped, each_part, shaped, Names, atom_known, atoms_known, closure_known, members_known, operation_known, application_known, group_known}
 use Rattle.sch_frames.specs.declared.instruction.Instruction.{Instruction}
-use Rattle.sch_frames.specs.declared.instruction.Instruction.TheVariants.{Do, Store, Copy, Load, Pass, Fix, Call, Tail, Return, End, IfFalse, Jump, Label, Mark}
-use Rattle.sch_frames.specs.Meaning.{closure_register, argument_register, argument_slot}
-use Rattle.sch_frames.specs.Valid.{is_place, is_atom, are_members, instruction_placed, instruction_shaped, instruction_known}
-use Rattle.sch_layout.specs.BodyLayout.{Plan, is_slot, source_at, sources_at, atom_at, atoms_at, operand_at, operands_at, members_at, operation_at, set_aside, arrival, passed, handed, hand_over, prepared, stored, loaded, leave, labels, lay}
+use Rattle.sch_frames.specs.declared.instruction.Instruction.TheVariants.{Do, Store, Copy, Pass, Fix, Call, Tail, Return, End, IfFalse, Jump, Label, Mark}
+use Rattle.sch_frames.specs.Meaning.{is_slot, same_place}
+use Rattle.sch_frames.specs.Valid.{are_members, instruction_known, instruction_placed, instruction_shaped, is_atom, is_place}
+use Rattle.sch_layout.specs.Asides.{aside_moves}
+use Rattle.sch_layout.specs.BodyLayout.{Plan, arguments_at, source_at, sources_at, atom_at, atoms_at, operand_at, operands_at, members_at, operation_at, arrived, entering, spill, target, under, writing, move_all, stored, loaded, leave, labels, lay}
+use Rattle.sch_layout.specs.Laws.{AtomHas, AtomsHave, MembersUse, Uses}
+use Rattle.sch_layout.specs.Moves.{EachMove, Move}
 use Rattle.sch_layout.specs.OwnSlots.{most_operands, restoring, saved_round, saved_tree}
+use Rattle.sch_layout.specs.SharedPlaces.{entered_with}
 use Rattle.sch_layout.proofs.CarriedCopies.{carried_has}
-use Rattle.sch_layout.proofs.does.OperationsFollow.{AtomHas, AtomsHave, have_left, have_right}
-use Rattle.sch_layout.proofs.does.PlacesAgree.{MembersUse, Uses}
+use Rattle.sch_layout.proofs.EntryCopies.{entering_has, spill_has}
+use Rattle.sch_layout.proofs.MovesHave.{Fits, is_entry, is_target, moves_have, moves_valid}
+use Rattle.sch_layout.proofs.does.OperationsFollow.{have_left, have_right}
 use Rattle.sch_layout.proofs.does.LayoutDoes.{length_members, length_sources}
+use Rattle.sch_layout.proofs.layouts.OwnMoves.{EachSetAside, asides_have}
+use Rattle.sch_layout.proofs.marks.MarksStand.{as_many}
 
--- the instructions that say where to go on pass a test
+-- The instructions that say where to go on pass a test, and so do all marks but that of an entry.
 pub record Steers (test : Instruction → Bool) : Type 0 where
   pub if_false : (l : ℕ) → test (IfFalse l) ≡ true
   pub jump : (l : ℕ) → test (Jump l) ≡ true
   pub label : (l : ℕ) → test (Label l) ≡ true
-  pub return_mark : test (Mark mark.Return) ≡ true
   pub return : test Return ≡ true
+  pub marks : (m : MarkKind) → is_enter m ≡ false → test (Mark m) ≡ true
 
 pub placed_steers : (words : ℕ) → Steers (instruction_placed words)
-placed_steers words = record { if_false = λ l. refl; jump = λ l. refl; label = λ l. refl; return_mark = refl; return = refl }
+placed_steers words = record { if_false = λ l. refl; jump = λ l. refl; label = λ l. refl; return = refl; marks = λ m e. refl }
 
 pub shaped_steers : Steers instruction_shaped
-shaped_steers = record { if_false = λ l. refl; jump = λ l. refl; label = λ l. refl; return_mark = refl; return = refl }
+shaped_steers = record { if_false = λ l. refl; jump = λ l. refl; label = λ l. refl; return = refl; marks = λ m e. refl }
 
 pub known_steers : (names : Names) → Steers (instruction_known names)
-known_steers names = record { if_false = λ l. refl; jump = λ l. refl; label = λ l. refl; return_mark = refl; return = refl }
+known_steers names = record { if_false = λ l. refl; jump = λ l. refl; label = λ l. refl; return = refl; marks = λ m e. refl }
+
+-- the variables of a group that live in slots
+abbrev pub spilled : Plan → List (Member ℕ) → List ℕ
+spilled plan members = filter (λ x. is_slot (plan.place x)) (member_variables members)
 
 module _ (plan : Plan) (test : Instruction → Bool) (steers : Steers test) where
   -- what is done before what follows passes it
@@ -63,44 +77,50 @@ module _ (plan : Plan) (test : Instruction → Bool) (steers : Steers test) wher
   Passes (branch a b c) = Passes a × (Passes b × Passes c)
   Passes (return e) = Passes e
   Passes (end e) = (test End ≡ true) × Passes e
-  Passes (fix members e) = (test (Fix (members_at plan.place members)) ≡ true) × Passes e
-  Passes (call a restores) = Leads (λ rest. prepared plan false a (Mark (mark.Call a.site) ∷ (Call a.spread (length a.operands) ∷ rest)))
-  Passes (tail_call a) = Leads (λ rest. prepared plan true a (Mark (mark.Tail a.site) ∷ (Tail a.spread (length a.operands) ∷ rest)))
+  Passes (fix members e) = (test (Fix (members_at plan.place members) (spilled plan members)) ≡ true) × Passes e
+  Passes (call a restores) = Leads (move_all plan.limit (plan.moves false a)) × (test (Call a.spread (length a.operands)) ≡ true)
+  Passes (tail_call a) = Leads (move_all plan.limit (plan.moves true a)) × (test (Tail a.spread (length a.operands)) ≡ true)
   Passes (save saves e) = Passes e
 
   leave_pass : (to : Option ℕ) (rest : List Instruction) → list_all test rest ≡ true → list_all test (leave to rest) ≡ true
   leave_pass None rest h = h
   leave_pass (Some l) rest h = and_from _ _ (steers.if_false l) h
 
+  under_passes : (m : Option MarkKind) → is_entry m ≡ false → (i : Instruction) → test i ≡ true → (rest : List Instruction) → list_all test rest ≡ true → list_all test (under m i rest) ≡ true
+  under_passes None e i p rest h = and_from _ _ p h
+  under_passes (Some m) e i p rest h = and_from _ _ (steers.marks m e) (and_from _ _ p h)
+
+  spill_passes : (x : ℕ) (i : Instruction) → test i ≡ true → (rest : List Instruction) → list_all test rest ≡ true → list_all test (under (spill plan x) i rest) ≡ true
+  spill_passes x = under_passes (spill plan x) (spill_has (λ m. is_entry m ≡ false) plan x refl refl)
+
   -- what is saved and restored passes it
   pub record Carries : Type 0 where
-    pub saves : (x : ℕ) → test (Mark (mark.Save x)) ≡ true
-    pub restores : (x : ℕ) → test (Mark (mark.Restore x)) ≡ true
     pub goes : (x : ℕ) → is_slot (plan.place x) ≡ false → test (Copy (plan.home x) (plan.place x)) ≡ true
     pub comes : (x : ℕ) → is_slot (plan.place x) ≡ false → test (Copy (plan.place x) (plan.home x)) ≡ true
 
   stored_passes : Carries → (xs : List ℕ) (rest : List Instruction) → list_all test rest ≡ true → list_all test (stored plan xs rest) ≡ true
   stored_passes c = carried_has plan (λ is. list_all test is ≡ true) mark.Save plan.home plan.place
-      (λ x i rest h. and_from _ _ (c.goes x i) h) (λ x i rest h. and_from _ _ (c.saves x) (and_from _ _ (c.goes x i) h))
+      (λ x i rest h. and_from _ _ (steers.marks (mark.Save x) refl) (and_from _ _ (c.goes x i) h))
 
   loaded_passes : Carries → (xs : List ℕ) (rest : List Instruction) → list_all test rest ≡ true → list_all test (loaded plan xs rest) ≡ true
   loaded_passes c = carried_has plan (λ is. list_all test is ≡ true) mark.Restore plan.place plan.home
-      (λ x i rest h. and_from _ _ (c.comes x i) h) (λ x i rest h. and_from _ _ (c.restores x) (and_from _ _ (c.comes x i) h))
+      (λ x i rest h. and_from _ _ (steers.marks (mark.Restore x) refl) (and_from _ _ (c.comes x i) h))
 
   pub lay_passes : Carries → (e : Expression) → Passes e → (inside : ℕ → Bool) (n : ℕ) (to : Option ℕ) (rest : List Instruction) → list_all test rest ≡ true → list_all test (lay plan e inside n to rest) ≡ true
   lay_passes k (perform o) p inside n to rest h = and_from _ _ p (leave_pass to rest h)
   lay_passes k (bind x a b) p inside n to rest h =
       lay_passes k a p.1.0 inside n None _
-      (and_from _ _ p.0 (stored_passes k (filter inside (x ∷ [])) (lay plan b inside (n + labels a) to rest) (lay_passes k b p.1.1 inside (n + labels a) to rest h)))
+      (spill_passes x (Store (plan.place x)) p.0 _ (stored_passes k (filter inside (x ∷ [])) (lay plan b inside (n + labels a) to rest) (lay_passes k b p.1.1 inside (n + labels a) to rest h)))
   lay_passes k (sequence a b) p inside n to rest h = lay_passes k a p.0 _ _ _ _ (lay_passes k b p.1 _ _ _ _ h)
   lay_passes k (branch a b c) p inside n to rest h =
       lay_passes k a p.0 _ _ _ _ (lay_passes k b p.1.0 _ _ _ _ (and_from _ _ (steers.jump _) (and_from _ _ (steers.label _) (lay_passes k c p.1.1 _ _ _ _ (and_from _ _ (steers.label _) h)))))
-  lay_passes k (return e) p inside n to rest h = lay_passes k e p _ _ _ _ (and_from _ _ steers.return_mark (and_from _ _ steers.return h))
+  lay_passes k (return e) p inside n to rest h = lay_passes k e p _ _ _ _ (and_from _ _ (steers.marks mark.Return refl) (and_from _ _ steers.return h))
   lay_passes k (end e) p inside n to rest h = lay_passes k e p.1 _ _ _ _ (and_from _ _ p.0 h)
   lay_passes k (fix members e) p inside n to rest h =
       and_from _ _ p.0 (stored_passes k (filter inside (member_variables members)) (lay plan e inside n to rest) (lay_passes k e p.1 inside n to rest h))
-  lay_passes k (call a restores) p inside n to rest h = p _ (loaded_passes k restores (leave to rest) (leave_pass to rest h))
-  lay_passes k (tail_call a) p inside n to rest h = p rest h
+  lay_passes k (call a restores) p inside n to rest h =
+      p.0 _ (and_from _ _ (steers.marks (mark.Call a.site) refl) (and_from _ _ p.1 (loaded_passes k restores (leave to rest) (leave_pass to rest h))))
+  lay_passes k (tail_call a) p inside n to rest h = p.0 _ (and_from _ _ (steers.marks (mark.Tail a.site) refl) (and_from _ _ p.1 h))
   lay_passes k (save saves e) p inside n to rest h =
       stored_passes k (heads e saves) (lay plan e (with_region saves inside) n to rest) (lay_passes k e p (with_region saves inside) n to rest h)
 
@@ -120,28 +140,70 @@ module _ (plan : Plan) (test : Instruction → Bool) (steers : Steers test) wher
   pub tree_passes : Carries → (entered : Bool) (e : Expression) → Passes e → list_all test (lay plan (saved_tree entered e) no_region 0 None []) ≡ true
   tree_passes k entered e p = lay_passes k (saved_tree entered e) (restoring_passes (saved_round entered) e p) no_region 0 None [] refl
 
-  -- ## Calls
+  pub entering_passes : (entry : Option Entry) → ((x : ℕ) → x < entered_with entry → same_place (plan.place x) (arrived x) ≡ false → test (Copy (plan.place x) (arrived x)) ≡ true)
+      → (rest : List Instruction) → list_all test rest ≡ true → list_all test (entering plan entry rest) ≡ true
+  entering_passes entry f rest = entering_has plan (λ is. list_all test is ≡ true) entry (λ x lt e rest h. spill_passes x (Copy (plan.place x) (arrived x)) (f x lt e) rest h) rest
 
-  -- each operand is loaded into a slot from one on
-  abbrev pub Loads : (slot : ℕ) → List (Operand ℕ) → Type 0
-  Loads slot [] = Unit {0}
-  Loads slot (o ∷ operands) = (test (Load (Slot slot) (operand_at plan.place o)) ≡ true) × Loads (suc slot) operands
+-- a test that does not look at where copies go, nor at a place that is read
+pub record Unplaced (test : Instruction → Bool) : Type 0 where
+  pub copies : (to from : Place) → test (Copy to from) ≡ true
+  pub stores : (to : Place) → test (Store to) ≡ true
+  pub passes : (k : ℕ) → test (Pass k) ≡ true
+  pub variables : (p : Place) → test (Do (operation.Operand (operand.Atom (Variable p)))) ≡ true
 
-  aside_passes : (operands : List (Operand ℕ)) (slot : ℕ) (rest : List Instruction) → Loads slot operands → list_all test rest ≡ true → list_all test (set_aside plan.place slot operands rest) ≡ true
-  aside_passes [] slot rest l h = h
-  aside_passes (o ∷ operands) slot rest l h = and_from _ _ l.0 (aside_passes operands (suc slot) rest l.1 h)
+pub unplaced_carries : (plan : Plan) (test : Instruction → Bool) (steers : Steers test) → Unplaced test → Carries plan test steers
+unplaced_carries plan test steers u = record { goes = λ x s. u.copies _ _; comes = λ x s. u.copies _ _ }
 
-  over_passes : (tail : Bool) (number : ℕ) → ((k : ℕ) → k < number → test (handed tail k (Slot (plan.aside + k))) ≡ true) → (left from slot : ℕ) → from + left ≡ number → slot ≡ plan.aside + from
-      → (rest : List Instruction) → list_all test rest ≡ true → list_all test (hand_over tail from slot left rest) ≡ true
-  over_passes tail number f zero from slot e i rest h = h
-  over_passes tail number f (suc left) from slot e i rest h =
-      and_from _ _ (subst (λ s. test (handed tail from (Slot s)) ≡ true) (sym i) (f from (omega (arith, e))))
-      (over_passes tail number f left (suc from) (suc slot) (omega (arith, e)) (omega (arith, i)) rest h)
+pub unplaced_shaped : Unplaced instruction_shaped
+unplaced_shaped = record { copies = λ to from. refl; stores = λ to. refl; passes = λ k. refl; variables = λ p. refl }
 
-  pub prepared_passes : (tail : Bool) (a : Application ℕ) → test (Load closure_register (operand_at plan.place a.operator)) ≡ true → Loads plan.aside a.operands
-      → ((k : ℕ) → k < length a.operands → test (handed tail k (Slot (plan.aside + k))) ≡ true) → Leads (prepared plan tail a)
-  prepared_passes tail a o l f rest h =
-      aside_passes a.operands plan.aside _ l (and_from _ _ o (over_passes tail (length a.operands) f (length a.operands) 0 plan.aside (omega arith) (omega arith) rest h))
+pub unplaced_known : (names : Names) → Unplaced (instruction_known names)
+unplaced_known names = record { copies = λ to from. refl; stores = λ to. refl; passes = λ k. refl; variables = λ p. refl }
+
+-- ## Calls
+
+-- what a move takes is an argument of the call, or a place
+abbrev pub Taken : List (Operand Place) → Operand Place → Type 0
+Taken os o = ((k : ℕ) × (slice_get os k ≡ Some o)) ⊎ ((p : Place) × (o ≡ operand.Atom (Variable p)))
+
+-- so it is with each move of a plan
+abbrev pub Takes : Plan → Type 0
+Takes plan = (tail : Bool) (a : Application ℕ) → EachMove (λ m. Taken (arguments_at plan.place a) m.from) (plan.moves tail a)
+
+pub each_mapped : (P Q : Move → Type 0) → ((m : Move) → P m → Q m) → (moves : List Move) → EachMove P moves → EachMove Q moves
+each_mapped P Q f [] h = tt
+each_mapped P Q f (m ∷ moves) h = (f m h.0, each_mapped P Q f moves h.1)
+
+module _ (plan : Plan) (takes : Takes plan) (test : Instruction → Bool) (steers : Steers test) (u : Unplaced test) where
+  -- what each operand gives into the accumulator passes the test
+  abbrev pub Given : List (Operand ℕ) → Type 0
+  Given [] = Unit {0}
+  Given (o ∷ operands) = (test (Do (operation.Operand (operand_at plan.place o))) ≡ true) × Given operands
+
+  given_at : (operands : List (Operand ℕ)) → Given operands → (k : ℕ) (o : Operand Place) → slice_get (operands_at plan.place operands) k ≡ Some o → test (Do (operation.Operand o)) ≡ true
+  given_at [] g k o e = absurd (cc)
+  given_at (x ∷ operands) g zero o e = by e where
+    by : Some (operand_at plan.place x) ≡ Some o → test (Do (operation.Operand o)) ≡ true
+    by e = let same : operand_at plan.place x ≡ o = cc in subst (λ o. test (Do (operation.Operand o)) ≡ true) same g.0
+  given_at (x ∷ operands) g (suc k) o e = given_at operands g.1 k o e
+
+  taken_passes : (operands : List (Operand ℕ)) → Given operands → (o : Operand Place) → Taken (operands_at plan.place operands) o → test (Do (operation.Operand o)) ≡ true
+  taken_passes operands g o (inl (k, e)) = given_at operands g k o e
+  taken_passes operands g o (inr (p, e)) = subst (λ o. test (Do (operation.Operand o)) ≡ true) (sym e) (u.variables p)
+
+  writing_passes : (to : Place) → test (writing plan.limit to) ≡ true
+  writing_passes (Reg r) = u.stores (Reg r)
+  writing_passes (Slot j) = by (nat_lt j plan.limit) where
+    by : (t : Bool) → test (cond t (Store (Slot j)) (Pass (j - plan.limit))) ≡ true
+    by true = u.stores (Slot j)
+    by false = u.passes (j - plan.limit)
+
+  pub moves_pass : (tail : Bool) (a : Application ℕ) → Given (a.operator ∷ a.operands) → Leads plan test steers (move_all plan.limit (plan.moves tail a))
+  moves_pass tail a g = moves_have plan.limit (λ is. list_all test is ≡ true) (λ o to. test (Do (operation.Operand o)) ≡ true)
+      (λ p to good d m e is h. under_passes plan test steers m e (Copy to p) (u.copies to p) is h)
+      (λ o to good m e is h. and_from _ _ good (under_passes plan test steers m e (writing plan.limit to) (writing_passes to) is h))
+      (plan.moves tail a)
+      (each_mapped (λ m. Taken (arguments_at plan.place a) m.from) (λ m. test (Do (operation.Operand m.from)) ≡ true) (λ m h. taken_passes (a.operator ∷ a.operands) g m.from h) (plan.moves tail a) (takes tail a))
 
 -- ## Places
 
@@ -194,60 +256,32 @@ module _ (place : ℕ → Place) (words : ℕ) (P : ℕ → Type 0) (there : (x 
       list_all-append (is_atom words) (source_atoms (sources_at place m.closure.fields)) _
       ∙ and_from _ _ (sources_placed m.closure.fields (have_left P (source_atoms m.closure.fields) _ h)) (member_atoms_placed members (have_right P (source_atoms m.closure.fields) _ h))
 
--- a slot for each operand, and places for what is saved
-pub record Roomy (plan : Plan) (words most : ℕ) : Type 0 where
-  pub aside : plan.aside + most ≤ words
+-- ## Places of a layout
+
+-- places for what is saved, and moves between places
+pub record Roomy (plan : Plan) (words most : ℕ) (P : ℕ → Type 0) : Type 0 where
   pub lives : (x : ℕ) → is_slot (plan.place x) ≡ false → is_place words (plan.place x) ≡ true
   pub home : (x : ℕ) → is_slot (plan.place x) ≡ false → is_place words (plan.home x) ≡ true
+  pub moves : (tail : Bool) (a : Application ℕ) → AtomsHave P (application_atoms a) → length a.operands ≤ most → EachMove (λ m. Fits plan.limit words m.from m.to) (plan.moves tail a)
+  pub handed : most ≤ 6 + words
 
-pub arrival_placed : (words k : ℕ) → k < 6 + words → is_place words (arrival k) ≡ true
-arrival_placed words zero h = refl
-arrival_placed words (suc zero) h = refl
-arrival_placed words (suc (suc zero)) h = refl
-arrival_placed words (suc (suc (suc zero))) h = refl
-arrival_placed words (suc (suc (suc (suc zero)))) h = refl
-arrival_placed words (suc (suc (suc (suc (suc zero))))) h = refl
-arrival_placed words (suc (suc (suc (suc (suc (suc j)))))) h = lt-ltb j words (omega (arith, h))
+pub not_both : (a b : Bool) → b ≡ false → not (a && b) ≡ true
+not_both true b e = ap not e
+not_both false b e = refl
 
-passed_placed : (words k : ℕ) (p : Place) → k < 6 + words → is_place words p ≡ true → instruction_placed words (passed (argument_register k) (argument_slot k) p) ≡ true
-passed_placed words zero p h i = i
-passed_placed words (suc zero) p h i = i
-passed_placed words (suc (suc zero)) p h i = i
-passed_placed words (suc (suc (suc zero))) p h i = i
-passed_placed words (suc (suc (suc (suc zero)))) p h i = i
-passed_placed words (suc (suc (suc (suc (suc zero))))) p h i = i
-passed_placed words (suc (suc (suc (suc (suc (suc j)))))) p h i = and_from _ _ (lt-ltb j words (omega (arith, h))) (and_from _ _ i refl)
+not_both' : (a b : Bool) → a ≡ false → not (a && b) ≡ true
+not_both' a b e = ap (λ t. not (t && b)) e
 
-handed_placed : (words : ℕ) (tail : Bool) (k : ℕ) (p : Place) → k < 6 + words → is_place words p ≡ true → instruction_placed words (handed tail k p) ≡ true
-handed_placed words true k p h i = and_from _ _ (arrival_placed words k h) i
-handed_placed words false k p h i = passed_placed words k p h i
-
-module _ (plan : Plan) (words most : ℕ) (P : ℕ → Type 0) (there : (x : ℕ) → P x → is_place words (plan.place x) ≡ true) (room : Roomy plan words most) where
-  loads_placed : (operands : List (Operand ℕ)) (slot : ℕ) → AtomsHave P (operands_atoms operands) → slot + length operands ≤ words
-      → Loads plan (instruction_placed words) (placed_steers words) slot operands
-  loads_placed [] slot h le = tt
-  loads_placed (o ∷ operands) slot h le = (
-    and_from _ _ (lt-ltb slot words (omega (arith, le))) (operand_placed plan.place words P there o (have_left P (operand_atoms o) _ h)),
-    loads_placed operands (suc slot) (have_right P (operand_atoms o) _ h) (omega (arith, le)),
-  )
-
-  -- the operator and the operands of a call, and then the call
-  prepared_placed : (tail : Bool) (a : Application ℕ) → AtomsHave P (application_atoms a) → length a.operands ≤ most
-      → Leads plan (instruction_placed words) (placed_steers words) (prepared plan tail a)
-  prepared_placed tail a h le =
-      let wide = room.aside in
-      prepared_passes plan (instruction_placed words) (placed_steers words) tail a
-      (operand_placed plan.place words P there a.operator (have_left P (operand_atoms a.operator) _ h))
-      (loads_placed a.operands plan.aside (have_right P (operand_atoms a.operator) _ h) (omega (arith, le, wide)))
-      (λ k lt. handed_placed words tail k (Slot (plan.aside + k)) (omega (arith, lt, le, wide)) (lt-ltb (plan.aside + k) words (omega (arith, lt, le, wide))))
-
+module _ (plan : Plan) (words most : ℕ) (P : ℕ → Type 0) (there : (x : ℕ) → P x → is_place words (plan.place x) ≡ true) (room : Roomy plan words most P) where
   pub placed_carries : Carries plan (instruction_placed words) (placed_steers words)
   placed_carries = record {
-    saves = λ x. refl;
-    restores = λ x. refl;
-    goes = λ x s. and_from _ _ (room.home x s) (room.lives x s);
-    comes = λ x s. and_from _ _ (room.lives x s) (room.home x s);
+    goes = λ x s. and_from _ _ (not_both (is_slot (plan.home x)) (is_slot (plan.place x)) s) (and_from _ _ (room.home x s) (room.lives x s));
+    comes = λ x s. and_from _ _ (not_both' (is_slot (plan.place x)) (is_slot (plan.home x)) s) (and_from _ _ (room.lives x s) (room.home x s));
   }
+
+  -- the arguments of a call come to their targets
+  brought_placed : (tail : Bool) (a : Application ℕ) → AtomsHave P (application_atoms a) → length a.operands ≤ most → Leads plan (instruction_placed words) (placed_steers words) (move_all plan.limit (plan.moves tail a))
+  brought_placed tail a h le rest i = moves_valid plan.limit words (plan.moves tail a) (room.moves tail a h le) rest i
 
   pub uses_placed : (e : Expression) → most_operands e ≤ most → Uses P e → Passes plan (instruction_placed words) (placed_steers words) e
   uses_placed (perform o) le h = operation_placed plan.place words P there o h
@@ -266,12 +300,53 @@ module _ (plan : Plan) (words most : ℕ) (P : ℕ → Type 0) (there : (x : ℕ
       let third = le-max_right (most_operands b) (most_operands c) in
       (uses_placed a (omega (arith, left, le)) h.0, (uses_placed b (omega (arith, right, second, le)) h.1.0, uses_placed c (omega (arith, right, third, le)) h.1.1))
   uses_placed (fix members e) le h =
-      (and_from _ _ (members_placed plan.place words P there members h.0) (member_atoms_placed plan.place words P there members h.1.0), uses_placed e le h.1.1)
-  uses_placed (call a restores) le h = λ rest i. let wide = room.aside in prepared_placed false a h le _ (and_from _ _ (le-leb (length a.operands) (6 + words) (omega (arith, le, wide))) i)
-  uses_placed (tail_call a) le h = λ rest i. let wide = room.aside in prepared_placed true a h le _ (and_from _ _ (le-leb (length a.operands) (6 + words) (omega (arith, le, wide))) i)
+      (and_from _ _ (eq-eqb _ _ (as_many plan members)) (and_from _ _ (members_placed plan.place words P there members h.0) (member_atoms_placed plan.place words P there members h.1.0)), uses_placed e le h.1.1)
+  uses_placed (call a restores) le h = let wide = room.handed in (brought_placed false a h le, le-leb (length a.operands) (6 + words) (omega (arith, le, wide)))
+  uses_placed (tail_call a) le h = let wide = room.handed in (brought_placed true a h le, le-leb (length a.operands) (6 + words) (omega (arith, le, wide)))
   uses_placed (return e) le h = uses_placed e le h
   uses_placed (end e) le h = (refl, uses_placed e le h)
   uses_placed (save saves e) le h = uses_placed e le h
+
+-- ### Arguments that are set aside
+
+-- a slot of the frame, whose size is no more than the limit
+slot_target : (limit words j : ℕ) → words ≤ limit → j < words → is_target limit words (Slot j) ≡ true
+slot_target limit words j le lt = ap (λ t. cond t (nat_lt j words) (nat_lt (j - limit) words)) (lt-ltb j limit (omega (arith, lt, le))) ∙ lt-ltb j words lt
+
+-- a slot of the next frame
+next_target : (limit words j : ℕ) → j < words → is_target limit words (Slot (limit + j)) ≡ true
+next_target limit words j lt =
+    ap (λ t. cond t (nat_lt (limit + j) words) (nat_lt (limit + j - limit) words)) (le-ltb (limit + j) limit (omega arith)) ∙ lt-ltb (limit + j - limit) words (omega (arith, lt))
+
+target_fits : (limit words : ℕ) → words ≤ limit → (tail : Bool) (k : ℕ) → k < 7 + words → is_target limit words (target tail limit k) ≡ true
+target_fits limit words le tail zero lt = refl
+target_fits limit words le true (suc zero) lt = refl
+target_fits limit words le true (suc (suc zero)) lt = refl
+target_fits limit words le true (suc (suc (suc zero))) lt = refl
+target_fits limit words le true (suc (suc (suc (suc zero)))) lt = refl
+target_fits limit words le true (suc (suc (suc (suc (suc zero))))) lt = refl
+target_fits limit words le true (suc (suc (suc (suc (suc (suc zero)))))) lt = refl
+target_fits limit words le true (suc (suc (suc (suc (suc (suc (suc j))))))) lt = slot_target limit words j le (omega (arith, lt))
+target_fits limit words le false (suc zero) lt = refl
+target_fits limit words le false (suc (suc zero)) lt = refl
+target_fits limit words le false (suc (suc (suc zero))) lt = refl
+target_fits limit words le false (suc (suc (suc (suc zero)))) lt = refl
+target_fits limit words le false (suc (suc (suc (suc (suc zero))))) lt = refl
+target_fits limit words le false (suc (suc (suc (suc (suc (suc zero)))))) lt = refl
+target_fits limit words le false (suc (suc (suc (suc (suc (suc (suc j))))))) lt = next_target limit words j (omega (arith, lt))
+
+module _ (place : ℕ → Place) (first limit words most : ℕ) (P : ℕ → Type 0) (there : (x : ℕ) → P x → is_place words (place x) ≡ true) (le : words ≤ limit) (wide : first + most < words) where
+  aside_fits : (operands : List (Operand ℕ)) (k : ℕ) → AtomsHave P (operands_atoms operands) → k + length operands ≤ suc most → EachSetAside first (Fits limit words) k (operands_at place operands)
+  aside_fits [] k h few = tt
+  aside_fits (o ∷ operands) k h few = (
+    (operand_placed place words P there o (have_left P (operand_atoms o) _ h), slot_target limit words (first + k) le (omega (arith, few, wide))),
+    aside_fits operands (suc k) (have_right P (operand_atoms o) _ h) (omega (arith, few)),
+  )
+
+  pub asides_fit : (tail : Bool) (a : Application ℕ) → AtomsHave P (application_atoms a) → length a.operands ≤ most → EachMove (λ m. Fits limit words m.from m.to) (aside_moves first place limit tail a)
+  asides_fit tail a h few =
+      asides_have first (Fits limit words) place limit tail a (aside_fits (a.operator ∷ a.operands) 0 h (omega (arith, few)))
+      (λ j lt. (and_from _ _ (lt-ltb (first + j) words (omega (arith, lt, few, wide))) refl, target_fits limit words le tail j (omega (arith, lt, few, wide))))
 
 -- ## Shape and names
 
@@ -378,39 +453,10 @@ module _ (place : ℕ → Place) where
 
 -- ## Expressions
 
--- a test that does not look at where operands are handed over, and what is saved and restored
-pub record Unplaced (test : Instruction → Bool) : Type 0 where
-  pub copies : (to from : Place) → test (Copy to from) ≡ true
-  pub saves : (x : ℕ) → test (Mark (mark.Save x)) ≡ true
-  pub restores : (x : ℕ) → test (Mark (mark.Restore x)) ≡ true
-  pub passes : (j : ℕ) (p : Place) → test (Pass j (operand.Atom (Variable p))) ≡ true
-
-pub handed_passes : (test : Instruction → Bool) → Unplaced test → (tail : Bool) (k : ℕ) (p : Place) → test (handed tail k p) ≡ true
-handed_passes test u true k p = u.copies (arrival k) p
-handed_passes test u false k p = by (argument_register k) (argument_slot k) where
-  by : (o : Option ℕ) (j : ℕ) → test (passed o j p) ≡ true
-  by (Some r) j = u.copies (Reg r) p
-  by None j = u.passes j p
-
-pub unplaced_carries : (plan : Plan) (test : Instruction → Bool) (steers : Steers test) → Unplaced test → Carries plan test steers
-unplaced_carries plan test steers u = record { saves = u.saves; restores = u.restores; goes = λ x s. u.copies _ _; comes = λ x s. u.copies _ _ }
-
-pub unplaced_shaped : Unplaced instruction_shaped
-unplaced_shaped = record { copies = λ to from. refl; saves = λ x. refl; restores = λ x. refl; passes = λ j p. refl }
-
-pub unplaced_known : (names : Names) → Unplaced (instruction_known names)
-unplaced_known names = record { copies = λ to from. refl; saves = λ x. refl; restores = λ x. refl; passes = λ j p. refl }
-
-module _ (plan : Plan) where
-  loads_shaped : (operands : List (Operand ℕ)) (slot : ℕ) → operands_shaped operands ≡ true → Loads plan instruction_shaped shaped_steers slot operands
-  loads_shaped [] slot h = tt
-  loads_shaped (o ∷ operands) slot h = let parts = and_parts _ _ h in (operand_same_shape plan.place o ∙ parts.0, loads_shaped operands (suc slot) parts.1)
-
-  prepared_shaped : (tail : Bool) (a : Application ℕ) → operands_shaped (a.operator ∷ a.operands) ≡ true → Leads plan instruction_shaped shaped_steers (prepared plan tail a)
-  prepared_shaped tail a h =
-      let parts = and_parts _ _ h in
-      prepared_passes plan instruction_shaped shaped_steers tail a (operand_same_shape plan.place a.operator ∙ parts.0) (loads_shaped a.operands plan.aside parts.1)
-      (λ k lt. handed_passes instruction_shaped unplaced_shaped tail k (Slot (plan.aside + k)))
+module _ (plan : Plan) (takes : Takes plan) where
+  given_shaped : (operands : List (Operand ℕ)) → operands_shaped operands ≡ true → Given plan takes instruction_shaped shaped_steers unplaced_shaped operands
+  given_shaped [] h = tt
+  given_shaped (o ∷ operands) h = let parts = and_parts _ _ h in (operand_same_shape plan.place o ∙ parts.0, given_shaped operands parts.1)
 
   pub parts_shaped : (e : Expression) → shaped e ≡ true → Passes plan instruction_shaped shaped_steers e
   parts_shaped (perform o) h = operation_same_shape plan.place o ∙ h
@@ -426,11 +472,11 @@ module _ (plan : Plan) where
   parts_shaped (call a restores) h =
       let parts = and_parts _ _ h in
       let more = and_parts _ _ parts.1 in
-      λ rest i. prepared_shaped false a more.1 _ (and_from _ _ (and_from _ _ parts.0 more.0) i)
+      (moves_pass plan takes instruction_shaped shaped_steers unplaced_shaped false a (given_shaped (a.operator ∷ a.operands) more.1), and_from _ _ parts.0 more.0)
   parts_shaped (tail_call a) h =
       let parts = and_parts _ _ h in
       let more = and_parts _ _ parts.1 in
-      λ rest i. prepared_shaped true a more.1 _ (and_from _ _ (and_from _ _ parts.0 more.0) i)
+      (moves_pass plan takes instruction_shaped shaped_steers unplaced_shaped true a (given_shaped (a.operator ∷ a.operands) more.1), and_from _ _ parts.0 more.0)
   parts_shaped (save saves e) h = parts_shaped e h
 
   module _ (names : Names) where
@@ -445,15 +491,9 @@ module _ (plan : Plan) where
     known_right [] ys h = h
     known_right (x ∷ xs) ys h = known_right xs ys (and_parts _ _ h).1
 
-    loads_named : (operands : List (Operand ℕ)) (slot : ℕ) → atoms_known names (operands_atoms operands) ≡ true → Loads plan (instruction_known names) (known_steers names) slot operands
-    loads_named [] slot h = tt
-    loads_named (o ∷ operands) slot h =
-        (operand_same_names plan.place names o ∙ known_left (operand_atoms o) _ h, loads_named operands (suc slot) (known_right (operand_atoms o) _ h))
-
-    prepared_named : (tail : Bool) (a : Application ℕ) → application_known names a ≡ true → Leads plan (instruction_known names) (known_steers names) (prepared plan tail a)
-    prepared_named tail a h =
-        prepared_passes plan (instruction_known names) (known_steers names) tail a (operand_same_names plan.place names a.operator ∙ known_left (operand_atoms a.operator) _ h)
-        (loads_named a.operands plan.aside (known_right (operand_atoms a.operator) _ h)) (λ k lt. handed_passes (instruction_known names) (unplaced_known names) tail k (Slot (plan.aside + k)))
+    given_named : (operands : List (Operand ℕ)) → atoms_known names (operands_atoms operands) ≡ true → Given plan takes (instruction_known names) (known_steers names) (unplaced_known names) operands
+    given_named [] h = tt
+    given_named (o ∷ operands) h = (operation_same_names plan.place names (operation.Operand o) ∙ and_from _ _ (known_left (operand_atoms o) _ h) refl, given_named operands (known_right (operand_atoms o) _ h))
 
     pub parts_named : (e : Expression) → parts_known e ≡ true → Passes plan (instruction_known names) (known_steers names) e
     parts_named (perform o) h = operation_same_names plan.place names o ∙ h
@@ -466,6 +506,6 @@ module _ (plan : Plan) where
     parts_named (return e) h = parts_named e h
     parts_named (end e) h = (refl, parts_named e h)
     parts_named (fix members e) h = let parts = and_parts _ _ h in (group_same_names plan.place names members ∙ parts.0, parts_named e parts.1)
-    parts_named (call a restores) h = λ rest i. prepared_named false a h _ i
-    parts_named (tail_call a) h = λ rest i. prepared_named true a h _ i
+    parts_named (call a restores) h = (moves_pass plan takes (instruction_known names) (known_steers names) (unplaced_known names) false a (given_named (a.operator ∷ a.operands) h), refl)
+    parts_named (tail_call a) h = (moves_pass plan takes (instruction_known names) (known_steers names) (unplaced_known names) true a (given_named (a.operator ∷ a.operands) h), refl)
     parts_named (save saves e) h = parts_named e h

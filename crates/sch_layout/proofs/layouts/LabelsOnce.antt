@@ -1,24 +1,23 @@
 -- The labels of a layout: each stands once, behind the jumps to it.
-use Rattle.std.proofs.Common.{◌≡◌, ℕ, zero, suc, ◌+◌, ◌<◌, ◌≤◌, List, [], ◌∷◌, length, Option, Some, None, Bool, true, false, refl, ap, ◌∙◌, ◌⊎◌, inl, inr, arith}
+use Rattle.std.proofs.Common.{◌≡◌, ℕ, suc, ◌+◌, ◌<◌, ◌≤◌, List, [], ◌∷◌, length, Option, Some, None, Bool, true, false, refl, ap, ◌∙◌, ◌⊎◌, inl, inr, arith}
 use Rattle.std.specs.Prelude.{filter, nat_eq, nat_lt, ◌||◌}
 use Rattle.std.specs.List.{list_all}
 use Rattle.std.proofs.lemmas.Bool.{and_from, ne_eqb, eq-eqb, or_left, or_right, or_from, not_from_false, lt-ltb}
 use Rattle.sch_word.specs.declared.place.Place.{Place}
-use Rattle.sch_word.specs.declared.place.Place.TheVariants.{Slot}
 use Rattle.sch_word.specs.trees.NumberSets.{has}
 use Rattle.sch_word.specs.declared.mark.MarkKind.{MarkKind}
 use Rattle.sch_word.specs.declared.mark.MarkKind.TheVariants as mark
 use Rattle.sch_control.specs.declared.operation.Application.{Application}
-use Rattle.sch_control.specs.declared.operation.Operand.{Operand}
 use Rattle.sch_control.specs.Meaning.{heads, with_region}
 use Rattle.sch_control.specs.Valid.{member_variables, without_repeats}
 use Rattle.sch_control.specs.Tree.{Expression, perform, bind, sequence, branch, fix, call, tail_call, return, end, save}
 use Rattle.sch_frames.specs.declared.instruction.Instruction.{Instruction}
-use Rattle.sch_frames.specs.declared.instruction.Instruction.TheVariants.{Call, Tail, Label, Jump, Mark}
-use Rattle.sch_frames.specs.Meaning.{argument_register, argument_slot}
+use Rattle.sch_frames.specs.declared.instruction.Instruction.TheVariants.{Store, Call, Tail, Label, Jump, Mark}
 use Rattle.sch_frames.specs.Valid.{labels_in, jumps_ahead}
-use Rattle.sch_layout.specs.BodyLayout.{Plan, set_aside, passed, hand_over, prepared, carried, stored, loaded, leave, labels, lay}
+use Rattle.sch_layout.specs.BodyLayout.{Plan, under, spill, move_all, carried, stored, loaded, leave, labels, lay}
 use Rattle.sch_layout.proofs.CarriedCopies.{carried_has}
+use Rattle.sch_layout.proofs.EntryCopies.{spill_has}
+use Rattle.sch_layout.proofs.MovesHave.{moves_kept}
 
 module _ (plan : Plan) where
   abbrev there : ℕ → List Instruction → Bool
@@ -34,25 +33,20 @@ module _ (plan : Plan) where
 
   -- ## Calls have no labels
 
-  aside_labels : (operands : List (Operand ℕ)) (slot : ℕ) (rest : List Instruction) → labels_in (set_aside plan.place slot operands rest) ≡ labels_in rest
-  aside_labels [] slot rest = refl
-  aside_labels (o ∷ operands) slot rest = aside_labels operands (suc slot) rest
+  moves_labels : (tail : Bool) (a : Application ℕ) (rest : List Instruction) → labels_in (move_all plan.limit (plan.moves tail a) rest) ≡ labels_in rest
+  moves_labels tail a = moves_kept plan.limit labels_in (λ m rest. refl) (λ o rest. refl) (λ to from rest. refl) (λ to rest. refl) (λ k rest. refl) (plan.moves tail a)
 
-  passed_labels : (o : Option ℕ) (j : ℕ) (p : Place) (rest : List Instruction) → labels_in (passed o j p ∷ rest) ≡ labels_in rest
-  passed_labels (Some r) j p rest = refl
-  passed_labels None j p rest = refl
+  moves_ahead : (tail : Bool) (a : Application ℕ) (rest : List Instruction) → jumps_ahead (move_all plan.limit (plan.moves tail a) rest) ≡ jumps_ahead rest
+  moves_ahead tail a = moves_kept plan.limit jumps_ahead (λ m rest. refl) (λ o rest. refl) (λ to from rest. refl) (λ to rest. refl) (λ k rest. refl) (plan.moves tail a)
 
-  over_labels : (tail : Bool) (left from slot : ℕ) (rest : List Instruction) → labels_in (hand_over tail from slot left rest) ≡ labels_in rest
-  over_labels tail zero from slot rest = refl
-  over_labels true (suc left) from slot rest = over_labels true left (suc from) (suc slot) rest
-  over_labels false (suc left) from slot rest =
-      passed_labels (argument_register from) (argument_slot from) (Slot slot) (hand_over false (suc from) (suc slot) left rest) ∙ over_labels false left (suc from) (suc slot) rest
+  bound_labels : (x : ℕ) (rest : List Instruction) → labels_in (under (spill plan x) (Store (plan.place x)) rest) ≡ labels_in rest
+  bound_labels x rest = spill_has (λ m. labels_in (under m (Store (plan.place x)) rest) ≡ labels_in rest) plan x refl refl
 
-  prepared_labels : (tail : Bool) (a : Application ℕ) (rest : List Instruction) → labels_in (prepared plan tail a rest) ≡ labels_in rest
-  prepared_labels tail a rest = aside_labels a.operands plan.aside _ ∙ over_labels tail (length a.operands) 0 plan.aside rest
+  bound_ahead : (x : ℕ) (rest : List Instruction) → jumps_ahead (under (spill plan x) (Store (plan.place x)) rest) ≡ jumps_ahead rest
+  bound_ahead x rest = spill_has (λ m. jumps_ahead (under m (Store (plan.place x)) rest) ≡ jumps_ahead rest) plan x refl refl
 
   carried_labels : (kind : ℕ → MarkKind) (to from : ℕ → Place) (xs : List ℕ) (rest : List Instruction) → labels_in (carried plan kind to from xs rest) ≡ labels_in rest
-  carried_labels kind to from xs rest = carried_has plan (λ is. labels_in is ≡ labels_in rest) kind to from (λ x i is h. h) (λ x i is h. h) xs rest refl
+  carried_labels kind to from xs rest = carried_has plan (λ is. labels_in is ≡ labels_in rest) kind to from (λ x i is h. h) xs rest refl
 
   stored_labels : (xs : List ℕ) (rest : List Instruction) → labels_in (stored plan xs rest) ≡ labels_in rest
   stored_labels = carried_labels mark.Save plan.home plan.place
@@ -62,28 +56,11 @@ module _ (plan : Plan) where
 
   call_labels : (a : Application ℕ) (restores : List ℕ) (inside : ℕ → Bool) (n : ℕ) (test : Option ℕ) (rest : List Instruction) → labels_in (lay plan (call a restores) inside n test rest) ≡ labels_in rest
   call_labels a restores inside n test rest =
-      prepared_labels false a (Mark (mark.Call a.site) ∷ (Call a.spread (length a.operands) ∷ loaded plan restores (leave test rest)))
+      moves_labels false a (Mark (mark.Call a.site) ∷ (Call a.spread (length a.operands) ∷ loaded plan restores (leave test rest)))
       ∙ (loaded_labels restores (leave test rest) ∙ leave_labels test rest)
 
-  aside_ahead : (operands : List (Operand ℕ)) (slot : ℕ) (rest : List Instruction) → jumps_ahead (set_aside plan.place slot operands rest) ≡ jumps_ahead rest
-  aside_ahead [] slot rest = refl
-  aside_ahead (o ∷ operands) slot rest = aside_ahead operands (suc slot) rest
-
-  passed_ahead : (o : Option ℕ) (j : ℕ) (p : Place) (rest : List Instruction) → jumps_ahead (passed o j p ∷ rest) ≡ jumps_ahead rest
-  passed_ahead (Some r) j p rest = refl
-  passed_ahead None j p rest = refl
-
-  over_ahead : (tail : Bool) (left from slot : ℕ) (rest : List Instruction) → jumps_ahead (hand_over tail from slot left rest) ≡ jumps_ahead rest
-  over_ahead tail zero from slot rest = refl
-  over_ahead true (suc left) from slot rest = over_ahead true left (suc from) (suc slot) rest
-  over_ahead false (suc left) from slot rest =
-      passed_ahead (argument_register from) (argument_slot from) (Slot slot) (hand_over false (suc from) (suc slot) left rest) ∙ over_ahead false left (suc from) (suc slot) rest
-
-  prepared_ahead : (tail : Bool) (a : Application ℕ) (rest : List Instruction) → jumps_ahead (prepared plan tail a rest) ≡ jumps_ahead rest
-  prepared_ahead tail a rest = aside_ahead a.operands plan.aside _ ∙ over_ahead tail (length a.operands) 0 plan.aside rest
-
   carried_ahead : (kind : ℕ → MarkKind) (to from : ℕ → Place) (xs : List ℕ) (rest : List Instruction) → jumps_ahead (carried plan kind to from xs rest) ≡ jumps_ahead rest
-  carried_ahead kind to from xs rest = carried_has plan (λ is. jumps_ahead is ≡ jumps_ahead rest) kind to from (λ x i is h. h) (λ x i is h. h) xs rest refl
+  carried_ahead kind to from xs rest = carried_has plan (λ is. jumps_ahead is ≡ jumps_ahead rest) kind to from (λ x i is h. h) xs rest refl
 
   stored_ahead : (xs : List ℕ) (rest : List Instruction) → jumps_ahead (stored plan xs rest) ≡ jumps_ahead rest
   stored_ahead = carried_ahead mark.Save plan.home plan.place
@@ -93,13 +70,13 @@ module _ (plan : Plan) where
 
   call_ahead : (a : Application ℕ) (restores : List ℕ) (inside : ℕ → Bool) (n : ℕ) (test : Option ℕ) (rest : List Instruction) → jumps_ahead (lay plan (call a restores) inside n test rest) ≡ jumps_ahead (leave test rest)
   call_ahead a restores inside n test rest =
-      prepared_ahead false a (Mark (mark.Call a.site) ∷ (Call a.spread (length a.operands) ∷ loaded plan restores (leave test rest))) ∙ loaded_ahead restores (leave test rest)
+      moves_ahead false a (Mark (mark.Call a.site) ∷ (Call a.spread (length a.operands) ∷ loaded plan restores (leave test rest))) ∙ loaded_ahead restores (leave test rest)
 
   tail_labels : (a : Application ℕ) (inside : ℕ → Bool) (n : ℕ) (test : Option ℕ) (rest : List Instruction) → labels_in (lay plan (tail_call a) inside n test rest) ≡ labels_in rest
-  tail_labels a inside n test rest = prepared_labels true a (Mark (mark.Tail a.site) ∷ (Tail a.spread (length a.operands) ∷ rest))
+  tail_labels a inside n test rest = moves_labels true a (Mark (mark.Tail a.site) ∷ (Tail a.spread (length a.operands) ∷ rest))
 
   tail_ahead : (a : Application ℕ) (inside : ℕ → Bool) (n : ℕ) (test : Option ℕ) (rest : List Instruction) → jumps_ahead (lay plan (tail_call a) inside n test rest) ≡ jumps_ahead rest
-  tail_ahead a inside n test rest = prepared_ahead true a (Mark (mark.Tail a.site) ∷ (Tail a.spread (length a.operands) ∷ rest))
+  tail_ahead a inside n test rest = moves_ahead true a (Mark (mark.Tail a.site) ∷ (Tail a.spread (length a.operands) ∷ rest))
 
   -- ## Labels of an expression
 
@@ -137,7 +114,7 @@ module _ (plan : Plan) where
   outside (perform o) inside n test rest l h = ap (has l) (leave_labels test rest)
   outside (bind x a b) inside n test rest l h =
       outside a inside n None _ l (first_of_two l n (labels a) (labels b) h)
-      ∙ (ap (has l) (stored_labels (filter inside (x ∷ [])) _)
+      ∙ (ap (has l) (bound_labels x _ ∙ stored_labels (filter inside (x ∷ [])) _)
       ∙ outside b inside (n + labels a) test rest l (second_of_two l n (labels a) (labels b) h))
   outside (sequence a b) inside n test rest l h =
       outside a inside n None _ l (first_of_two l n (labels a) (labels b) h)
@@ -204,9 +181,10 @@ module _ (plan : Plan) where
   right (bind x e b) inside n test rest f a r =
       let inner = right b inside (n + labels e) test rest (λ l h h'. f l (omega (arith, h)) (omega (arith, h'))) (raised test n _ rest (omega arith) a) r in
       let whole : Right (stored plan (filter inside (x ∷ [])) (lay plan b inside (n + labels e) test rest)) = stored_right (filter inside (x ∷ [])) _ inner in
+      let within = stored plan (filter inside (x ∷ [])) (lay plan b inside (n + labels e) test rest) in
       right e inside n None _
-      (λ l h h'. ap (has l) (stored_labels (filter inside (x ∷ [])) _) ∙ (outside b inside (n + labels e) test rest l (inl h') ∙ f l h (omega (arith, h')))) tt
-      (record { once = whole.once; ahead = whole.ahead })
+      (λ l h h'. ap (has l) (bound_labels x within ∙ stored_labels (filter inside (x ∷ [])) _) ∙ (outside b inside (n + labels e) test rest l (inl h') ∙ f l h (omega (arith, h')))) tt
+      (record { once = ap without_repeats (bound_labels x within) ∙ whole.once; ahead = bound_ahead x within ∙ whole.ahead })
   right (sequence e b) inside n test rest f a r =
       right e inside n None _ (λ l h h'. outside b inside (n + labels e) test rest l (inl h') ∙ f l h (omega (arith, h'))) tt
       (right b inside (n + labels e) test rest (λ l h h'. f l (omega (arith, h)) (omega (arith, h'))) (raised test n _ rest (omega arith) a) r)
@@ -259,7 +237,8 @@ module _ (plan : Plan) where
       → below most (lay plan e inside n test rest) ≡ true
   lay_below (perform o) inside n test rest most le h = ap (list_all (λ l. nat_lt l most)) (leave_labels test rest) ∙ h
   lay_below (bind x a b) inside n test rest most le h =
-      lay_below a inside n None _ most (omega (arith, le)) (stored_below (filter inside (x ∷ [])) _ most (lay_below b inside (n + labels a) test rest most (omega (arith, le)) h))
+      lay_below a inside n None _ most (omega (arith, le))
+      (ap (list_all (λ l. nat_lt l most)) (bound_labels x _) ∙ stored_below (filter inside (x ∷ [])) _ most (lay_below b inside (n + labels a) test rest most (omega (arith, le)) h))
   lay_below (sequence a b) inside n test rest most le h = lay_below a inside n None _ most (omega (arith, le)) (lay_below b inside (n + labels a) test rest most (omega (arith, le)) h)
   lay_below (branch a b c) inside n test rest most le h =
       lay_below a inside (suc (suc n)) (Some n) _ most (omega (arith, le))

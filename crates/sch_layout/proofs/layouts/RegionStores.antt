@@ -13,7 +13,8 @@ use Rattle.sch_control.specs.Valid.{member_variables}
 use Rattle.sch_frames.specs.declared.instruction.Instruction.{Instruction}
 use Rattle.sch_frames.specs.declared.instruction.Instruction.TheVariants.{Store, Fix, Return, End, Jump, Label, Mark}
 use Rattle.sch_frames.specs.Valid.{is_entered}
-use Rattle.sch_layout.specs.BodyLayout.{Plan, entering, members_at, stored, labels, lay}
+use Rattle.sch_frames.specs.Meaning.{is_slot}
+use Rattle.sch_layout.specs.BodyLayout.{Plan, entering, members_at, spill, stored, under, labels, lay}
 use Rattle.sch_layout.specs.OwnSlots.{restoring, saved_round, slots_for, slots_layout}
 use Rattle.sch_layout.proofs.does.SavedRound.{binds_restoring}
 
@@ -39,8 +40,8 @@ module _ (plan : Plan) where
   lay_alike (perform o) inside inside' h n test rest = refl
   lay_alike (bind x a b) inside inside' h n test rest =
       lay_alike a inside inside' (λ y i. h y (or_right (nat_eq y x) _ (or_left (binds y a) _ i))) n None _
-      ∙ (ap (λ t. lay plan a inside' n None (Store (plan.place x) ∷ stored plan (cond t (x ∷ []) []) (lay plan b inside (n + labels a) test rest))) (h x (or_left (nat_eq x x) _ (eq-eqb x x refl)))
-      ∙ ap (λ is. lay plan a inside' n None (Store (plan.place x) ∷ stored plan (filter inside' (x ∷ [])) is))
+      ∙ (ap (λ t. lay plan a inside' n None (under (spill plan x) (Store (plan.place x)) (stored plan (cond t (x ∷ []) []) (lay plan b inside (n + labels a) test rest)))) (h x (or_left (nat_eq x x) _ (eq-eqb x x refl)))
+      ∙ ap (λ is. lay plan a inside' n None (under (spill plan x) (Store (plan.place x)) (stored plan (filter inside' (x ∷ [])) is)))
       (lay_alike b inside inside' (λ y i. h y (or_right (nat_eq y x) _ (or_right (binds y a) _ i))) (n + labels a) test rest))
   lay_alike (sequence a b) inside inside' h n test rest =
       lay_alike a inside inside' (λ y i. h y (or_left (binds y a) _ i)) n None _
@@ -52,8 +53,8 @@ module _ (plan : Plan) where
       ∙ ap (λ is. lay plan b inside' (suc (suc (n + labels a))) test (Jump (suc n) ∷ (Label n ∷ is)))
       (lay_alike c inside inside' (λ y i. h y (or_right (binds y a) _ (or_right (binds y b) _ i))) (suc (suc (n + labels a + labels b))) test (Label (suc n) ∷ rest)))
   lay_alike (fix members e) inside inside' h n test rest =
-      ap (λ xs. Fix (members_at plan.place members) ∷ stored plan xs (lay plan e inside n test rest)) (group_alike inside inside' members (λ x i. h x (or_left (among x members) _ i)))
-      ∙ ap (λ is. Fix (members_at plan.place members) ∷ stored plan (filter inside' (member_variables members)) is)
+      ap (λ xs. Fix (members_at plan.place members) (filter (λ x. is_slot (plan.place x)) (member_variables members)) ∷ stored plan xs (lay plan e inside n test rest)) (group_alike inside inside' members (λ x i. h x (or_left (among x members) _ i)))
+      ∙ ap (λ is. Fix (members_at plan.place members) (filter (λ x. is_slot (plan.place x)) (member_variables members)) ∷ stored plan (filter inside' (member_variables members)) is)
       (lay_alike e inside inside' (λ x i. h x (or_right (among x members) _ i)) n test rest)
   lay_alike (call a restores) inside inside' h n test rest = refl
   lay_alike (tail_call a) inside inside' h n test rest = refl

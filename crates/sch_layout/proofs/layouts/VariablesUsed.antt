@@ -10,8 +10,11 @@ use Rattle.sch_control.specs.declared.operation.Member.{Member}
 use Rattle.sch_control.specs.Tree.{Expression, perform, bind, sequence, branch, fix, call, tail_call, return, end, save, Code}
 use Rattle.sch_control.specs.Valid.{in_scope_atoms, in_scope, with_variable, with_members, member_variables, bound_in, first_scope, first_bound, numbered, max_body_variables}
 use Rattle.sch_layout.specs.SharedPlaces.{EachHas}
-use Rattle.sch_layout.proofs.does.OperationsFollow.{AtomsHave}
-use Rattle.sch_layout.proofs.does.PlacesAgree.{MembersUse, Uses, Behind, Within}
+use Rattle.sch_layout.specs.Laws.{AtomsHave, Behind, MembersUse, Uses}
+
+-- behind the return address, and below a number
+abbrev pub Within : ℕ → ℕ → Type 0
+Within n x = Behind x × (x < n)
 
 each_left : (P : ℕ → Type 0) (xs ys : List ℕ) → EachHas P (xs ++ ys) → EachHas P xs
 each_left P [] ys h = tt

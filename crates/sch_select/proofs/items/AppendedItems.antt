@@ -1,7 +1,7 @@
 -- What follows an instruction's items stands behind them.
 use Rattle.std.proofs.Common.{◌≡◌, ℕ, ◌+◌, List, [], ◌∷◌, ◌++◌, refl, sym, ap, ◌∙◌, append_assoc}
 use Rattle.sch_word.specs.declared.place.Place.{Place}
-use Rattle.sch_word.specs.declared.place.Place.TheVariants.{Slot}
+use Rattle.sch_word.specs.declared.place.Place.TheVariants.{Reg as Register, Slot}
 use Rattle.sch_word.specs.declared.primitive.Primitive.{Primitive}
 use Rattle.sch_word.specs.declared.primitive.Primitive.TheVariants.{IsBoolean, Eq, Cons, StringSet}
 use Rattle.sch_control.specs.declared.operation.Atom.{Atom}
@@ -16,19 +16,20 @@ use Rattle.sch_word.specs.declared.stop.Stop.TheVariants.{Unset}
 use Rattle.sch_control.specs.declared.operation.Operation.{Operation}
 use Rattle.sch_control.specs.declared.operation.Operation.TheVariants as operation
 use Rattle.sch_frames.specs.declared.instruction.Instruction.{Instruction}
-use Rattle.sch_frames.specs.declared.instruction.Instruction.TheVariants.{Do, Load, Pass, Fix}
+use Rattle.sch_frames.specs.declared.instruction.Instruction.TheVariants.{Do, Fix}
 use Rattle.sch_insn.specs.declared.insn.Arg.TheVariants.{Reg}
 use Rattle.sch_insn.specs.declared.insn.Insn.TheVariants.{MovTo, MovFrom, MovNumber, AddNumber, CmpNumber}
 use Rattle.sch_insn.specs.declared.condition.TheConstants.{E}
 use Rattle.sch_asm.specs.declared.item.Item.{Item}
 use Rattle.sch_asm.specs.declared.item.Item.TheVariants as item
 use Rattle.sch_word.specs.declared.mark.MarkKind.{MarkKind}
+use Rattle.sch_word.specs.declared.mark.MarkKind.TheVariants.{Spill}
 use Rattle.sch_asm.specs.Stands.{Setting, Stands}
 use Rattle.sch_select_memory.specs.Addresses.{stop_label, body_label, place_operand, part_operand, global_address}
 use Rattle.sch_select_operations.specs.CellCode.{source_code, check_cell, cell_operand}
 use Rattle.sch_select_operations.specs.ObjectCode.{check_heap, part_code}
 use Rattle.sch_select_operations.specs.ClosureCode.{fields_code, record_code, closure_bytes, group_bytes, places_code}
-use Rattle.sch_select_operations.specs.ClosureCode.{records_code, group_code}
+use Rattle.sch_select_operations.specs.ClosureCode.{records_code, group_code, spill_code, spills_behind}
 use Rattle.sch_select_operations.specs.OperandCode.{atom_code, unary_code, binary_code, read_code, operand_code, second_code}
 use Rattle.sch_select_operations.specs.PrimitiveCode.{primitive_code, pair_or_binary, index_operand, three_code}
 use Rattle.sch_select_operations.specs.PrimitiveCode.{ternary_code}
@@ -124,29 +125,43 @@ pub record_appends : (offset : ℕ) (c : Closure Place) → Appends (record_code
 record_appends offset c rest = ap (λ l. item.LoadLabel 1 (body_label c.label) ∷
     (item.Plain (MovTo (part_operand offset) 1) ∷ l)) (fields_appends (offset + 8) c.fields rest)
 
-places_appends : (offset : ℕ) (members : List (Member Place)) → Appends (places_code offset members)
-places_appends offset [] rest = refl
-places_appends offset (m ∷ members) rest =
-    ap (λ l. item.Plain (MovTo (Reg 1) 12) ∷ (item.Plain (AddNumber (Reg 1) (pos (offset + 4))) ∷
-    (item.Plain (MovTo (place_operand m.at) 1) ∷ l))) (places_appends (offset + closure_bytes m.closure) members
-    rest)
+-- what does not look at marks is of a stored member the same
+pub spill_same : {A : Type 0} (f : List Item → A) → ((m : MarkKind) (is : List Item) → f (item.Mark m ∷ is) ≡ f is)
+    → (p : Place) (spills : List ℕ) (is : List Item) → f (spill_code p spills is) ≡ f is
+spill_same f past (Slot j) (x ∷ spills) is = past (Spill x) is
+spill_same f past (Slot j) [] is = refl
+spill_same f past (Register r) spills is = refl
 
-records_appends : (offset : ℕ) (members : List (Member Place)) → Appends (records_code offset members)
+spill_appends : (p : Place) (spills : List ℕ) → Appends (spill_code p spills)
+spill_appends (Slot j) (x ∷ spills) rest = refl
+spill_appends (Slot j) [] rest = refl
+spill_appends (Register r) spills rest = refl
+
+places_appends : (offset : ℕ) (members : List (Member Place)) (spills : List ℕ) → Appends (places_code offset members spills)
+places_appends offset [] spills rest = refl
+places_appends offset (m ∷ members) spills rest =
+    ap (λ l. item.Plain (MovTo (Reg 1) 12) ∷ (item.Plain (AddNumber (Reg 1) (pos (offset + 4))) ∷ l))
+    (then_appends (spill_code m.at spills) (λ rest. item.Plain (MovTo (place_operand m.at) 1)
+    ∷ places_code (offset + closure_bytes m.closure) members (spills_behind m.at spills) rest) (spill_appends m.at spills)
+    (λ rest. ap (λ l. item.Plain (MovTo (place_operand m.at) 1) ∷ l)
+    (places_appends (offset + closure_bytes m.closure) members (spills_behind m.at spills) rest)) rest)
+
+pub records_appends : (offset : ℕ) (members : List (Member Place)) → Appends (records_code offset members)
 records_appends offset [] rest = refl
 records_appends offset (m ∷ members) rest =
     then_appends (record_code offset m.closure) (records_code (offset + closure_bytes m.closure) members)
     (record_appends offset m.closure) (records_appends (offset + closure_bytes m.closure) members) rest
 
 module _ (heap_end literals : ℕ) where
-  group_appends : (members : List (Member Place)) → Appends (group_code heap_end members)
-  group_appends members rest =
+  group_appends : (members : List (Member Place)) (spills : List ℕ) → Appends (group_code heap_end members spills)
+  group_appends members spills rest =
       let last : List Item → List Item = λ rest. item.Plain (AddNumber (Reg 12) (pos (group_bytes members))) ∷ rest in
       then_appends (check_heap heap_end (group_bytes members))
-      (λ rest. places_code 0 members (records_code 0 members (last rest))) (λ rest. refl)
-      (then_appends (places_code 0 members) (λ rest. records_code 0 members (last rest)) (places_appends 0 members)
+      (λ rest. places_code 0 members spills (records_code 0 members (last rest))) (λ rest. refl)
+      (then_appends (places_code 0 members spills) (λ rest. records_code 0 members (last rest)) (places_appends 0 members spills)
       (then_appends (records_code 0 members) last (records_appends 0 members) (λ rest. refl))) rest
 
-  operation_appends : (n : ℕ) (o : Operation Place) → Appends (operation_code heap_end literals n o)
+  pub operation_appends : (n : ℕ) (o : Operation Place) → Appends (operation_code heap_end literals n o)
   operation_appends n (operation.Operand o) rest = operand_appends n o rest
   operation_appends n (operation.Prim site which operands) rest = primitive_appends heap_end n which operands
       rest
@@ -177,11 +192,7 @@ module _ (heap_end literals : ℕ) where
 module _ (base out words heap_end literals : ℕ) where
   pub instruction_appends : (n : ℕ) (i : Instruction) → Appends (instruction_code base out words heap_end literals n i)
   instruction_appends n (Do o) rest = operation_appends heap_end literals n o rest
-  instruction_appends n (Load p o) rest = then_appends (second_code n o)
-      (λ rest. item.Plain (MovTo (place_operand p) 1) ∷ rest) (second_appends n o) (λ rest. refl) rest
-  instruction_appends n (Pass k o) rest = then_appends (second_code n o)
-      (λ rest. item.Plain (MovTo (place_operand (Slot (words + k))) 1) ∷ rest) (second_appends n o) (λ rest. refl) rest
-  instruction_appends n (Fix members) rest = group_appends heap_end literals members rest
+  instruction_appends n (Fix members spills) rest = group_appends heap_end literals members spills rest
   instruction_appends n _ rest = refl
 
   pub body_appends : (n : ℕ) (instructions : List Instruction)

@@ -1,5 +1,5 @@
--- How many instructions the items of a program have at least: one for each three units of the program's size, its
--- closures and its bodies. Beside its own size each instruction of a body has room for one unit more, and so a body
+-- How many instructions the items of a program have at least: one for each three units of what there is to do in it, its
+-- copies and its bodies. Beside its own size each instruction of a body has room for one unit more, and so a body
 -- has room for itself.
 use Rattle.std.proofs.Common.{◌≡◌, ℕ, suc, ◌+◌, ◌*◌, ◌≤◌, List, [], ◌∷◌, length, length-append, Bool, true, false, cond, Option, Some, None, refl, arith, ◌&&◌}
 use Rattle.std.specs.Prelude.{not, nat_le, nat_lt, pos}
@@ -7,7 +7,6 @@ use Rattle.std.specs.List.{list_all}
 use Rattle.std.proofs.lemmas.Bool.{and_parts}
 use Rattle.sch_word.specs.values.Literals.{count_literals}
 use Rattle.sch_word.specs.declared.place.Place.{Place}
-use Rattle.sch_word.specs.declared.place.Place.TheVariants.{Slot}
 use Rattle.sch_word.specs.declared.primitive.Primitive.{Primitive}
 use Rattle.sch_word.specs.declared.primitive.Primitive.TheVariants.{Eq, IsBoolean, IsPair, IsNull, IsSymbol, IsInteger}
 use Rattle.sch_word.specs.declared.primitive.Primitive.TheVariants.{IsChar, IsString, IsVector, IsProcedure}
@@ -30,16 +29,17 @@ use Rattle.sch_control.specs.Valid.{only_reads}
 use Rattle.sch_frames.specs.declared.instruction.Instruction.{Instruction}
 use Rattle.sch_frames.specs.declared.instruction.Instruction.TheVariants as instruction
 use Rattle.sch_frames.specs.Covered.{marks_settled}
-use Rattle.sch_frames.specs.Sizes.{closures_in, codes_size, grouped, instructions_size, jumped, program_size}
+use Rattle.sch_frames.specs.Sizes.{closures_in, codes_copies, codes_size, copies_of, grouped, instructions_size, jumped}
 use Rattle.sch_frames.specs.Tree.{Code}
 use Rattle.sch_frames.specs.Tree as tree
-use Rattle.sch_frames.specs.Valid.{formals_of, is_place}
+use Rattle.sch_frames.specs.Valid.{formals_of}
 use Rattle.sch_insn.specs.declared.condition.TheConstants.{E}
 use Rattle.sch_insn.specs.declared.insn.Arg.TheVariants.{Reg}
 use Rattle.sch_insn.specs.declared.insn.Insn.TheVariants.{AddNumber, CmpNumber, MovFrom, MovNumber, MovTo}
 use Rattle.sch_asm.specs.declared.item.Item.{Item}
 use Rattle.sch_asm.specs.declared.item.Item.TheVariants as item
 use Rattle.sch_word.specs.declared.mark.MarkKind.TheVariants.{Enter}
+use Rattle.sch_select.proofs.items.AppendedItems.{spill_same}
 use Rattle.sch_select.proofs.items.RestItems.{count_keeps}
 use Rattle.sch_select_memory.specs.Addresses.{place_operand, global_address, stop_label, body_label, part_operand}
 use Rattle.sch_select_operations.specs.OperandCode.{atom_code, unary_code, binary_code, read_code, operand_code, second_code}
@@ -49,10 +49,10 @@ use Rattle.sch_select.specs.Select.{labels_needed, instruction_code, body_code}
 use Rattle.sch_select_operations.specs.CellCode.{source_code, check_cell, cell_operand}
 use Rattle.sch_select_operations.specs.ObjectCode.{check_heap, part_code}
 use Rattle.sch_select_operations.specs.ClosureCode.{fields_code, closure_bytes, group_bytes, places_code, records_code}
-use Rattle.sch_select_operations.specs.ClosureCode.{group_code}
+use Rattle.sch_select_operations.specs.ClosureCode.{group_code, spills_behind}
 use Rattle.sch_select.specs.Program.{passed_code, entry_code, forms_code, labels_end, own_label, program_code}
 use Rattle.sch_select_data.specs.Data.{heap_of}
-use Rattle.sch_select.specs.Sizes.{instructions_in}
+use Rattle.sch_select.specs.Sizes.{instructions_in, steps_size}
 use Rattle.sch_select.proofs.items.ProgramLabels.{last_code}
 use Rattle.sch_select.proofs.items.TextSize.{sources_counts}
 use Rattle.sch_select.proofs.items.Sound.{impossible}
@@ -117,12 +117,14 @@ fields_add offset (x ∷ sources) rest =
 
 -- ## Groups
 
-places_keep : (offset : ℕ) (members : List (Member Place)) (rest : List Item)
-    → length members + instructions_in rest ≤ instructions_in (places_code offset members rest)
-places_keep offset [] rest = omega arith
-places_keep offset (m ∷ members) rest =
-    let h = places_keep (offset + closure_bytes m.closure) members rest in
-    omega (arith, h)
+places_keep : (offset : ℕ) (members : List (Member Place)) (spills : List ℕ) (rest : List Item)
+    → length members + instructions_in rest ≤ instructions_in (places_code offset members spills rest)
+places_keep offset [] spills rest = omega arith
+places_keep offset (m ∷ members) spills rest =
+    let others = places_code (offset + closure_bytes m.closure) members (spills_behind m.at spills) rest in
+    let h = places_keep (offset + closure_bytes m.closure) members (spills_behind m.at spills) rest in
+    let k = spill_same instructions_in (λ kind is. refl) m.at spills (item.Plain (MovTo (place_operand m.at) 1) ∷ others) in
+    omega (arith, h, k)
 
 records_add : (offset : ℕ) (members : List (Member Place)) (rest : List Item)
     → length (member_atoms members) + instructions_in rest ≤ instructions_in (records_code offset members rest)
@@ -135,11 +137,11 @@ records_add offset (m ∷ members) rest =
     let a = length-append (source_atoms m.closure.fields) (member_atoms members) in
     omega (arith, h, k, c, a)
 
-group_adds : (heap_end : ℕ) (members : List (Member Place)) (rest : List Item)
-    → 2 + (length (member_atoms members) + length members) + instructions_in rest ≤ instructions_in (group_code heap_end members rest)
-group_adds heap_end members rest =
+group_adds : (heap_end : ℕ) (members : List (Member Place)) (spills : List ℕ) (rest : List Item)
+    → 2 + (length (member_atoms members) + length members) + instructions_in rest ≤ instructions_in (group_code heap_end members spills rest)
+group_adds heap_end members spills rest =
     let last = item.Plain (AddNumber (Reg 12) (pos (group_bytes members))) ∷ rest in
-    let k = places_keep 0 members (records_code 0 members last) in
+    let k = places_keep 0 members spills (records_code 0 members last) in
     let l = records_add 0 members last in
     omega (arith, k, l)
 
@@ -272,7 +274,7 @@ module _ (words globals symbols literals : ℕ) where
 
   body_adds : (base out heap_end n : ℕ) (is : List Instruction) (b : Bool)
       → list_all (instruction_selected words globals symbols literals) is ≡ true → marks_settled b is ≡ true → (rest : List Item)
-      → cond b 1 0 + (instructions_size is + grouped is) + 3 * instructions_in rest
+      → cond b 1 0 + (instructions_size is + grouped is + copies_of is) + 3 * instructions_in rest
       ≤ 3 * instructions_in (body_code base out words heap_end literals n is rest)
   body_adds base out heap_end n [] b e m rest = let z = none_waits b m in omega (arith, z)
   body_adds base out heap_end n (i ∷ is) b e m rest =
@@ -284,28 +286,17 @@ module _ (words globals symbols literals : ℕ) where
 
       by : (i : Instruction) → instruction_selected words globals symbols literals i ≡ true → marks_settled b (i ∷ is) ≡ true
           → ((b : Bool) → marks_settled b is ≡ true
-          → cond b 1 0 + (instructions_size is + grouped is) + 3 * instructions_in rest ≤ 3 * instructions_in next)
-          → cond b 1 0 + (instructions_size (i ∷ is) + grouped (i ∷ is)) + 3 * instructions_in rest
+          → cond b 1 0 + (instructions_size is + grouped is + copies_of is) + 3 * instructions_in rest ≤ 3 * instructions_in next)
+          → cond b 1 0 + (instructions_size (i ∷ is) + grouped (i ∷ is) + copies_of (i ∷ is)) + 3 * instructions_in rest
           ≤ 3 * instructions_in (instruction_code base out words heap_end literals n i next)
       by (instruction.Do o) e m rec = let w = at_most_one b in let h = operation_adds heap_end n o e next in
           let k = rec false m in omega (arith, w, h, k)
       by (instruction.Store q) e m rec = let w = at_most_one b in let k = rec false m in omega (arith, w, k)
       by (instruction.Copy to from) e m rec = let w = at_most_one b in let k = rec false m in omega (arith, w, k)
-      by (instruction.Load q o) e m rec =
-          let p = and_parts (is_place words q) (operand_selected words globals symbols literals o) e in
+      by (instruction.Pass j) e m rec = let w = at_most_one b in let k = rec false m in omega (arith, w, k)
+      by (instruction.Fix members spills) e m rec =
           let w = at_most_one b in
-          let h = second_adds n o p.1 (item.Plain (MovTo (place_operand q) 1) ∷ next) in
-          let k = rec false m in
-          omega (arith, w, h, k)
-      by (instruction.Pass j o) e m rec =
-          let p = and_parts (nat_lt j words) (operand_selected words globals symbols literals o) e in
-          let w = at_most_one b in
-          let h = second_adds n o p.1 (item.Plain (MovTo (place_operand (Slot (words + j))) 1) ∷ next) in
-          let k = rec false m in
-          omega (arith, w, h, k)
-      by (instruction.Fix members) e m rec =
-          let w = at_most_one b in
-          let h = group_adds heap_end members next in
+          let h = group_adds heap_end members spills next in
           let k = rec false m in
           omega (arith, w, h, k)
       by (instruction.Call spread count) e m rec = let w = at_most_one b in let k = rec false m in omega (arith, w, k)
@@ -333,7 +324,7 @@ module _ (words globals symbols literals : ℕ) where
 
   forms_add : (heap_end label n : ℕ) (cs : List Code) (rest : List Item)
       → list_all (form_selected words globals symbols literals) cs ≡ true → list_all (λ c. marks_settled true c.instructions) cs ≡ true
-      → codes_size cs + (closures_in cs + length cs) + 3 * instructions_in rest
+      → codes_size cs + (closures_in cs + (codes_copies cs + length cs)) + 3 * instructions_in rest
       ≤ 3 * instructions_in (forms_code words heap_end literals label n cs rest)
   forms_add heap_end label n [] rest e m = omega arith
   forms_add heap_end label n (c ∷ cs) rest e m =
@@ -355,7 +346,7 @@ module _ (words globals symbols literals : ℕ) where
 -- ## Programs
 
 pub program_instructions : (p : tree.Source) (heap depth : ℕ) → selects p ≡ true
-    → program_size p + (closures_in p.bodies + length p.bodies) ≤ 3 * instructions_in (program_code p heap depth)
+    → steps_size p ≤ 3 * instructions_in (program_code p heap depth)
 program_instructions p heap depth e =
     let globals = length p.statics.globals in
     let symbols = length p.statics.symbols in

@@ -44,7 +44,8 @@ use Rattle.sch_select.proofs.items.RestItems.{count_behind, count_ahead}
 use Rattle.sch_select_memory.specs.Addresses.{first_label, body_label, string_label, vector_label}
 use Rattle.sch_select_operations.specs.OperandCode.{atom_code, unary_code, binary_code, read_code, operand_code, second_code}
 use Rattle.sch_select_operations.specs.CellCode.{source_code}
-use Rattle.sch_select_operations.specs.ClosureCode.{fields_code, closure_bytes, places_code, record_code, records_code}
+use Rattle.sch_select_operations.specs.ClosureCode.{fields_code, closure_bytes, places_code, record_code, records_code, spills_behind}
+use Rattle.sch_select.proofs.items.AppendedItems.{spill_same}
 use Rattle.sch_select_operations.specs.PrimitiveCode.{pair_or_binary, ternary_code, index_operand}
 use Rattle.sch_select_operations.specs.OperationCode.{operation_code}
 use Rattle.sch_select.specs.Select.{labels_needed, body_code}
@@ -211,9 +212,10 @@ module _ (count : ℕ) where
   fields_ahead offset [] rest = refl
   fields_ahead offset (x ∷ sources) rest = source_ahead 1 x _ ∙ fields_ahead (offset + 8) sources rest
 
-  places_ahead : (offset : ℕ) (members : List (Member Place)) → Ahead (places_code offset members)
-  places_ahead offset [] rest = refl
-  places_ahead offset (m ∷ members) rest = places_ahead (offset + closure_bytes m.closure) members rest
+  places_ahead : (offset : ℕ) (members : List (Member Place)) (spills : List ℕ) → Ahead (places_code offset members spills)
+  places_ahead offset [] spills rest = refl
+  places_ahead offset (m ∷ members) spills rest =
+      spill_same (jumps_ahead own) (λ kind is. refl) m.at spills _ ∙ places_ahead (offset + closure_bytes m.closure) members (spills_behind m.at spills) rest
 
   record_ahead : (offset : ℕ) (c : Closure Place) → nat_lt c.label count ≡ true → Ahead (record_code offset c)
   record_ahead offset c e rest = begins c.label e _ _ ∙ fields_ahead (offset + 8) c.fields rest
@@ -284,18 +286,16 @@ module _ (count : ℕ) where
       operation_ahead heap_end literals n q g.0 (body_code base out words heap_end literals
       (n + labels_needed (instruction.Do q)) is rest)
       ∙ body_ahead base out words heap_end literals (n + labels_needed (instruction.Do q)) is rest e g.1 o
-  body_ahead base out words heap_end literals n (instruction.Load p q ∷ is) rest e f o = second_ahead n q _
-      ∙ body_ahead base out words heap_end literals (n + labels_needed (instruction.Load p q)) is rest e f o
-  body_ahead base out words heap_end literals n (instruction.Fix members ∷ is) rest e f o =
+  body_ahead base out words heap_end literals n (instruction.Fix members spills ∷ is) rest e f o =
       let g = and_parts (members_few count members) (list_all (labels_few count) is) f in
-      away 7 (omega arith) true _ ∙ places_ahead 0 members _ ∙ records_ahead 0 members g.0 _
-      ∙ body_ahead base out words heap_end literals (n + labels_needed (instruction.Fix members)) is rest e g.1 o
+      away 7 (omega arith) true _ ∙ places_ahead 0 members spills _ ∙ records_ahead 0 members g.0 _
+      ∙ body_ahead base out words heap_end literals (n + labels_needed (instruction.Fix members spills)) is rest e g.1 o
   body_ahead base out words heap_end literals n (instruction.Store p ∷ is) rest e f o =
       body_ahead base out words heap_end literals (n + labels_needed (instruction.Store p)) is rest e f o
   body_ahead base out words heap_end literals n (instruction.Copy p q ∷ is) rest e f o =
       body_ahead base out words heap_end literals (n + labels_needed (instruction.Copy p q)) is rest e f o
-  body_ahead base out words heap_end literals n (instruction.Pass j q ∷ is) rest e f o = second_ahead n q _
-      ∙ body_ahead base out words heap_end literals (n + labels_needed (instruction.Pass j q)) is rest e f o
+  body_ahead base out words heap_end literals n (instruction.Pass j ∷ is) rest e f o =
+      body_ahead base out words heap_end literals (n + labels_needed (instruction.Pass j)) is rest e f o
   body_ahead base out words heap_end literals n (instruction.Call spread count ∷ is) rest e f o =
       near_to own n _ _ (first_in n (labels_in (body_code base out words heap_end literals
       (n + labels_needed (instruction.Call spread count)) is rest)))

@@ -27,7 +27,8 @@ use Rattle.sch_asm.proofs.Tables.{repeats}
 use Rattle.sch_select.specs.Select.{operand_needs, operation_needs}
 use Rattle.sch_select_operations.specs.OperandCode.{atom_code, unary_code, binary_code, read_code, operand_code, second_code}
 use Rattle.sch_select_operations.specs.CellCode.{source_code}
-use Rattle.sch_select_operations.specs.ClosureCode.{fields_code, closure_bytes, places_code, records_code, group_code}
+use Rattle.sch_select_operations.specs.ClosureCode.{fields_code, closure_bytes, places_code, records_code, group_code, spills_behind}
+use Rattle.sch_select.proofs.items.AppendedItems.{spill_same}
 use Rattle.sch_select_operations.specs.OperationCode.{operation_code}
 use Rattle.sch_select_operations.specs.PrimitiveCode.{pair_or_binary, ternary_code, index_operand, three_code}
 
@@ -257,17 +258,18 @@ fields_labelled : (offset : ℕ) (sources : List (Source Place)) → Labelled (f
 fields_labelled offset [] rest = refl
 fields_labelled offset (x ∷ sources) rest = source_labelled 1 x _ ∙ fields_labelled (offset + 8) sources rest
 
-places_labelled : (offset : ℕ) (members : List (Member Place)) → Labelled (places_code offset members) []
-places_labelled offset [] rest = refl
-places_labelled offset (m ∷ members) rest = places_labelled (offset + closure_bytes m.closure) members rest
+places_labelled : (offset : ℕ) (members : List (Member Place)) (spills : List ℕ) → Labelled (places_code offset members spills) []
+places_labelled offset [] spills rest = refl
+places_labelled offset (m ∷ members) spills rest =
+    spill_same labels_in (λ kind is. refl) m.at spills _ ∙ places_labelled (offset + closure_bytes m.closure) members (spills_behind m.at spills) rest
 
 records_labelled : (offset : ℕ) (members : List (Member Place)) → Labelled (records_code offset members) []
 records_labelled offset [] rest = refl
 records_labelled offset (m ∷ members) rest = fields_labelled (offset + 8) m.closure.fields _
     ∙ records_labelled (offset + closure_bytes m.closure) members rest
 
-pub group_labelled : (heap_end : ℕ) (members : List (Member Place)) → Labelled (group_code heap_end members) []
-group_labelled heap_end members rest = places_labelled 0 members _ ∙ records_labelled 0 members _
+pub group_labelled : (heap_end : ℕ) (members : List (Member Place)) (spills : List ℕ) → Labelled (group_code heap_end members spills) []
+group_labelled heap_end members spills rest = places_labelled 0 members spills _ ∙ records_labelled 0 members _
 
 abbrev pub operation_labels : ℕ → Operation Place → List ℕ
 operation_labels n (operation.Operand o) = operand_labels n o

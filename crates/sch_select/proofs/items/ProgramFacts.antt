@@ -1,14 +1,13 @@
 -- What the type of frame programs keeps, as select needs it, and that a program's labels are its own.
-use Rattle.std.proofs.Common.{◌≡◌, ℕ, suc, ◌+◌, ◌*◌, ◌≤◌, List, [], ◌∷◌, ◌++◌, length, Bool, true, false, refl}
+use Rattle.std.proofs.Common.{◌≡◌, ℕ, suc, ◌+◌, ◌*◌, ◌≤◌, List, [], ◌∷◌, ◌++◌, length, true, refl}
 use Rattle.std.proofs.Common.{sym, ap, ◌∙◌, subst, arith, ◌==◌, ◌&&◌, ◌||◌, eq-eqb}
 use Rattle.std.specs.Prelude.{nat_le}
 use Rattle.std.specs.List.{list_all, AllByRecursion}
 use Rattle.std.proofs.lemmas.Bool.{and_parts, and_from, leb-true}
 use Rattle.std.proofs.lemmas.List.Elements.{All-from_recursion}
 use Rattle.std.proofs.Math.Bool.{or-true}
-use Rattle.sch_word.specs.values.Literals.{Literal, Literals, constant, text, list, elements, no_literals, and_literal}
-use Rattle.sch_word.specs.values.Literals.{count_literals, literal_size, literals_size, literals_known}
-use Rattle.sch_word.specs.runs.Runs.{max_statics, names_size, statics_size, statics_valid, statics_in_range, library_known}
+use Rattle.sch_word.specs.values.Literals.{count_literals, literals_known}
+use Rattle.sch_word.specs.runs.Runs.{max_statics, statics_size, statics_valid, statics_in_range, library_known}
 use Rattle.sch_frames.specs.declared.frame_body.FrameBody.{FrameBody}
 use Rattle.sch_frames.specs.declared.frame_program.FrameProgram.{FrameProgram}
 use Rattle.sch_frames.specs.ProgramView.{source}

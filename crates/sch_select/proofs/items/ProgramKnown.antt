@@ -27,7 +27,7 @@ use Rattle.sch_control.specs.declared.operation.Member.{Member}
 use Rattle.sch_control.specs.declared.operation.Operation.{Operation}
 use Rattle.sch_control.specs.declared.operation.Operation.TheVariants as operation
 use Rattle.sch_frames.specs.declared.instruction.Instruction.{Instruction}
-use Rattle.sch_frames.specs.declared.instruction.Instruction.TheVariants.{Do, Store, Copy, Load, Pass, Fix, Call}
+use Rattle.sch_frames.specs.declared.instruction.Instruction.TheVariants.{Do, Store, Copy, Pass, Fix, Call}
 use Rattle.sch_frames.specs.declared.instruction.Instruction.TheVariants.{Tail, Return, End, IfFalse, Jump, Label}
 use Rattle.sch_frames.specs.declared.instruction.Instruction.TheVariants.{Mark}
 use Rattle.sch_frames.specs.Tree.{Code}
@@ -47,7 +47,7 @@ use Rattle.sch_select.proofs.items.RestItems.{count_labels}
 use Rattle.sch_select_operations.specs.PrimitiveCode.{pair_or_binary, ternary_code, index_operand}
 use Rattle.sch_select_memory.specs.Addresses.{vector_label, string_label, put_label, body_label}
 use Rattle.sch_select_operations.specs.CellCode.{source_code}
-use Rattle.sch_select_operations.specs.ClosureCode.{fields_code, record_code, closure_bytes, places_code, records_code}
+use Rattle.sch_select_operations.specs.ClosureCode.{fields_code, record_code, closure_bytes, places_code, records_code, spills_behind}
 use Rattle.sch_select_operations.specs.OperandCode.{atom_code, unary_code, binary_code, read_code, operand_code, second_code}
 use Rattle.sch_select_operations.specs.OperationCode.{operation_code}
 use Rattle.sch_select.specs.Select.{labels_needed, body_code}
@@ -60,6 +60,7 @@ use Rattle.sch_select_operations.proofs.simulation.SelectedPrograms.{members_few
 use Rattle.sch_select.proofs.items.Labels.{unary_labels, binary_labels, read_labels, operand_labels, operation_labels}
 use Rattle.sch_select.proofs.items.ProgramLabels.{inner_labels, entry_labels, body_labels, own_labels, form_labels}
 use Rattle.sch_select.proofs.items.ProgramLabels.{forms_labels, forms_labelled, last_code}
+use Rattle.sch_select.proofs.items.AppendedItems.{spill_same}
 use Rattle.sch_select.proofs.items.Sound.{in_front}
 
 pub first_in : (n : ℕ) (ls : List ℕ) → is_among (n ∷ ls) n ≡ true
@@ -103,13 +104,8 @@ label_in base n l (Do o ∷ instructions) e =
     (base + l) (label_in base (n + labels_needed (Do o)) l instructions e)
 label_in base n l (Store q ∷ instructions) e = label_in base (n + labels_needed (Store q)) l instructions e
 label_in base n l (Copy to from ∷ instructions) e = label_in base (n + labels_needed (Copy to from)) l instructions e
-label_in base n l (Load q o ∷ instructions) e =
-    right_in (operand_labels n o) (body_labels base (n + labels_needed (Load q o)) instructions)
-    (base + l) (label_in base (n + labels_needed (Load q o)) l instructions e)
-label_in base n l (Pass j o ∷ instructions) e =
-    right_in (operand_labels n o) (body_labels base (n + labels_needed (Pass j o)) instructions)
-    (base + l) (label_in base (n + labels_needed (Pass j o)) l instructions e)
-label_in base n l (Fix members ∷ instructions) e = label_in base (n + labels_needed (Fix members)) l instructions e
+label_in base n l (Pass j ∷ instructions) e = label_in base (n + labels_needed (Pass j)) l instructions e
+label_in base n l (Fix members spills ∷ instructions) e = label_in base (n + labels_needed (Fix members spills)) l instructions e
 label_in base n l (Call spread count ∷ instructions) e = later_in n (base + l)
     (body_labels base (n + labels_needed (Call spread count)) instructions)
     (label_in base (n + labels_needed (Call spread count)) l instructions e)
@@ -227,9 +223,10 @@ module _ (all : List ℕ) where
     record_uses offset c e rest = one (body_label c.label) (uses_in (fields_code (offset + 8) c.fields rest))
         (bodies_in c.label (ltb-true c.label count e)) ∙ fields_uses (offset + 8) c.fields rest
 
-    places_uses : (offset : ℕ) (members : List (Member Place)) → Uses (places_code offset members)
-    places_uses offset [] rest = refl
-    places_uses offset (m ∷ members) rest = places_uses (offset + closure_bytes m.closure) members rest
+    places_uses : (offset : ℕ) (members : List (Member Place)) (spills : List ℕ) → Uses (places_code offset members spills)
+    places_uses offset [] spills rest = refl
+    places_uses offset (m ∷ members) spills rest =
+        spill_same (λ is. list_all known (uses_in is)) (λ kind is. refl) m.at spills _ ∙ places_uses (offset + closure_bytes m.closure) members (spills_behind m.at spills) rest
 
     records_uses : (offset : ℕ) (members : List (Member Place)) → members_few count members ≡ true
         → Uses (records_code offset members)
@@ -298,19 +295,11 @@ module _ (all : List ℕ) where
           body_uses (n + labels_needed (Store q)) instructions e f h rest
       body_uses n (Copy to from ∷ instructions) e f h rest =
           body_uses (n + labels_needed (Copy to from)) instructions e f h rest
-      body_uses n (Load q o ∷ instructions) e f h rest =
-          second_uses n o (among_left (operand_labels n o) (body_labels base (n + labels_needed (Load q o))
-          instructions) h) _
-          ∙ body_uses (n + labels_needed (Load q o)) instructions e f (among_right (operand_labels n o)
-          (body_labels base (n + labels_needed (Load q o)) instructions) h) rest
-      body_uses n (Pass j o ∷ instructions) e f h rest =
-          second_uses n o (among_left (operand_labels n o) (body_labels base (n + labels_needed (Pass j o))
-          instructions) h) _
-          ∙ body_uses (n + labels_needed (Pass j o)) instructions e f (among_right (operand_labels n o)
-          (body_labels base (n + labels_needed (Pass j o)) instructions) h) rest
-      body_uses n (Fix members ∷ instructions) e f h rest =
+      body_uses n (Pass j ∷ instructions) e f h rest =
+          body_uses (n + labels_needed (Pass j)) instructions e f h rest
+      body_uses n (Fix members spills ∷ instructions) e f h rest =
           let p = and_parts (members_few count members) (list_all (labels_few count) instructions) f in
-          places_uses 0 members _ ∙ records_uses 0 members p.0 _ ∙ body_uses (n + labels_needed (Fix members))
+          places_uses 0 members spills _ ∙ records_uses 0 members p.0 _ ∙ body_uses (n + labels_needed (Fix members spills))
           instructions e p.1 h rest
       body_uses n (Call spread count ∷ instructions) e f h rest =
           one n (uses_in (body_code base out words heap_end literals (n + labels_needed (Call spread count))

@@ -1,5 +1,5 @@
 -- No label stands twice in a program's items.
-use Rattle.std.proofs.Common.{◌≡◌, ◌≢◌, ℕ, suc, ◌+◌, ◌*◌, ◌<◌, ◌≤◌, List, [], ◌∷◌, ◌++◌, length, Bool, true, false}
+use Rattle.std.proofs.Common.{◌≡◌, ◌≢◌, ℕ, suc, ◌+◌, ◌<◌, ◌≤◌, List, [], ◌∷◌, ◌++◌, length, Bool, true, false}
 use Rattle.std.proofs.Common.{Option, Some, None, refl, sym, ap, ◌∙◌, subst, arith, append_assoc, ◌==◌, ◌&&◌, ◌||◌}
 use Rattle.std.proofs.Common.{eq-eqb}
 use Rattle.std.specs.Prelude.{not, nat_eq, nat_lt}
@@ -10,7 +10,7 @@ use Rattle.sch_word.specs.values.Literals.{count_literals}
 use Rattle.sch_word.specs.trees.NumberSets.{has}
 use Rattle.sch_control.specs.Valid.{without_repeats}
 use Rattle.sch_frames.specs.declared.instruction.Instruction.{Instruction}
-use Rattle.sch_frames.specs.declared.instruction.Instruction.TheVariants.{Do, Store, Copy, Load, Pass, Fix, Call}
+use Rattle.sch_frames.specs.declared.instruction.Instruction.TheVariants.{Do, Store, Copy, Pass, Fix, Call}
 use Rattle.sch_frames.specs.declared.instruction.Instruction.TheVariants.{Tail, Return, End, IfFalse, Jump, Label}
 use Rattle.sch_frames.specs.declared.instruction.Instruction.TheVariants.{Mark}
 use Rattle.sch_control.specs.declared.body.Entry.{Entry}
@@ -32,7 +32,7 @@ use Rattle.sch_select_memory.specs.OwnCode.{own_code}
 use Rattle.sch_select_data.specs.Data.{heap_of}
 use Rattle.sch_word.proofs.facts.Booleans.{neither}
 use Rattle.sch_select.proofs.items.Labels.{one_label, Block, Apart, Labelled, among_append}
-use Rattle.sch_select.proofs.items.Labels.{distinct_append, operand_labels, second_labelled, operand_block}
+use Rattle.sch_select.proofs.items.Labels.{distinct_append}
 use Rattle.sch_select.proofs.items.Labels.{group_labelled, operation_labels, operation_labelled, operation_block}
 
 -- elements of one list that another one has not
@@ -62,8 +62,6 @@ high_end {a} {b} {ls} p y e = by (nat_lt y b) refl
 module _ (base : ℕ) where
   abbrev pub instruction_labels : ℕ → Instruction → List ℕ
   instruction_labels n (Do o) = operation_labels n o
-  instruction_labels n (Load p o) = operand_labels n o
-  instruction_labels n (Pass k o) = operand_labels n o
   instruction_labels n (Call spread count) = n ∷ []
   instruction_labels n (Label l) = (base + l) ∷ []
   instruction_labels n _ = []
@@ -76,9 +74,7 @@ module _ (base : ℕ) where
     instruction_labelled : (n : ℕ) (i : Instruction) → Labelled (instruction_code base out words heap_end literals n i)
         (instruction_labels n i)
     instruction_labelled n (Do o) rest = operation_labelled heap_end literals n o rest
-    instruction_labelled n (Load p o) rest = second_labelled n o _
-    instruction_labelled n (Pass k o) rest = second_labelled n o _
-    instruction_labelled n (Fix members) rest = group_labelled heap_end members rest
+    instruction_labelled n (Fix members spills) rest = group_labelled heap_end members spills rest
     instruction_labelled n _ rest = refl
 
     pub body_labelled : (n : ℕ) (instructions : List Instruction)
@@ -105,14 +101,9 @@ module _ (base : ℕ) where
   absent y n (Store q ∷ instructions) lt h = absent y (n + labels_needed (Store q)) instructions (omega (arith, lt)) h
   absent y n (Copy to from ∷ instructions) lt h =
       absent y (n + labels_needed (Copy to from)) instructions (omega (arith, lt)) h
-  absent y n (Load q o ∷ instructions) lt h =
-      among_append (operand_labels n o) (body_labels (n + labels_needed (Load q o)) instructions) y
-      ((operand_block n o).below y lt) (absent y (n + labels_needed (Load q o)) instructions (omega (arith, lt)) h)
-  absent y n (Pass j o ∷ instructions) lt h =
-      among_append (operand_labels n o) (body_labels (n + labels_needed (Pass j o)) instructions) y
-      ((operand_block n o).below y lt) (absent y (n + labels_needed (Pass j o)) instructions (omega (arith, lt)) h)
-  absent y n (Fix members ∷ instructions) lt h =
-      absent y (n + labels_needed (Fix members)) instructions (omega (arith, lt)) h
+  absent y n (Pass j ∷ instructions) lt h = absent y (n + labels_needed (Pass j)) instructions (omega (arith, lt)) h
+  absent y n (Fix members spills ∷ instructions) lt h =
+      absent y (n + labels_needed (Fix members spills)) instructions (omega (arith, lt)) h
   absent y n (Call spread count ∷ instructions) lt h =
       among_append (n ∷ []) (body_labels (n + labels_needed (Call spread count)) instructions) y
       ((one_label n).below y lt) (absent y (n + labels_needed (Call spread count)) instructions (omega (arith, lt)) h)
@@ -155,14 +146,11 @@ module _ (base : ℕ) where
     beyond y n (Copy to from ∷ instructions) e le far =
         beyond y (n + labels_needed (Copy to from)) instructions e (omega (arith, le))
         (omega (arith, far))
-    beyond y n (Load q o ∷ instructions) e le far = among_append (operand_labels n o)
-        (body_labels (n + labels_needed (Load q o)) instructions) y ((operand_block n o).above y (omega (arith, far)))
-        (beyond y (n + labels_needed (Load q o)) instructions e (omega (arith, le)) (omega (arith, far)))
-    beyond y n (Pass j o ∷ instructions) e le far = among_append (operand_labels n o)
-        (body_labels (n + labels_needed (Pass j o)) instructions) y ((operand_block n o).above y (omega (arith, far)))
-        (beyond y (n + labels_needed (Pass j o)) instructions e (omega (arith, le)) (omega (arith, far)))
-    beyond y n (Fix members ∷ instructions) e le far =
-        beyond y (n + labels_needed (Fix members)) instructions e (omega (arith, le))
+    beyond y n (Pass j ∷ instructions) e le far =
+        beyond y (n + labels_needed (Pass j)) instructions e (omega (arith, le))
+        (omega (arith, far))
+    beyond y n (Fix members spills ∷ instructions) e le far =
+        beyond y (n + labels_needed (Fix members spills)) instructions e (omega (arith, le))
         (omega (arith, far))
     beyond y n (Call spread count ∷ instructions) e le far =
         among_append (n ∷ []) (body_labels (n + labels_needed (Call spread count)) instructions)
@@ -221,24 +209,10 @@ module _ (base : ℕ) where
         different (n + labels_needed (Store q)) instructions e d (omega (arith, le))
     different n (Copy to from ∷ instructions) e d le =
         different (n + labels_needed (Copy to from)) instructions e d (omega (arith, le))
-    different n (Load q o ∷ instructions) e d le =
-        distinct_append (operand_labels n o) (body_labels (n + labels_needed (Load q o)) instructions)
-        (operand_block n o).distinct
-        (different (n + labels_needed (Load q o)) instructions e d (omega (arith, le)))
-        (apart_by (operand_labels n o) (body_labels (n + labels_needed (Load q o)) instructions)
-        (λ x h. let hi = high_end (operand_block n o) x h in let lo = low_end (operand_block n o) x h in
-        absent x (n + labels_needed (Load q o)) instructions (omega (arith, hi)) (λ l k s. let small = local_small
-        (frames.labels_in instructions) l e k in omega (arith, s, lo, le, small))))
-    different n (Pass j o ∷ instructions) e d le =
-        distinct_append (operand_labels n o) (body_labels (n + labels_needed (Pass j o)) instructions)
-        (operand_block n o).distinct
-        (different (n + labels_needed (Pass j o)) instructions e d (omega (arith, le)))
-        (apart_by (operand_labels n o) (body_labels (n + labels_needed (Pass j o)) instructions)
-        (λ x h. let hi = high_end (operand_block n o) x h in let lo = low_end (operand_block n o) x h in
-        absent x (n + labels_needed (Pass j o)) instructions (omega (arith, hi)) (λ l k s. let small = local_small
-        (frames.labels_in instructions) l e k in omega (arith, s, lo, le, small))))
-    different n (Fix members ∷ instructions) e d le =
-        different (n + labels_needed (Fix members)) instructions e d (omega (arith, le))
+    different n (Pass j ∷ instructions) e d le =
+        different (n + labels_needed (Pass j)) instructions e d (omega (arith, le))
+    different n (Fix members spills ∷ instructions) e d le =
+        different (n + labels_needed (Fix members spills)) instructions e d (omega (arith, le))
     different n (Call spread count ∷ instructions) e d le =
         distinct_append (n ∷ []) (body_labels (n + labels_needed (Call spread count)) instructions)
         (one_label n).distinct

@@ -1,11 +1,11 @@
 -- Each mark of a selected program has its instruction behind it.
 use Rattle.std.proofs.Common.{◌≡◌, ℕ, suc, ◌+◌, List, [], ◌∷◌, length, Option, Some, None, Bool, true, false, refl, ◌∙◌, ◌&&◌}
-use Rattle.std.specs.Prelude.{not, nat_lt, nat_le, IsTrue}
+use Rattle.std.specs.Prelude.{not, nat_eq, nat_lt, nat_le, IsTrue}
 use Rattle.std.specs.List.{list_all}
 use Rattle.std.proofs.lemmas.Bool.{and_parts}
 use Rattle.sch_word.specs.values.Literals.{count_literals}
 use Rattle.sch_word.specs.declared.place.Place.{Place}
-use Rattle.sch_word.specs.declared.place.Place.TheVariants.{Slot}
+use Rattle.sch_word.specs.declared.place.Place.TheVariants.{Reg as Register, Slot}
 use Rattle.sch_word.specs.declared.primitive.Primitive.{Primitive}
 use Rattle.sch_word.specs.declared.primitive.Primitive.TheVariants.{IsBoolean, Eq, Cons, StringSet}
 use Rattle.sch_control.specs.declared.operation.Atom.{Atom}
@@ -18,12 +18,13 @@ use Rattle.sch_control.specs.declared.operation.Source.TheVariants as source
 use Rattle.sch_control.specs.declared.operation.Closure.{Closure}
 use Rattle.sch_control.specs.declared.operation.Member.{Member}
 use Rattle.sch_control.specs.declared.operation.Operation.{Operation}
+use Rattle.sch_insn.specs.declared.insn.Insn.{Insn}
 use Rattle.sch_insn.specs.declared.insn.Insn.TheVariants.{MovTo}
 use Rattle.sch_word.specs.trees.Shape.{max_operands}
-use Rattle.sch_frames.specs.Valid.{formals_of, is_place}
+use Rattle.sch_frames.specs.Valid.{formals_of, in_slots, is_place}
 use Rattle.sch_control.specs.declared.operation.Operation.TheVariants as operation
 use Rattle.sch_frames.specs.declared.instruction.Instruction.{Instruction}
-use Rattle.sch_frames.specs.declared.instruction.Instruction.TheVariants.{Do, Store, Copy, Load, Pass, Fix, Call}
+use Rattle.sch_frames.specs.declared.instruction.Instruction.TheVariants.{Do, Store, Copy, Pass, Fix, Call}
 use Rattle.sch_frames.specs.declared.instruction.Instruction.TheVariants.{Tail, Return, End, IfFalse, Jump, Label}
 use Rattle.sch_frames.specs.declared.instruction.Instruction.TheVariants.{Mark}
 use Rattle.sch_frames.specs.Tree.{Code}
@@ -36,7 +37,7 @@ use Rattle.sch_select_operations.specs.PrimitiveCode.{pair_or_binary, ternary_co
 use Rattle.sch_select_memory.specs.Addresses.{place_operand}
 use Rattle.sch_select_operations.specs.OperandCode.{atom_code, unary_code, binary_code, read_code, operand_code, second_code}
 use Rattle.sch_select_operations.specs.CellCode.{source_code}
-use Rattle.sch_select_operations.specs.ClosureCode.{fields_code, record_code, closure_bytes, places_code, records_code}
+use Rattle.sch_select_operations.specs.ClosureCode.{fields_code, record_code, closure_bytes, places_code, records_code, spill_code, spills_behind}
 use Rattle.sch_select_operations.specs.OperationCode.{operation_code}
 use Rattle.sch_select.specs.Select.{labels_needed, instruction_code, body_code}
 use Rattle.sch_select.specs.Program.{passed_code, entry_code, forms_code, labels_end, program_code, own_label}
@@ -122,9 +123,16 @@ module _ (words globals symbols literals heap_end : ℕ) where
   record_quiet offset c e rest = fields_quiet (offset + 8) c.fields
       (and_parts (nat_le (length c.fields) 1000) (list_all (source_selected words globals symbols literals) c.fields) e).1 rest
 
-  places_quiet : (offset : ℕ) (members : List (Member Place)) → Quiet (places_code offset members)
-  places_quiet offset [] rest = refl
-  places_quiet offset (m ∷ members) rest = places_quiet (offset + closure_bytes m.closure) members rest
+  -- a mark arrives at the store behind it
+  spill_quiet : (p : Place) (spills : List ℕ) (i : Insn) (rest : List Item) → marks_arrive false (spill_code p spills (item.Plain i ∷ rest)) ≡ marks_arrive false rest
+  spill_quiet (Slot j) (x ∷ spills) i rest = refl
+  spill_quiet (Slot j) [] i rest = refl
+  spill_quiet (Register r) spills i rest = refl
+
+  places_quiet : (offset : ℕ) (members : List (Member Place)) (spills : List ℕ) → Quiet (places_code offset members spills)
+  places_quiet offset [] spills rest = refl
+  places_quiet offset (m ∷ members) spills rest =
+      spill_quiet m.at spills (MovTo (place_operand m.at) 1) _ ∙ places_quiet (offset + closure_bytes m.closure) members (spills_behind m.at spills) rest
 
   records_quiet : (offset : ℕ) (members : List (Member Place)) → members_selected words globals symbols literals members ≡ true
       → Quiet (records_code offset members)
@@ -182,15 +190,13 @@ module _ (words globals symbols literals heap_end : ℕ) where
       by (Do o) e m rec = operation_arrives n o e b rest ∙ rec false m
       by (Store q) e m rec = rec false m
       by (Copy to from) e m rec = rec false m
-      by (Load q o) e m rec = second_arrives n o (and_parts (is_place words q) (operand_selected words globals symbols literals o) e).1
-          b (item.Plain (MovTo (place_operand q) 1) ∷ rest) ∙ rec false m
-      by (Pass k o) e m rec = second_arrives n o (and_parts (nat_lt k words) (operand_selected words globals symbols literals o) e).1 b
-          (item.Plain (MovTo (place_operand (Slot (words + k))) 1) ∷ rest) ∙ rec false m
+      by (Pass k) e m rec = rec false m
       by (Call spread count) e m rec = rec false m
       by (Tail spread count) e m rec = rec false m
-      by (Fix members) e m rec =
-          let p = and_parts (nat_le (length members) max_operands) (members_selected words globals symbols literals members) e in
-          places_quiet 0 members _ ∙ records_quiet 0 members p.1 _ ∙ rec false m
+      by (Fix members spills) e m rec =
+          let q = and_parts (nat_eq (length spills) (in_slots members)) (nat_le (length members) max_operands && members_selected words globals symbols literals members) e in
+          let p = and_parts (nat_le (length members) max_operands) (members_selected words globals symbols literals members) q.1 in
+          places_quiet 0 members spills _ ∙ records_quiet 0 members p.1 _ ∙ rec false m
       by Return e m rec = rec false m
       by End e m rec = rec false m
       by (IfFalse l) e m rec = rec false m

@@ -1,5 +1,5 @@
 -- The items of a selected program are valid.
-use Rattle.std.proofs.Common.{◌≡◌, ℕ, suc, ◌+◌, ◌*◌, ◌<◌, ◌≤◌, List, [], ◌∷◌, length, Option, Some, None, Bool, true}
+use Rattle.std.proofs.Common.{◌≡◌, ℕ, suc, ◌+◌, ◌*◌, ◌<◌, ◌≤◌, List, [], ◌∷◌, length, Option, Some, None, true}
 use Rattle.std.proofs.Common.{false, refl, sym, ◌∙◌, arith, ◌&&◌, ⊎_elim}
 use Rattle.std.specs.Prelude.{ℤ, pos, negsuc, ◌≤ℤ◌, ◌*ℤ◌, int_le, not, nat_eq, nat_lt, nat_le}
 use Rattle.std.specs.List.{list_all}
@@ -29,13 +29,13 @@ use Rattle.sch_insn.specs.declared.insn.Insn.TheVariants.{MovTo, MovNumber, AddN
 use Rattle.sch_insn.specs.declared.insn.Arg.TheVariants.{Reg}
 use Rattle.sch_control.specs.declared.operation.Operation.TheVariants as operation
 use Rattle.sch_frames.specs.declared.instruction.Instruction.{Instruction}
-use Rattle.sch_frames.specs.declared.instruction.Instruction.TheVariants.{Do, Store, Copy, Load, Pass, Fix, Call}
+use Rattle.sch_frames.specs.declared.instruction.Instruction.TheVariants.{Do, Store, Copy, Pass, Fix, Call}
 use Rattle.sch_frames.specs.declared.instruction.Instruction.TheVariants.{Tail, Return, End, IfFalse, Jump, Label}
 use Rattle.sch_frames.specs.declared.instruction.Instruction.TheVariants.{Mark}
 use Rattle.sch_frames.specs.Tree.{Code}
 use Rattle.sch_frames.specs.Tree as tree
 use Rattle.sch_word.specs.trees.Shape.{max_operands}
-use Rattle.sch_frames.specs.Valid.{formals_of, handed_over, is_place, is_register}
+use Rattle.sch_frames.specs.Valid.{formals_of, handed_over, in_slots, is_place, is_register}
 use Rattle.sch_asm.specs.declared.item.Item.{Item}
 use Rattle.sch_asm.specs.declared.item.Item.TheVariants as item
 use Rattle.sch_asm.specs.Items.{AreItems}
@@ -46,14 +46,15 @@ use Rattle.sch_select_operations.specs.CellCode.{source_code}
 use Rattle.sch_select_operations.specs.ObjectCode.{check_heap, part_code}
 use Rattle.sch_select_memory.specs.Addresses.{part_operand, global_address, place_operand, literal_address}
 use Rattle.sch_select_operations.specs.ClosureCode.{fields_code, record_code, closure_bytes, group_bytes, places_code}
-use Rattle.sch_select_operations.specs.ClosureCode.{records_code, group_code}
+use Rattle.sch_select_operations.specs.ClosureCode.{records_code, group_code, spills_behind}
+use Rattle.sch_select.proofs.items.AppendedItems.{spill_same}
 use Rattle.sch_select_operations.specs.OperationCode.{operation_code}
-use Rattle.sch_select.specs.Select.{labels_needed, instruction_code, body_code}
+use Rattle.sch_select.specs.Select.{copy_insn, labels_needed, instruction_code, body_code}
 use Rattle.sch_select_operations.specs.PrimitiveCode.{pair_or_binary, ternary_code, index_operand}
 use Rattle.sch_select.specs.Program.{passed_code, entry_code, forms_code, labels_end, program_code, own_label}
 use Rattle.sch_select_data.specs.Data.{heap_of}
 use Rattle.sch_select.proofs.items.ProgramLabels.{last_code}
-use Rattle.sch_select.proofs.items.Sound.{items_valid, arg_valid, fits_32, fits_64, items_say, in_front, fits_short}
+use Rattle.sch_select.proofs.items.Sound.{items_valid, arg_valid, insn_valid, fits_32, fits_64, items_say, in_front, fits_short}
 use Rattle.sch_select_operations.proofs.simulation.SelectedPrograms.{atom_selected, read_selected, operand_selected, source_selected}
 use Rattle.sch_select_operations.proofs.simulation.SelectedPrograms.{closure_selected, members_selected, operation_selected}
 use Rattle.sch_select_operations.proofs.simulation.SelectedPrograms.{three_selected, instruction_selected, form_selected, selects}
@@ -237,17 +238,18 @@ module _ (words globals symbols literals heap_end : ℕ) (narrow : words ≤ 204
       let h = group_small members q.1 in
       omega (arith, b, h)
 
-  places_valid : (offset : ℕ) (members : List (Member Place)) → offset + 8016 * length members < 1073741824
-      → members_selected words globals symbols literals members ≡ true → Valid (places_code offset members)
-  places_valid offset [] lt e rest = refl
-  places_valid offset (m ∷ members) lt e rest =
+  places_valid : (offset : ℕ) (members : List (Member Place)) (spills : List ℕ) → offset + 8016 * length members < 1073741824
+      → members_selected words globals symbols literals members ≡ true → Valid (places_code offset members spills)
+  places_valid offset [] spills lt e rest = refl
+  places_valid offset (m ∷ members) spills lt e rest =
       let p = and_parts (is_place words m.at) (closure_selected words globals symbols literals m.closure && members_selected words globals symbols literals members) e in
       let q = and_parts (closure_selected words globals symbols literals m.closure) (members_selected words globals symbols literals members) p.1 in
       let b = closure_small m.closure q.0 in
       in_front (fits_32 (pos (offset + 4))) _ (fits_short (offset + 4) (omega (arith, lt)))
+      ∙ spill_same items_valid (λ kind is. refl) m.at spills _
       ∙ in_front (arg_valid (place_operand m.at) && true) _
       (and_from (arg_valid (place_operand m.at)) true (place_valid m.at p.0) refl)
-      ∙ places_valid (offset + closure_bytes m.closure) members (omega (arith, lt, b)) q.1 rest
+      ∙ places_valid (offset + closure_bytes m.closure) members (spills_behind m.at spills) (omega (arith, lt, b)) q.1 rest
 
   records_valid : (offset : ℕ) (members : List (Member Place)) → offset + 8016 * length members < 1073741824
       → members_selected words globals symbols literals members ≡ true → Valid (records_code offset members)
@@ -259,15 +261,15 @@ module _ (words globals symbols literals heap_end : ℕ) (narrow : words ≤ 204
       record_valid offset m.closure (omega (arith, lt)) q.0 _
       ∙ records_valid (offset + closure_bytes m.closure) members (omega (arith, lt, b)) q.1 rest
 
-  group_valid : (members : List (Member Place)) → nat_le (length members) max_operands ≡ true
-      → members_selected words globals symbols literals members ≡ true → Valid (group_code heap_end members)
-  group_valid members few e rest =
+  group_valid : (members : List (Member Place)) (spills : List ℕ) → nat_le (length members) max_operands ≡ true
+      → members_selected words globals symbols literals members ≡ true → Valid (group_code heap_end members spills)
+  group_valid members spills few e rest =
       let n = leb-true (length members) max_operands few in
       let s = group_small members e in
       heap_valid (group_bytes members) (omega (arith, n, s))
-      (places_code 0 members (records_code 0 members (item.Plain
+      (places_code 0 members spills (records_code 0 members (item.Plain
       (AddNumber (Reg 12) (pos (group_bytes members))) ∷ rest)))
-      ∙ places_valid 0 members (omega (arith, n)) e (records_code 0 members
+      ∙ places_valid 0 members spills (omega (arith, n)) e (records_code 0 members
       (item.Plain (AddNumber (Reg 12) (pos (group_bytes members))) ∷ rest))
       ∙ records_valid 0 members (omega (arith, n)) e (item.Plain
       (AddNumber (Reg 12) (pos (group_bytes members))) ∷ rest)
@@ -313,25 +315,22 @@ module _ (words globals symbols literals heap_end : ℕ) (narrow : words ≤ 204
       ∙ record_valid 0 c (omega arith) e (part_code 4 (closure_bytes c) rest)
       ∙ part_valid 4 (closure_bytes c) (omega arith) (omega (arith, b)) rest
 
+  copy_valid : (to from : Place) → is_place words to ≡ true → is_place words from ≡ true → insn_valid (copy_insn to from) ≡ true
+  copy_valid to (Reg r) e f = and_from (arg_valid (place_operand to)) (nat_lt r 16) (place_valid to e) (register_small r f)
+  copy_valid (Reg r) (Slot j) e f = and_from (arg_valid (place_operand (Slot j))) (nat_lt r 16) (place_valid (Slot j) f) (register_small r e)
+  copy_valid (Slot i) (Slot j) e f = and_from (arg_valid (place_operand (Slot j))) true (place_valid (Slot j) f) refl
+
   instruction_valid : (base out n : ℕ) (i : Instruction) → instruction_selected words globals symbols literals i ≡ true
       → Valid (instruction_code base out words heap_end literals n i)
   instruction_valid base out n (Do o) e rest = operation_valid n o e rest
   instruction_valid base out n (Store p) e rest = in_front (arg_valid (place_operand p) && true) (items_valid rest)
       (and_from (arg_valid (place_operand p)) true (place_valid p e) refl)
   instruction_valid base out n (Copy to from) e rest =
-      let p = and_parts (is_place words to) (is_place words from) e in
-      in_front (arg_valid (place_operand from) && true) _
-      (and_from (arg_valid (place_operand from)) true (place_valid from p.1) refl)
-      ∙ in_front (arg_valid (place_operand to) && true) (items_valid rest)
-      (and_from (arg_valid (place_operand to)) true (place_valid to p.0) refl)
-  instruction_valid base out n (Load q o) e rest =
-      let p = and_parts (is_place words q) (operand_selected words globals symbols literals o) e in
-      second_valid n o p.1 _ ∙ in_front (arg_valid (place_operand q) && true) (items_valid rest)
-      (and_from (arg_valid (place_operand q)) true (place_valid q p.0) refl)
-  instruction_valid base out n (Pass k o) e rest =
-      let p = and_parts (nat_lt k words) (operand_selected words globals symbols literals o) e in
-      let lt = ltb-true k words p.0 in
-      second_valid n o p.1 _ ∙ in_front (arg_valid (place_operand (Slot (words + k))) && true) (items_valid rest)
+      let p = and_parts (is_place words to) (is_place words from) (and_parts _ _ e).1 in
+      in_front (insn_valid (copy_insn to from)) (items_valid rest) (copy_valid to from p.0 p.1)
+  instruction_valid base out n (Pass k) e rest =
+      let lt = ltb-true k words e in
+      in_front (arg_valid (place_operand (Slot (words + k))) && true) (items_valid rest)
       (and_from (arg_valid (place_operand (Slot (words + k)))) true
       (fits_short (8 * (words + k)) (omega (arith, lt, narrow))) refl)
   instruction_valid base out n (Call spread count) e rest =
@@ -344,8 +343,10 @@ module _ (words globals symbols literals heap_end : ℕ) (narrow : words ≤ 204
       let p = and_parts (not spread) (nat_le count max_operands && handed_over words count) e in
       let small = leb-true count max_operands (and_parts (nat_le count max_operands) (handed_over words count) p.1).0 in
       in_front (fits_32 (pos count)) (items_valid rest) (fits_short count (omega (arith, small)))
-  instruction_valid base out n (Fix members) e rest = let p = and_parts (nat_le (length members) max_operands)
-      (members_selected words globals symbols literals members) e in group_valid members p.0 p.1 rest
+  instruction_valid base out n (Fix members spills) e rest =
+      let q = and_parts (nat_eq (length spills) (in_slots members)) (nat_le (length members) max_operands && members_selected words globals symbols literals members) e in
+      let p = and_parts (nat_le (length members) max_operands) (members_selected words globals symbols literals members) q.1 in
+      group_valid members spills p.0 p.1 rest
   instruction_valid base out n Return e rest = refl
   instruction_valid base out n End e rest = refl
   instruction_valid base out n (IfFalse l) e rest = refl

@@ -1,8 +1,8 @@
 -- What the items before the body of a procedure owe, be they a check alone or the making of a list.
 use Rattle.std.proofs.Common.{◌≡◌, ℕ, ◌+◌, ◌-◌, ◌*◌, ◌<◌, ◌≤◌, List, [], ◌∷◌, ◌++◌, Bool, true, false, Option, Some, None}
-use Rattle.std.proofs.Common.{refl, ap, ◌∙◌, arith, ◌==◌, ◌&&◌, ◌||◌, eq-eqb}
+use Rattle.std.proofs.Common.{refl, ap, ◌∙◌, arith, ◌==◌, ◌||◌, eq-eqb}
 use Rattle.std.specs.Prelude.{pos, nat_lt}
-use Rattle.std.proofs.lemmas.Bool.{ltb-true, lt-ltb, le-leb}
+use Rattle.std.proofs.lemmas.Bool.{ltb-true, lt-ltb}
 use Rattle.std.proofs.Math.Bool.{or-true}
 use Rattle.sch_word.specs.trees.Shape.{max_operands}
 use Rattle.sch_control.specs.declared.body.Entry.{Entry}
@@ -17,20 +17,10 @@ use Rattle.sch_select.specs.Jumps.{jumps_ahead, goes_ahead}
 use Rattle.sch_select.specs.Program.{count_code, entry_code, passed_code}
 use Rattle.sch_select_memory.specs.RestCode.{list_code, list_label, check_enough}
 use Rattle.sch_select_memory.specs.Addresses.{first_label}
-use Rattle.sch_select.specs.Sizes.{instructions_in, kinds_in}
+use Rattle.sch_select.specs.Sizes.{instructions_in}
 use Rattle.sch_select.proofs.items.Sound.{items_valid, fits_32, in_front, fits_short}
 
 -- ---- marks: there are none
-
-list_unmarked : (b : Bool) (required n : ℕ) (rest : List Item)
-    → kinds_in (list_code b required n rest) ≡ kinds_in rest
-list_unmarked true required n rest = refl
-list_unmarked false required n rest = refl
-
-pub count_unmarked : (b : Bool) (formals n : ℕ) (rest : List Item)
-    → kinds_in (count_code b formals n rest) ≡ kinds_in rest
-count_unmarked false formals n rest = refl
-count_unmarked true formals n rest = list_unmarked (nat_lt (formals - 1) 6) (formals - 1) n rest
 
 list_quiet : (b : Bool) (required n : ℕ) (rest : List Item)
     → marks_arrive false (list_code b required n rest) ≡ marks_arrive false rest

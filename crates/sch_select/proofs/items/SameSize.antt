@@ -1,11 +1,9 @@
 -- How long the text of a program is depends neither on where its heap ends nor on the depth.
-use Rattle.std.proofs.Common.{◌≡◌, ℕ, suc, ◌+◌, ◌-◌, List, [], ◌∷◌, Bool, true, false, Option, Some, None, refl, sym, ap, ◌∙◌, arith}
-use Rattle.std.specs.Prelude.{nat_lt}
+use Rattle.std.proofs.Common.{◌≡◌, ℕ, suc, ◌+◌, List, [], ◌∷◌, refl, sym, ap, ◌∙◌, arith}
 use Rattle.sch_word.specs.declared.place.Place.{Place}
 use Rattle.sch_word.specs.declared.primitive.Primitive.{Primitive}
 use Rattle.sch_word.specs.declared.primitive.Primitive.TheVariants.{Cons}
 use Rattle.sch_word.specs.values.Literals.{count_literals}
-use Rattle.sch_control.specs.declared.body.Entry.{Entry}
 use Rattle.sch_control.specs.declared.operation.Operand.{Operand}
 use Rattle.sch_control.specs.declared.operation.Operation.{Operation}
 use Rattle.sch_control.specs.declared.operation.Operation.TheVariants.{Prim, NewCell}
@@ -22,13 +20,12 @@ use Rattle.sch_asm.specs.Routines.{label_of}
 use Rattle.sch_asm.proofs.Tables.{size_append}
 use Rattle.sch_select_memory.specs.Addresses.{body_label}
 use Rattle.sch_select_memory.specs.OwnCode.{own_code}
-use Rattle.sch_select_memory.specs.RestCode.{check_enough, list_code}
 use Rattle.sch_select_operations.specs.OperandCode.{operand_code, second_code}
 use Rattle.sch_select_operations.specs.PrimitiveCode.{pair_or_binary, primitive_code}
 use Rattle.sch_select_operations.specs.CellCode.{source_code}
 use Rattle.sch_select_operations.specs.OperationCode.{operation_code}
 use Rattle.sch_select_data.specs.Data.{heap_of}
-use Rattle.sch_select.specs.Program.{count_code, entry_code, forms_code, labels_end, own_label, passed_code, program_code}
+use Rattle.sch_select.specs.Program.{entry_code, forms_code, labels_end, own_label, passed_code, program_code}
 use Rattle.sch_select.specs.Select.{labels_needed, body_code, instruction_code}
 use Rattle.sch_select.proofs.items.RestItems.{entry_appends, passed_appends}
 use Rattle.sch_select.proofs.items.AppendedItems.{Appends, instruction_appends, operand_appends, second_appends, source_appends, then_appends}

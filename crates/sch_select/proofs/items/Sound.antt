@@ -5,7 +5,7 @@ use Rattle.std.specs.Prelude.{ℤ, pos, negsuc, int_le, not, nat_lt, nat_le, Fit
 use Rattle.std.proofs.lemmas.Bool.{and_parts, ltb-true, leb-true, eqb-false, le-leb}
 use Rattle.sch_word.proofs.facts.Booleans.{not_true}
 use Rattle.sch_insn.specs.declared.insn.Arg.{Arg}
-use Rattle.sch_insn.specs.declared.insn.Arg.TheVariants.{Reg, Base, Base32, Rip}
+use Rattle.sch_insn.specs.declared.insn.Arg.TheVariants.{Reg, Base, Base8, Base32, Rip}
 use Rattle.sch_insn.specs.declared.insn.Insn.{Insn}
 use Rattle.sch_insn.specs.declared.insn.Insn.TheVariants as insn
 use Rattle.sch_insn.specs.Spelling.{IsArg, IsValid, in_memory}
@@ -94,6 +94,7 @@ fits_says_64 (negsuc k) e = let lt : k ≤ 9223372036854775807 = leb-true k 9223
 arg_says : (m : Arg) → arg_valid m ≡ true → IsArg m × IsFree m
 arg_says (Reg r) e = (ltb-true r 16 e, tt)
 arg_says (Base32 b d) e = let p = and_parts (nat_lt b 16) (fits_32 d) e in ((ltb-true b 16 p.0, fits_says d p.1), tt)
+arg_says (Base8 b d) e = absurd (let bad : false ≡ true = e in cc)
 arg_says (Base b) e = absurd (let bad : false ≡ true = e in cc)
 arg_says (Rip d) e = absurd (let bad : false ≡ true = e in cc)
 

@@ -1,11 +1,11 @@
 -- How long the text of a program is: 64 bytes for each instruction, operand, atom, closure of a group and
--- procedure, and what every program has.
+-- procedure, 8 for each copy, and what every program has.
 use Rattle.std.proofs.Common.{ℕ, suc, ◌+◌, ◌*◌, ◌≤◌, ◌≡◌, List, [], ◌∷◌, length, length-append, Option, Some, None, refl, ap, arith}
 use Rattle.std.specs.Prelude.{negsuc, pos}
 use Rattle.std.proofs.lemmas.Bool.{leb-true}
 use Rattle.sch_word.specs.values.Literals.{count_literals}
 use Rattle.sch_word.specs.declared.place.Place.{Place}
-use Rattle.sch_word.specs.declared.place.Place.TheVariants.{Slot}
+use Rattle.sch_word.specs.declared.place.Place.TheVariants.{Reg as Register, Slot}
 use Rattle.sch_word.specs.declared.primitive.Primitive.{Primitive}
 use Rattle.sch_word.specs.declared.primitive.Primitive.TheVariants.{IsBoolean, Eq, Cons, StringSet}
 use Rattle.sch_control.specs.declared.operation.Atom.{Atom}
@@ -23,7 +23,8 @@ use Rattle.sch_control.specs.declared.operation.Operation.TheVariants as operati
 use Rattle.sch_frames.specs.declared.instruction.Instruction.{Instruction}
 use Rattle.sch_frames.specs.declared.instruction.Instruction.TheVariants as instruction
 use Rattle.sch_control.specs.Sizes.{operand_size, operands_size, operation_size}
-use Rattle.sch_frames.specs.Sizes.{closures_in, codes_size, grouped, instruction_size, instructions_size, jumped, program_size}
+use Rattle.sch_frames.specs.Sizes.{closures_in, codes_copies, codes_size, copies_of, grouped, instruction_copies, instruction_size, instructions_size, jumped}
+use Rattle.sch_frames.specs.Sizes.{program_copies, program_work}
 use Rattle.sch_frames.specs.Tree.{Code}
 use Rattle.sch_frames.specs.Tree as tree
 use Rattle.sch_insn.specs.declared.insn.Arg.TheVariants.{Reg, Base32}
@@ -36,16 +37,17 @@ use Rattle.sch_asm.specs.declared.item.Item.{Item}
 use Rattle.sch_asm.specs.declared.item.Item.TheVariants as item
 use Rattle.sch_asm.specs.Codes.{text_size}
 use Rattle.sch_select_memory.specs.Encoded.{constant_number}
+use Rattle.sch_select.proofs.items.AppendedItems.{spill_same}
 use Rattle.sch_select.proofs.items.RestItems.{count_adds}
 use Rattle.sch_select_memory.specs.Addresses.{place_operand, global_address, stop_label, body_label, part_operand}
 use Rattle.sch_select_operations.specs.OperandCode.{atom_code, unary_code, binary_code, read_code, operand_code, second_code}
 use Rattle.sch_select_operations.specs.PrimitiveCode.{primitive_code, pair_or_binary, ternary_code, index_operand}
 use Rattle.sch_select_operations.specs.OperationCode.{operation_code}
-use Rattle.sch_select.specs.Select.{labels_needed, instruction_code, body_code}
+use Rattle.sch_select.specs.Select.{copy_insn, labels_needed, instruction_code, body_code}
 use Rattle.sch_select_operations.specs.CellCode.{source_code, check_cell, cell_operand}
 use Rattle.sch_select_operations.specs.ObjectCode.{check_heap, part_code}
 use Rattle.sch_select_operations.specs.ClosureCode.{fields_code, record_code, closure_bytes, group_bytes, places_code}
-use Rattle.sch_select_operations.specs.ClosureCode.{records_code, group_code}
+use Rattle.sch_select_operations.specs.ClosureCode.{records_code, group_code, spills_behind}
 use Rattle.sch_select_operations.specs.CallCode.{check_depth, check_operator, enter_code, call_code, tail_code}
 use Rattle.sch_select.specs.Program.{passed_code, entry_code, forms_code, labels_end, own_label, program_code}
 use Rattle.sch_select_data.specs.Data.{heap_of}
@@ -210,13 +212,15 @@ operation_adds heap_end literals n (operation.MakeClosure c) rest =
 
 -- ## Groups
 
-places_add : (offset : ℕ) (members : List (Member Place)) (rest : List Item)
-    → text_size (places_code offset members rest) ≤ 25 * length members + text_size rest
-places_add offset [] rest = omega arith
-places_add offset (m ∷ members) rest =
-    let h = places_add (offset + closure_bytes m.closure) members rest in
+places_add : (offset : ℕ) (members : List (Member Place)) (spills : List ℕ) (rest : List Item)
+    → text_size (places_code offset members spills rest) ≤ 25 * length members + text_size rest
+places_add offset [] spills rest = omega arith
+places_add offset (m ∷ members) spills rest =
+    let others = places_code (offset + closure_bytes m.closure) members (spills_behind m.at spills) rest in
+    let h = places_add (offset + closure_bytes m.closure) members (spills_behind m.at spills) rest in
+    let k = spill_same text_size (λ kind is. omega arith) m.at spills (item.Plain (MovTo (place_operand m.at) 1) ∷ others) in
     let s = spelling_short (MovTo (place_operand m.at) 1) in
-    omega (arith, h, s)
+    omega (arith, h, k, s)
 
 records_add : (offset : ℕ) (members : List (Member Place)) (rest : List Item)
     → text_size (records_code offset members rest) ≤ 15 * length members +
@@ -229,13 +233,13 @@ records_add offset (m ∷ members) rest =
     let a = length-append (source_atoms m.closure.fields) (member_atoms members) in
     omega (arith, h, k, c, a)
 
-group_adds : (heap_end : ℕ) (members : List (Member Place)) (rest : List Item)
-    → text_size (group_code heap_end members rest) ≤ 64 * (suc (length (member_atoms members)) + length members) +
+group_adds : (heap_end : ℕ) (members : List (Member Place)) (spills : List ℕ) (rest : List Item)
+    → text_size (group_code heap_end members spills rest) ≤ 64 * (suc (length (member_atoms members)) + length members) +
     text_size rest
-group_adds heap_end members rest =
+group_adds heap_end members spills rest =
     let last = item.Plain (AddNumber (Reg 12) (pos (group_bytes members))) ∷ rest in
-    let h = heap_adds heap_end (group_bytes members) (places_code 0 members (records_code 0 members last)) in
-    let k = places_add 0 members (records_code 0 members last) in
+    let h = heap_adds heap_end (group_bytes members) (places_code 0 members spills (records_code 0 members last)) in
+    let k = places_add 0 members spills (records_code 0 members last) in
     let l = records_add 0 members last in
     omega (arith, h, k, l)
 
@@ -266,29 +270,28 @@ tail_adds : (count : ℕ) (rest : List Item) → text_size (tail_code count rest
 tail_adds count rest = let a = enter_adds count rest in let b = operator_adds (enter_code count rest) in omega
     (arith, a, b)
 
+-- a `mov` between RAX or another register and a place
+store_adds : (p : Place) (r : ℕ) (rest : List Item) → text_size (item.Plain (MovTo (place_operand p) r) ∷ rest) ≤ 8 + text_size rest
+store_adds (Register q) r rest = omega arith
+store_adds (Slot j) r rest = omega arith
+
+copy_adds : (to from : Place) (rest : List Item) → text_size (item.Plain (copy_insn to from) ∷ rest) ≤ 8 + text_size rest
+copy_adds to (Register r) rest = store_adds to r rest
+copy_adds (Register r) (Slot j) rest = omega arith
+copy_adds (Slot i) (Slot j) rest = omega arith
+
 instruction_adds : (base out words heap_end literals n : ℕ) (i : Instruction) (rest : List Item)
     → text_size (instruction_code base out words heap_end literals n i rest) ≤ 64 * (instruction_size i + grouped (i ∷ [])) +
-    text_size rest
+    (8 * instruction_copies i + text_size rest)
 instruction_adds base out words heap_end literals n (instruction.Do o) rest = let h = operation_adds heap_end literals n o rest in omega
     (arith, h)
-instruction_adds base out words heap_end literals n (instruction.Store p) rest = let s = spelling_short
-    (MovTo (place_operand p) 0) in omega (arith, s)
-instruction_adds base out words heap_end literals n (instruction.Copy to from) rest =
-    let s = spelling_short (MovFrom 1 (place_operand from)) in
-    let t = spelling_short (MovTo (place_operand to) 1) in
-    omega (arith, s, t)
-instruction_adds base out words heap_end literals n (instruction.Load p o) rest =
-    let h = second_adds n o (item.Plain (MovTo (place_operand p) 1) ∷ rest) in
-    let s = spelling_short (MovTo (place_operand p) 1) in
-    omega (arith, h, s)
-instruction_adds base out words heap_end literals n (instruction.Pass k o) rest =
-    let h = second_adds n o (item.Plain (MovTo (place_operand (Slot (words + k))) 1) ∷ rest) in
-    let s = spelling_short (MovTo (place_operand (Slot (words + k))) 1) in
-    omega (arith, h, s)
-instruction_adds base out words heap_end literals n (instruction.Call spread count) rest = call_adds words n count rest
-instruction_adds base out words heap_end literals n (instruction.Tail spread count) rest = tail_adds count rest
-instruction_adds base out words heap_end literals n (instruction.Fix members) rest = let h = group_adds heap_end members
-    rest in omega (arith, h)
+instruction_adds base out words heap_end literals n (instruction.Store p) rest = let h = store_adds p 0 rest in omega (arith, h)
+instruction_adds base out words heap_end literals n (instruction.Copy to from) rest = let h = copy_adds to from rest in omega (arith, h)
+instruction_adds base out words heap_end literals n (instruction.Pass k) rest = let h = store_adds (Slot (words + k)) 0 rest in omega (arith, h)
+instruction_adds base out words heap_end literals n (instruction.Call spread count) rest = let h = call_adds words n count rest in omega (arith, h)
+instruction_adds base out words heap_end literals n (instruction.Tail spread count) rest = let h = tail_adds count rest in omega (arith, h)
+instruction_adds base out words heap_end literals n (instruction.Fix members spills) rest = let h = group_adds heap_end members
+    spills rest in omega (arith, h)
 instruction_adds base out words heap_end literals n instruction.Return rest = let s = spelling_short (JumpTo (Reg 15)) in omega
     (arith, s)
 instruction_adds base out words heap_end literals n instruction.End rest = omega arith
@@ -298,14 +301,14 @@ instruction_adds base out words heap_end literals n (instruction.Label l) rest =
 instruction_adds base out words heap_end literals n (instruction.Mark m) rest = omega arith
 
 pub grouped_first : (i : Instruction) (is : List Instruction) → grouped (i ∷ is) ≡ grouped (i ∷ []) + grouped is
-grouped_first (instruction.Fix members) is = omega arith
+grouped_first (instruction.Fix members spills) is = omega arith
 grouped_first (instruction.Do o) is = omega arith
 grouped_first (instruction.Call spread count) is = omega arith
 grouped_first _ is = omega arith
 
 body_adds : (base out words heap_end literals n : ℕ) (is : List Instruction) (rest : List Item)
-    → text_size (body_code base out words heap_end literals n is rest) ≤ 64 * (instructions_size is + grouped is) + text_size
-    rest
+    → text_size (body_code base out words heap_end literals n is rest) ≤ 64 * (instructions_size is + grouped is) +
+    (8 * copies_of is + text_size rest)
 body_adds base out words heap_end literals n [] rest = omega arith
 body_adds base out words heap_end literals n (i ∷ is) rest =
     let h = instruction_adds base out words heap_end literals n i
@@ -325,7 +328,7 @@ entry_adds None n rest = omega arith
 entry_adds (Some e) n rest = let h = count_adds e.rest e.formals n rest in omega (arith, h)
 
 forms_adds : (words heap_end literals label n : ℕ) (cs : List Code) (rest : List Item)
-    → text_size (forms_code words heap_end literals label n cs rest) ≤ 64 * (codes_size cs + closures_in cs) + text_size rest
+    → text_size (forms_code words heap_end literals label n cs rest) ≤ 64 * (codes_size cs + closures_in cs) + (8 * codes_copies cs + text_size rest)
 forms_adds words heap_end literals label n [] rest = omega arith
 forms_adds words heap_end literals label n (c ∷ cs) rest =
     let others = forms_code words heap_end literals (suc label) (labels_end n c) cs rest in
@@ -346,7 +349,7 @@ last_small : (heap_end : ℕ) → text_size (last_code heap_end) ≤ 2003
 last_small heap_end = leb-true (text_size (last_code heap_end)) 2003 refl
 
 pub text_small : (p : tree.Source) (heap depth : ℕ)
-    → text_size (program_code p heap depth) ≤ 2048 + 64 * (program_size p + closures_in p.bodies)
+    → text_size (program_code p heap depth) ≤ 2048 + (64 * program_work p + 8 * program_copies p)
 text_small p heap depth =
     let a = spelling_short (MovWord 5 (pos (heap_of p + heap))) in
     let b = spelling_short (MovWord 12 (pos (heap_of p))) in

@@ -1,46 +1,42 @@
 -- The machine does what the body of a form does.
-use Rattle.std.proofs.Common.{◌≡◌, ℕ, ◌+◌, ◌*◌, ◌^◌, ◌<◌, ◌≤◌, List, [], ◌∷◌, ◌++◌, length, map, Bool, true, false}
+use Rattle.std.proofs.Common.{◌≡◌, ℕ, ◌+◌, ◌*◌, ◌^◌, ◌<◌, ◌≤◌, List, [], ◌∷◌, ◌++◌, length, Bool, true, false}
 use Rattle.std.proofs.Common.{cond, Option, Some, None, refl, sym, ap, ◌∙◌, subst, arith, append-nil, append_assoc}
 use Rattle.std.proofs.Common.{◌&&◌}
-use Rattle.std.specs.Prelude.{pos, not, nat_eq, nat_le, nat_lt}
+use Rattle.std.specs.Prelude.{pos, not, nat_eq, nat_le}
 use Rattle.std.specs.List.{list_all}
 use Rattle.std.proofs.lemmas.Bool.{and_parts, eqb-true, leb-true, ltb-true}
 use Rattle.sch_word.specs.values.Values.{Value, is_true}
 use Rattle.sch_word.specs.runs.Computation.{gives}
-use Rattle.sch_control.specs.Operations.{operand_value}
 use Rattle.sch_control.specs.Meaning.{World, Result, Callee, with_value, either, marked}
 use Rattle.sch_frames.specs.declared.instruction.Instruction.{Instruction}
-use Rattle.sch_frames.specs.declared.instruction.Instruction.TheVariants.{Do, Store, Copy, Load, Pass, Fix, Call}
+use Rattle.sch_frames.specs.declared.instruction.Instruction.TheVariants.{Do, Store, Copy, Pass, Fix, Call}
 use Rattle.sch_frames.specs.declared.instruction.Instruction.TheVariants.{Tail, Return, End, IfFalse, Jump, Label}
 use Rattle.sch_frames.specs.declared.instruction.Instruction.TheVariants.{Mark}
-use Rattle.sch_frames.specs.Meaning.{Frame, Cell, Is, Link, Junk, More, value_in, held, if_link, link_register}
+use Rattle.sch_frames.specs.Meaning.{Frame, Cell, Is, Link, Junk, More, value_in, if_link, link_register}
 use Rattle.sch_frames.specs.Meaning.{with_place, with_outgoing, sought, execute, execute_each}
 use Rattle.sch_word.specs.trees.Shape.{max_operands}
-use Rattle.sch_word.specs.declared.place.Place.TheVariants.{Slot}
-use Rattle.sch_frames.specs.Valid.{handed_over, is_place}
+use Rattle.sch_word.specs.declared.place.Place.TheVariants.{Reg as Register, Slot}
+use Rattle.sch_frames.specs.Valid.{handed_over, in_slots, is_place, is_register}
 use Rattle.sch_insn.specs.declared.condition.TheConstants.{E}
 use Rattle.sch_insn.specs.declared.insn.Arg.TheVariants.{Reg}
-use Rattle.sch_insn.specs.declared.insn.Insn.TheVariants.{MovTo, CmpNumber, JumpTo}
+use Rattle.sch_insn.specs.declared.insn.Insn.TheVariants.{CmpNumber, JumpTo}
 use Rattle.sch_insn.specs.Machine.{set_register, difference_of, condition}
 use Rattle.sch_insn.proofs.Conditions.{compared_e}
 use Rattle.sch_insn.proofs.Paths.{leads_here, leads_on}
 use Rattle.sch_asm.specs.declared.item.Item.{Item}
-use Rattle.sch_asm.specs.declared.item.Item.TheVariants as item
 use Rattle.sch_word.specs.declared.mark.MarkKind.{MarkKind}
 use Rattle.sch_asm.specs.Stands.{Stands}
 use Rattle.sch_asm.specs.Data.{word_in}
-use Rattle.sch_asm.specs.Effects.{is_scratch}
 use Rattle.sch_asm.specs.Views.{View, Leads, full}
 use Rattle.sch_asm.proofs.EachItem.{goes, branches, jumps}
 use Rattle.sch_select_memory.specs.Parts.{Parts}
 use Rattle.sch_select_memory.specs.Encoded.{IsWord}
 use Rattle.sch_frames.specs.Covered.{may_stand}
-use Rattle.sch_select_memory.specs.Addresses.{place_operand}
 use Rattle.sch_select.specs.Select.{labels_needed, instruction_code, body_code}
 use Rattle.sch_select_memory.proofs.heap.Encodings.{fits, false_tested}
-use Rattle.sch_select_memory.proofs.Straight.{kept_set, moved_to}
+use Rattle.sch_select_memory.proofs.Straight.{moved_to}
 use Rattle.sch_select_memory.proofs.Places.{Plan, Activation, Holds, held_value, loaded, written, handed}
-use Rattle.sch_select_memory.proofs.Places.{places_kept}
+use Rattle.sch_select_memory.proofs.Places.{other_register, register_filled}
 use Rattle.sch_select.proofs.items.AppendedItems.{instruction_appends, Behind, behind}
 use Rattle.sch_select_memory.proofs.simulation.Outcomes.{Laid}
 use Rattle.sch_select_operations.proofs.simulation.Operations.{Std, FrameOf, StoreOf, SimOf, onward, none_waits}
@@ -49,13 +45,12 @@ use Rattle.sch_select_operations.proofs.simulation.Calls.{call_sim, tail_sim}
 use Rattle.sch_select_operations.proofs.simulation.EachOperation.{operation_cost, operation_sim}
 use Rattle.sch_select_operations.proofs.simulation.Closures.{group_sim}
 use Rattle.sch_select_operations.proofs.simulation.Records.{records_cost}
-use Rattle.sch_select_operations.proofs.simulation.Operands.{ReadsSecond, second_here}
-use Rattle.sch_select_operations.proofs.simulation.SelectedPrograms.{instruction_selected, operand_selected, members_selected}
+use Rattle.sch_select_operations.proofs.simulation.SelectedPrograms.{instruction_selected, members_selected}
 
 -- how many steps an instruction takes at most
 abbrev pub instruction_cost : Instruction → ℕ
 instruction_cost (Do o) = operation_cost o
-instruction_cost (Fix members) = 250 + (3 * length members + records_cost members)
+instruction_cost (Fix members spills) = 250 + (3 * length members + records_cost members)
 instruction_cost (Label l) = 0
 instruction_cost (Mark m) = 0
 instruction_cost _ = 250
@@ -138,19 +133,24 @@ module _ (plan : Plan) (body_steps : ℕ) (laid : Laid plan body_steps) (act : A
       (K None parts (before ++ waiting) [] (with_place f q f.accumulator) w u.y u.ahead u.places_at
       (u.world parts w.state g) (subst (Holds act.back parts f.accumulator) (sym u.accumulator) a)
       (none_waits w.marks before waiting m))
-  instruction_sim n (Copy to from) k c rest K parts before waiting f w x e e' h p g a m =
-      let checks = and_parts (is_place words to) (is_place words from) e in
-      let l = loaded plan act parts w.state.store.charged f.places f.outgoing from 1 x waiting
-      (item.Plain (MovTo (place_operand to) 1) ∷ rest) checks.1 p g.size_is h in
-      let y = moved_to x (set_register x.registers 1 l.value) x.flags l.place in
-      let u = written plan act parts w.state.store.charged f.places f.outgoing to (f.places from) 1 y [] rest checks.0
-      l.holds (places_kept plan act parts w.state.store.charged f.places f.outgoing x.registers y.registers
-      x.bytes (kept_set is_scratch x.registers 1 l.value refl) p) g.size_is l.ahead in
-      go_on parts before waiting w x u.y 2 2 c (250 + c) _ (leads_on setting.marks l.leads u.leads) u.below
-      (omega arith)
-      (K None parts (before ++ waiting) [] (with_place f to (f.places from)) w u.y u.ahead u.places_at
+  instruction_sim n (Copy to (Register r)) k c rest K parts before waiting f w x e e' h p g a m =
+      let checks = and_parts (is_place words to) (is_register r) (and_parts _ _ e).1 in
+      let u = written plan act parts w.state.store.charged f.places f.outgoing to (f.places (Register r)) r x waiting rest checks.0
+      (p.register r checks.1) p g.size_is h in
+      go_on parts before waiting w x u.y 1 1 c (250 + c) _ u.leads u.below (omega arith)
+      (K None parts (before ++ waiting) [] (with_place f to (f.places (Register r))) w u.y u.ahead u.places_at
       (u.world parts w.state g) (subst (Holds act.back parts f.accumulator) (sym u.accumulator) a)
       (none_waits w.marks before waiting m))
+  instruction_sim n (Copy (Register r) (Slot j)) k c rest K parts before waiting f w x e e' h p g a m =
+      let checks = and_parts (is_register r) (is_place words (Slot j)) e in
+      let l = loaded plan act parts w.state.store.charged f.places f.outgoing (Slot j) r x waiting rest checks.1 p g.size_is h in
+      go_on parts before waiting w x (moved_to x (set_register x.registers r l.value) x.flags l.place) 1 1 c (250 + c) _ l.leads (λ q lo hi. refl) (omega arith)
+      (K None parts (before ++ waiting) [] (with_place f (Register r) (f.places (Slot j))) w _ l.ahead
+      (register_filled plan act parts w.state.store.charged f.places f.outgoing r (f.places (Slot j)) l.value x.registers x.bytes checks.0 l.holds p)
+      g (subst (Holds act.back parts f.accumulator) (sym (other_register x.registers r 0 l.value checks.0 refl)) a)
+      (none_waits w.marks before waiting m))
+  instruction_sim n (Copy (Slot i) (Slot j)) k c rest K parts before waiting f w x e e' h p g a m = absurd
+      (let bad : false ≡ true = e in cc)
   instruction_sim n End k c rest K parts before waiting f w x e e' h p g a m = record {
     y = record x { place = setting.place_of out };
     events = waiting;
@@ -220,48 +220,13 @@ module _ (plan : Plan) (body_steps : ℕ) (laid : Laid plan body_steps) (act : A
       more parts before w x c (0 + c) _ (omega arith)
       (K None parts before (waiting ++ k' ∷ []) f (marked k' w) x h p g a
       (ap (λ l. l ++ k' ∷ []) m ∙ append_assoc before waiting (k' ∷ [])))
-  instruction_sim n (Load q o) k c rest K parts before waiting f w x e e' h p g a m = by
-      (operand_value (held f) w.state.store o) (second_here plan act parts n o w.state.store.charged f w.state x
-      waiting (item.Plain (MovTo (place_operand q) 1) ∷ rest) checks.1 p g h)
-    where
-      checks : (is_place words q ≡ true) × (operand_selected words globals (length symbols) literals o ≡ true)
-      checks = and_parts (is_place words q) (operand_selected words globals (length symbols) literals o) e
-
-      by : (v : Option Value) → ReadsSecond plan act parts x waiting 35
-          (item.Plain (MovTo (place_operand q) 1) ∷ rest) v → Owed parts before w x (250 + c)
-          (with_value v (λ v. k None (with_place f q (Is v)) w))
-      by None s = tt
-      by (Some v) s =
-          let y = moved_to x s.registers s.flags s.place in
-          let u = written plan act parts w.state.store.charged f.places f.outgoing q (Is v) 1 y [] rest checks.0
-          s.second (places_kept plan act parts w.state.store.charged f.places f.outgoing x.registers s.registers
-          x.bytes s.kept p) g.size_is s.ahead in
-          go_on parts before waiting w x u.y (s.least + 1) (s.steps + 1) c (250 + c) _
-          (leads_on setting.marks s.leads u.leads) u.below (let b = s.few in omega (arith, b))
-          (K None parts (before ++ waiting) [] (with_place f q (Is v)) w u.y u.ahead u.places_at
-          (u.world parts w.state g) (subst (Holds act.back parts f.accumulator) (sym (u.accumulator ∙ s.first)) a)
-          (none_waits w.marks before waiting m))
-  instruction_sim n (Pass j o) k c rest K parts before waiting f w x e e' h p g a m = by
-      (operand_value (held f) w.state.store o) (second_here plan act parts n o w.state.store.charged f w.state x
-      waiting (item.Plain (MovTo (place_operand (Slot (words + j))) 1) ∷ rest) checks.1 p g h)
-    where
-      checks : (nat_lt j words ≡ true) × (operand_selected words globals (length symbols) literals o ≡ true)
-      checks = and_parts (nat_lt j words) (operand_selected words globals (length symbols) literals o) e
-
-      by : (v : Option Value) → ReadsSecond plan act parts x waiting 35
-          (item.Plain (MovTo (place_operand (Slot (words + j))) 1) ∷ rest) v
-          → Owed parts before w x (250 + c) (with_value v (λ v. k None (with_outgoing f j v) w))
-      by None s = tt
-      by (Some v) s =
-          let y = moved_to x s.registers s.flags s.place in
-          let u = handed plan act parts w.state.store.charged f.places f.outgoing j (Is v) 1 y [] rest
-          (ltb-true j words checks.0) s.second (places_kept plan act parts w.state.store.charged f.places
-          f.outgoing x.registers s.registers x.bytes s.kept p) g.size_is s.ahead in
-          go_on parts before waiting w x u.y (s.least + 1) (s.steps + 1) c (250 + c) _
-          (leads_on setting.marks s.leads u.leads) u.below (let b = s.few in omega (arith, b))
-          (K None parts (before ++ waiting) [] (with_outgoing f j v) w u.y u.ahead u.places_at
-          (u.world parts w.state g) (subst (Holds act.back parts f.accumulator) (sym (u.accumulator ∙ s.first)) a)
-          (none_waits w.marks before waiting m))
+  instruction_sim n (Pass j) k c rest K parts before waiting f w x e e' h p g a m =
+      let u = handed plan act parts w.state.store.charged f.places f.outgoing j f.accumulator 0 x waiting rest (ltb-true j words e) a p
+      g.size_is h in
+      go_on parts before waiting w x u.y 1 1 c (250 + c) _ u.leads u.below (omega arith)
+      (K None parts (before ++ waiting) [] (with_outgoing f j f.accumulator) w u.y u.ahead u.places_at
+      (u.world parts w.state g) (subst (Holds act.back parts f.accumulator) (sym u.accumulator) a)
+      (none_waits w.marks before waiting m))
   instruction_sim n (Call true count) k c rest K parts before waiting f w x e e' h p g a m = absurd
       (let bad : false ≡ true = e in cc)
   instruction_sim n (Call false count) k c rest K parts before waiting f w x e e' h p g a m =
@@ -274,11 +239,14 @@ module _ (plan : Plan) (body_steps : ℕ) (laid : Laid plan body_steps) (act : A
       tail_sim plan body_steps laid act callee enters (k None) c rest
       (λ parts before waiting f w x h p g a m. K None parts before waiting f w x h p g a m) parts before waiting f
       w x p g m count (few_operands count e) h
-  instruction_sim n (Fix members) k c rest K parts before waiting f w x e e' h p g a m =
-      let checks = and_parts (nat_le (length members) max_operands) (members_selected words globals
+  instruction_sim n (Fix members spills) k c rest K parts before waiting f w x e e' h p g a m =
+      let some = and_parts (nat_eq (length spills) (in_slots members)) (nat_le (length members) max_operands && members_selected words globals
       (length symbols) literals members) e in
+      let checks = and_parts (nat_le (length members) max_operands) (members_selected words globals
+      (length symbols) literals members) some.1 in
       group_sim plan body_steps laid act (k None) c rest (λ parts before waiting f w x h p g a m. K None parts before
-      waiting f w x h p g a m) parts before waiting f w x p g m members checks.0 checks.1 a h
+      waiting f w x h p g a m) parts before waiting f w x p g m members spills (eqb-true (length spills) (in_slots members) some.0)
+      checks.0 checks.1 a h
   instruction_sim n Return k c rest K parts before waiting f w x e e' h p g a m = by (f.places link_register)
       (p.register 15 refl)
     where
@@ -343,13 +311,11 @@ module _ (plan : Plan) (body_steps : ℕ) (laid : Laid plan body_steps) (act : A
       (omega arith) (K (Some l) parts before waiting f w x (h.0, h.1, behind_it n (Store q) rest h.2) p g a m)
   passed_over n (Copy to from) k c rest K l parts before waiting f w x h p g a m = more parts before w x c (250 + c) _
       (omega arith) (K (Some l) parts before waiting f w x (h.0, h.1, behind_it n (Copy to from) rest h.2) p g a m)
-  passed_over n (Load q o) k c rest K l parts before waiting f w x h p g a m = more parts before w x c (250 + c) _
-      (omega arith) (K (Some l) parts before waiting f w x (h.0, h.1, behind_it n (Load q o) rest h.2) p g a m)
-  passed_over n (Pass j o) k c rest K l parts before waiting f w x h p g a m = more parts before w x c (250 + c) _
-      (omega arith) (K (Some l) parts before waiting f w x (h.0, h.1, behind_it n (Pass j o) rest h.2) p g a m)
-  passed_over n (Fix members) k c rest K l parts before waiting f w x h p g a m = more parts before w x c
+  passed_over n (Pass j) k c rest K l parts before waiting f w x h p g a m = more parts before w x c (250 + c) _
+      (omega arith) (K (Some l) parts before waiting f w x (h.0, h.1, behind_it n (Pass j) rest h.2) p g a m)
+  passed_over n (Fix members spills) k c rest K l parts before waiting f w x h p g a m = more parts before w x c
       (250 + (3 * length members + records_cost members) + c) _ (omega arith)
-      (K (Some l) parts before waiting f w x (h.0, h.1, behind_it n (Fix members) rest h.2) p g a m)
+      (K (Some l) parts before waiting f w x (h.0, h.1, behind_it n (Fix members spills) rest h.2) p g a m)
   passed_over n (Call spread count) k c rest K l parts before waiting f w x h p g a m = more parts before w x c
       (250 + c) _ (omega arith) (K (Some l) parts before waiting f w x
       (h.0, h.1, behind_it n (Call spread count) rest h.2) p g a m)

@@ -15,7 +15,7 @@ use Rattle.sch_control.specs.declared.operation.Operand.TheVariants as operand
 use Rattle.sch_control.specs.declared.operation.Operation.TheVariants as operation
 use Rattle.sch_control.specs.declared.operation.Source.TheVariants as source
 use Rattle.sch_frames.specs.declared.instruction.Instruction.{Instruction}
-use Rattle.sch_frames.specs.declared.instruction.Instruction.TheVariants.{Do, Store, Copy, Load, Pass, Call, Tail, Mark}
+use Rattle.sch_frames.specs.declared.instruction.Instruction.TheVariants.{Do, Store, Copy, Pass, Call, Tail, Mark}
 use Rattle.sch_frames.specs.declared.instruction.Instruction.TheVariants.{Return, End as Ended, IfFalse, Jump, Label, Mark}
 use Rattle.sch_word.specs.declared.mark.MarkKind.TheVariants as mark
 use Rattle.sch_frames.specs.Run.{entries_of, run}
@@ -80,20 +80,26 @@ put o rest = Do (operation.Prim 0 prim.Put (o ∷ [])) ∷ rest
 abbrev shown : List Instruction
 shown = Store (Slot 1) ∷ put (at (Slot 1)) (Ended ∷ [])
 
+-- an operand's value into a place, and into a slot of the next frame
+abbrev load : Place → Operand Place → List Instruction → List Instruction
+load p o rest = Do (operation.Operand o) ∷ Store p ∷ rest
+
+abbrev pass : (slot : ℕ) → Operand Place → List Instruction → List Instruction
+pass k o rest = Do (operation.Operand o) ∷ Pass k ∷ rest
+
 -- ## Operands and what a call leaves
 
 -- eight operands, of which the last two are in slots of the next frame; slot 0 has 9 before the call and after it
 abbrev eight : (formals : ℕ) → List Instruction → Source
 eight formals body = calling formals (
-    Load (Slot 0) (number (pos 9)) ∷ Load (Reg 3) (number (pos 1)) ∷ Load (Reg 8) (number (pos 2)) ∷ Load (Reg 9)
-    (number (pos 3)) ∷ Load (Reg 10) (number (pos 4)) ∷ Load (Reg 6) (number (pos 5)) ∷ Load (Reg 7)
-    (number (pos 6))
-    ∷ Pass 0 (number (pos 7)) ∷ Pass 1 (number (pos 8)) ∷ Call false 8 ∷ Store (Slot 1) ∷ put (at (Slot 1))
-    (put (at (Slot 0)) (Ended ∷ []))
+    load (Slot 0) (number (pos 9)) (load (Reg 3) (number (pos 1)) (load (Reg 8) (number (pos 2)) (load (Reg 9)
+    (number (pos 3)) (load (Reg 10) (number (pos 4)) (load (Reg 6) (number (pos 5)) (load (Reg 7) (number (pos 6))
+    (pass 0 (number (pos 7)) (pass 1 (number (pos 8)) (Call false 8 ∷ Store (Slot 1) ∷ put (at (Slot 1))
+    (put (at (Slot 0)) (Ended ∷ [])))))))))))
     ) body
 
 abbrev given : Place → List Instruction
-given p = Load (Slot 2) (number (pos 0)) ∷ Do (operation.Operand (at p)) ∷ Return ∷ []
+given p = load (Slot 2) (number (pos 0)) (Do (operation.Operand (at p)) ∷ Return ∷ [])
 
 operands :
     (is_covered_program (eight 8 (given (Slot 1))) ≡ true)
@@ -115,12 +121,12 @@ abbrev inside : List Instruction → Source
 inside body = calling 0 (Call false 0 ∷ shown) body
 
 checks :
-    (ends_at 1 (calling 0 (Load (Reg 14) (number (pos 1)) ∷ Call false 1 ∷ shown) []) ≡ Some (67, []))
-    × (ends_at 1 (inside (Load (Reg 14) (number (pos 1)) ∷ Call false 1 ∷ Return ∷ [])) ≡ Some (67, []))
-    × (ends_at 1 (inside (Load (Reg 14) (number (pos 1)) ∷ Tail false 1 ∷ [])) ≡ Some (67, []))
-    × (ends_at 1 (inside (Load (Reg 3) (number (pos 1)) ∷ Call false 1 ∷ Return ∷ [])) ≡ Some (72, []))
-    × (ends_at 2 (inside (Load (Reg 3) (number (pos 1)) ∷ Call false 1 ∷ Return ∷ [])) ≡ Some (68, []))
-    × (ends_at 1 (inside (Load (Reg 3) (number (pos 1)) ∷ Tail false 1 ∷ [])) ≡ Some (68, []))
+    (ends_at 1 (calling 0 (load (Reg 14) (number (pos 1)) (Call false 1 ∷ shown)) []) ≡ Some (67, []))
+    × (ends_at 1 (inside (load (Reg 14) (number (pos 1)) (Call false 1 ∷ Return ∷ []))) ≡ Some (67, []))
+    × (ends_at 1 (inside (load (Reg 14) (number (pos 1)) (Tail false 1 ∷ []))) ≡ Some (67, []))
+    × (ends_at 1 (inside (load (Reg 3) (number (pos 1)) (Call false 1 ∷ Return ∷ []))) ≡ Some (72, []))
+    × (ends_at 2 (inside (load (Reg 3) (number (pos 1)) (Call false 1 ∷ Return ∷ []))) ≡ Some (68, []))
+    × (ends_at 1 (inside (load (Reg 3) (number (pos 1)) (Tail false 1 ∷ []))) ≡ Some (68, []))
 unfolding escaped_of narrow_of operand_of rexed_of wide_of long_of test_of
 checks = (refl, refl, refl, refl, refl, refl)
 
@@ -128,7 +134,7 @@ checks = (refl, refl, refl, refl, refl, refl)
 
 -- a procedure of n calls itself with n - 1, and of 0 gives 7
 abbrev counting : List Instruction → Source
-counting again = calling 1 (Load (Reg 3) (number (pos 2)) ∷ Call false 1 ∷ shown)
+counting again = calling 1 (load (Reg 3) (number (pos 2)) (Call false 1 ∷ shown))
     (Copy (Slot 0) (Reg 15) ∷ Do (operation.Prim 0 prim.Equal (at (Reg 3) ∷ number (pos 0) ∷ [])) ∷ IfFalse 0 ∷ Do
     (operation.Operand (number (pos 7))) ∷ Jump 1
     ∷ Label 0 ∷ Do (operation.Prim 1 prim.Subtract (at (Reg 3) ∷ number (pos 1) ∷ [])) ∷ Store (Reg 3) ∷ again)

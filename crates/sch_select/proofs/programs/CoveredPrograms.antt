@@ -44,13 +44,14 @@ use Rattle.sch_control.specs.Valid.{closure_known, members_known, label_known, o
 use Rattle.sch_control.specs.Valid.{without_fields}
 use Rattle.sch_frames.specs.declared.frame_body.FrameBody.{FrameBody}
 use Rattle.sch_frames.specs.declared.instruction.Instruction.{Instruction}
-use Rattle.sch_frames.specs.declared.instruction.Instruction.TheVariants.{Do, Store, Copy, Load, Pass, Fix, Call}
+use Rattle.sch_frames.specs.declared.instruction.Instruction.TheVariants.{Do, Store, Copy, Pass, Fix, Call}
 use Rattle.sch_frames.specs.declared.instruction.Instruction.TheVariants.{Tail, Return, End, IfFalse, Jump, Label}
 use Rattle.sch_frames.specs.declared.instruction.Instruction.TheVariants.{Mark}
 use Rattle.sch_frames.specs.declared.frame_program.FrameProgram.{FrameProgram}
 use Rattle.sch_frames.specs.ProgramView as view
 use Rattle.sch_frames.specs.SourceView.{code_of, codes_of}
-use Rattle.sch_frames.specs.Valid.{is_place, is_atom, are_members, call_shaped, formals_of, handed_over}
+use Rattle.sch_frames.specs.Meaning.{is_slot}
+use Rattle.sch_frames.specs.Valid.{is_place, is_atom, are_members, call_shaped, formals_of, handed_over, in_slots}
 use Rattle.sch_frames.specs.Valid.{instruction_placed, instruction_shaped, instruction_known, names_of}
 
 -- ## Counts of operands
@@ -283,25 +284,21 @@ module _ (w words : ℕ) (names : Names) (narrow : w ≤ words) where
   instruction_taken (Do o) s l p h k = operation_taken o s l h p k
   instruction_taken (Store q) s l p h k = place_taken q p
   instruction_taken (Copy to from) s l p h k =
-      let p' = and_parts (is_place w to) (is_place w from) p in
-      and_from (is_place words to) (is_place words from) (place_taken to p'.0) (place_taken from p'.1)
-  instruction_taken (Load q o) s l p h k =
-      let p' = and_parts (is_place w q) (list_all (is_atom w) (operand_atoms o)) p in
-      and_from (is_place words q) (operand_selected words names.globals names.symbols names.literals o) (place_taken q p'.0)
-      (operand_taken o s h p'.1 k)
-  instruction_taken (Pass j o) s l p h k =
-      let p' = and_parts (nat_lt j w) (list_all (is_atom w) (operand_atoms o)) p in
-      let lt = ltb-true j w p'.0 in
-      and_from (nat_lt j words) (operand_selected words names.globals names.symbols names.literals o) (lt-ltb j words (omega (arith, lt, narrow)))
-      (operand_taken o s h p'.1 k)
+      let q = and_parts (not (is_slot to && is_slot from)) (is_place w to && is_place w from) p in
+      let p' = and_parts (is_place w to) (is_place w from) q.1 in
+      and_from (not (is_slot to && is_slot from)) (is_place words to && is_place words from) q.0
+      (and_from (is_place words to) (is_place words from) (place_taken to p'.0) (place_taken from p'.1))
+  instruction_taken (Pass j) s l p h k = let lt = ltb-true j w p in lt-ltb j words (omega (arith, lt, narrow))
   instruction_taken (Call spread count) s l p h k = call_taken spread count s p h
   instruction_taken (Tail spread count) s l p h k = call_taken spread count s p h
-  instruction_taken (Fix members) s l p h k =
-      let p' = and_parts (are_members w members) (list_all (is_atom w) (member_atoms members)) p in
+  instruction_taken (Fix members spills) s l p h k =
+      let q = and_parts (nat_eq (length spills) (in_slots members)) (are_members w members && list_all (is_atom w) (member_atoms members)) p in
+      let p' = and_parts (are_members w members) (list_all (is_atom w) (member_atoms members)) q.1 in
       let h' = and_parts (nat_le (length members) max_operands) (members_shaped members) h in
       let k' = and_parts (atoms_known names (member_atoms members)) (members_known names.entries members) k in
-      and_from (nat_le (length members) max_operands) (members_selected words names.globals names.symbols names.literals members) h'.0
-      (members_taken members s l h'.1 p'.0 p'.1 k'.0)
+      and_from (nat_eq (length spills) (in_slots members)) _ q.0
+      (and_from (nat_le (length members) max_operands) (members_selected words names.globals names.symbols names.literals members) h'.0
+      (members_taken members s l h'.1 p'.0 p'.1 k'.0))
   instruction_taken Return s l p h k = refl
   instruction_taken End s l p h k = refl
   instruction_taken (IfFalse j) s l p h k = refl
@@ -404,7 +401,7 @@ module _ (names : Names) where
   instruction_few : (i : Instruction) → instruction_known names i ≡ true → labels_few (length names.entries) i ≡ true
   instruction_few (Do o) k = one_few o (and_parts (global_known names.globals o) (label_known names.entries o)
       (and_parts (atoms_known names (operation_atoms o)) _ k).1).1
-  instruction_few (Fix members) k = group_few members
+  instruction_few (Fix members spills) k = group_few members
       (and_parts (atoms_known names (member_atoms members)) (members_known names.entries members) k).1
   instruction_few (Store q) k = refl
   instruction_few _ k = refl

@@ -1,6 +1,6 @@
 -- What a run keeps, where marks of entries stand nowhere but where bodies are entered.
-use Rattle.std.proofs.Common.{◌≡◌, ℕ, zero, suc, List, [], ◌∷◌, ◌++◌, length, Bool, true, false, Option, Some, None, refl, ap, ◌∙◌}
-use Rattle.std.specs.Prelude.{not, slice_get}
+use Rattle.std.proofs.Common.{◌≡◌, ℕ, zero, suc, List, [], ◌∷◌, ◌++◌, length, map, Bool, true, false, Option, Some, None, refl, sym, ap, subst, ◌∙◌, append-nil, append_assoc}
+use Rattle.std.specs.Prelude.{slice_get}
 use Rattle.std.specs.List.{list_all}
 use Rattle.std.proofs.lemmas.Bool.{and_parts}
 use Rattle.sch_word.proofs.facts.Booleans.{not_true}
@@ -15,14 +15,14 @@ use Rattle.sch_word.specs.runs.Computation.{Outcome, State, Action, gives, stops
 use Rattle.sch_word.proofs.Steady.{Steady, outcome_with, steady_charge, steady_charge_each, steady_fit, steady_primitive, steady_read_global, steady_write_global}
 use Rattle.sch_control.specs.declared.body.Entry.{Entry}
 use Rattle.sch_word.specs.declared.mark.MarkKind.{MarkKind}
-use Rattle.sch_word.specs.declared.mark.MarkKind.TheVariants.{Enter}
+use Rattle.sch_word.specs.declared.mark.MarkKind.TheVariants.{Enter, Spill}
 use Rattle.sch_control.specs.declared.operation.Operation.{Operation}
 use Rattle.sch_control.specs.declared.operation.Operation.TheVariants as operation
 use Rattle.sch_control.specs.Operations.{Procedure, Ending, field, member_bytes, members_made, new_cell, operand_value, operand_values, operate, source_value, source_values, with_cell, with_procedures, with_some}
 use Rattle.sch_control.specs.Meaning.{World, Result, Callee, call_in, either, entered, marked, on_checked, on_ending, on_outcome, on_return, with_value}
 use Rattle.sch_control.specs.Run.{enter, enter_body, entry_at}
 use Rattle.sch_frames.specs.declared.instruction.Instruction.{Instruction}
-use Rattle.sch_frames.specs.declared.instruction.Instruction.TheVariants.{Do, Store as Put, Copy, Load, Pass, Fix, Call, Tail, Return, End, IfFalse, Jump, Label, Mark}
+use Rattle.sch_frames.specs.declared.instruction.Instruction.TheVariants.{Do, Store as Put, Copy, Pass, Fix, Call, Tail, Return, End, IfFalse, Jump, Label, Mark}
 use Rattle.sch_frames.specs.Meaning.{Cell, Is, Link, Junk, Frame, More, beginning, execute, execute_each, held, if_link, link_register, parts, sought, value_in, with_members}
 use Rattle.sch_frames.specs.Run.{bodies_of, do_known, entries_of}
 use Rattle.sch_frames.specs.Tree.{Code}
@@ -164,19 +164,28 @@ module _ (codes : List Code) (covered : list_all is_covered_code codes ≡ true)
         by exhausted vs = p
         by unreachable vs = p
 
-    made_kept : (f : Frame) (o : Option (List Procedure)) (w : World) (next : More) → P w → ((f : Frame) (u : World) → P u → Kept (next None f u)) → Kept (with_value (with_procedures w.state o) (λ s. next None f (record { state = s; marks = w.marks })))
-    made_kept f None w next p h = tt
-    made_kept f (Some made) w next p h = h f _ (stays.state w (record w.state { procedures = w.state.procedures ++ made }) refl p)
+    -- the marks of what a group stores
+    spilled_kept : (spills : List ℕ) (w : World) → P w → P (record { state = w.state; marks = w.marks ++ map Spill spills })
+    spilled_kept [] w p = subst (λ marks. P (record { state = w.state; marks = marks })) (sym (append-nil w.marks)) p
+    spilled_kept (x ∷ spills) w p =
+        subst (λ marks. P (record { state = w.state; marks = marks })) (append_assoc w.marks (Spill x ∷ []) (map Spill spills))
+        (spilled_kept spills (marked (Spill x) w) (stays.mark w (Spill x) refl p))
+
+    made_kept : (f : Frame) (spills : List ℕ) (o : Option (List Procedure)) (w : World) (next : More) → P w → ((f : Frame) (u : World) → P u → Kept (next None f u))
+        → Kept (with_value (with_procedures w.state o) (λ s. next None f (record { state = s; marks = w.marks ++ map Spill spills })))
+    made_kept f spills None w next p h = tt
+    made_kept f spills (Some made) w next p h =
+        h f _ (spilled_kept spills (record { state = record w.state { procedures = w.state.procedures ++ made }; marks = w.marks }) (stays.state w (record w.state { procedures = w.state.procedures ++ made }) refl p))
 
     instruction_kept : (i : Instruction) → plain_instruction i ≡ true → (next : More) → ((look : Option ℕ) (f : Frame) (w : World) → P w → Kept (next look f w)) → (f : Frame) (w : World) → P w → Kept (execute callee depth i next f w)
     instruction_kept (Do o) e next h f w p = ending_kept w (operate (held f) o w.state) _ p (operate_same (held f) o w.state) (λ v u q. h None _ u q)
     instruction_kept (Put q) e next h f w p = h None _ w p
     instruction_kept (Copy to from) e next h f w p = h None _ w p
-    instruction_kept (Load q o) e next h f w p = value_kept (operand_value (held f) w.state.store o) _ (λ v. h None _ w p)
-    instruction_kept (Pass k o) e next h f w p = value_kept (operand_value (held f) w.state.store o) _ (λ v. h None _ w p)
-    instruction_kept (Fix members) e next h f w p =
+    instruction_kept (Pass k) e next h f w p = h None _ w p
+    instruction_kept (Fix members spills) e next h f w p =
         outcome_kept w (in_store (charge_each (member_bytes members)) w.state) _ p (steady_same (charge_each (member_bytes members)) (steady_charge_each (member_bytes members)) w.state)
-        (λ v u q. let inner = with_members f members (procedures_from (length u.state.procedures) (length members)) in made_kept inner (members_made (held inner) u.state members) u next q (λ f u q. h None f u q))
+        (λ v u q. let inner = with_members f members (procedures_from (length u.state.procedures) (length members)) in
+        made_kept inner spills (members_made (held inner) u.state members) u next q (λ f u q. h None f u q))
     instruction_kept (Call spread count) e next h f w p =
         value_kept (parts f.places f.outgoing count) _ (λ vs. return_kept (call_in callee spread false depth vs w) _ (call_kept spread false vs w p) (λ v u q. h None _ u q))
     instruction_kept (Tail spread count) e next h f w p =

@@ -198,7 +198,7 @@ captures k = with_procedure
 abbrev group : Source
 group = with_procedure (Fix
     (record { at = Slot 0; closure = record { label = 1; fields = slot 1 ∷ fixed (pos 3) ∷ [] } } ∷ record
-    { at = Slot 1; closure = record { label = 1; fields = slot 0 ∷ fixed (pos 4) ∷ [] } } ∷ []) ∷ Do
+    { at = Slot 1; closure = record { label = 1; fields = slot 0 ∷ fixed (pos 4) ∷ [] } } ∷ []) (7 ∷ 8 ∷ []) ∷ Do
     (operation.Field (Slot 0) 0) ∷ Store (Slot 0) ∷ Do (operation.Field (Slot 0) 1) ∷ Store (Slot 1) ∷ shown 1)
 
 abbrev library : Source

@@ -1,5 +1,5 @@
 -- The activations of a machine that have ended have passed the marks on one way through their bodies.
-use Rattle.std.proofs.Common.{◌≡◌, ℕ, List, [], ◌∷◌, ◌++◌, map, Option, Some, None, true, refl, ap, subst, sym, ◌∙◌}
+use Rattle.std.proofs.Common.{◌≡◌, ℕ, List, Some, None, true, refl, subst}
 use Rattle.std.specs.List.{flat_map, list_all}
 use Rattle.sch_word.specs.declared.answer.Answer.{Answer}
 use Rattle.sch_word.specs.runs.Computation.{gives, spent, stops}
@@ -16,8 +16,6 @@ use Rattle.sch_insn.specs.Path.{traced}
 use Rattle.sch_asm.specs.declared.assembly.Word.{Word}
 use Rattle.sch_asm.specs.declared.item.Item.{Item}
 use Rattle.sch_word.specs.declared.mark.MarkKind.{MarkKind}
-use Rattle.sch_word.specs.runs.Activations.{activations}
-use Rattle.sch_frames.specs.Ways.{AreWays}
 use Rattle.sch_frames.proofs.Turns.{Sound, beginning_ways}
 use Rattle.sch_frames.proofs.OwnWays.{Ends, own_ways}
 use Rattle.sch_select.specs.Follows.{AreRuns, PassesFrames, TakesFrames}

@@ -9,9 +9,9 @@ use Rattle.sch_control.specs.AtomsAndSites.{member_atoms, source_atoms}
 use Rattle.sch_control.specs.Sizes.{operation_size}
 use Rattle.sch_frames.specs.declared.instruction.Instruction.{Instruction}
 use Rattle.sch_frames.specs.declared.instruction.Instruction.TheVariants as instruction
-use Rattle.sch_frames.specs.Sizes.{closures_in, codes_size, grouped, instruction_size, instructions_size}
+use Rattle.sch_frames.specs.Sizes.{closures_in, codes_copies, codes_size, copies_of, grouped, instruction_copies, instruction_size, instructions_size}
 use Rattle.sch_frames.specs.Tree.{Code, Source}
-use Rattle.sch_select.specs.Sizes.{steps_bound}
+use Rattle.sch_select.specs.Sizes.{steps_bound, steps_size}
 use Rattle.sch_select.proofs.programs.Bodies.{body_cost, instruction_cost}
 use Rattle.sch_select_operations.proofs.simulation.EachOperation.{operation_cost}
 use Rattle.sch_select.proofs.programs.Procedures.{bodies_cost}
@@ -41,22 +41,23 @@ records_within (m ∷ members) =
     (source_atoms m.closure.fields) (member_atoms members) in
     omega (arith, h, n, a)
 
-instruction_within : (i : Instruction) → instruction_cost i ≤ 256 * (instruction_size i + grouped (i ∷ []))
+instruction_within : (i : Instruction) → instruction_cost i ≤ 256 * (instruction_size i + grouped (i ∷ []) + instruction_copies i)
 instruction_within (instruction.Do o) = let h = operation_within o in omega (arith, h)
-instruction_within (instruction.Fix members) = let h = records_within members in omega (arith, h)
-instruction_within (instruction.Load p o) = omega arith
-instruction_within (instruction.Pass k o) = omega arith
+instruction_within (instruction.Fix members spills) = let h = records_within members in omega (arith, h)
+instruction_within (instruction.Store p) = omega arith
+instruction_within (instruction.Copy to from) = omega arith
+instruction_within (instruction.Pass k) = omega arith
 instruction_within (instruction.Label l) = omega arith
 instruction_within (instruction.Mark m) = omega arith
 instruction_within (instruction.Call spread count) = omega arith
 instruction_within _ = omega arith
 
-body_within : (is : List Instruction) → body_cost is ≤ 256 * (instructions_size is + grouped is)
+body_within : (is : List Instruction) → body_cost is ≤ 256 * (instructions_size is + grouped is + copies_of is)
 body_within [] = omega arith
 body_within (i ∷ is) = let h = instruction_within i in let k = body_within is in let g = grouped_first i is in omega
     (arith, h, k, g)
 
-pub bodies_within : (codes : List Code) → bodies_cost codes ≤ 256 * (codes_size codes + closures_in codes)
+pub bodies_within : (codes : List Code) → bodies_cost codes ≤ 256 * (codes_size codes + closures_in codes + codes_copies codes)
 bodies_within [] = omega arith
 bodies_within (c ∷ codes) = let h = body_within c.instructions in let k = bodies_within codes in omega (arith, h, k)
 
@@ -85,7 +86,7 @@ pub steps_within : (p : Source) (steps n w answers left charged : ℕ)
     → 3 + steps + 1 ≤ steps_bound p (n - w) (answers - left) charged
 steps_within p steps n w answers left charged paid =
     let b = bodies_cost p.bodies in
-    let m : ℕ = 256 * (codes_size p.bodies + (closures_in p.bodies + length p.bodies)) in
+    let m : ℕ = 256 * steps_size p in
     let c = bodies_within p.bodies in let f = forms_within p.bodies in
     let le : b ≤ m = omega (arith, c) in
     let x = products b n w in let y = grows b m (n - w) le in let z = mul-suc m (n - w) in

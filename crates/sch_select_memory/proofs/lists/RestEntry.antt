@@ -1,5 +1,5 @@
 -- What is owed where a procedure with a rest variable is entered: its pairs are paid for by what is charged for them.
-use Rattle.std.proofs.Common.{◌≡◌, ℕ, suc, ◌+◌, ◌*◌, ◌<◌, ◌≤◌, List, [], length, drop, map, sym, ap, ◌∙◌, arith}
+use Rattle.std.proofs.Common.{◌≡◌, ℕ, suc, ◌+◌, ◌*◌, ◌<◌, ◌≤◌, List, [], length, drop, sym, ap, ◌∙◌, arith}
 use Rattle.std.proofs.Common.{subst, append-nil, true}
 use Rattle.sch_word.specs.values.Values.{Value}
 use Rattle.sch_word.specs.runs.Charges.{fit}

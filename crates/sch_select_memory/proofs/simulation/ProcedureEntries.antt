@@ -1,5 +1,5 @@
 -- How procedures are entered: the operands where a body finds them, and the code of an operator.
-use Rattle.std.proofs.Common.{◌≡◌, ℕ, zero, suc, ◌+◌, ◌*◌, ◌^◌, ◌<◌, ◌≤◌, ◌%◌, List, [], ◌∷◌, length, map, Bool}
+use Rattle.std.proofs.Common.{◌≡◌, ℕ, zero, suc, ◌+◌, ◌*◌, ◌^◌, ◌<◌, ◌≤◌, ◌%◌, List, [], ◌∷◌, length, Bool}
 use Rattle.std.proofs.Common.{true, false, Option, Some, None, refl, sym, ap, ◌∙◌, subst, arith, ◌||◌, inl, inr, ◌⊎◌}
 use Rattle.std.specs.Prelude.{nat_eq, negsuc, slice_get}
 use Rattle.std.proofs.lemmas.Bool.{eqb-true, cases_lt}

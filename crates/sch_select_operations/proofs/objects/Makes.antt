@@ -1,5 +1,5 @@
 -- The machine makes vectors and strings whose elements are all the same (R5RS 6.3.6, 6.3.5).
-use Rattle.std.proofs.Common.{◌≡◌, ℕ, ◌+◌, ◌-◌, ◌*◌, ◌/◌, ◌%◌, ◌^◌, ◌<◌, ◌≤◌, List, [], ◌∷◌, ◌++◌, length, map, take, drop}
+use Rattle.std.proofs.Common.{◌≡◌, ℕ, ◌+◌, ◌-◌, ◌*◌, ◌/◌, ◌%◌, ◌^◌, ◌<◌, ◌≤◌, List, [], ◌∷◌, ◌++◌, length, take, drop}
 use Rattle.std.proofs.Common.{Bool, true, false, Some, refl, sym, ap, ◌∙◌, subst, arith, inl, inr, ◌==◌, ◌||◌}
 use Rattle.std.specs.Prelude.{ℤ, pos, nat_abs, nat_le, replicate, slice_get}
 use Rattle.std.proofs.lemmas.Bool.{leb-true}

@@ -1,5 +1,5 @@
 -- The machine reads vectors and sets their elements (R5RS 6.3.6).
-use Rattle.std.proofs.Common.{◌≡◌, ℕ, suc, ◌+◌, ◌*◌, ◌^◌, ◌<◌, ◌≤◌, List, [], ◌∷◌, ◌++◌, length, map, Bool, true}
+use Rattle.std.proofs.Common.{◌≡◌, ℕ, suc, ◌+◌, ◌*◌, ◌^◌, ◌<◌, ◌≤◌, List, [], ◌∷◌, ◌++◌, length, Bool, true}
 use Rattle.std.proofs.Common.{false, Some, refl, sym, ap, ◌∙◌, subst, arith, inl, inr, ⊎_elim, ◌==◌, ◌⊎◌}
 use Rattle.std.specs.Prelude.{ℤ, pos, negsuc, nat_abs, slice_get, slice_set}
 use Rattle.std.proofs.lemmas.Bool.{eqb-true, eqb-false, cases_lt}

@@ -1,5 +1,5 @@
 -- The machine makes cells, reads them and sets them.
-use Rattle.std.proofs.Common.{◌≡◌, ℕ, zero, suc, ◌+◌, ◌*◌, ◌<◌, ◌≤◌, List, [], ◌∷◌, ◌++◌, length, map, Bool, true}
+use Rattle.std.proofs.Common.{◌≡◌, ℕ, zero, suc, ◌+◌, ◌*◌, ◌<◌, ◌≤◌, List, [], ◌∷◌, ◌++◌, length, Bool, true}
 use Rattle.std.proofs.Common.{false, Option, Some, None, refl, sym, ap, ◌∙◌, subst, arith, append-nil, ◌==◌, eq-eqb}
 use Rattle.std.proofs.Common.{inr}
 use Rattle.std.specs.Prelude.{pos, negsuc, not, nat_le, slice_get, slice_set}

@@ -1,13 +1,15 @@
 -- The machine makes closures: one, and a group that know one another.
 use Rattle.std.proofs.Common.{◌≡◌, ℕ, zero, suc, ◌+◌, ◌*◌, ◌^◌, ◌<◌, ◌≤◌, List, [], ◌∷◌, ◌++◌, length, map, Bool}
-use Rattle.std.proofs.Common.{true, false, cond, Option, Some, None, refl, sym, ap, ◌∙◌, subst, arith, append-nil}
+use Rattle.std.proofs.Common.{true, false, cond, Option, Some, None, refl, sym, ap, ◌∙◌, subst, arith, append-nil, append_assoc}
 use Rattle.std.proofs.Common.{inr}
 use Rattle.std.specs.Prelude.{pos, nat_le, slice_get, ◌&&◌}
 use Rattle.std.specs.List.{list_all}
 use Rattle.std.proofs.lemmas.Bool.{and_parts, leb-true, le-leb}
 use Rattle.std.proofs.lemmas.Bool.Decides.{nat_tests}
 use Rattle.sch_word.specs.trees.Shape.{max_operands}
+use Rattle.sch_word.specs.declared.mark.MarkKind.TheVariants.{Spill}
 use Rattle.sch_word.specs.declared.place.Place.{Place}
+use Rattle.sch_word.specs.declared.place.Place.TheVariants.{Reg as Register, Slot}
 use Rattle.sch_word.specs.declared.stop.Stop.TheVariants.{HeapLimit}
 use Rattle.sch_word.specs.values.Values.{Value, unspecified, procedure}
 use Rattle.sch_word.specs.runs.Store.{Store}
@@ -22,12 +24,12 @@ use Rattle.sch_control.specs.declared.operation.Source.TheVariants as source
 use Rattle.sch_control.specs.Operations.{Procedure, operate, and_value, source_value, source_values, with_some}
 use Rattle.sch_control.specs.Operations.{close, member_bytes, members_made, with_procedures}
 use Rattle.sch_control.specs.Meaning.{World, Result, on_ending, on_outcome, with_value}
-use Rattle.sch_frames.specs.Meaning.{Frame, Is, held, with_place, with_members}
-use Rattle.sch_frames.specs.Valid.{is_place}
+use Rattle.sch_frames.specs.Meaning.{Frame, Is, held, is_slot, with_place, with_members}
+use Rattle.sch_frames.specs.Valid.{in_slots, is_place}
 use Rattle.sch_insn.specs.declared.insn.Arg.TheVariants.{Reg}
 use Rattle.sch_insn.specs.declared.insn.Insn.TheVariants.{MovTo, AddNumber}
 use Rattle.sch_insn.specs.Machine.{set_register, sum_of}
-use Rattle.sch_insn.proofs.Paths.{leads_on, leads_here}
+use Rattle.sch_insn.proofs.Paths.{leads_on, leads_here, leads_then}
 use Rattle.sch_asm.specs.declared.item.Item.{Item}
 use Rattle.sch_asm.specs.declared.item.Item.TheVariants as item
 use Rattle.sch_word.specs.declared.mark.MarkKind.{MarkKind}
@@ -41,7 +43,7 @@ use Rattle.sch_select_memory.specs.Heap.{RecordAt, AreNew}
 use Rattle.sch_select_memory.proofs.heap.Spots.{spot_stays, spot_newest}
 use Rattle.sch_select_memory.proofs.heap.Contents.{words_stay, procedure_taken}
 use Rattle.sch_select_operations.specs.ObjectCode.{part_code}
-use Rattle.sch_select_operations.specs.ClosureCode.{record_code, closure_bytes, group_bytes, places_code, records_code}
+use Rattle.sch_select_operations.specs.ClosureCode.{record_code, closure_bytes, group_bytes, places_code, records_code, spill_code, spills_behind}
 use Rattle.sch_select_operations.specs.ClosureCode.{group_code}
 use Rattle.sch_select_operations.specs.OperationCode.{operation_code}
 use Rattle.sch_select_memory.proofs.Straight.{Halts, kept_set, kept_then, moved_to, is_one}
@@ -392,29 +394,52 @@ module _ (plan : Plan) (body_steps : ℕ) (laid : Laid plan body_steps) (act : A
 
     -- ---- a group
 
+    -- the mark before what is stored in a place
+    abbrev mark_before : Place → List ℕ → List MarkKind
+    mark_before (Slot j) (s ∷ spills) = Spill s ∷ []
+    mark_before q spills = []
+
+    marks_split : (q : Place) (spills : List ℕ) → map Spill spills ≡ mark_before q spills ++ map Spill (spills_behind q spills)
+    marks_split (Slot j) (s ∷ spills) = refl
+    marks_split (Slot j) [] = refl
+    marks_split (Register r) spills = refl
+
+    spills_left : (q : Place) (spills : List ℕ) (n : ℕ) → length spills ≡ cond (is_slot q) (suc n) n → length (spills_behind q spills) ≡ n
+    spills_left (Slot j) (s ∷ spills) n e = omega (arith, e)
+    spills_left (Slot j) [] n e = absurd (cc)
+    spills_left (Register r) spills n e = e
+
+    marked_store : (q : Place) (spills : List ℕ) (a : ℕ) (is : List Item) → Here [] a (spill_code q spills is) → Here (mark_before q spills) a is
+    marked_store (Slot j) (s ∷ spills) a is h = h
+    marked_store (Slot j) [] a is h = h
+    marked_store (Register r) spills a is h = h
+
     abbrev next_part : ℕ
     next_part = heap + w.state.store.charged
 
-    -- each member has its word in its place
-    record Placed (parts' : Parts) (f1 : Frame) (y : View) (steps : ℕ) (following : List Item) : Type 0 where
-      z : View
-      leads : Leads setting steps steps [] y z
-      ahead : Here [] z.place following
-      places_at : PlacesAt plan act parts' w.state.store.charged f1.places f1.outgoing z.registers z.bytes
-      world : (ps : Parts) (s : State Procedure) → StoreAt plan ps s y.bytes y.output y.answers
-          → StoreAt plan ps s z.bytes z.output z.answers
-      accumulator : z.registers 0 ≡ y.registers 0
-      below : (a : ℕ) → stack ≤ a → a + 8 ≤ act.frame → word_in z.bytes a ≡ word_in y.bytes a
+    -- each member has its word in its place, past these marks
+    record Placed (parts' : Parts) (f1 : Frame) (y : View) (steps : ℕ) (events : List MarkKind) (following : List Item) : Type 0
+      where
+        z : View
+        leads : Leads setting steps steps events y z
+        ahead : Here [] z.place following
+        places_at : PlacesAt plan act parts' w.state.store.charged f1.places f1.outgoing z.registers z.bytes
+        world : (ps : Parts) (s : State Procedure) → StoreAt plan ps s y.bytes y.output y.answers
+            → StoreAt plan ps s z.bytes z.output z.answers
+        accumulator : z.registers 0 ≡ y.registers 0
+        below : (a : ℕ) → stack ≤ a → a + 8 ≤ act.frame → word_in z.bytes a ≡ word_in y.bytes a
 
-    placed : (parts' : Parts) (o n : ℕ) (members : List (Member Place)) (f0 : Frame) (y : View)
-        (following : List Item) → members_selected words globals (length symbols) literals members ≡ true
+    placed : (parts' : Parts) (o n : ℕ) (members : List (Member Place)) (spills : List ℕ) (f0 : Frame) (y : View)
+        (following : List Item) → length spills ≡ in_slots members
+        → members_selected words globals (length symbols) literals members ≡ true
         → AreSpots parts' (next_part + o) n members → next_part + o + group_bytes members ≤ stack
         → length y.bytes ≡ size
         → PlacesAt plan act parts' w.state.store.charged f0.places f0.outgoing y.registers y.bytes
-        → Here [] y.place (places_code o members following)
+        → Here [] y.place (places_code o members spills following)
         → Placed parts' (with_members f0 members (procedures_from n (length members))) y (3 * length members)
-        following
-    placed parts' o n [] f0 y following e spots le long q h = record {
+        (map Spill spills) following
+    placed parts' o n [] (s ∷ spills) f0 y following some e spots le long q h = absurd (cc)
+    placed parts' o n [] [] f0 y following some e spots le long q h = record {
       z = y;
       leads = leads_here setting.marks (full setting y);
       ahead = h;
@@ -423,7 +448,7 @@ module _ (plan : Plan) (body_steps : ℕ) (laid : Laid plan body_steps) (act : A
       accumulator = refl;
       below = λ a lo hi. refl;
     }
-    placed parts' o n (m ∷ members) f0 y following e spots le long q h =
+    placed parts' o n (m ∷ members) spills f0 y following some e spots le long q h =
         let checks = and_parts (is_place words m.at) (closure_selected words globals
         (length symbols) literals m.closure && members_selected
         words globals (length symbols) literals members) e in
@@ -450,22 +475,24 @@ module _ (plan : Plan) (body_steps : ℕ) (laid : Laid plan body_steps) (act : A
           fits = omega
               (arith, free, le, i);
         } in
-        let u = written plan act parts' w.state.store.charged f0.places f0.outgoing m.at (Is (procedure n)) 1 y2 []
-        (places_code (o + closure_bytes m.closure) members following) checks.0 named
+        let u = written plan act parts' w.state.store.charged f0.places f0.outgoing m.at (Is (procedure n)) 1 y2
+        (mark_before m.at spills) (places_code (o + closure_bytes m.closure) members (spills_behind m.at spills) following)
+        checks.0 named
         (places_kept plan act parts' w.state.store.charged f0.places f0.outgoing y.registers y2.registers y.bytes
-        kept q) long h.2.2 in
+        kept q) long (marked_store m.at spills y2.place _ h.2.2) in
         let shift : next_part + o + closure_bytes m.closure ≡ next_part + (o + closure_bytes m.closure) = omega arith in
         let lengths : length u.y.bytes ≡ size = u.size ∙ long in
-        let rec = placed parts' (o + closure_bytes m.closure) (suc n) members (with_place f0 m.at (Is (procedure n)))
-        u.y following shaped.1 (subst (λ a. AreSpots parts' a (suc n) members) shift spots.1) (omega (arith, le))
+        let rec = placed parts' (o + closure_bytes m.closure) (suc n) members (spills_behind m.at spills)
+        (with_place f0 m.at (Is (procedure n))) u.y following (spills_left m.at spills (in_slots members) some) shaped.1 (subst (λ a. AreSpots parts' a (suc n) members) shift spots.1) (omega (arith, le))
         lengths u.places_at u.ahead in
         let three : 1 + 1 + 1 + 3 * length members ≡ 3 * length (m ∷ members) = omega arith in
         record {
           z = rec.z;
-          leads = subst (λ k. Leads setting k k [] y rec.z) three
-              (leads_on setting.marks (leads_on setting.marks (leads_on setting.marks
+          leads = subst (λ events. Leads setting (3 * length (m ∷ members)) (3 * length (m ∷ members)) events y rec.z)
+              (sym (marks_split m.at spills)) (subst (λ k. Leads setting k k (mark_before m.at spills ++ map Spill (spills_behind m.at spills)) y rec.z) three
+              (leads_then setting.marks (leads_then setting.marks (leads_on setting.marks
               (goes setting y y1 (MovTo (Reg 1) 12) h.0 [] h.1 refl)
-              (goes setting y1 y2 (AddNumber (Reg 1) (pos (o + 4))) h.2.0 [] h.2.1 refl)) u.leads) rec.leads);
+              (goes setting y1 y2 (AddNumber (Reg 1) (pos (o + 4))) h.2.0 [] h.2.1 refl)) u.leads) rec.leads));
           ahead = rec.ahead;
           places_at = rec.places_at;
           world = λ ps s at. rec.world ps s (u.world ps s at);
@@ -473,17 +500,18 @@ module _ (plan : Plan) (body_steps : ℕ) (laid : Laid plan body_steps) (act : A
           below = λ a lo hi. rec.below a lo hi ∙ u.below a lo hi;
         }
 
-    pub group_sim : (members : List (Member Place)) → nat_le (length members) max_operands ≡ true
+    pub group_sim : (members : List (Member Place)) (spills : List ℕ) → length spills ≡ in_slots members
+        → nat_le (length members) max_operands ≡ true
         → members_selected words globals (length symbols) literals members ≡ true
         → Holds act.back parts f.accumulator (x.registers 0)
-        → Here waiting x.place (group_code stack members rest)
+        → Here waiting x.place (group_code stack members spills rest)
         → Owed parts before w x (250 + (3 * length members + records_cost members) + c)
         (on_outcome w.marks (in_store (charge_each (member_bytes members)) w.state)
         (λ _ w. with_value (with_procedures w.state (members_made
         (held (with_members f members (procedures_from (length w.state.procedures) (length members)))) w.state
         members)) (λ s. k (with_members f members (procedures_from (length w.state.procedures) (length members)))
-        (record { state = s; marks = w.marks }))))
-    group_sim members few e acc h = subst (λ o. Owed parts before w x cost (result o)) (sym all.outcome)
+        (record { state = s; marks = w.marks ++ map Spill spills }))))
+    group_sim members spills some few e acc h = subst (λ o. Owed parts before w x cost (result o)) (sym all.outcome)
         (by_room (nat_le (t.charged + charged_all (member_bytes members)) t.constants.heap) refl)
       where
         t : Store
@@ -502,7 +530,7 @@ module _ (plan : Plan) (body_steps : ℕ) (laid : Laid plan body_steps) (act : A
         then_made w = with_value (with_procedures w.state (members_made
             (held (with_members f members (procedures_from (length w.state.procedures) (length members)))) w.state
             members)) (λ s. k (with_members f members (procedures_from (length w.state.procedures) (length members)))
-            (record { state = s; marks = w.marks }))
+            (record { state = s; marks = w.marks ++ map Spill spills }))
 
         result : Outcome Store Value → Result
         result o = on_outcome w.marks (with_rest w.state.cells w.state.procedures o) (λ _ w. then_made w)
@@ -522,7 +550,7 @@ module _ (plan : Plan) (body_steps : ℕ) (laid : Laid plan body_steps) (act : A
         records = records_code 0 members (item.Plain (AddNumber (Reg 12) (pos total)) ∷ rest)
 
         code : List Item
-        code = places_code 0 members records
+        code = places_code 0 members spills records
 
         tested : Tested plan (nat_le (t.charged + charged_all (member_bytes members))
             t.constants.heap) x waiting code
@@ -577,7 +605,7 @@ module _ (plan : Plan) (body_steps : ℕ) (laid : Laid plan body_steps) (act : A
 
             by_made : (o : Option (List Procedure)) → members_made (held inner) charged_world.state members ≡ o
                 → Owed parts before w x cost (with_value (with_procedures charged_world.state o)
-                (λ s. k inner (record { state = s; marks = w.marks })))
+                (λ s. k inner (record { state = s; marks = w.marks ++ map Spill spills })))
             by_made None v = tt
             by_made (Some made) v =
                 let n = length w.state.procedures in
@@ -591,7 +619,7 @@ module _ (plan : Plan) (body_steps : ℕ) (laid : Laid plan body_steps) (act : A
                 (one_scratch 2 x.registers s.registers refl s.kept) p in
                 let py' = places_grown plan act parts parts' (words_stay parts others) t.charged t.charged f.places
                 f.outgoing s.registers s.registers x.bytes (λ j e. refl) py.free py in
-                let pl = placed parts' 0 n members f y records e spots (omega (arith, fits_in)) g.size_is py' s.ahead in
+                let pl = placed parts' 0 n members spills f y records some e spots (omega (arith, fits_in)) g.size_is py' s.ahead in
                 let made_is : members_made (held inner) w.state members ≡ Some made = sym
                 (same_members (held inner) w.state (t.charged + charged_all (member_bytes members)) members) ∙ v in
                 let gz = pl.world parts w.state g in
@@ -630,7 +658,7 @@ module _ (plan : Plan) (body_steps : ℕ) (laid : Laid plan body_steps) (act : A
                     procedures = w.state.procedures ++
                         made;
                   };
-                  marks = w.marks;
+                  marks = w.marks ++ map Spill spills;
                 } in
                 let g' : At parts' w' u =
                 subst (λ m. StoreAt plan parts'
@@ -664,13 +692,14 @@ module _ (plan : Plan) (body_steps : ℕ) (laid : Laid plan body_steps) (act : A
                 (subst (Holds act.back parts' f.accumulator) (sym zero)
                 (holds_words act.back parts parts' (words_stay parts others) f.accumulator (x.registers 0) acc)) in
                 let hl = heap_above plan in let sl = plan.stack_low in let rf = r.few in
-                after plan body_steps act parts parts' (words_stay parts others) before waiting t w'.state.store x u
-                (4 + 3 * length members + r.least + 1) (4 + 3 * length members + r.steps + 1) c cost _
-                (leads_on setting.marks (leads_on setting.marks (leads_on setting.marks s.leads pl.leads) r.leads)
+                after plan body_steps act parts parts' (words_stay parts others) before (waiting ++ map Spill spills) t
+                w'.state.store x u (4 + 3 * length members + r.least + 1) (4 + 3 * length members + r.steps + 1) c cost _
+                (leads_on setting.marks (leads_on setting.marks (leads_then setting.marks s.leads pl.leads) r.leads)
                 (goes setting z1 u (AddNumber (Reg 12) (pos total)) a.0 [] a.1 refl))
                 (λ b lo hi. other_word next_part (next_part + total) pl.z.bytes r.bytes wrote b
                 (omega (arith, lo, sl, hl)) (inr (omega (arith, lo, fits_in)))
                 ∙ pl.below b lo hi)
                 (omega arith) (omega arith) (omega (arith, rf))
-                (K parts' (before ++ waiting) [] inner w' u a.2 p' g' acc'
-                (none_waits w.marks before waiting marked))
+                (K parts' (before ++ (waiting ++ map Spill spills)) [] inner w' u a.2 p' g' acc'
+                (none_waits w'.marks before (waiting ++ map Spill spills)
+                (ap (λ l. l ++ map Spill spills) marked ∙ append_assoc before waiting (map Spill spills))))

@@ -28,12 +28,13 @@ use Rattle.sch_control.specs.declared.operation.Operation.{Operation}
 use Rattle.sch_control.specs.declared.operation.Operation.TheVariants as operation
 use Rattle.sch_control.specs.Valid.{only_reads}
 use Rattle.sch_frames.specs.declared.instruction.Instruction.{Instruction}
-use Rattle.sch_frames.specs.declared.instruction.Instruction.TheVariants.{Do, Store, Copy, Load, Pass, Fix, Call}
+use Rattle.sch_frames.specs.declared.instruction.Instruction.TheVariants.{Do, Store, Copy, Pass, Fix, Call}
 use Rattle.sch_frames.specs.declared.instruction.Instruction.TheVariants.{Tail, Return, End, IfFalse, Jump, Label}
 use Rattle.sch_frames.specs.declared.instruction.Instruction.TheVariants.{Mark}
 use Rattle.sch_frames.specs.Tree.{Code}
 use Rattle.sch_frames.specs.Tree as tree
-use Rattle.sch_frames.specs.Valid.{formals_of, handed_over, is_place}
+use Rattle.sch_frames.specs.Meaning.{is_slot}
+use Rattle.sch_frames.specs.Valid.{formals_of, handed_over, in_slots, is_place}
 use Rattle.sch_frames.specs.Covered.{marks_settled}
 
 -- the primitives that are computed of words alone
@@ -125,12 +126,12 @@ module _ (words globals symbols literals : ℕ) where
   abbrev pub instruction_selected : Instruction → Bool
   instruction_selected (Do o) = operation_selected o
   instruction_selected (Store p) = is_place words p
-  instruction_selected (Copy to from) = is_place words to && is_place words from
-  instruction_selected (Load p o) = is_place words p && operand_selected o
-  instruction_selected (Pass k o) = nat_lt k words && operand_selected o
+  instruction_selected (Copy to from) = not (is_slot to && is_slot from) && (is_place words to && is_place words from)
+  instruction_selected (Pass k) = nat_lt k words
   instruction_selected (Call spread count) = not spread && (nat_le count max_operands && handed_over words count)
   instruction_selected (Tail spread count) = not spread && (nat_le count max_operands && handed_over words count)
-  instruction_selected (Fix members) = nat_le (length members) max_operands && members_selected members
+  instruction_selected (Fix members spills) =
+      nat_eq (length spills) (in_slots members) && (nat_le (length members) max_operands && members_selected members)
   instruction_selected Return = true
   instruction_selected End = true
   instruction_selected (IfFalse l) = true
@@ -157,7 +158,7 @@ operation_few count _ = true
 
 abbrev pub labels_few : ℕ → Instruction → Bool
 labels_few count (Do o) = operation_few count o
-labels_few count (Fix members) = members_few count members
+labels_few count (Fix members spills) = members_few count members
 labels_few count _ = true
 
 abbrev pub selects : tree.Source → Bool

@@ -1,6 +1,7 @@
 use Rattle.std.proofs.Common.{◌≡◌, ◌<◌, suc, ◌+◌, ◌∙◌, Some, None, length, drop, refl, ap, sym, subst, arith, IfOk, OnOk}
 use Rattle.sch_flat.specs.View.{tree, trees_of}
 use Rattle.sch_flat.proofs.Rows.{trees_of_list}
+use Rattle.sch_control.specs.Sizes.{is_bare_atom}
 use Rattle.sch_control.specs.View.{expression}
 use Rattle.sch_anf.specs.declared.steps.Step.{Step}
 use Rattle.sch_anf_laws.specs.LabelsFit.{LabelsFitEach}
@@ -10,7 +11,7 @@ use Rattle.sch_anf.specs.Steps.{after}
 use Rattle.sch_anf.specs.Round.{bound_before, dropped_before}
 use Rattle.sch_anf_laws.proofs.Items.{left, no_items}
 use Rattle.sch_anf.proofs.NewSteps.{adds_one}
-use Rattle.sch_anf.proofs.PartSteps.{bound_is, dropped_is, labels_next, parts_turn, few_parts_next, few_dropped, on_any}
+use Rattle.sch_anf.proofs.PartSteps.{atom_is, bound_is, dropped_is, labels_next, parts_turn, few_parts_next, few_dropped, on_any}
 use Rattle.sch_anf.proofs.normalizing.+normalizing.Goals as goal
 
 pub normalize_bound-returns-clause-steps : goal.normalize_bound-returns-clause-steps
@@ -28,7 +29,14 @@ normalize_dropped-returns-clause-steps t c =
     let s : Step = record { variable = None; value = c.in_ok-value.value } in
     adds_one c.args.steps.now.items c.push.new.self.items s (dropped_before c.args.starts.now (tree c.args.e.now) (scope_of v.bound.items) v.next) c.in_ok-push.ensures.items
     (dropped_is c.args.starts.now (tree c.args.e.now) v.next (scope_of v.bound.items) (expression c.in_ok-value.value.value)
-    (sym c.needs_variable.ensures ∙ c.if-needs_variable.false) c.in_ok-value.ensures.made)
+    (sym c.ends_in_call.ensures ∙ c.if-ends_in_call.false) c.in_ok-value.ensures.made (ap (λ x. is_bare_atom (expression x)) (sym c.deref.ensures) ∙ (sym c.is_bare_atom.ensures ∙ c.if-is_bare_atom.false)))
+
+pub normalize_dropped-returns-then-is_bare_atom-clause-steps : goal.normalize_dropped-returns-then-is_bare_atom-clause-steps
+normalize_dropped-returns-then-is_bare_atom-clause-steps t c body =
+    let v = c.args.v.now in
+    ap (after c.args.steps.now.items)
+    (atom_is c.args.starts.now (tree c.args.e.now) v.next (scope_of v.bound.items) (expression c.in_ok-value.value.value)
+    (sym c.ends_in_call.ensures ∙ c.if-ends_in_call.false) c.in_ok-value.ensures.made (ap (λ x. is_bare_atom (expression x)) (sym c.deref.ensures) ∙ (sym c.is_bare_atom.ensures ∙ c.if-is_bare_atom.true)) body)
 
 pub normalize_operands-loop-e-init : goal.normalize_operands-loop-e-init
 normalize_operands-loop-e-init t c =

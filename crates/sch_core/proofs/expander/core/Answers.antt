@@ -20,35 +20,36 @@ use Rattle.sch_core.proofs.expander.core.Goals as goal
 
 pub returns-in-Some-clause-fault : goal.returns-in-Some-clause-fault
 returns-in-Some-clause-fault c =
-    let ds = definitions_of c.args.library.definitions in
+    let ds = definitions_of c.args.library.now.definitions in
     let items = data_of c.args.items.now in
-    let names = ap given c.as_slice-2.ensures ∙ (c.in_ok-seen.ensures ∙ ap (λ l. seen (definitions_of l)) c.as_slice.ensures) in
+    let names = ap given c.as_slice.ensures ∙ (c.in_ok-seen.ensures ∙ ap (λ l. seen (definitions_of l)) c.as_slice-definitions.ensures) in
     let error = faulty_error ds items c.error_of.result c.in-Some.f c.error_of.ensures
     (faulty ds items _ _ _ _ names c.in_ok-own.ensures.read c.in-Some.f c.in-Some.is) in
     error
 
 pub returns-in-Some-clause-only : goal.returns-in-Some-clause-only
 returns-in-Some-clause-only c =
-    let ds = definitions_of c.args.library.definitions in
+    let ds = definitions_of c.args.library.now.definitions in
     let items = data_of c.args.items.now in
-    let names = ap given c.as_slice-2.ensures ∙ (c.in_ok-seen.ensures ∙ ap (λ l. seen (definitions_of l)) c.as_slice.ensures) in
+    let names = ap given c.as_slice.ensures ∙ (c.in_ok-seen.ensures ∙ ap (λ l. seen (definitions_of l)) c.as_slice-definitions.ensures) in
     let error = faulty_error ds items c.error_of.result c.in-Some.f c.error_of.ensures
     (faulty ds items _ _ _ _ names c.in_ok-own.ensures.read c.in-Some.f c.in-Some.is) in
     λ p q. never_both ds items p c.error_of.result q error
 
 pub returns-in-Some-2-clause-fault : goal.returns-in-Some-2-clause-fault
 returns-in-Some-2-clause-fault c =
-    let ds = definitions_of c.args.library.definitions in
+    let ds = definitions_of c.args.library.now.definitions in
     let items = data_of c.args.items.now in
     let own = names_of c.in_ok-own.field-0.own in
     let es = drafts_of c.in_ok-own.field-0.drafts in
-    let names = ap given c.as_slice-2.ensures ∙ (c.in_ok-seen.ensures ∙ ap (λ l. seen (definitions_of l)) c.as_slice.ensures) in
-    let places = c.as_slice-4.result.now in
-    let forms = expressions_of c.as_slice-5.result.now in
-    let at : places ≡ form_places items = c.as_slice-4.ensures ∙ c.in_ok-own.ensures.places in
+    let names = ap given c.as_slice.ensures ∙ (c.in_ok-seen.ensures ∙ ap (λ l. seen (definitions_of l)) c.as_slice-definitions.ensures) in
+    let places = c.as_slice-3.result.now in
+    let forms = expressions_of c.as_slice-4.result.now in
+    let at : places ≡ form_places items = c.as_slice-3.ensures ∙ c.in_ok-own.ensures.places in
     let made : parts_of c.in_ok-parts.parts ≡ program_of ds own es =
-    c.in_ok-parts.ensures.made ∙ ap (λ l. program_of ds own (drafts_of l)) c.as_slice-3.ensures in
-    let n : forms ≡ (program_of ds own es).forms = ap expressions_of c.as_slice-5.ensures ∙ ap (λ p. p.forms) made in
+    c.in_ok-parts.ensures.made ∙ ap (λ x. program_of (definitions_of x) own (drafts_of c.as_slice-2.result.now)) c.as_slice-definitions.ensures
+    ∙ ap (λ l. program_of ds own (drafts_of l)) c.as_slice-2.ensures in
+    let n : forms ≡ (program_of ds own es).forms = ap expressions_of c.as_slice-4.ensures ∙ ap (λ p. p.forms) made in
     let none = c.in_default.is in
     let h : first_excess places forms ≡ Some (c.in-Some-2.kind, c.in-Some-2.at) = sym c.in_ok-kind.ensures ∙ c.in-Some-2.is in
     let error = excessive_error ds items c.in-Some-2.kind c.in-Some-2.at (first_counted places forms c.in-Some-2.kind c.in-Some-2.at h)
@@ -57,17 +58,18 @@ returns-in-Some-2-clause-fault c =
 
 pub returns-in-Some-2-clause-only : goal.returns-in-Some-2-clause-only
 returns-in-Some-2-clause-only c =
-    let ds = definitions_of c.args.library.definitions in
+    let ds = definitions_of c.args.library.now.definitions in
     let items = data_of c.args.items.now in
     let own = names_of c.in_ok-own.field-0.own in
     let es = drafts_of c.in_ok-own.field-0.drafts in
-    let names = ap given c.as_slice-2.ensures ∙ (c.in_ok-seen.ensures ∙ ap (λ l. seen (definitions_of l)) c.as_slice.ensures) in
-    let places = c.as_slice-4.result.now in
-    let forms = expressions_of c.as_slice-5.result.now in
-    let at : places ≡ form_places items = c.as_slice-4.ensures ∙ c.in_ok-own.ensures.places in
+    let names = ap given c.as_slice.ensures ∙ (c.in_ok-seen.ensures ∙ ap (λ l. seen (definitions_of l)) c.as_slice-definitions.ensures) in
+    let places = c.as_slice-3.result.now in
+    let forms = expressions_of c.as_slice-4.result.now in
+    let at : places ≡ form_places items = c.as_slice-3.ensures ∙ c.in_ok-own.ensures.places in
     let made : parts_of c.in_ok-parts.parts ≡ program_of ds own es =
-    c.in_ok-parts.ensures.made ∙ ap (λ l. program_of ds own (drafts_of l)) c.as_slice-3.ensures in
-    let n : forms ≡ (program_of ds own es).forms = ap expressions_of c.as_slice-5.ensures ∙ ap (λ p. p.forms) made in
+    c.in_ok-parts.ensures.made ∙ ap (λ x. program_of (definitions_of x) own (drafts_of c.as_slice-2.result.now)) c.as_slice-definitions.ensures
+    ∙ ap (λ l. program_of ds own (drafts_of l)) c.as_slice-2.ensures in
+    let n : forms ≡ (program_of ds own es).forms = ap expressions_of c.as_slice-4.ensures ∙ ap (λ p. p.forms) made in
     let none = c.in_default.is in
     let h : first_excess places forms ≡ Some (c.in-Some-2.kind, c.in-Some-2.at) = sym c.in_ok-kind.ensures ∙ c.in-Some-2.is in
     let error = excessive_error ds items c.in-Some-2.kind c.in-Some-2.at (first_counted places forms c.in-Some-2.kind c.in-Some-2.at h)
@@ -76,24 +78,25 @@ returns-in-Some-2-clause-only c =
 
 pub into_program-requires : goal.into_program-requires
 into_program-requires c =
-    let ds = definitions_of c.args.library.definitions in
+    let ds = definitions_of c.args.library.now.definitions in
     let items = data_of c.args.items.now in
     let own = names_of c.in_ok-own.field-0.own in
     let es = drafts_of c.in_ok-own.field-0.drafts in
-    let names = ap given c.as_slice-2.ensures ∙ (c.in_ok-seen.ensures ∙ ap (λ l. seen (definitions_of l)) c.as_slice.ensures) in
-    let places = c.as_slice-4.result.now in
-    let forms = expressions_of c.as_slice-5.result.now in
-    let at : places ≡ form_places items = c.as_slice-4.ensures ∙ c.in_ok-own.ensures.places in
+    let names = ap given c.as_slice.ensures ∙ (c.in_ok-seen.ensures ∙ ap (λ l. seen (definitions_of l)) c.as_slice-definitions.ensures) in
+    let places = c.as_slice-3.result.now in
+    let forms = expressions_of c.as_slice-4.result.now in
+    let at : places ≡ form_places items = c.as_slice-3.ensures ∙ c.in_ok-own.ensures.places in
     let made : parts_of c.in_ok-parts.parts ≡ program_of ds own es =
-    c.in_ok-parts.ensures.made ∙ ap (λ l. program_of ds own (drafts_of l)) c.as_slice-3.ensures in
-    let n : forms ≡ (program_of ds own es).forms = ap expressions_of c.as_slice-5.ensures ∙ ap (λ p. p.forms) made in
+    c.in_ok-parts.ensures.made ∙ ap (λ x. program_of (definitions_of x) own (drafts_of c.as_slice-2.result.now)) c.as_slice-definitions.ensures
+    ∙ ap (λ l. program_of ds own (drafts_of l)) c.as_slice-2.ensures in
+    let n : forms ≡ (program_of ds own es).forms = ap expressions_of c.as_slice-4.ensures ∙ ap (λ p. p.forms) made in
     let none = c.in_default.is in
     let h : first_excess places forms ≡ None = sym c.in_ok-kind.ensures ∙ c.in_default-2.is in
     let quotable = c.are_quotable.ensures (search rules) in
     record {
       valid =
           let v : is_valid (program_of ds own es) ≡ true =
-          ∥∥₁_elim c.args.library.sound (Prim.hlevel props) (λ s.
+          ∥∥₁_elim c.args.library.now.sound (Prim.hlevel props) (λ s.
           valid_once ds items _ _ _ es names c.in_ok-own.ensures.read none places own _ _ _ _ forms at n h s.sound s.ordered s.few (omega (arith, s.small, c.requires.light)) quotable
           (ap trees_in_range (sym made) ∙ c.in_ok-parts.ensures.ranged)) in
           ap is_valid made ∙ v;
@@ -101,17 +104,18 @@ into_program-requires c =
 
 pub returns-clause-found : goal.returns-clause-found
 returns-clause-found c =
-    let ds = definitions_of c.args.library.definitions in
+    let ds = definitions_of c.args.library.now.definitions in
     let items = data_of c.args.items.now in
     let own = names_of c.in_ok-own.field-0.own in
     let es = drafts_of c.in_ok-own.field-0.drafts in
-    let names = ap given c.as_slice-2.ensures ∙ (c.in_ok-seen.ensures ∙ ap (λ l. seen (definitions_of l)) c.as_slice.ensures) in
-    let places = c.as_slice-4.result.now in
-    let forms = expressions_of c.as_slice-5.result.now in
-    let at : places ≡ form_places items = c.as_slice-4.ensures ∙ c.in_ok-own.ensures.places in
+    let names = ap given c.as_slice.ensures ∙ (c.in_ok-seen.ensures ∙ ap (λ l. seen (definitions_of l)) c.as_slice-definitions.ensures) in
+    let places = c.as_slice-3.result.now in
+    let forms = expressions_of c.as_slice-4.result.now in
+    let at : places ≡ form_places items = c.as_slice-3.ensures ∙ c.in_ok-own.ensures.places in
     let made : parts_of c.in_ok-parts.parts ≡ program_of ds own es =
-    c.in_ok-parts.ensures.made ∙ ap (λ l. program_of ds own (drafts_of l)) c.as_slice-3.ensures in
-    let n : forms ≡ (program_of ds own es).forms = ap expressions_of c.as_slice-5.ensures ∙ ap (λ p. p.forms) made in
+    c.in_ok-parts.ensures.made ∙ ap (λ x. program_of (definitions_of x) own (drafts_of c.as_slice-2.result.now)) c.as_slice-definitions.ensures
+    ∙ ap (λ l. program_of ds own (drafts_of l)) c.as_slice-2.ensures in
+    let n : forms ≡ (program_of ds own es).forms = ap expressions_of c.as_slice-4.ensures ∙ ap (λ p. p.forms) made in
     let none = c.in_default.is in
     let h : first_excess places forms ≡ None = sym c.in_ok-kind.ensures ∙ c.in_default-2.is in
     let q : source c.into_program.result ≡ program_of ds own es = c.into_program.ensures ∙ made in
@@ -119,17 +123,18 @@ returns-clause-found c =
 
 pub returns-clause-size : goal.returns-clause-size
 returns-clause-size c =
-    let ds = definitions_of c.args.library.definitions in
+    let ds = definitions_of c.args.library.now.definitions in
     let items = data_of c.args.items.now in
     let own = names_of c.in_ok-own.field-0.own in
     let es = drafts_of c.in_ok-own.field-0.drafts in
-    let names = ap given c.as_slice-2.ensures ∙ (c.in_ok-seen.ensures ∙ ap (λ l. seen (definitions_of l)) c.as_slice.ensures) in
-    let places = c.as_slice-4.result.now in
-    let forms = expressions_of c.as_slice-5.result.now in
-    let at : places ≡ form_places items = c.as_slice-4.ensures ∙ c.in_ok-own.ensures.places in
+    let names = ap given c.as_slice.ensures ∙ (c.in_ok-seen.ensures ∙ ap (λ l. seen (definitions_of l)) c.as_slice-definitions.ensures) in
+    let places = c.as_slice-3.result.now in
+    let forms = expressions_of c.as_slice-4.result.now in
+    let at : places ≡ form_places items = c.as_slice-3.ensures ∙ c.in_ok-own.ensures.places in
     let made : parts_of c.in_ok-parts.parts ≡ program_of ds own es =
-    c.in_ok-parts.ensures.made ∙ ap (λ l. program_of ds own (drafts_of l)) c.as_slice-3.ensures in
-    let n : forms ≡ (program_of ds own es).forms = ap expressions_of c.as_slice-5.ensures ∙ ap (λ p. p.forms) made in
+    c.in_ok-parts.ensures.made ∙ ap (λ x. program_of (definitions_of x) own (drafts_of c.as_slice-2.result.now)) c.as_slice-definitions.ensures
+    ∙ ap (λ l. program_of ds own (drafts_of l)) c.as_slice-2.ensures in
+    let n : forms ≡ (program_of ds own es).forms = ap expressions_of c.as_slice-4.ensures ∙ ap (λ p. p.forms) made in
     let none = c.in_default.is in
     let h : first_excess places forms ≡ None = sym c.in_ok-kind.ensures ∙ c.in_default-2.is in
     let q : source c.into_program.result ≡ program_of ds own es = c.into_program.ensures ∙ made in
@@ -137,17 +142,18 @@ returns-clause-size c =
 
 pub returns-clause-places : goal.returns-clause-places
 returns-clause-places c =
-    let ds = definitions_of c.args.library.definitions in
+    let ds = definitions_of c.args.library.now.definitions in
     let items = data_of c.args.items.now in
     let own = names_of c.in_ok-own.field-0.own in
     let es = drafts_of c.in_ok-own.field-0.drafts in
-    let names = ap given c.as_slice-2.ensures ∙ (c.in_ok-seen.ensures ∙ ap (λ l. seen (definitions_of l)) c.as_slice.ensures) in
-    let places = c.as_slice-4.result.now in
-    let forms = expressions_of c.as_slice-5.result.now in
-    let at : places ≡ form_places items = c.as_slice-4.ensures ∙ c.in_ok-own.ensures.places in
+    let names = ap given c.as_slice.ensures ∙ (c.in_ok-seen.ensures ∙ ap (λ l. seen (definitions_of l)) c.as_slice-definitions.ensures) in
+    let places = c.as_slice-3.result.now in
+    let forms = expressions_of c.as_slice-4.result.now in
+    let at : places ≡ form_places items = c.as_slice-3.ensures ∙ c.in_ok-own.ensures.places in
     let made : parts_of c.in_ok-parts.parts ≡ program_of ds own es =
-    c.in_ok-parts.ensures.made ∙ ap (λ l. program_of ds own (drafts_of l)) c.as_slice-3.ensures in
-    let n : forms ≡ (program_of ds own es).forms = ap expressions_of c.as_slice-5.ensures ∙ ap (λ p. p.forms) made in
+    c.in_ok-parts.ensures.made ∙ ap (λ x. program_of (definitions_of x) own (drafts_of c.as_slice-2.result.now)) c.as_slice-definitions.ensures
+    ∙ ap (λ l. program_of ds own (drafts_of l)) c.as_slice-2.ensures in
+    let n : forms ≡ (program_of ds own es).forms = ap expressions_of c.as_slice-4.ensures ∙ ap (λ p. p.forms) made in
     let none = c.in_default.is in
     let h : first_excess places forms ≡ None = sym c.in_ok-kind.ensures ∙ c.in_default-2.is in
     let q : source c.into_program.result ≡ program_of ds own es = c.into_program.ensures ∙ made in
@@ -155,17 +161,18 @@ returns-clause-places c =
 
 pub returns-clause-only : goal.returns-clause-only
 returns-clause-only c =
-    let ds = definitions_of c.args.library.definitions in
+    let ds = definitions_of c.args.library.now.definitions in
     let items = data_of c.args.items.now in
     let own = names_of c.in_ok-own.field-0.own in
     let es = drafts_of c.in_ok-own.field-0.drafts in
-    let names = ap given c.as_slice-2.ensures ∙ (c.in_ok-seen.ensures ∙ ap (λ l. seen (definitions_of l)) c.as_slice.ensures) in
-    let places = c.as_slice-4.result.now in
-    let forms = expressions_of c.as_slice-5.result.now in
-    let at : places ≡ form_places items = c.as_slice-4.ensures ∙ c.in_ok-own.ensures.places in
+    let names = ap given c.as_slice.ensures ∙ (c.in_ok-seen.ensures ∙ ap (λ l. seen (definitions_of l)) c.as_slice-definitions.ensures) in
+    let places = c.as_slice-3.result.now in
+    let forms = expressions_of c.as_slice-4.result.now in
+    let at : places ≡ form_places items = c.as_slice-3.ensures ∙ c.in_ok-own.ensures.places in
     let made : parts_of c.in_ok-parts.parts ≡ program_of ds own es =
-    c.in_ok-parts.ensures.made ∙ ap (λ l. program_of ds own (drafts_of l)) c.as_slice-3.ensures in
-    let n : forms ≡ (program_of ds own es).forms = ap expressions_of c.as_slice-5.ensures ∙ ap (λ p. p.forms) made in
+    c.in_ok-parts.ensures.made ∙ ap (λ x. program_of (definitions_of x) own (drafts_of c.as_slice-2.result.now)) c.as_slice-definitions.ensures
+    ∙ ap (λ l. program_of ds own (drafts_of l)) c.as_slice-2.ensures in
+    let n : forms ≡ (program_of ds own es).forms = ap expressions_of c.as_slice-4.ensures ∙ ap (λ p. p.forms) made in
     let none = c.in_default.is in
     let h : first_excess places forms ≡ None = sym c.in_ok-kind.ensures ∙ c.in_default-2.is in
     let q : source c.into_program.result ≡ program_of ds own es = c.into_program.ensures ∙ made in

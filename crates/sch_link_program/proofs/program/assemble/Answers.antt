@@ -1,10 +1,8 @@
 use Rattle.std.proofs.Common.{◌∙◌, ap}
 use Rattle.sch_names.specs.NamesView.{names_of}
-use Rattle.sch_names.specs.Scope.{is_among}
 use Rattle.sch_link_tables.specs.Named.{firsts, globals_in_each, symbols_in_each}
-use Rattle.sch_link_tables.specs.Programs.{held}
 use Rattle.sch_sketch.specs.DraftView.{drafts_of}
-use Rattle.sch_link_program.specs.Definitions.{definitions_of}
+use Rattle.sch_link_program.specs.Definitions.{definitions_of, kept_definitions}
 use Rattle.sch_link_program.proofs.ProgramMade.{whole_program}
 use Rattle.sch_link_program.proofs.program.assemble.Goals as goal
 
@@ -21,7 +19,7 @@ program_with-requires c =
 pub returns-clause-made : goal.returns-clause-made
 returns-clause-made c =
     let own = names_of c.args.own.now in
-    let ds = c.args.definitions in
+    let ds = c.args.definitions.now in
     c.in_ok-parts.ensures.made
-    ∙ whole_program (definitions_of ds) (definitions_of c.as_slice-2.result.now) own (names_of c.in_ok-held.held) (names_of c.name_each.new.tables.globals.names) (names_of c.new-named.result.globals.names) (drafts_of c.args.forms.now)
-    c.new-named.ensures.globals c.in_ok-name_each.ensures.globals (λ x. c.in_ok-held.ensures x ∙ ap (λ l. is_among x (held (definitions_of l) own)) c.as_slice.ensures) (ap definitions_of c.as_slice-2.ensures ∙ c.in_ok-kept.ensures)
+    ∙ whole_program (definitions_of ds) (kept_definitions c.as_slice.result.now) own (names_of c.in_ok-held.held) (names_of c.name_each.new.tables.globals.names) (names_of c.new-named.result.globals.names) (drafts_of c.args.forms.now)
+    c.new-named.ensures.globals c.in_ok-name_each.ensures.globals c.in_ok-held.ensures (ap kept_definitions c.as_slice.ensures ∙ c.in_ok-kept.ensures)

@@ -15,7 +15,7 @@ loop-d-preserved c =
     let s = names_of c.args.tables.now.symbols.names in
     let made = c.in_ok-l.ensures in
     record {
-      made = rw c.in_ok-push.ensures.ok (next_procedures ds i d c.loop-d-test.true c.d-item.is g s c.loop-d.all c.in_ok-l.l (length c.loop-d.out.sites) (length c.loop-d.out.literals) _ _ _ made.head made.made (sites_more c.loop-d.out.sites _ made.sites) (literals_more (literal_of s) c.loop-d.out.literals _ (quotes_in (draft_of d.body)) made.literals) c.loop-d.invariant.made);
+      made = rw c.in_ok-push.ensures.ok (next_procedures ds i d c.loop-d-test.true c.d-item.is g s c.loop-d.all c.in_ok-l.l (length c.loop-d.out.sites) (length c.loop-d.out.literals) _ _ _ made.head made.made (sites_more c.loop-d.out.sites _ made.sites) (literals_more (literal_of s) c.loop-d.out.literals _ (quotes_in (draft_of d.body.now)) made.literals) c.loop-d.invariant.made);
       sites = next_widths ds i d c.loop-d-test.true c.d-item.is _ _ _ made.sites c.loop-d.invariant.sites;
       literals = next_quotes ds i d c.loop-d-test.true c.d-item.is (literal_of s) _ _ _ made.literals c.loop-d.invariant.literals;
       bodies = next_bodies ds i d c.loop-d-test.true c.d-item.is made.constants c.loop-d.invariant.bodies;

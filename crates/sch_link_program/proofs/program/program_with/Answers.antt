@@ -3,7 +3,7 @@ use Rattle.sch_names.specs.NamesView.{names_of}
 use Rattle.sch_sketch.specs.DraftView.{drafts_of}
 use Rattle.sch_link_tables.specs.Named.{globals_in_each, symbols_in_each}
 use Rattle.sch_link_tables.specs.Programs.{globals_of_each, symbols_of_each}
-use Rattle.sch_link_program.specs.Definitions.{definitions_of}
+use Rattle.sch_link_program.specs.Definitions.{kept_definitions}
 use Rattle.sch_link_program.specs.Ranged.{trees_in_range}
 use Rattle.sch_link_program.proofs.ProgramConstants.{program_ranged}
 use Rattle.sch_link_program.proofs.ProgramMade.{assembled, also_named}
@@ -11,7 +11,7 @@ use Rattle.sch_link_program.proofs.program.program_with.Goals as goal
 
 pub returns-clause-made : goal.returns-clause-made
 returns-clause-made c =
-    let ds = definitions_of c.args.definitions.now in
+    let ds = kept_definitions c.args.definitions.now in
     let own = names_of c.args.own.now.names.now in
     let forms = drafts_of c.args.forms.now in
     let tables = c.name_also.new.tables in
@@ -27,7 +27,7 @@ returns-clause-made c =
 
 pub returns-clause-ranged : goal.returns-clause-ranged
 returns-clause-ranged c =
-    let ds = definitions_of c.args.definitions.now in
+    let ds = kept_definitions c.args.definitions.now in
     let own = names_of c.args.own.now.names.now in
     let forms = drafts_of c.args.forms.now in
     ap trees_in_range (returns-clause-made c) ∙ program_ranged ds own (names_of c.args.own.now.held.now) forms c.in_ok-library.ensures.constants c.in_ok-forms.ensures.constants

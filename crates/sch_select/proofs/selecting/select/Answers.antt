@@ -1,5 +1,5 @@
 use Rattle.std.proofs.Common.{◌≡◌, ℕ, List, ap, ◌∙◌, ◌+◌, ◌*◌, ◌≤◌, ◌<◌, length, map, sym, subst, arith}
-use Rattle.std.specs.Prelude.{IsTrue, false}
+use Rattle.std.specs.Prelude.{IsTrue, None, false}
 use Rattle.sch_word.specs.values.LiteralView.{literals_of}
 use Rattle.sch_word.specs.values.StaticsView.{statics}
 use Rattle.sch_asm.specs.declared.assembly.Word.{Word}
@@ -8,14 +8,15 @@ use Rattle.sch_asm.specs.declared.item.Item.{Item}
 use Rattle.sch_asm.specs.Items.{AreItems, AreKnown, AreOwn, IsEachOnce, labels_in, marks_arrive}
 use Rattle.sch_asm.specs.Codes.{text_size}
 use Rattle.sch_frames.specs.ProgramView.{source}
-use Rattle.sch_frames.specs.Sizes.{closures_in, program_size}
+use Rattle.sch_frames.specs.Sizes.{program_copies, program_work}
 use Rattle.sch_select_data.proofs.literals.PlacedLiterals.{placed_objects, placed_literals}
 use Rattle.sch_select_data.proofs.literals.Rows.{count_rows}
 use Rattle.sch_select_data.specs.Data.{static_count, objects_unit, names_of, closures_of, heap_of, max_heap_address}
 use Rattle.sch_select_data.specs.Data.{data_words, program_words}
 use Rattle.sch_select.specs.Program.{max_data, max_stack, program_code, program_zeros, own_label, stack_bytes}
 use Rattle.sch_select_memory.specs.Addresses.{names_address}
-use Rattle.sch_select.specs.Sizes.{instructions_in, kinds_in, kinds_of}
+use Rattle.sch_select.specs.MarkedStores.{stores_marked}
+use Rattle.sch_select.specs.Sizes.{instructions_in, kinds_in, kinds_of, steps_size}
 use Rattle.sch_select.proofs.programs.CoveredPrograms.{codes_free, entries_selected, globals_known, labels_known}
 use Rattle.sch_select.proofs.programs.CoveredPrograms.{covered_selected, texts_are, literals_are, literals_named}
 use Rattle.sch_select.proofs.programs.CoveredPrograms.{procedures_known}
@@ -31,6 +32,7 @@ use Rattle.sch_select.proofs.items.ProgramMarks.{program_marked}
 use Rattle.sch_select.proofs.items.ProgramSound.{program_sound}
 use Rattle.sch_select.proofs.items.InstructionCounts.{program_instructions}
 use Rattle.sch_select.proofs.items.MarkKinds.{program_kinds}
+use Rattle.sch_select.proofs.items.ProgramStores.{program_stands}
 use Rattle.sch_select.proofs.items.JumpsAhead.{program_ahead}
 use Rattle.sch_select.specs.Jumps.{jumps_ahead}
 use Rattle.sch_select.proofs.items.TextSize.{text_small}
@@ -168,7 +170,7 @@ returns-clause-own c =
 pub returns-clause-text : goal.returns-clause-text
 returns-clause-text c =
     let q = source c.args.p.now in
-    subst (λ is. text_size is ≤ 2048 + 64 * (program_size q + closures_in q.bodies)) (items_made c.before)
+    subst (λ is. text_size is ≤ 2048 + (64 * program_work q + 8 * program_copies q)) (items_made c.before)
     (text_small q c.args.limits.heap c.args.limits.depth)
 
 pub returns-clause-ahead : goal.returns-clause-ahead
@@ -182,14 +184,20 @@ pub returns-clause-instructions : goal.returns-clause-instructions
 returns-clause-instructions c =
     let p = c.args.p.now in
     let q = source p in
-    subst (λ is. program_size q + (closures_in q.bodies + length q.bodies) ≤ 3 * instructions_in is) (items_made c.before)
+    subst (λ is. steps_size q ≤ 3 * instructions_in is) (items_made c.before)
     (program_instructions q c.args.limits.heap c.args.limits.depth (covered_selected p c.requires.covered))
 
 pub returns-clause-marks : goal.returns-clause-marks
 returns-clause-marks c =
-    let q = source c.args.p.now in
+    let p = c.args.p.now in
+    let q = source p in
     subst (λ is. kinds_in is ≡ kinds_of 0 q.bodies) (items_made c.before) (program_kinds q c.args.limits.heap
-    c.args.limits.depth)
+    c.args.limits.depth (covered_selected p c.requires.covered))
+
+pub returns-clause-stores : goal.returns-clause-stores
+returns-clause-stores c = λ stand.
+    subst (λ is. IsTrue (stores_marked None is)) (items_made c.before) (program_stands (source c.args.p.now) c.args.limits.heap
+    c.args.limits.depth stand)
 
 pub returns-clause-words : goal.returns-clause-words
 returns-clause-words c = subst (λ ws. 0x10000000 + 8 * length ws ≡ heap_of (source c.args.p.now)) (words_made c.before) (ends_there c.before)

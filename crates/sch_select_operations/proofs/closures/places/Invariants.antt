@@ -5,6 +5,6 @@ use Rattle.sch_select_operations.proofs.closures.places.Given as goal
 
 abbrev pub invariant-loop-m : goal.invariant-loop-m
 invariant-loop-m l = record {
-  items : (rest : List Item) → l.out ++ places_code l.next (drop l.m-index l.members) rest ≡ l.initial.out ++
-      places_code l.offset l.members rest;
+  items : (rest : List Item) → l.out ++ places_code l.next (drop l.m-index l.members) l.spilled rest ≡ l.initial.out ++
+      places_code l.offset l.members l.spills rest;
 }

@@ -6,10 +6,10 @@ use Rattle.sch_control.specs.SourceView as control
 use Rattle.sch_control.specs.Work.{codes_work}
 use Rattle.sch_frames.specs.Does.{FramesOf}
 use Rattle.sch_frames.specs.Covered.{code_begins, is_covered_code}
-use Rattle.sch_frames.specs.Sizes.{closures_in, codes_size, frame_words}
+use Rattle.sch_frames.specs.Sizes.{closures_in, codes_copies, codes_size, frame_words}
 use Rattle.sch_layout.specs.OwnSlots.{slots_code}
 use Rattle.sch_layout.specs.LayoutSizes.{calls_parts, entries_size}
-use Rattle.sch_slots.proofs.FrameBodies.{made_next, all_do, all_begin, all_covered, all_size, all_work}
+use Rattle.sch_slots.proofs.FrameBodies.{made_next, all_copies, all_do, all_begin, all_covered, all_size, all_work}
 use Rattle.sch_slots.proofs.frame_bodies.frame_bodies.Goals as goal
 
 pub loop-b-preserved : goal.loop-b-preserved
@@ -39,6 +39,11 @@ pub returns-clause-work : goal.returns-clause-work
 returns-clause-work c =
     let cs = control.codes_of c.args.bodies.now in
     subst (λ fs. codes_size fs + closures_in fs ≤ codes_work cs) (sym (returns-clause-made c)) (all_work c.args.bodies.now)
+
+pub returns-clause-copies : goal.returns-clause-copies
+returns-clause-copies c =
+    let cs = control.codes_of c.args.bodies.now in
+    subst (λ fs. codes_copies fs ≤ codes_work cs) (sym (returns-clause-made c)) (all_copies c.args.bodies.now)
 
 pub returns-clause-words : goal.returns-clause-words
 returns-clause-words c = ap frame_words (returns-clause-made c)

@@ -1,6 +1,7 @@
 use Rattle.std.proofs.Common.{◌∙◌, refl, arith}
 use Rattle.std.proofs.lemmas.Result.{on_ok_weaker}
-use Rattle.sch_writer.proofs.WholeLayout.{labels_same}
+use Rattle.sch_writer.specs.Regions.{inside}
+use Rattle.sch_writer.proofs.WholeLayout.{group_written, labels_same}
 use Rattle.sch_writer.proofs.body_layout.+lay.Goals as goal
 
 pub lay-returns-in_ok-write_store-in-Bind-clause-labels : goal.lay-returns-in_ok-write_store-in-Bind-clause-labels
@@ -49,3 +50,9 @@ lay-returns-in-Save-clause-labels g t c =
 pub lay_region-returns-clause-instructions : goal.lay_region-returns-clause-instructions
 lay_region-returns-clause-instructions g t c =
     on_ok_weaker c.lay.result (λ h rest. h rest ∙ (c.in_ok-write_heads.ensures.instructions _ ∙ rw c.in_ok-write_heads.ensures.labels refl)) c.lay.ensures.instructions
+
+pub lay-returns-in_ok-write_group-in-Fix-clause-instructions : goal.lay-returns-in_ok-write_group-in-Fix-clause-instructions
+lay-returns-in_ok-write_group-in-Fix-clause-instructions g t c =
+    on_ok_weaker c.lay-in-Fix.result
+    (λ h. rw c.in-Fix.is (λ rest. group_written (g.P.VariablePlaces.plan c.args.around.now.allocation.now.places) (g.R.Restores.lists c.args.around.now.allocation.now.restores) (inside c.args.around.now.regions)
+    _ _ _ _ _ _ c.args.test _ _ _ rest c.as_slice.ensures c.deref-in-Fix.ensures c.in_ok-write_group-in-Fix.ensures.labels c.in_ok-write_group-in-Fix.ensures.instructions (h rest))) c.lay-in-Fix.ensures.instructions

@@ -1,7 +1,13 @@
 use Rattle.std.proofs.Common.{◌≡◌, ◌+◌, ◌∷◌, [], ◌++◌, take, refl, ap, ◌∙◌, arith}
 use Rattle.sch_insn.specs.Spelling.{spelling}
+use Rattle.sch_insn.proofs.PrefixCode.{spelling_short}
 use Rattle.sch_code.proofs.Spelled.{few, front_kept, pushed, text_more}
 use Rattle.sch_code.proofs.text.Text.push.Goals as goal
+
+pub overflow_add-end : goal.overflow_add-end
+overflow_add-end c =
+    let size = spelling_short c.args.i in
+    record { fits = omega (arith, size, c.encode-size.ensures.length, c.len.ensures, c.self.inside.bytes.ok.0, c.self.inside.bytes.ok.1, c.self.inside.bytes.small) }
 
 pub overflow_add-self : goal.overflow_add-self
 overflow_add-self c =

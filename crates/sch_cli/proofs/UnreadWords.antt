@@ -1,0 +1,67 @@
+-- A command whose words were not read, for want of memory: nothing was touched, and each verb ends so.
+use Rattle.std.proofs.Common.{◌≡◌, ℕ, ◌+◌, ◌<◌, ◌^◌, ◌≤◌, List, Option, Some, None, Err, refl, arith}
+use Rattle.sch_io.specs.Files.{Files}
+use Rattle.sch_io.specs.Told.{Tells}
+use Rattle.sch_cli.specs.Command.{Command, IfCompile, IfRun, IfStep, compile, run, step}
+use Rattle.sch_cli.specs.Compiles as compiles
+use Rattle.sch_cli.specs.Compiles.{EndsCompile}
+use Rattle.sch_cli.specs.Messages.{Says, out_of_memory_line}
+use Rattle.sch_cli.specs.Seen.{DiskChange, DiskState, HadAtMostCalls, SameFiles, StreamChange, TookNothing}
+use Rattle.sch_cli.specs.Steps as runs
+use Rattle.sch_cli.specs.Steps.{EndsRun, RunsSource, StepsImage}
+use Rattle.sch_cli.specs.declared.failure.Failure.TheVariants.{Memory}
+
+abbrev untouched : DiskState → DiskChange
+untouched state = record { before = state; after = state }
+
+same : (files : Option Files) → Tells files files (λ before after. after ≡ before)
+same None = tt
+same (Some files) = refl
+
+no_calls : (state : DiskState) → HadAtMostCalls 1 (untouched state)
+no_calls state few = (omega arith, omega arith)
+
+pub unread_compile : (command : Option Command) (status : ℕ) (disk : DiskState) (err : StreamChange) → status ≡ 10 → Says out_of_memory_line err
+    → IfCompile command (λ source target heap depth. EndsCompile source target heap depth status (untouched disk) err)
+unread_compile (Some (compile source target heap depth)) status disk err is says =
+    record { answer = Err Memory; status_is = is; says = says; compiles = compiles.no_memory (same disk.files) (no_calls disk) }
+unread_compile (Some (run source heap depth steps)) status disk err is says = tt
+unread_compile (Some (step image steps)) status disk err is says = tt
+unread_compile None status disk err is says = tt
+
+pub unread_run : (command : Option Command) (status : ℕ) (disk : DiskState) (err out : StreamChange) → status ≡ 10 → Says out_of_memory_line err → TookNothing out
+    → IfRun command (λ source heap depth steps. EndsRun source status (untouched disk) err (RunsSource source heap depth steps (untouched disk) out))
+unread_run (Some (compile source target heap depth)) status disk err out is says nothing = tt
+unread_run (Some (run source heap depth steps)) status disk err out is says nothing = record {
+  answer = Err Memory;
+  status_is = is;
+  says = says;
+  unchanged = same disk.files;
+  calls = λ other. absurd (other refl);
+  few_calls = no_calls disk;
+  did = runs.no_memory nothing;
+}
+unread_run (Some (step image steps)) status disk err out is says nothing = tt
+unread_run None status disk err out is says nothing = tt
+
+pub unread_step : (command : Option Command) (status : ℕ) (disk : DiskState) (err out : StreamChange) → status ≡ 10 → Says out_of_memory_line err → TookNothing out
+    → IfStep command (λ image steps. EndsRun image status (untouched disk) err (StepsImage image steps (untouched disk) out))
+unread_step (Some (compile source target heap depth)) status disk err out is says nothing = tt
+unread_step (Some (run source heap depth steps)) status disk err out is says nothing = tt
+unread_step (Some (step image steps)) status disk err out is says nothing = record {
+  answer = Err Memory;
+  status_is = is;
+  says = says;
+  unchanged = same disk.files;
+  calls = λ other. absurd (other refl);
+  few_calls = no_calls disk;
+  did = runs.no_memory nothing;
+}
+unread_step None status disk err out is says nothing = tt
+
+-- what holds of any command holds of this one
+pub any_compile : (command : Option Command) (P : Type 0) → P → IfCompile command (λ source target heap depth. P)
+any_compile (Some (compile source target heap depth)) P p = p
+any_compile (Some (run source heap depth steps)) P p = tt
+any_compile (Some (step image steps)) P p = tt
+any_compile None P p = tt

@@ -1,5 +1,0 @@
-use Rattle.std.proofs.Common.{length}
-use Rattle.sch_cli.proofs.command.Options.+with_each.Given as goal
-
-abbrev pub decreases-with_each : goal.decreases-with_each
-decreases-with_each l = length l.words.now

@@ -1,0 +1,3 @@
+pub mod LaidWays
+pub mod MarksStand
+pub mod OwnMarks

@@ -1,0 +1,4 @@
+pub mod paths
+pub mod runs
+pub mod saves
+mod worked

@@ -1,0 +1,6 @@
+pub mod AlikeWithMarks
+pub mod PlainlyTheSame
+pub mod RestoresAreEnough
+pub mod SameOperands
+pub mod SameProgramRuns
+pub mod SameWithoutMarks

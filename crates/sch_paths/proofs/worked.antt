@@ -1,0 +1,2 @@
+mod PlacedExample
+mod TwoSetsExamples

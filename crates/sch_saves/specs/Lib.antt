@@ -1,0 +1,3 @@
+pub mod LazyRegions
+pub mod Promises
+pub mod SetsOfNeeds

@@ -1,0 +1,61 @@
+//! Where a body saves its variables.
+
+ghost use Rattle.std.specs.Prelude.{◌≡◌, ◌≤◌, ◌<◌, ◌*◌, ◌^◌, true, IsTrue, IfOk};
+ghost use Rattle.sch_control.specs.flow.Bare.{unsaved};
+ghost use Rattle.sch_control.specs.flow.Middle.{listed};
+ghost use Rattle.sch_paths.specs.Exact.{LazySaves};
+ghost use Rattle.sch_paths.specs.Regions.{regions_stand};
+ghost use Rattle.sch_saves.specs.LazyRegions as lazily;
+ghost use Rattle.sch_paths.specs.EachLiveSaved.{EachLiveSaved};
+ghost use Rattle.sch_paths.specs.PlainlySame.{PlainlySame};
+ghost use Rattle.sch_saves.specs.Promises.{EachSaveFollowed};
+
+use crate::needs::{Needs, surround, with_needs};
+use crate::outermost::outermost;
+use crate::variables::first_variables;
+use sch_control::{Exp, LiveBody, SavedBody};
+use sch_sets::Set;
+use sch_word::{List, Mem};
+use std::alloc::Global;
+
+fn lazily_saved<const N: usize>(
+    alloc: Global,
+    count: u32,
+    e: &Exp<Set<N>>,
+) -> Result<Box<Exp<Set<N>>>, Mem>
+    requires fits { count ≤ 64 * N }
+    requires words { N < 2 ^ 32 }
+    ensures { IfOk result (λ r. listed r.value ≡ lazily.lazily_saved count (listed e.now)) }
+{
+    let variables = first_variables(count);
+    let mut needs = Needs::none();
+    let marked = with_needs(alloc, &variables, e, &mut needs)?;
+    let whole = surround(alloc, &variables, &needs, marked)?;
+    outermost(alloc, whole, &Set::new())
+}
+
+/// The body with regions that save, each round the body or an arm of a test: of what each path through it has a call
+/// after which it is live, without what a region round it saves. The live sets stay. That a set is smaller than memory is
+/// asked for.
+pub fn place_saves<const N: usize>(alloc: Global, b: &LiveBody<N>) -> Result<SavedBody<N>, Mem>
+    requires words { N < 2 ^ 32 }
+    ensures name { IfOk result (λ r. r.name ≡ b.now.name) }
+    ensures entry { IfOk result (λ r. r.entry ≡ b.now.entry) }
+    ensures variables { IfOk result (λ r. r.variables ≡ b.now.variables) }
+    ensures same { IfOk result (λ r. unsaved (listed r.exp) ≡ listed b.now.exp) }
+    ensures made { IfOk result (λ r. listed r.exp ≡ lazily.lazily_saved b.now.variables (listed b.now.exp)) }
+    ensures lazy { IfOk result (λ r. LazySaves (listed r.exp)) }
+    ensures stand { IfOk result (λ r. IsTrue (regions_stand true (listed r.exp))) }
+    ensures saved { IfOk result (λ r. EachLiveSaved (listed r.exp)) }
+    ensures followed { IfOk result (λ r. EachSaveFollowed (listed r.exp)) }
+    ensures meaning { IfOk result (λ r. PlainlySame (listed b.now.exp) (listed r.exp)) }
+{
+    let name = List::from_slice(alloc, b.name.as_slice())?;
+    let exp = lazily_saved(alloc, b.variables, &b.exp)?;
+    Ok(SavedBody {
+        name,
+        entry: b.entry,
+        variables: b.variables,
+        exp: Box::into_inner(exp),
+    })
+}

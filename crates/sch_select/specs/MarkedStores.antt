@@ -1,0 +1,92 @@
+-- Where the marks of stores stand among items: each write of a word of a frame stands behind one of them, and they stand
+-- nowhere else. Words of frames are written through RBP. One routine of the program's own, which makes lists of operands,
+-- stands behind all bodies and fills slots through RCX: it has no marks, and nothing here is said of it.
+use Rattle.std.specs.Prelude.{ℕ, nat_eq, Bool, true, false, ◌&&◌, not, List, [], ◌∷◌, Option, Some, None}
+use Rattle.sch_word.specs.declared.mark.MarkKind.{MarkKind}
+use Rattle.sch_word.specs.declared.mark.MarkKind.TheVariants as mark
+use Rattle.sch_insn.specs.declared.insn.Arg.{Arg}
+use Rattle.sch_insn.specs.declared.insn.Arg.TheVariants.{Reg, Base, Base32}
+use Rattle.sch_insn.specs.declared.insn.Insn.{Insn}
+use Rattle.sch_insn.specs.declared.insn.Insn.TheVariants as insn
+use Rattle.sch_insn.specs.declared.register.TheConstants.{RDX, RBP, R14, R15}
+use Rattle.sch_asm.specs.declared.item.Item.{Item}
+use Rattle.sch_asm.specs.declared.item.Item.TheVariants as item
+
+-- ## Instructions: which operand is in memory, and which is written (SDM, volume 2, the page of each mnemonic)
+
+abbrev pub has_base : (base : ℕ) → Arg → Bool
+has_base base (Base b) = nat_eq b base
+has_base base (Base32 b d) = nat_eq b base
+has_base base _ = false
+
+-- whether an instruction writes memory that is named by this register
+abbrev pub writes_at : (base : ℕ) → Insn → Bool
+writes_at base (insn.MovTo m r) = has_base base m
+writes_at base (insn.MovNumber m n) = has_base base m
+writes_at base (insn.StoreByte m r) = has_base base m
+writes_at base (insn.AddTo m r) = has_base base m
+writes_at base (insn.OrTo m r) = has_base base m
+writes_at base (insn.AndTo m r) = has_base base m
+writes_at base (insn.SubTo m r) = has_base base m
+writes_at base (insn.XorTo m r) = has_base base m
+writes_at base (insn.AddNumber m n) = has_base base m
+writes_at base (insn.OrNumber m n) = has_base base m
+writes_at base (insn.AndNumber m n) = has_base base m
+writes_at base (insn.SubNumber m n) = has_base base m
+writes_at base (insn.XorNumber m n) = has_base base m
+writes_at base (insn.Neg m) = has_base base m
+writes_at base (insn.Shl m k) = has_base base m
+writes_at base (insn.Shr m k) = has_base base m
+writes_at base (insn.Sar m k) = has_base base m
+writes_at base _ = false
+
+-- ## Items
+
+abbrev pub writes_frame : Item → Bool
+writes_frame (item.Plain i) = writes_at RBP i
+writes_frame _ = false
+
+-- a word of the frame into a register
+abbrev pub loads_frame : Item → Bool
+loads_frame (item.Plain (insn.MovFrom r m)) = has_base RBP m
+loads_frame _ = false
+
+-- one `mov`, into a register or a slot
+abbrev pub moves_word : Item → Bool
+moves_word (item.Plain (insn.MovTo m r)) = true
+moves_word (item.Plain (insn.MovFrom r m)) = true
+moves_word _ = false
+
+-- a call begins with the check of its operator
+abbrev pub checks_operator : Item → Bool
+checks_operator (item.Plain (insn.MovTo (Reg d) r)) = nat_eq d RDX && nat_eq r R14
+checks_operator _ = false
+
+abbrev pub returns : Item → Bool
+returns (item.Plain (insn.JumpTo (Reg r))) = nat_eq r R15
+returns _ = false
+
+-- Before which item a mark stands. What is set aside may be set aside in a register.
+abbrev pub stands_before : MarkKind → Item → Bool
+stands_before (mark.Save x) i = writes_frame i
+stands_before (mark.Spill x) i = writes_frame i
+stands_before mark.Argument i = writes_frame i
+stands_before mark.Temp i = moves_word i
+stands_before (mark.Restore x) i = loads_frame i
+stands_before (mark.Call site) i = checks_operator i
+stands_before (mark.Tail site) i = checks_operator i
+stands_before mark.Return i = returns i
+stands_before (mark.Enter label) i = true
+
+-- ## All items, with the mark that waits for the next of them. That of an entry stands before any item, also a mark.
+
+abbrev pub waiting_mark : MarkKind → Option MarkKind
+waiting_mark (mark.Enter label) = None
+waiting_mark m = Some m
+
+abbrev pub stores_marked : (waits : Option MarkKind) → List Item → Bool
+stores_marked None [] = true
+stores_marked (Some m) [] = false
+stores_marked None (item.Mark m ∷ is) = stores_marked (waiting_mark m) is
+stores_marked None (i ∷ is) = not (writes_frame i) && stores_marked None is
+stores_marked (Some m) (i ∷ is) = stands_before m i && stores_marked None is
